@@ -51,8 +51,8 @@ made_test id run = if is_id id && not (length run == 0) then Some (record { id =
 abbrev pub test_of : Data → Option Test
 test_of (table ms) =
     if has_only_keys is_test_key ms then
-      option_and_then (λ id. option_and_then (made_test id) (option_and_then texts_of (option_and_then as_array (get_member (codes "run") ms))))
-      (option_and_then text_of (get_member (codes "id") ms))
+    option_and_then (λ id. option_and_then (made_test id) (option_and_then texts_of (option_and_then as_array (get_member (codes "run") ms))))
+    (option_and_then text_of (get_member (codes "id") ms))
     else None
 test_of _ = None
 

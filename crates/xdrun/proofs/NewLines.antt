@@ -32,7 +32,7 @@ ran_test shown test args outcome ms es j from runs_old runs_new faults_old fault
       ran = ran;
       faults = faults;
       shows = subst (λ (l : List Entry). Shows shown (flat_map (entry_text (ids_in j.entries.items)) l) out_old out_new)
-        (ap (λ (n : ℕ). take (length j.entries.items - n) (drop n j.entries.items)) from_is ∙ new_ones es (round test result) j.entries.items entries) shows;
+          (ap (λ (n : ℕ). take (length j.entries.items - n) (drop n j.entries.items)) from_is ∙ new_ones es (round test result) j.entries.items entries) shows;
     }
 
 -- the lines of all entries

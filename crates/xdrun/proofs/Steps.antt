@@ -49,10 +49,10 @@ module _ (tests : List Test) where
       record {
         runs = ran.runs ++ run ∷ [];
         commands = map-append (λ r. r.args) ran.runs (run ∷ []) ∙ ap (λ (l : List (List (List ℕ))). l ++ run_at tests (length results) ∷ []) ran.commands
-          ∙ sym (take_more (map (λ t. t.run) tests) (length results) [] (omega (arith, length-map tests (λ (t : Test). t.run))))
-          ∙ ap (λ n. take n (map (λ t. t.run) tests)) (sym long);
+            ∙ sym (take_more (map (λ t. t.run) tests) (length results) [] (omega (arith, length-map tests (λ (t : Test). t.run))))
+            ∙ ap (λ n. take n (map (λ t. t.run) tests)) (sym long);
         outcomes = map-append (λ r. outcome_of r.fate) ran.runs (run ∷ []) ∙ ap (λ (l : List (Option Outcome)). l ++ outcome_of more.fate ∷ []) ran.outcomes
-          ∙ ap (λ (x : Option Outcome). map (λ (r : TestResult). Some r.outcome) results ++ x ∷ []) more.came_to ∙ sym (map-append (λ (r : TestResult). Some r.outcome) results (r ∷ []));
+            ∙ ap (λ (x : Option Outcome). map (λ (r : TestResult). Some r.outcome) results ++ x ∷ []) more.came_to ∙ sym (map-append (λ (r : TestResult). Some r.outcome) results (r ∷ []));
         added = added_more ran.runs run old mid new ran.added more.added;
       }
 
@@ -86,7 +86,7 @@ module _ (tests : List Test) where
     }
 
     module _ (k : ℕ) (es1 es2 : List Entry) (runs1 runs2 : Option (List ChildRun)) (faults1 faults2 : ℕ) (out1 out2 : Option Sunk) (p : Progress k tests ids es1 runs0 runs1 faults0 faults1 out0 out1)
-      (within : k < length tests) (shown : Bool) (more : RanTest shown k (run_at tests k) es1 es2 runs1 runs2 faults1 faults2 out1 out2) (later : faults1 ≤ faults2) where
+        (within : k < length tests) (shown : Bool) (more : RanTest shown k (run_at tests k) es1 es2 runs1 runs2 faults1 faults2 out1 out2) (later : faults1 ≤ faults2) where
       abbrev results : List TestResult
       results = p.results ++ more.result ∷ []
 
@@ -106,9 +106,9 @@ module _ (tests : List Test) where
         entries = grown;
         ran = one_more p.results more.result runs0 runs1 runs2 (omega (arith, p.counted)) p.so_far.ran (subst (λ n. RanChild (run_at tests n) more.result.outcome runs1 runs2) (sym p.counted) more.ran);
         faults =
-          let total : faults_of results ≡ faults_of p.results + fault_count more.result.outcome =
-          omega (arith, sum_by-append (λ (r : TestResult). fault_count r.outcome) p.results (more.result ∷ [])) in
-          subst (λ n. RoseBy n faults0 faults2) (sym total) (rose_more (faults_of p.results) (fault_count more.result.outcome) faults0 faults1 faults2 p.so_far.faults more.faults later);
+            let total : faults_of results ≡ faults_of p.results + fault_count more.result.outcome =
+            omega (arith, sum_by-append (λ (r : TestResult). fault_count r.outcome) p.results (more.result ∷ [])) in
+            subst (λ n. RoseBy n faults0 faults2) (sym total) (rose_more (faults_of p.results) (fault_count more.result.outcome) faults0 faults1 faults2 p.so_far.faults more.faults later);
       }
 
       abbrev added : List ℕ

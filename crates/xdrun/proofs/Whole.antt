@@ -59,7 +59,7 @@ pub record Ended (tests : List Test) (j0 j1 : Journal) (shown : Bool) (runs0 run
   pub ended : j1.entries.items ≡ j0.entries.items ++ Over (stop_after shown) ∷ []
 
 module _ (tests : List Test) (j0 j1 : Journal) (shown : Bool) (runs0 runs1 : Option (List ChildRun)) (faults0 faults1 : ℕ) (out0 out1 : Option Sunk)
-  (e : Ended tests j0 j1 shown runs0 runs1 faults0 faults1 out0 out1) where
+    (e : Ended tests j0 j1 shown runs0 runs1 faults0 faults1 out0 out1) where
   abbrev ids : List (List ℕ)
   ids = map (λ t. t.id) tests
 
@@ -96,8 +96,8 @@ module _ (tests : List Test) (j0 j1 : Journal) (shown : Bool) (runs0 runs1 : Opt
   legal = record {
     mode = ap (λ (s : Settings). s.mode) (e.same_settings ∙ e.settings);
     entries = entries_are ∙ ap (λ (l : List (List ℕ)). local_entries l e.ran.results ++ Over how ∷ []) (sym ids_are)
-      ∙ ap (λ (l : List TestResult). local_entries (ids_in j1.entries.items) l ++ Over how ∷ []) (sym results_are)
-      ∙ ap (λ (s : RunStop). local_entries (ids_in j1.entries.items) (results_in j1.entries.items) ++ Over s ∷ []) (sym stop_is);
+        ∙ ap (λ (l : List TestResult). local_entries (ids_in j1.entries.items) l ++ Over how ∷ []) (sym results_are)
+        ∙ ap (λ (s : RunStop). local_entries (ids_in j1.entries.items) (results_in j1.entries.items) ++ Over s ∷ []) (sym stop_is);
     within = omega (arith, e.ran.within, ap length results_are, ap length ids_are, length-map tests (λ (t : Test). t.id));
     unstopped = λ k h. never (failed (take k (results_in j1.entries.items)));
     ends = ends;

@@ -11,7 +11,12 @@ use xd_edge::{ChildEnd, ChildFault, Children, OutOfMemory, Text};
 use xd_ledger::Outcome;
 
 /// Runs a program to its end, and says how its test went. A program that was started is waited for.
-pub fn run_child<R: Wait, K: Children>(rt: &R, alloc: Global, children: &mut K, args: &[Text]) -> Result<Outcome, OutOfMemory>
+pub fn run_child<R: Wait, K: Children>(
+    rt: &R,
+    alloc: Global,
+    children: &mut K,
+    args: &[Text],
+) -> Result<Outcome, OutOfMemory>
     requires { 0 < length args.now }
     ensures ran { IfOk result (λ o. RanChild args.now o (K.runs children.old) (K.runs children.new)) }
     ensures kept { OnErr result (K.runs children.new ≡ K.runs children.old) }

@@ -162,7 +162,13 @@ fn run_test<R: Wait, K: Children, T: Clock, O: Sink>(
 }
 
 // Notes that a test was run, and its result.
-fn add_round(alloc: Global, journal: &mut Journal, test: u32, outcome: Outcome, ms: u64) -> Result<(), OutOfMemory>
+fn add_round(
+    alloc: Global,
+    journal: &mut Journal,
+    test: u32,
+    outcome: Outcome,
+    ms: u64,
+) -> Result<(), OutOfMemory>
     requires { IsTrue (is_local journal.old) }
     ensures entries { OnOk result (AddsRound test outcome ms journal.old.entries.items journal.new.entries.items) }
     ensures settings { journal.new.settings ≡ journal.old.settings }
@@ -187,7 +193,12 @@ fn add_round(alloc: Global, journal: &mut Journal, test: u32, outcome: Outcome, 
 }
 
 // Prints the lines of the entries from a place on; false where the output failed.
-fn print_lines<O: Sink>(alloc: Global, journal: &Journal, from: usize, out: &mut O) -> Result<bool, OutOfMemory>
+fn print_lines<O: Sink>(
+    alloc: Global,
+    journal: &Journal,
+    from: usize,
+    out: &mut O,
+) -> Result<bool, OutOfMemory>
     requires local { IsTrue (is_local journal.now) }
     requires from { from ≤ length journal.now.entries.items }
     ensures shows { IfOk result (λ shown. Shows shown (lines_between journal.now from (length journal.now.entries.items)) (O.sunk out.old) (O.sunk out.new)) }

@@ -10,13 +10,11 @@ mod words;
 pub use child::run_child;
 pub use local::run_suite;
 pub use refusal::Refusal;
-pub use top::{RunEnd, xdrun};
-
 use std::alloc::Global;
-use std::env;
-use std::io;
 use std::process::ExitCode;
 use std::rt::Env;
+use std::{env, io};
+pub use top::{RunEnd, xdrun};
 use xd_edge::{OutSink, RealChildren, RealClock, RealFiles, Text, Texts};
 
 // The words behind the program's name.
@@ -42,7 +40,16 @@ fn main(rt: HostRuntime) -> io::Result<ExitCode> {
     let mut clock = RealClock::new(&rt);
     let mut out = OutSink::new(rt.stdout());
     let mut err = OutSink::new(rt.stderr());
-    match xdrun(&rt, alloc, &words.items, &mut files, children, &mut clock, &mut out, &mut err) {
+    match xdrun(
+        &rt,
+        alloc,
+        &words.items,
+        &mut files,
+        children,
+        &mut clock,
+        &mut out,
+        &mut err,
+    ) {
         Ok(end) => Ok(ExitCode::from(end.status)),
         Err(_) => {
             eprintln!(rt; "xdrun: out of memory")?;
@@ -51,5 +58,5 @@ fn main(rt: HostRuntime) -> io::Result<ExitCode> {
     }
 }
 
-
-
+#[cfg(test)]
+mod tests;

@@ -95,7 +95,11 @@ pub fn xdrun<R: Wait, F: Files, K: Children, T: Clock, O: Sink, E: Sink>(
 }
 
 // The suite that the words name, or why there is none.
-fn read_suite<F: Files>(alloc: Global, words: &[Text], files: &mut F) -> Result<Result<Suite, Refusal>, OutOfMemory>
+fn read_suite<F: Files>(
+    alloc: Global,
+    words: &[Text],
+    files: &mut F,
+) -> Result<Result<Suite, Refusal>, OutOfMemory>
     ensures read { IfOk result (λ r. MatchResult r (NamesSuite words.now (F.held files.old)) (WhyRefused words.now (F.held files.old) (Rose (F.faults files.old) (F.faults files.new)))) }
     ensures later { F.faults files.old ≤ F.faults files.new }
 {

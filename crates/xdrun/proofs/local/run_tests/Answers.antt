@@ -12,7 +12,7 @@ returns-then-not-collected-clause-ran g c =
 pub loop-test-init : goal.loop-test-init
 loop-test-init g c = record {
   progress = start c.args.suite.now (map (λ t. t.id) c.args.suite.now) _ _ _ c.args.journal.now _ c.requires.collected
-    (subst (λ (b : Bool). Shows b (lines c.args.journal.now) (g.O.Sink.sunk c.args.out.now) (g.O.Sink.sunk c.print_lines.new.out)) c.if-not-collected.false c.in_ok-collected.ensures.shows);
+      (subst (λ (b : Bool). Shows b (lines c.args.journal.now) (g.O.Sink.sunk c.args.out.now) (g.O.Sink.sunk c.print_lines.new.out)) c.if-not-collected.false c.in_ok-collected.ensures.shows);
   settings = refl;
   local = c.requires.local;
   later = omega arith;
