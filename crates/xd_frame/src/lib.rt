@@ -1,0 +1,12 @@
+//! Messages and their bytes, as execnet sends them over a link: a header of nine bytes and a payload.
+#![tactic(auto)]
+
+mod fault;
+mod header;
+mod kind;
+mod message;
+
+pub use fault::FrameFault;
+pub use header::{HEADER_LENGTH, Header, header_of, read_header};
+pub use kind::Kind;
+pub use message::{MAX_CHANNEL, MAX_PAYLOAD, Message, Messages};
