@@ -1,3 +1,5 @@
 pub mod Kind
 pub mod Message
 pub mod Header
+pub mod Stream
+

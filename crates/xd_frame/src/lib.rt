@@ -5,8 +5,10 @@ mod fault;
 mod header;
 mod kind;
 mod message;
+mod stream;
 
 pub use fault::FrameFault;
 pub use header::{HEADER_LENGTH, Header, header_of, read_header};
 pub use kind::Kind;
 pub use message::{MAX_CHANNEL, MAX_PAYLOAD, Message, Messages};
+pub use stream::first_header;
