@@ -67,6 +67,18 @@ rest_of (b ∷ bytes) = rest_by (header_in_front (b ∷ bytes))
 abbrev pub rest : List ℕ → Rest
 rest bytes = rest_of (behind bytes)
 
+-- how bytes end that no message stands in front of, and whose header is not refused
+abbrev pub edge : List ℕ → Rest
+edge [] = Clean
+edge (b ∷ bytes) = Unfinished
+
+-- what a header in front of a byte string, or a refusal of it, says of the messages and of the bytes behind them
+abbrev pub FrontSays : List ℕ → Result (Option Header) FrameFault → Type 0
+FrontSays bytes (Ok (Some h)) =
+    (messages bytes ≡ message_of h bytes ∷ messages (drop (9 + h.length) bytes)) × (behind bytes ≡ behind (drop (9 + h.length) bytes))
+FrontSays bytes (Ok None) = (messages bytes ≡ []) × (behind bytes ≡ bytes) × (rest bytes ≡ edge bytes)
+FrontSays bytes (Err fault) = (messages bytes ≡ []) × (behind bytes ≡ bytes) × (rest bytes ≡ Refused fault)
+
 -- what the end of a byte string means, where it ends so
 abbrev pub end_of : Rest → Result (Unit {0}) FrameFault
 end_of Clean = Ok tt

@@ -2,12 +2,15 @@
 #![tactic(auto)]
 
 mod fault;
+mod framer;
 mod header;
 mod kind;
 mod message;
+mod piece;
 mod stream;
 
 pub use fault::FrameFault;
+pub use framer::{FeedFault, Framer};
 pub use header::{HEADER_LENGTH, Header, header_of, read_header};
 pub use kind::Kind;
 pub use message::{MAX_CHANNEL, MAX_PAYLOAD, Message, Messages};
