@@ -1,5 +1,6 @@
 -- What a framer stands for, before and after a call.
 use Rattle.std.proofs.Common.{◌≡◌, ℕ, List, [], ◌∷◌, ◌++◌, Bool, true, false, Option, Some, None, Result, Ok, Err, refl, sym, ap, subst, ◌∙◌, append_assoc}
+use Rattle.std.specs.Prelude.{OnOk, OnErr, is_err}
 use Rattle.std.proofs.lemmas.List.{append-nil}
 use Rattle.xd_frame.specs.declared.header.Header.{Header}
 use Rattle.xd_frame.specs.declared.fault.FrameFault.{FrameFault}
@@ -91,8 +92,16 @@ first-append : (first : List MessageView) (fed piece : List ℕ) → IsFirstOf f
 first-append first fed piece k =
     (k.0 ++ messages (behind fed ++ piece), messages-append fed piece ∙ (ap (λ m. m ++ messages (behind fed ++ piece)) k.1 ∙ append_assoc first k.0 (messages (behind fed ++ piece))))
 
-pub feed_refused : (s : FramerView) (fed piece : List ℕ) (taken : List MessageView) (f : FrameFault) → rest_of s.held ≡ Refused f → StandsFor s fed taken → StandsFor s (fed ++ piece) taken
+feed_refused : (s : FramerView) (fed piece : List ℕ) (taken : List MessageView) (f : FrameFault) → rest_of s.held ≡ Refused f → StandsFor s fed taken → StandsFor s (fed ++ piece) taken
 feed_refused s fed piece taken f e k = record { first = first-append (taken ++ s.waiting) fed piece k.first; whole = λ n. refused_whole s fed piece taken f e (k.whole n) }
+
+bad_by : (r : Rest) (x : FeedFault) → feed_gives r ≡ Err x → (f : FrameFault) × (r ≡ Refused f)
+bad_by Clean x e = cc
+bad_by Unfinished x e = cc
+bad_by (Refused f) x e = (f, refl)
+
+pub feed_bad : (s : FramerView) (fed piece : List ℕ) (taken : List MessageView) (x : FeedFault) → feed_gives (rest_of s.held) ≡ Err x → StandsFor s fed taken → StandsFor s (fed ++ piece) taken
+feed_bad s fed piece taken x e k = let f = bad_by (rest_of s.held) x e in feed_refused s fed piece taken f.0 f.1 k
 
 -- a feed of a framer that failed before
 pub feed_again : (s : FramerView) (fed piece : List ℕ) (taken : List MessageView) → s.failed ≡ true → StandsFor s fed taken → StandsFor s (fed ++ piece) taken
@@ -127,3 +136,11 @@ same_answer (Refused f) = refl
 -- the answer of a feed that was not refused memory
 pub feed_answers : (r : Result (Unit {0}) FeedFault) (t : FramerView) (fed : List ℕ) (taken : List MessageView) → t.failed ≡ false → r ≡ feed_gives (rest_of t.held) → StandsFor t fed taken → IsOrNoMemory r (feed_gives (rest fed))
 feed_answers r t fed taken n e k = subst (λ (a : Result (Unit {0}) FeedFault). IsOrNoMemory a (feed_gives (rest fed))) (sym (e ∙ ap feed_gives ((k.whole n).ends))) (same_answer (rest fed))
+
+pub when_err : {A E : Type 0} (r : Result A E) (P : Type 0) → is_err r ≡ true → OnErr r P → P
+when_err (Ok x) P e p = cc
+when_err (Err x) P e p = p
+
+pub when_ok : {A E : Type 0} (r : Result A E) (P : Type 0) → is_err r ≡ false → OnOk r P → P
+when_ok (Ok x) P e p = p
+when_ok (Err x) P e p = cc
