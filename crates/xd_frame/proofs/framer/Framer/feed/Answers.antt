@@ -34,3 +34,7 @@ returns-clause-history c =
 pub returns-clause-answer : goal.returns-clause-answer
 returns-clause-answer c fed taken k =
     feed_answers c.judge-2.result _ (fed ++ c.args.piece.now) taken c.if-self.false (c.judge-2.ensures ∙ ap (λ b. feed_gives (rest_of b)) c.as_slice-2.ensures.value) (returns-clause-history c fed taken k)
+
+pub returns-clause-stay : goal.returns-clause-stay
+returns-clause-stay c =
+    rw (← c.self.view_is) (_, when_ok c.take_piece.result _ (sym c.is_err.ensures.value ∙ c.if-is_err.false) c.take_piece.ensures.waiting)
