@@ -115,7 +115,7 @@ feed_fails s t fed piece taken n g a d k =
     let held : s.held ≡ behind fed = held_is (rest fed) s.held (behind fed) (subst (λ (r : Rest). feed_gives r ≡ Ok tt) whole.ends g) whole.holds in
     let e : messages (behind fed ++ piece) ≡ a.0 ++ a.2.0 = ap (λ b. messages (b ++ piece)) (sym held) ∙ a.2.1 in
     let now : messages (fed ++ piece) ≡ (taken ++ t.waiting) ++ a.2.0 =
-        messages-append fed piece ∙ (ap (λ m. messages fed ++ m) e ∙ (ap (λ m. m ++ (a.0 ++ a.2.0)) (sym whole.all) ∙ (sym (append_assoc (taken ++ s.waiting) a.0 a.2.0) ∙ ap (λ m. m ++ a.2.0) (append_assoc taken s.waiting a.0 ∙ ap (λ w. taken ++ w) (sym a.1))))) in
+    messages-append fed piece ∙ (ap (λ m. messages fed ++ m) e ∙ (ap (λ m. m ++ (a.0 ++ a.2.0)) (sym whole.all) ∙ (sym (append_assoc (taken ++ s.waiting) a.0 a.2.0) ∙ ap (λ m. m ++ a.2.0) (append_assoc taken s.waiting a.0 ∙ ap (λ w. taken ++ w) (sym a.1))))) in
     record { first = (a.2.0, now); whole = λ m. cc }
 
 -- the next message moves from those that wait to those that were taken
@@ -125,7 +125,7 @@ next_moves s t fed taken moved w h n k =
     let same : (taken ++ moved) ++ t.waiting ≡ taken ++ s.waiting = append_assoc taken moved t.waiting ∙ ap (λ m. taken ++ m) (sym w) in
     record {
       first = (k.first.0, k.first.1 ∙ ap (λ m. m ++ k.first.0) (sym same));
-      whole = λ m. let o = k.whole (sym n ∙ m) in record { all = same ∙ o.all; ends = ap rest_of h ∙ o.ends; holds = subst (λ (b : List ℕ). Holds (rest fed) b (behind fed)) (sym h) o.holds }
+      whole = λ m. let o = k.whole (sym n ∙ m) in record { all = same ∙ o.all; ends = ap rest_of h ∙ o.ends; holds = subst (λ (b : List ℕ). Holds (rest fed) b (behind fed)) (sym h) o.holds };
     }
 
 same_answer : (r : Rest) → IsOrNoMemory (feed_gives r) (feed_gives r)

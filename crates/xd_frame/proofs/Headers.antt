@@ -48,11 +48,13 @@ read_well : (o : Option Kind) (code channel size : ℕ) (h : Header) → judged 
 read_well None code channel size h e = cc
 read_well (Some k) code channel size h e =
     elim (chosen (nat_le channel max_channel) (cond (nat_le size max_payload) (Ok (record { kind = k; channel = channel; length = size })) (Err _)) (Err _) (Ok h) e) [
-      inl w ↦ elim (chosen (nat_le size max_payload) (Ok (record { kind = k; channel = channel; length = size })) (Err _) (Ok h) w.1) [
-        inl v ↦ (let same : record { kind = k; channel = channel; length = size } ≡ h = cc in
-          record { kind = ap (λ (g : Header). Some g.kind) same; number = ap (λ (g : Header). g.channel) same; size = ap (λ (g : Header). g.length) same; bounds = subst InBounds same (record { channel = grind (arith, common_steps, w.0); length = grind (arith, common_steps, v.0) }) })
-        | inr v ↦ cc ]
-      | inr w ↦ cc ]
+      | inl w ↦ elim (chosen (nat_le size max_payload) (Ok (record { kind = k; channel = channel; length = size })) (Err _) (Ok h) w.1) [
+        | inl v ↦ (let same : record { kind = k; channel = channel; length = size } ≡ h = cc in
+            record { kind = ap (λ (g : Header). Some g.kind) same; number = ap (λ (g : Header). g.channel) same; size = ap (λ (g : Header). g.length) same; bounds = subst InBounds same (record { channel = grind (arith, common_steps, w.0); length = grind (arith, common_steps, v.0) }) })
+        | inr v ↦ cc
+      ]
+      | inr w ↦ cc
+    ]
 
 code_by : (n : ℕ) (k : Kind) → kind_of n ≡ Some k → code_of k ≡ n
 code_by n k e = grind (arith, common_steps, e)

@@ -56,9 +56,10 @@ front_frame a h small e =
     let size : length (take h.length (drop 9 a)) ≡ h.length = length-take-le h.length (drop 9 a) (omega (arith, length-drop 9 a)) in
     let bounds = header_bounds (take 9 a) h k.0 in
     let head : header (message_of h a) ≡ take 9 a = header_only (take 9 a) h (take h.length (drop 9 a)) (small_take 9 a small) (length-take-le 9 a (omega arith)) size k.0 in
-    let tail : drop 9 a ≡ take h.length (drop 9 a) ++ drop (9 + h.length) a = sym (take-append-drop h.length (drop 9 a)) ∙ ap (λ t. take h.length (drop 9 a) ++ t) (drop-drop h.length 9 a) in
-    (record { channel = bounds.channel; payload = omega (arith, size, bounds.length) },
-     sym (take-append-drop 9 a) ∙ (ap (λ t. take 9 a ++ t) tail ∙ (sym (append_assoc (take 9 a) (take h.length (drop 9 a)) (drop (9 + h.length) a)) ∙ ap (λ t. (t ++ take h.length (drop 9 a)) ++ drop (9 + h.length) a) (sym head))))
+    let tail : drop 9 a ≡ take h.length (drop 9 a) ++ drop (9 + h.length) a = sym (take-append-drop h.length (drop 9 a)) ∙ ap (λ t. take h.length (drop 9 a) ++ t) (drop-drop h.length 9 a) in (
+      record { channel = bounds.channel; payload = omega (arith, size, bounds.length) },
+      sym (take-append-drop 9 a) ∙ (ap (λ t. take 9 a ++ t) tail ∙ (sym (append_assoc (take 9 a) (take h.length (drop 9 a)) (drop (9 + h.length) a)) ∙ ap (λ t. (t ++ take h.length (drop 9 a)) ++ drop (9 + h.length) a) (sym head))),
+    )
 
 -- messages that stand in front of some bytes, and those bytes
 record Framed (a : List ℕ) (p : Parts) : Type 0 where
@@ -88,5 +89,5 @@ pub are_longest : (a : List ℕ) → AreBytes a → AreLongest a (messages a)
 are_longest a small =
     record {
       begins = record { each = (framed a small).each; more = behind a; whole = frames_behind a small };
-      longest = λ others k. let first = begins_first a others k in omega (arith, ap length first.1, length-append others first.0)
+      longest = λ others k. let first = begins_first a others k in omega (arith, ap length first.1, length-append others first.0);
     }

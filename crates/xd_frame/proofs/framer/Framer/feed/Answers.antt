@@ -15,21 +15,21 @@ returns-in-Err-clause-history c =
 pub returns-in-Err-clause-answer : goal.returns-in-Err-clause-answer
 returns-in-Err-clause-answer c =
     rw (← c.self.view_is) (λ fed taken k.
-        let e = ap (λ b. feed_gives (rest_of b)) (sym c.as_slice.ensures.value) ∙ (sym c.judge.ensures ∙ c.in-Err.is) in
-        feed_answers _ _ (fed ++ c.args.piece.now) taken c.if-self.false (sym e) (feed_bad _ fed c.args.piece.now taken c.in-Err.fault e k))
+    let e = ap (λ b. feed_gives (rest_of b)) (sym c.as_slice.ensures.value) ∙ (sym c.judge.ensures ∙ c.in-Err.is) in
+    feed_answers _ _ (fed ++ c.args.piece.now) taken c.if-self.false (sym e) (feed_bad _ fed c.args.piece.now taken c.in-Err.fault e k))
 
 pub returns-then-is_err-clause-history : goal.returns-then-is_err-clause-history
 returns-then-is_err-clause-history c =
     rw (← c.self.view_is) (λ fed taken k.
-        feed_fails _ _ fed c.args.piece.now taken c.if-self.false (ap (λ b. feed_gives (rest_of b)) (sym c.as_slice.ensures.value) ∙ (sym c.judge.ensures ∙ c.in_default.is))
-        (when_err c.take_piece.result _ (sym c.is_err.ensures.value ∙ c.if-is_err.true) c.take_piece.ensures.err) refl k)
+    feed_fails _ _ fed c.args.piece.now taken c.if-self.false (ap (λ b. feed_gives (rest_of b)) (sym c.as_slice.ensures.value) ∙ (sym c.judge.ensures ∙ c.in_default.is))
+    (when_err c.take_piece.result _ (sym c.is_err.ensures.value ∙ c.if-is_err.true) c.take_piece.ensures.err) refl k)
 
 pub returns-clause-history : goal.returns-clause-history
 returns-clause-history c =
     rw (← c.self.view_is) (λ fed taken k.
-        let done = sym c.is_err.ensures.value ∙ c.if-is_err.false in
-        feed_takes _ _ fed c.args.piece.now taken c.if-self.false (ap (λ b. feed_gives (rest_of b)) (sym c.as_slice.ensures.value) ∙ (sym c.judge.ensures ∙ c.in_default.is))
-        (when_ok c.take_piece.result _ done c.take_piece.ensures.waiting) (when_ok c.take_piece.result _ done c.take_piece.ensures.held) k)
+    let done = sym c.is_err.ensures.value ∙ c.if-is_err.false in
+    feed_takes _ _ fed c.args.piece.now taken c.if-self.false (ap (λ b. feed_gives (rest_of b)) (sym c.as_slice.ensures.value) ∙ (sym c.judge.ensures ∙ c.in_default.is))
+    (when_ok c.take_piece.result _ done c.take_piece.ensures.waiting) (when_ok c.take_piece.result _ done c.take_piece.ensures.held) k)
 
 pub returns-clause-answer : goal.returns-clause-answer
 returns-clause-answer c fed taken k =
