@@ -7,11 +7,16 @@ mod machine;
 mod number;
 mod opcode;
 mod parts;
+mod printing;
 mod stack;
 mod value;
 mod writing;
 
 pub use fault::{LoadFault, LoadWhat};
 pub use machine::loads;
+pub use printing::show;
 pub use value::Value;
 pub use writing::{DumpFault, dumps};
+
+#[cfg(test)]
+mod tests;
