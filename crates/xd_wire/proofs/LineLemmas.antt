@@ -1,6 +1,6 @@
 -- Lines, one after another.
-use Rattle.std.proofs.Common.{String, Global, Option, Some, Ok, ◌≡◌, ℕ, ◌+◌, ◌≤◌, ◌<◌, ◌⊎◌, inl, inr, Bool, true, false, List, [], ◌∷◌, ◌++◌, length, take, drop, refl, sym, ap, subst, ◌∙◌, arith, append_assoc}
-use Rattle.std.specs.Prelude.{string_bytes, encode_utf8_all}
+use Rattle.std.proofs.Common.{String, Global, Option, Some, Result, Ok, Err, ◌≡◌, ℕ, ◌+◌, ◌≤◌, ◌<◌, ◌⊎◌, inl, inr, Bool, true, false, List, [], ◌∷◌, ◌++◌, length, take, drop, refl, sym, ap, subst, ◌∙◌, arith, append_assoc}
+use Rattle.std.specs.Prelude.{IfOk, string_bytes, encode_utf8_all}
 use Rattle.std.proofs.lemmas.List.{append-nil, drop-drop, length-take-le, length-drop}
 use Rattle.xd_frame.specs.declared.header.Header.{Header}
 use Rattle.xd_frame.specs.Message.{MessageView}
@@ -13,7 +13,11 @@ use Rattle.xd_wire.specs.declared.line.Line.TheVariants as line
 use Rattle.xd_wire.specs.Names.{what_name}
 use Rattle.xd_wire.specs.Payloads.{ShowsPayload}
 use Rattle.xd_wire.specs.WireText.{has_value, value_line, fault_line, message_with, LineBy, IsLine, FaultBy, IsPayloadFault, IsTextFrom}
-use Rattle.xd_wire.specs.Lines.{IsLineOf, Texts, texts_at, ended, Continues}
+use Rattle.xd_edge.specs.declared.refusals.OutOfMemory.{OutOfMemory}
+use Rattle.xd_wire.specs.declared.step.Step.{Step}
+use Rattle.xd_wire.specs.declared.step.Then.{Then}
+use Rattle.xd_wire.specs.declared.step.Then.TheVariants.{End}
+use Rattle.xd_wire.specs.Lines.{IsLineOf, IsStepAt, Texts, texts_at, texts_of, ended, Continues}
 
 pub value_is_line : (b : Bool) (m : MessageView) (text printed : List ℕ) → b ≡ true → ShowsPayload m.payload (Value text) → printed ≡ value_line m.kind m.channel (length m.payload) (encode_utf8_all text)
     → LineBy b m printed × ((other : List ℕ) → LineBy b m other → other ≡ printed) × ((place : ℕ) (found : LoadWhat) → FaultBy b m place found → ⊥)
@@ -87,3 +91,10 @@ last_step bytes at h front payload printed f place found fe pe says is e pr =
     let p : payload ≡ take h.length (drop 9 (drop at bytes)) = pe ∙ ap (take h.length) (sym (drop-drop 9 at bytes)) in
     let there : at + 9 + place ≡ at + (9 + place) = omega arith in
     fault_continues bytes at h payload printed place found p s.0 (pr ∙ ap (fault_line (what_name found)) there) k.0 k.1 k.2
+
+-- a step whose line tells a fault
+pub fault_steps : (r : Result Step OutOfMemory) (bytes : List ℕ) (at : ℕ) (printed : List ℕ) → IfOk r (λ s. string_bytes s.line ≡ printed) → IfOk r (λ s. s.then ≡ End true)
+    → Continues (texts_at bytes at) printed (ended true) → IfOk r (IsStepAt bytes at)
+fault_steps (Err e) bytes at printed line then k = tt
+fault_steps (Ok s) bytes at printed line then k =
+    subst (λ (t : Then). Continues (texts_at bytes at) (string_bytes s.line) (texts_of bytes t)) (sym then) (subst (λ (l : List ℕ). Continues (texts_at bytes at) l (ended true)) (sym line) k)

@@ -6,7 +6,8 @@ use Rattle.xd_value.specs.declared.fault.LoadWhat.{LoadWhat}
 use Rattle.xd_wire.specs.declared.line.Line.{Line}
 use Rattle.xd_wire.specs.declared.line.Line.TheVariants.{Text, Fault}
 use Rattle.xd_wire.specs.declared.step.Step.{Step}
-use Rattle.xd_wire.specs.declared.step.Step.TheVariants.{Next, Last}
+use Rattle.xd_wire.specs.declared.step.Then.{Then}
+use Rattle.xd_wire.specs.declared.step.Then.TheVariants.{At, End}
 use Rattle.xd_wire.specs.WireText.{IsLine, IsPayloadFault, IsTextFrom}
 
 -- what a message is printed as, and nothing else
@@ -33,12 +34,16 @@ pub record Continues (whole : Texts) (text : List ℕ) (later : Texts) : Type 0 
   pub forth : (more : List ℕ) (faulty : Bool) → later more faulty → whole (text ++ more) faulty
   pub back : (all : List ℕ) (faulty : Bool) → whole all faulty → (more : List ℕ) × (all ≡ text ++ more) × later more faulty
 
--- the line at a place of a file, and what stands behind it
+-- the texts of what follows a line
+abbrev pub texts_of : List ℕ → Then → Texts
+texts_of bytes (At next) = texts_at bytes next
+texts_of bytes (End faulty) = ended faulty
+
+-- the line at a place of a file, and what follows it
 abbrev pub IsStepAt : List ℕ → ℕ → Step → Type 0
-IsStepAt bytes at (Next line next) = Continues (texts_at bytes at) (string_bytes line) (texts_at bytes next)
-IsStepAt bytes at (Last line faulty) = Continues (texts_at bytes at) (string_bytes line) (ended faulty)
+IsStepAt bytes at step = Continues (texts_at bytes at) (string_bytes step.line) (texts_of bytes step.then)
 
 -- the next line begins behind this one, inside the file or at its end
-abbrev pub IsAhead : ℕ → ℕ → Step → Type 0
-IsAhead at size (Next line next) = (at < next) × (next ≤ size)
-IsAhead at size (Last line faulty) = Unit {0}
+abbrev pub IsAhead : ℕ → ℕ → Then → Type 0
+IsAhead at size (At next) = (at < next) × (next ≤ size)
+IsAhead at size (End faulty) = Unit {0}

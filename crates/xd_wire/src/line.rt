@@ -1,6 +1,6 @@
 // One message as a line.
 ghost use Rattle.std.specs.Prelude.{◌≡◌, IfOk, length, string_bytes};
-ghost use Rattle.xd_wire.specs.WireText.{has_value, plain_line, value_line, fault_line, message_with};
+ghost use Rattle.xd_wire.specs.WireText.{has_value, plain_line, value_line, message_with};
 ghost use Rattle.xd_wire.specs.Lines.{IsLineOf};
 
 use crate::names::name_of_kind;
@@ -62,13 +62,5 @@ fn value_line_of(alloc: Global, header: Header, shown: &str) -> Result<String, O
     let channel = header.channel;
     let length = header.length;
     let line = format!(in alloc; "{name} {channel} {length} {shown}\n")?;
-    Ok(line)
-}
-
-/// The line of a fault at a place of the file.
-pub fn fault_line_of(alloc: Global, name: &str, place: u128) -> Result<String, OutOfMemory>
-    ensures { IfOk result (λ line. string_bytes line ≡ fault_line name.now place) }
-{
-    let line = format!(in alloc; "fault {name} at {place}\n")?;
     Ok(line)
 }

@@ -5,7 +5,7 @@ ghost use Rattle.xd_wire.specs.WireText.{IsWireText};
 ghost use Rattle.xd_wire.specs.Lines.{texts_at};
 ghost use Rattle.xd_wire.specs.Printing.{HasText, Prints, Leaves, end_with};
 
-use crate::step::{Step, step_at};
+use crate::step::{Then, step_at};
 use std::alloc::Global;
 use xd_edge::{Failed, OutOfMemory, Sink, write_all};
 
@@ -67,19 +67,13 @@ fn write_lines<O: Sink>(
 {
     let mut at = 0;
     loop {
-        match step_at(alloc, bytes, at)? {
-            Step::Next(line, next) => {
-                if write_all(out, line.as_str().as_bytes()).is_err() {
-                    return Ok(Err(Failed));
-                }
-                at = next;
-            }
-            Step::Last(line, faulty) => {
-                if write_all(out, line.as_str().as_bytes()).is_err() {
-                    return Ok(Err(Failed));
-                }
-                return Ok(Ok(faulty));
-            }
+        let step = step_at(alloc, bytes, at)?;
+        if write_all(out, step.line.as_str().as_bytes()).is_err() {
+            return Ok(Err(Failed));
+        }
+        match step.then {
+            Then::At(next) => at = next,
+            Then::End { faulty } => return Ok(Ok(faulty)),
         }
     }
 }
