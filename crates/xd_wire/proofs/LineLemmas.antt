@@ -48,8 +48,9 @@ line_continues bytes at next h payload printed pe size ne me be is only none =
     record {
       forth = λ more faulty k. same (printed ++ more) faulty (inl (printed, more, is, refl, subst (λ p. IsTextFrom p (messages (drop next bytes)) (rest (drop next bytes)) more faulty) step k));
       back = λ all faulty k. elim (back all faulty k) [
-        inl w ↦ (w.1, w.3 ∙ ap (λ l. l ++ w.1) (only w.0 w.2), subst (λ p. IsTextFrom p (messages (drop next bytes)) (rest (drop next bytes)) w.1 faulty) (sym step) w.4)
-        | inr w ↦ absurd (none w.0 w.1 w.2) ]
+        | inl w ↦ (w.1, w.3 ∙ ap (λ l. l ++ w.1) (only w.0 w.2), subst (λ p. IsTextFrom p (messages (drop next bytes)) (rest (drop next bytes)) w.1 faulty) (sym step) w.4)
+        | inr w ↦ absurd (none w.0 w.1 w.2)
+      ];
     }
 
 -- a message with a fault in its payload, which ends the text
@@ -68,9 +69,10 @@ fault_continues bytes at h payload printed place found pe me e is none only =
     record {
       forth = λ more faulty k. same (printed ++ more) faulty (inr (place, found, is, ap (λ l. printed ++ l) k.0 ∙ (append-nil printed ∙ e), k.1));
       back = λ all faulty k. elim (back all faulty k) [
-        inl w ↦ absurd (none w.0 w.2)
+        | inl w ↦ absurd (none w.0 w.2)
         | inr w ↦ (let o = only w.0 w.1 w.2 in
-          ([], w.3 ∙ (ap (λ n. fault_line n (at + (9 + w.0))) (ap what_name o.1) ∙ (ap (λ p. fault_line (what_name found) (at + (9 + p))) o.0 ∙ (sym e ∙ sym (append-nil printed)))), (refl, w.4))) ]
+            ([], w.3 ∙ (ap (λ n. fault_line n (at + (9 + w.0))) (ap what_name o.1) ∙ (ap (λ p. fault_line (what_name found) (at + (9 + p))) o.0 ∙ (sym e ∙ sym (append-nil printed)))), (refl, w.4)))
+      ];
     }
 
 -- the same from what the code knows: the bytes from the place on, and the payload there

@@ -17,7 +17,7 @@ continues_more : (whole mid later : Texts) (a b : List ℕ) → Continues whole 
 continues_more whole mid later a b first then =
     record {
       forth = λ more faulty k. subst (λ l. whole l faulty) (sym (append_assoc a b more)) (first.forth (b ++ more) faulty (then.forth more faulty k));
-      back = λ all faulty k. let x = first.back all faulty k in let y = then.back x.0 faulty x.2 in (y.0, x.1 ∙ (ap (λ l. a ++ l) y.1 ∙ sym (append_assoc a b y.0)), y.2)
+      back = λ all faulty k. let x = first.back all faulty k in let y = then.back x.0 faulty x.2 in (y.0, x.1 ∙ (ap (λ l. a ++ l) y.1 ∙ sym (append_assoc a b y.0)), y.2);
     }
 
 -- nothing was taken yet

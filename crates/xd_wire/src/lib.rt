@@ -8,3 +8,6 @@ mod print;
 mod step;
 
 pub use print::{WireEnd, print_messages};
+
+#[cfg(test)]
+mod tests;

@@ -41,7 +41,8 @@ fn reads_value(kind: Kind) -> bool
 {
     match kind {
         Kind::Exec | Kind::Item | Kind::CloseError => true,
-        Kind::Status | Kind::Reconfigure | Kind::Terminate | Kind::Close | Kind::LastMessage => false,
+        Kind::Status | Kind::Reconfigure | Kind::Terminate | Kind::Close | Kind::LastMessage =>
+            false,
     }
 }
 

@@ -15,7 +15,7 @@ pub returns-then-is_err-clause-leaves : goal.returns-then-is_err-clause-leaves
 returns-then-is_err-clause-leaves g c =
     up_to_part _ _ _ _ _ _ _ c.loop-step.invariant.took c.in_ok-step.ensures.step
     (subst (λ (l : List ℕ). TookPart l (g.O.Sink.sunk c.loop-step.out) (g.O.Sink.sunk c.write_all.new.sink)) (c.as_bytes.ensures.value ∙ c.as_str.ensures.value)
-        (when_err c.write_all.result _ (sym c.is_err.ensures.value ∙ c.if-is_err.true) c.write_all.ensures.part))
+    (when_err c.write_all.result _ (sym c.is_err.ensures.value ∙ c.if-is_err.true) c.write_all.ensures.part))
 
 pub loop-step-preserved : goal.loop-step-preserved
 loop-step-preserved g c =
@@ -24,8 +24,8 @@ loop-step-preserved g c =
       within = ahead.1;
       took = subst (λ (t : Then). TookUpTo (texts_at c.args.bytes.now 0) (texts_of c.args.bytes.now t) (g.O.Sink.sunk c.args.out.now) (g.O.Sink.sunk c.write_all.new.sink)) c.in-At.is
           (up_to_next _ _ _ _ _ _ _ c.loop-step.invariant.took c.in_ok-step.ensures.step
-              (subst (λ (l : List ℕ). Took l (g.O.Sink.sunk c.loop-step.out) (g.O.Sink.sunk c.write_all.new.sink)) (c.as_bytes.ensures.value ∙ c.as_str.ensures.value)
-                  (when_ok c.write_all.result _ (sym c.is_err.ensures.value ∙ c.if-is_err.false) c.write_all.ensures.ok)));
+          (subst (λ (l : List ℕ). Took l (g.O.Sink.sunk c.loop-step.out) (g.O.Sink.sunk c.write_all.new.sink)) (c.as_bytes.ensures.value ∙ c.as_str.ensures.value)
+          (when_ok c.write_all.result _ (sym c.is_err.ensures.value ∙ c.if-is_err.false) c.write_all.ensures.ok)));
       later = omega (arith, c.loop-step.invariant.later, c.write_all.ensures.later);
     }
 
@@ -33,5 +33,5 @@ pub returns-in-End-clause-leaves : goal.returns-in-End-clause-leaves
 returns-in-End-clause-leaves g c =
     subst (λ (t : Then). TookUpTo (texts_at c.args.bytes.now 0) (texts_of c.args.bytes.now t) (g.O.Sink.sunk c.args.out.now) (g.O.Sink.sunk c.write_all.new.sink)) c.in-End.is
     (up_to_next _ _ _ _ _ _ _ c.loop-step.invariant.took c.in_ok-step.ensures.step
-        (subst (λ (l : List ℕ). Took l (g.O.Sink.sunk c.loop-step.out) (g.O.Sink.sunk c.write_all.new.sink)) (c.as_bytes.ensures.value ∙ c.as_str.ensures.value)
-            (when_ok c.write_all.result _ (sym c.is_err.ensures.value ∙ c.if-is_err.false) c.write_all.ensures.ok)))
+    (subst (λ (l : List ℕ). Took l (g.O.Sink.sunk c.loop-step.out) (g.O.Sink.sunk c.write_all.new.sink)) (c.as_bytes.ensures.value ∙ c.as_str.ensures.value)
+    (when_ok c.write_all.result _ (sym c.is_err.ensures.value ∙ c.if-is_err.false) c.write_all.ensures.ok)))

@@ -21,5 +21,5 @@ returns-in-Fault-clause-step c =
     let size : (c.args.at + 9 + h.length) - (c.args.at + 9) ≡ h.length = omega arith in
     fault_steps c.fault_step-in-Fault.result c.args.bytes.now c.args.at _ c.fault_step-in-Fault.ensures.line c.fault_step-in-Fault.ensures.then
     (last_step c.args.bytes.now c.args.at h _ _ _ c.in_ok-line.field-0 c.in-Fault.place c.in-Fault.what (take_rest c.args.bytes.now c.args.at) (ap (λ n. take n (drop (c.args.at + 9) c.args.bytes.now)) size)
-        (subst (λ (o : Option Header). FrontSays (take (length c.args.bytes.now - c.args.at) (drop c.args.at c.args.bytes.now)) (Ok o)) c.in-Ok-Some.field-0-is c.in-Ok-Some.ensures.says) c.in_ok-line.ensures c.in-Fault.is
-        (ap (λ (n : List ℕ). fault_line n (c.args.at + 9 + c.in-Fault.place)) c.name_of_what.ensures))
+    (subst (λ (o : Option Header). FrontSays (take (length c.args.bytes.now - c.args.at) (drop c.args.at c.args.bytes.now)) (Ok o)) c.in-Ok-Some.field-0-is c.in-Ok-Some.ensures.says) c.in_ok-line.ensures c.in-Fault.is
+    (ap (λ (n : List ℕ). fault_line n (c.args.at + 9 + c.in-Fault.place)) c.name_of_what.ensures))
