@@ -1,5 +1,5 @@
 // Milliseconds that never fall.
-ghost use Rattle.std.specs.Prelude.{◌≡◌, ◌≤◌, ℕ};
+ghost use Rattle.std.specs.Prelude.{◌≡◌, ◌≤◌, ◌+◌, ℕ, MatchOption, length, max, nat_lt, slice_get, if◌then◌else◌};
 
 use std::rt;
 use std::time::Instant;
@@ -42,7 +42,13 @@ impl MemClock {
 impl Clock for MemClock {
     ghost moment = { λ s. s.last };
 
-    fn now(&mut self) -> u64 {
+    fn now(&mut self) -> u64
+        ensures later { self.old.last ≤ result }
+        ensures last { self.new.last ≡ result }
+        ensures listed { MatchOption (slice_get self.old.moments.items self.old.next) (result ≡ self.old.last) (λ m. result ≡ max self.old.last m) }
+        ensures next { self.new.next ≡ (if nat_lt self.old.next (length self.old.moments.items) then self.old.next + 1 else self.old.next) }
+        ensures moments { self.new.moments ≡ self.old.moments }
+    {
         if let Some(&moment) = self.moments.get(self.next) {
             self.next += 1;
             self.last = self.last.max(moment);

@@ -1,5 +1,6 @@
 // Real files.
 ghost use Rattle.std.specs.Prelude.{◌≡◌, ◌≤◌, None, length, IfOk};
+ghost use Rattle.xd_edge.specs.declared.real_files.ReadFault.TheVariants.{Io, OutOfMemory};
 
 use crate::{Blob, FileFault, Files, Text, raise};
 use std::alloc::{AllocError, Global};
@@ -29,12 +30,16 @@ enum ReadFault {
 }
 
 impl From<AllocError> for ReadFault {
+    ghost from_gives = { λ _ e. e ≡ OutOfMemory };
+
     fn from(_: AllocError) -> Self {
         ReadFault::OutOfMemory
     }
 }
 
 impl From<io::Error> for ReadFault {
+    ghost from_gives = { λ _ e. e ≡ Io };
+
     fn from(_: io::Error) -> Self {
         ReadFault::Io
     }
