@@ -31,3 +31,8 @@ pub use printing::show;
 pub use reading::loads;
 pub use value::Value;
 pub use writing::{DumpFault, dumps};
+
+#[cfg(test)]
+mod tests;
+#[cfg(test)]
+mod vectors;
