@@ -19,6 +19,8 @@ use Rattle.xd_value.proofs.Same.{same_is}
 use Rattle.xd_value.proofs.Cells.{views_push, pair_views_push}
 use Rattle.xd_value.proofs.Walks.{view-List, view-Dict}
 use Rattle.xd_value.proofs.Forms.{rest_from}
+use Rattle.xd_value.proofs.SoundList.{trees_depth-snoc}
+use Rattle.xd_value.proofs.SoundDict.{pairs_depth-snoc}
 
 abbrev pub by_bytes : Vec ℕ Global → Vec ℕ Global → Ordering
 by_bytes x y = slice_cmp nat_cmp x.items y.items
@@ -83,24 +85,16 @@ none_known keys p none t h = absurd (no_both (p t) h (none t))
 
 -- ---- a list or a dict with one more part
 
-snoc_depth : (ts : Trees) (t : Tree) → trees_depth (snoc ts t) ≡ max (trees_depth ts) (depth t)
-snoc_depth no_trees t = omega arith
-snoc_depth (tree u us) t = omega (arith, snoc_depth us t)
-
-snoc_pair_depth : (ps : Pairs) (k v : Tree) → pairs_depth (snoc_pair ps k v) ≡ max (pairs_depth ps) (max (depth k) (depth v))
-snoc_pair_depth no_pairs k v = omega arith
-snoc_pair_depth (pair l w ps) k v = omega (arith, snoc_pair_depth ps k v)
-
 pub list_depth : (v w : Vec Value Global) (x : Value) (d e r : ℕ) → w.items ≡ v.items ++ x ∷ [] → d ≡ depth (list (views v.items)) → e ≡ depth (view x) → r ≡ max d (suc e) → r ≡ depth (view (ListV w))
 list_depth v w x d e r grown old part is =
     let seen : depth (view (ListV w)) ≡ suc (trees_depth (snoc (views v.items) (view x))) = ap depth (view-List w ∙ ap (λ (xs : List Value). list (views xs)) grown) ∙ ap (λ (ts : Trees). suc (trees_depth ts)) (views_push v.items x) in
-    omega (arith, seen, old, part, is, snoc_depth (views v.items) (view x))
+    omega (arith, seen, old, part, is, trees_depth-snoc (views v.items) (view x))
 
 pub dict_depth : (v w : Vec (Value × Value) Global) (k x : Value) (d e f r : ℕ) → w.items ≡ v.items ++ (k, x) ∷ [] → d ≡ depth (dict (pair_views v.items)) → e ≡ depth (view k) → f ≡ depth (view x) → r ≡ max (max d (suc e)) (suc f)
     → r ≡ depth (view (DictV w))
 dict_depth v w k x d e f r grown old key part is =
     let seen : depth (view (DictV w)) ≡ suc (pairs_depth (snoc_pair (pair_views v.items) (view k) (view x))) = ap depth (view-Dict w ∙ ap (λ (xs : List (Value × Value)). dict (pair_views xs)) grown) ∙ ap (λ (ps : Pairs). suc (pairs_depth ps)) (pair_views_push v.items k x) in
-    omega (arith, seen, old, key, part, is, snoc_pair_depth (pair_views v.items) (view k) (view x))
+    omega (arith, seen, old, key, part, is, pairs_depth-snoc (pair_views v.items) (view k) (view x))
 
 pub list_known : (keys : Keys) (v : Vec Value Global) → Knows keys (is_key_of (view (ListV v)))
 list_known keys v = none_known keys (is_key_of (view (ListV v))) (λ t. ap (λ (d : Tree). is_key_of d t) (view-List v))
