@@ -1,5 +1,5 @@
 -- What is known of keys after one is added.
-use Rattle.std.proofs.Common.{◌≡◌, ℕ, zero, suc, max, ◌+◌, ◌<◌, ◌&&◌, length, take, drop, get_or, ◌++◌, arith, Bool, true, false, not, ◌||◌, List, [], ◌∷◌, Vec, Global, refl, sym, ap, subst, ◌∙◌, inl, inr}
+use Rattle.std.proofs.Common.{◌≡◌, ℕ, zero, suc, max, ◌+◌, ◌<◌, length, take, drop, get_or, ◌++◌, arith, Bool, true, false, not, ◌||◌, List, [], ◌∷◌, Vec, Global, refl, sym, ap, subst, ◌∙◌, inl, inr}
 use Rattle.std.specs.Ordering.{nat_cmp, is_eq, match_ordering}
 use Rattle.std.specs.declared.cmp.Ordering.{Ordering}
 use Rattle.std.specs.declared.cmp.Ordering.TheVariants.{Less, Equal, Greater}
@@ -8,7 +8,7 @@ use Rattle.std.specs.BTreeSet.{insert_key}
 use Rattle.std.proofs.lemmas.Bool.{cases_Bool, or_cases, or_left, or_right, and_parts, false_from_ne_true}
 use Rattle.std.proofs.lemmas.List.{take_more}
 use Rattle.std.proofs.lemmas.Cmp.{tied_itself, nat_list_cmp_total}
-use Rattle.xd_value.specs.Tree.{Tree, Trees, Pairs, no_trees, tree, no_pairs, pair, same, has, distinct, has_key, depth, trees_depth, pairs_depth, list, dict}
+use Rattle.xd_value.specs.Tree.{Tree, Trees, Pairs, no_pairs, pair, same, has, distinct, has_key, depth, trees_depth, pairs_depth, list, dict}
 use Rattle.xd_value.specs.Reading.{snoc, snoc_pair}
 use Rattle.xd_value.specs.View.{view, views, pair_views}
 use Rattle.xd_value.specs.declared.value.Value.{Value, List as ListV, Dict as DictV}
@@ -143,5 +143,5 @@ repeated x xs h d = not_false (has (view x) (views xs)) (and_parts (not (has (vi
 pub repeated_at : (xs : List Value) (i j : ℕ) (x : Value) → i < length xs → j ≡ i + 1 → x ≡ get_or xs i x → has (view x) (views (drop j xs)) ≡ true → false ≡ distinct (views xs)
 repeated_at xs i j x lt next is h =
     sym (false_from_ne_true (distinct (views xs)) (λ d.
-      repeated x (drop (i + 1) xs) (ap (λ (k : ℕ). has (view x) (views (drop k xs))) (sym next) ∙ h)
-        (sym (ap (λ (ys : List Value). distinct (views ys)) (rest_from xs i x lt is)) ∙ distinct_rest xs i d)))
+    repeated x (drop (i + 1) xs) (ap (λ (k : ℕ). has (view x) (views (drop k xs))) (sym next) ∙ h)
+    (sym (ap (λ (ys : List Value). distinct (views ys)) (rest_from xs i x lt is)) ∙ distinct_rest xs i d)))

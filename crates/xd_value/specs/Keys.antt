@@ -4,7 +4,7 @@ use Rattle.std.specs.List.{list_any}
 use Rattle.std.specs.Ordering.{nat_cmp, is_eq}
 use Rattle.std.specs.Cmp.Lexicographic.{slice_cmp}
 use Rattle.std.specs.Global.{Global}
-use Rattle.xd_value.specs.Tree.{Tree, dict, has_key, none, truth, int, bytes, text, list, tuple, set, frozenset, channel}
+use Rattle.xd_value.specs.Tree.{Tree, dict, has_key}
 use Rattle.xd_value.specs.Canonical.{form}
 use Rattle.xd_value.specs.declared.keys.Keys.{Keys}
 

@@ -25,10 +25,7 @@ pub(crate) fn are_distinct(alloc: Global, items: &[Value]) -> Result<bool, Alloc
 }
 
 /// Whether no key stands twice.
-pub(crate) fn are_keys_distinct(
-    alloc: Global,
-    pairs: &[(Value, Value)],
-) -> Result<bool, AllocError>
+pub(crate) fn are_keys_distinct(alloc: Global, pairs: &[(Value, Value)]) -> Result<bool, AllocError>
     ensures { IfOk result (λ b. b ≡ new_keys no_pairs (pair_views pairs.now)) }
 {
     let mut keys = Keys::new(alloc);

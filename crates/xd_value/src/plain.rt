@@ -13,7 +13,11 @@ use std::alloc::{AllocError, Global};
 use xd_edge::Text;
 
 #[tactic(auto, unfolding(crate::specs::Reading::read_int))]
-pub(crate) fn int<'a>(alloc: Global, stack: &mut Vec<Slot>, rest: &'a [u8]) -> Result<&'a [u8], StepFault>
+pub(crate) fn int<'a>(
+    alloc: Global,
+    stack: &mut Vec<Slot>,
+    rest: &'a [u8],
+) -> Result<&'a [u8], StepFault>
     ensures { Gives (λ r. (cells_of stack.new.items, r.now)) result (read_int (cells_of stack.old.items) rest.now) }
 {
     let (n, rest) = number(rest)?;
@@ -22,7 +26,11 @@ pub(crate) fn int<'a>(alloc: Global, stack: &mut Vec<Slot>, rest: &'a [u8]) -> R
 }
 
 #[tactic(auto, using(crate::proofs::Cells::is_utf8_holds, crate::proofs::Cells::is_utf8_fails), unfolding(crate::specs::Reading::read_text))]
-pub(crate) fn text<'a>(alloc: Global, stack: &mut Vec<Slot>, rest: &'a [u8]) -> Result<&'a [u8], StepFault>
+pub(crate) fn text<'a>(
+    alloc: Global,
+    stack: &mut Vec<Slot>,
+    rest: &'a [u8],
+) -> Result<&'a [u8], StepFault>
     ensures { Gives (λ r. (cells_of stack.new.items, r.now)) result (read_text (cells_of stack.old.items) rest.now) }
 {
     let (bytes, rest) = chunk(rest)?;
@@ -44,7 +52,11 @@ pub(crate) fn latin(alloc: Global, bytes: &[u8]) -> Result<Text, AllocError>
 }
 
 #[tactic(auto, unfolding(crate::specs::Reading::read_long))]
-pub(crate) fn long<'a>(alloc: Global, stack: &mut Vec<Slot>, rest: &'a [u8]) -> Result<&'a [u8], StepFault>
+pub(crate) fn long<'a>(
+    alloc: Global,
+    stack: &mut Vec<Slot>,
+    rest: &'a [u8],
+) -> Result<&'a [u8], StepFault>
     ensures { Gives (λ r. (cells_of stack.new.items, r.now)) result
         (read_long (cells_of stack.old.items) rest.now) }
 {
@@ -57,7 +69,11 @@ pub(crate) fn long<'a>(alloc: Global, stack: &mut Vec<Slot>, rest: &'a [u8]) -> 
 }
 
 #[tactic(auto, unfolding(crate::specs::Reading::read_channel))]
-pub(crate) fn channel<'a>(alloc: Global, stack: &mut Vec<Slot>, rest: &'a [u8]) -> Result<&'a [u8], StepFault>
+pub(crate) fn channel<'a>(
+    alloc: Global,
+    stack: &mut Vec<Slot>,
+    rest: &'a [u8],
+) -> Result<&'a [u8], StepFault>
     ensures { Gives (λ r. (cells_of stack.new.items, r.now)) result
         (read_channel (cells_of stack.old.items) rest.now) }
 {

@@ -81,11 +81,7 @@ pub(crate) fn tuple(alloc: Global, stack: &mut Vec<Slot>, n: usize) -> Result<()
 
 /// Takes the items of a set.
 #[tactic(auto, unfolding(crate::specs::Reading::set_parts))]
-pub(crate) fn set_parts(
-    alloc: Global,
-    stack: &mut Vec<Slot>,
-    n: usize,
-) -> Result<Taken, StepFault>
+pub(crate) fn set_parts(alloc: Global, stack: &mut Vec<Slot>, n: usize) -> Result<Taken, StepFault>
     ensures items { Gives (λ p. (views p.items.items, cells_of stack.new.items)) result
         (set_parts_of n (cells_of stack.old.items)) }
     ensures shallow { IfOk result (λ p. p.depth < 64) }

@@ -28,8 +28,16 @@ const FAULTS: [(&[u8], usize, LoadWhat); 30] = [
     (b"H\0\0\0\x01-Q", 0, LoadWhat::BadNumber),
     (b"H\0\0\0\x02+7Q", 0, LoadWhat::BadNumber),
     (b"H\0\0\0\0Q", 0, LoadWhat::BadNumber),
-    (b"H\0\0\0\x28-170141183460469231731687303715884105729Q", 0, LoadWhat::BadNumber),
-    (b"H\0\0\0\x27170141183460469231731687303715884105728Q", 0, LoadWhat::BadNumber),
+    (
+        b"H\0\0\0\x28-170141183460469231731687303715884105729Q",
+        0,
+        LoadWhat::BadNumber,
+    ),
+    (
+        b"H\0\0\0\x27170141183460469231731687303715884105728Q",
+        0,
+        LoadWhat::BadNumber,
+    ),
     (b"Q", 0, LoadWhat::Misplaced),
     (b"LLLPQ", 3, LoadWhat::Misplaced),
     (b"K\0\0\0\0E\0\0\0\x01Q", 5, LoadWhat::Unhashable),
@@ -46,10 +54,7 @@ const OTHER_SPELLINGS: [(&[u8], &[u8]); 7] = [
     (b"H\0\0\0\x017Q", b"F\0\0\0\x07Q"),
     (b"I\0\0\0\x0a2147483648Q", b"H\0\0\0\x0a2147483648Q"),
     (b"H\0\0\0\x0c002147483648Q", b"H\0\0\0\x0a2147483648Q"),
-    (
-        b"K\0\0\0\x01H\0\0\0\x010LPQ",
-        b"K\0\0\0\x01F\0\0\0\0LPQ",
-    ),
+    (b"K\0\0\0\x01H\0\0\0\x010LPQ", b"K\0\0\0\x01F\0\0\0\0LPQ"),
 ];
 
 /// Integers, and their payloads.
@@ -92,7 +97,9 @@ fn decoded(alloc: Global, digits: &str) -> Result<Vec<u8>, Fail> {
         high = match high {
             None => Some(digit),
             Some(first) => {
-                let byte = u8::try_from(first % 16 * 16 + digit % 16).ok().ok_or("a byte")?;
+                let byte = u8::try_from(first % 16 * 16 + digit % 16)
+                    .ok()
+                    .ok_or("a byte")?;
                 bytes.push(byte).ok().ok_or("memory")?;
                 None
             }
@@ -119,7 +126,9 @@ fn execnet_values_are_read_printed_and_written(rt: HostRuntime) -> Result<(), Fa
 fn first_faults(rt: HostRuntime) {
     for (payload, place, fault) in FAULTS {
         let found = loads(rt.alloc(), payload);
-        assert!(rt; matches!(found, Err(LoadFault::Bad { at, what }) if at == place && what == fault));
+        assert!(rt;
+            matches!(found, Err(LoadFault::Bad { at, what }) if at == place && what == fault)
+        );
     }
 }
 
@@ -148,7 +157,10 @@ fn integers(rt: HostRuntime) -> Result<(), Fail> {
 fn nested(alloc: Global, depth: u32) -> Result<Vec<u8>, Fail> {
     let mut bytes = Vec::new(alloc);
     for _ in 1..depth {
-        bytes.extend_from_slice(b"K\0\0\0\x01F\0\0\0\0").ok().ok_or("memory")?;
+        bytes
+            .extend_from_slice(b"K\0\0\0\x01F\0\0\0\0")
+            .ok()
+            .ok_or("memory")?;
     }
     bytes.extend_from_slice(b"K\0\0\0\0").ok().ok_or("memory")?;
     for _ in 1..depth {
@@ -167,7 +179,15 @@ fn depth_64_is_read_and_65_is_not(rt: HostRuntime) -> Result<(), Fail> {
     assert_eq!(rt; written.as_slice(), payload.as_slice());
     let payload = nested(alloc, 65)?;
     let found = loads(alloc, &payload);
-    assert!(rt; matches!(found, Err(LoadFault::Bad { at: 708, what: LoadWhat::TooDeep })));
+    assert!(rt;
+        matches!(
+            found,
+            Err(LoadFault::Bad {
+                at: 708,
+                what: LoadWhat::TooDeep
+            })
+        )
+    );
     Ok(())
 }
 

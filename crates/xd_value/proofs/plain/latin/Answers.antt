@@ -1,4 +1,4 @@
-use Rattle.std.proofs.Common.{◌≡◌, ◌∙◌, arith, ap}
+use Rattle.std.proofs.Common.{◌∙◌, arith}
 use Rattle.xd_value.proofs.CanonicalSpelling.{latin_chars, latin_more}
 use Rattle.xd_value.proofs.plain.latin.Goals as goal
 

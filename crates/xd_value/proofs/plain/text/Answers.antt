@@ -1,6 +1,4 @@
-use Rattle.std.proofs.Common.{refl, ◌≡◌, true, List, ℕ, sym, ap, ◌∙◌, arith, rules}
-use Rattle.std.specs.Str.{chars, is_utf8}
-use Rattle.xd_value.specs.Reading.{read_text, chunk_at}
+use Rattle.std.proofs.Common.{refl, ◌∙◌}
 use Rattle.xd_value.proofs.Cells.{is_utf8_holds, read_text_is}
 use Rattle.xd_value.proofs.Walks.{view-Text}
 use Rattle.xd_value.proofs.plain.text.Goals as goal

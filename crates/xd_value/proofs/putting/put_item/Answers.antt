@@ -1,4 +1,4 @@
-use Rattle.std.proofs.Common.{◌≡◌, sym, ap, ◌∙◌, arith, rules, refl}
+use Rattle.std.proofs.Common.{◌≡◌, ap, ◌∙◌, rules, refl}
 use Rattle.xd_value.specs.View.{views}
 use Rattle.xd_value.specs.Reading.{snoc}
 use Rattle.xd_value.specs.View.{view}
@@ -21,6 +21,6 @@ returns c =
 
 pub invariant_of-result : goal.invariant_of-result
 invariant_of-result c = record {
-    measured = list_depth c.args.items c.push.new.self c.args.value.value c.args.depth c.args.value.depth c.deepened-depth.result c.in_ok-push.ensures.items c.requires c.args.value.measured c.deepened-depth.ensures;
-    known = list_known c.args.keys c.push.new.self;
+  measured = list_depth c.args.items c.push.new.self c.args.value.value c.args.depth c.args.value.depth c.deepened-depth.result c.in_ok-push.ensures.items c.requires c.args.value.measured c.deepened-depth.ensures;
+  known = list_known c.args.keys c.push.new.self;
 }

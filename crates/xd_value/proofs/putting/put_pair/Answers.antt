@@ -17,6 +17,6 @@ returns c =
 
 pub invariant_of-result : goal.invariant_of-result
 invariant_of-result c = record {
-    measured = dict_depth c.args.pairs c.push.new.self c.args.key.value c.args.value.value c.args.depth c.args.key.depth c.args.value.depth c.deepened-depth.result c.in_ok-push.ensures.items c.requires.measured c.args.key.measured c.args.value.measured (omega (arith, c.deepened.ensures, c.deepened-depth.ensures));
-    known = dict_known c.pair_fault.new.keys c.args.pairs c.push.new.self c.args.key.value c.args.value.value c.in_ok-push.ensures.items (known_or_along c.pair_fault.new.keys (view c.args.key.value) c.args.pairs.items c.deref.result.now c.deref.ensures.value (c.in_ok-what.ensures.known c.in_default.is));
+  measured = dict_depth c.args.pairs c.push.new.self c.args.key.value c.args.value.value c.args.depth c.args.key.depth c.args.value.depth c.deepened-depth.result c.in_ok-push.ensures.items c.requires.measured c.args.key.measured c.args.value.measured (omega (arith, c.deepened.ensures, c.deepened-depth.ensures));
+  known = dict_known c.pair_fault.new.keys c.args.pairs c.push.new.self c.args.key.value c.args.value.value c.in_ok-push.ensures.items (known_or_along c.pair_fault.new.keys (view c.args.key.value) c.args.pairs.items c.deref.result.now c.deref.ensures.value (c.in_ok-what.ensures.known c.in_default.is));
 }

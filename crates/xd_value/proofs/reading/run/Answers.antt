@@ -1,8 +1,5 @@
-use Rattle.std.proofs.Common.{◌≡◌, ◌<◌, ◌-◌, ◌∷◌, Some, length, arith, rules, refl, sym, ◌∙◌, ap}
+use Rattle.std.proofs.Common.{◌-◌, Some, length, arith, rules, sym, ◌∙◌, ap}
 use Rattle.xd_value.specs.Slots.{cells_of}
-use Rattle.xd_value.specs.Opcodes.{opcode_at}
-use Rattle.xd_value.specs.declared.opcode.Opcode.TheVariants as op
-use Rattle.xd_value.proofs.Runs.{Reaches}
 use Rattle.xd_value.proofs.Steps.{Here, no_stop, unknown, placed_refusal, go_on, stops_refused, stops_read}
 use Rattle.xd_value.proofs.reading.run.Goals as goal
 

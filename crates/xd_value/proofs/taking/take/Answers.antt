@@ -1,4 +1,4 @@
-use Rattle.std.proofs.Common.{◌≡◌, arith, rules, sym, ap, ◌∙◌, ◌-◌, ◌+◌, length, drop, map, List, Bool, true, false, refl}
+use Rattle.std.proofs.Common.{arith, sym, ap, ◌∙◌, ◌-◌, map, List, refl}
 use Rattle.std.specs.List.{list_any}
 use Rattle.xd_value.specs.Slots.{cell_of}
 use Rattle.xd_value.specs.Reading.{is_short}
