@@ -111,7 +111,7 @@ fn print_set(alloc: Global, out: &mut Text, items: &[Value]) -> Result<(), Alloc
 fn print_frozenset(alloc: Global, out: &mut Text, items: &[Value]) -> Result<(), AllocError>
     ensures { OnOk result (out.new ≡ out.old
         ++ shown_set (codes "frozenset()") (codes "frozenset({") (shown_items [] (views items.now)) (codes "})")
-            (count (views items.now))) }
+        (count (views items.now))) }
 {
     if items.is_empty() {
         put(out, "frozenset()")?;
@@ -160,7 +160,11 @@ fn digit(n: u8) -> char
     requires { n < 16 }
     ensures { result ≡ digit_char n }
 {
-    if n < 10 { (b'0' + n) as char } else { (b'a' + (n - 10)) as char }
+    if n < 10 {
+        (b'0' + n) as char
+    } else {
+        (b'a' + (n - 10)) as char
+    }
 }
 
 fn print_byte(out: &mut Text, byte: u8) -> Result<(), AllocError>

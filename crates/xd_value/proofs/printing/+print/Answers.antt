@@ -1,4 +1,4 @@
-use Rattle.std.proofs.Common.{ap, sym, [], ◌++◌, ◌∙◌, List, ℕ, ◌≡◌, rules, arith}
+use Rattle.std.proofs.Common.{ap, sym, [], ◌++◌, ◌∙◌, List, ℕ, rules, arith}
 use Rattle.std.specs.Prelude.{codes}
 use Rattle.xd_value.specs.Show.{shown_items, between}
 use Rattle.xd_value.specs.View.{views}

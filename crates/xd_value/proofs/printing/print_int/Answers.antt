@@ -1,4 +1,4 @@
-use Rattle.std.proofs.Common.{◌≡◌, ◌∙◌, rules, sym, subst, true, List, ℕ}
+use Rattle.std.proofs.Common.{◌≡◌, rules, sym, subst, true, List, ℕ}
 use Rattle.std.specs.List.{list_all}
 use Rattle.std.specs.Char.{is_ascii}
 use Rattle.std.specs.Fmt.{signed_decimal}
