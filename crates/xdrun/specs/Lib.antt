@@ -3,4 +3,5 @@ pub mod Local
 pub mod Print
 pub mod Refusal
 pub mod Top
+pub mod Wire
 pub mod Words

@@ -25,3 +25,8 @@ is_suite word = is_path word && not (is_command word)
 abbrev pub suite_named : List (List ℕ) → Option (List ℕ)
 suite_named (suite ∷ option ∷ count ∷ []) = if is_suite suite && (is_word option (codes "-n") && is_word count (codes "0")) then Some suite else None
 suite_named _ = None
+
+-- the file of messages of wire FILE
+abbrev pub messages_named : List (List ℕ) → Option (List ℕ)
+messages_named (command ∷ file ∷ []) = if is_word command (codes "wire") && is_path file then Some file else None
+messages_named _ = None

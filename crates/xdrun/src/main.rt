@@ -5,6 +5,7 @@ mod child;
 mod local;
 mod refusal;
 mod top;
+mod wire;
 mod words;
 
 pub use child::run_child;

@@ -16,6 +16,10 @@ pub enum Refusal {
     Unread,
     /// The suite file is refused.
     Suite(SuiteWhat),
+    /// The file of messages is missing or cannot be read.
+    FileUnread,
+    /// The file of messages has over 64 MiB.
+    FileTooLarge,
 }
 
 fn refusal_line(why: Refusal) -> &'static str
@@ -27,6 +31,8 @@ fn refusal_line(why: Refusal) -> &'static str
         Refusal::Suite(SuiteWhat::TooLarge) => "xdrun: suite is too large\n",
         Refusal::Suite(SuiteWhat::NotToml) => "xdrun: suite is not TOML\n",
         Refusal::Suite(SuiteWhat::Form) => "xdrun: suite is not of the first form\n",
+        Refusal::FileUnread => "xdrun: file cannot be read\n",
+        Refusal::FileTooLarge => "xdrun: file is too large\n",
     }
 }
 

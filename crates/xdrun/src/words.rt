@@ -1,6 +1,6 @@
 // What the words behind the program's name ask for.
 ghost use Rattle.std.specs.Prelude.{◌≡◌, option_copied};
-ghost use Rattle.xdrun.specs.Words.{begins_with_dash, is_command, is_path, is_suite, is_word, suite_named};
+ghost use Rattle.xdrun.specs.Words.{begins_with_dash, is_command, is_path, is_suite, is_word, messages_named, suite_named};
 
 use xd_edge::Text;
 
@@ -12,6 +12,22 @@ pub fn suite_named(words: &[Text]) -> Option<&Text>
         [suite, option, count] => {
             if is_suite(suite) && (is_word(option, "-n") && is_word(count, "0")) {
                 Some(suite)
+            } else {
+                None
+            }
+        }
+        _ => None,
+    }
+}
+
+/// The file of messages of `wire FILE`.
+pub fn messages_named(words: &[Text]) -> Option<&Text>
+    ensures { option_copied result ≡ messages_named words.now }
+{
+    match words {
+        [command, file] => {
+            if is_word(command, "wire") && is_path(file) {
+                Some(file)
             } else {
                 None
             }
