@@ -1,9 +1,9 @@
 -- A start, and what became of it.
-use Rattle.std.proofs.Common.{◌≡◌, ℕ, zero, List, [], ◌∷◌, ◌++◌, length, Option, Some, None, option_map, Result, Ok, Err, refl, sym, ◌∙◌, ap}
+use Rattle.std.proofs.Common.{ℕ, List, Option, Some, None, option_map, Result, Ok, Err, refl, ◌∙◌, ap}
 use Rattle.std.specs.Result.{IfOk, OnErr}
 use Rattle.xd_edge.specs.declared.refusals.Failed.{Failed as Fault}
 use Rattle.xd_edge.specs.declared.children.ChildEnd.{ChildEnd}
-use Rattle.xd_edge.specs.declared.children.Fate.TheVariants.{Running, Ended, NotRead, NotWaited}
+use Rattle.xd_edge.specs.declared.children.Fate.TheVariants.{Ended, NotRead, NotWaited}
 use Rattle.xd_edge.specs.declared.children.ChildRun.{ChildRun}
 use Rattle.xd_edge.specs.Children.{AddsRun, ChangesRun, IsNext, change_at, running, with_end, with_wait_fault, with_read_fault}
 use Rattle.xd_edge.proofs.ChildLemmas.{change_at_end}

@@ -1,12 +1,11 @@
 -- The report of a run, with its tail.
-use Rattle.std.proofs.Common.{◌≡◌, ℕ, Bool, true, false, List, [], ◌++◌, length, Option, refl, sym, ◌∙◌, ap, subst}
+use Rattle.std.proofs.Common.{◌≡◌, ℕ, Bool, true, false, List, [], Option, refl, sym, ◌∙◌, ap, subst}
 use Rattle.std.proofs.lemmas.List.{append-nil}
 use Rattle.std.specs.List.{flat_map}
 use Rattle.xd_edge.specs.declared.children.ChildRun.{ChildRun}
 use Rattle.xd_edge.specs.Sink.{Sunk, Printed, PrintedPart}
 use Rattle.xd_edge.proofs.SinkLemmas.{printed_more, printed_part_of_more, printed_then_part}
 use Rattle.xd_suite.specs.declared.test.Test.{Test}
-use Rattle.xd_ledger.specs.declared.entry.Entry.{Entry}
 use Rattle.xd_ledger.specs.declared.journal.Journal.{Journal}
 use Rattle.xd_ledger.specs.Legal.{local_entries}
 use Rattle.xd_ledger.specs.Results.{TestResult}

@@ -1,12 +1,12 @@
 -- A whole run, with its end.
-use Rattle.std.proofs.Common.{◌≡◌, ℕ, ◌+◌, ◌<◌, ◌≤◌, inl, inr, Bool, true, false, List, [], ◌∷◌, ◌++◌, length, map, take, Option, count_by, if◌then◌else◌, refl, sym, ◌∙◌, ap, subst, arith}
+use Rattle.std.proofs.Common.{◌≡◌, ℕ, ◌+◌, inl, inr, Bool, true, false, List, [], ◌∷◌, ◌++◌, length, map, take, Option, count_by, if◌then◌else◌, refl, sym, ◌∙◌, ap, subst, arith}
 use Rattle.std.proofs.lemmas.List.{append-nil, length-map}
 use Rattle.std.proofs.lemmas.Grind.{flat_map-append}
 use Rattle.std.proofs.lemmas.List.Sums.{sum_by-append}
 use Rattle.std.specs.List.{flat_map}
 use Rattle.xd_edge.specs.declared.children.ChildRun.{ChildRun}
 use Rattle.xd_edge.specs.Faults.{Rose, RoseBy}
-use Rattle.xd_edge.specs.Sink.{Sunk, Printed, PrintedPart}
+use Rattle.xd_edge.specs.Sink.{Sunk}
 use Rattle.xd_suite.specs.declared.test.Test.{Test}
 use Rattle.xd_ledger.specs.declared.settings.Settings.{Settings}
 use Rattle.xd_ledger.specs.declared.entry.Entry.{Entry}
@@ -20,7 +20,7 @@ use Rattle.xd_ledger.specs.Stop.{over_in, reaches, stop_of, stop_so_far}
 use Rattle.xd_report.specs.Block.{block_text}
 use Rattle.xd_report.specs.Lines.{entry_text}
 use Rattle.xd_report.specs.Summary.{summary_text}
-use Rattle.xd_report.specs.Text.{stop_text, tail_text, text_of}
+use Rattle.xd_report.specs.Text.{stop_text, text_of}
 use Rattle.xdrun.specs.Child.{faults_of}
 use Rattle.xdrun.specs.Local.{RanPrinted, RanTests, RunsSuite, local_settings, stop_after}
 use Rattle.xdrun.specs.Print.{PrintsReport, Shows}

@@ -1,5 +1,5 @@
 -- What the end of a child means for its test. The status 77 for a skipped test is that of automake; the rest is a choice of this project.
-use Rattle.std.specs.Prelude.{ℕ, ℤ, zero, suc, ◌≡◌, ◌==◌, List, Option, Some, None, pos, negsuc, sum_by, if◌then◌else◌}
+use Rattle.std.specs.Prelude.{ℕ, zero, suc, ◌≡◌, ◌==◌, List, Option, Some, None, pos, negsuc, sum_by, if◌then◌else◌}
 use Rattle.xd_edge.specs.declared.children.ChildEnd.{ChildEnd}
 use Rattle.xd_edge.specs.declared.children.ChildEnd.TheVariants.{Status, Killed}
 use Rattle.xd_edge.specs.declared.children.Fate.{Fate}

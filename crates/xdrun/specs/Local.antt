@@ -1,5 +1,5 @@
 -- A run in the program itself, as far as it came.
-use Rattle.std.specs.Prelude.{ℕ, ◌≡◌, ◌≤◌, Bool, true, false, List, [], ◌∷◌, ◌++◌, map, take, length, Option, Some, None, option_map}
+use Rattle.std.specs.Prelude.{ℕ, ◌≡◌, ◌≤◌, Bool, true, false, List, ◌++◌, map, take, length, Option, Some, None, option_map}
 use Rattle.std.specs.List.{flat_map}
 use Rattle.xd_edge.specs.declared.mode.ModeKind.TheVariants.{Local}
 use Rattle.xd_edge.specs.declared.children.ChildRun.{ChildRun}

@@ -7,7 +7,7 @@ use Rattle.xd_wire.specs.declared.print.WireEnd.TheVariants.{Whole, Faulty, OutF
 use Rattle.xd_wire.specs.Printing.{HasText, Prints}
 use Rattle.xd_wire.specs.WireText.{IsWireText}
 use Rattle.xdrun.specs.declared.refusal.Refusal.{Refusal}
-use Rattle.xdrun.specs.declared.refusal.Refusal.TheVariants.{BadWords, Unread, Suite, FileUnread, FileTooLarge}
+use Rattle.xdrun.specs.declared.refusal.Refusal.TheVariants.{FileUnread, FileTooLarge}
 use Rattle.xdrun.specs.Words.{messages_named}
 
 -- the exit status

@@ -1,8 +1,6 @@
-use Rattle.std.proofs.Common.{◌≡◌, ℕ, List, Option, sym, ◌∙◌, ap, subst}
+use Rattle.std.proofs.Common.{ℕ, sym, ◌∙◌, subst}
 use Rattle.std.specs.Result.{IfOk, OnErr}
-use Rattle.xd_edge.specs.declared.children.ChildRun.{ChildRun}
-use Rattle.xd_edge.specs.declared.children.ChildEnd.{ChildEnd}
-use Rattle.xd_edge.specs.Children.{ChangesRun, AddsRun, running, with_end, with_wait_fault}
+use Rattle.xd_edge.specs.Children.{ChangesRun, with_end, with_wait_fault}
 use Rattle.xdrun.specs.Child.{RanChild}
 use Rattle.xd_ledger.specs.declared.entry.Outcome.{Outcome}
 use Rattle.xdrun.proofs.Ran.{ended, not_waited, not_read}

@@ -1,7 +1,7 @@
 use Rattle.std.proofs.Common.{Bool, map, ◌∙◌, refl, subst, arith}
 use Rattle.xdrun.specs.Print.{Shows}
 use Rattle.xdrun.proofs.NewLines.{lines}
-use Rattle.xdrun.proofs.Steps.{start, not_collected, next, stop, finish}
+use Rattle.xdrun.proofs.Steps.{start, not_collected, next, stop}
 use Rattle.xdrun.proofs.local.run_tests.Goals as goal
 
 pub returns-then-not-collected-clause-ran : goal.returns-then-not-collected-clause-ran
