@@ -59,6 +59,9 @@ def large_messages():
     return message(4, 1, payload) * (SIZE // len(payload))
 
 
+FILES = {"small messages": small_messages, "large messages": large_messages}
+
+
 def measure(words):
     """The seconds and the peak memory in MiB of the best of the runs, or None where it cannot be run."""
     best = None
@@ -89,15 +92,18 @@ def python_with_execnet():
 
 
 def main():
+    if sys.argv[1:2] == ["--make"]:
+        with open(sys.argv[3], "wb") as f:
+            f.write(FILES[sys.argv[2]]())
+        return
     program = sys.argv[1] if len(sys.argv) > 1 else "./xdrun"
     python = python_with_execnet()
     with tempfile.TemporaryDirectory() as folder:
-        for name, make in (("small messages", small_messages), ("large messages", large_messages)):
+        for name in FILES:
             path = os.path.join(folder, "messages")
-            data = make()
-            with open(path, "wb") as f:
-                f.write(data)
-            megabytes = len(data) / 1e6
+            # A process of its own makes the file, because a child's peak counts that of its parent.
+            subprocess.run([sys.executable, os.path.abspath(__file__), "--make", name, path], check=True)
+            megabytes = os.path.getsize(path) / 1e6
             print(f"{name}, {megabytes:.0f} MB")
             runs = [("cat", ["cat", path]), ("xdrun wire", [program, "wire", path])]
             if python is None:
