@@ -31,8 +31,8 @@ failed rs = failures_in (rounds 0 rs)
 -- last test, it stops where the failures reach the limit, and the output may fail anywhere.
 abbrev pub EndsSo : ℕ → ℕ → List TestResult → RunStop → Type 0
 EndsSo limit tests rs how =
-  ((how ≡ Completed) × (length rs ≡ tests) × (reaches limit (failed rs) ≡ false))
-  ⊎ (((how ≡ MaxFail (failed rs)) × (reaches limit (failed rs) ≡ true)) ⊎ (how ≡ OutFault))
+    ((how ≡ Completed) × (length rs ≡ tests) × (reaches limit (failed rs) ≡ false))
+    ⊎ (((how ≡ MaxFail (failed rs)) × (reaches limit (failed rs) ≡ true)) ⊎ (how ≡ OutFault))
 
 -- The journal of a run without workers, with its end: the collection, then each test in suite order, none behind the
 -- one whose failure reached the limit, and then the end.

@@ -1,5 +1,5 @@
 -- Journals of runs without workers. A choice of this project: pytest without -n has no journal.
-use Rattle.std.specs.Prelude.{ℕ, ◌==◌, Bool, true, false, ◌&&◌, List}
+use Rattle.std.specs.Prelude.{◌==◌, Bool, true, false, ◌&&◌}
 use Rattle.std.specs.List.{list_all}
 use Rattle.xd_edge.specs.declared.mode.ModeKind.{ModeKind}
 use Rattle.xd_edge.specs.declared.mode.ModeKind.TheVariants.{Local}

@@ -51,21 +51,63 @@ pub enum RunStop {
 #[derive(Drop)]
 pub enum Entry {
     // What a worker said.
-    Ready { worker: u32 },
-    Collected { worker: u32, ids: Ids },
-    Done { worker: u32, index: u32, outcome: Outcome, ms: u64, output: Blob },
-    Back { worker: u32, indices: Indices },
-    Finished { worker: u32 },
-    Refused { worker: u32, text: Text },
-    Down { worker: u32, cause: Cause, output: Blob },
-    NotStarted { worker: u32 },
+    Ready {
+        worker: u32,
+    },
+    Collected {
+        worker: u32,
+        ids: Ids,
+    },
+    Done {
+        worker: u32,
+        index: u32,
+        outcome: Outcome,
+        ms: u64,
+        output: Blob,
+    },
+    Back {
+        worker: u32,
+        indices: Indices,
+    },
+    Finished {
+        worker: u32,
+    },
+    Refused {
+        worker: u32,
+        text: Text,
+    },
+    Down {
+        worker: u32,
+        cause: Cause,
+        output: Blob,
+    },
+    NotStarted {
+        worker: u32,
+    },
     // What was told to one.
-    Start { worker: u32, slot: u32 },
-    Run { worker: u32, indices: Indices },
-    RunAll { worker: u32 },
-    Steal { worker: u32, indices: Indices },
-    Shutdown { worker: u32 },
-    Kill { worker: u32 },
+    Start {
+        worker: u32,
+        slot: u32,
+    },
+    Run {
+        worker: u32,
+        indices: Indices,
+    },
+    RunAll {
+        worker: u32,
+    },
+    Steal {
+        worker: u32,
+        indices: Indices,
+    },
+    Shutdown {
+        worker: u32,
+    },
+    Kill {
+        worker: u32,
+    },
     // The end.
-    Over { how: RunStop },
+    Over {
+        how: RunStop,
+    },
 }

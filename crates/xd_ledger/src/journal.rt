@@ -57,7 +57,8 @@ fn is_local_entry(entry: &Entry) -> bool
     ensures { result ≡ is_local_entry entry.now }
 {
     match entry {
-        Entry::Collected { worker, .. } | Entry::Run { worker, .. } | Entry::Done { worker, .. } => *worker == 0,
+        Entry::Collected { worker, .. } | Entry::Run { worker, .. } | Entry::Done { worker, .. } =>
+            *worker == 0,
         Entry::Over { .. } => true,
         _ => false,
     }

@@ -9,5 +9,5 @@ pub use entry::{Cause, Entry, Ids, Outcome, RunStop};
 pub use journal::Journal;
 pub use settings::Settings;
 
-
-
+#[cfg(test)]
+mod tests;

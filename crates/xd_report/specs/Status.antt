@@ -1,5 +1,5 @@
 -- The exit status of a run without workers. The numbers 0, 1 and 5 are pytest's; 3 is a choice of this project.
-use Rattle.std.specs.Prelude.{ℕ, ◌==◌, List, length, if◌then◌else◌}
+use Rattle.std.specs.Prelude.{ℕ, ◌==◌, length, if◌then◌else◌}
 use Rattle.xd_ledger.specs.declared.entry.RunStop.{RunStop}
 use Rattle.xd_ledger.specs.declared.entry.RunStop.TheVariants.{Completed, MaxFail, Restarts, Unequal, CollectError, OutFault}
 use Rattle.xd_ledger.specs.declared.journal.Journal.{Journal}

@@ -23,7 +23,7 @@ stop_text _ = []
 -- the blocks of the failed tests, the line of the stop that the steps decide, and the summary
 abbrev pub tail_text : Journal → List ℕ
 tail_text j =
-  flat_map (block_text (ids_in j.entries.items)) j.entries.items ++ stop_text (stop_so_far j.settings j.entries.items) ++ summary_text j.entries.items ++ 10 ∷ []
+    flat_map (block_text (ids_in j.entries.items)) j.entries.items ++ stop_text (stop_so_far j.settings j.entries.items) ++ summary_text j.entries.items ++ 10 ∷ []
 
 -- all that is printed
 abbrev pub text_of : Journal → List ℕ

@@ -18,12 +18,22 @@ pub fn failure_block(alloc: Global, journal: &Journal, at: usize) -> Result<Blob
     ensures { IfOk result (λ block. IsBlockAt journal.now at block) }
 {
     let mut bytes = Vec::new(alloc);
-    add_block(alloc, &mut bytes, ids_of(&journal.entries), &journal.entries[at])?;
+    add_block(
+        alloc,
+        &mut bytes,
+        ids_of(&journal.entries),
+        &journal.entries[at],
+    )?;
     Ok(Blob { bytes })
 }
 
 /// The blocks of the failed results among these entries.
-pub fn add_blocks(alloc: Global, out: &mut Vec<u8>, ids: &[Text], entries: &[Entry]) -> Result<(), OutOfMemory>
+pub fn add_blocks(
+    alloc: Global,
+    out: &mut Vec<u8>,
+    ids: &[Text],
+    entries: &[Entry],
+) -> Result<(), OutOfMemory>
     ensures { OnOk result (out.new.items ≡ out.old.items ++ flat_map (block_text ids.now) entries.now) }
 {
     for entry in entries {
@@ -32,7 +42,12 @@ pub fn add_blocks(alloc: Global, out: &mut Vec<u8>, ids: &[Text], entries: &[Ent
     Ok(())
 }
 
-fn add_block(alloc: Global, out: &mut Vec<u8>, ids: &[Text], entry: &Entry) -> Result<(), OutOfMemory>
+fn add_block(
+    alloc: Global,
+    out: &mut Vec<u8>,
+    ids: &[Text],
+    entry: &Entry,
+) -> Result<(), OutOfMemory>
     ensures { OnOk result (out.new.items ≡ out.old.items ++ block_text ids.now entry.now) }
 {
     match entry {

@@ -7,19 +7,37 @@ use xd_ledger::{Entry, Outcome};
 pub fn is_passed(entry: &Entry) -> bool
     ensures { result ≡ is_passed entry.now }
 {
-    matches!(entry, Entry::Done { outcome: Outcome::Passed, .. })
+    matches!(
+        entry,
+        Entry::Done {
+            outcome: Outcome::Passed,
+            ..
+        }
+    )
 }
 
 pub fn is_skipped(entry: &Entry) -> bool
     ensures { result ≡ is_skipped entry.now }
 {
-    matches!(entry, Entry::Done { outcome: Outcome::Skipped, .. })
+    matches!(
+        entry,
+        Entry::Done {
+            outcome: Outcome::Skipped,
+            ..
+        }
+    )
 }
 
 pub fn is_failed(entry: &Entry) -> bool
     ensures { result ≡ is_failed entry.now }
 {
-    matches!(entry, Entry::Done { outcome: Outcome::Failed(_), .. })
+    matches!(
+        entry,
+        Entry::Done {
+            outcome: Outcome::Failed(_),
+            ..
+        }
+    )
 }
 
 pub fn count_passed(entries: &[Entry]) -> usize

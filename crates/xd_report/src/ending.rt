@@ -19,8 +19,17 @@ pub fn tail(alloc: Global, journal: &Journal) -> Result<Blob, OutOfMemory>
     ensures { IfOk result (λ tail. tail ≡ tail_text journal.now) }
 {
     let mut bytes = Vec::new(alloc);
-    add_blocks(alloc, &mut bytes, ids_of(&journal.entries), &journal.entries)?;
-    add_stop(alloc, &mut bytes, stop_so_far(journal.settings, &journal.entries))?;
+    add_blocks(
+        alloc,
+        &mut bytes,
+        ids_of(&journal.entries),
+        &journal.entries,
+    )?;
+    add_stop(
+        alloc,
+        &mut bytes,
+        stop_so_far(journal.settings, &journal.entries),
+    )?;
     let summary = summary(alloc, &journal.entries)?;
     add(&mut bytes, summary.as_bytes())?;
     add(&mut bytes, &[b'\n'])?;

@@ -10,10 +10,10 @@ mod summary;
 mod writing;
 
 pub use block::failure_block;
+pub use ending::tail;
 pub use lines::report_lines;
 pub use status::status_of;
 pub use summary::summary_line;
-pub use ending::tail;
 
-
-
+#[cfg(test)]
+mod tests;

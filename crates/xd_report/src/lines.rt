@@ -13,14 +13,24 @@ use xd_ledger::{Entry, Ids, Journal, Outcome};
 
 /// The lines of the entries from one place up to another, each ended by a newline. The cost does not grow with the
 /// entries outside.
-pub fn report_lines(alloc: Global, journal: &Journal, from: usize, to: usize) -> Result<Blob, OutOfMemory>
+pub fn report_lines(
+    alloc: Global,
+    journal: &Journal,
+    from: usize,
+    to: usize,
+) -> Result<Blob, OutOfMemory>
     requires local { IsTrue (is_local journal.now) }
     requires order { from ≤ to }
     requires within { to ≤ length journal.now.entries.items }
     ensures { IfOk result (λ lines. lines ≡ lines_between journal.now from to) }
 {
     let mut bytes = Vec::new(alloc);
-    add_entries(alloc, &mut bytes, ids_of(&journal.entries), &journal.entries[from..to])?;
+    add_entries(
+        alloc,
+        &mut bytes,
+        ids_of(&journal.entries),
+        &journal.entries[from..to],
+    )?;
     Ok(Blob { bytes })
 }
 
@@ -29,7 +39,11 @@ pub fn ids_of(entries: &[Entry]) -> &[Text]
     ensures { result.now ≡ ids_in entries.now }
 {
     for entry in entries {
-        if let Entry::Collected { ids: Ids::List(ids), .. } = entry {
+        if let Entry::Collected {
+            ids: Ids::List(ids),
+            ..
+        } = entry
+        {
             return &ids.items;
         }
     }
@@ -46,7 +60,12 @@ pub fn id_at(ids: &[Text], index: u32) -> &str
     }
 }
 
-fn add_entries(alloc: Global, out: &mut Vec<u8>, ids: &[Text], entries: &[Entry]) -> Result<(), OutOfMemory>
+fn add_entries(
+    alloc: Global,
+    out: &mut Vec<u8>,
+    ids: &[Text],
+    entries: &[Entry],
+) -> Result<(), OutOfMemory>
     ensures { OnOk result (out.new.items ≡ out.old.items ++ flat_map (entry_text ids.now) entries.now) }
 {
     for entry in entries {
@@ -55,7 +74,12 @@ fn add_entries(alloc: Global, out: &mut Vec<u8>, ids: &[Text], entries: &[Entry]
     Ok(())
 }
 
-fn add_entry(alloc: Global, out: &mut Vec<u8>, ids: &[Text], entry: &Entry) -> Result<(), OutOfMemory>
+fn add_entry(
+    alloc: Global,
+    out: &mut Vec<u8>,
+    ids: &[Text],
+    entry: &Entry,
+) -> Result<(), OutOfMemory>
     ensures { OnOk result (out.new.items ≡ out.old.items ++ entry_text ids.now entry.now) }
 {
     match entry {

@@ -1,5 +1,5 @@
 -- Ids that are looked for among those before them.
-use Rattle.std.proofs.Common.{◌≡◌, ℕ, ◌+◌, ◌<◌, ◌==◌, Bool, true, false, ◌&&◌, ◌||◌, not, cond, List, [], ◌∷◌, ◌++◌, length, map, take, drop, get_or, refl, sym, ◌∙◌, ap, arith, add-one, drop-cons}
+use Rattle.std.proofs.Common.{◌≡◌, ℕ, ◌+◌, ◌<◌, Bool, true, false, ◌&&◌, ◌||◌, not, cond, List, [], ◌∷◌, ◌++◌, length, map, take, drop, get_or, refl, sym, ◌∙◌, ap, add-one, drop-cons}
 use Rattle.std.proofs.lemmas.List.{map-append, take_more}
 use Rattle.std.proofs.lemmas.List.Folds.{list_any-append}
 use Rattle.std.specs.List.{list_any}
@@ -73,7 +73,7 @@ module _ (tests : List Test) (i : ℕ) (d : Test) (within : i < length tests) wh
       record {
         rest = before.rest ∙ next_id ∙ ap (λ (b : Bool). b && are_new (ids (take (i + 1) tests)) (ids (drop (i + 1) tests))) is_new;
         known = λ cs. has_seen-insert seen new id cs key is updates ∙ ap (λ (b : Bool). bytes_eq id cs || b) (before.known cs)
-          ∙ or-last (bytes_eq id cs) (list_any (bytes_eq cs) (ids (take i tests)))
-          ∙ ap (λ (b : Bool). list_any (bytes_eq cs) (ids (take i tests)) || (b || false)) (bytes_eq-sym id cs)
-          ∙ sym (ap (list_any (bytes_eq cs)) one_more ∙ list_any-append (bytes_eq cs) (ids (take i tests)) (id ∷ []));
+            ∙ or-last (bytes_eq id cs) (list_any (bytes_eq cs) (ids (take i tests)))
+            ∙ ap (λ (b : Bool). list_any (bytes_eq cs) (ids (take i tests)) || (b || false)) (bytes_eq-sym id cs)
+            ∙ sym (ap (list_any (bytes_eq cs)) one_more ∙ list_any-append (bytes_eq cs) (ids (take i tests)) (id ∷ []));
       }

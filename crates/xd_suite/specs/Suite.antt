@@ -1,5 +1,5 @@
 -- The tests that a suite file lists. The file's form is a choice of this project, over TOML 1.0.
-use Rattle.std.specs.Prelude.{ℕ, ◌≡◌, ◌<◌, ◌≤◌, map, slice_index_or, ◌==◌, nat_le, Bool, true, false, ◌&&◌, ◌||◌, not, List, [], ◌∷◌, ◌++◌, length, Option, Some, None, IsSome, option_map, option_and_then, if◌then◌else◌, codes}
+use Rattle.std.specs.Prelude.{ℕ, ◌≡◌, ◌<◌, ◌≤◌, map, slice_index_or, ◌==◌, nat_le, Bool, true, ◌&&◌, ◌||◌, not, List, [], ◌∷◌, ◌++◌, length, Option, Some, None, IsSome, option_map, option_and_then, if◌then◌else◌, codes}
 use Rattle.std.specs.List.{list_all, list_any}
 use Rattle.std.specs.Str.{bytes_eq, chars, IsUtf8}
 use Rattle.toml.specs.Data.{Data, table, Items, no_items, item, Members, no_members, member, get_member, as_str, as_array}
@@ -51,8 +51,8 @@ made_test id run = if is_id id && not (length run == 0) then Some (record { id =
 abbrev pub test_of : Data → Option Test
 test_of (table ms) =
     if has_only_keys is_test_key ms then
-      option_and_then (λ id. option_and_then (made_test id) (option_and_then texts_of (option_and_then as_array (get_member (codes "run") ms))))
-      (option_and_then text_of (get_member (codes "id") ms))
+    option_and_then (λ id. option_and_then (made_test id) (option_and_then texts_of (option_and_then as_array (get_member (codes "run") ms))))
+    (option_and_then text_of (get_member (codes "id") ms))
     else None
 test_of _ = None
 

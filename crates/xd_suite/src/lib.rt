@@ -14,5 +14,5 @@ pub use fault::{SuiteFault, SuiteRefusal, SuiteWhat};
 pub use suite::Suite;
 pub use test::Test;
 
-
-
+#[cfg(test)]
+mod tests;
