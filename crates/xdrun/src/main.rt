@@ -12,6 +12,7 @@ pub use child::run_child;
 pub use local::run_suite;
 pub use refusal::Refusal;
 use std::alloc::Global;
+use std::io::BufWriter;
 use std::process::ExitCode;
 use std::rt::Env;
 use std::{env, io};
@@ -36,10 +37,13 @@ fn main(rt: HostRuntime) -> io::Result<ExitCode> {
             items: Vec::new(alloc),
         },
     };
+    let Ok(writer) = BufWriter::new(alloc, rt.stdout()) else {
+        return out_of_memory(&rt);
+    };
     let mut files = RealFiles::new(&rt);
     let children = RealChildren::new(&rt);
     let mut clock = RealClock::new(&rt);
-    let mut out = OutSink::new(rt.stdout());
+    let mut out = OutSink::new(writer);
     let mut err = OutSink::new(rt.stderr());
     match xdrun(
         &rt,
@@ -52,11 +56,13 @@ fn main(rt: HostRuntime) -> io::Result<ExitCode> {
         &mut err,
     ) {
         Ok(end) => Ok(ExitCode::from(end.status)),
-        Err(_) => {
-            eprintln!(rt; "xdrun: out of memory")?;
-            Ok(ExitCode::from(6))
-        }
+        Err(_) => out_of_memory(&rt),
     }
+}
+
+fn out_of_memory(rt: &impl Eprint) -> io::Result<ExitCode> {
+    eprintln!(rt; "xdrun: out of memory")?;
+    Ok(ExitCode::from(6))
 }
 
 #[cfg(test)]
