@@ -61,6 +61,13 @@ impl<V: Drop> ChannelEnd<V> {
         }
     }
 
+    /// Whether a callback is set.
+    pub fn has_callback(&self) -> bool
+        ensures { result ≡ self.now.callback }
+    {
+        self.callback
+    }
+
     /// Whether the end has nothing more to do: sending is closed, and the end marker was given or handed.
     pub fn is_done(&self) -> bool
         ensures { result ≡ is_done self.now }
