@@ -1,0 +1,4 @@
+pub mod Legal
+pub mod Local
+pub mod Results
+pub mod Stop

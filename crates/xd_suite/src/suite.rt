@@ -1,0 +1,77 @@
+// The tests of a suite file.
+ghost use Rattle.std.specs.Prelude.{◌≡◌, ◌<◌, length, map, IfOk, IfErr};
+ghost use Rattle.xd_suite.specs.Suite.{IsSuiteOf, IsRefused, run_at};
+
+use crate::fault::bad;
+use crate::reading::read_suite;
+use crate::{SuiteRefusal, SuiteWhat, Test};
+use std::alloc::Global;
+use std::marker::Model;
+use xd_edge::{ModeKind, OutOfMemory, Text, Texts};
+
+const MAX_BYTES: usize = 4_194_304;
+
+/// The tests of a suite file, in order: at most 50,000, and each runs a program.
+#[derive(Drop)]
+pub struct Suite {
+    tests: Vec<Test>,
+}
+
+impl Model for Suite {
+    ghost use Rattle.std.specs.Prelude.{List, length, ◌≤◌, ◌<◌, All};
+    ghost use Rattle.xd_suite.specs.declared.test.Test.{Test};
+
+    ghost Value = { List Test };
+
+    ghost view = { λ s. s.tests.items };
+
+    ghost invariant = { λ s. (length s.tests.items ≤ 50000) × All (λ t. 0 < length t.run) s.tests.items };
+}
+
+impl Suite {
+    /// The tests of the file with these bytes.
+    pub fn read(alloc: Global, bytes: &[u8]) -> Result<Suite, SuiteRefusal>
+        ensures ok { IfOk result (IsSuiteOf bytes.now) }
+        ensures refused { IfErr result (IsRefused bytes.now) }
+    {
+        if bytes.len() > MAX_BYTES {
+            return Err(bad(SuiteWhat::TooLarge));
+        }
+        let table = match toml::table_from_slice(alloc, bytes) {
+            Ok(table) => table,
+            Err(e) if e.is_memory() => return Err(SuiteRefusal::OutOfMemory),
+            Err(_) => return Err(bad(SuiteWhat::NotToml)),
+        };
+        match read_suite(alloc, &table)? {
+            Some(tests) => Ok(Suite { tests }),
+            None => Err(bad(SuiteWhat::Form)),
+        }
+    }
+
+    /// How many tests there are.
+    pub fn len(&self) -> u32
+        ensures { result ≡ length self.now }
+    {
+        self.tests.len() as u32
+    }
+
+    /// The ids of the tests. No mode of the first form looks at more.
+    pub fn ids(&self, alloc: Global, _mode: ModeKind) -> Result<Texts, OutOfMemory>
+        ensures { IfOk result (λ ids. ids ≡ map (λ t. t.id) self.now) }
+    {
+        let mut items = Vec::new(alloc);
+        for test in &self.tests {
+            items.push(test.id.copy()?)?;
+        }
+        Ok(Texts { items })
+    }
+
+    /// The program of a test, with its arguments.
+    pub fn command(&self, test: u32) -> &[Text]
+        requires { test < length self.now }
+        ensures run { result.now ≡ run_at self.now test }
+        ensures program { 0 < length result.now }
+    {
+        &self.tests[test as usize].run.items
+    }
+}

@@ -1,0 +1,86 @@
+// The opcodes that push a value without parts.
+ghost use Rattle.std.specs.Prelude.{◌≡◌, IfOk};
+ghost use Rattle.xd_value.specs.Reading.{Gives, read_int, read_text, read_long, read_channel};
+ghost use Rattle.xd_value.specs.Slots.{cells_of};
+
+use crate::fault::{LoadWhat, StepFault};
+use crate::input::{chunk, number};
+use crate::number::long_value;
+use crate::slot::Slot;
+use crate::stack::push;
+use crate::value::Value;
+use std::alloc::{AllocError, Global};
+use xd_edge::Text;
+
+#[tactic(auto, unfolding(crate::specs::Reading::read_int))]
+pub(crate) fn int<'a>(
+    alloc: Global,
+    stack: &mut Vec<Slot>,
+    rest: &'a [u8],
+) -> Result<&'a [u8], StepFault>
+    ensures { Gives (λ r. (cells_of stack.new.items, r.now)) result (read_int (cells_of stack.old.items) rest.now) }
+{
+    let (n, rest) = number(rest)?;
+    push(alloc, stack, Value::Int(n.cast_signed() as i128), 0, 0)?;
+    Ok(rest)
+}
+
+#[tactic(auto, using(crate::proofs::Cells::is_utf8_holds, crate::proofs::Cells::is_utf8_fails), unfolding(crate::specs::Reading::read_text))]
+pub(crate) fn text<'a>(
+    alloc: Global,
+    stack: &mut Vec<Slot>,
+    rest: &'a [u8],
+) -> Result<&'a [u8], StepFault>
+    ensures { Gives (λ r. (cells_of stack.new.items, r.now)) result (read_text (cells_of stack.old.items) rest.now) }
+{
+    let (bytes, rest) = chunk(rest)?;
+    let Ok(text) = str::from_utf8(bytes) else {
+        return Err(StepFault::Bad(LoadWhat::BadText));
+    };
+    push(alloc, stack, Value::Text(Text::of(alloc, text)?), 0, 0)?;
+    Ok(rest)
+}
+
+pub(crate) fn latin(alloc: Global, bytes: &[u8]) -> Result<Text, AllocError>
+    ensures { IfOk result (λ t. t ≡ bytes.now) }
+{
+    let mut text = String::new(alloc);
+    for b in bytes {
+        text.push(*b as char)?;
+    }
+    Ok(Text::from_string(text))
+}
+
+#[tactic(auto, unfolding(crate::specs::Reading::read_long))]
+pub(crate) fn long<'a>(
+    alloc: Global,
+    stack: &mut Vec<Slot>,
+    rest: &'a [u8],
+) -> Result<&'a [u8], StepFault>
+    ensures { Gives (λ r. (cells_of stack.new.items, r.now)) result
+        (read_long (cells_of stack.old.items) rest.now) }
+{
+    let (digits, rest) = chunk(rest)?;
+    let Some(n) = long_value(digits) else {
+        return Err(StepFault::Bad(LoadWhat::BadNumber));
+    };
+    push(alloc, stack, Value::Int(n), 0, 0)?;
+    Ok(rest)
+}
+
+#[tactic(auto, unfolding(crate::specs::Reading::read_channel))]
+pub(crate) fn channel<'a>(
+    alloc: Global,
+    stack: &mut Vec<Slot>,
+    rest: &'a [u8],
+) -> Result<&'a [u8], StepFault>
+    ensures { Gives (λ r. (cells_of stack.new.items, r.now)) result
+        (read_channel (cells_of stack.old.items) rest.now) }
+{
+    let (n, rest) = number(rest)?;
+    if n == 0 || n >= 0x8000_0000 {
+        return Err(StepFault::Bad(LoadWhat::BadNumber));
+    }
+    push(alloc, stack, Value::Channel(n), 0, 0)?;
+    Ok(rest)
+}

@@ -1,0 +1,213 @@
+// Values as text, in the notation of Python.
+ghost use Rattle.std.specs.Prelude.{◌≡◌, ◌++◌, ◌∷◌, [], ◌<◌, IfOk, OnOk, IsTrue, codes};
+ghost use Rattle.std.specs.List.{list_all};
+ghost use Rattle.std.specs.Char.{is_ascii, digit_char};
+ghost use Rattle.std.specs.Fmt.{decimal, signed_decimal};
+ghost use Rattle.xd_value.specs.Show.{shown, shown_items, shown_pairs, shown_set, between, hex, hex_pair, escaped, escapes, tuple_end};
+ghost use Rattle.xd_value.specs.Tree.{count};
+ghost use Rattle.xd_value.specs.View.{view, views, pair_views};
+
+use crate::value::Value;
+use std::alloc::{AllocError, Global};
+use xd_edge::{OutOfMemory, Text};
+
+/// The value as text: `None`, `True`, `-5`, `bytes(00ff)`, `"a\x01"`, `[1, 2]`, `(1,)`, `{5}`, `set()`,
+/// `frozenset({1})`, `{"k": 3}`, `channel(7)`. Items stand in the order in which the value holds them.
+pub fn show(alloc: Global, value: &Value) -> Result<Text, OutOfMemory>
+    ensures { IfOk result (λ t. t ≡ shown (view value.now)) }
+{
+    let mut out = Text::from_string(String::new(alloc));
+    print(alloc, &mut out, value)?;
+    Ok(out)
+}
+
+/// Appends words of ASCII.
+fn put(out: &mut Text, words: &str) -> Result<(), AllocError>
+    requires { IsTrue (list_all is_ascii words.now) }
+    ensures { OnOk result (out.new ≡ out.old ++ words.now) }
+{
+    out.text.push_str(words)?;
+    Ok(())
+}
+
+fn put_char(out: &mut Text, c: char) -> Result<(), AllocError>
+    ensures { OnOk result (out.new ≡ out.old ++ c ∷ []) }
+{
+    out.text.push(c)?;
+    Ok(())
+}
+
+#[cycle(print)]
+fn print(alloc: Global, out: &mut Text, value: &Value) -> Result<(), AllocError>
+    ensures { OnOk result (out.new ≡ out.old ++ shown (view value.now)) }
+{
+    match value {
+        Value::None => put(out, "None")?,
+        Value::Bool(b) => put(out, if *b { "True" } else { "False" })?,
+        Value::Int(n) => print_int(alloc, out, *n)?,
+        Value::Bytes(bytes) => print_bytes(out, bytes.as_slice())?,
+        Value::Text(text) => print_text(out, text)?,
+        Value::List(items) => print_items(alloc, out, "[", items, "]")?,
+        Value::Tuple(items) => print_tuple(alloc, out, items)?,
+        Value::Set(items) => print_set(alloc, out, items)?,
+        Value::FrozenSet(items) => print_frozenset(alloc, out, items)?,
+        Value::Dict(pairs) => print_pairs(alloc, out, pairs)?,
+        Value::Channel(n) => print_channel(alloc, out, *n)?,
+    }
+    Ok(())
+}
+
+/// Items between two marks.
+#[cycle(print)]
+fn print_items(
+    alloc: Global,
+    out: &mut Text,
+    first: &str,
+    items: &[Value],
+    last: &str,
+) -> Result<(), AllocError>
+    requires opens { IsTrue (list_all is_ascii first.now) }
+    requires closes { IsTrue (list_all is_ascii last.now) }
+    ensures { OnOk result (out.new ≡ out.old ++ between first.now (shown_items [] (views items.now)) last.now) }
+{
+    put(out, first)?;
+    let mut before = "";
+    for item in items {
+        put(out, before)?;
+        print(alloc, out, item)?;
+        before = ", ";
+    }
+    put(out, last)?;
+    Ok(())
+}
+
+#[cycle(print)]
+fn print_tuple(alloc: Global, out: &mut Text, items: &[Value]) -> Result<(), AllocError>
+    ensures { OnOk result (out.new ≡ out.old
+        ++ between (40 ∷ []) (shown_items [] (views items.now)) (tuple_end (count (views items.now)))) }
+{
+    if items.len() == 1 {
+        print_items(alloc, out, "(", items, ",)")?;
+    } else {
+        print_items(alloc, out, "(", items, ")")?;
+    }
+    Ok(())
+}
+
+#[cycle(print)]
+fn print_set(alloc: Global, out: &mut Text, items: &[Value]) -> Result<(), AllocError>
+    ensures { OnOk result (out.new ≡ out.old
+        ++ shown_set (codes "set()") (codes "{") (shown_items [] (views items.now)) (codes "}") (count (views items.now))) }
+{
+    if items.is_empty() {
+        put(out, "set()")?;
+    } else {
+        print_items(alloc, out, "{", items, "}")?;
+    }
+    Ok(())
+}
+
+#[cycle(print)]
+fn print_frozenset(alloc: Global, out: &mut Text, items: &[Value]) -> Result<(), AllocError>
+    ensures { OnOk result (out.new ≡ out.old
+        ++ shown_set (codes "frozenset()") (codes "frozenset({") (shown_items [] (views items.now)) (codes "})")
+        (count (views items.now))) }
+{
+    if items.is_empty() {
+        put(out, "frozenset()")?;
+    } else {
+        print_items(alloc, out, "frozenset({", items, "})")?;
+    }
+    Ok(())
+}
+
+#[cycle(print)]
+fn print_pairs(alloc: Global, out: &mut Text, pairs: &[(Value, Value)]) -> Result<(), AllocError>
+    ensures { OnOk result (out.new ≡ out.old ++ between (codes "{") (shown_pairs [] (pair_views pairs.now)) (codes "}")) }
+{
+    put(out, "{")?;
+    let mut before = "";
+    for pair in pairs {
+        put(out, before)?;
+        print(alloc, out, &pair.0)?;
+        put(out, ": ")?;
+        print(alloc, out, &pair.1)?;
+        before = ", ";
+    }
+    put(out, "}")?;
+    Ok(())
+}
+
+fn print_int(alloc: Global, out: &mut Text, n: i128) -> Result<(), AllocError>
+    ensures { OnOk result (out.new ≡ out.old ++ signed_decimal n) }
+{
+    let digits = n.to_string(alloc)?;
+    put(out, digits.as_str())?;
+    Ok(())
+}
+
+fn print_channel(alloc: Global, out: &mut Text, n: u32) -> Result<(), AllocError>
+    ensures { OnOk result (out.new ≡ out.old ++ between (codes "channel(") (decimal n) (codes ")")) }
+{
+    put(out, "channel(")?;
+    print_int(alloc, out, n as i128)?;
+    put(out, ")")?;
+    Ok(())
+}
+
+/// The hexadecimal digit of a number below 16.
+fn digit(n: u8) -> char
+    requires { n < 16 }
+    ensures { result ≡ digit_char n }
+{
+    if n < 10 {
+        (b'0' + n) as char
+    } else {
+        (b'a' + (n - 10)) as char
+    }
+}
+
+fn print_byte(out: &mut Text, byte: u8) -> Result<(), AllocError>
+    ensures { OnOk result (out.new ≡ out.old ++ hex_pair byte) }
+{
+    put_char(out, digit(byte / 16))?;
+    put_char(out, digit(byte % 16))?;
+    Ok(())
+}
+
+fn print_bytes(out: &mut Text, bytes: &[u8]) -> Result<(), AllocError>
+    ensures { OnOk result (out.new ≡ out.old ++ between (codes "bytes(") (hex bytes.now) (codes ")")) }
+{
+    put(out, "bytes(")?;
+    for byte in bytes {
+        print_byte(out, *byte)?;
+    }
+    put(out, ")")?;
+    Ok(())
+}
+
+fn print_char(out: &mut Text, c: char) -> Result<(), AllocError>
+    ensures { OnOk result (out.new ≡ out.old ++ escaped c) }
+{
+    if c == '"' || c == '\\' {
+        put_char(out, '\\')?;
+        put_char(out, c)?;
+    } else if c < ' ' || c == '\x7f' {
+        put(out, "\\x")?;
+        print_byte(out, c as u8)?;
+    } else {
+        put_char(out, c)?;
+    }
+    Ok(())
+}
+
+fn print_text(out: &mut Text, text: &Text) -> Result<(), AllocError>
+    ensures { OnOk result (out.new ≡ out.old ++ between (codes "\"") (escapes text.now) (codes "\"")) }
+{
+    put(out, "\"")?;
+    for c in text.as_str().chars() {
+        print_char(out, c)?;
+    }
+    put(out, "\"")?;
+    Ok(())
+}

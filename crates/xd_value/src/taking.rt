@@ -1,0 +1,111 @@
+// The opcodes that take the last values off the stack and build a tuple or a set of them.
+ghost use Rattle.std.specs.Prelude.{◌≡◌, ◌<◌, map, Ok, Some, None, IfOk};
+ghost use Rattle.std.specs.List.{list_any};
+ghost use Rattle.xd_value.specs.Tree.{trees_depth};
+ghost use Rattle.xd_value.specs.Reading.{Gives, is_short, values_of, take_parts, build_tuple, set_parts as set_parts_of, set_fault as set_fault_of};
+ghost use Rattle.xd_value.specs.Slots.{cell_of, cells_of};
+ghost use Rattle.xd_value.specs.View.{views};
+
+use crate::checks::are_hashable;
+use crate::distinct::are_distinct;
+use crate::fault::{LoadWhat, StepFault};
+use crate::slot::Slot;
+use crate::stack::push;
+use crate::taken::Taken;
+use crate::value::Value;
+use std::alloc::{AllocError, Global};
+
+fn is_any_short(slots: &[Slot]) -> bool
+    ensures { result ≡ list_any is_short (map cell_of slots.now) }
+{
+    for slot in slots {
+        if slot.missing != 0 {
+            return true;
+        }
+    }
+    false
+}
+
+fn values(alloc: Global, slots: Vec<Slot>) -> Result<Vec<Value>, StepFault>
+    ensures { Gives (λ v. views v.items) result (Ok (values_of (map cell_of slots.items))) }
+{
+    let mut items = Vec::with_capacity(alloc, slots.len())?;
+    for slot in slots {
+        items.push(slot.value)?;
+    }
+    Ok(items)
+}
+
+/// How deep the deepest of these values nests.
+fn deepest(slots: &[Slot]) -> u32
+    ensures { result ≡ trees_depth (values_of (map cell_of slots.now)) }
+{
+    let mut deepest = 0;
+    for slot in slots {
+        if slot.depth > deepest {
+            deepest = slot.depth;
+        }
+    }
+    deepest
+}
+
+/// Takes the last values.
+#[tactic(auto, unfolding(crate::specs::Reading::take_parts))]
+fn take(alloc: Global, stack: &mut Vec<Slot>, n: usize) -> Result<Taken, StepFault>
+    ensures { Gives (λ p. (views p.items.items, cells_of stack.new.items)) result
+        (take_parts n (cells_of stack.old.items)) }
+{
+    if stack.len() < n {
+        return Err(StepFault::Bad(LoadWhat::Misplaced));
+    }
+    let slots = stack.split_off(stack.len() - n)?;
+    if is_any_short(&slots) {
+        return Err(StepFault::Bad(LoadWhat::ListOrder));
+    }
+    let depth = deepest(&slots);
+    let items = values(alloc, slots)?;
+    Ok(Taken { items, depth })
+}
+
+#[tactic(auto, unfolding(crate::specs::Reading::build_tuple))]
+pub(crate) fn tuple(alloc: Global, stack: &mut Vec<Slot>, n: usize) -> Result<(), StepFault>
+    ensures { Gives (λ _. cells_of stack.new.items) result (build_tuple n (cells_of stack.old.items)) }
+{
+    let Taken { items, depth } = take(alloc, stack, n)?;
+    if depth > 63 {
+        return Err(StepFault::Bad(LoadWhat::TooDeep));
+    }
+    push(alloc, stack, Value::Tuple(items), 0, depth + 1)?;
+    Ok(())
+}
+
+/// Takes the items of a set.
+#[tactic(auto, unfolding(crate::specs::Reading::set_parts))]
+pub(crate) fn set_parts(alloc: Global, stack: &mut Vec<Slot>, n: usize) -> Result<Taken, StepFault>
+    ensures items { Gives (λ p. (views p.items.items, cells_of stack.new.items)) result
+        (set_parts_of n (cells_of stack.old.items)) }
+    ensures shallow { IfOk result (λ p. p.depth < 64) }
+{
+    let taken = take(alloc, stack, n)?;
+    if let Some(what) = set_fault(alloc, &taken)? {
+        return Err(StepFault::Bad(what));
+    }
+    Ok(taken)
+}
+
+/// Why these are not the items of a set.
+fn set_fault(alloc: Global, taken: &Taken) -> Result<Option<LoadWhat>, AllocError>
+    ensures fault { IfOk result (λ f. f ≡ set_fault_of (views taken.now.items.items)) }
+    ensures shallow { IfOk result (λ f. f ≡ None → taken.now.depth < 64) }
+{
+    if !are_hashable(&taken.items) {
+        return Ok(Some(LoadWhat::Unhashable));
+    }
+    if !are_distinct(alloc, &taken.items)? {
+        return Ok(Some(LoadWhat::Repeated));
+    }
+    if taken.depth > 63 {
+        return Ok(Some(LoadWhat::TooDeep));
+    }
+    Ok(None)
+}

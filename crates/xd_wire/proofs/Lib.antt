@@ -1,0 +1,3 @@
+pub mod PayloadLemmas
+pub mod LineLemmas
+pub mod PrintLemmas

@@ -1,0 +1,49 @@
+-- One line after another.
+use Rattle.std.specs.Prelude.{◌≡◌, ℕ, ◌+◌, ◌<◌, ◌≤◌, List, [], ◌++◌, Bool, drop, string_bytes}
+use Rattle.xd_frame.specs.Message.{MessageView}
+use Rattle.xd_frame.specs.Stream.{messages, rest}
+use Rattle.xd_value.specs.declared.fault.LoadWhat.{LoadWhat}
+use Rattle.xd_wire.specs.declared.line.Line.{Line}
+use Rattle.xd_wire.specs.declared.line.Line.TheVariants.{Text, Fault}
+use Rattle.xd_wire.specs.declared.step.Step.{Step}
+use Rattle.xd_wire.specs.declared.step.Then.{Then}
+use Rattle.xd_wire.specs.declared.step.Then.TheVariants.{At, End}
+use Rattle.xd_wire.specs.WireText.{IsLine, IsPayloadFault, IsTextFrom}
+
+-- what a message is printed as, and nothing else
+abbrev pub IsLineOf : MessageView → Line → Type 0
+IsLineOf m (Text line) =
+    IsLine m (string_bytes line) × ((other : List ℕ) → IsLine m other → other ≡ string_bytes line) × ((place : ℕ) (what : LoadWhat) → IsPayloadFault m place what → ⊥)
+IsLineOf m (Fault place what) =
+    IsPayloadFault m place what × ((other : List ℕ) → IsLine m other → ⊥) × ((at : ℕ) (found : LoadWhat) → IsPayloadFault m at found → (at ≡ place) × (found ≡ what))
+
+-- a text, and whether a fault ends it
+abbrev pub Texts : Type 1
+Texts = List ℕ → Bool → Type 0
+
+-- the texts of a file from a place on
+abbrev pub texts_at : List ℕ → ℕ → Texts
+texts_at bytes at text faulty = IsTextFrom at (messages (drop at bytes)) (rest (drop at bytes)) text faulty
+
+-- the empty text, with a fault before it or none
+abbrev pub ended : Bool → Texts
+ended fault text faulty = (text ≡ []) × (faulty ≡ fault)
+
+-- the texts of the first kind are this text and then one of the second kind
+pub record Continues (whole : Texts) (text : List ℕ) (later : Texts) : Type 0 where
+  pub forth : (more : List ℕ) (faulty : Bool) → later more faulty → whole (text ++ more) faulty
+  pub back : (all : List ℕ) (faulty : Bool) → whole all faulty → (more : List ℕ) × (all ≡ text ++ more) × later more faulty
+
+-- the texts of what follows a line
+abbrev pub texts_of : List ℕ → Then → Texts
+texts_of bytes (At next) = texts_at bytes next
+texts_of bytes (End faulty) = ended faulty
+
+-- the line at a place of a file, and what follows it
+abbrev pub IsStepAt : List ℕ → ℕ → Step → Type 0
+IsStepAt bytes at step = Continues (texts_at bytes at) (string_bytes step.line) (texts_of bytes step.then)
+
+-- the next line begins behind this one, inside the file or at its end
+abbrev pub IsAhead : ℕ → ℕ → Then → Type 0
+IsAhead at size (At next) = (at < next) × (next ≤ size)
+IsAhead at size (End faulty) = Unit {0}

@@ -1,0 +1,13 @@
+//! Files of messages as text: a line for each message, and a line for the first fault.
+#![tactic(auto)]
+
+mod line;
+mod names;
+mod payload;
+mod print;
+mod step;
+
+pub use print::{WireEnd, print_messages};
+
+#[cfg(test)]
+mod tests;
