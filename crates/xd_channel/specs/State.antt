@@ -66,7 +66,7 @@ put_gives s end = if is_some s.marker then None else (if s.callback then Some en
 abbrev pub after_put : {V : Type 0} → EndState V → End → EndState V
 after_put s end = record s {
   marker = marker_or s.marker (if s.callback then once_given end else end);
-  given = (s.callback && is_none s.marker) || s.given;
+  given = (is_none s.marker && s.callback) || s.given;
 }
 
 -- a peer's close ends sending, too
