@@ -8,7 +8,6 @@ use Rattle.xd_channel.specs.declared.answers.Got.TheVariants.{Item, Ended, NotYe
 use Rattle.xd_channel.specs.declared.answers.Arrived.{Arrived}
 use Rattle.xd_channel.specs.declared.answers.Arrived.TheVariants.{Kept, Handed, Dropped}
 use Rattle.xd_channel.specs.declared.answers.HasCallback.{HasCallback}
-use Rattle.xd_channel.specs.declared.answers.Waiting.{Waiting}
 use Rattle.xd_channel.specs.State.{EndState, once_given, end_of, marker_or}
 
 -- a call that changes an end, with its answer where that hands something out
@@ -19,7 +18,7 @@ pub data Call (V : Type 0) : Type 0 where
   Lose : Call V
   Close : Call V
   Give_up : Call V
-  Set_callback : Result (Waiting V) HasCallback → Call V
+  Set_callback : Result (List V × Option End) HasCallback → Call V
   Receive : Result (Got V) HasCallback → Call V
 
 -- a callback was set
@@ -66,8 +65,8 @@ handed (Handed v) = v ∷ []
 handed Kept = []
 handed Dropped = []
 
-abbrev pub waited : {V : Type 0} → Result (Waiting V) HasCallback → List V
-waited (Ok w) = w.items.items
+abbrev pub waited : {V : Type 0} → Result (List V × Option End) HasCallback → List V
+waited (Ok w) = w.0
 waited (Err e) = []
 
 abbrev pub received : {V : Type 0} → Result (Got V) HasCallback → List V
@@ -106,8 +105,8 @@ gives_end (Ok (Item v)) = false
 gives_end (Ok NotYet) = false
 gives_end (Err e) = false
 
-abbrev pub hands_end : {V : Type 0} → Result (Waiting V) HasCallback → Bool
-hands_end (Ok w) = is_some w.end
+abbrev pub hands_end : {V : Type 0} → Result (List V × Option End) HasCallback → Bool
+hands_end (Ok w) = is_some w.1
 hands_end (Err e) = false
 
 -- the end marker was given by a receive, or handed to a callback

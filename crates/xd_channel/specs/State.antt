@@ -98,10 +98,14 @@ given_marker (Some m) = Some (once_given m)
 abbrev pub after_given : {V : Type 0} → EndState V → EndState V
 after_given s = record s { marker = given_marker s.marker; given = is_some s.marker || s.given }
 
+-- all that a callback is handed when it is set, as a list and an end
+abbrev pub waiting_of : {V : Type 0} → Result (Waiting V) HasCallback → Result (List V × Option End) HasCallback
+waiting_of (Ok w) = Ok (w.items.items, w.end)
+waiting_of (Err e) = Err e
+
 -- setting a callback hands over the items that wait and the marker behind them; a second one is refused
-abbrev pub IsHooked : {V : Type 0} → EndState V → Result (Waiting V) HasCallback → Type 0
-IsHooked s (Ok w) = (s.callback ≡ false) × (w.items.items ≡ s.waiting) × (w.end ≡ s.marker)
-IsHooked s (Err e) = s.callback ≡ true
+abbrev pub hook_gives : {V : Type 0} → EndState V → Result (List V × Option End) HasCallback
+hook_gives s = if s.callback then Err (record {}) else Ok (s.waiting, s.marker)
 
 abbrev pub after_hook : {V : Type 0} → EndState V → EndState V
 after_hook s = if s.callback then s else record (after_given s) { waiting = []; callback = true }

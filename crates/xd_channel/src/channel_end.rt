@@ -1,6 +1,6 @@
 // One end of a channel.
 ghost use Rattle.std.specs.Prelude.{◌≡◌, IfOk, OnErr, List, [], ◌∷◌};
-ghost use Rattle.xd_channel.specs.State.{EndState, fresh, end_of, arrive_gives, after_arrive, may_send_gives, is_done, put_gives, after_put, after_peer_close, close_gives, after_close, give_up_gives, after_give_up, IsHooked, after_hook, receive_gives, after_receive, after_given};
+ghost use Rattle.xd_channel.specs.State.{EndState, fresh, end_of, arrive_gives, after_arrive, may_send_gives, is_done, put_gives, after_put, after_peer_close, close_gives, after_close, give_up_gives, after_give_up, waiting_of, hook_gives, after_hook, receive_gives, after_receive, after_given};
 ghost use Rattle.xd_channel.specs.History.{Call, Arrive, Peer_close, Peer_last, Lose, Close, Give_up, Set_callback, Receive, Stands};
 
 use crate::{Arrived, Closing, End, GivenUp, Got, HasCallback, SendClosed, Waiting};
@@ -159,9 +159,9 @@ impl<V: Drop> ChannelEnd<V> {
 
     /// Sets a callback, and hands over all that waits for it. From now on each item and the end go to the callback.
     pub fn set_callback(&mut self) -> Result<Waiting<V>, HasCallback>
-        ensures gives { IsHooked self.old result }
+        ensures gives { waiting_of result ≡ hook_gives self.old }
         ensures after { self.new ≡ after_hook self.old }
-        ensures history { (h : List (Call V)) → Stands self.old h → Stands self.new (Set_callback result ∷ h) }
+        ensures history { (h : List (Call V)) → Stands self.old h → Stands self.new (Set_callback (waiting_of result) ∷ h) }
     {
         if self.callback {
             return Err(HasCallback);

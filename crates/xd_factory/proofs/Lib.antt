@@ -5,3 +5,5 @@ pub mod Entries
 pub mod Naming
 pub mod Refusals
 pub mod Losing
+pub mod Tracing
+pub mod Keeping

@@ -5,3 +5,4 @@ pub mod Slot
 pub mod Trees
 pub mod Table
 pub mod View
+pub mod History

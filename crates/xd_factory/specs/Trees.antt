@@ -8,6 +8,9 @@ use Rattle.xd_channel.specs.declared.answers.Arrived.{Arrived}
 use Rattle.xd_channel.specs.declared.answers.Arrived.TheVariants as arrived
 use Rattle.xd_channel.specs.declared.answers.Got.{Got}
 use Rattle.xd_channel.specs.declared.answers.Got.TheVariants.{Item, Ended, NotYet}
+use Rattle.xd_channel.specs.declared.answers.HasCallback.{HasCallback}
+use Rattle.xd_channel.specs.declared.answers.Waiting.{Waiting}
+use Rattle.xd_channel.specs.declared.end.End.{End}
 use Rattle.xd_factory.specs.declared.taken.Taken.{Taken}
 use Rattle.xd_factory.specs.declared.taken.Taken.TheVariants as taken
 use Rattle.xd_factory.specs.declared.faults.HookFault.{HookFault}
@@ -43,3 +46,12 @@ taken_tree taken.Terminate = taken.Terminate
 abbrev pub IsGot : Result (Got Value) HookFault → Result (Got Tree) HookFault → Type 0
 IsGot (Ok got) answer = answer ≡ Ok (got_tree got)
 IsGot (Err fault) answer = answer ≡ Err fault
+
+-- what a receive and a callback were given, seen as trees, for the history of their number
+abbrev pub received_trees : Result (Got Value) HookFault → Result (Got Tree) HasCallback
+received_trees (Ok got) = Ok (got_tree got)
+received_trees (Err fault) = Err (record {})
+
+abbrev pub hooked_trees : Result (Waiting Value) HookFault → Result (List Tree × Option End) HasCallback
+hooked_trees (Ok w) = Ok (map view w.items.items, w.end)
+hooked_trees (Err fault) = Err (record {})

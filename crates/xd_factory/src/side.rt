@@ -1,5 +1,5 @@
 // The table of the channels of one side.
-ghost use Rattle.std.specs.Prelude.{◌≡◌, ◌≤◌, ◌<◌, ◌+◌, ◌==◌, ℕ, suc, IfOk, OnErr, OnOk, IsErrOf, IsSome, Bool, true, false, Option, None, if◌then◌else◌, MatchResult, length};
+ghost use Rattle.std.specs.Prelude.{[], ◌≡◌, ◌≤◌, ◌<◌, ◌+◌, ◌==◌, ℕ, suc, IfOk, OnErr, OnOk, IsErrOf, IsSome, Bool, true, false, Option, None, if◌then◌else◌, MatchResult, length};
 ghost use Rattle.std.specs.Ordering.{nat_cmp};
 ghost use Rattle.std.specs.BTreeMap as tree;
 ghost use Rattle.std.specs.List.Sorted.{IsStrictlySortedBy};
@@ -44,6 +44,7 @@ pub struct Side {
 }
 
 impl Side {
+    ghost use Rattle.xd_factory.specs.History.{SideStands};
     ghost use Rattle.xd_factory.specs.View.{slot_of, parity_of, next_of, fault_of, is_finished, numbers_of, entry_count, KeepsRest};
 
     /// A side that has opened nothing, and on which nothing came.
@@ -53,6 +54,7 @@ impl Side {
         ensures next { next_of result ≡ first_number parity }
         ensures good { fault_of result ≡ None }
         ensures open { is_finished result ≡ false }
+        ensures history { SideStands result [] }
     {
         let next = match parity {
             Parity::Odd => 1,

@@ -1,11 +1,11 @@
 // The calls of the owner of a side.
-ghost use Rattle.std.specs.Prelude.{◌≡◌, ◌≢◌, ◌≤◌, ◌<◌, ◌+◌, ◌==◌, ◌↔◌, ℕ, map, IfOk, IfErr, OnErr, OnOk, IsErr, IsErrOf, IsSome, [], Bool, true, false, Option, Some, None, if◌then◌else◌};
+ghost use Rattle.std.specs.Prelude.{◌≡◌, ◌≢◌, ◌≤◌, ◌<◌, ◌+◌, ◌==◌, ◌↔◌, ℕ, map, IfOk, IfErr, OnErr, OnOk, IsErr, IsErrOf, IsSome, List, [], ◌∷◌, Bool, true, false, Option, Some, None, if◌then◌else◌};
 ghost use Rattle.xd_value.specs.Tree.{text};
 ghost use Rattle.xd_value.specs.View.{view};
 ghost use Rattle.xd_value.specs.Canonical.{dumped};
 ghost use Rattle.xd_channel.specs.State.{fresh};
 ghost use Rattle.xd_factory.specs.Slot.{Unseen, Here, is_seen, closed_slot, given_up_slot, give_up_says, function_ended_slot, received_slot, receive_answer, hooked_slot, hook_fault, hook_items, hook_end};
-ghost use Rattle.xd_factory.specs.Trees.{IsGot};
+ghost use Rattle.xd_factory.specs.Trees.{IsGot, received_trees, hooked_trees};
 ghost use Rattle.xd_factory.specs.Table.{closing_message, last_message, is_long, close_gives_at, close_says, close_refusal, close_fault_of, IsRefusal, giving_says, send_refusal, sent_gives, IsSent};
 
 use super::{MAX_ENTRIES, MAX_NUMBER, Side};
@@ -18,6 +18,7 @@ use xd_frame::{Kind, Message};
 use xd_value::{DumpFault, Value, dumps};
 
 impl Side {
+    ghost use Rattle.xd_factory.specs.History.{Act, Opened, Closed, Function_ended, Let_go, Hooked, Received, SideStands};
     ghost use Rattle.xd_factory.specs.View.{slot_of, parity_of, next_of, fault_of, is_finished, entry_count, KeepsRest};
 
     /// Opens the next channel of the own numbers. They rise by two.
@@ -26,6 +27,7 @@ impl Side {
         ensures next { OnOk result (next_of self.new ≡ next_of self.old + 2) }
         ensures unseen { IfOk result (λ n. slot_of self.old n ≡ Unseen) }
         ensures slots { IfOk result (λ n. (c : ℕ) → slot_of self.new c ≡ (if n == c then Here fresh else slot_of self.old c)) }
+        ensures history { (h : List Act) → SideStands self.old h → IfOk result (λ n. SideStands self.new (Opened n ∷ h)) }
         ensures rest { (parity_of self.new ≡ parity_of self.old) × (fault_of self.new ≡ fault_of self.old) × (is_finished self.new ≡ is_finished self.old) }
 
         ensures finished { IsErrOf result OpenFault.Finished ↔ (is_finished self.old ≡ true) }
@@ -84,6 +86,7 @@ impl Side {
         ensures accepted { OnOk result (close_refusal (is_seen (slot_of self.old number)) (is_long error) ≡ None) }
         ensures refused { IfErr result (IsRefusal (close_refusal (is_seen (slot_of self.old number)) (is_long error))) }
         ensures slots { OnOk result ((c : ℕ) → slot_of self.new c ≡ (if number == c then closed_slot (slot_of self.old c) else slot_of self.old c)) }
+        ensures history { (h : List Act) → SideStands self.old h → OnOk result (SideStands self.new (Closed number ∷ h)) }
         ensures err { OnErr result ((c : ℕ) → slot_of self.new c ≡ slot_of self.old c) }
         ensures rest { KeepsRest self.old self.new }
     {
@@ -103,6 +106,7 @@ impl Side {
         ensures accepted { OnOk result (close_refusal (is_seen (slot_of self.old number)) (is_long error) ≡ None) }
         ensures refused { IfErr result (IsRefusal (close_refusal (is_seen (slot_of self.old number)) (is_long error))) }
         ensures slots { OnOk result ((c : ℕ) → slot_of self.new c ≡ (if number == c then function_ended_slot (slot_of self.old c) else slot_of self.old c)) }
+        ensures history { (h : List Act) → SideStands self.old h → OnOk result (SideStands self.new (Function_ended number ∷ h)) }
         ensures err { OnErr result ((c : ℕ) → slot_of self.new c ≡ slot_of self.old c) }
         ensures rest { KeepsRest self.old self.new }
     {
@@ -119,6 +123,7 @@ impl Side {
         ensures answer { IfOk result (λ says. says ≡ giving_says number (give_up_says (slot_of self.old number))) }
         ensures unknown { IsErr result ↔ (is_seen (slot_of self.old number) ≡ false) }
         ensures slots { (c : ℕ) → slot_of self.new c ≡ (if number == c then given_up_slot (slot_of self.old c) else slot_of self.old c) }
+        ensures history { (h : List Act) → SideStands self.old h → SideStands self.new (Let_go number ∷ h) }
         ensures rest { KeepsRest self.old self.new }
     {
         if !self.knows(number) {
@@ -133,6 +138,35 @@ impl Side {
 
     /// Sets a callback on a channel, and gives all that waits for it. On a closed channel that is the end alone.
     pub fn set_callback(&mut self, number: u32) -> Result<Waiting, HookFault>
+        ensures items { IfOk result (λ w. map view w.items.items ≡ hook_items (slot_of self.old number)) }
+        ensures end { IfOk result (λ w. w.end ≡ hook_end (slot_of self.old number)) }
+        ensures accepted { OnOk result (hook_fault (slot_of self.old number) ≡ None) }
+        ensures refused { IfErr result (λ fault. hook_fault (slot_of self.old number) ≡ Some fault) }
+        ensures slots { (c : ℕ) → slot_of self.new c ≡ (if number == c then hooked_slot (slot_of self.old c) else slot_of self.old c) }
+        ensures history { (h : List Act) → SideStands self.old h → SideStands self.new (Hooked number (hooked_trees result) ∷ h) }
+        ensures rest { KeepsRest self.old self.new }
+    {
+        match self.hook_entry(number) {
+            Ok(waiting) => Ok(waiting),
+            Err(fault) => Err(fault),
+        }
+    }
+
+    /// The first item that waits on a channel; else its end; else nothing yet. A closed channel gives its end each time.
+    pub fn receive(&mut self, number: u32) -> Result<Got, HookFault>
+        ensures answer { IsGot result (receive_answer (slot_of self.old number)) }
+        ensures slots { (c : ℕ) → slot_of self.new c ≡ (if number == c then received_slot (slot_of self.old c) else slot_of self.old c) }
+        ensures history { (h : List Act) → SideStands self.old h → SideStands self.new (Received number (received_trees result) ∷ h) }
+        ensures rest { KeepsRest self.old self.new }
+    {
+        match self.receive_entry(number) {
+            Ok(got) => Ok(got),
+            Err(fault) => Err(fault),
+        }
+    }
+
+    // Sets a callback on the entry, if there is one.
+    fn hook_entry(&mut self, number: u32) -> Result<Waiting, HookFault>
         ensures items { IfOk result (λ w. map view w.items.items ≡ hook_items (slot_of self.old number)) }
         ensures end { IfOk result (λ w. w.end ≡ hook_end (slot_of self.old number)) }
         ensures accepted { OnOk result (hook_fault (slot_of self.old number) ≡ None) }
@@ -162,8 +196,8 @@ impl Side {
         }
     }
 
-    /// The first item that waits on a channel; else its end; else nothing yet. A closed channel gives its end each time.
-    pub fn receive(&mut self, number: u32) -> Result<Got, HookFault>
+    // Receives from the entry, if there is one.
+    fn receive_entry(&mut self, number: u32) -> Result<Got, HookFault>
         ensures answer { IsGot result (receive_answer (slot_of self.old number)) }
         ensures slots { (c : ℕ) → slot_of self.new c ≡ (if number == c then received_slot (slot_of self.old c) else slot_of self.old c) }
         ensures rest { KeepsRest self.old self.new }
