@@ -1,6 +1,9 @@
 // The opcodes that push a value without parts.
-ghost use Rattle.std.specs.Prelude.{◌≡◌, IfOk};
-ghost use Rattle.xd_value.specs.Reading.{Gives, read_int, read_text, read_long, read_channel};
+ghost use Rattle.std.specs.Prelude.{◌≡◌, ◌∷◌, ℕ, List, false, Ok, IfOk};
+ghost use Rattle.xd_value.specs.Keys.{is_key_of};
+ghost use Rattle.xd_value.specs.Tree.{Tree, depth as depth_of};
+ghost use Rattle.xd_value.specs.View.{view};
+ghost use Rattle.xd_value.specs.Reading.{Cell, Gives, whole, read_int, read_text, read_long, read_channel};
 ghost use Rattle.xd_value.specs.Slots.{cells_of};
 
 use crate::fault::{LoadWhat, StepFault};
@@ -11,6 +14,22 @@ use crate::stack::push;
 use crate::value::Value;
 use std::alloc::{AllocError, Global};
 use xd_edge::Text;
+
+/// Pushes a value of which nothing follows the opcode.
+pub(crate) fn constant<'a>(
+    alloc: Global,
+    stack: &mut Vec<Slot>,
+    value: Value,
+    rest: &'a [u8],
+) -> Result<&'a [u8], StepFault>
+    requires measured { 0 ≡ depth_of (view value) }
+    requires no_keys { (t : Tree) → is_key_of (view value) t ≡ false }
+    ensures { Gives {Y = List Cell × List ℕ} (λ r. (cells_of stack.new.items, r.now)) result
+        (Ok (whole (view value) ∷ cells_of stack.old.items, rest.now)) }
+{
+    push(alloc, stack, value, 0, 0)?;
+    Ok(rest)
+}
 
 #[tactic(auto, unfolding(crate::specs::Reading::read_int))]
 pub(crate) fn int<'a>(

@@ -14,7 +14,8 @@ use crate::stack::pop;
 use crate::value::Value;
 use std::alloc::Global;
 
-/// The value that the bytes are a payload of.
+/// The value that the bytes are a payload of, or the first opcode that cannot be done and why. The bytes may come from
+/// a hostile peer: time and memory grow with their length, whatever they declare.
 pub fn loads(alloc: Global, bytes: &[u8]) -> Result<Value, LoadFault>
     // What is read has the bytes as a payload.
     ensures read { IfOk result (λ v. IsPayload (view v) bytes.now) }
