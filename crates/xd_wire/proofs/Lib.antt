@@ -1,3 +1,4 @@
 pub mod PayloadLemmas
 pub mod LineLemmas
 pub mod PrintLemmas
+pub mod TextLemmas

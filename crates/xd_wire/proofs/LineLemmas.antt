@@ -1,10 +1,10 @@
 -- Lines, one after another.
-use Rattle.std.proofs.Common.{String, Global, Option, Some, Result, Ok, Err, ◌≡◌, ℕ, ◌+◌, ◌≤◌, ◌<◌, ◌⊎◌, inl, inr, Bool, true, false, List, [], ◌∷◌, ◌++◌, length, take, drop, refl, sym, ap, subst, ◌∙◌, arith, append_assoc}
+use Rattle.std.proofs.Common.{String, Global, Some, Result, Ok, Err, ◌≡◌, ℕ, ◌+◌, ◌≤◌, inl, inr, Bool, true, false, List, [], ◌∷◌, ◌++◌, length, take, drop, refl, sym, ap, subst, ◌∙◌, arith}
 use Rattle.std.specs.Prelude.{IfOk, string_bytes, encode_utf8_all}
 use Rattle.std.proofs.lemmas.List.{append-nil, drop-drop, length-take-le, length-drop}
 use Rattle.xd_frame.specs.declared.header.Header.{Header}
 use Rattle.xd_frame.specs.Message.{MessageView}
-use Rattle.xd_frame.specs.Stream.{messages, rest, rest_of, behind, Rest, message_of, FrontSays}
+use Rattle.xd_frame.specs.Stream.{messages, rest, rest_of, behind, message_of, FrontSays}
 use Rattle.xd_value.specs.declared.fault.LoadWhat.{LoadWhat}
 use Rattle.xd_value.specs.Show.{shown}
 use Rattle.xd_wire.specs.declared.payload.Shown.TheVariants.{Value, Fault}
@@ -12,7 +12,7 @@ use Rattle.xd_wire.specs.declared.line.Line.{Line}
 use Rattle.xd_wire.specs.declared.line.Line.TheVariants as line
 use Rattle.xd_wire.specs.Names.{what_name}
 use Rattle.xd_wire.specs.Payloads.{ShowsPayload}
-use Rattle.xd_wire.specs.WireText.{has_value, value_line, fault_line, message_with, LineBy, IsLine, FaultBy, IsPayloadFault, IsTextFrom}
+use Rattle.xd_wire.specs.WireText.{value_line, fault_line, message_with, LineBy, IsLine, FaultBy, IsPayloadFault, IsTextFrom}
 use Rattle.xd_edge.specs.declared.refusals.OutOfMemory.{OutOfMemory}
 use Rattle.xd_wire.specs.declared.step.Step.{Step}
 use Rattle.xd_wire.specs.declared.step.Then.{Then}

@@ -1,7 +1,6 @@
 -- What reading a payload says of it.
 use Rattle.std.proofs.Common.{◌≡◌, ℕ, List, Err, sym}
 use Rattle.std.specs.Prelude.{IfOk}
-use Rattle.xd_edge.specs.declared.refusals.OutOfMemory.{OutOfMemory}
 use Rattle.xd_value.specs.declared.value.Value.{Value as ValueOf}
 use Rattle.xd_value.specs.declared.fault.LoadWhat.{LoadWhat}
 use Rattle.xd_value.specs.declared.fault.LoadFault.{LoadFault}
@@ -10,8 +9,7 @@ use Rattle.xd_value.specs.Tree.{Tree}
 use Rattle.xd_value.specs.View.{view}
 use Rattle.xd_value.specs.Payload.{IsPayload, FirstFault, IsValue, IsFault, IsRefusal}
 use Rattle.xd_value.specs.Show.{shown}
-use Rattle.xd_wire.specs.declared.payload.Shown.{Shown}
-use Rattle.xd_wire.specs.declared.payload.Shown.TheVariants.{Value, Fault}
+use Rattle.xd_wire.specs.declared.payload.Shown.TheVariants.{Value}
 use Rattle.xd_wire.specs.Payloads.{ShowsPayload, gives_fault}
 
 pub shows_value : (b : List ℕ) (x : ValueOf) (text : List ℕ) → IsPayload (view x) b → ((v : Tree) → IsPayload v b → view x ≡ v) → ((at : ℕ) (f : LoadWhat) → FirstFault b at f → ⊥) → text ≡ shown (view x) → ShowsPayload b (Value text)

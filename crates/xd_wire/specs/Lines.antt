@@ -1,5 +1,5 @@
 -- One line after another.
-use Rattle.std.specs.Prelude.{◌≡◌, ℕ, ◌+◌, ◌<◌, ◌≤◌, List, [], ◌++◌, Bool, drop, string_bytes}
+use Rattle.std.specs.Prelude.{◌≡◌, ℕ, ◌<◌, ◌≤◌, List, [], ◌++◌, Bool, drop, string_bytes}
 use Rattle.xd_frame.specs.Message.{MessageView}
 use Rattle.xd_frame.specs.Stream.{messages, rest}
 use Rattle.xd_value.specs.declared.fault.LoadWhat.{LoadWhat}

@@ -1,6 +1,3 @@
-use Rattle.std.proofs.Common.{sym, subst}
-use Rattle.std.specs.Prelude.{IfOk}
-use Rattle.xd_wire.specs.Payloads.{ShowsPayload}
 use Rattle.xd_wire.proofs.PayloadLemmas.{shows_value, shows_fault}
 use Rattle.xd_wire.proofs.payload.show_payload.Goals as goal
 

@@ -1,4 +1,4 @@
-use Rattle.std.proofs.Common.{◌≡◌, List, ℕ, length, sym, subst, ◌∙◌, arith}
+use Rattle.std.proofs.Common.{List, ℕ, length, sym, subst, ◌∙◌, arith}
 use Rattle.std.proofs.lemmas.Result.{err_from_is_err_and}
 use Rattle.xd_edge.specs.Sink.{Took, TookPart}
 use Rattle.xd_wire.specs.declared.step.Then.{Then}
