@@ -1,0 +1,5 @@
+pub mod NewLines
+pub mod Ran
+pub mod Report
+pub mod Steps
+pub mod Whole

@@ -1,0 +1,141 @@
+-- From each number of tests to the next.
+use Rattle.std.proofs.Common.{◌≡◌, ℕ, ◌+◌, ◌-◌, ◌^◌, ◌<◌, ◌≤◌, Bool, true, false, List, [], ◌∷◌, ◌++◌, length, take, map, Option, Some, None, option_map, sum_by, refl, sym, ◌∙◌, ap, subst, arith, append_assoc, length-append}
+use Rattle.std.proofs.lemmas.List.{append-nil, map-append, take_more, length-map}
+use Rattle.std.proofs.lemmas.List.Sums.{sum_by-append}
+use Rattle.std.proofs.lemmas.Grind.{flat_map-append}
+use Rattle.std.specs.List.{flat_map}
+use Rattle.xd_edge.specs.declared.children.ChildRun.{ChildRun}
+use Rattle.xd_edge.specs.Children.{AddsRun}
+use Rattle.xd_edge.specs.Faults.{RoseBy}
+use Rattle.xd_edge.specs.Sink.{Sunk, Printed, PrintedPart}
+use Rattle.xd_edge.proofs.SinkLemmas.{printed_more, printed_then_part}
+use Rattle.xd_suite.specs.declared.test.Test.{Test}
+use Rattle.xd_suite.specs.Suite.{run_at}
+use Rattle.xd_ledger.specs.declared.entry.Entry.{Entry}
+use Rattle.xd_ledger.specs.declared.entry.Outcome.{Outcome}
+use Rattle.xd_ledger.specs.declared.journal.Journal.{Journal}
+use Rattle.xd_ledger.specs.Legal.{round, rounds, local_entries}
+use Rattle.xd_ledger.specs.Results.{TestResult, ids_in}
+use Rattle.xd_report.specs.Lines.{entry_text}
+use Rattle.xdrun.specs.Child.{fault_count, faults_of, outcome_of, RanChild}
+use Rattle.xdrun.specs.Local.{Progress, RanAll, RanTest, RanTests, SoFar}
+use Rattle.xdrun.specs.Print.{Shows}
+use Rattle.xdrun.proofs.NewLines.{lines, lines_are}
+
+rounds-last : (n : ℕ) (rs : List TestResult) (r : TestResult) → rounds n (rs ++ r ∷ []) ≡ rounds n rs ++ round (n + length rs) r
+rounds-last n [] r = let same : n ≡ n + 0 = omega arith in ap (λ k. round k r) same
+rounds-last n (x ∷ rs) r =
+    let same : n + 1 + length rs ≡ n + length (x ∷ rs) = omega arith in
+    ap (λ (l : List Entry). round n x ++ l) (rounds-last (n + 1) rs r ∙ ap (λ k. rounds (n + 1) rs ++ round k r) same)
+
+added_more : (runs : List ChildRun) (run : ChildRun) (old mid new : Option (List ChildRun)) → mid ≡ option_map (λ l. l ++ runs) old → AddsRun run mid new → new ≡ option_map (λ l. l ++ (runs ++ run ∷ [])) old
+added_more runs run None mid new before adds = adds ∙ ap (option_map (λ l. l ++ run ∷ [])) before
+added_more runs run (Some l) mid new before adds = adds ∙ ap (option_map (λ l. l ++ run ∷ [])) before ∙ ap Some (append_assoc l runs (run ∷ []))
+
+added_none : (old : Option (List ChildRun)) → old ≡ option_map (λ l. l ++ []) old
+added_none None = refl
+added_none (Some l) = ap Some (sym (append-nil l))
+
+rose_more : (a b x y z : ℕ) → RoseBy a x y → RoseBy b y z → y ≤ z → RoseBy (a + b) x z
+rose_more a b x y z first then later = λ below.
+    let mid : y < 2 ^ 64 - 1 = omega arith in
+    omega (arith, first mid, then below)
+
+module _ (tests : List Test) where
+  one_more : (results : List TestResult) (r : TestResult) (old mid new : Option (List ChildRun)) → length results < length tests → RanTests tests results old mid → RanChild (run_at tests (length results)) r.outcome mid new → RanTests tests (results ++ r ∷ []) old new
+  one_more results r old mid new within ran more =
+      let run : ChildRun = record { args = run_at tests (length results); fate = more.fate } in
+      let long : length (results ++ r ∷ []) ≡ length results + 1 = omega (arith, length-append results (r ∷ [])) in
+      record {
+        runs = ran.runs ++ run ∷ [];
+        commands = map-append (λ r. r.args) ran.runs (run ∷ []) ∙ ap (λ (l : List (List (List ℕ))). l ++ run_at tests (length results) ∷ []) ran.commands
+          ∙ sym (take_more (map (λ t. t.run) tests) (length results) [] (omega (arith, length-map tests (λ (t : Test). t.run))))
+          ∙ ap (λ n. take n (map (λ t. t.run) tests)) (sym long);
+        outcomes = map-append (λ r. outcome_of r.fate) ran.runs (run ∷ []) ∙ ap (λ (l : List (Option Outcome)). l ++ outcome_of more.fate ∷ []) ran.outcomes
+          ∙ ap (λ (x : Option Outcome). map (λ (r : TestResult). Some r.outcome) results ++ x ∷ []) more.came_to ∙ sym (map-append (λ (r : TestResult). Some r.outcome) results (r ∷ []));
+        added = added_more ran.runs run old mid new ran.added more.added;
+      }
+
+  module _ (ids : List (List ℕ)) (runs0 : Option (List ChildRun)) (faults0 : ℕ) (out0 : Option Sunk) where
+    -- no test was run yet
+    none_ran : (es : List Entry) → es ≡ local_entries ids [] → SoFar [] tests ids es runs0 runs0 faults0 faults0
+    none_ran es is = record {
+      entries = is;
+      ran = record { runs = []; commands = refl; outcomes = refl; added = added_none runs0 };
+      faults = λ below. omega arith;
+    }
+
+    begun : (j : Journal) → j.entries.items ≡ local_entries ids [] → lines j ≡ flat_map (entry_text ids) (local_entries ids [])
+    begun j is = lines_are j ids [] [] is
+
+    pub start : (j : Journal) (out1 : Option Sunk) → j.entries.items ≡ local_entries ids [] → Shows true (lines j) out0 out1 → Progress 0 tests ids j.entries.items runs0 runs0 faults0 faults0 out0 out1
+    start j out1 is shows = record {
+      results = [];
+      so_far = none_ran j.entries.items is;
+      counted = refl;
+      shows = subst (λ (l : List ℕ). Printed l out0 out1) (begun j is) shows;
+    }
+
+    pub not_collected : (j : Journal) (out1 : Option Sunk) → j.entries.items ≡ local_entries ids [] → Shows false (lines j) out0 out1 → RanAll false tests ids j.entries.items runs0 runs0 faults0 faults0 out0 out1
+    not_collected j out1 is shows = record {
+      results = [];
+      so_far = none_ran j.entries.items is;
+      within = omega arith;
+      all = λ no. cc;
+      shows = subst (λ (l : List ℕ). PrintedPart l out0 out1) (begun j is) shows;
+    }
+
+    module _ (k : ℕ) (es1 es2 : List Entry) (runs1 runs2 : Option (List ChildRun)) (faults1 faults2 : ℕ) (out1 out2 : Option Sunk) (p : Progress k tests ids es1 runs0 runs1 faults0 faults1 out0 out1)
+      (within : k < length tests) (shown : Bool) (more : RanTest shown k (run_at tests k) es1 es2 runs1 runs2 faults1 faults2 out1 out2) (later : faults1 ≤ faults2) where
+      abbrev results : List TestResult
+      results = p.results ++ more.result ∷ []
+
+      long : length results ≡ k + 1
+      long = omega (arith, p.counted, length-append p.results (more.result ∷ []))
+
+      entries_are : local_entries ids results ≡ local_entries ids p.results ++ round k more.result
+      entries_are =
+          let at : 0 + length p.results ≡ k = omega (arith, p.counted) in
+          ap (λ (l : List Entry). local_entries ids [] ++ l) (rounds-last 0 p.results more.result ∙ ap (λ n. rounds 0 p.results ++ round n more.result) at)
+
+      grown : es2 ≡ local_entries ids results
+      grown = more.entries ∙ ap (λ (l : List Entry). l ++ round k more.result) p.so_far.entries ∙ sym entries_are
+
+      so_far : SoFar results tests ids es2 runs0 runs2 faults0 faults2
+      so_far = record {
+        entries = grown;
+        ran = one_more p.results more.result runs0 runs1 runs2 (omega (arith, p.counted)) p.so_far.ran (subst (λ n. RanChild (run_at tests n) more.result.outcome runs1 runs2) (sym p.counted) more.ran);
+        faults =
+          let total : faults_of results ≡ faults_of p.results + fault_count more.result.outcome =
+          omega (arith, sum_by-append (λ (r : TestResult). fault_count r.outcome) p.results (more.result ∷ [])) in
+          subst (λ n. RoseBy n faults0 faults2) (sym total) (rose_more (faults_of p.results) (fault_count more.result.outcome) faults0 faults1 faults2 p.so_far.faults more.faults later);
+      }
+
+      abbrev added : List ℕ
+      added = flat_map (entry_text (ids_in es2)) (round k more.result)
+
+      text : flat_map (entry_text ids) (local_entries ids results) ≡ flat_map (entry_text ids) (local_entries ids p.results) ++ added
+      text =
+          let same : ids ≡ ids_in es2 = sym (ap ids_in grown) in
+          ap (flat_map (entry_text ids)) entries_are ∙ flat_map-append (entry_text ids) (local_entries ids p.results) (round k more.result)
+          ∙ ap (λ (l : List (List ℕ)). flat_map (entry_text ids) (local_entries ids p.results) ++ flat_map (entry_text l) (round k more.result)) same
+
+      pub next : shown ≡ true → Progress (k + 1) tests ids es2 runs0 runs2 faults0 faults2 out0 out2
+      next is = record {
+        results = results;
+        so_far = so_far;
+        counted = long;
+        shows = subst (λ (l : List ℕ). Printed l out0 out2) (sym text) (printed_more (flat_map (entry_text ids) (local_entries ids p.results)) added out0 out1 out2 p.shows (subst (λ b. Shows b added out1 out2) is more.shows));
+      }
+
+      pub stop : shown ≡ false → RanAll false tests ids es2 runs0 runs2 faults0 faults2 out0 out2
+      stop is = record {
+        results = results;
+        so_far = so_far;
+        within = omega (arith, long);
+        all = λ no. cc;
+        shows = subst (λ (l : List ℕ). PrintedPart l out0 out2) (sym text) (printed_then_part (flat_map (entry_text ids) (local_entries ids p.results)) added out0 out1 out2 p.shows (subst (λ b. Shows b added out1 out2) is more.shows));
+      }
+
+    pub finish : (es : List Entry) (runs : Option (List ChildRun)) (faults : ℕ) (out : Option Sunk) → Progress (length tests) tests ids es runs0 runs faults0 faults out0 out → RanAll true tests ids es runs0 runs faults0 faults out0 out
+    finish es runs faults out p = record { results = p.results; so_far = p.so_far; within = omega (arith, p.counted); all = λ yes. p.counted; shows = p.shows }

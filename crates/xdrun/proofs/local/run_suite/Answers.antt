@@ -1,0 +1,35 @@
+use Rattle.std.proofs.Common.{◌≡◌, ◌++◌, ◌∷◌, [], ap, ◌∙◌, Bool, false, Ok}
+use Rattle.xd_ledger.specs.declared.entry.Entry.TheVariants.{Over}
+use Rattle.xd_ledger.specs.declared.entry.RunStop.{RunStop}
+use Rattle.xdrun.proofs.Whole.{Ended, legal, suite, once, printed, out_fault, child_faults}
+use Rattle.xdrun.proofs.local.run_suite.Goals as goal
+use Rattle.xdrun.proofs.local.run_suite.Goals.{In_ok-push-2}
+use Rattle.xdrun.proofs.local.run_suite.Given.{Over as Outer}
+
+ended : (g : Outer) (c : In_ok-push-2 g) → Ended c.args.suite.now c.run_and_print.new.journal c.push-2.new.self c.in_ok-shown.shown (g.K.Children.runs c.args.children.now) (g.K.Children.runs c.run_and_print.new.children) (g.K.Children.faults c.args.children.now)
+    (g.K.Children.faults c.run_and_print.new.children) (g.O.Sink.sunk c.args.out.now) (g.O.Sink.sunk c.run_and_print.new.out)
+ended g c = record {
+  ran = c.in_ok-shown.ensures.ran;
+  settings = c.in_ok-shown.ensures.settings ∙ c.in_ok-push.ensures.settings ∙ c.new-journal.ensures.settings ∙ c.local_settings.ensures;
+  same_settings = c.in_ok-push-2.ensures.settings;
+  ended = c.in_ok-push-2.ensures.ok ∙ ap (λ (how : RunStop). c.run_and_print.new.journal.entries.items ++ Over how ∷ []) c.stop_after-how.ensures;
+}
+
+pub returns-clause-legal : goal.returns-clause-legal
+returns-clause-legal g c = legal _ _ _ _ _ _ _ _ _ _ (ended g c)
+
+pub returns-clause-suite : goal.returns-clause-suite
+returns-clause-suite g c = suite _ _ _ _ _ _ _ _ _ _ (ended g c)
+
+pub returns-clause-once : goal.returns-clause-once
+returns-clause-once g c = once _ _ _ _ _ _ _ _ _ _ (ended g c)
+
+pub returns-clause-printed : goal.returns-clause-printed
+returns-clause-printed g c = printed _ _ _ _ _ _ _ _ _ _ (ended g c)
+
+pub returns-clause-out_fault : goal.returns-clause-out_fault
+returns-clause-out_fault g c =
+    out_fault _ _ _ _ _ _ _ _ _ _ (ended g c) _ _ (λ (is : c.in_ok-shown.shown ≡ false). c.in_ok-shown.ensures.rose (ap (λ (b : Bool). Ok b) is))
+
+pub returns-clause-child_faults : goal.returns-clause-child_faults
+returns-clause-child_faults g c = child_faults _ _ _ _ _ _ _ _ _ _ (ended g c)

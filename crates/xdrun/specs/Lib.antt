@@ -1,0 +1,6 @@
+pub mod Child
+pub mod Local
+pub mod Print
+pub mod Refusal
+pub mod Top
+pub mod Words

@@ -1,0 +1,83 @@
+-- A run in the program itself, as far as it came.
+use Rattle.std.specs.Prelude.{ℕ, ◌≡◌, ◌≤◌, Bool, true, false, List, [], ◌∷◌, ◌++◌, map, take, length, Option, Some, None, option_map}
+use Rattle.std.specs.List.{flat_map}
+use Rattle.xd_edge.specs.declared.mode.ModeKind.TheVariants.{Local}
+use Rattle.xd_edge.specs.declared.children.ChildRun.{ChildRun}
+use Rattle.xd_edge.specs.Faults.{RoseBy}
+use Rattle.xd_edge.specs.Sink.{Sunk}
+use Rattle.xd_suite.specs.declared.test.Test.{Test}
+use Rattle.xd_ledger.specs.declared.settings.Settings.{Settings}
+use Rattle.xd_ledger.specs.declared.entry.Entry.{Entry}
+use Rattle.xd_ledger.specs.declared.entry.Outcome.{Outcome}
+use Rattle.xd_ledger.specs.declared.entry.RunStop.{RunStop}
+use Rattle.xd_ledger.specs.declared.entry.RunStop.TheVariants.{Completed, OutFault}
+use Rattle.xd_ledger.specs.declared.journal.Journal.{Journal}
+use Rattle.xd_ledger.specs.Legal.{round, local_entries}
+use Rattle.xd_ledger.specs.Results.{TestResult, ids_in, results_in}
+use Rattle.xd_report.specs.Lines.{entry_text}
+use Rattle.xd_report.specs.Text.{text_of}
+use Rattle.xdrun.specs.Child.{fault_count, faults_of, outcome_of, RanChild}
+use Rattle.xdrun.specs.Print.{Shows}
+
+-- without workers, and without a limit on failures
+abbrev pub local_settings : Settings
+local_settings = record { mode = Local; workers = 0; maxfail = 0; restarts = 0; chunk = None; reorder = true }
+
+-- Where they are told, the first of these tests were started in suite order, one start for each result, by their
+-- commands, and came to these results.
+pub record RanTests (tests : List Test) (results : List TestResult) (old new : Option (List ChildRun)) : Type 0 where
+  pub runs : List ChildRun
+  pub commands : map (λ r. r.args) runs ≡ take (length results) (map (λ t. t.run) tests)
+  pub outcomes : map (λ r. outcome_of r.fate) runs ≡ map (λ r. Some r.outcome) results
+  pub added : new ≡ option_map (λ l. l ++ runs) old
+
+-- The journal has the ids of these tests, and its results are those of their programs.
+pub record RunsSuite (tests : List Test) (j : Journal) (old new : Option (List ChildRun)) : Type 0 where
+  pub ids : ids_in j.entries.items ≡ map (λ t. t.id) tests
+  pub ran : RanTests tests (results_in j.entries.items) old new
+
+-- the entries grew by the run of a test and its result
+abbrev pub AddsRound : ℕ → Outcome → ℕ → List Entry → List Entry → Type 0
+AddsRound test outcome ms old new = new ≡ old ++ round test (record { outcome = outcome; ms = ms })
+
+-- what one test adds to the journal, the children, their faults and the output
+pub record RanTest (shown : Bool) (test : ℕ) (args : List (List ℕ)) (es_old es_new : List Entry) (runs_old runs_new : Option (List ChildRun)) (faults_old faults_new : ℕ) (out_old out_new : Option Sunk) : Type 0 where
+  pub result : TestResult
+  pub entries : es_new ≡ es_old ++ round test result
+  pub ran : RanChild args result.outcome runs_old runs_new
+  pub faults : RoseBy (fault_count result.outcome) faults_old faults_new
+  pub shows : Shows shown (flat_map (entry_text (ids_in es_new)) (round test result)) out_old out_new
+
+-- the first tests, as far as they came, with what the outside tells of them
+pub record SoFar (results : List TestResult) (tests : List Test) (ids : List (List ℕ)) (es : List Entry) (runs_old runs_new : Option (List ChildRun)) (faults_old faults_new : ℕ) : Type 0 where
+  pub entries : es ≡ local_entries ids results
+  pub ran : RanTests tests results runs_old runs_new
+  pub faults : RoseBy (faults_of results) faults_old faults_new
+
+-- so many tests were run, and all lines so far were printed
+pub record Progress (count : ℕ) (tests : List Test) (ids : List (List ℕ)) (es : List Entry) (runs_old runs_new : Option (List ChildRun)) (faults_old faults_new : ℕ) (out_old out_new : Option Sunk) : Type 0 where
+  pub results : List TestResult
+  pub so_far : SoFar results tests ids es runs_old runs_new faults_old faults_new
+  pub counted : length results ≡ count
+  pub shows : Shows true (flat_map (entry_text ids) (local_entries ids results)) out_old out_new
+
+-- all tests were run and their lines printed, or the output failed at the collection or behind one of them
+pub record RanAll (shown : Bool) (tests : List Test) (ids : List (List ℕ)) (es : List Entry) (runs_old runs_new : Option (List ChildRun)) (faults_old faults_new : ℕ) (out_old out_new : Option Sunk) : Type 0 where
+  pub results : List TestResult
+  pub so_far : SoFar results tests ids es runs_old runs_new faults_old faults_new
+  pub within : length results ≤ length tests
+  pub all : shown ≡ true → length results ≡ length tests
+  pub shows : Shows shown (flat_map (entry_text ids) (local_entries ids results)) out_old out_new
+
+-- the same with the tail: the journal without its end, and the whole report
+pub record RanPrinted (shown : Bool) (tests : List Test) (ids : List (List ℕ)) (j : Journal) (runs_old runs_new : Option (List ChildRun)) (faults_old faults_new : ℕ) (out_old out_new : Option Sunk) : Type 0 where
+  pub results : List TestResult
+  pub so_far : SoFar results tests ids j.entries.items runs_old runs_new faults_old faults_new
+  pub within : length results ≤ length tests
+  pub all : shown ≡ true → length results ≡ length tests
+  pub shows : Shows shown (text_of j) out_old out_new
+
+-- how a run ends whose report was printed, or was not
+abbrev pub stop_after : Bool → RunStop
+stop_after true = Completed
+stop_after false = OutFault

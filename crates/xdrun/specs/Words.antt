@@ -1,0 +1,27 @@
+-- What the words behind the program's name ask for. The options are pytest-xdist's; the rest is a choice of this project.
+use Rattle.std.specs.Prelude.{ℕ, ◌==◌, nat_le, Bool, true, false, ◌&&◌, ◌||◌, not, List, [], ◌∷◌, length, Option, Some, None, if◌then◌else◌, codes}
+use Rattle.std.specs.Str.{bytes_eq, encode_utf8_all}
+
+-- a word, by its UTF-8
+abbrev pub is_word : List ℕ → List ℕ → Bool
+is_word word text = bytes_eq (encode_utf8_all word) text
+
+abbrev pub begins_with_dash : List ℕ → Bool
+begins_with_dash [] = false
+begins_with_dash (c ∷ cs) = c == 45
+
+-- a path: no option, and at most 65,536 bytes
+abbrev pub is_path : List ℕ → Bool
+is_path word = not (begins_with_dash (encode_utf8_all word)) && nat_le (length (encode_utf8_all word)) 65536
+
+-- the name of a command, which names no suite
+abbrev pub is_command : List ℕ → Bool
+is_command word = is_word word (codes "worker") || is_word word (codes "socketserver") || is_word word (codes "wire")
+
+abbrev pub is_suite : List ℕ → Bool
+is_suite word = is_path word && not (is_command word)
+
+-- the suite file of SUITE -n 0
+abbrev pub suite_named : List (List ℕ) → Option (List ℕ)
+suite_named (suite ∷ option ∷ count ∷ []) = if is_suite suite && (is_word option (codes "-n") && is_word count (codes "0")) then Some suite else None
+suite_named _ = None

@@ -1,0 +1,216 @@
+// The tests of a suite, one after another in this program.
+ghost use Rattle.std.specs.Prelude.{◌≡◌, ◌<◌, ◌≤◌, [], map, false, Ok, length, IsTrue, IfOk, OnOk};
+ghost use Rattle.xd_edge.specs.Faults.{Rose, RoseBy};
+ghost use Rattle.xd_suite.specs.Suite.{run_at};
+ghost use Rattle.xd_ledger.specs.declared.entry.RunStop.TheVariants.{OutFault};
+ghost use Rattle.xd_ledger.specs.Legal.{IsLegal, local_entries};
+ghost use Rattle.xd_ledger.specs.Local.{is_local};
+ghost use Rattle.xd_ledger.specs.Results.{numbers_from, reported_in, results_in};
+ghost use Rattle.xd_ledger.specs.Stop.{stop_of};
+ghost use Rattle.xd_report.specs.Lines.{lines_between};
+ghost use Rattle.xd_report.specs.Text.{tail_text, text_of};
+ghost use Rattle.xdrun.specs.Child.{faults_of};
+ghost use Rattle.xdrun.specs.Local.{AddsRound, RanAll, RanPrinted, RanTest, RunsSuite, local_settings, stop_after};
+ghost use Rattle.xdrun.specs.Print.{PrintsReport, Shows};
+
+use crate::child::run_child;
+use std::alloc::Global;
+use std::sync::Wait;
+use xd_edge::{Blob, Children, Clock, Indices, ModeKind, OutOfMemory, Sink, print};
+use xd_ledger::{Entry, Ids, Journal, Outcome, RunStop, Settings};
+use xd_report::{report_lines, tail};
+use xd_suite::Suite;
+
+/// Runs the tests of a suite in order, and prints the report. The line of a test is handed on as soon as it has ended.
+/// Where the output fails no further test is started.
+pub fn run_suite<R: Wait, K: Children, T: Clock, O: Sink>(
+    rt: &R,
+    alloc: Global,
+    suite: &Suite,
+    children: &mut K,
+    clock: &mut T,
+    out: &mut O,
+) -> Result<Journal, OutOfMemory>
+    ensures legal { IfOk result IsLegal }
+    ensures settings { IfOk result (λ j. j.settings ≡ local_settings) }
+    ensures suite { IfOk result (λ j. RunsSuite suite.now j (K.runs children.old) (K.runs children.new)) }
+    ensures once { IfOk result (λ j. reported_in j.entries.items ≡ numbers_from 0 (length (results_in j.entries.items))) }
+    ensures printed { IfOk result (λ j. PrintsReport (stop_of j) (text_of j) (O.sunk out.old) (O.sunk out.new)) }
+    ensures out_fault { IfOk result (λ j. stop_of j ≡ OutFault → Rose (O.faults out.old) (O.faults out.new)) }
+    ensures child_faults { IfOk result (λ j. RoseBy (faults_of (results_in j.entries.items)) (K.faults children.old) (K.faults children.new)) }
+    ensures is_local { IfOk result (λ j. IsTrue (is_local j)) }
+{
+    let mut journal = Journal::new(alloc, local_settings());
+    let ids = suite.ids(alloc, ModeKind::Local)?;
+    journal.push(Entry::Collected {
+        worker: 0,
+        ids: Ids::List(ids),
+    })?;
+    let shown = run_and_print(rt, alloc, suite, &mut journal, children, clock, out)?;
+    let how = stop_after(shown);
+    journal.push(Entry::Over { how })?;
+    Ok(journal)
+}
+
+fn local_settings() -> Settings
+    ensures { result ≡ local_settings }
+{
+    Settings {
+        mode: ModeKind::Local,
+        workers: 0,
+        maxfail: 0,
+        restarts: 0,
+        chunk: None,
+        reorder: true,
+    }
+}
+
+fn stop_after(shown: bool) -> RunStop
+    ensures { result ≡ stop_after shown }
+{
+    if shown {
+        RunStop::Completed
+    } else {
+        RunStop::OutFault
+    }
+}
+
+// Runs the tests and prints their lines and the tail; false where the output failed.
+fn run_and_print<R: Wait, K: Children, T: Clock, O: Sink>(
+    rt: &R,
+    alloc: Global,
+    suite: &Suite,
+    journal: &mut Journal,
+    children: &mut K,
+    clock: &mut T,
+    out: &mut O,
+) -> Result<bool, OutOfMemory>
+    requires local { IsTrue (is_local journal.old) }
+    requires collected { journal.old.entries.items ≡ local_entries (map (λ t. t.id) suite.now) [] }
+    ensures ran { IfOk result (λ shown. RanPrinted shown suite.now (map (λ t. t.id) suite.now) journal.new (K.runs children.old) (K.runs children.new) (K.faults children.old) (K.faults children.new) (O.sunk out.old) (O.sunk out.new)) }
+    ensures settings { journal.new.settings ≡ journal.old.settings }
+    ensures local_still { OnOk result (IsTrue (is_local journal.new)) }
+    ensures later { O.faults out.old ≤ O.faults out.new }
+    ensures rose { result ≡ Ok false → Rose (O.faults out.old) (O.faults out.new) }
+{
+    let ran = run_tests(rt, alloc, suite, journal, children, clock, out)?;
+    if !ran {
+        return Ok(false);
+    }
+    let printed = print_tail(alloc, journal, out)?;
+    Ok(printed)
+}
+
+// Prints the line of the collection, and runs the tests in order; false where the output failed.
+fn run_tests<R: Wait, K: Children, T: Clock, O: Sink>(
+    rt: &R,
+    alloc: Global,
+    suite: &Suite,
+    journal: &mut Journal,
+    children: &mut K,
+    clock: &mut T,
+    out: &mut O,
+) -> Result<bool, OutOfMemory>
+    requires local { IsTrue (is_local journal.old) }
+    requires collected { journal.old.entries.items ≡ local_entries (map (λ t. t.id) suite.now) [] }
+    ensures ran { IfOk result (λ shown. RanAll shown suite.now (map (λ t. t.id) suite.now) journal.new.entries.items (K.runs children.old) (K.runs children.new) (K.faults children.old) (K.faults children.new) (O.sunk out.old) (O.sunk out.new)) }
+    ensures settings { journal.new.settings ≡ journal.old.settings }
+    ensures local_still { OnOk result (IsTrue (is_local journal.new)) }
+    ensures later { O.faults out.old ≤ O.faults out.new }
+    ensures rose { result ≡ Ok false → Rose (O.faults out.old) (O.faults out.new) }
+{
+    let collected = print_lines(alloc, journal, 0, out)?;
+    if !collected {
+        return Ok(false);
+    }
+    for test in 0..suite.len() {
+        let shown = run_test(rt, alloc, suite, test, journal, children, clock, out)?;
+        if !shown {
+            return Ok(false);
+        }
+    }
+    Ok(true)
+}
+
+// Runs one test and prints its line; false where the output failed.
+fn run_test<R: Wait, K: Children, T: Clock, O: Sink>(
+    rt: &R,
+    alloc: Global,
+    suite: &Suite,
+    test: u32,
+    journal: &mut Journal,
+    children: &mut K,
+    clock: &mut T,
+    out: &mut O,
+) -> Result<bool, OutOfMemory>
+    requires local { IsTrue (is_local journal.old) }
+    requires test { test < length suite.now }
+    ensures ran { IfOk result (λ shown. RanTest shown test (run_at suite.now test) journal.old.entries.items journal.new.entries.items (K.runs children.old) (K.runs children.new) (K.faults children.old) (K.faults children.new) (O.sunk out.old) (O.sunk out.new)) }
+    ensures settings { journal.new.settings ≡ journal.old.settings }
+    ensures local_still { OnOk result (IsTrue (is_local journal.new)) }
+    ensures children_later { K.faults children.old ≤ K.faults children.new }
+    ensures later { O.faults out.old ≤ O.faults out.new }
+    ensures rose { result ≡ Ok false → Rose (O.faults out.old) (O.faults out.new) }
+{
+    let start = clock.now();
+    let outcome = run_child(rt, alloc, children, suite.command(test))?;
+    let ms = clock.now() - start;
+    let from = journal.entries.len();
+    add_round(alloc, journal, test, outcome, ms)?;
+    let shown = print_lines(alloc, journal, from, out)?;
+    Ok(shown)
+}
+
+// Notes that a test was run, and its result.
+fn add_round(alloc: Global, journal: &mut Journal, test: u32, outcome: Outcome, ms: u64) -> Result<(), OutOfMemory>
+    requires { IsTrue (is_local journal.old) }
+    ensures entries { OnOk result (AddsRound test outcome ms journal.old.entries.items journal.new.entries.items) }
+    ensures settings { journal.new.settings ≡ journal.old.settings }
+    ensures local_still { OnOk result (IsTrue (is_local journal.new)) }
+{
+    let mut indices = Vec::new(alloc);
+    indices.push(test)?;
+    journal.push(Entry::Run {
+        worker: 0,
+        indices: Indices { items: indices },
+    })?;
+    journal.push(Entry::Done {
+        worker: 0,
+        index: test,
+        outcome,
+        ms,
+        output: Blob {
+            bytes: Vec::new(alloc),
+        },
+    })?;
+    Ok(())
+}
+
+// Prints the lines of the entries from a place on; false where the output failed.
+fn print_lines<O: Sink>(alloc: Global, journal: &Journal, from: usize, out: &mut O) -> Result<bool, OutOfMemory>
+    requires local { IsTrue (is_local journal.now) }
+    requires from { from ≤ length journal.now.entries.items }
+    ensures shows { IfOk result (λ shown. Shows shown (lines_between journal.now from (length journal.now.entries.items)) (O.sunk out.old) (O.sunk out.new)) }
+    ensures later { O.faults out.old ≤ O.faults out.new }
+    ensures rose { result ≡ Ok false → Rose (O.faults out.old) (O.faults out.new) }
+{
+    let lines = report_lines(alloc, journal, from, journal.entries.len())?;
+    match print(out, lines.as_slice()) {
+        Ok(()) => Ok(true),
+        Err(_) => Ok(false),
+    }
+}
+
+// Prints the tail; false where the output failed.
+fn print_tail<O: Sink>(alloc: Global, journal: &Journal, out: &mut O) -> Result<bool, OutOfMemory>
+    requires { IsTrue (is_local journal.now) }
+    ensures shows { IfOk result (λ shown. Shows shown (tail_text journal.now) (O.sunk out.old) (O.sunk out.new)) }
+    ensures later { O.faults out.old ≤ O.faults out.new }
+    ensures rose { result ≡ Ok false → Rose (O.faults out.old) (O.faults out.new) }
+{
+    let tail = tail(alloc, journal)?;
+    match print(out, tail.as_slice()) {
+        Ok(()) => Ok(true),
+        Err(_) => Ok(false),
+    }
+}
