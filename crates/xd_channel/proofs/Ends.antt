@@ -136,5 +136,5 @@ hooked_is (Err e) h = refl
 pub stands-hook : {V : Type 0} (s : EndState V) (h : List (Call V)) → Stands s h → Stands (after_hook s) (Set_callback (hook_gives s) ∷ h)
 stands-hook s h k =
     subst (λ (b : Bool). StandsAt (after_hook s) (delivered h ++ waited (hook_gives s)) (arrived h) (marker h) (send_open h) b (hands_end (hook_gives s) || given h)) (hooked_is (hook_gives s) h)
-      (by_parts (λ t. StandsAt (after_hook t) (delivered h ++ waited (hook_gives t)) (arrived h) (marker h) (send_open h) (hook_or (hook_gives t) (hooked h)) (hands_end (hook_gives t) || given h)) s _ _ _ _ _ _ k
-        (hooks s.waiting (delivered h) (arrived h) (marker h) (send_open h) (hooked h) (given h)))
+    (by_parts (λ t. StandsAt (after_hook t) (delivered h ++ waited (hook_gives t)) (arrived h) (marker h) (send_open h) (hook_or (hook_gives t) (hooked h)) (hands_end (hook_gives t) || given h)) s _ _ _ _ _ _ k
+    (hooks s.waiting (delivered h) (arrived h) (marker h) (send_open h) (hooked h) (given h)))
