@@ -15,14 +15,15 @@ parity_of false = parity.Even
 abbrev pub owns : Bool → ℕ → Bool
 owns odd c = is_mine (parity_of odd) c
 
--- what a message says about one number
+-- one thing that a message says about a number
 pub data Note : Type 0 where
   Named : Note  -- a value names it, or a function is called on it
   Item : Tree → Note  -- an item on it
-  Ends : Option (List ℕ) → Note
-  Lasts : Note
+  Ends : Option (List ℕ) → Note  -- the peer closes it, with the text of an error where there is one
+  Lasts : Note  -- the peer sends no more on it
   Asked : Note  -- a STATUS on it
 
+-- a value names the number
 abbrev pub named : ℕ → Tree → List Note
 named c v = if is_in c (channels v) then Named ∷ [] else []
 
@@ -35,11 +36,12 @@ notes c (Close n e) = if n == c then Ends e ∷ [] else []
 notes c (Last n) = if n == c then Lasts ∷ [] else []
 notes c Terminate = []
 
+-- what several messages say about the number, in order
 abbrev pub all_notes : ℕ → List Said → List Note
 all_notes c [] = []
 all_notes c (m ∷ ms) = notes c m ++ all_notes c ms
 
--- all items, those ahead of the first end, and whether an end is there
+-- all items
 abbrev pub items : List Note → List Tree
 items [] = []
 items (Item v ∷ ns) = v ∷ items ns
@@ -48,6 +50,7 @@ items (Ends e ∷ ns) = items ns
 items (Lasts ∷ ns) = items ns
 items (Asked ∷ ns) = items ns
 
+-- the items ahead of the first end
 abbrev pub before_end : List Note → List Tree
 before_end [] = []
 before_end (Item v ∷ ns) = v ∷ before_end ns
@@ -56,6 +59,7 @@ before_end (Ends e ∷ ns) = []
 before_end (Lasts ∷ ns) = []
 before_end (Asked ∷ ns) = before_end ns
 
+-- an end is among them
 abbrev pub has_end : List Note → Bool
 has_end [] = false
 has_end (Item v ∷ ns) = has_end ns

@@ -1,4 +1,5 @@
--- Two sides and the link between them.
+-- Every history of two sides and the link between them, which hands over whole messages in order, in each direction.
+-- A choice of this project.
 use Rattle.std.specs.Prelude.{◌≡◌, ℕ, ◌==◌, ◌+◌, ◌%◌, ◌||◌, ◌&&◌, not, List, [], ◌∷◌, ◌++◌, Bool, true, false, Option, Some, None, if◌then◌else◌}
 use Rattle.xd_value.specs.Tree.{Tree}
 use Rattle.xd_value.specs.Channels.{channels}
@@ -10,6 +11,7 @@ use Rattle.xd_pair.specs.Notes.{Note, notes, all_notes, items, before_end, has_e
 use Rattle.xd_pair.specs.Side.{Part, heard_all, opened_in, received_in, hooked_in, closed_in, ended_in, given_up_in, lost_in, close_says, end_says, give_up_says, may_send}
 use Rattle.xd_factory.specs.Slot.{is_seen, is_here}
 
+-- a side: what stands at each number, what it sent there, its next number, whether it ended or failed, and what it took
 pub record Actor : Type 0 where
   pub part : ℕ → Part
   pub sent : ℕ → List Tree
@@ -18,6 +20,7 @@ pub record Actor : Type 0 where
   pub failed : Bool
   pub taken : List Said
 
+-- two sides and the messages between them
 pub record World : Type 0 where
   pub odd : Actor
   pub even : Actor
@@ -46,9 +49,11 @@ abbrev pub knows : (ℕ → Part) → List ℕ → Bool
 knows part [] = true
 knows part (c ∷ cs) = is_seen (part c).slot && knows part cs
 
+-- a change at one number
 abbrev pub at : ℕ → (Part → Part) → Actor → Actor
 at n f a = record a { part = λ c. if n == c then f (a.part c) else a.part c }
 
+-- one item more was sent
 abbrev pub adds : ℕ → Tree → Actor → Actor
 adds n v a = record a { sent = λ c. if n == c then a.sent c ++ v ∷ [] else a.sent c }
 
@@ -56,23 +61,29 @@ adds n v a = record a { sent = λ c. if n == c then a.sent c ++ v ∷ [] else a.
 abbrev pub can_send : Actor → ℕ → Tree → Bool
 can_send a n v = may_send (a.part n).slot && knows a.part (channels v)
 
+-- a function may be called on an open number, with a value of known numbers
 abbrev pub can_call : Bool → Actor → ℕ → Tree → Bool
 can_call odd a n v = is_here (a.part n).slot && knows a.part (channels v)
 
+-- the answer to a STATUS stands only where that STATUS was taken
 abbrev pub can_answer : Actor → ℕ → Tree → Bool
 can_answer a n v = (a.part n).asked && knows a.part (channels v)
 
+-- no channel opens once the link has ended
 abbrev pub can_open : Bool → Actor → Bool
 can_open odd a = owns odd a.next && not a.finished
 
+-- the next message is taken
 abbrev pub takes : Bool → Actor → List Said → Actor
 takes odd a [] = a
 takes odd a (m ∷ ms) = record a { part = λ c. heard_all (owns odd c) (a.part c) (notes c m); taken = a.taken ++ m ∷ [] }
 
+-- the messages that are still on the way
 abbrev pub rest : List Said → List Said
 rest [] = []
 rest (m ∷ ms) = ms
 
+-- something is said
 abbrev pub has_notes : List Note → Bool
 has_notes [] = false
 has_notes (x ∷ xs) = true
@@ -82,9 +93,11 @@ abbrev pub is_told : ℕ → List Said → Bool
 is_told c [] = false
 is_told c (m ∷ ms) = has_notes (notes c m)
 
+-- a number opens behind which a message was refused
 abbrev pub named_in : Bool → Part → Slot Tree → Part
 named_in mine p s = record p { slot = named_slot mine s }
 
+-- what a move sends to the peer
 abbrev pub says : Bool → Actor → Move → List Said
 says odd a Open = []
 says odd a (Send n v) = if can_send a n v then Data n v ∷ [] else []
@@ -101,6 +114,7 @@ says odd a Take = []
 says odd a (Refuse names) = []
 says odd a Finish = []
 
+-- the side behind a move; a move whose premise fails changes nothing, as a call that finds no memory
 abbrev pub after : Bool → Actor → List Said → Move → Actor
 after odd a wire Open = if can_open odd a then record (at a.next (λ p. opened_in p p.slot) a) { next = a.next + 2 } else a
 after odd a wire (Send n v) = if can_send a n v then adds n v a else a
@@ -117,6 +131,7 @@ after odd a wire Take = if a.failed || a.finished then a else takes odd a wire
 after odd a wire (Refuse names) = record a { failed = true; part = λ c. if is_in c names && is_told c wire then named_in (owns odd c) (a.part c) (a.part c).slot else a.part c }
 after odd a wire Finish = record a { part = λ c. lost_in (a.part c) (a.part c).slot; finished = true }
 
+-- what is on the way to the side behind its move
 abbrev pub wire_after : Actor → List Said → Move → List Said
 wire_after a wire Take = if a.failed || a.finished then wire else rest wire
 wire_after a wire Open = wire
@@ -133,10 +148,12 @@ wire_after a wire (Set_callback n) = wire
 wire_after a wire (Refuse names) = wire
 wire_after a wire Finish = wire
 
+-- a move of one of the two sides
 pub data Step : Type 0 where
   Odd : Move → Step
   Even : Move → Step
 
+-- one step: a side moves, and its messages are on the way in order
 abbrev pub happens : World → Step → World
 happens w (Odd m) = record {
   odd = after true w.odd w.to_odd m;
@@ -151,19 +168,24 @@ happens w (Even m) = record {
   to_even = wire_after w.even w.to_even m;
 }
 
+-- a list of steps, the first one first
 abbrev pub run : List Step → World → World
 run [] w = w
 run (e ∷ es) w = run es (happens w e)
 
+-- nothing happened to the number
 abbrev pub untouched : Part
 untouched = record { slot = Unseen; got = []; ended = false; let_go = false; lost = false; asked = false }
 
+-- a new side
 abbrev pub beginning : ℕ → Actor
 beginning n = record { part = λ c. untouched; sent = λ c. []; next = n; finished = false; failed = false; taken = [] }
 
+-- two new sides and an empty link
 abbrev pub start : World
 start = record { odd = beginning 1; even = beginning 2; to_odd = []; to_even = [] }
 
+-- the second list is the first with more behind it
 abbrev pub IsPrefixOf : List Tree → List Tree → Type 0
 IsPrefixOf xs ys = (more : List Tree) × (xs ++ more ≡ ys)
 
