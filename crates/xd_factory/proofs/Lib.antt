@@ -1,0 +1,9 @@
+pub mod Bounds
+pub mod Readings
+pub mod Dumps
+pub mod Entries
+pub mod Naming
+pub mod Refusals
+pub mod Losing
+pub mod Tracing
+pub mod Keeping

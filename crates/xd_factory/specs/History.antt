@@ -1,0 +1,138 @@
+-- What a list of calls of a side, and of messages that it took, means for one number. A history has its newest call
+-- first. It is said without the table: what came on the number's end since it opened, as in the history of an end.
+use Rattle.std.specs.Prelude.{◌≡◌, ℕ, ◌==◌, ◌||◌, ◌&&◌, not, List, [], ◌∷◌, Bool, true, false, Option, Result, Ok, Err, if◌then◌else◌}
+use Rattle.xd_value.specs.Tree.{Tree}
+use Rattle.xd_channel.specs.State.{EndState}
+use Rattle.xd_channel.specs.History.{Call, Arrive, Peer_close, Peer_last, Lose, Close as Close_end, Give_up, Set_callback, Receive, send_open, given, Stands}
+use Rattle.xd_channel.specs.declared.end.End.{End}
+use Rattle.xd_channel.specs.declared.answers.Got.{Got}
+use Rattle.xd_channel.specs.declared.answers.Arrived.{Arrived}
+use Rattle.xd_channel.specs.declared.answers.Arrived.TheVariants as arrived
+use Rattle.xd_channel.specs.declared.answers.HasCallback.{HasCallback}
+use Rattle.xd_factory.specs.declared.parity.Parity.{Parity}
+use Rattle.xd_factory.specs.declared.side.Side.{Side}
+use Rattle.xd_factory.specs.declared.taken.Taken.{Taken}
+use Rattle.xd_factory.specs.declared.taken.Taken.TheVariants as taken
+use Rattle.xd_factory.specs.Numbers.{is_mine, is_in}
+use Rattle.xd_factory.specs.Said.{Said, Status, Exec, Data, Close, Last, Terminate, names_of}
+use Rattle.xd_factory.specs.Slot.{Slot, Unseen, Here, Gone}
+use Rattle.xd_factory.specs.View.{slot_of, parity_of}
+
+-- a call of a side, with what it handed out, or a message that it took
+pub data Act : Type 0 where
+  Opened : ℕ → Act  -- `open_channel` gave the number
+  Took : Said → Taken Tree → Act  -- a message, and what it did
+  Failed : (ℕ → Bool) → Act  -- a message was refused behind the opening of these numbers
+  Closed : ℕ → Act
+  Let_go : ℕ → Act
+  Function_ended : ℕ → Act
+  Hooked : ℕ → Result (List Tree × Option End) HasCallback → Act
+  Received : ℕ → Result (Got Tree) HasCallback → Act
+  Link_lost : Act
+
+-- what happened to one number
+pub data Deed : Type 0 where
+  Opens : Deed  -- it opened
+  On : Call Tree → Deed  -- a call on its end
+  Shuts : Deed  -- its function ended, or the peer ended it before it had opened here
+
+-- the calls on the end
+abbrev pub calls : List Deed → List (Call Tree)
+calls [] = []
+calls (On k ∷ d) = k ∷ calls d
+calls (Opens ∷ d) = calls d
+calls (Shuts ∷ d) = calls d
+
+abbrev pub was_shut : List Deed → Bool
+was_shut [] = false
+was_shut (Shuts ∷ d) = true
+was_shut (On k ∷ d) = was_shut d
+was_shut (Opens ∷ d) = was_shut d
+
+-- sending is closed and the end marker was given
+abbrev pub has_left : List Deed → Bool
+has_left d = not (send_open (calls d)) && given (calls d)
+
+-- something happened, and the number has not left the table
+abbrev pub is_open : List Deed → Bool
+is_open [] = false
+is_open (x ∷ d) = not (was_shut (x ∷ d)) && not (has_left (x ∷ d))
+
+abbrev pub is_untouched : List Deed → Bool
+is_untouched [] = true
+is_untouched (x ∷ d) = false
+
+-- a message names the number: it opens where it is the peer's and nothing happened to it before
+abbrev pub named_deeds : Bool → List Deed → List Deed
+named_deeds mine [] = if mine then [] else Opens ∷ []
+named_deeds mine (x ∷ d) = x ∷ d
+
+-- a call on the end, where the number is in the table
+abbrev pub on_end : Call Tree → List Deed → List Deed
+on_end k d = if is_open d then On k ∷ d else d
+
+-- an end from the peer; a number of the peer's that had not opened is closed for good
+abbrev pub ended_deeds : Bool → Call Tree → List Deed → List Deed
+ended_deeds mine k [] = if mine then [] else Shuts ∷ []
+ended_deeds mine k (x ∷ d) = on_end k (x ∷ d)
+
+abbrev pub function_deeds : List Deed → List Deed
+function_deeds d = if is_open d then Shuts ∷ d else d
+
+-- what became of the item of a message
+abbrev pub arrived_of : Taken Tree → Arrived Tree
+arrived_of (taken.Kept n) = arrived.Kept
+arrived_of (taken.Handed n v) = arrived.Handed v
+arrived_of (taken.EndKept n) = arrived.Dropped
+arrived_of (taken.EndHanded n end) = arrived.Dropped
+arrived_of taken.Dropped = arrived.Dropped
+arrived_of (taken.Status n) = arrived.Dropped
+arrived_of (taken.Exec n v) = arrived.Dropped
+arrived_of taken.Terminate = arrived.Dropped
+
+-- a message at a number, behind the opening of what it names
+abbrev pub told_deeds : Bool → ℕ → Said → Taken Tree → List Deed → List Deed
+told_deeds mine c (Data n v) t d = if n == c then on_end (Arrive v (arrived_of t)) d else d
+told_deeds mine c (Close n e) t d = if n == c then ended_deeds mine (Peer_close e) d else d
+told_deeds mine c (Last n) t d = if n == c then ended_deeds mine Peer_last d else d
+told_deeds mine c (Status n) t d = d
+told_deeds mine c (Exec n v) t d = d
+told_deeds mine c Terminate t d = d
+
+abbrev pub took_deeds : Bool → ℕ → Said → Taken Tree → List Deed → List Deed
+took_deeds mine c said t d = told_deeds mine c said t (if is_in c (names_of said) then named_deeds mine d else d)
+
+-- what happened to a number, newest first
+abbrev pub deeds : Parity → ℕ → List Act → List Deed
+deeds parity c [] = []
+deeds parity c (Opened n ∷ h) = if n == c then Opens ∷ deeds parity c h else deeds parity c h
+deeds parity c (Took said t ∷ h) = took_deeds (is_mine parity c) c said t (deeds parity c h)
+deeds parity c (Failed which ∷ h) = if which c then named_deeds (is_mine parity c) (deeds parity c h) else deeds parity c h
+deeds parity c (Closed n ∷ h) = if n == c then on_end Close_end (deeds parity c h) else deeds parity c h
+deeds parity c (Let_go n ∷ h) = if n == c then on_end Give_up (deeds parity c h) else deeds parity c h
+deeds parity c (Function_ended n ∷ h) = if n == c then function_deeds (deeds parity c h) else deeds parity c h
+deeds parity c (Hooked n r ∷ h) = if n == c then on_end (Set_callback r) (deeds parity c h) else deeds parity c h
+deeds parity c (Received n r ∷ h) = if n == c then on_end (Receive r) (deeds parity c h) else deeds parity c h
+deeds parity c (Link_lost ∷ h) = on_end Lose (deeds parity c h)
+
+-- an entry is open, and its end is as the calls on it leave it
+pub record HereStands (s : EndState Tree) (d : List Deed) : Type 0 where
+  pub open_still : is_open d ≡ true
+  pub end_stands : Stands s (calls d)
+
+pub record GoneStands (d : List Deed) : Type 0 where
+  pub closed : is_open d ≡ false
+  pub touched : is_untouched d ≡ false
+
+-- what stands at a number is what its history leaves
+abbrev pub SlotStands : Slot Tree → List Deed → Type 0
+SlotStands Unseen d = d ≡ []
+SlotStands (Here s) d = HereStands s d
+SlotStands Gone d = GoneStands d
+
+abbrev pub AllStand : (ℕ → Slot Tree) → Parity → List Act → Type 0
+AllStand slot parity h = (c : ℕ) → SlotStands (slot c) (deeds parity c h)
+
+-- the side is as this list of calls and messages leaves it
+abbrev pub SideStands : Side → List Act → Type 0
+SideStands s h = AllStand (slot_of s) (parity_of s) h

@@ -1,0 +1,54 @@
+-- Histories that compute: two channels, one of them named in a value.
+use Rattle.std.proofs.Common.{◌≡◌, ℕ, List, [], ◌∷◌, ◌++◌, Bool, true, false, Option, Some, None, refl}
+use Rattle.std.specs.Prelude.{pos}
+use Rattle.xd_value.specs.Tree.{Tree, int, channel}
+use Rattle.xd_value.specs.Channels.{channels}
+use Rattle.xd_factory.specs.Slot.{Slot, Unseen, Here, Gone, settled, opened_slot, closed_slot, function_ended_slot, given_up_slot, received_slot, receive_answer, hooked_slot, hook_items, hook_end, lost_slot, lost_gives, named_slot, item_slot, item_gives, peer_closed_slot, peer_last_slot, end_gives}
+use Rattle.xd_factory.specs.Numbers.{is_in, is_odd}
+use Rattle.xd_pair.specs.Notes.{owns}
+use Rattle.xd_factory.specs.Said.{Said, Data}
+use Rattle.xd_pair.specs.Notes.{all_notes, Lasts, Item, Ends}
+use Rattle.xd_pair.specs.Side.{Part}
+use Rattle.xd_pair.specs.Pair.{Actor, World, Move, Open, Send, Call, Ask, Answer, Stop, Close_own, End_function, Give_up, Receive, Set_callback, Take, Refuse, Finish, Step, Odd, Even, happens, run, start}
+
+abbrev two_channels : List Step
+two_channels = Odd Open ∷ Odd Open ∷ Odd (Send 1 (channel 3)) ∷ Odd (Send 3 (int (pos 7))) ∷ Even Take ∷ Even Take ∷ Even (Receive 1) ∷ Even (Receive 3) ∷ Even (Receive 3) ∷ []
+
+named_comes : ((run two_channels start).even.part 1).got ≡ channel 3 ∷ []
+named_comes = refl
+
+item_comes : ((run two_channels start).even.part 3).got ≡ int (pos 7) ∷ []
+item_comes = refl
+
+abbrev closed_there : List Step
+closed_there = two_channels ++ Even (Close_own 3 None) ∷ Odd Take ∷ Odd (Receive 3) ∷ Odd (Send 3 (int (pos 8))) ∷ []
+
+end_comes : ((run closed_there start).odd.part 3).ended ≡ true
+end_comes = refl
+
+nothing_sent : (run closed_there start).odd.sent 3 ≡ int (pos 7) ∷ []
+nothing_sent = refl
+
+leaves : ((run closed_there start).odd.part 3).slot ≡ Gone
+leaves = refl
+
+-- a STATUS, an item that opens the number, a callback that is given up, and then the answer to the STATUS
+abbrev late_answer : List Step
+late_answer = Odd Open ∷ Odd (Ask 1) ∷ Odd (Send 1 (int (pos 5))) ∷ Even Take ∷ Even Take ∷ Even (Set_callback 1) ∷ Even (Give_up 1) ∷ Even (Answer 1 (int (pos 9)))
+    ∷ Odd Take ∷ Odd Take ∷ Odd Take ∷ Odd (Receive 1) ∷ Odd (Receive 1) ∷ []
+
+answer_sent : (run late_answer start).even.sent 1 ≡ int (pos 9) ∷ []
+answer_sent = refl
+
+answer_dropped : ((run late_answer start).odd.part 1).got ≡ []
+answer_dropped = refl
+
+answer_closed : ((run late_answer start).odd.part 1).slot ≡ Gone
+answer_closed = refl
+
+not_let_go : ((run late_answer start).odd.part 1).let_go ≡ false
+not_let_go = refl
+
+-- the items ahead of the CHANNEL_CLOSE, which stands last
+all_said : all_notes 1 (run late_answer start).odd.taken ≡ Lasts ∷ Item (int (pos 9)) ∷ Ends None ∷ []
+all_said = refl

@@ -1,0 +1,201 @@
+-- Every history of two sides and the link between them, which hands over whole messages in order, in each direction.
+-- A choice of this project.
+use Rattle.std.specs.Prelude.{◌≡◌, ℕ, ◌==◌, ◌+◌, ◌%◌, ◌||◌, ◌&&◌, not, List, [], ◌∷◌, ◌++◌, Bool, true, false, Option, Some, None, if◌then◌else◌}
+use Rattle.xd_value.specs.Tree.{Tree}
+use Rattle.xd_value.specs.Channels.{channels}
+use Rattle.xd_factory.specs.Slot.{Slot, Unseen, Here, Gone, named_slot}
+use Rattle.xd_factory.specs.Numbers.{is_odd, is_in}
+use Rattle.xd_pair.specs.Notes.{owns}
+use Rattle.xd_factory.specs.Said.{Said, Status, Exec, Data, Close, Last, Terminate}
+use Rattle.xd_pair.specs.Notes.{Note, notes, all_notes, items, before_end, has_end}
+use Rattle.xd_pair.specs.Side.{Part, heard_all, opened_in, received_in, hooked_in, closed_in, ended_in, given_up_in, lost_in, close_says, end_says, give_up_says, may_send}
+use Rattle.xd_factory.specs.Slot.{is_seen, is_here}
+
+-- a side: what stands at each number, what it sent there, its next number, whether it ended or failed, and what it took
+pub record Actor : Type 0 where
+  pub part : ℕ → Part
+  pub sent : ℕ → List Tree
+  pub next : ℕ
+  pub finished : Bool
+  pub failed : Bool
+  pub taken : List Said
+
+-- two sides and the messages between them
+pub record World : Type 0 where
+  pub odd : Actor
+  pub even : Actor
+  pub to_odd : List Said  -- on the way, oldest first
+  pub to_even : List Said
+
+-- what a side may do
+pub data Move : Type 0 where
+  Open : Move
+  Send : ℕ → Tree → Move
+  Call : ℕ → Tree → Move  -- CHANNEL_EXEC
+  Ask : ℕ → Move  -- STATUS
+  Answer : ℕ → Tree → Move  -- the answer to a STATUS
+  Stop : Move  -- GATEWAY_TERMINATE
+  Close_own : ℕ → Option (List ℕ) → Move
+  End_function : ℕ → Option (List ℕ) → Move
+  Give_up : ℕ → Move
+  Receive : ℕ → Move
+  Set_callback : ℕ → Move
+  Take : Move
+  Refuse : List ℕ → Move  -- a message is refused, the side has failed, and of the channels that it names these were opened
+  Finish : Move  -- the link is lost
+
+-- each number in the value was opened or seen here
+abbrev pub knows : (ℕ → Part) → List ℕ → Bool
+knows part [] = true
+knows part (c ∷ cs) = is_seen (part c).slot && knows part cs
+
+-- a change at one number
+abbrev pub at : ℕ → (Part → Part) → Actor → Actor
+at n f a = record a { part = λ c. if n == c then f (a.part c) else a.part c }
+
+-- one item more was sent
+abbrev pub adds : ℕ → Tree → Actor → Actor
+adds n v a = record a { sent = λ c. if n == c then a.sent c ++ v ∷ [] else a.sent c }
+
+-- the item is accepted
+abbrev pub can_send : Actor → ℕ → Tree → Bool
+can_send a n v = may_send (a.part n).slot && knows a.part (channels v)
+
+-- a function may be called on an open number, with a value of known numbers
+abbrev pub can_call : Bool → Actor → ℕ → Tree → Bool
+can_call odd a n v = is_here (a.part n).slot && knows a.part (channels v)
+
+-- the answer to a STATUS stands only where that STATUS was taken
+abbrev pub can_answer : Actor → ℕ → Tree → Bool
+can_answer a n v = (a.part n).asked && knows a.part (channels v)
+
+-- no channel opens once the link has ended
+abbrev pub can_open : Bool → Actor → Bool
+can_open odd a = owns odd a.next && not a.finished
+
+-- the next message is taken
+abbrev pub takes : Bool → Actor → List Said → Actor
+takes odd a [] = a
+takes odd a (m ∷ ms) = record a { part = λ c. heard_all (owns odd c) (a.part c) (notes c m); taken = a.taken ++ m ∷ [] }
+
+-- the messages that are still on the way
+abbrev pub rest : List Said → List Said
+rest [] = []
+rest (m ∷ ms) = ms
+
+-- something is said
+abbrev pub has_notes : List Note → Bool
+has_notes [] = false
+has_notes (x ∷ xs) = true
+
+-- the next message names the number, or comes on it
+abbrev pub is_told : ℕ → List Said → Bool
+is_told c [] = false
+is_told c (m ∷ ms) = has_notes (notes c m)
+
+-- a number opens behind which a message was refused
+abbrev pub named_in : Bool → Part → Slot Tree → Part
+named_in mine p s = record p { slot = named_slot mine s }
+
+-- what a move sends to the peer
+abbrev pub says : Bool → Actor → Move → List Said
+says odd a Open = []
+says odd a (Send n v) = if can_send a n v then Data n v ∷ [] else []
+says odd a (Call n v) = if can_call odd a n v then Exec n v ∷ [] else []
+says odd a (Ask n) = if is_here (a.part n).slot then Status n ∷ [] else []
+says odd a (Answer n v) = if can_answer a n v then Data n v ∷ Close n None ∷ [] else []
+says odd a Stop = Terminate ∷ []
+says odd a (Close_own n e) = close_says n e (a.part n).slot
+says odd a (End_function n e) = end_says n e (a.part n).slot
+says odd a (Give_up n) = give_up_says n (a.part n).slot
+says odd a (Receive n) = []
+says odd a (Set_callback n) = []
+says odd a Take = []
+says odd a (Refuse names) = []
+says odd a Finish = []
+
+-- the side behind a move; a move whose premise fails changes nothing, as a call that finds no memory
+abbrev pub after : Bool → Actor → List Said → Move → Actor
+after odd a wire Open = if can_open odd a then record (at a.next (λ p. opened_in p p.slot) a) { next = a.next + 2 } else a
+after odd a wire (Send n v) = if can_send a n v then adds n v a else a
+after odd a wire (Call n v) = a
+after odd a wire (Ask n) = a
+after odd a wire (Answer n v) = if can_answer a n v then adds n v a else a
+after odd a wire Stop = a
+after odd a wire (Close_own n e) = at n (λ p. closed_in p p.slot) a
+after odd a wire (End_function n e) = at n (λ p. ended_in p p.slot) a
+after odd a wire (Give_up n) = at n (λ p. given_up_in p p.slot) a
+after odd a wire (Receive n) = at n (λ p. received_in p p.slot) a
+after odd a wire (Set_callback n) = at n (λ p. hooked_in p p.slot) a
+after odd a wire Take = if a.failed || a.finished then a else takes odd a wire
+after odd a wire (Refuse names) = record a { failed = true; part = λ c. if is_in c names && is_told c wire then named_in (owns odd c) (a.part c) (a.part c).slot else a.part c }
+after odd a wire Finish = record a { part = λ c. lost_in (a.part c) (a.part c).slot; finished = true }
+
+-- what is on the way to the side behind its move
+abbrev pub wire_after : Actor → List Said → Move → List Said
+wire_after a wire Take = if a.failed || a.finished then wire else rest wire
+wire_after a wire Open = wire
+wire_after a wire (Send n v) = wire
+wire_after a wire (Call n v) = wire
+wire_after a wire (Ask n) = wire
+wire_after a wire (Answer n v) = wire
+wire_after a wire Stop = wire
+wire_after a wire (Close_own n e) = wire
+wire_after a wire (End_function n e) = wire
+wire_after a wire (Give_up n) = wire
+wire_after a wire (Receive n) = wire
+wire_after a wire (Set_callback n) = wire
+wire_after a wire (Refuse names) = wire
+wire_after a wire Finish = wire
+
+-- a move of one of the two sides
+pub data Step : Type 0 where
+  Odd : Move → Step
+  Even : Move → Step
+
+-- one step: a side moves, and its messages are on the way in order
+abbrev pub happens : World → Step → World
+happens w (Odd m) = record {
+  odd = after true w.odd w.to_odd m;
+  even = w.even;
+  to_odd = wire_after w.odd w.to_odd m;
+  to_even = w.to_even ++ says true w.odd m;
+}
+happens w (Even m) = record {
+  odd = w.odd;
+  even = after false w.even w.to_even m;
+  to_odd = w.to_odd ++ says false w.even m;
+  to_even = wire_after w.even w.to_even m;
+}
+
+-- a list of steps, the first one first
+abbrev pub run : List Step → World → World
+run [] w = w
+run (e ∷ es) w = run es (happens w e)
+
+-- nothing happened to the number
+abbrev pub untouched : Part
+untouched = record { slot = Unseen; got = []; ended = false; let_go = false; lost = false; asked = false }
+
+-- a new side
+abbrev pub beginning : ℕ → Actor
+beginning n = record { part = λ c. untouched; sent = λ c. []; next = n; finished = false; failed = false; taken = [] }
+
+-- two new sides and an empty link
+abbrev pub start : World
+start = record { odd = beginning 1; even = beginning 2; to_odd = []; to_even = [] }
+
+-- the second list is the first with more behind it
+abbrev pub IsPrefixOf : List Tree → List Tree → Type 0
+IsPrefixOf xs ys = (more : List Tree) × (xs ++ more ≡ ys)
+
+-- one direction on one number: what a side was handed, what its peer sent, and all that the peer said about the number
+pub record Law (p : Part) (sent : List Tree) (said : List Note) : Type 0 where
+  pub prefix : IsPrefixOf p.got sent
+  pub whole : p.ended ≡ true → p.let_go ≡ false → p.lost ≡ false → p.got ≡ before_end said
+  pub end_came : p.ended ≡ true → p.let_go ≡ false → p.lost ≡ false → has_end said ≡ true
+
+-- both directions, at each number
+pub record PairLaw (w : World) : Type 0 where
+  pub to_even : (c : ℕ) → Law (w.even.part c) (w.odd.sent c) (all_notes c (w.even.taken ++ w.to_even))
+  pub to_odd : (c : ℕ) → Law (w.odd.part c) (w.even.sent c) (all_notes c (w.odd.taken ++ w.to_odd))
