@@ -1,0 +1,4 @@
+pub mod Lists
+pub mod NoCalls
+pub mod ReadBack
+pub mod WordBytes
