@@ -1,4 +1,3 @@
-pub mod Lists
-pub mod NoCalls
 pub mod ReadBack
+pub mod Tuples
 pub mod WordBytes

@@ -33,7 +33,7 @@ order_read (Steal ns) h = ap (option_map Steal) (indices_read ns h)
 order_read Shutdown h = refl
 
 done_read : (n ms : ℕ) (o : Outcome) (found : Option Outcome) → n < 4294967296 → ms < 18446744073709551616 → found ≡ Some o
-  → option_and_then (λ k. both (Done k) found (number_below 18446744073709551616 (pos ms))) (number_below 4294967296 (pos n)) ≡ Some (Done n o ms)
+    → option_and_then (λ k. both (Done k) found (number_below 18446744073709551616 (pos ms))) (number_below 4294967296 (pos n)) ≡ Some (Done n o ms)
 done_read n ms o found lt small e = rw (lt-ltb n 4294967296 lt, lt-ltb ms 18446744073709551616 small, e) refl
 
 again : (t : Option Tree) (u : Tree) (e : Option What) → t ≡ Some u → option_and_then tree_event t ≡ e → tree_event u ≡ e

@@ -75,7 +75,7 @@ outcome_by word code =
 abbrev pub outcome_at : Pairs → Option Outcome
 outcome_at ps =
     option_and_then (λ word. option_and_then (outcome_by word) (option_and_then integer_of (value_at (codes "code") ps)))
-        (option_and_then text_of (value_at (codes "outcome") ps))
+    (option_and_then text_of (value_at (codes "outcome") ps))
 
 -- the milliseconds under the key `duration`: an integer from 0 to 18446744073709551615
 abbrev pub duration_at : Pairs → Option ℕ

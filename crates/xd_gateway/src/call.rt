@@ -24,10 +24,10 @@ pub(crate) fn call_of(value: &Value) -> Option<Call<'_>>
     let Value::Tuple(items) = value else {
         return None;
     };
-    match items.as_slice() {
-        [name, kwargs] => call_by(name, kwargs),
-        _ => None,
+    if items.len() != 2 {
+        return None;
     }
+    call_by(&items[0], &items[1])
 }
 
 /// The call of a text with a dict that has text keys.
@@ -70,4 +70,3 @@ pub(crate) fn call_value(
     let items = vec![in alloc; name, Value::Dict(kwargs)]?;
     Ok(Value::Tuple(items))
 }
-

@@ -56,12 +56,7 @@ fn log_start_value(alloc: Global, index: u32, log: u32) -> Result<Value, OutOfMe
     call_value(alloc, "logstart", kwargs)
 }
 
-fn done_value(
-    alloc: Global,
-    index: u32,
-    outcome: Outcome,
-    ms: u64,
-) -> Result<Value, OutOfMemory>
+fn done_value(alloc: Global, index: u32, outcome: Outcome, ms: u64) -> Result<Value, OutOfMemory>
     ensures { IfOk result (λ v. event_tree (What.Done index outcome ms) ≡ Some (view v)) }
 {
     let kwargs = done_kwargs(alloc, index, outcome, ms)?;

@@ -2,7 +2,7 @@ use Rattle.std.proofs.Common.{sym, ap, ap₂, ◌∙◌}
 use Rattle.xd_value.specs.View.{view, pair_views}
 use Rattle.xd_value.proofs.Walks.{view-Text, view-Dict}
 use Rattle.xd_gateway.specs.Calls.{has_text_keys, call_by}
-use Rattle.xd_gateway.proofs.NoCalls.{other_keys}
+use Rattle.xd_gateway.proofs.Tuples.{other_keys}
 use Rattle.xd_gateway.proofs.call.call_by.Goals as goal
 
 pub returns-else-have_text_keys : goal.returns-else-have_text_keys

@@ -6,5 +6,5 @@ use Rattle.xd_gateway.proofs.word.is_word.Goals as goal
 
 pub returns : goal.returns
 returns c =
-    let e : c.eq.result ≡ bytes_eq c.as_str.result.now c.args.word.now = search (rules, bytes_eq-Decides) in
+    let e : c.eq.result ≡ bytes_eq c.as_str.result.now c.args.word.now = search rules in
     e ∙ word_same _ _ c.as_str.utf8 c.requires ∙ ap (λ t. bytes_eq t c.args.word.now) c.as_str.ensures.characters
