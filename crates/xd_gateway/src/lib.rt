@@ -16,3 +16,8 @@ pub use events::{event_value, value_event};
 pub use laws::{event_law, order_law};
 pub use order::Order;
 pub use orders::{order_value, value_order};
+
+#[cfg(test)]
+mod payloads;
+#[cfg(test)]
+mod tests;
