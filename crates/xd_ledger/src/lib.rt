@@ -3,10 +3,12 @@
 
 mod entry;
 mod journal;
+mod news;
 mod settings;
 
 pub use entry::{Cause, Entry, Ids, Outcome, RunStop};
 pub use journal::Journal;
+pub use news::{News, What};
 pub use settings::Settings;
 
 #[cfg(test)]

@@ -1,0 +1,5 @@
+pub mod Words
+pub mod Calls
+pub mod Kwargs
+pub mod Orders
+pub mod Events

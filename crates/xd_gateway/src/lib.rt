@@ -1,0 +1,23 @@
+//! Commands to workers and their events, as the values that travel on a channel.
+//!
+//! Each is a call by name: a tuple of a text and a dict with text keys.
+#![tactic(auto)]
+
+mod call;
+mod events;
+mod kwargs;
+mod laws;
+mod order;
+mod orders;
+mod outcome;
+mod word;
+
+pub use events::{event_value, value_event};
+pub use laws::{event_law, order_law};
+pub use order::Order;
+pub use orders::{order_value, value_order};
+
+#[cfg(test)]
+mod payloads;
+#[cfg(test)]
+mod tests;
