@@ -1,6 +1,6 @@
 -- One end of a channel: what stands, what each call answers, and what it leaves.
 -- After the class Channel of execnet's gateway_base.py.
-use Rattle.std.specs.Prelude.{◌≡◌, ◌||◌, ◌&&◌, not, is_none, is_some, ℕ, List, [], ◌∷◌, ◌++◌, Bool, true, false, Option, Some, None, Result, Ok, Err, if◌then◌else◌}
+use Rattle.std.specs.Prelude.{◌||◌, ◌&&◌, not, is_none, is_some, ℕ, List, [], ◌∷◌, ◌++◌, Bool, true, false, Option, Some, None, Result, Ok, Err, if◌then◌else◌}
 use Rattle.xd_channel.specs.declared.end.End.{End}
 use Rattle.xd_channel.specs.declared.end.End.TheVariants.{Closed, LastMessage, Error, Lost}
 use Rattle.xd_channel.specs.declared.answers.Got.{Got}

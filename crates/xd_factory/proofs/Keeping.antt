@@ -1,11 +1,11 @@
 -- Each call keeps that a side is as its history leaves it.
-use Rattle.std.proofs.Common.{◌≡◌, ℕ, List, [], ◌∷◌, ◌++◌, Bool, true, false, Option, Some, None, Result, Ok, Err, refl, sym, ap, subst, ◌∙◌, arith, inl, inr}
-use Rattle.std.specs.Prelude.{◌==◌, ◌||◌, ◌⊎◌, map, if◌then◌else◌}
+use Rattle.std.proofs.Common.{◌≡◌, ℕ, List, ◌∷◌, Bool, true, false, Option, Some, None, Result, Ok, Err, refl, sym, ap, subst, ◌∙◌, inl, inr}
+use Rattle.std.specs.Prelude.{◌==◌, map, if◌then◌else◌}
 use Rattle.std.proofs.lemmas.Bool.{eqb-true}
 use Rattle.xd_value.specs.Tree.{Tree}
 use Rattle.xd_value.specs.View.{view}
 use Rattle.xd_value.specs.declared.value.Value.{Value}
-use Rattle.xd_channel.specs.State.{EndState, fresh, end_of, hook_gives, receive_gives, got_of}
+use Rattle.xd_channel.specs.State.{EndState, fresh, end_of, hook_gives, got_of}
 use Rattle.xd_channel.specs.History.{Arrive, Peer_close, Peer_last, Lose, Close as Close_end, Give_up, Set_callback, Receive}
 use Rattle.xd_channel.specs.declared.end.End.{End}
 use Rattle.xd_channel.specs.declared.answers.Got.{Got}
@@ -18,11 +18,11 @@ use Rattle.xd_factory.specs.declared.taken.Taken.{Taken}
 use Rattle.xd_factory.specs.declared.faults.HookFault.{HookFault}
 use Rattle.xd_factory.specs.declared.faults.HookFault.TheVariants as hook
 use Rattle.xd_factory.specs.Numbers.{is_mine, is_in}
-use Rattle.xd_factory.specs.Said.{Said, Status, Exec, Data, Close, Last, Terminate, names_of, names_in}
+use Rattle.xd_factory.specs.Said.{Said, Status, Exec, Data, Close, Last, Terminate, names_in}
 use Rattle.xd_factory.specs.Slot.{Slot, Unseen, Here, Gone, named_slot, item_slot, item_gives, peer_closed_slot, peer_last_slot, lost_slot, closed_slot, given_up_slot, function_ended_slot, received_slot, receive_answer, hooked_slot, hook_fault, hook_items, hook_end}
 use Rattle.xd_factory.specs.Trees.{IsGot, got_tree, received_trees, hooked_trees}
-use Rattle.xd_factory.specs.Table.{heard_slot, told_slot, named_in, arrived_answer, answer_of, OpensAtMost}
-use Rattle.xd_factory.specs.History.{Act, Opened, Took, Failed, Closed, Let_go, Function_ended, Hooked, Received, Link_lost, Deed, Opens, named_deeds, on_end, ended_deeds, function_deeds, arrived_of, told_deeds, took_deeds, deeds, SlotStands, AllStand}
+use Rattle.xd_factory.specs.Table.{heard_slot, named_in, arrived_answer, answer_of, OpensAtMost}
+use Rattle.xd_factory.specs.History.{Act, Opened, Took, Failed, Closed, Let_go, Function_ended, Hooked, Received, Link_lost, Deed, Opens, named_deeds, on_end, ended_deeds, function_deeds, arrived_of, took_deeds, deeds, SlotStands, AllStand}
 use Rattle.xd_factory.proofs.Naming.{own_named}
 use Rattle.xd_factory.proofs.Tracing.{closed_stands, given_up_stands, lost_stands, function_stands, received_stands, hooked_stands, told_got, told_hook, opened_stands, named_stands, item_stands, peer_closed_stands, peer_last_stands}
 

@@ -1,6 +1,6 @@
 -- What the reading of a payload makes of a message.
-use Rattle.std.proofs.Common.{◌≡◌, ℕ, ◌≤◌, List, [], ◌∷◌, ◌++◌, Bool, true, false, Option, Some, None, Result, Ok, Err, refl, sym, ap, subst, ◌∙◌, arith}
-use Rattle.std.specs.Prelude.{◌==◌, ◌&&◌, IfOk, IfErr}
+use Rattle.std.proofs.Common.{◌≡◌, ℕ, ◌≤◌, List, [], ◌∷◌, true, false, Some, None, Result, Ok, Err, refl, sym, ap, subst, ◌∙◌}
+use Rattle.std.specs.Prelude.{◌==◌}
 use Rattle.std.proofs.lemmas.Bool.{and_parts}
 use Rattle.xd_value.specs.Tree.{Tree, text}
 use Rattle.xd_value.specs.View.{view}
@@ -18,8 +18,8 @@ use Rattle.xd_factory.specs.declared.word.Word.TheVariants as word
 use Rattle.xd_factory.specs.declared.faults.SideFault.{SideFault}
 use Rattle.xd_factory.specs.declared.faults.SideFault.TheVariants as fault
 use Rattle.xd_factory.specs.Numbers.{is_in}
-use Rattle.xd_factory.specs.Said.{Said, Status, Exec, Data, Close, Last, Terminate, Means, Misread, IsMisread, IsFault, said_of, names_of, mentions, is_text, is_unnumbered, is_numbered, is_read}
-use Rattle.xd_factory.specs.Reads.{ValueReads, TextReads, MessageReads, IsReadAs, IsUnread, IsNoText, IsReadText, IsSaid}
+use Rattle.xd_factory.specs.Said.{Exec, Data, Close, Misread, IsMisread, IsFault, is_text, is_unnumbered, is_numbered, is_read}
+use Rattle.xd_factory.specs.Reads.{ValueReads, TextReads, MessageReads}
 use Rattle.xd_factory.proofs.Bounds.{payload_small, both_small, one_small}
 
 -- a payload that was refused

@@ -1,10 +1,10 @@
 -- Each reason for which a message is refused is told.
-use Rattle.std.proofs.Common.{◌≡◌, ℕ, ◌+◌, ◌<◌, ◌≤◌, List, Bool, Result, Ok, Err, refl, ap, subst, sym, ◌∙◌, arith}
+use Rattle.std.proofs.Common.{◌≡◌, ℕ, ◌+◌, ◌<◌, ◌≤◌, Bool, Result, Ok, Err, refl, subst, sym, arith}
 use Rattle.xd_frame.specs.Message.{MessageView}
 use Rattle.xd_factory.specs.declared.word.Word.{Word}
 use Rattle.xd_factory.specs.declared.faults.SideFault.{SideFault}
 use Rattle.xd_factory.specs.declared.faults.SideFault.TheVariants as fault
-use Rattle.xd_factory.specs.Said.{Said, Means, said_of, names_of, IsFault}
+use Rattle.xd_factory.specs.Said.{Said, said_of, names_of, IsFault}
 use Rattle.xd_factory.specs.Reads.{MessageReads}
 use Rattle.xd_factory.specs.Table.{opened_count, Refused, IsHearFault}
 

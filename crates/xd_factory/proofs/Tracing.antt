@@ -1,28 +1,17 @@
 -- What stands at a number is what its history leaves, call by call.
-use Rattle.std.proofs.Common.{◌≡◌, ℕ, List, [], ◌∷◌, ◌++◌, Bool, true, false, Option, Some, None, Result, Ok, Err, refl, sym, ap, subst, ◌∙◌, arith}
-use Rattle.std.specs.Prelude.{◌==◌, ◌||◌, ◌&&◌, ◌⊎◌, not, map, if◌then◌else◌}
-use Rattle.std.proofs.lemmas.Bool.{eqb-true, and_parts}
+use Rattle.std.proofs.Common.{◌≡◌, ℕ, List, [], ◌∷◌, Bool, true, false, Option, Result, refl, sym, ap, subst, ◌∙◌}
+use Rattle.std.specs.Prelude.{◌&&◌, not, if◌then◌else◌}
 use Rattle.xd_value.specs.Tree.{Tree}
-use Rattle.xd_channel.specs.State.{EndState, fresh, is_done, end_of, arrive_gives, after_arrive, after_put, after_peer_close, after_close, after_give_up, after_hook, hook_gives, receive_gives, after_receive, got_of}
+use Rattle.xd_channel.specs.State.{EndState, fresh, is_done, end_of, arrive_gives, after_arrive, after_put, after_peer_close, after_close, after_give_up, after_hook, hook_gives, receive_gives, after_receive}
 use Rattle.xd_channel.specs.History.{Call, Arrive, Peer_close, Peer_last, Lose, Close as Close_end, Give_up, Set_callback, Receive, send_open, given, Stands}
 use Rattle.xd_channel.specs.declared.end.End.{End}
 use Rattle.xd_channel.specs.declared.end.End.TheVariants.{LastMessage, Lost}
 use Rattle.xd_channel.specs.declared.answers.Got.{Got}
-use Rattle.xd_channel.specs.declared.answers.Arrived.{Arrived}
 use Rattle.xd_channel.specs.declared.answers.Arrived.TheVariants as arrived
 use Rattle.xd_channel.specs.declared.answers.HasCallback.{HasCallback}
 use Rattle.xd_channel.proofs.Ends.{stands-fresh, stands-arrive, stands-peer_close, stands-peer_last, stands-lost, stands-close, stands-give_up, stands-hook, stands-receive}
-use Rattle.xd_factory.specs.declared.parity.Parity.{Parity}
-use Rattle.xd_factory.specs.declared.taken.Taken.{Taken}
-use Rattle.xd_factory.specs.declared.taken.Taken.TheVariants as taken
-use Rattle.xd_factory.specs.declared.faults.HookFault.{HookFault}
-use Rattle.xd_factory.specs.declared.faults.HookFault.TheVariants as hook
-use Rattle.xd_factory.specs.Numbers.{is_mine, is_in}
-use Rattle.xd_factory.specs.Said.{Said, Status, Exec, Data, Close, Last, Terminate, names_of, names_in}
-use Rattle.xd_factory.specs.Slot.{Slot, Unseen, Here, Gone, settled, named_slot, item_slot, item_gives, peer_closed_slot, peer_last_slot, lost_slot, closed_slot, given_up_slot, function_ended_slot, received_slot, receive_answer, hooked_slot, hook_items, hook_end}
-use Rattle.xd_factory.specs.Table.{heard_slot, told_slot, named_in, arrived_answer, answer_of, OpensAtMost}
-use Rattle.xd_factory.specs.History.{Act, Opened, Took, Failed, Closed, Let_go, Function_ended, Hooked, Received, Link_lost, Deed, Opens, On, Shuts, calls, was_shut, has_left, is_open, is_untouched, named_deeds, on_end, ended_deeds, function_deeds, arrived_of, told_deeds, took_deeds, deeds, HereStands, GoneStands, SlotStands, AllStand}
-use Rattle.xd_factory.proofs.Naming.{own_named}
+use Rattle.xd_factory.specs.Slot.{Slot, Unseen, Here, Gone, settled, named_slot, item_slot, item_gives, peer_closed_slot, peer_last_slot, lost_slot, closed_slot, given_up_slot, function_ended_slot, received_slot, hooked_slot}
+use Rattle.xd_factory.specs.History.{Deed, Opens, On, Shuts, calls, was_shut, has_left, is_open, named_deeds, on_end, ended_deeds, function_deeds, HereStands, GoneStands, SlotStands}
 
 -- a call on an end that is in the table
 on_open : (k : Call Tree) (d : List Deed) → is_open d ≡ true → on_end k d ≡ On k ∷ d

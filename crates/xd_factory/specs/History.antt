@@ -1,6 +1,6 @@
 -- What a list of calls of a side, and of messages that it took, means for one number. A history has its newest call
 -- first. It is said without the table: what came on the number's end since it opened, as in the history of an end.
-use Rattle.std.specs.Prelude.{◌≡◌, ℕ, ◌==◌, ◌||◌, ◌&&◌, not, List, [], ◌∷◌, Bool, true, false, Option, Result, Ok, Err, if◌then◌else◌}
+use Rattle.std.specs.Prelude.{◌≡◌, ℕ, ◌==◌, ◌&&◌, not, List, [], ◌∷◌, Bool, true, false, Option, Result, if◌then◌else◌}
 use Rattle.xd_value.specs.Tree.{Tree}
 use Rattle.xd_channel.specs.State.{EndState}
 use Rattle.xd_channel.specs.History.{Call, Arrive, Peer_close, Peer_last, Lose, Close as Close_end, Give_up, Set_callback, Receive, send_open, given, Stands}

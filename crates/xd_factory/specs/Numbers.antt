@@ -1,6 +1,6 @@
 -- The numbers of channels. The side that started a link opens the odd ones and the other side the even ones, as in
 -- execnet's gateway_base.py.
-use Rattle.std.specs.Prelude.{ℕ, ◌==◌, ◌%◌, ◌||◌, ◌&&◌, not, nat_lt, List, [], ◌∷◌, Bool, true, false, if◌then◌else◌}
+use Rattle.std.specs.Prelude.{ℕ, ◌==◌, ◌%◌, ◌||◌, ◌&&◌, not, nat_lt, List, [], ◌∷◌, Bool, false, if◌then◌else◌}
 use Rattle.std.specs.Ordering.{nat_cmp}
 use Rattle.std.specs.BTreeSet as set
 use Rattle.std.specs.BTreeSet.{BTreeSet}

@@ -1,5 +1,5 @@
 -- What reading a message or a payload answers: what is read, that only it is, why not, and that a fault is told.
-use Rattle.std.specs.Prelude.{◌≡◌, ◌≤◌, ℕ, List, Bool, true, false, Option, Some, None, Result, Ok, Err, IfOk, IfErr}
+use Rattle.std.specs.Prelude.{◌≡◌, ◌≤◌, ℕ, List, true, false, Result, Ok, Err, IfOk, IfErr}
 use Rattle.xd_value.specs.Tree.{Tree, text}
 use Rattle.xd_value.specs.View.{view}
 use Rattle.xd_value.specs.Payload.{IsPayload, FirstFault}

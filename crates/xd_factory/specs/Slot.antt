@@ -1,6 +1,6 @@
 -- What a side has at one number, and what each call and each message makes of it. After execnet's gateway_base.py;
 -- that an entry leaves the table for good is a choice of this project.
-use Rattle.std.specs.Prelude.{ℕ, ◌||◌, ◌&&◌, not, List, [], ◌∷◌, Bool, true, false, Option, Some, None, Result, Ok, Err, if◌then◌else◌}
+use Rattle.std.specs.Prelude.{not, List, [], Bool, true, false, Option, Some, None, Result, Ok, Err, if◌then◌else◌}
 use Rattle.xd_channel.specs.State.{EndState, fresh, arrive_gives, after_arrive, put_gives, after_put, after_peer_close, after_close, give_up_gives, after_give_up, after_hook, got_of, after_receive, is_done}
 use Rattle.xd_channel.specs.declared.answers.GivenUp.{GivenUp}
 use Rattle.xd_channel.specs.declared.answers.GivenUp.TheVariants as given_up

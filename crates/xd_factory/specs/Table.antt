@@ -4,7 +4,7 @@ use Rattle.xd_value.specs.Tree.{Tree, text}
 use Rattle.xd_value.specs.Canonical.{canonical}
 use Rattle.xd_value.specs.declared.writing.DumpFault.{DumpFault}
 use Rattle.xd_value.specs.declared.writing.DumpFault.TheVariants as dump
-use Rattle.xd_channel.specs.State.{EndState, end_of, put_gives, close_gives}
+use Rattle.xd_channel.specs.State.{end_of, put_gives, close_gives}
 use Rattle.xd_channel.specs.declared.answers.Closing.{Closing}
 use Rattle.xd_channel.specs.declared.answers.Closing.TheVariants as closing
 use Rattle.xd_channel.specs.declared.answers.GivenUp.{GivenUp}
@@ -13,7 +13,6 @@ use Rattle.xd_channel.specs.declared.answers.Arrived.{Arrived}
 use Rattle.xd_channel.specs.declared.answers.Arrived.TheVariants as arrived
 use Rattle.xd_channel.specs.declared.end.End.{End}
 use Rattle.xd_channel.specs.declared.end.End.TheVariants.{LastMessage}
-use Rattle.xd_frame.specs.declared.kind.Kind.{Kind}
 use Rattle.xd_frame.specs.declared.kind.Kind.TheVariants as kind
 use Rattle.xd_frame.specs.Message.{MessageView}
 use Rattle.xd_factory.specs.declared.parity.Parity.{Parity}

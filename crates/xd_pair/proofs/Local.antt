@@ -1,18 +1,15 @@
 -- What one side keeps on one number, as its calls are made and notes come.
-use Rattle.std.proofs.Common.{◌≡◌, ℕ, List, [], ◌∷◌, ◌++◌, Bool, true, false, Option, Some, None, Result, Ok, Err, refl, sym, ap, subst, ◌∙◌, arith, append_assoc}
-use Rattle.std.specs.Prelude.{is_some, is_none, ◌||◌, ◌&&◌, not, if◌then◌else◌}
+use Rattle.std.proofs.Common.{◌≡◌, ℕ, List, [], ◌∷◌, ◌++◌, Bool, true, false, Option, Some, None, refl, sym, ap, subst, ◌∙◌, append_assoc}
+use Rattle.std.specs.Prelude.{is_some, ◌||◌, not, if◌then◌else◌}
 use Rattle.std.proofs.lemmas.List.{append-nil}
-use Rattle.std.proofs.lemmas.Grind.{common_steps}
 use Rattle.xd_channel.specs.declared.end.End.{End}
 use Rattle.xd_channel.specs.declared.end.End.TheVariants.{Closed, LastMessage, Error, Lost}
-use Rattle.xd_channel.specs.State.{EndState, fresh, arrive_gives, after_arrive, put_gives, after_put, after_peer_close, end_of, once_given, given_marker, marker_or, close_gives, after_close, give_up_gives, after_give_up, after_hook, receive_gives, after_receive, is_done}
-use Rattle.xd_channel.specs.History.{handed, received}
+use Rattle.xd_channel.specs.State.{EndState, fresh, arrive_gives, after_arrive, put_gives, after_put, after_peer_close, end_of, once_given, after_close, after_give_up, after_hook, after_receive, is_done}
+use Rattle.xd_channel.specs.History.{handed}
 use Rattle.xd_value.specs.Tree.{Tree}
-use Rattle.xd_factory.specs.Slot.{Slot, Unseen, Here, Gone, settled, opened_slot, closed_slot, function_ended_slot, given_up_slot, received_slot, receive_answer, hooked_slot, hook_items, hook_end, lost_slot, lost_gives, named_slot, item_slot, item_gives, peer_closed_slot, peer_last_slot, end_gives}
-use Rattle.xd_factory.specs.Numbers.{is_in, is_odd}
-use Rattle.xd_pair.specs.Notes.{owns}
-use Rattle.xd_pair.specs.Notes.{Note, Named, Item, Ends, Lasts, Asked, items, before_end, has_end}
-use Rattle.xd_pair.specs.Side.{Part, is_orderly, is_lost, gives, heard_in, heard, heard_all, opened_in, received_in, hooked_in, closed_in, ended_in, given_up_in, lost_in, end_in, item_in}
+use Rattle.xd_factory.specs.Slot.{Slot, Unseen, Here, Gone, settled, receive_answer, named_slot}
+use Rattle.xd_pair.specs.Notes.{Note, Named, Item, Ends, Lasts, Asked, before_end, has_end}
+use Rattle.xd_pair.specs.Side.{Part, is_orderly, is_lost, heard_in, heard, heard_all, opened_in, received_in, hooked_in, closed_in, ended_in, given_up_in, lost_in, end_in, item_in}
 use Rattle.xd_factory.specs.Slot.{is_seen}
 use Rattle.xd_pair.proofs.NotesLemmas.{open_append, ended_append, has_end-append, still_ended, open_or_ended, grows, longer}
 

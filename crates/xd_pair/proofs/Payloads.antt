@@ -1,6 +1,6 @@
 -- Where the messages of the law and those of the link meet: what a call answers means the word that the law says, and
 -- a message means one word.
-use Rattle.std.proofs.Common.{◌≡◌, ℕ, ◌≤◌, List, [], ◌∷◌, ◌++◌, length, Bool, true, false, Option, Some, None, refl, sym, ap, subst, ◌∙◌}
+use Rattle.std.proofs.Common.{◌≡◌, ℕ, ◌≤◌, List, [], length, Bool, true, false, Some, None, refl, sym, ap, ◌∙◌}
 use Rattle.std.specs.Prelude.{◌==◌, ◌&&◌}
 use Rattle.std.proofs.lemmas.List.{append-nil}
 use Rattle.xd_value.specs.Tree.{Tree, text}
@@ -11,7 +11,7 @@ use Rattle.xd_value.proofs.CanonicalSpelling.{canonical_is}
 use Rattle.xd_frame.specs.declared.kind.Kind.{Kind}
 use Rattle.xd_frame.specs.declared.kind.Kind.TheVariants as kind
 use Rattle.xd_frame.specs.Message.{MessageView}
-use Rattle.xd_factory.specs.Said.{Said, Status, Exec, Data, Close, Last, Terminate, Means, SaysBy, is_unnumbered, is_numbered}
+use Rattle.xd_factory.specs.Said.{Said, Exec, Data, Close, Last, Means, SaysBy}
 use Rattle.xd_factory.specs.Table.{closing_message, last_message}
 
 numbered : (n : ℕ) (b : Bool) → (n == 0) ≡ false → ((n == 0) && b) ≡ false

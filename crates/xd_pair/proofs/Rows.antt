@@ -1,15 +1,10 @@
 -- Histories that compute: two channels, one of them named in a value.
-use Rattle.std.proofs.Common.{◌≡◌, ℕ, List, [], ◌∷◌, ◌++◌, Bool, true, false, Option, Some, None, refl}
+use Rattle.std.proofs.Common.{◌≡◌, List, [], ◌∷◌, ◌++◌, true, false, None, refl}
 use Rattle.std.specs.Prelude.{pos}
-use Rattle.xd_value.specs.Tree.{Tree, int, channel}
-use Rattle.xd_value.specs.Channels.{channels}
-use Rattle.xd_factory.specs.Slot.{Slot, Unseen, Here, Gone, settled, opened_slot, closed_slot, function_ended_slot, given_up_slot, received_slot, receive_answer, hooked_slot, hook_items, hook_end, lost_slot, lost_gives, named_slot, item_slot, item_gives, peer_closed_slot, peer_last_slot, end_gives}
-use Rattle.xd_factory.specs.Numbers.{is_in, is_odd}
-use Rattle.xd_pair.specs.Notes.{owns}
-use Rattle.xd_factory.specs.Said.{Said, Data}
+use Rattle.xd_value.specs.Tree.{int, channel}
+use Rattle.xd_factory.specs.Slot.{Gone}
 use Rattle.xd_pair.specs.Notes.{all_notes, Lasts, Item, Ends}
-use Rattle.xd_pair.specs.Side.{Part}
-use Rattle.xd_pair.specs.Pair.{Actor, World, Move, Open, Send, Call, Ask, Answer, Stop, Close_own, End_function, Give_up, Receive, Set_callback, Take, Refuse, Finish, Step, Odd, Even, happens, run, start}
+use Rattle.xd_pair.specs.Pair.{Open, Send, Ask, Answer, Close_own, Give_up, Receive, Set_callback, Take, Step, Odd, Even, run, start}
 
 abbrev two_channels : List Step
 two_channels = Odd Open ∷ Odd Open ∷ Odd (Send 1 (channel 3)) ∷ Odd (Send 3 (int (pos 7))) ∷ Even Take ∷ Even Take ∷ Even (Receive 1) ∷ Even (Receive 3) ∷ Even (Receive 3) ∷ []

@@ -1,5 +1,5 @@
 -- What a side says and does about a number, by what it knows of it.
-use Rattle.std.proofs.Common.{◌≡◌, ℕ, ◌+◌, List, [], ◌∷◌, ◌++◌, Bool, true, false, Option, Some, None, refl, sym, ap, subst, ◌∙◌, arith, append_assoc}
+use Rattle.std.proofs.Common.{◌≡◌, ℕ, ◌+◌, List, [], ◌∷◌, ◌++◌, Bool, true, false, Option, None, refl, sym, ap, subst, ◌∙◌, append_assoc}
 use Rattle.std.specs.Prelude.{◌==◌, ◌||◌, ◌&&◌, not, if◌then◌else◌}
 use Rattle.std.proofs.lemmas.Bool.{eqb-true, and_parts, and_right}
 use Rattle.std.proofs.lemmas.List.{append-nil}
@@ -7,19 +7,19 @@ use Rattle.xd_channel.specs.declared.answers.Closing.{Closing}
 use Rattle.xd_channel.specs.declared.answers.Closing.TheVariants as closing
 use Rattle.xd_channel.specs.declared.answers.GivenUp.{GivenUp}
 use Rattle.xd_channel.specs.declared.answers.GivenUp.TheVariants as given_up
-use Rattle.xd_channel.specs.State.{EndState, fresh, close_gives, give_up_gives, after_receive, after_hook, after_close, after_give_up, after_put}
+use Rattle.xd_channel.specs.State.{close_gives, give_up_gives, after_receive, after_hook, after_close, after_give_up, after_put}
 use Rattle.xd_channel.specs.declared.end.End.TheVariants.{Lost}
 use Rattle.xd_value.specs.Tree.{Tree}
 use Rattle.xd_value.specs.Channels.{channels}
-use Rattle.xd_factory.specs.Slot.{Slot, Unseen, Here, Gone, settled, opened_slot, closed_slot, function_ended_slot, given_up_slot, received_slot, receive_answer, hooked_slot, hook_items, hook_end, lost_slot, lost_gives, named_slot, item_slot, item_gives, peer_closed_slot, peer_last_slot, end_gives}
-use Rattle.xd_factory.specs.Numbers.{is_in, is_odd}
+use Rattle.xd_factory.specs.Slot.{Slot, Unseen, Here, Gone, settled, opened_slot, closed_slot, function_ended_slot, given_up_slot, received_slot, hooked_slot, lost_slot, named_slot}
+use Rattle.xd_factory.specs.Numbers.{is_in}
 use Rattle.xd_pair.specs.Notes.{owns}
-use Rattle.xd_factory.specs.Said.{Said, Status, Exec, Data, Close, Last, Terminate}
+use Rattle.xd_factory.specs.Said.{Said, Status, Exec, Data, Close}
 use Rattle.xd_pair.specs.Notes.{Note, Named, Item, Ends, Lasts, Asked, named, notes, all_notes, items}
-use Rattle.xd_pair.specs.Side.{Part, heard, heard_in, heard_all, opened_in, received_in, hooked_in, closed_in, ended_in, given_up_in, lost_in, gives, closing_says, close_says, end_says, giving_says, give_up_says, may_send}
+use Rattle.xd_pair.specs.Side.{Part, heard, heard_all, opened_in, received_in, hooked_in, closed_in, ended_in, given_up_in, closing_says, close_says, end_says, giving_says, give_up_says, may_send}
 use Rattle.xd_factory.specs.Slot.{is_seen, is_here}
-use Rattle.xd_pair.specs.Pair.{Actor, Move, Open, Send, Call, Ask, Answer, Stop, Close_own, End_function, Give_up, Receive, Set_callback, Take, Refuse, Finish, is_told, has_notes, named_in, knows, at, adds, can_send, can_call, can_answer, can_open, takes, rest, says, after, wire_after}
-use Rattle.xd_pair.proofs.NotesLemmas.{all_notes-append, items-append, open_or_ended}
+use Rattle.xd_pair.specs.Pair.{Actor, Move, Open, Send, Call, Ask, Answer, Stop, Close_own, End_function, Give_up, Receive, Set_callback, Take, Refuse, Finish, is_told, has_notes, named_in, knows, at, adds, can_send, can_call, can_answer, can_open, takes, says, after}
+use Rattle.xd_pair.proofs.NotesLemmas.{open_or_ended}
 use Rattle.xd_pair.proofs.Local.{settled_seen, seen_in}
 
 -- a number that is not seen differs from one that is

@@ -1,19 +1,18 @@
 -- The invariant of two sides and their link, kept by every step, and the law that it gives.
-use Rattle.std.proofs.Common.{◌≡◌, ℕ, ◌+◌, List, [], ◌∷◌, ◌++◌, Bool, true, false, Option, Some, None, refl, sym, ap, subst, ◌∙◌, arith, append_assoc}
+use Rattle.std.proofs.Common.{◌≡◌, ℕ, ◌+◌, List, [], ◌∷◌, ◌++◌, Bool, true, false, refl, sym, ap, subst, ◌∙◌, append_assoc}
 use Rattle.std.specs.Prelude.{◌==◌, ◌||◌, ◌&&◌, not, if◌then◌else◌}
 use Rattle.std.proofs.lemmas.List.{append-nil}
 use Rattle.xd_value.specs.Tree.{Tree}
-use Rattle.xd_value.specs.Channels.{channels}
-use Rattle.xd_factory.specs.Slot.{Slot, Unseen, Here, Gone, settled, opened_slot, closed_slot, function_ended_slot, given_up_slot, received_slot, receive_answer, hooked_slot, hook_items, hook_end, lost_slot, lost_gives, named_slot, item_slot, item_gives, peer_closed_slot, peer_last_slot, end_gives}
+use Rattle.xd_factory.specs.Slot.{Slot, Unseen, Here, Gone}
 use Rattle.xd_factory.specs.Numbers.{is_in, is_odd}
 use Rattle.xd_pair.specs.Notes.{owns}
 use Rattle.xd_factory.specs.Said.{Said}
 use Rattle.xd_pair.specs.Notes.{Note, notes, all_notes, items, before_end, has_end}
-use Rattle.xd_pair.specs.Side.{Part, heard_all, opened_in, received_in, hooked_in, closed_in, ended_in, given_up_in, lost_in}
+use Rattle.xd_pair.specs.Side.{Part, heard_all, opened_in, received_in, hooked_in, closed_in, ended_in, given_up_in}
 use Rattle.xd_factory.specs.Slot.{is_seen}
-use Rattle.xd_pair.specs.Pair.{Actor, World, Move, Open, Send, Call, Ask, Answer, Stop, Close_own, End_function, Give_up, Receive, Set_callback, Take, Refuse, Finish, is_told, named_in, at, adds, can_send, can_answer, can_open, takes, rest, says, after, wire_after, Step, Odd, Even, happens, run, start, beginning, untouched, IsPrefixOf, Law, PairLaw}
+use Rattle.xd_pair.specs.Pair.{Actor, World, Move, Open, Send, Call, Ask, Answer, Stop, Close_own, End_function, Give_up, Receive, Set_callback, Take, Refuse, Finish, is_told, named_in, at, adds, can_send, can_answer, can_open, takes, rest, says, after, wire_after, Step, Odd, Even, happens, run, start, untouched, IsPrefixOf, Law, PairLaw}
 use Rattle.xd_pair.proofs.NotesLemmas.{all_notes-append, items-append, open_or_ended, ended_append, still_ended, before_items, longer}
-use Rattle.xd_pair.proofs.Local.{named-ok, HereOk, GoneOk, UnseenOk, SlotOk, PartOk, opened-ok, received-ok, hooked-ok, closed-ok, ended-ok, given_up-ok, lost-ok, heard_all-ok}
+use Rattle.xd_pair.proofs.Local.{named-ok, SlotOk, PartOk, opened-ok, received-ok, hooked-ok, closed-ok, ended-ok, given_up-ok, lost-ok, heard_all-ok}
 use Rattle.xd_pair.proofs.Says.{quiet_says, sent_says, seen_back, stays_away, append_empty, if_actor}
 
 -- one side: each number's part fits the notes that were taken

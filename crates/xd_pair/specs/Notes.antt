@@ -1,5 +1,5 @@
 -- What a message says about one number, after execnet's gateway_base.py.
-use Rattle.std.specs.Prelude.{ℕ, ◌==◌, ◌||◌, List, [], ◌∷◌, ◌++◌, Bool, true, false, Option, if◌then◌else◌}
+use Rattle.std.specs.Prelude.{ℕ, ◌==◌, List, [], ◌∷◌, ◌++◌, Bool, true, false, Option, if◌then◌else◌}
 use Rattle.xd_value.specs.Tree.{Tree}
 use Rattle.xd_value.specs.Channels.{channels}
 use Rattle.xd_factory.specs.Numbers.{is_in, is_mine}

@@ -1,13 +1,13 @@
 -- Every history of two sides and the link between them, which hands over whole messages in order, in each direction.
 -- A choice of this project.
-use Rattle.std.specs.Prelude.{◌≡◌, ℕ, ◌==◌, ◌+◌, ◌%◌, ◌||◌, ◌&&◌, not, List, [], ◌∷◌, ◌++◌, Bool, true, false, Option, Some, None, if◌then◌else◌}
+use Rattle.std.specs.Prelude.{◌≡◌, ℕ, ◌==◌, ◌+◌, ◌||◌, ◌&&◌, not, List, [], ◌∷◌, ◌++◌, Bool, true, false, Option, None, if◌then◌else◌}
 use Rattle.xd_value.specs.Tree.{Tree}
 use Rattle.xd_value.specs.Channels.{channels}
-use Rattle.xd_factory.specs.Slot.{Slot, Unseen, Here, Gone, named_slot}
-use Rattle.xd_factory.specs.Numbers.{is_odd, is_in}
+use Rattle.xd_factory.specs.Slot.{Slot, Unseen, named_slot}
+use Rattle.xd_factory.specs.Numbers.{is_in}
 use Rattle.xd_pair.specs.Notes.{owns}
-use Rattle.xd_factory.specs.Said.{Said, Status, Exec, Data, Close, Last, Terminate}
-use Rattle.xd_pair.specs.Notes.{Note, notes, all_notes, items, before_end, has_end}
+use Rattle.xd_factory.specs.Said.{Said, Status, Exec, Data, Close, Terminate}
+use Rattle.xd_pair.specs.Notes.{Note, notes, all_notes, before_end, has_end}
 use Rattle.xd_pair.specs.Side.{Part, heard_all, opened_in, received_in, hooked_in, closed_in, ended_in, given_up_in, lost_in, close_says, end_says, give_up_says, may_send}
 use Rattle.xd_factory.specs.Slot.{is_seen, is_here}
 

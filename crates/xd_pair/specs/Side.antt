@@ -1,23 +1,21 @@
 -- One side in the law: what stands at each number, in the words of the contracts of `Side`, and what was handed out
 -- there. A choice of this project.
-use Rattle.std.specs.Prelude.{ℕ, ◌==◌, ◌+◌, ◌%◌, ◌||◌, ◌&&◌, not, List, [], ◌∷◌, ◌++◌, Bool, true, false, Option, Some, None, Result, Ok, Err, is_some, is_none, if◌then◌else◌}
+use Rattle.std.specs.Prelude.{ℕ, ◌||◌, not, List, [], ◌∷◌, ◌++◌, Bool, true, false, Option, Some, None, Result, Ok, Err}
 use Rattle.xd_channel.specs.declared.end.End.{End}
 use Rattle.xd_channel.specs.declared.end.End.TheVariants.{Closed, LastMessage, Error, Lost}
 use Rattle.xd_channel.specs.declared.answers.Got.{Got}
-use Rattle.xd_channel.specs.declared.answers.HasCallback.{HasCallback}
 use Rattle.xd_channel.specs.declared.answers.Closing.{Closing}
 use Rattle.xd_channel.specs.declared.answers.Closing.TheVariants as closing
 use Rattle.xd_channel.specs.declared.answers.GivenUp.{GivenUp}
 use Rattle.xd_channel.specs.declared.answers.GivenUp.TheVariants as given_up
 use Rattle.xd_channel.specs.declared.answers.Got.TheVariants as got_
-use Rattle.xd_channel.specs.State.{EndState, fresh, arrive_gives, after_arrive, put_gives, after_put, after_peer_close, end_of, close_gives, after_close, give_up_gives, after_give_up, after_hook, receive_gives, after_receive, is_done}
-use Rattle.xd_channel.specs.History.{handed, received}
+use Rattle.xd_channel.specs.State.{end_of, close_gives, give_up_gives}
+use Rattle.xd_channel.specs.History.{handed}
 use Rattle.xd_factory.specs.declared.faults.HookFault.{HookFault}
 use Rattle.xd_value.specs.Tree.{Tree}
-use Rattle.xd_value.specs.Channels.{channels}
-use Rattle.xd_factory.specs.Slot.{is_here, Slot, Unseen, Here, Gone, settled, opened_slot, closed_slot, function_ended_slot, given_up_slot, received_slot, receive_answer, hooked_slot, hook_items, hook_end, lost_slot, lost_gives, named_slot, item_slot, item_gives, peer_closed_slot, peer_last_slot, end_gives}
-use Rattle.xd_factory.specs.Said.{Said, Status, Exec, Data, Close, Last, Terminate}
-use Rattle.xd_pair.specs.Notes.{Note, Named, Item, Ends, Lasts, Asked, notes}
+use Rattle.xd_factory.specs.Slot.{is_here, Slot, Unseen, Here, Gone, opened_slot, closed_slot, function_ended_slot, given_up_slot, received_slot, receive_answer, hooked_slot, hook_items, hook_end, lost_slot, lost_gives, named_slot, item_slot, item_gives, peer_closed_slot, peer_last_slot, end_gives}
+use Rattle.xd_factory.specs.Said.{Said, Close, Last}
+use Rattle.xd_pair.specs.Notes.{Note, Named, Item, Ends, Lasts, Asked}
 
 -- a number at one side, with what happened there
 pub record Part : Type 0 where

@@ -1,4 +1,3 @@
-use Rattle.std.proofs.Common.{Ok, Err}
 use Rattle.xd_factory.specs.View.{slot_of, parity_of}
 use Rattle.xd_factory.proofs.Keeping.{closed_keeps}
 use Rattle.xd_factory.proofs.side.Side.close.Goals as goal

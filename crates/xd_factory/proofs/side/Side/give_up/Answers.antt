@@ -1,6 +1,5 @@
-use Rattle.std.proofs.Common.{Ok, Err}
 use Rattle.xd_factory.specs.View.{slot_of, parity_of}
-use Rattle.xd_factory.proofs.Keeping.{given_up_keeps, same_keeps}
+use Rattle.xd_factory.proofs.Keeping.{given_up_keeps}
 use Rattle.xd_factory.proofs.side.Side.give_up.Goals as goal
 
 pub returns-in-Nothing-clause-history : goal.returns-in-Nothing-clause-history

@@ -1,7 +1,6 @@
 use Rattle.std.proofs.Common.{◌≡◌, Bool, sym, ap, ◌∙◌}
 use Rattle.xd_value.specs.Tree.{Tree}
 use Rattle.xd_value.specs.View.{view}
-use Rattle.xd_channel.specs.declared.answers.Arrived.{Arrived}
 use Rattle.xd_factory.specs.Numbers.{is_mine}
 use Rattle.xd_factory.specs.Slot.{Slot, named_slot, item_gives}
 use Rattle.xd_factory.specs.Table.{named_in, arrived_answer}

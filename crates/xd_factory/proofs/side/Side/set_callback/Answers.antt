@@ -1,4 +1,3 @@
-use Rattle.std.proofs.Common.{Ok, Err}
 use Rattle.xd_factory.specs.View.{slot_of, parity_of}
 use Rattle.xd_factory.proofs.Keeping.{hooked_ok, hooked_err}
 use Rattle.xd_factory.proofs.side.Side.set_callback.Goals as goal

@@ -1,4 +1,4 @@
-use Rattle.std.proofs.Common.{Ok, Err, refl, inl}
+use Rattle.std.proofs.Common.{refl, inl}
 use Rattle.xd_factory.specs.Trees.{taken_tree}
 use Rattle.xd_factory.specs.View.{slot_of, parity_of}
 use Rattle.xd_factory.proofs.Keeping.{took_keeps, failed_keeps}

@@ -1,7 +1,6 @@
-use Rattle.std.proofs.Common.{◌≡◌, List, ℕ, Option, Some, Result, Ok, Err, sym, ap, subst, ◌∙◌}
+use Rattle.std.proofs.Common.{List, ℕ, Err, sym, ap, subst, ◌∙◌}
 use Rattle.xd_value.specs.Tree.{Tree}
 use Rattle.xd_value.specs.Canonical.{dumped, IsDump}
-use Rattle.xd_value.specs.declared.writing.DumpFault.{DumpFault}
 use Rattle.xd_frame.specs.Message.{MessageView}
 use Rattle.xd_frame.specs.declared.kind.Kind.TheVariants.{CloseError}
 use Rattle.xd_factory.proofs.Dumps.{dumped_short, text_dump, text_refused}
