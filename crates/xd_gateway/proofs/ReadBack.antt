@@ -1,6 +1,6 @@
 -- What is written is read back.
-use Rattle.std.proofs.Common.{◌≡◌, ℕ, ◌<◌, Bool, true, false, List, [], ◌∷◌, Option, Some, None, option_map, option_and_then, map, refl, ap, ap₂, sym, ◌∙◌, if◌then◌else◌}
-use Rattle.std.specs.Prelude.{nat_lt, ℤ, pos}
+use Rattle.std.proofs.Common.{◌≡◌, ℕ, suc, ◌<◌, Bool, List, [], ◌∷◌, Option, Some, None, option_map, option_and_then, map, refl, ap, ap₂, sym, ◌∙◌, if◌then◌else◌}
+use Rattle.std.specs.Prelude.{pos, slice_index}
 use Rattle.std.proofs.lemmas.Bool.{lt-ltb}
 use Rattle.std.proofs.lemmas.Option.{same_Some}
 use Rattle.xd_value.specs.Tree.{Tree, int, text}
@@ -57,3 +57,11 @@ written_read NotStarted h t is = absurd cc
 
 pub event_read : (e : What) → (t : Tree) → IsEvent e → event_tree e ≡ Some t → tree_event t ≡ Some e
 event_read e t h is = again (event_tree e) t (Some e) is (written_read e h t is)
+
+pub order_back : (e : Option Order) (t : Tree) → ((o : Order) → e ≡ Some o → IsOrder o) → Some t ≡ option_map order_tree e → tree_order t ≡ e
+order_back None t fits is = absurd cc
+order_back (Some o) t fits is = ap tree_order (same_Some _ _ is) ∙ order_read o (fits o refl)
+
+pub indices_below : (ns : List ℕ) → ((k : ℕ) → slice_index ns k < 4294967296) → AreIndices ns
+indices_below [] below = tt
+indices_below (n ∷ ns) below = (below 0, indices_below ns (λ k. below (suc k)))

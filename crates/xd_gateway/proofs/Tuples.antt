@@ -1,5 +1,5 @@
 -- Tuples that are calls, and values that are none.
-use Rattle.std.proofs.Common.{◌≡◌, ℕ, List, [], ◌∷◌, length, get_or, arith, sym, ap₂, Bool, false, Some, None, refl, ap, if◌then◌else◌}
+use Rattle.std.proofs.Common.{◌≡◌, ℕ, List, [], ◌∷◌, length, get_or, arith, ap₂, Bool, false, Some, None, refl, ap, if◌then◌else◌}
 use Rattle.xd_value.specs.Tree.{Pairs, text, tuple, dict}
 use Rattle.xd_value.specs.View.{view, views}
 use Rattle.xd_value.specs.declared.value.Value.{Value}

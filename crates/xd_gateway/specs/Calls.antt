@@ -1,7 +1,7 @@
 -- A call by name, as a value: a tuple of a name and a dict of keyword arguments. Commands and events are such calls, as
 -- sendcommand in pytest-xdist's workermanage.py and sendevent in its remote.py make them.
 use Rattle.std.specs.Prelude.{ℕ, Bool, true, false, ◌&&◌, List, Option, Some, None, if◌then◌else◌}
-use Rattle.xd_value.specs.Tree.{Tree, Trees, Pairs, text, tuple, dict, no_trees, tree, no_pairs, pair}
+use Rattle.xd_value.specs.Tree.{Tree, Pairs, text, tuple, dict, no_trees, tree, no_pairs, pair}
 
 -- a name, with its keyword arguments
 pub record Call : Type 0 where

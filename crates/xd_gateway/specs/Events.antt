@@ -1,6 +1,6 @@
 -- Events: what a worker tells its controller. The names are those of pytest-xdist's remote.py and workermanage.py; what
 -- the keys hold is a choice of this project, where a test is a command and its outcome an exit status.
-use Rattle.std.specs.Prelude.{ℕ, ◌<◌, ◌==◌, ◌&&◌, not, nat_lt, ℤ, pos, negsuc, Bool, ◌≡◌, true, false, List, [], ◌∷◌, Option, Some, None, option_map, option_and_then, map, codes, if◌then◌else◌}
+use Rattle.std.specs.Prelude.{ℕ, ◌<◌, ◌==◌, ◌&&◌, not, nat_lt, ℤ, pos, negsuc, Bool, ◌≡◌, true, false, List, Option, Some, None, option_map, option_and_then, map, codes, if◌then◌else◌}
 use Rattle.std.specs.Str.{bytes_eq}
 use Rattle.xd_value.specs.Tree.{Tree, Pairs, int, text, list, channel, no_pairs, pair}
 use Rattle.xd_value.specs.View.{trees_of}

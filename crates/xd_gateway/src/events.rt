@@ -4,7 +4,7 @@ ghost use Rattle.xd_value.specs.Tree.{text, int, channel, pair, no_pairs};
 ghost use Rattle.xd_value.specs.View.{view, pair_views};
 ghost use Rattle.xd_gateway.specs.Calls.{Call};
 ghost use Rattle.xd_gateway.specs.Kwargs.{both};
-ghost use Rattle.xd_gateway.specs.Events.{event_tree, tree_event, called_event, done_kwargs, done_at, index_at, log_at, outcome_at, duration_at};
+ghost use Rattle.xd_gateway.specs.Events.{IsEvent, event_tree, tree_event, called_event, done_kwargs, done_at, index_at, log_at, outcome_at, duration_at};
 
 use crate::call::{Call, call_of, call_value};
 use crate::kwargs::{
@@ -21,6 +21,16 @@ use xd_value::Value;
 /// The value of an event, with the keys that its name has.
 pub fn event_value(alloc: Global, event: &What) -> Result<Value, OutOfMemory>
     // The news is an event.
+    requires { IsSome (event_tree event.now) }
+    ensures form { IfOk result (λ v. event_tree event.now ≡ Some (view v)) }
+    // Where the code of its outcome is one that the outcome may have, it is read as that event, and as no other.
+    ensures back { IsEvent event.now → IfOk result (λ v. tree_event (view v) ≡ Some event.now) }
+{
+    let value = written(alloc, event)?;
+    Ok(value)
+}
+
+fn written(alloc: Global, event: &What) -> Result<Value, OutOfMemory>
     requires { IsSome (event_tree event.now) }
     ensures { IfOk result (λ v. event_tree event.now ≡ Some (view v)) }
 {

@@ -3,7 +3,7 @@ ghost use Rattle.std.specs.Prelude.{◌≡◌, option_map, option_and_then, IfOk
 ghost use Rattle.xd_value.specs.Tree.{text, int, list, pair};
 ghost use Rattle.xd_value.specs.View.{view, views, pair_views, trees_of};
 ghost use Rattle.xd_value.specs.declared.value.Value.{Value};
-ghost use Rattle.xd_gateway.specs.Kwargs.{is_key, value_at, number_below, integer_of, text_of, channel_of, items_of, index_of, each_of, indices_at, indices_kwargs};
+ghost use Rattle.xd_gateway.specs.Kwargs.{is_key, value_at, number_below, integer_of, text_of, channel_of, items_of, index_of, each_of, indices_at, indices_kwargs, AreIndices};
 ghost use Rattle.xd_gateway.specs.Words.{IsWord};
 
 use crate::word::{is_word, word_value};
@@ -180,6 +180,11 @@ pub(crate) fn indices_kwargs(
     let kwargs = vec![in alloc; entry]?;
     Ok(kwargs)
 }
+
+/// Numbers of 32 bits are numbers that a test may have.
+pub(crate) fn indices_fit(numbers: &[u32])
+    ensures { AreIndices numbers.now }
+{}
 
 fn numbers_value(alloc: Global, numbers: &[u32]) -> Result<Value, OutOfMemory>
     ensures { IfOk result (λ v. view v ≡ list (trees_of (map (λ n. int (pos n)) numbers.now))) }

@@ -2,10 +2,11 @@
 ghost use Rattle.std.specs.Prelude.{◌≡◌, Some, option_map, IfOk, IsSome};
 ghost use Rattle.xd_value.specs.View.{view, pair_views};
 ghost use Rattle.xd_gateway.specs.Calls.{Call};
-ghost use Rattle.xd_gateway.specs.Orders.{order_of, order_tree, tree_order, called_order};
+ghost use Rattle.xd_gateway.specs.declared.order.Order.{Order};
+ghost use Rattle.xd_gateway.specs.Orders.{order_of, order_tree, tree_order, called_order, IsOrder};
 
 use crate::call::{Call, call_of, call_value};
-use crate::kwargs::{indices_at, indices_kwargs};
+use crate::kwargs::{indices_at, indices_fit, indices_kwargs};
 use crate::order::Order;
 use crate::word::is_word;
 use std::alloc::Global;
@@ -16,6 +17,27 @@ use xd_value::Value;
 /// The value of an order, with the keys that its name has.
 pub fn order_value(alloc: Global, order: &Entry) -> Result<Value, OutOfMemory>
     // The entry is an order.
+    requires { IsSome (order_of order.now) }
+    ensures form { IfOk result (λ v. Some (view v) ≡ option_map order_tree (order_of order.now)) }
+    // It is read as that order, and as no other.
+    ensures back { IfOk result (λ v. tree_order (view v) ≡ order_of order.now) }
+{
+    order_fits(order);
+    let value = written(alloc, order)?;
+    Ok(value)
+}
+
+/// The numbers of an order are ones that a test may have.
+fn order_fits(order: &Entry)
+    ensures { (o : Order) → order_of order.now ≡ Some o → IsOrder o }
+{
+    match order {
+        Entry::Run { indices, .. } | Entry::Steal { indices, .. } => indices_fit(&indices.items),
+        _ => {}
+    }
+}
+
+fn written(alloc: Global, order: &Entry) -> Result<Value, OutOfMemory>
     requires { IsSome (order_of order.now) }
     ensures { IfOk result (λ v. Some (view v) ≡ option_map order_tree (order_of order.now)) }
 {

@@ -1,4 +1,4 @@
-use Rattle.std.proofs.Common.{◌≡◌, length, sym, ap, ◌∙◌, arith}
+use Rattle.std.proofs.Common.{sym, ap, ◌∙◌, arith}
 use Rattle.xd_value.specs.View.{view}
 use Rattle.xd_value.proofs.Walks.{view-Tuple}
 use Rattle.xd_gateway.specs.Calls.{call_in}
