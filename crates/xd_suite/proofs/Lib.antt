@@ -1,4 +1,5 @@
-pub mod Each
+pub mod Items
 pub mod Keys
-pub mod SeenIds
+pub mod Runs
+pub mod SeenTexts
 pub mod Texts
