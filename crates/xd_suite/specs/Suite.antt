@@ -38,7 +38,7 @@ pub record IsNotToml (bytes : List ℕ) : Type 0 where
 -- why these bytes are no suite file: there are too many, they are no TOML, or their data breaks a rule
 abbrev pub IsFaulty : List ℕ → SuiteFault → Type 0
 IsFaulty bytes fault =
-    ((4194304 < length bytes) × (fault ≡ of_file TooLarge)) ⊎ (IsNotToml bytes × (fault ≡ of_file NotToml)) ⊎ HasFault bytes fault
+    ((4194304 < length bytes) × (fault ≡ of_file TooLarge)) ⊎ ((IsNotToml bytes × (fault ≡ of_file NotToml)) ⊎ HasFault bytes fault)
 
 -- These bytes are refused so; want of memory has no cause in them.
 abbrev pub IsRefused : List ℕ → SuiteRefusal → Type 0

@@ -43,9 +43,7 @@ fn are_suite_keys(table: &Table) -> bool
 fn are_test_keys(table: &Table) -> bool
     ensures { result ≡ list_all (λ k. is_test_key (string_bytes k)) (keys table.now) }
 {
-    table
-        .keys()
-        .all(|key| key.as_str() == "id" || key.as_str() == "run" || key.as_str() == "group")
+    table.keys().all(|key| key.as_str() == "id" || key.as_str() == "run" || key.as_str() == "group")
 }
 
 pub fn has_suite_keys(table: &Table) -> bool
