@@ -1,4 +1,6 @@
-pub mod Each
+pub mod Items
 pub mod Keys
-pub mod SeenIds
+pub mod OneAnswer
+pub mod Runs
+pub mod SeenTexts
 pub mod Texts

@@ -1,7 +1,7 @@
 -- Texts by their bytes and by their characters.
-use Rattle.std.proofs.Common.{◌≡◌, ℕ, ◌<◌, ◌==◌, List, [], ◌∷◌, ◌++◌, length, sym, ap, arith, length-append}
+use Rattle.std.proofs.Common.{◌≡◌, ℕ, ◌<◌, ◌==◌, List, [], ◌∷◌, ◌++◌, length, sym, ◌∙◌, ap, arith, length-append}
 use Rattle.std.specs.Str.{chars, bytes_eq, IsUtf8, encode_utf8_all}
-use Rattle.std.proofs.lemmas.Str.{encodes-chars, encodes_same, length-encode, len_utf8_bounds}
+use Rattle.std.proofs.lemmas.Str.{chars_from_encodes, encode_ascii, encodes-append, encodes-chars, encodes_same, length-encode, len_utf8_bounds}
 use Rattle.std.proofs.lemmas.Slice.Eq.{bytes_eq-Decides}
 use Rattle.std.proofs.lemmas.Bool.Decides.{same_from_decides}
 use Rattle.std.specs.Prelude.{encode_utf8}
@@ -27,3 +27,7 @@ pub bytes_eq-sym : (a b : List ℕ) → bytes_eq a b ≡ bytes_eq b a
 bytes_eq-sym a b =
     let back = bytes_eq-Decides b a in
     same_from_decides (bytes_eq a b) (bytes_eq b a) (bytes_eq-Decides a b) (λ is. sym (back.0 is), λ is. back.1 (sym is))
+
+-- two texts with `@` between them
+pub joined : (id group bytes : List ℕ) → IsUtf8 bytes → bytes ≡ encode_utf8_all id ++ 64 ∷ encode_utf8_all group → chars bytes ≡ id ++ 64 ∷ group
+joined id group bytes utf8 is = sym (chars_from_encodes (id ++ 64 ∷ group) bytes utf8 (encodes-append id (64 ∷ group) ∙ ap (λ (l : List ℕ). encode_utf8_all id ++ (l ++ encode_utf8_all group)) (encode_ascii 64 (omega arith)) ∙ sym is))

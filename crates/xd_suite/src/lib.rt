@@ -1,11 +1,12 @@
 //! The suite file: which tests it lists, and what each of them runs.
 //!
-//! So far of its first form: a TOML file with an array of tables `test`, each with an `id` and a `run`.
+//! It is a TOML file with an array of tables `test`, each with an `id`, a `run` and perhaps a `group`.
 #![tactic(auto)]
 
 mod fault;
 mod reading;
 mod repeats;
+mod rules;
 mod suite;
 mod table;
 mod test;

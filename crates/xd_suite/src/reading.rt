@@ -1,13 +1,17 @@
 // The tests of a TOML table.
-ghost use Rattle.std.specs.Prelude.{◌≡◌, ◌<◌, ◌≤◌, length, IfOk, IfSome, All, option_map, codes, nat_le, ◌&&◌, ◌==◌, not};
-ghost use Rattle.std.specs.List.{list_all};
+ghost use Rattle.std.specs.Prelude.{◌≡◌, ◌<◌, ◌≤◌, Some, None, length, IfOk, IfErr, All, codes, option_map, unwrap_or};
 ghost use Rattle.std.specs.Str.{chars};
+ghost use Rattle.toml.specs.Data.{no_items};
 ghost use Rattle.toml.specs.View.{view, array_view, table_view};
-ghost use Rattle.xd_suite.specs.Suite.{texts_of, test_of, tests_of, suite_of, is_id, is_printable};
+ghost use Rattle.xd_suite.specs.Faults.{fault_of, fault_of_test, fault_of_tests};
+ghost use Rattle.xd_suite.specs.Suite.{Names};
+ghost use Rattle.xd_suite.specs.Tests.{array_at, listed, members_of, test_of, tests_of, text_at, texts_of};
 
-use crate::Test;
-use crate::repeats::are_new;
-use crate::table::{array_at, field, has_suite_keys, has_test_keys, text_at};
+use crate::fault::{of_file, of_test};
+use crate::repeats::fault_of_ids;
+use crate::rules::fault_of_test;
+use crate::table::{are_tables, array_at, count, field, has_suite_keys, text_at};
+use crate::{SuiteRefusal, SuiteWhat, Test};
 use std::alloc::Global;
 use toml::value::Array;
 use toml::{Table, Value};
@@ -15,103 +19,109 @@ use xd_edge::{OutOfMemory, Text, Texts};
 
 const MAX_TESTS: usize = 50_000;
 
-/// `Ok(None)` where the table is no suite.
-pub fn read_suite(alloc: Global, table: &Table) -> Result<Option<Vec<Test>>, OutOfMemory>
-    ensures tests { IfOk result (λ tests. option_map (λ v. v.items) tests ≡ suite_of (table_view table.now)) }
-    ensures runs { IfOk result (λ tests. IfSome tests (λ v. All (λ t. 0 < length t.run) v.items)) }
-    ensures few { IfOk result (λ tests. IfSome tests (λ v. length v.items ≤ 50000)) }
+/// The tests of a file, or its first fault.
+pub fn read_suite(alloc: Global, table: &Table) -> Result<Vec<Test>, SuiteRefusal>
+    ensures good { IfOk result (λ _. fault_of (table_view table.now) ≡ None) }
+    ensures tests { IfOk result (λ tests. tests.items ≡ tests_of (listed (table_view table.now))) }
+    ensures runs { IfOk result (λ tests. All (λ t. 0 < length t.run) tests.items) }
+    ensures few { IfOk result (λ tests. length tests.items ≤ 50000) }
+    ensures refused { IfErr result (Names (fault_of (table_view table.now))) }
 {
     if !has_suite_keys(table) {
-        return Ok(None);
+        return Err(of_file(SuiteWhat::UnknownKey));
     }
     let Some(value) = field(table, "test") else {
-        return Ok(Some(Vec::new(alloc)));
+        return Ok(Vec::new(alloc));
     };
     let Some(array) = value.as_array() else {
-        return Ok(None);
+        return Err(of_file(SuiteWhat::WrongKind));
     };
-    let Some(tests) = read_tests(alloc, array)? else {
-        return Ok(None);
-    };
-    if tests.len() > MAX_TESTS {
-        return Ok(None);
+    if !are_tables(array) {
+        return Err(of_file(SuiteWhat::WrongKind));
     }
-    if !are_new(alloc, &tests)? {
-        return Ok(None);
+    if count(array) > MAX_TESTS {
+        return Err(of_file(SuiteWhat::TooMany));
     }
-    Ok(Some(tests))
+    let tests = read_tests(alloc, array)?;
+    match fault_of_ids(alloc, &tests)? {
+        Some(fault) => Err(SuiteRefusal::Bad(fault)),
+        None => Ok(tests),
+    }
 }
 
-// `Ok(None)` where one of the tables is no test.
-fn read_tests(alloc: Global, array: &Array) -> Result<Option<Vec<Test>>, OutOfMemory>
-    ensures tests { IfOk result (λ tests. option_map (λ v. v.items) tests ≡ tests_of (array_view array.now)) }
-    ensures runs { IfOk result (λ tests. IfSome tests (λ v. All (λ t. 0 < length t.run) v.items)) }
+fn read_tests(alloc: Global, array: &Array) -> Result<Vec<Test>, SuiteRefusal>
+    requires { length array.now.items ≤ 50000 }
+    ensures good { IfOk result (λ _. fault_of_tests 0 (array_view array.now) ≡ None) }
+    ensures tests { IfOk result (λ tests. tests.items ≡ tests_of (array_view array.now)) }
+    ensures runs { IfOk result (λ tests. All (λ t. 0 < length t.run) tests.items) }
+    ensures few { IfOk result (λ tests. length tests.items ≤ 50000) }
+    ensures refused { IfErr result (Names (fault_of_tests 0 (array_view array.now))) }
 {
     let mut tests = Vec::new(alloc);
-    for value in array {
+    for (number, value) in array.iter().enumerate() {
         match read_test(alloc, value)? {
-            Some(test) => tests.push(test)?,
-            None => return Ok(None),
+            Ok(test) => tests.push(test)?,
+            Err(what) => return Err(of_test(number as u32, what)),
         }
     }
-    Ok(Some(tests))
+    Ok(tests)
 }
 
-// `Ok(None)` where the table is no test.
-fn read_test(alloc: Global, value: &Value) -> Result<Option<Test>, OutOfMemory>
-    ensures test { IfOk result (λ test. test ≡ test_of (view value.now)) }
-    ensures run { IfOk result (λ test. IfSome test (λ t. 0 < length t.run)) }
+// The test, or the first rule that it breaks.
+fn read_test(alloc: Global, value: &Value) -> Result<Result<Test, SuiteWhat>, OutOfMemory>
+    ensures test { IfOk result (λ read. IfOk read (λ t. t ≡ test_of (members_of (view value.now)))) }
+    ensures good { IfOk result (λ read. IfOk read (λ _. fault_of_test (members_of (view value.now)) ≡ None)) }
+    ensures run { IfOk result (λ read. IfOk read (λ t. 0 < length t.run)) }
+    ensures refused { IfOk result (λ read. IfErr read (λ what. fault_of_test (members_of (view value.now)) ≡ Some what)) }
 {
+    // What is no table has no key. A file with such a test was refused before.
     let Some(table) = value.as_table() else {
-        return Ok(None);
+        return Ok(Err(SuiteWhat::Missing));
     };
-    if !has_test_keys(table) {
-        return Ok(None);
+    if let Some(what) = fault_of_test(table) {
+        return Ok(Err(what));
     }
-    let Some(id) = text_at(table, "id") else {
-        return Ok(None);
-    };
-    let Some(array) = array_at(table, "run") else {
-        return Ok(None);
-    };
-    let Some(run) = read_texts(alloc, array)? else {
-        return Ok(None);
-    };
-    if !is_id(id) || run.items.is_empty() {
-        return Ok(None);
-    }
-    let id = Text::of(alloc, id)?;
-    Ok(Some(Test { id, run }))
+    let test = test_of(alloc, table)?;
+    Ok(Ok(test))
 }
 
-// `Ok(None)` where an item is no text.
-fn read_texts(alloc: Global, array: &Array) -> Result<Option<Texts>, OutOfMemory>
+fn test_of(alloc: Global, table: &Table) -> Result<Test, OutOfMemory>
+    requires { fault_of_test (table_view table.now) ≡ None }
+    ensures test { IfOk result (λ t. t ≡ test_of (table_view table.now)) }
+    ensures run { IfOk result (λ t. 0 < length t.run) }
+{
+    let id = Text::of(alloc, text_at(table, "id").unwrap_or(""))?;
+    let run = run_of(alloc, table)?;
+    let group = group_of(alloc, table)?;
+    Ok(Test { id, run, group })
+}
+
+fn group_of(alloc: Global, table: &Table) -> Result<Option<Text>, OutOfMemory>
+    ensures { IfOk result (λ group. group ≡ option_map chars (text_at (codes "group") (table_view table.now))) }
+{
+    match text_at(table, "group") {
+        Some(group) => Ok(Some(Text::of(alloc, group)?)),
+        None => Ok(None),
+    }
+}
+
+fn run_of(alloc: Global, table: &Table) -> Result<Texts, OutOfMemory>
+    ensures { IfOk result (λ run. run ≡ texts_of (unwrap_or (array_at (codes "run") (table_view table.now)) no_items)) }
+{
+    match array_at(table, "run") {
+        Some(array) => texts_of(alloc, array),
+        None => Ok(Texts {
+            items: Vec::new(alloc),
+        }),
+    }
+}
+
+fn texts_of(alloc: Global, array: &Array) -> Result<Texts, OutOfMemory>
     ensures { IfOk result (λ texts. texts ≡ texts_of (array_view array.now)) }
 {
     let mut items = Vec::new(alloc);
     for value in array {
-        match value.as_str() {
-            Some(text) => items.push(Text::of(alloc, text)?)?,
-            None => return Ok(None),
-        }
+        items.push(Text::of(alloc, value.as_str().unwrap_or(""))?)?;
     }
-    Ok(Some(Texts { items }))
-}
-
-fn is_id(id: &str) -> bool
-    ensures { result ≡ is_id (chars id.now) }
-{
-    !is_empty(id) && is_printable(id)
-}
-
-fn is_empty(text: &str) -> bool
-    ensures { result ≡ (length (chars text.now) == 0) }
-{
-    text.is_empty()
-}
-
-fn is_printable(id: &str) -> bool
-    ensures { result ≡ list_all is_printable (chars id.now) }
-{
-    id.chars().all(|c| ' ' <= c && c != '\u{7f}')
+    Ok(Texts { items })
 }

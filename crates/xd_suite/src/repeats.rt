@@ -1,21 +1,51 @@
 // Whether an id stands twice.
-ghost use Rattle.std.specs.Prelude.{◌≡◌, [], map, IfOk};
-ghost use Rattle.xd_suite.specs.Suite.{are_new};
+ghost use Rattle.std.specs.Prelude.{◌≡◌, ◌≤◌, [], length, IfOk};
+ghost use Rattle.xd_suite.specs.Faults.{earlier, fault_of_ids, repeat_of};
 
-use crate::Test;
+use crate::test::ids_in;
+use crate::{SuiteFault, SuiteWhat, Test};
 use std::alloc::Global;
 use std::collections::BTreeSet;
-use xd_edge::OutOfMemory;
+use xd_edge::{ModeKind, OutOfMemory, Text};
 
-/// Each id differs from those before it. The cost of a test grows with the logarithm of their number.
-pub fn are_new(alloc: Global, tests: &[Test]) -> Result<bool, OutOfMemory>
-    ensures { IfOk result (λ new. new ≡ are_new [] (map (λ t. t.id) tests.now)) }
+/// The first test whose id, alone or by its group, stood before.
+pub fn fault_of_ids(alloc: Global, tests: &[Test]) -> Result<Option<SuiteFault>, OutOfMemory>
+    requires { length tests.now ≤ 50000 }
+    ensures { IfOk result (λ fault. fault ≡ fault_of_ids tests.now) }
+{
+    let ids = ids_in(alloc, tests, ModeKind::Load)?;
+    let group_ids = ids_in(alloc, tests, ModeKind::LoadGroup)?;
+    let in_ids = repeat_of(alloc, &ids.items)?;
+    let in_group_ids = repeat_of(alloc, &group_ids.items)?;
+    match earlier(in_ids, in_group_ids) {
+        Some(number) => Ok(Some(SuiteFault {
+            test: Some(number),
+            what: SuiteWhat::Repeated,
+        })),
+        None => Ok(None),
+    }
+}
+
+fn earlier(one: Option<u32>, other: Option<u32>) -> Option<u32>
+    ensures { result ≡ earlier one other }
+{
+    match (one, other) {
+        (Some(one), Some(other)) => Some(if one <= other { one } else { other }),
+        (Some(one), None) => Some(one),
+        (None, other) => other,
+    }
+}
+
+// The number of the first text that stood before. The cost of a text grows with the logarithm of their number.
+fn repeat_of(alloc: Global, texts: &[Text]) -> Result<Option<u32>, OutOfMemory>
+    requires { length texts.now ≤ 50000 }
+    ensures { IfOk result (λ number. number ≡ repeat_of texts.now) }
 {
     let mut seen = BTreeSet::new(alloc);
-    for test in tests {
-        if !seen.insert(test.id.as_str())? {
-            return Ok(false);
+    for (number, text) in texts.iter().enumerate() {
+        if !seen.insert(text.as_str())? {
+            return Ok(Some(number as u32));
         }
     }
-    Ok(true)
+    Ok(None)
 }

@@ -1,9 +1,11 @@
 // The tests of a suite file.
 ghost use Rattle.std.specs.Prelude.{◌≡◌, ◌<◌, length, map, IfOk, IfErr};
-ghost use Rattle.xd_suite.specs.Suite.{IsSuiteOf, IsRefused, run_at};
+ghost use Rattle.xd_suite.specs.Suite.{IsSuiteOf, IsRefused};
+ghost use Rattle.xd_suite.specs.Tests.{ids_in, run_at};
 
-use crate::fault::bad;
+use crate::fault::of_file;
 use crate::reading::read_suite;
+use crate::test::ids_in;
 use crate::{SuiteRefusal, SuiteWhat, Test};
 use std::alloc::Global;
 use std::marker::Model;
@@ -29,23 +31,21 @@ impl Model for Suite {
 }
 
 impl Suite {
-    /// The tests of the file with these bytes.
+    /// The tests of the file with these bytes, or its first fault.
     pub fn read(alloc: Global, bytes: &[u8]) -> Result<Suite, SuiteRefusal>
         ensures ok { IfOk result (IsSuiteOf bytes.now) }
         ensures refused { IfErr result (IsRefused bytes.now) }
     {
         if bytes.len() > MAX_BYTES {
-            return Err(bad(SuiteWhat::TooLarge));
+            return Err(of_file(SuiteWhat::TooLarge));
         }
         let table = match toml::table_from_slice(alloc, bytes) {
             Ok(table) => table,
             Err(e) if e.is_memory() => return Err(SuiteRefusal::OutOfMemory),
-            Err(_) => return Err(bad(SuiteWhat::NotToml)),
+            Err(_) => return Err(of_file(SuiteWhat::NotToml)),
         };
-        match read_suite(alloc, &table)? {
-            Some(tests) => Ok(Suite { tests }),
-            None => Err(bad(SuiteWhat::Form)),
-        }
+        let tests = read_suite(alloc, &table)?;
+        Ok(Suite { tests })
     }
 
     /// How many tests there are.
@@ -55,15 +55,12 @@ impl Suite {
         self.tests.len() as u32
     }
 
-    /// The ids of the tests. No mode of the first form looks at more.
-    pub fn ids(&self, alloc: Global, _mode: ModeKind) -> Result<Texts, OutOfMemory>
-        ensures { IfOk result (λ ids. ids ≡ map (λ t. t.id) self.now) }
+    /// The ids of the tests in a mode, in order; no two are the same. In loadgroup the id of a test with a group is
+    /// followed by `@` and the group.
+    pub fn ids(&self, alloc: Global, mode: ModeKind) -> Result<Texts, OutOfMemory>
+        ensures { IfOk result (λ ids. ids ≡ ids_in mode self.now) }
     {
-        let mut items = Vec::new(alloc);
-        for test in &self.tests {
-            items.push(test.id.copy()?)?;
-        }
-        Ok(Texts { items })
+        ids_in(alloc, &self.tests, mode)
     }
 
     /// The program of a test, with its arguments.

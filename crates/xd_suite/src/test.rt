@@ -1,8 +1,50 @@
-use xd_edge::{Text, Texts};
+// One test, and its ids.
+ghost use Rattle.std.specs.Prelude.{◌≡◌, ◌++◌, ◌∷◌, IfOk};
+ghost use Rattle.xd_suite.specs.Tests.{group_id, id_in, ids_in};
 
-/// A test: its id, and its program with the arguments, of which there is at least the program.
+use std::alloc::Global;
+use xd_edge::{ModeKind, OutOfMemory, Text, Texts};
+
+/// A test: its id, its program with the arguments, of which there is at least the program, and its group for loadgroup.
 #[derive(Drop)]
 pub struct Test {
     pub id: Text,
     pub run: Texts,
+    pub group: Option<Text>,
+}
+
+/// The ids of these tests in a mode.
+pub fn ids_in(alloc: Global, tests: &[Test], mode: ModeKind) -> Result<Texts, OutOfMemory>
+    ensures { IfOk result (λ ids. ids ≡ ids_in mode tests.now) }
+{
+    let mut items = Vec::new(alloc);
+    for test in tests {
+        items.push(id_in(alloc, test, mode)?)?;
+    }
+    Ok(Texts { items })
+}
+
+fn id_in(alloc: Global, test: &Test, mode: ModeKind) -> Result<Text, OutOfMemory>
+    ensures { IfOk result (λ id. id ≡ id_in mode test.now) }
+{
+    match mode {
+        ModeKind::LoadGroup => group_id(alloc, test),
+        _ => test.id.copy(),
+    }
+}
+
+fn group_id(alloc: Global, test: &Test) -> Result<Text, OutOfMemory>
+    ensures { IfOk result (λ id. id ≡ group_id test.now) }
+{
+    match &test.group {
+        Some(group) => join(alloc, &test.id, group),
+        None => test.id.copy(),
+    }
+}
+
+fn join(alloc: Global, id: &Text, group: &Text) -> Result<Text, OutOfMemory>
+    ensures { IfOk result (λ text. text ≡ id.now ++ 64 ∷ group.now) }
+{
+    let text = format!(in alloc; "{}@{}", id.as_str(), group.as_str())?;
+    Ok(Text::from_string(text))
 }

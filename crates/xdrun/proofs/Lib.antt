@@ -1,5 +1,6 @@
 pub mod NewLines
 pub mod Ran
+pub mod Refused
 pub mod Report
 pub mod Steps
 pub mod Whole

@@ -10,7 +10,7 @@ use Rattle.xd_edge.specs.Faults.{RoseBy}
 use Rattle.xd_edge.specs.Sink.{Sunk, Printed, PrintedPart}
 use Rattle.xd_edge.proofs.SinkLemmas.{printed_more, printed_then_part}
 use Rattle.xd_suite.specs.declared.test.Test.{Test}
-use Rattle.xd_suite.specs.Suite.{run_at}
+use Rattle.xd_suite.specs.Tests.{run_at}
 use Rattle.xd_ledger.specs.declared.entry.Entry.{Entry}
 use Rattle.xd_ledger.specs.declared.entry.Outcome.{Outcome}
 use Rattle.xd_ledger.specs.declared.journal.Journal.{Journal}

@@ -1,11 +1,13 @@
 -- Why nothing is run or printed, and the line that says so. A choice of this project.
-use Rattle.std.specs.Prelude.{ℕ, ◌≡◌, ◌⊎◌, Bool, false, List, [], ◌∷◌, ◌++◌, Option, Some, None, IsSomeAnd, codes}
+use Rattle.std.specs.Prelude.{ℕ, ◌≡◌, ◌≤◌, ◌⊎◌, Bool, false, List, [], ◌∷◌, ◌++◌, length, Option, Some, None, IsSomeAnd, codes}
 use Rattle.xd_edge.specs.Faults.{Rose}
 use Rattle.xd_edge.specs.Files.{Held, HasFile, HasLarger}
 use Rattle.xd_edge.specs.Sink.{Sunk}
 use Rattle.xd_suite.specs.declared.test.Test.{Test}
-use Rattle.xd_suite.specs.declared.fault.SuiteWhat.{SuiteWhat}
-use Rattle.xd_suite.specs.declared.fault.SuiteWhat.TheVariants.{TooLarge, NotToml, Form}
+use Rattle.xd_suite.specs.declared.fault.SuiteFault.{SuiteFault}
+use Rattle.xd_suite.specs.declared.fault.SuiteWhat.TheVariants.{TooLarge}
+use Rattle.xd_suite.specs.FaultText.{fault_text}
+use Rattle.xd_suite.specs.Faults.{of_file}
 use Rattle.xd_suite.specs.Suite.{IsFaulty, IsSuiteOf}
 use Rattle.xdrun.specs.declared.refusal.Refusal.{Refusal}
 use Rattle.xdrun.specs.declared.refusal.Refusal.TheVariants.{BadWords, Unread, Suite, FileUnread, FileTooLarge}
@@ -13,13 +15,15 @@ use Rattle.xdrun.specs.Print.{Shows}
 use Rattle.xdrun.specs.Wire.{WhyFileRefused}
 use Rattle.xdrun.specs.Words.{messages_named, suite_named}
 
+-- the line of a suite's fault, by the fault in words
+unfoldable pub suite_line : List ℕ → List ℕ
+suite_line text = codes "xdrun: " ++ (text ++ 10 ∷ [])
+
 -- the line on standard error
 abbrev pub refusal_line : Refusal → List ℕ
 refusal_line BadWords = codes "xdrun: bad words" ++ 10 ∷ []
 refusal_line Unread = codes "xdrun: suite cannot be read" ++ 10 ∷ []
-refusal_line (Suite TooLarge) = codes "xdrun: suite is too large" ++ 10 ∷ []
-refusal_line (Suite NotToml) = codes "xdrun: suite is not TOML" ++ 10 ∷ []
-refusal_line (Suite Form) = codes "xdrun: suite is not of the first form" ++ 10 ∷ []
+refusal_line (Suite fault) = suite_line (fault_text fault)
 refusal_line FileUnread = codes "xdrun: file cannot be read" ++ 10 ∷ []
 refusal_line FileTooLarge = codes "xdrun: file is too large" ++ 10 ∷ []
 
@@ -41,19 +45,23 @@ pub record NamesLarger (words : List (List ℕ)) (held : Option Held) : Type 0 w
   pub named : suite_named words ≡ Some path
   pub larger : HasLarger held path 4194304
 
--- The words name a suite file with bytes that are faulty so, where it is told.
-pub record NamesFaulty (words : List (List ℕ)) (held : Option Held) (what : SuiteWhat) : Type 0 where
+-- The words name a suite file with bytes that are few enough and have this fault first, where it is told.
+pub record NamesFaulty (words : List (List ℕ)) (held : Option Held) (fault : SuiteFault) : Type 0 where
   pub bytes : List ℕ
   pub file : NamesBytes words held bytes
-  pub faulty : IsFaulty bytes what
+  pub small : length bytes ≤ 4194304
+  pub faulty : IsFaulty bytes fault
+
+-- The words name a suite file that is larger than what is read, or one with this fault.
+abbrev pub NamesRefused : List (List ℕ) → Option Held → SuiteFault → Type 0
+NamesRefused words held fault = ((fault ≡ of_file TooLarge) × NamesLarger words held) ⊎ NamesFaulty words held fault
 
 -- why there is no suite; `rose` says that the count of faults of the files rose. A suite that is too large is refused
 -- by the files.
 abbrev pub WhySuiteRefused : List (List ℕ) → Option Held → Type 0 → Refusal → Type 0
 WhySuiteRefused words held rose BadWords = suite_named words ≡ None
 WhySuiteRefused words held rose Unread = rose
-WhySuiteRefused words held rose (Suite TooLarge) = NamesLarger words held
-WhySuiteRefused words held rose (Suite what) = NamesFaulty words held what
+WhySuiteRefused words held rose (Suite fault) = NamesRefused words held fault
 WhySuiteRefused words held rose _ = ⊥
 
 -- why nothing is done: the words name no file of messages and there is no suite, or they name one and it is refused

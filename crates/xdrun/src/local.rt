@@ -1,7 +1,7 @@
 // The tests of a suite, one after another in this program.
 ghost use Rattle.std.specs.Prelude.{◌≡◌, ◌<◌, ◌≤◌, [], map, false, Ok, length, IsTrue, IfOk, OnOk};
 ghost use Rattle.xd_edge.specs.Faults.{Rose, RoseBy};
-ghost use Rattle.xd_suite.specs.Suite.{run_at};
+ghost use Rattle.xd_suite.specs.Tests.{run_at};
 ghost use Rattle.xd_ledger.specs.declared.entry.RunStop.TheVariants.{OutFault};
 ghost use Rattle.xd_ledger.specs.Legal.{IsLegal, local_entries};
 ghost use Rattle.xd_ledger.specs.Local.{is_local};

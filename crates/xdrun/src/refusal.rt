@@ -1,11 +1,13 @@
 // Why nothing is run.
-ghost use Rattle.std.specs.Prelude.{◌≡◌, ◌≤◌, false};
+ghost use Rattle.std.specs.Prelude.{◌≡◌, ◌≤◌, ◌++◌, ◌∷◌, [], codes, false, IfOk, string_bytes};
 ghost use Rattle.xd_edge.specs.Faults.{Rose};
+ghost use Rattle.xd_suite.specs.FaultText.{fault_text};
 ghost use Rattle.xdrun.specs.Print.{Shows};
-ghost use Rattle.xdrun.specs.Refusal.{refusal_line};
+ghost use Rattle.xdrun.specs.Refusal.{refusal_line, suite_line};
 
-use xd_edge::{Sink, print};
-use xd_suite::SuiteWhat;
+use std::alloc::Global;
+use xd_edge::{OutOfMemory, Sink, print};
+use xd_suite::SuiteFault;
 
 /// Why nothing is run. Each has its line on standard error.
 #[derive(Clone, Copy, Debug, PartialEq, Eq)]
@@ -14,33 +16,49 @@ pub enum Refusal {
     BadWords,
     /// The suite file is missing or cannot be read.
     Unread,
-    /// The suite file is refused.
-    Suite(SuiteWhat),
+    /// The suite file is refused, for its first fault.
+    Suite(SuiteFault),
     /// The file of messages is missing or cannot be read.
     FileUnread,
     /// The file of messages has over 64 MiB.
     FileTooLarge,
 }
 
-fn refusal_line(why: Refusal) -> &'static str
-    ensures { result.now ≡ refusal_line why }
+fn refusal_line(alloc: Global, why: Refusal) -> Result<String, OutOfMemory>
+    ensures { IfOk result (λ line. string_bytes line ≡ refusal_line why) }
 {
     match why {
-        Refusal::BadWords => "xdrun: bad words\n",
-        Refusal::Unread => "xdrun: suite cannot be read\n",
-        Refusal::Suite(SuiteWhat::TooLarge) => "xdrun: suite is too large\n",
-        Refusal::Suite(SuiteWhat::NotToml) => "xdrun: suite is not TOML\n",
-        Refusal::Suite(SuiteWhat::Form) => "xdrun: suite is not of the first form\n",
-        Refusal::FileUnread => "xdrun: file cannot be read\n",
-        Refusal::FileTooLarge => "xdrun: file is too large\n",
+        Refusal::BadWords => line_of(alloc, "xdrun: bad words\n"),
+        Refusal::Unread => line_of(alloc, "xdrun: suite cannot be read\n"),
+        Refusal::Suite(fault) => suite_line(alloc, fault),
+        Refusal::FileUnread => line_of(alloc, "xdrun: file cannot be read\n"),
+        Refusal::FileTooLarge => line_of(alloc, "xdrun: file is too large\n"),
     }
 }
 
-/// Prints the line; false where standard error failed.
-pub fn refuse<E: Sink>(err: &mut E, why: Refusal) -> bool
-    ensures line { Shows result (refusal_line why) (E.sunk err.old) (E.sunk err.new) }
-    ensures later { E.faults err.old ≤ E.faults err.new }
-    ensures rose { result ≡ false → Rose (E.faults err.old) (E.faults err.new) }
+fn line_of(alloc: Global, line: &str) -> Result<String, OutOfMemory>
+    ensures { IfOk result (λ copy. string_bytes copy ≡ line.now) }
 {
-    print(err, refusal_line(why).as_bytes()).is_ok()
+    let copy = String::from_str(alloc, line)?;
+    Ok(copy)
+}
+
+#[tactic(auto, unfolding(crate::specs::Refusal::suite_line))]
+fn suite_line(alloc: Global, fault: SuiteFault) -> Result<String, OutOfMemory>
+    ensures { IfOk result (λ line. string_bytes line ≡ suite_line (fault_text fault)) }
+{
+    let text = fault.text(alloc)?;
+    let line = format!(in alloc; "xdrun: {}\n", text.as_str())?;
+    Ok(line)
+}
+
+/// Prints the line; false where standard error failed.
+pub fn refuse<E: Sink>(alloc: Global, err: &mut E, why: Refusal) -> Result<bool, OutOfMemory>
+    ensures line { IfOk result (λ shown. Shows shown (refusal_line why) (E.sunk err.old) (E.sunk err.new)) }
+    ensures later { E.faults err.old ≤ E.faults err.new }
+    ensures rose { IfOk result (λ shown. shown ≡ false → Rose (E.faults err.old) (E.faults err.new)) }
+{
+    let line = refusal_line(alloc, why)?;
+    let shown = print(err, line.as_bytes()).is_ok();
+    Ok(shown)
 }

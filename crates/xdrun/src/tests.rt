@@ -127,8 +127,7 @@ fn the_report_of_a_suite(rt: HostRuntime) -> Result<(), Fail> {
 
 #[test]
 fn what_is_refused(rt: HostRuntime) -> Result<(), Fail> {
-    let grouped = "[[test]]\nid = \"a\"\nrun = [\"true\"]\ngroup = \"g\"\n";
-    let rows: [(&str, &[&str], &[u32], &str); 8] = [
+    let rows: [(&str, &[&str], &[u32], &str); 10] = [
         (
             THREE,
             &["s.toml", "--dist", "load"],
@@ -146,11 +145,18 @@ fn what_is_refused(rt: HostRuntime) -> Result<(), Fail> {
         ),
         (THREE, &SUITE_0, &[0], "xdrun: suite cannot be read\n"),
         ("[", &SUITE_0, &[], "xdrun: suite is not TOML\n"),
+        ("tests = []", &SUITE_0, &[], "xdrun: suite: unknown key\n"),
         (
-            grouped,
+            "[[test]]\nid = \"a\"\nrun = []\n",
             &SUITE_0,
             &[],
-            "xdrun: suite is not of the first form\n",
+            "xdrun: test 0: missing key\n",
+        ),
+        (
+            "[[test]]\nid = \"a@g\"\nrun = [\"true\"]\n[[test]]\nid = \"a\"\nrun = [\"true\"]\ngroup = \"g\"\n",
+            &SUITE_0,
+            &[],
+            "xdrun: test 1: repeated id\n",
         ),
     ];
     for (suite, given, files, line) in rows {

@@ -25,9 +25,14 @@ use std::sync::Wait;
 use xd_edge::{Children, Clock, FileFault, Files, OutOfMemory, Sink, Text};
 use xd_ledger::Journal;
 use xd_report::status_of;
-use xd_suite::{Suite, SuiteRefusal, SuiteWhat};
+use xd_suite::{Suite, SuiteFault, SuiteRefusal, SuiteWhat};
 
 const MAX_SUITE_BYTES: u64 = 4_194_304;
+
+const TOO_LARGE: SuiteFault = SuiteFault {
+    test: None,
+    what: SuiteWhat::TooLarge,
+};
 
 /// What a call came to.
 #[derive(Drop)]
@@ -87,7 +92,7 @@ pub fn xdrun<R: Wait, F: Files, K: Children, T: Clock, O: Sink, E: Sink>(
     if let Some(path) = messages_named(words) {
         return match print_file(alloc, path, files, out)? {
             Ok(how) => Ok(without_run(wire_status(how), children)),
-            Err(why) => Ok(refused(err, why, children)),
+            Err(why) => refused(alloc, err, why, children),
         };
     }
     match read_suite(alloc, words, files)? {
@@ -100,7 +105,10 @@ pub fn xdrun<R: Wait, F: Files, K: Children, T: Clock, O: Sink, E: Sink>(
                 children,
             })
         }
-        Err(why) => Ok(refused(err, why, children)),
+        Err(why) => {
+            let end = refused(alloc, err, why, children)?;
+            Ok(end)
+        }
     }
 }
 
@@ -116,14 +124,19 @@ fn without_run<K: Children>(status: u8, children: K) -> RunEnd<K>
     }
 }
 
-fn refused<K: Children, E: Sink>(err: &mut E, why: Refusal, children: K) -> RunEnd<K>
-    ensures status { result.status ≡ 4 }
-    ensures journal { result.journal ≡ None }
-    ensures children { result.children ≡ children }
-    ensures line { (shown : Bool) × Shows shown (refusal_line why) (E.sunk err.old) (E.sunk err.new) × (shown ≡ false → Rose (E.faults err.old) (E.faults err.new)) }
+fn refused<K: Children, E: Sink>(
+    alloc: Global,
+    err: &mut E,
+    why: Refusal,
+    children: K,
+) -> Result<RunEnd<K>, OutOfMemory>
+    ensures status { IfOk result (λ e. e.status ≡ 4) }
+    ensures journal { IfOk result (λ e. e.journal ≡ None) }
+    ensures children { IfOk result (λ e. e.children ≡ children) }
+    ensures line { IfOk result (λ _. (shown : Bool) × Shows shown (refusal_line why) (E.sunk err.old) (E.sunk err.new) × (shown ≡ false → Rose (E.faults err.old) (E.faults err.new))) }
 {
-    let _shown = refuse(err, why);
-    without_run(4, children)
+    let _shown = refuse(alloc, err, why)?;
+    Ok(without_run(4, children))
 }
 
 // The suite that the words name, or why there is none.
@@ -141,12 +154,12 @@ fn read_suite<F: Files>(
     let bytes = match files.read_file(alloc, path, MAX_SUITE_BYTES) {
         Ok(bytes) => bytes,
         Err(FileFault::Failed) => return Ok(Err(Refusal::Unread)),
-        Err(FileFault::TooLarge) => return Ok(Err(Refusal::Suite(SuiteWhat::TooLarge))),
+        Err(FileFault::TooLarge) => return Ok(Err(Refusal::Suite(TOO_LARGE))),
         Err(FileFault::OutOfMemory) => return Err(OutOfMemory),
     };
     match Suite::read(alloc, bytes.as_slice()) {
         Ok(suite) => Ok(Ok(suite)),
         Err(SuiteRefusal::OutOfMemory) => Err(OutOfMemory),
-        Err(SuiteRefusal::Bad(fault)) => Ok(Err(Refusal::Suite(fault.what))),
+        Err(SuiteRefusal::Bad(fault)) => Ok(Err(Refusal::Suite(fault))),
     }
 }

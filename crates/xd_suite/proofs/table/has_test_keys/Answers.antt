@@ -1,5 +1,5 @@
 use Rattle.std.proofs.Common.{◌∙◌}
-use Rattle.xd_suite.specs.Suite.{is_test_key}
+use Rattle.xd_suite.specs.Faults.{is_test_key}
 use Rattle.xd_suite.proofs.Keys.{has_only_keys-view}
 use Rattle.xd_suite.proofs.table.has_test_keys.Goals as goal
 
