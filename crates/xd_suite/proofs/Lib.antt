@@ -1,5 +1,6 @@
 pub mod Items
 pub mod Keys
+pub mod NewIds
 pub mod OneAnswer
 pub mod Runs
 pub mod SeenTexts

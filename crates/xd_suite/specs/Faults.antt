@@ -35,10 +35,12 @@ abbrev pub all_items : (Data → Bool) → Items → Bool
 all_items holds no_items = true
 all_items holds (item d ds) = holds d && all_items holds ds
 
+-- how many items there are
 abbrev pub count_items : Items → ℕ
 count_items no_items = 0
 count_items (item d ds) = count_items ds + 1
 
+-- a value is a text, or a table
 abbrev pub is_text : Data → Bool
 is_text d = is_some (as_str d)
 
@@ -50,6 +52,7 @@ abbrev pub is_array_with : (Items → Bool) → Option Items → Bool
 is_array_with holds None = false
 is_array_with holds (Some ds) = holds ds
 
+-- an array of nothing
 abbrev pub is_empty : Items → Bool
 is_empty ds = count_items ds == 0
 
@@ -79,6 +82,7 @@ abbrev pub is_id_if_any : Option (List ℕ) → Bool
 is_id_if_any None = true
 is_id_if_any (Some text) = is_id (chars text)
 
+-- `id` and `group` are ids, as far as they are texts
 abbrev pub has_good_ids : Members → Bool
 has_good_ids ms = is_id_if_any (text_at (codes "id") ms) && is_id_if_any (text_at (codes "group") ms)
 
@@ -101,6 +105,7 @@ abbrev pub repeat_from : ℕ → List (List ℕ) → List (List ℕ) → Option 
 repeat_from number before [] = None
 repeat_from number before (text ∷ texts) = if list_any (bytes_eq text) before then Some number else repeat_from (number + 1) (before ++ text ∷ []) texts
 
+-- the first text that stood before, counted from 0
 abbrev pub repeat_of : List (List ℕ) → Option ℕ
 repeat_of texts = repeat_from 0 [] texts
 

@@ -40,7 +40,7 @@ tests_of (item d ds) = test_of (members_of d) ∷ tests_of ds
 abbrev pub listed : Members → Items
 listed ms = unwrap_or (array_at (codes "test") ms) no_items
 
--- an id, `@` and a group; the id alone where there is no group
+-- an id, `@` and a group, as pytest-xdist's `remote.py` joins them; the id alone where there is no group
 abbrev pub with_group : List ℕ → Option (List ℕ) → List ℕ
 with_group id None = id
 with_group id (Some group) = id ++ 64 ∷ group

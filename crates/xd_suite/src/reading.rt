@@ -3,7 +3,7 @@ ghost use Rattle.std.specs.Prelude.{◌≡◌, ◌<◌, ◌≤◌, Some, None, l
 ghost use Rattle.std.specs.Str.{chars};
 ghost use Rattle.toml.specs.Data.{no_items};
 ghost use Rattle.toml.specs.View.{view, array_view, table_view};
-ghost use Rattle.xd_suite.specs.Faults.{fault_of, fault_of_test, fault_of_tests};
+ghost use Rattle.xd_suite.specs.Faults.{fault_of, fault_of_ids, fault_of_test, fault_of_tests};
 ghost use Rattle.xd_suite.specs.Suite.{Names};
 ghost use Rattle.xd_suite.specs.Tests.{array_at, listed, members_of, test_of, tests_of, text_at, texts_of};
 
@@ -25,6 +25,7 @@ pub fn read_suite(alloc: Global, table: &Table) -> Result<Vec<Test>, SuiteRefusa
     ensures tests { IfOk result (λ tests. tests.items ≡ tests_of (listed (table_view table.now))) }
     ensures runs { IfOk result (λ tests. All (λ t. 0 < length t.run) tests.items) }
     ensures few { IfOk result (λ tests. length tests.items ≤ 50000) }
+    ensures new_ids { IfOk result (λ tests. fault_of_ids tests.items ≡ None) }
     ensures refused { IfErr result (Names (fault_of (table_view table.now))) }
 {
     if !has_suite_keys(table) {

@@ -1,5 +1,6 @@
 // The tests of a suite file.
-ghost use Rattle.std.specs.Prelude.{◌≡◌, ◌<◌, length, map, IfOk, IfErr};
+ghost use Rattle.std.specs.Prelude.{◌≡◌, ◌<◌, None, length, IfOk, IfErr};
+ghost use Rattle.xd_suite.specs.Faults.{repeat_of};
 ghost use Rattle.xd_suite.specs.Suite.{IsSuiteOf, IsRefused};
 ghost use Rattle.xd_suite.specs.Tests.{ids_in, run_at};
 
@@ -20,14 +21,15 @@ pub struct Suite {
 }
 
 impl Model for Suite {
-    ghost use Rattle.std.specs.Prelude.{List, length, ◌≤◌, ◌<◌, All};
+    ghost use Rattle.std.specs.Prelude.{List, None, length, ◌≡◌, ◌≤◌, ◌<◌, All};
+    ghost use Rattle.xd_suite.specs.Faults.{fault_of_ids};
     ghost use Rattle.xd_suite.specs.declared.test.Test.{Test};
 
     ghost Value = { List Test };
 
     ghost view = { λ s. s.tests.items };
 
-    ghost invariant = { λ s. (length s.tests.items ≤ 50000) × All (λ t. 0 < length t.run) s.tests.items };
+    ghost invariant = { λ s. (length s.tests.items ≤ 50000) × All (λ t. 0 < length t.run) s.tests.items × (fault_of_ids s.tests.items ≡ None) };
 }
 
 impl Suite {
@@ -58,9 +60,11 @@ impl Suite {
     /// The ids of the tests in a mode, in order; no two are the same. In loadgroup the id of a test with a group is
     /// followed by `@` and the group.
     pub fn ids(&self, alloc: Global, mode: ModeKind) -> Result<Texts, OutOfMemory>
-        ensures { IfOk result (λ ids. ids ≡ ids_in mode self.now) }
+        ensures ids { IfOk result (λ ids. ids ≡ ids_in mode self.now) }
+        ensures once { IfOk result (λ ids. repeat_of ids ≡ None) }
     {
-        ids_in(alloc, &self.tests, mode)
+        let ids = ids_in(alloc, &self.tests, mode)?;
+        Ok(ids)
     }
 
     /// The program of a test, with its arguments.
