@@ -1,11 +1,11 @@
 -- A test without a fault runs something.
-use Rattle.std.proofs.Common.{◌≡◌, ℕ, ◌<◌, Bool, true, false, ◌&&◌, ◌||◌, not, List, [], ◌∷◌, length, Option, Some, None, is_some, if◌then◌else◌, refl, arith, codes}
+use Rattle.std.proofs.Common.{◌≡◌, ◌<◌, Bool, true, false, ◌&&◌, ◌||◌, not, length, Option, Some, None, is_some, if◌then◌else◌, refl, arith, codes}
 use Rattle.std.specs.Prelude.{unwrap_or}
 use Rattle.toml.specs.Data.{Items, no_items, item, Members, get_member}
 use Rattle.xd_suite.specs.declared.fault.SuiteWhat.{SuiteWhat}
 use Rattle.xd_suite.specs.declared.fault.SuiteWhat.TheVariants.{UnknownKey, WrongKind, Missing, BadId}
 use Rattle.xd_suite.specs.Faults.{all_items, fault_of_test, has_good_ids, has_group_kind, has_kinds, has_only_keys, is_array_with, is_empty, is_test_key, is_text, lacks_key}
-use Rattle.xd_suite.specs.Tests.{array_at, test_of, text_at, texts_of}
+use Rattle.xd_suite.specs.Tests.{array_at, text_at, texts_of}
 
 last_false : (a b c : Bool) → (a || b || c) ≡ false → c ≡ false
 last_false a b false e = refl

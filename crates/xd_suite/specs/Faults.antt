@@ -1,5 +1,5 @@
 -- What is wrong with the data of a suite file: each rule, and the first that is broken. A choice of this project.
-use Rattle.std.specs.Prelude.{ℕ, ◌+◌, ◌==◌, nat_le, Bool, true, false, ◌&&◌, ◌||◌, not, List, [], ◌∷◌, ◌++◌, map, length, Option, Some, None, is_some, option_map, option_and_then, if◌then◌else◌, codes}
+use Rattle.std.specs.Prelude.{ℕ, ◌+◌, ◌==◌, nat_le, Bool, true, false, ◌&&◌, ◌||◌, not, List, [], ◌∷◌, ◌++◌, length, Option, Some, None, is_some, option_map, if◌then◌else◌, codes}
 use Rattle.std.specs.List.{list_all, list_any}
 use Rattle.std.specs.Option.{option_or}
 use Rattle.std.specs.Str.{bytes_eq, chars}
@@ -9,7 +9,7 @@ use Rattle.xd_suite.specs.declared.test.Test.{Test}
 use Rattle.xd_suite.specs.declared.fault.SuiteWhat.{SuiteWhat}
 use Rattle.xd_suite.specs.declared.fault.SuiteWhat.TheVariants.{UnknownKey, WrongKind, TooMany, Missing, BadId, Repeated}
 use Rattle.xd_suite.specs.declared.fault.SuiteFault.{SuiteFault}
-use Rattle.xd_suite.specs.Tests.{array_at, ids_in, listed, members_of, test_of, tests_of, text_at}
+use Rattle.xd_suite.specs.Tests.{array_at, ids_in, listed, members_of, tests_of, text_at}
 
 -- a fault of the whole file, and one of a test, counted from 0
 abbrev pub of_file : SuiteWhat → SuiteFault

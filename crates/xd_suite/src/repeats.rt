@@ -1,5 +1,5 @@
 // Whether an id stands twice.
-ghost use Rattle.std.specs.Prelude.{◌≡◌, ◌≤◌, [], length, IfOk};
+ghost use Rattle.std.specs.Prelude.{◌≡◌, ◌≤◌, length, IfOk};
 ghost use Rattle.xd_suite.specs.Faults.{earlier, fault_of_ids, repeat_of};
 
 use crate::test::ids_in;

@@ -1,5 +1,5 @@
 -- A suite that is told is refused only where a fault of the files shows.
-use Rattle.std.proofs.Common.{◌≡◌, ℕ, ◌+◌, ◌≤◌, ◌<◌, ◌⊎◌, inl, inr, List, [], length, Option, Some, None, Result, Ok, Err, sym, ◌∙◌, ap, subst, arith}
+use Rattle.std.proofs.Common.{◌≡◌, ℕ, ◌<◌, inl, inr, List, [], length, Option, Some, None, Result, Ok, Err, sym, ◌∙◌, ap, subst, arith}
 use Rattle.std.specs.Prelude.{IsSomeAnd, MatchResult, unwrap_or}
 use Rattle.xd_edge.specs.Faults.{Rose, StoodStill}
 use Rattle.xd_edge.specs.Files.{Held, HasFile, HasLarger}

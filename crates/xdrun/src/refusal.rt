@@ -1,5 +1,5 @@
 // Why nothing is run.
-ghost use Rattle.std.specs.Prelude.{◌≡◌, ◌≤◌, ◌++◌, ◌∷◌, [], codes, false, IfOk, string_bytes};
+ghost use Rattle.std.specs.Prelude.{◌≡◌, ◌≤◌, false, IfOk, string_bytes};
 ghost use Rattle.xd_edge.specs.Faults.{Rose};
 ghost use Rattle.xd_suite.specs.FaultText.{fault_text};
 ghost use Rattle.xdrun.specs.Print.{Shows};
