@@ -50,7 +50,7 @@ char_of c s = ap chars (sym (append-nil (encode_utf8 c))) ∙ chars-encodes (c �
 pub pushed_char : (a new : List ℕ) (c : ℕ) → IsUtf8 a → IsScalar c → new ≡ a ++ encode_utf8 c → chars new ≡ chars a ++ c ∷ []
 pushed_char a new c u s e = ap chars e ∙ chars_append a (encode_utf8 c) u (IsUtf8-encode c s) ∙ ap (λ (x : List ℕ). chars a ++ x) (char_of c s)
 
-escapes_append : (a b : List ℕ) → escapes (a ++ b) ≡ escapes a ++ escapes b
+pub escapes_append : (a b : List ℕ) → escapes (a ++ b) ≡ escapes a ++ escapes b
 escapes_append [] b = refl
 escapes_append (c ∷ a) b = ap (λ (x : List ℕ). escaped c ++ x) (escapes_append a b) ∙ sym (append_assoc (escaped c) (escapes a) (escapes b))
 
