@@ -71,10 +71,6 @@ set_without xs empty first inner last e = rw (count_views xs, e) refl
 pub set_with : (xs : List Value) (empty first inner last : List ℕ) → (length xs ≡ 0 → ⊥) → shown_set empty first inner last (count (views xs)) ≡ between first inner last
 set_with xs empty first inner last h = rw (count_views xs, ne_eqb (length xs) 0 h) refl
 
-pub signed_words : (z : ℤ) → SFits w128 z → list_all is_ascii (signed_decimal z) ≡ true
-signed_words (pos n) h = all_ascii (decimal n) (IsAscii-decimal_wide n (omega arith))
-signed_words (negsuc n) h = all_ascii (decimal (suc n)) (IsAscii-decimal_wide (suc n) (omega arith))
-
 pub print_end : (out new start cs inner : List ℕ) → out ≡ (start ++ 34 ∷ []) ++ escapes cs → cs ≡ inner → new ≡ out ++ 34 ∷ [] → new ≡ start ++ 34 ∷ (escapes inner ++ 34 ∷ [])
 print_end out new start cs inner e f g =
     g ∙ ap (λ (x : List ℕ). x ++ 34 ∷ []) (e ∙ ap (λ (x : List ℕ). (start ++ 34 ∷ []) ++ escapes x) f)
