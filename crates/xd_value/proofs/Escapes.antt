@@ -90,5 +90,5 @@ all_chars (c ∷ cs) =
 pub escapes_pushed : (old new text cs : List ℕ) → IsUtf8 old → IsUtf8 new → text ≡ encode_utf8_all cs → new ≡ old ++ escapes text → chars new ≡ chars old ++ escapes cs
 escapes_pushed old new text cs u v e is =
     let bytes : encode_utf8_all (chars old ++ escapes cs) ≡ new =
-      encodes-append (chars old) (escapes cs) ∙ ap₂ (λ (x y : List ℕ). x ++ y) (encodes-chars old u) (sym (all_chars cs) ∙ ap escapes (sym e)) ∙ sym is in
+    encodes-append (chars old) (escapes cs) ∙ ap₂ (λ (x y : List ℕ). x ++ y) (encodes-chars old u) (sym (all_chars cs) ∙ ap escapes (sym e)) ∙ sym is in
     sym (chars_from_encodes (chars old ++ escapes cs) new v bytes)

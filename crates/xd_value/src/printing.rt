@@ -68,12 +68,7 @@ fn print(out: &mut Text, value: &Value) -> Result<(), AllocError>
 
 /// Items between two marks.
 #[cycle(print)]
-fn print_items(
-    out: &mut Text,
-    first: &str,
-    items: &[Value],
-    last: &str,
-) -> Result<(), AllocError>
+fn print_items(out: &mut Text, first: &str, items: &[Value], last: &str) -> Result<(), AllocError>
     requires opens { IsTrue (list_all is_ascii first.now) }
     requires closes { IsTrue (list_all is_ascii last.now) }
     ensures { OnOk result (out.new ≡ out.old ++ between first.now (shown_items [] (views items.now)) last.now) }
