@@ -3,7 +3,8 @@
 
 Run it at the top of the repository: python3 bench/wire.py [PROGRAM]. PROGRAM is ./xdrun where none is named. It writes
 a file of small messages, one of collections of 50,000 test ids, one of large texts and one of large bytes, some 60 MiB
-each, and prints MB a second and peak memory, each the best of three runs with the output thrown away. Of execnet there
+each, and prints MB a second by the clock and by the processor's time (user and system), and peak memory, each the best
+of three runs with the output thrown away. On a busy machine only the processor's time tells something. Of execnet there
 are two loops: one reads each message and decodes its payload, and one prints its line as well, as `wire` does, with the
 value in Python's own notation. Goals: at least 30 times the speed of execnet's loop, and a peak of at most the file and a few
 messages. Where execnet is not installed (python3-execnet on Debian) its part is skipped with a word.
@@ -102,7 +103,8 @@ FILES = {
 
 
 def measure(words):
-    """The seconds and the peak memory in MiB of the best of the runs, or None where it cannot be run."""
+    """The seconds by the clock and of the processor, each of the best of the runs, and the least peak memory in MiB, or
+    None where it cannot be run."""
     best = None
     for _ in range(RUNS):
         begun = time.monotonic()
@@ -117,8 +119,8 @@ def measure(words):
         if child.returncode != 0:
             print(f"  {words[0]}: status {child.returncode} {error[-200:]}")
             return None
-        if best is None or took < best[0]:
-            best = (took, usage.ru_maxrss / 1024)
+        run = (took, usage.ru_utime + usage.ru_stime, usage.ru_maxrss / 1024)
+        best = run if best is None else tuple(map(min, best, run))
     return best
 
 
@@ -154,11 +156,13 @@ def main():
             for what, words in runs:
                 found = measure(words)
                 if found is not None:
-                    speeds[what] = megabytes / found[0]
-                    print(f"  {what:16} {speeds[what]:9.1f} MB/s, peak {found[1]:7.1f} MiB")
+                    speeds[what] = megabytes / found[0], megabytes / found[1]
+                    clock, processor = speeds[what]
+                    print(f"  {what:16} {clock:9.1f} MB/s, {processor:9.1f} MB/s of the processor, peak {found[2]:7.1f} MiB")
             for what in ("execnet reads", "execnet prints"):
                 if "xdrun wire" in speeds and what in speeds:
-                    print(f"  xdrun wire beside `{what}`: {speeds['xdrun wire'] / speeds[what]:.1f} times as fast")
+                    clock, processor = (a / b for a, b in zip(speeds["xdrun wire"], speeds[what]))
+                    print(f"  xdrun wire beside `{what}`: {clock:.1f} times as fast, {processor:.1f} times by the processor")
 
 
 if __name__ == "__main__":
