@@ -1,7 +1,7 @@
 // Keys that stand already.
 ghost use Rattle.std.specs.Prelude.{◌≡◌, ◌||◌, Bool, true, false, IfOk, OnOk};
 ghost use Rattle.xd_value.specs.Tree.{Tree, same, has, has_key};
-ghost use Rattle.xd_value.specs.Keys.{Holds, Knows};
+ghost use Rattle.xd_value.specs.Keys.{Holds, Keeps, Knows};
 ghost use Rattle.xd_value.specs.View.{view, views, pair_views};
 
 use crate::checks::{is_among, is_key};
@@ -41,31 +41,59 @@ impl Seen {
 }
 
 /// The bytes of these items.
-fn seen_items(alloc: Global, items: &[Value]) -> Result<Seen, AllocError>
-    ensures { IfOk result (λ s. Holds s (λ t. has t (views items.now))) }
+fn seen_items(alloc: Global, items: &[Value]) -> Result<Box<Seen>, AllocError>
+    ensures { IfOk result (λ s. Holds s.value (λ t. has t (views items.now))) }
 {
     let mut seen = Seen::new(alloc);
-    for item in items.iter().rev() {
+    for item in items {
         seen.add(alloc, item)?;
     }
-    Ok(seen)
+    Ok(Box::new(alloc, seen)?)
 }
 
 /// The bytes of the keys of these pairs.
-fn seen_keys(alloc: Global, pairs: &[(Value, Value)]) -> Result<Seen, AllocError>
-    ensures { IfOk result (λ s. Holds s (λ t. has_key t (pair_views pairs.now))) }
+fn seen_keys(alloc: Global, pairs: &[(Value, Value)]) -> Result<Box<Seen>, AllocError>
+    ensures { IfOk result (λ s. Holds s.value (λ t. has_key t (pair_views pairs.now))) }
 {
     let mut seen = Seen::new(alloc);
     for pair in pairs {
         seen.add(alloc, &pair.0)?;
     }
-    Ok(seen)
+    Ok(Box::new(alloc, seen)?)
+}
+
+/// What is kept of these items once they are more than a few.
+fn kept_items(alloc: Global, kept: Option<Box<Seen>>, items: &[Value]) -> Result<Option<Box<Seen>>, AllocError>
+    requires { Keeps kept (λ t. has t (views items.now)) }
+    ensures { IfOk result (λ k. Keeps k (λ t. has t (views items.now))) }
+{
+    match kept {
+        None if items.len() >= FEW => {
+            let seen = seen_items(alloc, items)?;
+            Ok(Some(seen))
+        }
+        kept => Ok(kept),
+    }
+}
+
+/// What is kept of the keys of these pairs, as `kept_items`.
+fn kept_keys(alloc: Global, kept: Option<Box<Seen>>, pairs: &[(Value, Value)]) -> Result<Option<Box<Seen>>, AllocError>
+    requires { Keeps kept (λ t. has_key t (pair_views pairs.now)) }
+    ensures { IfOk result (λ k. Keeps k (λ t. has_key t (pair_views pairs.now))) }
+{
+    match kept {
+        None if pairs.len() >= FEW => {
+            let seen = seen_keys(alloc, pairs)?;
+            Ok(Some(seen))
+        }
+        kept => Ok(kept),
+    }
 }
 
 /// The keys that stand. Of a few nothing is kept.
 #[derive(Drop)]
 pub(crate) struct Keys {
-    pub(crate) seen: Option<Seen>,
+    pub(crate) seen: Option<Box<Seen>>,
 }
 
 impl Keys {
@@ -86,10 +114,8 @@ impl Keys {
         ensures answer { IfOk result (λ b. b ≡ has (view item.now) (views others.now)) }
         ensures known { OnOk result (Knows self.new (λ t. same t (view item.now) || has t (views others.now))) }
     {
-        let mut seen = match self.seen.take() {
-            Some(seen) => seen,
-            None if others.len() < FEW => return Ok(is_among(item, others)),
-            None => seen_items(alloc, others)?,
+        let Some(mut seen) = kept_items(alloc, self.seen.take(), others)? else {
+            return Ok(is_among(item, others));
         };
         let added = seen.add(alloc, item)?;
         self.seen = Some(seen);
@@ -107,10 +133,8 @@ impl Keys {
         ensures answer { IfOk result (λ b. b ≡ has_key (view key.now) (pair_views pairs.now)) }
         ensures known { OnOk result (Knows self.new (λ t. same t (view key.now) || has_key t (pair_views pairs.now))) }
     {
-        let mut seen = match self.seen.take() {
-            Some(seen) => seen,
-            None if pairs.len() < FEW => return Ok(is_key(key, pairs)),
-            None => seen_keys(alloc, pairs)?,
+        let Some(mut seen) = kept_keys(alloc, self.seen.take(), pairs)? else {
+            return Ok(is_key(key, pairs));
         };
         let added = seen.add(alloc, key)?;
         self.seen = Some(seen);
