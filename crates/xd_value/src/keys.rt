@@ -63,7 +63,11 @@ fn seen_keys(alloc: Global, pairs: &[(Value, Value)]) -> Result<Box<Seen>, Alloc
 }
 
 /// What is kept of these items once they are more than a few.
-fn kept_items(alloc: Global, kept: Option<Box<Seen>>, items: &[Value]) -> Result<Option<Box<Seen>>, AllocError>
+fn kept_items(
+    alloc: Global,
+    kept: Option<Box<Seen>>,
+    items: &[Value],
+) -> Result<Option<Box<Seen>>, AllocError>
     requires { Keeps kept (λ t. has t (views items.now)) }
     ensures { IfOk result (λ k. Keeps k (λ t. has t (views items.now))) }
 {
@@ -77,7 +81,11 @@ fn kept_items(alloc: Global, kept: Option<Box<Seen>>, items: &[Value]) -> Result
 }
 
 /// What is kept of the keys of these pairs, as `kept_items`.
-fn kept_keys(alloc: Global, kept: Option<Box<Seen>>, pairs: &[(Value, Value)]) -> Result<Option<Box<Seen>>, AllocError>
+fn kept_keys(
+    alloc: Global,
+    kept: Option<Box<Seen>>,
+    pairs: &[(Value, Value)],
+) -> Result<Option<Box<Seen>>, AllocError>
     requires { Keeps kept (λ t. has_key t (pair_views pairs.now)) }
     ensures { IfOk result (λ k. Keeps k (λ t. has_key t (pair_views pairs.now))) }
 {

@@ -29,10 +29,7 @@ pub(crate) fn constant<'a>(
 }
 
 #[tactic(auto, unfolding(crate::specs::Reading::read_int))]
-pub(crate) fn int<'a>(
-    stack: &mut Vec<Slot>,
-    rest: &'a [u8],
-) -> Result<&'a [u8], StepFault>
+pub(crate) fn int<'a>(stack: &mut Vec<Slot>, rest: &'a [u8]) -> Result<&'a [u8], StepFault>
     ensures { Gives (λ r. (cells_of stack.new.items, r.now)) result (read_int (cells_of stack.old.items) rest.now) }
 {
     let (n, rest) = number(rest)?;
@@ -67,10 +64,7 @@ pub(crate) fn latin(alloc: Global, bytes: &[u8]) -> Result<Text, AllocError>
 }
 
 #[tactic(auto, unfolding(crate::specs::Reading::read_long))]
-pub(crate) fn long<'a>(
-    stack: &mut Vec<Slot>,
-    rest: &'a [u8],
-) -> Result<&'a [u8], StepFault>
+pub(crate) fn long<'a>(stack: &mut Vec<Slot>, rest: &'a [u8]) -> Result<&'a [u8], StepFault>
     ensures { Gives (λ r. (cells_of stack.new.items, r.now)) result
         (read_long (cells_of stack.old.items) rest.now) }
 {
@@ -83,10 +77,7 @@ pub(crate) fn long<'a>(
 }
 
 #[tactic(auto, unfolding(crate::specs::Reading::read_channel))]
-pub(crate) fn channel<'a>(
-    stack: &mut Vec<Slot>,
-    rest: &'a [u8],
-) -> Result<&'a [u8], StepFault>
+pub(crate) fn channel<'a>(stack: &mut Vec<Slot>, rest: &'a [u8]) -> Result<&'a [u8], StepFault>
     ensures { Gives (λ r. (cells_of stack.new.items, r.now)) result
         (read_channel (cells_of stack.old.items) rest.now) }
 {
