@@ -1,0 +1,5 @@
+pub mod Line
+pub mod Turns
+pub mod History
+pub mod Stands
+pub mod Rows

@@ -1,0 +1,160 @@
+-- How the parts of a `RunTests` stand for a call of the function.
+use Rattle.std.specs.Prelude.{◌≡◌, ℕ, ◌+◌, ◌<◌, List, [], ◌∷◌, ◌++◌, length, Bool, true, false, Option, Some, None, is_some, option_to_list, slice_index_or, slice_set, slice_get, not, ◌&&◌, map, if◌then◌else◌}
+use Rattle.xd_gateway.specs.declared.order.Order.{Order}
+use Rattle.xd_run_tests.specs.declared.place.Place.{Place}
+use Rattle.xd_run_tests.specs.declared.place.Place.TheVariants.{Test, Mark}
+use Rattle.xd_run_tests.specs.declared.place.Standing.{Standing}
+use Rattle.xd_run_tests.specs.declared.place.Standing.TheVariants.{Free, Queued, Passed}
+use Rattle.xd_run_tests.specs.declared.phase.Phase.{Phase}
+use Rattle.xd_run_tests.specs.declared.phase.Phase.TheVariants.{Serving}
+use Rattle.xd_run_tests.specs.declared.run_tests.Running.{Running}
+use Rattle.xd_run_tests.specs.declared.ask.Acts.{Acts}
+use Rattle.xd_run_tests.specs.declared.run_tests.steal.Asked.{Asked}
+use Rattle.xd_run_tests.specs.declared.run_tests.steal.Asked.TheVariants.{Bad, Missing, Marked}
+use Rattle.xd_run_tests.specs.declared.run_tests.RunTests.{RunTests}
+use Rattle.xd_run_tests.specs.Line.{Call, running_test, log_of, has_test, can_give, can_ask, all_queued, is_among, taken, kept}
+use Rattle.xd_run_tests.specs.Turns.{Turn}
+
+abbrev pub running_places : Option Running → List Place
+running_places None = []
+running_places (Some r) = Test r.test ∷ []
+
+abbrev pub test_of : Option Running → Option ℕ
+test_of None = None
+test_of (Some r) = Some r.test
+
+-- the tests that stand, with this place ahead of the queue
+abbrev pub passing : List Standing → Place → List Standing
+passing stands (Test n) = slice_set stands n Passed
+passing stands Mark = stands
+
+abbrev pub passing_some : List Standing → Option Place → List Standing
+passing_some stands None = stands
+passing_some stands (Some p) = passing stands p
+
+abbrev pub is_free : Option Standing → Bool
+is_free None = false
+is_free (Some Free) = true
+is_free (Some Queued) = false
+is_free (Some Passed) = false
+
+abbrev pub free_at : List Standing → ℕ → Bool
+free_at stands n = is_free (slice_get stands n)
+
+abbrev pub standing_by : Bool → Bool → Standing
+standing_by is_ahead is_queued = if is_ahead then Passed else (if is_queued then Queued else Free)
+
+abbrev pub standing_of : ℕ → List Place → List Place → Standing
+standing_of n ahead queue = standing_by (has_test n ahead) (has_test n queue)
+
+-- no test stands twice
+abbrev pub once : List Place → Bool
+once [] = true
+once (Test n ∷ ps) = not (has_test n ps) && once ps
+once (Mark ∷ ps) = once ps
+
+abbrev pub is_queued : Option Standing → Bool
+is_queued None = false
+is_queued (Some Free) = false
+is_queued (Some Queued) = true
+is_queued (Some Passed) = false
+
+abbrev pub queued_at : List Standing → ℕ → Bool
+queued_at stands n = is_queued (slice_get stands n)
+
+abbrev pub all_queued_at : List Standing → List ℕ → Bool
+all_queued_at stands [] = true
+all_queued_at stands (n ∷ ns) = queued_at stands n && all_queued_at stands ns
+
+abbrev pub is_true : Option Bool → Bool
+is_true None = false
+is_true (Some b) = b
+
+-- the marks are those of these tests
+pub record AreMarked (marks : List Bool) (ns : List ℕ) : Type 0 where
+  pub at : (n : ℕ) → is_true (slice_get marks n) ≡ is_among n ns
+
+pub record Asks (size : ℕ) (stands : List Standing) (ns : List ℕ) (marks : List Bool) : Type 0 where
+  pub can : can_ask size [] ns ≡ true
+  pub queued : all_queued_at stands ns ≡ true
+  pub marked : AreMarked marks ns
+
+abbrev pub IsAsked : List Standing → List ℕ → Asked → Type 0
+IsAsked stands ns Bad = can_ask (length stands) [] ns ≡ false
+IsAsked stands ns Missing = (can_ask (length stands) [] ns ≡ true) × (all_queued_at stands ns ≡ false)
+IsAsked stands ns (Marked v) = Asks (length stands) stands ns v.items
+
+abbrev pub freed_at : Bool → Standing → Standing
+freed_at b s = if b then Free else s
+
+-- of a queue some first places were gone through, and the asked tests among them taken out
+pub record TakenOut (ns : List ℕ) (before : List Standing) (queue : List Place) (after : List Standing) (rest : List Place) (back : List ℕ) (left : List Place) : Type 0 where
+  pub done : List Place
+  pub queue_is : queue ≡ done ++ rest
+  pub back_is : back ≡ taken ns done
+  pub left_is : left ≡ kept ns done
+  pub size : length after ≡ length before
+  pub freed : (n : ℕ) → n < length before → slice_index_or after n Free ≡ freed_at (has_test n done && is_among n ns) (slice_index_or before n Free)
+
+-- where each test of the suite stands
+pub record StandsAt (stands : List Standing) (ahead queue : List Place) : Type 0 where
+  pub at : (n : ℕ) → n < length stands → slice_index_or stands n Free ≡ standing_of n ahead queue
+
+-- the line is cut into the ended tests, the running one, the next entry and the queue
+pub record IsCut (running : Option Running) (next : Option Place) (queue : List Place) (stands : List Standing) (line : List Place) (ended : ℕ) : Type 0 where
+  pub done : List Place
+  pub count : length done ≡ ended
+  pub line_is : line ≡ (done ++ (running_places running ++ option_to_list next)) ++ queue
+  -- behind a running test there is a next entry
+  pub idle : next ≡ None → running ≡ None
+  pub standing : StandsAt stands (done ++ (running_places running ++ option_to_list next)) queue
+
+abbrev pub IsLog : Option Running → ℕ → ℕ → Type 0
+IsLog None next ended = next ≡ log_of ended
+IsLog (Some r) next ended = (r.log ≡ log_of ended) × (next ≡ log_of (ended + 1))
+
+-- what holds in every phase
+pub record IsHeld (s : RunTests) (c : Call) : Type 0 where
+  pub waiting_is : s.waiting.items ≡ c.waiting
+  pub size_is : length s.stands.items ≡ c.size
+  pub suite_is : s.size ≡ c.size
+  pub sent_is : s.sent ≡ c.sent
+  pub once_is : once c.line ≡ true
+  pub runs_is : is_some s.running ≡ c.running
+  pub test_is : test_of s.running ≡ running_test c
+  pub log_is : IsLog s.running s.next_log c.ended
+
+pub record IsCall (s : RunTests) (c : Call) : Type 0 where
+  pub held : IsHeld s c
+  pub phase_is : s.phase ≡ c.phase
+  pub cut : c.phase ≡ Serving → IsCut s.running s.next s.queue.items s.stands.items c.line c.ended
+
+-- without a next entry the queue is empty
+abbrev pub IsReady : RunTests → Call → Type 0
+IsReady s c = c.phase ≡ Serving → s.next ≡ None → s.queue.items ≡ []
+
+pub record HasActed (a : Acts) (t : Turn) : Type 0 where
+  pub asks_are : a.asks.items ≡ t.asks
+  pub run_is : a.run ≡ t.run
+
+pub record Holds (s : RunTests) (a : Acts) (t : Turn) : Type 0 where
+  pub held : IsHeld s t.call
+  pub acted : HasActed a t
+
+-- a turn in which the line has not moved on yet
+pub record Moves (s : RunTests) (a : Acts) (t : Turn) : Type 0 where
+  pub call : IsCall s t.call
+  pub acted : HasActed a t
+
+-- the parts and the acts so far are those of a turn
+pub record Stands (s : RunTests) (a : Acts) (t : Turn) : Type 0 where
+  pub call : IsCall s t.call
+  pub ready : IsReady s t.call
+  pub acted : HasActed a t
+
+-- tests were put behind a queue, or one of them cannot be
+pub record Appends (stands : List Standing) (queue : List Place) (stands' : List Standing) (queue' : List Place) (ns : List ℕ) (b : Bool) : Type 0 where
+  pub size : length stands' ≡ length stands
+  pub gives : (ahead : List Place) → StandsAt stands ahead queue → b ≡ can_give (length stands) (ahead ++ queue) ns
+  pub queue_is : b ≡ true → queue' ≡ queue ++ map Test ns
+  pub standing : (ahead : List Place) → b ≡ true → StandsAt stands ahead queue → StandsAt stands' ahead queue'

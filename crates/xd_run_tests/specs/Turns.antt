@@ -1,0 +1,214 @@
+-- What one input makes the function do: what it asks for, in order, and a test to start.
+use Rattle.std.specs.Prelude.{ℕ, ◌<◌, ◌^◌, ◌+◌, ◌-◌, ◌*◌, ◌&&◌, nat_le, List, [], ◌∷◌, ◌++◌, length, take, map, Bool, true, false, Option, Some, None, if◌then◌else◌, codes}
+use Rattle.std.specs.List.{range_with_len}
+use Rattle.xd_gateway.specs.declared.order.Order.{Order}
+use Rattle.xd_gateway.specs.declared.order.Order.TheVariants.{RunTests, RunAll, Steal, Shutdown}
+use Rattle.xd_ledger.specs.declared.entry.Outcome.{Outcome}
+use Rattle.xd_ledger.specs.declared.news.What.{What}
+use Rattle.xd_ledger.specs.declared.news.What.TheVariants.{Collected, LogStart, Done, Back, Finished}
+use Rattle.xd_run_tests.specs.declared.place.Place.{Place}
+use Rattle.xd_run_tests.specs.declared.place.Place.TheVariants.{Test, Mark}
+use Rattle.xd_run_tests.specs.declared.phase.Ending.{Ending}
+use Rattle.xd_run_tests.specs.declared.phase.Ending.TheVariants.{BadCommand, ReceivingEnded}
+use Rattle.xd_run_tests.specs.declared.phase.Phase.{Phase}
+use Rattle.xd_run_tests.specs.declared.phase.Phase.TheVariants.{Awaiting, Serving, Stopped, Over}
+use Rattle.xd_run_tests.specs.declared.phase.Phase.TheVariants as phase
+use Rattle.xd_run_tests.specs.declared.ask.Ask.{Ask}
+use Rattle.xd_run_tests.specs.declared.ask.Ask.TheVariants.{Tell, Piece, CloseLog, End}
+use Rattle.xd_run_tests.specs.declared.input.Input.{Input}
+use Rattle.xd_run_tests.specs.declared.input.Input.TheVariants as input
+use Rattle.xd_run_tests.specs.Line.{Call, left, front, queue, running_test, log_of, can_give, can_ask, all_queued, kept, taken}
+
+-- an input's effect so far: what the side is asked, and a test to start
+pub record Turn : Type 0 where
+  pub call : Call
+  pub asks : List Ask
+  pub run : Option ℕ
+
+abbrev pub asking : List Ask → Turn → Turn
+asking asks t = record t { asks = t.asks ++ asks }
+
+abbrev pub too_many_channels : List ℕ
+too_many_channels = codes "too many channels"
+
+abbrev pub ending_text : Ending → Option (List ℕ)
+ending_text BadCommand = Some (codes "bad command")
+ending_text ReceivingEnded = None
+
+-- the function ends
+abbrev pub over : Option (List ℕ) → Turn → Turn
+over text t = record { call = record (t.call) { phase = Over }; asks = t.asks ++ End text ∷ []; run = t.run }
+
+-- an early end: the function ends, once no test runs
+abbrev pub ended_early : Ending → Turn → Turn
+ended_early e t =
+    if t.call.running then record t { call = record (t.call) { phase = phase.Ending e } } else over (ending_text e) t
+
+abbrev pub finished : Turn → Turn
+finished t = over None (asking (Tell Finished ∷ []) t)
+
+abbrev pub has_log : ℕ → Bool
+has_log m = nat_le (log_of m) 2147483647
+
+abbrev pub started : ℕ → Turn → Turn
+started n t = record {
+  call = record (t.call) { running = true; sent = 0 };
+  asks = t.asks ++ Tell (LogStart n (log_of t.call.ended)) ∷ [];
+  run = Some n;
+}
+
+-- what the line's left part lets happen where nothing runs: a mark is reached, or a test with an entry behind it
+abbrev pub moved_on : Bool → List Place → Turn → Turn
+moved_on room [] t = t
+moved_on room (Mark ∷ ps) t = finished t
+moved_on room (Test n ∷ []) t = t
+moved_on room (Test n ∷ (p ∷ ps)) t = if room && has_log t.call.ended then started n t else over (Some too_many_channels) t
+
+abbrev pub settled : Bool → Turn → Turn
+settled room t = if t.call.running then t else moved_on room (left t.call) t
+
+-- the orders
+abbrev pub given : Bool → List ℕ → Turn → Turn
+given room ns t =
+    if can_give t.call.size t.call.line ns
+    then settled room (record t { call = record (t.call) { line = t.call.line ++ map Test ns } })
+    else ended_early BadCommand t
+
+abbrev pub stolen : List ℕ → Turn → Turn
+stolen ns t =
+    if all_queued (queue t.call) ns
+    then asking (Tell (Back (taken ns (queue t.call))) ∷ [])
+    (record t { call = record (t.call) { line = front t.call ++ kept ns (queue t.call) } })
+    else asking (Tell (Back []) ∷ []) t
+
+abbrev pub stolen_if : List ℕ → Turn → Turn
+stolen_if ns t = if can_ask t.call.size [] ns then stolen ns t else ended_early BadCommand t
+
+abbrev pub told : Bool → Option Order → Turn → Turn
+told room None t = ended_early BadCommand t
+told room (Some (RunTests ns)) t = given room ns t
+told room (Some RunAll) t = given room (range_with_len 0 t.call.size) t
+told room (Some (Steal ns)) t = stolen_if ns t
+told room (Some Shutdown) t = settled room (record t { call = record (t.call) { line = t.call.line ++ Mark ∷ [] } })
+
+-- an item: ahead of the collection it waits, and behind an end it is left out
+abbrev pub heard_in : Phase → Bool → Option Order → Turn → Turn
+heard_in Awaiting room o t = record t { call = record (t.call) { waiting = t.call.waiting ++ o ∷ [] } }
+heard_in Serving room o t = told room o t
+heard_in (phase.Ending e) room o t = t
+heard_in Stopped room o t = t
+heard_in Over room o t = t
+
+abbrev pub heard : Bool → Option Order → Turn → Turn
+heard room o t = heard_in t.call.phase room o t
+
+abbrev pub all_heard : Bool → List (Option Order) → Turn → Turn
+all_heard room [] t = t
+all_heard room (o ∷ os) t = all_heard room os (heard room o t)
+
+-- the function serves a suite of so many tests from now on
+abbrev pub opened : ℕ → Call → Call
+opened size c = record c { phase = Serving; size = size; waiting = []; line = []; ended = 0; running = false }
+
+-- the collection is sent, and what waited takes effect
+abbrev pub collected_in : Phase → Bool → List (List ℕ) → Turn → Turn
+collected_in Awaiting room ids t =
+    all_heard room t.call.waiting (record {
+      call = opened (length ids) t.call;
+      asks = t.asks ++ Tell (Collected ids) ∷ [];
+      run = t.run;
+    })
+collected_in Serving room ids t = t
+collected_in (phase.Ending e) room ids t = t
+collected_in Stopped room ids t = t
+collected_in Over room ids t = t
+
+abbrev pub suite_refused_in : Phase → List ℕ → Turn → Turn
+suite_refused_in Awaiting text t = over (Some text) t
+suite_refused_in Serving text t = t
+suite_refused_in (phase.Ending e) text t = t
+suite_refused_in Stopped text t = t
+suite_refused_in Over text t = t
+
+abbrev pub receiving_ended_in : Phase → Turn → Turn
+receiving_ended_in Awaiting t = ended_early ReceivingEnded t
+receiving_ended_in Serving t = ended_early ReceivingEnded t
+receiving_ended_in (phase.Ending e) t = t
+receiving_ended_in Stopped t = t
+receiving_ended_in Over t = t
+
+abbrev pub piece_asks : ℕ → List ℕ → List Ask
+piece_asks log [] = []
+piece_asks log (b ∷ bs) = Piece log (b ∷ bs) ∷ []
+
+-- a piece of output, of which the log takes 8,192 bytes in all
+abbrev pub put_out : List ℕ → Turn → Turn
+put_out bytes t = record {
+  call = record (t.call) { sent = t.call.sent + length (take (8192 - t.call.sent) bytes) };
+  asks = t.asks ++ piece_asks (log_of t.call.ended) (take (8192 - t.call.sent) bytes);
+  run = t.run;
+}
+
+abbrev pub output_in : Phase → List ℕ → Turn → Turn
+output_in Stopped bytes t = t
+output_in Awaiting bytes t = put_out bytes t
+output_in Serving bytes t = put_out bytes t
+output_in (phase.Ending e) bytes t = put_out bytes t
+output_in Over bytes t = put_out bytes t
+
+-- the running test ended
+abbrev pub without_run : Call → Call
+without_run c = record c { running = false; ended = c.ended + 1 }
+
+abbrev pub told_done : ℕ → Outcome → ℕ → Turn → Turn
+told_done n outcome ms t = record {
+  call = without_run t.call;
+  asks = t.asks ++ CloseLog (log_of t.call.ended) ∷ Tell (Done n outcome ms) ∷ [];
+  run = t.run;
+}
+
+abbrev pub done_in : Phase → Bool → ℕ → Outcome → ℕ → Turn → Turn
+done_in Serving room n outcome ms t = settled room (told_done n outcome ms t)
+done_in (phase.Ending e) room n outcome ms t = over (ending_text e) (told_done n outcome ms t)
+done_in Stopped room n outcome ms t = record t { call = without_run t.call }
+done_in Awaiting room n outcome ms t = t
+done_in Over room n outcome ms t = t
+
+abbrev pub done_of : Option ℕ → Phase → Bool → Outcome → ℕ → Turn → Turn
+done_of None phase room outcome ms t = t
+done_of (Some n) phase room outcome ms t = done_in phase room n outcome ms t
+
+-- GATEWAY_TERMINATE or the link's end: nothing more is said, and no test starts
+abbrev pub stopped : Turn → Turn
+stopped t = record t { call = record (t.call) { phase = Stopped } }
+
+abbrev pub output_of : Option ℕ → Phase → List ℕ → Turn → Turn
+output_of None phase bytes t = t
+output_of (Some n) phase bytes t = output_in phase bytes t
+
+-- one input in a phase, with a running test or none
+abbrev pub answered_in : Phase → Option ℕ → Bool → Input → Turn → Turn
+answered_in phase test room (input.Command o) t = heard_in phase room o t
+answered_in phase test room input.ReceivingEnded t = receiving_ended_in phase t
+answered_in phase test room (input.Suite ids) t = collected_in phase room ids t
+answered_in phase test room (input.SuiteRefused text) t = suite_refused_in phase text t
+answered_in phase test room (input.Output bytes) t = output_of test phase bytes t
+answered_in phase test room (input.Done outcome ms) t = done_of test phase room outcome ms t
+answered_in phase test room input.Stop t = stopped t
+
+-- one input; `room` says that the side's table is not full without the log of the running test
+abbrev pub answered : Bool → Input → Turn → Turn
+answered room f t = answered_in t.call.phase (running_test t.call) room f t
+
+abbrev pub turn_of : Call → Turn
+turn_of c = record { call = c; asks = []; run = None }
+
+-- a suite has fewer tests than 2 ^ 32
+abbrev pub CanTake : Input → Type 0
+CanTake (input.Command o) = Unit {0}
+CanTake input.ReceivingEnded = Unit {0}
+CanTake (input.Suite ids) = length ids < 2 ^ 32
+CanTake (input.SuiteRefused text) = Unit {0}
+CanTake (input.Output bytes) = Unit {0}
+CanTake (input.Done outcome ms) = Unit {0}
+CanTake input.Stop = Unit {0}

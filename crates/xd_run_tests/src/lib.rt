@@ -1,0 +1,25 @@
+//! The function `run_tests` of a worker, by itself: what it says, and which tests it starts. The rules are those of
+//! pytest-xdist's worker loop in its `remote.py`.
+//!
+//! It takes no part in channels, files or programs. Who calls it hands in the commands that came, the suite, and what
+//! the running test's program gave, and does what the answers ask for.
+#![tactic(auto)]
+
+mod ask;
+mod input;
+mod laws;
+mod phase;
+mod place;
+mod run_tests;
+
+pub use ask::{Acts, Ask};
+pub use input::Input;
+pub use laws::two_steals;
+pub use phase::{Ending, Phase};
+pub use place::{Place, Standing};
+pub use run_tests::{RunTests, Running};
+
+#[cfg(test)]
+mod histories;
+#[cfg(test)]
+mod tests;

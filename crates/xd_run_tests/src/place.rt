@@ -1,0 +1,16 @@
+// The places of the line of orders.
+
+/// An entry of the line of orders: a test, counted from 0 in the order of the suite, or a shutdown mark.
+#[derive(Clone, Copy)]
+pub enum Place {
+    Test(u32),
+    Mark,
+}
+
+/// Where a test of the suite stands: not in the line, in the queue, or ahead of the queue.
+#[derive(Clone, Copy)]
+pub enum Standing {
+    Free,
+    Queued,
+    Passed,
+}

@@ -1,0 +1,148 @@
+// The commands.
+ghost use Rattle.std.specs.Prelude.{ℕ, ◌^◌, slice_get, slice_index_or, slice_set, if◌then◌else◌, ◌≡◌, ◌++◌, ◌∷◌, [], ◌≤◌, ◌<◌, IfOk, OnOk, Option, Some, None, List, option_to_list, length, nat_lt, not, ◌&&◌, true, map};
+
+use super::RunTests;
+use crate::ask::Acts;
+use crate::phase::{Ending, Phase};
+use crate::place::{Place, Standing};
+use std::collections::VecDeque;
+use xd_edge::OutOfMemory;
+use xd_gateway::Order;
+
+impl RunTests {
+    ghost use Rattle.xd_run_tests.specs.declared.place.Place.{Place};
+    ghost use Rattle.xd_run_tests.specs.declared.place.Place.TheVariants.{Test, Mark};
+    ghost use Rattle.xd_run_tests.specs.declared.phase.Phase.TheVariants.{Serving};
+    ghost use Rattle.std.specs.List.{range_with_len};
+    ghost use Rattle.xd_run_tests.specs.declared.place.Standing.{Standing};
+    ghost use Rattle.xd_run_tests.specs.declared.place.Standing.TheVariants.{Free};
+    ghost use Rattle.xd_gateway.specs.declared.order.Order.TheVariants.{Shutdown};
+    ghost use Rattle.xd_run_tests.specs.Line.{Call, called, left};
+    ghost use Rattle.xd_run_tests.specs.Turns.{Turn, over, ended_early, finished, settled, moved_on, too_many_channels, ending_text, given, told, stolen_if, heard_in, all_heard, receiving_ended_in, suite_refused_in, stopped, collected_in, opened, done_of, told_done, put_out, output_of, answered_in, answered, turn_of, CanTake};
+    ghost use Rattle.xd_run_tests.specs.Stands.{Stands, IsReady, test_of, Moves, Holds, Appends, IsCall, passing_some, free_at, queued_at, IsAsked, AreMarked, TakenOut};
+
+    /// The test is one of the suite that does not stand in the line.
+    fn is_free(&self, test: u32) -> bool
+        ensures { result ≡ free_at self.now.stands.items test }
+    {
+        match self.stands.get(test as usize) {
+            Some(Standing::Free) => true,
+            _ => false,
+        }
+    }
+
+    /// Puts a test behind the queue. The answer is false where it is beyond the suite or stands in the line.
+    fn append(&mut self, test: u32) -> Result<bool, OutOfMemory>
+        ensures others { self.new ≡ record self.old { queue = self.new.queue; stands = self.new.stands } }
+        ensures appends { IfOk result (Appends self.old.stands.items self.old.queue.items self.new.stands.items self.new.queue.items (test ∷ [])) }
+    {
+        if !self.is_free(test) {
+            return Ok(false);
+        }
+        self.queue.push_back(Place::Test(test))?;
+        self.stands[test as usize] = Standing::Queued;
+        Ok(true)
+    }
+
+    /// Puts tests behind the queue. Where the answer is false the queue is of no use from then on.
+    fn append_all(&mut self, tests: &[u32]) -> Result<bool, OutOfMemory>
+        ensures others { OnOk result (self.new ≡ record self.old { queue = self.new.queue; stands = self.new.stands }) }
+        ensures appends { IfOk result (Appends self.old.stands.items self.old.queue.items self.new.stands.items self.new.queue.items tests.now) }
+    {
+        for test in tests {
+            if !self.append(*test)? {
+                return Ok(false);
+            }
+        }
+        Ok(true)
+    }
+
+    /// Tests are given: they stand behind the line, or the command is bad.
+    fn give(&mut self, acts: &mut Acts, tests: &[u32], room: bool) -> Result<(), OutOfMemory>
+        ensures { (t : Turn) → t.call.phase ≡ Serving → Stands self.old acts.old t → OnOk result (Stands self.new acts.new (given room tests.now t)) }
+    {
+        if self.append_all(tests)? {
+            self.settle(acts, room)
+        } else {
+            self.end_early(acts, Ending::BadCommand)
+        }
+    }
+
+    fn mark(&mut self) -> Result<(), OutOfMemory>
+        ensures others { self.new ≡ record self.old { queue = self.new.queue; stands = self.new.stands } }
+        ensures stands { self.new.stands.items ≡ self.old.stands.items }
+        ensures queue { OnOk result (self.new.queue.items ≡ self.old.queue.items ++ Mark ∷ []) }
+    {
+        self.queue.push_back(Place::Mark)?;
+        Ok(())
+    }
+
+    /// A shutdown mark stands behind the line.
+    fn shut(&mut self, acts: &mut Acts, room: bool) -> Result<(), OutOfMemory>
+        ensures { (t : Turn) → t.call.phase ≡ Serving → Stands self.old acts.old t → OnOk result (Stands self.new acts.new (told room (Some Shutdown) t)) }
+    {
+        self.mark()?;
+        self.settle(acts, room)
+    }
+
+    /// All tests of the suite, in order.
+    fn all_tests(&self) -> Result<Vec<u32>, OutOfMemory>
+        ensures { IfOk result (λ v. v.items ≡ range_with_len 0 self.now.size) }
+    {
+        let mut tests = Vec::new(self.alloc);
+        for test in 0..self.size {
+            tests.push(test)?;
+        }
+        Ok(tests)
+    }
+
+    /// An item of the channel while the function serves.
+    fn tell(&mut self, acts: &mut Acts, item: Option<Order>, room: bool) -> Result<(), OutOfMemory>
+        ensures { (t : Turn) → t.call.phase ≡ Serving → Stands self.old acts.old t → OnOk result (Stands self.new acts.new (told room item t)) }
+    {
+        match item {
+            None => self.end_early(acts, Ending::BadCommand),
+            Some(Order::RunTests(tests)) => self.give(acts, &tests.items, room),
+            Some(Order::RunAll) => {
+                let all = self.all_tests()?;
+                self.give(acts, &all, room)
+            }
+            Some(Order::Steal(tests)) => self.steal(acts, &tests.items),
+            Some(Order::Shutdown) => self.shut(acts, room),
+        }
+    }
+
+    /// An item of the channel. Ahead of the collection it waits, and behind an end it is left out.
+    pub(super) fn hear(
+        &mut self,
+        acts: &mut Acts,
+        item: Option<Order>,
+        room: bool,
+    ) -> Result<(), OutOfMemory>
+        ensures { (t : Turn) → t.call.phase ≡ self.old.phase → Stands self.old acts.old t → OnOk result (Stands self.new acts.new (heard_in self.old.phase room item t)) }
+    {
+        match self.phase {
+            Phase::Awaiting => {
+                self.waiting.push_back(item)?;
+                Ok(())
+            }
+            Phase::Serving => self.tell(acts, item, room),
+            Phase::Ending(_) | Phase::Stopped | Phase::Over => Ok(()),
+        }
+    }
+
+    /// What waited takes effect, one after another.
+    pub(super) fn hear_all(
+        &mut self,
+        acts: &mut Acts,
+        mut waiting: VecDeque<Option<Order>>,
+        room: bool,
+    ) -> Result<(), OutOfMemory>
+        ensures { (t : Turn) → Stands self.old acts.old t → OnOk result (Stands self.new acts.new (all_heard room waiting.items t)) }
+    {
+        while let Some(item) = waiting.pop_front() {
+            self.hear(acts, item, room)?;
+        }
+        Ok(())
+    }
+}

@@ -1,0 +1,113 @@
+// The running test.
+ghost use Rattle.std.specs.Prelude.{ℕ, ◌^◌, slice_get, slice_index_or, slice_set, if◌then◌else◌, ◌≡◌, ◌++◌, ◌∷◌, [], ◌≤◌, ◌<◌, IfOk, OnOk, Option, Some, None, List, option_to_list, length, nat_lt, not, ◌&&◌, true, map};
+
+use super::{RunTests, Running};
+use crate::ask::{Acts, Ask, request};
+use crate::phase::Phase;
+use xd_edge::{Blob, OutOfMemory};
+use xd_ledger::{Outcome, What};
+
+impl RunTests {
+    ghost use Rattle.xd_run_tests.specs.declared.place.Place.{Place};
+    ghost use Rattle.xd_run_tests.specs.declared.place.Place.TheVariants.{Test, Mark};
+    ghost use Rattle.xd_run_tests.specs.declared.phase.Phase.TheVariants.{Serving};
+    ghost use Rattle.std.specs.List.{range_with_len};
+    ghost use Rattle.xd_run_tests.specs.declared.place.Standing.{Standing};
+    ghost use Rattle.xd_run_tests.specs.declared.place.Standing.TheVariants.{Free};
+    ghost use Rattle.xd_gateway.specs.declared.order.Order.TheVariants.{Shutdown};
+    ghost use Rattle.xd_run_tests.specs.Line.{Call, called, left};
+    ghost use Rattle.xd_run_tests.specs.Turns.{Turn, over, ended_early, finished, settled, moved_on, too_many_channels, ending_text, given, told, stolen_if, heard_in, all_heard, receiving_ended_in, suite_refused_in, stopped, collected_in, opened, done_of, told_done, put_out, output_of, answered_in, answered, turn_of, CanTake};
+    ghost use Rattle.xd_run_tests.specs.Stands.{Stands, IsReady, test_of, Moves, Holds, Appends, IsCall, passing_some, free_at, queued_at, IsAsked, AreMarked, TakenOut};
+
+    /// The running test ended.
+    pub(super) fn complete(
+        &mut self,
+        acts: &mut Acts,
+        outcome: Outcome,
+        ms: u64,
+        room: bool,
+    ) -> Result<(), OutOfMemory>
+        ensures { (t : Turn) → Stands self.old acts.old t → OnOk result (Stands self.new acts.new (done_of (test_of self.old.running) self.old.phase room outcome ms t)) }
+    {
+        match self.running {
+            None => Ok(()),
+            Some(running) => match self.phase {
+                Phase::Awaiting | Phase::Over => Ok(()),
+                Phase::Stopped => {
+                    self.running = None;
+                    Ok(())
+                }
+                Phase::Serving => {
+                    self.tell_done(acts, running, outcome, ms)?;
+                    self.settle(acts, room)
+                }
+                Phase::Ending(ending) => {
+                    self.tell_done(acts, running, outcome, ms)?;
+                    let text = self.ending(ending)?;
+                    self.finish(acts, text)
+                }
+            },
+        }
+    }
+
+    fn tell_done(
+        &mut self,
+        acts: &mut Acts,
+        running: Running,
+        outcome: Outcome,
+        ms: u64,
+    ) -> Result<(), OutOfMemory>
+        ensures { (t : Turn) → self.old.running ≡ Some running → Stands self.old acts.old t → OnOk result (Moves self.new acts.new (told_done running.test outcome ms t)) }
+    {
+        let close = Ask::CloseLog { log: running.log };
+        let done = What::Done {
+            index: running.test,
+            outcome,
+            ms,
+        };
+        request(acts, close)?;
+        request(acts, Ask::Tell(done))?;
+        self.running = None;
+        Ok(())
+    }
+
+    /// A piece of the running test's output, of which its log takes 8,192 bytes in all.
+    fn put_piece(
+        &mut self,
+        acts: &mut Acts,
+        running: Running,
+        bytes: Blob,
+    ) -> Result<(), OutOfMemory>
+        ensures { (t : Turn) → self.old.running ≡ Some running → Stands self.old acts.old t → OnOk result (Stands self.new acts.new (put_out bytes t)) }
+    {
+        let all = bytes.as_slice();
+        let left = 8192usize.saturating_sub(self.sent);
+        let piece = if all.len() < left { all } else { &all[..left] };
+        if piece.is_empty() {
+            return Ok(());
+        }
+        request(
+            acts,
+            Ask::Piece {
+                log: running.log,
+                bytes: Blob::of(self.alloc, piece)?,
+            },
+        )?;
+        self.sent += piece.len();
+        Ok(())
+    }
+
+    pub(super) fn hear_output(&mut self, acts: &mut Acts, bytes: Blob) -> Result<(), OutOfMemory>
+        ensures { (t : Turn) → Stands self.old acts.old t → OnOk result (Stands self.new acts.new (output_of (test_of self.old.running) self.old.phase bytes t)) }
+    {
+        match self.running {
+            None => Ok(()),
+            Some(running) => match self.phase {
+                Phase::Stopped => Ok(()),
+                Phase::Awaiting | Phase::Serving | Phase::Ending(_) | Phase::Over => self.put_piece(
+                    acts, running, bytes,
+                ),
+            },
+        }
+    }
+}

@@ -1,0 +1,143 @@
+// Tests that are asked back.
+ghost use Rattle.xd_run_tests.specs.Stands.{is_true};
+ghost use Rattle.std.specs.Prelude.{ℕ, ◌^◌, slice_get, slice_index_or, slice_set, if◌then◌else◌, ◌≡◌, ◌++◌, ◌∷◌, [], ◌≤◌, ◌<◌, IfOk, OnOk, Option, Some, None, List, option_to_list, length, nat_lt, not, ◌&&◌, true, map};
+
+use super::RunTests;
+use crate::ask::{Acts, Ask, request};
+use crate::phase::Ending;
+use crate::place::{Place, Standing};
+use std::collections::VecDeque;
+use xd_edge::{Indices, OutOfMemory};
+use xd_ledger::What;
+
+/// What becomes of a steal.
+#[derive(Drop)]
+enum Asked {
+    /// A test is beyond the suite, or asked for twice.
+    Bad,
+    /// Not all of them are in the queue.
+    Missing,
+    /// All are; the tests that are asked for are marked.
+    Marked(Vec<bool>),
+}
+
+fn is_marked(marks: &[bool], test: u32) -> bool
+    ensures { result ≡ is_true (slice_get marks.now test) }
+{
+    match marks.get(test as usize) {
+        Some(true) => true,
+        _ => false,
+    }
+}
+
+impl RunTests {
+    ghost use Rattle.xd_run_tests.specs.declared.place.Place.{Place};
+    ghost use Rattle.xd_run_tests.specs.declared.place.Place.TheVariants.{Test, Mark};
+    ghost use Rattle.xd_run_tests.specs.declared.phase.Phase.TheVariants.{Serving};
+    ghost use Rattle.std.specs.List.{range_with_len};
+    ghost use Rattle.xd_run_tests.specs.declared.place.Standing.{Standing};
+    ghost use Rattle.xd_run_tests.specs.declared.place.Standing.TheVariants.{Free};
+    ghost use Rattle.xd_gateway.specs.declared.order.Order.TheVariants.{Shutdown};
+    ghost use Rattle.xd_run_tests.specs.Line.{Call, called, left};
+    ghost use Rattle.xd_run_tests.specs.Turns.{Turn, over, ended_early, finished, settled, moved_on, too_many_channels, ending_text, given, told, stolen_if, heard_in, all_heard, receiving_ended_in, suite_refused_in, stopped, collected_in, opened, done_of, told_done, put_out, output_of, answered_in, answered, turn_of, CanTake};
+    ghost use Rattle.xd_run_tests.specs.Stands.{Stands, IsReady, test_of, Moves, Holds, Appends, IsCall, passing_some, free_at, queued_at, IsAsked, AreMarked, TakenOut};
+
+    /// Which tests a steal asks for.
+    fn asked_tests(&self, tests: &[u32]) -> Result<Asked, OutOfMemory>
+        ensures { IfOk result (IsAsked self.now.stands.items tests.now) }
+    {
+        let size = self.stands.len();
+        let mut marks = vec![in self.alloc; false; size]?;
+        let mut all = true;
+        for test in tests {
+            if *test as usize >= size {
+                return Ok(Asked::Bad);
+            }
+            if is_marked(&marks, *test) {
+                return Ok(Asked::Bad);
+            }
+            marks[*test as usize] = true;
+            let queued = self.is_queued(*test);
+            all = all && queued;
+        }
+        if all {
+            Ok(Asked::Marked(marks))
+        } else {
+            Ok(Asked::Missing)
+        }
+    }
+
+    fn is_queued(&self, test: u32) -> bool
+        ensures { result ≡ queued_at self.now.stands.items test }
+    {
+        match self.stands.get(test as usize) {
+            Some(Standing::Queued) => true,
+            _ => false,
+        }
+    }
+
+    fn free(&mut self, test: u32)
+        ensures others { self.new ≡ record self.old { stands = self.new.stands } }
+        ensures stands { self.new.stands.items ≡ slice_set self.old.stands.items test Free }
+    {
+        if let Some(standing) = self.stands.get_mut(test as usize) {
+            *standing = Standing::Free;
+        }
+    }
+
+    /// A place of the queue is taken out where it is marked, and else kept.
+    fn sort_out(
+        &mut self,
+        marks: &[bool],
+        place: Place,
+        back: &mut Vec<u32>,
+        left: &mut VecDeque<Place>,
+    ) -> Result<(), OutOfMemory>
+        ensures others { self.new ≡ record self.old { stands = self.new.stands } }
+        ensures sorted { (ns : List ℕ) (before : List Standing) (queue rest : List Place) → AreMarked marks.now ns → TakenOut ns before queue self.old.stands.items (place ∷ rest) back.old.items left.old.items → OnOk result (TakenOut ns before queue self.new.stands.items rest back.new.items left.new.items) }
+    {
+        match place {
+            Place::Test(test) => {
+                if is_marked(marks, test) {
+                    back.push(test)?;
+                    self.free(test);
+                } else {
+                    left.push_back(place)?;
+                }
+            }
+            Place::Mark => left.push_back(place)?,
+        }
+        Ok(())
+    }
+
+    /// The marked tests leave the queue.
+    fn take_out(&mut self, marks: &[bool]) -> Result<Vec<u32>, OutOfMemory>
+        ensures others { OnOk result (self.new ≡ record self.old { queue = self.new.queue; stands = self.new.stands }) }
+        ensures taken { (ns : List ℕ) → AreMarked marks.now ns → IfOk result (λ back. TakenOut ns self.old.stands.items self.old.queue.items self.new.stands.items [] back.items self.new.queue.items) }
+    {
+        let mut back = Vec::new(self.alloc);
+        let mut left = VecDeque::new(self.alloc);
+        while let Some(place) = self.queue.pop_front() {
+            self.sort_out(marks, place, &mut back, &mut left)?;
+        }
+        self.queue = left;
+        Ok(back)
+    }
+
+    /// Asked tests go back, where all of them are in the queue.
+    pub(super) fn steal(&mut self, acts: &mut Acts, tests: &[u32]) -> Result<(), OutOfMemory>
+        ensures { (t : Turn) → t.call.phase ≡ Serving → Stands self.old acts.old t → OnOk result (Stands self.new acts.new (stolen_if tests.now t)) }
+    {
+        match self.asked_tests(tests)? {
+            Asked::Bad => self.end_early(acts, Ending::BadCommand),
+            Asked::Missing => {
+                let none = Vec::new(self.alloc);
+                request(acts, Ask::Tell(What::Back(Indices { items: none })))
+            }
+            Asked::Marked(marks) => {
+                let back = self.take_out(&marks)?;
+                request(acts, Ask::Tell(What::Back(Indices { items: back })))
+            }
+        }
+    }
+}

@@ -1,0 +1,88 @@
+// The suite, the end of the channel's receiving direction, and the end of the worker.
+ghost use Rattle.std.specs.Prelude.{ℕ, ◌^◌, slice_get, slice_index_or, slice_set, if◌then◌else◌, ◌≡◌, ◌++◌, ◌∷◌, [], ◌≤◌, ◌<◌, IfOk, OnOk, Option, Some, None, List, option_to_list, length, nat_lt, not, ◌&&◌, true, map};
+
+use super::RunTests;
+use crate::ask::{Acts, Ask, request};
+use crate::phase::{Ending, Phase};
+use crate::place::Standing;
+use std::collections::VecDeque;
+use xd_edge::{OutOfMemory, Text, Texts};
+use xd_gateway::Order;
+use xd_ledger::What;
+
+impl RunTests {
+    ghost use Rattle.xd_run_tests.specs.declared.place.Place.{Place};
+    ghost use Rattle.xd_run_tests.specs.declared.place.Place.TheVariants.{Test, Mark};
+    ghost use Rattle.xd_run_tests.specs.declared.phase.Phase.TheVariants.{Serving};
+    ghost use Rattle.std.specs.List.{range_with_len};
+    ghost use Rattle.xd_run_tests.specs.declared.place.Standing.{Standing};
+    ghost use Rattle.xd_run_tests.specs.declared.place.Standing.TheVariants.{Free};
+    ghost use Rattle.xd_gateway.specs.declared.order.Order.TheVariants.{Shutdown};
+    ghost use Rattle.xd_run_tests.specs.Line.{Call, called, left};
+    ghost use Rattle.xd_run_tests.specs.Turns.{Turn, over, ended_early, finished, settled, moved_on, too_many_channels, ending_text, given, told, stolen_if, heard_in, all_heard, receiving_ended_in, suite_refused_in, stopped, collected_in, opened, done_of, told_done, put_out, output_of, answered_in, answered, turn_of, CanTake};
+    ghost use Rattle.xd_run_tests.specs.Stands.{Stands, IsReady, test_of, Moves, Holds, Appends, IsCall, passing_some, free_at, queued_at, IsAsked, AreMarked, TakenOut};
+
+    /// The receiving direction of the channel ended.
+    pub(super) fn end_hearing(&mut self, acts: &mut Acts) -> Result<(), OutOfMemory>
+        ensures { (t : Turn) → Stands self.old acts.old t → OnOk result (Stands self.new acts.new (receiving_ended_in self.old.phase t)) }
+    {
+        match self.phase {
+            Phase::Awaiting | Phase::Serving => self.end_early(acts, Ending::ReceivingEnded),
+            Phase::Ending(_) | Phase::Stopped | Phase::Over => Ok(()),
+        }
+    }
+
+    /// The suite cannot be taken.
+    pub(super) fn refuse(&mut self, acts: &mut Acts, text: Text) -> Result<(), OutOfMemory>
+        ensures { (t : Turn) → Stands self.old acts.old t → OnOk result (Stands self.new acts.new (suite_refused_in self.old.phase text t)) }
+    {
+        match self.phase {
+            Phase::Awaiting => self.finish(acts, Some(text)),
+            Phase::Serving | Phase::Ending(_) | Phase::Stopped | Phase::Over => Ok(()),
+        }
+    }
+
+    /// GATEWAY_TERMINATE or the end of the link.
+    pub(super) fn stop(&mut self)
+        ensures { (a : Acts) (t : Turn) → Stands self.old a t → Stands self.new a (stopped t) }
+    {
+        self.phase = Phase::Stopped;
+    }
+
+    /// The collection is sent, and what waited takes effect.
+    pub(super) fn collect(
+        &mut self,
+        acts: &mut Acts,
+        ids: Texts,
+        room: bool,
+    ) -> Result<(), OutOfMemory>
+        requires { length ids < 2 ^ 32 }
+        ensures { (t : Turn) → Stands self.old acts.old t → OnOk result (Stands self.new acts.new (collected_in self.old.phase room ids t)) }
+    {
+        match self.phase {
+            Phase::Awaiting => {
+                let waiting = self.open(ids.items.len() as u32)?;
+                request(acts, Ask::Tell(What::Collected(ids)))?;
+                self.hear_all(acts, waiting, room)
+            }
+            Phase::Serving | Phase::Ending(_) | Phase::Stopped | Phase::Over => Ok(()),
+        }
+    }
+
+    /// The function serves a suite of so many tests from now on. What waited is handed out.
+    fn open(&mut self, size: u32) -> Result<VecDeque<Option<Order>>, OutOfMemory>
+        ensures waited { IfOk result (λ w. w.items ≡ self.old.waiting.items) }
+        ensures opened { (c : Call) → IsCall self.old c → OnOk result (IsCall self.new (opened size c)) }
+        ensures ready { OnOk result (self.new.queue.items ≡ []) }
+    {
+        self.stands = vec![in self.alloc; Standing::Free; size as usize]?;
+        self.size = size;
+        self.queue = VecDeque::new(self.alloc);
+        self.next = None;
+        self.running = None;
+        self.next_log = 2;
+        self.phase = Phase::Serving;
+        let waiting = std::mem::replace(&mut self.waiting, VecDeque::new(self.alloc));
+        Ok(waiting)
+    }
+}
