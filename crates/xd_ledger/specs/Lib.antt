@@ -5,10 +5,15 @@ pub mod Histories
 pub mod Legal
 pub mod Load
 pub mod Local
+pub mod Meaning
 pub mod Modes
 pub mod Numbers
+pub mod Orderly
 pub mod Outputs
+pub mod Owes
 pub mod Plan
+pub mod Proper
+pub mod Reports
 pub mod Results
 pub mod ScopeModes
 pub mod Scopes
