@@ -3,12 +3,16 @@
 
 mod entry;
 mod journal;
+mod member;
 mod news;
+mod seat;
 mod settings;
 
 pub use entry::{Cause, Entry, Ids, Outcome, RunStop};
 pub use journal::Journal;
+pub use member::{Listed, Member};
 pub use news::{News, What};
+pub use seat::Seat;
 pub use settings::Settings;
 
 #[cfg(test)]
