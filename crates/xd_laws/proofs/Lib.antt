@@ -1,0 +1,10 @@
+pub mod Logic
+pub mod Counts
+pub mod Rota
+pub mod Places
+pub mod Crew
+pub mod Fits
+pub mod Placed
+pub mod CrewFits
+pub mod Turns
+pub mod LoadTurns
