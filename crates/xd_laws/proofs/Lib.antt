@@ -8,3 +8,4 @@ pub mod Placed
 pub mod CrewFits
 pub mod Turns
 pub mod LoadTurns
+pub mod Rule
