@@ -1,10 +1,10 @@
 -- The numbers, slots and marks of the workers, whatever happens to one of them.
-use Rattle.std.proofs.Common.{◌≡◌, ℕ, ◌+◌, ◌≤◌, ◌<◌, List, [], ◌∷◌, ◌++◌, length, map, Bool, true, false, not, ◌&&◌, ◌||◌, refl, ap, sym, ◌∙◌, subst, arith, inl, inr, length-append}
+use Rattle.std.proofs.Common.{◌≡◌, ℕ, ◌<◌, List, [], ◌∷◌, ◌++◌, length, map, Bool, true, false, not, ◌&&◌, ◌||◌, refl, ap, sym, ◌∙◌, subst, arith, inl, inr}
 use Rattle.std.specs.Prelude.{if◌then◌else◌, ◌==◌, ◌⊎◌}
 use Rattle.std.proofs.lemmas.Bool.Decides.{nat_tests}
 use Rattle.xd_ledger.specs.declared.member.Member.{Member}
 use Rattle.xd_ledger.specs.Workers.{slot_in, started, made_ready, made_collected, made_shut, made_gone}
-use Rattle.xd_laws.proofs.Logic.{differ, cases_of, split-and, split-or, not_true, or-left}
+use Rattle.xd_laws.proofs.Logic.{differ, cases_of, split-and, not_true, or-left}
 use Rattle.xd_laws.proofs.Crew.{has, is_member, has-member, has-same, has-set, has-kept, has-cleared, has-more, numbers, Numbered, numbers-marked, numbered-same, numbered-more, length-numbers, none-next}
 
 -- slots

@@ -1,12 +1,12 @@
 -- The rota's workers and their marks agree, whatever happens to one of them.
-use Rattle.std.proofs.Common.{◌≡◌, ℕ, ◌+◌, ◌≤◌, List, [], ◌∷◌, ◌++◌, map, Bool, true, false, not, ◌&&◌, ◌||◌, refl, ap, sym, ◌∙◌, subst, arith, inl, inr}
+use Rattle.std.proofs.Common.{◌≡◌, ℕ, ◌≤◌, List, [], ◌∷◌, ◌++◌, map, Bool, true, false, not, ◌&&◌, ◌||◌, refl, ap, sym, ◌∙◌, subst, arith, inl, inr}
 use Rattle.std.specs.Prelude.{if◌then◌else◌, ◌==◌, ◌⊎◌}
 use Rattle.std.proofs.lemmas.Bool.Decides.{nat_tests}
 use Rattle.xd_ledger.specs.declared.seat.Seat.{Seat}
 use Rattle.xd_ledger.specs.declared.member.Member.{Member}
 use Rattle.xd_ledger.specs.Table.{Table, in_rota, seat_shut, at_seat, without_seat, joined, shut_down}
 use Rattle.xd_ledger.specs.Workers.{started, made_ready, made_collected, made_shut, made_gone}
-use Rattle.xd_laws.proofs.Logic.{split-and, split-or, not_true, or-left, or-false, and-false}
+use Rattle.xd_laws.proofs.Logic.{split-and, split-or, not_true, or-left, and-false}
 use Rattle.xd_laws.proofs.Rota.{seats_of, has_seat, is_told, one-of_seat, none-of_seat, untold-of_seat, seats-change, seat-change, told-change, told-shut, seat-left, told-left, seats-left, seat-joined, told-joined, seats-joined}
 use Rattle.xd_laws.proofs.Crew.{has, is_member, has-member, has-same, has-set, has-kept, has-cleared, has-more}
 

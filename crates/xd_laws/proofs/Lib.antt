@@ -9,3 +9,8 @@ pub mod CrewFits
 pub mod Turns
 pub mod LoadTurns
 pub mod Rule
+pub mod Inputs
+pub mod Outputs
+pub mod Runs
+pub mod LoadRule
+pub mod Laws

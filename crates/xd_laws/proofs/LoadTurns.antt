@@ -1,7 +1,6 @@
 -- The turns of mode load are in order.
-use Rattle.std.proofs.Common.{◌≡◌, ℕ, List, [], ◌∷◌, ◌++◌, length, Bool, true, false, refl, ap, sym, ◌∙◌, subst}
-use Rattle.std.specs.Prelude.{if◌then◌else◌, nat_lt, ◌*◌}
-use Rattle.xd_ledger.specs.Numbers.{all_among}
+use Rattle.std.proofs.Common.{◌≡◌, ℕ, List, [], ◌∷◌, ◌++◌, length, false}
+use Rattle.std.specs.Prelude.{nat_lt, ◌*◌}
 use Rattle.xd_ledger.specs.Table.{seat_shut, held, workers_of}
 use Rattle.xd_ledger.specs.Plan.{chunk_of}
 use Rattle.xd_ledger.specs.Turn.{Turn, give_front, shut, in_turn}

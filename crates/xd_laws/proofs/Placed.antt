@@ -1,6 +1,6 @@
 -- Behind each entry every item stands in one place.
-use Rattle.std.proofs.Common.{◌≡◌, ℕ, ◌+◌, ◌≤◌, ◌<◌, List, [], ◌∷◌, ◌++◌, drop, length, map, Bool, true, false, not, ◌&&◌, refl, ap, sym, ◌∙◌, subst, arith, inl, inr}
-use Rattle.std.specs.Prelude.{if◌then◌else◌, ◌==◌, Some, None, Option, slice_index, sum, is_none}
+use Rattle.std.proofs.Common.{◌≡◌, ℕ, ◌+◌, List, [], ◌∷◌, ◌++◌, drop, length, map, Bool, true, false, not, ◌&&◌, refl, ap, sym, ◌∙◌, subst, arith, inl, inr}
+use Rattle.std.specs.Prelude.{if◌then◌else◌, ◌==◌, Some, None, Option, slice_index, is_none}
 use Rattle.std.specs.List.{list_any, range_with_len}
 use Rattle.std.specs.Str.{bytes_eq}
 use Rattle.std.proofs.lemmas.Bool.Decides.{nat_tests}
@@ -12,21 +12,21 @@ use Rattle.xd_ledger.specs.declared.entry.Outcome.{Outcome}
 use Rattle.xd_ledger.specs.declared.entry.Entry.{Entry}
 use Rattle.xd_ledger.specs.declared.entry.Entry.TheVariants.{Ready, Collected, Done, Back, Finished, Refused, Down, NotStarted, Start, Run, RunAll, Steal, Shutdown, Kill, Over}
 use Rattle.xd_ledger.specs.Numbers.{among, without, all_distinct, all_among, times}
-use Rattle.xd_ledger.specs.Table.{Table, in_rota, held, all_items, assigned, completed, given_back, left, died, joined, shut_down}
+use Rattle.xd_ledger.specs.Table.{Table, in_rota, held, all_items, assigned, completed, given_back, left, died, joined}
 use Rattle.xd_ledger.specs.Plan.{Plan, Asked, base, items_named, slot_items, total, is_each}
-use Rattle.xd_ledger.specs.Books.{Books, marked}
-use Rattle.xd_ledger.specs.Workers.{is_active, was_ready, has_collected, is_shut, slot_of, started, made_ready, made_collected, made_shut, made_gone}
+use Rattle.xd_ledger.specs.Books.{marked}
+use Rattle.xd_ledger.specs.Workers.{is_active, was_ready, has_collected, is_shut, slot_of, made_collected}
 use Rattle.xd_ledger.specs.Collections.{unequal, listed, with_list}
 use Rattle.xd_ledger.specs.Stops.{stopped_by}
 use Rattle.xd_ledger.specs.Sharing.{State, in_books, joining, share_where_full, shared_now, is_full}
-use Rattle.xd_ledger.specs.State.{moved, all_moved, next, collecting, completed_first, steal_without}
+use Rattle.xd_ledger.specs.State.{moved, collecting, completed_first, steal_without}
 use Rattle.xd_ledger.specs.Proper.{may_follow, may_give_back, is_head, are_ids}
-use Rattle.xd_ledger.specs.Orderly.{is_orderly, all_orderly, may_run, not_empty}
+use Rattle.xd_ledger.specs.Orderly.{is_orderly, may_run, not_empty}
 use Rattle.xd_laws.proofs.Logic.{differ, cases_of, split-and, not_true, or-false, in_both}
-use Rattle.xd_laws.proofs.Counts.{times-range, distinct-range, all_among-drop, distinct-plus, among_of-all_among}
-use Rattle.xd_laws.proofs.Rota.{seats_of, none-of_seat, seat-of_held}
+use Rattle.xd_laws.proofs.Counts.{times-range, distinct-range, all_among-drop, distinct-plus}
+use Rattle.xd_laws.proofs.Rota.{none-of_seat, seat-of_held}
 use Rattle.xd_laws.proofs.Places.{AtMostOnce, times-table, assigned-keeps, completed-keeps, given_back-keeps, none_back-keeps, died-keeps, left-keeps, joined-keeps, shut-keeps}
-use Rattle.xd_laws.proofs.Crew.{has, is_member, has-member, has-same, has-set}
+use Rattle.xd_laws.proofs.Crew.{has, has-member, has-same, has-set}
 use Rattle.xd_laws.proofs.Fits.{Fits, one_seat, fits-change, fits-gone, fits-refused, fits-ready, fits-collected, fits-start, fits-shutdown, fits-joined}
 
 -- how often the item is to stand in all places together

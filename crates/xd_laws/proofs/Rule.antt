@@ -1,8 +1,9 @@
 -- What a mode has to keep, and lists of outputs that keep it.
-use Rattle.std.proofs.Common.{◌≡◌, ℕ, ◌+◌, ◌<◌, List, [], ◌∷◌, ◌++◌, length, map, Bool, true, false, not, ◌&&◌, refl, ap, sym, ◌∙◌, subst, arith, inl, inr}
-use Rattle.std.specs.Prelude.{if◌then◌else◌, ◌==◌}
+use Rattle.std.proofs.Common.{◌≡◌, ℕ, ◌<◌, List, [], ◌∷◌, ◌++◌, length, map, Bool, true, false, not, ◌&&◌, refl, sym, ◌∙◌, subst, arith, inl, inr}
+use Rattle.std.specs.Prelude.{◌==◌}
 use Rattle.std.specs.List.{range_with_len}
 use Rattle.std.proofs.lemmas.Bool.Decides.{nat_tests}
+use Rattle.xd_ledger.specs.declared.settings.Settings.{Settings}
 use Rattle.xd_ledger.specs.declared.member.Member.{Member}
 use Rattle.xd_ledger.specs.declared.entry.Entry.{Entry}
 use Rattle.xd_ledger.specs.declared.entry.Entry.TheVariants.{Start, Shutdown}
@@ -11,16 +12,16 @@ use Rattle.xd_ledger.specs.Plan.{is_each, total}
 use Rattle.xd_ledger.specs.Turn.{Turn}
 use Rattle.xd_ledger.specs.Modes.{Call}
 use Rattle.xd_ledger.specs.Modes.Call.{Share, Joined, TestDone, TestsBack, Died}
-use Rattle.xd_ledger.specs.Workers.{slot_of, started, made_shut, is_waiting}
+use Rattle.xd_ledger.specs.Workers.{slot_of, made_shut, is_waiting}
 use Rattle.xd_ledger.specs.Sharing.{State}
 use Rattle.xd_ledger.specs.State.{moved, all_moved, settled}
 use Rattle.xd_ledger.specs.Outputs.{acts_of, shut_all, slots_of_rota}
 use Rattle.xd_ledger.specs.Proper.{may_follow}
 use Rattle.xd_ledger.specs.Orderly.{is_orderly, all_orderly}
 use Rattle.xd_laws.proofs.Logic.{cases_of, split-and, not_true, and}
-use Rattle.xd_laws.proofs.Crew.{has, is_member, has-same, has-set, numbers, distinct-numbered, none-next}
+use Rattle.xd_laws.proofs.Crew.{has, has-same, has-set, numbers, distinct-numbered, none-next}
 use Rattle.xd_laws.proofs.Placed.{placed-output}
-use Rattle.xd_laws.proofs.CrewFits.{CrewFits, Kin, IsFree, kin-length, kin-free, crew-start}
+use Rattle.xd_laws.proofs.CrewFits.{Kin, IsFree, kin-length, kin-free, crew-start}
 use Rattle.xd_laws.proofs.Turns.{Tidy, Good, InRota, all_moved-first, all_moved-join, all_orderly-join, tidy-quiet, orderly-shutdown}
 
 -- outputs in order, behind which the state is tidy and this holds of it
@@ -33,6 +34,7 @@ pub record Fit (X : State → Type 0) (s : State) (es : List Entry) : Type 0 whe
 pub record Turned (X : State → Type 0) (s : State) (es : List Entry) : Type 0 where
   pub fit : Fit X s es
   pub kin : Kin s.books.crew (all_moved s es).books.crew
+  pub settings : (all_moved s es).books.settings ≡ s.books.settings
 
 -- the tests were shared just now, among workers of these slots
 pub record IsFresh (s : State) (slots : List ℕ) : Type 0 where
@@ -70,7 +72,7 @@ fit-join X s xs ys a b =
     record { orderly = all_orderly-join s xs ys a.orderly b.orderly; tidy = subst Tidy same b.tidy; also = subst X same b.also }
 
 pub turned-good : (X : State → Type 0) (s : State) (t : Turn) → Good s t → X (all_moved s t.acts) → Turned X s t.acts
-turned-good X s t g x = record { fit = record { orderly = g.orderly; tidy = g.tidy; also = x }; kin = g.kin }
+turned-good X s t g x = record { fit = record { orderly = g.orderly; tidy = g.tidy; also = x }; kin = g.kin; settings = g.settings }
 
 -- one Shutdown
 
@@ -79,18 +81,18 @@ fit-shutdown X s w es h rest d = fit-first X s (Shutdown w) es h (rest (tidy-qui
 
 -- a Start of the next number at a free slot, behind outputs that start no one
 pub fit-start : (X : State → Type 0) → Rule X → (s : State) (es : List Entry) (slot : ℕ) → Turned X s es → IsFree slot s.books.crew
-    → slot < (all_moved s es).books.settings.workers → Fit X (all_moved s es) (Start (length s.books.crew) slot ∷ [])
+    → slot < s.books.settings.workers → Fit X (all_moved s es) (Start (length s.books.crew) slot ∷ [])
 fit-start X rule s es slot t free low =
     let m = all_moved s es in
     let same = kin-length s.books.crew m.books.crew t.kin in
     subst (λ (w : ℕ). Fit X m (Start w slot ∷ [])) same (fit-first X m (Start (length m.books.crew) slot) []
-      (rw (none-next m.books.crew t.fit.tidy.crew.numbered))
-      (fit-none X (moved m (Start (length m.books.crew) slot))
-        (record {
-          placed = placed-output m (Start (length m.books.crew) slot) (rw (none-next m.books.crew t.fit.tidy.crew.numbered)) t.fit.tidy.placed;
-          crew = crew-start m.books.crew m.books.settings.workers slot t.fit.tidy.crew (kin-free slot s.books.crew m.books.crew t.kin free) low;
-        })
-        (rule.start m (length m.books.crew) slot t.fit.also)))
+    (rw (none-next m.books.crew t.fit.tidy.crew.numbered))
+    (fit-none X (moved m (Start (length m.books.crew) slot))
+    (record {
+      placed = placed-output m (Start (length m.books.crew) slot) (rw (none-next m.books.crew t.fit.tidy.crew.numbered)) t.fit.tidy.placed;
+      crew = crew-start m.books.crew m.books.settings.workers slot t.fit.tidy.crew (kin-free slot s.books.crew m.books.crew t.kin free) (subst (λ (k : Settings). slot < k.workers) (sym t.settings) low);
+    })
+    (rule.start m (length m.books.crew) slot t.fit.also)))
 
 -- a Shutdown for each that waits
 
@@ -137,7 +139,7 @@ fit-shut_list X rule s (m ∷ ms) d f t x =
           let split : Shutdown m.worker ∷ shut_all ms ≡ shut_all (m ∷ ms) = rw h in
           subst (λ (es : List Entry). Fit X s es) split
           (fit-shutdown X s m.worker (shut_all ms) (orderly-shutdown s m.worker (f.0.active a.0) (f.0.ready a.1.0) (f.0.unshut a.1.1))
-            (λ u. fit-shut_list X rule (moved s (Shutdown m.worker)) ms p.1 (fit-shut_other m.worker s.books.crew ms (not_true (among m.worker (numbers ms)) p.0) f.1) u (rule.shutdown s m.worker x)) t))
+          (λ u. fit-shut_list X rule (moved s (Shutdown m.worker)) ms p.1 (fit-shut_other m.worker s.books.crew ms (not_true (among m.worker (numbers ms)) p.0) f.1) u (rule.shutdown s m.worker x)) t))
       | inr h ↦
           (let split : shut_all ms ≡ shut_all (m ∷ ms) = rw h in
           subst (λ (es : List Entry). Fit X s es) split (fit-shut_list X rule s ms p.1 f.1 t x))

@@ -1,11 +1,7 @@
 -- What a turn of a mode computes is what its outputs do to the state, and each of them is in order.
-use Rattle.std.proofs.Common.{◌≡◌, ℕ, zero, suc, ◌+◌, List, [], ◌∷◌, ◌++◌, take, length, map, Bool, true, false, not, ◌&&◌, refl, ap, sym, ◌∙◌, subst, arith, inl, inr}
-use Rattle.std.specs.Prelude.{if◌then◌else◌, ◌==◌, fold}
-use Rattle.std.proofs.lemmas.Bool.Decides.{nat_tests}
+use Rattle.std.proofs.Common.{◌≡◌, ℕ, List, [], ◌∷◌, ◌++◌, take, Bool, true, false, not, ◌&&◌, refl, ap, sym, ◌∙◌, subst, arith}
 use Rattle.std.proofs.lemmas.Grind.{fold-append}
 use Rattle.xd_edge.specs.declared.mode.ModeKind.{ModeKind}
-use Rattle.xd_ledger.specs.declared.seat.Seat.{Seat}
-use Rattle.xd_ledger.specs.declared.member.Member.{Member}
 use Rattle.xd_ledger.specs.declared.entry.Entry.{Entry}
 use Rattle.xd_ledger.specs.declared.entry.Entry.TheVariants.{Ready, Collected, Done, Back, Finished, Refused, Down, NotStarted, Start, Run, RunAll, Steal, Shutdown, Kill, Over}
 use Rattle.xd_ledger.specs.Numbers.{among, all_distinct, all_among}
@@ -21,7 +17,6 @@ use Rattle.xd_laws.proofs.Logic.{differ, split-and, and, in_both}
 use Rattle.xd_laws.proofs.Counts.{distinct-take, all_among-take, all_among-self, distinct-of_times}
 use Rattle.xd_laws.proofs.Rota.{seat-among, workers-change}
 use Rattle.xd_laws.proofs.Places.{times-table}
-use Rattle.xd_laws.proofs.Fits.{Fits}
 use Rattle.xd_laws.proofs.Placed.{Placed, placed-output, at_most_once}
 use Rattle.xd_laws.proofs.CrewFits.{CrewFits, Kin, kin-same, kin-then, kin-shut, crew-shut}
 
@@ -86,6 +81,23 @@ kin-quiet s (Refused w t) a h = absurd (differ h)
 kin-quiet s (Down w c o) a h = absurd (differ h)
 kin-quiet s (NotStarted w) a h = absurd (differ h)
 
+settings-output : (s : State) (e : Entry) → is_orderly s e ≡ true → (moved s e).books.settings ≡ s.books.settings
+settings-output s (Start w slot) h = refl
+settings-output s (Run w is) h = refl
+settings-output s (RunAll w) h = refl
+settings-output s (Steal w is) h = refl
+settings-output s (Shutdown w) h = refl
+settings-output s (Kill w) h = refl
+settings-output s (Over how) h = refl
+settings-output s (Ready w) h = absurd (differ h)
+settings-output s (Collected w g) h = absurd (differ h)
+settings-output s (Done w i u m o) h = absurd (differ h)
+settings-output s (Back w i) h = absurd (differ h)
+settings-output s (Finished w) h = absurd (differ h)
+settings-output s (Refused w t) h = absurd (differ h)
+settings-output s (Down w c o) h = absurd (differ h)
+settings-output s (NotStarted w) h = absurd (differ h)
+
 crew-shutdown : (s : State) (w : ℕ) → is_orderly s (Shutdown w) ≡ true → CrewFits s.books.crew s.books.settings.workers → CrewFits (moved s (Shutdown w)).books.crew s.books.settings.workers
 crew-shutdown s w h c =
     let a = split-and (is_active w s.books && was_ready w s.books) (not (is_shut w s.books)) h in
@@ -117,9 +129,10 @@ pub record Good (s : State) (t : Turn) : Type 0 where
   pub kin : Kin s.books.crew (all_moved s t.acts).books.crew
   pub rota : workers_of t.table ≡ workers_of s.books.table
   pub mode : t.plan.mode ≡ s.plan.mode
+  pub settings : (all_moved s t.acts).books.settings ≡ s.books.settings
 
 pub good-first : (s : State) → Tidy s → Good s (turn_of s)
-good-first s d = record { table = refl; plan = refl; orderly = refl; tidy = d; kin = kin-same s.books.crew; rota = refl; mode = refl }
+good-first s d = record { table = refl; plan = refl; orderly = refl; tidy = d; kin = kin-same s.books.crew; rota = refl; mode = refl; settings = refl }
 
 -- the worker is in the rota
 abbrev pub InRota : State → ℕ → Type 0
@@ -157,6 +170,7 @@ good-more s t u e g acts quiet h table plan rota mode =
       kin = subst (λ (x : State). Kin s.books.crew x.books.crew) (sym after) (kin-then s.books.crew m.books.crew (moved m e).books.crew g.kin (kin-quiet m e quiet h));
       rota = rota ∙ g.rota;
       mode = mode ∙ g.mode;
+      settings = ap (λ (x : State). x.books.settings) after ∙ settings-output m e h ∙ g.settings;
     }
 
 -- a Shutdown
