@@ -68,13 +68,14 @@ all_among-take zero xs = refl
 all_among-take (suc n) [] = refl
 all_among-take (suc n) (x ∷ xs) = grind (arith, nat_tests, all_among-take n xs, all_among-more x (take n xs) xs)
 
-among-drop : (x : ℕ) (xs : List ℕ) → among x (drop 1 xs) ≡ true → among x xs ≡ true
-among-drop x [] h = h
-among-drop x (y ∷ xs) h = grind (arith, nat_tests)
+pub among-drop : (x n : ℕ) (xs : List ℕ) → among x (drop n xs) ≡ true → among x xs ≡ true
+among-drop x zero xs h = h
+among-drop x (suc n) [] h = h
+among-drop x (suc n) (y ∷ xs) h = grind (arith, nat_tests, among-drop x n xs)
 
-pub all_among-drop : (ys xs : List ℕ) → all_among ys (drop 1 xs) ≡ true → all_among ys xs ≡ true
-all_among-drop [] xs h = refl
-all_among-drop (y ∷ ys) xs h = grind (arith, nat_tests, all_among-drop ys xs, among-drop y xs)
+pub all_among-drop : (n : ℕ) (ys xs : List ℕ) → all_among ys (drop n xs) ≡ true → all_among ys xs ≡ true
+all_among-drop n [] xs h = refl
+all_among-drop n (y ∷ ys) xs h = grind (arith, nat_tests, all_among-drop n ys xs, among-drop y n xs)
 
 -- numbers moved up by as much
 

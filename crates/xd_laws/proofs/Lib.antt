@@ -13,4 +13,5 @@ pub mod Inputs
 pub mod Outputs
 pub mod Runs
 pub mod LoadRule
+pub mod StealTurns
 pub mod Laws

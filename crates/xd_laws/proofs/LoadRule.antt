@@ -52,18 +52,18 @@ turned-mode k s t m g = turned-good (InMode k) s t g (ap (λ (p : Plan). p.mode)
 load_plain : (s : State) → InMode Load s → IsPlain s.plan.mode
 load_plain s m = subst IsPlain (sym m) (record { each = refl; scope = refl })
 
-load-good : (s : State) (c : Call) → Tidy s → InMode Load s → CallFits s c → Good s (turned Load c (turn_of s))
-load-good s (Share slots) d m f = good-share s (turn_of s) (load_plain s m) (good-first s d)
-load-good s (Joined w slot) d m f = good-refill_all s (turn_of s) (load_plain s m) (good-first s d)
-load-good s (TestDone w ms) d m f = good-refill s ms w (turn_of s) (load_plain s m) f (good-first s d)
-load-good s TestsBack d m f = good-first s d
-load-good s Died d m f = good-refill_all s (turn_of s) (load_plain s m) (good-first s d)
+load-good : (s : State) (c : Call) → Tidy s → s.books.shared ≡ true → InMode Load s → CallFits s c → Good s (turned Load c (turn_of s))
+load-good s (Share slots) d h m f = good-share s (turn_of s) (load_plain s m) (good-first s d h)
+load-good s (Joined w slot) d h m f = good-refill_all s (turn_of s) (load_plain s m) (good-first s d h)
+load-good s (TestDone w ms) d h m f = good-refill s ms w (turn_of s) (load_plain s m) f (good-first s d h)
+load-good s TestsBack d h m f = good-first s d h
+load-good s Died d h m f = good-refill_all s (turn_of s) (load_plain s m) (good-first s d h)
 
 pub load_rule : Rule (InMode Load)
 load_rule = record {
   input = λ s e h d m. mode-input Load s e h m;
   start = λ s w slot m. m;
-  shutdown = λ s w m. m;
+  shutdown = λ s w p m. m;
   settled = λ s m. m;
-  turns = λ s c d m f. turned-in Load (InMode Load) s c m (turned-mode Load s (turned Load c (turn_of s)) m (load-good s c d m f));
+  turns = λ s c d h m f. turned-in Load (InMode Load) s c m (turned-mode Load s (turned Load c (turn_of s)) m (load-good s c d h m f));
 }

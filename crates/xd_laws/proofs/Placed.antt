@@ -23,9 +23,9 @@ use Rattle.xd_ledger.specs.State.{moved, collecting, completed_first, steal_with
 use Rattle.xd_ledger.specs.Proper.{may_follow, may_give_back, is_head, are_ids}
 use Rattle.xd_ledger.specs.Orderly.{is_orderly, may_run, not_empty}
 use Rattle.xd_laws.proofs.Logic.{differ, cases_of, split-and, not_true, or-false, in_both}
-use Rattle.xd_laws.proofs.Counts.{times-range, distinct-range, all_among-drop, distinct-plus}
+use Rattle.xd_laws.proofs.Counts.{among-drop, among-times, times-range, distinct-range, all_among-drop, distinct-plus}
 use Rattle.xd_laws.proofs.Rota.{none-of_seat, seat-of_held}
-use Rattle.xd_laws.proofs.Places.{AtMostOnce, times-table, assigned-keeps, completed-keeps, given_back-keeps, none_back-keeps, died-keeps, left-keeps, joined-keeps, shut-keeps}
+use Rattle.xd_laws.proofs.Places.{held-within, AtMostOnce, times-table, assigned-keeps, completed-keeps, given_back-keeps, none_back-keeps, died-keeps, left-keeps, joined-keeps, shut-keeps}
 use Rattle.xd_laws.proofs.Crew.{has, has-member, has-same, has-set}
 use Rattle.xd_laws.proofs.Fits.{Fits, one_seat, fits-change, fits-gone, fits-refused, fits-ready, fits-collected, fits-start, fits-shutdown, fits-joined}
 
@@ -33,15 +33,16 @@ use Rattle.xd_laws.proofs.Fits.{Fits, one_seat, fits-change, fits-gone, fits-ref
 abbrev pub due_times : ℕ → Bool → ℕ → ℕ
 due_times x shared n = if shared then times x (range_with_len 0 n) else 0
 
-abbrev pub StealsOnce : Option Asked → Type 0
-StealsOnce None = Unit {0}
-StealsOnce (Some a) = all_distinct a.tests ≡ true
+-- an open steal names no test twice, and the tests are shared
+abbrev pub StealFits : Bool → Option Asked → Type 0
+StealFits shared None = Unit {0}
+StealFits shared (Some a) = (all_distinct a.tests ≡ true) × (shared ≡ true)
 
--- the rota fits the marks, each item of the run stands in one place, and an open steal names no test twice
+-- the rota fits the marks, each item of the run stands in one place, and so does an open steal
 pub record PlacedOf (t : Table) (ms : List Member) (shared : Bool) (n : ℕ) (steal : Option Asked) : Type 0 where
   pub fits : Fits t ms
   pub whole : (x : ℕ) → times x (all_items t) ≡ due_times x shared n
-  pub steals : StealsOnce steal
+  pub steals : StealFits shared steal
 
 abbrev pub Placed : State → Type 0
 Placed s = PlacedOf s.books.table s.books.crew s.books.shared (total s.plan) s.plan.steal
@@ -126,10 +127,26 @@ placed-shutdown s w k = record {
   steals = k.steals;
 }
 
+-- where a worker holds something the tests are shared
+pub shared-of_held : (s : State) (w x : ℕ) → Placed s → among x (held w s.books.table) ≡ true → s.books.shared ≡ true
+shared-of_held s w x k h = elim (cases_of s.books.shared) [
+  | inl e ↦ e
+  | inr e ↦
+      (let t = s.books.table in
+      let none : times x (all_items t) ≡ 0 = k.whole x ∙ ap (λ (b : Bool). due_times x b (total s.plan)) e in
+      absurd (omega (arith, none, times-table x t, held-within x w t.rota, among-times x (held w t) h)))
+]
+
+first_among : (is xs : List ℕ) → not_empty is ≡ true → all_among is xs ≡ true → (x : ℕ) × (among x xs ≡ true)
+first_among [] xs h k = absurd (differ h)
+first_among (i ∷ is) xs h k = (i, (split-and (among i xs) (all_among is xs) k).0)
+
 placed-steal : (s : State) (w : ℕ) (indices : List ℕ) → Placed s → is_orderly s (Steal w indices) ≡ true → Placed (moved s (Steal w indices))
 placed-steal s w indices k h =
     let d = split-and (may_run w s && is_none s.plan.steal && not_empty indices && all_distinct indices) (all_among indices (drop 2 (held w s.books.table))) h in
-    record { fits = k.fits; whole = k.whole; steals = (split-and (may_run w s && is_none s.plan.steal && not_empty indices) (all_distinct indices) d.0).1 }
+    let c = split-and (may_run w s && is_none s.plan.steal && not_empty indices) (all_distinct indices) d.0 in
+    let one = first_among indices (drop 2 (held w s.books.table)) (split-and (may_run w s && is_none s.plan.steal) (not_empty indices) c.0).1 d.1 in
+    record { fits = k.fits; whole = k.whole; steals = (c.1, shared-of_held s w one.0 k (among-drop one.0 2 (held w s.books.table) one.1)) }
 
 pub placed-output : (s : State) (e : Entry) → is_orderly s e ≡ true → Placed s → Placed (moved s e)
 placed-output s (Start w slot) h k = record { fits = fits-start s.books.table s.books.crew w slot k.fits; whole = k.whole; steals = k.steals }
@@ -159,15 +176,15 @@ placed-refused s w text k h =
     let a = split-and (is_active w s.books) (not (has_collected w s.books)) h in
     record { fits = fits-refused s.books.table s.books.crew w (not_in_rota s w k (not_true (has_collected w s.books) a.1)) k.fits; whole = k.whole; steals = k.steals }
 
-steals-without : (w : ℕ) (a : Option Asked) → StealsOnce a → StealsOnce (steal_without w a)
-steals-without w None k = tt
-steals-without w (Some a) k = in_both StealsOnce (a.worker == w) None (Some a) (λ h. tt) (λ h. k)
+steals-without : (w : ℕ) (b : Bool) (a : Option Asked) → StealFits b a → StealFits b (steal_without w a)
+steals-without w b None k = tt
+steals-without w b (Some a) k = in_both (StealFits b) (a.worker == w) None (Some a) (λ h. tt) (λ h. k)
 
 pub placed-down : (s : State) (w : ℕ) → Placed s → Placed (moved s (NotStarted w))
 placed-down s w k = record {
   fits = fits-gone s.books.table (died w s.books.table) s.books.crew w refl k.fits;
   whole = λ x. died-keeps x w s.books.table (k.fits.seats w) ∙ k.whole x;
-  steals = steals-without w s.plan.steal k.steals;
+  steals = steals-without w s.books.shared s.plan.steal k.steals;
 }
 
 empty_of : (xs : List ℕ) → (length xs == 0) ≡ true → xs ≡ []
@@ -223,14 +240,26 @@ first_named-by : (each : Bool) (b i : ℕ) (is xs : List ℕ) → all_among (if 
 first_named-by true b i is xs h = (b + i, (split-and (among (b + i) xs) (all_among (map (λ j. b + j) is) xs) h).0)
 first_named-by false b i is xs h = (i, (split-and (among i xs) (all_among is xs) h).0)
 
-back_by : (steal : Option Asked) (w i : ℕ) (is items holds : List ℕ)
+back_by : (b : Bool) (steal : Option Asked) (w i : ℕ) (is items holds : List ℕ)
     → (elim steal as (λ _. Bool) [ None ↦ false | Some a ↦ (a.worker == w) && (bytes_eq (i ∷ is) a.tests && all_among items (drop 1 holds)) ]) ≡ true
-    → StealsOnce steal → (all_distinct (i ∷ is) ≡ true) × (all_among items holds ≡ true)
-back_by None w i is items holds h k = absurd (differ h)
-back_by (Some a) w i is items holds h k =
+    → StealFits b steal → (all_distinct (i ∷ is) ≡ true) × (all_among items holds ≡ true)
+back_by b None w i is items holds h k = absurd (differ h)
+back_by b (Some a) w i is items holds h k =
     let p = split-and (a.worker == w) (bytes_eq (i ∷ is) a.tests && all_among items (drop 1 holds)) h in
     let q = split-and (bytes_eq (i ∷ is) a.tests) (all_among items (drop 1 holds)) p.1 in
-    (ap all_distinct ((bytes_eq-Decides (i ∷ is) a.tests).0 q.0) ∙ k, all_among-drop items holds q.1)
+    (ap all_distinct ((bytes_eq-Decides (i ∷ is) a.tests).0 q.0) ∙ k.0, all_among-drop 1 items holds q.1)
+
+shared_by : (b : Bool) (steal : Option Asked) (answer : Asked → Bool) → (elim steal as (λ _. Bool) [ None ↦ false | Some a ↦ answer a ]) ≡ true → StealFits b steal → b ≡ true
+shared_by b None answer h k = absurd (differ h)
+shared_by b (Some a) answer h k = k.1
+
+-- where a steal is open the tests are shared
+pub shared-of_back : (s : State) (w : ℕ) (indices : List ℕ) → Placed s → may_follow s (Back w indices) ≡ true → s.books.shared ≡ true
+shared-of_back s w indices k h =
+    shared_by s.books.shared s.plan.steal (λ a. (a.worker == w) && (elim indices [
+        | [] ↦ true
+        | i ∷ is ↦ bytes_eq (i ∷ is) a.tests && all_among (items_named (slot_of w s.books) (i ∷ is) s.plan) (drop 1 (held w s.books.table))
+      ])) (split-and (is_active w s.books) (may_give_back w indices s) h).1 k.steals
 
 named-none : (slot : ℕ) (p : Plan) → items_named slot [] p ≡ []
 named-none slot p = elim (is_each p.mode) as (λ b. (if b then map (λ i. base slot p + i) [] else []) ≡ []) [ true ↦ refl | false ↦ refl ]
@@ -243,19 +272,23 @@ placed-back s w (i ∷ is) k h =
     let items = items_named slot (i ∷ is) s.plan in
     let holds = held w s.books.table in
     let a = split-and (is_active w s.books) (may_give_back w (i ∷ is) s) h in
-    let b = back_by s.plan.steal w i is items holds a.1 k.steals in
+    let b = back_by s.books.shared s.plan.steal w i is items holds a.1 k.steals in
     let one = first_named-by (is_each s.plan.mode) (base slot s.plan) i is holds b.1 in
     placed-given_back s.books.table s.books.crew s.books.shared (total s.plan) s.plan.steal w items k (seat-of_held w s.books.table.rota one.0 one.1)
     (distinct_named-by (is_each s.plan.mode) (base slot s.plan) (i ∷ is) b.0) b.1
 
 -- a worker collects
 
+steals-shared : (b : Bool) (a : Option Asked) → StealFits b a → StealFits true a
+steals-shared b None k = tt
+steals-shared b (Some a) k = (k.0, refl)
+
 placed-shared_now : (s : State) → Placed s → s.books.shared ≡ false → Placed (shared_now s)
 placed-shared_now s k h = record {
   fits = record { seats = k.fits.seats; active = k.fits.active; ready = k.fits.ready; collected = k.fits.collected; marks = k.fits.marks };
   whole = λ x. (let z : times x (all_items s.books.table) ≡ 0 = k.whole x ∙ ap (λ (b : Bool). due_times x b (total s.plan)) h in
       omega (arith, z, times-table x s.books.table, times-table x (shared_now s).books.table));
-  steals = k.steals;
+  steals = steals-shared s.books.shared s.plan.steal k.steals;
 }
 
 placed-share : (s : State) → Placed s → Placed (share_where_full s)

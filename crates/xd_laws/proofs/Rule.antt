@@ -1,5 +1,5 @@
 -- What a mode has to keep, and lists of outputs that keep it.
-use Rattle.std.proofs.Common.{◌≡◌, ℕ, ◌<◌, List, [], ◌∷◌, ◌++◌, length, map, Bool, true, false, not, ◌&&◌, refl, sym, ◌∙◌, subst, arith, inl, inr}
+use Rattle.std.proofs.Common.{◌||◌, ap, ◌≡◌, ℕ, ◌<◌, List, [], ◌∷◌, ◌++◌, length, map, Bool, true, false, not, ◌&&◌, refl, sym, ◌∙◌, subst, arith, inl, inr}
 use Rattle.std.specs.Prelude.{◌==◌}
 use Rattle.std.specs.List.{range_with_len}
 use Rattle.std.proofs.lemmas.Bool.Decides.{nat_tests}
@@ -12,17 +12,17 @@ use Rattle.xd_ledger.specs.Plan.{is_each, total}
 use Rattle.xd_ledger.specs.Turn.{Turn}
 use Rattle.xd_ledger.specs.Modes.{Call}
 use Rattle.xd_ledger.specs.Modes.Call.{Share, Joined, TestDone, TestsBack, Died}
-use Rattle.xd_ledger.specs.Workers.{slot_of, made_shut, is_waiting}
+use Rattle.xd_ledger.specs.Workers.{slot_of, made_shut, is_waiting, started}
 use Rattle.xd_ledger.specs.Sharing.{State}
 use Rattle.xd_ledger.specs.State.{moved, all_moved, settled}
 use Rattle.xd_ledger.specs.Outputs.{acts_of, shut_all, slots_of_rota}
 use Rattle.xd_ledger.specs.Proper.{may_follow}
 use Rattle.xd_ledger.specs.Orderly.{is_orderly, all_orderly}
-use Rattle.xd_laws.proofs.Logic.{cases_of, split-and, not_true, and}
-use Rattle.xd_laws.proofs.Crew.{has, has-same, has-set, numbers, distinct-numbered, none-next}
+use Rattle.xd_laws.proofs.Logic.{differ, and-false, cases_of, split-and, not_true, and}
+use Rattle.xd_laws.proofs.Crew.{has-more, has, has-same, has-set, numbers, distinct-numbered, none-next}
 use Rattle.xd_laws.proofs.Placed.{placed-output}
 use Rattle.xd_laws.proofs.CrewFits.{Kin, IsFree, kin-length, kin-free, crew-start}
-use Rattle.xd_laws.proofs.Turns.{Tidy, Good, InRota, all_moved-first, all_moved-join, all_orderly-join, tidy-quiet, orderly-shutdown}
+use Rattle.xd_laws.proofs.Turns.{Calm, MayShut, Tidy, Good, InRota, all_moved-first, all_moved-join, all_orderly-join, tidy-quiet, orderly-shutdown}
 
 -- outputs in order, behind which the state is tidy and this holds of it
 pub record Fit (X : State → Type 0) (s : State) (es : List Entry) : Type 0 where
@@ -40,7 +40,7 @@ pub record Turned (X : State → Type 0) (s : State) (es : List Entry) : Type 0 
 pub record IsFresh (s : State) (slots : List ℕ) : Type 0 where
   pub slots_are : slots ≡ slots_of_rota s.books
   pub pool : s.books.table.pool ≡ range_with_len 0 (total s.plan)
-  pub sizes : is_each s.plan.mode ≡ true → length s.plan.sizes ≡ s.books.settings.workers
+  pub unshut : (v : ℕ) → has v (λ m. m.shut) s.books.crew ≡ false
 
 -- what holds where the mode is called
 abbrev pub CallFits : State → Call → Type 0
@@ -54,9 +54,9 @@ CallFits s Died = Unit {0}
 pub record Rule (X : State → Type 0) : Type 0 where
   pub input : (s : State) (e : Entry) → may_follow s e ≡ true → Tidy s → X s → X (moved s e)
   pub start : (s : State) (w slot : ℕ) → X s → X (moved s (Start w slot))
-  pub shutdown : (s : State) (w : ℕ) → X s → X (moved s (Shutdown w))
+  pub shutdown : (s : State) (w : ℕ) → MayShut s → X s → X (moved s (Shutdown w))
   pub settled : (s : State) → X s → X (settled s)
-  pub turns : (s : State) (c : Call) → Tidy s → X s → CallFits s c → Turned X s (acts_of c s)
+  pub turns : (s : State) (c : Call) → Tidy s → s.books.shared ≡ true → X s → CallFits s c → Turned X s (acts_of c s)
 
 pub fit-none : (X : State → Type 0) (s : State) → Tidy s → X s → Fit X s []
 fit-none X s d x = record { orderly = refl; tidy = d; also = x }
@@ -76,8 +76,14 @@ turned-good X s t g x = record { fit = record { orderly = g.orderly; tidy = g.ti
 
 -- one Shutdown
 
-pub fit-shutdown : (X : State → Type 0) (s : State) (w : ℕ) (es : List Entry) → is_orderly s (Shutdown w) ≡ true → (Tidy (moved s (Shutdown w)) → Fit X (moved s (Shutdown w)) es) → Tidy s → Fit X s (Shutdown w ∷ es)
-fit-shutdown X s w es h rest d = fit-first X s (Shutdown w) es h (rest (tidy-quiet s (Shutdown w) refl h d))
+pub fit-shutdown : (X : State → Type 0) (s : State) (w : ℕ) (es : List Entry) → is_orderly s (Shutdown w) ≡ true → MayShut s → (Tidy (moved s (Shutdown w)) → Fit X (moved s (Shutdown w)) es) → Tidy s → Fit X s (Shutdown w ∷ es)
+fit-shutdown X s w es h p rest d = fit-first X s (Shutdown w) es h (rest (tidy-quiet s (Shutdown w) refl h p d))
+
+pub calm-start : (s : State) (w slot : ℕ) → Calm s → Calm (moved s (Start w slot))
+calm-start s w slot c = record {
+  late = λ h. absurd (differ h);
+  unshut = λ a b v. has-more v (λ m. m.shut) s.books.crew (started w slot) ∙ ap (λ (q : Bool). q || (w == v && false)) (c.unshut a b v) ∙ and-false (w == v);
+}
 
 -- a Start of the next number at a free slot, behind outputs that start no one
 pub fit-start : (X : State → Type 0) → Rule X → (s : State) (es : List Entry) (slot : ℕ) → Turned X s es → IsFree slot s.books.crew
@@ -91,6 +97,7 @@ fit-start X rule s es slot t free low =
     (record {
       placed = placed-output m (Start (length m.books.crew) slot) (rw (none-next m.books.crew t.fit.tidy.crew.numbered)) t.fit.tidy.placed;
       crew = crew-start m.books.crew m.books.settings.workers slot t.fit.tidy.crew (kin-free slot s.books.crew m.books.crew t.kin free) (subst (λ (k : Settings). slot < k.workers) (sym t.settings) low);
+      calm = calm-start m (length m.books.crew) slot t.fit.tidy.calm;
     })
     (rule.start m (length m.books.crew) slot t.fit.also)))
 
@@ -129,20 +136,20 @@ waits m h =
     let b = split-and m.active m.ready a.0 in
     (b.0, (b.1, not_true m.shut a.1))
 
-fit-shut_list : (X : State → Type 0) → Rule X → (s : State) (ms : List Member) → all_distinct (numbers ms) ≡ true → AllFit s.books.crew ms → Tidy s → X s → Fit X s (shut_all ms)
-fit-shut_list X rule s [] d f t x = fit-none X s t x
-fit-shut_list X rule s (m ∷ ms) d f t x =
+fit-shut_list : (X : State → Type 0) → Rule X → (s : State) (ms : List Member) → all_distinct (numbers ms) ≡ true → AllFit s.books.crew ms → MayShut s → Tidy s → X s → Fit X s (shut_all ms)
+fit-shut_list X rule s [] d f q t x = fit-none X s t x
+fit-shut_list X rule s (m ∷ ms) d f q t x =
     let p = split-and (not (among m.worker (numbers ms))) (all_distinct (numbers ms)) d in
     elim (cases_of (is_waiting m)) [
       | inl h ↦
           (let a = waits m h in
           let split : Shutdown m.worker ∷ shut_all ms ≡ shut_all (m ∷ ms) = rw h in
           subst (λ (es : List Entry). Fit X s es) split
-          (fit-shutdown X s m.worker (shut_all ms) (orderly-shutdown s m.worker (f.0.active a.0) (f.0.ready a.1.0) (f.0.unshut a.1.1))
-          (λ u. fit-shut_list X rule (moved s (Shutdown m.worker)) ms p.1 (fit-shut_other m.worker s.books.crew ms (not_true (among m.worker (numbers ms)) p.0) f.1) u (rule.shutdown s m.worker x)) t))
+          (fit-shutdown X s m.worker (shut_all ms) (orderly-shutdown s m.worker (f.0.active a.0) (f.0.ready a.1.0) (f.0.unshut a.1.1)) q
+          (λ u. fit-shut_list X rule (moved s (Shutdown m.worker)) ms p.1 (fit-shut_other m.worker s.books.crew ms (not_true (among m.worker (numbers ms)) p.0) f.1) q u (rule.shutdown s m.worker q x)) t))
       | inr h ↦
           (let split : shut_all ms ≡ shut_all (m ∷ ms) = rw h in
-          subst (λ (es : List Entry). Fit X s es) split (fit-shut_list X rule s ms p.1 f.1 t x))
+          subst (λ (es : List Entry). Fit X s es) split (fit-shut_list X rule s ms p.1 f.1 q t x))
     ]
 
 fit-one_more : (n : Member) (all ms : List Member) → among n.worker (numbers ms) ≡ false → AllFit all ms → AllFit (n ∷ all) ms
@@ -163,7 +170,7 @@ fit-self (m ∷ ms) d =
     let f = fit-self ms p.1 in
     (record { active = λ a. grind (arith, nat_tests); ready = λ a. grind (arith, nat_tests); unshut = λ a. grind (arith, nat_tests, absent m.worker (λ x. x.shut) ms none) }, fit-one_more m ms ms none f)
 
-pub fit-shut_all : (X : State → Type 0) → Rule X → (s : State) → Tidy s → X s → Fit X s (shut_all s.books.crew)
-fit-shut_all X rule s t x =
+pub fit-shut_all : (X : State → Type 0) → Rule X → (s : State) → MayShut s → Tidy s → X s → Fit X s (shut_all s.books.crew)
+fit-shut_all X rule s q t x =
     let d = distinct-numbered s.books.crew t.crew.numbered in
-    fit-shut_list X rule s s.books.crew d (fit-self s.books.crew d) t x
+    fit-shut_list X rule s s.books.crew d (fit-self s.books.crew d) q t x

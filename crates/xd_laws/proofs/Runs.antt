@@ -1,23 +1,24 @@
 -- Whole runs, in a mode that keeps its rule.
-use Rattle.std.proofs.Common.{◌≡◌, ℕ, zero, suc, ◌+◌, ◌≤◌, List, [], ◌∷◌, ◌++◌, length, true, refl, ap, sym, ◌∙◌, subst, arith, length-append}
+use Rattle.std.proofs.Common.{◌≡◌, ℕ, zero, suc, ◌+◌, ◌≤◌, List, [], ◌∷◌, ◌++◌, length, true, refl, ap, sym, ◌∙◌, subst, arith, length-append, not, ◌&&◌, ◌||◌, inl, inr}
 use Rattle.xd_ledger.specs.declared.settings.Settings.{Settings}
 use Rattle.xd_ledger.specs.declared.member.Member.{Member}
 use Rattle.xd_ledger.specs.declared.entry.Entry.{Entry}
 use Rattle.xd_ledger.specs.declared.entry.Entry.TheVariants.{Start}
 use Rattle.xd_ledger.specs.Workers.{started}
+use Rattle.xd_ledger.specs.Stops.{is_stopped}
 use Rattle.xd_ledger.specs.Sharing.{State}
-use Rattle.xd_ledger.specs.State.{moved, all_moved, settled, no_one}
+use Rattle.xd_ledger.specs.State.{settles, is_finished, moved, all_moved, settled, no_one}
 use Rattle.xd_ledger.specs.Outputs.{outputs, stepped}
 use Rattle.xd_ledger.specs.Histories.{starts_from, first_starts, begun, stepped_all}
 use Rattle.xd_ledger.specs.Proper.{may_follow, all_may_follow}
 use Rattle.xd_ledger.specs.Orderly.{is_orderly, all_orderly, is_orderly_run}
-use Rattle.xd_laws.proofs.Logic.{differ, split-and, and}
+use Rattle.xd_laws.proofs.Logic.{split-or, differ, split-and, and}
 use Rattle.xd_laws.proofs.Crew.{has-member, none-next}
 use Rattle.xd_laws.proofs.Fits.{fits-start}
 use Rattle.xd_laws.proofs.Placed.{Placed, placed-output, placed-input}
 use Rattle.xd_laws.proofs.CrewFits.{CrewFits, crew-start}
-use Rattle.xd_laws.proofs.Turns.{Tidy, all_moved-first}
-use Rattle.xd_laws.proofs.Rule.{Rule}
+use Rattle.xd_laws.proofs.Turns.{Calm, Tidy, all_moved-first}
+use Rattle.xd_laws.proofs.Rule.{Rule, calm-start}
 use Rattle.xd_laws.proofs.Outputs.{outputs-fit}
 
 -- the state is tidy, and this holds of it
@@ -25,9 +26,18 @@ pub record Holds (X : State → Type 0) (s : State) : Type 0 where
   pub tidy : Tidy s
   pub also : X s
 
+calm-settled : (s : State) → Calm s → Calm (settled s)
+calm-settled s c = record {
+  late = λ h. elim (split-or s.books.shutting (settles s) h) [
+    | inl k ↦ c.late k
+    | inr k ↦ (split-and (not (is_stopped s.books)) s.books.shared (split-and (not (is_stopped s.books) && s.books.shared) (is_finished s.books.table s.plan) k).0).1
+  ];
+  unshut = c.unshut;
+}
+
 holds-settled : (X : State → Type 0) → Rule X → (s : State) → Tidy s → X s → Holds X (settled s)
 holds-settled X rule s d x = record {
-  tidy = record { placed = d.placed; crew = d.crew };
+  tidy = record { placed = d.placed; crew = d.crew; calm = calm-settled s d.calm };
   also = rule.settled s x;
 }
 
@@ -43,6 +53,9 @@ placed-none settings = record {
 crew-none : CrewFits [] 0
 crew-none = record { numbered = refl; shut_ready = λ v h. absurd (differ h); apart = λ v w a b e. absurd (differ a); below = λ v h. absurd (differ h) }
 
+calm-none : (settings : Settings) → Calm (no_one settings)
+calm-none settings = record { late = λ h. absurd (differ h); unshut = λ a b v. refl }
+
 crew-wider : (ms : List Member) (n k : ℕ) → n ≤ k → CrewFits ms n → CrewFits ms k
 crew-wider ms n k h c = record { numbered = c.numbered; shut_ready = c.shut_ready; apart = c.apart; below = λ v m. (let b = c.below v m in omega (arith, h, b)) }
 
@@ -55,16 +68,16 @@ crew-next ms w e c = subst (λ (v : ℕ). CrewFits ms v → CrewFits (ms ++ star
 orderly-start : (s : State) (w : ℕ) → w ≡ length s.books.crew → CrewFits s.books.crew w → is_orderly s (Start w w) ≡ true
 orderly-start s w e c = subst (λ (v : ℕ). is_orderly s (Start v w) ≡ true) (sym e) (rw (none-next s.books.crew c.numbered))
 
-starts-hold : (X : State → Type 0) → Rule X → (s : State) (w n : ℕ) → w ≡ length s.books.crew → w + n ≡ s.books.settings.workers → Placed s → CrewFits s.books.crew w → X s
+starts-hold : (X : State → Type 0) → Rule X → (s : State) (w n : ℕ) → w ≡ length s.books.crew → w + n ≡ s.books.settings.workers → Placed s → CrewFits s.books.crew w → Calm s → X s
     → Holds X (all_moved s (starts_from w n))
-starts-hold X rule s w zero e l p c x = record { tidy = record { placed = p; crew = subst (λ (k : ℕ). CrewFits s.books.crew k) (omega (arith, l)) c }; also = x }
-starts-hold X rule s w (suc n) e l p c x =
+starts-hold X rule s w zero e l p c k x = record { tidy = record { placed = p; crew = subst (λ (k : ℕ). CrewFits s.books.crew k) (omega (arith, l)) c; calm = k }; also = x }
+starts-hold X rule s w (suc n) e l p c k x =
     starts-hold X rule (moved s (Start w w)) (w + 1) n (ap (λ (k : ℕ). k + 1) e ∙ sym (length-append s.books.crew (started w w ∷ []))) (omega (arith, l))
-    (placed-output s (Start w w) (orderly-start s w e c) p) (crew-next s.books.crew w e c) (rule.start s w w x)
+    (placed-output s (Start w w) (orderly-start s w e c) p) (crew-next s.books.crew w e c) (calm-start s w w k) (rule.start s w w x)
 
 pub begun-holds : (X : State → Type 0) → Rule X → (settings : Settings) → X (no_one settings) → Holds X (begun settings)
 begun-holds X rule settings x =
-    let h = starts-hold X rule (no_one settings) 0 settings.workers refl (omega arith) (placed-none settings) crew-none x in
+    let h = starts-hold X rule (no_one settings) 0 settings.workers refl (omega arith) (placed-none settings) crew-none (calm-none settings) x in
     holds-settled X rule (all_moved (no_one settings) (first_starts settings)) h.tidy h.also
 
 -- the inputs

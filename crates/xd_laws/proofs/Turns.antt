@@ -1,5 +1,5 @@
 -- What a turn of a mode computes is what its outputs do to the state, and each of them is in order.
-use Rattle.std.proofs.Common.{◌≡◌, ℕ, List, [], ◌∷◌, ◌++◌, take, Bool, true, false, not, ◌&&◌, refl, ap, sym, ◌∙◌, subst, arith}
+use Rattle.std.proofs.Common.{◌≡◌, ℕ, List, [], ◌∷◌, ◌++◌, take, Bool, true, false, not, ◌&&◌, refl, ap, sym, ◌∙◌, subst, arith, ◌||◌}
 use Rattle.std.proofs.lemmas.Grind.{fold-append}
 use Rattle.xd_edge.specs.declared.mode.ModeKind.{ModeKind}
 use Rattle.xd_ledger.specs.declared.entry.Entry.{Entry}
@@ -13,17 +13,29 @@ use Rattle.xd_ledger.specs.Sharing.{State}
 use Rattle.xd_ledger.specs.State.{moved, next, all_moved, run_plan}
 use Rattle.xd_ledger.specs.Outputs.{turn_of}
 use Rattle.xd_ledger.specs.Orderly.{is_orderly, all_orderly}
-use Rattle.xd_laws.proofs.Logic.{differ, split-and, and, in_both}
+use Rattle.xd_ledger.specs.Stops.{is_stopped}
+use Rattle.xd_laws.proofs.Crew.{has}
+use Rattle.xd_laws.proofs.Logic.{or-right, differ, split-and, and, in_both}
 use Rattle.xd_laws.proofs.Counts.{distinct-take, all_among-take, all_among-self, distinct-of_times}
 use Rattle.xd_laws.proofs.Rota.{seat-among, workers-change}
 use Rattle.xd_laws.proofs.Places.{times-table}
 use Rattle.xd_laws.proofs.Placed.{Placed, placed-output, at_most_once}
 use Rattle.xd_laws.proofs.CrewFits.{CrewFits, Kin, kin-same, kin-then, kin-shut, crew-shut}
 
+-- a run is shutting only once the tests are shared, and before a stop and the share nobody is told to shut down
+pub record Calm (s : State) : Type 0 where
+  pub late : s.books.shutting ≡ true → s.books.shared ≡ true
+  pub unshut : is_stopped s.books ≡ false → s.books.shared ≡ false → (v : ℕ) → has v (λ m. m.shut) s.books.crew ≡ false
+
 -- what holds of every state of a run
 pub record Tidy (s : State) : Type 0 where
   pub placed : Placed s
   pub crew : CrewFits s.books.crew s.books.settings.workers
+  pub calm : Calm s
+
+-- workers may be told to shut down: behind a stop or the share
+abbrev pub MayShut : State → Type 0
+MayShut s = (is_stopped s.books || s.books.shared) ≡ true
 
 -- lists of outputs
 
@@ -81,44 +93,51 @@ kin-quiet s (Refused w t) a h = absurd (differ h)
 kin-quiet s (Down w c o) a h = absurd (differ h)
 kin-quiet s (NotStarted w) a h = absurd (differ h)
 
-settings-output : (s : State) (e : Entry) → is_orderly s e ≡ true → (moved s e).books.settings ≡ s.books.settings
-settings-output s (Start w slot) h = refl
-settings-output s (Run w is) h = refl
-settings-output s (RunAll w) h = refl
-settings-output s (Steal w is) h = refl
-settings-output s (Shutdown w) h = refl
-settings-output s (Kill w) h = refl
-settings-output s (Over how) h = refl
-settings-output s (Ready w) h = absurd (differ h)
-settings-output s (Collected w g) h = absurd (differ h)
-settings-output s (Done w i u m o) h = absurd (differ h)
-settings-output s (Back w i) h = absurd (differ h)
-settings-output s (Finished w) h = absurd (differ h)
-settings-output s (Refused w t) h = absurd (differ h)
-settings-output s (Down w c o) h = absurd (differ h)
-settings-output s (NotStarted w) h = absurd (differ h)
+fixed-output : (s : State) (e : Entry) → is_orderly s e ≡ true → ((moved s e).books.settings ≡ s.books.settings) × ((moved s e).books.shared ≡ s.books.shared)
+fixed-output s (Start w slot) h = (refl, refl)
+fixed-output s (Run w is) h = (refl, refl)
+fixed-output s (RunAll w) h = (refl, refl)
+fixed-output s (Steal w is) h = (refl, refl)
+fixed-output s (Shutdown w) h = (refl, refl)
+fixed-output s (Kill w) h = (refl, refl)
+fixed-output s (Over how) h = (refl, refl)
+fixed-output s (Ready w) h = absurd (differ h)
+fixed-output s (Collected w g) h = absurd (differ h)
+fixed-output s (Done w i u m o) h = absurd (differ h)
+fixed-output s (Back w i) h = absurd (differ h)
+fixed-output s (Finished w) h = absurd (differ h)
+fixed-output s (Refused w t) h = absurd (differ h)
+fixed-output s (Down w c o) h = absurd (differ h)
+fixed-output s (NotStarted w) h = absurd (differ h)
 
 crew-shutdown : (s : State) (w : ℕ) → is_orderly s (Shutdown w) ≡ true → CrewFits s.books.crew s.books.settings.workers → CrewFits (moved s (Shutdown w)).books.crew s.books.settings.workers
 crew-shutdown s w h c =
     let a = split-and (is_active w s.books && was_ready w s.books) (not (is_shut w s.books)) h in
     crew-shut s.books.crew s.books.settings.workers w c (split-and (is_active w s.books) (was_ready w s.books) a.0).1
 
-pub tidy-quiet : (s : State) (e : Entry) → is_quiet e ≡ true → is_orderly s e ≡ true → Tidy s → Tidy (moved s e)
-tidy-quiet s (Start w slot) a h d = absurd (differ a)
-tidy-quiet s (Run w is) a h d = record { placed = placed-output s (Run w is) h d.placed; crew = d.crew }
-tidy-quiet s (RunAll w) a h d = record { placed = placed-output s (RunAll w) h d.placed; crew = d.crew }
-tidy-quiet s (Steal w is) a h d = record { placed = placed-output s (Steal w is) h d.placed; crew = d.crew }
-tidy-quiet s (Shutdown w) a h d = record { placed = placed-output s (Shutdown w) h d.placed; crew = crew-shutdown s w h d.crew }
-tidy-quiet s (Kill w) a h d = d
-tidy-quiet s (Over how) a h d = d
-tidy-quiet s (Ready w) a h d = absurd (differ h)
-tidy-quiet s (Collected w g) a h d = absurd (differ h)
-tidy-quiet s (Done w i u m o) a h d = absurd (differ h)
-tidy-quiet s (Back w i) a h d = absurd (differ h)
-tidy-quiet s (Finished w) a h d = absurd (differ h)
-tidy-quiet s (Refused w t) a h d = absurd (differ h)
-tidy-quiet s (Down w c o) a h d = absurd (differ h)
-tidy-quiet s (NotStarted w) a h d = absurd (differ h)
+unstopped-shared : (a b : Bool) → (a || b) ≡ true → a ≡ false → b ≡ false → ⊥
+unstopped-shared true b h k l = differ (sym k)
+unstopped-shared false b h k l = differ (sym l ∙ h)
+
+calm-shutdown : (s : State) (w : ℕ) → MayShut s → Calm s → Calm (moved s (Shutdown w))
+calm-shutdown s w p c = record { late = c.late; unshut = λ a b v. absurd (unstopped-shared (is_stopped s.books) s.books.shared p a b) }
+
+pub tidy-quiet : (s : State) (e : Entry) → is_quiet e ≡ true → is_orderly s e ≡ true → MayShut s → Tidy s → Tidy (moved s e)
+tidy-quiet s (Start w slot) a h p d = absurd (differ a)
+tidy-quiet s (Run w is) a h p d = record { placed = placed-output s (Run w is) h d.placed; crew = d.crew; calm = record { late = d.calm.late; unshut = d.calm.unshut } }
+tidy-quiet s (RunAll w) a h p d = record { placed = placed-output s (RunAll w) h d.placed; crew = d.crew; calm = record { late = d.calm.late; unshut = d.calm.unshut } }
+tidy-quiet s (Steal w is) a h p d = record { placed = placed-output s (Steal w is) h d.placed; crew = d.crew; calm = record { late = d.calm.late; unshut = d.calm.unshut } }
+tidy-quiet s (Shutdown w) a h p d = record { placed = placed-output s (Shutdown w) h d.placed; crew = crew-shutdown s w h d.crew; calm = calm-shutdown s w p d.calm }
+tidy-quiet s (Kill w) a h p d = d
+tidy-quiet s (Over how) a h p d = d
+tidy-quiet s (Ready w) a h p d = absurd (differ h)
+tidy-quiet s (Collected w g) a h p d = absurd (differ h)
+tidy-quiet s (Done w i u m o) a h p d = absurd (differ h)
+tidy-quiet s (Back w i) a h p d = absurd (differ h)
+tidy-quiet s (Finished w) a h p d = absurd (differ h)
+tidy-quiet s (Refused w t) a h p d = absurd (differ h)
+tidy-quiet s (Down w c o) a h p d = absurd (differ h)
+tidy-quiet s (NotStarted w) a h p d = absurd (differ h)
 
 -- a turn that follows a tidy state, so far in order
 pub record Good (s : State) (t : Turn) : Type 0 where
@@ -130,9 +149,10 @@ pub record Good (s : State) (t : Turn) : Type 0 where
   pub rota : workers_of t.table ≡ workers_of s.books.table
   pub mode : t.plan.mode ≡ s.plan.mode
   pub settings : (all_moved s t.acts).books.settings ≡ s.books.settings
+  pub shared : (all_moved s t.acts).books.shared ≡ true
 
-pub good-first : (s : State) → Tidy s → Good s (turn_of s)
-good-first s d = record { table = refl; plan = refl; orderly = refl; tidy = d; kin = kin-same s.books.crew; rota = refl; mode = refl; settings = refl }
+pub good-first : (s : State) → Tidy s → s.books.shared ≡ true → Good s (turn_of s)
+good-first s d h = record { table = refl; plan = refl; orderly = refl; tidy = d; kin = kin-same s.books.crew; rota = refl; mode = refl; settings = refl; shared = h }
 
 -- the worker is in the rota
 abbrev pub InRota : State → ℕ → Type 0
@@ -166,11 +186,12 @@ good-more s t u e g acts quiet h table plan rota mode =
       table = ap (λ (x : State). x.books.table) after ∙ table;
       plan = ap (λ (x : State). x.plan) after ∙ plan;
       orderly = ap (λ (es : List Entry). all_orderly s es) acts ∙ all_orderly-join s t.acts (e ∷ []) g.orderly (and h refl);
-      tidy = subst (λ (x : State). Tidy x) (sym after) (tidy-quiet m e quiet h g.tidy);
+      tidy = subst (λ (x : State). Tidy x) (sym after) (tidy-quiet m e quiet h (or-right (is_stopped m.books) m.books.shared g.shared) g.tidy);
       kin = subst (λ (x : State). Kin s.books.crew x.books.crew) (sym after) (kin-then s.books.crew m.books.crew (moved m e).books.crew g.kin (kin-quiet m e quiet h));
       rota = rota ∙ g.rota;
       mode = mode ∙ g.mode;
-      settings = ap (λ (x : State). x.books.settings) after ∙ settings-output m e h ∙ g.settings;
+      settings = ap (λ (x : State). x.books.settings) after ∙ (fixed-output m e h).0 ∙ g.settings;
+      shared = ap (λ (x : State). x.books.shared) after ∙ (fixed-output m e h).1 ∙ g.shared;
     }
 
 -- a Shutdown
