@@ -1,5 +1,5 @@
 -- How often a number stands in a list.
-use Rattle.std.proofs.Common.{◌≡◌, ℕ, zero, suc, ◌+◌, ◌≤◌, ◌<◌, List, [], ◌∷◌, ◌++◌, take, drop, map, true, false, refl, arith}
+use Rattle.std.proofs.Common.{not, ◌≡◌, ℕ, zero, suc, ◌+◌, ◌≤◌, ◌<◌, List, [], ◌∷◌, ◌++◌, take, drop, map, true, false, refl, arith}
 use Rattle.std.specs.Prelude.{if◌then◌else◌}
 use Rattle.std.specs.List.{range_with_len}
 use Rattle.std.proofs.lemmas.Bool.Decides.{nat_tests}
@@ -76,6 +76,18 @@ among-drop x (suc n) (y ∷ xs) h = grind (arith, nat_tests, among-drop x n xs)
 pub all_among-drop : (n : ℕ) (ys xs : List ℕ) → all_among ys (drop n xs) ≡ true → all_among ys xs ≡ true
 all_among-drop n [] xs h = refl
 all_among-drop n (y ∷ ys) xs h = grind (arith, nat_tests, all_among-drop n ys xs, among-drop y n xs)
+
+pub distinct-drop : (n : ℕ) (xs : List ℕ) → all_distinct xs ≡ true → all_distinct (drop n xs) ≡ true
+distinct-drop zero xs h = h
+distinct-drop (suc n) [] h = refl
+distinct-drop (suc n) (x ∷ xs) h = distinct-drop n xs (split-and (not (among x xs)) (all_distinct xs) h).1
+
+-- what is left behind more of a list is left behind less of it
+pub all_among-drops : (j k : ℕ) (xs : List ℕ) → j ≤ k → all_among (drop k xs) (drop j xs) ≡ true
+all_among-drops zero k xs h = all_among-drop k (drop k xs) xs (all_among-self (drop k xs))
+all_among-drops (suc j) zero xs h = absurd (omega (arith, h))
+all_among-drops (suc j) (suc k) [] h = refl
+all_among-drops (suc j) (suc k) (x ∷ xs) h = all_among-drops j k xs (omega (arith, h))
 
 -- numbers moved up by as much
 

@@ -1,6 +1,6 @@
 -- The laws.
 use Rattle.std.proofs.Common.{◌≡◌, ℕ, List, Bool, true, false, ap, ◌∙◌, arith}
-use Rattle.xd_edge.specs.declared.mode.ModeKind.TheVariants.{Load}
+use Rattle.xd_edge.specs.declared.mode.ModeKind.TheVariants.{Load, WorkSteal}
 use Rattle.xd_ledger.specs.declared.settings.Settings.{Settings}
 use Rattle.xd_ledger.specs.declared.entry.Entry.{Entry}
 use Rattle.xd_ledger.specs.Numbers.{times}
@@ -14,7 +14,9 @@ use Rattle.xd_laws.specs.Once.{IsOnce}
 use Rattle.xd_laws.proofs.Counts.{times-in_range, times-behind_range, empty-of_times}
 use Rattle.xd_laws.proofs.Placed.{Placed, due_times}
 use Rattle.xd_laws.proofs.Runs.{begun-holds, all-hold, all-orderly, placed-run, placed-begun}
-use Rattle.xd_laws.proofs.LoadRule.{InMode, load_rule}
+use Rattle.xd_laws.proofs.InMode.{InMode}
+use Rattle.xd_laws.proofs.LoadRule.{load_rule}
+use Rattle.xd_laws.proofs.StealRule.{steal_rule}
 
 once-placed : (s : State) → Placed s → IsOnce s
 once-placed s k =
@@ -34,3 +36,6 @@ load_once settings inputs m p = once-placed (stepped_all (begun settings) inputs
 
 pub one_place : (settings : Settings) (inputs : List Entry) → IsProper settings inputs → is_orderly_run (begun settings) inputs ≡ true → IsOnce (stepped_all (begun settings) inputs)
 one_place settings inputs p o = once-placed (stepped_all (begun settings) inputs) (placed-run (begun settings) inputs p.follow o (placed-begun settings))
+
+steal_order : (settings : Settings) (inputs : List Entry) → settings.mode ≡ WorkSteal → IsProper settings inputs → is_orderly_run (begun settings) inputs ≡ true
+steal_order settings inputs m p = all-orderly (InMode WorkSteal) steal_rule (begun settings) inputs p.follow (begun-holds (InMode WorkSteal) steal_rule settings m)

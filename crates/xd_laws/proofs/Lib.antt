@@ -12,6 +12,8 @@ pub mod Rule
 pub mod Inputs
 pub mod Outputs
 pub mod Runs
+pub mod InMode
 pub mod LoadRule
 pub mod StealTurns
+pub mod StealRule
 pub mod Laws
