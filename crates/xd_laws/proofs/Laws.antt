@@ -1,6 +1,6 @@
 -- The laws.
 use Rattle.std.proofs.Common.{◌≡◌, ℕ, List, Bool, true, false, ap, ◌∙◌, arith}
-use Rattle.xd_edge.specs.declared.mode.ModeKind.TheVariants.{Load, WorkSteal}
+use Rattle.xd_edge.specs.declared.mode.ModeKind.TheVariants.{Each, Load, WorkSteal}
 use Rattle.xd_ledger.specs.declared.settings.Settings.{Settings}
 use Rattle.xd_ledger.specs.declared.entry.Entry.{Entry}
 use Rattle.xd_ledger.specs.Numbers.{times}
@@ -16,6 +16,7 @@ use Rattle.xd_laws.proofs.Placed.{Placed, due_times}
 use Rattle.xd_laws.proofs.Runs.{begun-holds, all-hold, all-orderly, placed-run, placed-begun}
 use Rattle.xd_laws.proofs.InMode.{InMode}
 use Rattle.xd_laws.proofs.LoadRule.{load_rule}
+use Rattle.xd_laws.proofs.EachRule.{each_rule}
 use Rattle.xd_laws.proofs.StealRule.{steal_rule}
 
 once-placed : (s : State) → Placed s → IsOnce s
@@ -39,3 +40,6 @@ one_place settings inputs p o = once-placed (stepped_all (begun settings) inputs
 
 steal_order : (settings : Settings) (inputs : List Entry) → settings.mode ≡ WorkSteal → IsProper settings inputs → is_orderly_run (begun settings) inputs ≡ true
 steal_order settings inputs m p = all-orderly (InMode WorkSteal) steal_rule (begun settings) inputs p.follow (begun-holds (InMode WorkSteal) steal_rule settings m)
+
+each_order : (settings : Settings) (inputs : List Entry) → settings.mode ≡ Each → IsProper settings inputs → is_orderly_run (begun settings) inputs ≡ true
+each_order settings inputs m p = all-orderly (InMode Each) each_rule (begun settings) inputs p.follow (begun-holds (InMode Each) each_rule settings m)

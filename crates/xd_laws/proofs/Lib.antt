@@ -16,4 +16,6 @@ pub mod InMode
 pub mod LoadRule
 pub mod StealTurns
 pub mod StealRule
+pub mod EachTurns
+pub mod EachRule
 pub mod Laws
