@@ -26,6 +26,10 @@ pub among-times : (x : ℕ) (xs : List ℕ) → among x xs ≡ true → 1 ≤ ti
 among-times x [] h = cc
 among-times x (y ∷ xs) h = grind (arith, nat_tests, among-times x xs)
 
+pub times-among : (x : ℕ) (xs : List ℕ) → 1 ≤ times x xs → among x xs ≡ true
+times-among x [] h = absurd (omega (arith, h))
+times-among x (y ∷ xs) h = grind (arith, nat_tests, times-among x xs)
+
 pub distinct-of_times : (xs : List ℕ) → ((x : ℕ) → times x xs ≤ 1) → all_distinct xs ≡ true
 distinct-of_times [] h = refl
 distinct-of_times (y ∷ ys) h =

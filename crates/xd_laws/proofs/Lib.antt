@@ -18,4 +18,6 @@ pub mod StealTurns
 pub mod StealRule
 pub mod EachTurns
 pub mod EachRule
+pub mod Units
+pub mod Queue
 pub mod Laws
