@@ -145,7 +145,7 @@ steady-give_all s w t e a g k =
 
 -- another worker may get its slot still
 
-told-other : (v w : ℕ) (t : Turn) → (v == w) ≡ false → seat_shut v (shut w t).table ≡ seat_shut v t.table
+pub told-other : (v w : ℕ) (t : Turn) → (v == w) ≡ false → seat_shut v (shut w t).table ≡ seat_shut v t.table
 told-other v w t h = in_both (λ (u : Turn). seat_shut v u.table ≡ seat_shut v t.table) (seat_shut w t.table) t (record t { table = shut_down w t.table; acts = t.acts ++ Shutdown w ∷ [] }) (λ k. refl)
     (λ k. told-shut v w t.table.rota ∙ rw h)
 
@@ -164,7 +164,7 @@ may-take_still s v w t e same h apart k =
       (λ x i. ap (λ (p : Plan). among x (slot_items (slot_of w s.books) p)) same ∙ slots-apart (slot_of v s.books) (slot_of w s.books) x s.plan e apart i);
     }
 
-other-of : (v w : ℕ) (ws : List ℕ) → among w ws ≡ false → among v ws ≡ true → (v == w) ≡ false
+pub other-of : (v w : ℕ) (ws : List ℕ) → among w ws ≡ false → among v ws ≡ true → (v == w) ≡ false
 other-of v w ws n h = elim (cases_of (v == w)) [ inl k ↦ absurd (let e : v ≡ w = grind (arith, nat_tests) in differ (sym n ∙ ap (λ (u : ℕ). among u ws) (sym e) ∙ h)) | inr k ↦ k ]
 
 good-slots : (s : State) (ws : List ℕ) (t : Turn) → is_each s.plan.mode ≡ true → Steady s t → all_among ws (workers_of s.books.table) ≡ true → all_distinct ws ≡ true
@@ -184,7 +184,7 @@ seats-times : (w : ℕ) (ss : List Seat) → times w (map (λ s. s.worker) ss) �
 seats-times w [] = refl
 seats-times w (s ∷ ss) = grind (arith, nat_tests, seats-times w ss)
 
-rota-distinct : (s : State) → Tidy s → all_distinct (workers_of s.books.table) ≡ true
+pub rota-distinct : (s : State) → Tidy s → all_distinct (workers_of s.books.table) ≡ true
 rota-distinct s d = distinct-of_times (workers_of s.books.table) (λ w. omega (arith, seats-times w s.books.table.rota, d.placed.fits.seats w))
 
 rota-apart : (s : State) → Tidy s → (v u : ℕ) → InRota s v → InRota s u → slot_of v s.books ≡ slot_of u s.books → v ≡ u

@@ -20,4 +20,7 @@ pub mod EachTurns
 pub mod EachRule
 pub mod Units
 pub mod Queue
+pub mod ScopeTurns
+pub mod ScopeInputs
+pub mod ScopeRule
 pub mod Laws
