@@ -1,6 +1,6 @@
 -- How often a number stands in a list.
 use Rattle.std.proofs.Common.{Bool, ◌&&◌, inl, inr, not, ◌≡◌, ℕ, zero, suc, ◌+◌, ◌≤◌, ◌<◌, List, [], ◌∷◌, ◌++◌, take, drop, map, true, false, refl, arith}
-use Rattle.std.specs.Prelude.{◌==◌, filter, ◌⊎◌, if◌then◌else◌}
+use Rattle.std.specs.Prelude.{◌==◌, filter, if◌then◌else◌}
 use Rattle.std.specs.List.{range_with_len}
 use Rattle.std.proofs.lemmas.Bool.Decides.{nat_tests}
 use Rattle.xd_ledger.specs.Numbers.{among, without, all_distinct, all_among, times}

@@ -1,6 +1,6 @@
 -- The turns of mode each are in order.
-use Rattle.std.proofs.Common.{◌≡◌, ℕ, zero, suc, ◌+◌, ◌-◌, ◌≤◌, ◌<◌, List, [], ◌∷◌, ◌++◌, take, length, map, Bool, true, false, not, ◌&&◌, ◌||◌, refl, ap, sym, ◌∙◌, subst, arith, inl, inr}
-use Rattle.std.specs.Prelude.{if◌then◌else◌, ◌==◌, filter, fold, sum, slice_index, ◌⊎◌}
+use Rattle.std.proofs.Common.{◌≡◌, ℕ, zero, suc, ◌+◌, ◌-◌, ◌≤◌, ◌<◌, List, [], ◌∷◌, ◌++◌, take, map, Bool, true, false, not, ◌&&◌, refl, ap, sym, ◌∙◌, subst, arith, inl, inr}
+use Rattle.std.specs.Prelude.{◌==◌, fold, sum, slice_index}
 use Rattle.std.specs.List.{range_with_len}
 use Rattle.std.proofs.lemmas.Bool.{cases_order}
 use Rattle.std.proofs.lemmas.Bool.Decides.{nat_tests}
@@ -13,7 +13,7 @@ use Rattle.xd_ledger.specs.Turn.{Turn, shut}
 use Rattle.xd_ledger.specs.Each.{give_all, give_slots, share, remainder, give_of_slot, joins}
 use Rattle.xd_ledger.specs.Workers.{is_shut, slot_of}
 use Rattle.xd_ledger.specs.Sharing.{State}
-use Rattle.xd_ledger.specs.State.{moved, all_moved, run_plan}
+use Rattle.xd_ledger.specs.State.{all_moved, run_plan}
 use Rattle.xd_ledger.specs.Outputs.{turn_of}
 use Rattle.xd_ledger.specs.Orderly.{is_orderly}
 use Rattle.xd_laws.proofs.Logic.{differ, cases_of, split-and, not_true, in_both}
@@ -126,10 +126,10 @@ steady-run_all s w t e a g k =
     let yours : items ≡ slot_items slot s.plan = ap (λ (p : Plan). slot_items slot p) g.same in
     record {
       good = good-more s t (record t { table = assigned w items t.table; acts = t.acts ++ RunAll w ∷ [] }) (RunAll w) g.good refl refl
-      (orderly-run_all m w (ap (λ (p : Plan). is_each p.mode) (g.good.plan ∙ g.same) ∙ e) (in_rota-behind s t w g.good a) (unshut-of s t w g.good a k.unshut)
-        (ap (λ (xs : List ℕ). all_among xs m.books.table.pool) mine ∙ ap (λ (u : Table). all_among (slot_items slot s.plan) u.pool) g.good.table ∙ k.within))
-      (ap (λ (xs : List ℕ). assigned w xs m.books.table) (mine ∙ sym yours) ∙ ap (λ (u : Table). assigned w items u) g.good.table)
-      g.good.plan (workers-change w (λ s. record s { held = s.held ++ items }) t.table.rota (λ s. refl)) refl;
+          (orderly-run_all m w (ap (λ (p : Plan). is_each p.mode) (g.good.plan ∙ g.same) ∙ e) (in_rota-behind s t w g.good a) (unshut-of s t w g.good a k.unshut)
+          (ap (λ (xs : List ℕ). all_among xs m.books.table.pool) mine ∙ ap (λ (u : Table). all_among (slot_items slot s.plan) u.pool) g.good.table ∙ k.within))
+          (ap (λ (xs : List ℕ). assigned w xs m.books.table) (mine ∙ sym yours) ∙ ap (λ (u : Table). assigned w items u) g.good.table)
+          g.good.plan (workers-change w (λ s. record s { held = s.held ++ items }) t.table.rota (λ s. refl)) refl;
       same = g.same;
     }
 
@@ -160,8 +160,8 @@ may-take_still s v w t e same h apart k =
     record {
       unshut = told-other v w u h ∙ told-change v w (λ s. record s { held = s.held ++ items }) t.table.rota (λ s. refl) (λ s. refl) ∙ k.unshut;
       within = ap (λ (xs : List ℕ). all_among (slot_items (slot_of v s.books) s.plan) xs) (pool-shut w u)
-      ∙ all_among-without (slot_items (slot_of v s.books) s.plan) items t.table.pool k.within
-      (λ x i. ap (λ (p : Plan). among x (slot_items (slot_of w s.books) p)) same ∙ slots-apart (slot_of v s.books) (slot_of w s.books) x s.plan e apart i);
+          ∙ all_among-without (slot_items (slot_of v s.books) s.plan) items t.table.pool k.within
+          (λ x i. ap (λ (p : Plan). among x (slot_items (slot_of w s.books) p)) same ∙ slots-apart (slot_of v s.books) (slot_of w s.books) x s.plan e apart i);
     }
 
 pub other-of : (v w : ℕ) (ws : List ℕ) → among w ws ≡ false → among v ws ≡ true → (v == w) ≡ false
@@ -176,7 +176,7 @@ good-slots s (w ∷ ws) t e g a d apart k =
     let q = split-and (not (among w ws)) (all_distinct ws) d in
     good-slots s ws (give_all w (slot_of w s.books) t) e (steady-give_all s w t e p.0 g (k w (grind (arith, nat_tests)))) p.1 q.1 apart
     (λ v h. (let o = other-of v w ws (not_true (among w ws) q.0) h in
-        may-take_still s v w t e g.same o (λ same. (let z = apart v w (among_of-all_among v ws (workers_of s.books.table) p.1 h) p.0 same in grind (arith, nat_tests, z, o))) (k v (grind (arith, nat_tests, h)))))
+    may-take_still s v w t e g.same o (λ same. (let z = apart v w (among_of-all_among v ws (workers_of s.books.table) p.1 h) p.0 same in grind (arith, nat_tests, z, o))) (k v (grind (arith, nat_tests, h)))))
 
 -- the share
 
@@ -234,13 +234,13 @@ good-of_slot s w (x ∷ xs) t e n a g unshut distinct within mine =
     let first : base slot t.plan ≡ base (slot_of w m.books) m.plan = ap (λ (p : Plan). base slot p) (g.same ∙ sym plan) ∙ ap (λ (k : ℕ). base k m.plan) (sym (g.good.kin.slots_same w)) in
     let low : (y : ℕ) → among y items ≡ true → base slot t.plan ≤ y = λ y h.
     (let b = bounds-of_range y (base slot s.plan) (slice_index s.plan.sizes slot) (among_of-all_among y items (slot_items slot s.plan) mine h) in
-        subst (λ (k : ℕ). k ≤ y) (ap (λ (p : Plan). base slot p) (sym g.same)) b.0) in
+    subst (λ (k : ℕ). k ≤ y) (ap (λ (p : Plan). base slot p) (sym g.same)) b.0) in
     let indices = map (λ item. item - base slot t.plan) items in
     let named : items_named (slot_of w m.books) indices m.plan ≡ items =
     items_named-each (slot_of w m.books) indices m.plan each ∙ ap (λ (k : ℕ). map (λ i. k + i) indices) (sym first) ∙ named-back (base slot t.plan) items low in
     good-more s t (give_of_slot w slot items t) (Run w indices) g.good refl refl
     (orderly-of_slot m w (x - base slot t.plan) (map (λ item. item - base slot t.plan) xs) items named (in_rota-behind s t w g.good a) (unshut-of s t w g.good a unshut) distinct
-      (ap (λ (u : Table). all_among items u.pool) g.good.table ∙ within) each (ap (λ (ys : List ℕ). all_among items ys) (slot-behind s t w g) ∙ mine))
+    (ap (λ (u : Table). all_among items u.pool) g.good.table ∙ within) each (ap (λ (ys : List ℕ). all_among items ys) (slot-behind s t w g) ∙ mine))
     (ap (λ (ys : List ℕ). assigned w ys m.books.table) named ∙ ap (λ (u : Table). assigned w items u) g.good.table)
     (plan-each w indices m.plan (ap (λ (p : Plan). is_scope p.mode) plan ∙ n) ∙ g.good.plan)
     (workers-change w (λ s. record s { held = s.held ++ items }) t.table.rota (λ s. refl)) refl
@@ -255,5 +255,5 @@ good-joins s w e n d h a unshut =
     let g = good-first s d h in
     good-shut s w (give_of_slot w slot left t) a
     (good-of_slot s w left t e n a (record { good = g; same = refl }) unshut (distinct-filter (λ i. among i mine) s.books.table.pool (turn-distinct s t g))
-      (all_among-of left s.books.table.pool (λ x k. (split-and (among x mine) (among x s.books.table.pool) (sym (among-filter x (λ i. among i mine) s.books.table.pool) ∙ k)).1))
-      (all_among-of left mine (λ x k. (split-and (among x mine) (among x s.books.table.pool) (sym (among-filter x (λ i. among i mine) s.books.table.pool) ∙ k)).0)))
+    (all_among-of left s.books.table.pool (λ x k. (split-and (among x mine) (among x s.books.table.pool) (sym (among-filter x (λ i. among i mine) s.books.table.pool) ∙ k)).1))
+    (all_among-of left mine (λ x k. (split-and (among x mine) (among x s.books.table.pool) (sym (among-filter x (λ i. among i mine) s.books.table.pool) ∙ k)).0)))

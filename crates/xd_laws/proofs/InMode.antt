@@ -1,13 +1,11 @@
 -- The mode of a run stays, and its outputs are those of its own rule.
-use Rattle.std.proofs.Common.{◌≡◌, true, refl, ap, sym, ◌∙◌, subst}
+use Rattle.std.proofs.Common.{◌≡◌, true, ap, sym, ◌∙◌, subst}
 use Rattle.xd_edge.specs.declared.mode.ModeKind.{ModeKind}
-use Rattle.xd_edge.specs.declared.mode.ModeKind.TheVariants.{Load}
 use Rattle.xd_ledger.specs.declared.entry.Entry.{Entry}
 use Rattle.xd_ledger.specs.declared.entry.Entry.TheVariants.{Ready, Collected, Done, Back, Finished, Refused, Down, NotStarted, Start, Run, RunAll, Steal, Shutdown, Kill, Over}
 use Rattle.xd_ledger.specs.Plan.{Plan}
 use Rattle.xd_ledger.specs.Turn.{Turn}
 use Rattle.xd_ledger.specs.Modes.{Call, turned}
-use Rattle.xd_ledger.specs.Modes.Call.{Share, Joined, TestDone, TestsBack, Died}
 use Rattle.xd_ledger.specs.Books.{marked}
 use Rattle.xd_ledger.specs.Workers.{made_collected}
 use Rattle.xd_ledger.specs.Collections.{unequal, listed, with_list}
@@ -16,10 +14,9 @@ use Rattle.xd_ledger.specs.State.{moved}
 use Rattle.xd_ledger.specs.Outputs.{turn_of, acts_of}
 use Rattle.xd_ledger.specs.Proper.{may_follow}
 use Rattle.xd_laws.proofs.Logic.{differ}
-use Rattle.xd_laws.proofs.Turns.{Tidy, Good, IsPlain, good-first}
-
+use Rattle.xd_laws.proofs.Turns.{Good}
 use Rattle.xd_laws.proofs.Inputs.{collecting-keeps}
-use Rattle.xd_laws.proofs.Rule.{CallFits, Turned, Rule, turned-good}
+use Rattle.xd_laws.proofs.Rule.{Turned, turned-good}
 
 -- the mode is this one
 abbrev pub InMode : ModeKind → State → Type 0

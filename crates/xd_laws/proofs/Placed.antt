@@ -257,9 +257,9 @@ shared_by b (Some a) answer h k = k.1
 pub shared-of_back : (s : State) (w : ℕ) (indices : List ℕ) → Placed s → may_follow s (Back w indices) ≡ true → s.books.shared ≡ true
 shared-of_back s w indices k h =
     shared_by s.books.shared s.plan.steal (λ a. (a.worker == w) && (elim indices [
-        | [] ↦ true
-        | i ∷ is ↦ bytes_eq (i ∷ is) a.tests && all_among (items_named (slot_of w s.books) (i ∷ is) s.plan) (drop 1 (held w s.books.table))
-      ])) (split-and (is_active w s.books) (may_give_back w indices s) h).1 k.steals
+      | [] ↦ true
+      | i ∷ is ↦ bytes_eq (i ∷ is) a.tests && all_among (items_named (slot_of w s.books) (i ∷ is) s.plan) (drop 1 (held w s.books.table))
+    ])) (split-and (is_active w s.books) (may_give_back w indices s) h).1 k.steals
 
 named-none : (slot : ℕ) (p : Plan) → items_named slot [] p ≡ []
 named-none slot p = elim (is_each p.mode) as (λ b. (if b then map (λ i. base slot p + i) [] else []) ≡ []) [ true ↦ refl | false ↦ refl ]

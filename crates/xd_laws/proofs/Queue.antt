@@ -1,18 +1,17 @@
 -- The queue of units fits the table, whatever happens to them.
-use Rattle.std.proofs.Common.{◌≡◌, ℕ, ◌+◌, ◌≤◌, List, [], ◌∷◌, ◌++◌, take, drop, length, map, Bool, true, false, not, ◌&&◌, ◌||◌, refl, ap, sym, ◌∙◌, subst, arith, inl, inr}
-use Rattle.std.specs.Prelude.{if◌then◌else◌, ◌==◌, Option, Some, None, ◌⊎◌}
+use Rattle.std.proofs.Common.{◌≡◌, ℕ, ◌+◌, ◌≤◌, List, [], ◌∷◌, ◌++◌, take, drop, Bool, true, false, not, ◌&&◌, refl, ap, sym, ◌∙◌, subst, arith, inl, inr}
+use Rattle.std.specs.Prelude.{if◌then◌else◌, ◌==◌, None}
 use Rattle.std.proofs.lemmas.Bool.Decides.{nat_tests}
 use Rattle.std.proofs.lemmas.List.{append-nil}
 use Rattle.xd_ledger.specs.declared.seat.Seat.{Seat}
 use Rattle.xd_ledger.specs.declared.member.Member.{Member}
 use Rattle.xd_ledger.specs.Numbers.{among, without, times}
-use Rattle.xd_ledger.specs.Table.{Table, held, held_in, in_rota, at_seat, without_seat, assigned, completed, left, died, joined, shut_down, all_items}
-use Rattle.xd_ledger.specs.Plan.{Plan, Asked, Handed}
+use Rattle.xd_ledger.specs.Table.{Table, held, held_in, in_rota, at_seat, without_seat, assigned, completed, left, died, joined, shut_down}
+use Rattle.xd_ledger.specs.Plan.{Plan, Handed}
 use Rattle.xd_ledger.specs.Units.{units_left}
-use Rattle.xd_ledger.specs.State.{down_plan}
 use Rattle.xd_ledger.specs.Orderly.{not_empty}
-use Rattle.xd_laws.proofs.Logic.{differ, cases_of, split-and, split-or, not_true, in_both}
-use Rattle.xd_laws.proofs.Counts.{times-append, times-without, times-cut, among-times}
+use Rattle.xd_laws.proofs.Logic.{differ, cases_of, split-and, split-or, not_true}
+use Rattle.xd_laws.proofs.Counts.{times-append, times-without, among-times}
 use Rattle.xd_laws.proofs.Rota.{has_seat, seat-change, seat-left, seat-joined}
 use Rattle.xd_laws.proofs.Places.{AtMostOnce, times-table, held-within}
 use Rattle.xd_laws.proofs.Crew.{has}

@@ -9,7 +9,7 @@ use Rattle.xd_ledger.specs.declared.entry.Entry.{Entry}
 use Rattle.xd_ledger.specs.declared.entry.Entry.TheVariants.{Start, Shutdown}
 use Rattle.xd_ledger.specs.Numbers.{among, all_distinct}
 use Rattle.xd_ledger.specs.Table.{seat_shut}
-use Rattle.xd_ledger.specs.Plan.{is_each, total}
+use Rattle.xd_ledger.specs.Plan.{total}
 use Rattle.xd_ledger.specs.Turn.{Turn}
 use Rattle.xd_ledger.specs.Modes.{Call}
 use Rattle.xd_ledger.specs.Modes.Call.{Share, Joined, TestDone, TestsBack, Died}

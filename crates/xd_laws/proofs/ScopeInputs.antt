@@ -1,9 +1,8 @@
 -- In the modes with scopes the queue fits the table behind each input.
-use Rattle.std.proofs.Common.{◌≡◌, ℕ, ◌+◌, ◌≤◌, List, [], ◌∷◌, ◌++◌, drop, length, map, Bool, true, false, not, ◌&&◌, ◌||◌, refl, ap, sym, ◌∙◌, subst, arith, inl, inr}
-use Rattle.std.specs.Prelude.{if◌then◌else◌, ◌==◌, Option, Some, None, sum, ◌⊎◌}
-use Rattle.std.specs.List.{list_any, range_with_len}
+use Rattle.std.proofs.Common.{◌≡◌, ℕ, List, [], ◌∷◌, ◌++◌, drop, length, map, Bool, true, false, not, ◌&&◌, ◌||◌, refl, ap, sym, ◌∙◌, subst, arith, inl, inr}
+use Rattle.std.specs.Prelude.{◌==◌, Option, Some, None, sum}
+use Rattle.std.specs.List.{range_with_len}
 use Rattle.std.specs.Str.{bytes_eq}
-use Rattle.std.proofs.lemmas.Bool.Decides.{nat_tests}
 use Rattle.xd_ledger.specs.declared.member.Member.{Member}
 use Rattle.xd_ledger.specs.declared.member.Listed.{Listed}
 use Rattle.xd_ledger.specs.declared.entry.Ids.{Ids}
@@ -12,15 +11,14 @@ use Rattle.xd_ledger.specs.declared.entry.Entry.TheVariants.{Ready, Collected, D
 use Rattle.xd_ledger.specs.Numbers.{all_among, times}
 use Rattle.xd_ledger.specs.Table.{Table, held, died, joined}
 use Rattle.xd_ledger.specs.Plan.{Plan, Asked, is_each, is_scope, items_named}
-use Rattle.xd_ledger.specs.Units.{units, units_left}
+use Rattle.xd_ledger.specs.Units.{units}
 use Rattle.xd_ledger.specs.Books.{marked}
 use Rattle.xd_ledger.specs.Workers.{is_active, was_ready, has_collected, slot_of, started, made_ready, made_collected, made_shut, made_gone}
 use Rattle.xd_ledger.specs.Collections.{unequal, listed, with_list}
-use Rattle.xd_ledger.specs.Stops.{stopped_by}
-use Rattle.xd_ledger.specs.Sharing.{State, in_books, ids_at, sizes_from, planned, shared_now}
+use Rattle.xd_ledger.specs.Sharing.{State, in_books, ids_at, planned, shared_now}
 use Rattle.xd_ledger.specs.State.{moved, completed_first, down_plan}
 use Rattle.xd_ledger.specs.Proper.{may_follow, may_give_back, are_ids}
-use Rattle.xd_laws.proofs.Logic.{differ, cases_of, split-and, not_true, or-false}
+use Rattle.xd_laws.proofs.Logic.{differ, cases_of, split-and, not_true}
 use Rattle.xd_laws.proofs.Places.{AtMostOnce}
 use Rattle.xd_laws.proofs.Crew.{has, has-same, has-kept, has-more}
 use Rattle.xd_laws.proofs.Placed.{at_most_once}
@@ -102,9 +100,9 @@ none_back (Some a) answer e h = cc
 no_back : (s : State) (w : ℕ) (indices : List ℕ) → Scoped s → may_follow s (Back w indices) ≡ true → ⊥
 no_back s w indices k h =
     none_back s.plan.steal (λ a. (a.worker == w) && (elim indices [
-        | [] ↦ true
-        | i ∷ is ↦ bytes_eq (i ∷ is) a.tests && all_among (items_named (slot_of w s.books) (i ∷ is) s.plan) (drop 1 (held w s.books.table))
-      ])) k.queue.steal (split-and (is_active w s.books) (may_give_back w indices s) h).1
+      | [] ↦ true
+      | i ∷ is ↦ bytes_eq (i ∷ is) a.tests && all_among (items_named (slot_of w s.books) (i ∷ is) s.plan) (drop 1 (held w s.books.table))
+    ])) k.queue.steal (split-and (is_active w s.books) (may_give_back w indices s) h).1
 
 -- a worker goes
 
@@ -118,7 +116,7 @@ scoped-down s w d k =
     record {
       mode = record { scope = k.mode.scope; each = k.mode.each };
       queue = subst (λ (p : Plan). QueueFits (died w t) p (map (made_gone w) ms)) (sym (plan-down w (drop 1 (held w t)) s.plan k.mode.scope k.queue.steal))
-      (queue-crew (died w t) (buried_plan w (drop 1 (held w t)) s.plan) ms (map (made_gone w) ms) (same_collected (made_gone w) ms (λ m. refl) (λ m. refl)) (queue-died t s.plan ms w (at_most_once s d.placed) k.queue));
+          (queue-crew (died w t) (buried_plan w (drop 1 (held w t)) s.plan) ms (map (made_gone w) ms) (same_collected (made_gone w) ms (λ m. refl) (λ m. refl)) (queue-died t s.plan ms w (at_most_once s d.placed) k.queue));
     }
 
 pub scoped-input : (s : State) (e : Entry) → may_follow s e ≡ true → Tidy s → Scoped s → Scoped (moved s e)

@@ -1,13 +1,9 @@
 -- The modes with scopes keep their rule.
-use Rattle.std.proofs.Common.{◌≡◌, ℕ, List, [], true, false, refl, sym, ap, ◌∙◌, subst, arith}
-use Rattle.std.specs.Prelude.{None}
-use Rattle.std.specs.Prelude.{Bool}
+use Rattle.std.proofs.Common.{◌≡◌, true, false, refl, sym, ap, ◌∙◌, subst, arith}
 use Rattle.xd_edge.specs.declared.mode.ModeKind.{ModeKind}
 use Rattle.xd_edge.specs.declared.mode.ModeKind.TheVariants.{Local, Each, Load, LoadScope, LoadFile, LoadGroup, WorkSteal}
 use Rattle.xd_ledger.specs.declared.settings.Settings.{Settings}
-use Rattle.xd_ledger.specs.declared.member.Member.{Member}
-use Rattle.xd_ledger.specs.declared.entry.Entry.{Entry}
-use Rattle.xd_ledger.specs.Table.{Table, seat_shut}
+use Rattle.xd_ledger.specs.Table.{Table}
 use Rattle.xd_ledger.specs.Plan.{Plan, is_each, is_scope}
 use Rattle.xd_ledger.specs.Turn.{Turn}
 use Rattle.xd_ledger.specs.Modes.{Call, turned, scope_turn}
@@ -17,8 +13,7 @@ use Rattle.xd_ledger.specs.State.{all_moved, no_one}
 use Rattle.xd_ledger.specs.Outputs.{turn_of, acts_of}
 use Rattle.xd_laws.proofs.Logic.{differ}
 use Rattle.xd_laws.proofs.Rota.{seat-among}
-use Rattle.xd_laws.proofs.Crew.{has}
-use Rattle.xd_laws.proofs.Turns.{Tidy, Good, InRota, good-first}
+use Rattle.xd_laws.proofs.Turns.{Tidy, good-first}
 use Rattle.xd_laws.proofs.Rule.{CallFits, Turned, Rule, turned-good}
 use Rattle.xd_laws.proofs.Queue.{QueueFits, queue-crew}
 use Rattle.xd_laws.proofs.ScopeTurns.{IsScoped, Fine, fine-share, fine-refill, fine-refill_all}
@@ -48,7 +43,7 @@ scoped-turn s t k f =
     record {
       mode = record { scope = ap is_scope mode ∙ k.scope; each = ap is_each mode ∙ k.each };
       queue = subst (λ (u : Table). QueueFits u m.plan m.books.crew) (sym f.good.table) (subst (λ (p : Plan). QueueFits t.table p m.books.crew) (sym f.good.plan)
-        (queue-crew t.table t.plan s.books.crew m.books.crew (λ v h. sym (f.good.kin.collected_same v) ∙ h) f.queue));
+          (queue-crew t.table t.plan s.books.crew m.books.crew (λ v h. sym (f.good.kin.collected_same v) ∙ h) f.queue));
     }
 
 scope-turned : (s : State) (c : Call) → Tidy s → s.books.shared ≡ true → Scoped s → CallFits s c → Turned Scoped s (acts_of c s)

@@ -1,6 +1,6 @@
 -- The turns of the modes with scopes are in order.
-use Rattle.std.proofs.Common.{◌≡◌, ℕ, zero, suc, ◌+◌, ◌≤◌, List, [], ◌∷◌, ◌++◌, take, drop, length, map, reverse, Bool, true, false, not, ◌&&◌, ◌||◌, refl, ap, sym, ◌∙◌, subst, arith, inl, inr}
-use Rattle.std.specs.Prelude.{if◌then◌else◌, ◌==◌, nat_lt, ◌⊎◌}
+use Rattle.std.proofs.Common.{◌≡◌, ℕ, zero, suc, ◌≤◌, List, [], ◌∷◌, ◌++◌, take, drop, length, reverse, true, false, ◌||◌, refl, ap, sym, ◌∙◌, subst, arith}
+use Rattle.std.specs.Prelude.{if◌then◌else◌, ◌==◌, nat_lt}
 use Rattle.std.specs.Str.{bytes_eq}
 use Rattle.std.proofs.lemmas.Bool.Decides.{nat_tests}
 use Rattle.std.proofs.lemmas.Slice.Eq.{bytes_eq-Decides}
@@ -14,17 +14,17 @@ use Rattle.xd_ledger.specs.Units.{without_unit}
 use Rattle.xd_ledger.specs.ScopeModes.{enough, give_unit, give_more, refill, refill_all, shut_where_spent, share}
 use Rattle.xd_ledger.specs.Workers.{slot_of}
 use Rattle.xd_ledger.specs.Sharing.{State}
-use Rattle.xd_ledger.specs.State.{moved, all_moved, run_plan}
+use Rattle.xd_ledger.specs.State.{all_moved, run_plan}
 use Rattle.xd_ledger.specs.Outputs.{turn_of}
 use Rattle.xd_ledger.specs.Orderly.{not_empty}
-use Rattle.xd_laws.proofs.Logic.{differ, cases_of, split-and, not_true, in_both}
+use Rattle.xd_laws.proofs.Logic.{differ, split-and, in_both}
 use Rattle.xd_laws.proofs.Counts.{times-append, among-times, times-among, distinct-of_times, all_among-of, all_among-self, all_among-take, all_among-drop, among_of-all_among}
-use Rattle.xd_laws.proofs.Rota.{seat-among, told-change, told-shut, workers-change}
-use Rattle.xd_laws.proofs.Places.{AtMostOnce, times-table}
-use Rattle.xd_laws.proofs.Turns.{Tidy, Good, InRota, good-first, in_rota-behind, unshut-of, turn-once, orderly-run, named-plain, good-more, good-shut, in_turn-keeps}
+use Rattle.xd_laws.proofs.Rota.{told-change, workers-change}
+use Rattle.xd_laws.proofs.Places.{times-table}
+use Rattle.xd_laws.proofs.Turns.{Tidy, Good, InRota, in_rota-behind, unshut-of, turn-once, orderly-run, named-plain, good-more, good-shut, in_turn-keeps}
 use Rattle.xd_laws.proofs.Units.{tests_of, none_empty}
 use Rattle.xd_laws.proofs.Queue.{QueueFits, handed_out, queue-shut, queue-given}
-use Rattle.xd_laws.proofs.EachTurns.{other-of, told-other, rota-distinct}
+use Rattle.xd_laws.proofs.EachTurns.{told-other, rota-distinct}
 
 -- the mode keeps scopes together
 pub record IsScoped (s : State) : Type 0 where
@@ -79,10 +79,10 @@ fine-unit s w u us t k a f unshut e =
     let rota = in_rota-behind s t w g a in
     record {
       good = good-more s t (with_unit w u us t) (Run w u) g refl refl
-      (orderly-run m w u each rota (unshut-of s t w g a unshut) filled distinct (ap (λ (v : Table). all_among u v.pool) g.table ∙ inside))
-      (ap (λ (xs : List ℕ). assigned w xs m.books.table) (named-plain (slot_of w m.books) u m.plan each) ∙ ap (λ (v : Table). assigned w u v) g.table)
-      (ap (λ (p : Plan). run_plan w u p) g.plan ∙ plan-scope w u us t.plan (ap is_scope g.mode ∙ k.scope) e)
-      (workers-change w (λ s. record s { held = s.held ++ u }) t.table.rota (λ s. refl)) refl;
+          (orderly-run m w u each rota (unshut-of s t w g a unshut) filled distinct (ap (λ (v : Table). all_among u v.pool) g.table ∙ inside))
+          (ap (λ (xs : List ℕ). assigned w xs m.books.table) (named-plain (slot_of w m.books) u m.plan each) ∙ ap (λ (v : Table). assigned w u v) g.table)
+          (ap (λ (p : Plan). run_plan w u p) g.plan ∙ plan-scope w u us t.plan (ap is_scope g.mode ∙ k.scope) e)
+          (workers-change w (λ s. record s { held = s.held ++ u }) t.table.rota (λ s. refl)) refl;
       queue = queue-given t.table t.plan s.books.crew w u us once (sym (g.kin.collected_same w) ∙ g.tidy.placed.fits.collected w rota) e f.queue;
     }
 
@@ -140,9 +140,9 @@ fine-units : (s : State) (ws : List ℕ) (t : Turn) → IsScoped s → all_among
 fine-units s ws t k h f =
     in_turn-keeps (FineFor s ws) give_unit ws
     (λ w u a g. record {
-        fine = fine-give_unit s w u k (among_of-all_among w ws (workers_of s.books.table) h a) g.fine (g.untold w a);
-        untold = λ v b. told-give_unit v w u ∙ g.untold v b;
-      }) ws t (all_among-self ws) f
+      fine = fine-give_unit s w u k (among_of-all_among w ws (workers_of s.books.table) h a) g.fine (g.untold w a);
+      untold = λ v b. told-give_unit v w u ∙ g.untold v b;
+    }) ws t (all_among-self ws) f
 
 told-others : (v : ℕ) (ws : List ℕ) (t : Turn) → among v ws ≡ false → seat_shut v (shut_each ws t).table ≡ seat_shut v t.table
 told-others v [] t h = refl

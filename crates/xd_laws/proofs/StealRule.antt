@@ -1,5 +1,5 @@
 -- Mode worksteal keeps its rule.
-use Rattle.std.proofs.Common.{◌≡◌, ℕ, true, false, refl, sym, subst}
+use Rattle.std.proofs.Common.{◌≡◌, true, refl, sym, subst}
 use Rattle.xd_edge.specs.declared.mode.ModeKind.TheVariants.{WorkSteal}
 use Rattle.xd_ledger.specs.Modes.{Call, turned}
 use Rattle.xd_ledger.specs.Modes.Call.{Share, Joined, TestDone, TestsBack, Died}

@@ -1,24 +1,24 @@
 -- The turns of mode worksteal are in order.
-use Rattle.std.proofs.Common.{◌≡◌, ℕ, zero, suc, ◌+◌, ◌-◌, ◌≤◌, ◌<◌, ◌/◌, List, [], ◌∷◌, ◌++◌, take, drop, length, map, min, Bool, true, false, not, ◌&&◌, ◌||◌, refl, ap, sym, ◌∙◌, subst, arith, inl, inr}
+use Rattle.std.proofs.Common.{◌≡◌, ℕ, zero, suc, ◌+◌, ◌-◌, ◌≤◌, ◌<◌, ◌/◌, List, [], ◌∷◌, ◌++◌, take, drop, length, map, Bool, true, false, not, ◌&&◌, refl, ap, sym, ◌∙◌, subst, arith, inl, inr}
 use Rattle.std.specs.Prelude.{if◌then◌else◌, ◌==◌, nat_lt, filter, Option, Some, None, is_none}
 use Rattle.std.proofs.lemmas.Bool.Decides.{nat_tests}
 use Rattle.xd_ledger.specs.declared.seat.Seat.{Seat}
 use Rattle.xd_ledger.specs.declared.entry.Entry.TheVariants.{Steal}
 use Rattle.xd_ledger.specs.Numbers.{among, all_distinct, all_among}
-use Rattle.xd_ledger.specs.Table.{Table, held, held_in, in_rota, seat_shut, workers_of}
+use Rattle.xd_ledger.specs.Table.{Table, held, held_in, in_rota, workers_of}
 use Rattle.xd_ledger.specs.Plan.{Plan, Asked}
 use Rattle.xd_ledger.specs.Turn.{Turn, give, give_front, shut_each}
-use Rattle.xd_ledger.specs.Worksteal.{enough, kept_part, idle, dealt, open_seats, most, first_with, victim, number, asks, asks_or_shuts, after_dealing, rule, share}
+use Rattle.xd_ledger.specs.Worksteal.{enough, idle, dealt, open_seats, most, first_with, victim, number, asks, asks_or_shuts, after_dealing, rule, share}
 use Rattle.xd_ledger.specs.Workers.{is_shut}
 use Rattle.xd_ledger.specs.Sharing.{State}
-use Rattle.xd_ledger.specs.State.{moved, all_moved}
+use Rattle.xd_ledger.specs.State.{all_moved}
 use Rattle.xd_ledger.specs.Orderly.{is_orderly, not_empty}
 use Rattle.xd_laws.proofs.Logic.{differ, cases_of, split-and, split-or, not_true, in_both}
 use Rattle.xd_laws.proofs.Counts.{distinct-of_times, all_among-more, all_among-drops, distinct-drop}
-use Rattle.xd_laws.proofs.Rota.{seats_of, has_seat, is_told, one-of_seat, none-of_seat, untold-of_seat, seat-among, seat-change, told-change}
+use Rattle.xd_laws.proofs.Rota.{seats_of, has_seat, is_told, one-of_seat, untold-of_seat, seat-among, seat-change, told-change}
 use Rattle.xd_laws.proofs.Places.{times-table, held-within}
 use Rattle.xd_laws.proofs.Placed.{Placed, at_most_once}
-use Rattle.xd_laws.proofs.Turns.{Tidy, Good, InRota, IsPlain, in_rota-behind, unshut-of, good-more, good-give_front, good-shut_each}
+use Rattle.xd_laws.proofs.Turns.{Good, InRota, IsPlain, in_rota-behind, unshut-of, good-more, good-give_front, good-shut_each}
 
 -- each worker has one seat at most
 abbrev OneSeat : List Seat → Type 0
@@ -156,8 +156,8 @@ good-asks s v t g none k h =
     let asked : Option Asked = Some (record { worker = w; tests = tests }) in
     good-more s t (asks v (number v) t) (Steal w tests) g refl refl
     (orderly-steal m w tests (in_rota-behind s t w g a) (unshut-of s t w g a k.open_.untold) (ap (λ (p : Plan). is_none p.steal) g.plan ∙ ap is_none none)
-      (not_empty-drop n v.held low.1) (distinct-drop n v.held distinct)
-      (ap (λ (xs : List ℕ). all_among tests (drop 2 xs)) holds ∙ all_among-drops 2 n v.held low.0))
+    (not_empty-drop n v.held low.1) (distinct-drop n v.held distinct)
+    (ap (λ (xs : List ℕ). all_among tests (drop 2 xs)) holds ∙ all_among-drops 2 n v.held low.0))
     g.table (ap (λ (p : Plan). record p { steal = asked }) g.plan) refl refl
 
 good-asks_or_shuts : (s : State) (ws : List ℕ) (o : Option Seat) (t : Turn) → Good s t → all_among ws (workers_of s.books.table) ≡ true → t.plan.steal ≡ None → victim t.table ≡ o
