@@ -23,4 +23,5 @@ pub mod Queue
 pub mod ScopeTurns
 pub mod ScopeInputs
 pub mod ScopeRule
+pub mod Told
 pub mod Laws

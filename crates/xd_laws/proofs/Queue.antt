@@ -19,7 +19,7 @@ use Rattle.xd_laws.proofs.Units.{tests_of, none_empty, tests-append, none_empty-
 
 -- what one worker holds
 
-held-none : (w : ℕ) (ss : List Seat) → has_seat w ss ≡ false → held_in w ss ≡ []
+pub held-none : (w : ℕ) (ss : List Seat) → has_seat w ss ≡ false → held_in w ss ≡ []
 held-none w [] h = refl
 held-none w (s ∷ ss) h = grind (arith, nat_tests, held-none w ss)
 

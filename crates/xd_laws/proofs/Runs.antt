@@ -81,7 +81,7 @@ begun-holds X rule settings x =
 
 -- the inputs
 
-stepped-holds : (X : State → Type 0) → Rule X → (s : State) (e : Entry) → may_follow s e ≡ true → Holds X s → Holds X (stepped s e)
+pub stepped-holds : (X : State → Type 0) → Rule X → (s : State) (e : Entry) → may_follow s e ≡ true → Holds X s → Holds X (stepped s e)
 stepped-holds X rule s e h k =
     let f = outputs-fit X rule s e h k.tidy k.also in
     holds-settled X rule (all_moved (moved s e) (outputs s e)) f.tidy f.also
