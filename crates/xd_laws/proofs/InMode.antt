@@ -24,7 +24,7 @@ InMode k s = s.plan.mode ≡ k
 
 pub mode-input : (k : ModeKind) (s : State) (e : Entry) → may_follow s e ≡ true → InMode k s → InMode k (moved s e)
 mode-input k s (Ready w) h m = m
-mode-input k s (Collected w g) h m = collecting-keeps (InMode k) (in_books (λ b. marked (made_collected w) (with_list w g b)) s) w (unequal w g (listed w s.books)) m m m m
+mode-input k s (Collected w g) h m = collecting-keeps (InMode k) (in_books (λ b. marked (made_collected w) (with_list w g b)) s) w (unequal w g (listed w s.books)) m m m (λ n. m)
 mode-input k s (Done w i u t o) h m = m
 mode-input k s (Back w i) h m = m
 mode-input k s (Finished w) h m = m

@@ -24,4 +24,5 @@ pub mod ScopeTurns
 pub mod ScopeInputs
 pub mod ScopeRule
 pub mod Told
+pub mod Spent
 pub mod Laws

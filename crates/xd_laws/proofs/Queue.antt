@@ -33,15 +33,15 @@ held-fewer : (x v w : ℕ) (items : List ℕ) (ss : List Seat)
 held-fewer x v w items [] = grind (arith, nat_tests)
 held-fewer x v w items (s ∷ ss) = grind (arith, nat_tests, held-fewer x v w items ss, times-without x items s.held)
 
-held-shut : (v w : ℕ) (ss : List Seat) → held_in v (at_seat w (λ s. record s { shut = true }) ss) ≡ held_in v ss
+pub held-shut : (v w : ℕ) (ss : List Seat) → held_in v (at_seat w (λ s. record s { shut = true }) ss) ≡ held_in v ss
 held-shut v w [] = refl
 held-shut v w (s ∷ ss) = grind (arith, nat_tests, held-shut v w ss)
 
-held-left : (v w : ℕ) (ss : List Seat) → (v == w) ≡ false → held_in v (without_seat w ss) ≡ held_in v ss
+pub held-left : (v w : ℕ) (ss : List Seat) → (v == w) ≡ false → held_in v (without_seat w ss) ≡ held_in v ss
 held-left v w [] h = refl
 held-left v w (s ∷ ss) h = grind (arith, nat_tests, held-left v w ss)
 
-held-joined : (v : ℕ) (ss : List Seat) (s : Seat) → has_seat v ss ≡ true → held_in v (ss ++ s ∷ []) ≡ held_in v ss
+pub held-joined : (v : ℕ) (ss : List Seat) (s : Seat) → has_seat v ss ≡ true → held_in v (ss ++ s ∷ []) ≡ held_in v ss
 held-joined v [] s h = absurd (differ h)
 held-joined v (x ∷ ss) s h = grind (arith, nat_tests, held-joined v ss s)
 

@@ -21,7 +21,7 @@ use Rattle.xd_ledger.specs.Proper.{may_follow, may_give_back, are_ids}
 use Rattle.xd_laws.proofs.Logic.{differ, cases_of, split-and, not_true}
 use Rattle.xd_laws.proofs.Places.{AtMostOnce}
 use Rattle.xd_laws.proofs.Crew.{has, has-same, has-kept, has-more}
-use Rattle.xd_laws.proofs.Placed.{at_most_once}
+use Rattle.xd_laws.proofs.Placed.{at_most_once, no_back}
 use Rattle.xd_laws.proofs.Turns.{Tidy}
 use Rattle.xd_laws.proofs.Inputs.{collecting-keeps}
 use Rattle.xd_laws.proofs.Units.{tests_of, none_empty, tests-units, none_empty-units, given_to}
@@ -83,26 +83,13 @@ scoped-collected s w g h k =
     (record { mode = mode; queue = queue })
     (record { mode = record { scope = k.mode.scope; each = k.mode.each }; queue = queue })
     in_rota
-    (record { mode = record { scope = k.mode.scope; each = k.mode.each }; queue = queue-shared j in_rota })
+    (λ n. record { mode = record { scope = k.mode.scope; each = k.mode.each }; queue = queue-shared j in_rota })
 
 -- a test ends
 
 queue-first : (t : Table) (p : Plan) (ms : List Member) (w : ℕ) (items : List ℕ) → AtMostOnce t → QueueFits t p ms → QueueFits (completed_first w items t) p ms
 queue-first t p ms w [] once q = q
 queue-first t p ms w (i ∷ is) once q = queue-completed t p ms w i once q
-
--- no steal is open, so none is answered
-
-none_back : (steal : Option Asked) (answer : Asked → Bool) → steal ≡ None → (elim steal as (λ _. Bool) [ None ↦ false | Some a ↦ answer a ]) ≡ true → ⊥
-none_back None answer e h = differ h
-none_back (Some a) answer e h = cc
-
-no_back : (s : State) (w : ℕ) (indices : List ℕ) → Scoped s → may_follow s (Back w indices) ≡ true → ⊥
-no_back s w indices k h =
-    none_back s.plan.steal (λ a. (a.worker == w) && (elim indices [
-      | [] ↦ true
-      | i ∷ is ↦ bytes_eq (i ∷ is) a.tests && all_among (items_named (slot_of w s.books) (i ∷ is) s.plan) (drop 1 (held w s.books.table))
-    ])) k.queue.steal (split-and (is_active w s.books) (may_give_back w indices s) h).1
 
 -- a worker goes
 
@@ -129,7 +116,7 @@ scoped-input s (Done w i u m o) h d k = record {
   mode = record { scope = k.mode.scope; each = k.mode.each };
   queue = queue-first s.books.table s.plan s.books.crew w (items_named (slot_of w s.books) (i ∷ []) s.plan) (at_most_once s d.placed) k.queue;
 }
-scoped-input s (Back w is) h d k = absurd (no_back s w is k h)
+scoped-input s (Back w is) h d k = absurd (no_back s w is k.queue.steal h)
 scoped-input s (Finished w) h d k = record {
   mode = record { scope = k.mode.scope; each = k.mode.each };
   queue = queue-left s.books.table s.plan (map (made_gone w) s.books.crew) w

@@ -110,7 +110,7 @@ same_reported s t h = h ∙ sym (append-nil (reported s))
 told-input : (s : State) (e : Entry) → may_follow s e ≡ true → Placed s → reported (moved s e) ≡ reported s ++ items_told (reports_of s e)
 told-input s (Ready w) h k = same_reported s (moved s (Ready w)) refl
 told-input s (Collected w g) h k = same_reported s (moved s (Collected w g))
-    (collecting-keeps (λ (u : State). reported u ≡ reported s) (in_books (λ b. marked (made_collected w) (with_list w g b)) s) w (unequal w g (listed w s.books)) refl refl refl refl)
+    (collecting-keeps (λ (u : State). reported u ≡ reported s) (in_books (λ b. marked (made_collected w) (with_list w g b)) s) w (unequal w g (listed w s.books)) refl refl refl (λ n. refl))
 told-input s (Done w i u m o) h k = one-by (is_each s.plan.mode) (base (slot_of w s.books) s.plan + i) i w u s.books.table
 told-input s (Back w is) h k = same_reported s (moved s (Back w is)) refl
 told-input s (Finished w) h k = same_reported s (moved s (Finished w)) refl
