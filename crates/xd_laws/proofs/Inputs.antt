@@ -1,5 +1,5 @@
 -- The state behind an input that may follow is tidy.
-use Rattle.std.proofs.Common.{◌≡◌, ℕ, ◌+◌, List, [], ◌∷◌, map, true, false, refl, ap, sym, ◌∙◌, arith, length, not, ◌&&◌}
+use Rattle.std.proofs.Common.{◌≡◌, ℕ, ◌+◌, List, [], ◌∷◌, map, true, false, refl, ap, sym, ◌∙◌, arith, length, not}
 use Rattle.std.specs.Prelude.{Some, None, Option, is_some, ◌==◌}
 use Rattle.std.specs.List.{range_with_len}
 use Rattle.std.proofs.lemmas.Bool.Decides.{nat_tests}
@@ -33,7 +33,7 @@ collecting-keeps P s w (Some how) a b c d = in_both P (is_shut w s.books) s (in_
 collecting-keeps P s w None a b c d =
     let j = in_books (λ b. record b { table = joined w b.table }) s in
     in_both P (is_shut w s.books) s (joining w s) (λ h. a) (λ h. in_both P (is_full j.books) (shared_now j) j
-      (λ k. d (not_true s.books.shared (split-and (not s.books.shared) (length j.books.table.rota == s.books.settings.workers) k).0)) (λ k. c))
+    (λ k. d (not_true s.books.shared (split-and (not s.books.shared) (length j.books.table.rota == s.books.settings.workers) k).0)) (λ k. c))
 
 abbrev CrewOk : State → Type 0
 CrewOk s = CrewFits s.books.crew s.books.settings.workers

@@ -1,5 +1,5 @@
 -- The laws.
-use Rattle.std.proofs.Common.{◌≡◌, ℕ, Bool, List, true, false, refl, ap, sym, ◌∙◌, arith, ◌≤◌, ◌<◌, [], ◌∷◌, not, ◌&&◌, ◌||◌, inl, inr}
+use Rattle.std.proofs.Common.{◌≡◌, ℕ, Bool, List, true, false, refl, ap, sym, ◌∙◌, arith, ◌≤◌, ◌<◌, [], ◌∷◌, not, ◌||◌, inl, inr}
 use Rattle.xd_laws.proofs.Spent.{Spent, And, rule-spent}
 use Rattle.xd_laws.proofs.Told.{items_told, told-all}
 use Rattle.xd_laws.proofs.Places.{times-table}
@@ -13,7 +13,6 @@ use Rattle.xd_ledger.specs.declared.member.Member.{Member}
 use Rattle.xd_ledger.specs.declared.seat.Seat.{Seat}
 use Rattle.std.proofs.lemmas.Bool.Decides.{nat_tests}
 use Rattle.std.specs.List.{list_any}
-use Rattle.std.specs.Prelude.{◌==◌, ◌⊎◌}
 use Rattle.xd_edge.specs.declared.mode.ModeKind.{ModeKind}
 use Rattle.xd_edge.specs.declared.mode.ModeKind.TheVariants.{Local, Each, Load, LoadScope, LoadFile, LoadGroup, WorkSteal}
 use Rattle.xd_ledger.specs.declared.settings.Settings.{Settings}

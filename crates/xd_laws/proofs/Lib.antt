@@ -26,3 +26,4 @@ pub mod ScopeRule
 pub mod Told
 pub mod Spent
 pub mod Laws
+mod Rows

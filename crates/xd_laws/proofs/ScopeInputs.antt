@@ -1,23 +1,22 @@
 -- In the modes with scopes the queue fits the table behind each input.
 use Rattle.std.proofs.Common.{◌≡◌, ℕ, List, [], ◌∷◌, ◌++◌, drop, length, map, Bool, true, false, not, ◌&&◌, ◌||◌, refl, ap, sym, ◌∙◌, subst, arith, inl, inr}
-use Rattle.std.specs.Prelude.{◌==◌, Option, Some, None, sum}
+use Rattle.std.specs.Prelude.{◌==◌, None, sum}
 use Rattle.std.specs.List.{range_with_len}
-use Rattle.std.specs.Str.{bytes_eq}
 use Rattle.xd_ledger.specs.declared.member.Member.{Member}
 use Rattle.xd_ledger.specs.declared.member.Listed.{Listed}
 use Rattle.xd_ledger.specs.declared.entry.Ids.{Ids}
 use Rattle.xd_ledger.specs.declared.entry.Entry.{Entry}
 use Rattle.xd_ledger.specs.declared.entry.Entry.TheVariants.{Ready, Collected, Done, Back, Finished, Refused, Down, NotStarted, Start, Run, RunAll, Steal, Shutdown, Kill, Over}
-use Rattle.xd_ledger.specs.Numbers.{all_among, times}
+use Rattle.xd_ledger.specs.Numbers.{times}
 use Rattle.xd_ledger.specs.Table.{Table, held, died, joined}
-use Rattle.xd_ledger.specs.Plan.{Plan, Asked, is_each, is_scope, items_named}
+use Rattle.xd_ledger.specs.Plan.{Plan, is_each, is_scope, items_named}
 use Rattle.xd_ledger.specs.Units.{units}
 use Rattle.xd_ledger.specs.Books.{marked}
 use Rattle.xd_ledger.specs.Workers.{is_active, was_ready, has_collected, slot_of, started, made_ready, made_collected, made_shut, made_gone}
 use Rattle.xd_ledger.specs.Collections.{unequal, listed, with_list}
 use Rattle.xd_ledger.specs.Sharing.{State, in_books, ids_at, planned, shared_now}
 use Rattle.xd_ledger.specs.State.{moved, completed_first, down_plan}
-use Rattle.xd_ledger.specs.Proper.{may_follow, may_give_back, are_ids}
+use Rattle.xd_ledger.specs.Proper.{may_follow, are_ids}
 use Rattle.xd_laws.proofs.Logic.{differ, cases_of, split-and, not_true}
 use Rattle.xd_laws.proofs.Places.{AtMostOnce}
 use Rattle.xd_laws.proofs.Crew.{has, has-same, has-kept, has-more}

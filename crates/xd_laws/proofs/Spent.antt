@@ -1,34 +1,33 @@
 -- A run that is shutting and was not stopped has nothing left to hand out.
-use Rattle.std.proofs.Common.{◌≡◌, ℕ, zero, suc, ◌+◌, ◌≤◌, ◌<◌, List, [], ◌∷◌, ◌++◌, take, drop, length, map, Bool, true, false, not, ◌&&◌, ◌||◌, refl, ap, sym, ◌∙◌, subst, arith, inl, inr}
+use Rattle.std.proofs.Common.{◌≡◌, ℕ, zero, suc, ◌+◌, ◌≤◌, ◌<◌, List, [], ◌∷◌, ◌++◌, drop, length, map, Bool, true, false, not, ◌&&◌, refl, ap, sym, ◌∙◌, subst, arith, inl, inr}
 use Rattle.std.proofs.lemmas.List.{append-nil}
-use Rattle.std.specs.Prelude.{if◌then◌else◌, ◌==◌, nat_lt, Option, Some, None, is_none, is_some, ◌⊎◌}
+use Rattle.std.specs.Prelude.{if◌then◌else◌, ◌==◌, nat_lt, Option, Some, None, is_none}
 use Rattle.std.specs.List.{list_all}
 use Rattle.std.proofs.lemmas.Bool.Decides.{nat_tests}
 use Rattle.xd_ledger.specs.declared.seat.Seat.{Seat}
 use Rattle.xd_ledger.specs.declared.entry.Ids.{Ids}
-use Rattle.xd_ledger.specs.declared.entry.RunStop.{RunStop}
 use Rattle.xd_ledger.specs.declared.entry.RunStop.TheVariants.{CollectError}
 use Rattle.xd_ledger.specs.declared.entry.Entry.{Entry}
 use Rattle.xd_ledger.specs.declared.entry.Entry.TheVariants.{Ready, Collected, Done, Back, Finished, Refused, Down, NotStarted, Start, Run, RunAll, Steal, Shutdown, Kill, Over}
 use Rattle.xd_ledger.specs.Numbers.{among, without, all_distinct, all_among}
-use Rattle.xd_ledger.specs.Table.{Table, held, held_in, in_rota, at_seat, without_seat, assigned, completed, left, died, joined, shut_down}
+use Rattle.xd_ledger.specs.Table.{Table, held, held_in, at_seat, without_seat, assigned}
 use Rattle.xd_ledger.specs.Plan.{Plan, Asked, is_each, base, items_named, slot_items}
 use Rattle.xd_ledger.specs.Books.{marked}
 use Rattle.xd_ledger.specs.Workers.{slot_of, made_collected}
 use Rattle.xd_ledger.specs.Collections.{unequal, listed, with_list}
-use Rattle.xd_ledger.specs.Stops.{is_stopped, stopped_by}
-use Rattle.xd_ledger.specs.Sharing.{State, in_books, shared_now}
+use Rattle.xd_ledger.specs.Stops.{is_stopped}
+use Rattle.xd_ledger.specs.Sharing.{State, in_books}
 use Rattle.xd_ledger.specs.State.{moved, all_moved, settled, settles, is_finished, completed_first, steal_without}
 use Rattle.xd_ledger.specs.Outputs.{acts_of}
 use Rattle.xd_ledger.specs.Proper.{may_follow}
 use Rattle.xd_ledger.specs.Orderly.{is_orderly, all_orderly, may_run, not_empty}
 use Rattle.xd_laws.proofs.Logic.{differ, cases_of, split-and, split-or}
-use Rattle.xd_laws.proofs.Rota.{has_seat, seat-left, seat-joined}
+use Rattle.xd_laws.proofs.Rota.{has_seat, seat-left}
 use Rattle.xd_laws.proofs.Placed.{first_named-by, no_back}
 use Rattle.xd_laws.proofs.Turns.{Tidy, all_moved-first}
 use Rattle.xd_laws.proofs.Inputs.{collecting-keeps, unstopped-before, down-unstopped, done-unstopped}
-use Rattle.xd_laws.proofs.Rule.{Fit, Turned, Rule}
-use Rattle.xd_laws.proofs.Queue.{held-none, held-shut, held-left, held-joined}
+use Rattle.xd_laws.proofs.Rule.{Rule}
+use Rattle.xd_laws.proofs.Queue.{held-none, held-shut, held-left}
 
 -- the pool is empty, no steal is open, and no worker holds more than one item
 pub record IsSpent (t : Table) (p : Plan) : Type 0 where
@@ -100,10 +99,10 @@ spent-steal s w indices h low =
 
 none-assigned : (t : Table) (p : Plan) (w : ℕ) (items : List ℕ) → items ≡ [] → IsSpent t p → IsSpent (assigned w items t) p
 none-assigned t p w items e k = subst (λ (xs : List ℕ). IsSpent (assigned w xs t) p) (sym e) (record {
-    pool = ap (λ (xs : List ℕ). without [] xs) k.pool;
-    steal = k.steal;
-    few = λ v. subst (λ (xs : List ℕ). length xs < 2) (sym (few-added v w t.rota)) (k.few v);
-  })
+  pool = ap (λ (xs : List ℕ). without [] xs) k.pool;
+  steal = k.steal;
+  few = λ v. subst (λ (xs : List ℕ). length xs < 2) (sym (few-added v w t.rota)) (k.few v);
+})
 
 spent-run_all : (s : State) (w : ℕ) → is_orderly s (RunAll w) ≡ true → Spent s → Spent (moved s (RunAll w))
 spent-run_all s w h k =
@@ -223,8 +222,8 @@ rule-spent X rule = record {
   shutdown = λ s w p k. record { also = rule.shutdown s w p k.also; spent = spent-shutdown s w k.spent };
   settled = λ s k. record { also = rule.settled s k.also; spent = spent-settled s k.spent };
   turns = λ s c d h k f. (let t = rule.turns s c d h k.also f in record {
-      fit = record { orderly = t.fit.orderly; tidy = t.fit.tidy; also = record { also = t.fit.also; spent = spent-outputs s (acts_of c s) t.fit.orderly k.spent } };
-      kin = t.kin;
-      settings = t.settings;
-    });
+    fit = record { orderly = t.fit.orderly; tidy = t.fit.tidy; also = record { also = t.fit.also; spent = spent-outputs s (acts_of c s) t.fit.orderly k.spent } };
+    kin = t.kin;
+    settings = t.settings;
+  });
 }

@@ -1,19 +1,18 @@
 -- The reports of a journal are of the items that its state has as reported, in their order.
-use Rattle.std.proofs.Common.{◌≡◌, ℕ, zero, suc, ◌+◌, List, [], ◌∷◌, ◌++◌, take, map, Bool, true, false, not, ◌&&◌, refl, ap, sym, ◌∙◌, subst, arith, append_assoc, inl, inr}
-use Rattle.std.specs.Prelude.{if◌then◌else◌, ◌==◌}
+use Rattle.std.proofs.Common.{◌≡◌, ℕ, zero, suc, ◌+◌, List, [], ◌∷◌, ◌++◌, take, map, Bool, true, false, not, refl, ap, sym, ◌∙◌, append_assoc, inl, inr}
+use Rattle.std.specs.Prelude.{if◌then◌else◌}
 use Rattle.std.proofs.lemmas.List.{append-nil}
 use Rattle.xd_ledger.specs.declared.settings.Settings.{Settings}
-use Rattle.xd_ledger.specs.declared.entry.Ids.{Ids}
 use Rattle.xd_ledger.specs.declared.entry.Outcome.{Outcome}
 use Rattle.xd_ledger.specs.declared.entry.Entry.{Entry}
 use Rattle.xd_ledger.specs.declared.entry.Entry.TheVariants.{Ready, Collected, Done, Back, Finished, Refused, Down, NotStarted, Start, Run, RunAll, Steal, Shutdown, Kill, Over}
 use Rattle.xd_ledger.specs.Table.{Table, held, in_rota}
-use Rattle.xd_ledger.specs.Plan.{Plan, is_each, base, items_named}
+use Rattle.xd_ledger.specs.Plan.{is_each, base}
 use Rattle.xd_ledger.specs.Books.{marked}
 use Rattle.xd_ledger.specs.Workers.{is_active, was_ready, slot_of, made_collected}
 use Rattle.xd_ledger.specs.Collections.{unequal, listed, with_list}
 use Rattle.xd_ledger.specs.Sharing.{State, in_books}
-use Rattle.xd_ledger.specs.State.{moved, next, all_moved, settled, no_one, completed_first}
+use Rattle.xd_ledger.specs.State.{moved, all_moved, settled, no_one, completed_first}
 use Rattle.xd_ledger.specs.Outputs.{outputs, stepped}
 use Rattle.xd_ledger.specs.Histories.{starts_from, first_starts, begun, grown, journal_of, stepped_all}
 use Rattle.xd_ledger.specs.Proper.{may_follow, all_may_follow}
@@ -21,7 +20,7 @@ use Rattle.xd_ledger.specs.Orderly.{is_orderly, all_orderly}
 use Rattle.xd_ledger.specs.Reports.{Report, Result, Crash, item_of, reports_of, reports_from, reports}
 use Rattle.xd_laws.proofs.Logic.{differ, cases_of, split-and, not_true}
 use Rattle.xd_laws.proofs.Placed.{Placed}
-use Rattle.xd_laws.proofs.Turns.{all_moved-first, all_moved-join}
+use Rattle.xd_laws.proofs.Turns.{all_moved-first}
 use Rattle.xd_laws.proofs.Inputs.{collecting-keeps}
 use Rattle.xd_laws.proofs.Rule.{Rule}
 use Rattle.xd_laws.proofs.Outputs.{outputs-fit}
