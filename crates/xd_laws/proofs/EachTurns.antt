@@ -13,13 +13,13 @@ use Rattle.xd_ledger.specs.Turn.{Turn, shut}
 use Rattle.xd_ledger.specs.Each.{give_all, give_slots, share, remainder, give_of_slot, joins}
 use Rattle.xd_ledger.specs.Workers.{is_shut, slot_of}
 use Rattle.xd_ledger.specs.Sharing.{State}
-use Rattle.xd_ledger.specs.State.{all_moved, run_plan}
+use Rattle.xd_ledger.specs.State.{all_moved}
 use Rattle.xd_ledger.specs.Outputs.{turn_of}
 use Rattle.xd_ledger.specs.Orderly.{is_orderly}
 use Rattle.xd_laws.proofs.Logic.{differ, cases_of, split-and, not_true, in_both}
 use Rattle.xd_laws.proofs.Counts.{distinct-of_times, all_among-self, all_among-of, among_of-all_among, among-filter, distinct-filter, among-in_range, bounds-of_range}
 use Rattle.xd_laws.proofs.Rota.{seats_of, seat-among, told-change, told-shut, workers-change}
-use Rattle.xd_laws.proofs.Turns.{Tidy, Good, InRota, in_rota-behind, unshut-of, turn-distinct, good-first, good-more, good-shut}
+use Rattle.xd_laws.proofs.Turns.{plan-plain, Tidy, Good, InRota, in_rota-behind, unshut-of, turn-distinct, good-first, good-more, good-shut}
 use Rattle.xd_laws.proofs.Rule.{IsFresh}
 
 -- the items of slots
@@ -219,9 +219,6 @@ orderly-of_slot : (m : State) (w i : ℕ) (is items : List ℕ) → items_named 
     → is_orderly m (Run w (i ∷ is)) ≡ true
 orderly-of_slot m w i is items named a b c d e f = rw (named, f, e, a, b, c, d)
 
-plan-each : (w : ℕ) (indices : List ℕ) (p : Plan) → is_scope p.mode ≡ false → run_plan w indices p ≡ p
-plan-each w indices p h = rw h
-
 good-of_slot : (s : State) (w : ℕ) (items : List ℕ) (t : Turn) → is_each s.plan.mode ≡ true → is_scope s.plan.mode ≡ false → InRota s w → Steady s t → seat_shut w t.table ≡ false
     → all_distinct items ≡ true → all_among items t.table.pool ≡ true → all_among items (slot_items (slot_of w s.books) s.plan) ≡ true → Good s (give_of_slot w (slot_of w s.books) items t)
 good-of_slot s w [] t e n a g unshut distinct within mine = g.good
@@ -242,7 +239,7 @@ good-of_slot s w (x ∷ xs) t e n a g unshut distinct within mine =
     (orderly-of_slot m w (x - base slot t.plan) (map (λ item. item - base slot t.plan) xs) items named (in_rota-behind s t w g.good a) (unshut-of s t w g.good a unshut) distinct
     (ap (λ (u : Table). all_among items u.pool) g.good.table ∙ within) each (ap (λ (ys : List ℕ). all_among items ys) (slot-behind s t w g) ∙ mine))
     (ap (λ (ys : List ℕ). assigned w ys m.books.table) named ∙ ap (λ (u : Table). assigned w items u) g.good.table)
-    (plan-each w indices m.plan (ap (λ (p : Plan). is_scope p.mode) plan ∙ n) ∙ g.good.plan)
+    (plan-plain w indices m.plan (ap (λ (p : Plan). is_scope p.mode) plan ∙ n) ∙ g.good.plan)
     (workers-change w (λ s. record s { held = s.held ++ items }) t.table.rota (λ s. refl)) refl
 
 pub good-joins : (s : State) (w : ℕ) → is_each s.plan.mode ≡ true → is_scope s.plan.mode ≡ false → Tidy s → s.books.shared ≡ true → InRota s w → seat_shut w s.books.table ≡ false

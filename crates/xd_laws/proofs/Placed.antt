@@ -187,7 +187,7 @@ placed-down s w k = record {
   steals = steals-without w s.books.shared s.plan.steal k.steals;
 }
 
-empty_of : (xs : List ℕ) → (length xs == 0) ≡ true → xs ≡ []
+pub empty_of : (xs : List ℕ) → (length xs == 0) ≡ true → xs ≡ []
 empty_of [] h = refl
 empty_of (x ∷ xs) h = grind (arith, nat_tests)
 

@@ -23,7 +23,7 @@ use Rattle.xd_ledger.specs.Proper.{may_follow}
 use Rattle.xd_ledger.specs.Orderly.{is_orderly, all_orderly, may_run, not_empty}
 use Rattle.xd_laws.proofs.Logic.{differ, cases_of, split-and, split-or}
 use Rattle.xd_laws.proofs.Rota.{has_seat, seat-left}
-use Rattle.xd_laws.proofs.Placed.{first_named-by, no_back}
+use Rattle.xd_laws.proofs.Placed.{empty_of, first_named-by, no_back}
 use Rattle.xd_laws.proofs.Turns.{Tidy, all_moved-first}
 use Rattle.xd_laws.proofs.Inputs.{collecting-keeps, unstopped-before, down-unstopped, done-unstopped}
 use Rattle.xd_laws.proofs.Rule.{Rule}
@@ -187,10 +187,6 @@ no_steal : (a : Option Asked) → is_none a ≡ true → a ≡ None
 no_steal None h = refl
 no_steal (Some a) h = absurd (differ h)
 
-empty-of : (xs : List ℕ) → (length xs == 0) ≡ true → xs ≡ []
-empty-of [] h = refl
-empty-of (x ∷ xs) h = grind (arith, nat_tests)
-
 few-all : (v : ℕ) (ss : List Seat) → list_all (λ s. nat_lt (length s.held) 2) ss ≡ true → length (held_in v ss) < 2
 few-all v [] h = omega arith
 few-all v (s ∷ ss) h = grind (arith, nat_tests, few-all v ss, h)
@@ -199,7 +195,7 @@ spent-finished : (t : Table) (p : Plan) → is_finished t p ≡ true → IsSpent
 spent-finished t p h =
     let a = split-and ((length t.pool == 0) && is_none p.steal) (list_all (λ s. nat_lt (length s.held) 2) t.rota) h in
     let b = split-and (length t.pool == 0) (is_none p.steal) a.0 in
-    record { pool = empty-of t.pool b.0; steal = no_steal p.steal b.1; few = λ v. few-all v t.rota a.1 }
+    record { pool = empty_of t.pool b.0; steal = no_steal p.steal b.1; few = λ v. few-all v t.rota a.1 }
 
 spent-settled : (s : State) → Spent s → Spent (settled s)
 spent-settled s k = record {

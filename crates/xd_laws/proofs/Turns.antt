@@ -245,7 +245,7 @@ pub record IsPlain (mode : ModeKind) : Type 0 where
 pub named-plain : (slot : ℕ) (items : List ℕ) (p : Plan) → is_each p.mode ≡ false → items_named slot items p ≡ items
 named-plain slot items p h = rw h
 
-plan-plain : (w : ℕ) (items : List ℕ) (p : Plan) → is_scope p.mode ≡ false → run_plan w items p ≡ p
+pub plan-plain : (w : ℕ) (items : List ℕ) (p : Plan) → is_scope p.mode ≡ false → run_plan w items p ≡ p
 plan-plain w items p h = rw h
 
 pub orderly-run : (m : State) (w : ℕ) (items : List ℕ) → is_each m.plan.mode ≡ false → in_rota w m.books.table ≡ true → is_shut w m.books ≡ false
