@@ -1,10 +1,10 @@
 -- How often a number stands in a list.
-use Rattle.std.proofs.Common.{◌≡◌, ℕ, zero, suc, ◌+◌, ◌≤◌, ◌<◌, List, [], ◌∷◌, ◌++◌, take, drop, map, true, false, refl, arith}
-use Rattle.std.specs.Prelude.{if◌then◌else◌}
+use Rattle.std.proofs.Common.{Bool, ◌&&◌, inl, inr, not, ◌≡◌, ℕ, zero, suc, ◌+◌, ◌≤◌, ◌<◌, List, [], ◌∷◌, ◌++◌, take, drop, map, true, false, refl, arith}
+use Rattle.std.specs.Prelude.{◌==◌, filter, if◌then◌else◌}
 use Rattle.std.specs.List.{range_with_len}
 use Rattle.std.proofs.lemmas.Bool.Decides.{nat_tests}
 use Rattle.xd_ledger.specs.Numbers.{among, without, all_distinct, all_among, times}
-use Rattle.xd_laws.proofs.Logic.{split-and, and}
+use Rattle.xd_laws.proofs.Logic.{differ, split-and, split-or, and}
 
 pub times-append : (x : ℕ) (xs ys : List ℕ) → times x (xs ++ ys) ≡ times x xs + times x ys
 times-append x [] ys = omega arith
@@ -25,6 +25,10 @@ times-cut x (y ∷ ys) = omega arith
 pub among-times : (x : ℕ) (xs : List ℕ) → among x xs ≡ true → 1 ≤ times x xs
 among-times x [] h = cc
 among-times x (y ∷ xs) h = grind (arith, nat_tests, among-times x xs)
+
+pub times-among : (x : ℕ) (xs : List ℕ) → 1 ≤ times x xs → among x xs ≡ true
+times-among x [] h = absurd (omega (arith, h))
+times-among x (y ∷ xs) h = grind (arith, nat_tests, times-among x xs)
 
 pub distinct-of_times : (xs : List ℕ) → ((x : ℕ) → times x xs ≤ 1) → all_distinct xs ≡ true
 distinct-of_times [] h = refl
@@ -77,6 +81,30 @@ pub all_among-drop : (n : ℕ) (ys xs : List ℕ) → all_among ys (drop n xs) �
 all_among-drop n [] xs h = refl
 all_among-drop n (y ∷ ys) xs h = grind (arith, nat_tests, all_among-drop n ys xs, among-drop y n xs)
 
+pub distinct-drop : (n : ℕ) (xs : List ℕ) → all_distinct xs ≡ true → all_distinct (drop n xs) ≡ true
+distinct-drop zero xs h = h
+distinct-drop (suc n) [] h = refl
+distinct-drop (suc n) (x ∷ xs) h = distinct-drop n xs (split-and (not (among x xs)) (all_distinct xs) h).1
+
+pub among-filter : (x : ℕ) (test : ℕ → Bool) (xs : List ℕ) → among x (filter test xs) ≡ (test x && among x xs)
+among-filter x test [] = grind (arith, nat_tests)
+among-filter x test (y ∷ xs) = grind (arith, nat_tests, among-filter x test xs)
+
+pub distinct-filter : (test : ℕ → Bool) (xs : List ℕ) → all_distinct xs ≡ true → all_distinct (filter test xs) ≡ true
+distinct-filter test [] h = refl
+distinct-filter test (x ∷ xs) h = grind (arith, nat_tests, distinct-filter test xs, among-filter x test xs)
+
+pub all_among-of : (xs ys : List ℕ) → ((x : ℕ) → among x xs ≡ true → among x ys ≡ true) → all_among xs ys ≡ true
+all_among-of [] ys h = refl
+all_among-of (x ∷ xs) ys h = and (h x (grind (arith, nat_tests))) (all_among-of xs ys (λ y k. h y (grind (arith, nat_tests, k))))
+
+-- what is left behind more of a list is left behind less of it
+pub all_among-drops : (j k : ℕ) (xs : List ℕ) → j ≤ k → all_among (drop k xs) (drop j xs) ≡ true
+all_among-drops zero k xs h = all_among-drop k (drop k xs) xs (all_among-self (drop k xs))
+all_among-drops (suc j) zero xs h = absurd (omega (arith, h))
+all_among-drops (suc j) (suc k) [] h = refl
+all_among-drops (suc j) (suc k) (x ∷ xs) h = all_among-drops j k xs (omega (arith, h))
+
 -- numbers moved up by as much
 
 among-plus : (b x : ℕ) (xs : List ℕ) → among (b + x) (map (λ i. b + i) xs) ≡ among x xs
@@ -99,6 +127,17 @@ times-range x a (suc n) = grind (arith, nat_tests, times-range x (a + 1) n, time
 
 pub distinct-range : (a n : ℕ) → all_distinct (range_with_len a n) ≡ true
 distinct-range a n = distinct-of_times (range_with_len a n) (λ x. times-range x a n)
+
+pub among-in_range : (x a n : ℕ) → a ≤ x → x < a + n → among x (range_with_len a n) ≡ true
+among-in_range x a zero h k = absurd (omega (arith, h, k))
+among-in_range x a (suc n) h k = grind (arith, nat_tests, among-in_range x (a + 1) n)
+
+pub bounds-of_range : (x a n : ℕ) → among x (range_with_len a n) ≡ true → (a ≤ x) × (x < a + n)
+bounds-of_range x a zero h = absurd (differ h)
+bounds-of_range x a (suc n) h = elim (split-or (x == a) (among x (range_with_len (a + 1) n)) h) [
+  | inl k ↦ (let e : x ≡ a = grind (arith, nat_tests, k) in (omega (arith, e), omega (arith, e)))
+  | inr k ↦ (let r = bounds-of_range x (a + 1) n k in (omega (arith, r.0), omega (arith, r.1)))
+]
 
 pub times-in_range : (x a n : ℕ) → a ≤ x → x < a + n → times x (range_with_len a n) ≡ 1
 times-in_range x a zero h k = absurd (omega arith)

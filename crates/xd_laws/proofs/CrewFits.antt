@@ -34,20 +34,22 @@ pub record CrewFits (ms : List Member) (limit : ℕ) : Type 0 where
   pub apart : (v w : ℕ) → has v (λ m. m.active) ms ≡ true → has w (λ m. m.active) ms ≡ true → slot_in v ms ≡ slot_in w ms → v ≡ w
   pub below : (v : ℕ) → is_member v ms ≡ true → slot_in v ms < limit
 
--- a change that keeps numbers, slots and who is active
+-- a change that keeps numbers, slots, who is active and who has collected
 pub record Kin (ms ns : List Member) : Type 0 where
   pub numbers_same : numbers ns ≡ numbers ms
   pub slots_same : (v : ℕ) → slot_in v ns ≡ slot_in v ms
   pub active_same : (v : ℕ) → has v (λ m. m.active) ns ≡ has v (λ m. m.active) ms
+  pub collected_same : (v : ℕ) → has v (λ m. m.collected) ns ≡ has v (λ m. m.collected) ms
 
 pub kin-same : (ms : List Member) → Kin ms ms
-kin-same ms = record { numbers_same = refl; slots_same = λ v. refl; active_same = λ v. refl }
+kin-same ms = record { numbers_same = refl; slots_same = λ v. refl; active_same = λ v. refl; collected_same = λ v. refl }
 
 pub kin-then : (ms ns os : List Member) → Kin ms ns → Kin ns os → Kin ms os
 kin-then ms ns os a b = record {
   numbers_same = b.numbers_same ∙ a.numbers_same;
   slots_same = λ v. b.slots_same v ∙ a.slots_same v;
   active_same = λ v. b.active_same v ∙ a.active_same v;
+  collected_same = λ v. b.collected_same v ∙ a.collected_same v;
 }
 
 pub kin-shut : (w : ℕ) (ms : List Member) → Kin ms (map (made_shut w) ms)
@@ -55,6 +57,7 @@ kin-shut w ms = record {
   numbers_same = numbers-marked (made_shut w) ms (λ m. refl);
   slots_same = λ v. slot-marked v (made_shut w) ms (λ m. refl) (λ m. refl);
   active_same = λ v. has-same v (λ m. m.active) (made_shut w) ms (λ m. refl) (λ m. refl);
+  collected_same = λ v. has-same v (λ m. m.collected) (made_shut w) ms (λ m. refl) (λ m. refl);
 }
 
 pub kin-length : (ms ns : List Member) → Kin ms ns → length ns ≡ length ms

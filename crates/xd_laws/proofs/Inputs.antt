@@ -1,6 +1,6 @@
 -- The state behind an input that may follow is tidy.
-use Rattle.std.proofs.Common.{◌≡◌, ℕ, ◌+◌, List, [], ◌∷◌, map, Bool, true, false, refl, ap, sym, ◌∙◌, arith}
-use Rattle.std.specs.Prelude.{if◌then◌else◌, Some, None, Option, is_some}
+use Rattle.std.proofs.Common.{◌≡◌, ℕ, ◌+◌, List, [], ◌∷◌, map, true, false, refl, ap, sym, ◌∙◌, arith, length, not}
+use Rattle.std.specs.Prelude.{Some, None, Option, is_some, ◌==◌}
 use Rattle.std.specs.List.{range_with_len}
 use Rattle.std.proofs.lemmas.Bool.Decides.{nat_tests}
 use Rattle.xd_ledger.specs.declared.member.Member.{Member}
@@ -19,7 +19,7 @@ use Rattle.xd_ledger.specs.Stops.{is_stopped, or_stop, stopped_by, at_limit, out
 use Rattle.xd_ledger.specs.Sharing.{State, in_books, joining, share_where_full, shared_now, is_full}
 use Rattle.xd_ledger.specs.State.{moved, collecting, completed_first, failing, done_stop, gone, buried}
 use Rattle.xd_ledger.specs.Proper.{may_follow}
-use Rattle.xd_laws.proofs.Logic.{differ, in_both}
+use Rattle.xd_laws.proofs.Logic.{differ, in_both, split-and, not_true}
 use Rattle.xd_laws.proofs.Rota.{seat-among, seat-joined}
 use Rattle.xd_laws.proofs.Crew.{has, has-same}
 use Rattle.xd_laws.proofs.Placed.{placed-input}
@@ -28,11 +28,12 @@ use Rattle.xd_laws.proofs.Turns.{Tidy, Calm, InRota}
 
 -- what the sharing of tests and the joining of a worker leave as it is
 pub collecting-keeps : (P : State → Type 0) (s : State) (w : ℕ) (stop : Option RunStop) → P s → P (in_books (stopped_by stop) s)
-    → P (in_books (λ b. record b { table = joined w b.table }) s) → P (shared_now (in_books (λ b. record b { table = joined w b.table }) s)) → P (collecting w stop s)
+    → P (in_books (λ b. record b { table = joined w b.table }) s) → (s.books.shared ≡ false → P (shared_now (in_books (λ b. record b { table = joined w b.table }) s))) → P (collecting w stop s)
 collecting-keeps P s w (Some how) a b c d = in_both P (is_shut w s.books) s (in_books (stopped_by (Some how)) s) (λ h. a) (λ h. b)
 collecting-keeps P s w None a b c d =
     let j = in_books (λ b. record b { table = joined w b.table }) s in
-    in_both P (is_shut w s.books) s (joining w s) (λ h. a) (λ h. in_both P (is_full j.books) (shared_now j) j (λ k. d) (λ k. c))
+    in_both P (is_shut w s.books) s (joining w s) (λ h. a) (λ h. in_both P (is_full j.books) (shared_now j) j
+    (λ k. d (not_true s.books.shared (split-and (not s.books.shared) (length j.books.table.rota == s.books.settings.workers) k).0)) (λ k. c))
 
 abbrev CrewOk : State → Type 0
 CrewOk s = CrewFits s.books.crew s.books.settings.workers
@@ -41,7 +42,7 @@ crew-input : (s : State) (e : Entry) → may_follow s e ≡ true → CrewOk s �
 crew-input s (Ready w) h c = crew-ready s.books.crew s.books.settings.workers w c
 crew-input s (Collected w g) h c =
     let k = crew-collected s.books.crew s.books.settings.workers w c in
-    collecting-keeps CrewOk (in_books (λ b. marked (made_collected w) (with_list w g b)) s) w (unequal w g (listed w s.books)) k k k k
+    collecting-keeps CrewOk (in_books (λ b. marked (made_collected w) (with_list w g b)) s) w (unequal w g (listed w s.books)) k k k (λ n. k)
 crew-input s (Done w i u m o) h c = c
 crew-input s (Back w i) h c = c
 crew-input s (Finished w) h c = crew-gone s.books.crew s.books.settings.workers w c
@@ -57,7 +58,7 @@ crew-input s (Kill w) h c = absurd (differ h)
 crew-input s (Over how) h c = absurd (differ h)
 
 -- a stop stays
-unstopped-before : (a how : Option RunStop) → is_some (or_stop a how) ≡ false → is_some a ≡ false
+pub unstopped-before : (a how : Option RunStop) → is_some (or_stop a how) ≡ false → is_some a ≡ false
 unstopped-before None how h = refl
 unstopped-before (Some first) how h = h
 
@@ -85,14 +86,14 @@ calm-collected s w g c =
     (calm-by s now refl refl (λ h. h) shut c)
     (calm-by s (in_books (stopped_by stop) now) refl refl (unstopped-before s.books.stop stop) shut c)
     (calm-by s j refl refl (λ h. h) shut c)
-    (record { late = λ h. refl; unshut = λ h k. absurd (differ (sym k)) })
+    (λ n. record { late = λ h. refl; unshut = λ h k. absurd (differ (sym k)) })
 
-down-unstopped : (w : ℕ) (s : State) → is_stopped (moved s (NotStarted w)).books ≡ false → is_stopped s.books ≡ false
+pub down-unstopped : (w : ℕ) (s : State) → is_stopped (moved s (NotStarted w)).books ≡ false → is_stopped s.books ≡ false
 down-unstopped w s h =
     let c = gone w (buried w s.books) in
     unstopped-before s.books.stop (or_stop (at_limit c) (out_of_restarts w c)) h
 
-done-unstopped : (s : State) (w i : ℕ) (u : Outcome) (m : ℕ) (o : List ℕ) → is_stopped (moved s (Done w i u m o)).books ≡ false → is_stopped s.books ≡ false
+pub done-unstopped : (s : State) (w i : ℕ) (u : Outcome) (m : ℕ) (o : List ℕ) → is_stopped (moved s (Done w i u m o)).books ≡ false → is_stopped s.books ≡ false
 done-unstopped s w i u m o h =
     let items = items_named (slot_of w s.books) (i ∷ []) s.plan in
     unstopped-before s.books.stop (done_stop u (record (s.books) { table = completed_first w items s.books.table; failures = s.books.failures + failing u })) h
@@ -125,11 +126,11 @@ pub shut_as_before : (s : State) (w v : ℕ) (g : Ids) → has v (λ m. m.shut) 
 shut_as_before s w v g =
     let k = shut-collected w v s.books.crew in
     collecting-keeps (λ (u : State). has v (λ m. m.shut) u.books.crew ≡ has v (λ m. m.shut) s.books.crew)
-    (in_books (λ b. marked (made_collected w) (with_list w g b)) s) w (unequal w g (listed w s.books)) k k k k
+    (in_books (λ b. marked (made_collected w) (with_list w g b)) s) w (unequal w g (listed w s.books)) k k k (λ n. k)
 
 -- a share is not taken back
 pub still_shared : (s : State) (w : ℕ) (g : Ids) → s.books.shared ≡ true → (moved s (Collected w g)).books.shared ≡ true
-still_shared s w g h = collecting-keeps (λ (u : State). u.books.shared ≡ true) (in_books (λ b. marked (made_collected w) (with_list w g b)) s) w (unequal w g (listed w s.books)) h h h refl
+still_shared s w g h = collecting-keeps (λ (u : State). u.books.shared ≡ true) (in_books (λ b. marked (made_collected w) (with_list w g b)) s) w (unequal w g (listed w s.books)) h h h (λ n. refl)
 
 -- a collection that is not told to shut down and stops nothing brings its worker into the rota
 

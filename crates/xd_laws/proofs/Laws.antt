@@ -1,20 +1,74 @@
 -- The laws.
-use Rattle.std.proofs.Common.{◌≡◌, ℕ, List, Bool, true, false, ap, ◌∙◌, arith}
-use Rattle.xd_edge.specs.declared.mode.ModeKind.TheVariants.{Load}
+use Rattle.std.proofs.Common.{◌≡◌, ℕ, Bool, List, true, false, refl, ap, sym, ◌∙◌, arith, ◌≤◌, ◌<◌, [], ◌∷◌, not, ◌||◌, inl, inr}
+use Rattle.xd_laws.proofs.Spent.{Spent, And, rule-spent}
+use Rattle.xd_laws.proofs.Told.{items_told, told-all}
+use Rattle.xd_laws.proofs.Places.{times-table}
+use Rattle.xd_laws.proofs.Crew.{has}
+use Rattle.xd_laws.proofs.Rota.{has_seat}
+use Rattle.xd_laws.specs.Reported.{AreOnce}
+use Rattle.xd_ledger.specs.Reports.{reports}
+use Rattle.xd_ledger.specs.Workers.{some_active}
+use Rattle.xd_ledger.specs.Stops.{is_stopped, is_shutting}
+use Rattle.xd_ledger.specs.declared.member.Member.{Member}
+use Rattle.xd_ledger.specs.declared.seat.Seat.{Seat}
+use Rattle.std.proofs.lemmas.Bool.Decides.{nat_tests}
+use Rattle.std.specs.List.{list_any}
+use Rattle.xd_edge.specs.declared.mode.ModeKind.{ModeKind}
+use Rattle.xd_edge.specs.declared.mode.ModeKind.TheVariants.{Local, Each, Load, LoadScope, LoadFile, LoadGroup, WorkSteal}
 use Rattle.xd_ledger.specs.declared.settings.Settings.{Settings}
 use Rattle.xd_ledger.specs.declared.entry.Entry.{Entry}
 use Rattle.xd_ledger.specs.Numbers.{times}
-use Rattle.xd_ledger.specs.Table.{all_items}
-use Rattle.xd_ledger.specs.Plan.{total}
+use Rattle.xd_ledger.specs.Table.{all_items, Table, in_rota, held_by_all}
+use Rattle.xd_ledger.specs.Plan.{total, is_scope}
 use Rattle.xd_ledger.specs.Sharing.{State}
-use Rattle.xd_ledger.specs.Histories.{begun, stepped_all}
-use Rattle.xd_ledger.specs.Proper.{IsProper}
+use Rattle.xd_ledger.specs.State.{no_one}
+use Rattle.xd_ledger.specs.Histories.{begun, stepped_all, is_over, journal_of}
+use Rattle.xd_ledger.specs.Proper.{has_workers, IsProper}
 use Rattle.xd_ledger.specs.Orderly.{is_orderly_run}
 use Rattle.xd_laws.specs.Once.{IsOnce}
+use Rattle.xd_laws.proofs.Logic.{differ, cases_of, split-and, not_true}
 use Rattle.xd_laws.proofs.Counts.{times-in_range, times-behind_range, empty-of_times}
-use Rattle.xd_laws.proofs.Placed.{Placed, due_times}
-use Rattle.xd_laws.proofs.Runs.{begun-holds, all-hold, all-orderly, placed-run, placed-begun}
-use Rattle.xd_laws.proofs.LoadRule.{InMode, load_rule}
+use Rattle.xd_laws.proofs.Placed.{Placed, due_times, at_most_once}
+use Rattle.xd_laws.proofs.Turns.{Tidy}
+use Rattle.xd_laws.proofs.Rule.{Rule}
+use Rattle.xd_laws.proofs.Runs.{begun-holds, all-hold, all-orderly}
+use Rattle.xd_laws.proofs.InMode.{InMode}
+use Rattle.xd_laws.proofs.LoadRule.{load_rule}
+use Rattle.xd_laws.proofs.StealRule.{steal_rule}
+use Rattle.xd_laws.proofs.EachRule.{each_rule}
+use Rattle.xd_laws.proofs.ScopeInputs.{Scoped}
+use Rattle.xd_laws.proofs.ScopeRule.{scope_rule, scoped-none}
+
+-- what the laws say of one run
+record Lawful (settings : Settings) (inputs : List Entry) : Type 0 where
+  order : is_orderly_run (begun settings) inputs ≡ true
+  tidy : Tidy (stepped_all (begun settings) inputs)
+  spent : Spent (stepped_all (begun settings) inputs)
+  told : items_told (reports settings (journal_of settings inputs)) ≡ (stepped_all (begun settings) inputs).books.table.reported
+
+spent-none : (settings : Settings) → Spent (no_one settings)
+spent-none settings = record { spent = λ h k. absurd (differ h) }
+
+by_rule : (X : State → Type 0) → Rule X → (settings : Settings) (inputs : List Entry) → X (no_one settings) → IsProper settings inputs → Lawful settings inputs
+by_rule X plain settings inputs x p =
+    let rule = rule-spent X plain in
+    let b = begun-holds (And X) rule settings (record { also = x; spent = spent-none settings }) in
+    let all = all-hold (And X) rule (begun settings) inputs p.follow b in
+    record {
+      order = all-orderly (And X) rule (begun settings) inputs p.follow b;
+      tidy = all.tidy;
+      spent = all.also.spent;
+      told = told-all (And X) rule settings inputs p.follow b;
+    }
+
+by_mode : (k : ModeKind) (settings : Settings) (inputs : List Entry) → settings.mode ≡ k → IsProper settings inputs → Lawful settings inputs
+by_mode Local settings inputs m p = absurd (differ (ap has_workers (sym m) ∙ p.mode))
+by_mode Each settings inputs m p = by_rule (InMode Each) each_rule settings inputs m p
+by_mode Load settings inputs m p = by_rule (InMode Load) load_rule settings inputs m p
+by_mode LoadScope settings inputs m p = by_rule Scoped scope_rule settings inputs (scoped-none settings (ap is_scope m)) p
+by_mode LoadFile settings inputs m p = by_rule Scoped scope_rule settings inputs (scoped-none settings (ap is_scope m)) p
+by_mode LoadGroup settings inputs m p = by_rule Scoped scope_rule settings inputs (scoped-none settings (ap is_scope m)) p
+by_mode WorkSteal settings inputs m p = by_rule (InMode WorkSteal) steal_rule settings inputs m p
 
 once-placed : (s : State) → Placed s → IsOnce s
 once-placed s k =
@@ -26,11 +80,58 @@ once-placed s k =
       none_before = λ h. empty-of_times (all_items s.books.table) (whole false h);
     }
 
-pub load_order : (settings : Settings) (inputs : List Entry) → settings.mode ≡ Load → IsProper settings inputs → is_orderly_run (begun settings) inputs ≡ true
-load_order settings inputs m p = all-orderly (InMode Load) load_rule (begun settings) inputs p.follow (begun-holds (InMode Load) load_rule settings m)
+pub orderly : (settings : Settings) (inputs : List Entry) → IsProper settings inputs → is_orderly_run (begun settings) inputs ≡ true
+orderly settings inputs p = (by_mode settings.mode settings inputs refl p).order
 
-pub load_once : (settings : Settings) (inputs : List Entry) → settings.mode ≡ Load → IsProper settings inputs → IsOnce (stepped_all (begun settings) inputs)
-load_once settings inputs m p = once-placed (stepped_all (begun settings) inputs) (all-hold (InMode Load) load_rule (begun settings) inputs p.follow (begun-holds (InMode Load) load_rule settings m)).tidy.placed
+pub in_one_place : (settings : Settings) (inputs : List Entry) → IsProper settings inputs → IsOnce (stepped_all (begun settings) inputs)
+in_one_place settings inputs p = once-placed (stepped_all (begun settings) inputs) (by_mode settings.mode settings inputs refl p).tidy.placed
 
-pub one_place : (settings : Settings) (inputs : List Entry) → IsProper settings inputs → is_orderly_run (begun settings) inputs ≡ true → IsOnce (stepped_all (begun settings) inputs)
-one_place settings inputs p o = once-placed (stepped_all (begun settings) inputs) (placed-run (begun settings) inputs p.follow o (placed-begun settings))
+-- the reports
+
+reported-within : (x : ℕ) (t : Table) → times x t.reported ≤ times x (all_items t)
+reported-within x t = omega (arith, times-table x t)
+
+-- where nobody is active nobody has a seat
+none_active : (v : ℕ) (ms : List Member) → list_any (λ m. m.active) ms ≡ false → has v (λ m. m.active) ms ≡ false
+none_active v [] h = refl
+none_active v (m ∷ ms) h = grind (arith, nat_tests, none_active v ms, h)
+
+no_seats : (ss : List Seat) → ((w : ℕ) → has_seat w ss ≡ false) → held_by_all ss ≡ []
+no_seats [] h = refl
+no_seats (s ∷ ss) h = absurd (let k = h s.worker in grind (arith, nat_tests, k))
+
+not_shut_by : (stopped shutting : Bool) → (stopped || shutting) ≡ true → stopped ≡ false → shutting ≡ true
+not_shut_by true b h k = absurd (differ (sym k))
+not_shut_by false b h k = h
+
+all-told : (s : State) → Tidy s → Spent s → is_over s.books ≡ true → is_stopped s.books ≡ false → (x : ℕ) → x < total s.plan → times x s.books.table.reported ≡ 1
+all-told s d k h u x l =
+    let t = s.books.table in
+    let a = split-and (is_shutting s.books) (not (some_active s.books)) h in
+    let shutting : s.books.shutting ≡ true = not_shut_by (is_stopped s.books) s.books.shutting a.0 u in
+    let quiet = not_true (some_active s.books) a.1 in
+    let left : (w : ℕ) → has_seat w t.rota ≡ false = λ w. elim (cases_of (in_rota w t)) [
+      | inl r ↦ absurd (differ (sym (none_active w s.books.crew quiet) ∙ d.placed.fits.active w r))
+      | inr r ↦ r
+    ] in
+    let held : times x (held_by_all t.rota) ≡ 0 = ap (λ (xs : List ℕ). times x xs) (no_seats t.rota left) in
+    let pool : times x t.pool ≡ 0 = ap (λ (xs : List ℕ). times x xs) (k.spent shutting u).pool in
+    let one = (once-placed s d.placed).each_once (d.calm.late shutting) x l in
+    omega (arith, held, pool, one, times-table x t)
+
+total_or_none : (s : State) → Placed s → (x : ℕ) → total s.plan ≤ x → times x (all_items s.books.table) ≡ 0
+total_or_none s k x l = elim (cases_of s.books.shared) [
+  | inl h ↦ (once-placed s k).no_other h x l
+  | inr h ↦ ap (λ (xs : List ℕ). times x xs) ((once-placed s k).none_before h)
+]
+
+pub reported_once : (settings : Settings) (inputs : List Entry) → IsProper settings inputs → AreOnce (reports settings (journal_of settings inputs)) (stepped_all (begun settings) inputs)
+reported_once settings inputs p =
+    let l = by_mode settings.mode settings inputs refl p in
+    let s = stepped_all (begun settings) inputs in
+    let same : (x : ℕ) → times x (items_told (reports settings (journal_of settings inputs))) ≡ times x s.books.table.reported = λ x. ap (λ (xs : List ℕ). times x xs) l.told in
+    record {
+      at_most = λ x. omega (arith, same x, reported-within x s.books.table, at_most_once s l.tidy.placed x);
+      no_other = λ x h. (let none = total_or_none s l.tidy.placed x h in omega (arith, same x, reported-within x s.books.table, none));
+      all_told = λ h u x b. same x ∙ all-told s l.tidy l.spent h u x b;
+    }

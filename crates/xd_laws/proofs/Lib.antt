@@ -12,6 +12,18 @@ pub mod Rule
 pub mod Inputs
 pub mod Outputs
 pub mod Runs
+pub mod InMode
 pub mod LoadRule
 pub mod StealTurns
+pub mod StealRule
+pub mod EachTurns
+pub mod EachRule
+pub mod Units
+pub mod Queue
+pub mod ScopeTurns
+pub mod ScopeInputs
+pub mod ScopeRule
+pub mod Told
+pub mod Spent
 pub mod Laws
+mod Rows

@@ -1,5 +1,5 @@
 -- What follows an input is in order.
-use Rattle.std.proofs.Common.{◌≡◌, ℕ, ◌<◌, List, [], ◌∷◌, ◌++◌, length, true, false, not, ◌&&◌, refl, ap, sym, ◌∙◌, subst, arith, inl, inr, ◌||◌, Bool}
+use Rattle.std.proofs.Common.{◌≡◌, ℕ, ◌<◌, List, [], ◌∷◌, ◌++◌, length, true, false, not, ◌&&◌, refl, ap, sym, ◌∙◌, subst, arith, inl, inr}
 use Rattle.std.specs.Prelude.{if◌then◌else◌}
 use Rattle.std.specs.List.{list_any}
 use Rattle.std.proofs.lemmas.Bool.Decides.{nat_tests}
@@ -59,13 +59,13 @@ ready-fit X rule s w h d t x =
 
 -- a worker joins, and the last one that was missing brings the share
 
-joining-fit : (X : State → Type 0) → Rule X → (s t : State) (w : ℕ) → Tidy t → X t → InRota t w → (s.books.shared ≡ true → t.books.shared ≡ true) → (s.books.shared ≡ false → t.books.shared ≡ true → IsFresh t (slots_of_rota t.books))
+joining-fit : (X : State → Type 0) → Rule X → (s t : State) (w : ℕ) → Tidy t → X t → InRota t w → is_shut w t.books ≡ false → (s.books.shared ≡ true → t.books.shared ≡ true) → (s.books.shared ≡ false → t.books.shared ≡ true → IsFresh t (slots_of_rota t.books))
     → Fit X t (after_joining w s.books t)
-joining-fit X rule s t w d x rota still fresh =
+joining-fit X rule s t w d x rota unshut still fresh =
     let joined_ = acts_of (Joined w (slot_of w t.books)) t in
     let shared_ = acts_of (Share (slots_of_rota t.books)) t in
     in_both (λ (os : List Entry). Fit X t os) s.books.shared joined_ (if t.books.shared then shared_ else [])
-    (λ h. (rule.turns t (Joined w (slot_of w t.books)) d (still h) x (rota, refl)).fit)
+    (λ h. (rule.turns t (Joined w (slot_of w t.books)) d (still h) x (record { rota = rota; slot_is = refl; unshut = sym (d.placed.fits.marks w (seat-among w t.books.table.rota ∙ rota)) ∙ unshut })).fit)
     (λ h. in_both (λ (os : List Entry). Fit X t os) t.books.shared shared_ [] (λ k. (rule.turns t (Share (slots_of_rota t.books)) d k x (fresh h k)).fit) (λ k. fit-none X t d x))
 
 fresh-by : (s t : State) (w : ℕ) → t ≡ joining w s → ((v : ℕ) → has v (λ m. m.shut) t.books.crew ≡ false) → s.books.shared ≡ false → t.books.shared ≡ true → IsFresh t (slots_of_rota t.books)
@@ -87,7 +87,7 @@ collected-fit X rule s w g d t x =
     in_both (λ (os : List Entry). Fit X now os) (is_shut w s.books) [] (unless_stopped s.books now.books (after_joining w s.books now)) (λ h. fit-none X now t x)
     (λ h. unless-fit X rule s.books now (after_joining w s.books now) t x
     (λ unstopped k. (let e = joins-by before w stop (same ∙ h) k in
-    joining-fit X rule s now w t x (subst (λ (u : State). InRota u w) (sym e) (joins-rota before w)) (still_shared s w g)
+    joining-fit X rule s now w t x (subst (λ (u : State). InRota u w) (sym e) (joins-rota before w)) (shut_as_before s w w g ∙ h) (still_shared s w g)
     (λ n. fresh-by before now w e (unshut-collected s w g d.calm unstopped n) n))))
 
 -- a test ends

@@ -187,7 +187,7 @@ placed-down s w k = record {
   steals = steals-without w s.books.shared s.plan.steal k.steals;
 }
 
-empty_of : (xs : List ℕ) → (length xs == 0) ≡ true → xs ≡ []
+pub empty_of : (xs : List ℕ) → (length xs == 0) ≡ true → xs ≡ []
 empty_of [] h = refl
 empty_of (x ∷ xs) h = grind (arith, nat_tests)
 
@@ -236,7 +236,7 @@ distinct_named-by : (each : Bool) (b : ℕ) (xs : List ℕ) → all_distinct xs 
 distinct_named-by true b xs h = distinct-plus b xs h
 distinct_named-by false b xs h = h
 
-first_named-by : (each : Bool) (b i : ℕ) (is xs : List ℕ) → all_among (if each then map (λ j. b + j) (i ∷ is) else i ∷ is) xs ≡ true → (x : ℕ) × (among x xs ≡ true)
+pub first_named-by : (each : Bool) (b i : ℕ) (is xs : List ℕ) → all_among (if each then map (λ j. b + j) (i ∷ is) else i ∷ is) xs ≡ true → (x : ℕ) × (among x xs ≡ true)
 first_named-by true b i is xs h = (b + i, (split-and (among (b + i) xs) (all_among (map (λ j. b + j) is) xs) h).0)
 first_named-by false b i is xs h = (i, (split-and (among i xs) (all_among is xs) h).0)
 
@@ -257,9 +257,22 @@ shared_by b (Some a) answer h k = k.1
 pub shared-of_back : (s : State) (w : ℕ) (indices : List ℕ) → Placed s → may_follow s (Back w indices) ≡ true → s.books.shared ≡ true
 shared-of_back s w indices k h =
     shared_by s.books.shared s.plan.steal (λ a. (a.worker == w) && (elim indices [
-        | [] ↦ true
-        | i ∷ is ↦ bytes_eq (i ∷ is) a.tests && all_among (items_named (slot_of w s.books) (i ∷ is) s.plan) (drop 1 (held w s.books.table))
-      ])) (split-and (is_active w s.books) (may_give_back w indices s) h).1 k.steals
+      | [] ↦ true
+      | i ∷ is ↦ bytes_eq (i ∷ is) a.tests && all_among (items_named (slot_of w s.books) (i ∷ is) s.plan) (drop 1 (held w s.books.table))
+    ])) (split-and (is_active w s.books) (may_give_back w indices s) h).1 k.steals
+
+-- where no steal is open none is answered
+
+none_back : (steal : Option Asked) (answer : Asked → Bool) → steal ≡ None → (elim steal as (λ _. Bool) [ None ↦ false | Some a ↦ answer a ]) ≡ true → ⊥
+none_back None answer e h = differ h
+none_back (Some a) answer e h = cc
+
+pub no_back : (s : State) (w : ℕ) (indices : List ℕ) → s.plan.steal ≡ None → may_follow s (Back w indices) ≡ true → ⊥
+no_back s w indices k h =
+    none_back s.plan.steal (λ a. (a.worker == w) && (elim indices [
+      | [] ↦ true
+      | i ∷ is ↦ bytes_eq (i ∷ is) a.tests && all_among (items_named (slot_of w s.books) (i ∷ is) s.plan) (drop 1 (held w s.books.table))
+    ])) k (split-and (is_active w s.books) (may_give_back w indices s) h).1
 
 named-none : (slot : ℕ) (p : Plan) → items_named slot [] p ≡ []
 named-none slot p = elim (is_each p.mode) as (λ b. (if b then map (λ i. base slot p + i) [] else []) ≡ []) [ true ↦ refl | false ↦ refl ]

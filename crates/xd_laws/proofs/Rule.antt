@@ -8,7 +8,8 @@ use Rattle.xd_ledger.specs.declared.member.Member.{Member}
 use Rattle.xd_ledger.specs.declared.entry.Entry.{Entry}
 use Rattle.xd_ledger.specs.declared.entry.Entry.TheVariants.{Start, Shutdown}
 use Rattle.xd_ledger.specs.Numbers.{among, all_distinct}
-use Rattle.xd_ledger.specs.Plan.{is_each, total}
+use Rattle.xd_ledger.specs.Table.{seat_shut}
+use Rattle.xd_ledger.specs.Plan.{total}
 use Rattle.xd_ledger.specs.Turn.{Turn}
 use Rattle.xd_ledger.specs.Modes.{Call}
 use Rattle.xd_ledger.specs.Modes.Call.{Share, Joined, TestDone, TestsBack, Died}
@@ -42,10 +43,16 @@ pub record IsFresh (s : State) (slots : List ℕ) : Type 0 where
   pub pool : s.books.table.pool ≡ range_with_len 0 (total s.plan)
   pub unshut : (v : ℕ) → has v (λ m. m.shut) s.books.crew ≡ false
 
+-- the worker joined, at this slot, and was told nothing
+pub record HasJoined (s : State) (w slot : ℕ) : Type 0 where
+  pub rota : InRota s w
+  pub slot_is : slot ≡ slot_of w s.books
+  pub unshut : seat_shut w s.books.table ≡ false
+
 -- what holds where the mode is called
 abbrev pub CallFits : State → Call → Type 0
 CallFits s (Share slots) = IsFresh s slots
-CallFits s (Joined w slot) = InRota s w × (slot ≡ slot_of w s.books)
+CallFits s (Joined w slot) = HasJoined s w slot
 CallFits s (TestDone w ms) = InRota s w
 CallFits s TestsBack = Unit {0}
 CallFits s Died = Unit {0}

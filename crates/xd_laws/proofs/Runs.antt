@@ -1,5 +1,5 @@
 -- Whole runs, in a mode that keeps its rule.
-use Rattle.std.proofs.Common.{◌≡◌, ℕ, zero, suc, ◌+◌, ◌≤◌, List, [], ◌∷◌, ◌++◌, length, true, refl, ap, sym, ◌∙◌, subst, arith, length-append, not, ◌&&◌, ◌||◌, inl, inr}
+use Rattle.std.proofs.Common.{◌≡◌, ℕ, zero, suc, ◌+◌, ◌≤◌, List, [], ◌∷◌, ◌++◌, length, true, refl, ap, sym, ◌∙◌, subst, arith, length-append, not, ◌&&◌, inl, inr}
 use Rattle.xd_ledger.specs.declared.settings.Settings.{Settings}
 use Rattle.xd_ledger.specs.declared.member.Member.{Member}
 use Rattle.xd_ledger.specs.declared.entry.Entry.{Entry}
@@ -11,13 +11,12 @@ use Rattle.xd_ledger.specs.State.{settles, is_finished, moved, all_moved, settle
 use Rattle.xd_ledger.specs.Outputs.{outputs, stepped}
 use Rattle.xd_ledger.specs.Histories.{starts_from, first_starts, begun, stepped_all}
 use Rattle.xd_ledger.specs.Proper.{may_follow, all_may_follow}
-use Rattle.xd_ledger.specs.Orderly.{is_orderly, all_orderly, is_orderly_run}
+use Rattle.xd_ledger.specs.Orderly.{is_orderly, is_orderly_run}
 use Rattle.xd_laws.proofs.Logic.{split-or, differ, split-and, and}
 use Rattle.xd_laws.proofs.Crew.{has-member, none-next}
-use Rattle.xd_laws.proofs.Fits.{fits-start}
-use Rattle.xd_laws.proofs.Placed.{Placed, placed-output, placed-input}
+use Rattle.xd_laws.proofs.Placed.{Placed, placed-output}
 use Rattle.xd_laws.proofs.CrewFits.{CrewFits, crew-start}
-use Rattle.xd_laws.proofs.Turns.{Calm, Tidy, all_moved-first}
+use Rattle.xd_laws.proofs.Turns.{Calm, Tidy}
 use Rattle.xd_laws.proofs.Rule.{Rule, calm-start}
 use Rattle.xd_laws.proofs.Outputs.{outputs-fit}
 
@@ -82,7 +81,7 @@ begun-holds X rule settings x =
 
 -- the inputs
 
-stepped-holds : (X : State → Type 0) → Rule X → (s : State) (e : Entry) → may_follow s e ≡ true → Holds X s → Holds X (stepped s e)
+pub stepped-holds : (X : State → Type 0) → Rule X → (s : State) (e : Entry) → may_follow s e ≡ true → Holds X s → Holds X (stepped s e)
 stepped-holds X rule s e h k =
     let f = outputs-fit X rule s e h k.tidy k.also in
     holds-settled X rule (all_moved (moved s e) (outputs s e)) f.tidy f.also
@@ -98,25 +97,3 @@ all-orderly X rule s [] h k = refl
 all-orderly X rule s (e ∷ es) h k =
     let p = split-and (may_follow s e) (all_may_follow (stepped s e) es) h in
     and (outputs-fit X rule s e p.0 k.tidy k.also).orderly (all-orderly X rule (stepped s e) es p.1 (stepped-holds X rule s e p.0 k))
-
--- the places alone, where the outputs are in order
-
-placed-outputs : (s : State) (es : List Entry) → all_orderly s es ≡ true → Placed s → Placed (all_moved s es)
-placed-outputs s [] h k = k
-placed-outputs s (e ∷ es) h k =
-    let p = split-and (is_orderly s e) (all_orderly (moved s e) es) h in
-    subst Placed (sym (all_moved-first s e es p.0)) (placed-outputs (moved s e) es p.1 (placed-output s e p.0 k))
-
-pub placed-run : (s : State) (es : List Entry) → all_may_follow s es ≡ true → is_orderly_run s es ≡ true → Placed s → Placed (stepped_all s es)
-placed-run s [] h o k = k
-placed-run s (e ∷ es) h o k =
-    let p = split-and (may_follow s e) (all_may_follow (stepped s e) es) h in
-    let q = split-and (all_orderly (moved s e) (outputs s e)) (is_orderly_run (stepped s e) es) o in
-    placed-run (stepped s e) es p.1 q.1 (placed-outputs (moved s e) (outputs s e) q.0 (placed-input s e p.0 k))
-
-placed-starts : (s : State) (w n : ℕ) → Placed s → Placed (all_moved s (starts_from w n))
-placed-starts s w zero k = k
-placed-starts s w (suc n) k = placed-starts (moved s (Start w w)) (w + 1) n (record { fits = fits-start s.books.table s.books.crew w w k.fits; whole = k.whole; steals = k.steals })
-
-pub placed-begun : (settings : Settings) → Placed (begun settings)
-placed-begun settings = placed-starts (no_one settings) 0 settings.workers (placed-none settings)

@@ -12,13 +12,13 @@ use Rattle.xd_ledger.specs.Workers.{is_active, was_ready, is_shut, slot_of}
 use Rattle.xd_ledger.specs.Sharing.{State}
 use Rattle.xd_ledger.specs.State.{moved, next, all_moved, run_plan}
 use Rattle.xd_ledger.specs.Outputs.{turn_of}
-use Rattle.xd_ledger.specs.Orderly.{is_orderly, all_orderly}
+use Rattle.xd_ledger.specs.Orderly.{is_orderly, all_orderly, not_empty}
 use Rattle.xd_ledger.specs.Stops.{is_stopped}
 use Rattle.xd_laws.proofs.Crew.{has}
 use Rattle.xd_laws.proofs.Logic.{or-right, differ, split-and, and, in_both}
 use Rattle.xd_laws.proofs.Counts.{distinct-take, all_among-take, all_among-self, distinct-of_times}
 use Rattle.xd_laws.proofs.Rota.{seat-among, workers-change}
-use Rattle.xd_laws.proofs.Places.{times-table}
+use Rattle.xd_laws.proofs.Places.{AtMostOnce, times-table}
 use Rattle.xd_laws.proofs.Placed.{Placed, placed-output, at_most_once}
 use Rattle.xd_laws.proofs.CrewFits.{CrewFits, Kin, kin-same, kin-then, kin-shut, crew-shut}
 
@@ -171,6 +171,9 @@ unshut-of s t w g a h = g.tidy.placed.fits.marks w (in_rota-behind s t w g a) �
 pub pool-distinct : (s : State) → Placed s → all_distinct s.books.table.pool ≡ true
 pool-distinct s k = distinct-of_times s.books.table.pool (λ x. omega (arith, at_most_once s k x, times-table x s.books.table))
 
+pub turn-once : (s : State) (t : Turn) → Good s t → AtMostOnce t.table
+turn-once s t g = subst AtMostOnce g.table (at_most_once (all_moved s t.acts) g.tidy.placed)
+
 pub turn-distinct : (s : State) (t : Turn) → Good s t → all_distinct t.table.pool ≡ true
 turn-distinct s t g = ap (λ (u : Table). all_distinct u.pool) (sym g.table) ∙ pool-distinct (all_moved s t.acts) g.tidy.placed
 
@@ -239,15 +242,15 @@ pub record IsPlain (mode : ModeKind) : Type 0 where
   pub each : is_each mode ≡ false
   pub scope : is_scope mode ≡ false
 
-named-plain : (slot : ℕ) (items : List ℕ) (p : Plan) → is_each p.mode ≡ false → items_named slot items p ≡ items
+pub named-plain : (slot : ℕ) (items : List ℕ) (p : Plan) → is_each p.mode ≡ false → items_named slot items p ≡ items
 named-plain slot items p h = rw h
 
-plan-plain : (w : ℕ) (items : List ℕ) (p : Plan) → is_scope p.mode ≡ false → run_plan w items p ≡ p
+pub plan-plain : (w : ℕ) (items : List ℕ) (p : Plan) → is_scope p.mode ≡ false → run_plan w items p ≡ p
 plan-plain w items p h = rw h
 
-orderly-run : (m : State) (w i : ℕ) (is : List ℕ) → is_each m.plan.mode ≡ false → in_rota w m.books.table ≡ true → is_shut w m.books ≡ false
-    → all_distinct (i ∷ is) ≡ true → all_among (i ∷ is) m.books.table.pool ≡ true → is_orderly m (Run w (i ∷ is)) ≡ true
-orderly-run m w i is mode rota unshut distinct within = rw (mode, rota, unshut, distinct, within)
+pub orderly-run : (m : State) (w : ℕ) (items : List ℕ) → is_each m.plan.mode ≡ false → in_rota w m.books.table ≡ true → is_shut w m.books ≡ false
+    → not_empty items ≡ true → all_distinct items ≡ true → all_among items m.books.table.pool ≡ true → is_orderly m (Run w items) ≡ true
+orderly-run m w items mode rota unshut filled distinct within = rw (mode, rota, unshut, filled, distinct, within)
 
 pub good-give : (s : State) (w : ℕ) (items : List ℕ) (t : Turn) → IsPlain s.plan.mode → InRota s w → Good s t → seat_shut w t.table ≡ false
     → all_distinct items ≡ true → all_among items t.table.pool ≡ true → Good s (give w items t)
@@ -259,7 +262,7 @@ good-give s w (i ∷ is) t plain a g unshut distinct within =
     let each : is_each m.plan.mode ≡ false = ap is_each mode ∙ plain.each in
     let scope : is_scope m.plan.mode ≡ false = ap is_scope mode ∙ plain.scope in
     good-more s t (record t { table = assigned w items t.table; acts = t.acts ++ Run w items ∷ [] }) (Run w items) g refl refl
-    (orderly-run m w i is each (in_rota-behind s t w g a) (unshut-of s t w g a unshut) distinct (ap (λ (u : Table). all_among items u.pool) g.table ∙ within))
+    (orderly-run m w items each (in_rota-behind s t w g a) (unshut-of s t w g a unshut) refl distinct (ap (λ (u : Table). all_among items u.pool) g.table ∙ within))
     (ap (λ (xs : List ℕ). assigned w xs m.books.table) (named-plain (slot_of w m.books) items m.plan each) ∙ ap (λ (u : Table). assigned w items u) g.table)
     (plan-plain w items m.plan scope ∙ g.plan)
     (workers-change w (λ s. record s { held = s.held ++ items }) t.table.rota (λ s. refl)) refl

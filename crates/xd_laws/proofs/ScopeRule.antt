@@ -1,0 +1,77 @@
+-- The modes with scopes keep their rule.
+use Rattle.std.proofs.Common.{◌≡◌, true, false, refl, sym, ap, ◌∙◌, subst, arith}
+use Rattle.xd_edge.specs.declared.mode.ModeKind.{ModeKind}
+use Rattle.xd_edge.specs.declared.mode.ModeKind.TheVariants.{Local, Each, Load, LoadScope, LoadFile, LoadGroup, WorkSteal}
+use Rattle.xd_ledger.specs.declared.settings.Settings.{Settings}
+use Rattle.xd_ledger.specs.Table.{Table}
+use Rattle.xd_ledger.specs.Plan.{Plan, is_each, is_scope}
+use Rattle.xd_ledger.specs.Turn.{Turn}
+use Rattle.xd_ledger.specs.Modes.{Call, turned, scope_turn}
+use Rattle.xd_ledger.specs.Modes.Call.{Share, Joined, TestDone, TestsBack, Died}
+use Rattle.xd_ledger.specs.Sharing.{State}
+use Rattle.xd_ledger.specs.State.{all_moved, no_one}
+use Rattle.xd_ledger.specs.Outputs.{turn_of, acts_of}
+use Rattle.xd_laws.proofs.Logic.{differ}
+use Rattle.xd_laws.proofs.Rota.{seat-among}
+use Rattle.xd_laws.proofs.Turns.{Tidy, good-first}
+use Rattle.xd_laws.proofs.Rule.{CallFits, Turned, Rule, turned-good}
+use Rattle.xd_laws.proofs.Queue.{QueueFits, queue-crew}
+use Rattle.xd_laws.proofs.ScopeTurns.{IsScoped, Fine, fine-share, fine-refill, fine-refill_all}
+use Rattle.xd_laws.proofs.ScopeInputs.{Scoped, scoped-input, scoped-start, scoped-shutdown}
+
+turned-scope : (k : ModeKind) (c : Call) (t : Turn) → is_scope k ≡ true → turned k c t ≡ scope_turn c t
+turned-scope Local c t h = absurd (differ h)
+turned-scope Each c t h = absurd (differ h)
+turned-scope Load c t h = absurd (differ h)
+turned-scope LoadScope c t h = refl
+turned-scope LoadFile c t h = refl
+turned-scope LoadGroup c t h = refl
+turned-scope WorkSteal c t h = absurd (differ h)
+
+scope-fine : (s : State) (c : Call) → Tidy s → s.books.shared ≡ true → Scoped s → CallFits s c → Fine s (scope_turn c (turn_of s))
+scope-fine s (Share slots) d h k f = fine-share s k.mode d (λ v a. sym (d.placed.fits.marks v (seat-among v s.books.table.rota ∙ a)) ∙ f.unshut v) (record { good = good-first s d h; queue = k.queue })
+scope-fine s (Joined w slot) d h k f = fine-refill_all s k.mode (record { good = good-first s d h; queue = k.queue })
+scope-fine s (TestDone w ms) d h k f = fine-refill s w (turn_of s) k.mode f (record { good = good-first s d h; queue = k.queue })
+scope-fine s TestsBack d h k f = record { good = good-first s d h; queue = k.queue }
+scope-fine s Died d h k f = fine-refill_all s k.mode (record { good = good-first s d h; queue = k.queue })
+
+-- the state behind a turn
+scoped-turn : (s : State) (t : Turn) → IsScoped s → Fine s t → Scoped (all_moved s t.acts)
+scoped-turn s t k f =
+    let m = all_moved s t.acts in
+    let mode : m.plan.mode ≡ s.plan.mode = ap (λ (p : Plan). p.mode) f.good.plan ∙ f.good.mode in
+    record {
+      mode = record { scope = ap is_scope mode ∙ k.scope; each = ap is_each mode ∙ k.each };
+      queue = subst (λ (u : Table). QueueFits u m.plan m.books.crew) (sym f.good.table) (subst (λ (p : Plan). QueueFits t.table p m.books.crew) (sym f.good.plan)
+          (queue-crew t.table t.plan s.books.crew m.books.crew (λ v h. sym (f.good.kin.collected_same v) ∙ h) f.queue));
+    }
+
+scope-turned : (s : State) (c : Call) → Tidy s → s.books.shared ≡ true → Scoped s → CallFits s c → Turned Scoped s (acts_of c s)
+scope-turned s c d h k f =
+    let t = scope_turn c (turn_of s) in
+    let fine = scope-fine s c d h k f in
+    subst (λ (u : Turn). Turned Scoped s u.acts) (sym (turned-scope s.plan.mode c (turn_of s) k.mode.scope)) (turned-good Scoped s t fine.good (scoped-turn s t k.mode fine))
+
+pub scope_rule : Rule Scoped
+scope_rule = record {
+  input = scoped-input;
+  start = scoped-start;
+  shutdown = λ s w p k. scoped-shutdown s w k;
+  settled = λ s k. record { mode = record { scope = k.mode.scope; each = k.mode.each }; queue = k.queue };
+  turns = scope-turned;
+}
+
+each-no : (k : ModeKind) → is_scope k ≡ true → is_each k ≡ false
+each-no Local h = refl
+each-no Each h = absurd (differ h)
+each-no Load h = refl
+each-no LoadScope h = refl
+each-no LoadFile h = refl
+each-no LoadGroup h = refl
+each-no WorkSteal h = refl
+
+pub scoped-none : (settings : Settings) → is_scope settings.mode ≡ true → Scoped (no_one settings)
+scoped-none settings h = record {
+  mode = record { scope = h; each = each-no settings.mode h };
+  queue = record { whole = λ x. omega arith; filled = refl; given = λ w x h. omega arith; late = λ w h. refl; steal = refl };
+}

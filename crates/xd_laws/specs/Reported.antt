@@ -1,0 +1,15 @@
+-- How often the reports of a run name its items.
+use Rattle.std.specs.Prelude.{◌≡◌, ℕ, ◌<◌, ◌≤◌, List, map, true, false}
+use Rattle.xd_ledger.specs.Numbers.{times}
+use Rattle.xd_ledger.specs.Plan.{total}
+use Rattle.xd_ledger.specs.Stops.{is_stopped}
+use Rattle.xd_ledger.specs.Sharing.{State}
+use Rattle.xd_ledger.specs.Histories.{is_over}
+use Rattle.xd_ledger.specs.Reports.{Report, item_of}
+
+-- the reports of a run that is in this state name each of its items at most once and nothing else, and each once where
+-- the run is over and was not stopped
+pub record AreOnce (rs : List Report) (s : State) : Type 0 where
+  pub at_most : (x : ℕ) → times x (map item_of rs) ≤ 1
+  pub no_other : (x : ℕ) → total s.plan ≤ x → times x (map item_of rs) ≡ 0
+  pub all_told : is_over s.books ≡ true → is_stopped s.books ≡ false → (x : ℕ) → x < total s.plan → times x (map item_of rs) ≡ 1
