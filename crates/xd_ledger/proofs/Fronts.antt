@@ -1,5 +1,5 @@
 -- A list whose numbers are distinct, without its first ones.
-use Rattle.std.proofs.Common.{◌≡◌, ℕ, zero, suc, ◌+◌, ◌≤◌, List, [], ◌∷◌, ◌++◌, take, drop, Bool, true, false, not, refl, ap, sym, ◌∙◌, arith, Some}
+use Rattle.std.proofs.Common.{◌≡◌, ℕ, zero, suc, ◌+◌, ◌≤◌, List, [], ◌∷◌, ◌++◌, take, drop, length, length-take, Bool, true, false, not, refl, ap, sym, ◌∙◌, arith, Some}
 use Rattle.std.specs.Prelude.{if◌then◌else◌, ◌==◌, filter, unwrap_or}
 use Rattle.std.proofs.lemmas.Bool.Decides.{nat_tests}
 use Rattle.std.proofs.lemmas.Grind.{common_steps}
@@ -38,7 +38,7 @@ without_front : (n : ℕ) (xs : List ℕ) → ((z : ℕ) → times z xs ≤ 1) �
 without_front n xs once =
     let front : without (take n xs) (take n xs) ≡ [] = without-all (take n xs) (take n xs) (all_among-self (take n xs) (take n xs) (λ z a. a)) in
     let back : without (take n xs) (drop n xs) ≡ drop n xs =
-        without-none (take n xs) (drop n xs) (λ z a. (let o = once z in let e : times z (take n xs ++ drop n xs) ≡ times z xs = ap (times z) (take-drop n xs) in omega (arith, among-times z (take n xs) a, times-append z (take n xs) (drop n xs)))) in
+    without-none (take n xs) (drop n xs) (λ z a. (let o = once z in let e : times z (take n xs ++ drop n xs) ≡ times z xs = ap (times z) (take-drop n xs) in omega (arith, among-times z (take n xs) a, times-append z (take n xs) (drop n xs)))) in
     sym (ap (without (take n xs)) (take-drop n xs)) ∙ without-append (take n xs) (take n xs) (drop n xs) ∙ ap (λ (ys : List ℕ). ys ++ without (take n xs) (drop n xs)) front ∙ back
 
 -- the first number is among them
@@ -49,3 +49,7 @@ head_among x (y ∷ ys) h = let e : y ≡ x = ap (λ o. unwrap_or o 0) h in grin
 -- the pool of a ledger without its first items
 pub pool_front : (n : ℕ) (t : Table) (room : ℕ) → IsSound t room → without (take n t.pool) t.pool ≡ drop n t.pool
 pool_front n t room s = without_front n t.pool (λ z. (let o = s.once z in omega (arith, times-table z t)))
+
+-- as many as the first ones are
+pub front_fits : (xs ys : List ℕ) → xs ≡ take (length xs) ys → length xs ≤ length ys
+front_fits xs ys e = let k : length xs ≡ length (take (length xs) ys) = ap length e in omega (arith, length-take (length xs) ys)

@@ -118,6 +118,27 @@ impl Ledger {
         Ok(())
     }
 
+    // The first so many items of the pool, or all where it has fewer.
+    fn front(&self, alloc: Global, count: u32) -> Result<Indices, OutOfMemory>
+        ensures { IfOk result (λ given. given ≡ take count self.now.pool) }
+    {
+        let count = (count as usize).min(self.pool.items.len());
+        copy_of(alloc, &self.pool.items[..count])
+    }
+
+    // These items, which are the first of the pool, go to the worker of the rota. Costs what they cost, and the moving
+    // down of the pool's rest.
+    fn give_front(&mut self, worker: u32, items: &[u32]) -> Result<(), OutOfMemory>
+        requires seated { in_rota worker self.old ≡ true }
+        requires front { items.now ≡ take (length items.now) self.old.pool }
+        ensures { self.new ≡ (if is_ok result then assigned worker items.now self.old else self.old) }
+    {
+        let place = place_of(&self.rota, worker);
+        add_all(&mut self.rota[place].held, items)?;
+        drop_front(&mut self.pool, items.len());
+        Ok(())
+    }
+
     /// The first so many items of the pool, or all where it has fewer, go to the end of what the worker of the rota
     /// holds. They are given.
     pub fn assign_front(
@@ -130,11 +151,8 @@ impl Ledger {
         ensures given { IfOk result (λ given. given ≡ take count self.old.pool) }
         ensures moved { self.new ≡ (if is_ok result then assigned worker (take count self.old.pool) self.old else self.old) }
     {
-        let count = (count as usize).min(self.pool.items.len());
-        let given = copy_of(alloc, &self.pool.items[..count])?;
-        let place = place_of(&self.rota, worker);
-        add_all(&mut self.rota[place].held, &given.items)?;
-        drop_front(&mut self.pool, count);
+        let given = self.front(alloc, count)?;
+        self.give_front(worker, &given.items)?;
         Ok(given)
     }
 
@@ -162,6 +180,23 @@ impl Ledger {
         Ok(())
     }
 
+    // The worker of the rota, which holds these items, died.
+    fn bury(&mut self, worker: u32, items: &[u32]) -> Result<(), OutOfMemory>
+        requires seated { in_rota worker self.old ≡ true }
+        requires holds { items.now ≡ held worker self.old }
+        ensures { self.new ≡ (if is_ok result then died worker self.old else self.old) }
+    {
+        let place = place_of(&self.rota, worker);
+        if items.len() == 0 {
+            let _ = self.rota.remove(place);
+            return Ok(());
+        }
+        add_all(&mut self.pool, &items[1..])?;
+        let _ = self.rota.remove(place);
+        self.reported.push_reserved(items[0]);
+        Ok(())
+    }
+
     /// The worker of the rota died: the item at its head is reported, the rest goes to the end of the pool, and it
     /// leaves.
     pub fn die(&mut self, alloc: Global, worker: u32) -> Result<Death, OutOfMemory>
@@ -169,23 +204,11 @@ impl Ledger {
         ensures moved { self.new ≡ (if is_ok result then died worker self.old else self.old) }
         ensures death { IfOk result (λ d. (d.head ≡ first_of (held worker self.old)) × (d.rest ≡ length (drop 1 (held worker self.old)))) }
     {
-        let place = place_of(&self.rota, worker);
-        let held = copy_of(alloc, &self.rota[place].held.items)?;
-        let items = held.items.as_slice();
-        if items.len() == 0 {
-            let _ = self.rota.remove(place);
-            return Ok(Death {
-                head: None,
-                rest: 0,
-            });
-        }
-        let rest = &items[1..];
-        add_all(&mut self.pool, rest)?;
-        let _ = self.rota.remove(place);
-        self.reported.push_reserved(items[0]);
+        let held = copy_of(alloc, &self.seat(worker).held.items)?;
+        self.bury(worker, &held.items)?;
         Ok(Death {
-            head: Some(items[0]),
-            rest: rest.len() as u32,
+            head: held.items.first().copied(),
+            rest: held.items.len().saturating_sub(1) as u32,
         })
     }
 

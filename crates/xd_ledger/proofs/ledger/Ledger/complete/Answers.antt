@@ -38,4 +38,3 @@ returns c =
     let p : c.place_of-place.result ≡ place_in c.args.worker t.rota = c.place_of-place.ensures ∙ ap (place_in c.args.worker) c.deref.ensures.value in
     let b = completed-built c.args.worker c.place_of-place.result c.args.item t c.args.self.now (vec_capacity c.self.inside.reported) c.index_mut.result.now c.take_out.new.list c.push_reserved.new.self.items c.self.view_is c.self.invariant c.requires.seated p c.index_mut.ensures.value c.take_out.ensures c.push_reserved.ensures.items in
     at_now (completed c.args.worker c.args.item) _ t _ c.self.view_is b
-

@@ -30,4 +30,3 @@ returns c =
     let p : c.place_of-place.result ≡ place_in c.args.worker t.rota = c.place_of-place.ensures ∙ ap (place_in c.args.worker) c.deref.ensures.value in
     let b = given_back-built c.args.worker c.place_of-place.result c.args.items.now t c.args.self.now (vec_capacity c.self.inside.reported) c.index_mut.result.now c.take_out.new.list c.add_all.new.list c.self.view_is c.self.invariant c.requires.seated p c.index_mut.ensures.value c.take_out.ensures c.in_ok-add_all.ensures in
     at_now (given_back c.args.worker c.args.items.now) _ t _ c.self.view_is b
-

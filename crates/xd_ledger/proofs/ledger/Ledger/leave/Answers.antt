@@ -32,4 +32,3 @@ returns c =
     let b0 = left-built c.args.worker c.place_of-place.result t c.args.self.now (vec_capacity c.self.inside.reported) c.self.view_is c.self.invariant c.requires.seated p in
     let b : record { pool = t.pool; rota = c.remove.new.self.items; reported = t.reported } ≡ left c.args.worker t = ap (λ ss. record { pool = t.pool; rota = ss; reported = t.reported }) c.remove.ensures.items ∙ b0 in
     at_now (left c.args.worker) _ t _ c.self.view_is b
-

@@ -11,4 +11,4 @@ use Rattle.xd_ledger.proofs.Built.{place-fits, shut-built, assigned-built, given
 use Rattle.xd_ledger.proofs.ledger.Ledger.new.Goals as goal
 
 pub invariant_of-result : goal.invariant_of-result
-invariant_of-result c = new-built c.args.items _ _ _ _ c.in_ok-pool.ensures c.new.ensures.items c.in-Ok.ensures.items c.in-Ok.ensures.exact c.requires
+invariant_of-result c = new-built c.args.items _ _ _ _ c.in_ok-pool.ensures c.new.ensures.items c.in_ok-reported.ensures.items c.in_ok-reported.ensures.exact c.requires

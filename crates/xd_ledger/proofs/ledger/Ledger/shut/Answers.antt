@@ -30,4 +30,3 @@ returns c =
     let p : c.place_of-place.result ≡ place_in c.args.worker t.rota = c.place_of-place.ensures ∙ ap (place_in c.args.worker) c.deref.ensures.value in
     let b = shut-built c.args.worker c.place_of-place.result t c.args.self.now (vec_capacity c.self.inside.reported) c.index_mut.result.now c.self.view_is c.self.invariant c.requires p c.index_mut.ensures.value in
     at_now (shut_down c.args.worker) _ t _ c.self.view_is b
-
