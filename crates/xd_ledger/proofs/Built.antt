@@ -1,6 +1,6 @@
 -- What the ledger's code builds is what the moves say.
-use Rattle.std.proofs.Common.{◌≡◌, ℕ, zero, suc, ◌+◌, ◌≤◌, ◌<◌, ◌^◌, List, [], ◌∷◌, ◌++◌, take, drop, length, get_or, set, min, map, Bool, true, false, not, refl, ap, sym, subst, Some, None, ◌-◌, ◌∙◌, arith, length-append}
-use Rattle.std.specs.Prelude.{if◌then◌else◌, ◌==◌, filter}
+use Rattle.std.proofs.Common.{◌≡◌, ℕ, zero, suc, ◌+◌, ◌≤◌, ◌<◌, List, [], ◌∷◌, ◌++◌, take, drop, length, get_or, set, Bool, true, false, refl, ap, sym, subst, Some, None, ◌-◌, ◌∙◌, arith, length-append}
+use Rattle.std.specs.Prelude.{if◌then◌else◌, ◌==◌}
 use Rattle.std.specs.List.{list_any, remove, range_with_len}
 use Rattle.std.proofs.lemmas.Bool.Decides.{nat_tests}
 use Rattle.std.proofs.lemmas.Grind.{common_steps}
@@ -14,7 +14,7 @@ use Rattle.xd_ledger.specs.Numbers.{times}
 use Rattle.xd_ledger.specs.Sound.{seats_of, IsSound}
 use Rattle.xd_ledger.proofs.Places.{times-append, times-table}
 use Rattle.xd_ledger.proofs.Seats.{place-in, place-held, place-shut, place-seat, place-removed}
-use Rattle.xd_ledger.proofs.Sounds.{assigned_sound, completed_sound, given_back_sound, left_sound, shut_sound, joined_sound}
+use Rattle.xd_ledger.proofs.Sounds.{joined_sound}
 
 pub place-fits : (w k : ℕ) (t now : Table) → t ≡ now → in_rota w now ≡ true → k ≡ place_in w t.rota → k < length t.rota
 place-fits w k t now e h p =

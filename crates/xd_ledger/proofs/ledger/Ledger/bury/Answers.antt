@@ -59,4 +59,3 @@ returns-then-items-eq0 c =
     let p : c.place_of-place.result ≡ place_in c.args.worker t.rota = c.place_of-place.ensures ∙ ap (place_in c.args.worker) c.deref.ensures.value in
     let b = died-built c.args.worker c.place_of-place.result t c.args.self.now (vec_capacity c.self.inside.reported) c.args.items.now _ _ _ c.self.view_is c.self.invariant c.requires.seated p c.requires.holds (empty-list _ _ c.if-items-eq0.true).0 (empty-list _ _ c.if-items-eq0.true).1 c.remove.ensures.items in
     at_now (died c.args.worker) _ t _ c.self.view_is b
-

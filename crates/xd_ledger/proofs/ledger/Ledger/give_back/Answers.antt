@@ -1,13 +1,11 @@
-use Rattle.std.proofs.Common.{◌≡◌, ℕ, ◌+◌, ◌<◌, List, [], ◌∷◌, ◌++◌, length, take, min, true, false, refl, ap, sym, subst, ◌∙◌, arith, rules}
+use Rattle.std.proofs.Common.{◌≡◌, refl, ap, ◌∙◌, arith}
 use Rattle.std.proofs.lemmas.Grind.{common_steps}
-use Rattle.xd_ledger.specs.Numbers.{among, without, all_distinct, all_among}
+use Rattle.xd_ledger.specs.Numbers.{all_among}
 use Rattle.xd_ledger.specs.Seats.{place_in}
-use Rattle.xd_ledger.specs.Table.{Table, held, in_rota, seat_shut, joined, assigned, completed, given_back, left, shut_down}
+use Rattle.xd_ledger.specs.Table.{Table, held, in_rota, given_back}
 use Rattle.std.specs.Vec.{vec_capacity}
-use Rattle.xd_ledger.specs.Sound.{IsSound}
-use Rattle.xd_ledger.proofs.Seats.{place-in, place-held, place-shut}
-use Rattle.xd_ledger.proofs.Sounds.{assigned_sound, completed_sound, given_back_sound, left_sound, shut_sound, joined_sound}
-use Rattle.xd_ledger.proofs.Built.{place-fits, shut-built, assigned-built, given_back-built, completed-built, left-built, at_now, sound_at, test_at, held_room, held_few, fresh_sound, taken_distinct, taken_among}
+use Rattle.xd_ledger.proofs.Sounds.{given_back_sound}
+use Rattle.xd_ledger.proofs.Built.{place-fits, given_back-built, at_now, sound_at, test_at}
 use Rattle.xd_ledger.proofs.ledger.Ledger.give_back.Goals as goal
 
 pub index_mut-requires : goal.index_mut-requires

@@ -1,8 +1,8 @@
-use Rattle.std.proofs.Common.{◌≡◌, ℕ, ap, sym, ◌∙◌, arith, length, ◌≤◌, subst}
+use Rattle.std.proofs.Common.{◌≡◌, ap, ◌∙◌, arith}
 use Rattle.std.proofs.lemmas.Grind.{common_steps}
 use Rattle.std.specs.Vec.{vec_capacity}
 use Rattle.xd_ledger.specs.Seats.{place_in}
-use Rattle.xd_ledger.specs.Table.{Table, held}
+use Rattle.xd_ledger.specs.Table.{Table}
 use Rattle.xd_ledger.proofs.Built.{place-fits, head-built, is_shut-built, few_held}
 use Rattle.xd_ledger.proofs.ledger.Ledger.seat.Goals as goal
 
