@@ -17,7 +17,9 @@ pub mod Reports
 pub mod Results
 pub mod ScopeModes
 pub mod Scopes
+pub mod Seats
 pub mod Sharing
+pub mod Sound
 pub mod State
 pub mod Stop
 pub mod Stops

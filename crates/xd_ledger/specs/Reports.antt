@@ -3,7 +3,7 @@ use Rattle.std.specs.Prelude.{ℕ, List, [], ◌∷◌, ◌++◌, map, take}
 use Rattle.xd_ledger.specs.declared.settings.Settings.{Settings}
 use Rattle.xd_ledger.specs.declared.entry.Outcome.{Outcome}
 use Rattle.xd_ledger.specs.declared.entry.Entry.{Entry}
-use Rattle.xd_ledger.specs.declared.entry.Entry.TheVariants.{Done, Down, NotStarted}
+use Rattle.xd_ledger.specs.declared.entry.Entry.TheVariants.{Done, Down}
 use Rattle.xd_ledger.specs.Table.{held}
 use Rattle.xd_ledger.specs.Plan.{items_named}
 use Rattle.xd_ledger.specs.Workers.{slot_of}

@@ -1,7 +1,7 @@
 -- Where each item of a run stands: in the pool, held by a worker, or reported; and the moves between these places.
 -- An item is a test, in mode each a test of one slot. pytest-xdist keeps the pool in `pending` and what a worker holds
 -- in `node2pending`; that reported items are kept is a choice of this project.
-use Rattle.std.specs.Prelude.{ℕ, zero, suc, ◌==◌, Bool, true, false, not, List, [], ◌∷◌, ◌++◌, take, drop, map, filter, if◌then◌else◌}
+use Rattle.std.specs.Prelude.{ℕ, ◌==◌, Bool, true, false, not, List, [], ◌∷◌, ◌++◌, take, drop, map, filter, if◌then◌else◌}
 use Rattle.std.specs.List.{list_any}
 use Rattle.xd_ledger.specs.declared.seat.Seat.{Seat}
 use Rattle.xd_ledger.specs.Numbers.{without}
