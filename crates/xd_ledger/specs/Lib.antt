@@ -1,4 +1,5 @@
 pub mod Books
+pub mod Calls
 pub mod Collections
 pub mod Each
 pub mod Histories
