@@ -1,7 +1,7 @@
 use super::*;
 use std::alloc::Global;
 use std::test::Fail;
-use xd_edge::{Indices, ModeKind};
+use xd_edge::ModeKind;
 
 fn settings(mode: ModeKind) -> Settings {
     Settings {
@@ -30,12 +30,6 @@ fn a_journal_is_local_by_its_mode_and_its_worker(rt: HostRuntime) -> Result<(), 
     assert!(rt; !is_local_with(alloc, ModeKind::Local, 1)?);
     assert!(rt; !is_local_with(alloc, ModeKind::Load, 0)?);
     Ok(())
-}
-
-fn numbers(alloc: Global, items: &[u32]) -> Result<Indices, Fail> {
-    Ok(Indices {
-        items: Vec::from_slice(alloc, items)?,
-    })
 }
 
 #[test]
@@ -102,7 +96,7 @@ fn items_that_come_back_stand_at_the_end_of_the_pool(rt: HostRuntime) -> Result<
     let mut ledger = Ledger::new(alloc, 4)?;
     ledger.join(alloc, 7)?;
     ledger.assign_front(alloc, 7, 3)?;
-    ledger.give_back(7, &numbers(alloc, &[2, 1])?.items)?;
+    ledger.give_back(7, &[2, 1])?;
     ledger.complete(7, 0);
     ledger.leave(7);
     assert!(rt; !ledger.in_rota(7));

@@ -1,0 +1,26 @@
+use Rattle.std.proofs.Common.{◌≡◌, ◌<◌, length, get_or, ap, refl, ◌∙◌, arith}
+use Rattle.xd_ledger.specs.Table.{workers_of}
+use Rattle.xd_ledger.specs.Turn.{Turn}
+use Rattle.xd_ledger.specs.Load.{give_unless_shut}
+use Rattle.xd_ledger.specs.Calls.{turn}
+use Rattle.xd_load.proofs.Turns.{in_rota-at, one_more, workers-give_unless, load_plan}
+use Rattle.xd_load.proofs.batches.give_each.Goals as goal
+
+pub give-requires : goal.give-requires
+give-requires c =
+    let lt : c.loop-place.place < length (workers_of c.loop-place.ledger) = grind (arith, c.loop-place.invariant.rota) in
+    rw c.rota_at-worker.ensures (in_rota-at c.loop-place.ledger c.loop-place.place lt)
+
+pub loop-place-preserved : goal.loop-place-preserved
+loop-place-preserved c =
+    let now = c.loop-place.ledger in
+    let ws = workers_of c.args.ledger.now in
+    let step = c.in_ok-give.ensures in
+    let one = ap (λ (u : Turn). workers_of u.table) (step (load_plan 0) refl) in
+    let lt : c.loop-place.place < length ws = grind (arith, c.loop-place.invariant.rota) in
+    let at : c.rota_at-worker.result ≡ get_or ws c.loop-place.place 0 = rw (c.rota_at-worker.ensures, c.loop-place.invariant.rota) in
+    record {
+      rota = one ∙ workers-give_unless c.args.count c.rota_at-worker.result (turn now (load_plan 0) c.loop-place.acts.items) ∙ c.loop-place.invariant.rota;
+      turned = λ p h.
+          (one_more (give_unless_shut c.args.count) c.rota_at-worker.result c.loop-place.place ws _ _ _ (step p h) (c.loop-place.invariant.turned p h) at lt);
+    }

@@ -1,0 +1,201 @@
+// The batches of mode load.
+ghost use Rattle.std.specs.Prelude.{◌≡◌, ◌<◌, ◌++◌, ◌∷◌, [], OnOk, true};
+ghost use Rattle.xd_edge.specs.declared.mode.ModeKind.TheVariants.{Load};
+ghost use Rattle.xd_ledger.specs.Calls.{turn};
+ghost use Rattle.xd_ledger.specs.Load.{more, is_due, refill, refill_all, give_unless_shut, dealt, share};
+ghost use Rattle.xd_ledger.specs.Plan.{Plan};
+ghost use Rattle.xd_ledger.specs.Table.{in_rota, workers_of};
+ghost use Rattle.xd_ledger.specs.Turn.{in_turn, shut, shut_each};
+ghost use Rattle.xd_load.specs.Stands.{InChunks};
+
+use std::alloc::Global;
+use xd_edge::OutOfMemory;
+use xd_ledger::{Entry, Ledger};
+
+// A worker starts a test when another stands behind it, so it needs two.
+const ENOUGH: u32 = 2;
+
+// A test that took so many milliseconds is slow.
+const SLOW_MS: u64 = 100;
+
+// How many more tests a worker gets.
+fn more_of(pool: u32, workers: u32, chunk: u32, holds: u32) -> u32
+    requires { 0 < workers }
+    ensures { result ≡ more pool workers chunk holds }
+{
+    let high = (pool / workers / 2).max(ENOUGH);
+    let least = ENOUGH.saturating_sub(holds).max(chunk);
+    high.saturating_sub(holds).min(least)
+}
+
+// Whether a worker gets more tests.
+fn due(pool: u32, workers: u32, holds: u32, ms: u64) -> bool
+    requires { 0 < workers }
+    ensures { result ≡ is_due pool workers holds ms }
+{
+    let low = (pool / workers / 4).max(ENOUGH);
+    holds < low && !(ms >= SLOW_MS && holds >= ENOUGH)
+}
+
+// One more act.
+fn act(entry: Entry, acts: &mut Vec<Entry>) -> Result<(), OutOfMemory>
+    ensures { OnOk result (acts.new.items ≡ acts.old.items ++ entry ∷ []) }
+{
+    acts.push(entry)?;
+    Ok(())
+}
+
+// A worker that isn't shut gets these many from the pool's front.
+fn give(
+    alloc: Global,
+    count: u32,
+    worker: u32,
+    ledger: &mut Ledger,
+    acts: &mut Vec<Entry>,
+) -> Result<(), OutOfMemory>
+    requires { in_rota worker ledger.old ≡ true }
+    ensures { OnOk result ((p : Plan) → p.mode ≡ Load →
+        turn ledger.new p acts.new.items ≡ give_unless_shut count worker (turn ledger.old p acts.old.items)) }
+{
+    if ledger.is_shut(worker) || count == 0 || ledger.pool_len() == 0 {
+        return Ok(());
+    }
+    let indices = ledger.assign_front(alloc, worker, count)?;
+    act(Entry::Run { worker, indices }, acts)
+}
+
+// Refills the worker.
+pub(crate) fn refill_one(
+    alloc: Global,
+    chunk: u32,
+    ms: u64,
+    worker: u32,
+    ledger: &mut Ledger,
+    acts: &mut Vec<Entry>,
+) -> Result<(), OutOfMemory>
+    requires { in_rota worker ledger.old ≡ true }
+    ensures { OnOk result ((p : Plan) → InChunks chunk p →
+        turn ledger.new p acts.new.items ≡ refill ms worker (turn ledger.old p acts.old.items)) }
+{
+    if ledger.is_shut(worker) {
+        return Ok(());
+    }
+    let pool = ledger.pool_len();
+    if pool == 0 {
+        ledger.shut(worker);
+        return act(Entry::Shutdown { worker }, acts);
+    }
+    let workers = ledger.rota_len();
+    let holds = ledger.held_len(worker);
+    if !due(pool, workers, holds, ms) {
+        return Ok(());
+    }
+    let count = more_of(pool, workers, chunk, holds);
+    if count == 0 {
+        return Ok(());
+    }
+    let indices = ledger.assign_front(alloc, worker, count)?;
+    act(Entry::Run { worker, indices }, acts)
+}
+
+// Shuts the worker, where it isn't.
+fn shut_one(worker: u32, ledger: &mut Ledger, acts: &mut Vec<Entry>) -> Result<(), OutOfMemory>
+    requires { in_rota worker ledger.old ≡ true }
+    ensures { OnOk result ((p : Plan) → turn ledger.new p acts.new.items ≡ shut worker (turn ledger.old p acts.old.items)) }
+{
+    if ledger.is_shut(worker) {
+        return Ok(());
+    }
+    ledger.shut(worker);
+    act(Entry::Shutdown { worker }, acts)
+}
+
+// Refills every worker.
+pub(crate) fn refill_each(
+    alloc: Global,
+    chunk: u32,
+    ledger: &mut Ledger,
+    acts: &mut Vec<Entry>,
+) -> Result<(), OutOfMemory>
+    ensures { OnOk result ((p : Plan) → InChunks chunk p →
+        turn ledger.new p acts.new.items ≡ refill_all (turn ledger.old p acts.old.items)) }
+{
+    for place in 0..ledger.rota_len() {
+        let worker = ledger.rota_at(place);
+        refill_one(alloc, chunk, 0, worker, ledger, acts)?;
+    }
+    Ok(())
+}
+
+// Shuts every worker.
+fn shut_everyone(ledger: &mut Ledger, acts: &mut Vec<Entry>) -> Result<(), OutOfMemory>
+    ensures { OnOk result ((p : Plan) →
+        turn ledger.new p acts.new.items ≡ shut_each (workers_of ledger.old) (turn ledger.old p acts.old.items)) }
+{
+    for place in 0..ledger.rota_len() {
+        let worker = ledger.rota_at(place);
+        shut_one(worker, ledger, acts)?;
+    }
+    Ok(())
+}
+
+// Every worker gets these many.
+fn give_each(
+    alloc: Global,
+    count: u32,
+    ledger: &mut Ledger,
+    acts: &mut Vec<Entry>,
+) -> Result<(), OutOfMemory>
+    ensures given { OnOk result ((p : Plan) → p.mode ≡ Load →
+        turn ledger.new p acts.new.items ≡ in_turn (give_unless_shut count) (workers_of ledger.old) (turn ledger.old p acts.old.items)) }
+    ensures same { OnOk result (workers_of ledger.new ≡ workers_of ledger.old) }
+{
+    for place in 0..ledger.rota_len() {
+        let worker = ledger.rota_at(place);
+        give(alloc, count, worker, ledger, acts)?;
+    }
+    Ok(())
+}
+
+// Shares the tests out.
+fn share_out(
+    alloc: Global,
+    chunk: u32,
+    ledger: &mut Ledger,
+    acts: &mut Vec<Entry>,
+) -> Result<(), OutOfMemory>
+    ensures { OnOk result ((p : Plan) → InChunks chunk p →
+        turn ledger.new p acts.new.items ≡ dealt (turn ledger.old p acts.old.items)) }
+{
+    let tests = ledger.pool_len() as u64;
+    let workers = ledger.rota_len() as u64;
+    if tests < 2 * workers {
+        give_each(alloc, 1, ledger, acts)?;
+        give_each(alloc, 1, ledger, acts)?;
+        return Ok(());
+    }
+    if workers == 0 {
+        return Ok(());
+    }
+    let count = (tests / workers / 4).min(chunk as u64).max(2);
+    give_each(alloc, count as u32, ledger, acts)?;
+    Ok(())
+}
+
+// The share of the tests.
+pub(crate) fn share_all(
+    alloc: Global,
+    chunk: u32,
+    ledger: &mut Ledger,
+    acts: &mut Vec<Entry>,
+) -> Result<(), OutOfMemory>
+    ensures { OnOk result ((p : Plan) → InChunks chunk p →
+        turn ledger.new p acts.new.items ≡ share (turn ledger.old p acts.old.items)) }
+{
+    share_out(alloc, chunk, ledger, acts)?;
+    if ledger.pool_len() == 0 {
+        shut_everyone(ledger, acts)?;
+        return Ok(());
+    }
+    Ok(())
+}
