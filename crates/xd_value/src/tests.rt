@@ -275,3 +275,18 @@ fn a_copy_and_its_channels(rt: HostRuntime) -> Result<(), Fail> {
     assert_eq!(rt; channels.items.as_slice(), [4, 2].as_slice());
     Ok(())
 }
+
+#[test]
+fn a_value_is_printed_behind_a_text(rt: HostRuntime) -> Result<(), Fail> {
+    let mut line = Text::of(rt.alloc(), "\u{e9} ")?;
+    let items = vec![in rt.alloc();
+        Value::Text(Text::of(rt.alloc(), "a\"\\\n\u{20ac}\u{7f}b")?),
+        Value::Int(-70),
+    ]?;
+    assert!(rt; show_onto(&mut line, &Value::Tuple(items)).is_ok());
+    assert_eq!(rt;
+        line.as_str(),
+        "\u{e9} (\"a\\\"\\\\\\x0a\u{20ac}\\x7fb\", -70)"
+    );
+    Ok(())
+}
