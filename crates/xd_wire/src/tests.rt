@@ -3,7 +3,8 @@ use super::*;
 use std::alloc::Global;
 use std::process::Abort;
 use std::test::Fail;
-use xd_edge::{Indices, MemSink, OutOfMemory};
+use xd_edge::{Indices, MemSink, OutOfMemory, Text};
+use xd_value::{Value, show_onto};
 
 /// `("runtests", {"indices": [0, 1]})` on channel 1, written by execnet.
 const RUN_TESTS: &[u8] =
@@ -151,5 +152,20 @@ fn an_output_that_fails_took_a_first_part(rt: HostRuntime) -> Result<(), Fail> {
         WireEnd::OutFailed
     );
     assert_eq!(rt; narrow.bytes.as_slice(), b"CHANN".as_slice());
+    Ok(())
+}
+
+#[test]
+fn a_value_is_printed_behind_a_text(rt: HostRuntime) -> Result<(), Fail> {
+    let mut line = Text::of(rt.alloc(), "\u{e9} ")?;
+    let items = vec![in rt.alloc();
+        Value::Text(Text::of(rt.alloc(), "a\"\\\n\u{20ac}\u{7f}b")?),
+        Value::Int(-70),
+    ]?;
+    assert!(rt; show_onto(&mut line, &Value::Tuple(items)).is_ok());
+    assert_eq!(rt;
+        line.as_str(),
+        "\u{e9} (\"a\\\"\\\\\\x0a\u{20ac}\\x7fb\", -70)"
+    );
     Ok(())
 }
