@@ -1,6 +1,6 @@
 // Tests that are asked back.
 ghost use Rattle.xd_run_tests.specs.Stands.{is_true};
-ghost use Rattle.std.specs.Prelude.{slice_get, slice_set, ◌≡◌, ◌∷◌, [], IfOk, OnOk, List};
+ghost use Rattle.std.specs.Prelude.{ℕ, slice_get, slice_set, ◌≡◌, ◌∷◌, [], IfOk, OnOk, List};
 
 use super::RunTests;
 use crate::ask::{Acts, Ask, request};
