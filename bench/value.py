@@ -1,9 +1,13 @@
 #!/usr/bin/env python3
 """Times xd_value beside the real execnet, and measures its peak memory.
 
-Run it at the top of the repository: python3 bench/value.py. It builds a small program over xd_value in a
-temporary repository with rt, and prints times, ratios and peak memory. Where execnet is not installed
-(python3-execnet on Debian), its part is skipped with a word.
+Run it at the top of the repository, by the Python that has execnet (on Debian: /usr/bin/python3 bench/value.py, with
+python3-execnet installed). It builds a small program over xd_value in a temporary repository with rt, as rt run builds it,
+and prints times, ratios and peak memory. Where execnet is not installed, its part is skipped with a word.
+
+Both sides are measured alike: each run is a process of its own that first reads the payload from a file, and then times one
+call of loads and one call of dumps of what it gave; neither the start of the process, nor the reading of the file, nor the
+end of the value counts. The runs alternate, and the best of each side counts.
 """
 
 import os
@@ -13,7 +17,6 @@ import struct
 import subprocess
 import sys
 import tempfile
-import time
 
 HERE = os.path.dirname(os.path.dirname(os.path.abspath(__file__)))
 
@@ -54,6 +57,22 @@ fn main(rt: HostRuntime) -> io::Result<()> {
     Ok(())
 }
 """
+
+THEIRS = """
+import sys, time
+from execnet.gateway_base import dumps_internal, loads_internal
+
+with open(sys.argv[1], "rb") as f:
+    payload = f.read()
+begun = time.perf_counter()
+value = loads_internal(payload)
+middle = time.perf_counter()
+dumps_internal(value)
+print((middle - begun) * 1e6, (time.perf_counter() - middle) * 1e6)
+"""
+
+# Runs of each payload, the best of which counts.
+ROUNDS = 5
 
 
 def number(n):
@@ -123,11 +142,8 @@ def build(folder):
     return crate
 
 
-def ours(crate, payload):
+def ours(crate, path):
     """Reads and writes once, in a process of its own: microseconds of each, and peak memory in bytes."""
-    path = os.path.join(crate, "payload")
-    with open(path, "wb") as f:
-        f.write(payload)
     program = os.path.join(crate, "out", "value_bench")
     command = [program, path] if os.path.exists(program) else ["rt", "run", "--", path]
     done = subprocess.run(command, cwd=crate, capture_output=True, text=True)
@@ -138,17 +154,15 @@ def ours(crate, payload):
     return took["loads"], took["dumps"], int(words["VmHWM:"][0]) * 1024
 
 
-def theirs(payload):
-    """The microseconds of reading and of writing by execnet, or None where it is not installed."""
-    try:
-        from execnet.gateway_base import dumps_internal, loads_internal
-    except ImportError:
-        return None
-    begun = time.perf_counter()
-    value = loads_internal(payload)
-    middle = time.perf_counter()
-    dumps_internal(value)
-    return (middle - begun) * 1e6, (time.perf_counter() - middle) * 1e6
+def theirs(path):
+    """The same by execnet, in a process of its own, without the memory; None where it is not installed."""
+    done = subprocess.run([sys.executable, "-c", THEIRS, path], capture_output=True, text=True)
+    return tuple(map(float, done.stdout.split())) if done.returncode == 0 else None
+
+
+def best(runs):
+    """The least of each number over the runs; a number that a run lacks is lacking."""
+    return [None if None in column else min(column) for column in zip(*runs)]
 
 
 def main():
@@ -163,19 +177,29 @@ def main():
             ("dict of 1,000,000 texts", dict_of_texts(1_000_000)),
             ("list nested 64 deep", nested(64)),
         ]
+        path = os.path.join(folder, "payload")
+        compared = []
         for name, payload in cases:
-            loads, dumps, peak = ours(crate, payload)
+            with open(path, "wb") as f:
+                f.write(payload)
+            runs = []
+            for _ in range(ROUNDS):
+                runs.append(ours(crate, path))
+                if payload is cases[0][1]:
+                    compared.append(theirs(path))
+            loads, dumps, _ = best(runs)
+            peak = max(run[2] for run in runs)
             took[name] = loads, dumps
             wrote = f"{dumps / 1e6:8.3f}s" if dumps is not None else "  refused"
             print(f"{name:26} {len(payload):9} {loads / 1e6:8.3f}s {wrote} {peak >> 20:6} MB {peak / len(payload):9.1f}")
         few, many = took["set of 100,000 integers"], took["set of 2,000,000 integers"]
         print(f"2,000,000 keys take {many[0] / few[0]:.1f} times the time of 100,000 (at most 25 is wanted)")
-        compared = theirs(cases[0][1])
-        if compared is None:
+        if None in compared:
             print("execnet is not installed, so it is not compared with")
         else:
             loads, dumps = took["10 MB of mixed values"]
-            print(f"execnet takes {compared[0] / loads:.1f} times as long to read, {compared[1] / dumps:.1f} times to write (20 is wanted)")
+            read, written = best(compared)
+            print(f"execnet takes {read / loads:.1f} times as long to read, {written / dumps:.1f} times to write (20 is wanted)")
 
 
 if __name__ == "__main__":

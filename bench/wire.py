@@ -1,11 +1,13 @@
 #!/usr/bin/env python3
-"""Times `xdrun wire FILE` beside `cat` and beside a loop over the real execnet's message reader.
+"""Times `xdrun wire FILE` beside `cat` and beside loops over the real execnet's message reader.
 
 Run it at the top of the repository: python3 bench/wire.py [PROGRAM]. PROGRAM is ./xdrun where none is named. It writes
-one file of small messages and one of few large ones, 60 MiB each, and prints MB a second and peak memory, each the
-best of three runs with the output thrown away. Goals: at least 30 times the speed of execnet's loop, and a peak of
-at most the file and a few messages. Where execnet is not installed (python3-execnet on Debian) its part is skipped
-with a word.
+a file of small messages, one of collections of 50,000 test ids, one of large texts and one of large bytes, some 60 MiB
+each, and prints MB a second by the clock and by the processor's time (user and system), and peak memory, each the best
+of three runs with the output thrown away. On a busy machine only the processor's time tells something. Of execnet there
+are two loops: one reads each message and decodes its payload, and one prints its line as well, as `wire` does, with the
+value in Python's own notation. Goals: at least 30 times the speed of execnet's loop, and a peak of at most the file and a few
+messages. Where execnet is not installed (python3-execnet on Debian) its part is skipped with a word.
 """
 
 import os
@@ -18,7 +20,7 @@ import time
 SIZE = 60 * 1024 * 1024
 RUNS = 3
 
-EXECNET_LOOP = """
+EXECNET_READS = """
 import io, sys
 from execnet.gateway_base import Message, loads_internal
 with open(sys.argv[1], "rb") as f:
@@ -30,6 +32,22 @@ while stream.tell() < size:
         loads_internal(message.data)
 """
 
+EXECNET_PRINTS = """
+import io, sys
+from execnet.gateway_base import Message, loads_internal
+names = [each.__name__.upper() for each in map(Message._types.__getitem__, range(8))]
+with open(sys.argv[1], "rb") as f:
+    stream = io.BytesIO(f.read())
+size = stream.getbuffer().nbytes
+write = sys.stdout.write
+while stream.tell() < size:
+    message = Message.from_io(stream)
+    name, data = names[message.msgcode], message.data
+    if message.msgcode in (3, 4, 6):
+        write(f"{name} {message.channelid} {len(data)} {loads_internal(data)!r}\\n")
+    else:
+        write(f"{name} {message.channelid} {len(data)}\\n")
+"""
 
 def number(n):
     return struct.pack("!i", n)
@@ -52,18 +70,41 @@ def small_messages():
     return b"".join(parts)
 
 
-def large_messages():
-    """Data of one text of 10 MiB each, up to the size."""
-    text = b"x" * (10 * 1024 * 1024)
-    payload = b"N" + number(len(text)) + text + b"Q"
+def up_to_size(payload):
+    """Data of this payload on channel 1, again and again."""
     return message(4, 1, payload) * (SIZE // len(payload))
 
 
-FILES = {"small messages": small_messages, "large messages": large_messages}
+def collections():
+    """Lists of 50,000 test ids, as a worker sends its collection."""
+    ids = (f"tests/unit/test_module_{i % 400:03}.py::TestClass{i % 7}::test_case_{i:05}[param-{i % 3}]" for i in range(50_000))
+    items = (b"F" + number(i) + b"N" + number(len(each)) + each.encode() + b"P" for i, each in enumerate(ids))
+    return up_to_size(b"K" + number(50_000) + b"".join(items) + b"Q")
+
+
+def large_texts():
+    """Texts of 10 MiB, lines of 80 letters."""
+    text = (b"x" * 79 + b"\n") * (10 * 1024 * 1024 // 80)
+    return up_to_size(b"N" + number(len(text)) + text + b"Q")
+
+
+def large_bytes():
+    """Bytes of 10 MiB, each value as often as any other."""
+    data = bytes(range(256)) * (10 * 1024 * 4)
+    return up_to_size(b"A" + number(len(data)) + data + b"Q")
+
+
+FILES = {
+    "small messages": small_messages,
+    "collections of 50,000 ids": collections,
+    "texts of 10 MiB": large_texts,
+    "bytes of 10 MiB": large_bytes,
+}
 
 
 def measure(words):
-    """The seconds and the peak memory in MiB of the best of the runs, or None where it cannot be run."""
+    """The seconds by the clock and of the processor, each of the best of the runs, and the least peak memory in MiB, or
+    None where it cannot be run."""
     best = None
     for _ in range(RUNS):
         begun = time.monotonic()
@@ -78,8 +119,8 @@ def measure(words):
         if child.returncode != 0:
             print(f"  {words[0]}: status {child.returncode} {error[-200:]}")
             return None
-        if best is None or took < best[0]:
-            best = (took, usage.ru_maxrss / 1024)
+        run = (took, usage.ru_utime + usage.ru_stime, usage.ru_maxrss / 1024)
+        best = run if best is None else tuple(map(min, best, run))
     return best
 
 
@@ -107,17 +148,21 @@ def main():
             print(f"{name}, {megabytes:.0f} MB")
             runs = [("cat", ["cat", path]), ("xdrun wire", [program, "wire", path])]
             if python is None:
-                print("  execnet is not installed: its loop is skipped")
+                print("  execnet is not installed: its loops are skipped")
             else:
-                runs.append(("execnet", [python, "-c", EXECNET_LOOP, path]))
+                runs.append(("execnet reads", [python, "-c", EXECNET_READS, path]))
+                runs.append(("execnet prints", [python, "-c", EXECNET_PRINTS, path]))
             speeds = {}
             for what, words in runs:
                 found = measure(words)
                 if found is not None:
-                    speeds[what] = megabytes / found[0]
-                    print(f"  {what:16} {speeds[what]:9.1f} MB/s, peak {found[1]:7.1f} MiB")
-            if "xdrun wire" in speeds and "execnet" in speeds:
-                print(f"  xdrun wire is {speeds['xdrun wire'] / speeds['execnet']:.1f} times as fast as execnet's reader")
+                    speeds[what] = megabytes / found[0], megabytes / found[1]
+                    clock, processor = speeds[what]
+                    print(f"  {what:16} {clock:9.1f} MB/s, {processor:9.1f} MB/s of the processor, peak {found[2]:7.1f} MiB")
+            for what in ("execnet reads", "execnet prints"):
+                if "xdrun wire" in speeds and what in speeds:
+                    clock, processor = (a / b for a, b in zip(speeds["xdrun wire"], speeds[what]))
+                    print(f"  xdrun wire beside `{what}`: {clock:.1f} times as fast, {processor:.1f} times by the processor")
 
 
 if __name__ == "__main__":

@@ -1,7 +1,8 @@
 // Programs in memory.
-ghost use Rattle.std.specs.Prelude.{◌≡◌, ◌<◌, ◌≤◌, [], Some, length, IsTrue, IfOk, OnOk, OnErr, IsErrOf, IsNone, IsSome, is_some, option_map, position};
+ghost use Rattle.std.specs.Prelude.{◌≡◌, ◌<◌, ◌≤◌, [], ◌∷◌, ◌++◌, Some, length, IsTrue, IfOk, OnOk, OnErr, IsErrOf, IsNone, IsSome, IfSome};
 ghost use Rattle.xd_edge.specs.Faults.{Rose};
-ghost use Rattle.xd_edge.specs.Children.{AddsRun, ChangesRun, IsNext, change_at, fate_at_end, with_fate, with_last, running, not_started, with_read_fault, with_end, with_wait_fault};
+ghost use Rattle.xd_edge.specs.MemChildren.{child_in, end_in, texts_eq};
+ghost use Rattle.xd_edge.specs.Children.{change_at, fate_at_end, with_fate, with_last, running, not_started, with_read_fault, with_end, with_wait_fault};
 
 use crate::{
     Blobs, ChildEnd, ChildFault, ChildRun, Children, Failed, Fate, FaultPlan, Indices, OutOfMemory,
@@ -49,21 +50,26 @@ impl MemChildren {
     }
 }
 
-fn find_child(children: &[(Texts, Blobs, ChildEnd)], args: &[Text]) -> Option<usize> {
-    for (i, (other, _, _)) in children.iter().enumerate() {
-        if is_same(&other.items, args) {
-            return Some(i);
-        }
-    }
-    None
+fn find_child(children: &[(Texts, Blobs, ChildEnd)], args: &[Text]) -> Option<usize>
+    ensures { result ≡ child_in children.now args.now }
+{
+    children
+        .iter()
+        .position(|(other, _, _)| is_same(&other.items, args))
 }
 
-fn is_same(these: &[Text], those: &[Text]) -> bool {
-    these.len() == those.len()
-        && these
-            .iter()
-            .zip(those.iter())
-            .all(|(a, b)| a.as_str() == b.as_str())
+fn is_same(these: &[Text], those: &[Text]) -> bool
+    ensures { result ≡ texts_eq these.now those.now }
+{
+    if these.len() != those.len() {
+        return false;
+    }
+    for (i, text) in these.iter().enumerate() {
+        if !text.is_same(&those[i]) {
+            return false;
+        }
+    }
+    true
 }
 
 // The child that is started next, or a fault.
@@ -72,9 +78,12 @@ fn next_child(
     children: &[(Texts, Blobs, ChildEnd)],
     args: &[Text],
 ) -> Option<usize>
+    ensures fails { plan.new.fails ≡ plan.old.fails }
     ensures later { plan.old.faults ≤ plan.new.faults }
     ensures rose { IsNone result → Rose plan.old.faults plan.new.faults }
-    ensures found { IsSome result → plan.new.faults ≡ plan.old.faults }
+    ensures found { IfSome result (λ n. child_in children.now args.now ≡ Some n) }
+    ensures still { IsSome result → plan.new.faults ≡ plan.old.faults }
+    ensures calm { plan.old.fails ≡ [] → IsSome (child_in children.now args.now) → plan.new.faults ≡ plan.old.faults }
 {
     if plan.step().is_err() {
         return None;
@@ -125,7 +134,7 @@ fn set_end(runs: &mut [ChildRun], place: usize, fate: Fate)
 // The next bytes of a child's pieces, or none at their end.
 fn give(pieces: &Blobs, child: &mut MemChild, into: &mut [u8]) -> usize
     ensures count { result ≤ length into.old }
-    ensures same { child.new.place ≡ child.old.place }
+    ensures same { (child.new.place ≡ child.old.place) × (child.new.child ≡ child.old.child) }
 {
     let Some(piece) = pieces.items.get(child.piece) else {
         return 0;
@@ -153,7 +162,18 @@ impl Children for MemChildren {
 
     ghost is_read = { λ c. c.is_read };
 
-    fn start(&mut self, alloc: Global, args: &[Text]) -> Result<MemChild, ChildFault> {
+    fn start(&mut self, alloc: Global, args: &[Text]) -> Result<MemChild, ChildFault>
+        requires { 0 < length args.now }
+        ensures next { IfOk result (λ child. child.place ≡ length self.old.runs.items) }
+        ensures found { IfOk result (λ child. child_in self.old.children.items args.now ≡ Some child.child) }
+        ensures started { OnOk result (self.new.runs.items ≡ self.old.runs.items ++ running args.now ∷ []) }
+        ensures failed { IsErrOf result ChildFault.Failed → self.new.runs.items ≡ self.old.runs.items ++ not_started args.now ∷ [] }
+        ensures memory { IsErrOf result ChildFault.OutOfMemory → self.new.runs.items ≡ self.old.runs.items }
+        ensures kept { (self.new.children ≡ self.old.children) × (self.new.plan.fails ≡ self.old.plan.fails) }
+        ensures later { self.old.plan.faults ≤ self.new.plan.faults }
+        ensures rose { IsErrOf result ChildFault.Failed → Rose self.old.plan.faults self.new.plan.faults }
+        ensures calm { self.old.plan.fails ≡ [] → IsSome (child_in self.old.children.items args.now) → self.new.plan.faults ≡ self.old.plan.faults }
+    {
         let place = self.runs.len();
         let args_kept = copy_texts(alloc, args)?;
         self.runs.reserve(1)?;
@@ -183,7 +203,18 @@ impl Children for MemChildren {
         _rt: &R,
         child: &mut MemChild,
         into: &mut [u8],
-    ) -> Result<usize, Failed> {
+    ) -> Result<usize, Failed>
+        ensures count { IfOk result (λ n. n ≤ length into.old) }
+        ensures same_child { (child.new.place ≡ child.old.place) × (child.new.child ≡ child.old.child) }
+        ensures end { IfOk result (λ n. n ≡ 0 → 0 < length into.old → IsTrue child.new.is_read) }
+        ensures end_failed { OnErr result (IsTrue child.new.is_read) }
+        ensures same { OnOk result (self.new.runs.items ≡ self.old.runs.items) }
+        ensures failed { OnErr result (self.new.runs.items ≡ change_at child.old.place with_read_fault self.old.runs.items) }
+        ensures kept { (self.new.children ≡ self.old.children) × (self.new.plan.fails ≡ self.old.plan.fails) }
+        ensures later { self.old.plan.faults ≤ self.new.plan.faults }
+        ensures rose { OnErr result (Rose self.old.plan.faults self.new.plan.faults) }
+        ensures calm { self.old.plan.fails ≡ [] → child.old.child < length self.old.children.items → self.new.plan.faults ≡ self.old.plan.faults }
+    {
         if let Err(failed) = self.plan.step() {
             set_fate(&mut self.runs, child.place, Fate::NotRead);
             child.is_read = true;
@@ -201,7 +232,16 @@ impl Children for MemChildren {
         Ok(n)
     }
 
-    fn wait<R: Wait>(&mut self, _rt: &R, child: MemChild) -> Result<ChildEnd, Failed> {
+    fn wait<R: Wait>(&mut self, _rt: &R, child: MemChild) -> Result<ChildEnd, Failed>
+        requires { IsTrue child.is_read }
+        ensures prepared { IfOk result (λ e. end_in self.old.children.items child.child ≡ Some e) }
+        ensures ended { IfOk result (λ e. self.new.runs.items ≡ change_at child.place (with_end e) self.old.runs.items) }
+        ensures failed { OnErr result (self.new.runs.items ≡ change_at child.place with_wait_fault self.old.runs.items) }
+        ensures kept { (self.new.children ≡ self.old.children) × (self.new.plan.fails ≡ self.old.plan.fails) }
+        ensures later { self.old.plan.faults ≤ self.new.plan.faults }
+        ensures rose { OnErr result (Rose self.old.plan.faults self.new.plan.faults) }
+        ensures calm { self.old.plan.fails ≡ [] → child.child < length self.old.children.items → self.new.plan.faults ≡ self.old.plan.faults }
+    {
         if let Err(failed) = self.plan.step() {
             set_end(&mut self.runs, child.place, Fate::NotWaited);
             return Err(failed);

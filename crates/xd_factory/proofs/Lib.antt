@@ -1,3 +1,5 @@
+pub mod Spans
+pub mod Joining
 pub mod Bounds
 pub mod Readings
 pub mod Dumps

@@ -1,3 +1,5 @@
+pub mod Runs
+pub mod Seen
 pub mod Numbers
 pub mod Said
 pub mod Reads

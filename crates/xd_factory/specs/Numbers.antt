@@ -1,11 +1,10 @@
 -- The numbers of channels. The side that started a link opens the odd ones and the other side the even ones, as in
 -- execnet's gateway_base.py.
 use Rattle.std.specs.Prelude.{ℕ, ◌==◌, ◌%◌, ◌||◌, ◌&&◌, not, nat_lt, List, [], ◌∷◌, Bool, false, if◌then◌else◌}
-use Rattle.std.specs.Ordering.{nat_cmp}
-use Rattle.std.specs.BTreeSet as set
-use Rattle.std.specs.BTreeSet.{BTreeSet}
 use Rattle.xd_factory.specs.declared.parity.Parity.{Parity}
 use Rattle.xd_factory.specs.declared.parity.Parity.TheVariants.{Odd, Even}
+use Rattle.xd_factory.specs.declared.seen.Seen.{Seen}
+use Rattle.xd_factory.specs.Seen.{was_seen}
 
 abbrev pub is_odd : ℕ → Bool
 is_odd c = c % 2 == 1
@@ -21,8 +20,8 @@ first_number Odd = 1
 first_number Even = 2
 
 -- the number was opened here, where `next` is the next own number and `seen` has the peer's numbers that came
-abbrev pub is_known : Parity → ℕ → BTreeSet ℕ → ℕ → Bool
-is_known parity next seen c = if is_mine parity c then nat_lt 0 c && nat_lt c next else set.contains nat_cmp seen c
+abbrev pub is_known : Parity → ℕ → Seen → ℕ → Bool
+is_known parity next seen c = if is_mine parity c then nat_lt 0 c && nat_lt c next else was_seen seen c
 
 abbrev pub is_in : ℕ → List ℕ → Bool
 is_in c [] = false

@@ -7,6 +7,8 @@
 
 mod faults;
 mod parity;
+mod runs;
+mod seen;
 mod side;
 mod taken;
 mod word;

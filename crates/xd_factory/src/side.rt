@@ -11,9 +11,10 @@ mod link;
 mod owner;
 mod peer;
 
+use crate::seen::Seen;
 use crate::{Parity, SideFault};
 use std::alloc::Global;
-use std::collections::{BTreeMap, BTreeSet};
+use std::collections::BTreeMap;
 use xd_channel::ChannelEnd;
 
 /// How many channels a side has at a time.
@@ -26,14 +27,15 @@ const MAX_NUMBER: u32 = 2_147_483_647;
 /// opened, or is in the table with its end, or is closed for good.
 ///
 /// An entry leaves the table once its sending is closed and its end marker was given. Of the own numbers that left
-/// nothing is kept. Of the peer's numbers each that was ever seen is kept, since none of them may open again.
+/// nothing is kept. Of the peer's numbers each that was ever seen is kept, since none of them may open again; they
+/// are kept as runs, which grow with the gaps between them alone.
 #[derive(Drop)]
 pub struct Side {
     alloc: Global,
     parity: Parity,
     next: u32,
     ends: BTreeMap<u32, ChannelEnd>,
-    seen: BTreeSet<u32>,
+    seen: Seen,
     fault: Option<SideFault>,
     finished: bool,
     ghost own: { is_mine parity next ≡ true },
@@ -65,7 +67,7 @@ impl Side {
             parity,
             next,
             ends: BTreeMap::new(alloc),
-            seen: BTreeSet::new(alloc),
+            seen: Seen::new(alloc),
             fault: None,
             finished: false,
         }
@@ -88,7 +90,7 @@ impl Side {
         if self.is_own(number) {
             0 < number && number < self.next
         } else {
-            self.seen.contains(&number)
+            self.seen.contains(number)
         }
     }
 

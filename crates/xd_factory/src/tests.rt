@@ -1,4 +1,5 @@
 use super::*;
+use crate::seen::Seen;
 use std::alloc::Global;
 use std::test::Fail;
 use xd_channel::{End, Got};
@@ -228,4 +229,23 @@ fn a_function_is_called_on_a_new_number_of_the_peer(rt: HostRuntime) -> Result<(
     assert!(rt; matches!(side.give_up(3), Err(Unknown)));
     assert_eq!(rt; side.status(), 0);
     Ok(())
+}
+
+#[test]
+fn many_numbers_of_the_peer_are_closed_for_good(rt: HostRuntime) {
+    let mut seen = Seen::new(rt.alloc());
+    assert!(rt; seen.insert(Parity::Odd, 4).is_ok());
+    assert!(rt; seen.contains(4) && !seen.contains(2) && !seen.contains(6));
+    let mut side = Side::new(rt.alloc(), Parity::Odd);
+    for place in 1..10_000 {
+        let number = place * 2;
+        assert!(rt;
+            side.take_message(message(rt.alloc(), Kind::Close, number))
+                .is_ok()
+        );
+    }
+    assert!(rt; matches!(side.send(2, &Value::None), Err(SendFault::SendClosed)));
+    assert!(rt; matches!(side.send(19_998, &Value::None), Err(SendFault::SendClosed)));
+    assert!(rt; matches!(side.send(20_000, &Value::None), Err(SendFault::Unknown)));
+    assert_eq!(rt; side.status(), 0);
 }

@@ -1,11 +1,7 @@
 -- What is added to a text.
-use Rattle.std.proofs.Common.{◌≡◌, ℕ, ℤ, pos, negsuc, zero, suc, arith, true, List, [], ◌∷◌, ◌++◌, length, refl, sym, ap, ap₂, ◌∙◌, append-nil, append_assoc}
+use Rattle.std.proofs.Common.{◌≡◌, ℕ, zero, suc, arith, true, List, [], ◌∷◌, ◌++◌, length, refl, sym, ap, ap₂, ◌∙◌, append-nil, append_assoc}
 use Rattle.std.specs.Prelude.{IsTrue, codes}
 use Rattle.std.specs.List.{list_all}
-use Rattle.std.specs.Fmt.{decimal, signed_decimal}
-use Rattle.std.proofs.lemmas.Fmt.{IsAscii-decimal_wide}
-use mir.Val.{SFits}
-use mir.Syntax.{w128}
 use Rattle.std.specs.Char.{is_ascii, encode_utf8, IsScalar}
 use Rattle.std.specs.Str.{IsUtf8, IsAscii, all_scalars, chars, encode_utf8_all}
 use Rattle.std.proofs.lemmas.Bool.{and_parts, and_from, lt-ltb, ltb-true, ne_eqb}
@@ -50,14 +46,9 @@ char_of c s = ap chars (sym (append-nil (encode_utf8 c))) ∙ chars-encodes (c �
 pub pushed_char : (a new : List ℕ) (c : ℕ) → IsUtf8 a → IsScalar c → new ≡ a ++ encode_utf8 c → chars new ≡ chars a ++ c ∷ []
 pushed_char a new c u s e = ap chars e ∙ chars_append a (encode_utf8 c) u (IsUtf8-encode c s) ∙ ap (λ (x : List ℕ). chars a ++ x) (char_of c s)
 
-escapes_append : (a b : List ℕ) → escapes (a ++ b) ≡ escapes a ++ escapes b
+pub escapes_append : (a b : List ℕ) → escapes (a ++ b) ≡ escapes a ++ escapes b
 escapes_append [] b = refl
 escapes_append (c ∷ a) b = ap (λ (x : List ℕ). escaped c ++ x) (escapes_append a b) ∙ sym (append_assoc (escaped c) (escapes a) (escapes b))
-
-pub escapes_more : (out new start cs : List ℕ) (c : ℕ) → out ≡ start ++ escapes cs → new ≡ out ++ escaped c → new ≡ start ++ escapes (cs ++ c ∷ [])
-escapes_more out new start cs c e f =
-    f ∙ ap (λ (x : List ℕ). x ++ escaped c) e ∙ append_assoc start (escapes cs) (escaped c)
-    ∙ ap (λ (x : List ℕ). start ++ x) (ap (λ (x : List ℕ). escapes cs ++ x) (sym (append-nil (escaped c))) ∙ sym (escapes_append cs (c ∷ [])))
 
 pub tuple_end_one : (xs : List Value) → length xs ≡ 1 → tuple_end (count (views xs)) ≡ codes ",)"
 tuple_end_one xs e = rw (count_views xs, e) refl
@@ -70,12 +61,3 @@ set_without xs empty first inner last e = rw (count_views xs, e) refl
 
 pub set_with : (xs : List Value) (empty first inner last : List ℕ) → (length xs ≡ 0 → ⊥) → shown_set empty first inner last (count (views xs)) ≡ between first inner last
 set_with xs empty first inner last h = rw (count_views xs, ne_eqb (length xs) 0 h) refl
-
-pub signed_words : (z : ℤ) → SFits w128 z → list_all is_ascii (signed_decimal z) ≡ true
-signed_words (pos n) h = all_ascii (decimal n) (IsAscii-decimal_wide n (omega arith))
-signed_words (negsuc n) h = all_ascii (decimal (suc n)) (IsAscii-decimal_wide (suc n) (omega arith))
-
-pub print_end : (out new start cs inner : List ℕ) → out ≡ (start ++ 34 ∷ []) ++ escapes cs → cs ≡ inner → new ≡ out ++ 34 ∷ [] → new ≡ start ++ 34 ∷ (escapes inner ++ 34 ∷ [])
-print_end out new start cs inner e f g =
-    g ∙ ap (λ (x : List ℕ). x ++ 34 ∷ []) (e ∙ ap (λ (x : List ℕ). (start ++ 34 ∷ []) ++ escapes x) f)
-    ∙ append_assoc (start ++ 34 ∷ []) (escapes inner) (34 ∷ []) ∙ append_assoc start (34 ∷ []) (escapes inner ++ 34 ∷ [])

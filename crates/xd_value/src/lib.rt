@@ -27,7 +27,7 @@ mod writing;
 
 pub use fault::{LoadFault, LoadWhat};
 pub use laws::{canonical_law, fault_law, prefix_law, same_law};
-pub use printing::show;
+pub use printing::{show, show_onto};
 pub use reading::loads;
 pub use value::Value;
 pub use writing::{DumpFault, dumps};

@@ -1,7 +1,6 @@
 // The opcodes that push a value without parts.
 ghost use Rattle.std.specs.Prelude.{◌≡◌, ◌∷◌, ℕ, List, false, Ok, IfOk};
-ghost use Rattle.xd_value.specs.Keys.{is_key_of};
-ghost use Rattle.xd_value.specs.Tree.{Tree, depth as depth_of};
+ghost use Rattle.xd_value.specs.Tree.{depth as depth_of};
 ghost use Rattle.xd_value.specs.View.{view};
 ghost use Rattle.xd_value.specs.Reading.{Cell, Gives, whole, read_int, read_text, read_long, read_channel};
 ghost use Rattle.xd_value.specs.Slots.{cells_of};
@@ -17,30 +16,24 @@ use xd_edge::Text;
 
 /// Pushes a value of which nothing follows the opcode.
 pub(crate) fn constant<'a>(
-    alloc: Global,
     stack: &mut Vec<Slot>,
     value: Value,
     rest: &'a [u8],
 ) -> Result<&'a [u8], StepFault>
     requires measured { 0 ≡ depth_of (view value) }
-    requires no_keys { (t : Tree) → is_key_of (view value) t ≡ false }
     ensures { Gives {Y = List Cell × List ℕ} (λ r. (cells_of stack.new.items, r.now)) result
         (Ok (whole (view value) ∷ cells_of stack.old.items, rest.now)) }
 {
-    push(alloc, stack, value, 0, 0)?;
+    push(stack, value, 0, 0)?;
     Ok(rest)
 }
 
 #[tactic(auto, unfolding(crate::specs::Reading::read_int))]
-pub(crate) fn int<'a>(
-    alloc: Global,
-    stack: &mut Vec<Slot>,
-    rest: &'a [u8],
-) -> Result<&'a [u8], StepFault>
+pub(crate) fn int<'a>(stack: &mut Vec<Slot>, rest: &'a [u8]) -> Result<&'a [u8], StepFault>
     ensures { Gives (λ r. (cells_of stack.new.items, r.now)) result (read_int (cells_of stack.old.items) rest.now) }
 {
     let (n, rest) = number(rest)?;
-    push(alloc, stack, Value::Int(n.cast_signed() as i128), 0, 0)?;
+    push(stack, Value::Int(n.cast_signed() as i128), 0, 0)?;
     Ok(rest)
 }
 
@@ -56,7 +49,7 @@ pub(crate) fn text<'a>(
     let Ok(text) = str::from_utf8(bytes) else {
         return Err(StepFault::Bad(LoadWhat::BadText));
     };
-    push(alloc, stack, Value::Text(Text::of(alloc, text)?), 0, 0)?;
+    push(stack, Value::Text(Text::of(alloc, text)?), 0, 0)?;
     Ok(rest)
 }
 
@@ -71,11 +64,7 @@ pub(crate) fn latin(alloc: Global, bytes: &[u8]) -> Result<Text, AllocError>
 }
 
 #[tactic(auto, unfolding(crate::specs::Reading::read_long))]
-pub(crate) fn long<'a>(
-    alloc: Global,
-    stack: &mut Vec<Slot>,
-    rest: &'a [u8],
-) -> Result<&'a [u8], StepFault>
+pub(crate) fn long<'a>(stack: &mut Vec<Slot>, rest: &'a [u8]) -> Result<&'a [u8], StepFault>
     ensures { Gives (λ r. (cells_of stack.new.items, r.now)) result
         (read_long (cells_of stack.old.items) rest.now) }
 {
@@ -83,16 +72,12 @@ pub(crate) fn long<'a>(
     let Some(n) = long_value(digits) else {
         return Err(StepFault::Bad(LoadWhat::BadNumber));
     };
-    push(alloc, stack, Value::Int(n), 0, 0)?;
+    push(stack, Value::Int(n), 0, 0)?;
     Ok(rest)
 }
 
 #[tactic(auto, unfolding(crate::specs::Reading::read_channel))]
-pub(crate) fn channel<'a>(
-    alloc: Global,
-    stack: &mut Vec<Slot>,
-    rest: &'a [u8],
-) -> Result<&'a [u8], StepFault>
+pub(crate) fn channel<'a>(stack: &mut Vec<Slot>, rest: &'a [u8]) -> Result<&'a [u8], StepFault>
     ensures { Gives (λ r. (cells_of stack.new.items, r.now)) result
         (read_channel (cells_of stack.old.items) rest.now) }
 {
@@ -100,6 +85,6 @@ pub(crate) fn channel<'a>(
     if n == 0 || n >= 0x8000_0000 {
         return Err(StepFault::Bad(LoadWhat::BadNumber));
     }
-    push(alloc, stack, Value::Channel(n), 0, 0)?;
+    push(stack, Value::Channel(n), 0, 0)?;
     Ok(rest)
 }

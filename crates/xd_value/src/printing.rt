@@ -1,5 +1,5 @@
 // Values as text, in the notation of Python.
-ghost use Rattle.std.specs.Prelude.{◌≡◌, ◌++◌, ◌∷◌, [], ◌<◌, IfOk, OnOk, IsTrue, codes};
+ghost use Rattle.std.specs.Prelude.{◌≡◌, ◌++◌, ◌∷◌, [], ◌<◌, ◌≤◌, true, false, IfOk, OnOk, IsTrue, codes, string_bytes};
 ghost use Rattle.std.specs.List.{list_all};
 ghost use Rattle.std.specs.Char.{is_ascii, digit_char};
 ghost use Rattle.std.specs.Fmt.{decimal, signed_decimal};
@@ -8,6 +8,7 @@ ghost use Rattle.xd_value.specs.Tree.{count};
 ghost use Rattle.xd_value.specs.View.{view, views, pair_views};
 
 use crate::value::Value;
+use itoa::Buffer;
 use std::alloc::{AllocError, Global};
 use xd_edge::{OutOfMemory, Text};
 
@@ -17,8 +18,16 @@ pub fn show(alloc: Global, value: &Value) -> Result<Text, OutOfMemory>
     ensures { IfOk result (λ t. t ≡ shown (view value.now)) }
 {
     let mut out = Text::from_string(String::new(alloc));
-    print(alloc, &mut out, value)?;
+    show_onto(&mut out, value)?;
     Ok(out)
+}
+
+/// Appends the value to the text, as [`show`] prints it. Where memory is refused, a part of it may have been appended.
+pub fn show_onto(out: &mut Text, value: &Value) -> Result<(), OutOfMemory>
+    ensures { OnOk result (out.new ≡ out.old ++ shown (view value.now)) }
+{
+    print(out, value)?;
+    Ok(())
 }
 
 /// Appends words of ASCII.
@@ -38,34 +47,28 @@ fn put_char(out: &mut Text, c: char) -> Result<(), AllocError>
 }
 
 #[cycle(print)]
-fn print(alloc: Global, out: &mut Text, value: &Value) -> Result<(), AllocError>
+fn print(out: &mut Text, value: &Value) -> Result<(), AllocError>
     ensures { OnOk result (out.new ≡ out.old ++ shown (view value.now)) }
 {
     match value {
         Value::None => put(out, "None")?,
         Value::Bool(b) => put(out, if *b { "True" } else { "False" })?,
-        Value::Int(n) => print_int(alloc, out, *n)?,
+        Value::Int(n) => print_int(out, *n)?,
         Value::Bytes(bytes) => print_bytes(out, bytes.as_slice())?,
         Value::Text(text) => print_text(out, text)?,
-        Value::List(items) => print_items(alloc, out, "[", items, "]")?,
-        Value::Tuple(items) => print_tuple(alloc, out, items)?,
-        Value::Set(items) => print_set(alloc, out, items)?,
-        Value::FrozenSet(items) => print_frozenset(alloc, out, items)?,
-        Value::Dict(pairs) => print_pairs(alloc, out, pairs)?,
-        Value::Channel(n) => print_channel(alloc, out, *n)?,
+        Value::List(items) => print_items(out, "[", items, "]")?,
+        Value::Tuple(items) => print_tuple(out, items)?,
+        Value::Set(items) => print_set(out, items)?,
+        Value::FrozenSet(items) => print_frozenset(out, items)?,
+        Value::Dict(pairs) => print_pairs(out, pairs)?,
+        Value::Channel(n) => print_channel(out, *n)?,
     }
     Ok(())
 }
 
 /// Items between two marks.
 #[cycle(print)]
-fn print_items(
-    alloc: Global,
-    out: &mut Text,
-    first: &str,
-    items: &[Value],
-    last: &str,
-) -> Result<(), AllocError>
+fn print_items(out: &mut Text, first: &str, items: &[Value], last: &str) -> Result<(), AllocError>
     requires opens { IsTrue (list_all is_ascii first.now) }
     requires closes { IsTrue (list_all is_ascii last.now) }
     ensures { OnOk result (out.new ≡ out.old ++ between first.now (shown_items [] (views items.now)) last.now) }
@@ -74,7 +77,7 @@ fn print_items(
     let mut before = "";
     for item in items {
         put(out, before)?;
-        print(alloc, out, item)?;
+        print(out, item)?;
         before = ", ";
     }
     put(out, last)?;
@@ -82,33 +85,33 @@ fn print_items(
 }
 
 #[cycle(print)]
-fn print_tuple(alloc: Global, out: &mut Text, items: &[Value]) -> Result<(), AllocError>
+fn print_tuple(out: &mut Text, items: &[Value]) -> Result<(), AllocError>
     ensures { OnOk result (out.new ≡ out.old
         ++ between (40 ∷ []) (shown_items [] (views items.now)) (tuple_end (count (views items.now)))) }
 {
     if items.len() == 1 {
-        print_items(alloc, out, "(", items, ",)")?;
+        print_items(out, "(", items, ",)")?;
     } else {
-        print_items(alloc, out, "(", items, ")")?;
+        print_items(out, "(", items, ")")?;
     }
     Ok(())
 }
 
 #[cycle(print)]
-fn print_set(alloc: Global, out: &mut Text, items: &[Value]) -> Result<(), AllocError>
+fn print_set(out: &mut Text, items: &[Value]) -> Result<(), AllocError>
     ensures { OnOk result (out.new ≡ out.old
         ++ shown_set (codes "set()") (codes "{") (shown_items [] (views items.now)) (codes "}") (count (views items.now))) }
 {
     if items.is_empty() {
         put(out, "set()")?;
     } else {
-        print_items(alloc, out, "{", items, "}")?;
+        print_items(out, "{", items, "}")?;
     }
     Ok(())
 }
 
 #[cycle(print)]
-fn print_frozenset(alloc: Global, out: &mut Text, items: &[Value]) -> Result<(), AllocError>
+fn print_frozenset(out: &mut Text, items: &[Value]) -> Result<(), AllocError>
     ensures { OnOk result (out.new ≡ out.old
         ++ shown_set (codes "frozenset()") (codes "frozenset({") (shown_items [] (views items.now)) (codes "})")
         (count (views items.now))) }
@@ -116,41 +119,41 @@ fn print_frozenset(alloc: Global, out: &mut Text, items: &[Value]) -> Result<(),
     if items.is_empty() {
         put(out, "frozenset()")?;
     } else {
-        print_items(alloc, out, "frozenset({", items, "})")?;
+        print_items(out, "frozenset({", items, "})")?;
     }
     Ok(())
 }
 
 #[cycle(print)]
-fn print_pairs(alloc: Global, out: &mut Text, pairs: &[(Value, Value)]) -> Result<(), AllocError>
+fn print_pairs(out: &mut Text, pairs: &[(Value, Value)]) -> Result<(), AllocError>
     ensures { OnOk result (out.new ≡ out.old ++ between (codes "{") (shown_pairs [] (pair_views pairs.now)) (codes "}")) }
 {
     put(out, "{")?;
     let mut before = "";
     for pair in pairs {
         put(out, before)?;
-        print(alloc, out, &pair.0)?;
+        print(out, &pair.0)?;
         put(out, ": ")?;
-        print(alloc, out, &pair.1)?;
+        print(out, &pair.1)?;
         before = ", ";
     }
     put(out, "}")?;
     Ok(())
 }
 
-fn print_int(alloc: Global, out: &mut Text, n: i128) -> Result<(), AllocError>
+fn print_int(out: &mut Text, n: i128) -> Result<(), AllocError>
     ensures { OnOk result (out.new ≡ out.old ++ signed_decimal n) }
 {
-    let digits = n.to_string(alloc)?;
-    put(out, digits.as_str())?;
+    let mut buffer = Buffer::new();
+    put(out, buffer.format(n))?;
     Ok(())
 }
 
-fn print_channel(alloc: Global, out: &mut Text, n: u32) -> Result<(), AllocError>
+fn print_channel(out: &mut Text, n: u32) -> Result<(), AllocError>
     ensures { OnOk result (out.new ≡ out.old ++ between (codes "channel(") (decimal n) (codes ")")) }
 {
     put(out, "channel(")?;
-    print_int(alloc, out, n as i128)?;
+    print_int(out, n as i128)?;
     put(out, ")")?;
     Ok(())
 }
@@ -186,18 +189,47 @@ fn print_bytes(out: &mut Text, bytes: &[u8]) -> Result<(), AllocError>
     Ok(())
 }
 
-fn print_char(out: &mut Text, c: char) -> Result<(), AllocError>
-    ensures { OnOk result (out.new ≡ out.old ++ escaped c) }
+/// Whether the byte of a text is not printed as it is.
+fn is_escaped(byte: u8) -> bool
+    ensures plain { result ≡ false → escaped byte ≡ byte ∷ [] }
+    ensures ascii { result ≡ true → byte < 128 }
 {
-    if c == '"' || c == '\\' {
-        put_char(out, '\\')?;
-        put_char(out, c)?;
-    } else if c < ' ' || c == '\x7f' {
-        put(out, "\\x")?;
-        print_byte(out, c as u8)?;
+    byte < b' ' || byte == b'"' || byte == b'\\' || byte == 0x7f
+}
+
+/// Appends a character of ASCII as it stands inside a text.
+fn push_escaped(out: &mut String, byte: u8) -> Result<(), AllocError>
+    requires { byte < 128 }
+    ensures { OnOk result (string_bytes out.new ≡ string_bytes out.old ++ escaped byte) }
+{
+    if byte == b'"' || byte == b'\\' {
+        out.push('\\')?;
+        out.push(byte as char)?;
+    } else if byte < b' ' || byte == 0x7f {
+        out.push_str("\\x")?;
+        out.push(digit(byte / 16))?;
+        out.push(digit(byte % 16))?;
     } else {
-        put_char(out, c)?;
+        out.push(byte as char)?;
     }
+    Ok(())
+}
+
+/// Appends the characters of a text, each stretch that needs no backslash as one.
+fn push_escapes(out: &mut String, text: &str) -> Result<(), AllocError>
+    ensures { OnOk result (string_bytes out.new ≡ string_bytes out.old ++ escapes text.now) }
+{
+    let bytes = text.as_bytes();
+    let mut from = 0;
+    for at in 0..bytes.len() {
+        let byte = bytes[at];
+        if is_escaped(byte) {
+            out.push_str(&text[from..at])?;
+            push_escaped(out, byte)?;
+            from = at + 1;
+        }
+    }
+    out.push_str(&text[from..])?;
     Ok(())
 }
 
@@ -205,9 +237,14 @@ fn print_text(out: &mut Text, text: &Text) -> Result<(), AllocError>
     ensures { OnOk result (out.new ≡ out.old ++ between (codes "\"") (escapes text.now) (codes "\"")) }
 {
     put(out, "\"")?;
-    for c in text.as_str().chars() {
-        print_char(out, c)?;
-    }
+    put_escapes(out, text)?;
     put(out, "\"")?;
+    Ok(())
+}
+
+fn put_escapes(out: &mut Text, text: &Text) -> Result<(), AllocError>
+    ensures { OnOk result (out.new ≡ out.old ++ escapes text.now) }
+{
+    push_escapes(&mut out.text, text.as_str())?;
     Ok(())
 }

@@ -75,7 +75,7 @@ pub(crate) fn tuple(alloc: Global, stack: &mut Vec<Slot>, n: usize) -> Result<()
     if depth > 63 {
         return Err(StepFault::Bad(LoadWhat::TooDeep));
     }
-    push(alloc, stack, Value::Tuple(items), 0, depth + 1)?;
+    push(stack, Value::Tuple(items), 0, depth + 1)?;
     Ok(())
 }
 

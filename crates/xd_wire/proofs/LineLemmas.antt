@@ -1,6 +1,7 @@
 -- Lines, one after another.
-use Rattle.std.proofs.Common.{String, Global, Some, Result, Ok, Err, ◌≡◌, ℕ, ◌+◌, ◌≤◌, inl, inr, Bool, true, false, List, [], ◌∷◌, ◌++◌, length, take, drop, refl, sym, ap, subst, ◌∙◌, arith}
+use Rattle.std.proofs.Common.{String, Global, Some, Result, Ok, Err, ◌≡◌, ℕ, ◌+◌, ◌≤◌, inl, inr, Bool, true, false, List, [], ◌∷◌, ◌++◌, length, take, drop, refl, sym, ap, subst, ◌∙◌, append_assoc, arith}
 use Rattle.std.specs.Prelude.{IfOk, string_bytes, encode_utf8_all}
+use Rattle.std.proofs.lemmas.Str.{encodes-append}
 use Rattle.std.proofs.lemmas.List.{append-nil, drop-drop, length-take-le, length-drop}
 use Rattle.xd_frame.specs.declared.header.Header.{Header}
 use Rattle.xd_frame.specs.Message.{MessageView}
@@ -12,24 +13,29 @@ use Rattle.xd_wire.specs.declared.line.Line.{Line}
 use Rattle.xd_wire.specs.declared.line.Line.TheVariants as line
 use Rattle.xd_wire.specs.Names.{what_name}
 use Rattle.xd_wire.specs.Payloads.{ShowsPayload}
-use Rattle.xd_wire.specs.WireText.{value_line, fault_line, message_with, LineBy, IsLine, FaultBy, IsPayloadFault, IsTextFrom}
+use Rattle.xd_wire.specs.WireText.{line_start, value_line, fault_line, message_with, LineBy, IsLine, FaultBy, IsPayloadFault, IsTextFrom}
 use Rattle.xd_edge.specs.declared.refusals.OutOfMemory.{OutOfMemory}
 use Rattle.xd_wire.specs.declared.step.Step.{Step}
 use Rattle.xd_wire.specs.declared.step.Then.{Then}
 use Rattle.xd_wire.specs.declared.step.Then.TheVariants.{End}
 use Rattle.xd_wire.specs.Lines.{IsLineOf, IsStepAt, Texts, texts_at, texts_of, ended, Continues}
 
-pub value_is_line : (b : Bool) (m : MessageView) (text printed : List ℕ) → b ≡ true → ShowsPayload m.payload (Value text) → printed ≡ value_line m.kind m.channel (length m.payload) (encode_utf8_all text)
+pub value_is_line : (b : Bool) (m : MessageView) (before text printed : List ℕ) → b ≡ true → ShowsPayload before m.payload (Value text)
+    → encode_utf8_all before ≡ line_start m.kind m.channel (length m.payload) ++ (32 ∷ []) → printed ≡ encode_utf8_all text ++ (10 ∷ [])
     → LineBy b m printed × ((other : List ℕ) → LineBy b m other → other ≡ printed) × ((place : ℕ) (found : LoadWhat) → FaultBy b m place found → ⊥)
-value_is_line false m text printed t k e = absurd (cc)
-value_is_line true m text printed t k e =
-    let is : printed ≡ value_line m.kind m.channel (length m.payload) (encode_utf8_all (shown k.0)) = e ∙ ap (λ c. value_line m.kind m.channel (length m.payload) (encode_utf8_all c)) k.2 in
+value_is_line false m before text printed t k s e = absurd (cc)
+value_is_line true m before text printed t k s e =
+    let start : List ℕ = line_start m.kind m.channel (length m.payload) in
+    let value : List ℕ = encode_utf8_all (shown k.0) in
+    let is : printed ≡ value_line m.kind m.channel (length m.payload) value =
+    e ∙ ap (λ (x : List ℕ). x ++ (10 ∷ [])) (ap encode_utf8_all k.2 ∙ encodes-append before (shown k.0) ∙ ap (λ (x : List ℕ). x ++ value) s ∙ append_assoc start (32 ∷ []) value)
+    ∙ append_assoc start (32 ∷ value) (10 ∷ []) in
     ((k.0, k.1, is), λ other o. o.2 ∙ (ap (λ v. value_line m.kind m.channel (length m.payload) (encode_utf8_all (shown v))) (k.3 o.0 o.1) ∙ sym is), k.4)
 
-pub fault_is_fault : (b : Bool) (m : MessageView) (place : ℕ) (found : LoadWhat) → b ≡ true → ShowsPayload m.payload (Fault place found)
+pub fault_is_fault : (b : Bool) (m : MessageView) (before : List ℕ) (place : ℕ) (found : LoadWhat) → b ≡ true → ShowsPayload before m.payload (Fault place found)
     → FaultBy b m place found × ((other : List ℕ) → LineBy b m other → ⊥) × ((at : ℕ) (what : LoadWhat) → FaultBy b m at what → (at ≡ place) × (what ≡ found))
-fault_is_fault false m place found t k = absurd (cc)
-fault_is_fault true m place found t k = (k.0, λ other o. k.1 o.0 o.1, k.2)
+fault_is_fault false m before place found t k = absurd (cc)
+fault_is_fault true m before place found t k = (k.0, λ other o. k.1 o.0 o.1, k.2)
 
 -- a message and the line of it, and then the rest of the file
 pub line_continues : (bytes : List ℕ) (at next : ℕ) (h : Header) (payload printed : List ℕ) → payload ≡ take h.length (drop 9 (drop at bytes)) → length payload ≡ h.length → next ≡ at + (9 + h.length)

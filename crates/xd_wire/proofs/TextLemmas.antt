@@ -1,7 +1,6 @@
 -- A file of messages has one text.
-use Rattle.std.proofs.Common.{◌≡◌, ℕ, zero, suc, ◌+◌, ◌<◌, ◌⊎◌, inl, inr, Bool, true, false, List, [], ◌∷◌, ◌++◌, length, get_or, refl, sym, ap, subst, ◌∙◌, arith, append_assoc}
+use Rattle.std.proofs.Common.{◌≡◌, ℕ, zero, suc, ◌+◌, ◌⊎◌, inl, inr, Bool, true, false, List, [], ◌∷◌, ◌++◌, length, refl, sym, ap, subst, ◌∙◌, arith, append_assoc}
 use Rattle.std.specs.Prelude.{codes, encode_utf8_all}
-use Rattle.std.proofs.lemmas.List.{append-nil}
 use Rattle.xd_frame.specs.Message.{MessageView, header, frame, frames}
 use Rattle.xd_frame.specs.Stream.{AreBytes, messages, behind, rest, Rest, Clean, Unfinished, Refused}
 use Rattle.xd_value.specs.declared.fault.LoadWhat.{LoadWhat}

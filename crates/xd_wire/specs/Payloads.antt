@@ -1,5 +1,5 @@
 -- What a payload is shown as.
-use Rattle.std.specs.Prelude.{◌≡◌, ℕ, List, Result, Ok, Err}
+use Rattle.std.specs.Prelude.{◌≡◌, ℕ, List, ◌++◌, Result, Ok, Err}
 use Rattle.xd_edge.specs.declared.refusals.OutOfMemory.{OutOfMemory}
 use Rattle.xd_value.specs.declared.fault.LoadWhat.{LoadWhat}
 use Rattle.xd_value.specs.declared.fault.LoadFault.{LoadFault}
@@ -10,11 +10,11 @@ use Rattle.xd_value.specs.Show.{shown}
 use Rattle.xd_wire.specs.declared.payload.Shown.{Shown}
 use Rattle.xd_wire.specs.declared.payload.Shown.TheVariants.{Value, Fault}
 
--- the one value that the bytes are a payload of, as text, or their one first fault
-abbrev pub ShowsPayload : List ℕ → Shown → Type 0
-ShowsPayload bytes (Value text) =
-    (v : Tree) × IsPayload v bytes × (text ≡ shown v) × ((w : Tree) → IsPayload w bytes → w ≡ v) × ((at : ℕ) (found : LoadWhat) → FirstFault bytes at found → ⊥)
-ShowsPayload bytes (Fault place what) =
+-- the one value that the bytes are a payload of, as text behind this one, or their one first fault
+abbrev pub ShowsPayload : List ℕ → List ℕ → Shown → Type 0
+ShowsPayload before bytes (Value text) =
+    (v : Tree) × IsPayload v bytes × (text ≡ before ++ shown v) × ((w : Tree) → IsPayload w bytes → w ≡ v) × ((at : ℕ) (found : LoadWhat) → FirstFault bytes at found → ⊥)
+ShowsPayload before bytes (Fault place what) =
     FirstFault bytes place what × ((w : Tree) → IsPayload w bytes → ⊥) × ((at : ℕ) (found : LoadWhat) → FirstFault bytes at found → (at ≡ place) × (found ≡ what))
 
 -- a refusal of bytes as what they are shown as

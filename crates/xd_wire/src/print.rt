@@ -66,11 +66,13 @@ fn write_lines<O: Sink>(
     ensures later { O.faults out.old ≤ O.faults out.new }
 {
     let mut at = 0;
+    let mut room = String::new(alloc);
     loop {
-        let step = step_at(alloc, bytes, at)?;
+        let step = step_at(alloc, bytes, at, room)?;
         if write_all(out, step.line.as_str().as_bytes()).is_err() {
             return Ok(Err(Failed));
         }
+        room = step.line;
         match step.then {
             Then::At(next) => at = next,
             Then::End { faulty } => return Ok(Ok(faulty)),

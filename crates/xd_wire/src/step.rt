@@ -23,8 +23,9 @@ pub enum Then {
     End { faulty: bool },
 }
 
-/// The line of what stands at this place of the file. Behind the last message the line is empty.
-pub fn step_at(alloc: Global, bytes: &[u8], at: usize) -> Result<Step, OutOfMemory>
+/// The line of what stands at this place of the file. Behind the last message the line is empty. A message's line is
+/// made in the room of a string that is done with.
+pub fn step_at(alloc: Global, bytes: &[u8], at: usize, room: String) -> Result<Step, OutOfMemory>
     requires { at ≤ length bytes.now }
     ensures step { IfOk result (IsStepAt bytes.now at) }
     ensures ahead { IfOk result (λ step. IsAhead at (length bytes.now) step.then) }
@@ -37,7 +38,7 @@ pub fn step_at(alloc: Global, bytes: &[u8], at: usize) -> Result<Step, OutOfMemo
     };
     let start = at + HEADER_LENGTH;
     let next = start + header.length as usize;
-    match line_of(alloc, header, &bytes[start..next])? {
+    match line_of(alloc, header, &bytes[start..next], room)? {
         Line::Text(line) => Ok(Step {
             line,
             then: Then::At(next),

@@ -219,7 +219,7 @@ impl Side {
         if self.is_own(number) {
             return Ok(());
         }
-        match self.seen.insert(number) {
+        match self.seen.insert(self.parity, number) {
             Ok(_) => Ok(()),
             Err(_) => Err(SideFault::OutOfMemory),
         }
@@ -229,7 +229,7 @@ impl Side {
     fn opens(&self, number: u32) -> bool
         ensures { result ≡ new_at self.now number }
     {
-        !self.is_own(number) && !self.seen.contains(&number)
+        !self.is_own(number) && !self.seen.contains(number)
     }
 
     // The channels of a value open, and a number.
@@ -296,7 +296,7 @@ impl Side {
         {
             return Err(SideFault::OutOfMemory);
         }
-        match self.seen.insert(number) {
+        match self.seen.insert(self.parity, number) {
             Ok(_) => Ok(()),
             Err(_) => {
                 self.ends.remove(&number);

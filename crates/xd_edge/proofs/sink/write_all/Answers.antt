@@ -1,4 +1,4 @@
-use Rattle.std.proofs.Common.{◌≡◌, ◌+◌, ◌-◌, ◌++◌, length, take, drop, sym, ◌∙◌, ap, subst, List, ℕ, arith, length-drop, take-add, length-take}
+use Rattle.std.proofs.Common.{◌≡◌, ◌-◌, ◌++◌, length, take, drop, sym, ◌∙◌, ap, subst, List, ℕ, arith, length-drop, take-add}
 use Rattle.std.proofs.lemmas.List.{take_all}
 use Rattle.xd_edge.specs.Sink.{Took}
 use Rattle.xd_edge.proofs.SinkLemmas.{took_more}

@@ -1,4 +1,4 @@
-use Rattle.std.proofs.Common.{◌≡◌, List, ℕ, [], sym, subst}
+use Rattle.std.proofs.Common.{[], sym}
 use Rattle.std.proofs.lemmas.List.{append-nil}
 use Rattle.xd_wire.proofs.TextLemmas.{some_text, one_text}
 use Rattle.xd_wire.proofs.law.a_file_has_one_text.Goals as goal

@@ -1,0 +1,8 @@
+-- Which of the peer's numbers came.
+use Rattle.std.specs.Prelude.{ℕ, ◌/◌, Bool}
+use Rattle.xd_factory.specs.declared.seen.Seen.{Seen}
+use Rattle.xd_factory.specs.Runs.{has}
+
+-- the number came: of the numbers of one parity each has a place of its own
+abbrev pub was_seen : Seen → ℕ → Bool
+was_seen s c = has s.places (c / 2)

@@ -1,0 +1,17 @@
+pub mod Logic
+pub mod Counts
+pub mod Rota
+pub mod Places
+pub mod Crew
+pub mod Fits
+pub mod Placed
+pub mod CrewFits
+pub mod Turns
+pub mod LoadTurns
+pub mod Rule
+pub mod Inputs
+pub mod Outputs
+pub mod Runs
+pub mod LoadRule
+pub mod StealTurns
+pub mod Laws

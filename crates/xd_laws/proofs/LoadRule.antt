@@ -1,0 +1,69 @@
+-- Mode load keeps its rule.
+use Rattle.std.proofs.Common.{◌≡◌, true, refl, ap, sym, ◌∙◌, subst}
+use Rattle.xd_edge.specs.declared.mode.ModeKind.{ModeKind}
+use Rattle.xd_edge.specs.declared.mode.ModeKind.TheVariants.{Load}
+use Rattle.xd_ledger.specs.declared.entry.Entry.{Entry}
+use Rattle.xd_ledger.specs.declared.entry.Entry.TheVariants.{Ready, Collected, Done, Back, Finished, Refused, Down, NotStarted, Start, Run, RunAll, Steal, Shutdown, Kill, Over}
+use Rattle.xd_ledger.specs.Plan.{Plan}
+use Rattle.xd_ledger.specs.Turn.{Turn}
+use Rattle.xd_ledger.specs.Modes.{Call, turned}
+use Rattle.xd_ledger.specs.Modes.Call.{Share, Joined, TestDone, TestsBack, Died}
+use Rattle.xd_ledger.specs.Books.{marked}
+use Rattle.xd_ledger.specs.Workers.{made_collected}
+use Rattle.xd_ledger.specs.Collections.{unequal, listed, with_list}
+use Rattle.xd_ledger.specs.Sharing.{State, in_books}
+use Rattle.xd_ledger.specs.State.{moved}
+use Rattle.xd_ledger.specs.Outputs.{turn_of, acts_of}
+use Rattle.xd_ledger.specs.Proper.{may_follow}
+use Rattle.xd_laws.proofs.Logic.{differ}
+use Rattle.xd_laws.proofs.Turns.{Tidy, Good, IsPlain, good-first}
+use Rattle.xd_laws.proofs.LoadTurns.{good-refill, good-refill_all, good-share}
+use Rattle.xd_laws.proofs.Inputs.{collecting-keeps}
+use Rattle.xd_laws.proofs.Rule.{CallFits, Turned, Rule, turned-good}
+
+-- the mode is this one
+abbrev pub InMode : ModeKind → State → Type 0
+InMode k s = s.plan.mode ≡ k
+
+pub mode-input : (k : ModeKind) (s : State) (e : Entry) → may_follow s e ≡ true → InMode k s → InMode k (moved s e)
+mode-input k s (Ready w) h m = m
+mode-input k s (Collected w g) h m = collecting-keeps (InMode k) (in_books (λ b. marked (made_collected w) (with_list w g b)) s) w (unequal w g (listed w s.books)) m m m m
+mode-input k s (Done w i u t o) h m = m
+mode-input k s (Back w i) h m = m
+mode-input k s (Finished w) h m = m
+mode-input k s (Refused w t) h m = m
+mode-input k s (Down w r o) h m = m
+mode-input k s (NotStarted w) h m = m
+mode-input k s (Start w slot) h m = absurd (differ h)
+mode-input k s (Run w is) h m = absurd (differ h)
+mode-input k s (RunAll w) h m = absurd (differ h)
+mode-input k s (Steal w is) h m = absurd (differ h)
+mode-input k s (Shutdown w) h m = absurd (differ h)
+mode-input k s (Kill w) h m = absurd (differ h)
+mode-input k s (Over how) h m = absurd (differ h)
+
+-- the outputs of a mode are those of its own rule
+pub turned-in : (k : ModeKind) (X : State → Type 0) (s : State) (c : Call) → InMode k s → Turned X s (turned k c (turn_of s)).acts → Turned X s (acts_of c s)
+turned-in k X s c m t = subst (λ (q : ModeKind). Turned X s (turned q c (turn_of s)).acts) (sym m) t
+
+pub turned-mode : (k : ModeKind) (s : State) (t : Turn) → InMode k s → Good s t → Turned (InMode k) s t.acts
+turned-mode k s t m g = turned-good (InMode k) s t g (ap (λ (p : Plan). p.mode) g.plan ∙ g.mode ∙ m)
+
+load_plain : (s : State) → InMode Load s → IsPlain s.plan.mode
+load_plain s m = subst IsPlain (sym m) (record { each = refl; scope = refl })
+
+load-good : (s : State) (c : Call) → Tidy s → s.books.shared ≡ true → InMode Load s → CallFits s c → Good s (turned Load c (turn_of s))
+load-good s (Share slots) d h m f = good-share s (turn_of s) (load_plain s m) (good-first s d h)
+load-good s (Joined w slot) d h m f = good-refill_all s (turn_of s) (load_plain s m) (good-first s d h)
+load-good s (TestDone w ms) d h m f = good-refill s ms w (turn_of s) (load_plain s m) f (good-first s d h)
+load-good s TestsBack d h m f = good-first s d h
+load-good s Died d h m f = good-refill_all s (turn_of s) (load_plain s m) (good-first s d h)
+
+pub load_rule : Rule (InMode Load)
+load_rule = record {
+  input = λ s e h d m. mode-input Load s e h m;
+  start = λ s w slot m. m;
+  shutdown = λ s w p m. m;
+  settled = λ s m. m;
+  turns = λ s c d h m f. turned-in Load (InMode Load) s c m (turned-mode Load s (turned Load c (turn_of s)) m (load-good s c d h m f));
+}

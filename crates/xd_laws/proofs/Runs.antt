@@ -1,0 +1,122 @@
+-- Whole runs, in a mode that keeps its rule.
+use Rattle.std.proofs.Common.{◌≡◌, ℕ, zero, suc, ◌+◌, ◌≤◌, List, [], ◌∷◌, ◌++◌, length, true, refl, ap, sym, ◌∙◌, subst, arith, length-append, not, ◌&&◌, ◌||◌, inl, inr}
+use Rattle.xd_ledger.specs.declared.settings.Settings.{Settings}
+use Rattle.xd_ledger.specs.declared.member.Member.{Member}
+use Rattle.xd_ledger.specs.declared.entry.Entry.{Entry}
+use Rattle.xd_ledger.specs.declared.entry.Entry.TheVariants.{Start}
+use Rattle.xd_ledger.specs.Workers.{started}
+use Rattle.xd_ledger.specs.Stops.{is_stopped}
+use Rattle.xd_ledger.specs.Sharing.{State}
+use Rattle.xd_ledger.specs.State.{settles, is_finished, moved, all_moved, settled, no_one}
+use Rattle.xd_ledger.specs.Outputs.{outputs, stepped}
+use Rattle.xd_ledger.specs.Histories.{starts_from, first_starts, begun, stepped_all}
+use Rattle.xd_ledger.specs.Proper.{may_follow, all_may_follow}
+use Rattle.xd_ledger.specs.Orderly.{is_orderly, all_orderly, is_orderly_run}
+use Rattle.xd_laws.proofs.Logic.{split-or, differ, split-and, and}
+use Rattle.xd_laws.proofs.Crew.{has-member, none-next}
+use Rattle.xd_laws.proofs.Fits.{fits-start}
+use Rattle.xd_laws.proofs.Placed.{Placed, placed-output, placed-input}
+use Rattle.xd_laws.proofs.CrewFits.{CrewFits, crew-start}
+use Rattle.xd_laws.proofs.Turns.{Calm, Tidy, all_moved-first}
+use Rattle.xd_laws.proofs.Rule.{Rule, calm-start}
+use Rattle.xd_laws.proofs.Outputs.{outputs-fit}
+
+-- the state is tidy, and this holds of it
+pub record Holds (X : State → Type 0) (s : State) : Type 0 where
+  pub tidy : Tidy s
+  pub also : X s
+
+calm-settled : (s : State) → Calm s → Calm (settled s)
+calm-settled s c = record {
+  late = λ h. elim (split-or s.books.shutting (settles s) h) [
+    | inl k ↦ c.late k
+    | inr k ↦ (split-and (not (is_stopped s.books)) s.books.shared (split-and (not (is_stopped s.books) && s.books.shared) (is_finished s.books.table s.plan) k).0).1
+  ];
+  unshut = c.unshut;
+}
+
+holds-settled : (X : State → Type 0) → Rule X → (s : State) → Tidy s → X s → Holds X (settled s)
+holds-settled X rule s d x = record {
+  tidy = record { placed = d.placed; crew = d.crew; calm = calm-settled s d.calm };
+  also = rule.settled s x;
+}
+
+-- the first starts
+
+placed-none : (settings : Settings) → Placed (no_one settings)
+placed-none settings = record {
+  fits = record { seats = λ w. omega arith; active = λ w h. absurd (differ h); ready = λ w h. absurd (differ h); collected = λ w h. absurd (differ h); marks = λ w h. refl };
+  whole = λ x. refl;
+  steals = tt;
+}
+
+crew-none : CrewFits [] 0
+crew-none = record { numbered = refl; shut_ready = λ v h. absurd (differ h); apart = λ v w a b e. absurd (differ a); below = λ v h. absurd (differ h) }
+
+calm-none : (settings : Settings) → Calm (no_one settings)
+calm-none settings = record { late = λ h. absurd (differ h); unshut = λ a b v. refl }
+
+crew-wider : (ms : List Member) (n k : ℕ) → n ≤ k → CrewFits ms n → CrewFits ms k
+crew-wider ms n k h c = record { numbered = c.numbered; shut_ready = c.shut_ready; apart = c.apart; below = λ v m. (let b = c.below v m in omega (arith, h, b)) }
+
+-- the slot of the next number is free where each slot is below it
+crew-next : (ms : List Member) (w : ℕ) → w ≡ length ms → CrewFits ms w → CrewFits (ms ++ started w w ∷ []) (w + 1)
+crew-next ms w e c = subst (λ (v : ℕ). CrewFits ms v → CrewFits (ms ++ started v v ∷ []) (v + 1)) (sym e)
+    (λ k. crew-start ms (length ms + 1) (length ms) (crew-wider ms (length ms) (length ms + 1) (omega arith) k)
+    (λ v a q. (let b = k.below v (has-member v (λ m. m.active) ms a) in omega (arith, b, q))) (omega arith)) c
+
+orderly-start : (s : State) (w : ℕ) → w ≡ length s.books.crew → CrewFits s.books.crew w → is_orderly s (Start w w) ≡ true
+orderly-start s w e c = subst (λ (v : ℕ). is_orderly s (Start v w) ≡ true) (sym e) (rw (none-next s.books.crew c.numbered))
+
+starts-hold : (X : State → Type 0) → Rule X → (s : State) (w n : ℕ) → w ≡ length s.books.crew → w + n ≡ s.books.settings.workers → Placed s → CrewFits s.books.crew w → Calm s → X s
+    → Holds X (all_moved s (starts_from w n))
+starts-hold X rule s w zero e l p c k x = record { tidy = record { placed = p; crew = subst (λ (k : ℕ). CrewFits s.books.crew k) (omega (arith, l)) c; calm = k }; also = x }
+starts-hold X rule s w (suc n) e l p c k x =
+    starts-hold X rule (moved s (Start w w)) (w + 1) n (ap (λ (k : ℕ). k + 1) e ∙ sym (length-append s.books.crew (started w w ∷ []))) (omega (arith, l))
+    (placed-output s (Start w w) (orderly-start s w e c) p) (crew-next s.books.crew w e c) (calm-start s w w k) (rule.start s w w x)
+
+pub begun-holds : (X : State → Type 0) → Rule X → (settings : Settings) → X (no_one settings) → Holds X (begun settings)
+begun-holds X rule settings x =
+    let h = starts-hold X rule (no_one settings) 0 settings.workers refl (omega arith) (placed-none settings) crew-none (calm-none settings) x in
+    holds-settled X rule (all_moved (no_one settings) (first_starts settings)) h.tidy h.also
+
+-- the inputs
+
+stepped-holds : (X : State → Type 0) → Rule X → (s : State) (e : Entry) → may_follow s e ≡ true → Holds X s → Holds X (stepped s e)
+stepped-holds X rule s e h k =
+    let f = outputs-fit X rule s e h k.tidy k.also in
+    holds-settled X rule (all_moved (moved s e) (outputs s e)) f.tidy f.also
+
+pub all-hold : (X : State → Type 0) → Rule X → (s : State) (es : List Entry) → all_may_follow s es ≡ true → Holds X s → Holds X (stepped_all s es)
+all-hold X rule s [] h k = k
+all-hold X rule s (e ∷ es) h k =
+    let p = split-and (may_follow s e) (all_may_follow (stepped s e) es) h in
+    all-hold X rule (stepped s e) es p.1 (stepped-holds X rule s e p.0 k)
+
+pub all-orderly : (X : State → Type 0) → Rule X → (s : State) (es : List Entry) → all_may_follow s es ≡ true → Holds X s → is_orderly_run s es ≡ true
+all-orderly X rule s [] h k = refl
+all-orderly X rule s (e ∷ es) h k =
+    let p = split-and (may_follow s e) (all_may_follow (stepped s e) es) h in
+    and (outputs-fit X rule s e p.0 k.tidy k.also).orderly (all-orderly X rule (stepped s e) es p.1 (stepped-holds X rule s e p.0 k))
+
+-- the places alone, where the outputs are in order
+
+placed-outputs : (s : State) (es : List Entry) → all_orderly s es ≡ true → Placed s → Placed (all_moved s es)
+placed-outputs s [] h k = k
+placed-outputs s (e ∷ es) h k =
+    let p = split-and (is_orderly s e) (all_orderly (moved s e) es) h in
+    subst Placed (sym (all_moved-first s e es p.0)) (placed-outputs (moved s e) es p.1 (placed-output s e p.0 k))
+
+pub placed-run : (s : State) (es : List Entry) → all_may_follow s es ≡ true → is_orderly_run s es ≡ true → Placed s → Placed (stepped_all s es)
+placed-run s [] h o k = k
+placed-run s (e ∷ es) h o k =
+    let p = split-and (may_follow s e) (all_may_follow (stepped s e) es) h in
+    let q = split-and (all_orderly (moved s e) (outputs s e)) (is_orderly_run (stepped s e) es) o in
+    placed-run (stepped s e) es p.1 q.1 (placed-outputs (moved s e) (outputs s e) q.0 (placed-input s e p.0 k))
+
+placed-starts : (s : State) (w n : ℕ) → Placed s → Placed (all_moved s (starts_from w n))
+placed-starts s w zero k = k
+placed-starts s w (suc n) k = placed-starts (moved s (Start w w)) (w + 1) n (record { fits = fits-start s.books.table s.books.crew w w k.fits; whole = k.whole; steals = k.steals })
+
+pub placed-begun : (settings : Settings) → Placed (begun settings)
+placed-begun settings = placed-starts (no_one settings) 0 settings.workers (placed-none settings)
