@@ -46,7 +46,8 @@ fn call_by<'a>(name: &'a Value, kwargs: &'a Value) -> Option<Call<'a>>
     }
 }
 
-fn have_text_keys(kwargs: &[(Value, Value)]) -> bool
+/// Each key is a text, as the names of keyword arguments are.
+pub fn have_text_keys(kwargs: &[(Value, Value)]) -> bool
     ensures { result ≡ has_text_keys (pair_views kwargs.now) }
 {
     for item in kwargs {

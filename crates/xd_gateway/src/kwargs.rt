@@ -12,7 +12,7 @@ use xd_edge::{Indices, OutOfMemory, Text, Texts};
 use xd_value::Value;
 
 /// What stands under a key.
-pub(crate) fn value_at<'a>(kwargs: &'a [(Value, Value)], key: &str) -> Option<&'a Value>
+pub fn value_at<'a>(kwargs: &'a [(Value, Value)], key: &str) -> Option<&'a Value>
     requires { IsWord key.now }
     ensures { option_map (λ v. view v.now) result ≡ value_at key.now (pair_views kwargs.now) }
 {
@@ -46,7 +46,7 @@ pub(crate) fn integer_at(kwargs: &[(Value, Value)], key: &str) -> Option<i128>
 }
 
 /// The text under a key.
-pub(crate) fn text_at<'a>(kwargs: &'a [(Value, Value)], key: &str) -> Option<&'a Text>
+pub fn text_at<'a>(kwargs: &'a [(Value, Value)], key: &str) -> Option<&'a Text>
     requires { IsWord key.now }
     ensures { option_map (λ t. t.now) result ≡ option_and_then text_of (value_at key.now (pair_views kwargs.now)) }
 {

@@ -10,7 +10,7 @@ use xd_edge::{OutOfMemory, Text};
 use xd_value::Value;
 
 /// The text is this word.
-pub(crate) fn is_word(text: &Text, word: &str) -> bool
+pub fn is_word(text: &Text, word: &str) -> bool
     requires { IsWord word.now }
     ensures { result ≡ bytes_eq text.now word.now }
 {
@@ -18,7 +18,7 @@ pub(crate) fn is_word(text: &Text, word: &str) -> bool
 }
 
 /// The word as a value.
-pub(crate) fn word_value(alloc: Global, word: &str) -> Result<Value, OutOfMemory>
+pub fn word_value(alloc: Global, word: &str) -> Result<Value, OutOfMemory>
     requires { IsWord word.now }
     ensures { IfOk result (λ v. view v ≡ text word.now) }
 {

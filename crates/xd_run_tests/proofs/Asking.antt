@@ -1,20 +1,19 @@
 -- Tests that a steal asks for.
-use Rattle.std.proofs.Common.{zero, suc, ◌≡◌, ◌≢◌, ℕ, ◌+◌, ◌<◌, ◌≤◌, List, [], ◌∷◌, ◌++◌, length, take, drop, get_or, Bool, true, false, ◌||◌, ◌&&◌, Option, Some, None, refl, ap, sym, subst, ◌∙◌, append_assoc, arith, inl, inr, get_or-set_same, get_or-set_other}
-use Rattle.std.specs.Prelude.{◌==◌, ◌⊎◌, option_to_list, map, nat_lt, not, slice_get, slice_set, slice_index_or, if◌then◌else◌}
-use borrow.Author.Tests.{eqb-true, eqb-false, ne_eqb, eq-eqb}
+use Rattle.std.proofs.Common.{◌≡◌, ◌≢◌, ℕ, ◌<◌, ◌≤◌, List, [], ◌∷◌, ◌++◌, length, get_or, Bool, true, false, ◌||◌, ◌&&◌, Some, None, refl, ap, sym, subst, ◌∙◌, append_assoc, arith, inl, inr, get_or-set_same, get_or-set_other}
+use Rattle.std.specs.Prelude.{◌==◌, ◌⊎◌, nat_lt, not, slice_get, slice_set, slice_index_or, if◌then◌else◌}
+use borrow.Author.Tests.{eqb-true, eqb-false}
 use Rattle.std.proofs.Math.ListN.{length-set}
 use Rattle.std.proofs.lemmas.Option.{slice_get_cases}
 use Rattle.std.proofs.lemmas.Bool.{lt-ltb, ltb-true}
 use Rattle.std.proofs.lemmas.List.{get_or_default}
 use Rattle.std.proofs.Math.ListN.{get_or-eq_default}
 use Rattle.std.proofs.lemmas.Grind.{common_steps}
-use Rattle.std.proofs.lemmas.Bool.Decides.{nat_tests}
 use Rattle.xd_run_tests.specs.declared.place.Place.{Place}
 use Rattle.xd_run_tests.specs.declared.place.Place.TheVariants.{Test, Mark}
 use Rattle.xd_run_tests.specs.declared.place.Standing.{Standing}
-use Rattle.xd_run_tests.specs.declared.place.Standing.TheVariants.{Free, Queued, Passed}
+use Rattle.xd_run_tests.specs.declared.place.Standing.TheVariants.{Free}
 use Rattle.xd_run_tests.specs.Line.{has_test, kept, taken, is_asked, is_among, can_ask, all_queued}
-use Rattle.xd_run_tests.specs.Stands.{once, StandsAt, standing_of, standing_by, TakenOut, freed_at, AreMarked, Asks, all_queued_at, queued_at, is_queued, is_true}
+use Rattle.xd_run_tests.specs.Stands.{once, StandsAt, standing_by, TakenOut, freed_at, AreMarked, all_queued_at, queued_at, is_queued, is_true}
 use Rattle.xd_run_tests.proofs.Cut.{has_test-append}
 use Rattle.xd_run_tests.proofs.Once.{once_apart}
 

@@ -1,13 +1,13 @@
 -- How the cut of a line changes.
-use Rattle.std.proofs.Common.{◌≡◌, ℕ, ◌+◌, ◌-◌, ◌<◌, ◌≤◌, ◌≢◌, List, [], ◌∷◌, ◌++◌, length, take, drop, get_or, Bool, true, false, cond, ◌||◌, ◌&&◌, Option, Some, None, refl, ap, sym, subst, ◌∙◌, append_assoc, arith, length-append, add-zero, get_or-set_same, get_or-set_other}
-use Rattle.std.specs.Prelude.{◌==◌, option_to_list, slice_index_or, slice_set, if◌then◌else◌, map}
+use Rattle.std.proofs.Common.{◌≡◌, ℕ, ◌<◌, ◌≢◌, List, [], ◌∷◌, ◌++◌, length, drop, get_or, Bool, true, false, ◌||◌, Option, Some, None, refl, ap, sym, subst, ◌∙◌, append_assoc, arith, get_or-set_same, get_or-set_other}
+use Rattle.std.specs.Prelude.{◌==◌, option_to_list, slice_index_or, slice_set}
 use borrow.Author.Tests.{eqb-true, eqb-false}
 use Rattle.std.proofs.Math.ListN.{length-set}
 use Rattle.std.proofs.lemmas.Grind.{common_steps}
 use Rattle.xd_run_tests.specs.declared.place.Place.{Place}
 use Rattle.xd_run_tests.specs.declared.place.Place.TheVariants.{Test, Mark}
 use Rattle.xd_run_tests.specs.declared.place.Standing.{Standing}
-use Rattle.xd_run_tests.specs.declared.place.Standing.TheVariants.{Free, Queued, Passed}
+use Rattle.xd_run_tests.specs.declared.place.Standing.TheVariants.{Free, Passed}
 use Rattle.xd_run_tests.specs.declared.run_tests.Running.{Running}
 use Rattle.xd_run_tests.specs.Line.{has_test}
 use Rattle.xd_run_tests.specs.Stands.{StandsAt, IsCut, standing_of, standing_by, passing, passing_some, running_places}

@@ -1,23 +1,22 @@
 -- The collection, and the end of a test.
-use Rattle.std.proofs.Common.{◌≡◌, ℕ, ◌+◌, ◌*◌, ◌<◌, ◌≤◌, List, [], ◌∷◌, ◌++◌, length, take, drop, Bool, true, false, ◌||◌, ◌&&◌, Option, Some, None, refl, ap, sym, subst, ◌∙◌, append_assoc, arith, length-append}
-use Rattle.std.specs.Prelude.{option_to_list, slice_index_or, replicate, is_some, if◌then◌else◌}
+use Rattle.std.proofs.Common.{◌≡◌, ℕ, ◌+◌, ◌<◌, List, [], ◌∷◌, ◌++◌, length, Option, Some, None, refl, ap, sym, subst, ◌∙◌, append_assoc, arith}
+use Rattle.std.specs.Prelude.{option_to_list, slice_index_or, replicate, is_some}
 use Rattle.std.proofs.Math.ListN.{get_or-replicate}
 use Rattle.std.proofs.lemmas.Grind.{common_steps}
 use Rattle.xd_ledger.specs.declared.entry.Outcome.{Outcome}
 use Rattle.xd_ledger.specs.declared.news.What.TheVariants.{Done}
 use Rattle.xd_run_tests.specs.declared.place.Place.{Place}
-use Rattle.xd_run_tests.specs.declared.place.Place.TheVariants.{Test, Mark}
+use Rattle.xd_run_tests.specs.declared.place.Place.TheVariants.{Test}
 use Rattle.xd_run_tests.specs.declared.place.Standing.{Standing}
 use Rattle.xd_run_tests.specs.declared.place.Standing.TheVariants.{Free}
 use Rattle.xd_run_tests.specs.declared.ask.Ask.{Ask}
 use Rattle.xd_run_tests.specs.declared.ask.Ask.TheVariants.{Tell, CloseLog}
 use Rattle.xd_run_tests.specs.declared.run_tests.Running.{Running}
 use Rattle.xd_run_tests.specs.declared.run_tests.RunTests.{RunTests}
-use Rattle.xd_run_tests.specs.declared.ask.Acts.{Acts}
 use Rattle.xd_run_tests.specs.declared.phase.Phase.TheVariants.{Serving}
 use Rattle.xd_run_tests.specs.Line.{Call, log_of}
-use Rattle.xd_run_tests.specs.Turns.{Turn, opened, without_run, told_done}
-use Rattle.xd_run_tests.specs.Stands.{IsCut, IsCall, IsHeld, IsLog, Moves, HasActed, StandsAt, running_places, test_of}
+use Rattle.xd_run_tests.specs.Turns.{opened, without_run}
+use Rattle.xd_run_tests.specs.Stands.{IsCut, IsCall, IsLog, StandsAt, test_of}
 use Rattle.xd_run_tests.proofs.Moves.{cut_at}
 
 free_all : (size : ℕ) (st : List Standing) → st ≡ replicate size Free → StandsAt st [] []

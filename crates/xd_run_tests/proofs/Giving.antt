@@ -1,20 +1,20 @@
 -- Tests that are put behind the queue.
-use Rattle.std.proofs.Common.{◌≡◌, ℕ, ◌+◌, ◌*◌, ◌-◌, ◌<◌, ◌≤◌, ◌≢◌, List, [], ◌∷◌, ◌++◌, length, take, drop, get_or, Bool, true, false, cond, ◌||◌, ◌&&◌, Option, Some, None, refl, ap, sym, subst, ◌∙◌, append_assoc, arith, get_or-set_same, get_or-set_other}
-use Rattle.std.specs.Prelude.{◌==◌, option_to_list, slice_index_or, slice_set, if◌then◌else◌, map, is_some, nat_lt, not}
+use Rattle.std.proofs.Common.{◌≡◌, ℕ, ◌+◌, ◌<◌, ◌≤◌, ◌≢◌, List, [], ◌∷◌, ◌++◌, length, take, drop, get_or, Bool, true, false, ◌||◌, ◌&&◌, Some, None, refl, ap, sym, subst, ◌∙◌, append_assoc, arith, get_or-set_same, get_or-set_other}
+use Rattle.std.specs.Prelude.{◌==◌, slice_index_or, slice_set, map, nat_lt, not}
 use borrow.Author.Tests.{eqb-true, eqb-false}
 use Rattle.std.proofs.Math.ListN.{length-set}
 use Rattle.std.proofs.lemmas.Bool.Decides.{nat_tests}
 use Rattle.std.proofs.lemmas.Grind.{common_steps}
 use Rattle.std.proofs.lemmas.List.{take_more, get_or_default}
 use Rattle.xd_run_tests.specs.declared.place.Place.{Place}
-use Rattle.xd_run_tests.specs.declared.place.Place.TheVariants.{Test, Mark}
+use Rattle.xd_run_tests.specs.declared.place.Place.TheVariants.{Test}
 use Rattle.xd_run_tests.specs.declared.place.Standing.{Standing}
 use Rattle.xd_run_tests.specs.declared.place.Standing.TheVariants.{Free, Queued, Passed}
 use Rattle.xd_run_tests.specs.Line.{has_test, can_give}
 use Rattle.xd_run_tests.specs.Stands.{StandsAt, standing_of, standing_by, Appends, free_at, is_free}
 use Rattle.std.proofs.lemmas.Option.{slice_get_cases}
-use Rattle.std.proofs.lemmas.Bool.{lt-ltb, ltb-false}
-use Rattle.std.specs.Prelude.{◌⊎◌, slice_get, nat_le}
+use Rattle.std.proofs.lemmas.Bool.{lt-ltb}
+use Rattle.std.specs.Prelude.{◌⊎◌, slice_get}
 use Rattle.std.proofs.Common.{inl, inr}
 use Rattle.xd_run_tests.proofs.Cut.{has_test-append}
 

@@ -1,12 +1,10 @@
 -- How the parts stand for a call behind a move.
-use Rattle.std.proofs.Common.{◌≡◌, ℕ, ◌+◌, ◌*◌, ◌-◌, ◌<◌, ◌≤◌, ◌≢◌, List, [], ◌∷◌, ◌++◌, length, take, drop, get_or, Bool, true, false, cond, ◌||◌, ◌&&◌, Option, Some, None, refl, ap, sym, subst, ◌∙◌, append_assoc, arith}
-use Rattle.std.specs.Prelude.{◌==◌, option_to_list, slice_index_or, slice_set, if◌then◌else◌, map, is_some, not}
+use Rattle.std.proofs.Common.{◌≡◌, ℕ, ◌+◌, ◌≤◌, List, [], ◌∷◌, ◌++◌, length, drop, Bool, true, false, ◌||◌, ◌&&◌, Option, Some, None, refl, ap, sym, subst, ◌∙◌, append_assoc, arith}
+use Rattle.std.specs.Prelude.{option_to_list, if◌then◌else◌, map, is_some, not}
 use Rattle.std.proofs.Math.ListN.{length-set}
-use Rattle.std.proofs.lemmas.Grind.{common_steps}
 use Rattle.xd_run_tests.specs.declared.place.Place.{Place}
 use Rattle.xd_run_tests.specs.declared.place.Place.TheVariants.{Test, Mark}
 use Rattle.xd_run_tests.specs.declared.place.Standing.{Standing}
-use Rattle.xd_run_tests.specs.declared.phase.Phase.{Phase}
 use Rattle.xd_run_tests.specs.declared.phase.Phase.TheVariants.{Serving}
 use Rattle.xd_run_tests.specs.declared.run_tests.Running.{Running}
 use Rattle.xd_run_tests.specs.declared.run_tests.RunTests.{RunTests}
@@ -15,10 +13,10 @@ use Rattle.std.proofs.lemmas.Bool.{le-leb}
 use Rattle.xd_ledger.specs.declared.news.What.TheVariants.{LogStart}
 use Rattle.xd_run_tests.specs.declared.ask.Ask.{Ask}
 use Rattle.xd_run_tests.specs.declared.ask.Ask.TheVariants.{Tell}
-use Rattle.xd_run_tests.specs.Line.{Call, has_test, left, log_of, running_test, head_test, can_give}
+use Rattle.xd_run_tests.specs.Line.{Call, has_test, left, log_of, head_test, can_give}
 use Rattle.xd_run_tests.specs.Turns.{Turn, moved_on, started, has_log, asking, over, too_many_channels}
-use Rattle.xd_run_tests.specs.Stands.{StandsAt, IsCut, IsCall, IsHeld, IsLog, Stands, HasActed, Moves, Holds, Appends, standing_of, standing_by, once, passing, passing_some, running_places, test_of}
-use Rattle.xd_run_tests.proofs.Once.{once_given, once_mark}
+use Rattle.xd_run_tests.specs.Stands.{StandsAt, IsCut, IsCall, IsHeld, IsLog, Stands, HasActed, Appends, standing_by, once, passing_some, running_places, test_of}
+use Rattle.xd_run_tests.proofs.Once.{once_given}
 use Rattle.xd_run_tests.proofs.Cut.{cut_next, cut_start, cut_left, has_test-append}
 
 pub length-passing : (stands : List Standing) (next : Option Place) → length (passing_some stands next) ≡ length stands

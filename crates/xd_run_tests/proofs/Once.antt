@@ -1,12 +1,11 @@
 -- No test stands twice in a line.
-use Rattle.std.proofs.Common.{◌≡◌, ℕ, ◌<◌, List, [], ◌∷◌, ◌++◌, length, Bool, true, false, ◌||◌, ◌&&◌, refl, ap, sym, subst, ◌∙◌, append_assoc, arith}
+use Rattle.std.proofs.Common.{◌≡◌, ℕ, List, [], ◌∷◌, ◌++◌, Bool, true, false, ◌||◌, ◌&&◌, refl, ap, sym, subst, ◌∙◌, append_assoc, arith}
 use Rattle.std.specs.Prelude.{◌==◌, map, nat_lt, not, if◌then◌else◌}
-use borrow.Author.Tests.{eqb-true, eqb-false, ne_eqb, eq-eqb}
+use borrow.Author.Tests.{eqb-true, eqb-false, ne_eqb}
 use Rattle.std.proofs.lemmas.Grind.{common_steps}
-use Rattle.std.proofs.lemmas.Bool.Decides.{nat_tests}
 use Rattle.xd_run_tests.specs.declared.place.Place.{Place}
 use Rattle.xd_run_tests.specs.declared.place.Place.TheVariants.{Test, Mark}
-use Rattle.xd_run_tests.specs.Line.{has_test, can_give, kept, is_asked, is_among}
+use Rattle.xd_run_tests.specs.Line.{has_test, can_give, kept, is_among}
 use Rattle.xd_run_tests.specs.Stands.{once}
 use Rattle.xd_run_tests.proofs.Cut.{has_test-append}
 

@@ -1,10 +1,10 @@
 -- What a steal leaves of a call.
-use Rattle.std.proofs.Common.{◌≡◌, ℕ, ◌+◌, ◌<◌, ◌≤◌, List, [], ◌∷◌, ◌++◌, length, take, drop, Bool, true, false, ◌||◌, ◌&&◌, Option, Some, None, refl, ap, sym, subst, ◌∙◌, append_assoc, arith, length-append}
+use Rattle.std.proofs.Common.{◌≡◌, ℕ, ◌+◌, ◌≤◌, List, [], ◌∷◌, ◌++◌, length, take, drop, Bool, true, false, Option, Some, None, refl, ap, sym, subst, ◌∙◌, arith}
 use Rattle.std.specs.Prelude.{option_to_list, is_some, if◌then◌else◌}
 use Rattle.std.proofs.Common.{Vec, Global}
 use Rattle.std.proofs.lemmas.Grind.{common_steps}
 use Rattle.xd_run_tests.specs.declared.place.Place.{Place}
-use Rattle.xd_run_tests.specs.declared.place.Place.TheVariants.{Test, Mark}
+use Rattle.xd_run_tests.specs.declared.place.Place.TheVariants.{Test}
 use Rattle.xd_run_tests.specs.declared.place.Standing.{Standing}
 use Rattle.xd_run_tests.specs.declared.run_tests.Running.{Running}
 use Rattle.xd_run_tests.specs.declared.run_tests.RunTests.{RunTests}
@@ -15,10 +15,10 @@ use Rattle.xd_ledger.specs.declared.news.What.TheVariants.{Back}
 use Rattle.xd_run_tests.specs.declared.ask.Ask.{Ask}
 use Rattle.xd_run_tests.specs.declared.ask.Ask.TheVariants.{Tell}
 use Rattle.xd_run_tests.specs.declared.run_tests.steal.Asked.{Asked}
-use Rattle.xd_run_tests.specs.declared.run_tests.steal.Asked.TheVariants.{Bad, Missing, Marked}
-use Rattle.xd_run_tests.specs.Line.{Call, front, queue, passed, kept, taken, all_queued, can_ask}
+use Rattle.xd_run_tests.specs.declared.run_tests.steal.Asked.TheVariants.{Missing, Marked}
+use Rattle.xd_run_tests.specs.Line.{Call, front, queue, kept, taken, all_queued, can_ask}
 use Rattle.xd_run_tests.specs.Turns.{Turn, stolen_if, asking}
-use Rattle.xd_run_tests.specs.Stands.{AreMarked, once, StandsAt, IsCut, IsCall, IsReady, TakenOut, Asks, IsAsked, all_queued_at, running_places, test_of}
+use Rattle.xd_run_tests.specs.Stands.{AreMarked, once, IsCut, IsCall, IsReady, TakenOut, Asks, IsAsked, all_queued_at, running_places, test_of}
 use Rattle.xd_run_tests.proofs.Cut.{cut_left}
 use Rattle.xd_run_tests.proofs.Once.{once_kept}
 use Rattle.xd_run_tests.proofs.Moves.{cut_at, held_parts, same_next, test_from_left}

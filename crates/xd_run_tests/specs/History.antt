@@ -1,9 +1,9 @@
 -- What a list of inputs makes the function do. The last of them stands first.
-use Rattle.std.specs.Prelude.{ℕ, List, [], ◌∷◌, ◌++◌, Bool, option_to_list}
+use Rattle.std.specs.Prelude.{◌≡◌, ◌&&◌, not, true, ℕ, List, [], ◌∷◌, ◌++◌, Bool, option_to_list}
 use Rattle.xd_run_tests.specs.declared.ask.Ask.{Ask}
 use Rattle.xd_run_tests.specs.declared.input.Input.{Input}
 use Rattle.xd_run_tests.specs.declared.run_tests.RunTests.{RunTests}
-use Rattle.xd_run_tests.specs.Line.{Call, called}
+use Rattle.xd_run_tests.specs.Line.{Call, called, is_among}
 use Rattle.xd_run_tests.specs.Turns.{Turn, turn_of, answered}
 use Rattle.xd_run_tests.specs.Stands.{IsCall, IsReady}
 
@@ -30,6 +30,15 @@ asked (g ∷ h) = asked h ++ (turn_after h g).asks
 abbrev pub started_tests : List Given → List ℕ
 started_tests [] = []
 started_tests (g ∷ h) = started_tests h ++ option_to_list (turn_after h g).run
+
+-- no number stands twice
+abbrev pub distinct : List ℕ → Bool
+distinct [] = true
+distinct (n ∷ ns) = not (is_among n ns) && distinct ns
+
+-- Whatever comes, no test is started twice.
+abbrev pub StartsOnce : Type 0
+StartsOnce = (h : List Given) → distinct (started_tests h) ≡ true
 
 -- this call of the function is behind these inputs
 pub record StandsFor (s : RunTests) (h : List Given) : Type 0 where

@@ -1,18 +1,16 @@
 -- How the parts of a `RunTests` stand for a call of the function.
 use Rattle.std.specs.Prelude.{◌≡◌, ℕ, ◌+◌, ◌<◌, List, [], ◌∷◌, ◌++◌, length, Bool, true, false, Option, Some, None, is_some, option_to_list, slice_index_or, slice_set, slice_get, not, ◌&&◌, map, if◌then◌else◌}
-use Rattle.xd_gateway.specs.declared.order.Order.{Order}
 use Rattle.xd_run_tests.specs.declared.place.Place.{Place}
 use Rattle.xd_run_tests.specs.declared.place.Place.TheVariants.{Test, Mark}
 use Rattle.xd_run_tests.specs.declared.place.Standing.{Standing}
 use Rattle.xd_run_tests.specs.declared.place.Standing.TheVariants.{Free, Queued, Passed}
-use Rattle.xd_run_tests.specs.declared.phase.Phase.{Phase}
 use Rattle.xd_run_tests.specs.declared.phase.Phase.TheVariants.{Serving}
 use Rattle.xd_run_tests.specs.declared.run_tests.Running.{Running}
 use Rattle.xd_run_tests.specs.declared.ask.Acts.{Acts}
 use Rattle.xd_run_tests.specs.declared.run_tests.steal.Asked.{Asked}
 use Rattle.xd_run_tests.specs.declared.run_tests.steal.Asked.TheVariants.{Bad, Missing, Marked}
 use Rattle.xd_run_tests.specs.declared.run_tests.RunTests.{RunTests}
-use Rattle.xd_run_tests.specs.Line.{Call, running_test, log_of, has_test, can_give, can_ask, all_queued, is_among, taken, kept}
+use Rattle.xd_run_tests.specs.Line.{Call, running_test, log_of, has_test, can_give, can_ask, is_among, taken, kept}
 use Rattle.xd_run_tests.specs.Turns.{Turn}
 
 abbrev pub running_places : Option Running → List Place

@@ -1,10 +1,9 @@
 -- What one input makes the function do: what it asks for, in order, and a test to start.
-use Rattle.std.specs.Prelude.{ℕ, ◌<◌, ◌^◌, ◌+◌, ◌-◌, ◌*◌, ◌&&◌, nat_le, List, [], ◌∷◌, ◌++◌, length, take, map, Bool, true, false, Option, Some, None, if◌then◌else◌, codes}
+use Rattle.std.specs.Prelude.{ℕ, ◌<◌, ◌^◌, ◌+◌, ◌-◌, ◌&&◌, nat_le, List, [], ◌∷◌, ◌++◌, length, take, map, Bool, true, false, Option, Some, None, if◌then◌else◌, codes}
 use Rattle.std.specs.List.{range_with_len}
 use Rattle.xd_gateway.specs.declared.order.Order.{Order}
 use Rattle.xd_gateway.specs.declared.order.Order.TheVariants.{RunTests, RunAll, Steal, Shutdown}
 use Rattle.xd_ledger.specs.declared.entry.Outcome.{Outcome}
-use Rattle.xd_ledger.specs.declared.news.What.{What}
 use Rattle.xd_ledger.specs.declared.news.What.TheVariants.{Collected, LogStart, Done, Back, Finished}
 use Rattle.xd_run_tests.specs.declared.place.Place.{Place}
 use Rattle.xd_run_tests.specs.declared.place.Place.TheVariants.{Test, Mark}

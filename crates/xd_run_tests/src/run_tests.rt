@@ -1,5 +1,5 @@
 // A call of the function.
-ghost use Rattle.std.specs.Prelude.{[], ◌≡◌, ◌^◌, ◌<◌, IfOk, OnOk, List, ◌∷◌, Option, Some, None, length};
+ghost use Rattle.std.specs.Prelude.{[], ◌≡◌, IfOk, OnOk, List, ◌∷◌};
 
 mod commands;
 mod line;
@@ -42,7 +42,7 @@ pub struct RunTests {
 }
 
 impl RunTests {
-    ghost use Rattle.xd_run_tests.specs.Line.{Call, called, running_test};
+    ghost use Rattle.xd_run_tests.specs.Line.{Call, running_test};
     ghost use Rattle.xd_run_tests.specs.Turns.{Turn, answered_in, answered, turn_of, CanTake};
     ghost use Rattle.xd_run_tests.specs.Stands.{Stands, IsReady, IsCall, test_of};
     ghost use Rattle.xd_run_tests.specs.History.{Given, StandsFor, call_after, turn_after};

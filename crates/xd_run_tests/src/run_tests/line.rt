@@ -1,5 +1,5 @@
 // How the line of orders moves on, and how the function ends.
-ghost use Rattle.std.specs.Prelude.{ℕ, ◌^◌, slice_get, slice_index_or, slice_set, if◌then◌else◌, ◌≡◌, ◌++◌, ◌∷◌, [], ◌≤◌, ◌<◌, IfOk, OnOk, Option, Some, None, List, option_to_list, length, nat_lt, not, ◌&&◌, true, map};
+ghost use Rattle.std.specs.Prelude.{◌≡◌, ◌++◌, ◌∷◌, [], IfOk, OnOk, Some, None, List, option_to_list};
 
 use super::{RunTests, Running};
 use crate::ask::{Acts, Ask, request};
@@ -10,15 +10,11 @@ use xd_ledger::What;
 
 impl RunTests {
     ghost use Rattle.xd_run_tests.specs.declared.place.Place.{Place};
-    ghost use Rattle.xd_run_tests.specs.declared.place.Place.TheVariants.{Test, Mark};
+    ghost use Rattle.xd_run_tests.specs.declared.place.Place.TheVariants.{Test};
     ghost use Rattle.xd_run_tests.specs.declared.phase.Phase.TheVariants.{Serving};
-    ghost use Rattle.std.specs.List.{range_with_len};
-    ghost use Rattle.xd_run_tests.specs.declared.place.Standing.{Standing};
-    ghost use Rattle.xd_run_tests.specs.declared.place.Standing.TheVariants.{Free};
-    ghost use Rattle.xd_gateway.specs.declared.order.Order.TheVariants.{Shutdown};
-    ghost use Rattle.xd_run_tests.specs.Line.{Call, called, left};
-    ghost use Rattle.xd_run_tests.specs.Turns.{Turn, over, ended_early, finished, settled, moved_on, too_many_channels, ending_text, given, told, stolen_if, heard_in, all_heard, receiving_ended_in, suite_refused_in, stopped, collected_in, opened, done_of, told_done, put_out, output_of, answered_in, answered, turn_of, CanTake};
-    ghost use Rattle.xd_run_tests.specs.Stands.{Stands, IsReady, test_of, Moves, Holds, Appends, IsCall, passing_some, free_at, queued_at, IsAsked, AreMarked, TakenOut};
+    ghost use Rattle.xd_run_tests.specs.Line.{Call, left};
+    ghost use Rattle.xd_run_tests.specs.Turns.{Turn, over, ended_early, settled, moved_on, too_many_channels, ending_text};
+    ghost use Rattle.xd_run_tests.specs.Stands.{Stands, Moves, Holds, IsCall, passing_some};
 
     /// The function ends.
     pub(super) fn finish(&mut self, acts: &mut Acts, text: Option<Text>) -> Result<(), OutOfMemory>

@@ -1,6 +1,6 @@
 // Tests that are asked back.
 ghost use Rattle.xd_run_tests.specs.Stands.{is_true};
-ghost use Rattle.std.specs.Prelude.{ℕ, ◌^◌, slice_get, slice_index_or, slice_set, if◌then◌else◌, ◌≡◌, ◌++◌, ◌∷◌, [], ◌≤◌, ◌<◌, IfOk, OnOk, Option, Some, None, List, option_to_list, length, nat_lt, not, ◌&&◌, true, map};
+ghost use Rattle.std.specs.Prelude.{ℕ, slice_get, slice_set, ◌≡◌, ◌∷◌, [], IfOk, OnOk, List};
 
 use super::RunTests;
 use crate::ask::{Acts, Ask, request};
@@ -32,15 +32,12 @@ fn is_marked(marks: &[bool], test: u32) -> bool
 
 impl RunTests {
     ghost use Rattle.xd_run_tests.specs.declared.place.Place.{Place};
-    ghost use Rattle.xd_run_tests.specs.declared.place.Place.TheVariants.{Test, Mark};
     ghost use Rattle.xd_run_tests.specs.declared.phase.Phase.TheVariants.{Serving};
-    ghost use Rattle.std.specs.List.{range_with_len};
     ghost use Rattle.xd_run_tests.specs.declared.place.Standing.{Standing};
     ghost use Rattle.xd_run_tests.specs.declared.place.Standing.TheVariants.{Free};
-    ghost use Rattle.xd_gateway.specs.declared.order.Order.TheVariants.{Shutdown};
-    ghost use Rattle.xd_run_tests.specs.Line.{Call, called, left};
-    ghost use Rattle.xd_run_tests.specs.Turns.{Turn, over, ended_early, finished, settled, moved_on, too_many_channels, ending_text, given, told, stolen_if, heard_in, all_heard, receiving_ended_in, suite_refused_in, stopped, collected_in, opened, done_of, told_done, put_out, output_of, answered_in, answered, turn_of, CanTake};
-    ghost use Rattle.xd_run_tests.specs.Stands.{Stands, IsReady, test_of, Moves, Holds, Appends, IsCall, passing_some, free_at, queued_at, IsAsked, AreMarked, TakenOut};
+    ghost use Rattle.xd_run_tests.specs.Line.{left};
+    ghost use Rattle.xd_run_tests.specs.Turns.{Turn, stolen_if};
+    ghost use Rattle.xd_run_tests.specs.Stands.{Stands, queued_at, IsAsked, AreMarked, TakenOut};
 
     /// Which tests a steal asks for.
     fn asked_tests(&self, tests: &[u32]) -> Result<Asked, OutOfMemory>

@@ -1,4 +1,4 @@
-use Rattle.std.proofs.Common.{rules, ◌<◌, length, List, ◌++◌, ◌∷◌, [], sym, subst, ◌∙◌, true}
+use Rattle.std.proofs.Common.{rules, ◌<◌, length, List, ◌∷◌, [], sym, subst, ◌∙◌, true}
 use Rattle.std.specs.Prelude.{slice_set}
 use Rattle.xd_run_tests.specs.declared.place.Place.{Place}
 use Rattle.xd_run_tests.specs.declared.place.Standing.TheVariants.{Queued}

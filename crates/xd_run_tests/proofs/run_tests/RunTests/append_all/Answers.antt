@@ -1,4 +1,4 @@
-use Rattle.std.proofs.Common.{◌≡◌, ◌+◌, ℕ, List, ◌++◌, ◌∷◌, [], take, drop, get_or, sym, subst, ◌∙◌, true, false, Bool, ap}
+use Rattle.std.proofs.Common.{◌+◌, ℕ, List, ◌++◌, ◌∷◌, [], take, drop, get_or, sym, subst, ◌∙◌, true, false, Bool, ap}
 use Rattle.xd_run_tests.specs.declared.run_tests.RunTests.{RunTests}
 use Rattle.xd_run_tests.specs.Stands.{Appends}
 use Rattle.xd_run_tests.proofs.Giving.{appends_both, appends_stop, more_tests, all_tests}

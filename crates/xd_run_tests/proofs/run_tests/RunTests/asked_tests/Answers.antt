@@ -1,7 +1,7 @@
-use Rattle.std.proofs.Common.{rules, ◌≡◌, ◌<◌, ◌≤◌, ◌+◌, ℕ, List, ◌++◌, ◌∷◌, [], length, take, drop, get_or, true, false, Bool, ◌&&◌, refl, sym, ap, subst, ◌∙◌, arith}
-use Rattle.std.specs.Prelude.{slice_set, nat_lt, not}
+use Rattle.std.proofs.Common.{rules, ◌≡◌, ◌<◌, ◌≤◌, ◌+◌, ℕ, List, [], length, take, drop, get_or, true, false, ◌&&◌, refl, sym, subst, ◌∙◌}
+use Rattle.std.specs.Prelude.{slice_set}
 use Rattle.std.proofs.Math.ListN.{length-set}
-use Rattle.xd_run_tests.specs.Line.{can_ask, is_among}
+use Rattle.xd_run_tests.specs.Line.{can_ask}
 use Rattle.xd_run_tests.specs.Stands.{AreMarked, all_queued_at, queued_at}
 use Rattle.xd_run_tests.proofs.Giving.{more_tests, all_tests, le_not_below}
 use Rattle.xd_run_tests.proofs.Asking.{more_asked, not_asked, more_queued, more_marked, left_false, right_false, is_marked_in, by_then, by_else}

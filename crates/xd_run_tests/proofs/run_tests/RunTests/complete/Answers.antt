@@ -1,7 +1,7 @@
-use Rattle.std.proofs.Common.{◌≡◌, Option, Some, List, ℕ, sym, subst, ◌∙◌, ap, OnOk}
+use Rattle.std.proofs.Common.{Option, Some, List, ℕ, sym, subst, OnOk}
 use Rattle.xd_run_tests.specs.declared.phase.Phase.{Phase}
 use Rattle.xd_run_tests.specs.declared.run_tests.Running.{Running}
-use Rattle.xd_run_tests.specs.Turns.{Turn, over, done_of, told_done}
+use Rattle.xd_run_tests.specs.Turns.{over, done_of, told_done}
 use Rattle.xd_run_tests.specs.Stands.{Stands, test_of}
 use Rattle.xd_run_tests.proofs.run_tests.RunTests.complete.Goals as goal
 

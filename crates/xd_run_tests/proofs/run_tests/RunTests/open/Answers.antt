@@ -1,4 +1,4 @@
-use Rattle.std.proofs.Common.{◌≡◌, refl, sym, ap, ◌∙◌, rules, [], None}
+use Rattle.std.proofs.Common.{◌≡◌, refl, ap, ◌∙◌, rules, [], None}
 use Rattle.std.specs.Prelude.{replicate}
 use Rattle.xd_run_tests.specs.declared.place.Standing.TheVariants.{Free}
 use Rattle.xd_run_tests.specs.declared.phase.Phase.TheVariants.{Serving}

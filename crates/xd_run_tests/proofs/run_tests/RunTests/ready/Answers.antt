@@ -1,5 +1,4 @@
 use Rattle.xd_run_tests.proofs.Moves.{advanced, none_is}
-use Rattle.std.proofs.Common.{sym, ◌∙◌}
 use Rattle.xd_run_tests.proofs.run_tests.RunTests.ready.Goals as goal
 
 pub returns-then-is_none-clause-call : goal.returns-then-is_none-clause-call

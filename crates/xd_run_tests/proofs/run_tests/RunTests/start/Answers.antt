@@ -1,6 +1,4 @@
-use Rattle.std.proofs.Common.{◌≡◌, ◌≤◌, List, [], ◌∷◌, ap, subst, sym, ◌∙◌, refl}
-use Rattle.xd_ledger.specs.declared.news.What.TheVariants.{LogStart}
-use Rattle.xd_run_tests.specs.declared.ask.Ask.TheVariants.{Tell}
+use Rattle.std.proofs.Common.{◌≡◌, ◌≤◌, ap, subst, refl}
 use Rattle.xd_run_tests.specs.declared.run_tests.RunTests.{RunTests}
 use Rattle.xd_run_tests.specs.Line.{log_of}
 use Rattle.xd_run_tests.proofs.Moves.{idle_log, started_if, started_is, start_asks}

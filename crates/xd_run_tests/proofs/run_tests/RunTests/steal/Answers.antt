@@ -1,10 +1,7 @@
-use Rattle.std.proofs.Common.{◌≡◌, List, ℕ, [], ◌∷◌, ◌++◌, Bool, true, false, sym, ap, subst, ◌∙◌, OnOk}
-use Rattle.xd_ledger.specs.declared.news.What.TheVariants.{Back}
-use Rattle.xd_run_tests.specs.declared.run_tests.steal.Asked.{Asked}
-use Rattle.xd_run_tests.specs.declared.ask.Ask.TheVariants.{Tell}
-use Rattle.xd_run_tests.specs.Line.{front, queue, kept, taken}
+use Rattle.std.proofs.Common.{[], true, sym, subst, ◌∙◌}
+use Rattle.xd_run_tests.specs.Line.{queue, taken}
 use Rattle.xd_run_tests.specs.Turns.{Turn}
-use Rattle.xd_run_tests.specs.Stands.{Stands, IsAsked, Asks}
+use Rattle.xd_run_tests.specs.Stands.{Stands}
 use Rattle.xd_run_tests.proofs.Stealing.{asked_is, asks_can, stolen_call, on_ok, asked_missing, asked_marked, marks_at, missing_turn, marked_turn, told_back}
 use Rattle.xd_run_tests.proofs.run_tests.RunTests.steal.Goals as goal
 

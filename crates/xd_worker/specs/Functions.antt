@@ -1,0 +1,93 @@
+-- The call that the value of a CHANNEL_EXEC is. The tuple of four is that of execnet's gateway_base.py and gateway.py; that a
+-- function is called by its name alone, the names, and the refusals and their order are choices of this project.
+use Rattle.std.specs.Prelude.{ℕ, List, [], Bool, true, false, Option, Some, None, option_and_then, ◌&&◌, codes, if◌then◌else◌}
+use Rattle.std.specs.Str.{bytes_eq}
+use Rattle.xd_edge.specs.declared.mode.ModeKind.{ModeKind}
+use Rattle.xd_edge.specs.declared.mode.ModeKind.TheVariants.{Each, Load, LoadScope, LoadFile, LoadGroup, WorkSteal}
+use Rattle.xd_value.specs.Tree.{Tree, Pairs, none, text, tuple, dict, no_trees, tree}
+use Rattle.xd_gateway.specs.Calls.{has_text_keys}
+use Rattle.xd_gateway.specs.Kwargs.{is_key, value_at, text_of}
+use Rattle.xd_worker.specs.declared.function.CallFault.{CallFault}
+use Rattle.xd_worker.specs.declared.function.CallFault.TheVariants.{BadCall, SourceText, Unknown, Started}
+use Rattle.xd_worker.specs.declared.function.Called.{Called}
+use Rattle.xd_worker.specs.declared.function.Called.TheVariants.{Runs, Refused}
+use Rattle.xd_worker.specs.declared.function.Function.TheVariants as function
+use Rattle.xd_worker.specs.declared.function.Name.{Name}
+use Rattle.xd_worker.specs.declared.function.Name.TheVariants as name
+
+-- the error with which a refused call ends
+abbrev pub fault_text : CallFault → List ℕ
+fault_text BadCall = codes "bad call"
+fault_text SourceText = codes "source text is refused"
+fault_text Unknown = codes "unknown function"
+fault_text Started = codes "run_tests has been started"
+
+-- the mode of a word
+abbrev pub mode_of : List ℕ → Option ModeKind
+mode_of w =
+    if bytes_eq w (codes "each") then Some Each
+    else if bytes_eq w (codes "load") then Some Load
+    else if bytes_eq w (codes "loadscope") then Some LoadScope
+    else if bytes_eq w (codes "loadfile") then Some LoadFile
+    else if bytes_eq w (codes "loadgroup") then Some LoadGroup
+    else if bytes_eq w (codes "worksteal") then Some WorkSteal
+    else None
+
+-- the function of a name
+abbrev pub name_of : List ℕ → Option Name
+name_of w =
+    if bytes_eq w (codes "echo") then Some name.Echo
+    else if bytes_eq w (codes "fail") then Some name.Fail
+    else if bytes_eq w (codes "run_tests") then Some name.RunTests
+    else None
+
+-- `run_tests` with a path and a mode
+abbrev pub running_by : Option (List ℕ) → Option ModeKind → Called
+running_by None m = Refused BadCall
+running_by (Some path) None = Refused BadCall
+running_by (Some path) (Some mode) = Runs (function.RunTests path mode)
+
+-- `run_tests`, which may be called once on a link; that is looked at before its own arguments
+abbrev pub running : Bool → Pairs → Called
+running started ps =
+    if started then Refused Started
+    else running_by (option_and_then text_of (value_at (codes "suite") ps)) (option_and_then mode_of (option_and_then text_of (value_at (codes "dist") ps)))
+
+-- `fail`, with the error that it is given, if any
+abbrev pub failing : Pairs → Called
+failing ps = Runs (function.Fail (option_and_then text_of (value_at (codes "text") ps)))
+
+abbrev pub function_of : Bool → Name → Pairs → Called
+function_of started name.Echo ps = Runs function.Echo
+function_of started name.Fail ps = failing ps
+function_of started name.RunTests ps = running started ps
+
+-- a function with its keyword arguments, whose keys are texts
+abbrev pub with_kwargs : Bool → Name → Pairs → Called
+with_kwargs started f ps = if has_text_keys ps then function_of started f ps else Refused BadCall
+
+abbrev pub with_value : Bool → Option Name → Tree → Called
+with_value started None kwargs = Refused Unknown
+with_value started (Some f) (dict ps) = with_kwargs started f ps
+with_value started (Some f) _ = Refused BadCall
+
+-- a name and its keyword arguments; the name is looked at first
+abbrev pub named : Bool → Tree → Tree → Called
+named started (text n) kwargs = with_value started (name_of n) kwargs
+named started _ kwargs = Refused BadCall
+
+abbrev pub is_none : Tree → Bool
+is_none none = true
+is_none _ = false
+
+-- the source is the empty text, and no file is named
+abbrev pub is_plain : Tree → Tree → Bool
+is_plain source file = is_key [] source && is_none file
+
+abbrev pub call_of : Bool → Tree → Tree → Tree → Tree → Called
+call_of started source file name kwargs = if is_plain source file then named started name kwargs else Refused SourceText
+
+-- a call is a tuple of just source, file name, name and keyword arguments
+abbrev pub called_in : Bool → Tree → Called
+called_in started (tuple (tree source (tree file (tree name (tree kwargs no_trees))))) = call_of started source file name kwargs
+called_in started _ = Refused BadCall
