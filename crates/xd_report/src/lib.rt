@@ -4,6 +4,7 @@
 mod block;
 mod counts;
 mod ending;
+mod laws;
 mod lines;
 mod status;
 mod summary;
@@ -11,6 +12,7 @@ mod writing;
 
 pub use block::failure_block;
 pub use ending::tail;
+pub use laws::lines_law;
 pub use lines::report_lines;
 pub use status::status_of;
 pub use summary::summary_line;

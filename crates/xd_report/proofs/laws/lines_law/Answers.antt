@@ -1,0 +1,6 @@
+use Rattle.xd_ledger.specs.State.{no_one}
+use Rattle.xd_report.proofs.RunTexts.{lines-more}
+use Rattle.xd_report.proofs.laws.lines_law.Goals as goal
+
+pub returns : goal.returns
+returns c = λ settings entries more. lines-more (no_one settings) entries more

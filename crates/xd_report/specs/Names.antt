@@ -1,0 +1,46 @@
+-- The words of a report. Those of a result, of a worker and of a mode are pytest-xdist's; the causes are a choice of
+-- this project, but for the first one.
+use Rattle.std.specs.Prelude.{ℕ, ◌==◌, ◌||◌, nat_lt, List, [], ◌∷◌, ◌++◌, map, codes, if◌then◌else◌}
+use Rattle.std.specs.Fmt.{decimal}
+use Rattle.std.specs.Str.{encode_utf8_all}
+use Rattle.xd_edge.specs.declared.mode.ModeKind.{ModeKind}
+use Rattle.xd_edge.specs.declared.mode.ModeKind.TheVariants.{Local, Each, Load, LoadScope, LoadFile, LoadGroup, WorkSteal}
+use Rattle.xd_ledger.specs.declared.entry.Cause.{Cause}
+use Rattle.xd_ledger.specs.declared.entry.Cause.TheVariants.{Ended, Cut, Garbled, ReadFault, SendFault, Breach}
+use Rattle.xd_ledger.specs.declared.entry.Outcome.{Outcome}
+use Rattle.xd_ledger.specs.declared.entry.Outcome.TheVariants.{Passed, Skipped, Failed}
+
+abbrev pub line : List ℕ → List ℕ
+line text = text ++ 10 ∷ []
+
+abbrev pub name : ℕ → List ℕ
+name worker = codes "gw" ++ decimal worker
+
+abbrev pub tagged : ℕ → List ℕ → List ℕ
+tagged worker text = codes "[" ++ name worker ++ codes "] " ++ text
+
+-- a text that came from a worker, in UTF-8: a control character is printed as '?'
+abbrev pub plain : List ℕ → List ℕ
+plain text = encode_utf8_all (map (λ c. if nat_lt c 32 || (c == 127) then 63 else c) text)
+
+abbrev pub outcome_text : Outcome → List ℕ
+outcome_text Passed = codes "PASSED "
+outcome_text Skipped = codes "SKIPPED "
+outcome_text (Failed code) = codes "FAILED "
+
+abbrev pub mode_text : ModeKind → List ℕ
+mode_text Each = codes "each"
+mode_text Load = codes "load"
+mode_text LoadScope = codes "loadscope"
+mode_text LoadFile = codes "loadfile"
+mode_text LoadGroup = codes "loadgroup"
+mode_text WorkSteal = codes "worksteal"
+mode_text Local = []
+
+abbrev pub cause_text : Cause → List ℕ
+cause_text Ended = codes "Not properly terminated"
+cause_text Cut = codes "message cut short"
+cause_text Garbled = codes "bad message"
+cause_text ReadFault = codes "read fault"
+cause_text SendFault = codes "send fault"
+cause_text Breach = codes "rules broken"
