@@ -13,7 +13,7 @@ struct Fixture {
     acts: Vec<Entry>,
 }
 
-fn ids(alloc: Global, tests: u32) -> Result<Texts, Fail> {
+fn ids(alloc: Global, tests: u8) -> Result<Texts, Fail> {
     let mut items = Vec::new(alloc);
     for test in 0..tests {
         items.push(Text::from_string(format!(in alloc; "t{}", test)?))?;
@@ -22,9 +22,9 @@ fn ids(alloc: Global, tests: u32) -> Result<Texts, Fail> {
 }
 
 // So many tests are shared between two workers.
-fn shared(alloc: Global, tests: u32) -> Result<Fixture, Fail> {
+fn shared(alloc: Global, tests: u8) -> Result<Fixture, Fail> {
     let mut mode = Load::new(None);
-    let mut ledger = Ledger::new(alloc, tests)?;
+    let mut ledger = Ledger::new(alloc, u32::from(tests))?;
     let mut acts = Vec::new(alloc);
     ledger.join(alloc, 0)?;
     ledger.join(alloc, 1)?;

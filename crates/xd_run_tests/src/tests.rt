@@ -175,7 +175,7 @@ fn step(alloc: Global, call: &mut RunTests, words: &str) -> Result<String, Fail>
 #[test]
 fn what_is_asked_for_is_what_the_model_says(rt: HostRuntime) -> Result<(), Fail> {
     let alloc = rt.alloc();
-    for history in HISTORIES {
+    for history in HISTORIES.lines() {
         let mut call = RunTests::new(alloc);
         for words in history.split('|') {
             let (words, asks) = words.split_once('=').ok_or("a step")?;
