@@ -1,0 +1,5 @@
+//! The outputs behind an input of a run with workers, and the whole journal that inputs make, computed by the definitions.
+#![tactic(auto)]
+
+mod numbers;
+mod table;

@@ -1,0 +1,286 @@
+// Where each item of a run stands, and the moves between these places.
+ghost use Rattle.std.specs.Prelude.{◌≡◌, ◌++◌, ◌∷◌, [], map, take, drop, IfOk, OnOk};
+ghost use Rattle.xd_ledger.specs.Table.{at_seat, held, held_in, seat_shut, workers_of, fresh, joined, assigned, completed, given_back, left, died, shut_down, without_seat};
+ghost use Rattle.xd_outputs.specs.Changes.{changed};
+
+use crate::numbers::{add, add_all, copy_of, none, take_out};
+use std::alloc::Global;
+use std::marker::Model;
+use xd_edge::{Indices, OutOfMemory};
+use xd_ledger::Seat;
+
+// The pool, the workers of the rota with what they hold, and what was reported.
+#[derive(Drop)]
+pub(crate) struct Places {
+    pub(crate) pool: Indices,
+    pub(crate) rota: Vec<Seat>,
+    pub(crate) reported: Indices,
+}
+
+impl Model for Places {
+    ghost use Rattle.xd_ledger.specs.Table.{Table};
+
+    ghost Value = { Table };
+
+    ghost view = { λ t. record { pool = t.pool; rota = t.rota.items; reported = t.reported } };
+}
+
+// What happens to the seat of a worker: it holds these too, it no longer holds these, or it is told to shut down.
+#[derive(Drop)]
+pub(crate) enum Change {
+    Holds(Indices),
+    Gives(Indices),
+    Shuts,
+}
+
+fn change_seat(change: &Change, seat: &mut Seat) -> Result<(), OutOfMemory>
+    ensures { OnOk result (seat.new ≡ changed change.now seat.old) }
+{
+    match change {
+        Change::Holds(items) => add_all(&mut seat.held, &items.items)?,
+        Change::Gives(items) => take_out(&items.items, &mut seat.held),
+        Change::Shuts => seat.shut = true,
+    }
+    Ok(())
+}
+
+// The change happens to the worker's seat.
+fn at_seat(worker: u32, change: &Change, rota: &mut [Seat]) -> Result<(), OutOfMemory>
+    ensures { OnOk result (rota.new ≡ at_seat worker (changed change.now) rota.old) }
+{
+    for seat in rota.iter_mut() {
+        if seat.worker == worker {
+            change_seat(change, seat)?;
+        }
+    }
+    Ok(())
+}
+
+// The seats but for the worker's.
+fn leave(worker: u32, rota: &mut Vec<Seat>)
+    ensures { rota.new.items ≡ without_seat worker rota.old.items }
+{
+    rota.retain(|seat| !(seat.worker == worker));
+}
+
+// What the worker holds in these seats.
+fn held_in(worker: u32, rota: &[Seat]) -> &[u32]
+    ensures { result.now ≡ held_in worker rota.now }
+{
+    for seat in rota {
+        if seat.worker == worker {
+            return &seat.held.items;
+        }
+    }
+    &[]
+}
+
+pub(crate) fn copy_of_seat(alloc: Global, seat: &Seat) -> Result<Seat, OutOfMemory>
+    ensures { IfOk result (λ r. r ≡ seat.now) }
+{
+    let held = copy_of(alloc, &seat.held.items)?;
+    Ok(Seat {
+        worker: seat.worker,
+        held,
+        shut: seat.shut,
+    })
+}
+
+pub(crate) fn copy_of_rota(alloc: Global, rota: &[Seat]) -> Result<Vec<Seat>, OutOfMemory>
+    ensures { IfOk result (λ r. r.items ≡ rota.now) }
+{
+    let mut copies = Vec::new(alloc);
+    for seat in rota {
+        copies.push(copy_of_seat(alloc, seat)?)?;
+    }
+    Ok(copies)
+}
+
+impl Places {
+    // These items in the pool, and nobody in the rota.
+    pub(crate) fn fresh(alloc: Global, pool: Indices) -> Places
+        ensures { result ≡ fresh pool }
+    {
+        Places {
+            pool,
+            rota: Vec::new(alloc),
+            reported: none(alloc),
+        }
+    }
+
+    pub(crate) fn copy(&self, alloc: Global) -> Result<Places, OutOfMemory>
+        ensures { IfOk result (λ r. r ≡ self.now) }
+    {
+        let pool = copy_of(alloc, &self.pool.items)?;
+        let rota = copy_of_rota(alloc, &self.rota)?;
+        let reported = copy_of(alloc, &self.reported.items)?;
+        Ok(Places {
+            pool,
+            rota,
+            reported,
+        })
+    }
+
+    // Who is in the rota, in order of joining.
+    pub(crate) fn workers(&self, alloc: Global) -> Result<Indices, OutOfMemory>
+        ensures { IfOk result (λ r. r ≡ workers_of self.now) }
+    {
+        let mut workers = none(alloc);
+        for seat in &self.rota {
+            add(&mut workers, seat.worker)?;
+        }
+        Ok(workers)
+    }
+
+    // The worker of the rota was told to shut down.
+    pub(crate) fn is_shut(&self, worker: u32) -> bool
+        ensures { result ≡ seat_shut worker self.now }
+    {
+        self.rota
+            .iter()
+            .any(|seat| if seat.worker == worker { seat.shut } else { false })
+    }
+
+    // What the worker holds, its head first.
+    pub(crate) fn held(&self, worker: u32) -> &[u32]
+        ensures { result.now ≡ held worker self.now }
+    {
+        held_in(worker, &self.rota)
+    }
+}
+
+// The worker joins at the end of the rota.
+pub(crate) fn joined(alloc: Global, worker: u32, table: Places) -> Result<Places, OutOfMemory>
+    ensures { IfOk result (λ r. r ≡ joined worker table) }
+{
+    let Places {
+        pool,
+        mut rota,
+        reported,
+    } = table;
+    rota.push(Seat {
+        worker,
+        held: none(alloc),
+        shut: false,
+    })?;
+    Ok(Places {
+        pool,
+        rota,
+        reported,
+    })
+}
+
+// The items go from the pool to the end of what the worker holds.
+pub(crate) fn assigned(worker: u32, items: Indices, table: Places) -> Result<Places, OutOfMemory>
+    ensures { IfOk result (λ r. r ≡ assigned worker items table) }
+{
+    let Places {
+        mut pool,
+        mut rota,
+        reported,
+    } = table;
+    take_out(&items.items, &mut pool);
+    at_seat(worker, &Change::Holds(items), &mut rota)?;
+    Ok(Places {
+        pool,
+        rota,
+        reported,
+    })
+}
+
+// The item that the worker held is reported.
+pub(crate) fn completed(
+    alloc: Global,
+    worker: u32,
+    item: u32,
+    table: Places,
+) -> Result<Places, OutOfMemory>
+    ensures { IfOk result (λ r. r ≡ completed worker item table) }
+{
+    let Places {
+        pool,
+        mut rota,
+        mut reported,
+    } = table;
+    let gone = copy_of(alloc, &[item])?;
+    at_seat(worker, &Change::Gives(gone), &mut rota)?;
+    add(&mut reported, item)?;
+    Ok(Places {
+        pool,
+        rota,
+        reported,
+    })
+}
+
+// The items that the worker held go to the pool's end.
+pub(crate) fn given_back(worker: u32, items: Indices, table: Places) -> Result<Places, OutOfMemory>
+    ensures { IfOk result (λ r. r ≡ given_back worker items table) }
+{
+    let Places {
+        mut pool,
+        mut rota,
+        reported,
+    } = table;
+    add_all(&mut pool, &items.items)?;
+    at_seat(worker, &Change::Gives(items), &mut rota)?;
+    Ok(Places {
+        pool,
+        rota,
+        reported,
+    })
+}
+
+// The worker leaves the rota.
+pub(crate) fn left(worker: u32, table: Places) -> Places
+    ensures { result ≡ left worker table }
+{
+    let Places {
+        pool,
+        mut rota,
+        reported,
+    } = table;
+    leave(worker, &mut rota);
+    Places {
+        pool,
+        rota,
+        reported,
+    }
+}
+
+// The worker's head is reported, what it held behind it goes to the pool's end, and it leaves the rota.
+pub(crate) fn died(alloc: Global, worker: u32, table: Places) -> Result<Places, OutOfMemory>
+    ensures { IfOk result (λ r. r ≡ died worker table) }
+{
+    let held = copy_of(alloc, table.held(worker))?;
+    let first = held.items.len().min(1);
+    let Places {
+        mut pool,
+        mut rota,
+        mut reported,
+    } = table;
+    leave(worker, &mut rota);
+    add_all(&mut pool, &held.items[first..])?;
+    add_all(&mut reported, &held.items[..first])?;
+    Ok(Places {
+        pool,
+        rota,
+        reported,
+    })
+}
+
+// The worker is told to shut down.
+pub(crate) fn shut_down(worker: u32, table: Places) -> Result<Places, OutOfMemory>
+    ensures { IfOk result (λ r. r ≡ shut_down worker table) }
+{
+    let Places {
+        pool,
+        mut rota,
+        reported,
+    } = table;
+    at_seat(worker, &Change::Shuts, &mut rota)?;
+    Ok(Places {
+        pool,
+        rota,
+        reported,
+    })
+}
