@@ -1,5 +1,5 @@
 // Where each item of a run stands, and the moves between these places.
-ghost use Rattle.std.specs.Prelude.{◌≡◌, ◌++◌, ◌∷◌, [], map, take, drop, IfOk, OnOk};
+ghost use Rattle.std.specs.Prelude.{◌≡◌, ◌++◌, ◌∷◌, [], ◌==◌, if◌then◌else◌, IfOk};
 ghost use Rattle.xd_ledger.specs.Table.{at_seat, held, held_in, seat_shut, workers_of, fresh, joined, assigned, completed, given_back, left, died, shut_down, without_seat};
 ghost use Rattle.xd_outputs.specs.Changes.{changed};
 
@@ -33,27 +33,47 @@ pub(crate) enum Change {
     Shuts,
 }
 
-fn change_seat(change: &Change, seat: &mut Seat) -> Result<(), OutOfMemory>
-    ensures { OnOk result (seat.new ≡ changed change.now seat.old) }
+fn changed(change: &Change, mut seat: Seat) -> Result<Seat, OutOfMemory>
+    ensures { IfOk result (λ r. r ≡ changed change.now seat) }
 {
     match change {
         Change::Holds(items) => add_all(&mut seat.held, &items.items)?,
         Change::Gives(items) => take_out(&items.items, &mut seat.held),
         Change::Shuts => seat.shut = true,
     }
-    Ok(())
+    Ok(seat)
 }
 
-// The change happens to the worker's seat.
-fn at_seat(worker: u32, change: &Change, rota: &mut [Seat]) -> Result<(), OutOfMemory>
-    ensures { OnOk result (rota.new ≡ at_seat worker (changed change.now) rota.old) }
+// The seat behind the change, where it is the worker's.
+fn changed_where(
+    alloc: Global,
+    worker: u32,
+    change: &Change,
+    seat: &Seat,
+) -> Result<Seat, OutOfMemory>
+    ensures { IfOk result (λ r. r ≡ (if seat.now.worker == worker then changed change.now seat.now else seat.now)) }
 {
-    for seat in rota.iter_mut() {
-        if seat.worker == worker {
-            change_seat(change, seat)?;
-        }
+    let copy = copy_of_seat(alloc, seat)?;
+    if seat.worker == worker {
+        return changed(change, copy);
     }
-    Ok(())
+    Ok(copy)
+}
+
+// The seats behind the change of the worker's.
+fn at_seat(
+    alloc: Global,
+    worker: u32,
+    change: &Change,
+    rota: &[Seat],
+) -> Result<Vec<Seat>, OutOfMemory>
+    ensures { IfOk result (λ r. r.items ≡ at_seat worker (changed change.now) rota.now) }
+{
+    let mut seats = Vec::new(alloc);
+    for seat in rota {
+        seats.push(changed_where(alloc, worker, change, seat)?)?;
+    }
+    Ok(seats)
 }
 
 // The seats but for the worker's.
@@ -171,16 +191,16 @@ pub(crate) fn joined(alloc: Global, worker: u32, table: Places) -> Result<Places
 }
 
 // The items go from the pool to the end of what the worker holds.
-pub(crate) fn assigned(worker: u32, items: Indices, table: Places) -> Result<Places, OutOfMemory>
+pub(crate) fn assigned(alloc: Global, worker: u32, items: Indices, table: Places) -> Result<Places, OutOfMemory>
     ensures { IfOk result (λ r. r ≡ assigned worker items table) }
 {
     let Places {
         mut pool,
-        mut rota,
+        rota,
         reported,
     } = table;
     take_out(&items.items, &mut pool);
-    at_seat(worker, &Change::Holds(items), &mut rota)?;
+    let rota = at_seat(alloc, worker, &Change::Holds(items), &rota)?;
     Ok(Places {
         pool,
         rota,
@@ -199,11 +219,11 @@ pub(crate) fn completed(
 {
     let Places {
         pool,
-        mut rota,
+        rota,
         mut reported,
     } = table;
     let gone = copy_of(alloc, &[item])?;
-    at_seat(worker, &Change::Gives(gone), &mut rota)?;
+    let rota = at_seat(alloc, worker, &Change::Gives(gone), &rota)?;
     add(&mut reported, item)?;
     Ok(Places {
         pool,
@@ -213,16 +233,16 @@ pub(crate) fn completed(
 }
 
 // The items that the worker held go to the pool's end.
-pub(crate) fn given_back(worker: u32, items: Indices, table: Places) -> Result<Places, OutOfMemory>
+pub(crate) fn given_back(alloc: Global, worker: u32, items: Indices, table: Places) -> Result<Places, OutOfMemory>
     ensures { IfOk result (λ r. r ≡ given_back worker items table) }
 {
     let Places {
         mut pool,
-        mut rota,
+        rota,
         reported,
     } = table;
     add_all(&mut pool, &items.items)?;
-    at_seat(worker, &Change::Gives(items), &mut rota)?;
+    let rota = at_seat(alloc, worker, &Change::Gives(items), &rota)?;
     Ok(Places {
         pool,
         rota,
@@ -269,15 +289,15 @@ pub(crate) fn died(alloc: Global, worker: u32, table: Places) -> Result<Places, 
 }
 
 // The worker is told to shut down.
-pub(crate) fn shut_down(worker: u32, table: Places) -> Result<Places, OutOfMemory>
+pub(crate) fn shut_down(alloc: Global, worker: u32, table: Places) -> Result<Places, OutOfMemory>
     ensures { IfOk result (λ r. r ≡ shut_down worker table) }
 {
     let Places {
         pool,
-        mut rota,
+        rota,
         reported,
     } = table;
-    at_seat(worker, &Change::Shuts, &mut rota)?;
+    let rota = at_seat(alloc, worker, &Change::Shuts, &rota)?;
     Ok(Places {
         pool,
         rota,
