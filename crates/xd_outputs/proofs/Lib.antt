@@ -1,1 +1,2 @@
+pub mod LargestFirst
 pub mod Lists
