@@ -1,2 +1,5 @@
 pub mod LargestFirst
 pub mod Lists
+pub mod ScopeLoops
+pub mod TurnLoops
+pub mod UnitLoops

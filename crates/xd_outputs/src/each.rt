@@ -1,14 +1,38 @@
 // The rules of mode each.
-ghost use Rattle.std.specs.Prelude.{◌≡◌, ◌-◌, map, IfOk};
+ghost use Rattle.std.specs.Prelude.{◌≡◌, ◌-◌, ◌++◌, ◌∷◌, [], map, IfOk};
+ghost use Rattle.xd_ledger.specs.declared.entry.Entry.TheVariants.{RunAll};
+ghost use Rattle.xd_ledger.specs.Plan.{base, slot_items};
+ghost use Rattle.xd_ledger.specs.Table.{assigned};
 ghost use Rattle.xd_ledger.specs.Each.{give_all, give_slots, share, remainder, give_of_slot, joins};
 
 use crate::numbers::{add, none};
+use crate::plan::ModePlan;
 use crate::table::assigned;
 use crate::turn::{ModeTurn, shut};
 use crate::units::common;
 use std::alloc::Global;
 use xd_edge::{Indices, OutOfMemory};
 use xd_ledger::Entry;
+
+// The worker gets all tests of its slot.
+fn told_all(
+    alloc: Global,
+    worker: u32,
+    slot: u32,
+    turn: ModeTurn,
+) -> Result<ModeTurn, OutOfMemory>
+    ensures { IfOk result (λ r. r ≡ record turn { table = assigned worker (slot_items slot turn.plan) turn.table; acts = turn.acts ++ RunAll worker ∷ [] }) }
+{
+    let items = turn.plan.slot_items(alloc, slot)?;
+    let ModeTurn {
+        table,
+        plan,
+        mut acts,
+    } = turn;
+    let table = assigned(alloc, worker, items, table)?;
+    acts.push(Entry::RunAll { worker })?;
+    Ok(ModeTurn { table, plan, acts })
+}
 
 // The worker gets all tests of its slot, and runs them to the last one.
 fn give_all(
@@ -19,15 +43,8 @@ fn give_all(
 ) -> Result<ModeTurn, OutOfMemory>
     ensures { IfOk result (λ r. r ≡ give_all worker slot turn) }
 {
-    let items = turn.plan.slot_items(alloc, slot)?;
-    let ModeTurn {
-        table,
-        plan,
-        mut acts,
-    } = turn;
-    let table = assigned(alloc, worker, items, table)?;
-    acts.push(Entry::RunAll { worker })?;
-    let turn = shut(alloc, worker, ModeTurn { table, plan, acts })?;
+    let turn = told_all(alloc, worker, slot, turn)?;
+    let turn = shut(alloc, worker, turn)?;
     Ok(turn)
 }
 
@@ -68,15 +85,21 @@ fn remainder(alloc: Global, slot: u32, turn: &ModeTurn) -> Result<Indices, OutOf
     common(alloc, &turn.table.pool.items, &items.items)
 }
 
-// The number taken from each.
-fn moved_down(alloc: Global, by: u32, numbers: &[u32]) -> Result<Indices, OutOfMemory>
-    ensures { IfOk result (λ r. r ≡ map (λ i. i - by) numbers.now) }
+// The places of these items in the slot.
+fn places_of(
+    alloc: Global,
+    slot: u32,
+    items: &[u32],
+    plan: &ModePlan,
+) -> Result<Indices, OutOfMemory>
+    ensures { IfOk result (λ r. r ≡ map (λ item. item - base slot plan.now) items.now) }
 {
-    let mut rests = none(alloc);
-    for number in numbers {
-        add(&mut rests, number.saturating_sub(by))?;
+    let mut places = none(alloc);
+    let first = plan.base(slot)?;
+    for item in items {
+        add(&mut places, item.saturating_sub(first))?;
     }
-    Ok(rests)
+    Ok(places)
 }
 
 // These items of the slot, named by their places in it.
@@ -92,8 +115,7 @@ fn give_of_slot(
     if items.items.len() == 0 {
         return Ok(turn);
     }
-    let first = turn.plan.base(slot)?;
-    let indices = moved_down(alloc, first, &items.items)?;
+    let indices = places_of(alloc, slot, &items.items, &turn.plan)?;
     let ModeTurn {
         table,
         plan,

@@ -104,6 +104,18 @@ fn give_more(alloc: Global, worker: u32, turn: ModeTurn) -> Result<ModeTurn, Out
     Ok(turn)
 }
 
+// Units for a worker that does not hold more than it needs.
+fn give_where_due(alloc: Global, worker: u32, turn: ModeTurn) -> Result<ModeTurn, OutOfMemory>
+    ensures { IfOk result (λ r. r ≡ (if nat_lt enough (length (held worker turn.table)) then turn else give_more enough worker (give_unit worker turn))) }
+{
+    if turn.table.held(worker).len() > ENOUGH {
+        return Ok(turn);
+    }
+    let turn = give_unit(alloc, worker, turn)?;
+    let turn = give_more(alloc, worker, turn)?;
+    Ok(turn)
+}
+
 pub(crate) fn refill_units(
     alloc: Global,
     worker: u32,
@@ -118,10 +130,6 @@ pub(crate) fn refill_units(
         let turn = shut(alloc, worker, turn)?;
         return Ok(turn);
     }
-    if turn.table.held(worker).len() > ENOUGH {
-        return Ok(turn);
-    }
-    let turn = give_unit(alloc, worker, turn)?;
-    let turn = give_more(alloc, worker, turn)?;
+    let turn = give_where_due(alloc, worker, turn)?;
     Ok(turn)
 }

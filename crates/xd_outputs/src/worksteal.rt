@@ -144,7 +144,7 @@ fn after_dealing(alloc: Global, turn: ModeTurn) -> Result<ModeTurn, OutOfMemory>
     ensures { IfOk result (λ r. r ≡ after_dealing turn) }
 {
     let workers = idle(alloc, &turn.table)?;
-    if workers.items.len() == 0 || turn.plan.steal.is_some() {
+    if workers.items.len() == 0 || turn.plan.is_asking() {
         return Ok(turn);
     }
     let victim = victim(alloc, &turn.table)?;
