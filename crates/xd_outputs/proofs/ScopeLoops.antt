@@ -1,5 +1,6 @@
 -- A text is read from its front, two characters at a time.
-use Rattle.std.proofs.Common.{◌≡◌, ℕ, zero, suc, ◌+◌, ◌<◌, ◌≤◌, Bool, true, false, List, [], ◌∷◌, ◌++◌, take, drop, length, refl, ap, sym, ◌∙◌, arith}
+use Rattle.std.proofs.Common.{◌≡◌, ℕ, zero, suc, ◌+◌, ◌<◌, ◌≤◌, Bool, true, false, List, [], ◌∷◌, ◌++◌, take, drop, length, get_or, ◌==◌, refl, ap, sym, ◌∙◌, arith}
+use Rattle.std.specs.Prelude.{◌&&◌}
 use Rattle.std.proofs.lemmas.List.{take-append-drop}
 use Rattle.std.proofs.lemmas.Grind.{common_steps}
 use Rattle.xd_ledger.specs.Scopes.{before_first, has_colons, before_last}
@@ -40,3 +41,13 @@ last-more (x ∷ y ∷ ys) (suc i) h e =
     let k : suc i + 1 ≡ suc (i + 1) = omega arith in
     let f : has_colons (drop (suc (i + 1)) (x ∷ y ∷ ys)) ≡ true = ap (λ n. has_colons (drop n (x ∷ y ∷ ys))) (sym k) ∙ e in
     ap (λ zs. x ∷ zs) (last-more (y ∷ ys) i (omega arith) f) ∙ ap (λ n. take n (x ∷ y ∷ ys) ++ before_last (drop n (x ∷ y ∷ ys))) (sym k)
+
+-- where no "::" stands, the character stands before the first one
+pub first-more : (xs : List ℕ) (i : ℕ) (d e : ℕ) → i + 1 < length xs → (get_or xs i d == 58 && get_or xs (i + 1) e == 58) ≡ false → take i xs ++ before_first (drop i xs) ≡ take (i + 1) xs ++ before_first (drop (i + 1) xs)
+first-more [] i d e h k = absurd (omega arith)
+first-more (x ∷ []) i d e h k = absurd (omega arith)
+first-more (x ∷ y ∷ ys) zero d e h k = rw k refl
+first-more (x ∷ y ∷ ys) (suc i) d e h k =
+    let n : suc i + 1 ≡ suc (i + 1) = omega arith in
+    let f : (get_or (y ∷ ys) i d == 58 && get_or (y ∷ ys) (i + 1) e == 58) ≡ false = ap (λ n. (get_or (y ∷ ys) i d == 58 && get_or (x ∷ y ∷ ys) n e == 58)) (sym n) ∙ k in
+    ap (λ zs. x ∷ zs) (first-more (y ∷ ys) i d e (omega arith) f) ∙ ap (λ n. take n (x ∷ y ∷ ys) ++ before_first (drop n (x ∷ y ∷ ys))) (sym n)

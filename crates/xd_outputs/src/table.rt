@@ -9,12 +9,13 @@ use std::marker::Model;
 use xd_edge::{Indices, OutOfMemory};
 use xd_ledger::Seat;
 
-// The pool, the workers of the rota with what they hold, and what was reported.
+// The pool, the workers of the rota with what they hold, what was reported, and whoever joined.
 #[derive(Drop)]
 pub(crate) struct Places {
     pub(crate) pool: Indices,
     pub(crate) rota: Vec<Seat>,
     pub(crate) reported: Indices,
+    pub(crate) who_joined: Indices,
 }
 
 impl Model for Places {
@@ -22,7 +23,7 @@ impl Model for Places {
 
     ghost Value = { Table };
 
-    ghost view = { λ t. record { pool = t.pool; rota = t.rota.items; reported = t.reported } };
+    ghost view = { λ t. record { pool = t.pool; rota = t.rota.items; reported = t.reported; who_joined = t.who_joined } };
 }
 
 // What happens to the seat of a worker: it holds these too, it no longer holds these, or it is told to shut down.
@@ -125,6 +126,7 @@ impl Places {
             pool,
             rota: Vec::new(alloc),
             reported: none(alloc),
+            who_joined: none(alloc),
         }
     }
 
@@ -134,10 +136,12 @@ impl Places {
         let pool = copy_of(alloc, &self.pool.items)?;
         let rota = copy_of_rota(alloc, &self.rota)?;
         let reported = copy_of(alloc, &self.reported.items)?;
+        let who_joined = copy_of(alloc, &self.who_joined.items)?;
         Ok(Places {
             pool,
             rota,
             reported,
+            who_joined,
         })
     }
 
@@ -177,16 +181,19 @@ pub(crate) fn joined(alloc: Global, worker: u32, table: Places) -> Result<Places
         pool,
         mut rota,
         reported,
+        mut who_joined,
     } = table;
     rota.push(Seat {
         worker,
         held: none(alloc),
         shut: false,
     })?;
+    add(&mut who_joined, worker)?;
     Ok(Places {
         pool,
         rota,
         reported,
+        who_joined,
     })
 }
 
@@ -198,6 +205,7 @@ pub(crate) fn assigned(alloc: Global, worker: u32, items: Indices, table: Places
         mut pool,
         rota,
         reported,
+        who_joined,
     } = table;
     take_out(&items.items, &mut pool);
     let rota = at_seat(alloc, worker, &Change::Holds(items), &rota)?;
@@ -205,6 +213,7 @@ pub(crate) fn assigned(alloc: Global, worker: u32, items: Indices, table: Places
         pool,
         rota,
         reported,
+        who_joined,
     })
 }
 
@@ -221,6 +230,7 @@ pub(crate) fn completed(
         pool,
         rota,
         mut reported,
+        who_joined,
     } = table;
     let gone = copy_of(alloc, &[item])?;
     let rota = at_seat(alloc, worker, &Change::Gives(gone), &rota)?;
@@ -229,6 +239,7 @@ pub(crate) fn completed(
         pool,
         rota,
         reported,
+        who_joined,
     })
 }
 
@@ -240,6 +251,7 @@ pub(crate) fn given_back(alloc: Global, worker: u32, items: Indices, table: Plac
         mut pool,
         rota,
         reported,
+        who_joined,
     } = table;
     add_all(&mut pool, &items.items)?;
     let rota = at_seat(alloc, worker, &Change::Gives(items), &rota)?;
@@ -247,6 +259,7 @@ pub(crate) fn given_back(alloc: Global, worker: u32, items: Indices, table: Plac
         pool,
         rota,
         reported,
+        who_joined,
     })
 }
 
@@ -258,12 +271,14 @@ pub(crate) fn left(worker: u32, table: Places) -> Places
         pool,
         mut rota,
         reported,
+        who_joined,
     } = table;
     leave(worker, &mut rota);
     Places {
         pool,
         rota,
         reported,
+        who_joined,
     }
 }
 
@@ -277,6 +292,7 @@ pub(crate) fn died(alloc: Global, worker: u32, table: Places) -> Result<Places, 
         mut pool,
         mut rota,
         mut reported,
+        who_joined,
     } = table;
     leave(worker, &mut rota);
     add_all(&mut pool, &held.items[first..])?;
@@ -285,6 +301,7 @@ pub(crate) fn died(alloc: Global, worker: u32, table: Places) -> Result<Places, 
         pool,
         rota,
         reported,
+        who_joined,
     })
 }
 
@@ -296,11 +313,13 @@ pub(crate) fn shut_down(alloc: Global, worker: u32, table: Places) -> Result<Pla
         pool,
         rota,
         reported,
+        who_joined,
     } = table;
     let rota = at_seat(alloc, worker, &Change::Shuts, &rota)?;
     Ok(Places {
         pool,
         rota,
         reported,
+        who_joined,
     })
 }
