@@ -11,23 +11,17 @@ slots-more ws slots i t d h k =
     ap (λ xs. give_slots xs (drop i slots) t) (drop_more ws i d h)
     ∙ ap (λ ys. give_slots (get_or ws i d ∷ drop (i + 1) ws) ys t) (drop_more slots i d k)
 
-pub slots-end : (ws slots : List ℕ) (i : ℕ) (t : Turn) → length ws ≤ i → give_slots (drop i ws) (drop i slots) t ≡ t
-slots-end [] slots zero t h = refl
-slots-end [] slots (suc i) t h = refl
-slots-end (w ∷ ws) slots zero t h = absurd (omega arith)
-slots-end (w ∷ ws) [] (suc i) t h = slots-end ws [] i t (omega arith)
-slots-end (w ∷ ws) (s ∷ slots) (suc i) t h = slots-end ws slots i t (omega arith)
-
 no_slots : (ws : List ℕ) (t : Turn) → give_slots ws [] t ≡ t
 no_slots [] t = refl
 no_slots (w ∷ ws) t = refl
 
-pub slots-end_too : (ws slots : List ℕ) (i : ℕ) (t : Turn) → length slots ≤ i → give_slots (drop i ws) (drop i slots) t ≡ t
-slots-end_too ws [] zero t h = no_slots ws t
-slots-end_too ws [] (suc i) t h = no_slots (drop (suc i) ws) t
-slots-end_too ws (s ∷ slots) zero t h = absurd (omega arith)
-slots-end_too [] (s ∷ slots) (suc i) t h = refl
-slots-end_too (w ∷ ws) (s ∷ slots) (suc i) t h = slots-end_too ws slots i t (omega arith)
+pub slots-ended : (ws slots : List ℕ) (i : ℕ) (t : Turn) → (i < length ws → length slots ≤ i) → give_slots (drop i ws) (drop i slots) t ≡ t
+slots-ended [] slots zero t h = refl
+slots-ended [] slots (suc i) t h = refl
+slots-ended (w ∷ ws) [] zero t h = refl
+slots-ended (w ∷ ws) [] (suc i) t h = no_slots (drop i ws) t
+slots-ended (w ∷ ws) (s ∷ slots) zero t h = let m : suc (length slots) ≤ 0 = h (omega arith) in absurd (omega arith)
+slots-ended (w ∷ ws) (s ∷ slots) (suc i) t h = slots-ended ws slots i t (λ l. (let m : suc (length slots) ≤ suc i = h (omega arith) in omega arith))
 
 pub dealt-more : (ws : List ℕ) (i : ℕ) (t : Turn) (d : ℕ) → i < length ws
     → dealt (drop i ws) t ≡ dealt (drop (i + 1) ws) (give_front (get_or ws i d) (length t.table.pool / (length ws - i)) t)
