@@ -1,7 +1,9 @@
 pub mod DifferLoops
 pub mod LargestFirst
 pub mod Lists
+pub mod Pins
 pub mod ScopeLoops
 pub mod SizeLoops
+pub mod StartLoops
 pub mod TurnLoops
 pub mod UnitLoops

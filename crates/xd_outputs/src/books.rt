@@ -4,6 +4,7 @@ ghost use Rattle.xd_ledger.specs.Books.{marked};
 ghost use Rattle.xd_ledger.specs.Workers.{is_shut, slot_of, slot_in, waiting, is_waiting};
 ghost use Rattle.xd_outputs.specs.Marks.{mark_of};
 
+use crate::collections::copy_of_texts;
 use crate::numbers::{add, none};
 use crate::table::Places;
 use std::alloc::Global;
@@ -41,7 +42,7 @@ pub(crate) enum Mark {
     Gone,
 }
 
-fn mark(what: Mark, worker: u32, member: Member) -> Member
+fn marked_member(what: Mark, worker: u32, member: Member) -> Member
     ensures { result ≡ mark_of what worker member }
 {
     let mut marked = member;
@@ -65,7 +66,7 @@ fn marked_crew(
 {
     let mut members = Vec::new(alloc);
     for member in crew {
-        members.push(mark(what, worker, *member))?;
+        members.push(marked_member(what, worker, *member))?;
     }
     Ok(members)
 }
@@ -95,7 +96,47 @@ fn slot_in(worker: u32, crew: &[Member]) -> u32
     0
 }
 
+fn copy_of_lists(alloc: Global, lists: &[Listed]) -> Result<Vec<Listed>, OutOfMemory>
+    ensures { IfOk result (λ r. r.items ≡ lists.now) }
+{
+    let mut copies = Vec::new(alloc);
+    for list in lists {
+        copies.push(copy_of_list(alloc, list)?)?;
+    }
+    Ok(copies)
+}
+
+fn copy_of_list(alloc: Global, list: &Listed) -> Result<Listed, OutOfMemory>
+    ensures { IfOk result (λ r. r ≡ list.now) }
+{
+    let ids = copy_of_texts(alloc, &list.ids.items)?;
+    Ok(Listed {
+        slot: list.slot,
+        worker: list.worker,
+        ids,
+    })
+}
+
 impl RunBooks {
+    pub(crate) fn copy(&self, alloc: Global) -> Result<RunBooks, OutOfMemory>
+        ensures { IfOk result (λ r. r ≡ self.now) }
+    {
+        let crew = Vec::from_slice(alloc, &self.crew)?;
+        let lists = copy_of_lists(alloc, &self.lists)?;
+        let table = self.table.copy(alloc)?;
+        Ok(RunBooks {
+            settings: self.settings,
+            crew,
+            lists,
+            table,
+            shared: self.shared,
+            failures: self.failures,
+            deaths: self.deaths,
+            stop: self.stop,
+            shutting: self.shutting,
+        })
+    }
+
     // The worker was started, and told to shut down.
     pub(crate) fn is_shut(&self, worker: u32) -> bool
         ensures { result ≡ is_shut worker self.now }

@@ -1,12 +1,15 @@
-//! The outputs behind an input of a run with workers, and the whole journal that inputs make, computed by the definitions.
+//! The outputs behind an input of a run with workers, and the whole journal that inputs make, computed as the definitions
+//! say, one function for each of them. Plain and slow: it is what other programs are compared with.
 #![tactic(auto)]
 
 mod books;
 mod collections;
 mod each;
+mod histories;
 mod load;
 mod modes;
 mod numbers;
+mod outputs;
 mod plan;
 mod scope_modes;
 mod scopes;
@@ -18,3 +21,11 @@ mod table;
 mod turn;
 mod units;
 mod worksteal;
+
+pub use histories::journal_of;
+pub use outputs::outputs;
+
+#[cfg(test)]
+mod journals;
+#[cfg(test)]
+mod tests;

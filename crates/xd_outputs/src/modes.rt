@@ -1,7 +1,8 @@
 // What each mode does at each of its calls.
-ghost use Rattle.std.specs.Prelude.{◌≡◌, ◌*◌, length, take, drop, reverse, IfOk};
-ghost use Rattle.xd_ledger.specs.Load.{dealt, share as load_share, refill_all as load_refill_all};
+ghost use Rattle.std.specs.Prelude.{◌≡◌, ◌*◌, ◌++◌, length, take, drop, reverse, IfOk};
+ghost use Rattle.xd_ledger.specs.Load.{give_unless_shut, first_batch, dealt, share as load_share, refill_all as load_refill_all};
 ghost use Rattle.xd_ledger.specs.Modes.{turned, load_turn, each_turn, worksteal_turn, scope_turn};
+ghost use Rattle.xd_ledger.specs.Plan.{chunk_of};
 ghost use Rattle.xd_ledger.specs.ScopeModes.{give_unit, refill, share as scope_share, refill_all as scope_refill_all, shut_where_spent};
 ghost use Rattle.xd_ledger.specs.Table.{workers_of};
 ghost use Rattle.xd_ledger.specs.Turn.{in_turn, shut_each};
@@ -29,22 +30,37 @@ pub(crate) enum ModeCall {
     Died,
 }
 
-// Mode load deals its tests: singly in two rounds at most where there are few, else in batches.
+// Each of these workers gets one test, and then each of them another one.
+fn singly(alloc: Global, workers: &[u32], turn: ModeTurn) -> Result<ModeTurn, OutOfMemory>
+    ensures { IfOk result (λ r. r ≡ in_turn (give_unless_shut 1) (workers.now ++ workers.now) turn) }
+{
+    let mut twice = copy_of(alloc, workers)?;
+    add_all(&mut twice, workers)?;
+    let turn = in_turn(alloc, Step::Give(1), &twice.items, turn)?;
+    Ok(turn)
+}
+
+// Each of these workers gets its first batch.
+fn in_batches(alloc: Global, workers: &[u32], turn: ModeTurn) -> Result<ModeTurn, OutOfMemory>
+    ensures { IfOk result (λ r. r ≡ in_turn (give_unless_shut (first_batch (length turn.table.pool) (length workers.now) (chunk_of turn.plan))) workers.now turn) }
+{
+    let tests = turn.table.pool.items.len();
+    let chunk = turn.plan.chunk()? as usize;
+    let batch = first_batch(tests, workers.len(), chunk);
+    let turn = in_turn(alloc, Step::Give(batch), workers, turn)?;
+    Ok(turn)
+}
+
+// Mode load deals its tests: singly where there are few, else in batches.
 fn load_dealt(alloc: Global, turn: ModeTurn) -> Result<ModeTurn, OutOfMemory>
     ensures { IfOk result (λ r. r ≡ dealt turn) }
 {
     let tests = turn.table.pool.items.len();
-    let mut workers = turn.table.workers(alloc)?;
-    let count = workers.items.len();
-    if tests < times_enough(count)? {
-        let again = turn.table.workers(alloc)?;
-        add_all(&mut workers, &again.items)?;
-        let turn = in_turn(alloc, Step::Give(1), &workers.items, turn)?;
-        return Ok(turn);
+    let workers = turn.table.workers(alloc)?;
+    if tests < times_enough(workers.items.len())? {
+        return singly(alloc, &workers.items, turn);
     }
-    let chunk = turn.plan.chunk()? as usize;
-    let batch = first_batch(tests, count, chunk);
-    let turn = in_turn(alloc, Step::Give(batch), &workers.items, turn)?;
+    let turn = in_batches(alloc, &workers.items, turn)?;
     Ok(turn)
 }
 
@@ -85,7 +101,7 @@ fn scope_refill_all(alloc: Global, turn: ModeTurn) -> Result<ModeTurn, OutOfMemo
 fn shut_where_spent(alloc: Global, turn: ModeTurn) -> Result<ModeTurn, OutOfMemory>
     ensures { IfOk result (λ r. r ≡ shut_where_spent turn) }
 {
-    if turn.plan.queue.len() > 0 {
+    if turn.plan.units() > 0 {
         return Ok(turn);
     }
     let workers = turn.table.workers(alloc)?;
@@ -118,7 +134,7 @@ fn scope_dealt(alloc: Global, turn: ModeTurn) -> Result<ModeTurn, OutOfMemory>
         (in_turn give_unit (take (length turn.plan.queue) (workers_of turn.table))
         (shut_each (reverse (drop (length turn.plan.queue) (workers_of turn.table))) turn))) }
 {
-    let units = turn.plan.queue.len();
+    let units = turn.plan.units();
     let workers = turn.table.workers(alloc)?;
     let first = first_ones(alloc, &workers.items, units)?;
     let last = last_ones(alloc, &workers.items, units)?;

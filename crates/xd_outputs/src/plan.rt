@@ -1,5 +1,5 @@
 // What a mode remembers beside the table, and how entries name items.
-ghost use Rattle.std.specs.Prelude.{◌≡◌, ◌+◌, map, slice_index, is_some, IfOk};
+ghost use Rattle.std.specs.Prelude.{◌≡◌, ◌+◌, map, slice_index, is_some, length, IfOk};
 ghost use Rattle.xd_ledger.specs.Plan.{is_each, is_scope, base, items_named, slot_items, total, chunk_of};
 
 use crate::numbers::{add, copy_of, none, plus, range, sum_of};
@@ -149,6 +149,13 @@ impl ModePlan {
         ensures { result ≡ is_some self.now.steal }
     {
         self.steal.is_some()
+    }
+
+    // How many units wait.
+    pub(crate) fn units(&self) -> usize
+        ensures { result ≡ length self.now.queue }
+    {
+        self.queue.len()
     }
 
     // The first item of the slot; 0 but in mode each.

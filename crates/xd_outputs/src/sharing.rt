@@ -1,14 +1,17 @@
 // How workers join, and when the tests are shared.
-ghost use Rattle.std.specs.Prelude.{◌≡◌, length, IfOk};
+ghost use Rattle.std.specs.Prelude.{◌≡◌, [], sum, IfOk, if◌then◌else◌};
+ghost use Rattle.std.specs.List.{range_with_len};
 ghost use Rattle.xd_ledger.specs.Books.{on_table};
-ghost use Rattle.xd_ledger.specs.Sharing.{sizes_from, planned, shared_now, is_full, share_where_full, joining, in_books};
+ghost use Rattle.xd_ledger.specs.Sharing.{ids_at, sizes_from, planned, shared_now, is_full, share_where_full, joining, in_books};
+ghost use Rattle.xd_ledger.specs.Plan.{is_scope};
 ghost use Rattle.xd_ledger.specs.Table.{joined};
+ghost use Rattle.xd_ledger.specs.Units.{units};
 
 use crate::books::RunBooks;
 use crate::collections::ids_at;
 use crate::numbers::{add, count_of, none, range, sum_of};
 use crate::plan::{ModePlan, is_each, is_scope};
-use crate::table::joined;
+use crate::table::{Places, joined};
 use crate::units::units;
 use std::alloc::Global;
 use std::marker::Model;
@@ -28,6 +31,16 @@ impl Model for RunState {
     ghost Value = { State };
 
     ghost view = { λ s. record { books = s.books; plan = s.plan } };
+}
+
+impl RunState {
+    pub(crate) fn copy(&self, alloc: Global) -> Result<RunState, OutOfMemory>
+        ensures { IfOk result (λ r. r ≡ self.now) }
+    {
+        let books = self.books.copy(alloc)?;
+        let plan = self.plan.copy(alloc)?;
+        Ok(RunState { books, plan })
+    }
 }
 
 // How many tests each of so many slots has.
@@ -72,6 +85,21 @@ fn planned(
     Ok(plan)
 }
 
+// All items of the plan, in order.
+fn all_items(alloc: Global, plan: &ModePlan) -> Result<Indices, OutOfMemory>
+    ensures { IfOk result (λ r. r ≡ range_with_len 0 (sum plan.now.sizes)) }
+{
+    let items = sum_of(&plan.sizes.items)?;
+    range(alloc, 0, items)
+}
+
+fn filled(pool: Indices, mut table: Places) -> Places
+    ensures { result ≡ record table { pool = pool } }
+{
+    table.pool = pool;
+    table
+}
+
 // All items come into the pool, in order.
 fn shared_now(alloc: Global, state: RunState) -> Result<RunState, OutOfMemory>
     ensures { IfOk result (λ r. r ≡ shared_now state) }
@@ -79,8 +107,8 @@ fn shared_now(alloc: Global, state: RunState) -> Result<RunState, OutOfMemory>
     let RunState { mut books, plan } = state;
     let settings: Settings = books.settings;
     let plan = planned(alloc, &books.lists, settings.workers, plan)?;
-    let items = sum_of(&plan.sizes.items)?;
-    books.table.pool = range(alloc, 0, items)?;
+    let pool = all_items(alloc, &plan)?;
+    books.table = filled(pool, books.table);
     books.shared = true;
     Ok(RunState { books, plan })
 }

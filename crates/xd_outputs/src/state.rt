@@ -3,7 +3,7 @@ ghost use Rattle.std.specs.Prelude.{◌≡◌, ◌+◌, ◌++◌, ◌∷◌, [],
 ghost use Rattle.std.specs.List.{list_all};
 ghost use Rattle.xd_ledger.specs.Plan.{items_named};
 ghost use Rattle.xd_ledger.specs.State.{run_plan, after_run, after_run_all, after_back, failing, completed_first, done_stop, done_books, collecting, after_collected, gone, buried, down_books, steal_without, down_plan, after_down, moved, is_input, is_finished, settles, settled, reached, next, all_moved, no_one, state_at};
-ghost use Rattle.xd_ledger.specs.Table.{held, left, shut_down};
+ghost use Rattle.xd_ledger.specs.Table.{assigned, held, left, shut_down};
 ghost use Rattle.xd_ledger.specs.Books.{on_table, marked};
 ghost use Rattle.xd_ledger.specs.Sharing.{in_books};
 ghost use Rattle.xd_ledger.specs.Stops.{stopped_by};
@@ -41,6 +41,21 @@ fn run_plan(
     Ok(plan)
 }
 
+// The items that the Run names go to the worker.
+fn run_books(
+    alloc: Global,
+    worker: u32,
+    indices: &[u32],
+    plan: &ModePlan,
+    mut books: RunBooks,
+) -> Result<RunBooks, OutOfMemory>
+    ensures { IfOk result (λ r. r ≡ on_table (assigned worker (items_named (slot_of worker books) indices.now plan.now)) books) }
+{
+    let items = plan.items_named(alloc, books.slot_of(worker), indices)?;
+    books.table = assigned(alloc, worker, items, books.table)?;
+    Ok(books)
+}
+
 fn after_run(
     alloc: Global,
     worker: u32,
@@ -49,9 +64,8 @@ fn after_run(
 ) -> Result<RunState, OutOfMemory>
     ensures { IfOk result (λ r. r ≡ after_run worker indices.now state) }
 {
-    let RunState { mut books, plan } = state;
-    let items = plan.items_named(alloc, books.slot_of(worker), indices)?;
-    books.table = assigned(alloc, worker, items, books.table)?;
+    let RunState { books, plan } = state;
+    let books = run_books(alloc, worker, indices, &plan, books)?;
     let plan = run_plan(alloc, worker, indices, plan)?;
     Ok(RunState { books, plan })
 }
@@ -282,14 +296,22 @@ fn down_plan(
     Ok(plan)
 }
 
+// What the worker holds behind its head.
+fn rest_of(alloc: Global, worker: u32, books: &RunBooks) -> Result<Indices, OutOfMemory>
+    ensures { IfOk result (λ r. r ≡ drop 1 (held worker books.now.table)) }
+{
+    let held = books.table.held(worker);
+    let first = held.len().min(1);
+    copy_of(alloc, &held[first..])
+}
+
 fn after_down(alloc: Global, worker: u32, state: RunState) -> Result<RunState, OutOfMemory>
     ensures { IfOk result (λ r. r ≡ after_down worker state) }
 {
     let RunState { books, plan } = state;
-    let held = copy_of(alloc, books.table.held(worker))?;
+    let rest = rest_of(alloc, worker, &books)?;
     let books = down_books(alloc, worker, books)?;
-    let first = held.items.len().min(1);
-    let plan = down_plan(alloc, worker, &held.items[first..], plan)?;
+    let plan = down_plan(alloc, worker, &rest.items, plan)?;
     Ok(RunState { books, plan })
 }
 
