@@ -5,5 +5,6 @@ pub mod Pins
 pub mod ScopeLoops
 pub mod SizeLoops
 pub mod StartLoops
+pub mod StateSteps
 pub mod TurnLoops
 pub mod UnitLoops

@@ -2,7 +2,7 @@
 ghost use Rattle.std.specs.Prelude.{◌≡◌, IfOk};
 ghost use Rattle.xd_ledger.specs.Histories.{first_starts, journal_of};
 
-use crate::outputs::{outputs_behind, stepped};
+use crate::rule::{outputs_behind, stepped};
 use crate::state::state_at;
 use std::alloc::Global;
 use xd_edge::OutOfMemory;

@@ -9,8 +9,8 @@ mod histories;
 mod load;
 mod modes;
 mod numbers;
-mod outputs;
 mod plan;
+mod rule;
 mod scope_modes;
 mod scopes;
 mod sharing;
@@ -23,7 +23,7 @@ mod units;
 mod worksteal;
 
 pub use histories::journal_of;
-pub use outputs::outputs;
+pub use rule::outputs;
 
 #[cfg(test)]
 mod journals;

@@ -3,7 +3,7 @@ ghost use Rattle.std.specs.Prelude.{◌≡◌, ◌++◌, ◌∷◌, [], map, IfO
 ghost use Rattle.xd_ledger.specs.Outputs.{shut_all, turn_of, acts_of, unless_stopped, slots_of_rota, after_joining, after_death, own_outputs, closing, outputs, stepped};
 ghost use Rattle.xd_ledger.specs.State.{moved, all_moved, settled, state_at};
 ghost use Rattle.xd_ledger.specs.Stops.{is_shutting};
-ghost use Rattle.xd_ledger.specs.Workers.{is_shut};
+ghost use Rattle.xd_ledger.specs.Workers.{is_shut, slot_of};
 ghost use Rattle.xd_ledger.specs.Modes.Call.{Died};
 ghost use Rattle.xd_ledger.specs.declared.entry.Entry.TheVariants.{Kill, Shutdown};
 ghost use Rattle.xd_outputs.specs.ModeCalls.{call_of};
@@ -71,15 +71,23 @@ fn acts_of(alloc: Global, call: &ModeCall, state: &RunState) -> Result<Vec<Entry
     Ok(acts)
 }
 
+// The slots of these workers.
+fn slots_of(alloc: Global, workers: &[u32], books: &RunBooks) -> Result<Indices, OutOfMemory>
+    ensures { IfOk result (λ r. r ≡ map (λ w. slot_of w books.now) workers.now) }
+{
+    let mut slots = none(alloc);
+    for worker in workers {
+        add(&mut slots, books.slot_of(*worker))?;
+    }
+    Ok(slots)
+}
+
 // The slots of the rota's workers, in rota order.
 fn slots_of_rota(alloc: Global, books: &RunBooks) -> Result<Indices, OutOfMemory>
     ensures { IfOk result (λ r. r ≡ slots_of_rota books.now) }
 {
     let workers = books.table.workers(alloc)?;
-    let mut slots = none(alloc);
-    for worker in &workers.items {
-        add(&mut slots, books.slot_of(*worker))?;
-    }
+    let slots = slots_of(alloc, &workers.items, books)?;
     Ok(slots)
 }
 
