@@ -1,5 +1,5 @@
 -- The first starts, one after another; and a journal that grows by an input.
-use Rattle.std.proofs.Common.{◌≡◌, ℕ, zero, suc, ◌+◌, List, [], ◌∷◌, ◌++◌, length, refl, ap, sym, ◌∙◌, arith}
+use Rattle.std.proofs.Common.{◌≡◌, ℕ, zero, suc, ◌+◌, List, [], ◌∷◌, ◌++◌, take, drop, length, get_or, ◌<◌, refl, ap, sym, ◌∙◌, arith}
 use Rattle.std.proofs.lemmas.List.{append_assoc}
 use Rattle.xd_ledger.specs.declared.entry.Entry.{Entry}
 use Rattle.xd_ledger.specs.declared.entry.Entry.TheVariants.{Start}
@@ -22,3 +22,8 @@ grown-more s e es done outs pushed now t all a b p n h =
     ∙ append_assoc (done ++ e ∷ []) (outputs s e) (grown (stepped s e) es)
     ∙ append_assoc done (e ∷ []) (outputs s e ++ grown (stepped s e) es)
     ∙ h
+
+-- the first is taken out
+pub taken-first : {X : Type 0} (xs ys : List X) (x : X) → 0 < length xs → x ≡ get_or xs 0 x → ys ≡ take 0 xs ++ drop 1 xs → xs ≡ x ∷ ys
+taken-first [] ys x h e r = absurd (omega arith)
+taken-first (y ∷ xs) ys x h e r = ap (λ z. z ∷ xs) (sym e) ∙ ap (λ zs. x ∷ zs) (sym r)
