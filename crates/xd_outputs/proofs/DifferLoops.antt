@@ -1,5 +1,5 @@
 -- Two lists of texts are compared place by place.
-use Rattle.std.proofs.Common.{◌≡◌, ℕ, zero, suc, ◌+◌, ◌<◌, ◌≤◌, min, Bool, true, false, List, [], ◌∷◌, drop, length, get_or, Option, Some, None, refl, ap, sym, ◌∙◌, arith}
+use Rattle.std.proofs.Common.{◌≡◌, ℕ, zero, suc, ◌+◌, ◌<◌, ◌≤◌, min, true, false, List, [], ◌∷◌, drop, length, get_or, Option, Some, None, refl, ap, sym, ◌∙◌, arith}
 use Rattle.std.specs.Str.{bytes_eq}
 use Rattle.xd_ledger.specs.Collections.{differ_at}
 
@@ -46,4 +46,3 @@ differ-end (x ∷ xs) [] zero h n = refl
 differ-end (x ∷ xs) [] (suc i) h n = absurd (omega arith)
 differ-end (x ∷ xs) (y ∷ ys) zero h n = absurd (omega arith)
 differ-end (x ∷ xs) (y ∷ ys) (suc i) h n = differ-end xs ys i (omega arith) (λ e. n (omega arith))
-

@@ -1,5 +1,5 @@
 -- What can happen to the seat of a worker.
-use Rattle.std.specs.Prelude.{List, ℕ, true, ◌++◌}
+use Rattle.std.specs.Prelude.{true, ◌++◌}
 use Rattle.xd_ledger.specs.declared.seat.Seat.{Seat}
 use Rattle.xd_ledger.specs.Numbers.{without}
 use Rattle.xd_outputs.specs.declared.table.Change.{Change}

@@ -15,12 +15,7 @@ use xd_edge::{Indices, OutOfMemory};
 use xd_ledger::Entry;
 
 // The worker gets all tests of its slot.
-fn told_all(
-    alloc: Global,
-    worker: u32,
-    slot: u32,
-    turn: ModeTurn,
-) -> Result<ModeTurn, OutOfMemory>
+fn told_all(alloc: Global, worker: u32, slot: u32, turn: ModeTurn) -> Result<ModeTurn, OutOfMemory>
     ensures { IfOk result (λ r. r ≡ record turn { table = assigned worker (slot_items slot turn.plan) turn.table; acts = turn.acts ++ RunAll worker ∷ [] }) }
 {
     let items = turn.plan.slot_items(alloc, slot)?;
@@ -35,12 +30,7 @@ fn told_all(
 }
 
 // The worker gets all tests of its slot, and runs them to the last one.
-fn give_all(
-    alloc: Global,
-    worker: u32,
-    slot: u32,
-    turn: ModeTurn,
-) -> Result<ModeTurn, OutOfMemory>
+fn give_all(alloc: Global, worker: u32, slot: u32, turn: ModeTurn) -> Result<ModeTurn, OutOfMemory>
     ensures { IfOk result (λ r. r ≡ give_all worker slot turn) }
 {
     let turn = told_all(alloc, worker, slot, turn)?;
@@ -65,11 +55,7 @@ fn give_slots(
 }
 
 // The slots are those of the rota's workers, in rota order.
-pub(crate) fn share(
-    alloc: Global,
-    slots: &[u32],
-    turn: ModeTurn,
-) -> Result<ModeTurn, OutOfMemory>
+pub(crate) fn share(alloc: Global, slots: &[u32], turn: ModeTurn) -> Result<ModeTurn, OutOfMemory>
     ensures { IfOk result (λ r. r ≡ share slots.now turn) }
 {
     let workers = turn.table.workers(alloc)?;

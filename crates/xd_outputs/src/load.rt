@@ -15,6 +15,7 @@ const SLOW_MS: u64 = 100;
 
 // A worker is refilled below this part of its even share of the pool, and up to the other part.
 const LOW_PART: usize = 4;
+
 const HIGH_PART: usize = 2;
 
 fn low(pool: usize, workers: usize) -> usize

@@ -107,10 +107,7 @@ fn copy_of_given(alloc: Global, given: &[HandedUnit]) -> Result<Vec<HandedUnit>,
     Ok(copies)
 }
 
-fn copy_of_steal(
-    alloc: Global,
-    steal: &Option<OpenSteal>,
-) -> Result<Option<OpenSteal>, OutOfMemory>
+fn copy_of_steal(alloc: Global, steal: &Option<OpenSteal>) -> Result<Option<OpenSteal>, OutOfMemory>
     ensures { IfOk result (λ r. r ≡ steal.now) }
 {
     match steal {

@@ -152,11 +152,7 @@ fn unless_stopped(
     Ok(outputs)
 }
 
-fn after_ready(
-    alloc: Global,
-    worker: u32,
-    now: &RunState,
-) -> Result<Vec<Entry>, OutOfMemory>
+fn after_ready(alloc: Global, worker: u32, now: &RunState) -> Result<Vec<Entry>, OutOfMemory>
     ensures { IfOk result (λ r. r.items ≡ (if is_shutting now.now.books then Shutdown worker ∷ [] else [])) }
 {
     let mut outputs = Vec::new(alloc);
@@ -250,11 +246,7 @@ fn own_outputs(
 }
 
 // Where nothing is left to hand out behind these outputs, all are shut.
-fn closed(
-    alloc: Global,
-    outputs: Vec<Entry>,
-    state: &RunState,
-) -> Result<Vec<Entry>, OutOfMemory>
+fn closed(alloc: Global, outputs: Vec<Entry>, state: &RunState) -> Result<Vec<Entry>, OutOfMemory>
     ensures { IfOk result (λ r. r.items ≡ outputs.items ++ closing state.now) }
 {
     let books = &state.books;

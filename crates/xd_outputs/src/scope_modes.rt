@@ -23,9 +23,9 @@ fn hand_out(
     turn: ModeTurn,
 ) -> Result<ModeTurn, OutOfMemory>
     ensures { IfOk result (λ r. r ≡ record {
-        table = assigned worker unit turn.table;
-        plan = record (turn.plan) { given = turn.plan.given ++ record { worker = worker; tests = unit } ∷ [] };
-        acts = turn.acts ++ Run worker unit ∷ [];
+      table = assigned worker unit turn.table;
+      plan = record (turn.plan) { given = turn.plan.given ++ record { worker = worker; tests = unit } ∷ [] };
+      acts = turn.acts ++ Run worker unit ∷ [];
     }) }
 {
     let ModeTurn {
@@ -60,11 +60,7 @@ fn hand_out(
 }
 
 // The unit at the queue's front.
-pub(crate) fn give_unit(
-    alloc: Global,
-    worker: u32,
-    turn: ModeTurn,
-) -> Result<ModeTurn, OutOfMemory>
+pub(crate) fn give_unit(alloc: Global, worker: u32, turn: ModeTurn) -> Result<ModeTurn, OutOfMemory>
     ensures { IfOk result (λ r. r ≡ give_unit worker turn) }
 {
     if turn.plan.queue.len() == 0 {
@@ -81,11 +77,7 @@ pub(crate) fn give_unit(
 }
 
 // Another unit, where the worker holds fewer than it needs.
-fn give_where_few(
-    alloc: Global,
-    worker: u32,
-    turn: ModeTurn,
-) -> Result<ModeTurn, OutOfMemory>
+fn give_where_few(alloc: Global, worker: u32, turn: ModeTurn) -> Result<ModeTurn, OutOfMemory>
     ensures { IfOk result (λ r. r ≡ (if nat_lt (length (held worker turn.table)) enough then give_unit worker turn else turn)) }
 {
     if turn.table.held(worker).len() >= ENOUGH {

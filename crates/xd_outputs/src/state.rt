@@ -397,8 +397,9 @@ pub(crate) fn moved(alloc: Global, state: RunState, entry: &Entry) -> Result<Run
         Entry::Back { worker, indices } => after_back(alloc, *worker, &indices.items, state),
         Entry::Finished { worker } => after_finished(alloc, *worker, state),
         Entry::Refused { worker, .. } => after_refused(alloc, *worker, state),
-        Entry::Down { worker, .. } | Entry::NotStarted { worker } =>
-            after_down(alloc, *worker, state),
+        Entry::Down { worker, .. } | Entry::NotStarted { worker } => after_down(
+            alloc, *worker, state,
+        ),
         Entry::Run { worker, indices } => after_run(alloc, *worker, &indices.items, state),
         Entry::RunAll { worker } => after_run_all(alloc, *worker, state),
         Entry::Steal { worker, indices } => after_steal(alloc, *worker, &indices.items, state),

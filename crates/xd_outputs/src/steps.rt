@@ -21,7 +21,12 @@ pub(crate) enum Step {
     RefillUnits,
 }
 
-fn take_step(alloc: Global, step: Step, worker: u32, turn: ModeTurn) -> Result<ModeTurn, OutOfMemory>
+fn take_step(
+    alloc: Global,
+    step: Step,
+    worker: u32,
+    turn: ModeTurn,
+) -> Result<ModeTurn, OutOfMemory>
     ensures { IfOk result (λ r. r ≡ step_of step worker turn) }
 {
     match step {

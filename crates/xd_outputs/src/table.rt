@@ -160,9 +160,11 @@ impl Places {
     pub(crate) fn is_shut(&self, worker: u32) -> bool
         ensures { result ≡ seat_shut worker self.now }
     {
-        self.rota
-            .iter()
-            .any(|seat| if seat.worker == worker { seat.shut } else { false })
+        self.rota.iter().any(|seat| if seat.worker == worker {
+            seat.shut
+        } else {
+            false
+        })
     }
 
     // What the worker holds, its head first.
@@ -198,7 +200,12 @@ pub(crate) fn joined(alloc: Global, worker: u32, table: Places) -> Result<Places
 }
 
 // The items go from the pool to the end of what the worker holds.
-pub(crate) fn assigned(alloc: Global, worker: u32, items: Indices, table: Places) -> Result<Places, OutOfMemory>
+pub(crate) fn assigned(
+    alloc: Global,
+    worker: u32,
+    items: Indices,
+    table: Places,
+) -> Result<Places, OutOfMemory>
     ensures { IfOk result (λ r. r ≡ assigned worker items table) }
 {
     let Places {
@@ -244,7 +251,12 @@ pub(crate) fn completed(
 }
 
 // The items that the worker held go to the pool's end.
-pub(crate) fn given_back(alloc: Global, worker: u32, items: Indices, table: Places) -> Result<Places, OutOfMemory>
+pub(crate) fn given_back(
+    alloc: Global,
+    worker: u32,
+    items: Indices,
+    table: Places,
+) -> Result<Places, OutOfMemory>
     ensures { IfOk result (λ r. r ≡ given_back worker items table) }
 {
     let Places {

@@ -3,7 +3,7 @@ ghost use Rattle.std.specs.Prelude.{◌≡◌, IfOk};
 ghost use Rattle.xd_ledger.specs.Worksteal.{idle, dealt, open_seats, most, first_with, victim, number, asks, asks_or_shuts, after_dealing, rule, share};
 
 use crate::numbers::{add, copy_of, none, part};
-use crate::plan::{OpenSteal};
+use crate::plan::OpenSteal;
 use crate::steps::shut_each;
 use crate::table::{Places, copy_of_seat};
 use crate::turn::{ModeTurn, give_front};

@@ -1,4 +1,4 @@
-use Rattle.std.proofs.Common.{◌≡◌, ◌+◌, suc, zero-add, arith}
+use Rattle.std.proofs.Common.{zero-add, arith}
 use Rattle.std.proofs.lemmas.Grind.{common_steps}
 use Rattle.xd_outputs.proofs.StartLoops.{starts-more}
 use Rattle.xd_outputs.proofs.histories.first_starts.Goals as goal

@@ -13,10 +13,10 @@ loop-i-preserved c =
     let left = c.index-id-i.result in
     let right = c.index-id-i-in-loop-i.result in
     let none : (get_or ids i left == 58 && get_or ids (i + 1) right == 58) ≡ false =
-        ap (λ (a : ℕ). (a == 58 && get_or ids (i + 1) right == 58)) (sym c.index-id-i.is)
-        ∙ ap (λ (m : ℕ). (left == 58 && get_or ids m right == 58)) k
-        ∙ ap (λ (b : ℕ). (left == 58 && b == 58)) (sym c.index-id-i-in-loop-i.is)
-        ∙ sym c.are_colons.ensures ∙ c.if-are_colons.false in
+    ap (λ (a : ℕ). (a == 58 && get_or ids (i + 1) right == 58)) (sym c.index-id-i.is)
+    ∙ ap (λ (m : ℕ). (left == 58 && get_or ids m right == 58)) k
+    ∙ ap (λ (b : ℕ). (left == 58 && b == 58)) (sym c.index-id-i-in-loop-i.is)
+    ∙ sym c.are_colons.ensures ∙ c.if-are_colons.false in
     c.loop-i.invariant ∙ first-more ids i left right (omega arith) none ∙ ap (λ n. take n ids ++ before_first (drop n ids)) (k ∙ n)
 
 pub returns : goal.returns

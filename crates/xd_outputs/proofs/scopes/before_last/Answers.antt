@@ -1,4 +1,4 @@
-use Rattle.std.proofs.Common.{◌≡◌, true, sym, length, ◌-◌, ◌+◌, ◌∙◌, ◌++◌, ap, drop, take, arith}
+use Rattle.std.proofs.Common.{◌≡◌, true, sym, ◌-◌, ◌+◌, ◌∙◌, ◌++◌, ap, drop, take, arith}
 use Rattle.std.proofs.lemmas.List.{take_rest}
 use Rattle.xd_ledger.specs.Scopes.{has_colons, before_last}
 use Rattle.xd_outputs.proofs.ScopeLoops.{last-more, last-whole}

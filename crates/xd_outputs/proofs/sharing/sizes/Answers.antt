@@ -1,6 +1,5 @@
-use Rattle.std.proofs.Common.{◌≡◌, ◌+◌, suc, zero-add, arith}
+use Rattle.std.proofs.Common.{zero-add, arith}
 use Rattle.std.proofs.lemmas.Grind.{common_steps}
-use Rattle.xd_ledger.specs.Sharing.{sizes_from}
 use Rattle.xd_outputs.proofs.SizeLoops.{sizes-more}
 use Rattle.xd_outputs.proofs.sharing.sizes.Goals as goal
 

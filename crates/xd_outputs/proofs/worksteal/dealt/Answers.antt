@@ -1,4 +1,4 @@
-use Rattle.std.proofs.Common.{◌≡◌, ◌∙◌, ap, sym, arith}
+use Rattle.std.proofs.Common.{arith}
 use Rattle.std.proofs.lemmas.Grind.{common_steps}
 use Rattle.xd_outputs.proofs.TurnLoops.{dealt-more}
 use Rattle.xd_outputs.proofs.worksteal.dealt.Goals as goal
