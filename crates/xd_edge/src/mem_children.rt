@@ -5,8 +5,8 @@ ghost use Rattle.xd_edge.specs.MemChildren.{Prepared, Starts, all_told, child_in
 ghost use Rattle.xd_edge.specs.Children.{change_at, fate_at_end, with_fate, with_last, with_output, running, not_started, with_read_fault, with_end, with_wait_fault};
 
 use crate::{
-    Blob, Blobs, ChildEnd, ChildFault, Children, Failed, Fate, FaultPlan, Indices, MemRun, OutOfMemory,
-    Text, Texts,
+    Blob, Blobs, ChildEnd, ChildFault, Children, Failed, Fate, FaultPlan, Indices, MemRun,
+    OutOfMemory, Text, Texts,
 };
 use std::alloc::Global;
 use std::sync::Wait;
@@ -166,7 +166,12 @@ fn give(pieces: &[Blob], run: &mut MemRun, into: &mut [u8]) -> usize
 }
 
 // The next bytes of the program that was started at this place; none at their end, or where it is not prepared.
-fn give_at(children: &[(Texts, Blobs, ChildEnd)], runs: &mut [MemRun], place: usize, into: &mut [u8]) -> Option<usize>
+fn give_at(
+    children: &[(Texts, Blobs, ChildEnd)],
+    runs: &mut [MemRun],
+    place: usize,
+    into: &mut [u8],
+) -> Option<usize>
     ensures count { IfSome result (λ n. n ≤ length into.old) }
     ensures gave { IfSome result (λ n. all_told children.now runs.new ≡ change_at place (with_output (take n into.new)) (all_told children.now runs.old)) }
     ensures end { IfSome result (λ n. n ≡ 0 → 0 < length into.old → gave children.now place runs.new ≡ has_to_give children.now place runs.new) }

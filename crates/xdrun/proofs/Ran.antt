@@ -1,12 +1,12 @@
 -- A start, and what became of it.
-use Rattle.std.proofs.Common.{◌≡◌, ℕ, ◌+◌, ◌≤◌, List, [], ◌++◌, take, length, Option, Some, None, option_map, Result, Ok, Err, refl, sym, ◌∙◌, ap, arith, append_assoc}
+use Rattle.std.proofs.Common.{◌≡◌, ℕ, ◌+◌, ◌-◌, ◌≤◌, min, List, [], ◌++◌, take, length, Option, Some, None, option_map, Result, Ok, Err, refl, sym, ◌∙◌, ap, arith, append_assoc}
 use Rattle.std.proofs.lemmas.List.{append-nil}
+use Rattle.std.proofs.Math.Seq.{take-append-add}
 use Rattle.std.proofs.lemmas.Grind.{common_steps}
 use Rattle.std.specs.Result.{IfOk, OnErr}
 use Rattle.xd_edge.specs.declared.refusals.Failed.{Failed as Fault}
 use Rattle.xd_edge.specs.declared.children.ChildEnd.{ChildEnd}
-use Rattle.xd_edge.specs.declared.children.Fate.TheVariants.{Ended, NotStarted, NotRead, NotWaited}
-use Rattle.xd_edge.specs.Children.{ChildRun, AddsRun, ChangesRun, IsNext, change_at, not_started, running, with_end, with_fate, with_output, with_wait_fault, with_read_fault}
+use Rattle.xd_edge.specs.Children.{ChildRun, AddsRun, ChangesRun, IsNext, change_at, not_started, running, with_end, with_output, with_wait_fault, with_read_fault}
 use Rattle.xd_edge.proofs.ChildLemmas.{change_at_end, change_at_not, change_at_twice}
 use Rattle.xdrun.specs.Child.{CameTo, Drained, DrainedPart, RanChild, outcome_of_end}
 use Rattle.xd_ledger.specs.declared.entry.Outcome.{Outcome}
@@ -86,14 +86,14 @@ nothing_drained room place None = record { gave = []; kept_is = grind (arith, co
 nothing_drained room place (Some l) = record { gave = []; kept_is = grind (arith, common_steps); changes = ap Some (sym (change_at_not place (with_output []) l (λ r. no_more r))) }
   where
     no_more : (r : ChildRun) → with_output [] r ≡ r
-    no_more r = let e = append-nil r.output in cc
+    no_more r = ap (λ (l : List ℕ). record r { output = l }) (append-nil r.output)
 
 changes_twice : (place : ℕ) (f g h : ChildRun → ChildRun) (old mid new : Option (List ChildRun)) → ((r : ChildRun) → f (g r) ≡ h r) → ChangesRun place g old mid → ChangesRun place f mid new → ChangesRun place h old new
 changes_twice place f g h None mid new e a b = b ∙ ap (option_map (change_at place f)) a
 changes_twice place f g h (Some l) mid new e a b = b ∙ (ap (option_map (change_at place f)) a ∙ ap Some (change_at_twice place f g h l e))
 
 more_output : (a b : List ℕ) (r : ChildRun) → with_output b (with_output a r) ≡ with_output (a ++ b) r
-more_output a b r = let e = append_assoc r.output a b in cc
+more_output a b r = ap (λ (l : List ℕ). record r { output = l }) (append_assoc r.output a b)
 
 -- some bytes more
 pub drained_more : (room place : ℕ) (kept now more : List ℕ) (old mid new : Option (List ChildRun)) → Drained room place kept old mid → ChangesRun place (with_output more) mid new → now ≡ take room (kept ++ more) → Drained room place now old new
@@ -112,3 +112,13 @@ drained_part room place kept old mid new d changes = record {
   kept_is = d.kept_is;
   changes = changes_twice place with_read_fault (with_output d.gave) (λ run. with_read_fault (with_output d.gave run)) old mid new (λ r. refl) d.changes changes;
 }
+
+-- the first bytes, as far as there is room
+pub kept_front : (old bytes : List ℕ) (room count i : ℕ) → length old ≤ room → count ≡ min (length bytes) (room - length old) → i ≡ count → old ++ take i bytes ≡ take room (old ++ bytes)
+kept_front old bytes room count i low is at =
+    let split : length old + (room - length old) ≡ room = omega arith in
+    let few : take i bytes ≡ take (room - length old) bytes = grind (arith, common_steps) in
+    ap (λ (l : List ℕ). old ++ l) few ∙ (sym (take-append-add old bytes (room - length old)) ∙ ap (λ (n : ℕ). take n (old ++ bytes)) split)
+
+pub kept_short : (room : ℕ) (kept all : List ℕ) → kept ≡ take room all → length kept ≤ room
+kept_short room kept all e = let l = ap length e in grind (arith, common_steps)

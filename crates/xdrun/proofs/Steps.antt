@@ -5,7 +5,7 @@ use Rattle.std.proofs.lemmas.List.Sums.{sum_by-append}
 use Rattle.std.proofs.lemmas.Bool.Decides.{nat_tests}
 use Rattle.std.proofs.lemmas.Grind.{common_steps, flat_map-append}
 use Rattle.std.specs.List.{flat_map, list_all}
-use Rattle.std.specs.Prelude.{nat_le, sum_by, unwrap_or}
+use Rattle.std.specs.Prelude.{nat_le, unwrap_or}
 use Rattle.xd_edge.specs.Children.{ChildRun, AddsRun}
 use Rattle.xd_edge.specs.Faults.{RoseBy}
 use Rattle.xd_edge.specs.Sink.{Sunk, Printed, PrintedPart}
@@ -14,8 +14,9 @@ use Rattle.xd_suite.specs.declared.test.Test.{Test}
 use Rattle.xd_suite.specs.Tests.{run_at}
 use Rattle.xd_ledger.specs.declared.entry.Entry.{Entry}
 use Rattle.xd_ledger.specs.declared.entry.Outcome.{Outcome}
+use Rattle.xd_ledger.specs.declared.entry.Outcome.TheVariants.{Passed, Skipped, Failed}
 use Rattle.xd_ledger.specs.declared.journal.Journal.{Journal}
-use Rattle.xd_ledger.specs.Kept.{most_of_one, most_of_all, room_behind, kept_of}
+use Rattle.xd_ledger.specs.Kept.{most_of_one, room_behind, kept_of}
 use Rattle.xd_ledger.specs.Legal.{round, rounds, local_entries}
 use Rattle.xd_ledger.specs.Results.{TestResult, ids_in}
 use Rattle.xd_report.specs.Lines.{entry_text}
@@ -44,14 +45,15 @@ rose_more a b x y z first then later = λ below.
     omega (arith, first mid, then below)
 
 -- what is kept of one start
-kept_at : ℕ → ChildRun → List ℕ
+abbrev kept_at : ℕ → ChildRun → List ℕ
 kept_at room run = unwrap_or (option_map (λ o. kept_of o room run.output) (outcome_of run.fate)) []
 
 kept_run : (run : ChildRun) (o : Outcome) (room : ℕ) → outcome_of run.fate ≡ Some o → kept_of o room run.output ≡ kept_at room run
 kept_run run o room e = sym (ap (λ (x : Option Outcome). unwrap_or (option_map (λ o. kept_of o room run.output) x) []) e)
 
-lengths : List (List ℕ) → ℕ
-lengths ls = sum_by length ls
+abbrev lengths : List (List ℕ) → ℕ
+lengths [] = 0
+lengths (l ∷ ls) = length l + lengths ls
 
 kept_outputs-last : (spent : ℕ) (runs : List ChildRun) (run : ChildRun) → kept_outputs spent (runs ++ run ∷ []) ≡ kept_outputs spent runs ++ kept_at (room_behind (spent + lengths (kept_outputs spent runs))) run ∷ []
 kept_outputs-last spent [] run = let e : spent + 0 ≡ spent = omega arith in ap (λ (n : ℕ). kept_at (room_behind n) run ∷ []) (sym e)
@@ -60,9 +62,16 @@ kept_outputs-last spent (r ∷ rs) run =
     let e : spent + length k + lengths (kept_outputs (spent + length k) rs) ≡ spent + (length k + lengths (kept_outputs (spent + length k) rs)) = omega arith in
     ap (λ (l : List (List ℕ)). k ∷ l) (kept_outputs-last (spent + length k) rs run ∙ ap (λ (n : ℕ). kept_outputs (spent + length k) rs ++ kept_at (room_behind n) run ∷ []) e)
 
+kept_by-more : (results : List TestResult) (r : TestResult) → kept_by (results ++ r ∷ []) ≡ kept_by results + length r.output
+kept_by-more [] r = omega arith
+kept_by-more (x ∷ xs) r = omega (arith, kept_by-more xs r)
+
 sum-outputs : (results : List TestResult) → kept_by results ≡ lengths (map (λ r. r.output) results)
 sum-outputs [] = refl
 sum-outputs (r ∷ rs) = ap (λ (n : ℕ). length r.output + n) (sum-outputs rs)
+
+zero_more : (n : ℕ) → n ≡ 0 + n
+zero_more n = omega arith
 
 kept_total : (results : List TestResult) (runs : List ChildRun) (spent : ℕ) → map (λ r. r.output) results ≡ kept_outputs spent runs → kept_by results ≡ lengths (kept_outputs spent runs)
 kept_total results runs spent e = sum-outputs results ∙ ap lengths e
@@ -92,7 +101,7 @@ module _ (tests : List Test) where
         outputs = map-append (λ r. r.output) results (r ∷ [])
             ∙ ap (λ (l : List (List ℕ)). l ++ r.output ∷ []) ran.outputs
             ∙ ap (λ (k : List ℕ). kept_outputs 0 ran.runs ++ k ∷ []) (more.kept_is ∙ kept_run run r.outcome (room_behind (kept_by results)) more.came_to)
-            ∙ ap (λ (n : ℕ). kept_outputs 0 ran.runs ++ kept_at (room_behind n) run ∷ []) (kept_total results ran.runs 0 ran.outputs)
+            ∙ ap (λ (n : ℕ). kept_outputs 0 ran.runs ++ kept_at (room_behind n) run ∷ []) (kept_total results ran.runs 0 ran.outputs ∙ zero_more (lengths (kept_outputs 0 ran.runs)))
             ∙ sym (kept_outputs-last 0 ran.runs run);
         added = added_more ran.runs run old mid new ran.added more.added;
       }
@@ -149,7 +158,7 @@ module _ (tests : List Test) where
       low = low_of _ _ more.result.outcome more.result.output runs1 runs2 more.ran
 
       total_kept : kept_by results ≡ kept_by p.results + length more.result.output
-      total_kept = (let s = sum_by-append (λ (r : TestResult). length r.output) p.results (more.result ∷ []) in omega arith)
+      total_kept = kept_by-more p.results more.result
 
       so_far : SoFar results tests ids es2 runs0 runs2 faults0 faults2
       so_far = record {

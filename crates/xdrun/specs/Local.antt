@@ -1,5 +1,5 @@
 -- A run in the program itself, as far as it came.
-use Rattle.std.specs.Prelude.{ℕ, ◌≡◌, ◌+◌, ◌≤◌, nat_le, Bool, true, false, List, [], ◌∷◌, ◌++◌, map, take, length, sum_by, Option, Some, None, option_map, unwrap_or}
+use Rattle.std.specs.Prelude.{ℕ, ◌≡◌, ◌+◌, ◌≤◌, nat_le, Bool, true, false, List, [], ◌∷◌, ◌++◌, map, take, length, Option, Some, None, option_map, unwrap_or}
 use Rattle.std.specs.List.{flat_map, list_all}
 use Rattle.xd_edge.specs.declared.mode.ModeKind.TheVariants.{Local}
 use Rattle.xd_edge.specs.Children.{ChildRun}
@@ -33,7 +33,8 @@ kept_outputs spent (r ∷ rs) =
 
 -- how many bytes these results keep
 abbrev pub kept_by : List TestResult → ℕ
-kept_by rs = sum_by (λ r. length r.output) rs
+kept_by [] = 0
+kept_by (r ∷ rs) = length r.output + kept_by rs
 
 -- Where they are told, the first of these tests were started in suite order, one start for each result, by their
 -- commands, and came to these results, which keep the first bytes of what the failed ones gave.
@@ -44,10 +45,13 @@ pub record RanTests (tests : List Test) (results : List TestResult) (old new : O
   pub outputs : map (λ r. r.output) results ≡ kept_outputs 0 runs
   pub added : new ≡ option_map (λ l. l ++ runs) old
 
--- The journal has the ids of these tests, and its results are those of their programs.
+-- The journal has the ids of these tests, its results are those of their programs, and what it keeps of their output
+-- is within the limits.
 pub record RunsSuite (tests : List Test) (j : Journal) (old new : Option (List ChildRun)) : Type 0 where
   pub ids : ids_in j.entries.items ≡ map (λ t. t.id) tests
   pub ran : RanTests tests (results_in j.entries.items) old new
+  pub few_kept : list_all (λ r. nat_le (length r.output) most_of_one) (results_in j.entries.items) ≡ true
+  pub few_in_all : kept_by (results_in j.entries.items) ≤ most_of_all
 
 -- the entries grew by the run of a test and its result
 abbrev pub AddsRound : ℕ → Outcome → ℕ → List ℕ → List Entry → List Entry → Type 0
