@@ -10,9 +10,9 @@ use Rattle.xd_ledger.specs.declared.journal.Journal.{Journal}
 use Rattle.xd_ledger.specs.Results.{TestResult, ids_in, results_in, failures_in}
 use Rattle.xd_ledger.specs.Stop.{reaches, stop_of}
 
--- a test is run alone, and has its result; no output is kept
+-- a test is run alone, and has its result
 abbrev pub round : ℕ → TestResult → List Entry
-round test r = Run 0 (test ∷ []) ∷ Done 0 test r.outcome r.ms [] ∷ []
+round test r = Run 0 (test ∷ []) ∷ Done 0 test r.outcome r.ms r.output ∷ []
 
 -- the tests from a number on, one after another
 abbrev pub rounds : ℕ → List TestResult → List Entry

@@ -3,6 +3,7 @@ pub mod Calls
 pub mod Collections
 pub mod Each
 pub mod Histories
+pub mod Kept
 pub mod Legal
 pub mod Load
 pub mod Local

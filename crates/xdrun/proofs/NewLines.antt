@@ -1,13 +1,14 @@
 -- The entries of one test, and their lines.
-use Rattle.std.proofs.Common.{◌≡◌, ℕ, ◌-◌, Bool, List, ◌++◌, length, take, drop, Option, refl, ◌∙◌, ap, subst, arith, length-append}
+use Rattle.std.proofs.Common.{◌≡◌, ℕ, ◌+◌, ◌-◌, Bool, List, ◌++◌, length, take, drop, Option, refl, ◌∙◌, ap, subst, arith, length-append}
 use Rattle.std.proofs.lemmas.List.{take_all, drop_at}
 use Rattle.std.specs.List.{flat_map}
-use Rattle.xd_edge.specs.declared.children.ChildRun.{ChildRun}
+use Rattle.xd_edge.specs.Children.{ChildRun}
 use Rattle.xd_edge.specs.Faults.{RoseBy}
 use Rattle.xd_edge.specs.Sink.{Sunk}
 use Rattle.xd_ledger.specs.declared.entry.Entry.{Entry}
 use Rattle.xd_ledger.specs.declared.entry.Outcome.{Outcome}
 use Rattle.xd_ledger.specs.declared.journal.Journal.{Journal}
+use Rattle.xd_ledger.specs.Kept.{room_behind}
 use Rattle.xd_ledger.specs.Legal.{round, local_entries}
 use Rattle.xd_ledger.specs.Results.{TestResult, ids_in}
 use Rattle.xd_report.specs.Lines.{entry_text, lines_between}
@@ -21,15 +22,16 @@ new_ones old added new is =
     let at : drop (length old) new ≡ added = ap (λ (l : List Entry). drop (length old) l) is ∙ drop_at old added (length old) refl in
     ap (λ (l : List Entry). take (length new - length old) l) at ∙ take_all _ _ (omega (arith, ap length is, length-append old added))
 
-pub ran_test : (shown : Bool) (test : ℕ) (args : List (List ℕ)) (outcome : Outcome) (ms : ℕ) (es : List Entry) (j : Journal) (from : ℕ) (runs_old runs_new : Option (List ChildRun)) (faults_old faults_new : ℕ) (out_old out_new : Option Sunk)
-    → AddsRound test outcome ms es j.entries.items → from ≡ length es → RanChild args outcome runs_old runs_new → RoseBy (fault_count outcome) faults_old faults_new
-    → Shows shown (lines_between j from (length j.entries.items)) out_old out_new → RanTest shown test args es j.entries.items runs_old runs_new faults_old faults_new out_old out_new
-ran_test shown test args outcome ms es j from runs_old runs_new faults_old faults_new out_old out_new entries from_is ran faults shows =
-    let result : TestResult = record { outcome = outcome; ms = ms } in
+pub ran_test : (shown : Bool) (test : ℕ) (args : List (List ℕ)) (spent_old spent_new room : ℕ) (outcome : Outcome) (ms : ℕ) (output : List ℕ) (es : List Entry) (j : Journal) (from : ℕ) (runs_old runs_new : Option (List ChildRun)) (faults_old faults_new : ℕ) (out_old out_new : Option Sunk)
+    → AddsRound test outcome ms output es j.entries.items → from ≡ length es → room ≡ room_behind spent_old → RanChild args room outcome output runs_old runs_new → spent_new ≡ spent_old + length output → RoseBy (fault_count outcome) faults_old faults_new
+    → Shows shown (lines_between j from (length j.entries.items)) out_old out_new → RanTest shown test args spent_old spent_new es j.entries.items runs_old runs_new faults_old faults_new out_old out_new
+ran_test shown test args spent_old spent_new room outcome ms output es j from runs_old runs_new faults_old faults_new out_old out_new entries from_is room_is ran spent faults shows =
+    let result : TestResult = record { outcome = outcome; ms = ms; output = output } in
     record {
       result = result;
       entries = entries;
-      ran = ran;
+      ran = subst (λ (n : ℕ). RanChild args n outcome output runs_old runs_new) room_is ran;
+      spent = spent;
       faults = faults;
       shows = subst (λ (l : List Entry). Shows shown (flat_map (entry_text (ids_in j.entries.items)) l) out_old out_new)
           (ap (λ (n : ℕ). take (length j.entries.items - n) (drop n j.entries.items)) from_is ∙ new_ones es (round test result) j.entries.items entries) shows;

@@ -2,7 +2,7 @@
 use Rattle.std.proofs.Common.{◌≡◌, ℕ, Bool, true, false, List, [], Option, refl, sym, ◌∙◌, ap, subst}
 use Rattle.std.proofs.lemmas.List.{append-nil}
 use Rattle.std.specs.List.{flat_map}
-use Rattle.xd_edge.specs.declared.children.ChildRun.{ChildRun}
+use Rattle.xd_edge.specs.Children.{ChildRun}
 use Rattle.xd_edge.specs.Sink.{Sunk, Printed, PrintedPart}
 use Rattle.xd_edge.proofs.SinkLemmas.{printed_more, printed_part_of_more, printed_then_part}
 use Rattle.xd_suite.specs.declared.test.Test.{Test}

@@ -1,10 +1,11 @@
 -- A whole run, with its end.
-use Rattle.std.proofs.Common.{◌≡◌, ℕ, ◌+◌, inl, inr, Bool, true, false, List, [], ◌∷◌, ◌++◌, length, map, take, Option, count_by, if◌then◌else◌, refl, sym, ◌∙◌, ap, subst, arith}
+use Rattle.std.proofs.Common.{◌≡◌, ℕ, ◌+◌, ◌≤◌, inl, inr, Bool, true, false, List, [], ◌∷◌, ◌++◌, length, map, take, Option, count_by, if◌then◌else◌, refl, sym, ◌∙◌, ap, subst, arith}
 use Rattle.std.proofs.lemmas.List.{append-nil, length-map}
 use Rattle.std.proofs.lemmas.Grind.{flat_map-append}
 use Rattle.std.proofs.lemmas.List.Sums.{sum_by-append}
-use Rattle.std.specs.List.{flat_map}
-use Rattle.xd_edge.specs.declared.children.ChildRun.{ChildRun}
+use Rattle.std.specs.List.{flat_map, list_all}
+use Rattle.std.specs.Prelude.{nat_le}
+use Rattle.xd_edge.specs.Children.{ChildRun}
 use Rattle.xd_edge.specs.Faults.{Rose, RoseBy}
 use Rattle.xd_edge.specs.Sink.{Sunk}
 use Rattle.xd_suite.specs.declared.test.Test.{Test}
@@ -14,6 +15,7 @@ use Rattle.xd_ledger.specs.declared.entry.Entry.TheVariants.{Over}
 use Rattle.xd_ledger.specs.declared.entry.RunStop.{RunStop}
 use Rattle.xd_ledger.specs.declared.entry.RunStop.TheVariants.{Completed, OutFault}
 use Rattle.xd_ledger.specs.declared.journal.Journal.{Journal}
+use Rattle.xd_ledger.specs.Kept.{most_of_one, most_of_all}
 use Rattle.xd_ledger.specs.Legal.{EndsSo, IsLegal, failed, local_entries, rounds}
 use Rattle.xd_ledger.specs.Results.{TestResult, ids_in, is_failed, is_passed, is_skipped, numbers_from, reported_in, results_in}
 use Rattle.xd_ledger.specs.Stop.{over_in, reaches, stop_of, stop_so_far}
@@ -22,7 +24,7 @@ use Rattle.xd_report.specs.Lines.{entry_text}
 use Rattle.xd_report.specs.Summary.{summary_text}
 use Rattle.xd_report.specs.Text.{stop_text, text_of}
 use Rattle.xdrun.specs.Child.{faults_of}
-use Rattle.xdrun.specs.Local.{RanPrinted, RanTests, RunsSuite, local_settings, stop_after}
+use Rattle.xdrun.specs.Local.{kept_by, RanPrinted, RanTests, RunsSuite, local_settings, stop_after}
 use Rattle.xdrun.specs.Print.{PrintsReport, Shows}
 use Rattle.xdrun.proofs.NewLines.{lines, lines_are}
 
@@ -104,7 +106,12 @@ module _ (tests : List Test) (j0 j1 : Journal) (shown : Bool) (runs0 runs1 : Opt
   }
 
   pub suite : RunsSuite tests j1 runs0 runs1
-  suite = record { ids = ids_are; ran = subst (λ (rs : List TestResult). RanTests tests rs runs0 runs1) (sym results_are) e.ran.so_far.ran }
+  suite = record {
+    ids = ids_are;
+    ran = subst (λ (rs : List TestResult). RanTests tests rs runs0 runs1) (sym results_are) e.ran.so_far.ran;
+    few_kept = subst (λ (rs : List TestResult). list_all (λ r. nat_le (length r.output) most_of_one) rs ≡ true) (sym results_are) e.ran.so_far.few_kept;
+    few_in_all = subst (λ (rs : List TestResult). kept_by rs ≤ most_of_all) (sym results_are) e.ran.so_far.few_in_all;
+  }
 
   pub once : reported_in j1.entries.items ≡ numbers_from 0 (length (results_in j1.entries.items))
   once = ap reported_in entries_are ∙ reported_in-rounds 0 e.ran.results how ∙ ap (λ (rs : List TestResult). numbers_from 0 (length rs)) (sym results_are)
