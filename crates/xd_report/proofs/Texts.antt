@@ -1,15 +1,21 @@
 -- The texts of a longer journal: a journal's lines, blocks and counts begin those of a longer one.
-use Rattle.std.proofs.Common.{◌≡◌, ℕ, ◌+◌, ◌<◌, Bool, List, [], ◌∷◌, ◌++◌, length, take, refl, ap, sym, ◌∙◌, append_assoc, get_or}
+use Rattle.std.proofs.Common.{◌≡◌, ℕ, ◌+◌, ◌<◌, Bool, List, [], ◌∷◌, ◌++◌, length, take, refl, ap, sym, ◌∙◌, append_assoc, add-zero, get_or, ◌==◌, Option, Some, None, if◌then◌else◌}
 use Rattle.std.proofs.lemmas.List.{append-nil, take_more}
 use Rattle.xd_ledger.specs.declared.entry.Entry.{Entry}
-use Rattle.xd_ledger.specs.declared.entry.Entry.TheVariants.{Collected}
+use Rattle.xd_edge.specs.declared.mode.ModeKind.{ModeKind}
+use Rattle.xd_ledger.specs.declared.settings.Settings.{Settings}
+use Rattle.xd_ledger.specs.declared.entry.RunStop.{RunStop}
+use Rattle.xd_ledger.specs.declared.entry.RunStop.TheVariants.{Completed, MaxFail, Restarts, Unequal, CollectError, OutFault}
+use Rattle.xd_ledger.specs.declared.entry.Entry.TheVariants.{Ready, Collected, Done, Back, Finished, Refused, Down, NotStarted, Start, Run, RunAll, Steal, Shutdown, Kill, Over}
 use Rattle.xd_ledger.specs.declared.entry.Ids.{Ids}
 use Rattle.xd_ledger.specs.Sharing.{State}
-use Rattle.xd_ledger.specs.State.{after_collected, all_moved, next, reached, settled}
+use Rattle.xd_ledger.specs.State.{after_collected, all_moved, next, no_one, reached, settled, state_at}
 use Rattle.xd_report.specs.declared.counts.Counts.{Counts}
 use Rattle.xd_report.specs.Blocks.{block_of, blocks_from}
-use Rattle.xd_report.specs.Lines.{collected_line, lines_from, lines_of, told}
-use Rattle.xd_report.specs.Summary.{counted, counted_from}
+use Rattle.xd_report.specs.Lines.{collected_line, lines_from, lines_of, run_lines, told}
+use Rattle.xd_report.specs.StopLine.{line_of_stop, refusal, refused_line}
+use Rattle.xd_report.specs.Summary.{counted, counted_from, counts, summary_text}
+use Rattle.xd_report.specs.Text.{run_text}
 
 -- three pieces behind what stood there
 pub three_more : (before a b c x y z : List ℕ) → x ≡ before ++ a → y ≡ x ++ b → z ≡ y ++ c → z ≡ before ++ (a ++ (b ++ c))
@@ -67,3 +73,55 @@ module _ (s : State) (was : Bool) (out0 out1 out2 : List ℕ) (shared : s.books.
   collected-tells w ids first second =
       let now = after_collected w ids (settled s) in
       second ∙ ap (λ (l : List ℕ). l ++ collected_line was now) (first ∙ append-nil out0) ∙ ap (λ b. out0 ++ collected_line b now) (sym shared)
+
+-- the end of a journal adds nothing to its text
+module _ (how : RunStop) where
+  refusal-same : (w : ℕ) (es : List Entry) → refusal w (es ++ Over how ∷ []) ≡ refusal w es
+  refusal-same w [] = refl
+  refusal-same w (Refused w' text ∷ es) = ap (λ (l : List ℕ). if w' == w then text else l) (refusal-same w es)
+  refusal-same w (Ready w' ∷ es) = refusal-same w es
+  refusal-same w (Collected w' given ∷ es) = refusal-same w es
+  refusal-same w (Done w' i o ms out ∷ es) = refusal-same w es
+  refusal-same w (Back w' is ∷ es) = refusal-same w es
+  refusal-same w (Finished w' ∷ es) = refusal-same w es
+  refusal-same w (Down w' c out ∷ es) = refusal-same w es
+  refusal-same w (NotStarted w' ∷ es) = refusal-same w es
+  refusal-same w (Start w' slot ∷ es) = refusal-same w es
+  refusal-same w (Run w' is ∷ es) = refusal-same w es
+  refusal-same w (RunAll w' ∷ es) = refusal-same w es
+  refusal-same w (Steal w' is ∷ es) = refusal-same w es
+  refusal-same w (Shutdown w' ∷ es) = refusal-same w es
+  refusal-same w (Kill w' ∷ es) = refusal-same w es
+  refusal-same w (Over how' ∷ es) = refusal-same w es
+
+  stop-same : (mode : ModeKind) (es : List Entry) (stop : Option RunStop) → line_of_stop mode (es ++ Over how ∷ []) stop ≡ line_of_stop mode es stop
+  stop-same mode es None = refl
+  stop-same mode es (Some (MaxFail count)) = refl
+  stop-same mode es (Some (Restarts w limit)) = refl
+  stop-same mode es (Some (Unequal w other place)) = refl
+  stop-same mode es (Some (CollectError w)) = ap (refused_line mode w) (refusal-same w es)
+  stop-same mode es (Some Completed) = refl
+  stop-same mode es (Some OutFault) = refl
+
+  module _ (settings : Settings) (es : List Entry) where
+    lines-same : run_lines settings (es ++ Over how ∷ []) ≡ run_lines settings es
+    lines-same = lines-more (no_one settings) es (Over how ∷ []) ∙ append-nil (run_lines settings es)
+
+    blocks-same : blocks_from (no_one settings) (es ++ Over how ∷ []) ≡ blocks_from (no_one settings) es
+    blocks-same = blocks-more (no_one settings) es (Over how ∷ []) ∙ append-nil (blocks_from (no_one settings) es)
+
+    counts-same : counts settings (es ++ Over how ∷ []) ≡ counts settings es
+    counts-same =
+        let n = counts settings es in
+        counted-more (no_one settings) es (Over how ∷ []) (record { failed = 0; passed = 0; skipped = 0 }) ∙ ap (λ k. record n { failed = k }) (add-zero n.failed)
+
+    stopped-same : line_of_stop settings.mode (es ++ Over how ∷ []) (state_at settings (es ++ Over how ∷ [])).books.stop ≡ line_of_stop settings.mode es (state_at settings es).books.stop
+    stopped-same =
+        ap (λ (t : State). line_of_stop settings.mode (es ++ Over how ∷ []) t.books.stop) (moved-more (no_one settings) es (Over how ∷ []))
+        ∙ stop-same settings.mode es (state_at settings es).books.stop
+
+    pub over-same : run_text settings (es ++ Over how ∷ []) ≡ run_text settings es
+    over-same = join lines-same blocks-same stopped-same (ap summary_text counts-same)
+      where
+        join : {a a' b b' c c' d d' : List ℕ} → a ≡ a' → b ≡ b' → c ≡ c' → d ≡ d' → a ++ (b ++ (c ++ (d ++ 10 ∷ []))) ≡ a' ++ (b' ++ (c' ++ (d' ++ 10 ∷ [])))
+        join p q r s = cc

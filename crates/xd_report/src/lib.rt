@@ -25,3 +25,6 @@ pub use lines::report_lines;
 pub use reporter::Reporter;
 pub use status::status_of;
 pub use summary::summary_line;
+
+#[cfg(test)]
+mod tests;

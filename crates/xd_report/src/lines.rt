@@ -78,12 +78,7 @@ impl Reporter {
     }
 
     // The lines that the state ahead of an entry tells; those of a collection are told by the state behind it.
-    fn add_told(
-        &self,
-        alloc: Global,
-        out: &mut Vec<u8>,
-        entry: &Entry,
-    ) -> Result<(), OutOfMemory>
+    fn add_told(&self, alloc: Global, out: &mut Vec<u8>, entry: &Entry) -> Result<(), OutOfMemory>
         ensures { (s : State) → Follows self.now s → OnOk result (out.new.items ≡ out.old.items ++ told s entry.now) }
     {
         match entry {
@@ -150,12 +145,7 @@ impl Reporter {
         add(out, &[b'\n'])
     }
 
-    fn add_crashed(
-        &self,
-        alloc: Global,
-        out: &mut Vec<u8>,
-        worker: u32,
-    ) -> Result<(), OutOfMemory>
+    fn add_crashed(&self, alloc: Global, out: &mut Vec<u8>, worker: u32) -> Result<(), OutOfMemory>
         ensures { (s : State) → Follows self.now s → OnOk result (out.new.items ≡ out.old.items ++ crashed worker s) }
     {
         let Some(item) = self.head(worker) else {

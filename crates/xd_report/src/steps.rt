@@ -15,11 +15,9 @@ ghost use Rattle.xd_ledger.specs.declared.entry.RunStop.TheVariants.{Unequal};
 ghost use Rattle.xd_report.specs.Follows.{Follows, judged};
 ghost use Rattle.xd_report.specs.Tests.{head, id_of, item_id, tests};
 
-use crate::crew;
-use crate::desk;
-use crate::lists;
 use crate::numbers::{each_more, numbers_from, one_more, plus, sum_of};
 use crate::reporter::Reporter;
+use crate::{crew, desk, lists};
 use std::alloc::Global;
 use xd_edge::{ModeKind, OutOfMemory, Text};
 use xd_ledger::{Ids, Listed, Member, Outcome, RunStop};
@@ -107,12 +105,7 @@ impl Reporter {
     }
 
     // The items that a worker calls by these numbers.
-    fn items(
-        &self,
-        alloc: Global,
-        worker: u32,
-        indices: &[u32],
-    ) -> Result<Vec<u64>, OutOfMemory>
+    fn items(&self, alloc: Global, worker: u32, indices: &[u32]) -> Result<Vec<u64>, OutOfMemory>
         ensures { (s : State) → Follows self.now s → IfOk result (λ items. items.items ≡ items_named (slot_of worker s.books) indices.now s.plan) }
     {
         let base = self.base(worker)?;
