@@ -2,18 +2,21 @@
 #![tactic(auto)]
 
 mod blocks;
+mod collecting;
 mod counts;
 mod crew;
 mod desk;
 mod ending;
+mod handing;
 mod laws;
 mod lines;
 mod lists;
 mod names;
 mod numbers;
+mod queries;
 mod reporter;
+mod results;
 mod status;
-mod steps;
 mod stop_line;
 mod summary;
 mod writing;

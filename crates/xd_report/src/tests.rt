@@ -87,10 +87,15 @@ fn the_report_of_a_run_without_workers(rt: HostRuntime) -> Result<(), Fail> {
     journal.push(done(alloc, 0, 0, Outcome::Passed, "")?)?;
     journal.push(done(alloc, 0, 1, Outcome::Failed(1), "hi\n")?)?;
     let (text, status) = report(alloc, &journal)?;
-    assert_eq!(rt; text.as_str(),
-        "2 tests\n[main] PASSED a\n[main] FAILED x?\n==== [main] x? ====\nstatus 1\n---- output: 3 bytes ----\nhi\n1 failed, 1 passed\n");
+    assert_eq!(rt;
+        text.as_str(),
+        "2 tests\n[main] PASSED a\n[main] FAILED x?\n==== [main] x? ====\nstatus 1\n---- output: 3 bytes ----\nhi\n1 failed, 1 passed\n"
+    );
     assert_eq!(rt; status, 1);
-    assert_eq!(rt; summary_line(alloc, &journal)?.as_str(), "1 failed, 1 passed");
+    assert_eq!(rt;
+        summary_line(alloc, &journal)?.as_str(),
+        "1 failed, 1 passed"
+    );
     Ok(())
 }
 
@@ -111,8 +116,10 @@ fn a_crash_without_a_restart(rt: HostRuntime) -> Result<(), Fail> {
     journal.push(done(alloc, 1, 2, Outcome::Passed, "")?)?;
     journal.push(done(alloc, 1, 3, Outcome::Skipped, "")?)?;
     let (text, status) = report(alloc, &journal)?;
-    assert_eq!(rt; text.as_str(),
-        "4 tests on 2 workers, load\n[gw0] node down: Not properly terminated\n[gw0] CRASHED a\n[gw1] PASSED c\n[gw1] SKIPPED d\n==== [gw0] a ====\nworker 'gw0' crashed while running 'a'\n---- output: 4 bytes ----\nhalf\nworker gw0 crashed and worker restarting disabled\n1 failed, 1 passed, 1 skipped\n");
+    assert_eq!(rt;
+        text.as_str(),
+        "4 tests on 2 workers, load\n[gw0] node down: Not properly terminated\n[gw0] CRASHED a\n[gw1] PASSED c\n[gw1] SKIPPED d\n==== [gw0] a ====\nworker 'gw0' crashed while running 'a'\n---- output: 4 bytes ----\nhalf\nworker gw0 crashed and worker restarting disabled\n1 failed, 1 passed, 1 skipped\n"
+    );
     assert_eq!(rt; status, 1);
     Ok(())
 }
@@ -128,13 +135,18 @@ fn a_worker_that_is_replaced(rt: HostRuntime) -> Result<(), Fail> {
     journal.push(Entry::RunAll { worker: 1 })?;
     journal.push(done(alloc, 1, 0, Outcome::Failed(-1), "")?)?;
     let (text, status) = report(alloc, &journal)?;
-    assert_eq!(rt; text.as_str(),
-        "[gw0] node down: not started\nreplacing crashed worker gw0\n2 tests on 1 workers, each\n[gw1] FAILED a\n==== [gw1] a ====\nkilled by a signal\nstopping after 1 failures\n1 failed\n");
+    assert_eq!(rt;
+        text.as_str(),
+        "[gw0] node down: not started\nreplacing crashed worker gw0\n2 tests on 1 workers, each\n[gw1] FAILED a\n==== [gw1] a ====\nkilled by a signal\nstopping after 1 failures\n1 failed\n"
+    );
     assert_eq!(rt; status, 2);
     let at = journal.entries.len() - 1;
     if is_failed_at(alloc, &journal, at)? {
         let block = failure_block(alloc, &journal, at)?;
-        assert_eq!(rt; block.as_slice(), "==== [gw1] a ====\nkilled by a signal\n".as_bytes());
+        assert_eq!(rt;
+            block.as_slice(),
+            "==== [gw1] a ====\nkilled by a signal\n".as_bytes()
+        );
         return Ok(());
     }
     Err(Fail::from("a failed report"))
@@ -149,8 +161,10 @@ fn collections_that_differ_or_fail(rt: HostRuntime) -> Result<(), Fail> {
     journal.push(listed(alloc, 0, "a b c d e")?)?;
     journal.push(listed(alloc, 1, "a b c d f")?)?;
     let (text, status) = report(alloc, &journal)?;
-    assert_eq!(rt; text.as_str(),
-        "different tests collected by gw0 and gw1, first at place 4\nno tests ran\n");
+    assert_eq!(rt;
+        text.as_str(),
+        "different tests collected by gw0 and gw1, first at place 4\nno tests ran\n"
+    );
     assert_eq!(rt; status, 1);
     let mut journal = Journal::new(alloc, settings(ModeKind::Load, 1, 0, 4));
     journal.push(Entry::Start { worker: 0, slot: 0 })?;
@@ -159,8 +173,10 @@ fn collections_that_differ_or_fail(rt: HostRuntime) -> Result<(), Fail> {
         text: Text::of(alloc, "suite cannot be read")?,
     })?;
     let (text, status) = report(alloc, &journal)?;
-    assert_eq!(rt; text.as_str(),
-        "collection failed on gw0: suite cannot be read\nno tests ran\n");
+    assert_eq!(rt;
+        text.as_str(),
+        "collection failed on gw0: suite cannot be read\nno tests ran\n"
+    );
     assert_eq!(rt; status, 2);
     Ok(())
 }
