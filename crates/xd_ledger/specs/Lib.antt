@@ -2,6 +2,7 @@ pub mod Books
 pub mod Calls
 pub mod Collections
 pub mod Each
+pub mod Ending
 pub mod Histories
 pub mod Kept
 pub mod Legal

@@ -3,8 +3,8 @@ use Rattle.std.proofs.Common.{◌≡◌, ℕ, ◌+◌, ◌-◌, ◌^◌, ◌<◌
 use Rattle.std.proofs.lemmas.List.{append-nil, map-append, take_more, length-map}
 use Rattle.std.proofs.lemmas.List.Sums.{sum_by-append}
 use Rattle.std.proofs.lemmas.Bool.Decides.{nat_tests}
-use Rattle.std.proofs.lemmas.Grind.{common_steps, flat_map-append}
-use Rattle.std.specs.List.{flat_map, list_all}
+use Rattle.std.proofs.lemmas.Grind.{common_steps}
+use Rattle.std.specs.List.{list_all}
 use Rattle.std.specs.Prelude.{nat_le, unwrap_or}
 use Rattle.xd_edge.specs.Children.{ChildRun, AddsRun}
 use Rattle.xd_edge.specs.Faults.{RoseBy}
@@ -16,14 +16,16 @@ use Rattle.xd_ledger.specs.declared.entry.Entry.{Entry}
 use Rattle.xd_ledger.specs.declared.entry.Outcome.{Outcome}
 use Rattle.xd_ledger.specs.declared.entry.Outcome.TheVariants.{Passed, Skipped, Failed}
 use Rattle.xd_ledger.specs.declared.journal.Journal.{Journal}
+use Rattle.xd_ledger.specs.declared.settings.Settings.{Settings}
 use Rattle.xd_ledger.specs.Kept.{most_of_one, room_behind, kept_of}
 use Rattle.xd_ledger.specs.Legal.{round, rounds, local_entries}
-use Rattle.xd_ledger.specs.Results.{TestResult, ids_in}
-use Rattle.xd_report.specs.Lines.{entry_text}
+use Rattle.xd_ledger.specs.Results.{TestResult}
+use Rattle.xd_ledger.specs.State.{all_moved, no_one}
+use Rattle.xd_report.specs.Lines.{lines_from, run_lines}
+use Rattle.xd_report.proofs.Texts.{lines-more}
 use Rattle.xdrun.specs.Child.{fault_count, faults_of, outcome_of, RanChild}
 use Rattle.xdrun.specs.Local.{kept_by, kept_outputs, Progress, RanAll, RanTest, RanTests, SoFar}
 use Rattle.xdrun.specs.Print.{Shows}
-use Rattle.xdrun.proofs.NewLines.{lines, lines_are}
 
 rounds-last : (n : ℕ) (rs : List TestResult) (r : TestResult) → rounds n (rs ++ r ∷ []) ≡ rounds n rs ++ round (n + length rs) r
 rounds-last n [] r = let same : n ≡ n + 0 = omega arith in ap (λ k. round k r) same
@@ -117,29 +119,32 @@ module _ (tests : List Test) where
       few_in_all = omega arith;
     }
 
-    begun : (j : Journal) → j.entries.items ≡ local_entries ids [] → lines j ≡ flat_map (entry_text ids) (local_entries ids [])
-    begun j is = lines_are j ids [] [] is
-
-    pub start : (j : Journal) (out1 : Option Sunk) → j.entries.items ≡ local_entries ids [] → Shows true (lines j) out0 out1 → Progress 0 0 tests ids j.entries.items runs0 runs0 faults0 faults0 out0 out1
+    pub start : (j : Journal) (out1 : Option Sunk) → j.entries.items ≡ local_entries ids [] → Shows true (run_lines j.settings j.entries.items) out0 out1 → Progress 0 0 tests ids j runs0 runs0 faults0 faults0 out0 out1
     start j out1 is shows = record {
       results = [];
       so_far = none_ran j.entries.items is;
       counted = refl;
       spent_is = refl;
-      shows = subst (λ (l : List ℕ). Printed l out0 out1) (begun j is) shows;
+      shows = shows;
     }
 
-    pub not_collected : (j : Journal) (out1 : Option Sunk) → j.entries.items ≡ local_entries ids [] → Shows false (lines j) out0 out1 → RanAll false tests ids j.entries.items runs0 runs0 faults0 faults0 out0 out1
+    pub not_collected : (j : Journal) (out1 : Option Sunk) → j.entries.items ≡ local_entries ids [] → Shows false (run_lines j.settings j.entries.items) out0 out1 → RanAll false tests ids j runs0 runs0 faults0 faults0 out0 out1
     not_collected j out1 is shows = record {
       results = [];
       so_far = none_ran j.entries.items is;
       within = omega arith;
       all = λ no. cc;
-      shows = subst (λ (l : List ℕ). PrintedPart l out0 out1) (begun j is) shows;
+      shows = shows;
     }
 
-    module _ (k spent1 spent2 : ℕ) (es1 es2 : List Entry) (runs1 runs2 : Option (List ChildRun)) (faults1 faults2 : ℕ) (out1 out2 : Option Sunk) (p : Progress k spent1 tests ids es1 runs0 runs1 faults0 faults1 out0 out1)
-        (within : k < length tests) (shown : Bool) (more : RanTest shown k (run_at tests k) spent1 spent2 es1 es2 runs1 runs2 faults1 faults2 out1 out2) (later : faults1 ≤ faults2) where
+    module _ (k spent1 spent2 : ℕ) (j1 j2 : Journal) (same : j2.settings ≡ j1.settings) (runs1 runs2 : Option (List ChildRun)) (faults1 faults2 : ℕ) (out1 out2 : Option Sunk) (p : Progress k spent1 tests ids j1 runs0 runs1 faults0 faults1 out0 out1)
+        (within : k < length tests) (shown : Bool) (more : RanTest shown k (run_at tests k) spent1 spent2 j1 j2.entries.items runs1 runs2 faults1 faults2 out1 out2) (later : faults1 ≤ faults2) where
+      abbrev es1 : List Entry
+      es1 = j1.entries.items
+
+      abbrev es2 : List Entry
+      es2 = j2.entries.items
+
       abbrev results : List TestResult
       results = p.results ++ more.result ∷ []
 
@@ -173,31 +178,28 @@ module _ (tests : List Test) where
       }
 
       abbrev added : List ℕ
-      added = flat_map (entry_text (ids_in es2)) (round k more.result)
+      added = lines_from (all_moved (no_one j1.settings) es1) (round k more.result)
 
-      text : flat_map (entry_text ids) (local_entries ids results) ≡ flat_map (entry_text ids) (local_entries ids p.results) ++ added
-      text =
-          let same : ids ≡ ids_in es2 = sym (ap ids_in grown) in
-          ap (flat_map (entry_text ids)) entries_are ∙ flat_map-append (entry_text ids) (local_entries ids p.results) (round k more.result)
-          ∙ ap (λ (l : List (List ℕ)). flat_map (entry_text ids) (local_entries ids p.results) ++ flat_map (entry_text l) (round k more.result)) same
+      text : run_lines j2.settings es2 ≡ run_lines j1.settings es1 ++ added
+      text = ap (λ (st : Settings). run_lines st es2) same ∙ ap (run_lines j1.settings) more.entries ∙ lines-more (no_one j1.settings) es1 (round k more.result)
 
-      pub next : shown ≡ true → Progress (k + 1) spent2 tests ids es2 runs0 runs2 faults0 faults2 out0 out2
+      pub next : shown ≡ true → Progress (k + 1) spent2 tests ids j2 runs0 runs2 faults0 faults2 out0 out2
       next is = record {
         results = results;
         so_far = so_far;
         counted = long;
         spent_is = more.spent ∙ (let s = p.spent_is in let t = total_kept in omega arith);
-        shows = subst (λ (l : List ℕ). Printed l out0 out2) (sym text) (printed_more (flat_map (entry_text ids) (local_entries ids p.results)) added out0 out1 out2 p.shows (subst (λ b. Shows b added out1 out2) is more.shows));
+        shows = subst (λ (l : List ℕ). Printed l out0 out2) (sym text) (printed_more (run_lines j1.settings es1) added out0 out1 out2 p.shows (subst (λ b. Shows b added out1 out2) is more.shows));
       }
 
-      pub stop : shown ≡ false → RanAll false tests ids es2 runs0 runs2 faults0 faults2 out0 out2
+      pub stop : shown ≡ false → RanAll false tests ids j2 runs0 runs2 faults0 faults2 out0 out2
       stop is = record {
         results = results;
         so_far = so_far;
         within = omega (arith, long);
         all = λ no. cc;
-        shows = subst (λ (l : List ℕ). PrintedPart l out0 out2) (sym text) (printed_then_part (flat_map (entry_text ids) (local_entries ids p.results)) added out0 out1 out2 p.shows (subst (λ b. Shows b added out1 out2) is more.shows));
+        shows = subst (λ (l : List ℕ). PrintedPart l out0 out2) (sym text) (printed_then_part (run_lines j1.settings es1) added out0 out1 out2 p.shows (subst (λ b. Shows b added out1 out2) is more.shows));
       }
 
-    pub finish : (spent : ℕ) (es : List Entry) (runs : Option (List ChildRun)) (faults : ℕ) (out : Option Sunk) → Progress (length tests) spent tests ids es runs0 runs faults0 faults out0 out → RanAll true tests ids es runs0 runs faults0 faults out0 out
-    finish spent es runs faults out p = record { results = p.results; so_far = p.so_far; within = omega (arith, p.counted); all = λ yes. p.counted; shows = p.shows }
+    pub finish : (spent : ℕ) (j : Journal) (runs : Option (List ChildRun)) (faults : ℕ) (out : Option Sunk) → Progress (length tests) spent tests ids j runs0 runs faults0 faults out0 out → RanAll true tests ids j runs0 runs faults0 faults out0 out
+    finish spent j runs faults out p = record { results = p.results; so_far = p.so_far; within = omega (arith, p.counted); all = λ yes. p.counted; shows = p.shows }
