@@ -18,4 +18,6 @@ pub use talk::Sent;
 pub use worker::WorkerCore;
 
 #[cfg(test)]
+mod rows;
+#[cfg(test)]
 mod tests;
