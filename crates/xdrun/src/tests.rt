@@ -213,7 +213,7 @@ fn a_program_that_fails_outside(rt: HostRuntime) -> Result<(), Fail> {
     let rows: [(u32, &str); 3] = [
         (0, "could not be started"),
         (1, "could not be read"),
-        (3, "could not be read"),
+        (2, "could not be read"),
     ];
     for (call, reason) in rows {
         let children = [call];
