@@ -1,0 +1,5 @@
+pub mod Ending
+pub mod History
+pub mod Kept
+pub mod Rules
+pub mod Stands

@@ -1,0 +1,10 @@
+//! The part of the controller that decides: it takes news of workers and grows the journal of a run. It starts no thread
+//! and no program. pytest-xdist's DSession.
+#![tactic(auto)]
+
+mod logs;
+mod session;
+mod step;
+
+pub use session::Session;
+pub use step::Step;
