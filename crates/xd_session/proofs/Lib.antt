@@ -1,0 +1,4 @@
+pub mod Begin
+pub mod Deaths
+pub mod Loops
+pub mod Places
