@@ -5,6 +5,8 @@
 mod books;
 mod logs;
 mod marks;
+mod outputs;
+mod rules;
 mod seats;
 mod session;
 mod step;

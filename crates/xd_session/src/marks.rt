@@ -50,7 +50,7 @@ fn remade(m: Member, worker: u32, mark: Mark) -> Member
 }
 
 // Each member with the mark, where it is the worker.
-fn remake(members: &mut Vec<Member>, worker: u32, mark: Mark)
+pub(crate) fn remake(members: &mut Vec<Member>, worker: u32, mark: Mark)
     ensures { members.new.items ≡ map (made mark worker) members.old.items }
 {
     for i in 0..members.len() {
