@@ -2,13 +2,13 @@
 use Rattle.std.proofs.Common.{◌≡◌, ℕ, zero, suc, ◌+◌, ◌<◌, ◌≤◌, List, [], ◌∷◌, ◌++◌, take, map, length, get_or, refl, ap, sym, subst, ◌∙◌, arith, Bool, true, false, ◌||◌, append_assoc}
 use Rattle.std.specs.Prelude.{if◌then◌else◌, ◌==◌, fold}
 use Rattle.std.proofs.lemmas.Bool.Decides.{nat_tests}
-use Rattle.std.proofs.lemmas.Grind.{common_steps, fold-append}
-use Rattle.std.proofs.lemmas.List.{take_more, length-map, append-nil}
+use Rattle.std.proofs.lemmas.Grind.{fold-append}
+use Rattle.std.proofs.lemmas.List.{take_more, append-nil}
 use Rattle.std.proofs.lemmas.List.Folds.{list_any-append}
 use Rattle.std.specs.List.{list_any}
 use Rattle.xd_ledger.specs.declared.seat.Seat.{Seat}
 use Rattle.xd_ledger.specs.Sound.{seats_of}
-use Rattle.xd_ledger.specs.Table.{Table, all_items, fresh, held_by_all, in_rota, joined, seat_shut, workers_of}
+use Rattle.xd_ledger.specs.Table.{Table, fresh, held_by_all, in_rota, joined, seat_shut, workers_of}
 use Rattle.xd_ledger.proofs.Seats.{no_seat-of_any}
 use Rattle.xd_session.specs.Joining.{IsBare}
 

@@ -1,6 +1,7 @@
 pub mod Acts
 pub mod Bare
 pub mod Begin
+pub mod Bounds
 pub mod Closing
 pub mod Compares
 pub mod Deaths

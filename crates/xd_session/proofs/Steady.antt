@@ -1,7 +1,6 @@
 -- A session keeps in step with the news that it takes.
-use Rattle.std.proofs.Common.{◌≡◌, ℕ, ◌+◌, ◌≤◌, List, [], ◌∷◌, ◌++◌, refl, ap, sym, subst, ◌∙◌, arith, Bool, true, false, not, ◌&&◌, add-zero, inl, inr}
+use Rattle.std.proofs.Common.{◌≡◌, ℕ, ◌+◌, List, [], ◌∷◌, ◌++◌, refl, ap, sym, subst, ◌∙◌, arith, Bool, true, false, add-zero, inl, inr}
 use Rattle.std.specs.Prelude.{if◌then◌else◌, ◌==◌, Option, Some, None}
-use Rattle.std.specs.List.{list_any}
 use Rattle.xd_edge.specs.declared.mode.ModeKind.TheVariants.{Load}
 use Rattle.xd_ledger.specs.declared.settings.Settings.{Settings}
 use Rattle.xd_ledger.specs.declared.entry.Entry.{Entry}
@@ -11,14 +10,14 @@ use Rattle.xd_ledger.specs.declared.seat.Seat.{Seat}
 use Rattle.xd_ledger.specs.Books.{Books}
 use Rattle.xd_ledger.specs.Histories.{begun, journal_of, stepped_all}
 use Rattle.xd_ledger.specs.Meaning.{Log, log_of, meaning_of, spent_by, with_news}
-use Rattle.xd_ledger.specs.Outputs.{outputs, stepped}
+use Rattle.xd_ledger.specs.Outputs.{outputs}
 use Rattle.xd_ledger.specs.Plan.{Plan, total}
-use Rattle.xd_ledger.specs.Proper.{IsProper, may_follow}
+use Rattle.xd_ledger.specs.Proper.{may_follow}
 use Rattle.xd_ledger.specs.Sharing.{State}
 use Rattle.xd_ledger.specs.Sound as sound
 use Rattle.xd_ledger.specs.State.{state_at}
 use Rattle.xd_ledger.specs.Stops.{is_stopped}
-use Rattle.xd_ledger.specs.Table.{Table, all_items, in_rota, seat_shut}
+use Rattle.xd_ledger.specs.Table.{all_items, in_rota}
 use Rattle.xd_ledger.specs.Workers.{has_collected, is_active}
 use Rattle.xd_laws.proofs.Counts.{empty-of_times}
 use Rattle.xd_laws.proofs.InMode.{InMode}
@@ -32,9 +31,9 @@ use Rattle.xd_session.specs.History.{Run as SoFar, entries_with, input_of, run_o
 use Rattle.xd_session.specs.Joining.{IsBare}
 use Rattle.xd_session.specs.Kept.{log_in, shortened}
 use Rattle.xd_session.specs.Rules.{At, InStep}
-use Rattle.xd_session.specs.Stands.{Seen, StandsFor, state_of}
+use Rattle.xd_session.specs.Stands.{Seen, StandsFor}
 use Rattle.xd_session.specs.Told.{Told, Took}
-use Rattle.xd_session.proofs.Steps.{holds-behind, journal-more, journal-state, logs-more, meaning-follows, meaning-short, news-short, proper-more, run-more, run-taken, short-twice, sound-run, spent-more, state-next}
+use Rattle.xd_session.proofs.Steps.{holds-behind, journal-more, journal-state, logs-more, meaning-follows, meaning-short, proper-more, run-more, run-taken, short-twice, sound-run, spent-more, state-next}
 
 module _ (settings : Settings) (entries : List Entry) (logs : List WorkerLog) (spent : ℕ) (b : Books) (st : Plan → Type 0) (k : InStep settings entries logs spent b st) where
   pub behind : state_at settings entries ≡ stepped_all (begun settings) k.inputs

@@ -1,5 +1,5 @@
 -- A worker joins, and the tests are shared.
-use Rattle.std.specs.Prelude.{◌≡◌, ℕ, ◌≤◌, false, List, [], Option, Some, None}
+use Rattle.std.specs.Prelude.{◌≡◌, ℕ, ◌≤◌, false, [], Option, Some, None}
 use Rattle.xd_ledger.specs.declared.entry.RunStop.{RunStop}
 use Rattle.xd_ledger.specs.Sharing.{State, in_books, joining}
 use Rattle.xd_ledger.specs.Sound.{seats_of}

@@ -1,3 +1,4 @@
+pub mod Bounded
 pub mod Compared
 pub mod Crew
 pub mod Ending

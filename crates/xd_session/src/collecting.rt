@@ -243,15 +243,7 @@ pub(crate) fn collected<M: Mode>(
         entries,
     )?;
     books.mark(worker, Mark::Collected);
-    take_in_unless(
-        alloc,
-        shut,
-        worker,
-        taken.comparison,
-        mode,
-        books,
-        entries,
-    )?;
+    take_in_unless(alloc, shut, worker, taken.comparison, mode, books, entries)?;
     finish(alloc, mode, books, entries)?;
     Ok(())
 }

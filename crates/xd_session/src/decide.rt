@@ -27,6 +27,7 @@ use xd_ledger::{Cause, Entry, Mode, Outcome};
 
 // Of the output of one test so many bytes are kept, and so many of all tests of a run together.
 const MOST_OF_ONE: u32 = 8192;
+
 const MOST_OF_ALL: u32 = 67_108_864;
 
 // What decides: the mode, the books, the logs, and how many bytes the entries so far keep.
@@ -48,11 +49,7 @@ fn first_bytes(alloc: Global, bytes: &[u8], count: u32) -> Result<Blob, OutOfMem
 }
 
 // What is kept of the output so far of the test at the worker's head.
-fn kept_output<M: Mode>(
-    alloc: Global,
-    worker: u32,
-    core: &Core<M>,
-) -> Result<Blob, OutOfMemory>
+fn kept_output<M: Mode>(alloc: Global, worker: u32, core: &Core<M>) -> Result<Blob, OutOfMemory>
     requires { core.now.spent ≤ most_of_all }
     ensures kept { IfOk result (λ b. (s : State) → At s (books_of core.now.books) (M.stands core.now.mode) → b ≡ kept worker (log_in worker core.now.logs) core.now.spent s) }
     ensures low { IfOk result (λ b. core.now.spent + length b ≤ most_of_all) }
@@ -153,13 +150,7 @@ pub(crate) fn ready<M: Mode>(
         go_down(alloc, worker, Cause::Breach, core, entries)?;
         return Ok(());
     }
-    rules::ready(
-        alloc,
-        worker,
-        &core.mode,
-        &mut core.books,
-        entries,
-    )?;
+    rules::ready(alloc, worker, &core.mode, &mut core.books, entries)?;
     Ok(())
 }
 
@@ -187,14 +178,7 @@ pub(crate) fn collects<M: Mode>(
         go_down(alloc, worker, Cause::Breach, core, entries)?;
         return Ok(());
     }
-    collected(
-        alloc,
-        worker,
-        own,
-        &mut core.mode,
-        &mut core.books,
-        entries,
-    )?;
+    collected(alloc, worker, own, &mut core.mode, &mut core.books, entries)?;
     Ok(())
 }
 
@@ -337,13 +321,7 @@ pub(crate) fn finishes<M: Mode>(
         go_down(alloc, worker, Cause::Breach, core, entries)?;
         return Ok(());
     }
-    rules::finished(
-        alloc,
-        worker,
-        &core.mode,
-        &mut core.books,
-        entries,
-    )?;
+    rules::finished(alloc, worker, &core.mode, &mut core.books, entries)?;
     Ok(())
 }
 
@@ -369,14 +347,7 @@ pub(crate) fn closes<M: Mode>(
         go_down(alloc, worker, Cause::Breach, core, entries)?;
         return Ok(());
     }
-    rules::refused(
-        alloc,
-        worker,
-        text,
-        &core.mode,
-        &mut core.books,
-        entries,
-    )?;
+    rules::refused(alloc, worker, text, &core.mode, &mut core.books, entries)?;
     Ok(())
 }
 
@@ -432,12 +403,6 @@ pub(crate) fn does_not_start<M: Mode>(
         go_down(alloc, worker, Cause::Breach, core, entries)?;
         return Ok(());
     }
-    rules::not_started(
-        alloc,
-        worker,
-        &mut core.mode,
-        &mut core.books,
-        entries,
-    )?;
+    rules::not_started(alloc, worker, &mut core.mode, &mut core.books, entries)?;
     Ok(())
 }

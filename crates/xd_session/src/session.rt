@@ -145,11 +145,7 @@ impl<M: Mode> Session<M> {
         ensures settings { IfOk result (λ j. j.settings ≡ self.settings) }
         ensures entries { IfOk result (λ j. j.entries.items ≡ self.entries ++ ending out_failed (state_of self).books) }
     {
-        end(
-            out_failed,
-            &self.core.books,
-            &mut self.journal.entries,
-        )?;
+        end(out_failed, &self.core.books, &mut self.journal.entries)?;
         Ok(self.journal)
     }
 }

@@ -94,8 +94,9 @@ pub(crate) fn take<M: Mode>(
         What::LogStart { index, log } => start_log(alloc, worker, index, log, core, entries),
         What::Piece { log, bytes } => add_piece(alloc, worker, log, &bytes, core, entries),
         What::LogClosed { log } => end_log(alloc, worker, log, core, entries),
-        What::Done { index, outcome, ms } =>
-            decide::test_ends(alloc, worker, index, outcome, ms, core, entries),
+        What::Done { index, outcome, ms } => decide::test_ends(
+            alloc, worker, index, outcome, ms, core, entries,
+        ),
         What::Back(indices) => decide::gives_back(alloc, worker, &indices.items, core, entries),
         What::Finished => decide::finishes(alloc, worker, core, entries),
         What::Closed(text) => decide::closes(alloc, worker, text, core, entries),

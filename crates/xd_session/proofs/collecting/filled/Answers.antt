@@ -1,4 +1,4 @@
-use Rattle.std.proofs.Common.{◌≡◌, ◌≤◌, ap, ◌∙◌, arith, length, take, List, ℕ}
+use Rattle.std.proofs.Common.{◌≤◌, ap, ◌∙◌, arith, length, List, ℕ}
 use Rattle.std.proofs.lemmas.Grind.{common_steps}
 use Rattle.std.specs.List.{range_with_len}
 use Rattle.xd_ledger.specs.Table.{fresh, workers_of}
