@@ -21,3 +21,6 @@ mod take;
 pub use laws::{kept_law, session_law};
 pub use session::Session;
 pub use step::Step;
+
+#[cfg(test)]
+mod tests;
