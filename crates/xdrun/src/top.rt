@@ -5,7 +5,7 @@ ghost use Rattle.xd_suite.specs.declared.test.Test.{Test};
 ghost use Rattle.xd_ledger.specs.declared.entry.RunStop.TheVariants.{Completed, OutFault};
 ghost use Rattle.xd_ledger.specs.Legal.{IsLegal};
 ghost use Rattle.xd_ledger.specs.Results.{numbers_from, reported_in, results_in};
-ghost use Rattle.xd_ledger.specs.Stop.{stop_of};
+ghost use Rattle.xd_ledger.specs.Ending.{stop_of};
 ghost use Rattle.xd_report.specs.Status.{status_of};
 ghost use Rattle.xd_report.specs.Text.{text_of};
 ghost use Rattle.xdrun.specs.Child.{faults_of};
@@ -98,7 +98,7 @@ pub fn xdrun<R: Wait, F: Files, K: Children, T: Clock, O: Sink, E: Sink>(
     match read_suite(alloc, words, files)? {
         Ok(suite) => {
             let journal = run_suite(rt, alloc, &suite, &mut children, clock, out)?;
-            let status = status_of(&journal);
+            let status = status_of(alloc, &journal)?;
             Ok(RunEnd {
                 status,
                 journal: Some(journal),
