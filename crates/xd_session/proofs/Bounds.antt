@@ -1,5 +1,5 @@
 -- What a session keeps of the outputs is bounded.
-use Rattle.std.proofs.Common.{◌≡◌, ℕ, zero, suc, ◌+◌, ◌-◌, ◌≤◌, List, [], ◌∷◌, ◌++◌, take, min, length, refl, ap, sym, subst, ◌∙◌, arith, Bool, true, false, not, ◌&&◌}
+use Rattle.std.proofs.Common.{◌≡◌, ℕ, zero, suc, ◌+◌, ◌-◌, ◌≤◌, List, [], ◌∷◌, ◌++◌, take, min, length, refl, sym, subst, arith, Bool, true, false, not, ◌&&◌}
 use Rattle.std.specs.Prelude.{if◌then◌else◌, fold, nat_le, Option, Some, None}
 use Rattle.std.specs.List.{list_all}
 use Rattle.std.proofs.lemmas.Bool.Decides.{nat_tests}
@@ -16,8 +16,9 @@ use Rattle.xd_ledger.specs.declared.news.News.{News}
 use Rattle.xd_ledger.specs.declared.news.What.{What}
 use Rattle.xd_ledger.specs.declared.news.What.TheVariants as what
 use Rattle.xd_ledger.specs.Collections.{listed}
-use Rattle.xd_ledger.specs.Histories.{begun, starts_from}
-use Rattle.xd_ledger.specs.Meaning.{Log, any_open, given_ids, head_bytes, is_of, is_open_log, kept, log_of, may_start_log, meaning_of, most_of_all, most_of_one, output_of, spent_by}
+use Rattle.xd_ledger.specs.Histories.{starts_from}
+use Rattle.xd_ledger.specs.Kept.{most_of_all, most_of_one}
+use Rattle.xd_ledger.specs.Meaning.{Log, any_open, given_ids, head_bytes, is_of, is_open_log, kept, log_of, may_start_log, meaning_of, output_of, spent_by}
 use Rattle.xd_ledger.specs.Orderly.{all_orderly, is_orderly}
 use Rattle.xd_ledger.specs.Outputs.{outputs}
 use Rattle.xd_ledger.specs.Proper.{may_follow, names_head}

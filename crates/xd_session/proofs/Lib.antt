@@ -7,6 +7,7 @@ pub mod Compares
 pub mod Deaths
 pub mod Disorder
 pub mod Follow
+pub mod Joins
 pub mod Loops
 pub mod Places
 pub mod Shares

@@ -9,7 +9,7 @@ use Rattle.xd_ledger.specs.Books.{Books}
 use Rattle.xd_ledger.specs.declared.member.Member.{Member}
 use Rattle.xd_ledger.specs.declared.entry.Entry.TheVariants.{Kill}
 use Rattle.xd_ledger.specs.Workers.{waiting, is_waiting, slot_in}
-use Rattle.xd_session.specs.Ending.{kills}
+use Rattle.xd_ledger.specs.Ending.{kills}
 use Rattle.xd_session.specs.Rules.{told, told_all, shutdowns}
 
 -- the list with its first changed, and one more of them

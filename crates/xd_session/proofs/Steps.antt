@@ -15,7 +15,8 @@ use Rattle.xd_ledger.specs.declared.news.News.{News}
 use Rattle.xd_ledger.specs.declared.news.What.{What}
 use Rattle.xd_ledger.specs.declared.news.What.TheVariants as what
 use Rattle.xd_ledger.specs.Histories.{begun, first_starts, grown, journal_of, stepped_all}
-use Rattle.xd_ledger.specs.Meaning.{Log, given_ids, is_of, any_open, kept, log_of, may_start_log, meaning_of, most_of_all, most_of_one, output_of, is_open_log, spent_by, with_news}
+use Rattle.xd_ledger.specs.Kept.{most_of_all, most_of_one}
+use Rattle.xd_ledger.specs.Meaning.{Log, given_ids, is_of, any_open, kept, log_of, may_start_log, meaning_of, output_of, is_open_log, spent_by, with_news}
 use Rattle.xd_ledger.specs.Orderly.{all_orderly, is_orderly}
 use Rattle.xd_ledger.specs.Outputs.{outputs, stepped}
 use Rattle.xd_ledger.specs.Proper.{IsProper, all_may_follow, may_follow, names_head}

@@ -3,7 +3,8 @@ use Rattle.std.specs.Prelude.{◌≡◌, ◌≤◌, Bool, true, nat_le, List, le
 use Rattle.std.specs.List.{list_all}
 use Rattle.xd_ledger.specs.declared.entry.Entry.{Entry}
 use Rattle.xd_ledger.specs.declared.entry.Entry.TheVariants.{Done, Down}
-use Rattle.xd_ledger.specs.Meaning.{most_of_all, most_of_one, spent_by}
+use Rattle.xd_ledger.specs.Kept.{most_of_all, most_of_one}
+use Rattle.xd_ledger.specs.Meaning.{spent_by}
 
 -- what the entry keeps of a test is no more than may be kept of one
 abbrev pub keeps_few : Entry → Bool

@@ -3,12 +3,13 @@ ghost use Rattle.std.specs.Prelude.{◌≡◌, ◌≤◌, ◌+◌, ℕ, length, 
 ghost use Rattle.xd_ledger.specs.declared.news.What.TheVariants as what;
 ghost use Rattle.xd_ledger.specs.declared.entry.Entry.TheVariants as entry;
 ghost use Rattle.xd_edge.specs.declared.mode.ModeKind.TheVariants.{Load};
-ghost use Rattle.xd_ledger.specs.Meaning.{any_open, is_of, kept, may_start_log, meaning_of, most_of_all, output_of};
+ghost use Rattle.xd_ledger.specs.Kept.{most_of_all};
+ghost use Rattle.xd_ledger.specs.Meaning.{any_open, is_of, kept, may_start_log, meaning_of, output_of};
 ghost use Rattle.xd_ledger.specs.Numbers.{first_of};
 ghost use Rattle.xd_ledger.specs.Proper.{names_head};
 ghost use Rattle.xd_ledger.specs.Sharing.{State};
 ghost use Rattle.xd_ledger.specs.Stops.{is_stopped};
-ghost use Rattle.xd_ledger.specs.Table.{held, in_rota};
+ghost use Rattle.xd_ledger.specs.Table.{has_joined, held, in_rota};
 ghost use Rattle.xd_ledger.specs.Workers.{is_active, has_collected};
 ghost use Rattle.xd_session.specs.Crew.{books_of};
 ghost use Rattle.xd_session.specs.Joining.{IsBare};
@@ -164,8 +165,8 @@ pub(crate) fn collects<M: Mode>(
 ) -> Result<(), OutOfMemory>
     requires low { core.old.spent ≤ most_of_all }
     requires active { is_active worker (books_of core.old.books) ≡ true }
-    requires new { has_collected worker (books_of core.old.books) ≡ false → in_rota worker core.old.books.ledger ≡ false }
-    requires bare { is_stopped (books_of core.old.books) ≡ false → core.old.books.shared ≡ false → IsBare core.old.books.ledger }
+    requires new { has_collected worker (books_of core.old.books) ≡ false → has_joined worker core.old.books.ledger ≡ false }
+    requires bare { core.old.books.shared ≡ false → IsBare core.old.books.ledger }
     ensures told { OnOk result ((s : State) → At s (books_of core.old.books) (M.stands core.old.mode) →
         Told (meaning_of worker (log_in worker core.old.logs) core.old.spent s (what.Collected own)) s entries.old.items entries.new.items core.old.spent core.new.spent (books_of core.new.books) (M.stands core.new.mode)) }
     ensures logs { core.new.logs ≡ core.old.logs }

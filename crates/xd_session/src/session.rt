@@ -6,7 +6,7 @@ ghost use Rattle.xd_ledger.specs.Plan.{Plan};
 ghost use Rattle.xd_ledger.specs.State.{no_one, all_moved};
 ghost use Rattle.xd_ledger.specs.Workers.{is_active};
 ghost use Rattle.xd_session.specs.Crew.{books_of};
-ghost use Rattle.xd_session.specs.Ending.{ending, may_close};
+ghost use Rattle.xd_ledger.specs.Ending.{ending, may_close};
 ghost use Rattle.xd_session.specs.Stands.{CanBegin, StandsFor, state_of};
 
 use crate::books::RunBooks;

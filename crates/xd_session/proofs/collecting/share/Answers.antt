@@ -19,7 +19,7 @@ returns g c = λ s a.
     let n : c.len.result ≡ length (ids_at 0 b.lists) = counted ∙ ap (λ (is : List (List ℕ)). length is) (c.first.view_is ∙ ids) in
     let slots : c.deref-2.result.now ≡ slots_of_rota b = c.deref-2.ensures.value ∙ c.slots.view_is ∙ c.in_ok-slots.ensures in
     let lists : c.from_ref.result.now ≡ ids_at 0 b.lists ∷ [] = c.from_ref.ensures.value ∙ ap (λ (is : List (List ℕ)). is ∷ []) ids in
-    acted-share s b c.in_ok-books.field-0 c.share.new.ledger c.from_ref.result.now c.deref-2.result.now c.new-acts.result.items c.share.new.acts.items c.follow.new.crew.items c.len.result c.args.entries.now.items c.note_all.new.entries.items _ _
-    c.new-acts.ensures.items a lists slots n c.in_ok-books.ensures
+    acted-share s b c.fill.new.self c.share.new.ledger c.from_ref.result.now c.deref-2.result.now c.new-acts.result.items c.share.new.acts.items c.follow.new.crew.items c.len.result c.args.entries.now.items c.note_all.new.entries.items _ _
+    c.new-acts.ensures.items a lists slots n c.in_ok-fill.ensures
     c.in_ok-share.ensures
     (c.follow.ensures ∙ ap (λ (es : List Entry). crew_told es b.crew) c.deref-3.ensures.value) c.in_ok-note_all.ensures)
