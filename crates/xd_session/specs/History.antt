@@ -1,0 +1,62 @@
+-- What a list of news makes of a run.
+use Rattle.std.specs.Prelude.{◌≡◌, ℕ, ◌==◌, List, [], ◌∷◌, ◌++◌, map, filter, fold, Option, Some, None}
+use Rattle.xd_ledger.specs.declared.settings.Settings.{Settings}
+use Rattle.xd_ledger.specs.declared.entry.Entry.{Entry}
+use Rattle.xd_ledger.specs.declared.news.News.{News}
+use Rattle.xd_ledger.specs.declared.news.What.{What}
+use Rattle.xd_ledger.specs.Sharing.{State}
+use Rattle.xd_ledger.specs.Outputs.{outputs, stepped}
+use Rattle.xd_ledger.specs.Histories.{first_starts, begun, journal_of, stepped_all}
+use Rattle.xd_ledger.specs.Meaning.{meaning}
+use Rattle.xd_ledger.specs.Proper.{IsProper}
+
+-- a run so far
+pub record Run : Type 0 where
+  pub entries : List Entry  -- its journal
+  pub state : State  -- behind these entries
+  pub inputs : List Entry  -- what the news meant, in order
+  pub taken : List News  -- the news themselves, in order
+
+-- what one worker said, in order
+abbrev pub said_by : ℕ → List News → List What
+said_by worker taken = map (λ n. n.what) (filter (λ n. n.worker == worker) taken)
+
+-- no news yet: the first workers are started
+abbrev pub begun_run : Settings → Run
+begun_run settings = record { entries = first_starts settings; state = begun settings; inputs = []; taken = [] }
+
+-- the input comes into the journal, with its outputs behind it
+abbrev pub entries_with : Option Entry → List Entry → State → List Entry
+entries_with None entries s = entries
+entries_with (Some e) entries s = entries ++ (e ∷ outputs s e)
+
+abbrev pub state_with : Option Entry → State → State
+state_with None s = s
+state_with (Some e) s = stepped s e
+
+abbrev pub inputs_with : Option Entry → List Entry → List Entry
+inputs_with None inputs = inputs
+inputs_with (Some e) inputs = inputs ++ e ∷ []
+
+-- the input that the news means
+abbrev pub input_of : Run → News → Option Entry
+input_of r n = meaning n.worker r.entries r.state (said_by n.worker r.taken) n.what
+
+-- the run behind one more piece of news
+abbrev pub after_news : Run → News → Run
+after_news r n = record {
+  entries = entries_with (input_of r n) r.entries r.state;
+  state = state_with (input_of r n) r.state;
+  inputs = inputs_with (input_of r n) r.inputs;
+  taken = r.taken ++ n ∷ [];
+}
+
+-- the run behind these news
+abbrev pub run_of : Settings → List News → Run
+run_of settings taken = fold after_news (begun_run settings) taken
+
+-- what the news meant are proper inputs of a run with these settings, and the run is theirs
+pub record IsProperRun (settings : Settings) (r : Run) : Type 0 where
+  pub proper : IsProper settings r.inputs
+  pub journal : r.entries ≡ journal_of settings r.inputs
+  pub state : r.state ≡ stepped_all (begun settings) r.inputs

@@ -1,0 +1,9 @@
+pub mod Bounded
+pub mod Compared
+pub mod Crew
+pub mod History
+pub mod Joining
+pub mod Kept
+pub mod Rules
+pub mod Stands
+pub mod Told

@@ -1,0 +1,36 @@
+-- A session as its callers see it, and the news that it stands for.
+use Rattle.std.specs.Prelude.{◌≡◌, ℕ, Bool, true, nat_le, List}
+use Rattle.xd_edge.specs.declared.mode.ModeKind.TheVariants.{Load}
+use Rattle.xd_ledger.specs.declared.settings.Settings.{Settings}
+use Rattle.xd_ledger.specs.declared.entry.Entry.{Entry}
+use Rattle.xd_ledger.specs.declared.news.News.{News}
+use Rattle.xd_ledger.specs.Sharing.{State}
+use Rattle.xd_ledger.specs.State.{state_at}
+use Rattle.xd_ledger.specs.Proper.{most_workers, most_restarts}
+use Rattle.xd_ledger.specs.Meaning.{log_of}
+use Rattle.xd_session.specs.declared.logs.WorkerLog.{WorkerLog}
+use Rattle.xd_session.specs.Kept.{log_in, shortened}
+use Rattle.xd_session.specs.History.{run_of, said_by}
+
+pub record Seen : Type 0 where
+  pub settings : Settings
+  pub entries : List Entry  -- the journal so far
+  pub logs : List WorkerLog  -- the last log of each worker that started one
+  pub whole : Bool  -- no call of it wanted memory
+
+-- the state behind the journal so far
+abbrev pub state_of : Seen → State
+state_of s = state_at s.settings s.entries
+
+-- the session took these news: its journal is theirs, and it keeps the last log of each worker
+pub record StandsFor (taken : List News) (s : Seen) : Type 0 where
+  pub whole : s.whole ≡ true
+  pub entries : s.entries ≡ (run_of s.settings taken).entries
+  pub logs : (worker : ℕ) → log_in worker s.logs ≡ shortened (log_of (said_by worker taken))
+
+-- settings that a session can be made with: so far those of mode load
+pub record CanBegin (settings : Settings) : Type 0 where
+  pub mode : settings.mode ≡ Load
+  pub some_worker : nat_le 1 settings.workers ≡ true
+  pub few_workers : nat_le settings.workers most_workers ≡ true
+  pub few_restarts : nat_le settings.restarts most_restarts ≡ true

@@ -1,0 +1,26 @@
+//! The part of the controller that decides: it takes news of workers and grows the journal of a run. It starts no thread
+//! and no program. pytest-xdist's DSession.
+#![tactic(auto)]
+
+mod books;
+mod collecting;
+mod decide;
+mod ending;
+mod laws;
+mod lists;
+mod logs;
+mod marks;
+mod outputs;
+mod rules;
+mod seats;
+mod session;
+mod step;
+mod stops;
+mod take;
+
+pub use laws::{kept_law, session_law};
+pub use session::Session;
+pub use step::Step;
+
+#[cfg(test)]
+mod tests;
