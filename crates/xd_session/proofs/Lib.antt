@@ -13,3 +13,4 @@ pub mod Places
 pub mod Shares
 pub mod Steady
 pub mod Steps
+pub mod Waiting

@@ -14,9 +14,11 @@ use Rattle.xd_ledger.specs.Plan.{Plan, total}
 use Rattle.xd_ledger.specs.Proper.{may_follow}
 use Rattle.xd_ledger.specs.Sharing.{State}
 use Rattle.xd_ledger.specs.State.{state_at}
+use Rattle.xd_ledger.specs.Stops.{is_stopped}
 use Rattle.xd_ledger.specs.Table.{all_items, has_joined}
-use Rattle.xd_ledger.specs.Workers.{has_collected, is_active}
+use Rattle.xd_ledger.specs.Workers.{has_collected, is_active, is_shut, was_ready}
 use Rattle.xd_laws.proofs.Counts.{empty-of_times}
+use Rattle.xd_laws.proofs.Crew.{distinct-numbered}
 use Rattle.xd_laws.proofs.InMode.{InMode}
 use Rattle.xd_laws.proofs.Logic.{cases_of, differ}
 use Rattle.xd_laws.proofs.Placed.{due_times}
@@ -31,6 +33,7 @@ use Rattle.xd_session.specs.Stands.{Seen, StandsFor}
 use Rattle.xd_session.specs.Told.{Told, Took}
 use Rattle.xd_session.proofs.Joins.{AllCollected, joins-behind}
 use Rattle.xd_session.proofs.Steps.{holds-behind, journal-more, journal-state, logs-more, meaning-follows, meaning-short, proper-more, run-more, run-taken, short-twice, sound-run, spent-more, state-next}
+use Rattle.xd_session.proofs.Waiting.{AllTold, shut-where, told-behind}
 
 module _ (settings : Settings) (entries : List Entry) (logs : List WorkerLog) (spent : ℕ) (b : Books) (st : Plan → Type 0) (k : InStep settings entries logs spent b st) where
   pub behind : state_at settings entries ≡ stepped_all (begun settings) k.inputs
@@ -41,6 +44,9 @@ module _ (settings : Settings) (entries : List Entry) (logs : List WorkerLog) (s
 
   collected : AllCollected (state_at settings entries)
   collected = subst (λ (u : State). AllCollected u) (sym behind) (joins-behind settings k.inputs k.mode k.proper.follow)
+
+  all-told : AllTold (state_at settings entries)
+  all-told = subst (λ (u : State). AllTold u) (sym behind) (told-behind settings k.inputs k.mode k.proper.follow)
 
 new-seat : (s : State) (w : ℕ) → AllCollected s → has_collected w s.books ≡ false → has_joined w s.books.table ≡ false
 new-seat s w d h = elim (cases_of (has_joined w s.books.table)) [
@@ -55,6 +61,17 @@ pub step-new : (settings : Settings) (entries : List Entry) (logs : List WorkerL
 step-new settings entries logs spent b st k w h =
     let a = k.at.books_are in
     ap (λ (d : Books). has_joined w d.table) a ∙ new-seat (state_at settings entries) w (collected settings entries logs spent b st k) (ap (λ (d : Books). has_collected w d) (sym a) ∙ h)
+
+shut-state : (s : State) (w : ℕ) → Tidy s → AllTold s → is_stopped s.books ≡ true → is_active w s.books ≡ true → was_ready w s.books ≡ true → is_shut w s.books ≡ true
+shut-state s w d t h a r = shut-where w s.books.crew (distinct-numbered s.books.crew d.crew.numbered) a r (t h w)
+
+pub step-told : (settings : Settings) (entries : List Entry) (logs : List WorkerLog) (spent : ℕ) (b : Books) (st : Plan → Type 0) → InStep settings entries logs spent b st → (w : ℕ) → is_active w b ≡ true → is_stopped b ≡ true → was_ready w b ≡ true
+    → is_shut w b ≡ true
+step-told settings entries logs spent b st k w a h r =
+    let s = state_at settings entries in
+    let e : s.books ≡ b = sym k.at.books_are in
+    ap (λ (d : Books). is_shut w d) k.at.books_are ∙ shut-state s w (holds settings entries logs spent b st k).tidy (all-told settings entries logs spent b st k) (ap (λ (d : Books). is_stopped d) e ∙ h)
+    (ap (λ (d : Books). is_active w d) e ∙ a) (ap (λ (d : Books). was_ready w d) e ∙ r)
 
 pub step-bare : (settings : Settings) (entries : List Entry) (logs : List WorkerLog) (spent : ℕ) (b : Books) (st : Plan → Type 0) → InStep settings entries logs spent b st → b.shared ≡ false → IsBare b.table
 step-bare settings entries logs spent b st k h =

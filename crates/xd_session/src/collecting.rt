@@ -213,14 +213,11 @@ pub(crate) fn collected<M: Mode>(
     requires ordered { (list_all is_id own && no_text_twice own) ≡ true }
     requires new { has_joined worker books.old.ledger ≡ false }
     requires bare { books.old.shared ≡ false → IsBare books.old.ledger }
+    requires told { is_stopped (books_of books.old) ≡ true → is_shut worker (books_of books.old) ≡ true }
     ensures { OnOk result ((s : State) → At s (books_of books.old) (M.stands mode.old) →
         Ruled s (given_ids worker own s) (books_of books.new) entries.old.items entries.new.items (M.stands mode.new)) }
 {
     let shut = books.is_shut(worker);
-    if !shut && books.is_stopped() {
-        // Whoever was ready is shut at a stop, so nobody comes here.
-        return Err(OutOfMemory);
-    }
     let taken = books.take_list(alloc, worker, own)?;
     note(
         Entry::Collected {

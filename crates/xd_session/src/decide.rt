@@ -10,7 +10,7 @@ ghost use Rattle.xd_ledger.specs.Proper.{names_head};
 ghost use Rattle.xd_ledger.specs.Sharing.{State};
 ghost use Rattle.xd_ledger.specs.Stops.{is_stopped};
 ghost use Rattle.xd_ledger.specs.Table.{has_joined, held, in_rota};
-ghost use Rattle.xd_ledger.specs.Workers.{is_active, has_collected};
+ghost use Rattle.xd_ledger.specs.Workers.{is_active, has_collected, is_shut, was_ready};
 ghost use Rattle.xd_session.specs.Crew.{books_of};
 ghost use Rattle.xd_session.specs.Joining.{IsBare};
 ghost use Rattle.xd_session.specs.Kept.{log_in};
@@ -167,6 +167,7 @@ pub(crate) fn collects<M: Mode>(
     requires active { is_active worker (books_of core.old.books) ≡ true }
     requires new { has_collected worker (books_of core.old.books) ≡ false → has_joined worker core.old.books.ledger ≡ false }
     requires bare { core.old.books.shared ≡ false → IsBare core.old.books.ledger }
+    requires told { is_stopped (books_of core.old.books) ≡ true → was_ready worker (books_of core.old.books) ≡ true → is_shut worker (books_of core.old.books) ≡ true }
     ensures told { OnOk result ((s : State) → At s (books_of core.old.books) (M.stands core.old.mode) →
         Told (meaning_of worker (log_in worker core.old.logs) core.old.spent s (what.Collected own)) s entries.old.items entries.new.items core.old.spent core.new.spent (books_of core.new.books) (M.stands core.new.mode)) }
     ensures logs { core.new.logs ≡ core.old.logs }

@@ -3,7 +3,7 @@ use Rattle.xd_ledger.specs.Books.{Books}
 use Rattle.xd_ledger.specs.Workers.{is_active}
 use Rattle.xd_session.specs.Crew.{books_of}
 use Rattle.xd_session.specs.Stands.{Seen, state_of}
-use Rattle.xd_session.proofs.Steady.{stands-inside, stands-next, step-bare, step-new, step-next}
+use Rattle.xd_session.proofs.Steady.{stands-inside, stands-next, step-bare, step-new, step-next, step-told}
 use Rattle.xd_session.proofs.session.Session.step.Goals as goal
 
 pub take-requires-clause-low : goal.take-requires-clause-low
@@ -14,6 +14,12 @@ take-requires-clause-new g c = step-new _ _ _ _ _ _ (c.self.invariant (ap (λ (v
 
 pub take-requires-clause-bare : goal.take-requires-clause-bare
 take-requires-clause-bare g c = step-bare _ _ _ _ _ _ (c.self.invariant (ap (λ (v : Seen). v.whole) c.self.view_is ∙ c.requires.whole))
+
+pub take-requires-clause-told : goal.take-requires-clause-told
+take-requires-clause-told g c =
+    let k = c.self.invariant (ap (λ (v : Seen). v.whole) c.self.view_is ∙ c.requires.whole) in
+    step-told _ _ _ _ _ _ k c.args.news.worker
+    (ap (λ (b : Books). is_active c.args.news.worker b) k.at.books_are ∙ ap (λ (v : Seen). is_active c.args.news.worker (state_of v).books) c.self.view_is ∙ c.requires.active)
 
 pub take-requires-clause-active : goal.take-requires-clause-active
 take-requires-clause-active g c =
