@@ -99,11 +99,25 @@ fn items_that_come_back_stand_at_the_end_of_the_pool(rt: HostRuntime) -> Result<
     ledger.give_back(7, &[2, 1])?;
     ledger.complete(7, 0);
     ledger.leave(7);
-    assert!(rt; !ledger.in_rota(7));
+    assert!(rt; ledger.has_joined(7) && !ledger.in_rota(7) && !ledger.has_joined(8));
     ledger.join(alloc, 8)?;
     assert_eq!(rt;
         ledger.assign_front(alloc, 8, 3)?.items.as_slice(),
         [3, 2, 1].as_slice()
+    );
+    Ok(())
+}
+
+#[test]
+fn a_ledger_is_filled_behind_the_first_workers(rt: HostRuntime) -> Result<(), Fail> {
+    let alloc = rt.alloc();
+    let mut ledger = Ledger::new(alloc, 0)?;
+    ledger.join(alloc, 3)?;
+    ledger.fill(alloc, 2)?;
+    assert_eq!(rt; (ledger.rota_at(0), ledger.pool_len()), (3, 2));
+    assert_eq!(rt;
+        ledger.assign_front(alloc, 3, 2)?.items.as_slice(),
+        [0, 1].as_slice()
     );
     Ok(())
 }
