@@ -1,0 +1,2 @@
+pub mod NextListed
+pub mod Unkilled
