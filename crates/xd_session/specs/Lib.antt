@@ -1,3 +1,4 @@
+pub mod Crew
 pub mod Ending
 pub mod History
 pub mod Kept

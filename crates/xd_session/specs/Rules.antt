@@ -51,6 +51,10 @@ abbrev pub told_all : List ℕ → Books → Books
 told_all [] b = b
 told_all (w ∷ ws) b = told_all ws (told w b)
 
+-- a Shutdown to each of these workers
+abbrev pub shutdowns : List ℕ → List Entry
+shutdowns ws = map (λ w. Shutdown w) ws
+
 -- the marks of the workers behind an output of a mode
 abbrev pub told_by : List Member → Entry → List Member
 told_by ms (Shutdown w) = map (made_shut w) ms

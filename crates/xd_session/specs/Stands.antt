@@ -9,6 +9,7 @@ use Rattle.xd_ledger.specs.State.{state_at}
 use Rattle.xd_ledger.specs.Proper.{most_workers, most_restarts}
 use Rattle.xd_ledger.specs.Meaning.{Log, log_of, most_of_one}
 use Rattle.xd_session.specs.declared.logs.WorkerLog.{WorkerLog}
+use Rattle.xd_session.specs.Kept.{log_in, shortened}
 use Rattle.xd_session.specs.History.{run_of, said_by}
 
 pub record Seen : Type 0 where
@@ -20,16 +21,6 @@ pub record Seen : Type 0 where
 -- the state behind the journal so far
 abbrev pub state_of : Seen → State
 state_of s = state_at s.settings s.entries
-
--- the log of the worker among these
-abbrev pub log_in : ℕ → List WorkerLog → Option Log
-log_in worker [] = None
-log_in worker (l ∷ ls) = if l.worker == worker then Some (record { number = l.number; index = l.index; is_open = l.is_open; bytes = l.bytes }) else log_in worker ls
-
--- of a log no more bytes are kept than can be asked for
-abbrev pub shortened : Option Log → Option Log
-shortened None = None
-shortened (Some log) = Some (record log { bytes = take most_of_one log.bytes })
 
 -- the session took these news: its journal is theirs, and it keeps the last log of each worker
 pub record StandsFor (taken : List News) (s : Seen) : Type 0 where

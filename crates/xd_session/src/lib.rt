@@ -2,9 +2,15 @@
 //! and no program. pytest-xdist's DSession.
 #![tactic(auto)]
 
+mod books;
 mod logs;
+mod marks;
+mod outputs;
+mod rules;
+mod seats;
 mod session;
 mod step;
+mod stops;
 
 pub use session::Session;
 pub use step::Step;

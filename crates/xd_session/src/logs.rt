@@ -1,9 +1,8 @@
 // The logs of the workers.
-ghost use Rattle.std.specs.Prelude.{◌≡◌, ℕ, ◌==◌, [], OnOk, true, if◌then◌else◌};
+ghost use Rattle.std.specs.Prelude.{◌≡◌, ℕ, ◌==◌, ◌&&◌, [], ◌++◌, take, Some, OnOk, true, if◌then◌else◌};
 ghost use Rattle.xd_ledger.specs.declared.news.What.TheVariants as what;
-ghost use Rattle.xd_ledger.specs.Meaning.{with_news, number_of, is_of, is_open_log, any_open};
-ghost use Rattle.xd_session.specs.Stands.{log_in, shortened};
-ghost use Rattle.xd_session.specs.Kept.{place_of, index_of, bytes_of};
+ghost use Rattle.xd_ledger.specs.Meaning.{most_of_one, with_news, number_of, is_of, is_open_log, any_open};
+ghost use Rattle.xd_session.specs.Kept.{log_in, shortened, log_of_item, place_of, index_of, bytes_of};
 
 use std::alloc::Global;
 use std::marker::Model;
@@ -50,6 +49,23 @@ fn place_of(logs: &[WorkerLog], worker: u32) -> usize
     logs.len()
 }
 
+// The bytes with the piece behind them, but no more than can be asked for.
+fn add_first(bytes: &mut Blob, piece: &[u8]) -> Result<(), OutOfMemory>
+    ensures { OnOk result (bytes.new ≡ take most_of_one (bytes.old ++ piece.now)) }
+{
+    let room = MOST_OF_ONE.saturating_sub(bytes.bytes.len());
+    let count = room.min(piece.len());
+    bytes.bytes.extend_from_slice(&piece[..count])?;
+    bytes.bytes.truncate(MOST_OF_ONE);
+    Ok(())
+}
+
+fn is_open_at(log: &WorkerLog, number: u32) -> bool
+    ensures { result ≡ (log.now.is_open && log.now.number == number) }
+{
+    log.is_open && log.number == number
+}
+
 impl Logs {
     // No log yet.
     pub(crate) fn new(alloc: Global) -> Logs
@@ -88,7 +104,7 @@ impl Logs {
     {
         let place = place_of(&self.items, worker);
         if place < self.items.len() {
-            return self.items[place].is_open && self.items[place].number == number;
+            return is_open_at(&self.items[place], number);
         }
         false
     }
@@ -124,5 +140,60 @@ impl Logs {
             return self.items[place].bytes.as_slice();
         }
         &[]
+    }
+
+    // This log is the worker's last one.
+    fn put(&mut self, log: WorkerLog) -> Result<(), OutOfMemory>
+        ensures { OnOk result ((v : ℕ) → log_in v self.new ≡ (if v == log.worker then Some (log_of_item log) else log_in v self.old)) }
+    {
+        let place = place_of(&self.items, log.worker);
+        if place < self.items.len() {
+            self.items[place] = log;
+            return Ok(());
+        }
+        self.items.push(log)?;
+        Ok(())
+    }
+
+    // The worker starts the log of a test, on the channel of this number.
+    pub(crate) fn start(
+        &mut self,
+        alloc: Global,
+        worker: u32,
+        index: u32,
+        number: u32,
+    ) -> Result<(), OutOfMemory>
+        ensures { OnOk result ((v : ℕ) → log_in v self.new ≡ (if v == worker then shortened (with_news (log_in v self.old) (what.LogStart index number)) else log_in v self.old)) }
+    {
+        self.put(WorkerLog {
+            worker,
+            number,
+            index,
+            is_open: true,
+            bytes: Blob::from_vec(Vec::new(alloc)),
+        })?;
+        Ok(())
+    }
+
+    // More bytes of the worker's last log, of which the first ones are kept.
+    pub(crate) fn add(&mut self, worker: u32, piece: &[u8]) -> Result<(), OutOfMemory>
+        ensures { OnOk result ((v number : ℕ) → log_in v self.new ≡ (if v == worker then shortened (with_news (log_in v self.old) (what.Piece number piece.now)) else log_in v self.old)) }
+    {
+        let place = place_of(&self.items, worker);
+        if place < self.items.len() {
+            add_first(&mut self.items[place].bytes, piece)?;
+            return Ok(());
+        }
+        Ok(())
+    }
+
+    // The worker's last log is closed.
+    pub(crate) fn close(&mut self, worker: u32)
+        ensures { (v number : ℕ) → log_in v self.new ≡ (if v == worker then with_news (log_in v self.old) (what.LogClosed number) else log_in v self.old) }
+    {
+        let place = place_of(&self.items, worker);
+        if place < self.items.len() {
+            self.items[place].is_open = false;
+        }
     }
 }

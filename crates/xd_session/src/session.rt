@@ -1,19 +1,19 @@
 // The session.
 ghost use Rattle.std.specs.Prelude.{◌≡◌, ◌++◌, ◌∷◌, [], length, true, false, OnOk, OnErr, IfOk};
-ghost use Rattle.xd_ledger.specs.Histories.{is_over};
+ghost use Rattle.xd_ledger.specs.Histories.{is_over, starts_from};
 ghost use Rattle.xd_ledger.specs.Plan.{Plan};
-ghost use Rattle.xd_ledger.specs.State.{no_one};
+ghost use Rattle.xd_ledger.specs.State.{no_one, all_moved};
 ghost use Rattle.xd_ledger.specs.Workers.{is_active};
+ghost use Rattle.xd_session.specs.Crew.{books_of};
 ghost use Rattle.xd_session.specs.Ending.{ending, may_close};
 ghost use Rattle.xd_session.specs.Stands.{CanBegin, StandsFor, state_of};
 
-use crate::Step;
-use crate::logs::Logs;
 use crate::books::RunBooks;
+use crate::logs::Logs;
 use std::alloc::Global;
 use std::marker::Model;
 use xd_edge::OutOfMemory;
-use xd_ledger::{Journal, Mode, News, Settings};
+use xd_ledger::{Entry, Journal, Mode, Settings};
 
 /// The part of the controller that decides. It stands for the news that it took: its journal is the one that they make.
 /// Behind want of memory it is given up.
@@ -30,13 +30,32 @@ pub struct Session<M: Mode> {
 impl<M: Mode> Model for Session<M> {
     ghost use Rattle.std.specs.Prelude.{◌≡◌, true};
     ghost use Rattle.xd_session.specs.Stands.{Seen};
+    ghost use Rattle.xd_session.specs.Crew.{books_of};
     ghost use Rattle.xd_session.specs.Rules.{InStep};
 
     ghost Value = { Seen };
 
     ghost view = { λ s. record { settings = s.journal.settings; entries = s.journal.entries.items; logs = s.logs; whole = s.whole } };
 
-    ghost invariant = { λ s. s.whole ≡ true → InStep s.journal.settings s.journal.entries.items s.spent s.books (M.stands s.mode) };
+    ghost invariant = { λ s. s.whole ≡ true → InStep s.journal.settings s.journal.entries.items s.spent (books_of s.books) (M.stands s.mode) };
+}
+
+// The first workers are started, each at the slot of its number.
+fn start_all(workers: u32, books: &mut RunBooks, journal: &mut Journal) -> Result<(), OutOfMemory>
+    requires started { books_of books.old ≡ (no_one books.old.settings).books }
+    requires empty { journal.old.entries.items ≡ [] }
+    ensures books { OnOk result (books_of books.new ≡ (all_moved (no_one books.old.settings) (starts_from 0 workers)).books) }
+    ensures entries { OnOk result (journal.new.entries.items ≡ starts_from 0 workers) }
+    ensures settings { journal.new.settings ≡ journal.old.settings }
+{
+    for worker in 0..workers {
+        books.start(worker, worker)?;
+        journal.push(Entry::Start {
+            worker,
+            slot: worker,
+        })?;
+    }
+    Ok(())
 }
 
 impl<M: Mode> Session<M> {
@@ -48,21 +67,17 @@ impl<M: Mode> Session<M> {
         ensures stands { IfOk result (λ s. StandsFor [] s) }
         ensures settings { IfOk result (λ s. s.settings ≡ settings) }
     {
-        unreachable!()
-    }
-
-    /// One piece of news of an active worker. Gives the places of the entries that it added to the journal. Behind an
-    /// error the session is given up.
-    pub fn step(&mut self, alloc: Global, news: News) -> Result<Step, OutOfMemory>
-        requires whole { self.old.whole ≡ true }
-        requires active { is_active news.worker (state_of self.old).books ≡ true }
-        ensures stands { OnOk result ((taken : List News) → StandsFor taken self.old → StandsFor (taken ++ news ∷ []) self.new) }
-        ensures whole { OnOk result (self.new.whole ≡ true) }
-        ensures places { IfOk result (λ p. (p.from ≡ length self.old.entries) × (p.to ≡ length self.new.entries)) }
-        ensures settings { self.new.settings ≡ self.old.settings }
-        ensures given_up { OnErr result (self.new.whole ≡ false) }
-    {
-        unreachable!()
+        let mut books = RunBooks::new(alloc, settings)?;
+        let mut journal = Journal::new(alloc, settings);
+        start_all(settings.workers, &mut books, &mut journal)?;
+        Ok(Session {
+            mode,
+            books,
+            journal,
+            logs: Logs::new(alloc),
+            spent: 0,
+            whole: true,
+        })
     }
 
     /// The worker, counted from 0 in the order of the starts, was started and has neither finished nor gone.
@@ -70,7 +85,7 @@ impl<M: Mode> Session<M> {
         requires { self.now.whole ≡ true }
         ensures { result ≡ is_active worker (state_of self.now).books }
     {
-        unreachable!()
+        self.books.is_active(worker)
     }
 
     /// The run is shutting and no worker is active.
@@ -78,7 +93,7 @@ impl<M: Mode> Session<M> {
         requires { self.now.whole ≡ true }
         ensures { result ≡ is_over (state_of self.now).books }
     {
-        unreachable!()
+        self.books.is_over()
     }
 
     /// The journal so far.
@@ -87,16 +102,5 @@ impl<M: Mode> Session<M> {
         ensures entries { result.now.entries.items ≡ self.now.entries }
     {
         &self.journal
-    }
-
-    /// The journal with its end: Over with the run's stop where the run is over. Where the output failed, a Kill of each
-    /// active worker in order of worker numbers, and Over with `OutFault`.
-    pub fn close(self, out_failed: bool) -> Result<Journal, OutOfMemory>
-        requires whole { self.whole ≡ true }
-        requires done { may_close out_failed (state_of self).books ≡ true }
-        ensures settings { IfOk result (λ j. j.settings ≡ self.settings) }
-        ensures entries { IfOk result (λ j. j.entries.items ≡ self.entries ++ ending out_failed (state_of self).books) }
-    {
-        unreachable!()
     }
 }

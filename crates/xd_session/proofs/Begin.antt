@@ -1,0 +1,77 @@
+-- The start of a run.
+use Rattle.std.proofs.Common.{◌≡◌, ℕ, zero, suc, ◌+◌, List, [], ◌∷◌, ◌++◌, refl, ap, sym, subst, ◌∙◌, arith, Bool, true, false, append_assoc, add-zero}
+use Rattle.std.proofs.lemmas.Grind.{common_steps, fold-append}
+use Rattle.std.specs.Prelude.{None}
+use Rattle.xd_edge.specs.declared.mode.ModeKind.TheVariants.{Load}
+use Rattle.xd_ledger.specs.declared.settings.Settings.{Settings}
+use Rattle.xd_ledger.specs.declared.entry.Entry.{Entry}
+use Rattle.xd_ledger.specs.declared.entry.Entry.TheVariants.{Start}
+use Rattle.xd_ledger.specs.declared.member.Member.{Member}
+use Rattle.xd_ledger.specs.Books.{Books}
+use Rattle.xd_ledger.specs.Plan.{Plan}
+use Rattle.xd_ledger.specs.Sharing.{State}
+use Rattle.xd_ledger.specs.State.{all_moved, next, no_one, settled, state_at}
+use Rattle.xd_ledger.specs.Histories.{starts_from, journal_of, first_starts}
+use Rattle.xd_ledger.specs.Proper.{IsProper}
+use Rattle.xd_ledger.specs.Meaning.{spent_by}
+use Rattle.xd_ledger.specs.Workers.{started}
+use Rattle.std.proofs.lemmas.List.{append-nil}
+use Rattle.xd_session.specs.Rules.{At, InStep, begun_at}
+use Rattle.xd_session.specs.Stands.{CanBegin}
+
+-- the start with these workers
+abbrev pub with_crew : Settings → List Member → State
+with_crew settings ms = record (no_one settings) { books = record ((no_one settings).books) { crew = ms } }
+
+-- the first so many workers
+abbrev pub members_from : ℕ → ℕ → List Member
+members_from w zero = []
+members_from w (suc n) = started w w ∷ members_from (w + 1) n
+
+pub starts-moved : (settings : Settings) (w n : ℕ) (ms : List Member) → all_moved (with_crew settings ms) (starts_from w n) ≡ with_crew settings (ms ++ members_from w n)
+starts-moved settings w zero ms = ap (with_crew settings) (sym (append-nil ms))
+starts-moved settings w (suc n) ms = starts-moved settings (w + 1) n (ms ++ started w w ∷ []) ∙ ap (with_crew settings) (append_assoc ms (started w w ∷ []) (members_from (w + 1) n))
+
+pub starts-more : (w n : ℕ) → starts_from w (n + 1) ≡ starts_from w n ++ Start (w + n) (w + n) ∷ []
+starts-more w zero = grind (arith, common_steps)
+starts-more w (suc n) = let k = starts-more (w + 1) n in grind (arith, common_steps)
+
+pub start-next : (settings : Settings) (i : ℕ) → starts_from 0 (i + 1) ≡ starts_from 0 i ++ Start i i ∷ []
+start-next settings i = starts-more 0 i ∙ ap (λ k. starts_from 0 i ++ Start k k ∷ []) (omega arith)
+
+pub started-next : (settings : Settings) (i : ℕ) (b c : Books) → b ≡ (all_moved (no_one settings) (starts_from 0 i)).books → c ≡ begun_at i i b → c ≡ (all_moved (no_one settings) (starts_from 0 (i + 1))).books
+started-next settings i b c h e =
+    let k : all_moved (no_one settings) (starts_from 0 i ++ Start i i ∷ []) ≡ next (all_moved (no_one settings) (starts_from 0 i)) (Start i i) = fold-append next (no_one settings) (starts_from 0 i) (Start i i ∷ []) in
+    e ∙ ap (begun_at i i) h ∙ ap (λ (s : State). s.books) (sym k) ∙ ap (λ es. (all_moved (no_one settings) es).books) (sym (start-next settings i))
+
+starts-spend : (w n : ℕ) → spent_by (starts_from w n) ≡ 0
+starts-spend w zero = refl
+starts-spend w (suc n) = starts-spend (w + 1) n
+
+begun-at : (settings : Settings) (n : ℕ) (b : Books) (stands : Plan → Type 0) → settings.mode ≡ Load → stands (no_one settings).plan → b ≡ (all_moved (no_one settings) (starts_from 0 n)).books
+    → At (state_at settings (starts_from 0 n)) b stands
+begun-at settings n b stands h f e =
+    let k = starts-moved settings 0 n [] in
+    subst (λ v. At v b stands) (sym (ap settled k)) (record { books_are = e ∙ ap (λ (s : State). s.books) k; stands_for = f; load = h; steal = refl })
+
+begun-proper : (settings : Settings) → CanBegin settings → IsProper settings []
+begun-proper settings c = record {
+  mode = rw c.mode refl;
+  some_worker = c.some_worker;
+  few_workers = c.few_workers;
+  few_restarts = c.few_restarts;
+  follow = refl;
+}
+
+pub begun-step : (settings kept : Settings) (entries : List Entry) (b : Books) (stands : Plan → Type 0) → kept ≡ settings → CanBegin settings → stands (no_one settings).plan → b ≡ (all_moved (no_one settings) (starts_from 0 settings.workers)).books
+    → entries ≡ starts_from 0 settings.workers → InStep kept entries 0 b stands
+begun-step settings kept entries b stands same c f e k =
+    subst (λ s. InStep s entries 0 b stands) (sym same)
+    (subst (λ es. InStep settings es 0 b stands) (sym k) (record {
+      inputs = [];
+      proper = begun-proper settings c;
+      journal = sym (append-nil (first_starts settings));
+      at = begun-at settings settings.workers b stands c.mode f e;
+      spent_is = sym (starts-spend 0 settings.workers);
+      spent_low = omega arith;
+    }))

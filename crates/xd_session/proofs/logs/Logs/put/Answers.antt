@@ -1,0 +1,17 @@
+use Rattle.std.proofs.Common.{◌≡◌, ◌≤◌, ◌<◌, ℕ, refl, ap, sym, ◌∙◌, arith, length}
+use Rattle.std.proofs.lemmas.Grind.{common_steps}
+use Rattle.xd_ledger.specs.Meaning.{with_news}
+use Rattle.xd_ledger.specs.declared.news.What.TheVariants as what
+use Rattle.xd_session.specs.Kept.{log_in, place_of}
+use Rattle.xd_session.proofs.Places.{log-changed, log-kept, log-pushed, log-placed}
+use Rattle.xd_session.proofs.logs.Logs.put.Goals as goal
+
+pub returns-then-place-len : goal.returns-then-place-len
+returns-then-place-len c = λ v.
+    (let p : c.place_of-place.result ≡ place_of c.args.log.worker c.self.inside.items.items = c.place_of-place.ensures ∙ ap (place_of c.args.log.worker) c.deref.ensures.value in
+    log-placed v c.args.log.worker _ _ _ c.args.log c.self.view_is p (grind (arith, common_steps)) refl)
+
+pub returns : goal.returns
+returns c = λ v.
+    (let p : c.place_of-place.result ≡ place_of c.args.log.worker c.self.inside.items.items = c.place_of-place.ensures ∙ ap (place_of c.args.log.worker) c.deref.ensures.value in
+    ap (log_in v) c.in_ok-push.ensures.items ∙ log-pushed v c.args.log.worker _ _ _ c.args.log c.self.view_is p (grind (arith, common_steps)) refl)

@@ -1,0 +1,31 @@
+use Rattle.std.proofs.Common.{◌≡◌, ◌++◌, ◌∷◌, [], ap, sym, ◌∙◌, true, false, List, ℕ, Bool, length, append_assoc}
+use Rattle.std.specs.Prelude.{if◌then◌else◌}
+use Rattle.xd_ledger.specs.declared.entry.Entry.{Entry}
+use Rattle.xd_ledger.specs.declared.entry.Entry.TheVariants.{Ready, Done, Finished, Refused, Down, NotStarted, Start, Kill, Shutdown}
+use Rattle.xd_ledger.specs.declared.member.Member.{Member}
+use Rattle.xd_ledger.specs.Books.{Books, marked}
+use Rattle.xd_ledger.specs.Calls.{Turned, last_of}
+use Rattle.xd_ledger.specs.Modes.Call.{Died, TestDone}
+use Rattle.xd_ledger.specs.Outputs.{acts_of, after_death, own_outputs, shut_all}
+use Rattle.xd_ledger.specs.Plan.{Plan}
+use Rattle.xd_ledger.specs.Sharing.{State}
+use Rattle.xd_ledger.specs.State.{all_moved, moved, settles}
+use Rattle.xd_ledger.specs.Stops.{is_stopped, is_shutting}
+use Rattle.xd_ledger.specs.Workers.{made_ready, slot_of, waiting}
+use Rattle.xd_session.specs.Crew.{books_of}
+use Rattle.xd_session.specs.Rules.{crew_told, told, told_all}
+use Rattle.std.proofs.Common.{subst}
+use Rattle.xd_session.proofs.Acts.{acted-from, acted-by, choose-yes, same_plan}
+use Rattle.xd_session.proofs.Follow.{follows-died}
+use Rattle.xd_session.proofs.rules.call_died.Goals as goal
+
+pub returns : goal.returns
+returns g c = λ s a.
+    (let b : Books = books_of c.args.books.now in
+    let plan = same_plan c.args.worker (last_of c.args.rest b.table.pool) s.plan a.load a.steal in
+    let turned = subst (λ (p : Plan). Turned Died p b.table c.new-acts.result.items c.died.new.ledger c.died.new.acts.items (g.M.Mode.stands c.died.new.self)) plan (c.in_ok-died.ensures s.plan a.stands_for) in
+    acted-by (acts_of Died s) _ s _ c.args.entries.now.items c.note_all.new.entries.items _
+    (choose-yes s.books.shared (acts_of Died s) [] (ap (λ (d : Books). d.shared) (sym a.books_are) ∙ c.if-not-books.false))
+    (acted-from s Died b c.died.new.ledger c.new-acts.result.items c.died.new.acts.items c.follow.new.crew.items c.args.entries.now.items c.note_all.new.entries.items _ _
+    c.new-acts.ensures.items a turned (follows-died s a.load)
+    (c.follow.ensures ∙ ap (λ (es : List Entry). crew_told es b.crew) c.deref.ensures.value) c.in_ok-note_all.ensures))

@@ -1,0 +1,28 @@
+use Rattle.std.proofs.Common.{◌≡◌, ◌++◌, ◌∷◌, [], ap, sym, ◌∙◌, true, false, List, ℕ, Bool, length, append_assoc}
+use Rattle.std.specs.Prelude.{if◌then◌else◌}
+use Rattle.xd_ledger.specs.declared.entry.Entry.{Entry}
+use Rattle.xd_ledger.specs.declared.entry.Entry.TheVariants.{Ready, Done, Finished, Refused, Down, NotStarted, Start, Kill, Shutdown}
+use Rattle.xd_ledger.specs.declared.member.Member.{Member}
+use Rattle.xd_ledger.specs.Books.{Books, marked}
+use Rattle.xd_ledger.specs.Calls.{Turned, last_of}
+use Rattle.xd_ledger.specs.Modes.Call.{Died, TestDone}
+use Rattle.xd_ledger.specs.Outputs.{acts_of, after_death, own_outputs, shut_all}
+use Rattle.xd_ledger.specs.Plan.{Plan}
+use Rattle.xd_ledger.specs.Sharing.{State}
+use Rattle.xd_ledger.specs.State.{all_moved, moved, settles}
+use Rattle.xd_ledger.specs.Stops.{is_stopped, is_shutting}
+use Rattle.xd_ledger.specs.Workers.{made_gone, slot_of, waiting}
+use Rattle.xd_session.specs.Crew.{books_of}
+use Rattle.xd_session.specs.Rules.{crew_told, told, told_all}
+use Rattle.xd_session.proofs.Acts.{finish, gone-left-at, acted-none}
+use Rattle.xd_session.proofs.rules.finished.Goals as goal
+
+pub returns : goal.returns
+returns g c = λ s a.
+    (let w : ℕ = c.args.worker in
+    let e : Entry = Finished w in
+    let t : State = moved s e in
+    let b : Books = books_of c.mark.new.self in
+    let at = gone-left-at s w (books_of c.args.books.now) b _ a (c.mark.ensures ∙ ap (λ (d : Books). marked (made_gone w) d) c.leave.ensures) in
+    finish s e b (books_of c.finish.new.books) c.args.entries.now.items c.note.new.entries.items c.note.new.entries.items c.finish.new.entries.items _
+    c.in_ok-note.ensures (acted-none t b c.note.new.entries.items _ at) c.in_ok-finish.ensures)

@@ -1,0 +1,34 @@
+use Rattle.std.proofs.Common.{◌≡◌, ◌++◌, ◌∷◌, [], ap, sym, ◌∙◌, true, false, List, ℕ, Bool, length, append_assoc}
+use Rattle.std.specs.Prelude.{if◌then◌else◌}
+use Rattle.xd_ledger.specs.declared.entry.Entry.{Entry}
+use Rattle.xd_ledger.specs.declared.entry.Entry.TheVariants.{Ready, Done, Finished, Refused, Down, NotStarted, Start, Kill, Shutdown}
+use Rattle.xd_ledger.specs.declared.member.Member.{Member}
+use Rattle.xd_ledger.specs.Books.{Books, marked}
+use Rattle.xd_ledger.specs.Calls.{Turned, last_of}
+use Rattle.xd_ledger.specs.Modes.Call.{Died, TestDone}
+use Rattle.xd_ledger.specs.Outputs.{acts_of, after_death, own_outputs, shut_all}
+use Rattle.xd_ledger.specs.Plan.{Plan}
+use Rattle.xd_ledger.specs.Sharing.{State}
+use Rattle.xd_ledger.specs.State.{all_moved, moved, settles}
+use Rattle.xd_ledger.specs.Stops.{is_stopped, is_shutting}
+use Rattle.xd_ledger.specs.Workers.{made_ready, slot_of, waiting}
+use Rattle.xd_session.specs.Crew.{books_of}
+use Rattle.xd_session.specs.Rules.{crew_told, told, told_all}
+use Rattle.xd_session.proofs.Acts.{acted-by, acted-start, acted-append}
+use Rattle.xd_session.proofs.rules.restart.Goals as goal
+
+pub returns : goal.returns
+returns g c = λ s a.
+    (let w : ℕ = c.args.worker in
+    let number : ℕ = c.in_ok-number.number in
+    let slot : ℕ = c.slot_of-slot.result in
+    let xs : List Entry = if s.books.shared then acts_of Died s else [] in
+    let first = c.in_ok-call_died.ensures s a in
+    let n : number ≡ length s.books.crew = c.in_ok-number.ensures ∙ ap (λ (d : Books). length d.crew) a.books_are in
+    let p : slot ≡ slot_of w s.books = c.slot_of-slot.ensures ∙ ap (λ (d : Books). slot_of w d) a.books_are in
+    let numbers : ℕ → List Entry = λ k. xs ++ Start k slot ∷ [] in
+    let slots : ℕ → List Entry = λ k. xs ++ Start (length s.books.crew) k ∷ [] in
+    acted-by (xs ++ Start number slot ∷ []) _ s (books_of c.start.new.self) c.args.entries.now.items c.note.new.entries.items _ (ap numbers n ∙ ap slots p)
+    (acted-append xs (Start number slot ∷ []) s (books_of c.call_died.new.books) (books_of c.start.new.self) c.args.entries.now.items c.call_died.new.entries.items c.note.new.entries.items _ _
+    first
+    (acted-start (all_moved s xs) number slot (books_of c.call_died.new.books) (books_of c.start.new.self) c.call_died.new.entries.items c.note.new.entries.items _ first.at c.in_ok-start.ensures c.in_ok-note.ensures)))

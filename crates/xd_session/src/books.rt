@@ -1,0 +1,22 @@
+// What the session keeps of a run beside its mode.
+ghost use Rattle.std.specs.Prelude.{◌≡◌, true, nat_le, length};
+ghost use Rattle.std.specs.List.{list_all};
+ghost use Rattle.xd_ledger.specs.Proper.{most_tests};
+
+use xd_ledger::{Ledger, Listed, Member, RunStop, Settings};
+
+// Whoever was started, the collections that others are compared with, where the tests stand, the counts of failures and
+// deaths, the first stop, and the marks that the tests were shared and that nothing is left to hand out.
+#[derive(Drop)]
+pub struct RunBooks {
+    pub settings: Settings,
+    pub crew: Vec<Member>,
+    pub lists: Vec<Listed>,
+    pub ledger: Ledger,
+    pub shared: bool,
+    pub failures: u32,
+    pub deaths: u32,
+    pub stop: Option<RunStop>,
+    pub shutting: bool,
+    ghost few: { list_all (λ l. nat_le (length l.ids) most_tests) lists.items ≡ true },
+}

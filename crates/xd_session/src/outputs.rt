@@ -1,0 +1,101 @@
+// What is said behind an input.
+ghost use Rattle.std.specs.Prelude.{◌≡◌, [], ◌∷◌, ◌++◌, OnOk, if◌then◌else◌};
+ghost use Rattle.xd_ledger.specs.declared.entry.Entry.TheVariants as entry;
+ghost use Rattle.xd_ledger.specs.Outputs.{shut_all};
+ghost use Rattle.xd_ledger.specs.Stops.{is_shutting};
+ghost use Rattle.xd_ledger.specs.Workers.{waiting};
+ghost use Rattle.xd_session.specs.Crew.{books_of};
+ghost use Rattle.xd_session.specs.Rules.{crew_told, told, told_all, told_by, shutdowns};
+
+use crate::books::RunBooks;
+use crate::marks::{Mark, remake};
+use std::alloc::Global;
+use xd_edge::OutOfMemory;
+use xd_ledger::{Entry, Member};
+
+// One more entry.
+pub(crate) fn note(entry: Entry, entries: &mut Vec<Entry>) -> Result<(), OutOfMemory>
+    ensures { OnOk result (entries.new.items ≡ entries.old.items ++ entry ∷ []) }
+{
+    entries.push(entry)?;
+    Ok(())
+}
+
+// More entries.
+pub(crate) fn note_all(
+    acts: &mut Vec<Entry>,
+    entries: &mut Vec<Entry>,
+) -> Result<(), OutOfMemory>
+    ensures { OnOk result (entries.new.items ≡ entries.old.items ++ acts.old.items) }
+{
+    match entries.append(acts) {
+        Ok(()) => Ok(()),
+        Err(_) => Err(OutOfMemory),
+    }
+}
+
+// A Shutdown to each of these workers.
+pub(crate) fn tell_all(
+    workers: &[u32],
+    books: &mut RunBooks,
+    entries: &mut Vec<Entry>,
+) -> Result<(), OutOfMemory>
+    ensures told { OnOk result (books_of books.new ≡ told_all workers.now (books_of books.old)) }
+    ensures noted { OnOk result (entries.new.items ≡ entries.old.items ++ shutdowns workers.now) }
+{
+    for i in 0..workers.len() {
+        let worker = workers[i];
+        books.tell(worker);
+        note(Entry::Shutdown { worker }, entries)?;
+    }
+    Ok(())
+}
+
+// A Shutdown to each worker that waits.
+pub(crate) fn shut_everyone(
+    alloc: Global,
+    books: &mut RunBooks,
+    entries: &mut Vec<Entry>,
+) -> Result<(), OutOfMemory>
+    ensures told { OnOk result (books_of books.new ≡ told_all (waiting (books_of books.old).crew) (books_of books.old)) }
+    ensures noted { OnOk result (entries.new.items ≡ entries.old.items ++ shut_all (books_of books.old).crew) }
+{
+    let workers = books.waiting(alloc)?;
+    tell_all(&workers.items, books, entries)?;
+    Ok(())
+}
+
+// A Shutdown to the worker, where the run is shutting.
+pub(crate) fn tell_where_shutting(
+    worker: u32,
+    books: &mut RunBooks,
+    entries: &mut Vec<Entry>,
+) -> Result<(), OutOfMemory>
+    ensures told { OnOk result (books_of books.new ≡ (if is_shutting (books_of books.old) then told worker (books_of books.old) else books_of books.old)) }
+    ensures noted { OnOk result (entries.new.items ≡ entries.old.items ++ (if is_shutting (books_of books.old) then entry.Shutdown worker ∷ [] else [])) }
+{
+    if !books.is_shutting() {
+        return Ok(());
+    }
+    books.tell(worker);
+    note(Entry::Shutdown { worker }, entries)?;
+    Ok(())
+}
+
+// The marks of the workers behind an output of the mode.
+fn follow_one(act: &Entry, crew: &mut Vec<Member>)
+    ensures { crew.new.items ≡ told_by crew.old.items act.now }
+{
+    if let Entry::Shutdown { worker } = act {
+        remake(crew, *worker, Mark::Shut);
+    }
+}
+
+// The marks of the workers behind these outputs of the mode.
+pub(crate) fn follow(acts: &[Entry], crew: &mut Vec<Member>)
+    ensures { crew.new.items ≡ crew_told acts.now crew.old.items }
+{
+    for i in 0..acts.len() {
+        follow_one(&acts[i], crew);
+    }
+}

@@ -1,0 +1,115 @@
+// The rota of a run: who holds which tests.
+ghost use Rattle.std.specs.Prelude.{◌≡◌, ◌+◌, ◌==◌, Some, None, true, [], ◌∷◌, length, take, drop, OnOk, IfOk, if◌then◌else◌};
+ghost use Rattle.xd_ledger.specs.Books.{on_table};
+ghost use Rattle.xd_ledger.specs.Numbers.{first_of};
+ghost use Rattle.xd_ledger.specs.State.{failing, done_books, down_books};
+ghost use Rattle.xd_ledger.specs.Table.{held, in_rota, left, completed, died};
+ghost use Rattle.xd_session.specs.Crew.{books_of, is_first};
+
+use crate::books::RunBooks;
+use crate::marks::Mark;
+use std::alloc::Global;
+use xd_edge::OutOfMemory;
+use xd_ledger::{Death, Ledger, Outcome};
+
+// The worker leaves the rota, where it is there. It holds nothing.
+fn leave_seat(ledger: &mut Ledger, worker: u32)
+    requires { held worker ledger.old ≡ [] }
+    ensures { ledger.new ≡ left worker ledger.old }
+{
+    if ledger.in_rota(worker) {
+        ledger.leave(worker);
+    }
+}
+
+// What a worker held goes, as at the death of one of the rota.
+fn die_where(alloc: Global, ledger: &mut Ledger, worker: u32) -> Result<Death, OutOfMemory>
+    ensures moved { OnOk result (ledger.new ≡ died worker ledger.old) }
+    ensures head { IfOk result (λ d. d.head ≡ first_of (held worker ledger.old)) }
+    ensures rest { IfOk result (λ d. d.rest ≡ length (drop 1 (held worker ledger.old))) }
+{
+    if !ledger.in_rota(worker) {
+        return Ok(Death {
+            head: None,
+            rest: 0,
+        });
+    }
+    let death = ledger.die(alloc, worker)?;
+    Ok(death)
+}
+
+fn is_failed(outcome: Outcome) -> bool
+    ensures { (if result then 1 else 0) ≡ failing outcome }
+{
+    match outcome {
+        Outcome::Failed(_) => true,
+        Outcome::Passed | Outcome::Skipped => false,
+    }
+}
+
+impl RunBooks {
+    // The worker leaves the rota, where it is there. It holds nothing.
+    pub(crate) fn leave(&mut self, worker: u32)
+        requires { held worker self.old.ledger ≡ [] }
+        ensures { books_of self.new ≡ on_table (left worker) (books_of self.old) }
+    {
+        leave_seat(&mut self.ledger, worker);
+    }
+
+    // The test is the one at the worker's head.
+    pub(crate) fn is_head(&self, worker: u32, item: u32) -> bool
+        ensures seated { result ≡ true → in_rota worker self.now.ledger ≡ true }
+        ensures head { result ≡ true → first_of (held worker self.now.ledger) ≡ Some item }
+        ensures only { result ≡ is_first item (held worker self.now.ledger) }
+    {
+        if !self.ledger.in_rota(worker) {
+            return false;
+        }
+        self.ledger.head(worker) == Some(item)
+    }
+
+    // The worker holds no test.
+    pub(crate) fn is_idle(&self, worker: u32) -> bool
+        ensures { result ≡ (length (held worker self.now.ledger) == 0) }
+    {
+        if !self.ledger.in_rota(worker) {
+            return true;
+        }
+        self.ledger.held_len(worker) == 0
+    }
+
+    // The test at the worker's head ended.
+    pub(crate) fn score(
+        &mut self,
+        worker: u32,
+        item: u32,
+        outcome: Outcome,
+    ) -> Result<(), OutOfMemory>
+        requires seated { in_rota worker self.old.ledger ≡ true }
+        requires head { first_of (held worker self.old.ledger) ≡ Some item }
+        ensures done { OnOk result (books_of self.new ≡ done_books worker (item ∷ []) outcome (books_of self.old)) }
+        ensures seated { OnOk result (in_rota worker self.new.ledger ≡ true) }
+    {
+        self.ledger.complete(worker, item);
+        let failed = is_failed(outcome);
+        self.count_failure(failed)?;
+        if failed {
+            self.stop_at_limit();
+        }
+        Ok(())
+    }
+
+    // The worker died. Gives how many tests came back.
+    pub(crate) fn bury(&mut self, alloc: Global, worker: u32) -> Result<u32, OutOfMemory>
+        ensures buried { OnOk result (books_of self.new ≡ down_books worker (books_of self.old)) }
+        ensures rest { IfOk result (λ n. n ≡ length (drop 1 (held worker self.old.ledger))) }
+    {
+        let death = die_where(alloc, &mut self.ledger, worker)?;
+        self.count_failure(death.head.is_some())?;
+        self.count_death()?;
+        self.mark(worker, Mark::Gone);
+        self.stop_at_limit();
+        self.stop_at_restarts(worker);
+        Ok(death.rest)
+    }
+}
