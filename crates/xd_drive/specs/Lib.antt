@@ -1,3 +1,8 @@
+pub mod Agrees
 pub mod Calls
+pub mod Drive
 pub mod Listed
 pub mod Marks
+pub mod Performing
+pub mod Printing
+pub mod Taken

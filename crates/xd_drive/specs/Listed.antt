@@ -3,14 +3,11 @@ use Rattle.std.specs.Prelude.{◌≡◌, ℕ, ◌==◌, Bool, true, false, not, 
 use Rattle.std.specs.List.{list_any}
 use Rattle.xd_ledger.specs.declared.entry.Cause.TheVariants.{Ended}
 use Rattle.xd_ledger.specs.declared.entry.Entry.{Entry}
-use Rattle.xd_ledger.specs.declared.entry.Entry.TheVariants.{Start, Kill}
+use Rattle.xd_ledger.specs.declared.entry.Entry.TheVariants.{Kill}
 use Rattle.xd_ledger.specs.declared.news.News.{News}
 use Rattle.xd_ledger.specs.declared.news.What.TheVariants as what
 use Rattle.xd_drive.specs.Marks.{Marks, is_ready, is_end}
-
-abbrev pub is_start : Entry → Bool
-is_start (Start w slot) = true
-is_start _ = false
+use Rattle.xd_drive.specs.Performing.{is_start}
 
 abbrev pub is_kill_of : ℕ → Entry → Bool
 is_kill_of worker (Kill w) = w == worker

@@ -5,6 +5,8 @@
 mod copies;
 mod hub;
 mod listed_hub;
+mod perform;
+mod printing;
 
 pub use hub::Hub;
 pub use listed_hub::ListedHub;
