@@ -26,10 +26,10 @@ abbrev pub ready : ℕ → List Member → Bool
 ready w ms = has w (λ m. m.ready) ms
 
 -- the crew behind an input
-record CrewBehind (before : List Member) (e : Entry) (behind : List Member) : Type 0 where
-  members : (v : ℕ) → is_member v behind ≡ is_member v before
-  active : (v : ℕ) → active v behind ≡ (active v before && not (leaves v e))
-  ready : (v : ℕ) → ready v behind ≡ true → (ready v before ≡ true) ⊎ (readies v e ≡ true)
+pub record CrewBehind (before : List Member) (e : Entry) (behind : List Member) : Type 0 where
+  pub members : (v : ℕ) → is_member v behind ≡ is_member v before
+  pub active : (v : ℕ) → active v behind ≡ (active v before && not (leaves v e))
+  pub ready : (v : ℕ) → ready v behind ≡ true → (ready v before ≡ true) ⊎ (readies v e ≡ true)
 
 and-true : (b : Bool) → b ≡ (b && true)
 and-true true = refl
@@ -66,7 +66,7 @@ behind-gone ms w e k = record {
   ready = λ v h. inl (sym (has-same v (λ m. m.ready) (made_gone w) ms (λ m. refl) (λ m. refl)) ∙ h);
 }
 
-crew-behind : (s : State) (e : Entry) → may_follow s e ≡ true → CrewBehind s.books.crew e (moved s e).books.crew
+pub crew-behind : (s : State) (e : Entry) → may_follow s e ≡ true → CrewBehind s.books.crew e (moved s e).books.crew
 crew-behind s (Ready w) h = behind-ready s.books.crew w
 crew-behind s (Collected w g) h =
     let ms = s.books.crew in

@@ -2,7 +2,10 @@ pub mod Bounds
 pub mod Heard
 pub mod NextListed
 pub mod Orders
+pub mod Outs
 pub mod Performs
 pub mod Prints
 pub mod Runs
+pub mod Stepped
+pub mod Turns
 pub mod Unkilled

@@ -162,7 +162,7 @@ state-more settings es e outs h =
 run_with : TheRun → News → Option Entry → TheRun
 run_with r n o = record { entries = entries_with o r.entries r.state; state = state_with o r.state; inputs = inputs_with o r.inputs; taken = r.taken ++ n ∷ [] }
 
-abbrev Follows : State → Option Entry → Type 0
+abbrev pub Follows : State → Option Entry → Type 0
 Follows s None = Unit {0}
 Follows s (Some e) = may_follow s e ≡ true
 
@@ -185,11 +185,14 @@ means-follows : (s : State) (w : ℕ) (n : What) (o : Option Entry) → Means s 
 means-follows s w n None m = tt
 means-follows s w n (Some e) m = m.follow
 
-in_run-next : (settings : Settings) (r : TheRun) (n : News) → InRun settings r → InRun settings (after_news r n)
-in_run-next settings r n i = in_run-with settings r n (input_of r n) i (elim (cases_of (is_active n.worker r.state.books)) [
+pub input-follows : (r : TheRun) (n : News) → Follows r.state (input_of r n)
+input-follows r n = elim (cases_of (is_active n.worker r.state.books)) [
   | inl a ↦ means-follows r.state n.worker n.what (input_of r n) (input-means r n a)
   | inr a ↦ subst (Follows r.state) (sym (input-none r n a)) tt
-])
+]
+
+pub in_run-next : (settings : Settings) (r : TheRun) (n : News) → InRun settings r → InRun settings (after_news r n)
+in_run-next settings r n i = in_run-with settings r n (input_of r n) i (input-follows r n)
 
 in_run-all : (settings : Settings) (taken : List News) (r : TheRun) → InRun settings r → InRun settings (fold after_news r taken)
 in_run-all settings [] r i = i

@@ -1,6 +1,7 @@
 pub mod Agrees
 pub mod Calls
 pub mod Drive
+pub mod Going
 pub mod Listed
 pub mod Marks
 pub mod Performing

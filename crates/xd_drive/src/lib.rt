@@ -5,6 +5,7 @@
 mod copies;
 mod hub;
 mod listed_hub;
+mod news;
 mod perform;
 mod printing;
 
