@@ -1,5 +1,6 @@
 pub mod Bounds
 pub mod Heard
+pub mod Loop
 pub mod NextListed
 pub mod Orders
 pub mod Outs

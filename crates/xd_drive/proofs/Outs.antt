@@ -228,7 +228,7 @@ or-yes : (b : Bool) → b ≡ (b && true)
 or-yes true = refl
 or-yes false = refl
 
-started-more : (ms : List Member) (w slot v : ℕ) → has v (λ m. true) (ms ++ started w slot ∷ []) ≡ (has v (λ m. true) ms || (w == v))
+pub started-more : (ms : List Member) (w slot v : ℕ) → has v (λ m. true) (ms ++ started w slot ∷ []) ≡ (has v (λ m. true) ms || (w == v))
 started-more ms w slot v = has-more v (λ m. true) ms (started w slot) ∙ ap (λ (b : Bool). has v (λ m. true) ms || b) (sym (or-yes (w == v)))
 
 old-member : (ms : List Member) (w slot v : ℕ) → has w (λ m. true) ms ≡ false → (has v (λ m. true) ms ≡ true) × (has v (λ m. m.active) ms ≡ false)
@@ -242,7 +242,7 @@ old-member ms w slot v new old =
       has-more v (λ m. m.active) ms (started w slot) ∙ ap (λ (b : Bool). b || (w == v && true)) old.1 ∙ ap (λ (b : Bool). b && true) other,
     )
 
-goes-start : (slots : ℕ) (marks : ℕ → Marks) (t : State) (w slot : ℕ) → nat_lt slot slots ≡ true → is_orderly t (Start w slot) ≡ true → Agrees t.books marks → Goes slots marks (Start w slot) (moved t (Start w slot))
+pub goes-start : (slots : ℕ) (marks : ℕ → Marks) (t : State) (w slot : ℕ) → nat_lt slot slots ≡ true → is_orderly t (Start w slot) ≡ true → Agrees t.books marks → Goes slots marks (Start w slot) (moved t (Start w slot))
 goes-start slots marks t w slot low h a =
     let ms = t.books.crew in
     let new : has w (λ m. true) ms ≡ false = not_true (has w (λ m. true) ms) h in

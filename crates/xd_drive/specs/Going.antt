@@ -5,6 +5,7 @@ use Rattle.xd_ledger.specs.declared.settings.Settings.{Settings}
 use Rattle.xd_ledger.specs.declared.entry.Entry.{Entry}
 use Rattle.xd_ledger.specs.declared.journal.Journal.{Journal}
 use Rattle.xd_ledger.specs.declared.news.News.{News}
+use Rattle.xd_ledger.specs.Histories.{is_over}
 use Rattle.xd_ledger.specs.Outputs.{outputs}
 use Rattle.xd_ledger.specs.Sharing.{State}
 use Rattle.xd_ledger.specs.State.{all_moved, no_one}
@@ -14,9 +15,9 @@ use Rattle.xd_report.specs.Text.{text_of}
 use Rattle.xd_session.specs.History.{input_of, run_of}
 use Rattle.xd_session.specs.Stands.{Seen, StandsFor, state_of}
 use Rattle.xd_drive.specs.Agrees.{Agrees}
-use Rattle.xd_drive.specs.Marks.{Marks}
+use Rattle.xd_drive.specs.Marks.{Marks, no_marks}
 use Rattle.xd_drive.specs.Performing.{AddsAll, Performs, after_all, was_started}
-use Rattle.xd_drive.specs.Printing.{Shows}
+use Rattle.xd_drive.specs.Printing.{Shows, ShowsEnd}
 use Rattle.xd_drive.specs.Taken.{taken_of, taken_with}
 
 -- what is seen of a hub and of the output
@@ -100,3 +101,20 @@ pub record TakesNews (n : News) (stopped : Option ℕ) (s_old s_new : Seen) (old
   pub settings : s_new.settings ≡ s_old.settings
   pub stands : (taken : List News) → StandsFor taken s_old → StandsFor (taken_with s_old.settings taken n) s_new
   pub told : TellsNews n stopped s_old s_new old new
+
+-- The run is over, and its whole report was printed.
+pub record Finished (given : List News) (s : Seen) (old new : Scene) : Type 0 where
+  pub stands : StandsFor (taken_of s.settings given) s
+  pub gave : AddsAll given old.given new.given
+  pub performed : Performs s.entries old.starts new.starts old.calls new.calls
+  pub over : is_over (state_of s).books ≡ true
+  pub shows : (j : Journal) → j.settings ≡ s.settings → j.entries.items ≡ s.entries → ShowsEnd true (text_of j) old.sunk new.sunk
+
+-- How the run came to its end, where the output failed with so many entries performed.
+abbrev pub EndsRun : Option ℕ → Seen → Scene → Scene → Type 0
+EndsRun None s old new = (given : List News) × Finished given s old new
+EndsRun (Some count) s old new = (given : List News) × Stopped given count s old new
+
+-- No worker has a mark.
+abbrev pub IsFresh : (ℕ → Marks) → Type 0
+IsFresh marks = (w : ℕ) → marks w ≡ no_marks

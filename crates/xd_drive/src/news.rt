@@ -48,6 +48,13 @@ fn tell_entries<H: Hub, O: Sink>(
     Ok(true)
 }
 
+/// How many entries the journal has.
+pub(crate) fn entry_count(journal: &Journal) -> usize
+    ensures { result ≡ length journal.now.entries.items }
+{
+    journal.entries.len()
+}
+
 // Takes a piece of news of an active worker, prints the lines of what it adds to the journal, and performs that; false
 // where the output failed, and then nothing is performed.
 fn tell_news<M: Mode, H: Hub, O: Sink>(
@@ -99,7 +106,7 @@ pub(crate) fn take_news<R: Wait, M: Mode, H: Hub, O: Sink>(
     if !session.is_active(news.worker) {
         return Ok(None);
     }
-    let before = session.journal().entries.len();
+    let before = entry_count(session.journal());
     let shown = tell_news(alloc, session, news, hub, out)?;
     if shown { Ok(None) } else { Ok(Some(before)) }
 }

@@ -1,0 +1,127 @@
+-- From one piece of news to the next.
+use Rattle.std.proofs.Common.{◌≡◌, ℕ, zero, suc, ◌+◌, ◌≤◌, ◌<◌, List, [], ◌∷◌, ◌++◌, length, take, Bool, true, false, not, ◌&&◌, ◌||◌, Option, Some, None, option_map, refl, sym, ◌∙◌, ap, subst, arith, inl, inr, append_assoc}
+use Rattle.std.specs.Prelude.{◌==◌, ◌⊎◌, nat_lt, if◌then◌else◌}
+use Rattle.std.specs.List.{list_any}
+use Rattle.std.proofs.Math.Path.{fun_ext}
+use Rattle.std.proofs.Math.Seq.{take-append_seam}
+use Rattle.std.proofs.lemmas.Bool.Decides.{nat_tests}
+use Rattle.std.proofs.lemmas.Grind.{fold-append}
+use Rattle.std.proofs.lemmas.List.{append-nil, take_all}
+use Rattle.std.proofs.lemmas.List.Folds.{list_any-append}
+use Rattle.xd_edge.specs.Sink.{Sunk, Printed, PrintedPart, with_bytes, with_flush, with_close}
+use Rattle.xd_edge.proofs.SinkLemmas.{printed_more, printed_then_part, printed_part_of_more}
+use Rattle.xd_ledger.specs.declared.settings.Settings.{Settings}
+use Rattle.xd_ledger.specs.declared.member.Member.{Member}
+use Rattle.xd_ledger.specs.declared.news.News.{News}
+use Rattle.xd_ledger.specs.declared.entry.Entry.{Entry}
+use Rattle.xd_ledger.specs.declared.entry.Entry.TheVariants.{Start}
+use Rattle.xd_ledger.specs.declared.journal.Journal.{Journal}
+use Rattle.xd_ledger.specs.Workers.{has_member, started, is_active}
+use Rattle.xd_ledger.specs.Sharing.{State}
+use Rattle.xd_ledger.specs.State.{all_moved, moved, next, no_one, reached, settled}
+use Rattle.xd_ledger.specs.Histories.{begun, first_starts, is_over, starts_from}
+use Rattle.xd_ledger.specs.Proper.{IsProper}
+use Rattle.xd_report.specs.Lines.{last_of_slot, lines_from, lines_of, replacing, run_lines}
+use Rattle.xd_report.specs.Tests.{mode_of}
+use Rattle.xd_report.specs.Text.{tail_text, text_of}
+use Rattle.xd_session.specs.History.{run_of}
+use Rattle.xd_session.specs.Stands.{Seen, StandsFor, state_of}
+use Rattle.xd_laws.proofs.Logic.{and, cases_of, differ, not_true, split-and}
+use Rattle.xd_laws.proofs.Crew.{has}
+use Rattle.xd_drive.specs.Agrees.{Agrees}
+use Rattle.xd_drive.specs.Going.{Finished, Going, IsDone, IsFresh, Scene, ShowsSome, Stopped, TakesNews, Told, Untold}
+use Rattle.xd_drive.specs.Marks.{Marks, no_marks}
+use Rattle.xd_drive.specs.Performing.{AddsAll, Performs, after_all, after_entry, all_possible, is_start_of, possible, was_started}
+use Rattle.xd_drive.specs.Printing.{ShowsEnd}
+use Rattle.xd_drive.specs.Taken.{taken_of, taken_with}
+use Rattle.xd_drive.proofs.Outs.{Goes, goes-start, started-more}
+use Rattle.xd_drive.proofs.Performs.{adds-more, adds-none, performs-more}
+use Rattle.xd_drive.proofs.Stepped.{started-by, state-is}
+use Rattle.xd_drive.proofs.Turns.{unkilled}
+
+-- the first starts
+
+agrees-none : (settings : Settings) (marks : ℕ → Marks) → IsFresh marks → Agrees (no_one settings).books marks
+agrees-none settings marks f = record {
+  started = λ w. ap (λ (m : Marks). m.started) (f w);
+  killed = λ w h. absurd (differ (sym (ap (λ (m : Marks). m.killed) (f w)) ∙ h));
+  ended = λ w h. absurd (differ (sym (ap (λ (m : Marks). m.ended) (f w)) ∙ h));
+  ready = λ w h. absurd (differ h);
+}
+
+pub record Starts (slots : ℕ) (marks : ℕ → Marks) (es : List Entry) (behind : State) : Type 0 where
+  pub possible : all_possible slots marks es ≡ true
+  pub agrees : Agrees behind.books (after_all es marks)
+
+starts-go : (slots : ℕ) (k w : ℕ) (s : State) (marks : ℕ → Marks) → ((v : ℕ) → has v (λ m. true) s.books.crew ≡ true → v < w) → Agrees s.books marks → w + k ≤ slots → Starts slots marks (starts_from w k) (all_moved s (starts_from w k))
+starts-go slots zero w s marks below a l = record { possible = refl; agrees = a }
+starts-go slots (suc k) w s marks below a l =
+    let new : has w (λ m. true) s.books.crew ≡ false = elim (cases_of (has w (λ m. true) s.books.crew)) [ inl h ↦ (let x = below w h in absurd (omega (arith, x))) | inr h ↦ h ] in
+    let room : nat_lt w slots ≡ true = lower w slots (omega (arith, l)) in
+    let one = goes-start slots marks s w w room (ap not new) a in
+    let more = starts-go slots k (w + 1) (moved s (Start w w)) (after_entry (Start w w) marks) (λ v h. below-next v h) one.agrees (omega (arith, l)) in
+    record { possible = and one.possible more.possible; agrees = more.agrees }
+  where
+    lower : (x y : ℕ) → x < y → nat_lt x y ≡ true
+    lower x y h = grind (arith, nat_tests)
+
+    by_either : (b : Bool) (v : ℕ) → (b || (w == v)) ≡ true → (b ≡ true → v < w) → v < w + 1
+    by_either true v h f = (let x = f refl in omega (arith, x))
+    by_either false v h f = grind (arith, nat_tests, h)
+
+    below-next : (v : ℕ) → has v (λ m. true) (s.books.crew ++ started w w ∷ []) ≡ true → v < w + 1
+    below-next v h = by_either (has v (λ m. true) s.books.crew) v (sym (started-more s.books.crew w w v) ∙ h) (below v)
+
+pub starts : (settings : Settings) (slots : ℕ) (marks : ℕ → Marks) → settings.workers ≤ slots → IsFresh marks → Starts slots marks (first_starts settings) (all_moved (no_one settings) (first_starts settings))
+starts settings slots marks l f = starts-go slots settings.workers 0 (no_one settings) marks (λ v h. absurd (differ h)) (agrees-none settings marks f) (omega (arith, l))
+
+-- lines
+
+pub lines-join : (s : State) (xs ys : List Entry) → lines_from s (xs ++ ys) ≡ lines_from s xs ++ lines_from (all_moved s xs) ys
+lines-join s [] ys = refl
+lines-join s (x ∷ xs) ys = ap (λ (l : List ℕ). lines_of (reached s x) x ++ l) (lines-join (next s x) xs ys) ∙ sym (append_assoc (lines_of (reached s x) x) (lines_from (next s x) xs) (lines_from (all_moved (next s x) xs) ys))
+
+shows-more : (a b : List ℕ) (old mid new : Option Sunk) → ShowsSome a old mid → ShowsSome b mid new → ShowsSome (a ++ b) old new
+shows-more a b old mid new (inl x) (inl y) = inl (ap (λ (l : List ℕ). l ++ b) x.0 ∙ y.0, y.1 ∙ x.1)
+shows-more a b old mid new (inl x) (inr y) = inr (subst (λ (l : List ℕ). Printed (l ++ b) old new) (sym x.0) (subst (λ (o : Option Sunk). Printed b o new) x.1 y))
+shows-more a b old mid new (inr x) (inl y) = inr (subst (λ (l : List ℕ). Printed l old new) (sym (ap (λ (l : List ℕ). a ++ l) y.0 ∙ append-nil a)) (subst (λ (o : Option Sunk). Printed a old o) (sym y.1) x))
+shows-more a b old mid new (inr x) (inr y) = inr (printed_more a b old mid new x y)
+
+shows-part : (a b : List ℕ) (old mid new : Option Sunk) → ShowsSome a old mid → PrintedPart b mid new → PrintedPart (a ++ b) old new
+shows-part a b old mid new (inl x) p = subst (λ (l : List ℕ). PrintedPart (l ++ b) old new) (sym x.0) (subst (λ (o : Option Sunk). PrintedPart b o new) x.1 p)
+shows-part a b old mid new (inr x) p = printed_then_part a b old mid new x p
+
+end-more : (a b : List ℕ) (old mid new : Option Sunk) → Printed a old mid → ShowsEnd true b mid new → ShowsEnd true (a ++ b) old new
+end-more a b None mid new x y = y ∙ ap (option_map (λ s. with_close (with_flush (with_bytes b s)))) x
+end-more a b (Some s) mid new x y =
+    y ∙ ap (option_map (λ s. with_close (with_flush (with_bytes b s)))) x
+    ∙ ap (λ (l : List ℕ). Some (with_close (with_flush (record { bytes = l; flushed = s.flushed; closed = s.closed })))) (append_assoc s.bytes a b)
+
+shows-end : (a b : List ℕ) (old mid new : Option Sunk) → ShowsSome a old mid → ShowsEnd true b mid new → ShowsEnd true (a ++ b) old new
+shows-end a b old mid new (inl x) y = subst (λ (l : List ℕ). ShowsEnd true (l ++ b) old new) (sym x.0) (subst (λ (o : Option Sunk). ShowsEnd true b o new) x.1 y)
+shows-end a b old mid new (inr x) y = end-more a b old mid new x y
+
+-- one more
+
+pub taken-more : (settings : Settings) (given : List News) (n : News) → taken_of settings (given ++ n ∷ []) ≡ taken_with settings (taken_of settings given) n
+taken-more settings given n = fold-append (taken_with settings) [] given (n ∷ [])
+
+stands-more : (given : List News) (n : News) (s0 s1 : Seen) → s1.settings ≡ s0.settings → StandsFor (taken_with s0.settings (taken_of s0.settings given) n) s1 → StandsFor (taken_of s1.settings (given ++ n ∷ [])) s1
+stands-more given n s0 s1 same st = subst (λ (t : List News). StandsFor t s1) (sym (taken-more s0.settings given n) ∙ ap (λ (x : Settings). taken_of x (given ++ n ∷ [])) (sym same)) st
+
+module _ (given : List News) (n : News) (s0 s1 : Seen) (old mid new : Scene) (g : Going given s0 old mid) where
+  lines-more : (more : List Entry) → s1.settings ≡ s0.settings → s1.entries ≡ s0.entries ++ more → run_lines s1.settings s1.entries ≡ run_lines s0.settings s0.entries ++ lines_from (all_moved (no_one s0.settings) s0.entries) more
+  lines-more more same is = ap (λ (x : Settings). run_lines x s1.entries) same ∙ ap (run_lines s0.settings) is ∙ lines-join (no_one s0.settings) s0.entries more
+
+  pub going-next : TakesNews n None s0 s1 mid new → Going (given ++ n ∷ []) s1 old new
+  going-next t =
+      let more = t.told.0 in
+      let told = t.told.1 in
+      record {
+        stands = stands-more given n s0 s1 t.settings (t.stands (taken_of s0.settings given) g.stands);
+        gave = adds-more given (n ∷ []) old.given mid.given new.given g.gave t.gave;
+        performed = subst (λ (es : List Entry). Performs es old.starts new.starts old.calls new.calls) (sym told.entries) (performs-more s0.entries more _ _ _ _ _ _ g.performed told.performed);
+        agrees = told.agrees;
+        started = λ w. told.started w ∙ ap (λ (b : Bool). b || was_started w more) (g.started w) ∙ sym (list_any-append (is_start_of w) s0.entries more) ∙ ap (was_started w) (sym told.entries);
+        shows = subst (λ (l : List ℕ). ShowsSome l old.sunk new.sunk) (sym (lines-more more t.settings told.entries)) (shows-more (run_lines s0.settings s0.entries) _ old.sunk mid.sunk new.sunk g.shows told.shows);
+      }
