@@ -8,5 +8,6 @@ pub mod Performs
 pub mod Prints
 pub mod Runs
 pub mod Stepped
+pub mod Texts
 pub mod Turns
 pub mod Unkilled

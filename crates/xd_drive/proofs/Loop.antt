@@ -37,6 +37,7 @@ use Rattle.xd_drive.specs.Taken.{taken_of, taken_with}
 use Rattle.xd_drive.proofs.Outs.{Goes, goes-start, started-more}
 use Rattle.xd_drive.proofs.Performs.{adds-more, adds-none, performs-more}
 use Rattle.xd_drive.proofs.Stepped.{started-by, state-is}
+use Rattle.xd_drive.proofs.Texts.{first-lines, tail-is, tail_by, text-is}
 use Rattle.xd_drive.proofs.Turns.{unkilled}
 
 -- the first starts
@@ -125,3 +126,92 @@ module _ (given : List News) (n : News) (s0 s1 : Seen) (old mid new : Scene) (g 
         started = λ w. told.started w ∙ ap (λ (b : Bool). b || was_started w more) (g.started w) ∙ sym (list_any-append (is_start_of w) s0.entries more) ∙ ap (was_started w) (sym told.entries);
         shows = subst (λ (l : List ℕ). ShowsSome l old.sunk new.sunk) (sym (lines-more more t.settings told.entries)) (shows-more (run_lines s0.settings s0.entries) _ old.sunk mid.sunk new.sunk g.shows told.shows);
       }
+
+  -- the output failed at the lines of the news
+  module _ (proper : IsProper s0.settings []) (count : ℕ) (t : TakesNews n (Some count) s0 s1 mid new) where
+    abbrev more : List Entry
+    more = t.told.0
+
+    abbrev u : Untold n count (t.told.0) s0 s1 mid new
+    u = t.told.1
+
+    before-is : take count s1.entries ≡ s0.entries
+    before-is = ap (λ (k : ℕ). take k s1.entries) u.count_is ∙ ap (take (length s0.entries)) u.entries ∙ take-append_seam s0.entries more
+
+    taken-was : taken_of s1.settings (given ++ n ∷ []) ≡ taken_of s0.settings given ++ n ∷ []
+    taken-was =
+        ap (λ (x : Settings). taken_of x (given ++ n ∷ [])) t.settings ∙ taken-more s0.settings given n
+        ∙ ap (λ (b : Bool). if b then taken_of s0.settings given ++ n ∷ [] else taken_of s0.settings given)
+        (ap (λ (x : State). is_active n.worker x.books) (sym (state-is s0 (taken_of s0.settings given) proper g.stands)) ∙ u.active)
+
+    part : PrintedPart (run_lines s1.settings s1.entries) old.sunk new.sunk
+    part = subst (λ (l : List ℕ). PrintedPart l old.sunk new.sunk) (sym (lines-more more t.settings u.entries)) (shows-part (run_lines s0.settings s0.entries) _ old.sunk mid.sunk new.sunk g.shows u.shows)
+
+    pub going-stop : Stopped (given ++ n ∷ []) count s1 old new
+    going-stop = record {
+      stands = stands-more given n s0 s1 t.settings (t.stands (taken_of s0.settings given) g.stands);
+      gave = adds-more given (n ∷ []) old.given mid.given new.given g.gave t.gave;
+      is_done = inr (taken_of s0.settings given, n, taken-was, before-is ∙ g.stands.entries ∙ ap (λ (x : Settings). (run_of x (taken_of s0.settings given)).entries) (sym t.settings));
+      performed = subst (λ (es : List Entry). Performs es old.starts new.starts old.calls new.calls) (sym before-is)
+          (subst (λ (x : Option (List Entry)). Performs s0.entries old.starts x old.calls new.calls) (sym u.starts) (subst (λ (x : Option (List Entry)). Performs s0.entries old.starts mid.starts old.calls x) (sym u.calls) g.performed));
+      started = λ w. u.started w ∙ g.started w ∙ ap (was_started w) (sym before-is);
+      unkilled = u.unkilled;
+      shows = λ j k e. printed_part_of_more (run_lines j.settings j.entries.items) (tail_text j) old.sunk new.sunk
+          (subst (λ (l : List ℕ). PrintedPart l old.sunk new.sunk) (sym (ap (λ (x : Settings). run_lines x j.entries.items) k ∙ ap (run_lines s1.settings) e)) part);
+    }
+
+-- the tail
+
+module _ (given : List News) (s : Seen) (old mid new : Scene) (g : Going given s old mid) (starts_same : new.starts ≡ mid.starts) (calls_same : new.calls ≡ mid.calls) (given_same : new.given ≡ mid.given) (marks_same : (w : ℕ) → new.marks w ≡ mid.marks w)
+    (j : Journal) (settings_are : j.settings ≡ s.settings) (entries_are : j.entries.items ≡ s.entries) where
+  tail-same : tail_text j ≡ tail_by s.settings s.entries
+  tail-same = tail-is j s.settings s.entries settings_are entries_are
+
+  performed-same : Performs s.entries old.starts new.starts old.calls new.calls
+  performed-same =
+      subst (λ (x : Option (List Entry)). Performs s.entries old.starts x old.calls new.calls) (sym starts_same)
+      (subst (λ (x : Option (List Entry)). Performs s.entries old.starts mid.starts old.calls x) (sym calls_same) g.performed)
+
+  pub finished : is_over (state_of s).books ≡ true → ShowsEnd true (tail_text j) mid.sunk new.sunk → Finished given s old new
+  finished over shown = record {
+    stands = g.stands;
+    gave = given_same ∙ g.gave;
+    performed = performed-same;
+    over = over;
+    shows = λ k a b. subst (λ (l : List ℕ). ShowsEnd true l old.sunk new.sunk) (sym (text-is k s.settings s.entries a b))
+        (shows-end (run_lines s.settings s.entries) (tail_by s.settings s.entries) old.sunk mid.sunk new.sunk g.shows (subst (λ (l : List ℕ). ShowsEnd true l mid.sunk new.sunk) tail-same shown));
+  }
+
+  pub unfinished : (count : ℕ) → count ≡ length s.entries → ShowsEnd false (tail_text j) mid.sunk new.sunk → Stopped given count s old new
+  unfinished count counted shown =
+      let all : take count s.entries ≡ s.entries = take_all count s.entries (omega (arith, counted)) in
+      record {
+        stands = g.stands;
+        gave = given_same ∙ g.gave;
+        is_done = inl (all ∙ g.stands.entries);
+        performed = subst (λ (es : List Entry). Performs es old.starts new.starts old.calls new.calls) (sym all) performed-same;
+        started = λ w. ap (λ (m : Marks). m.started) (marks_same w) ∙ g.started w ∙ ap (was_started w) (sym all);
+        unkilled = λ w a. ap (λ (m : Marks). m.killed) (marks_same w) ∙ unkilled (state_of s).books mid.marks g.agrees w a;
+        shows = λ k a b. subst (λ (l : List ℕ). PrintedPart l old.sunk new.sunk) (sym (text-is k s.settings s.entries a b))
+            (shows-part (run_lines s.settings s.entries) (tail_by s.settings s.entries) old.sunk mid.sunk new.sunk g.shows (subst (λ (l : List ℕ). PrintedPart l mid.sunk new.sunk) tail-same shown));
+      }
+
+-- the beginning
+
+pub going-first : (s : Seen) (slots : ℕ) (old new : Scene) → s.settings.workers ≤ slots → StandsFor [] s → IsFresh old.marks → Performs s.entries old.starts new.starts old.calls new.calls
+    → ((w : ℕ) → new.marks w ≡ after_all s.entries old.marks w) → new.given ≡ old.given → new.sunk ≡ old.sunk → Going [] s old new
+going-first s slots old new l st fresh performed marks given sunk =
+    let b = starts s.settings slots old.marks l fresh in
+    let m : new.marks ≡ after_all (first_starts s.settings) old.marks = fun_ext marks ∙ ap (λ (es : List Entry). after_all es old.marks) st.entries in
+    record {
+      stands = st;
+      gave = subst (λ (x : Option (List News)). AddsAll [] old.given x) (sym given) (adds-none old.given);
+      performed = performed;
+      agrees = subst (λ (es : List Entry). Agrees (Rattle.xd_ledger.specs.State.state_at s.settings es).books new.marks) (sym st.entries) (subst (λ (f : ℕ → Marks). Agrees (begun s.settings).books f) (sym m)
+          (record { started = b.agrees.started; killed = b.agrees.killed; ended = b.agrees.ended; ready = b.agrees.ready }));
+      started = λ w. ap (λ (x : Marks). x.started) (marks w) ∙ started-by s.entries old.marks w ∙ ap (λ (x : Marks). x.started || was_started w s.entries) (fresh w);
+      shows = inl (ap (run_lines s.settings) st.entries ∙ first-lines s.settings, sunk);
+    }
+
+pub first-possible : (s : Seen) (slots : ℕ) (marks : ℕ → Marks) (es : List Entry) → s.settings.workers ≤ slots → StandsFor [] s → IsFresh marks → es ≡ s.entries → all_possible slots marks es ≡ true
+first-possible s slots marks es l st fresh is = ap (all_possible slots marks) (is ∙ st.entries) ∙ (starts s.settings slots marks l fresh).possible

@@ -89,7 +89,7 @@ agrees-inactive b marks n member off a = record {
     same_of v w h = grind (arith, nat_tests)
 
 -- who is started by these
-started-by : (es : List Entry) (marks : ℕ → Marks) (w : ℕ) → (after_all es marks w).started ≡ ((marks w).started || was_started w es)
+pub started-by : (es : List Entry) (marks : ℕ → Marks) (w : ℕ) → (after_all es marks w).started ≡ ((marks w).started || was_started w es)
 started-by [] marks w = or-none (marks w).started
   where
     or-none : (b : Bool) → b ≡ (b || false)

@@ -11,7 +11,7 @@ use Rattle.xd_ledger.specs.Sharing.{State}
 use Rattle.xd_ledger.specs.State.{all_moved, no_one}
 use Rattle.xd_ledger.specs.Workers.{is_active}
 use Rattle.xd_report.specs.Lines.{lines_from, run_lines}
-use Rattle.xd_report.specs.Text.{text_of}
+use Rattle.xd_report.specs.Text.{tail_text, text_of}
 use Rattle.xd_session.specs.History.{input_of, run_of}
 use Rattle.xd_session.specs.Stands.{Seen, StandsFor, state_of}
 use Rattle.xd_drive.specs.Agrees.{Agrees}
@@ -114,6 +114,11 @@ pub record Finished (given : List News) (s : Seen) (old new : Scene) : Type 0 wh
 abbrev pub EndsRun : Option ℕ → Seen → Scene → Scene → Type 0
 EndsRun None s old new = (given : List News) × Finished given s old new
 EndsRun (Some count) s old new = (given : List News) × Stopped given count s old new
+
+-- The tail of the journal was printed and the output closed; or, where it failed, so many entries had been performed.
+abbrev pub EndsTail : Option ℕ → Journal → Option Sunk → Option Sunk → Type 0
+EndsTail None j old new = ShowsEnd true (tail_text j) old new
+EndsTail (Some count) j old new = (count ≡ length j.entries.items) × ShowsEnd false (tail_text j) old new
 
 -- No worker has a mark.
 abbrev pub IsFresh : (ℕ → Marks) → Type 0

@@ -3,6 +3,7 @@
 #![tactic(auto)]
 
 mod copies;
+mod drive;
 mod hub;
 mod listed_hub;
 mod news;

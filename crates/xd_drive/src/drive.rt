@@ -1,0 +1,67 @@
+// The loop that runs a session over a hub.
+ghost use Rattle.std.specs.Prelude.{◌≡◌, ◌≤◌, [], IfOk, IfSome, OnOk};
+ghost use Rattle.xd_edge.specs.Faults.{Rose};
+ghost use Rattle.xd_ledger.specs.Proper.{IsProper};
+ghost use Rattle.xd_session.specs.Stands.{StandsFor};
+ghost use Rattle.xd_drive.specs.Going.{EndsRun, EndsTail, IsFresh};
+
+use crate::Hub;
+use crate::news::{entry_count, take_news};
+use crate::perform::perform;
+use crate::printing::print_tail;
+use std::alloc::Global;
+use std::sync::Wait;
+use xd_edge::{OutOfMemory, Sink};
+use xd_ledger::{Journal, Mode};
+use xd_session::Session;
+
+// Prints the tail and closes the output. Where it failed, how many entries had been performed.
+fn finish<O: Sink>(
+    alloc: Global,
+    journal: &Journal,
+    out: &mut O,
+) -> Result<Option<usize>, OutOfMemory>
+    ensures ends { IfOk result (λ stopped. EndsTail stopped journal.now (O.sunk out.old) (O.sunk out.new)) }
+    ensures later { O.faults out.old ≤ O.faults out.new }
+    ensures rose { IfOk result (λ stopped. IfSome stopped (λ count. Rose (O.faults out.old) (O.faults out.new))) }
+{
+    let shown = print_tail(alloc, journal, out)?;
+    if shown {
+        Ok(None)
+    } else {
+        Ok(Some(entry_count(journal)))
+    }
+}
+
+// Performs the first starts, takes news until the run is over, and prints the tail. Where the output failed, how many
+// entries had been performed.
+fn run<R: Wait, M: Mode, H: Hub, O: Sink>(
+    rt: &R,
+    alloc: Global,
+    session: &mut Session<M>,
+    hub: &mut H,
+    out: &mut O,
+) -> Result<Option<usize>, OutOfMemory>
+    requires proper { IsProper session.old.settings [] }
+    requires begins { StandsFor [] session.old }
+    requires slots { session.old.settings.workers ≤ H.slots hub.old }
+    requires fresh { IsFresh (H.marks hub.old) }
+    ensures ends { IfOk result (λ stopped. EndsRun stopped session.new
+        (record { marks = H.marks hub.old; starts = H.starts hub.old; calls = H.calls hub.old; given = H.given hub.old; sunk = O.sunk out.old })
+        (record { marks = H.marks hub.new; starts = H.starts hub.new; calls = H.calls hub.new; given = H.given hub.new; sunk = O.sunk out.new })) }
+    ensures settings { OnOk result (session.new.settings ≡ session.old.settings) }
+    ensures later { O.faults out.old ≤ O.faults out.new }
+    ensures rose { IfOk result (λ stopped. IfSome stopped (λ count. Rose (O.faults out.old) (O.faults out.new))) }
+{
+    perform(alloc, hub, &session.journal().entries)?;
+    for _ in rt.forever() {
+        if session.over() {
+            return finish(alloc, session.journal(), out);
+        }
+        let stopped = take_news(rt, alloc, session, hub, out)?;
+        if stopped.is_some() {
+            return Ok(stopped);
+        }
+    }
+    unreachable!()
+}
