@@ -215,3 +215,15 @@ going-first s slots old new l st fresh performed marks given sunk =
 
 pub first-possible : (s : Seen) (slots : ℕ) (marks : ℕ → Marks) (es : List Entry) → s.settings.workers ≤ slots → StandsFor [] s → IsFresh marks → es ≡ s.entries → all_possible slots marks es ≡ true
 first-possible s slots marks es l st fresh is = ap (all_possible slots marks) (is ∙ st.entries) ∙ (starts s.settings slots marks l fresh).possible
+
+-- someone was started
+
+pub someone-first : (s : Seen) (old new : Scene) → IsProper s.settings [] → StandsFor [] s → Going [] s old new → (w : ℕ) × ((new.marks w).started ≡ true)
+someone-first s old new p st g = (0, g.started 0 ∙ ap (was_started 0) st.entries ∙ by_count s.settings.workers p.some_worker)
+  where
+    by_count : (k : ℕ) → Rattle.std.specs.Prelude.nat_le 1 k ≡ true → was_started 0 (starts_from 0 k) ≡ true
+    by_count zero h = absurd (differ h)
+    by_count (suc k) h = refl
+
+pub someone-still : (n : News) (s0 s1 : Seen) (mid new : Scene) → TakesNews n None s0 s1 mid new → (w : ℕ) × ((mid.marks w).started ≡ true) → (w : ℕ) × ((new.marks w).started ≡ true)
+someone-still n s0 s1 mid new t w = (w.0, t.told.1.started w.0 ∙ ap (λ (b : Bool). b || was_started w.0 (t.told.0)) w.1)

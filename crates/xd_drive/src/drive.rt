@@ -59,8 +59,8 @@ fn run<R: Wait, M: Mode, H: Hub, O: Sink>(
             return finish(alloc, session.journal(), out);
         }
         let stopped = take_news(rt, alloc, session, hub, out)?;
-        if stopped.is_some() {
-            return Ok(stopped);
+        if let Some(count) = stopped {
+            return Ok(Some(count));
         }
     }
     unreachable!()
