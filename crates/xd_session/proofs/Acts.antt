@@ -115,7 +115,7 @@ gone-left-at s w b c stands a e =
     let f : Books → Books = λ d. (moved (record s { books = d }) (Finished w)).books in
     record { books_are = e ∙ ap f a.books_are; stands_for = a.stands_for; load = a.load; steal = a.steal }
 
-is_stopped-by : (q : Option RunStop) (how : RunStop) → is_some (or_stop q (Some how)) ≡ true
+pub is_stopped-by : (q : Option RunStop) (how : RunStop) → is_some (or_stop q (Some how)) ≡ true
 is_stopped-by None how = refl
 is_stopped-by (Some x) how = refl
 

@@ -54,7 +54,7 @@ begun-at settings n b stands h f e =
     let k = starts-moved settings 0 n [] in
     subst (λ v. At v b stands) (sym (ap settled k)) (record { books_are = e ∙ ap (λ (s : State). s.books) k; stands_for = f; load = h; steal = refl })
 
-begun-proper : (settings : Settings) → CanBegin settings → IsProper settings []
+pub begun-proper : (settings : Settings) → CanBegin settings → IsProper settings []
 begun-proper settings c = record {
   mode = rw c.mode refl;
   some_worker = c.some_worker;
@@ -64,14 +64,16 @@ begun-proper settings c = record {
 }
 
 pub begun-step : (settings kept : Settings) (entries : List Entry) (b : Books) (stands : Plan → Type 0) → kept ≡ settings → CanBegin settings → stands (no_one settings).plan → b ≡ (all_moved (no_one settings) (starts_from 0 settings.workers)).books
-    → entries ≡ starts_from 0 settings.workers → InStep kept entries 0 b stands
+    → entries ≡ starts_from 0 settings.workers → InStep kept entries [] 0 b stands
 begun-step settings kept entries b stands same c f e k =
-    subst (λ s. InStep s entries 0 b stands) (sym same)
-    (subst (λ es. InStep settings es 0 b stands) (sym k) (record {
+    subst (λ s. InStep s entries [] 0 b stands) (sym same)
+    (subst (λ es. InStep settings es [] 0 b stands) (sym k) (record {
+      mode = c.mode;
       inputs = [];
       proper = begun-proper settings c;
       journal = sym (append-nil (first_starts settings));
       at = begun-at settings settings.workers b stands c.mode f e;
       spent_is = sym (starts-spend 0 settings.workers);
       spent_low = omega arith;
+      short = λ v. refl;
     }))

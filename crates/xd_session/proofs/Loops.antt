@@ -3,12 +3,13 @@ use Rattle.std.proofs.Common.{◌≡◌, ℕ, zero, suc, ◌+◌, ◌<◌, ◌�
 use Rattle.std.proofs.lemmas.List.{take_more}
 use Rattle.std.proofs.lemmas.Grind.{common_steps}
 use Rattle.std.proofs.lemmas.Bool.Decides.{nat_tests}
-use Rattle.std.specs.Prelude.{if◌then◌else◌}
+use Rattle.std.specs.Prelude.{filter, if◌then◌else◌}
 use Rattle.xd_ledger.specs.declared.entry.Entry.{Entry}
 use Rattle.xd_ledger.specs.Books.{Books}
 use Rattle.xd_ledger.specs.declared.member.Member.{Member}
-use Rattle.xd_ledger.specs.declared.entry.Entry.TheVariants.{Shutdown}
+use Rattle.xd_ledger.specs.declared.entry.Entry.TheVariants.{Kill, Shutdown}
 use Rattle.xd_ledger.specs.Workers.{waiting, is_waiting, slot_in}
+use Rattle.xd_session.specs.Ending.{kills}
 use Rattle.xd_session.specs.Rules.{told, told_all, shutdowns}
 
 -- the list with its first changed, and one more of them
@@ -84,3 +85,20 @@ slot-end w [] zero h = refl
 slot-end w [] (suc i) h = refl
 slot-end w (m ∷ ms) zero h = absurd (omega arith)
 slot-end w (m ∷ ms) (suc i) h = slot-end w ms i (omega arith)
+
+kills-by : (x : Member) (ms : List Member) (m : Member) (b : Bool) → kills (ms ++ m ∷ []) ≡ kills ms ++ (if m.active then Kill m.worker ∷ [] else [])
+    → map (λ (y : Member). Kill y.worker) (if b then x ∷ filter (λ (y : Member). y.active) (ms ++ m ∷ []) else filter (λ (y : Member). y.active) (ms ++ m ∷ []))
+    ≡ map (λ (y : Member). Kill y.worker) (if b then x ∷ filter (λ (y : Member). y.active) ms else filter (λ (y : Member). y.active) ms) ++ (if m.active then Kill m.worker ∷ [] else [])
+kills-by x ms m true k = ap (λ es. Kill x.worker ∷ es) k
+kills-by x ms m false k = k
+
+kills-more : (ms : List Member) (m : Member) → kills (ms ++ m ∷ []) ≡ kills ms ++ (if m.active then Kill m.worker ∷ [] else [])
+kills-more [] m = elim m.active as (λ b. map (λ (x : Member). Kill x.worker) (if b then m ∷ [] else []) ≡ [] ++ (if b then Kill m.worker ∷ [] else [])) [ true ↦ refl | false ↦ refl ]
+kills-more (x ∷ ms) m = kills-by x ms m x.active (kills-more ms m)
+
+pub kill-step : (xs : List Member) (i : ℕ) (d : Member) (old es fs : List Entry) → i < length xs → es ≡ old ++ kills (take i xs) → fs ≡ es ++ (if (get_or xs i d).active then Kill (get_or xs i d).worker ∷ [] else []) → fs ≡ old ++ kills (take (i + 1) xs)
+kill-step xs i d old es fs h a f =
+    let m : Member = get_or xs i d in
+    let t : take (i + 1) xs ≡ take i xs ++ m ∷ [] = take_more xs i d h in
+    let k : List Entry = if m.active then Kill m.worker ∷ [] else [] in
+    f ∙ ap (λ us. us ++ k) a ∙ append_assoc old (kills (take i xs)) k ∙ ap (λ us. old ++ us) (sym (kills-more (take i xs) m) ∙ ap kills (sym t))

@@ -1,13 +1,14 @@
 -- What a list of news makes of a run.
-use Rattle.std.specs.Prelude.{ℕ, ◌==◌, List, [], ◌∷◌, ◌++◌, map, filter, fold, Option, Some, None}
+use Rattle.std.specs.Prelude.{◌≡◌, ℕ, ◌==◌, List, [], ◌∷◌, ◌++◌, map, filter, fold, Option, Some, None}
 use Rattle.xd_ledger.specs.declared.settings.Settings.{Settings}
 use Rattle.xd_ledger.specs.declared.entry.Entry.{Entry}
 use Rattle.xd_ledger.specs.declared.news.News.{News}
 use Rattle.xd_ledger.specs.declared.news.What.{What}
 use Rattle.xd_ledger.specs.Sharing.{State}
 use Rattle.xd_ledger.specs.Outputs.{outputs, stepped}
-use Rattle.xd_ledger.specs.Histories.{first_starts, begun}
+use Rattle.xd_ledger.specs.Histories.{first_starts, begun, journal_of, stepped_all}
 use Rattle.xd_ledger.specs.Meaning.{meaning}
+use Rattle.xd_ledger.specs.Proper.{IsProper}
 
 -- a run so far
 pub record Run : Type 0 where
@@ -53,3 +54,9 @@ after_news r n = record {
 -- the run behind these news
 abbrev pub run_of : Settings → List News → Run
 run_of settings taken = fold after_news (begun_run settings) taken
+
+-- what the news meant are proper inputs of a run with these settings, and the run is theirs
+pub record IsProperRun (settings : Settings) (r : Run) : Type 0 where
+  pub proper : IsProper settings r.inputs
+  pub journal : r.entries ≡ journal_of settings r.inputs
+  pub state : r.state ≡ stepped_all (begun settings) r.inputs

@@ -1,6 +1,9 @@
+pub mod Compared
 pub mod Crew
 pub mod Ending
 pub mod History
+pub mod Joining
 pub mod Kept
 pub mod Rules
 pub mod Stands
+pub mod Told

@@ -16,6 +16,8 @@ use Rattle.xd_ledger.specs.Outputs.{closing, outputs, stepped}
 use Rattle.xd_ledger.specs.Histories.{journal_of}
 use Rattle.xd_ledger.specs.Proper.{IsProper}
 use Rattle.xd_ledger.specs.Meaning.{most_of_all, spent_by}
+use Rattle.xd_session.specs.declared.logs.WorkerLog.{WorkerLog}
+use Rattle.xd_session.specs.Kept.{log_in, shortened}
 
 -- the books and a mode that stand for a state of mode load
 pub record At (s : State) (books : Books) (stands : Plan → Type 0) : Type 0 where
@@ -67,11 +69,14 @@ crew_told es ms = fold told_by ms es
 abbrev pub with_turn : Turn → State → State
 with_turn u s = record s { books = record (s.books) { table = u.table; crew = crew_told u.acts s.books.crew }; plan = u.plan }
 
--- the entries are the journal of a proper run, for whose state the books and the mode stand
-pub record InStep (settings : Settings) (entries : List Entry) (spent : ℕ) (books : Books) (stands : Plan → Type 0) : Type 0 where
+-- the entries are the journal of a proper run, for whose state the books and the mode stand, and of each log as much is
+-- kept as can be asked for
+pub record InStep (settings : Settings) (entries : List Entry) (logs : List WorkerLog) (spent : ℕ) (books : Books) (stands : Plan → Type 0) : Type 0 where
+  pub mode : settings.mode ≡ Load
   pub inputs : List Entry
   pub proper : IsProper settings inputs
   pub journal : entries ≡ journal_of settings inputs
   pub at : At (state_at settings entries) books stands
   pub spent_is : spent ≡ spent_by entries
   pub spent_low : spent ≤ most_of_all
+  pub short : (worker : ℕ) → log_in worker logs ≡ shortened (log_in worker logs)

@@ -3,6 +3,11 @@
 #![tactic(auto)]
 
 mod books;
+mod collecting;
+mod decide;
+mod ending;
+mod laws;
+mod lists;
 mod logs;
 mod marks;
 mod outputs;
@@ -11,6 +16,8 @@ mod seats;
 mod session;
 mod step;
 mod stops;
+mod take;
 
+pub use laws::session_law;
 pub use session::Session;
 pub use step::Step;

@@ -37,7 +37,7 @@ fn settles<M: Mode>(mode: &M, books: &RunBooks) -> bool
 }
 
 // Behind each rule: where nothing is left to hand out, all are shut.
-fn finish<M: Mode>(
+pub(crate) fn finish<M: Mode>(
     alloc: Global,
     mode: &M,
     books: &mut RunBooks,

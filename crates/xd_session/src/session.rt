@@ -1,5 +1,6 @@
 // The session.
-ghost use Rattle.std.specs.Prelude.{◌≡◌, ◌++◌, ◌∷◌, [], length, true, false, OnOk, OnErr, IfOk};
+ghost use Rattle.std.specs.Prelude.{◌≡◌, List, ◌++◌, ◌∷◌, [], length, true, false, OnOk, OnErr, IfOk};
+ghost use Rattle.xd_ledger.specs.declared.news.News.{News};
 ghost use Rattle.xd_ledger.specs.Histories.{is_over, starts_from};
 ghost use Rattle.xd_ledger.specs.Plan.{Plan};
 ghost use Rattle.xd_ledger.specs.State.{no_one, all_moved};
@@ -9,35 +10,36 @@ ghost use Rattle.xd_session.specs.Ending.{ending, may_close};
 ghost use Rattle.xd_session.specs.Stands.{CanBegin, StandsFor, state_of};
 
 use crate::books::RunBooks;
+use crate::decide::Core;
+use crate::ending::end;
 use crate::logs::Logs;
+use crate::step::Step;
+use crate::take::take;
 use std::alloc::Global;
 use std::marker::Model;
 use xd_edge::OutOfMemory;
-use xd_ledger::{Entry, Journal, Mode, Settings};
+use xd_ledger::{Entry, Journal, Mode, News, Settings};
 
 /// The part of the controller that decides. It stands for the news that it took: its journal is the one that they make.
 /// Behind want of memory it is given up.
 #[derive(Drop)]
 pub struct Session<M: Mode> {
-    mode: M,
-    books: RunBooks,
+    core: Core<M>,
     journal: Journal,
-    logs: Logs,
-    spent: u32,
     whole: bool,
 }
 
 impl<M: Mode> Model for Session<M> {
-    ghost use Rattle.std.specs.Prelude.{◌≡◌, true};
+    ghost use Rattle.std.specs.Prelude.{◌≡◌, List, true};
     ghost use Rattle.xd_session.specs.Stands.{Seen};
     ghost use Rattle.xd_session.specs.Crew.{books_of};
     ghost use Rattle.xd_session.specs.Rules.{InStep};
 
     ghost Value = { Seen };
 
-    ghost view = { λ s. record { settings = s.journal.settings; entries = s.journal.entries.items; logs = s.logs; whole = s.whole } };
+    ghost view = { λ s. record { settings = s.journal.settings; entries = s.journal.entries.items; logs = s.core.logs; whole = s.whole } };
 
-    ghost invariant = { λ s. s.whole ≡ true → InStep s.journal.settings s.journal.entries.items s.spent (books_of s.books) (M.stands s.mode) };
+    ghost invariant = { λ s. s.whole ≡ true → InStep s.journal.settings s.journal.entries.items s.core.logs s.core.spent (books_of s.core.books) (M.stands s.core.mode) };
 }
 
 // The first workers are started, each at the slot of its number.
@@ -70,13 +72,44 @@ impl<M: Mode> Session<M> {
         let mut books = RunBooks::new(alloc, settings)?;
         let mut journal = Journal::new(alloc, settings);
         start_all(settings.workers, &mut books, &mut journal)?;
-        Ok(Session {
+        let core = Core {
             mode,
             books,
-            journal,
             logs: Logs::new(alloc),
             spent: 0,
+        };
+        Ok(Session {
+            core,
+            journal,
             whole: true,
+        })
+    }
+
+    /// One piece of news of an active worker. Gives the places of the entries that it added to the journal. Behind an
+    /// error the session is given up.
+    pub fn step(&mut self, alloc: Global, news: News) -> Result<Step, OutOfMemory>
+        requires whole { self.old.whole ≡ true }
+        requires active { is_active news.worker (state_of self.old).books ≡ true }
+        ensures stands { OnOk result ((taken : List News) → StandsFor taken self.old → StandsFor (taken ++ news ∷ []) self.new) }
+        ensures whole { OnOk result (self.new.whole ≡ true) }
+        ensures places { IfOk result (λ p. (p.from ≡ length self.old.entries) × (p.to ≡ length self.new.entries)) }
+        ensures settings { self.new.settings ≡ self.old.settings }
+        ensures given_up { OnErr result (self.new.whole ≡ false) }
+    {
+        let from = self.journal.entries.len();
+        self.whole = false;
+        let News { worker, what } = news;
+        take(
+            alloc,
+            worker,
+            what,
+            &mut self.core,
+            &mut self.journal.entries,
+        )?;
+        self.whole = true;
+        Ok(Step {
+            from,
+            to: self.journal.entries.len(),
         })
     }
 
@@ -85,7 +118,7 @@ impl<M: Mode> Session<M> {
         requires { self.now.whole ≡ true }
         ensures { result ≡ is_active worker (state_of self.now).books }
     {
-        self.books.is_active(worker)
+        self.core.books.is_active(worker)
     }
 
     /// The run is shutting and no worker is active.
@@ -93,7 +126,7 @@ impl<M: Mode> Session<M> {
         requires { self.now.whole ≡ true }
         ensures { result ≡ is_over (state_of self.now).books }
     {
-        self.books.is_over()
+        self.core.books.is_over()
     }
 
     /// The journal so far.
@@ -102,5 +135,21 @@ impl<M: Mode> Session<M> {
         ensures entries { result.now.entries.items ≡ self.now.entries }
     {
         &self.journal
+    }
+
+    /// The journal with its end: Over with the run's stop where the run is over. Where the output failed, a Kill of each
+    /// active worker in order of worker numbers, and Over with `OutFault`.
+    pub fn close(mut self, out_failed: bool) -> Result<Journal, OutOfMemory>
+        requires whole { self.whole ≡ true }
+        requires done { may_close out_failed (state_of self).books ≡ true }
+        ensures settings { IfOk result (λ j. j.settings ≡ self.settings) }
+        ensures entries { IfOk result (λ j. j.entries.items ≡ self.entries ++ ending out_failed (state_of self).books) }
+    {
+        end(
+            out_failed,
+            &self.core.books,
+            &mut self.journal.entries,
+        )?;
+        Ok(self.journal)
     }
 }

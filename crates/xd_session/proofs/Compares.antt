@@ -1,0 +1,228 @@
+-- Collections: where they differ, and which one is kept for a slot.
+use Rattle.std.proofs.Common.{◌≡◌, ℕ, zero, suc, ◌+◌, ◌<◌, ◌≤◌, List, [], ◌∷◌, ◌++◌, take, drop, length, get_or, refl, ap, sym, ◌∙◌, arith, Bool, true, false, not, ◌&&◌, ◌||◌, cond, add-one, drop-cons, length-append}
+use Rattle.std.specs.Prelude.{if◌then◌else◌, ◌==◌, encode_utf8, Option, Some, None}
+use Rattle.std.proofs.lemmas.Bool.Decides.{nat_tests, same_from_decides}
+use Rattle.std.proofs.lemmas.List.{take_more, take-append-drop}
+use Rattle.std.proofs.lemmas.List.Folds.{list_any-append}
+use Rattle.std.proofs.lemmas.Str.{encodes_same, encodes-chars, length-encode, len_utf8_bounds}
+use Rattle.std.proofs.lemmas.Slice.Eq.{bytes_eq-Decides}
+use Rattle.std.proofs.lemmas.Map.Text.{is_eq-slice_cmp}
+use Rattle.std.specs.List.{list_any}
+use Rattle.std.specs.Borrow.{Bor}
+use Rattle.std.specs.BTreeSet.{BTreeSet, contains, Updates}
+use Rattle.std.specs.Cmp.Lexicographic.{slice_cmp}
+use Rattle.std.specs.declared.cmp.Ordering.{Ordering}
+use Rattle.std.specs.Ordering.{is_eq, nat_cmp}
+use Rattle.std.specs.Str.{bytes_eq, chars, IsUtf8, encode_utf8_all}
+use Rattle.xd_ledger.specs.declared.member.Listed.{Listed}
+use Rattle.xd_ledger.specs.Collections.{differ_at, listed_in}
+use Rattle.xd_ledger.specs.Proper.{has_text, no_text_twice}
+use Rattle.xd_session.specs.Compared.{place_in_lists}
+
+-- a place so much further on
+abbrev pub further : ℕ → Option ℕ → Option ℕ
+further n None = None
+further n (Some k) = Some (n + k)
+
+further-suc : (i : ℕ) (o : Option ℕ) → further i (elim o as (λ _. Option ℕ) [ None ↦ None | Some n ↦ Some (suc n) ]) ≡ further (i + 1) o
+further-suc i None = refl
+further-suc i (Some k) = ap (λ n. Some n) (omega arith)
+
+pub further-none : (o : Option ℕ) → further 0 o ≡ o
+further-none None = refl
+further-none (Some k) = ap (λ n. Some n) (omega arith)
+
+-- they are the same at this place
+pub differ-next : (xs ys : List (List ℕ)) (i : ℕ) (d : List ℕ) → i < length xs → i < length ys → bytes_eq (get_or xs i d) (get_or ys i d) ≡ true
+    → further (i + 1) (differ_at (drop (i + 1) xs) (drop (i + 1) ys)) ≡ further i (differ_at (drop i xs) (drop i ys))
+differ-next xs ys i d h k e =
+    let a : drop i xs ≡ get_or xs i d ∷ drop (i + 1) xs = rw add-one (drop-cons xs i d h) in
+    let b : drop i ys ≡ get_or ys i d ∷ drop (i + 1) ys = rw add-one (drop-cons ys i d k) in
+    let o = differ_at (drop (i + 1) xs) (drop (i + 1) ys) in
+    let more : Bool → Option ℕ = λ q. if q then (elim o as (λ _. Option ℕ) [ None ↦ None | Some n ↦ Some (suc n) ]) else Some 0 in
+    sym (ap (λ us. further i (differ_at us (drop i ys))) a ∙ ap (λ us. further i (differ_at (get_or xs i d ∷ drop (i + 1) xs) us)) b ∙ ap (λ q. further i (more q)) e ∙ further-suc i o)
+
+pub differ-here : (xs ys : List (List ℕ)) (i : ℕ) (d : List ℕ) → i < length xs → i < length ys → bytes_eq (get_or xs i d) (get_or ys i d) ≡ false → Some i ≡ further i (differ_at (drop i xs) (drop i ys))
+differ-here xs ys i d h k e =
+    let a : drop i xs ≡ get_or xs i d ∷ drop (i + 1) xs = rw add-one (drop-cons xs i d h) in
+    let b : drop i ys ≡ get_or ys i d ∷ drop (i + 1) ys = rw add-one (drop-cons ys i d k) in
+    let o = differ_at (drop (i + 1) xs) (drop (i + 1) ys) in
+    let more : Bool → Option ℕ = λ q. if q then (elim o as (λ _. Option ℕ) [ None ↦ None | Some n ↦ Some (suc n) ]) else Some 0 in
+    sym (ap (λ us. further i (differ_at us (drop i ys))) a ∙ ap (λ us. further i (differ_at (get_or xs i d ∷ drop (i + 1) xs) us)) b ∙ ap (λ q. further i (more q)) e ∙ ap (λ n. Some n) (omega arith))
+
+drop-end : (xs : List (List ℕ)) (i : ℕ) → length xs ≤ i → drop i xs ≡ []
+drop-end [] zero h = refl
+drop-end [] (suc i) h = refl
+drop-end (x ∷ xs) zero h = absurd (omega arith)
+drop-end (x ∷ xs) (suc i) h = drop-end xs i (omega arith)
+
+-- the second one ends here
+pub differ-short : (xs ys : List (List ℕ)) (i : ℕ) (d : List ℕ) → i < length xs → length ys ≤ i → Some i ≡ further i (differ_at (drop i xs) (drop i ys))
+differ-short xs ys i d h k =
+    let a : drop i xs ≡ get_or xs i d ∷ drop (i + 1) xs = rw add-one (drop-cons xs i d h) in
+    sym (ap (λ us. further i (differ_at us (drop i ys))) a ∙ ap (λ us. further i (differ_at (get_or xs i d ∷ drop (i + 1) xs) us)) (drop-end ys i k) ∙ ap (λ n. Some n) (omega arith))
+
+-- the first one ends here
+pub differ-long : (xs ys : List (List ℕ)) (i n : ℕ) (d : List ℕ) → length xs ≤ i → i < length ys → n ≡ i → Some n ≡ further i (differ_at (drop i xs) (drop i ys))
+differ-long xs ys i n d h k e =
+    let b : drop i ys ≡ get_or ys i d ∷ drop (i + 1) ys = rw add-one (drop-cons ys i d k) in
+    sym (ap (λ us. further i (differ_at us (drop i ys))) (drop-end xs i h) ∙ ap (λ us. further i (differ_at [] us)) b ∙ ap (λ m. Some m) (omega arith))
+
+-- both end here
+pub differ-none : (xs ys : List (List ℕ)) (i : ℕ) → length xs ≤ i → length ys ≤ i → None ≡ further i (differ_at (drop i xs) (drop i ys))
+differ-none xs ys i h k = sym (ap (λ us. further i (differ_at us (drop i ys))) (drop-end xs i h) ∙ ap (λ us. further i (differ_at [] us)) (drop-end ys i k))
+
+-- the collection of a slot
+
+pub place-more : (w : ℕ) (ls : List Listed) (i : ℕ) (d : Listed) → i < length ls → ((get_or ls i d).slot ≡ w → ⊥) → place_in_lists w (drop i ls) ≡ suc (place_in_lists w (drop (i + 1) ls))
+place-more w [] i d h e = absurd (omega arith)
+place-more w (l ∷ ls) zero d h e = grind (arith, nat_tests)
+place-more w (l ∷ ls) (suc i) d h e =
+    let z : suc i + 1 ≡ suc (i + 1) = omega arith in
+    place-more w ls i d (omega arith) e ∙ ap (λ n. suc (place_in_lists w (drop n (l ∷ ls)))) (sym z)
+
+pub place-here : (w : ℕ) (ls : List Listed) (i : ℕ) (d : Listed) → i < length ls → (get_or ls i d).slot ≡ w → place_in_lists w (drop i ls) ≡ 0
+place-here w [] i d h e = absurd (omega arith)
+place-here w (l ∷ ls) zero d h e = grind (arith, nat_tests)
+place-here w (l ∷ ls) (suc i) d h e = place-here w ls i d (omega arith) e
+
+list-at : (w : ℕ) (ls : List Listed) (d : Listed) → place_in_lists w ls < length ls → listed_in w ls ≡ Some (get_or ls (place_in_lists w ls) d)
+list-at w [] d h = absurd (omega arith)
+list-at w (l ∷ ls) d h = grind (arith, nat_tests, list-at w ls d)
+
+list-none : (w : ℕ) (ls : List Listed) → length ls ≤ place_in_lists w ls → listed_in w ls ≡ None
+list-none w [] h = refl
+list-none w (l ∷ ls) h = grind (arith, nat_tests, list-none w ls)
+
+pub list-found : (w p : ℕ) (ls : List Listed) (x : Listed) → p ≡ place_in_lists w ls → p < length ls → x ≡ get_or ls p x → listed_in w ls ≡ Some x
+list-found w p ls x k h g =
+    let q : place_in_lists w ls < length ls = omega arith in
+    list-at w ls x q ∙ ap (λ n. Some (get_or ls n x)) (sym k) ∙ ap (λ y. Some y) (sym g)
+
+pub list-missing : (w p : ℕ) (ls : List Listed) → p ≡ place_in_lists w ls → length ls ≤ p → listed_in w ls ≡ None
+list-missing w p ls k h = list-none w ls (omega (arith, k, h))
+
+-- a text is empty where it has no character
+
+encodes-empty : (cs bs : List ℕ) → encode_utf8_all cs ≡ bs → (length bs == 0) ≡ (length cs == 0)
+encodes-empty [] bs e = ap (λ (l : List ℕ). length l == 0) (sym e)
+encodes-empty (c ∷ cs) bs e =
+    let some : 0 < length (encode_utf8 c ++ encode_utf8_all cs) = omega (arith, length-append (encode_utf8 c) (encode_utf8_all cs), length-encode c, (len_utf8_bounds c).0) in
+    let more : 0 < length bs = omega (arith, ap length e) in
+    grind arith
+
+pub length-chars-0 : (bs : List ℕ) → IsUtf8 bs → (length bs == 0) ≡ (length (chars bs) == 0)
+length-chars-0 bs utf8 = encodes-empty (chars bs) bs (encodes-chars bs utf8)
+
+-- texts that stand once
+
+bytes_eq-encodes : (a b : List ℕ) → bytes_eq (encode_utf8_all a) (encode_utf8_all b) ≡ bytes_eq a b
+bytes_eq-encodes a b =
+    let there = bytes_eq-Decides (encode_utf8_all a) (encode_utf8_all b) in
+    same_from_decides (bytes_eq (encode_utf8_all a) (encode_utf8_all b)) (bytes_eq a b) (λ is. encodes_same a b (there.0 is), λ is. there.1 (ap encode_utf8_all is)) (bytes_eq-Decides a b)
+
+bytes_eq-sym : (a b : List ℕ) → bytes_eq a b ≡ bytes_eq b a
+bytes_eq-sym a b =
+    let back = bytes_eq-Decides b a in
+    same_from_decides (bytes_eq a b) (bytes_eq b a) (bytes_eq-Decides a b) (λ is. sym (back.0 is), λ is. back.1 (sym is))
+
+abbrev pub TextSet : Type 0
+TextSet = BTreeSet (Bor (List ℕ))
+
+abbrev pub text_order : Bor (List ℕ) → Bor (List ℕ) → Ordering
+text_order x y = slice_cmp nat_cmp x.now y.now
+
+abbrev pub to_text : List ℕ → Bor (List ℕ)
+to_text bs = record { ref_ptr = (0, 0); now = bs }
+
+-- the set has the text of these characters
+abbrev pub has_seen : TextSet → List ℕ → Bool
+has_seen s cs = contains text_order s (to_text (encode_utf8_all cs))
+
+-- the first i texts stand once, and are in the set
+pub record LookedThrough (texts : List (List ℕ)) (i : ℕ) (seen : TextSet) : Type 0 where
+  pub once : no_text_twice (take i texts) ≡ true
+  pub known : (cs : List ℕ) → has_seen seen cs ≡ list_any (bytes_eq cs) (take i texts)
+
+or-last : (b c : Bool) → (b || c) ≡ (c || (b || false))
+or-last true true = refl
+or-last true false = refl
+or-last false true = refl
+or-last false false = refl
+
+cond-or : (b c : Bool) → cond b true c ≡ (b || c)
+cond-or true c = refl
+cond-or false c = refl
+
+seen-insert : (old new : TextSet) (id cs : List ℕ) (key : Bor (List ℕ)) → key.now ≡ encode_utf8_all id → Updates text_order old new key true → has_seen new cs ≡ (bytes_eq id cs || has_seen old cs)
+seen-insert old new id cs key is updates =
+    let at : is_eq (slice_cmp nat_cmp key.now (encode_utf8_all cs)) ≡ bytes_eq id cs =
+    ap (λ (l : List ℕ). is_eq (slice_cmp nat_cmp l (encode_utf8_all cs))) is ∙ is_eq-slice_cmp (encode_utf8_all id) (encode_utf8_all cs) ∙ bytes_eq-encodes id cs in
+    updates.0 (to_text (encode_utf8_all cs)) ∙ ap (λ (b : Bool). cond b true (has_seen old cs)) at ∙ cond-or (bytes_eq id cs) (has_seen old cs)
+
+was-not : (b : Bool) → true ≡ not b → b ≡ false
+was-not true e = e
+was-not false e = refl
+
+was : (b : Bool) → false ≡ not b → b ≡ true
+was true e = refl
+was false e = e
+
+-- one more text stands once where it did not stand yet
+not-or : (a b c d : Bool) → (not (a || (b || false)) && (c && not d)) ≡ ((not a && c) && not (b || d))
+not-or true b c d = refl
+not-or false true true d = refl
+not-or false true false d = refl
+not-or false false c d = refl
+
+twice-more : (xs : List (List ℕ)) (x : List ℕ) → no_text_twice (xs ++ x ∷ []) ≡ (no_text_twice xs && not (list_any (bytes_eq x) xs))
+twice-more [] x = refl
+twice-more (y ∷ xs) x =
+    let p : list_any (bytes_eq y) (xs ++ x ∷ []) ≡ (list_any (bytes_eq y) xs || (bytes_eq y x || false)) = list_any-append (bytes_eq y) xs (x ∷ []) in
+    let q = twice-more xs x in
+    ap (λ b. not b && no_text_twice (xs ++ x ∷ [])) p ∙ ap (λ b. not (list_any (bytes_eq y) xs || (bytes_eq y x || false)) && b) q
+    ∙ not-or (list_any (bytes_eq y) xs) (bytes_eq y x) (no_text_twice xs) (list_any (bytes_eq x) xs)
+    ∙ ap (λ b. (not (list_any (bytes_eq y) xs) && no_text_twice xs) && not (b || list_any (bytes_eq x) xs)) (bytes_eq-sym y x)
+
+and-no : (a b : Bool) → b ≡ false → (a && b) ≡ false
+and-no true b h = h
+and-no false b h = refl
+
+twice-by : (a b c d : Bool) → (c ≡ false → d ≡ false) → (not a && c) ≡ false → (not (a || b) && d) ≡ false
+twice-by true b c d f h = refl
+twice-by false true c d f h = refl
+twice-by false false c d f h = f h
+
+-- what stands twice in a first part stands twice
+twice-part : (xs ys : List (List ℕ)) → no_text_twice xs ≡ false → no_text_twice (xs ++ ys) ≡ false
+twice-part [] ys h = cc
+twice-part (x ∷ xs) ys h =
+    let p : list_any (bytes_eq x) (xs ++ ys) ≡ (list_any (bytes_eq x) xs || list_any (bytes_eq x) ys) = list_any-append (bytes_eq x) xs ys in
+    ap (λ b. not b && no_text_twice (xs ++ ys)) p ∙ twice-by (list_any (bytes_eq x) xs) (list_any (bytes_eq x) ys) (no_text_twice xs) (no_text_twice (xs ++ ys)) (twice-part xs ys) h
+
+module _ (texts : List (List ℕ)) (i : ℕ) (d : List ℕ) (within : i < length texts) where
+  abbrev text : List ℕ
+  text = get_or texts i d
+
+  one_more : take (i + 1) texts ≡ take i texts ++ text ∷ []
+  one_more = take_more texts i d within
+
+  module _ (seen : TextSet) (key : Bor (List ℕ)) (is : key.now ≡ encode_utf8_all text) (before : LookedThrough texts i seen) where
+    stood : contains text_order seen key ≡ list_any (bytes_eq text) (take i texts)
+    stood = ap (λ (l : List ℕ). contains text_order seen (to_text l)) is ∙ before.known text
+
+    once_more : no_text_twice (take (i + 1) texts) ≡ (true && not (contains text_order seen key))
+    once_more = ap no_text_twice one_more ∙ twice-more (take i texts) text ∙ ap (λ b. b && not (list_any (bytes_eq text) (take i texts))) before.once ∙ ap (λ b. true && not b) (sym stood)
+
+    pub look_further : (new : TextSet) → true ≡ not (contains text_order seen key) → Updates text_order seen new key true → LookedThrough texts (i + 1) new
+    look_further new fresh updates =
+        record {
+          once = once_more ∙ sym fresh;
+          known = λ cs. seen-insert seen new text cs key is updates ∙ ap (λ (b : Bool). bytes_eq text cs || b) (before.known cs)
+              ∙ or-last (bytes_eq text cs) (list_any (bytes_eq cs) (take i texts))
+              ∙ ap (λ (b : Bool). list_any (bytes_eq cs) (take i texts) || (b || false)) (bytes_eq-sym text cs)
+              ∙ sym (ap (list_any (bytes_eq cs)) one_more ∙ list_any-append (bytes_eq cs) (take i texts) (text ∷ []));
+        }
+
+    pub found : false ≡ not (contains text_order seen key) → false ≡ no_text_twice texts
+    found again = sym (ap no_text_twice (sym (take-append-drop (i + 1) texts)) ∙ twice-part (take (i + 1) texts) (drop (i + 1) texts) (once_more ∙ sym again))

@@ -1,0 +1,145 @@
+-- A session keeps in step with the news that it takes.
+use Rattle.std.proofs.Common.{◌≡◌, ℕ, ◌+◌, ◌≤◌, List, [], ◌∷◌, ◌++◌, refl, ap, sym, subst, ◌∙◌, arith, Bool, true, false, not, ◌&&◌, add-zero, inl, inr}
+use Rattle.std.specs.Prelude.{if◌then◌else◌, ◌==◌, Option, Some, None}
+use Rattle.std.specs.List.{list_any}
+use Rattle.xd_edge.specs.declared.mode.ModeKind.TheVariants.{Load}
+use Rattle.xd_ledger.specs.declared.settings.Settings.{Settings}
+use Rattle.xd_ledger.specs.declared.entry.Entry.{Entry}
+use Rattle.xd_ledger.specs.declared.news.News.{News}
+use Rattle.xd_ledger.specs.declared.news.What.{What}
+use Rattle.xd_ledger.specs.declared.seat.Seat.{Seat}
+use Rattle.xd_ledger.specs.Books.{Books}
+use Rattle.xd_ledger.specs.Histories.{begun, journal_of, stepped_all}
+use Rattle.xd_ledger.specs.Meaning.{Log, log_of, meaning_of, spent_by, with_news}
+use Rattle.xd_ledger.specs.Outputs.{outputs, stepped}
+use Rattle.xd_ledger.specs.Plan.{Plan, total}
+use Rattle.xd_ledger.specs.Proper.{IsProper, may_follow}
+use Rattle.xd_ledger.specs.Sharing.{State}
+use Rattle.xd_ledger.specs.Sound as sound
+use Rattle.xd_ledger.specs.State.{state_at}
+use Rattle.xd_ledger.specs.Stops.{is_stopped}
+use Rattle.xd_ledger.specs.Table.{Table, all_items, in_rota, seat_shut}
+use Rattle.xd_ledger.specs.Workers.{has_collected, is_active}
+use Rattle.xd_laws.proofs.Counts.{empty-of_times}
+use Rattle.xd_laws.proofs.InMode.{InMode}
+use Rattle.xd_laws.proofs.Logic.{cases_of, differ}
+use Rattle.xd_laws.proofs.Placed.{due_times}
+use Rattle.xd_laws.proofs.Rota as rota
+use Rattle.xd_laws.proofs.Runs.{Holds}
+use Rattle.xd_laws.proofs.Turns.{Tidy}
+use Rattle.xd_session.specs.declared.logs.WorkerLog.{WorkerLog}
+use Rattle.xd_session.specs.History.{Run as SoFar, entries_with, input_of, run_of, said_by}
+use Rattle.xd_session.specs.Joining.{IsBare}
+use Rattle.xd_session.specs.Kept.{log_in, shortened}
+use Rattle.xd_session.specs.Rules.{At, InStep}
+use Rattle.xd_session.specs.Stands.{Seen, StandsFor, state_of}
+use Rattle.xd_session.specs.Told.{Told, Took}
+use Rattle.xd_session.proofs.Steps.{holds-behind, journal-more, journal-state, logs-more, meaning-follows, meaning-short, news-short, proper-more, run-more, run-taken, short-twice, sound-run, spent-more, state-next}
+
+module _ (settings : Settings) (entries : List Entry) (logs : List WorkerLog) (spent : ℕ) (b : Books) (st : Plan → Type 0) (k : InStep settings entries logs spent b st) where
+  pub behind : state_at settings entries ≡ stepped_all (begun settings) k.inputs
+  behind = ap (state_at settings) k.journal ∙ journal-state settings k.inputs k.proper.follow
+
+  pub holds : Holds (InMode Load) (state_at settings entries)
+  holds = subst (λ (u : State). Holds (InMode Load) u) (sym behind) (holds-behind settings k.inputs k.mode k.proper.follow)
+
+same-seats : (w : ℕ) (ss : List Seat) → sound.seats_of w ss ≡ rota.seats_of w ss
+same-seats w [] = refl
+same-seats w (x ∷ ss) = ap (λ n. (if x.worker == w then 1 else 0) + n) (same-seats w ss)
+
+new-seat : (s : State) (w : ℕ) → Tidy s → has_collected w s.books ≡ false → in_rota w s.books.table ≡ false
+new-seat s w d h = elim (cases_of (in_rota w s.books.table)) [
+  | inl k ↦ absurd (differ (sym h ∙ d.placed.fits.collected w k))
+  | inr k ↦ k
+]
+
+bare-state : (s : State) → Tidy s → is_stopped s.books ≡ false → s.books.shared ≡ false → IsBare s.books.table
+bare-state s d h k = record {
+  none = empty-of_times (all_items s.books.table) (λ x. d.placed.whole x ∙ ap (λ q. due_times x q (total s.plan)) k);
+  unshut = λ w. elim (cases_of (in_rota w s.books.table)) [
+    | inl r ↦ sym (d.placed.fits.marks w r) ∙ d.calm.unshut h k w
+    | inr r ↦ rota.untold-of_seat w s.books.table.rota r
+  ];
+  once = λ w. (let e = same-seats w s.books.table.rota in let f = d.placed.fits.seats w in omega arith);
+}
+
+pub step-new : (settings : Settings) (entries : List Entry) (logs : List WorkerLog) (spent : ℕ) (b : Books) (st : Plan → Type 0) → InStep settings entries logs spent b st → (w : ℕ) → has_collected w b ≡ false → in_rota w b.table ≡ false
+step-new settings entries logs spent b st k w h =
+    let a = k.at.books_are in
+    ap (λ (d : Books). in_rota w d.table) a ∙ new-seat (state_at settings entries) w (holds settings entries logs spent b st k).tidy (ap (λ (d : Books). has_collected w d) (sym a) ∙ h)
+
+pub step-bare : (settings : Settings) (entries : List Entry) (logs : List WorkerLog) (spent : ℕ) (b : Books) (st : Plan → Type 0) → InStep settings entries logs spent b st → is_stopped b ≡ false → b.shared ≡ false → IsBare b.table
+step-bare settings entries logs spent b st k h r =
+    let a = k.at.books_are in
+    subst (λ (d : Books). IsBare d.table) (sym a) (bare-state (state_at settings entries) (holds settings entries logs spent b st k).tidy (ap (λ (d : Books). is_stopped d) (sym a) ∙ h) (ap (λ (d : Books). d.shared) (sym a) ∙ r))
+
+next-by : (settings : Settings) (entries now : List Entry) (logs logs_now : List WorkerLog) (spent spent_now : ℕ) (b c : Books) (st st_now : Plan → Type 0) (o : Option Entry) → InStep settings entries logs spent b st
+    → ((e : Entry) → o ≡ Some e → may_follow (state_at settings entries) e ≡ true) → ((v : ℕ) → log_in v logs_now ≡ shortened (log_in v logs_now)) → Told o (state_at settings entries) entries now spent spent_now c st_now
+    → InStep settings now logs_now spent_now c st_now
+next-by settings entries now logs logs_now spent spent_now b c st st_now None k h short t = record {
+  mode = k.mode;
+  inputs = k.inputs;
+  proper = k.proper;
+  journal = t.entries_are ∙ k.journal;
+  at = subst (λ es. At (state_at settings es) c st_now) (sym t.entries_are) t.at;
+  spent_is = t.spent_is ∙ add-zero spent ∙ k.spent_is ∙ ap spent_by (sym t.entries_are);
+  spent_low = t.spent_low;
+  short = short;
+}
+next-by settings entries now logs logs_now spent spent_now b c st st_now (Some e) k h short t =
+    let s0 = state_at settings entries in
+    let m : may_follow s0 e ≡ true = h e refl in
+    let after = behind settings entries logs spent b st k in
+    record {
+      mode = k.mode;
+      inputs = k.inputs ++ e ∷ [];
+      proper = proper-more settings k.inputs e k.proper (ap (λ u. may_follow u e) (sym after) ∙ m);
+      journal = t.entries_are ∙ ap (λ es. es ++ (e ∷ outputs s0 e)) k.journal ∙ ap (λ u. journal_of settings k.inputs ++ (e ∷ outputs u e)) after ∙ sym (journal-more settings k.inputs e);
+      at = subst (λ u. At u c st_now) (sym (ap (state_at settings) t.entries_are ∙ state-next settings entries e m)) t.at;
+      spent_is = t.spent_is ∙ ap (λ n. n + spent_by (e ∷ [])) k.spent_is ∙ sym (spent-more s0 entries e m (holds settings entries logs spent b st k)) ∙ ap spent_by (sym t.entries_are);
+      spent_low = t.spent_low;
+      short = short;
+    }
+
+short-if : (b : Bool) (x y : Option Log) → y ≡ shortened y → (if b then shortened x else y) ≡ shortened (if b then shortened x else y)
+short-if true x y h = sym (short-twice x)
+short-if false x y h = h
+
+pub step-next : (settings : Settings) (entries now : List Entry) (logs logs_now : List WorkerLog) (spent spent_now : ℕ) (b c : Books) (st st_now : Plan → Type 0) (w : ℕ) (n : What) → InStep settings entries logs spent b st
+    → is_active w b ≡ true → Took w n (state_at settings entries) logs logs_now entries now spent spent_now c st_now → InStep settings now logs_now spent_now c st_now
+step-next settings entries now logs logs_now spent spent_now b c st st_now w n k a t =
+    let s0 = state_at settings entries in
+    let act : is_active w s0.books ≡ true = ap (λ (d : Books). is_active w d) (sym k.at.books_are) ∙ a in
+    next-by settings entries now logs logs_now spent spent_now b c st st_now (meaning_of w (log_in w logs) spent s0 n) k (λ e h. meaning-follows w (log_in w logs) spent s0 n e act h)
+    (λ v. (let r = t.logs_are v in r ∙ short-if (v == w) (with_news (log_in v logs) n) (log_in v logs) (k.short v) ∙ ap shortened (sym r))) t.told
+
+pub stands-next : (settings : Settings) (entries now : List Entry) (logs logs_now : List WorkerLog) (spent spent_now : ℕ) (b c : Books) (st st_now : Plan → Type 0) (n : News) (taken : List News) → InStep settings entries logs spent b st
+    → is_active n.worker b ≡ true → Took n.worker n.what (state_at settings entries) logs logs_now entries now spent spent_now c st_now
+    → StandsFor taken (record { settings = settings; entries = entries; logs = logs; whole = true }) → StandsFor (taken ++ n ∷ []) (record { settings = settings; entries = now; logs = logs_now; whole = true })
+stands-next settings entries now logs logs_now spent spent_now b c st st_now n taken k a t f =
+    let s0 = state_at settings entries in
+    let w = n.worker in
+    let r : SoFar = run_of settings taken in
+    let sd = sound-run settings taken (record { mode = k.proper.mode; some_worker = k.proper.some_worker; few_workers = k.proper.few_workers; few_restarts = k.proper.few_restarts; follow = refl }) in
+    let same : r.state ≡ s0 = sd.state ∙ sym (journal-state settings r.inputs sd.proper.follow) ∙ ap (state_at settings) (sym sd.journal ∙ sym f.entries) in
+    let act : is_active w r.state.books ≡ true = ap (λ (u : State). is_active w u.books) same ∙ ap (λ (d : Books). is_active w d) (sym k.at.books_are) ∙ a in
+    let said = said_by w taken in
+    let m1 : input_of r n ≡ meaning_of w (log_of (said_by w r.taken)) (spent_by r.entries) r.state n.what = ap (λ q. if q then meaning_of w (log_of (said_by w r.taken)) (spent_by r.entries) r.state n.what else None) act in
+    let m2 : meaning_of w (log_of (said_by w r.taken)) (spent_by r.entries) r.state n.what ≡ meaning_of w (log_of said) spent s0 n.what =
+    ap (λ ts. meaning_of w (log_of (said_by w ts)) (spent_by r.entries) r.state n.what) (run-taken settings taken)
+    ∙ ap (λ m. meaning_of w (log_of said) m r.state n.what) (ap spent_by (sym f.entries) ∙ sym k.spent_is)
+    ∙ ap (λ u. meaning_of w (log_of said) spent u n.what) same in
+    let m3 : meaning_of w (log_in w logs) spent s0 n.what ≡ meaning_of w (log_of said) spent s0 n.what = ap (λ o. meaning_of w o spent s0 n.what) (f.logs w) ∙ meaning-short w (log_of said) spent s0 n.what in
+    let inp : meaning_of w (log_in w logs) spent s0 n.what ≡ input_of r n = m3 ∙ sym (m1 ∙ m2) in
+    record {
+      whole = refl;
+      entries = t.told.entries_are ∙ ap (λ o. entries_with o entries s0) inp ∙ ap (λ es. entries_with (input_of r n) es s0) f.entries ∙ ap (λ u. entries_with (input_of r n) r.entries u) (sym same)
+          ∙ ap (λ (x : SoFar). x.entries) (sym (run-more settings taken n));
+      logs = logs-more taken n logs logs_now f.logs t.logs_are;
+    }
+
+pub stands-inside : (settings : Settings) (entries : List Entry) (logs : List WorkerLog) (whole : Bool) (v : Seen) (taken : List News) → record { settings = settings; entries = entries; logs = logs; whole = whole } ≡ v → v.whole ≡ true
+    → StandsFor taken v → StandsFor taken (record { settings = settings; entries = entries; logs = logs; whole = true })
+stands-inside settings entries logs whole v taken e h f =
+    let w : whole ≡ true = ap (λ (u : Seen). u.whole) e ∙ h in
+    subst (λ q. StandsFor taken (record { settings = settings; entries = entries; logs = logs; whole = q })) w (subst (λ u. StandsFor taken u) (sym e) f)

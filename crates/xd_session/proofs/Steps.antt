@@ -1,0 +1,331 @@
+-- A session that took news, and takes one more.
+use Rattle.std.proofs.Common.{◌≡◌, ℕ, zero, suc, ◌+◌, ◌-◌, ◌≤◌, List, [], ◌∷◌, ◌++◌, take, map, min, length, refl, ap, sym, subst, ◌∙◌, arith, Bool, true, false, not, ◌&&◌, append_assoc}
+use Rattle.std.specs.Prelude.{if◌then◌else◌, ◌==◌, nat_lt, ◌%◌, filter, fold, Option, Some, None}
+use Rattle.std.proofs.lemmas.Grind.{fold-append}
+use Rattle.std.proofs.lemmas.List.{append-nil}
+use Rattle.std.proofs.lemmas.Bool.Decides.{nat_tests}
+use Rattle.xd_edge.specs.declared.mode.ModeKind.TheVariants.{Load}
+use Rattle.xd_ledger.specs.declared.settings.Settings.{Settings}
+use Rattle.xd_ledger.specs.declared.entry.Entry.{Entry}
+use Rattle.xd_ledger.specs.declared.entry.Entry.TheVariants.{Ready, Collected, Done, Back, Finished, Refused, Down, NotStarted, Start, Run, RunAll, Steal, Shutdown, Kill, Over}
+use Rattle.xd_ledger.specs.declared.entry.Cause.TheVariants.{Breach}
+use Rattle.xd_ledger.specs.declared.entry.Outcome.{Outcome}
+use Rattle.xd_ledger.specs.declared.entry.Outcome.TheVariants.{Failed, Passed, Skipped}
+use Rattle.xd_ledger.specs.declared.news.News.{News}
+use Rattle.xd_ledger.specs.declared.news.What.{What}
+use Rattle.xd_ledger.specs.declared.news.What.TheVariants as what
+use Rattle.xd_ledger.specs.Books.{Books}
+use Rattle.xd_ledger.specs.Collections.{listed, differ_at}
+use Rattle.xd_ledger.specs.Histories.{begun, first_starts, grown, journal_of, stepped_all}
+use Rattle.xd_ledger.specs.Meaning.{Log, given_ids, is_of, any_open, kept, log_of, may_start_log, meaning, meaning_of, most_of_all, most_of_one, output_of, or_breach, silent_or_breach, is_open_log, spent_by, with_news}
+use Rattle.xd_ledger.specs.Orderly.{all_orderly, is_orderly}
+use Rattle.xd_ledger.specs.Outputs.{outputs, stepped}
+use Rattle.xd_ledger.specs.Plan.{Plan}
+use Rattle.xd_ledger.specs.Proper.{IsProper, all_may_follow, may_follow, names_head}
+use Rattle.xd_ledger.specs.Sharing.{State}
+use Rattle.xd_ledger.specs.State.{all_moved, is_input, moved, no_one, settled, state_at}
+use Rattle.xd_ledger.specs.Workers.{is_active}
+use Rattle.xd_laws.proofs.InMode.{InMode}
+use Rattle.xd_laws.proofs.LoadRule.{load_rule}
+use Rattle.xd_laws.proofs.Logic.{and, differ, split-and}
+use Rattle.xd_laws.proofs.Outputs.{outputs-fit}
+use Rattle.xd_laws.proofs.Runs.{Holds, all-hold, begun-holds}
+use Rattle.xd_laws.proofs.Turns.{all_moved-first}
+use Rattle.xd_session.specs.declared.logs.WorkerLog.{WorkerLog}
+use Rattle.xd_session.specs.History.{IsProperRun, Run as SoFar, after_news, begun_run, entries_with, input_of, inputs_with, run_of, said_by, state_with}
+use Rattle.xd_session.specs.Kept.{log_in, shortened}
+use Rattle.xd_session.specs.Rules.{At, InStep}
+use Rattle.xd_session.specs.Stands.{Seen, StandsFor}
+use Rattle.xd_session.specs.Told.{Told, Took, spent_in}
+use Rattle.xd_session.proofs.Closing.{all_moved-append}
+
+-- the state behind one more input
+
+pub state-grown : (settings : Settings) (es outs : List Entry) (e : Entry) → is_input e ≡ true → state_at settings (es ++ e ∷ outs) ≡ settled (all_moved (moved (state_at settings es) e) outs)
+state-grown settings es outs e h =
+    let raw : State = all_moved (no_one settings) es in
+    let a : all_moved (no_one settings) (es ++ e ∷ outs) ≡ all_moved raw (e ∷ outs) = all_moved-append (no_one settings) es (e ∷ outs) in
+    let f : Bool → State = λ b. settled (all_moved (moved (if b then settled raw else raw) e) outs) in
+    ap settled a ∙ ap f h
+
+input-of : (s : State) (e : Entry) → may_follow s e ≡ true → is_input e ≡ true
+input-of s (Ready w) h = refl
+input-of s (Collected w g) h = refl
+input-of s (Done w i u m o) h = refl
+input-of s (Back w i) h = refl
+input-of s (Finished w) h = refl
+input-of s (Refused w t) h = refl
+input-of s (Down w c o) h = refl
+input-of s (NotStarted w) h = refl
+input-of s (Start w slot) h = absurd (differ h)
+input-of s (Run w is) h = absurd (differ h)
+input-of s (RunAll w) h = absurd (differ h)
+input-of s (Steal w is) h = absurd (differ h)
+input-of s (Shutdown w) h = absurd (differ h)
+input-of s (Kill w) h = absurd (differ h)
+input-of s (Over how) h = absurd (differ h)
+
+pub state-next : (settings : Settings) (es : List Entry) (e : Entry) → may_follow (state_at settings es) e ≡ true → state_at settings (es ++ e ∷ outputs (state_at settings es) e) ≡ stepped (state_at settings es) e
+state-next settings es e h = state-grown settings es (outputs (state_at settings es) e) e (input-of (state_at settings es) e h)
+
+-- a journal grows by its inputs
+
+grown-state : (settings : Settings) (es ins : List Entry) → all_may_follow (state_at settings es) ins ≡ true → state_at settings (es ++ grown (state_at settings es) ins) ≡ stepped_all (state_at settings es) ins
+grown-state settings es [] h = ap (state_at settings) (append-nil es)
+grown-state settings es (i ∷ ins) h =
+    let s = state_at settings es in
+    let p = split-and (may_follow s i) (all_may_follow (stepped s i) ins) h in
+    let one : List Entry = i ∷ outputs s i in
+    let now : state_at settings (es ++ one) ≡ stepped s i = state-next settings es i p.0 in
+    let ih = grown-state settings (es ++ one) ins (ap (λ u. all_may_follow u ins) now ∙ p.1) in
+    ap (state_at settings) (sym (append_assoc es one (grown (stepped s i) ins)) ∙ ap (λ u. (es ++ one) ++ grown u ins) (sym now)) ∙ ih ∙ ap (λ u. stepped_all u ins) now
+
+pub journal-state : (settings : Settings) (ins : List Entry) → all_may_follow (begun settings) ins ≡ true → state_at settings (journal_of settings ins) ≡ stepped_all (begun settings) ins
+journal-state settings ins h = grown-state settings (first_starts settings) ins h
+
+grown-more : (s : State) (ins : List Entry) (e : Entry) → grown s (ins ++ e ∷ []) ≡ grown s ins ++ (e ∷ outputs (stepped_all s ins) e)
+grown-more s [] e = append-nil (e ∷ outputs s e)
+grown-more s (i ∷ ins) e = ap (λ xs. (i ∷ outputs s i) ++ xs) (grown-more (stepped s i) ins e) ∙ sym (append_assoc (i ∷ outputs s i) (grown (stepped s i) ins) (e ∷ outputs (stepped_all s (i ∷ ins)) e))
+
+pub journal-more : (settings : Settings) (ins : List Entry) (e : Entry) → journal_of settings (ins ++ e ∷ []) ≡ journal_of settings ins ++ (e ∷ outputs (stepped_all (begun settings) ins) e)
+journal-more settings ins e = ap (λ xs. first_starts settings ++ xs) (grown-more (begun settings) ins e) ∙ sym (append_assoc (first_starts settings) (grown (begun settings) ins) (e ∷ outputs (stepped_all (begun settings) ins) e))
+
+follow-more : (s : State) (ins : List Entry) (e : Entry) → all_may_follow s ins ≡ true → may_follow (stepped_all s ins) e ≡ true → all_may_follow s (ins ++ e ∷ []) ≡ true
+follow-more s [] e h k = and k refl
+follow-more s (i ∷ ins) e h k =
+    let p = split-and (may_follow s i) (all_may_follow (stepped s i) ins) h in
+    and p.0 (follow-more (stepped s i) ins e p.1 k)
+
+pub proper-more : (settings : Settings) (ins : List Entry) (e : Entry) → IsProper settings ins → may_follow (stepped_all (begun settings) ins) e ≡ true → IsProper settings (ins ++ e ∷ [])
+proper-more settings ins e p h = record { mode = p.mode; some_worker = p.some_worker; few_workers = p.few_workers; few_restarts = p.few_restarts; follow = follow-more (begun settings) ins e p.follow h }
+
+-- what holds of the states of a run in mode load
+pub holds-behind : (settings : Settings) (ins : List Entry) → settings.mode ≡ Load → all_may_follow (begun settings) ins ≡ true → Holds (InMode Load) (stepped_all (begun settings) ins)
+holds-behind settings ins m h = all-hold (InMode Load) load_rule (begun settings) ins h (begun-holds (InMode Load) load_rule settings m)
+
+-- outputs keep nothing of a test
+
+spends-nothing : (s : State) (e : Entry) → is_orderly s e ≡ true → (es : List Entry) → spent_by (e ∷ es) ≡ spent_by es
+spends-nothing s (Start w slot) h es = refl
+spends-nothing s (Run w is) h es = refl
+spends-nothing s (RunAll w) h es = refl
+spends-nothing s (Steal w is) h es = refl
+spends-nothing s (Shutdown w) h es = refl
+spends-nothing s (Kill w) h es = refl
+spends-nothing s (Over how) h es = refl
+spends-nothing s (Ready w) h es = absurd (differ h)
+spends-nothing s (Collected w g) h es = absurd (differ h)
+spends-nothing s (Done w i u m o) h es = absurd (differ h)
+spends-nothing s (Back w i) h es = absurd (differ h)
+spends-nothing s (Finished w) h es = absurd (differ h)
+spends-nothing s (Refused w t) h es = absurd (differ h)
+spends-nothing s (Down w c o) h es = absurd (differ h)
+spends-nothing s (NotStarted w) h es = absurd (differ h)
+
+quiet-spends : (s : State) (es : List Entry) → all_orderly s es ≡ true → spent_by es ≡ 0
+quiet-spends s [] h = refl
+quiet-spends s (e ∷ es) h =
+    let p = split-and (is_orderly s e) (all_orderly (moved s e) es) h in
+    spends-nothing s e p.0 es ∙ quiet-spends (moved s e) es p.1
+
+spent-first : (e : Entry) (es : List Entry) → spent_by (e ∷ es) ≡ spent_by (e ∷ []) + spent_by es
+spent-first (Done w i u m o) es = omega arith
+spent-first (Down w c o) es = omega arith
+spent-first (Ready w) es = omega arith
+spent-first (Collected w g) es = omega arith
+spent-first (Back w i) es = omega arith
+spent-first (Finished w) es = omega arith
+spent-first (Refused w t) es = omega arith
+spent-first (NotStarted w) es = omega arith
+spent-first (Start w slot) es = omega arith
+spent-first (Run w is) es = omega arith
+spent-first (RunAll w) es = omega arith
+spent-first (Steal w is) es = omega arith
+spent-first (Shutdown w) es = omega arith
+spent-first (Kill w) es = omega arith
+spent-first (Over how) es = omega arith
+
+pub spent-append : (es fs : List Entry) → spent_by (es ++ fs) ≡ spent_by es + spent_by fs
+spent-append [] fs = omega arith
+spent-append (e ∷ es) fs = (let a = spent-first e (es ++ fs) in let b = spent-first e es in let k = spent-append es fs in omega arith)
+
+pub spent-more : (s : State) (es : List Entry) (e : Entry) → may_follow s e ≡ true → Holds (InMode Load) s → spent_by (es ++ e ∷ outputs s e) ≡ spent_by es + spent_by (e ∷ [])
+spent-more s es e h k =
+    let f = outputs-fit (InMode Load) load_rule s e h k.tidy k.also in
+    let none = quiet-spends (moved s e) (outputs s e) f.orderly in
+    let a = spent-append es (e ∷ outputs s e) in
+    let b = spent-first e (outputs s e) in
+    omega arith
+
+-- what news mean may follow
+
+same-entry : (x y : Entry) → Some x ≡ Some y → x ≡ y
+same-entry x y h = cc
+
+or-by : (s : State) (e x d : Entry) (b : Bool) → may_follow s x ≡ b → may_follow s d ≡ true → (if b then Some x else Some d) ≡ Some e → may_follow s e ≡ true
+or-by s e x d true m k h = ap (may_follow s) (sym (same-entry x e h)) ∙ m
+or-by s e x d false m k h = ap (may_follow s) (sym (same-entry d e h)) ∙ k
+
+none-some : (e : Entry) (P : Type 0) → None ≡ Some e → P
+none-some e P h = absurd cc
+
+silent-by : (s : State) (e d : Entry) (b : Bool) → may_follow s d ≡ true → (if b then None else Some d) ≡ Some e → may_follow s e ≡ true
+silent-by s e d true k h = none-some e (may_follow s e ≡ true) h
+silent-by s e d false k h = ap (may_follow s) (sym (same-entry d e h)) ∙ k
+
+done-by : (s : State) (w i : ℕ) (o : Outcome) (m : ℕ) (out : List ℕ) (e d : Entry) (a b c : Bool) → names_head w i s ≡ a → is_active w s.books ≡ true → may_follow s d ≡ true
+    → (if a && b && c then Some (Done w i o m out) else Some d) ≡ Some e → may_follow s e ≡ true
+done-by s w i o m out e d true true true n act k h = ap (may_follow s) (sym (same-entry (Done w i o m out) e h)) ∙ and act n
+done-by s w i o m out e d true true false n act k h = ap (may_follow s) (sym (same-entry d e h)) ∙ k
+done-by s w i o m out e d true false c n act k h = ap (may_follow s) (sym (same-entry d e h)) ∙ k
+done-by s w i o m out e d false b c n act k h = ap (may_follow s) (sym (same-entry d e h)) ∙ k
+
+pub meaning-follows : (w : ℕ) (log : Option Log) (spent : ℕ) (s : State) (n : What) (e : Entry) → is_active w s.books ≡ true → meaning_of w log spent s n ≡ Some e → may_follow s e ≡ true
+meaning-follows w log spent s what.Ready e a h = or-by s e (Ready w) (Down w Breach (kept w log spent s)) (may_follow s (Ready w)) refl a h
+meaning-follows w log spent s (what.Collected own) e a h = or-by s e (given_ids w own s) (Down w Breach (kept w log spent s)) (may_follow s (given_ids w own s)) refl a h
+meaning-follows w log spent s (what.LogStart i n) e a h = silent-by s e (Down w Breach (kept w log spent s)) (may_start_log w i n log s) a h
+meaning-follows w log spent s (what.Piece n bs) e a h = silent-by s e (Down w Breach (kept w log spent s)) (is_open_log n log) a h
+meaning-follows w log spent s (what.LogClosed n) e a h = silent-by s e (Down w Breach (kept w log spent s)) (is_open_log n log) a h
+meaning-follows w log spent s (what.Done i o m) e a h = done-by s w i o m (output_of w o log spent s) e (Down w Breach (kept w log spent s)) (names_head w i s) (is_of i log) (not (any_open log)) refl a a h
+meaning-follows w log spent s (what.Back is) e a h = or-by s e (Back w is) (Down w Breach (kept w log spent s)) (may_follow s (Back w is)) refl a h
+meaning-follows w log spent s what.Finished e a h = or-by s e (Finished w) (Down w Breach (kept w log spent s)) (may_follow s (Finished w)) refl a h
+meaning-follows w log spent s (what.Closed None) e a h = ap (may_follow s) (sym (same-entry (Down w Breach (kept w log spent s)) e h)) ∙ a
+meaning-follows w log spent s (what.Closed (Some text)) e a h = or-by s e (Refused w text) (Down w Breach (kept w log spent s)) (may_follow s (Refused w text)) refl a h
+meaning-follows w log spent s what.Stray e a h = ap (may_follow s) (sym (same-entry (Down w Breach (kept w log spent s)) e h)) ∙ a
+meaning-follows w log spent s (what.Gone c) e a h = ap (may_follow s) (sym (same-entry (Down w c (kept w log spent s)) e h)) ∙ a
+meaning-follows w log spent s what.NotStarted e a h = or-by s e (NotStarted w) (Down w Breach (kept w log spent s)) (may_follow s (NotStarted w)) refl a h
+
+-- the first bytes of a log are enough
+
+take-shorter : (m n : ℕ) (bs : List ℕ) → m ≤ n → take m (take n bs) ≡ take m bs
+take-shorter zero n bs h = refl
+take-shorter (suc m) zero bs h = absurd (omega arith)
+take-shorter (suc m) (suc n) [] h = refl
+take-shorter (suc m) (suc n) (b ∷ bs) h = ap (λ xs. b ∷ xs) (take-shorter m n bs (omega arith))
+
+take-within : (m n : ℕ) (b : Bool) (bs : List ℕ) → m ≤ n → take m (if b then take n bs else []) ≡ take m (if b then bs else [])
+take-within m n true bs h = take-shorter m n bs h
+take-within m n false bs h = refl
+
+pub kept-short : (w spent : ℕ) (log : Option Log) (s : State) → kept w (shortened log) spent s ≡ kept w log spent s
+kept-short w spent None s = refl
+kept-short w spent (Some l) s = take-within (min most_of_one (most_of_all - spent)) most_of_one (names_head w l.index s) l.bytes (omega arith)
+
+pub meaning-short : (w : ℕ) (log : Option Log) (spent : ℕ) (s : State) (n : What) → meaning_of w (shortened log) spent s n ≡ meaning_of w log spent s n
+meaning-short w log spent s what.Ready = ap (λ k. if may_follow s (Ready w) then Some (Ready w) else Some (Down w Breach k)) (kept-short w spent log s)
+meaning-short w log spent s (what.Collected own) = ap (λ k. if may_follow s (given_ids w own s) then Some (given_ids w own s) else Some (Down w Breach k)) (kept-short w spent log s)
+meaning-short w None spent s (what.LogStart i n) = refl
+meaning-short w (Some l) spent s (what.LogStart i n) = ap (λ k. if may_start_log w i n (Some l) s then None else Some (Down w Breach k)) (kept-short w spent (Some l) s)
+meaning-short w None spent s (what.Piece n bs) = refl
+meaning-short w (Some l) spent s (what.Piece n bs) = ap (λ k. if is_open_log n (Some l) then None else Some (Down w Breach k)) (kept-short w spent (Some l) s)
+meaning-short w None spent s (what.LogClosed n) = refl
+meaning-short w (Some l) spent s (what.LogClosed n) = ap (λ k. if is_open_log n (Some l) then None else Some (Down w Breach k)) (kept-short w spent (Some l) s)
+meaning-short w None spent s (what.Done i o m) = refl
+meaning-short w (Some l) spent s (what.Done i (Failed c) m) = ap (λ k. if names_head w i s && is_of i (Some l) && not (any_open (Some l)) then Some (Done w i (Failed c) m k) else Some (Down w Breach k)) (kept-short w spent (Some l) s)
+meaning-short w (Some l) spent s (what.Done i Passed m) = ap (λ k. if names_head w i s && is_of i (Some l) && not (any_open (Some l)) then Some (Done w i Passed m []) else Some (Down w Breach k)) (kept-short w spent (Some l) s)
+meaning-short w (Some l) spent s (what.Done i Skipped m) = ap (λ k. if names_head w i s && is_of i (Some l) && not (any_open (Some l)) then Some (Done w i Skipped m []) else Some (Down w Breach k)) (kept-short w spent (Some l) s)
+meaning-short w log spent s (what.Back is) = ap (λ k. if may_follow s (Back w is) then Some (Back w is) else Some (Down w Breach k)) (kept-short w spent log s)
+meaning-short w log spent s what.Finished = ap (λ k. if may_follow s (Finished w) then Some (Finished w) else Some (Down w Breach k)) (kept-short w spent log s)
+meaning-short w log spent s (what.Closed None) = ap (λ k. Some (Down w Breach k)) (kept-short w spent log s)
+meaning-short w log spent s (what.Closed (Some text)) = ap (λ k. if may_follow s (Refused w text) then Some (Refused w text) else Some (Down w Breach k)) (kept-short w spent log s)
+meaning-short w log spent s what.Stray = ap (λ k. Some (Down w Breach k)) (kept-short w spent log s)
+meaning-short w log spent s (what.Gone c) = ap (λ k. Some (Down w c k)) (kept-short w spent log s)
+meaning-short w log spent s what.NotStarted = ap (λ k. if may_follow s (NotStarted w) then Some (NotStarted w) else Some (Down w Breach k)) (kept-short w spent log s)
+
+-- logs, by what a worker said
+
+take-joined : (n : ℕ) (xs ys : List ℕ) → take n (take n xs ++ ys) ≡ take n (xs ++ ys)
+take-joined zero xs ys = refl
+take-joined (suc n) [] ys = refl
+take-joined (suc n) (x ∷ xs) ys = ap (λ zs. x ∷ zs) (take-joined n xs ys)
+
+pub short-twice : (log : Option Log) → shortened (shortened log) ≡ shortened log
+short-twice None = refl
+short-twice (Some l) = ap (λ (xs : List ℕ). Some (record l { bytes = xs })) (take-shorter most_of_one most_of_one l.bytes (omega arith))
+
+pub news-short : (log : Option Log) (n : What) → shortened (with_news (shortened log) n) ≡ shortened (with_news log n)
+news-short log (what.LogStart i n) = refl
+news-short None (what.Piece n bs) = refl
+news-short (Some l) (what.Piece n bs) = ap (λ (xs : List ℕ). Some (record l { bytes = xs })) (take-joined most_of_one l.bytes bs)
+news-short None (what.LogClosed n) = refl
+news-short (Some l) (what.LogClosed n) = ap (λ (xs : List ℕ). Some (record l { is_open = false; bytes = xs })) (take-shorter most_of_one most_of_one l.bytes (omega arith))
+news-short log what.Ready = short-twice log
+news-short log (what.Collected own) = short-twice log
+news-short log (what.Done i o m) = short-twice log
+news-short log (what.Back is) = short-twice log
+news-short log what.Finished = short-twice log
+news-short log (what.Closed t) = short-twice log
+news-short log what.Stray = short-twice log
+news-short log (what.Gone c) = short-twice log
+news-short log what.NotStarted = short-twice log
+
+said-by : (v : ℕ) (m : News) (taken : List News) (n : News) (a b : Bool) → said_by v (taken ++ n ∷ []) ≡ (if b then said_by v taken ++ n.what ∷ [] else said_by v taken)
+    → map (λ (x : News). x.what) (if a then m ∷ filter (λ (x : News). x.worker == v) (taken ++ n ∷ []) else filter (λ (x : News). x.worker == v) (taken ++ n ∷ []))
+    ≡ (if b then map (λ (x : News). x.what) (if a then m ∷ filter (λ (x : News). x.worker == v) taken else filter (λ (x : News). x.worker == v) taken) ++ n.what ∷ [] else map (λ (x : News). x.what) (if a then m ∷ filter (λ (x : News). x.worker == v) taken else filter (λ (x : News). x.worker == v) taken))
+said-by v m taken n true true k = ap (λ xs. m.what ∷ xs) k
+said-by v m taken n true false k = ap (λ xs. m.what ∷ xs) k
+said-by v m taken n false true k = k
+said-by v m taken n false false k = k
+
+said-more : (v : ℕ) (taken : List News) (n : News) → said_by v (taken ++ n ∷ []) ≡ (if n.worker == v then said_by v taken ++ n.what ∷ [] else said_by v taken)
+said-more v [] n = elim (n.worker == v) as (λ b. map (λ (x : News). x.what) (if b then n ∷ [] else []) ≡ (if b then [] ++ n.what ∷ [] else [])) [ true ↦ refl | false ↦ refl ]
+said-more v (m ∷ taken) n = (let k = said-more v taken n in said-by v m taken n (m.worker == v) (n.worker == v) k)
+
+said-log : (v : ℕ) (taken : List News) (n : News) (b : Bool) → said_by v (taken ++ n ∷ []) ≡ (if b then said_by v taken ++ n.what ∷ [] else said_by v taken)
+    → log_of (said_by v (taken ++ n ∷ [])) ≡ (if b then with_news (log_of (said_by v taken)) n.what else log_of (said_by v taken))
+said-log v taken n true e = ap log_of e ∙ fold-append with_news None (said_by v taken) (n.what ∷ [])
+said-log v taken n false e = ap log_of e
+
+choose : (b : Bool) (log : Option Log) (n : What) → (if b then shortened (with_news (shortened log) n) else shortened log) ≡ shortened (if b then with_news log n else log)
+choose true log n = news-short log n
+choose false log n = refl
+
+pub logs-more : (taken : List News) (n : News) (logs now : List WorkerLog) → ((v : ℕ) → log_in v logs ≡ shortened (log_of (said_by v taken)))
+    → ((v : ℕ) → log_in v now ≡ (if v == n.worker then shortened (with_news (log_in v logs) n.what) else log_in v logs)) → (v : ℕ) → log_in v now ≡ shortened (log_of (said_by v (taken ++ n ∷ [])))
+logs-more taken n logs now h k v =
+    let said = log_of (said_by v taken) in
+    let same : (n.worker == v) ≡ (v == n.worker) = grind (arith, nat_tests) in
+    let e = said-log v taken n (n.worker == v) (said-more v taken n) in
+    k v ∙ ap (λ o. if v == n.worker then shortened (with_news o n.what) else o) (h v) ∙ choose (v == n.worker) said n.what ∙ sym (ap (λ o. shortened o) (e ∙ ap (λ b. if b then with_news said n.what else said) same))
+
+-- the runs
+
+pub run-more : (settings : Settings) (taken : List News) (n : News) → run_of settings (taken ++ n ∷ []) ≡ after_news (run_of settings taken) n
+run-more settings taken n = fold-append after_news (begun_run settings) taken (n ∷ [])
+
+stepped-more : (s : State) (ins : List Entry) (e : Entry) → stepped_all s (ins ++ e ∷ []) ≡ stepped (stepped_all s ins) e
+stepped-more s [] e = refl
+stepped-more s (i ∷ ins) e = stepped-more (stepped s i) ins e
+
+sound-input : (settings : Settings) (r : SoFar) (n : News) (o : Option Entry) → ((e : Entry) → o ≡ Some e → may_follow r.state e ≡ true) → IsProperRun settings r
+    → IsProperRun settings (record { entries = entries_with o r.entries r.state; state = state_with o r.state; inputs = inputs_with o r.inputs; taken = r.taken ++ n ∷ [] })
+sound-input settings r n None h k = record { proper = k.proper; journal = k.journal; state = k.state }
+sound-input settings r n (Some e) h k = record {
+  proper = proper-more settings r.inputs e k.proper (ap (λ u. may_follow u e) (sym k.state) ∙ h e refl);
+  journal = ap (λ es. es ++ (e ∷ outputs r.state e)) k.journal ∙ ap (λ u. journal_of settings r.inputs ++ (e ∷ outputs u e)) k.state ∙ sym (journal-more settings r.inputs e);
+  state = ap (λ u. stepped u e) k.state ∙ sym (stepped-more (begun settings) r.inputs e);
+}
+
+meant : (w : ℕ) (b : Bool) (o : Option Entry) (s : State) (e : Entry) → (b ≡ true → o ≡ Some e → may_follow s e ≡ true) → (if b then o else None) ≡ Some e → may_follow s e ≡ true
+meant w true o s e h k = h refl k
+meant w false o s e h k = none-some e (may_follow s e ≡ true) k
+
+sound-next : (settings : Settings) (r : SoFar) (n : News) → IsProperRun settings r → IsProperRun settings (after_news r n)
+sound-next settings r n k =
+    let w = n.worker in
+    sound-input settings r n (input_of r n) (λ e h. meant w (is_active w r.state.books) (meaning_of w (log_of (said_by w r.taken)) (spent_by r.entries) r.state n.what) r.state e
+    (λ a m. meaning-follows w (log_of (said_by w r.taken)) (spent_by r.entries) r.state n.what e a m) h) k
+
+sound-fold : (settings : Settings) (r : SoFar) (taken : List News) → IsProperRun settings r → IsProperRun settings (fold after_news r taken)
+sound-fold settings r [] k = k
+sound-fold settings r (n ∷ taken) k = sound-fold settings (after_news r n) taken (sound-next settings r n k)
+
+pub sound-run : (settings : Settings) (taken : List News) → IsProper settings [] → IsProperRun settings (run_of settings taken)
+sound-run settings taken p = sound-fold settings (begun_run settings) taken (record { proper = p; journal = sym (append-nil (first_starts settings)); state = refl })
+
+taken-fold : (r : SoFar) (taken : List News) → (fold after_news r taken).taken ≡ r.taken ++ taken
+taken-fold r [] = sym (append-nil r.taken)
+taken-fold r (n ∷ taken) = taken-fold (after_news r n) taken ∙ append_assoc r.taken (n ∷ []) taken
+
+pub run-taken : (settings : Settings) (taken : List News) → (run_of settings taken).taken ≡ taken
+run-taken settings taken = taken-fold (begun_run settings) taken

@@ -1,0 +1,36 @@
+-- How a collection compares with an earlier one.
+use Rattle.std.specs.Prelude.{ℕ, zero, suc, ◌==◌, List, [], ◌∷◌, Option, Some, None, if◌then◌else◌}
+use Rattle.xd_ledger.specs.declared.entry.Ids.{Ids}
+use Rattle.xd_ledger.specs.declared.entry.Ids.TheVariants as ids
+use Rattle.xd_ledger.specs.declared.entry.RunStop.{RunStop}
+use Rattle.xd_ledger.specs.declared.entry.RunStop.TheVariants.{Unequal}
+use Rattle.xd_ledger.specs.declared.member.Listed.{Listed}
+use Rattle.xd_ledger.specs.Collections.{differ_at}
+use Rattle.xd_session.specs.declared.lists.Comparison.{Comparison}
+use Rattle.xd_session.specs.declared.lists.Comparison.TheVariants.{First, Same, Differs}
+
+abbrev pub compared : ℕ → Option ℕ → Comparison
+compared other None = Same
+compared other (Some place) = Differs other place
+
+-- with the collection that it is compared with, where there is one
+abbrev pub comparison : List (List ℕ) → Option Listed → Comparison
+comparison own None = First
+comparison own (Some l) = compared l.worker (differ_at l.ids own)
+
+-- an equal collection is not listed again
+abbrev pub given : Comparison → List (List ℕ) → Ids
+given Same own = ids.Same
+given First own = ids.List own
+given (Differs other place) own = ids.List own
+
+-- a collection that differs stops the run
+abbrev pub stop_of : ℕ → Comparison → Option RunStop
+stop_of worker First = None
+stop_of worker Same = None
+stop_of worker (Differs other place) = Some (Unequal worker other place)
+
+-- the place of the collection of the slot, or the count of all
+abbrev pub place_in_lists : ℕ → List Listed → ℕ
+place_in_lists slot [] = zero
+place_in_lists slot (l ∷ ls) = if l.slot == slot then zero else suc (place_in_lists slot ls)

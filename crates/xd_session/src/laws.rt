@@ -1,0 +1,12 @@
+// The law of the sessions.
+ghost use Rattle.std.specs.Prelude.{List};
+ghost use Rattle.xd_ledger.specs.declared.news.News.{News};
+ghost use Rattle.xd_ledger.specs.declared.settings.Settings.{Settings};
+ghost use Rattle.xd_session.specs.History.{IsProperRun, run_of};
+ghost use Rattle.xd_session.specs.Stands.{CanBegin};
+
+/// Whatever news come, what they mean are proper inputs of a run, the journal is the one that these inputs make, and its
+/// state is the one behind them. So whatever holds of proper runs holds of each session.
+pub fn session_law()
+    ensures { (settings : Settings) (taken : List News) → CanBegin settings → IsProperRun settings (run_of settings taken) }
+{}

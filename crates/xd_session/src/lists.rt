@@ -1,0 +1,210 @@
+// Collections: whether one is in order, and how it compares with an earlier one.
+ghost use Rattle.std.specs.Prelude.{◌≡◌, ◌≤◌, ◌==◌, ◌&&◌, ◌∷◌, ◌++◌, [], length, nat_le, IfOk, OnOk, true, false};
+ghost use Rattle.std.specs.List.{list_all};
+ghost use Rattle.std.specs.Str.{chars};
+ghost use Rattle.xd_ledger.specs.Collections.{differ_at, listed, key, with_list};
+ghost use Rattle.xd_ledger.specs.Plan.{is_each};
+ghost use Rattle.xd_ledger.specs.Proper.{is_plain, is_id, no_text_twice, most_tests};
+ghost use Rattle.xd_ledger.specs.Sharing.{ids_at};
+ghost use Rattle.xd_session.specs.Compared.{compared, comparison, given, place_in_lists};
+ghost use Rattle.xd_session.specs.Crew.{books_of};
+
+use crate::books::RunBooks;
+use std::alloc::Global;
+use std::collections::BTreeSet;
+use xd_edge::{ModeKind, OutOfMemory, Text, Texts};
+use xd_ledger::{Ids, Listed};
+
+// How a collection compares with the one that it is compared with: there is none, they are equal, or they differ at a
+// place.
+#[derive(Clone, Copy)]
+pub enum Comparison {
+    First,
+    Same,
+    Differs { other: u32, place: u32 },
+}
+
+// A collection as it goes into the journal, and how it compares.
+#[derive(Drop)]
+pub struct TakenList {
+    pub ids: Ids,
+    pub comparison: Comparison,
+}
+
+fn is_printable(id: &str) -> bool
+    ensures { result ≡ list_all is_plain (chars id.now) }
+{
+    id.chars().all(|c| ' ' <= c && c != '\u{7f}')
+}
+
+fn is_empty(id: &str) -> bool
+    ensures { result ≡ (length (chars id.now) == 0) }
+{
+    id.is_empty()
+}
+
+fn is_id(text: &Text) -> bool
+    ensures { result ≡ is_id text.now }
+{
+    let id = text.as_str();
+    !is_empty(id) && is_printable(id)
+}
+
+fn are_all_ids(texts: &[Text]) -> bool
+    ensures { result ≡ list_all is_id texts.now }
+{
+    texts.iter().all(|text| is_id(text))
+}
+
+// No text stands twice. The cost of a text grows with the logarithm of their number.
+fn are_distinct(alloc: Global, texts: &[Text]) -> Result<bool, OutOfMemory>
+    ensures { IfOk result (λ b. b ≡ no_text_twice texts.now) }
+{
+    let mut seen = BTreeSet::new(alloc);
+    for text in texts {
+        if !seen.insert(text.as_str())? {
+            return Ok(false);
+        }
+    }
+    Ok(true)
+}
+
+// The collection is within its bounds.
+pub(crate) fn are_in_order(alloc: Global, ids: &Texts) -> Result<bool, OutOfMemory>
+    ensures { IfOk result (λ b. b ≡ (nat_le (length ids.now) most_tests && list_all is_id ids.now && no_text_twice ids.now)) }
+{
+    if ids.items.len() > 50_000 || !are_all_ids(&ids.items) {
+        return Ok(false);
+    }
+    let distinct = are_distinct(alloc, &ids.items)?;
+    Ok(distinct)
+}
+
+// The first place where two collections differ.
+fn differ_at(one: &[Text], other: &[Text]) -> Option<u32>
+    requires { length one.now ≤ most_tests }
+    ensures { result ≡ differ_at one.now other.now }
+{
+    for i in 0..one.len() {
+        if i >= other.len() {
+            return Some(i as u32);
+        }
+        if !one[i].is_same(&other[i]) {
+            return Some(i as u32);
+        }
+    }
+    if other.len() > one.len() {
+        return Some(one.len() as u32);
+    }
+    None
+}
+
+fn copy_of(alloc: Global, texts: &[Text]) -> Result<Texts, OutOfMemory>
+    ensures { IfOk result (λ t. t ≡ texts.now) }
+{
+    let mut items = Vec::new(alloc);
+    for i in 0..texts.len() {
+        let text = texts[i].copy()?;
+        items.push(text)?;
+    }
+    Ok(Texts { items })
+}
+
+// The place of the collection that is kept for the slot, or the count of all.
+pub(crate) fn place_of(lists: &[Listed], slot: u32) -> usize
+    ensures { result ≡ place_in_lists slot lists.now }
+{
+    for i in 0..lists.len() {
+        if lists[i].slot == slot {
+            return i;
+        }
+    }
+    lists.len()
+}
+
+fn judged(other: u32, place: Option<u32>) -> Comparison
+    ensures { result ≡ compared other place }
+{
+    match place {
+        Some(place) => Comparison::Differs { other, place },
+        None => Comparison::Same,
+    }
+}
+
+fn given(comparison: Comparison, own: Texts) -> Ids
+    ensures { result ≡ given comparison own }
+{
+    match comparison {
+        Comparison::Same => Ids::Same,
+        Comparison::First | Comparison::Differs { .. } => Ids::List(own),
+    }
+}
+
+fn is_each(mode: ModeKind) -> bool
+    ensures { result ≡ is_each mode }
+{
+    match mode {
+        ModeKind::Each => true,
+        _ => false,
+    }
+}
+
+impl RunBooks {
+    // Under which slot the worker's collection is kept.
+    fn key(&self, worker: u32) -> u32
+        ensures { result ≡ key worker (books_of self.now) }
+    {
+        if is_each(self.settings.mode) {
+            return self.slot_of(worker);
+        }
+        0
+    }
+
+    // How the worker's collection compares.
+    fn compare(&self, worker: u32, own: &[Text]) -> Comparison
+        ensures { result ≡ comparison own.now (listed worker (books_of self.now)) }
+    {
+        let slot = self.key(worker);
+        let place = place_of(&self.lists, slot);
+        if place < self.lists.len() {
+            let first = &self.lists[place];
+            return judged(first.worker, differ_at(&first.ids.items, own));
+        }
+        Comparison::First
+    }
+
+    // The worker's collection is kept for others to be compared with.
+    fn keep(&mut self, worker: u32, ids: Texts) -> Result<(), OutOfMemory>
+        requires few { length ids ≤ most_tests }
+        requires ordered { (list_all is_id ids && no_text_twice ids) ≡ true }
+        ensures { OnOk result (books_of self.new ≡ record (books_of self.old) { lists = self.old.lists.items ++ record { slot = key worker (books_of self.old); worker = worker; ids = ids } ∷ [] }) }
+    {
+        let slot = self.key(worker);
+        self.lists.push(Listed { slot, worker, ids })?;
+        Ok(())
+    }
+
+    // The worker's collection is compared, and kept where it is the first.
+    pub(crate) fn take_list(
+        &mut self,
+        alloc: Global,
+        worker: u32,
+        own: Texts,
+    ) -> Result<TakenList, OutOfMemory>
+        requires few { length own ≤ most_tests }
+        requires ordered { (list_all is_id own && no_text_twice own) ≡ true }
+        ensures comparison { IfOk result (λ t. t.comparison ≡ comparison own (listed worker (books_of self.old))) }
+        ensures ids { IfOk result (λ t. t.ids ≡ given (comparison own (listed worker (books_of self.old))) own) }
+        ensures books { OnOk result (books_of self.new ≡ with_list worker (given (comparison own (listed worker (books_of self.old))) own) (books_of self.old)) }
+    {
+        let comparison = self.compare(worker, &own.items);
+        if let Comparison::First = comparison {
+            let copy = copy_of(alloc, &own.items)?;
+            self.keep(worker, copy)?;
+        }
+        Ok(TakenList {
+            ids: given(comparison, own),
+            comparison,
+        })
+    }
+}
