@@ -1,2 +1,5 @@
-pub mod RunRows
-pub mod RunTexts
+pub mod Kept
+pub mod Loops
+pub mod Moves
+pub mod Rows
+pub mod Texts

@@ -1,8 +1,9 @@
-pub mod Block
+pub mod Blocks
+pub mod Follows
 pub mod Lines
 pub mod Names
-pub mod RunLines
-pub mod RunTail
 pub mod Status
+pub mod StopLine
 pub mod Summary
+pub mod Tests
 pub mod Text

@@ -1,37 +1,80 @@
--- The line of each step. The words of a result are those of pytest-xdist's verbose report; the rest is a choice of this project.
-use Rattle.std.specs.Prelude.{ℕ, ◌-◌, List, [], ◌∷◌, ◌++◌, length, take, drop, slice_index_or, codes}
-use Rattle.std.specs.List.{flat_map}
+-- The lines of a journal's entries, each behind the state in which its entry stands. The words of a result are those of
+-- pytest-xdist's verbose report; the rest is a choice of this project.
+use Rattle.std.specs.Prelude.{ℕ, ◌-◌, ◌==◌, Bool, not, ◌&&◌, ◌||◌, List, [], ◌∷◌, ◌++◌, take, drop, Option, Some, None, codes, if◌then◌else◌}
 use Rattle.std.specs.Fmt.{decimal}
-use Rattle.std.specs.Str.{encode_utf8_all}
+use Rattle.xd_edge.specs.declared.mode.ModeKind.{ModeKind}
+use Rattle.xd_ledger.specs.declared.settings.Settings.{Settings}
+use Rattle.xd_ledger.specs.declared.member.Member.{Member}
 use Rattle.xd_ledger.specs.declared.entry.Entry.{Entry}
-use Rattle.xd_ledger.specs.declared.entry.Entry.TheVariants.{Collected, Done}
-use Rattle.xd_ledger.specs.declared.entry.Ids.{Ids}
-use Rattle.xd_ledger.specs.declared.entry.Ids.TheVariants.{List as Listed, Same}
+use Rattle.xd_ledger.specs.declared.entry.Entry.TheVariants.{Collected, Done, Down, NotStarted, Start}
 use Rattle.xd_ledger.specs.declared.entry.Outcome.{Outcome}
-use Rattle.xd_ledger.specs.declared.entry.Outcome.TheVariants.{Passed, Skipped, Failed}
 use Rattle.xd_ledger.specs.declared.journal.Journal.{Journal}
-use Rattle.xd_ledger.specs.Results.{ids_in}
+use Rattle.xd_ledger.specs.Local.{is_local_mode}
+use Rattle.xd_ledger.specs.Sharing.{State}
+use Rattle.xd_ledger.specs.State.{after_collected, reached, next, all_moved, no_one}
+use Rattle.xd_report.specs.Names.{name, tag, plain, outcome_text, mode_text, cause_text}
+use Rattle.xd_report.specs.Tests.{mode_of, id_of, head, item_id, tests}
 
--- an id, or the empty text where no entry gives it
-abbrev pub id_at : List (List ℕ) → ℕ → List ℕ
-id_at ids k = slice_index_or ids k []
+-- so many tests, and on whom they run
+unfoldable pub tests_line : ModeKind → ℕ → ℕ → List ℕ
+tests_line mode n workers =
+    if is_local_mode mode then (decimal n ++ (codes " tests" ++ 10 ∷ []))
+    else (decimal n ++ (codes " tests on " ++ (decimal workers ++ (codes " workers, " ++ (mode_text mode ++ 10 ∷ [])))))
 
--- how many tests a collection has
-abbrev pub collected_by : List (List ℕ) → Ids → ℕ
-collected_by ids (Listed all) = length all
-collected_by ids Same = length ids
+-- behind a collection: it tells how many tests there are where they are shared now and were not before; without workers
+-- each collection does
+abbrev pub collected_line : Bool → State → List ℕ
+collected_line was_shared s =
+    if is_local_mode (mode_of s) || (s.books.shared && not was_shared)
+    then tests_line (mode_of s) (tests s) s.books.settings.workers
+    else []
 
-abbrev pub head_of : Outcome → List ℕ
-head_of Passed = codes "[main] PASSED "
-head_of Skipped = codes "[main] SKIPPED "
-head_of (Failed s) = codes "[main] FAILED "
+-- how a test of the worker went
+abbrev pub result_line : ModeKind → ℕ → Outcome → List ℕ → List ℕ
+result_line mode worker outcome id = tag mode worker ++ (outcome_text outcome ++ (plain id ++ 10 ∷ []))
 
--- the lines of a step, in UTF-8
-abbrev pub entry_text : List (List ℕ) → Entry → List ℕ
-entry_text ids (Collected w collected) = decimal (collected_by ids collected) ++ codes " tests" ++ 10 ∷ []
-entry_text ids (Done w k o ms output) = head_of o ++ encode_utf8_all (id_at ids k) ++ 10 ∷ []
-entry_text ids _ = []
+abbrev pub down_line : ModeKind → ℕ → List ℕ → List ℕ
+down_line mode worker why = tag mode worker ++ (codes "node down: " ++ (why ++ 10 ∷ []))
 
--- the lines of the steps from one place up to another
+-- the test at whose head a worker went down
+abbrev pub crashed_line : ModeKind → ℕ → List ℕ → List ℕ
+crashed_line mode worker id = tag mode worker ++ (codes "CRASHED " ++ (plain id ++ 10 ∷ []))
+
+abbrev pub crashed : ℕ → State → List ℕ
+crashed worker s = elim (head worker s) [ None ↦ [] | Some item ↦ crashed_line (mode_of s) worker (item_id worker item s) ]
+
+-- the last worker of the slot so far
+abbrev pub last_of_slot : ℕ → List Member → Option ℕ → Option ℕ
+last_of_slot slot [] found = found
+last_of_slot slot (m ∷ ms) found = last_of_slot slot ms (if m.slot == slot then Some m.worker else found)
+
+-- a worker that replaces another
+abbrev pub replacing : ModeKind → Option ℕ → List ℕ
+replacing mode None = []
+replacing mode (Some old) = codes "replacing crashed worker " ++ (name mode old ++ 10 ∷ [])
+
+-- the lines of an entry that the state ahead of it tells
+abbrev pub told : State → Entry → List ℕ
+told s (Done worker index outcome ms output) = result_line (mode_of s) worker outcome (id_of worker index s)
+told s (Down worker cause output) = down_line (mode_of s) worker (cause_text cause) ++ crashed worker s
+told s (NotStarted worker) = down_line (mode_of s) worker (codes "not started")
+told s (Start worker slot) = replacing (mode_of s) (last_of_slot slot s.books.crew None)
+told s _ = []
+
+-- the lines of one entry behind the state s
+abbrev pub lines_of : State → Entry → List ℕ
+lines_of s (Collected worker given) = collected_line s.books.shared (after_collected worker given s)
+lines_of s e = told s e
+
+-- the lines of these entries behind a state
+abbrev pub lines_from : State → List Entry → List ℕ
+lines_from s [] = []
+lines_from s (e ∷ es) = lines_of (reached s e) e ++ lines_from (next s e) es
+
+-- the lines of these entries, the first ones of a run
+abbrev pub run_lines : Settings → List Entry → List ℕ
+run_lines settings entries = lines_from (no_one settings) entries
+
+-- the lines of the entries from one place up to another
 abbrev pub lines_between : Journal → ℕ → ℕ → List ℕ
-lines_between j from to = flat_map (entry_text (ids_in j.entries.items)) (take (to - from) (drop from j.entries.items))
+lines_between j from to = lines_from (all_moved (no_one j.settings) (take from j.entries.items)) (take (to - from) (drop from j.entries.items))

@@ -1,5 +1,5 @@
--- The words of a report. Those of a result, of a worker and of a mode are pytest-xdist's; the causes are a choice of
--- this project, but for the first one.
+-- The words of a report. Those of a result, of a worker and of a mode are pytest-xdist's; the causes, and that a run
+-- without workers has the name `main`, are a choice of this project, but for the first cause.
 use Rattle.std.specs.Prelude.{ℕ, ◌==◌, ◌||◌, nat_lt, List, [], ◌∷◌, ◌++◌, map, codes, if◌then◌else◌}
 use Rattle.std.specs.Fmt.{decimal}
 use Rattle.std.specs.Str.{encode_utf8_all}
@@ -9,19 +9,26 @@ use Rattle.xd_ledger.specs.declared.entry.Cause.{Cause}
 use Rattle.xd_ledger.specs.declared.entry.Cause.TheVariants.{Ended, Cut, Garbled, ReadFault, SendFault, Breach}
 use Rattle.xd_ledger.specs.declared.entry.Outcome.{Outcome}
 use Rattle.xd_ledger.specs.declared.entry.Outcome.TheVariants.{Passed, Skipped, Failed}
+use Rattle.xd_ledger.specs.Local.{is_local_mode}
 
 abbrev pub line : List ℕ → List ℕ
 line text = text ++ 10 ∷ []
 
-abbrev pub name : ℕ → List ℕ
-name worker = codes "gw" ++ decimal worker
+-- the name of a worker; a run without workers has only one, which is `main`
+unfoldable pub name : ModeKind → ℕ → List ℕ
+name mode worker = if is_local_mode mode then codes "main" else (codes "gw" ++ decimal worker)
 
-abbrev pub tagged : ℕ → List ℕ → List ℕ
-tagged worker text = codes "[" ++ name worker ++ codes "] " ++ text
+-- the name in brackets, in front of what is told of a worker
+unfoldable pub tag : ModeKind → ℕ → List ℕ
+tag mode worker = codes "[" ++ (name mode worker ++ codes "] ")
 
--- a text that came from a worker, in UTF-8: a control character is printed as '?'
-abbrev pub plain : List ℕ → List ℕ
-plain text = encode_utf8_all (map (λ c. if nat_lt c 32 || (c == 127) then 63 else c) text)
+-- a control character is printed as '?'
+abbrev pub printable : ℕ → ℕ
+printable c = if nat_lt c 32 || (c == 127) then 63 else c
+
+-- a text that came from a worker, in UTF-8
+unfoldable pub plain : List ℕ → List ℕ
+plain text = encode_utf8_all (map printable text)
 
 abbrev pub outcome_text : Outcome → List ℕ
 outcome_text Passed = codes "PASSED "

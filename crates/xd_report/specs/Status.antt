@@ -1,23 +1,38 @@
--- The exit status of a run without workers. The numbers 0, 1 and 5 are pytest's; 3 is a choice of this project.
-use Rattle.std.specs.Prelude.{ℕ, ◌==◌, length, if◌then◌else◌}
+-- The exit status of a run. The numbers 0, 1 and 5 are pytest's, and 2 is that of its interrupted session; 3 is a choice
+-- of this project.
+use Rattle.std.specs.Prelude.{ℕ, ◌==◌, List, if◌then◌else◌}
+use Rattle.xd_edge.specs.declared.mode.ModeKind.{ModeKind}
 use Rattle.xd_ledger.specs.declared.entry.RunStop.{RunStop}
 use Rattle.xd_ledger.specs.declared.entry.RunStop.TheVariants.{Completed, MaxFail, Restarts, Unequal, CollectError, OutFault}
+use Rattle.xd_ledger.specs.declared.entry.Entry.{Entry}
+use Rattle.xd_ledger.specs.declared.settings.Settings.{Settings}
 use Rattle.xd_ledger.specs.declared.journal.Journal.{Journal}
-use Rattle.xd_ledger.specs.Results.{ids_in, failures_in}
-use Rattle.xd_ledger.specs.Stop.{stop_of}
+use Rattle.xd_ledger.specs.Histories.{end_of}
+use Rattle.xd_ledger.specs.Local.{is_local_mode}
+use Rattle.xd_ledger.specs.State.{state_at}
+use Rattle.xd_ledger.specs.Stop.{over_in}
+use Rattle.xd_report.specs.Summary.{counts}
+use Rattle.xd_report.specs.Tests.{tests}
 
 -- of a run that completed, with so many tests and failures
 abbrev pub completed_status : ℕ → ℕ → ℕ
 completed_status collected failures = if collected == 0 then 5 else (if failures == 0 then 0 else 1)
 
 -- by how the run ended
-abbrev pub stop_status : RunStop → ℕ → ℕ → ℕ
-stop_status Completed collected failures = completed_status collected failures
-stop_status (MaxFail count) _ _ = 1
-stop_status (Restarts worker limit) _ _ = 1
-stop_status (Unequal worker other place) _ _ = 1
-stop_status (CollectError worker) _ _ = 2
-stop_status OutFault _ _ = 3
+abbrev pub stop_status : ModeKind → RunStop → ℕ → ℕ → ℕ
+stop_status mode Completed collected failures = completed_status collected failures
+stop_status mode (MaxFail count) _ _ = if is_local_mode mode then 1 else 2
+stop_status mode (Restarts worker limit) _ _ = 1
+stop_status mode (Unequal worker other place) _ _ = 1
+stop_status mode (CollectError worker) _ _ = 2
+stop_status mode OutFault _ _ = 3
+
+-- how a run ended: as its Over says, and without one as its entries have decided so far
+abbrev pub ending : Settings → List Entry → RunStop
+ending settings es = over_in es (end_of (state_at settings es).books)
+
+abbrev pub run_status : Settings → List Entry → ℕ
+run_status settings es = stop_status settings.mode (ending settings es) (tests (state_at settings es)) (counts settings es).failed
 
 abbrev pub status_of : Journal → ℕ
-status_of j = stop_status (stop_of j) (length (ids_in j.entries.items)) (failures_in j.entries.items)
+status_of j = run_status j.settings j.entries.items

@@ -1,30 +1,26 @@
--- All that is printed of a run without workers.
-use Rattle.std.specs.Prelude.{ℕ, List, [], ◌∷◌, ◌++◌, length, codes}
-use Rattle.std.specs.List.{flat_map}
-use Rattle.std.specs.Fmt.{decimal}
-use Rattle.xd_ledger.specs.declared.entry.RunStop.{RunStop}
-use Rattle.xd_ledger.specs.declared.entry.RunStop.TheVariants.{MaxFail}
+-- All that is printed of a run.
+use Rattle.std.specs.Prelude.{ℕ, List, [], ◌∷◌, ◌++◌}
+use Rattle.xd_ledger.specs.declared.entry.Entry.{Entry}
 use Rattle.xd_ledger.specs.declared.journal.Journal.{Journal}
-use Rattle.xd_ledger.specs.Results.{ids_in}
-use Rattle.xd_ledger.specs.Stop.{stop_so_far}
-use Rattle.xd_report.specs.Block.{block_text}
-use Rattle.xd_report.specs.Lines.{lines_between}
-use Rattle.xd_report.specs.Summary.{summary_text}
+use Rattle.xd_ledger.specs.declared.settings.Settings.{Settings}
+use Rattle.xd_ledger.specs.State.{no_one, state_at}
+use Rattle.xd_report.specs.Blocks.{blocks_from}
+use Rattle.xd_report.specs.Lines.{run_lines}
+use Rattle.xd_report.specs.StopLine.{line_of_stop}
+use Rattle.xd_report.specs.Summary.{counts, summary_text}
 
--- the line of a stop by the limit on failures; the words are pytest's
-unfoldable pub limit_line : ℕ → List ℕ
-limit_line count = codes "stopping after " ++ (decimal count ++ (codes " failures" ++ 10 ∷ []))
+-- the blocks of the failed reports in journal order, the line of the stop that the entries decide, which a failing
+-- output does not change, and the summary
+abbrev pub run_tail : Settings → List Entry → List ℕ
+run_tail settings es =
+    blocks_from (no_one settings) es ++ (line_of_stop settings.mode es (state_at settings es).books.stop ++ (summary_text (counts settings es) ++ 10 ∷ []))
 
--- the line of a stop; a run without workers has no other
-abbrev pub stop_text : RunStop → List ℕ
-stop_text (MaxFail count) = limit_line count
-stop_text _ = []
+-- the lines of the entries, and the tail
+abbrev pub run_text : Settings → List Entry → List ℕ
+run_text settings es = run_lines settings es ++ run_tail settings es
 
--- the blocks of the failed tests, the line of the stop that the steps decide, and the summary
 abbrev pub tail_text : Journal → List ℕ
-tail_text j =
-    flat_map (block_text (ids_in j.entries.items)) j.entries.items ++ stop_text (stop_so_far j.settings j.entries.items) ++ summary_text j.entries.items ++ 10 ∷ []
+tail_text j = run_tail j.settings j.entries.items
 
--- all that is printed
 abbrev pub text_of : Journal → List ℕ
-text_of j = lines_between j 0 (length j.entries.items) ++ tail_text j
+text_of j = run_text j.settings j.entries.items

@@ -1,59 +1,78 @@
-// Results by how they went.
-ghost use Rattle.std.specs.Prelude.{◌≡◌, count_by};
-ghost use Rattle.xd_ledger.specs.Results.{is_passed, is_skipped, is_failed};
+// How many reports there are of each kind.
+ghost use Rattle.std.specs.Prelude.{◌≡◌, OnOk};
+ghost use Rattle.xd_ledger.specs.Sharing.{State};
+ghost use Rattle.xd_ledger.specs.State.{all_moved};
+ghost use Rattle.xd_report.specs.Follows.{Follows};
+ghost use Rattle.xd_report.specs.Summary.{counted, counted_from};
 
+use crate::numbers::plus;
+use crate::reporter::Reporter;
+use std::alloc::Global;
+use xd_edge::OutOfMemory;
 use xd_ledger::{Entry, Outcome};
 
-pub fn is_passed(entry: &Entry) -> bool
-    ensures { result ≡ is_passed entry.now }
-{
-    matches!(
-        entry,
-        Entry::Done {
-            outcome: Outcome::Passed,
-            ..
+/// How many reports there are of each kind. A crash is a failure.
+#[derive(Clone, Copy, Debug, PartialEq, Eq)]
+pub struct Counts {
+    pub failed: u64,
+    pub passed: u64,
+    pub skipped: u64,
+}
+
+impl Counts {
+    /// No report.
+    pub fn none() -> Counts
+        ensures { result ≡ record { failed = 0; passed = 0; skipped = 0 } }
+    {
+        Counts {
+            failed: 0,
+            passed: 0,
+            skipped: 0,
         }
-    )
+    }
 }
 
-pub fn is_skipped(entry: &Entry) -> bool
-    ensures { result ≡ is_skipped entry.now }
-{
-    matches!(
-        entry,
-        Entry::Done {
-            outcome: Outcome::Skipped,
-            ..
+impl Reporter {
+    /// Counts the report of an entry, where it has one.
+    pub(crate) fn count(&self, counts: &mut Counts, entry: &Entry) -> Result<(), OutOfMemory>
+        ensures { (s : State) → Follows self.now s → OnOk result (counts.new ≡ counted s entry.now counts.old) }
+    {
+        match entry {
+            Entry::Done {
+                outcome: Outcome::Passed,
+                ..
+            } => {
+                counts.passed = plus(counts.passed, 1)?;
+            }
+            Entry::Done {
+                outcome: Outcome::Skipped,
+                ..
+            } => {
+                counts.skipped = plus(counts.skipped, 1)?;
+            }
+            _ => {
+                if self.is_failed_report(entry) {
+                    counts.failed = plus(counts.failed, 1)?;
+                }
+            }
         }
-    )
-}
+        Ok(())
+    }
 
-pub fn is_failed(entry: &Entry) -> bool
-    ensures { result ≡ is_failed entry.now }
-{
-    matches!(
-        entry,
-        Entry::Done {
-            outcome: Outcome::Failed(_),
-            ..
+    /// Counts the reports of the entries that come next.
+    pub(crate) fn count_all(
+        &mut self,
+        alloc: Global,
+        counts: &mut Counts,
+        entries: &[Entry],
+    ) -> Result<(), OutOfMemory>
+        ensures counts { (s : State) → Follows self.old s → OnOk result (counts.new ≡ counted_from s entries.now counts.old) }
+        ensures follows { (s : State) → Follows self.old s → OnOk result (Follows self.new (all_moved s entries.now)) }
+    {
+        for entry in entries {
+            self.count(counts, entry)?;
+            self.note(alloc, entry)?;
         }
-    )
-}
-
-pub fn count_passed(entries: &[Entry]) -> usize
-    ensures { result ≡ count_by is_passed entries.now }
-{
-    entries.iter().filter(|entry| is_passed(*entry)).count()
-}
-
-pub fn count_skipped(entries: &[Entry]) -> usize
-    ensures { result ≡ count_by is_skipped entries.now }
-{
-    entries.iter().filter(|entry| is_skipped(*entry)).count()
-}
-
-pub fn count_failed(entries: &[Entry]) -> usize
-    ensures { result ≡ count_by is_failed entries.now }
-{
-    entries.iter().filter(|entry| is_failed(*entry)).count()
+        Ok(())
+    }
 }

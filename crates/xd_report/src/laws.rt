@@ -3,7 +3,7 @@ ghost use Rattle.std.specs.Prelude.{◌≡◌, List, ◌++◌};
 ghost use Rattle.xd_ledger.specs.declared.entry.Entry.{Entry};
 ghost use Rattle.xd_ledger.specs.declared.settings.Settings.{Settings};
 ghost use Rattle.xd_ledger.specs.State.{all_moved, no_one};
-ghost use Rattle.xd_report.specs.RunLines.{lines_from, run_lines};
+ghost use Rattle.xd_report.specs.Lines.{lines_from, run_lines};
 
 /// The lines of a journal with workers begin those of each longer one; what follows are the lines of the entries that
 /// were added, behind the state that the earlier ones left.

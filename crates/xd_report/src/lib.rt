@@ -1,19 +1,31 @@
-//! What is printed of a journal, and the exit status. So far of runs without workers.
+//! What is printed of a journal, and the exit status.
 #![tactic(auto)]
 
-mod block;
+mod blocks;
+mod collecting;
 mod counts;
+mod crew;
+mod desk;
 mod ending;
+mod handing;
 mod laws;
 mod lines;
+mod lists;
+mod names;
+mod numbers;
+mod queries;
+mod reporter;
+mod results;
 mod status;
+mod stop_line;
 mod summary;
 mod writing;
 
-pub use block::failure_block;
+pub use blocks::{failure_block, is_failed_at};
 pub use ending::tail;
 pub use laws::lines_law;
 pub use lines::report_lines;
+pub use reporter::Reporter;
 pub use status::status_of;
 pub use summary::summary_line;
 

@@ -1,119 +1,232 @@
 // The lines of a journal's entries.
-ghost use Rattle.std.specs.Prelude.{◌≡◌, ◌≤◌, ◌+◌, ◌++◌, ◌∷◌, [], length, IsTrue, OnOk, IfOk, codes};
-ghost use Rattle.std.specs.List.{flat_map};
-ghost use Rattle.std.specs.Str.{encode_utf8_all};
-ghost use Rattle.xd_ledger.specs.Local.{is_local};
-ghost use Rattle.xd_ledger.specs.Results.{ids_in};
-ghost use Rattle.xd_report.specs.Lines.{collected_by, entry_text, head_of, id_at, lines_between};
+ghost use Rattle.std.specs.Prelude.{◌≡◌, ◌≤◌, ◌++◌, length, None, IfOk, OnOk};
+ghost use Rattle.xd_ledger.specs.Sharing.{State};
+ghost use Rattle.xd_ledger.specs.State.{all_moved, reached, next};
+ghost use Rattle.xd_report.specs.Follows.{Follows};
+ghost use Rattle.xd_report.specs.Lines.{collected_line, crashed, down_line, last_of_slot, lines_between, lines_from, lines_of, replacing, result_line, tests_line, told};
+ghost use Rattle.xd_report.specs.Names.{cause_text};
+ghost use Rattle.xd_report.specs.Tests.{id_of, mode_of};
+ghost use Rattle.xd_ledger.specs.Local.{is_local_mode};
 
+use crate::crew;
+use crate::names::{add_name, add_plain, add_tag, cause_text, mode_text, outcome_text};
+use crate::reporter::Reporter;
 use crate::writing::{add, add_number, add_text};
 use std::alloc::Global;
-use xd_edge::{Blob, OutOfMemory, Text};
-use xd_ledger::{Entry, Ids, Journal, Outcome};
+use xd_edge::{Blob, ModeKind, OutOfMemory};
+use xd_ledger::{Cause, Entry, Journal, Outcome};
 
-/// The lines of the entries from one place up to another, each ended by a newline. The cost does not grow with the
-/// entries outside.
+/// The lines of the entries from one place up to another, each ended by a newline. It goes over the entries ahead too;
+/// whoever prints a journal while it grows keeps a `Reporter`.
 pub fn report_lines(
     alloc: Global,
     journal: &Journal,
     from: usize,
     to: usize,
 ) -> Result<Blob, OutOfMemory>
-    requires local { IsTrue (is_local journal.now) }
     requires order { from ≤ to }
     requires within { to ≤ length journal.now.entries.items }
     ensures { IfOk result (λ lines. lines ≡ lines_between journal.now from to) }
 {
-    let mut bytes = Vec::new(alloc);
-    add_entries(
-        alloc,
-        &mut bytes,
-        ids_of(&journal.entries),
-        &journal.entries[from..to],
-    )?;
-    Ok(Blob { bytes })
+    let mut reporter = Reporter::new(alloc, journal.settings);
+    reporter.follow(alloc, &journal.entries[..from])?;
+    let lines = reporter.lines(alloc, &journal.entries[from..to])?;
+    Ok(lines)
 }
 
-/// The ids of the first collection that lists them. A journal begins with it.
-pub fn ids_of(entries: &[Entry]) -> &[Text]
-    ensures { result.now ≡ ids_in entries.now }
-{
-    for entry in entries {
-        if let Entry::Collected {
-            ids: Ids::List(ids),
-            ..
-        } = entry
-        {
-            return &ids.items;
+impl Reporter {
+    /// The lines of the entries that come next, each ended by a newline. The cost of a result does not grow with what
+    /// came before. Behind want of memory the reporter is given up.
+    pub fn lines(&mut self, alloc: Global, entries: &[Entry]) -> Result<Blob, OutOfMemory>
+        ensures lines { (s : State) → Follows self.old s → IfOk result (λ lines. lines ≡ lines_from s entries.now) }
+        ensures follows { (s : State) → Follows self.old s → OnOk result (Follows self.new (all_moved s entries.now)) }
+    {
+        let mut bytes = Vec::new(alloc);
+        for entry in entries {
+            self.add_lines(alloc, &mut bytes, entry)?;
+        }
+        Ok(Blob { bytes })
+    }
+
+    /// Goes over the entries that come next. Behind want of memory the reporter is given up.
+    pub fn follow(&mut self, alloc: Global, entries: &[Entry]) -> Result<(), OutOfMemory>
+        ensures { (s : State) → Follows self.old s → OnOk result (Follows self.new (all_moved s entries.now)) }
+    {
+        for entry in entries {
+            self.note(alloc, entry)?;
+        }
+        Ok(())
+    }
+
+    // The lines of one entry, and the entry.
+    fn add_lines(
+        &mut self,
+        alloc: Global,
+        out: &mut Vec<u8>,
+        entry: &Entry,
+    ) -> Result<(), OutOfMemory>
+        ensures lines { (s : State) → Follows self.old s → OnOk result (out.new.items ≡ out.old.items ++ lines_of (reached s entry.now) entry.now) }
+        ensures follows { (s : State) → Follows self.old s → OnOk result (Follows self.new (next s entry.now)) }
+    {
+        let was_shared = self.shared;
+        self.add_told(alloc, out, entry)?;
+        self.note(alloc, entry)?;
+        if let Entry::Collected { .. } = entry {
+            self.add_collected(alloc, out, was_shared)?;
+        }
+        Ok(())
+    }
+
+    // The lines that the state ahead of an entry tells; those of a collection are told by the state behind it.
+    fn add_told(&self, alloc: Global, out: &mut Vec<u8>, entry: &Entry) -> Result<(), OutOfMemory>
+        ensures { (s : State) → Follows self.now s → OnOk result (out.new.items ≡ out.old.items ++ told s entry.now) }
+    {
+        match entry {
+            Entry::Done {
+                worker,
+                index,
+                outcome,
+                ..
+            } => self.add_result(alloc, out, *worker, *index, *outcome),
+            Entry::Down { worker, cause, .. } => self.add_end(alloc, out, *worker, *cause),
+            Entry::NotStarted { worker } => self.add_down(alloc, out, *worker, "not started"),
+            Entry::Start { slot, .. } => {
+                add_replacing(alloc, out, self.settings.mode, self.last_of_slot(*slot))
+            }
+            _ => Ok(()),
         }
     }
-    &[]
-}
 
-/// The id of a test, or the empty text where no entry gives it.
-pub fn id_at(ids: &[Text], index: u32) -> &str
-    ensures { result.now ≡ encode_utf8_all (id_at ids.now index) }
-{
-    match ids.get(index as usize) {
-        Some(id) => id.as_str(),
-        None => "",
+    // How many tests there are, where a collection told it.
+    fn add_collected(
+        &self,
+        alloc: Global,
+        out: &mut Vec<u8>,
+        was_shared: bool,
+    ) -> Result<(), OutOfMemory>
+        ensures { (s : State) → Follows self.now s → OnOk result (out.new.items ≡ out.old.items ++ collected_line was_shared s) }
+    {
+        let mode = self.settings.mode;
+        if is_local(mode) || (self.shared && !was_shared) {
+            let tests = self.tests()?;
+            add_tests(alloc, out, mode, tests, self.settings.workers)?;
+        }
+        Ok(())
+    }
+
+    fn add_result(
+        &self,
+        alloc: Global,
+        out: &mut Vec<u8>,
+        worker: u32,
+        index: u32,
+        outcome: Outcome,
+    ) -> Result<(), OutOfMemory>
+        ensures { (s : State) → Follows self.now s → OnOk result (out.new.items ≡ out.old.items ++ result_line (mode_of s) worker outcome (id_of worker index s)) }
+    {
+        add_tag(alloc, out, self.settings.mode, worker)?;
+        add_text(out, outcome_text(outcome))?;
+        add_plain(alloc, out, self.id_of(worker, index as u64))?;
+        add(out, &[b'\n'])
+    }
+
+    fn add_down(
+        &self,
+        alloc: Global,
+        out: &mut Vec<u8>,
+        worker: u32,
+        why: &str,
+    ) -> Result<(), OutOfMemory>
+        ensures { (s : State) → Follows self.now s → OnOk result (out.new.items ≡ out.old.items ++ down_line (mode_of s) worker why.now) }
+    {
+        add_tag(alloc, out, self.settings.mode, worker)?;
+        add_text(out, "node down: ")?;
+        add_text(out, why)?;
+        add(out, &[b'\n'])
+    }
+
+    fn add_crashed(&self, alloc: Global, out: &mut Vec<u8>, worker: u32) -> Result<(), OutOfMemory>
+        ensures { (s : State) → Follows self.now s → OnOk result (out.new.items ≡ out.old.items ++ crashed worker s) }
+    {
+        let Some(item) = self.head(worker) else {
+            return Ok(());
+        };
+        add_tag(alloc, out, self.settings.mode, worker)?;
+        add_text(out, "CRASHED ")?;
+        add_plain(alloc, out, self.item_id(worker, item)?)?;
+        add(out, &[b'\n'])
+    }
+
+    // A worker went down, with a test at its head or without.
+    fn add_end(
+        &self,
+        alloc: Global,
+        out: &mut Vec<u8>,
+        worker: u32,
+        cause: Cause,
+    ) -> Result<(), OutOfMemory>
+        ensures { (s : State) → Follows self.now s → OnOk result (out.new.items ≡ out.old.items ++ (down_line (mode_of s) worker (cause_text cause) ++ crashed worker s)) }
+    {
+        self.add_down(alloc, out, worker, cause_text(cause))?;
+        self.add_crashed(alloc, out, worker)?;
+        Ok(())
+    }
+
+    // The last worker of a slot so far.
+    fn last_of_slot(&self, slot: u32) -> Option<u32>
+        ensures { (s : State) → Follows self.now s → result ≡ last_of_slot slot s.books.crew None }
+    {
+        crew::last_of_slot(&self.crew, slot)
     }
 }
 
-fn add_entries(
+fn add_replacing(
     alloc: Global,
     out: &mut Vec<u8>,
-    ids: &[Text],
-    entries: &[Entry],
+    mode: ModeKind,
+    old: Option<u32>,
 ) -> Result<(), OutOfMemory>
-    ensures { OnOk result (out.new.items ≡ out.old.items ++ flat_map (entry_text ids.now) entries.now) }
+    ensures { OnOk result (out.new.items ≡ out.old.items ++ replacing mode old) }
 {
-    for entry in entries {
-        add_entry(alloc, out, ids, entry)?;
-    }
-    Ok(())
-}
-
-fn add_entry(
-    alloc: Global,
-    out: &mut Vec<u8>,
-    ids: &[Text],
-    entry: &Entry,
-) -> Result<(), OutOfMemory>
-    ensures { OnOk result (out.new.items ≡ out.old.items ++ entry_text ids.now entry.now) }
-{
-    match entry {
-        Entry::Collected { ids: collected, .. } => {
-            add_number(alloc, out, collected_by(ids, collected))?;
-            add_text(out, " tests")?;
+    match old {
+        Some(old) => {
+            add_text(out, "replacing crashed worker ")?;
+            add_name(alloc, out, mode, old)?;
             add(out, &[b'\n'])?;
             Ok(())
         }
-        Entry::Done { index, outcome, .. } => {
-            add_text(out, head_of(*outcome))?;
-            add_text(out, id_at(ids, *index))?;
-            add(out, &[b'\n'])?;
-            Ok(())
+        None => Ok(()),
+    }
+}
+
+fn is_local(mode: ModeKind) -> bool
+    ensures { result ≡ is_local_mode mode }
+{
+    match mode {
+        ModeKind::Local => true,
+        _ => false,
+    }
+}
+
+#[tactic(auto, unfolding(crate::specs::Lines::tests_line))]
+fn add_tests(
+    alloc: Global,
+    out: &mut Vec<u8>,
+    mode: ModeKind,
+    tests: u64,
+    workers: u32,
+) -> Result<(), OutOfMemory>
+    ensures { OnOk result (out.new.items ≡ out.old.items ++ tests_line mode tests workers) }
+{
+    match mode {
+        ModeKind::Local => {
+            let line = format!(in alloc; "{tests} tests\n")?;
+            add(out, line.as_bytes())
         }
-        _ => Ok(()),
-    }
-}
-
-fn collected_by(ids: &[Text], collected: &Ids) -> usize
-    ensures { result ≡ collected_by ids.now collected.now }
-{
-    match collected {
-        Ids::List(all) => all.items.len(),
-        Ids::Same => ids.len(),
-    }
-}
-
-fn head_of(outcome: Outcome) -> &'static str
-    ensures { result.now ≡ head_of outcome }
-{
-    match outcome {
-        Outcome::Passed => "[main] PASSED ",
-        Outcome::Skipped => "[main] SKIPPED ",
-        Outcome::Failed(_) => "[main] FAILED ",
+        _ => {
+            let name = mode_text(mode);
+            let line = format!(in alloc; "{tests} tests on {workers} workers, {name}\n")?;
+            add(out, line.as_bytes())
+        }
     }
 }

@@ -1,37 +1,47 @@
-// The counts of the results.
-ghost use Rattle.std.specs.Prelude.{◌≡◌, IsTrue, OnOk, IfOk, string_bytes};
+// The counts of the reports.
+ghost use Rattle.std.specs.Prelude.{◌≡◌, OnOk, IfOk, string_bytes};
 ghost use Rattle.std.specs.Str.{encode_utf8_all};
-ghost use Rattle.xd_ledger.specs.Local.{is_local};
-ghost use Rattle.xd_report.specs.Summary.{summary_text, with_part};
+ghost use Rattle.xd_report.specs.Summary.{counts, summary_text, with_part};
 
-use crate::counts::{count_failed, count_passed, count_skipped};
+use crate::counts::Counts;
+use crate::reporter::Reporter;
 use std::alloc::Global;
 use xd_edge::{OutOfMemory, Text};
-use xd_ledger::{Entry, Journal};
+use xd_ledger::Journal;
 
-/// The counts of the results that are over 0, without a newline.
+/// The counts of the reports that are over 0, without a newline.
 pub fn summary_line(alloc: Global, journal: &Journal) -> Result<Text, OutOfMemory>
-    requires { IsTrue (is_local journal.now) }
-    ensures { IfOk result (λ text. encode_utf8_all text ≡ summary_text journal.now.entries.items) }
+    ensures { IfOk result (λ text. encode_utf8_all text ≡ summary_text (counts journal.now.settings journal.now.entries.items)) }
 {
-    let line = summary(alloc, &journal.entries)?;
+    let counts = counts_of(alloc, journal)?;
+    let line = summary(alloc, counts)?;
     Ok(Text::from_string(line))
 }
 
-pub fn summary(alloc: Global, entries: &[Entry]) -> Result<String, OutOfMemory>
-    ensures { IfOk result (λ line. string_bytes line ≡ summary_text entries.now) }
+/// How many reports of each kind a journal has.
+pub fn counts_of(alloc: Global, journal: &Journal) -> Result<Counts, OutOfMemory>
+    ensures { IfOk result (λ found. found ≡ counts journal.now.settings journal.now.entries.items) }
+{
+    let mut reporter = Reporter::new(alloc, journal.settings);
+    let mut counts = Counts::none();
+    reporter.count_all(alloc, &mut counts, &journal.entries)?;
+    Ok(counts)
+}
+
+pub fn summary(alloc: Global, counts: Counts) -> Result<String, OutOfMemory>
+    ensures { IfOk result (λ line. string_bytes line ≡ summary_text counts) }
 {
     let mut line = String::new(alloc);
-    add_part(alloc, &mut line, count_failed(entries), " failed")?;
-    add_part(alloc, &mut line, count_passed(entries), " passed")?;
-    add_part(alloc, &mut line, count_skipped(entries), " skipped")?;
+    add_part(alloc, &mut line, counts.failed, " failed")?;
+    add_part(alloc, &mut line, counts.passed, " passed")?;
+    add_part(alloc, &mut line, counts.skipped, " skipped")?;
     if line.is_empty() {
         line.push_str("no tests ran")?;
     }
     Ok(line)
 }
 
-fn add_part(alloc: Global, out: &mut String, n: usize, word: &str) -> Result<(), OutOfMemory>
+fn add_part(alloc: Global, out: &mut String, n: u64, word: &str) -> Result<(), OutOfMemory>
     ensures { OnOk result (string_bytes out.new ≡ with_part (string_bytes out.old) n word.now) }
 {
     if n == 0 {

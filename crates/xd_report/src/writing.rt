@@ -19,7 +19,7 @@ pub fn add_text(out: &mut Vec<u8>, text: &str) -> Result<(), OutOfMemory>
     Ok(())
 }
 
-pub fn add_number(alloc: Global, out: &mut Vec<u8>, n: usize) -> Result<(), OutOfMemory>
+pub fn add_number(alloc: Global, out: &mut Vec<u8>, n: u64) -> Result<(), OutOfMemory>
     ensures { OnOk result (out.new.items ≡ out.old.items ++ decimal n) }
 {
     let text = n.to_string(alloc)?;

@@ -1,49 +1,51 @@
 -- The entries of one test, and their lines.
-use Rattle.std.proofs.Common.{◌≡◌, ℕ, ◌-◌, Bool, List, ◌++◌, length, take, drop, Option, refl, ◌∙◌, ap, subst, arith, length-append}
-use Rattle.std.proofs.lemmas.List.{take_all, drop_at}
-use Rattle.std.specs.List.{flat_map}
+use Rattle.std.proofs.Common.{◌≡◌, ℕ, Bool, List, ◌++◌, length, drop, Option, refl, sym, ◌∙◌, ap, subst}
+use Rattle.std.proofs.lemmas.List.{drop_at}
 use Rattle.xd_edge.specs.declared.children.ChildRun.{ChildRun}
 use Rattle.xd_edge.specs.Faults.{RoseBy}
 use Rattle.xd_edge.specs.Sink.{Sunk}
 use Rattle.xd_ledger.specs.declared.entry.Entry.{Entry}
 use Rattle.xd_ledger.specs.declared.entry.Outcome.{Outcome}
 use Rattle.xd_ledger.specs.declared.journal.Journal.{Journal}
-use Rattle.xd_ledger.specs.Legal.{round, local_entries}
-use Rattle.xd_ledger.specs.Results.{TestResult, ids_in}
-use Rattle.xd_report.specs.Lines.{entry_text, lines_between}
+use Rattle.xd_ledger.specs.declared.settings.Settings.{Settings}
+use Rattle.xd_ledger.specs.Legal.{round}
+use Rattle.xd_ledger.specs.Results.{TestResult}
+use Rattle.xd_ledger.specs.Sharing.{State}
+use Rattle.xd_ledger.specs.State.{all_moved, no_one}
+use Rattle.xd_report.specs.declared.reporter.Reporter.{Reporter}
+use Rattle.xd_report.specs.Follows.{Follows}
+use Rattle.xd_report.specs.Lines.{lines_from}
+use Rattle.xd_report.proofs.Texts.{moved-more}
 use Rattle.xdrun.specs.Child.{fault_count, RanChild}
-use Rattle.xdrun.specs.Local.{AddsRound, RanTest}
+use Rattle.xdrun.specs.Local.{AddsRound, RanTest, Told}
 use Rattle.xdrun.specs.Print.{Shows}
 
 -- the entries that came last
-new_ones : (old added new : List Entry) → new ≡ old ++ added → take (length new - length old) (drop (length old) new) ≡ added
-new_ones old added new is =
-    let at : drop (length old) new ≡ added = ap (λ (l : List Entry). drop (length old) l) is ∙ drop_at old added (length old) refl in
-    ap (λ (l : List Entry). take (length new - length old) l) at ∙ take_all _ _ (omega (arith, ap length is, length-append old added))
+new_ones : (old added new : List Entry) (from : ℕ) → new ≡ old ++ added → from ≡ length old → drop from new ≡ added
+new_ones old added new from is at = ap (λ (l : List Entry). drop from l) is ∙ drop_at old added from (sym at)
 
-pub ran_test : (shown : Bool) (test : ℕ) (args : List (List ℕ)) (outcome : Outcome) (ms : ℕ) (es : List Entry) (j : Journal) (from : ℕ) (runs_old runs_new : Option (List ChildRun)) (faults_old faults_new : ℕ) (out_old out_new : Option Sunk)
-    → AddsRound test outcome ms es j.entries.items → from ≡ length es → RanChild args outcome runs_old runs_new → RoseBy (fault_count outcome) faults_old faults_new
-    → Shows shown (lines_between j from (length j.entries.items)) out_old out_new → RanTest shown test args es j.entries.items runs_old runs_new faults_old faults_new out_old out_new
-ran_test shown test args outcome ms es j from runs_old runs_new faults_old faults_new out_old out_new entries from_is ran faults shows =
+-- the state behind a journal
+abbrev pub behind : Journal → State
+behind j = all_moved (no_one j.settings) j.entries.items
+
+pub ran_test : (shown : Bool) (test : ℕ) (args : List (List ℕ)) (outcome : Outcome) (ms : ℕ) (j0 j1 : Journal) (from : ℕ) (runs_old runs_new : Option (List ChildRun)) (faults_old faults_new : ℕ) (out_old out_new : Option Sunk)
+    → AddsRound test outcome ms j0.entries.items j1.entries.items → from ≡ length j0.entries.items → RanChild args outcome runs_old runs_new → RoseBy (fault_count outcome) faults_old faults_new
+    → Shows shown (lines_from (behind j0) (drop from j1.entries.items)) out_old out_new → RanTest shown test args j0 j1.entries.items runs_old runs_new faults_old faults_new out_old out_new
+ran_test shown test args outcome ms j0 j1 from runs_old runs_new faults_old faults_new out_old out_new entries from_is ran faults shows =
     let result : TestResult = record { outcome = outcome; ms = ms } in
     record {
       result = result;
       entries = entries;
       ran = ran;
       faults = faults;
-      shows = subst (λ (l : List Entry). Shows shown (flat_map (entry_text (ids_in j.entries.items)) l) out_old out_new)
-          (ap (λ (n : ℕ). take (length j.entries.items - n) (drop n j.entries.items)) from_is ∙ new_ones es (round test result) j.entries.items entries) shows;
+      shows = subst (λ (l : List Entry). Shows shown (lines_from (behind j0) l) out_old out_new) (new_ones j0.entries.items (round test result) j1.entries.items from entries from_is) shows;
     }
 
--- the lines of all entries
-abbrev pub lines : Journal → List ℕ
-lines j = lines_between j 0 (length j.entries.items)
-
-whole : (j : Journal) → lines j ≡ flat_map (entry_text (ids_in j.entries.items)) j.entries.items
-whole j =
-    let all : take (length j.entries.items - 0) (drop 0 j.entries.items) ≡ j.entries.items = take_all _ _ (omega arith) in
-    ap (flat_map (entry_text (ids_in j.entries.items))) all
-
-pub lines_are : (j : Journal) (ids : List (List ℕ)) (results : List TestResult) (behind : List Entry) → j.entries.items ≡ local_entries ids results ++ behind
-    → lines j ≡ flat_map (entry_text ids) (local_entries ids results ++ behind)
-lines_are j ids results behind is = whole j ∙ ap (λ (es : List Entry). flat_map (entry_text (ids_in es)) es) is
+pub told : (r : Reporter) (test : ℕ) (outcome : Outcome) (ms : ℕ) (j0 j1 : Journal) (from : ℕ) → AddsRound test outcome ms j0.entries.items j1.entries.items → from ≡ length j0.entries.items → j1.settings ≡ j0.settings
+    → Follows r (all_moved (behind j0) (drop from j1.entries.items)) → Told r j1
+told r test outcome ms j0 j1 from entries from_is same follows =
+    let added : List Entry = round test (record { outcome = outcome; ms = ms }) in
+    let is : behind j1 ≡ all_moved (behind j0) (drop from j1.entries.items) =
+    ap (λ (st : Settings). all_moved (no_one st) j1.entries.items) same ∙ ap (all_moved (no_one j0.settings)) entries ∙ moved-more (no_one j0.settings) j0.entries.items added
+    ∙ ap (all_moved (behind j0)) (sym (new_ones j0.entries.items added j1.entries.items from entries from_is)) in
+    subst (Follows r) (sym is) follows

@@ -2,8 +2,6 @@
 use Rattle.std.proofs.Common.{◌≡◌, ℕ, ◌+◌, ◌-◌, ◌^◌, ◌<◌, ◌≤◌, Bool, true, false, List, [], ◌∷◌, ◌++◌, length, take, map, Option, Some, None, option_map, refl, sym, ◌∙◌, ap, subst, arith, append_assoc, length-append}
 use Rattle.std.proofs.lemmas.List.{append-nil, map-append, take_more, length-map}
 use Rattle.std.proofs.lemmas.List.Sums.{sum_by-append}
-use Rattle.std.proofs.lemmas.Grind.{flat_map-append}
-use Rattle.std.specs.List.{flat_map}
 use Rattle.xd_edge.specs.declared.children.ChildRun.{ChildRun}
 use Rattle.xd_edge.specs.Children.{AddsRun}
 use Rattle.xd_edge.specs.Faults.{RoseBy}
@@ -14,13 +12,15 @@ use Rattle.xd_suite.specs.Tests.{run_at}
 use Rattle.xd_ledger.specs.declared.entry.Entry.{Entry}
 use Rattle.xd_ledger.specs.declared.entry.Outcome.{Outcome}
 use Rattle.xd_ledger.specs.declared.journal.Journal.{Journal}
+use Rattle.xd_ledger.specs.declared.settings.Settings.{Settings}
 use Rattle.xd_ledger.specs.Legal.{round, rounds, local_entries}
-use Rattle.xd_ledger.specs.Results.{TestResult, ids_in}
-use Rattle.xd_report.specs.Lines.{entry_text}
+use Rattle.xd_ledger.specs.Results.{TestResult}
+use Rattle.xd_ledger.specs.State.{all_moved, no_one}
+use Rattle.xd_report.specs.Lines.{lines_from, run_lines}
+use Rattle.xd_report.proofs.Texts.{lines-more}
 use Rattle.xdrun.specs.Child.{fault_count, faults_of, outcome_of, RanChild}
 use Rattle.xdrun.specs.Local.{Progress, RanAll, RanTest, RanTests, SoFar}
 use Rattle.xdrun.specs.Print.{Shows}
-use Rattle.xdrun.proofs.NewLines.{lines, lines_are}
 
 rounds-last : (n : ℕ) (rs : List TestResult) (r : TestResult) → rounds n (rs ++ r ∷ []) ≡ rounds n rs ++ round (n + length rs) r
 rounds-last n [] r = let same : n ≡ n + 0 = omega arith in ap (λ k. round k r) same
@@ -65,28 +65,31 @@ module _ (tests : List Test) where
       faults = λ below. omega arith;
     }
 
-    begun : (j : Journal) → j.entries.items ≡ local_entries ids [] → lines j ≡ flat_map (entry_text ids) (local_entries ids [])
-    begun j is = lines_are j ids [] [] is
-
-    pub start : (j : Journal) (out1 : Option Sunk) → j.entries.items ≡ local_entries ids [] → Shows true (lines j) out0 out1 → Progress 0 tests ids j.entries.items runs0 runs0 faults0 faults0 out0 out1
+    pub start : (j : Journal) (out1 : Option Sunk) → j.entries.items ≡ local_entries ids [] → Shows true (run_lines j.settings j.entries.items) out0 out1 → Progress 0 tests ids j runs0 runs0 faults0 faults0 out0 out1
     start j out1 is shows = record {
       results = [];
       so_far = none_ran j.entries.items is;
       counted = refl;
-      shows = subst (λ (l : List ℕ). Printed l out0 out1) (begun j is) shows;
+      shows = shows;
     }
 
-    pub not_collected : (j : Journal) (out1 : Option Sunk) → j.entries.items ≡ local_entries ids [] → Shows false (lines j) out0 out1 → RanAll false tests ids j.entries.items runs0 runs0 faults0 faults0 out0 out1
+    pub not_collected : (j : Journal) (out1 : Option Sunk) → j.entries.items ≡ local_entries ids [] → Shows false (run_lines j.settings j.entries.items) out0 out1 → RanAll false tests ids j runs0 runs0 faults0 faults0 out0 out1
     not_collected j out1 is shows = record {
       results = [];
       so_far = none_ran j.entries.items is;
       within = omega arith;
       all = λ no. cc;
-      shows = subst (λ (l : List ℕ). PrintedPart l out0 out1) (begun j is) shows;
+      shows = shows;
     }
 
-    module _ (k : ℕ) (es1 es2 : List Entry) (runs1 runs2 : Option (List ChildRun)) (faults1 faults2 : ℕ) (out1 out2 : Option Sunk) (p : Progress k tests ids es1 runs0 runs1 faults0 faults1 out0 out1)
-        (within : k < length tests) (shown : Bool) (more : RanTest shown k (run_at tests k) es1 es2 runs1 runs2 faults1 faults2 out1 out2) (later : faults1 ≤ faults2) where
+    module _ (k : ℕ) (j1 j2 : Journal) (same : j2.settings ≡ j1.settings) (runs1 runs2 : Option (List ChildRun)) (faults1 faults2 : ℕ) (out1 out2 : Option Sunk) (p : Progress k tests ids j1 runs0 runs1 faults0 faults1 out0 out1)
+        (within : k < length tests) (shown : Bool) (more : RanTest shown k (run_at tests k) j1 j2.entries.items runs1 runs2 faults1 faults2 out1 out2) (later : faults1 ≤ faults2) where
+      abbrev es1 : List Entry
+      es1 = j1.entries.items
+
+      abbrev es2 : List Entry
+      es2 = j2.entries.items
+
       abbrev results : List TestResult
       results = p.results ++ more.result ∷ []
 
@@ -112,30 +115,27 @@ module _ (tests : List Test) where
       }
 
       abbrev added : List ℕ
-      added = flat_map (entry_text (ids_in es2)) (round k more.result)
+      added = lines_from (all_moved (no_one j1.settings) es1) (round k more.result)
 
-      text : flat_map (entry_text ids) (local_entries ids results) ≡ flat_map (entry_text ids) (local_entries ids p.results) ++ added
-      text =
-          let same : ids ≡ ids_in es2 = sym (ap ids_in grown) in
-          ap (flat_map (entry_text ids)) entries_are ∙ flat_map-append (entry_text ids) (local_entries ids p.results) (round k more.result)
-          ∙ ap (λ (l : List (List ℕ)). flat_map (entry_text ids) (local_entries ids p.results) ++ flat_map (entry_text l) (round k more.result)) same
+      text : run_lines j2.settings es2 ≡ run_lines j1.settings es1 ++ added
+      text = ap (λ (st : Settings). run_lines st es2) same ∙ ap (run_lines j1.settings) more.entries ∙ lines-more (no_one j1.settings) es1 (round k more.result)
 
-      pub next : shown ≡ true → Progress (k + 1) tests ids es2 runs0 runs2 faults0 faults2 out0 out2
+      pub next : shown ≡ true → Progress (k + 1) tests ids j2 runs0 runs2 faults0 faults2 out0 out2
       next is = record {
         results = results;
         so_far = so_far;
         counted = long;
-        shows = subst (λ (l : List ℕ). Printed l out0 out2) (sym text) (printed_more (flat_map (entry_text ids) (local_entries ids p.results)) added out0 out1 out2 p.shows (subst (λ b. Shows b added out1 out2) is more.shows));
+        shows = subst (λ (l : List ℕ). Printed l out0 out2) (sym text) (printed_more (run_lines j1.settings es1) added out0 out1 out2 p.shows (subst (λ b. Shows b added out1 out2) is more.shows));
       }
 
-      pub stop : shown ≡ false → RanAll false tests ids es2 runs0 runs2 faults0 faults2 out0 out2
+      pub stop : shown ≡ false → RanAll false tests ids j2 runs0 runs2 faults0 faults2 out0 out2
       stop is = record {
         results = results;
         so_far = so_far;
         within = omega (arith, long);
         all = λ no. cc;
-        shows = subst (λ (l : List ℕ). PrintedPart l out0 out2) (sym text) (printed_then_part (flat_map (entry_text ids) (local_entries ids p.results)) added out0 out1 out2 p.shows (subst (λ b. Shows b added out1 out2) is more.shows));
+        shows = subst (λ (l : List ℕ). PrintedPart l out0 out2) (sym text) (printed_then_part (run_lines j1.settings es1) added out0 out1 out2 p.shows (subst (λ b. Shows b added out1 out2) is more.shows));
       }
 
-    pub finish : (es : List Entry) (runs : Option (List ChildRun)) (faults : ℕ) (out : Option Sunk) → Progress (length tests) tests ids es runs0 runs faults0 faults out0 out → RanAll true tests ids es runs0 runs faults0 faults out0 out
-    finish es runs faults out p = record { results = p.results; so_far = p.so_far; within = omega (arith, p.counted); all = λ yes. p.counted; shows = p.shows }
+    pub finish : (j : Journal) (runs : Option (List ChildRun)) (faults : ℕ) (out : Option Sunk) → Progress (length tests) tests ids j runs0 runs faults0 faults out0 out → RanAll true tests ids j runs0 runs faults0 faults out0 out
+    finish j runs faults out p = record { results = p.results; so_far = p.so_far; within = omega (arith, p.counted); all = λ yes. p.counted; shows = p.shows }

@@ -1,9 +1,6 @@
 -- A whole run, with its end.
 use Rattle.std.proofs.Common.{◌≡◌, ℕ, ◌+◌, inl, inr, Bool, true, false, List, [], ◌∷◌, ◌++◌, length, map, take, Option, count_by, if◌then◌else◌, refl, sym, ◌∙◌, ap, subst, arith}
-use Rattle.std.proofs.lemmas.List.{append-nil, length-map}
-use Rattle.std.proofs.lemmas.Grind.{flat_map-append}
-use Rattle.std.proofs.lemmas.List.Sums.{sum_by-append}
-use Rattle.std.specs.List.{flat_map}
+use Rattle.std.proofs.lemmas.List.{length-map}
 use Rattle.xd_edge.specs.declared.children.ChildRun.{ChildRun}
 use Rattle.xd_edge.specs.Faults.{Rose, RoseBy}
 use Rattle.xd_edge.specs.Sink.{Sunk}
@@ -15,16 +12,13 @@ use Rattle.xd_ledger.specs.declared.entry.RunStop.{RunStop}
 use Rattle.xd_ledger.specs.declared.entry.RunStop.TheVariants.{Completed, OutFault}
 use Rattle.xd_ledger.specs.declared.journal.Journal.{Journal}
 use Rattle.xd_ledger.specs.Legal.{EndsSo, IsLegal, failed, local_entries, rounds}
-use Rattle.xd_ledger.specs.Results.{TestResult, ids_in, is_failed, is_passed, is_skipped, numbers_from, reported_in, results_in}
+use Rattle.xd_ledger.specs.Results.{TestResult, ids_in, numbers_from, reported_in, results_in}
 use Rattle.xd_ledger.specs.Stop.{over_in, reaches, stop_of, stop_so_far}
-use Rattle.xd_report.specs.Block.{block_text}
-use Rattle.xd_report.specs.Lines.{entry_text}
-use Rattle.xd_report.specs.Summary.{summary_text}
-use Rattle.xd_report.specs.Text.{stop_text, text_of}
+use Rattle.xd_report.specs.Text.{run_text, text_of}
+use Rattle.xd_report.proofs.Texts.{over-same}
 use Rattle.xdrun.specs.Child.{faults_of}
 use Rattle.xdrun.specs.Local.{RanPrinted, RanTests, RunsSuite, local_settings, stop_after}
 use Rattle.xdrun.specs.Print.{PrintsReport, Shows}
-use Rattle.xdrun.proofs.NewLines.{lines, lines_are}
 
 results_in-rounds : (n : ℕ) (rs : List TestResult) (how : RunStop) → results_in (rounds n rs ++ Over how ∷ []) ≡ rs
 results_in-rounds n [] how = refl
@@ -37,19 +31,6 @@ reported_in-rounds n (r ∷ rs) how = ap (λ (l : List ℕ). n ∷ l) (reported_
 over_in-rounds : (n : ℕ) (rs : List TestResult) (how other : RunStop) → over_in (rounds n rs ++ Over how ∷ []) other ≡ how
 over_in-rounds n [] how other = refl
 over_in-rounds n (r ∷ rs) how other = over_in-rounds (n + 1) rs how other
-
-module _ (p : Entry → Bool) (x : Entry) (not_x : p x ≡ false) where
-  count_by_same : (es : List Entry) → count_by p (es ++ x ∷ []) ≡ count_by p es
-  count_by_same es =
-      let none : count_by p es + 0 ≡ count_by p es = omega arith in
-      sum_by-append (λ y. if p y then 1 else 0) es (x ∷ []) ∙ ap (λ b. count_by p es + (0 + (if b then 1 else 0))) not_x ∙ none
-
-summary_same : (how : RunStop) (es : List Entry) → summary_text (es ++ Over how ∷ []) ≡ summary_text es
-summary_same how es = rw (count_by_same is_failed (Over how) refl es, count_by_same is_passed (Over how) refl es, count_by_same is_skipped (Over how) refl es)
-
--- without a limit nothing stops a run
-no_stop : (s : Settings) (es : List Entry) → s ≡ local_settings → stop_text (stop_so_far s es) ≡ []
-no_stop s es is = ap (λ (s : Settings). stop_text (stop_so_far s es)) is
 
 -- a run whose journal j0 was printed, or was not, and has its end in j1
 pub record Ended (tests : List Test) (j0 j1 : Journal) (shown : Bool) (runs0 runs1 : Option (List ChildRun)) (faults0 faults1 : ℕ) (out0 out1 : Option Sunk) : Type 0 where
@@ -120,21 +101,7 @@ module _ (tests : List Test) (j0 j1 : Journal) (shown : Bool) (runs0 runs1 : Opt
       by_end false is_shown = rose is_shown
 
   text_same : text_of j1 ≡ text_of j0
-  text_same =
-      let es0 = j0.entries.items in
-      let lines1 : lines j1 ≡ flat_map (entry_text ids) (local_entries ids e.ran.results) =
-      lines_are j1 ids e.ran.results (Over how ∷ []) entries_are ∙ flat_map-append (entry_text ids) (local_entries ids e.ran.results) (Over how ∷ []) ∙ append-nil (flat_map (entry_text ids) (local_entries ids e.ran.results)) in
-      let lines0 : lines j0 ≡ flat_map (entry_text ids) (local_entries ids e.ran.results) =
-      lines_are j0 ids e.ran.results [] (e.ran.so_far.entries ∙ sym (append-nil (local_entries ids e.ran.results))) ∙ ap (flat_map (entry_text ids)) (append-nil (local_entries ids e.ran.results)) in
-      let blocks : flat_map (block_text (ids_in j1.entries.items)) j1.entries.items ≡ flat_map (block_text (ids_in es0)) es0 =
-      ap (λ (es : List Entry). flat_map (block_text (ids_in es)) es) entries_are ∙ flat_map-append (block_text ids) (local_entries ids e.ran.results) (Over how ∷ [])
-      ∙ append-nil (flat_map (block_text ids) (local_entries ids e.ran.results)) ∙ sym (ap (λ (es : List Entry). flat_map (block_text (ids_in es)) es) e.ran.so_far.entries) in
-      let stops : stop_text (stop_so_far j1.settings j1.entries.items) ≡ stop_text (stop_so_far j0.settings es0) = no_stop j1.settings j1.entries.items (e.same_settings ∙ e.settings) ∙ sym (no_stop j0.settings es0 e.settings) in
-      let summaries : summary_text j1.entries.items ≡ summary_text es0 = ap summary_text e.ended ∙ summary_same how es0 in
-      join (lines1 ∙ sym lines0) blocks stops summaries
-    where
-      join : {a a' b b' c c' d d' : List ℕ} → a ≡ a' → b ≡ b' → c ≡ c' → d ≡ d' → a ++ (b ++ c ++ d ++ 10 ∷ []) ≡ a' ++ (b' ++ c' ++ d' ++ 10 ∷ [])
-      join p q r s = cc
+  text_same = ap (λ (st : Settings). run_text st j1.entries.items) e.same_settings ∙ ap (run_text j0.settings) e.ended ∙ over-same how j0.settings j0.entries.items
 
   pub printed : PrintsReport (stop_of j1) (text_of j1) out0 out1
   printed =

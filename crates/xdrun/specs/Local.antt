@@ -1,6 +1,5 @@
 -- A run in the program itself, as far as it came.
 use Rattle.std.specs.Prelude.{ℕ, ◌≡◌, ◌≤◌, Bool, true, false, List, ◌++◌, map, take, length, Option, Some, None, option_map}
-use Rattle.std.specs.List.{flat_map}
 use Rattle.xd_edge.specs.declared.mode.ModeKind.TheVariants.{Local}
 use Rattle.xd_edge.specs.declared.children.ChildRun.{ChildRun}
 use Rattle.xd_edge.specs.Faults.{RoseBy}
@@ -14,7 +13,10 @@ use Rattle.xd_ledger.specs.declared.entry.RunStop.TheVariants.{Completed, OutFau
 use Rattle.xd_ledger.specs.declared.journal.Journal.{Journal}
 use Rattle.xd_ledger.specs.Legal.{round, local_entries}
 use Rattle.xd_ledger.specs.Results.{TestResult, ids_in, results_in}
-use Rattle.xd_report.specs.Lines.{entry_text}
+use Rattle.xd_ledger.specs.State.{all_moved, no_one}
+use Rattle.xd_report.specs.declared.reporter.Reporter.{Reporter}
+use Rattle.xd_report.specs.Follows.{Follows}
+use Rattle.xd_report.specs.Lines.{lines_from, run_lines}
 use Rattle.xd_report.specs.Text.{text_of}
 use Rattle.xdrun.specs.Child.{fault_count, faults_of, outcome_of, RanChild}
 use Rattle.xdrun.specs.Print.{Shows}
@@ -40,13 +42,17 @@ pub record RunsSuite (tests : List Test) (j : Journal) (old new : Option (List C
 abbrev pub AddsRound : ℕ → Outcome → ℕ → List Entry → List Entry → Type 0
 AddsRound test outcome ms old new = new ≡ old ++ round test (record { outcome = outcome; ms = ms })
 
+-- the reporter followed the journal to its end
+abbrev pub Told : Reporter → Journal → Type 0
+Told r j = Follows r (all_moved (no_one j.settings) j.entries.items)
+
 -- what one test adds to the journal, the children, their faults and the output
-pub record RanTest (shown : Bool) (test : ℕ) (args : List (List ℕ)) (es_old es_new : List Entry) (runs_old runs_new : Option (List ChildRun)) (faults_old faults_new : ℕ) (out_old out_new : Option Sunk) : Type 0 where
+pub record RanTest (shown : Bool) (test : ℕ) (args : List (List ℕ)) (j_old : Journal) (es_new : List Entry) (runs_old runs_new : Option (List ChildRun)) (faults_old faults_new : ℕ) (out_old out_new : Option Sunk) : Type 0 where
   pub result : TestResult
-  pub entries : es_new ≡ es_old ++ round test result
+  pub entries : es_new ≡ j_old.entries.items ++ round test result
   pub ran : RanChild args result.outcome runs_old runs_new
   pub faults : RoseBy (fault_count result.outcome) faults_old faults_new
-  pub shows : Shows shown (flat_map (entry_text (ids_in es_new)) (round test result)) out_old out_new
+  pub shows : Shows shown (lines_from (all_moved (no_one j_old.settings) j_old.entries.items) (round test result)) out_old out_new
 
 -- the first tests, as far as they came, with what the outside tells of them
 pub record SoFar (results : List TestResult) (tests : List Test) (ids : List (List ℕ)) (es : List Entry) (runs_old runs_new : Option (List ChildRun)) (faults_old faults_new : ℕ) : Type 0 where
@@ -55,19 +61,19 @@ pub record SoFar (results : List TestResult) (tests : List Test) (ids : List (Li
   pub faults : RoseBy (faults_of results) faults_old faults_new
 
 -- so many tests were run, and all lines so far were printed
-pub record Progress (count : ℕ) (tests : List Test) (ids : List (List ℕ)) (es : List Entry) (runs_old runs_new : Option (List ChildRun)) (faults_old faults_new : ℕ) (out_old out_new : Option Sunk) : Type 0 where
+pub record Progress (count : ℕ) (tests : List Test) (ids : List (List ℕ)) (j : Journal) (runs_old runs_new : Option (List ChildRun)) (faults_old faults_new : ℕ) (out_old out_new : Option Sunk) : Type 0 where
   pub results : List TestResult
-  pub so_far : SoFar results tests ids es runs_old runs_new faults_old faults_new
+  pub so_far : SoFar results tests ids j.entries.items runs_old runs_new faults_old faults_new
   pub counted : length results ≡ count
-  pub shows : Shows true (flat_map (entry_text ids) (local_entries ids results)) out_old out_new
+  pub shows : Shows true (run_lines j.settings j.entries.items) out_old out_new
 
 -- all tests were run and their lines printed, or the output failed at the collection or behind one of them
-pub record RanAll (shown : Bool) (tests : List Test) (ids : List (List ℕ)) (es : List Entry) (runs_old runs_new : Option (List ChildRun)) (faults_old faults_new : ℕ) (out_old out_new : Option Sunk) : Type 0 where
+pub record RanAll (shown : Bool) (tests : List Test) (ids : List (List ℕ)) (j : Journal) (runs_old runs_new : Option (List ChildRun)) (faults_old faults_new : ℕ) (out_old out_new : Option Sunk) : Type 0 where
   pub results : List TestResult
-  pub so_far : SoFar results tests ids es runs_old runs_new faults_old faults_new
+  pub so_far : SoFar results tests ids j.entries.items runs_old runs_new faults_old faults_new
   pub within : length results ≤ length tests
   pub all : shown ≡ true → length results ≡ length tests
-  pub shows : Shows shown (flat_map (entry_text ids) (local_entries ids results)) out_old out_new
+  pub shows : Shows shown (run_lines j.settings j.entries.items) out_old out_new
 
 -- the same with the tail: the journal without its end, and the whole report
 pub record RanPrinted (shown : Bool) (tests : List Test) (ids : List (List ℕ)) (j : Journal) (runs_old runs_new : Option (List ChildRun)) (faults_old faults_new : ℕ) (out_old out_new : Option Sunk) : Type 0 where

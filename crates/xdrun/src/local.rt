@@ -1,16 +1,18 @@
 // The tests of a suite, one after another in this program.
-ghost use Rattle.std.specs.Prelude.{◌≡◌, ◌<◌, ◌≤◌, [], map, false, Ok, length, IsTrue, IfOk, OnOk};
+ghost use Rattle.std.specs.Prelude.{◌≡◌, ◌<◌, ◌≤◌, [], map, false, Ok, drop, length, IfOk, OnOk};
 ghost use Rattle.xd_edge.specs.Faults.{Rose, RoseBy};
 ghost use Rattle.xd_suite.specs.Tests.{run_at};
 ghost use Rattle.xd_ledger.specs.declared.entry.RunStop.TheVariants.{OutFault};
 ghost use Rattle.xd_ledger.specs.Legal.{IsLegal, local_entries};
-ghost use Rattle.xd_ledger.specs.Local.{is_local};
 ghost use Rattle.xd_ledger.specs.Results.{numbers_from, reported_in, results_in};
 ghost use Rattle.xd_ledger.specs.Stop.{stop_of};
-ghost use Rattle.xd_report.specs.Lines.{lines_between};
+ghost use Rattle.xd_ledger.specs.Sharing.{State};
+ghost use Rattle.xd_ledger.specs.State.{all_moved};
+ghost use Rattle.xd_report.specs.Follows.{Follows};
+ghost use Rattle.xd_report.specs.Lines.{lines_from};
 ghost use Rattle.xd_report.specs.Text.{tail_text, text_of};
 ghost use Rattle.xdrun.specs.Child.{faults_of};
-ghost use Rattle.xdrun.specs.Local.{AddsRound, RanAll, RanPrinted, RanTest, RunsSuite, local_settings, stop_after};
+ghost use Rattle.xdrun.specs.Local.{AddsRound, RanAll, RanPrinted, RanTest, RunsSuite, Told, local_settings, stop_after};
 ghost use Rattle.xdrun.specs.Print.{PrintsReport, Shows};
 
 use crate::child::run_child;
@@ -18,7 +20,7 @@ use std::alloc::Global;
 use std::sync::Wait;
 use xd_edge::{Blob, Children, Clock, Indices, ModeKind, OutOfMemory, Sink, print};
 use xd_ledger::{Entry, Ids, Journal, Outcome, RunStop, Settings};
-use xd_report::{report_lines, tail};
+use xd_report::{Reporter, tail};
 use xd_suite::Suite;
 
 /// Runs the tests of a suite in order, and prints the report. The line of a test is handed on as soon as it has ended.
@@ -38,7 +40,6 @@ pub fn run_suite<R: Wait, K: Children, T: Clock, O: Sink>(
     ensures printed { IfOk result (λ j. PrintsReport (stop_of j) (text_of j) (O.sunk out.old) (O.sunk out.new)) }
     ensures out_fault { IfOk result (λ j. stop_of j ≡ OutFault → Rose (O.faults out.old) (O.faults out.new)) }
     ensures child_faults { IfOk result (λ j. RoseBy (faults_of (results_in j.entries.items)) (K.faults children.old) (K.faults children.new)) }
-    ensures is_local { IfOk result (λ j. IsTrue (is_local j)) }
 {
     let mut journal = Journal::new(alloc, local_settings());
     let ids = suite.ids(alloc, ModeKind::Local)?;
@@ -85,11 +86,9 @@ fn run_and_print<R: Wait, K: Children, T: Clock, O: Sink>(
     clock: &mut T,
     out: &mut O,
 ) -> Result<bool, OutOfMemory>
-    requires local { IsTrue (is_local journal.old) }
-    requires collected { journal.old.entries.items ≡ local_entries (map (λ t. t.id) suite.now) [] }
+    requires { journal.old.entries.items ≡ local_entries (map (λ t. t.id) suite.now) [] }
     ensures ran { IfOk result (λ shown. RanPrinted shown suite.now (map (λ t. t.id) suite.now) journal.new (K.runs children.old) (K.runs children.new) (K.faults children.old) (K.faults children.new) (O.sunk out.old) (O.sunk out.new)) }
     ensures settings { journal.new.settings ≡ journal.old.settings }
-    ensures local_still { OnOk result (IsTrue (is_local journal.new)) }
     ensures later { O.faults out.old ≤ O.faults out.new }
     ensures rose { result ≡ Ok false → Rose (O.faults out.old) (O.faults out.new) }
 {
@@ -111,20 +110,29 @@ fn run_tests<R: Wait, K: Children, T: Clock, O: Sink>(
     clock: &mut T,
     out: &mut O,
 ) -> Result<bool, OutOfMemory>
-    requires local { IsTrue (is_local journal.old) }
-    requires collected { journal.old.entries.items ≡ local_entries (map (λ t. t.id) suite.now) [] }
-    ensures ran { IfOk result (λ shown. RanAll shown suite.now (map (λ t. t.id) suite.now) journal.new.entries.items (K.runs children.old) (K.runs children.new) (K.faults children.old) (K.faults children.new) (O.sunk out.old) (O.sunk out.new)) }
+    requires { journal.old.entries.items ≡ local_entries (map (λ t. t.id) suite.now) [] }
+    ensures ran { IfOk result (λ shown. RanAll shown suite.now (map (λ t. t.id) suite.now) journal.new (K.runs children.old) (K.runs children.new) (K.faults children.old) (K.faults children.new) (O.sunk out.old) (O.sunk out.new)) }
     ensures settings { journal.new.settings ≡ journal.old.settings }
-    ensures local_still { OnOk result (IsTrue (is_local journal.new)) }
     ensures later { O.faults out.old ≤ O.faults out.new }
     ensures rose { result ≡ Ok false → Rose (O.faults out.old) (O.faults out.new) }
 {
-    let collected = print_lines(alloc, journal, 0, out)?;
+    let mut reporter = Reporter::new(alloc, journal.settings);
+    let collected = print_lines(alloc, &mut reporter, journal, 0, out)?;
     if !collected {
         return Ok(false);
     }
     for test in 0..suite.len() {
-        let shown = run_test(rt, alloc, suite, test, journal, children, clock, out)?;
+        let shown = run_test(
+            rt,
+            alloc,
+            suite,
+            test,
+            journal,
+            &mut reporter,
+            children,
+            clock,
+            out,
+        )?;
         if !shown {
             return Ok(false);
         }
@@ -139,15 +147,16 @@ fn run_test<R: Wait, K: Children, T: Clock, O: Sink>(
     suite: &Suite,
     test: u32,
     journal: &mut Journal,
+    reporter: &mut Reporter,
     children: &mut K,
     clock: &mut T,
     out: &mut O,
 ) -> Result<bool, OutOfMemory>
-    requires local { IsTrue (is_local journal.old) }
     requires test { test < length suite.now }
-    ensures ran { IfOk result (λ shown. RanTest shown test (run_at suite.now test) journal.old.entries.items journal.new.entries.items (K.runs children.old) (K.runs children.new) (K.faults children.old) (K.faults children.new) (O.sunk out.old) (O.sunk out.new)) }
+    requires told { Told reporter.old journal.old }
+    ensures ran { IfOk result (λ shown. RanTest shown test (run_at suite.now test) journal.old journal.new.entries.items (K.runs children.old) (K.runs children.new) (K.faults children.old) (K.faults children.new) (O.sunk out.old) (O.sunk out.new)) }
+    ensures told { OnOk result (Told reporter.new journal.new) }
     ensures settings { journal.new.settings ≡ journal.old.settings }
-    ensures local_still { OnOk result (IsTrue (is_local journal.new)) }
     ensures children_later { K.faults children.old ≤ K.faults children.new }
     ensures later { O.faults out.old ≤ O.faults out.new }
     ensures rose { result ≡ Ok false → Rose (O.faults out.old) (O.faults out.new) }
@@ -157,7 +166,7 @@ fn run_test<R: Wait, K: Children, T: Clock, O: Sink>(
     let ms = clock.now() - start;
     let from = journal.entries.len();
     add_round(alloc, journal, test, outcome, ms)?;
-    let shown = print_lines(alloc, journal, from, out)?;
+    let shown = print_lines(alloc, reporter, journal, from, out)?;
     Ok(shown)
 }
 
@@ -169,10 +178,8 @@ fn add_round(
     outcome: Outcome,
     ms: u64,
 ) -> Result<(), OutOfMemory>
-    requires { IsTrue (is_local journal.old) }
     ensures entries { OnOk result (AddsRound test outcome ms journal.old.entries.items journal.new.entries.items) }
     ensures settings { journal.new.settings ≡ journal.old.settings }
-    ensures local_still { OnOk result (IsTrue (is_local journal.new)) }
 {
     let mut indices = Vec::new(alloc);
     indices.push(test)?;
@@ -195,17 +202,18 @@ fn add_round(
 // Prints the lines of the entries from a place on; false where the output failed.
 fn print_lines<O: Sink>(
     alloc: Global,
+    reporter: &mut Reporter,
     journal: &Journal,
     from: usize,
     out: &mut O,
 ) -> Result<bool, OutOfMemory>
-    requires local { IsTrue (is_local journal.now) }
-    requires from { from ≤ length journal.now.entries.items }
-    ensures shows { IfOk result (λ shown. Shows shown (lines_between journal.now from (length journal.now.entries.items)) (O.sunk out.old) (O.sunk out.new)) }
+    requires { from ≤ length journal.now.entries.items }
+    ensures shows { (s : State) → Follows reporter.old s → IfOk result (λ shown. Shows shown (lines_from s (drop from journal.now.entries.items)) (O.sunk out.old) (O.sunk out.new)) }
+    ensures follows { (s : State) → Follows reporter.old s → OnOk result (Follows reporter.new (all_moved s (drop from journal.now.entries.items))) }
     ensures later { O.faults out.old ≤ O.faults out.new }
     ensures rose { result ≡ Ok false → Rose (O.faults out.old) (O.faults out.new) }
 {
-    let lines = report_lines(alloc, journal, from, journal.entries.len())?;
+    let lines = reporter.lines(alloc, &journal.entries[from..])?;
     match print(out, lines.as_slice()) {
         Ok(()) => Ok(true),
         Err(_) => Ok(false),
@@ -214,7 +222,6 @@ fn print_lines<O: Sink>(
 
 // Prints the tail; false where the output failed.
 fn print_tail<O: Sink>(alloc: Global, journal: &Journal, out: &mut O) -> Result<bool, OutOfMemory>
-    requires { IsTrue (is_local journal.now) }
     ensures shows { IfOk result (λ shown. Shows shown (tail_text journal.now) (O.sunk out.old) (O.sunk out.new)) }
     ensures later { O.faults out.old ≤ O.faults out.new }
     ensures rose { result ≡ Ok false → Rose (O.faults out.old) (O.faults out.new) }

@@ -98,7 +98,7 @@ pub fn xdrun<R: Wait, F: Files, K: Children, T: Clock, O: Sink, E: Sink>(
     match read_suite(alloc, words, files)? {
         Ok(suite) => {
             let journal = run_suite(rt, alloc, &suite, &mut children, clock, out)?;
-            let status = status_of(&journal);
+            let status = status_of(alloc, &journal)?;
             Ok(RunEnd {
                 status,
                 journal: Some(journal),

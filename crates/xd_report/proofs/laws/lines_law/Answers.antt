@@ -1,5 +1,5 @@
 use Rattle.xd_ledger.specs.State.{no_one}
-use Rattle.xd_report.proofs.RunTexts.{lines-more}
+use Rattle.xd_report.proofs.Texts.{lines-more}
 use Rattle.xd_report.proofs.laws.lines_law.Goals as goal
 
 pub returns : goal.returns

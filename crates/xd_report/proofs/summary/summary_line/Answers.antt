@@ -7,4 +7,4 @@ use Rattle.xd_report.proofs.summary.summary_line.Goals as goal
 pub returns : goal.returns
 returns c =
     ap encode_utf8_all c.from_string.ensures ∙ encodes-chars _ (IsUtf8-string_bytes c.in_ok-line.line) ∙ c.in_ok-line.ensures
-    ∙ ap summary_text c.deref.ensures.value
+    ∙ ap summary_text c.in_ok-counts.ensures

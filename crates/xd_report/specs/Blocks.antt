@@ -1,0 +1,80 @@
+-- The blocks of what failed: a failed test, or a test at whose head a worker went down. A choice of this project.
+use Rattle.std.specs.Prelude.{ℕ, ℤ, zero, suc, ◌-◌, ◌≡◌, ◌==◌, Bool, true, false, List, [], ◌∷◌, ◌++◌, length, take, Some, None, is_some, slice_index_or, negsuc, if◌then◌else◌, codes}
+use Rattle.std.specs.List.{HoldsAt}
+use Rattle.std.specs.Fmt.{decimal, signed_decimal}
+use Rattle.xd_edge.specs.declared.mode.ModeKind.{ModeKind}
+use Rattle.xd_ledger.specs.declared.entry.Entry.{Entry}
+use Rattle.xd_ledger.specs.declared.entry.Entry.TheVariants.{Done, Down}
+use Rattle.xd_ledger.specs.declared.entry.Outcome.TheVariants.{Failed}
+use Rattle.xd_ledger.specs.declared.journal.Journal.{Journal}
+use Rattle.xd_ledger.specs.Sharing.{State}
+use Rattle.xd_ledger.specs.State.{reached, next, all_moved, no_one}
+use Rattle.xd_report.specs.Names.{name, tag, plain}
+use Rattle.xd_report.specs.Tests.{mode_of, id_of, head, item_id}
+
+-- why a test failed
+unfoldable pub reason_of : ℤ → List ℕ
+reason_of (negsuc zero) = codes "killed by a signal"
+reason_of (negsuc (suc zero)) = codes "could not be started"
+reason_of (negsuc (suc (suc zero))) = codes "could not be read"
+reason_of s = codes "status " ++ signed_decimal s
+
+unfoldable pub crash_reason : ModeKind → ℕ → List ℕ → List ℕ
+crash_reason mode worker id = codes "worker '" ++ (name mode worker ++ (codes "' crashed while running '" ++ (plain id ++ codes "'")))
+
+-- the bytes end with a newline
+abbrev pub ends_line : List ℕ → Bool
+ends_line bytes = slice_index_or bytes (length bytes - 1) 0 == 10
+
+-- a newline where the bytes end with none
+abbrev pub line_end : List ℕ → List ℕ
+line_end bytes = if ends_line bytes then [] else 10 ∷ []
+
+abbrev pub count_line : ℕ → List ℕ
+count_line n = codes "---- output: " ++ decimal n ++ codes " bytes ----" ++ 10 ∷ []
+
+-- the kept output of a test, where there is one
+unfoldable pub output_text : List ℕ → List ℕ
+output_text output = if length output == 0 then [] else (count_line (length output) ++ output ++ line_end output)
+
+unfoldable pub heading_line : ModeKind → ℕ → List ℕ → List ℕ
+heading_line mode worker id = codes "==== " ++ (tag mode worker ++ (plain id ++ (codes " ====" ++ 10 ∷ [])))
+
+abbrev pub block : ModeKind → ℕ → List ℕ → List ℕ → List ℕ → List ℕ
+block mode worker id reason output = heading_line mode worker id ++ (reason ++ (10 ∷ [] ++ output_text output))
+
+-- the block of the test at whose head a worker went down
+abbrev pub crash_block : ℕ → List ℕ → State → List ℕ
+crash_block worker output s = elim (head worker s) [
+  | None ↦ []
+  | Some item ↦ block (mode_of s) worker (item_id worker item s) (crash_reason (mode_of s) worker (item_id worker item s)) output
+]
+
+-- the block of one entry behind the state s, where it is a failed report
+abbrev pub block_of : State → Entry → List ℕ
+block_of s (Done worker index (Failed code) ms output) = block (mode_of s) worker (id_of worker index s) (reason_of code) output
+block_of s (Down worker cause output) = crash_block worker output s
+block_of s _ = []
+
+-- the entry is a failed report: a failed test, or the end of a worker that held one
+abbrev pub is_failed_report : State → Entry → Bool
+is_failed_report s (Done worker index (Failed code) ms output) = true
+is_failed_report s (Down worker cause output) = is_some (head worker s)
+is_failed_report s _ = false
+
+-- the blocks of these entries behind a state
+abbrev pub blocks_from : State → List Entry → List ℕ
+blocks_from s [] = []
+blocks_from s (e ∷ es) = block_of (reached s e) e ++ blocks_from (next s e) es
+
+-- the state behind the entries ahead of a place
+abbrev pub ahead : Journal → ℕ → State
+ahead j at = all_moved (no_one j.settings) (take at j.entries.items)
+
+-- The entry at a place is a failed report.
+abbrev pub IsFailedAt : Journal → ℕ → Type 0
+IsFailedAt j at = HoldsAt (λ e. is_failed_report (ahead j at) e ≡ true) j.entries.items at
+
+-- This is the block of the entry at a place.
+abbrev pub IsBlockAt : Journal → ℕ → List ℕ → Type 0
+IsBlockAt j at text = HoldsAt (λ e. block_of (ahead j at) e ≡ text) j.entries.items at

@@ -1,0 +1,30 @@
+-- The tests that an entry speaks of, behind the state in which it stands.
+use Rattle.std.specs.Prelude.{ℕ, ◌-◌, List, [], length, slice_index_or, Option, if◌then◌else◌}
+use Rattle.xd_edge.specs.declared.mode.ModeKind.{ModeKind}
+use Rattle.xd_ledger.specs.Collections.{key}
+use Rattle.xd_ledger.specs.Local.{is_local_mode}
+use Rattle.xd_ledger.specs.Numbers.{first_of}
+use Rattle.xd_ledger.specs.Plan.{base, total}
+use Rattle.xd_ledger.specs.Sharing.{State, ids_at}
+use Rattle.xd_ledger.specs.Table.{held}
+use Rattle.xd_ledger.specs.Workers.{slot_of}
+
+abbrev pub mode_of : State → ModeKind
+mode_of s = s.books.settings.mode
+
+-- the id of the test that the worker calls by this number; nothing where no entry gives it
+abbrev pub id_of : ℕ → ℕ → State → List ℕ
+id_of worker index s = slice_index_or (ids_at (key worker s.books) s.books.lists) index []
+
+-- the first item that the worker holds
+abbrev pub head : ℕ → State → Option ℕ
+head worker s = first_of (held worker s.books.table)
+
+-- the id of an item of the worker's slot
+abbrev pub item_id : ℕ → ℕ → State → List ℕ
+item_id worker item s = id_of worker (item - base (slot_of worker s.books) s.plan) s
+
+-- how many tests the run has: with workers those that were shared, of all slots in mode each; without workers those
+-- that were collected
+abbrev pub tests : State → ℕ
+tests s = if is_local_mode (mode_of s) then length (ids_at 0 s.books.lists) else total s.plan

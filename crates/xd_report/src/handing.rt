@@ -1,0 +1,77 @@
+// What is told to workers.
+ghost use Rattle.std.specs.Prelude.{OnOk};
+ghost use Rattle.xd_ledger.specs.Plan.{base};
+ghost use Rattle.xd_ledger.specs.Sharing.{State};
+ghost use Rattle.xd_ledger.specs.State.{moved, after_back, after_run, after_run_all};
+ghost use Rattle.xd_ledger.specs.declared.entry.Entry.TheVariants.{Start, Shutdown};
+ghost use Rattle.xd_report.specs.Follows.{Follows};
+ghost use Rattle.xd_report.specs.Tests.{tests};
+
+use crate::numbers::numbers_from;
+use crate::reporter::Reporter;
+use crate::{crew, desk};
+use std::alloc::Global;
+use xd_edge::OutOfMemory;
+use xd_ledger::Member;
+
+impl Reporter {
+    // A worker was started.
+    pub(crate) fn start(&mut self, worker: u32, slot: u32) -> Result<(), OutOfMemory>
+        ensures { (s : State) → Follows self.old s → OnOk result (Follows self.new (moved s (Start worker slot))) }
+    {
+        self.crew.push(Member {
+            worker,
+            slot,
+            active: false,
+            ready: false,
+            collected: false,
+            shut: false,
+        })?;
+        Ok(())
+    }
+
+    // A worker is given tests.
+    pub(crate) fn assign(
+        &mut self,
+        alloc: Global,
+        worker: u32,
+        indices: &[u32],
+    ) -> Result<(), OutOfMemory>
+        ensures { (s : State) → Follows self.old s → OnOk result (Follows self.new (after_run worker indices.now s)) }
+    {
+        let items = self.items(alloc, worker, indices)?;
+        desk::add_held(&mut self.rota, worker, &items)?;
+        Ok(())
+    }
+
+    // A worker is given all tests of its slot.
+    pub(crate) fn assign_all(&mut self, alloc: Global, worker: u32) -> Result<(), OutOfMemory>
+        ensures { (s : State) → Follows self.old s → OnOk result (Follows self.new (after_run_all worker s)) }
+    {
+        let base = self.base(worker)?;
+        let items = numbers_from(alloc, base, self.size(worker))?;
+        desk::add_held(&mut self.rota, worker, &items)?;
+        Ok(())
+    }
+
+    // Tests that a worker had come back.
+    pub(crate) fn take_back(
+        &mut self,
+        alloc: Global,
+        worker: u32,
+        indices: &[u32],
+    ) -> Result<(), OutOfMemory>
+        ensures { (s : State) → Follows self.old s → OnOk result (Follows self.new (after_back worker indices.now s)) }
+    {
+        let items = self.items(alloc, worker, indices)?;
+        desk::take_held(&mut self.rota, worker, &items);
+        Ok(())
+    }
+
+    // A worker is told to shut down.
+    pub(crate) fn tell(&mut self, worker: u32)
+        ensures { (s : State) → Follows self.old s → Follows self.new (moved s (Shutdown worker)) }
+    {
+        crew::mark_shut(&mut self.crew, worker);
+    }
+}

@@ -1,0 +1,62 @@
+// Numbers and lists of them. What has no room in a number has none in memory either.
+ghost use Rattle.std.specs.Prelude.{◌≡◌, ◌+◌, ◌==◌, ◌++◌, ◌∷◌, IfOk, map, sum, OnOk};
+ghost use Rattle.std.specs.List.{range_with_len, list_any};
+
+use std::alloc::Global;
+use xd_edge::OutOfMemory;
+
+pub fn plus(a: u64, b: u64) -> Result<u64, OutOfMemory>
+    ensures { IfOk result (λ n. n ≡ a + b) }
+{
+    match a.checked_add(b) {
+        Some(n) => Ok(n),
+        None => Err(OutOfMemory),
+    }
+}
+
+pub fn one_more(n: u32) -> Result<u32, OutOfMemory>
+    ensures { IfOk result (λ more. more ≡ n + 1) }
+{
+    match n.checked_add(1) {
+        Some(n) => Ok(n),
+        None => Err(OutOfMemory),
+    }
+}
+
+pub fn sum_of(numbers: &[u64]) -> Result<u64, OutOfMemory>
+    ensures { IfOk result (λ n. n ≡ sum numbers.now) }
+{
+    let mut total = 0;
+    for number in numbers {
+        total = plus(total, *number)?;
+    }
+    Ok(total)
+}
+
+/// The numbers, each that much larger.
+pub fn each_more(alloc: Global, base: u64, numbers: &[u32]) -> Result<Vec<u64>, OutOfMemory>
+    ensures { IfOk result (λ more. more.items ≡ map (λ n. base + n) numbers.now) }
+{
+    let mut more = Vec::new(alloc);
+    for number in numbers {
+        more.push(plus(base, *number as u64)?)?;
+    }
+    Ok(more)
+}
+
+/// So many numbers from the first one on.
+pub fn numbers_from(alloc: Global, first: u64, count: u64) -> Result<Vec<u64>, OutOfMemory>
+    ensures { IfOk result (λ numbers. numbers.items ≡ range_with_len first count) }
+{
+    let mut numbers = Vec::new(alloc);
+    for i in 0..count {
+        numbers.push(plus(first, i)?)?;
+    }
+    Ok(numbers)
+}
+
+pub fn is_among(item: u64, items: &[u64]) -> bool
+    ensures { result ≡ list_any (λ y. item == y) items.now }
+{
+    items.iter().any(|&y| item == y)
+}

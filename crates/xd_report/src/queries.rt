@@ -1,0 +1,149 @@
+// What a reporter tells of the run.
+ghost use Rattle.std.specs.Prelude.{◌≡◌, [], IfOk, Some, slice_index, slice_index_or};
+ghost use Rattle.std.specs.Str.{chars};
+ghost use Rattle.xd_ledger.specs.Collections.{key};
+ghost use Rattle.xd_ledger.specs.Numbers.{first_of};
+ghost use Rattle.xd_ledger.specs.Table.{held};
+ghost use Rattle.xd_ledger.specs.Plan.{base, is_each, items_named};
+ghost use Rattle.xd_ledger.specs.Sharing.{State, ids_at};
+ghost use Rattle.xd_ledger.specs.Workers.{is_shut, slot_of};
+ghost use Rattle.xd_report.specs.Follows.{Follows};
+ghost use Rattle.xd_report.specs.Tests.{head, id_of, item_id, tests};
+
+use crate::numbers::{each_more, sum_of};
+use crate::reporter::Reporter;
+use crate::{crew, desk, lists};
+use std::alloc::Global;
+use xd_edge::{ModeKind, OutOfMemory, Text};
+
+impl Reporter {
+    // The slot of a worker, or 0 where it was not started.
+    pub(crate) fn slot_of(&self, worker: u32) -> u32
+        ensures { (s : State) → Follows self.now s → result ≡ slot_of worker s.books }
+    {
+        crew::slot_in(&self.crew, worker)
+    }
+
+    pub(crate) fn is_shut(&self, worker: u32) -> bool
+        ensures { (s : State) → Follows self.now s → result ≡ is_shut worker s.books }
+    {
+        crew::is_shut(&self.crew, worker)
+    }
+
+    pub(crate) fn is_each(&self) -> bool
+        ensures { result ≡ is_each self.now.settings.mode }
+    {
+        match self.settings.mode {
+            ModeKind::Each => true,
+            _ => false,
+        }
+    }
+
+    // Under which slot a worker's collection is kept.
+    pub(crate) fn key(&self, worker: u32) -> u32
+        ensures { (s : State) → Follows self.now s → result ≡ key worker s.books }
+    {
+        if self.is_each() {
+            self.slot_of(worker)
+        } else {
+            0
+        }
+    }
+
+    // The ids of a worker's tests.
+    pub(crate) fn ids(&self, worker: u32) -> &[Text]
+        ensures { (s : State) → Follows self.now s → result.now ≡ ids_at (key worker s.books) s.books.lists }
+    {
+        lists::ids_at(&self.lists, self.key(worker))
+    }
+
+    // The id of the test that a worker calls by this number.
+    pub(crate) fn id_of(&self, worker: u32, index: u64) -> &str
+        ensures { (s : State) → Follows self.now s → chars result.now ≡ id_of worker index s }
+    {
+        id_at(self.ids(worker), index)
+    }
+
+    // The id of an item of a worker's slot.
+    pub(crate) fn item_id(&self, worker: u32, item: u64) -> Result<&str, OutOfMemory>
+        ensures { (s : State) → Follows self.now s → IfOk result (λ id. chars id.now ≡ item_id worker item s) }
+    {
+        let base = self.base(worker)?;
+        Ok(self.id_of(worker, item.saturating_sub(base)))
+    }
+
+    // What a worker holds.
+    pub(crate) fn held(&self, worker: u32) -> &[u64]
+        ensures { (s : State) → Follows self.now s → result.now ≡ held worker s.books.table }
+    {
+        desk::held_in(&self.rota, worker)
+    }
+
+    // The first item that a worker holds.
+    pub(crate) fn head(&self, worker: u32) -> Option<u64>
+        ensures { (s : State) → Follows self.now s → result ≡ head worker s }
+    {
+        first_of(self.held(worker))
+    }
+
+    // The first item of a worker's slot.
+    pub(crate) fn base(&self, worker: u32) -> Result<u64, OutOfMemory>
+        ensures { (s : State) → Follows self.now s → IfOk result (λ n. n ≡ base (slot_of worker s.books) s.plan) }
+    {
+        if !self.is_each() {
+            return Ok(0);
+        }
+        let slot = (self.slot_of(worker) as usize).min(self.sizes.len());
+        let base = sum_of(&self.sizes[..slot])?;
+        Ok(base)
+    }
+
+    // The items that a worker calls by these numbers.
+    pub(crate) fn items(
+        &self,
+        alloc: Global,
+        worker: u32,
+        indices: &[u32],
+    ) -> Result<Vec<u64>, OutOfMemory>
+        ensures { (s : State) → Follows self.now s → IfOk result (λ items. items.items ≡ items_named (slot_of worker s.books) indices.now s.plan) }
+    {
+        let base = self.base(worker)?;
+        let items = each_more(alloc, base, indices)?;
+        Ok(items)
+    }
+
+    // How many tests a worker's slot has.
+    pub(crate) fn size(&self, worker: u32) -> u64
+        ensures { (s : State) → Follows self.now s → result ≡ slice_index s.plan.sizes (slot_of worker s.books) }
+    {
+        match self.sizes.get(self.slot_of(worker) as usize) {
+            Some(size) => *size,
+            None => 0,
+        }
+    }
+
+    // How many tests the run has.
+    pub(crate) fn tests(&self) -> Result<u64, OutOfMemory>
+        ensures { (s : State) → Follows self.now s → IfOk result (λ n. n ≡ tests s) }
+    {
+        match self.settings.mode {
+            ModeKind::Local => Ok(lists::ids_at(&self.lists, 0).len() as u64),
+            _ => sum_of(&self.sizes),
+        }
+    }
+}
+
+fn first_of(items: &[u64]) -> Option<u64>
+    ensures { result ≡ first_of items.now }
+{
+    items.first().copied()
+}
+
+fn id_at(ids: &[Text], index: u64) -> &str
+    ensures { chars result.now ≡ slice_index_or ids.now index [] }
+{
+    match ids.get(index as usize) {
+        Some(id) => id.as_str(),
+        None => "",
+    }
+}

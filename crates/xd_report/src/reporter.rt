@@ -1,0 +1,78 @@
+// What reports need of the state of a run.
+ghost use Rattle.std.specs.Prelude.{OnOk};
+ghost use Rattle.xd_ledger.specs.Sharing.{State};
+ghost use Rattle.xd_ledger.specs.State.{next, no_one};
+ghost use Rattle.xd_report.specs.Follows.{Follows};
+
+use crate::desk::Desk;
+use std::alloc::Global;
+use xd_edge::OutOfMemory;
+use xd_ledger::{Entry, Listed, Member, RunStop, Settings};
+
+/// Follows a journal entry by entry, and keeps of it what the report of the next entry needs: the workers, the ids of
+/// each slot, and what each worker holds.
+#[derive(Drop)]
+pub struct Reporter {
+    pub(crate) settings: Settings,
+    pub(crate) crew: Vec<Member>,
+    pub(crate) lists: Vec<Listed>,
+    pub(crate) rota: Vec<Desk>,
+    pub(crate) shared: bool,
+    pub(crate) sizes: Vec<u64>,
+    pub(crate) failures: u32,
+    pub(crate) deaths: u32,
+    pub(crate) stop: Option<RunStop>,
+}
+
+impl Reporter {
+    /// No entry was seen yet.
+    pub fn new(alloc: Global, settings: Settings) -> Reporter
+        ensures { Follows result (no_one settings) }
+    {
+        Reporter {
+            settings,
+            crew: Vec::new(alloc),
+            lists: Vec::new(alloc),
+            rota: Vec::new(alloc),
+            shared: false,
+            sizes: Vec::new(alloc),
+            failures: 0,
+            deaths: 0,
+            stop: None,
+        }
+    }
+
+    // One entry more.
+    pub fn note(&mut self, alloc: Global, entry: &Entry) -> Result<(), OutOfMemory>
+        ensures { (s : State) → Follows self.old s → OnOk result (Follows self.new (next s entry.now)) }
+    {
+        match entry {
+            Entry::Start { worker, slot } => self.start(*worker, *slot),
+            Entry::Collected { worker, ids } => self.collect(alloc, *worker, ids),
+            Entry::Done {
+                worker,
+                index,
+                outcome,
+                ..
+            } => self.complete(alloc, *worker, *index, *outcome),
+            Entry::Back { worker, indices } => self.take_back(alloc, *worker, &indices.items),
+            Entry::Finished { worker } => {
+                self.leave(*worker);
+                Ok(())
+            }
+            Entry::Refused { worker, .. } => {
+                self.stop_by(Some(RunStop::CollectError { worker: *worker }));
+                Ok(())
+            }
+            Entry::Down { worker, .. } | Entry::NotStarted { worker } => self.bury(*worker),
+            Entry::Run { worker, indices } => self.assign(alloc, *worker, &indices.items),
+            Entry::RunAll { worker } => self.assign_all(alloc, *worker),
+            Entry::Shutdown { worker } => {
+                self.tell(*worker);
+                Ok(())
+            }
+            Entry::Ready { .. } => Ok(()),
+            Entry::Steal { .. } | Entry::Kill { .. } | Entry::Over { .. } => Ok(()),
+        }
+    }
+}
