@@ -23,13 +23,13 @@ use Rattle.xd_ledger.specs.Histories.{begun, first_starts, is_over, starts_from}
 use Rattle.xd_ledger.specs.Proper.{IsProper}
 use Rattle.xd_report.specs.Lines.{last_of_slot, lines_from, lines_of, replacing, run_lines}
 use Rattle.xd_report.specs.Tests.{mode_of}
-use Rattle.xd_report.specs.Text.{tail_text, text_of}
+use Rattle.xd_report.specs.Text.{run_tail, tail_text, text_of}
 use Rattle.xd_session.specs.History.{run_of}
 use Rattle.xd_session.specs.Stands.{Seen, StandsFor, state_of}
 use Rattle.xd_laws.proofs.Logic.{and, cases_of, differ, not_true, split-and}
 use Rattle.xd_laws.proofs.Crew.{has}
 use Rattle.xd_drive.specs.Agrees.{Agrees}
-use Rattle.xd_drive.specs.Going.{Finished, Going, IsDone, IsFresh, Scene, ShowsSome, Stopped, TakesNews, Told, Untold}
+use Rattle.xd_drive.specs.Going.{EndsRun, EndsTail, Finished, Going, IsDone, IsFresh, Scene, ShowsSome, Stopped, TakesNews, Told, Untold}
 use Rattle.xd_drive.specs.Marks.{Marks, no_marks}
 use Rattle.xd_drive.specs.Performing.{AddsAll, Performs, after_all, after_entry, all_possible, is_start_of, possible, was_started}
 use Rattle.xd_drive.specs.Printing.{ShowsEnd}
@@ -37,7 +37,7 @@ use Rattle.xd_drive.specs.Taken.{taken_of, taken_with}
 use Rattle.xd_drive.proofs.Outs.{Goes, goes-start, started-more}
 use Rattle.xd_drive.proofs.Performs.{adds-more, adds-none, performs-more}
 use Rattle.xd_drive.proofs.Stepped.{started-by, state-is}
-use Rattle.xd_drive.proofs.Texts.{first-lines, tail-is, tail_by, text-is}
+use Rattle.xd_drive.proofs.Texts.{first-lines, tail-is, text-is}
 use Rattle.xd_drive.proofs.Turns.{unkilled}
 
 -- the first starts
@@ -164,7 +164,7 @@ module _ (given : List News) (n : News) (s0 s1 : Seen) (old mid new : Scene) (g 
 
 module _ (given : List News) (s : Seen) (old mid new : Scene) (g : Going given s old mid) (starts_same : new.starts ≡ mid.starts) (calls_same : new.calls ≡ mid.calls) (given_same : new.given ≡ mid.given) (marks_same : (w : ℕ) → new.marks w ≡ mid.marks w)
     (j : Journal) (settings_are : j.settings ≡ s.settings) (entries_are : j.entries.items ≡ s.entries) where
-  tail-same : tail_text j ≡ tail_by s.settings s.entries
+  tail-same : tail_text j ≡ run_tail s.settings s.entries
   tail-same = tail-is j s.settings s.entries settings_are entries_are
 
   performed-same : Performs s.entries old.starts new.starts old.calls new.calls
@@ -179,7 +179,7 @@ module _ (given : List News) (s : Seen) (old mid new : Scene) (g : Going given s
     performed = performed-same;
     over = over;
     shows = λ k a b. subst (λ (l : List ℕ). ShowsEnd true l old.sunk new.sunk) (sym (text-is k s.settings s.entries a b))
-        (shows-end (run_lines s.settings s.entries) (tail_by s.settings s.entries) old.sunk mid.sunk new.sunk g.shows (subst (λ (l : List ℕ). ShowsEnd true l mid.sunk new.sunk) tail-same shown));
+        (shows-end (run_lines s.settings s.entries) (run_tail s.settings s.entries) old.sunk mid.sunk new.sunk g.shows (subst (λ (l : List ℕ). ShowsEnd true l mid.sunk new.sunk) tail-same shown));
   }
 
   pub unfinished : (count : ℕ) → count ≡ length s.entries → ShowsEnd false (tail_text j) mid.sunk new.sunk → Stopped given count s old new
@@ -193,7 +193,7 @@ module _ (given : List News) (s : Seen) (old mid new : Scene) (g : Going given s
         started = λ w. ap (λ (m : Marks). m.started) (marks_same w) ∙ g.started w ∙ ap (was_started w) (sym all);
         unkilled = λ w a. ap (λ (m : Marks). m.killed) (marks_same w) ∙ unkilled (state_of s).books mid.marks g.agrees w a;
         shows = λ k a b. subst (λ (l : List ℕ). PrintedPart l old.sunk new.sunk) (sym (text-is k s.settings s.entries a b))
-            (shows-part (run_lines s.settings s.entries) (tail_by s.settings s.entries) old.sunk mid.sunk new.sunk g.shows (subst (λ (l : List ℕ). PrintedPart l mid.sunk new.sunk) tail-same shown));
+            (shows-part (run_lines s.settings s.entries) (run_tail s.settings s.entries) old.sunk mid.sunk new.sunk g.shows (subst (λ (l : List ℕ). PrintedPart l mid.sunk new.sunk) tail-same shown));
       }
 
 -- the beginning
@@ -227,3 +227,25 @@ someone-first s old new p st g = (0, g.started 0 ∙ ap (was_started 0) st.entri
 
 pub someone-still : (n : News) (s0 s1 : Seen) (mid new : Scene) → TakesNews n None s0 s1 mid new → (w : ℕ) × ((mid.marks w).started ≡ true) → (w : ℕ) × ((new.marks w).started ≡ true)
 someone-still n s0 s1 mid new t w = (w.0, t.told.1.started w.0 ∙ ap (λ (b : Bool). b || was_started w.0 (t.told.0)) w.1)
+
+-- what the last step of the loop comes to
+
+pub begins : (s : Seen) (slots : ℕ) (old new : Scene) (es : List Entry) → es ≡ s.entries → s.settings.workers ≤ slots → StandsFor [] s → IsFresh old.marks → Performs es old.starts new.starts old.calls new.calls
+    → ((w : ℕ) → new.marks w ≡ after_all es old.marks w) → new.given ≡ old.given → new.sunk ≡ old.sunk → Going [] s old new
+begins s slots old new es is l st fresh performed marks given sunk =
+    going-first s slots old new l st fresh (subst (λ (x : List Entry). Performs x old.starts new.starts old.calls new.calls) is performed) (λ w. marks w ∙ ap (λ (x : List Entry). after_all x old.marks w) is) given sunk
+
+pub over-ends : (given : List News) (s : Seen) (old mid new : Scene) (g : Going given s old mid) (starts_same : new.starts ≡ mid.starts) (calls_same : new.calls ≡ mid.calls) (given_same : new.given ≡ mid.given) (marks_same : (w : ℕ) → new.marks w ≡ mid.marks w)
+    (j : Journal) → j.settings ≡ s.settings → j.entries.items ≡ s.entries → is_over (state_of s).books ≡ true → (stopped : Option ℕ) → EndsTail stopped j mid.sunk new.sunk → EndsRun stopped s old new
+over-ends given s old mid new g a b c d j e f over None t = (given, finished given s old mid new g a b c d j e f over t)
+over-ends given s old mid new g a b c d j e f over (Some count) t = (given, unfinished given s old mid new g a b c d j e f count (t.0 ∙ ap length f) t.1)
+
+pub stop-by : (given : List News) (n : News) (s0 s1 : Seen) (old mid new : Scene) → Going given s0 old mid → IsProper s0.settings [] → (stopped : Option ℕ) (count : ℕ) → stopped ≡ Some count → TakesNews n stopped s0 s1 mid new → (all : List News) × Stopped all count s1 old new
+stop-by given n s0 s1 old mid new g p stopped count is t = (given ++ n ∷ [], going-stop given n s0 s1 old mid new g p count (subst (λ (o : Option ℕ). TakesNews n o s0 s1 mid new) is t))
+
+none-of : (o : Option ℕ) → ((x : ℕ) → o ≡ Some x → ⊥) → o ≡ None
+none-of None h = refl
+none-of (Some x) h = absurd (h x refl)
+
+pub takes-none : (n : News) (s0 s1 : Seen) (mid new : Scene) (stopped : Option ℕ) → ((x : ℕ) → stopped ≡ Some x → ⊥) → TakesNews n stopped s0 s1 mid new → TakesNews n None s0 s1 mid new
+takes-none n s0 s1 mid new stopped h t = subst (λ (o : Option ℕ). TakesNews n o s0 s1 mid new) (none-of stopped h) t

@@ -1,4 +1,4 @@
--- The text of a journal, by its settings and entries. What stands at the end of a journal prints nothing.
+-- What stands at the end of a journal prints nothing.
 use Rattle.std.proofs.Common.{◌≡◌, ℕ, zero, suc, ◌+◌, ◌≤◌, List, [], ◌∷◌, ◌++◌, length, map, filter, Bool, true, false, ◌&&◌, Option, Some, None, refl, sym, ◌∙◌, ap, subst, arith, inl, inr, append_assoc}
 use Rattle.std.specs.Prelude.{◌==◌, if◌then◌else◌}
 use Rattle.std.specs.List.{list_all}
@@ -23,23 +23,15 @@ use Rattle.xd_report.specs.Lines.{last_of_slot, lines_from, lines_of, replacing,
 use Rattle.xd_report.specs.StopLine.{line_of_stop, refusal, stop_line}
 use Rattle.xd_report.specs.Summary.{counted, counted_from, counts, summary_text}
 use Rattle.xd_report.specs.Tests.{mode_of}
-use Rattle.xd_report.specs.Text.{tail_text, text_of}
+use Rattle.xd_report.specs.Text.{run_tail, run_text, tail_text, text_of}
 use Rattle.xd_session.specs.Ending.{ending, kills}
 use Rattle.xd_laws.proofs.Logic.{and, differ, split-and}
 
--- the tail and the text, by settings and entries
+pub text-is : (j : Journal) (x : Settings) (es : List Entry) → j.settings ≡ x → j.entries.items ≡ es → text_of j ≡ run_text x es
+text-is j x es a b = ap (λ (y : Settings). run_text y j.entries.items) a ∙ ap (run_text x) b
 
-abbrev pub tail_by : Settings → List Entry → List ℕ
-tail_by x es = blocks_from (no_one x) es ++ (line_of_stop x.mode es (state_at x es).books.stop ++ (summary_text (counts x es) ++ 10 ∷ []))
-
-abbrev pub text_by : Settings → List Entry → List ℕ
-text_by x es = run_lines x es ++ tail_by x es
-
-pub text-is : (j : Journal) (x : Settings) (es : List Entry) → j.settings ≡ x → j.entries.items ≡ es → text_of j ≡ text_by x es
-text-is j x es a b = ap (λ (y : Settings). text_by y j.entries.items) a ∙ ap (text_by x) b
-
-pub tail-is : (j : Journal) (x : Settings) (es : List Entry) → j.settings ≡ x → j.entries.items ≡ es → tail_text j ≡ tail_by x es
-tail-is j x es a b = ap (λ (y : Settings). tail_by y j.entries.items) a ∙ ap (tail_by x) b
+pub tail-is : (j : Journal) (x : Settings) (es : List Entry) → j.settings ≡ x → j.entries.items ≡ es → tail_text j ≡ run_tail x es
+tail-is j x es a b = ap (λ (y : Settings). run_tail y j.entries.items) a ∙ ap (run_tail x) b
 
 -- a kill or the end
 
@@ -157,7 +149,7 @@ module _ (ys : List Entry) (h : list_all silent ys ≡ true) where
   stop-behind mode xs (Some (CollectError w)) = ap (λ (l : List ℕ). Rattle.xd_report.specs.StopLine.refused_line mode w l) (refusal-behind w xs)
   stop-behind mode xs (Some OutFault) = refl
 
-  pub text-behind : (x : Settings) (xs : List Entry) → text_by x (xs ++ ys) ≡ text_by x xs
+  pub text-behind : (x : Settings) (xs : List Entry) → run_text x (xs ++ ys) ≡ run_text x xs
   text-behind x xs =
       let lines = lines-behind (no_one x) xs in
       let blocks = blocks-behind (no_one x) xs in

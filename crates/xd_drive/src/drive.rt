@@ -56,7 +56,8 @@ fn run<R: Wait, M: Mode, H: Hub, O: Sink>(
     perform(alloc, hub, &session.journal().entries)?;
     for _ in rt.forever() {
         if session.over() {
-            return finish(alloc, session.journal(), out);
+            let stopped = finish(alloc, session.journal(), out)?;
+            return Ok(stopped);
         }
         let stopped = take_news(rt, alloc, session, hub, out)?;
         if let Some(count) = stopped {
