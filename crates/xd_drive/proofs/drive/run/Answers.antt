@@ -30,7 +30,7 @@ pub returns-in-Some-stopped-clause-ends : goal.returns-in-Some-stopped-clause-en
 returns-in-Some-stopped-clause-ends g c =
     let t = c.in_ok-stopped-2.ensures.takes in
     stop-by c.loop.invariant.going.0 t.0 c.loop.session _ _ _ _ c.loop.invariant.going.1
-    (subst (λ (x : Settings). IsProper x []) (sym c.loop.invariant.settings) c.requires.proper) c.in_ok-stopped-2.stopped c.in-Some-stopped-2.count c.in-Some-stopped-2.is t.1
+    (subst (λ (x : Settings). IsProper x []) (sym c.loop.invariant.settings) c.requires.proper) c.in_ok-stopped-2.stopped c.in-Some-stopped.count c.in-Some-stopped.is t.1
 
 pub loop-preserved : goal.loop-preserved
 loop-preserved g c =
