@@ -1,6 +1,5 @@
 pub mod Agrees
 pub mod Calls
-pub mod Drive
 pub mod Going
 pub mod Listed
 pub mod Marks
