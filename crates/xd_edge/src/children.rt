@@ -1,11 +1,10 @@
 // Programs that are started, read and waited for.
-ghost use Rattle.std.specs.Prelude.{◌≡◌, ◌<◌, ◌≤◌, ℕ, List, Bool, Option, length, IsTrue, IfOk, OnOk, OnErr, IsErrOf};
+ghost use Rattle.std.specs.Prelude.{◌≡◌, ◌<◌, ◌≤◌, ℕ, List, Bool, Option, length, take, IsTrue, IfOk, OnOk, OnErr, IsErrOf};
 ghost use Rattle.xd_edge.specs.declared.children.ChildFault.TheVariants.{OutOfMemory};
-ghost use Rattle.xd_edge.specs.declared.children.ChildRun.{ChildRun};
 ghost use Rattle.xd_edge.specs.Faults.{Rose};
-ghost use Rattle.xd_edge.specs.Children.{AddsRun, ChangesRun, IsNext, running, not_started, with_read_fault, with_end, with_wait_fault};
+ghost use Rattle.xd_edge.specs.Children.{ChildRun, AddsRun, ChangesRun, IsNext, running, not_started, with_output, with_read_fault, with_end, with_wait_fault};
 
-use crate::{Failed, OutOfMemory, Text, Texts};
+use crate::{Failed, OutOfMemory, Text};
 use std::alloc::{AllocError, AllocFailed, Global};
 use std::sync::Wait;
 
@@ -59,13 +58,6 @@ pub enum Fate {
     NotWaited,
 }
 
-/// A start that was asked for.
-#[derive(Drop)]
-pub struct ChildRun {
-    pub args: Texts,
-    pub fate: Fate,
-}
-
 /// Programs that are started, read and waited for. A child's standard input is empty, and its standard error is
 /// dropped.
 pub trait Children: Drop {
@@ -74,7 +66,7 @@ pub trait Children: Drop {
     /// How often it has failed.
     ghost faults: { Self → ℕ };
 
-    /// The starts that were asked for, in order, or `None` where it does not tell.
+    /// The starts that were asked for, in order, with what each gave, or `None` where it does not tell.
     ghost runs: { Self → Option (List ChildRun) };
 
     /// The place of a child among the starts.
@@ -104,7 +96,7 @@ pub trait Children: Drop {
         ensures same_child { place child.new ≡ place child.old }
         ensures end { IfOk result (λ n. n ≡ 0 → 0 < length into.old → IsTrue (is_read child.new)) }
         ensures end_failed { OnErr result (IsTrue (is_read child.new)) }
-        ensures kept { OnOk result (runs self.new ≡ runs self.old) }
+        ensures gave { IfOk result (λ n. ChangesRun (place child.old) (with_output (take n into.new)) (runs self.old) (runs self.new)) }
         ensures failed { OnErr result (ChangesRun (place child.old) with_read_fault (runs self.old) (runs self.new)) }
         ensures later { faults self.old ≤ faults self.new }
         ensures rose { OnErr result (Rose (faults self.old) (faults self.new)) };

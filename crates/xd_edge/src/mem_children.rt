@@ -1,12 +1,12 @@
 // Programs in memory.
-ghost use Rattle.std.specs.Prelude.{◌≡◌, ◌<◌, ◌≤◌, [], ◌∷◌, ◌++◌, Some, length, IsTrue, IfOk, OnOk, OnErr, IsErrOf, IsNone, IsSome, IfSome};
+ghost use Rattle.std.specs.Prelude.{◌≡◌, ◌<◌, ◌≤◌, ◌++◌, [], ◌∷◌, Some, ℕ, List, length, take, IsTrue, IfOk, OnOk, OnErr, IsErrOf, IsNone, IsSome, IfSome, true};
 ghost use Rattle.xd_edge.specs.Faults.{Rose};
-ghost use Rattle.xd_edge.specs.MemChildren.{child_in, end_in, texts_eq};
-ghost use Rattle.xd_edge.specs.Children.{change_at, fate_at_end, with_fate, with_last, running, not_started, with_read_fault, with_end, with_wait_fault};
+ghost use Rattle.xd_edge.specs.MemChildren.{Prepared, Starts, all_told, child_in, end_in, gave, given_of, has_to_give, is_prepared, piece_at, texts_eq, whole_output};
+ghost use Rattle.xd_edge.specs.Children.{change_at, fate_at_end, with_fate, with_last, with_output, running, not_started, with_read_fault, with_end, with_wait_fault};
 
 use crate::{
-    Blobs, ChildEnd, ChildFault, ChildRun, Children, Failed, Fate, FaultPlan, Indices, OutOfMemory,
-    Text, Texts,
+    Blob, Blobs, ChildEnd, ChildFault, Children, Failed, Fate, FaultPlan, Indices, MemRun,
+    OutOfMemory, Text, Texts,
 };
 use std::alloc::Global;
 use std::sync::Wait;
@@ -16,17 +16,14 @@ use std::sync::Wait;
 #[derive(Drop)]
 pub struct MemChildren {
     pub children: Vec<(Texts, Blobs, ChildEnd)>,
-    pub runs: Vec<ChildRun>,
+    pub runs: Vec<MemRun>,
     pub plan: FaultPlan,
 }
 
-/// A child of a `MemChildren`: its place among the starts and among the prepared children, and how far it was read.
+/// A child of a `MemChildren`: its place among the starts, and whether it was read to its end.
 #[derive(Drop)]
 pub struct MemChild {
     pub place: usize,
-    pub child: usize,
-    pub piece: usize,
-    pub given: usize,
     pub is_read: bool,
 }
 
@@ -105,8 +102,8 @@ fn copy_texts(alloc: Global, texts: &[Text]) -> Result<Texts, OutOfMemory>
     Ok(Texts { items })
 }
 
-fn set_fate(runs: &mut [ChildRun], place: usize, fate: Fate)
-    ensures { runs.new ≡ change_at place (with_fate fate) runs.old }
+fn set_fate(runs: &mut [MemRun], place: usize, fate: Fate)
+    ensures { (children : List Prepared) → all_told children runs.new ≡ change_at place (with_fate fate) (all_told children runs.old) }
 {
     if place < runs.len() {
         runs[place].fate = fate;
@@ -122,8 +119,8 @@ fn last_fate(old: Fate, new: Fate) -> Fate
     }
 }
 
-fn set_end(runs: &mut [ChildRun], place: usize, fate: Fate)
-    ensures { runs.new ≡ change_at place (with_last fate) runs.old }
+fn set_end(runs: &mut [MemRun], place: usize, fate: Fate)
+    ensures { (children : List Prepared) → all_told children runs.new ≡ change_at place (with_last fate) (all_told children runs.old) }
 {
     if place < runs.len() {
         let run = &mut runs[place];
@@ -131,24 +128,62 @@ fn set_end(runs: &mut [ChildRun], place: usize, fate: Fate)
     }
 }
 
-// The next bytes of a child's pieces, or none at their end.
-fn give(pieces: &Blobs, child: &mut MemChild, into: &mut [u8]) -> usize
-    ensures count { result ≤ length into.old }
-    ensures same { (child.new.place ≡ child.old.place) × (child.new.child ≡ child.old.child) }
+// The piece that is given next, and how much of it was given.
+fn next_piece(pieces: &[Blob], piece: usize, given: usize) -> (usize, usize)
+    ensures same { given_of pieces.now result.0 result.1 ≡ given_of pieces.now piece given }
+    ensures left { result.0 < length pieces.now → result.1 < length (piece_at pieces.now result.0) }
+    ensures within { result.0 ≤ length pieces.now }
 {
-    let Some(piece) = pieces.items.get(child.piece) else {
+    let mut given = given;
+    for i in piece..pieces.len() {
+        if given < pieces[i].as_slice().len() {
+            return (i, given);
+        }
+        given = 0;
+    }
+    (pieces.len(), 0)
+}
+
+// The next bytes of these pieces; none at their end.
+fn give(pieces: &[Blob], run: &mut MemRun, into: &mut [u8]) -> usize
+    ensures count { result ≤ length into.old }
+    ensures same { (run.new.args ≡ run.old.args) × (run.new.child ≡ run.old.child) × (run.new.fate ≡ run.old.fate) }
+    ensures gave { given_of pieces.now run.new.piece run.new.given ≡ given_of pieces.now run.old.piece run.old.given ++ take result into.new }
+    ensures end { result ≡ 0 → 0 < length into.old → given_of pieces.now run.new.piece run.new.given ≡ whole_output pieces.now }
+{
+    let (piece, given) = next_piece(pieces, run.piece, run.given);
+    if piece == pieces.len() {
+        run.piece = piece;
+        run.given = given;
         return 0;
-    };
-    let left = piece.bytes.get(child.given..).unwrap_or(&[]);
+    }
+    let left = &pieces[piece].as_slice()[given..];
     let n = left.len().min(into.len());
     into[..n].copy_from_slice(&left[..n]);
-    if n == left.len() {
-        child.piece = child.piece.saturating_add(1);
-        child.given = 0;
-    } else {
-        child.given = child.given.saturating_add(n);
-    }
+    run.piece = piece;
+    run.given = given + n;
     n
+}
+
+// The next bytes of the program that was started at this place; none at their end, or where it is not prepared.
+fn give_at(
+    children: &[(Texts, Blobs, ChildEnd)],
+    runs: &mut [MemRun],
+    place: usize,
+    into: &mut [u8],
+) -> Option<usize>
+    ensures count { IfSome result (λ n. n ≤ length into.old) }
+    ensures gave { IfSome result (λ n. all_told children.now runs.new ≡ change_at place (with_output (take n into.new)) (all_told children.now runs.old)) }
+    ensures end { IfSome result (λ n. n ≡ 0 → 0 < length into.old → gave children.now place runs.new ≡ has_to_give children.now place runs.new) }
+    ensures none { IsNone result → runs.new ≡ runs.old }
+    ensures some { is_prepared children.now place runs.old ≡ true → IsSome result }
+{
+    if place >= runs.len() {
+        return None;
+    }
+    let run = &mut runs[place];
+    let (_, pieces, _) = children.get(run.child)?;
+    Some(give(&pieces.items, run, into))
 }
 
 impl Children for MemChildren {
@@ -156,7 +191,7 @@ impl Children for MemChildren {
 
     ghost faults = { λ s. s.plan.faults };
 
-    ghost runs = { λ s. Some s.runs.items };
+    ghost runs = { λ s. Some (all_told s.children.items s.runs.items) };
 
     ghost place = { λ c. c.place };
 
@@ -165,9 +200,9 @@ impl Children for MemChildren {
     fn start(&mut self, alloc: Global, args: &[Text]) -> Result<MemChild, ChildFault>
         requires { 0 < length args.now }
         ensures next { IfOk result (λ child. child.place ≡ length self.old.runs.items) }
-        ensures found { IfOk result (λ child. child_in self.old.children.items args.now ≡ Some child.child) }
-        ensures started { OnOk result (self.new.runs.items ≡ self.old.runs.items ++ running args.now ∷ []) }
-        ensures failed { IsErrOf result ChildFault.Failed → self.new.runs.items ≡ self.old.runs.items ++ not_started args.now ∷ [] }
+        ensures started { OnOk result (Starts self.old.children.items args.now self.old.runs.items self.new.runs.items) }
+        ensures running { OnOk result (all_told self.new.children.items self.new.runs.items ≡ all_told self.old.children.items self.old.runs.items ++ running args.now ∷ []) }
+        ensures failed { IsErrOf result ChildFault.Failed → all_told self.new.children.items self.new.runs.items ≡ all_told self.old.children.items self.old.runs.items ++ not_started args.now ∷ [] }
         ensures memory { IsErrOf result ChildFault.OutOfMemory → self.new.runs.items ≡ self.old.runs.items }
         ensures kept { (self.new.children ≡ self.old.children) × (self.new.plan.fails ≡ self.old.plan.fails) }
         ensures later { self.old.plan.faults ≤ self.new.plan.faults }
@@ -177,25 +212,27 @@ impl Children for MemChildren {
         let place = self.runs.len();
         let args_kept = copy_texts(alloc, args)?;
         self.runs.reserve(1)?;
-        let found = next_child(&mut self.plan, &self.children, args);
-        self.runs.push(ChildRun {
-            args: args_kept,
-            fate: if found.is_some() {
-                Fate::Running
-            } else {
-                Fate::NotStarted
-            },
-        })?;
-        match found {
-            Some(child) => Ok(MemChild {
-                place,
-                child,
+        let Some(child) = next_child(&mut self.plan, &self.children, args) else {
+            self.runs.push_reserved(MemRun {
+                args: args_kept,
+                child: self.children.len(),
                 piece: 0,
                 given: 0,
-                is_read: false,
-            }),
-            None => Err(ChildFault::Failed),
-        }
+                fate: Fate::NotStarted,
+            });
+            return Err(ChildFault::Failed);
+        };
+        self.runs.push_reserved(MemRun {
+            args: args_kept,
+            child,
+            piece: 0,
+            given: 0,
+            fate: Fate::Running,
+        });
+        Ok(MemChild {
+            place,
+            is_read: false,
+        })
     }
 
     fn read<R: Wait>(
@@ -205,27 +242,27 @@ impl Children for MemChildren {
         into: &mut [u8],
     ) -> Result<usize, Failed>
         ensures count { IfOk result (λ n. n ≤ length into.old) }
-        ensures same_child { (child.new.place ≡ child.old.place) × (child.new.child ≡ child.old.child) }
+        ensures same_child { child.new.place ≡ child.old.place }
         ensures end { IfOk result (λ n. n ≡ 0 → 0 < length into.old → IsTrue child.new.is_read) }
         ensures end_failed { OnErr result (IsTrue child.new.is_read) }
-        ensures same { OnOk result (self.new.runs.items ≡ self.old.runs.items) }
-        ensures failed { OnErr result (self.new.runs.items ≡ change_at child.old.place with_read_fault self.old.runs.items) }
+        ensures gave { IfOk result (λ n. all_told self.new.children.items self.new.runs.items ≡ change_at child.old.place (with_output (take n into.new)) (all_told self.old.children.items self.old.runs.items)) }
+        ensures whole { IfOk result (λ n. n ≡ 0 → 0 < length into.old → gave self.new.children.items child.old.place self.new.runs.items ≡ has_to_give self.new.children.items child.old.place self.new.runs.items) }
+        ensures failed { OnErr result (all_told self.new.children.items self.new.runs.items ≡ change_at child.old.place with_read_fault (all_told self.old.children.items self.old.runs.items)) }
         ensures kept { (self.new.children ≡ self.old.children) × (self.new.plan.fails ≡ self.old.plan.fails) }
         ensures later { self.old.plan.faults ≤ self.new.plan.faults }
         ensures rose { OnErr result (Rose self.old.plan.faults self.new.plan.faults) }
-        ensures calm { self.old.plan.fails ≡ [] → child.old.child < length self.old.children.items → self.new.plan.faults ≡ self.old.plan.faults }
+        ensures calm { self.old.plan.fails ≡ [] → is_prepared self.old.children.items child.old.place self.old.runs.items ≡ true → self.new.plan.faults ≡ self.old.plan.faults }
     {
         if let Err(failed) = self.plan.step() {
             set_fate(&mut self.runs, child.place, Fate::NotRead);
             child.is_read = true;
             return Err(failed);
         }
-        let Some((_, pieces, _)) = self.children.get(child.child) else {
+        let Some(n) = give_at(&self.children, &mut self.runs, child.place, into) else {
             set_fate(&mut self.runs, child.place, Fate::NotRead);
             child.is_read = true;
             return Err(self.plan.fault());
         };
-        let n = give(pieces, child, into);
         if n == 0 {
             child.is_read = true;
         }
@@ -234,20 +271,20 @@ impl Children for MemChildren {
 
     fn wait<R: Wait>(&mut self, _rt: &R, child: MemChild) -> Result<ChildEnd, Failed>
         requires { IsTrue child.is_read }
-        ensures prepared { IfOk result (λ e. end_in self.old.children.items child.child ≡ Some e) }
-        ensures ended { IfOk result (λ e. self.new.runs.items ≡ change_at child.place (with_end e) self.old.runs.items) }
-        ensures failed { OnErr result (self.new.runs.items ≡ change_at child.place with_wait_fault self.old.runs.items) }
+        ensures prepared { IfOk result (λ e. end_in self.old.children.items child.place self.old.runs.items ≡ Some e) }
+        ensures ended { IfOk result (λ e. all_told self.new.children.items self.new.runs.items ≡ change_at child.place (with_end e) (all_told self.old.children.items self.old.runs.items)) }
+        ensures failed { OnErr result (all_told self.new.children.items self.new.runs.items ≡ change_at child.place with_wait_fault (all_told self.old.children.items self.old.runs.items)) }
         ensures kept { (self.new.children ≡ self.old.children) × (self.new.plan.fails ≡ self.old.plan.fails) }
         ensures later { self.old.plan.faults ≤ self.new.plan.faults }
         ensures rose { OnErr result (Rose self.old.plan.faults self.new.plan.faults) }
-        ensures calm { self.old.plan.fails ≡ [] → child.child < length self.old.children.items → self.new.plan.faults ≡ self.old.plan.faults }
+        ensures calm { self.old.plan.fails ≡ [] → is_prepared self.old.children.items child.place self.old.runs.items ≡ true → self.new.plan.faults ≡ self.old.plan.faults }
     {
         if let Err(failed) = self.plan.step() {
             set_end(&mut self.runs, child.place, Fate::NotWaited);
             return Err(failed);
         }
-        match self.children.get(child.child) {
-            Some(&(_, _, end)) => {
+        match end_at(&self.children, &self.runs, child.place) {
+            Some(end) => {
                 set_end(&mut self.runs, child.place, Fate::Ended(end));
                 Ok(end)
             }
@@ -257,4 +294,14 @@ impl Children for MemChildren {
             }
         }
     }
+}
+
+// The end of the program that was started at this place.
+fn end_at(children: &[(Texts, Blobs, ChildEnd)], runs: &[MemRun], place: usize) -> Option<ChildEnd>
+    ensures end { result ≡ end_in children.now place runs.now }
+    ensures some { is_prepared children.now place runs.now ≡ true → IsSome result }
+{
+    let run = runs.get(place)?;
+    let &(_, _, end) = children.get(run.child)?;
+    Some(end)
 }

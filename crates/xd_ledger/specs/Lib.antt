@@ -2,7 +2,9 @@ pub mod Books
 pub mod Calls
 pub mod Collections
 pub mod Each
+pub mod Ending
 pub mod Histories
+pub mod Kept
 pub mod Legal
 pub mod Load
 pub mod Local

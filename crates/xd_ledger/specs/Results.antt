@@ -12,15 +12,16 @@ ids_in [] = []
 ids_in (Collected w (Listed ids) ∷ es) = ids
 ids_in (e ∷ es) = ids_in es
 
--- how a test went, and how many milliseconds it took
+-- how a test went, how many milliseconds it took, and what is kept of its output
 pub record TestResult : Type 0 where
   pub outcome : Outcome
   pub ms : ℕ
+  pub output : List ℕ
 
 -- the results, in order
 abbrev pub results_in : List Entry → List TestResult
 results_in [] = []
-results_in (Done w k o ms output ∷ es) = record { outcome = o; ms = ms } ∷ results_in es
+results_in (Done w k o ms output ∷ es) = record { outcome = o; ms = ms; output = output } ∷ results_in es
 results_in (e ∷ es) = results_in es
 
 -- the tests that have a result, in order of their results

@@ -119,7 +119,7 @@ fn three_tests_are_dealt_singly_and_a_death_is_made_good(rt: HostRuntime) -> Res
     assert_eq!(rt; (death.head, death.rest), (Some(0), 1));
     run.mode
         .died(alloc, 0, 0, death.rest, &mut run.ledger, &mut run.acts)?;
-    assert!(rt; run.acts.len() == 5 && !run.ledger.in_rota(2));
+    assert!(rt; run.acts.len() == 5 && !run.ledger.has_joined(2));
     run.ledger.join(alloc, 2)?;
     assert!(rt; run.ledger.in_rota(2));
     run.mode

@@ -7,10 +7,9 @@ use Rattle.xd_ledger.specs.declared.entry.RunStop.TheVariants.{Completed, MaxFai
 use Rattle.xd_ledger.specs.declared.entry.Entry.{Entry}
 use Rattle.xd_ledger.specs.declared.settings.Settings.{Settings}
 use Rattle.xd_ledger.specs.declared.journal.Journal.{Journal}
-use Rattle.xd_ledger.specs.Histories.{end_of}
 use Rattle.xd_ledger.specs.Local.{is_local_mode}
 use Rattle.xd_ledger.specs.State.{state_at}
-use Rattle.xd_ledger.specs.Stop.{over_in}
+use Rattle.xd_ledger.specs.Ending.{stop_in}
 use Rattle.xd_report.specs.Summary.{counts}
 use Rattle.xd_report.specs.Tests.{tests}
 
@@ -27,12 +26,8 @@ stop_status mode (Unequal worker other place) _ _ = 1
 stop_status mode (CollectError worker) _ _ = 2
 stop_status mode OutFault _ _ = 3
 
--- how a run ended: as its Over says, and without one as its entries have decided so far
-abbrev pub ending : Settings → List Entry → RunStop
-ending settings es = over_in es (end_of (state_at settings es).books)
-
 abbrev pub run_status : Settings → List Entry → ℕ
-run_status settings es = stop_status settings.mode (ending settings es) (tests (state_at settings es)) (counts settings es).failed
+run_status settings es = stop_status settings.mode (stop_in settings es) (tests (state_at settings es)) (counts settings es).failed
 
 abbrev pub status_of : Journal → ℕ
 status_of j = run_status j.settings j.entries.items

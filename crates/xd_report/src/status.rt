@@ -1,7 +1,7 @@
 // How a run ended, and its exit status.
 ghost use Rattle.std.specs.Prelude.{◌≡◌, IfOk, if◌then◌else◌};
 ghost use Rattle.xd_ledger.specs.Local.{is_local_mode};
-ghost use Rattle.xd_ledger.specs.Stop.{over_in};
+ghost use Rattle.xd_ledger.specs.Ending.{over_in};
 ghost use Rattle.xd_report.specs.Status.{completed_status, status_of, stop_status};
 
 use crate::counts::Counts;

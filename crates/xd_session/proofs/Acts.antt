@@ -1,11 +1,10 @@
 -- The outputs of a rule, put together.
-use Rattle.std.proofs.Common.{◌≡◌, ◌+◌, ℕ, take, drop, List, [], ◌∷◌, ◌++◌, map, length, refl, ap, sym, subst, ◌∙◌, arith, Bool, true, false, append_assoc}
+use Rattle.std.proofs.Common.{◌≡◌, ℕ, drop, List, [], ◌∷◌, ◌++◌, refl, ap, sym, subst, ◌∙◌, Bool, true, false, append_assoc}
 use Rattle.std.specs.Prelude.{if◌then◌else◌, Option, Some, None, is_some}
 use Rattle.xd_edge.specs.declared.mode.ModeKind.{ModeKind}
 use Rattle.xd_edge.specs.declared.mode.ModeKind.TheVariants.{Load}
 use Rattle.xd_ledger.specs.declared.entry.Entry.{Entry}
-use Rattle.xd_ledger.specs.declared.entry.Entry.TheVariants.{Done, Finished, Refused, Down, NotStarted, Kill, Start}
-use Rattle.xd_ledger.specs.declared.entry.Cause.{Cause}
+use Rattle.xd_ledger.specs.declared.entry.Entry.TheVariants.{Done, Finished, Refused, Kill, Start}
 use Rattle.xd_ledger.specs.declared.entry.Outcome.{Outcome}
 use Rattle.xd_ledger.specs.declared.entry.RunStop.{RunStop}
 use Rattle.xd_ledger.specs.declared.entry.RunStop.TheVariants.{CollectError}
@@ -17,8 +16,8 @@ use Rattle.xd_ledger.specs.Units.{units_left}
 use Rattle.xd_ledger.specs.Turn.{Turn}
 use Rattle.xd_ledger.specs.Calls.{Turned, turn}
 use Rattle.xd_ledger.specs.Modes.{Call, turned}
-use Rattle.xd_ledger.specs.Workers.{waiting, made_gone, slot_of}
-use Rattle.xd_ledger.specs.Stops.{is_stopped, or_stop, stopped_by}
+use Rattle.xd_ledger.specs.Workers.{waiting, slot_of}
+use Rattle.xd_ledger.specs.Stops.{is_stopped, or_stop}
 use Rattle.xd_ledger.specs.Sharing.{State, in_books}
 use Rattle.xd_ledger.specs.State.{all_moved, moved, done_books, down_books, down_plan, steal_without, after_down}
 use Rattle.xd_ledger.specs.Outputs.{turn_of, acts_of, own_outputs, shut_all}

@@ -1,7 +1,6 @@
 -- The start of a run.
-use Rattle.std.proofs.Common.{◌≡◌, ℕ, zero, suc, ◌+◌, List, [], ◌∷◌, ◌++◌, refl, ap, sym, subst, ◌∙◌, arith, Bool, true, false, append_assoc, add-zero}
+use Rattle.std.proofs.Common.{◌≡◌, ℕ, zero, suc, ◌+◌, List, [], ◌∷◌, ◌++◌, refl, ap, sym, subst, ◌∙◌, arith, append_assoc}
 use Rattle.std.proofs.lemmas.Grind.{common_steps, fold-append}
-use Rattle.std.specs.Prelude.{None}
 use Rattle.xd_edge.specs.declared.mode.ModeKind.TheVariants.{Load}
 use Rattle.xd_ledger.specs.declared.settings.Settings.{Settings}
 use Rattle.xd_ledger.specs.declared.entry.Entry.{Entry}
@@ -11,7 +10,7 @@ use Rattle.xd_ledger.specs.Books.{Books}
 use Rattle.xd_ledger.specs.Plan.{Plan}
 use Rattle.xd_ledger.specs.Sharing.{State}
 use Rattle.xd_ledger.specs.State.{all_moved, next, no_one, settled, state_at}
-use Rattle.xd_ledger.specs.Histories.{starts_from, journal_of, first_starts}
+use Rattle.xd_ledger.specs.Histories.{starts_from, first_starts}
 use Rattle.xd_ledger.specs.Proper.{IsProper}
 use Rattle.xd_ledger.specs.Meaning.{spent_by}
 use Rattle.xd_ledger.specs.Workers.{started}
@@ -44,7 +43,7 @@ started-next settings i b c h e =
     let k : all_moved (no_one settings) (starts_from 0 i ++ Start i i ∷ []) ≡ next (all_moved (no_one settings) (starts_from 0 i)) (Start i i) = fold-append next (no_one settings) (starts_from 0 i) (Start i i ∷ []) in
     e ∙ ap (begun_at i i) h ∙ ap (λ (s : State). s.books) (sym k) ∙ ap (λ es. (all_moved (no_one settings) es).books) (sym (start-next settings i))
 
-starts-spend : (w n : ℕ) → spent_by (starts_from w n) ≡ 0
+pub starts-spend : (w n : ℕ) → spent_by (starts_from w n) ≡ 0
 starts-spend w zero = refl
 starts-spend w (suc n) = starts-spend (w + 1) n
 

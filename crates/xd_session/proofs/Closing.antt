@@ -1,8 +1,8 @@
 -- The Shutdowns of a run that is finished.
-use Rattle.std.proofs.Common.{◌≡◌, ℕ, List, [], ◌∷◌, ◌++◌, map, length, refl, ap, sym, subst, ◌∙◌, arith, Bool, true, false, not, append_assoc}
-use Rattle.std.specs.Prelude.{if◌then◌else◌, ◌&&◌, ◌||◌, nat_lt, ◌==◌, is_some, is_none, fold}
+use Rattle.std.proofs.Common.{◌≡◌, ℕ, List, [], ◌∷◌, ◌++◌, length, refl, ap, sym, subst, ◌∙◌, arith, Bool, true, false, not, append_assoc}
+use Rattle.std.specs.Prelude.{if◌then◌else◌, ◌&&◌, ◌||◌, nat_lt, ◌==◌, is_none}
 use Rattle.std.specs.List.{list_all}
-use Rattle.std.proofs.lemmas.Grind.{common_steps, fold-append}
+use Rattle.std.proofs.lemmas.Grind.{fold-append}
 use Rattle.std.proofs.lemmas.Bool.Decides.{nat_tests}
 use Rattle.xd_ledger.specs.declared.entry.Entry.{Entry}
 use Rattle.xd_ledger.specs.declared.entry.Entry.TheVariants.{Ready, Shutdown}
@@ -10,11 +10,11 @@ use Rattle.xd_ledger.specs.declared.settings.Settings.{Settings}
 use Rattle.xd_ledger.specs.declared.seat.Seat.{Seat}
 use Rattle.xd_ledger.specs.Table.{Table, at_seat, shut_down}
 use Rattle.xd_ledger.specs.Plan.{Plan}
-use Rattle.xd_ledger.specs.Books.{Books, marked, on_table}
+use Rattle.xd_ledger.specs.Books.{Books, marked}
 use Rattle.xd_ledger.specs.Workers.{made_ready, waiting}
 use Rattle.xd_ledger.specs.Sharing.{State, in_books}
 use Rattle.xd_ledger.specs.State.{is_input, state_at, no_one, settles, settled, all_moved, next, moved, is_finished}
-use Rattle.xd_ledger.specs.Outputs.{shut_all, closing, outputs, own_outputs, stepped}
+use Rattle.xd_ledger.specs.Outputs.{shut_all, closing, own_outputs}
 use Rattle.xd_ledger.specs.Stops.{is_stopped, is_shutting}
 use Rattle.xd_session.specs.Rules.{At, Closed, Ruled, told, told_all, shutdowns}
 

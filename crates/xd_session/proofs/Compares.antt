@@ -16,7 +16,7 @@ use Rattle.std.specs.Ordering.{is_eq, nat_cmp}
 use Rattle.std.specs.Str.{bytes_eq, chars, IsUtf8, encode_utf8_all}
 use Rattle.xd_ledger.specs.declared.member.Listed.{Listed}
 use Rattle.xd_ledger.specs.Collections.{differ_at, listed_in}
-use Rattle.xd_ledger.specs.Proper.{has_text, no_text_twice}
+use Rattle.xd_ledger.specs.Proper.{no_text_twice}
 use Rattle.xd_session.specs.Compared.{place_in_lists}
 
 -- a place so much further on

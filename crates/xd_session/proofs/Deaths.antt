@@ -1,5 +1,5 @@
 -- Deaths of workers that have no seat, and changes of seats.
-use Rattle.std.proofs.Common.{◌≡◌, ℕ, take, drop, List, [], ◌∷◌, ◌++◌, length, refl, ap, sym, ◌∙◌, arith, true, false}
+use Rattle.std.proofs.Common.{◌≡◌, ℕ, take, drop, List, [], ◌∷◌, ◌++◌, length, refl, ap, sym, ◌∙◌, arith, false}
 use Rattle.std.specs.Prelude.{if◌then◌else◌, ◌==◌, Option, Some, None, is_some}
 use Rattle.std.specs.List.{list_any}
 use Rattle.std.proofs.lemmas.Bool.Decides.{nat_tests}

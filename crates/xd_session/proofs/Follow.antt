@@ -1,24 +1,23 @@
 -- In mode load the table and the crew behind a turn's outputs are the turn's.
-use Rattle.std.proofs.Common.{◌≡◌, ℕ, List, [], ◌∷◌, ◌++◌, map, take, length, refl, ap, sym, subst, ◌∙◌, arith, Bool, true, false}
-use Rattle.std.specs.Prelude.{if◌then◌else◌, fold, nat_lt, ◌*◌}
-use Rattle.std.proofs.lemmas.Grind.{common_steps, fold-append}
+use Rattle.std.proofs.Common.{◌≡◌, ℕ, List, [], ◌∷◌, ◌++◌, take, length, refl, ap, sym, subst, ◌∙◌, Bool, true, false}
+use Rattle.std.specs.Prelude.{if◌then◌else◌, nat_lt, ◌*◌}
+use Rattle.std.proofs.lemmas.Grind.{fold-append}
 use Rattle.xd_ledger.specs.declared.entry.Entry.{Entry}
 use Rattle.xd_ledger.specs.declared.entry.Entry.TheVariants.{Run, Shutdown}
 use Rattle.xd_edge.specs.declared.mode.ModeKind.{ModeKind}
 use Rattle.xd_edge.specs.declared.mode.ModeKind.TheVariants.{Load}
-use Rattle.xd_ledger.specs.Books.{Books, on_table}
+use Rattle.xd_ledger.specs.Books.{on_table}
 use Rattle.xd_ledger.specs.declared.member.Member.{Member}
-use Rattle.xd_ledger.specs.Table.{Table, assigned, shut_down, seat_shut, workers_of, held}
-use Rattle.xd_ledger.specs.Plan.{Plan, items_named, chunk_of}
+use Rattle.xd_ledger.specs.Table.{assigned, shut_down, seat_shut, workers_of, held}
+use Rattle.xd_ledger.specs.Plan.{chunk_of}
 use Rattle.xd_ledger.specs.Turn.{Turn, give, give_front, shut, shut_each, shut_where_empty, in_turn}
-use Rattle.xd_ledger.specs.Load.{refill, refill_all, topped_up, is_due, more, give_unless_shut, dealt, first_batch}
-use Rattle.xd_ledger.specs.Workers.{made_shut}
-use Rattle.xd_ledger.specs.Modes.{Call, turned}
+use Rattle.xd_ledger.specs.Load.{refill, topped_up, is_due, more, give_unless_shut, dealt, first_batch}
+use Rattle.xd_ledger.specs.Modes.{turned}
 use Rattle.xd_ledger.specs.Sharing.{State, in_books}
-use Rattle.xd_ledger.specs.State.{all_moved, next, moved}
-use Rattle.xd_ledger.specs.Outputs.{turn_of, acts_of}
+use Rattle.xd_ledger.specs.State.{all_moved, next}
+use Rattle.xd_ledger.specs.Outputs.{turn_of}
 use Rattle.xd_ledger.specs.Modes.Call.{TestDone, Joined, Died, Share}
-use Rattle.xd_session.specs.Rules.{told, told_by, crew_told, with_turn}
+use Rattle.xd_session.specs.Rules.{told_by, crew_told, with_turn}
 use Rattle.xd_session.proofs.Closing.{all_moved-append}
 
 pub record Follows (s : State) (u : Turn) : Type 0 where

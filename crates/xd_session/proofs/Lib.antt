@@ -1,11 +1,13 @@
 pub mod Acts
 pub mod Bare
 pub mod Begin
+pub mod Bounds
 pub mod Closing
 pub mod Compares
 pub mod Deaths
 pub mod Disorder
 pub mod Follow
+pub mod Joins
 pub mod Loops
 pub mod Places
 pub mod Shares

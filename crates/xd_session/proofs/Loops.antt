@@ -1,5 +1,5 @@
 -- Lemmas on the loops of the marks.
-use Rattle.std.proofs.Common.{◌≡◌, ℕ, zero, suc, ◌+◌, ◌<◌, ◌≤◌, List, [], ◌∷◌, ◌++◌, map, take, drop, length, get_or, set, refl, ap, sym, append_assoc, ◌∙◌, arith, Bool, true, false, not}
+use Rattle.std.proofs.Common.{◌≡◌, ℕ, zero, suc, ◌+◌, ◌<◌, ◌≤◌, List, [], ◌∷◌, ◌++◌, map, take, drop, length, get_or, set, refl, ap, sym, append_assoc, ◌∙◌, arith, Bool, true, false}
 use Rattle.std.proofs.lemmas.List.{take_more}
 use Rattle.std.proofs.lemmas.Grind.{common_steps}
 use Rattle.std.proofs.lemmas.Bool.Decides.{nat_tests}
@@ -7,9 +7,9 @@ use Rattle.std.specs.Prelude.{filter, if◌then◌else◌}
 use Rattle.xd_ledger.specs.declared.entry.Entry.{Entry}
 use Rattle.xd_ledger.specs.Books.{Books}
 use Rattle.xd_ledger.specs.declared.member.Member.{Member}
-use Rattle.xd_ledger.specs.declared.entry.Entry.TheVariants.{Kill, Shutdown}
+use Rattle.xd_ledger.specs.declared.entry.Entry.TheVariants.{Kill}
 use Rattle.xd_ledger.specs.Workers.{waiting, is_waiting, slot_in}
-use Rattle.xd_session.specs.Ending.{kills}
+use Rattle.xd_ledger.specs.Ending.{kills}
 use Rattle.xd_session.specs.Rules.{told, told_all, shutdowns}
 
 -- the list with its first changed, and one more of them

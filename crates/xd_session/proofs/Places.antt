@@ -1,13 +1,12 @@
 -- Where the log of a worker stands, and changes of it.
 use Rattle.std.proofs.Common.{◌≡◌, ℕ, zero, suc, ◌+◌, ◌<◌, ◌≤◌, List, [], ◌∷◌, drop, length, get_or, set, ◌++◌, take, ◌-◌, min, refl, ap, sym, ◌∙◌, arith, Bool, true, false}
 use Rattle.std.specs.Prelude.{if◌then◌else◌, ◌==◌, Option, Some, None}
-use Rattle.std.proofs.lemmas.Grind.{common_steps}
 use Rattle.std.proofs.lemmas.List.{take_min}
 use Rattle.xd_laws.proofs.Logic.{in_both}
 use Rattle.std.proofs.lemmas.Bool.Decides.{nat_tests}
 use Rattle.xd_ledger.specs.Meaning.{Log}
 use Rattle.xd_session.specs.declared.logs.WorkerLog.{WorkerLog}
-use Rattle.xd_session.specs.Kept.{place_of, log_of_item, log_in, shortened}
+use Rattle.xd_session.specs.Kept.{place_of, log_of_item, log_in}
 
 choose-yes : {A : Type 0} (b : Bool) (x y : A) → b ≡ true → x ≡ (if b then x else y)
 choose-yes true x y h = refl

@@ -1,30 +1,25 @@
 -- A session keeps in step with the news that it takes.
-use Rattle.std.proofs.Common.{◌≡◌, ℕ, ◌+◌, ◌≤◌, List, [], ◌∷◌, ◌++◌, refl, ap, sym, subst, ◌∙◌, arith, Bool, true, false, not, ◌&&◌, add-zero, inl, inr}
+use Rattle.std.proofs.Common.{◌≡◌, ℕ, ◌+◌, List, [], ◌∷◌, ◌++◌, refl, ap, sym, subst, ◌∙◌, Bool, true, false, add-zero, inl, inr}
 use Rattle.std.specs.Prelude.{if◌then◌else◌, ◌==◌, Option, Some, None}
-use Rattle.std.specs.List.{list_any}
 use Rattle.xd_edge.specs.declared.mode.ModeKind.TheVariants.{Load}
 use Rattle.xd_ledger.specs.declared.settings.Settings.{Settings}
 use Rattle.xd_ledger.specs.declared.entry.Entry.{Entry}
 use Rattle.xd_ledger.specs.declared.news.News.{News}
 use Rattle.xd_ledger.specs.declared.news.What.{What}
-use Rattle.xd_ledger.specs.declared.seat.Seat.{Seat}
 use Rattle.xd_ledger.specs.Books.{Books}
 use Rattle.xd_ledger.specs.Histories.{begun, journal_of, stepped_all}
 use Rattle.xd_ledger.specs.Meaning.{Log, log_of, meaning_of, spent_by, with_news}
-use Rattle.xd_ledger.specs.Outputs.{outputs, stepped}
+use Rattle.xd_ledger.specs.Outputs.{outputs}
 use Rattle.xd_ledger.specs.Plan.{Plan, total}
-use Rattle.xd_ledger.specs.Proper.{IsProper, may_follow}
+use Rattle.xd_ledger.specs.Proper.{may_follow}
 use Rattle.xd_ledger.specs.Sharing.{State}
-use Rattle.xd_ledger.specs.Sound as sound
 use Rattle.xd_ledger.specs.State.{state_at}
-use Rattle.xd_ledger.specs.Stops.{is_stopped}
-use Rattle.xd_ledger.specs.Table.{Table, all_items, in_rota, seat_shut}
+use Rattle.xd_ledger.specs.Table.{all_items, has_joined}
 use Rattle.xd_ledger.specs.Workers.{has_collected, is_active}
 use Rattle.xd_laws.proofs.Counts.{empty-of_times}
 use Rattle.xd_laws.proofs.InMode.{InMode}
 use Rattle.xd_laws.proofs.Logic.{cases_of, differ}
 use Rattle.xd_laws.proofs.Placed.{due_times}
-use Rattle.xd_laws.proofs.Rota as rota
 use Rattle.xd_laws.proofs.Runs.{Holds}
 use Rattle.xd_laws.proofs.Turns.{Tidy}
 use Rattle.xd_session.specs.declared.logs.WorkerLog.{WorkerLog}
@@ -32,9 +27,10 @@ use Rattle.xd_session.specs.History.{Run as SoFar, entries_with, input_of, run_o
 use Rattle.xd_session.specs.Joining.{IsBare}
 use Rattle.xd_session.specs.Kept.{log_in, shortened}
 use Rattle.xd_session.specs.Rules.{At, InStep}
-use Rattle.xd_session.specs.Stands.{Seen, StandsFor, state_of}
+use Rattle.xd_session.specs.Stands.{Seen, StandsFor}
 use Rattle.xd_session.specs.Told.{Told, Took}
-use Rattle.xd_session.proofs.Steps.{holds-behind, journal-more, journal-state, logs-more, meaning-follows, meaning-short, news-short, proper-more, run-more, run-taken, short-twice, sound-run, spent-more, state-next}
+use Rattle.xd_session.proofs.Joins.{AllCollected, joins-behind}
+use Rattle.xd_session.proofs.Steps.{holds-behind, journal-more, journal-state, logs-more, meaning-follows, meaning-short, proper-more, run-more, run-taken, short-twice, sound-run, spent-more, state-next}
 
 module _ (settings : Settings) (entries : List Entry) (logs : List WorkerLog) (spent : ℕ) (b : Books) (st : Plan → Type 0) (k : InStep settings entries logs spent b st) where
   pub behind : state_at settings entries ≡ stepped_all (begun settings) k.inputs
@@ -43,35 +39,27 @@ module _ (settings : Settings) (entries : List Entry) (logs : List WorkerLog) (s
   pub holds : Holds (InMode Load) (state_at settings entries)
   holds = subst (λ (u : State). Holds (InMode Load) u) (sym behind) (holds-behind settings k.inputs k.mode k.proper.follow)
 
-same-seats : (w : ℕ) (ss : List Seat) → sound.seats_of w ss ≡ rota.seats_of w ss
-same-seats w [] = refl
-same-seats w (x ∷ ss) = ap (λ n. (if x.worker == w then 1 else 0) + n) (same-seats w ss)
+  collected : AllCollected (state_at settings entries)
+  collected = subst (λ (u : State). AllCollected u) (sym behind) (joins-behind settings k.inputs k.mode k.proper.follow)
 
-new-seat : (s : State) (w : ℕ) → Tidy s → has_collected w s.books ≡ false → in_rota w s.books.table ≡ false
-new-seat s w d h = elim (cases_of (in_rota w s.books.table)) [
-  | inl k ↦ absurd (differ (sym h ∙ d.placed.fits.collected w k))
+new-seat : (s : State) (w : ℕ) → AllCollected s → has_collected w s.books ≡ false → has_joined w s.books.table ≡ false
+new-seat s w d h = elim (cases_of (has_joined w s.books.table)) [
+  | inl k ↦ absurd (differ (sym h ∙ d w k))
   | inr k ↦ k
 ]
 
-bare-state : (s : State) → Tidy s → is_stopped s.books ≡ false → s.books.shared ≡ false → IsBare s.books.table
-bare-state s d h k = record {
-  none = empty-of_times (all_items s.books.table) (λ x. d.placed.whole x ∙ ap (λ q. due_times x q (total s.plan)) k);
-  unshut = λ w. elim (cases_of (in_rota w s.books.table)) [
-    | inl r ↦ sym (d.placed.fits.marks w r) ∙ d.calm.unshut h k w
-    | inr r ↦ rota.untold-of_seat w s.books.table.rota r
-  ];
-  once = λ w. (let e = same-seats w s.books.table.rota in let f = d.placed.fits.seats w in omega arith);
-}
+bare-state : (s : State) → Tidy s → s.books.shared ≡ false → IsBare s.books.table
+bare-state s d h = empty-of_times (all_items s.books.table) (λ x. d.placed.whole x ∙ ap (λ q. due_times x q (total s.plan)) h)
 
-pub step-new : (settings : Settings) (entries : List Entry) (logs : List WorkerLog) (spent : ℕ) (b : Books) (st : Plan → Type 0) → InStep settings entries logs spent b st → (w : ℕ) → has_collected w b ≡ false → in_rota w b.table ≡ false
+pub step-new : (settings : Settings) (entries : List Entry) (logs : List WorkerLog) (spent : ℕ) (b : Books) (st : Plan → Type 0) → InStep settings entries logs spent b st → (w : ℕ) → has_collected w b ≡ false → has_joined w b.table ≡ false
 step-new settings entries logs spent b st k w h =
     let a = k.at.books_are in
-    ap (λ (d : Books). in_rota w d.table) a ∙ new-seat (state_at settings entries) w (holds settings entries logs spent b st k).tidy (ap (λ (d : Books). has_collected w d) (sym a) ∙ h)
+    ap (λ (d : Books). has_joined w d.table) a ∙ new-seat (state_at settings entries) w (collected settings entries logs spent b st k) (ap (λ (d : Books). has_collected w d) (sym a) ∙ h)
 
-pub step-bare : (settings : Settings) (entries : List Entry) (logs : List WorkerLog) (spent : ℕ) (b : Books) (st : Plan → Type 0) → InStep settings entries logs spent b st → is_stopped b ≡ false → b.shared ≡ false → IsBare b.table
-step-bare settings entries logs spent b st k h r =
+pub step-bare : (settings : Settings) (entries : List Entry) (logs : List WorkerLog) (spent : ℕ) (b : Books) (st : Plan → Type 0) → InStep settings entries logs spent b st → b.shared ≡ false → IsBare b.table
+step-bare settings entries logs spent b st k h =
     let a = k.at.books_are in
-    subst (λ (d : Books). IsBare d.table) (sym a) (bare-state (state_at settings entries) (holds settings entries logs spent b st k).tidy (ap (λ (d : Books). is_stopped d) (sym a) ∙ h) (ap (λ (d : Books). d.shared) (sym a) ∙ r))
+    subst (λ (d : Books). IsBare d.table) (sym a) (bare-state (state_at settings entries) (holds settings entries logs spent b st k).tidy (ap (λ (d : Books). d.shared) (sym a) ∙ h))
 
 next-by : (settings : Settings) (entries now : List Entry) (logs logs_now : List WorkerLog) (spent spent_now : ℕ) (b c : Books) (st st_now : Plan → Type 0) (o : Option Entry) → InStep settings entries logs spent b st
     → ((e : Entry) → o ≡ Some e → may_follow (state_at settings entries) e ≡ true) → ((v : ℕ) → log_in v logs_now ≡ shortened (log_in v logs_now)) → Told o (state_at settings entries) entries now spent spent_now c st_now

@@ -1,6 +1,6 @@
 -- A session that took news, and takes one more.
-use Rattle.std.proofs.Common.{◌≡◌, ℕ, zero, suc, ◌+◌, ◌-◌, ◌≤◌, List, [], ◌∷◌, ◌++◌, take, map, min, length, refl, ap, sym, subst, ◌∙◌, arith, Bool, true, false, not, ◌&&◌, append_assoc}
-use Rattle.std.specs.Prelude.{if◌then◌else◌, ◌==◌, nat_lt, ◌%◌, filter, fold, Option, Some, None}
+use Rattle.std.proofs.Common.{◌≡◌, ℕ, zero, suc, ◌+◌, ◌-◌, ◌≤◌, List, [], ◌∷◌, ◌++◌, take, map, min, refl, ap, sym, ◌∙◌, arith, Bool, true, false, not, ◌&&◌, append_assoc}
+use Rattle.std.specs.Prelude.{if◌then◌else◌, ◌==◌, filter, fold, Option, Some, None}
 use Rattle.std.proofs.lemmas.Grind.{fold-append}
 use Rattle.std.proofs.lemmas.List.{append-nil}
 use Rattle.std.proofs.lemmas.Bool.Decides.{nat_tests}
@@ -14,13 +14,11 @@ use Rattle.xd_ledger.specs.declared.entry.Outcome.TheVariants.{Failed, Passed, S
 use Rattle.xd_ledger.specs.declared.news.News.{News}
 use Rattle.xd_ledger.specs.declared.news.What.{What}
 use Rattle.xd_ledger.specs.declared.news.What.TheVariants as what
-use Rattle.xd_ledger.specs.Books.{Books}
-use Rattle.xd_ledger.specs.Collections.{listed, differ_at}
 use Rattle.xd_ledger.specs.Histories.{begun, first_starts, grown, journal_of, stepped_all}
-use Rattle.xd_ledger.specs.Meaning.{Log, given_ids, is_of, any_open, kept, log_of, may_start_log, meaning, meaning_of, most_of_all, most_of_one, output_of, or_breach, silent_or_breach, is_open_log, spent_by, with_news}
+use Rattle.xd_ledger.specs.Kept.{most_of_all, most_of_one}
+use Rattle.xd_ledger.specs.Meaning.{Log, given_ids, is_of, any_open, kept, log_of, may_start_log, meaning_of, output_of, is_open_log, spent_by, with_news}
 use Rattle.xd_ledger.specs.Orderly.{all_orderly, is_orderly}
 use Rattle.xd_ledger.specs.Outputs.{outputs, stepped}
-use Rattle.xd_ledger.specs.Plan.{Plan}
 use Rattle.xd_ledger.specs.Proper.{IsProper, all_may_follow, may_follow, names_head}
 use Rattle.xd_ledger.specs.Sharing.{State}
 use Rattle.xd_ledger.specs.State.{all_moved, is_input, moved, no_one, settled, state_at}
@@ -30,13 +28,9 @@ use Rattle.xd_laws.proofs.LoadRule.{load_rule}
 use Rattle.xd_laws.proofs.Logic.{and, differ, split-and}
 use Rattle.xd_laws.proofs.Outputs.{outputs-fit}
 use Rattle.xd_laws.proofs.Runs.{Holds, all-hold, begun-holds}
-use Rattle.xd_laws.proofs.Turns.{all_moved-first}
 use Rattle.xd_session.specs.declared.logs.WorkerLog.{WorkerLog}
 use Rattle.xd_session.specs.History.{IsProperRun, Run as SoFar, after_news, begun_run, entries_with, input_of, inputs_with, run_of, said_by, state_with}
 use Rattle.xd_session.specs.Kept.{log_in, shortened}
-use Rattle.xd_session.specs.Rules.{At, InStep}
-use Rattle.xd_session.specs.Stands.{Seen, StandsFor}
-use Rattle.xd_session.specs.Told.{Told, Took, spent_in}
 use Rattle.xd_session.proofs.Closing.{all_moved-append}
 
 -- the state behind one more input
@@ -159,14 +153,14 @@ spent-more s es e h k =
 
 -- what news mean may follow
 
-same-entry : (x y : Entry) → Some x ≡ Some y → x ≡ y
+pub same-entry : (x y : Entry) → Some x ≡ Some y → x ≡ y
 same-entry x y h = cc
 
 or-by : (s : State) (e x d : Entry) (b : Bool) → may_follow s x ≡ b → may_follow s d ≡ true → (if b then Some x else Some d) ≡ Some e → may_follow s e ≡ true
 or-by s e x d true m k h = ap (may_follow s) (sym (same-entry x e h)) ∙ m
 or-by s e x d false m k h = ap (may_follow s) (sym (same-entry d e h)) ∙ k
 
-none-some : (e : Entry) (P : Type 0) → None ≡ Some e → P
+pub none-some : (e : Entry) (P : Type 0) → None ≡ Some e → P
 none-some e P h = absurd cc
 
 silent-by : (s : State) (e d : Entry) (b : Bool) → may_follow s d ≡ true → (if b then None else Some d) ≡ Some e → may_follow s e ≡ true
@@ -310,7 +304,7 @@ meant : (w : ℕ) (b : Bool) (o : Option Entry) (s : State) (e : Entry) → (b �
 meant w true o s e h k = h refl k
 meant w false o s e h k = none-some e (may_follow s e ≡ true) k
 
-sound-next : (settings : Settings) (r : SoFar) (n : News) → IsProperRun settings r → IsProperRun settings (after_news r n)
+pub sound-next : (settings : Settings) (r : SoFar) (n : News) → IsProperRun settings r → IsProperRun settings (after_news r n)
 sound-next settings r n k =
     let w = n.worker in
     sound-input settings r n (input_of r n) (λ e h. meant w (is_active w r.state.books) (meaning_of w (log_of (said_by w r.taken)) (spent_by r.entries) r.state n.what) r.state e

@@ -1,16 +1,13 @@
 -- A worker joins, and the tests are shared.
-use Rattle.std.specs.Prelude.{◌≡◌, ℕ, ◌≤◌, false, List, [], Option, Some, None}
+use Rattle.std.specs.Prelude.{◌≡◌, ℕ, [], Option, Some, None}
 use Rattle.xd_ledger.specs.declared.entry.RunStop.{RunStop}
 use Rattle.xd_ledger.specs.Sharing.{State, in_books, joining}
-use Rattle.xd_ledger.specs.Sound.{seats_of}
 use Rattle.xd_ledger.specs.Stops.{stopped_by}
-use Rattle.xd_ledger.specs.Table.{Table, all_items, seat_shut}
+use Rattle.xd_ledger.specs.Table.{Table, all_items}
 
--- before the share: no item stands anywhere, nobody in the rota was told to shut down, and nobody has two seats
-pub record IsBare (t : Table) : Type 0 where
-  pub none : all_items t ≡ []
-  pub unshut : (worker : ℕ) → seat_shut worker t ≡ false
-  pub once : (worker : ℕ) → seats_of worker t.rota ≤ 1
+-- before the share no item stands anywhere
+abbrev pub IsBare : Table → Type 0
+IsBare t = all_items t ≡ []
 
 -- a collection that differs stops the run, with any other the worker joins
 abbrev pub taken_in : ℕ → Option RunStop → State → State

@@ -1,6 +1,6 @@
+pub mod Bounded
 pub mod Compared
 pub mod Crew
-pub mod Ending
 pub mod History
 pub mod Joining
 pub mod Kept

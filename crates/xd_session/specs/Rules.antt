@@ -15,7 +15,8 @@ use Rattle.xd_ledger.specs.State.{settled, all_moved, state_at}
 use Rattle.xd_ledger.specs.Outputs.{closing, outputs, stepped}
 use Rattle.xd_ledger.specs.Histories.{journal_of}
 use Rattle.xd_ledger.specs.Proper.{IsProper}
-use Rattle.xd_ledger.specs.Meaning.{most_of_all, spent_by}
+use Rattle.xd_ledger.specs.Kept.{most_of_all}
+use Rattle.xd_ledger.specs.Meaning.{spent_by}
 use Rattle.xd_session.specs.declared.logs.WorkerLog.{WorkerLog}
 use Rattle.xd_session.specs.Kept.{log_in, shortened}
 

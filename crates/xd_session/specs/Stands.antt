@@ -1,5 +1,5 @@
 -- A session as its callers see it, and the news that it stands for.
-use Rattle.std.specs.Prelude.{◌≡◌, ℕ, ◌==◌, Bool, true, nat_le, ◌&&◌, List, [], ◌∷◌, take, Option, Some, None, if◌then◌else◌}
+use Rattle.std.specs.Prelude.{◌≡◌, ℕ, Bool, true, nat_le, List}
 use Rattle.xd_edge.specs.declared.mode.ModeKind.TheVariants.{Load}
 use Rattle.xd_ledger.specs.declared.settings.Settings.{Settings}
 use Rattle.xd_ledger.specs.declared.entry.Entry.{Entry}
@@ -7,7 +7,7 @@ use Rattle.xd_ledger.specs.declared.news.News.{News}
 use Rattle.xd_ledger.specs.Sharing.{State}
 use Rattle.xd_ledger.specs.State.{state_at}
 use Rattle.xd_ledger.specs.Proper.{most_workers, most_restarts}
-use Rattle.xd_ledger.specs.Meaning.{Log, log_of, most_of_one}
+use Rattle.xd_ledger.specs.Meaning.{log_of}
 use Rattle.xd_session.specs.declared.logs.WorkerLog.{WorkerLog}
 use Rattle.xd_session.specs.Kept.{log_in, shortened}
 use Rattle.xd_session.specs.History.{run_of, said_by}

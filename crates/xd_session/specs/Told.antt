@@ -3,7 +3,8 @@ use Rattle.std.specs.Prelude.{◌≡◌, ℕ, ◌+◌, ◌≤◌, ◌==◌, List
 use Rattle.xd_ledger.specs.declared.entry.Entry.{Entry}
 use Rattle.xd_ledger.specs.declared.news.What.{What}
 use Rattle.xd_ledger.specs.Books.{Books}
-use Rattle.xd_ledger.specs.Meaning.{meaning_of, most_of_all, spent_by, with_news}
+use Rattle.xd_ledger.specs.Kept.{most_of_all}
+use Rattle.xd_ledger.specs.Meaning.{meaning_of, spent_by, with_news}
 use Rattle.xd_ledger.specs.Plan.{Plan}
 use Rattle.xd_ledger.specs.Sharing.{State}
 use Rattle.xd_session.specs.declared.logs.WorkerLog.{WorkerLog}

@@ -1,6 +1,6 @@
 // A worker collected: it joins, and the last one that was missing brings the share.
 ghost use Rattle.std.specs.Prelude.{◌≡◌, ◌&&◌, ◌≤◌, nat_le, length, true, false, [], ◌∷◌, OnOk, IfOk, if◌then◌else◌};
-ghost use Rattle.std.specs.List.{list_all, range_with_len};
+ghost use Rattle.std.specs.List.{list_all};
 ghost use Rattle.xd_ledger.specs.Meaning.{given_ids};
 ghost use Rattle.xd_ledger.specs.Modes.Call.{Joined, Share};
 ghost use Rattle.xd_ledger.specs.Outputs.{acts_of, after_joining, slots_of_rota, unless_stopped};
@@ -8,7 +8,7 @@ ghost use Rattle.xd_ledger.specs.Proper.{is_id, most_tests, no_text_twice};
 ghost use Rattle.xd_ledger.specs.Sharing.{State, ids_at, in_books, is_full, joining, shared_now};
 ghost use Rattle.xd_ledger.specs.Books.{on_table};
 ghost use Rattle.xd_ledger.specs.Stops.{is_stopped};
-ghost use Rattle.xd_ledger.specs.Table.{in_rota, joined};
+ghost use Rattle.xd_ledger.specs.Table.{has_joined, in_rota, joined};
 ghost use Rattle.xd_ledger.specs.Workers.{is_shut, slot_of};
 ghost use Rattle.xd_session.specs.Compared.{stop_of};
 ghost use Rattle.xd_session.specs.Crew.{books_of};
@@ -23,7 +23,7 @@ use crate::rules::finish;
 use std::alloc::Global;
 use std::slice;
 use xd_edge::{Indices, OutOfMemory, Texts};
-use xd_ledger::{Entry, Ledger, Listed, Mode, RunStop};
+use xd_ledger::{Entry, Listed, Mode, RunStop};
 
 // The ids that stand for slot 0.
 fn first_ids<'a>(lists: &'a [Listed], none: &'a Texts) -> &'a Texts
@@ -51,19 +51,6 @@ fn slots_of(alloc: Global, books: &RunBooks) -> Result<Indices, OutOfMemory>
     Ok(Indices { items })
 }
 
-// A ledger with so many tests in the pool, and the same rota.
-fn filled(alloc: Global, tests: u32, bare: &Ledger) -> Result<Ledger, OutOfMemory>
-    requires few { tests ≤ most_tests }
-    requires bare { IsBare bare.now }
-    ensures { IfOk result (λ l. l ≡ record (bare.now) { pool = range_with_len 0 tests }) }
-{
-    let mut ledger = Ledger::new(alloc, tests)?;
-    for place in 0..bare.rota_len() {
-        ledger.join(alloc, bare.rota_at(place))?;
-    }
-    Ok(ledger)
-}
-
 // All tests come into the pool, and the mode deals them.
 fn share<M: Mode>(
     alloc: Global,
@@ -80,7 +67,7 @@ fn share<M: Mode>(
     };
     let slots = slots_of(alloc, books)?;
     let first = first_ids(&books.lists, &none);
-    books.ledger = filled(alloc, first.items.len() as u32, &books.ledger)?;
+    books.ledger.fill(alloc, first.items.len() as u32)?;
     books.shared = true;
     let mut acts = Vec::new(alloc);
     mode.share(
@@ -124,7 +111,7 @@ fn is_full(books: &RunBooks) -> bool
 
 // The worker joins the rota.
 fn seat(alloc: Global, worker: u32, books: &mut RunBooks) -> Result<(), OutOfMemory>
-    requires { in_rota worker books.old.ledger ≡ false }
+    requires { has_joined worker books.old.ledger ≡ false }
     ensures books { OnOk result (books_of books.new ≡ on_table (joined worker) (books_of books.old)) }
     ensures seated { OnOk result (in_rota worker books.new.ledger ≡ true) }
     ensures bare { OnOk result (IsBare books.old.ledger → IsBare books.new.ledger) }
@@ -141,7 +128,7 @@ fn join<M: Mode>(
     books: &mut RunBooks,
     entries: &mut Vec<Entry>,
 ) -> Result<(), OutOfMemory>
-    requires new { in_rota worker books.old.ledger ≡ false }
+    requires new { has_joined worker books.old.ledger ≡ false }
     requires bare { books.old.shared ≡ false → IsBare books.old.ledger }
     ensures { OnOk result ((s : State) → At s (books_of books.old) (M.stands mode.old) →
         Acted (after_joining worker s.books (joining worker s)) (joining worker s) (books_of books.new) entries.old.items entries.new.items (M.stands mode.new)) }
@@ -167,7 +154,7 @@ fn take_in<M: Mode>(
     books: &mut RunBooks,
     entries: &mut Vec<Entry>,
 ) -> Result<(), OutOfMemory>
-    requires new { in_rota worker books.old.ledger ≡ false }
+    requires new { has_joined worker books.old.ledger ≡ false }
     requires bare { books.old.shared ≡ false → IsBare books.old.ledger }
     requires going { is_stopped (books_of books.old) ≡ false }
     ensures { OnOk result ((s : State) → At s (books_of books.old) (M.stands mode.old) →
@@ -200,8 +187,8 @@ fn take_in_unless<M: Mode>(
     books: &mut RunBooks,
     entries: &mut Vec<Entry>,
 ) -> Result<(), OutOfMemory>
-    requires new { in_rota worker books.old.ledger ≡ false }
-    requires bare { shut ≡ false → books.old.shared ≡ false → IsBare books.old.ledger }
+    requires new { has_joined worker books.old.ledger ≡ false }
+    requires bare { books.old.shared ≡ false → IsBare books.old.ledger }
     requires going { shut ≡ false → is_stopped (books_of books.old) ≡ false }
     ensures { OnOk result ((s : State) → At s (books_of books.old) (M.stands mode.old) →
         Acted (if shut then [] else unless_stopped s.books (taken_in worker (stop_of worker comparison) s).books (after_joining worker s.books (taken_in worker (stop_of worker comparison) s))) (if shut then s else taken_in worker (stop_of worker comparison) s) (books_of books.new) entries.old.items entries.new.items (M.stands mode.new)) }
@@ -224,8 +211,8 @@ pub(crate) fn collected<M: Mode>(
 ) -> Result<(), OutOfMemory>
     requires few { length own ≤ most_tests }
     requires ordered { (list_all is_id own && no_text_twice own) ≡ true }
-    requires new { in_rota worker books.old.ledger ≡ false }
-    requires bare { is_stopped (books_of books.old) ≡ false → books.old.shared ≡ false → IsBare books.old.ledger }
+    requires new { has_joined worker books.old.ledger ≡ false }
+    requires bare { books.old.shared ≡ false → IsBare books.old.ledger }
     ensures { OnOk result ((s : State) → At s (books_of books.old) (M.stands mode.old) →
         Ruled s (given_ids worker own s) (books_of books.new) entries.old.items entries.new.items (M.stands mode.new)) }
 {
@@ -243,15 +230,7 @@ pub(crate) fn collected<M: Mode>(
         entries,
     )?;
     books.mark(worker, Mark::Collected);
-    take_in_unless(
-        alloc,
-        shut,
-        worker,
-        taken.comparison,
-        mode,
-        books,
-        entries,
-    )?;
+    take_in_unless(alloc, shut, worker, taken.comparison, mode, books, entries)?;
     finish(alloc, mode, books, entries)?;
     Ok(())
 }

@@ -3,12 +3,13 @@ ghost use Rattle.std.specs.Prelude.{◌≡◌, ◌≤◌, ◌+◌, ℕ, length, 
 ghost use Rattle.xd_ledger.specs.declared.news.What.TheVariants as what;
 ghost use Rattle.xd_ledger.specs.declared.entry.Entry.TheVariants as entry;
 ghost use Rattle.xd_edge.specs.declared.mode.ModeKind.TheVariants.{Load};
-ghost use Rattle.xd_ledger.specs.Meaning.{any_open, is_of, kept, may_start_log, meaning_of, most_of_all, output_of};
+ghost use Rattle.xd_ledger.specs.Kept.{most_of_all};
+ghost use Rattle.xd_ledger.specs.Meaning.{any_open, is_of, kept, may_start_log, meaning_of, output_of};
 ghost use Rattle.xd_ledger.specs.Numbers.{first_of};
 ghost use Rattle.xd_ledger.specs.Proper.{names_head};
 ghost use Rattle.xd_ledger.specs.Sharing.{State};
 ghost use Rattle.xd_ledger.specs.Stops.{is_stopped};
-ghost use Rattle.xd_ledger.specs.Table.{held, in_rota};
+ghost use Rattle.xd_ledger.specs.Table.{has_joined, held, in_rota};
 ghost use Rattle.xd_ledger.specs.Workers.{is_active, has_collected};
 ghost use Rattle.xd_session.specs.Crew.{books_of};
 ghost use Rattle.xd_session.specs.Joining.{IsBare};
@@ -27,6 +28,7 @@ use xd_ledger::{Cause, Entry, Mode, Outcome};
 
 // Of the output of one test so many bytes are kept, and so many of all tests of a run together.
 const MOST_OF_ONE: u32 = 8192;
+
 const MOST_OF_ALL: u32 = 67_108_864;
 
 // What decides: the mode, the books, the logs, and how many bytes the entries so far keep.
@@ -48,11 +50,7 @@ fn first_bytes(alloc: Global, bytes: &[u8], count: u32) -> Result<Blob, OutOfMem
 }
 
 // What is kept of the output so far of the test at the worker's head.
-fn kept_output<M: Mode>(
-    alloc: Global,
-    worker: u32,
-    core: &Core<M>,
-) -> Result<Blob, OutOfMemory>
+fn kept_output<M: Mode>(alloc: Global, worker: u32, core: &Core<M>) -> Result<Blob, OutOfMemory>
     requires { core.now.spent ≤ most_of_all }
     ensures kept { IfOk result (λ b. (s : State) → At s (books_of core.now.books) (M.stands core.now.mode) → b ≡ kept worker (log_in worker core.now.logs) core.now.spent s) }
     ensures low { IfOk result (λ b. core.now.spent + length b ≤ most_of_all) }
@@ -153,13 +151,7 @@ pub(crate) fn ready<M: Mode>(
         go_down(alloc, worker, Cause::Breach, core, entries)?;
         return Ok(());
     }
-    rules::ready(
-        alloc,
-        worker,
-        &core.mode,
-        &mut core.books,
-        entries,
-    )?;
+    rules::ready(alloc, worker, &core.mode, &mut core.books, entries)?;
     Ok(())
 }
 
@@ -173,8 +165,8 @@ pub(crate) fn collects<M: Mode>(
 ) -> Result<(), OutOfMemory>
     requires low { core.old.spent ≤ most_of_all }
     requires active { is_active worker (books_of core.old.books) ≡ true }
-    requires new { has_collected worker (books_of core.old.books) ≡ false → in_rota worker core.old.books.ledger ≡ false }
-    requires bare { is_stopped (books_of core.old.books) ≡ false → core.old.books.shared ≡ false → IsBare core.old.books.ledger }
+    requires new { has_collected worker (books_of core.old.books) ≡ false → has_joined worker core.old.books.ledger ≡ false }
+    requires bare { core.old.books.shared ≡ false → IsBare core.old.books.ledger }
     ensures told { OnOk result ((s : State) → At s (books_of core.old.books) (M.stands core.old.mode) →
         Told (meaning_of worker (log_in worker core.old.logs) core.old.spent s (what.Collected own)) s entries.old.items entries.new.items core.old.spent core.new.spent (books_of core.new.books) (M.stands core.new.mode)) }
     ensures logs { core.new.logs ≡ core.old.logs }
@@ -187,14 +179,7 @@ pub(crate) fn collects<M: Mode>(
         go_down(alloc, worker, Cause::Breach, core, entries)?;
         return Ok(());
     }
-    collected(
-        alloc,
-        worker,
-        own,
-        &mut core.mode,
-        &mut core.books,
-        entries,
-    )?;
+    collected(alloc, worker, own, &mut core.mode, &mut core.books, entries)?;
     Ok(())
 }
 
@@ -337,13 +322,7 @@ pub(crate) fn finishes<M: Mode>(
         go_down(alloc, worker, Cause::Breach, core, entries)?;
         return Ok(());
     }
-    rules::finished(
-        alloc,
-        worker,
-        &core.mode,
-        &mut core.books,
-        entries,
-    )?;
+    rules::finished(alloc, worker, &core.mode, &mut core.books, entries)?;
     Ok(())
 }
 
@@ -369,14 +348,7 @@ pub(crate) fn closes<M: Mode>(
         go_down(alloc, worker, Cause::Breach, core, entries)?;
         return Ok(());
     }
-    rules::refused(
-        alloc,
-        worker,
-        text,
-        &core.mode,
-        &mut core.books,
-        entries,
-    )?;
+    rules::refused(alloc, worker, text, &core.mode, &mut core.books, entries)?;
     Ok(())
 }
 
@@ -432,12 +404,6 @@ pub(crate) fn does_not_start<M: Mode>(
         go_down(alloc, worker, Cause::Breach, core, entries)?;
         return Ok(());
     }
-    rules::not_started(
-        alloc,
-        worker,
-        &mut core.mode,
-        &mut core.books,
-        entries,
-    )?;
+    rules::not_started(alloc, worker, &mut core.mode, &mut core.books, entries)?;
     Ok(())
 }

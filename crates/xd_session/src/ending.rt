@@ -3,7 +3,7 @@ ghost use Rattle.std.specs.Prelude.{◌≡◌, ◌++◌, ◌∷◌, [], OnOk, tr
 ghost use Rattle.xd_ledger.specs.declared.entry.Entry.TheVariants as entry;
 ghost use Rattle.xd_ledger.specs.declared.entry.RunStop.TheVariants as run_stop;
 ghost use Rattle.xd_session.specs.Crew.{books_of};
-ghost use Rattle.xd_session.specs.Ending.{ending, kills};
+ghost use Rattle.xd_ledger.specs.Ending.{ending, kills};
 
 use crate::books::RunBooks;
 use crate::outputs::note;

@@ -18,6 +18,9 @@ mod step;
 mod stops;
 mod take;
 
-pub use laws::session_law;
+pub use laws::{kept_law, session_law};
 pub use session::Session;
 pub use step::Step;
+
+#[cfg(test)]
+mod tests;

@@ -22,10 +22,7 @@ pub(crate) fn note(entry: Entry, entries: &mut Vec<Entry>) -> Result<(), OutOfMe
 }
 
 // More entries.
-pub(crate) fn note_all(
-    acts: &mut Vec<Entry>,
-    entries: &mut Vec<Entry>,
-) -> Result<(), OutOfMemory>
+pub(crate) fn note_all(acts: &mut Vec<Entry>, entries: &mut Vec<Entry>) -> Result<(), OutOfMemory>
     ensures { OnOk result (entries.new.items ≡ entries.old.items ++ acts.old.items) }
 {
     match entries.append(acts) {

@@ -6,7 +6,7 @@ ghost use Rattle.xd_ledger.specs.Plan.{Plan};
 ghost use Rattle.xd_ledger.specs.State.{no_one, all_moved};
 ghost use Rattle.xd_ledger.specs.Workers.{is_active};
 ghost use Rattle.xd_session.specs.Crew.{books_of};
-ghost use Rattle.xd_session.specs.Ending.{ending, may_close};
+ghost use Rattle.xd_ledger.specs.Ending.{ending, may_close};
 ghost use Rattle.xd_session.specs.Stands.{CanBegin, StandsFor, state_of};
 
 use crate::books::RunBooks;
@@ -145,11 +145,7 @@ impl<M: Mode> Session<M> {
         ensures settings { IfOk result (λ j. j.settings ≡ self.settings) }
         ensures entries { IfOk result (λ j. j.entries.items ≡ self.entries ++ ending out_failed (state_of self).books) }
     {
-        end(
-            out_failed,
-            &self.core.books,
-            &mut self.journal.entries,
-        )?;
+        end(out_failed, &self.core.books, &mut self.journal.entries)?;
         Ok(self.journal)
     }
 }

@@ -1,10 +1,10 @@
 // One piece of news: what it means, and what is kept of its logs.
 ghost use Rattle.std.specs.Prelude.{◌≡◌, ◌≤◌, ℕ, false, true, OnOk};
 ghost use Rattle.xd_ledger.specs.declared.news.What.TheVariants as what;
-ghost use Rattle.xd_ledger.specs.Meaning.{most_of_all};
+ghost use Rattle.xd_ledger.specs.Kept.{most_of_all};
 ghost use Rattle.xd_ledger.specs.Sharing.{State};
 ghost use Rattle.xd_ledger.specs.Stops.{is_stopped};
-ghost use Rattle.xd_ledger.specs.Table.{in_rota};
+ghost use Rattle.xd_ledger.specs.Table.{has_joined};
 ghost use Rattle.xd_ledger.specs.Workers.{is_active, has_collected};
 ghost use Rattle.xd_session.specs.Crew.{books_of};
 ghost use Rattle.xd_session.specs.Joining.{IsBare};
@@ -83,8 +83,8 @@ pub(crate) fn take<M: Mode>(
 ) -> Result<(), OutOfMemory>
     requires low { core.old.spent ≤ most_of_all }
     requires active { is_active worker (books_of core.old.books) ≡ true }
-    requires new { has_collected worker (books_of core.old.books) ≡ false → in_rota worker core.old.books.ledger ≡ false }
-    requires bare { is_stopped (books_of core.old.books) ≡ false → core.old.books.shared ≡ false → IsBare core.old.books.ledger }
+    requires new { has_collected worker (books_of core.old.books) ≡ false → has_joined worker core.old.books.ledger ≡ false }
+    requires bare { core.old.books.shared ≡ false → IsBare core.old.books.ledger }
     ensures { OnOk result ((s : State) → At s (books_of core.old.books) (M.stands core.old.mode) → ((v : ℕ) → log_in v core.old.logs ≡ shortened (log_in v core.old.logs)) →
         Took worker what s core.old.logs core.new.logs entries.old.items entries.new.items core.old.spent core.new.spent (books_of core.new.books) (M.stands core.new.mode)) }
 {
@@ -94,8 +94,9 @@ pub(crate) fn take<M: Mode>(
         What::LogStart { index, log } => start_log(alloc, worker, index, log, core, entries),
         What::Piece { log, bytes } => add_piece(alloc, worker, log, &bytes, core, entries),
         What::LogClosed { log } => end_log(alloc, worker, log, core, entries),
-        What::Done { index, outcome, ms } =>
-            decide::test_ends(alloc, worker, index, outcome, ms, core, entries),
+        What::Done { index, outcome, ms } => decide::test_ends(
+            alloc, worker, index, outcome, ms, core, entries,
+        ),
         What::Back(indices) => decide::gives_back(alloc, worker, &indices.items, core, entries),
         What::Finished => decide::finishes(alloc, worker, core, entries),
         What::Closed(text) => decide::closes(alloc, worker, text, core, entries),

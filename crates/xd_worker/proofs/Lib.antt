@@ -1,1 +1,4 @@
 pub mod Fours
+pub mod Tables
+pub mod Standing
+pub mod Hearing

@@ -1,11 +1,23 @@
-//! The worker: which of its functions a call names, and what it tells of itself.
+//! The worker of one link: which of its functions a call names, what it tells of itself, and what it says and starts
+//! for each message, and for what the files and programs of its tests gave.
 #![tactic(auto)]
 
 mod function;
+mod input;
+mod runner;
 mod status;
+mod talk;
+mod words;
+mod worker;
 
 pub use function::{CallFault, Called, Function, read_call};
+pub use input::{WorkerActions, WorkerFault, WorkerInput};
+pub use runner::{Fed, Runner};
 pub use status::status_value;
+pub use talk::Sent;
+pub use worker::WorkerCore;
 
+#[cfg(test)]
+mod rows;
 #[cfg(test)]
 mod tests;

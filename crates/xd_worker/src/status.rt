@@ -9,7 +9,7 @@ use xd_gateway::word_value;
 use xd_value::Value;
 
 /// The answer to a STATUS: how many channels are in the table, and how many functions have not ended.
-pub fn status_value(alloc: Global, channels: u32, functions: u32) -> Result<Value, OutOfMemory>
+pub fn status_value(alloc: Global, channels: u32, functions: usize) -> Result<Value, OutOfMemory>
     ensures { IfOk result (λ v. view v ≡ status_tree channels functions) }
 {
     let model = word_value(alloc, "thread")?;
@@ -20,7 +20,7 @@ pub fn status_value(alloc: Global, channels: u32, functions: u32) -> Result<Valu
         ),
         (
             word_value(alloc, "numexecuting")?,
-            Value::Int(i128::from(functions))
+            Value::Int(i128::from(functions as u64))
         ),
         (word_value(alloc, "execmodel")?, model),
     ]?;

@@ -1,13 +1,14 @@
 -- The entries of one test, and their lines.
-use Rattle.std.proofs.Common.{◌≡◌, ℕ, Bool, List, ◌++◌, length, drop, Option, refl, sym, ◌∙◌, ap, subst}
+use Rattle.std.proofs.Common.{◌≡◌, ℕ, ◌+◌, Bool, List, ◌++◌, length, drop, Option, sym, ◌∙◌, ap, subst}
 use Rattle.std.proofs.lemmas.List.{drop_at}
-use Rattle.xd_edge.specs.declared.children.ChildRun.{ChildRun}
+use Rattle.xd_edge.specs.Children.{ChildRun}
 use Rattle.xd_edge.specs.Faults.{RoseBy}
 use Rattle.xd_edge.specs.Sink.{Sunk}
 use Rattle.xd_ledger.specs.declared.entry.Entry.{Entry}
 use Rattle.xd_ledger.specs.declared.entry.Outcome.{Outcome}
 use Rattle.xd_ledger.specs.declared.journal.Journal.{Journal}
 use Rattle.xd_ledger.specs.declared.settings.Settings.{Settings}
+use Rattle.xd_ledger.specs.Kept.{room_behind}
 use Rattle.xd_ledger.specs.Legal.{round}
 use Rattle.xd_ledger.specs.Results.{TestResult}
 use Rattle.xd_ledger.specs.Sharing.{State}
@@ -28,23 +29,24 @@ new_ones old added new from is at = ap (λ (l : List Entry). drop from l) is ∙
 abbrev pub behind : Journal → State
 behind j = all_moved (no_one j.settings) j.entries.items
 
-pub ran_test : (shown : Bool) (test : ℕ) (args : List (List ℕ)) (outcome : Outcome) (ms : ℕ) (j0 j1 : Journal) (from : ℕ) (runs_old runs_new : Option (List ChildRun)) (faults_old faults_new : ℕ) (out_old out_new : Option Sunk)
-    → AddsRound test outcome ms j0.entries.items j1.entries.items → from ≡ length j0.entries.items → RanChild args outcome runs_old runs_new → RoseBy (fault_count outcome) faults_old faults_new
-    → Shows shown (lines_from (behind j0) (drop from j1.entries.items)) out_old out_new → RanTest shown test args j0 j1.entries.items runs_old runs_new faults_old faults_new out_old out_new
-ran_test shown test args outcome ms j0 j1 from runs_old runs_new faults_old faults_new out_old out_new entries from_is ran faults shows =
-    let result : TestResult = record { outcome = outcome; ms = ms } in
+pub ran_test : (shown : Bool) (test : ℕ) (args : List (List ℕ)) (spent_old spent_new room : ℕ) (outcome : Outcome) (ms : ℕ) (output : List ℕ) (j0 j1 : Journal) (from : ℕ) (runs_old runs_new : Option (List ChildRun)) (faults_old faults_new : ℕ) (out_old out_new : Option Sunk)
+    → AddsRound test outcome ms output j0.entries.items j1.entries.items → from ≡ length j0.entries.items → room ≡ room_behind spent_old → RanChild args room outcome output runs_old runs_new → spent_new ≡ spent_old + length output → RoseBy (fault_count outcome) faults_old faults_new
+    → Shows shown (lines_from (behind j0) (drop from j1.entries.items)) out_old out_new → RanTest shown test args spent_old spent_new j0 j1.entries.items runs_old runs_new faults_old faults_new out_old out_new
+ran_test shown test args spent_old spent_new room outcome ms output j0 j1 from runs_old runs_new faults_old faults_new out_old out_new entries from_is room_is ran spent faults shows =
+    let result : TestResult = record { outcome = outcome; ms = ms; output = output } in
     record {
       result = result;
       entries = entries;
-      ran = ran;
+      ran = subst (λ (n : ℕ). RanChild args n outcome output runs_old runs_new) room_is ran;
+      spent = spent;
       faults = faults;
       shows = subst (λ (l : List Entry). Shows shown (lines_from (behind j0) l) out_old out_new) (new_ones j0.entries.items (round test result) j1.entries.items from entries from_is) shows;
     }
 
-pub told : (r : Reporter) (test : ℕ) (outcome : Outcome) (ms : ℕ) (j0 j1 : Journal) (from : ℕ) → AddsRound test outcome ms j0.entries.items j1.entries.items → from ≡ length j0.entries.items → j1.settings ≡ j0.settings
+pub told : (r : Reporter) (test : ℕ) (outcome : Outcome) (ms : ℕ) (output : List ℕ) (j0 j1 : Journal) (from : ℕ) → AddsRound test outcome ms output j0.entries.items j1.entries.items → from ≡ length j0.entries.items → j1.settings ≡ j0.settings
     → Follows r (all_moved (behind j0) (drop from j1.entries.items)) → Told r j1
-told r test outcome ms j0 j1 from entries from_is same follows =
-    let added : List Entry = round test (record { outcome = outcome; ms = ms }) in
+told r test outcome ms output j0 j1 from entries from_is same follows =
+    let added : List Entry = round test (record { outcome = outcome; ms = ms; output = output }) in
     let is : behind j1 ≡ all_moved (behind j0) (drop from j1.entries.items) =
     ap (λ (st : Settings). all_moved (no_one st) j1.entries.items) same ∙ ap (all_moved (no_one j0.settings)) entries ∙ moved-more (no_one j0.settings) j0.entries.items added
     ∙ ap (all_moved (behind j0)) (sym (new_ones j0.entries.items added j1.entries.items from entries from_is)) in

@@ -1,6 +1,6 @@
 -- The report of a run, with its tail.
-use Rattle.std.proofs.Common.{◌≡◌, ℕ, Bool, true, false, List, Option, refl}
-use Rattle.xd_edge.specs.declared.children.ChildRun.{ChildRun}
+use Rattle.std.proofs.Common.{ℕ, Bool, true, false, List, Option, refl}
+use Rattle.xd_edge.specs.Children.{ChildRun}
 use Rattle.xd_edge.specs.Sink.{Sunk}
 use Rattle.xd_edge.proofs.SinkLemmas.{printed_more, printed_part_of_more, printed_then_part}
 use Rattle.xd_suite.specs.declared.test.Test.{Test}

@@ -1,7 +1,7 @@
 -- A whole run, with its end.
-use Rattle.std.proofs.Common.{◌≡◌, ℕ, ◌+◌, inl, inr, Bool, true, false, List, [], ◌∷◌, ◌++◌, length, map, take, Option, count_by, if◌then◌else◌, refl, sym, ◌∙◌, ap, subst, arith}
+use Rattle.std.proofs.Common.{◌≡◌, ℕ, ◌+◌, inl, inr, Bool, true, false, List, [], ◌∷◌, ◌++◌, length, map, take, Option, refl, sym, ◌∙◌, ap, subst, arith}
 use Rattle.std.proofs.lemmas.List.{length-map}
-use Rattle.xd_edge.specs.declared.children.ChildRun.{ChildRun}
+use Rattle.xd_edge.specs.Children.{ChildRun}
 use Rattle.xd_edge.specs.Faults.{Rose, RoseBy}
 use Rattle.xd_edge.specs.Sink.{Sunk}
 use Rattle.xd_suite.specs.declared.test.Test.{Test}
@@ -11,13 +11,19 @@ use Rattle.xd_ledger.specs.declared.entry.Entry.TheVariants.{Over}
 use Rattle.xd_ledger.specs.declared.entry.RunStop.{RunStop}
 use Rattle.xd_ledger.specs.declared.entry.RunStop.TheVariants.{Completed, OutFault}
 use Rattle.xd_ledger.specs.declared.journal.Journal.{Journal}
+use Rattle.std.specs.List.{list_all}
+use Rattle.std.specs.Prelude.{nat_le, ◌≤◌}
+use Rattle.xd_ledger.specs.Kept.{most_of_one, most_of_all}
 use Rattle.xd_ledger.specs.Legal.{EndsSo, IsLegal, failed, local_entries, rounds}
 use Rattle.xd_ledger.specs.Results.{TestResult, ids_in, numbers_from, reported_in, results_in}
-use Rattle.xd_ledger.specs.Stop.{over_in, reaches, stop_of, stop_so_far}
+use Rattle.xd_ledger.specs.Ending.{over_in, stop_of}
+use Rattle.xd_ledger.specs.Histories.{end_of}
+use Rattle.xd_ledger.specs.State.{state_at}
+use Rattle.xd_ledger.specs.Stop.{reaches}
 use Rattle.xd_report.specs.Text.{run_text, text_of}
 use Rattle.xd_report.proofs.Texts.{over-same}
 use Rattle.xdrun.specs.Child.{faults_of}
-use Rattle.xdrun.specs.Local.{RanPrinted, RanTests, RunsSuite, local_settings, stop_after}
+use Rattle.xdrun.specs.Local.{kept_by, RanPrinted, RanTests, RunsSuite, local_settings, stop_after}
 use Rattle.xdrun.specs.Print.{PrintsReport, Shows}
 
 results_in-rounds : (n : ℕ) (rs : List TestResult) (how : RunStop) → results_in (rounds n rs ++ Over how ∷ []) ≡ rs
@@ -57,7 +63,7 @@ module _ (tests : List Test) (j0 j1 : Journal) (shown : Bool) (runs0 runs1 : Opt
   results_are = ap results_in entries_are ∙ results_in-rounds 0 e.ran.results how
 
   stop_is : stop_of j1 ≡ how
-  stop_is = ap (λ (es : List Entry). over_in es (stop_so_far j1.settings j1.entries.items)) entries_are ∙ over_in-rounds 0 e.ran.results how (stop_so_far j1.settings j1.entries.items)
+  stop_is = ap (λ (es : List Entry). over_in es (end_of (state_at j1.settings j1.entries.items).books)) entries_are ∙ over_in-rounds 0 e.ran.results how (end_of (state_at j1.settings j1.entries.items).books)
 
   never : (n : ℕ) → reaches j1.settings.maxfail n ≡ false
   never n = ap (λ (s : Settings). reaches s.maxfail n) (e.same_settings ∙ e.settings)
@@ -74,7 +80,7 @@ module _ (tests : List Test) (j0 j1 : Journal) (shown : Bool) (runs0 runs1 : Opt
       by_end false is_shown = inr (inr (stop_is ∙ ap stop_after is_shown))
 
   pub legal : IsLegal j1
-  legal = record {
+  legal = inl (record {
     mode = ap (λ (s : Settings). s.mode) (e.same_settings ∙ e.settings);
     entries = entries_are ∙ ap (λ (l : List (List ℕ)). local_entries l e.ran.results ++ Over how ∷ []) (sym ids_are)
         ∙ ap (λ (l : List TestResult). local_entries (ids_in j1.entries.items) l ++ Over how ∷ []) (sym results_are)
@@ -82,10 +88,15 @@ module _ (tests : List Test) (j0 j1 : Journal) (shown : Bool) (runs0 runs1 : Opt
     within = omega (arith, e.ran.within, ap length results_are, ap length ids_are, length-map tests (λ (t : Test). t.id));
     unstopped = λ k h. never (failed (take k (results_in j1.entries.items)));
     ends = ends;
-  }
+  })
 
   pub suite : RunsSuite tests j1 runs0 runs1
-  suite = record { ids = ids_are; ran = subst (λ (rs : List TestResult). RanTests tests rs runs0 runs1) (sym results_are) e.ran.so_far.ran }
+  suite = record {
+    ids = ids_are;
+    ran = subst (λ (rs : List TestResult). RanTests tests rs runs0 runs1) (sym results_are) e.ran.so_far.ran;
+    few_kept = subst (λ (rs : List TestResult). list_all (λ r. nat_le (length r.output) most_of_one) rs ≡ true) (sym results_are) e.ran.so_far.few_kept;
+    few_in_all = subst (λ (rs : List TestResult). kept_by rs ≤ most_of_all) (sym results_are) e.ran.so_far.few_in_all;
+  }
 
   pub once : reported_in j1.entries.items ≡ numbers_from 0 (length (results_in j1.entries.items))
   once = ap reported_in entries_are ∙ reported_in-rounds 0 e.ran.results how ∙ ap (λ (rs : List TestResult). numbers_from 0 (length rs)) (sym results_are)

@@ -1,7 +1,8 @@
 -- A run in the program itself, as far as it came.
-use Rattle.std.specs.Prelude.{ℕ, ◌≡◌, ◌≤◌, Bool, true, false, List, ◌++◌, map, take, length, Option, Some, None, option_map}
+use Rattle.std.specs.Prelude.{ℕ, ◌≡◌, ◌+◌, ◌≤◌, nat_le, Bool, true, false, List, [], ◌∷◌, ◌++◌, map, take, length, Option, Some, None, option_map, unwrap_or}
+use Rattle.std.specs.List.{list_all}
 use Rattle.xd_edge.specs.declared.mode.ModeKind.TheVariants.{Local}
-use Rattle.xd_edge.specs.declared.children.ChildRun.{ChildRun}
+use Rattle.xd_edge.specs.Children.{ChildRun}
 use Rattle.xd_edge.specs.Faults.{RoseBy}
 use Rattle.xd_edge.specs.Sink.{Sunk}
 use Rattle.xd_suite.specs.declared.test.Test.{Test}
@@ -11,6 +12,7 @@ use Rattle.xd_ledger.specs.declared.entry.Outcome.{Outcome}
 use Rattle.xd_ledger.specs.declared.entry.RunStop.{RunStop}
 use Rattle.xd_ledger.specs.declared.entry.RunStop.TheVariants.{Completed, OutFault}
 use Rattle.xd_ledger.specs.declared.journal.Journal.{Journal}
+use Rattle.xd_ledger.specs.Kept.{most_of_one, most_of_all, room_behind, kept_of}
 use Rattle.xd_ledger.specs.Legal.{round, local_entries}
 use Rattle.xd_ledger.specs.Results.{TestResult, ids_in, results_in}
 use Rattle.xd_ledger.specs.State.{all_moved, no_one}
@@ -25,32 +27,49 @@ use Rattle.xdrun.specs.Print.{Shows}
 abbrev pub local_settings : Settings
 local_settings = record { mode = Local; workers = 0; maxfail = 0; restarts = 0; chunk = None; reorder = true }
 
+-- what is kept of the output of these starts, where those before keep so many bytes
+abbrev pub kept_outputs : ℕ → List ChildRun → List (List ℕ)
+kept_outputs spent [] = []
+kept_outputs spent (r ∷ rs) =
+    let kept = unwrap_or (option_map (λ o. kept_of o (room_behind spent) r.output) (outcome_of r.fate)) [] in
+    kept ∷ kept_outputs (spent + length kept) rs
+
+-- how many bytes these results keep
+abbrev pub kept_by : List TestResult → ℕ
+kept_by [] = 0
+kept_by (r ∷ rs) = length r.output + kept_by rs
+
 -- Where they are told, the first of these tests were started in suite order, one start for each result, by their
--- commands, and came to these results.
+-- commands, and came to these results, which keep the first bytes of what the failed ones gave.
 pub record RanTests (tests : List Test) (results : List TestResult) (old new : Option (List ChildRun)) : Type 0 where
   pub runs : List ChildRun
   pub commands : map (λ r. r.args) runs ≡ take (length results) (map (λ t. t.run) tests)
   pub outcomes : map (λ r. outcome_of r.fate) runs ≡ map (λ r. Some r.outcome) results
+  pub outputs : map (λ r. r.output) results ≡ kept_outputs 0 runs
   pub added : new ≡ option_map (λ l. l ++ runs) old
 
--- The journal has the ids of these tests, and its results are those of their programs.
+-- The journal has the ids of these tests, its results are those of their programs, and what it keeps of their output
+-- is within the limits.
 pub record RunsSuite (tests : List Test) (j : Journal) (old new : Option (List ChildRun)) : Type 0 where
   pub ids : ids_in j.entries.items ≡ map (λ t. t.id) tests
   pub ran : RanTests tests (results_in j.entries.items) old new
+  pub few_kept : list_all (λ r. nat_le (length r.output) most_of_one) (results_in j.entries.items) ≡ true
+  pub few_in_all : kept_by (results_in j.entries.items) ≤ most_of_all
 
 -- the entries grew by the run of a test and its result
-abbrev pub AddsRound : ℕ → Outcome → ℕ → List Entry → List Entry → Type 0
-AddsRound test outcome ms old new = new ≡ old ++ round test (record { outcome = outcome; ms = ms })
+abbrev pub AddsRound : ℕ → Outcome → ℕ → List ℕ → List Entry → List Entry → Type 0
+AddsRound test outcome ms output old new = new ≡ old ++ round test (record { outcome = outcome; ms = ms; output = output })
 
 -- the reporter followed the journal to its end
 abbrev pub Told : Reporter → Journal → Type 0
 Told r j = Follows r (all_moved (no_one j.settings) j.entries.items)
 
 -- what one test adds to the journal, the children, their faults and the output
-pub record RanTest (shown : Bool) (test : ℕ) (args : List (List ℕ)) (j_old : Journal) (es_new : List Entry) (runs_old runs_new : Option (List ChildRun)) (faults_old faults_new : ℕ) (out_old out_new : Option Sunk) : Type 0 where
+pub record RanTest (shown : Bool) (test : ℕ) (args : List (List ℕ)) (spent_old spent_new : ℕ) (j_old : Journal) (es_new : List Entry) (runs_old runs_new : Option (List ChildRun)) (faults_old faults_new : ℕ) (out_old out_new : Option Sunk) : Type 0 where
   pub result : TestResult
   pub entries : es_new ≡ j_old.entries.items ++ round test result
-  pub ran : RanChild args result.outcome runs_old runs_new
+  pub ran : RanChild args (room_behind spent_old) result.outcome result.output runs_old runs_new
+  pub spent : spent_new ≡ spent_old + length result.output
   pub faults : RoseBy (fault_count result.outcome) faults_old faults_new
   pub shows : Shows shown (lines_from (all_moved (no_one j_old.settings) j_old.entries.items) (round test result)) out_old out_new
 
@@ -59,12 +78,15 @@ pub record SoFar (results : List TestResult) (tests : List Test) (ids : List (Li
   pub entries : es ≡ local_entries ids results
   pub ran : RanTests tests results runs_old runs_new
   pub faults : RoseBy (faults_of results) faults_old faults_new
+  pub few_kept : list_all (λ r. nat_le (length r.output) most_of_one) results ≡ true
+  pub few_in_all : kept_by results ≤ most_of_all
 
 -- so many tests were run, and all lines so far were printed
-pub record Progress (count : ℕ) (tests : List Test) (ids : List (List ℕ)) (j : Journal) (runs_old runs_new : Option (List ChildRun)) (faults_old faults_new : ℕ) (out_old out_new : Option Sunk) : Type 0 where
+pub record Progress (count spent : ℕ) (tests : List Test) (ids : List (List ℕ)) (j : Journal) (runs_old runs_new : Option (List ChildRun)) (faults_old faults_new : ℕ) (out_old out_new : Option Sunk) : Type 0 where
   pub results : List TestResult
   pub so_far : SoFar results tests ids j.entries.items runs_old runs_new faults_old faults_new
   pub counted : length results ≡ count
+  pub spent_is : spent ≡ kept_by results
   pub shows : Shows true (run_lines j.settings j.entries.items) out_old out_new
 
 -- all tests were run and their lines printed, or the output failed at the collection or behind one of them

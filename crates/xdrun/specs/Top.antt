@@ -1,7 +1,7 @@
 -- A run of the suite that the words name.
 use Rattle.std.specs.Prelude.{ℕ, List, Option}
 use Rattle.xd_edge.specs.Files.{Held}
-use Rattle.xd_edge.specs.declared.children.ChildRun.{ChildRun}
+use Rattle.xd_edge.specs.Children.{ChildRun}
 use Rattle.xd_suite.specs.declared.test.Test.{Test}
 use Rattle.xd_ledger.specs.declared.journal.Journal.{Journal}
 use Rattle.xdrun.specs.Local.{RunsSuite}

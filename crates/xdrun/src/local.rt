@@ -3,9 +3,10 @@ ghost use Rattle.std.specs.Prelude.{◌≡◌, ◌<◌, ◌≤◌, [], map, fals
 ghost use Rattle.xd_edge.specs.Faults.{Rose, RoseBy};
 ghost use Rattle.xd_suite.specs.Tests.{run_at};
 ghost use Rattle.xd_ledger.specs.declared.entry.RunStop.TheVariants.{OutFault};
+ghost use Rattle.xd_ledger.specs.Kept.{most_of_all, room_behind};
 ghost use Rattle.xd_ledger.specs.Legal.{IsLegal, local_entries};
 ghost use Rattle.xd_ledger.specs.Results.{numbers_from, reported_in, results_in};
-ghost use Rattle.xd_ledger.specs.Stop.{stop_of};
+ghost use Rattle.xd_ledger.specs.Ending.{stop_of};
 ghost use Rattle.xd_ledger.specs.Sharing.{State};
 ghost use Rattle.xd_ledger.specs.State.{all_moved};
 ghost use Rattle.xd_report.specs.Follows.{Follows};
@@ -22,6 +23,12 @@ use xd_edge::{Blob, Children, Clock, Indices, ModeKind, OutOfMemory, Sink, print
 use xd_ledger::{Entry, Ids, Journal, Outcome, RunStop, Settings};
 use xd_report::{Reporter, tail};
 use xd_suite::Suite;
+
+/// Of the output of one failed test so many bytes are kept.
+const MOST_OF_ONE: usize = 8192;
+
+/// Of the output of all failed tests of a run so many bytes are kept, in the order of the tests.
+const MOST_OF_ALL: usize = 67_108_864;
 
 /// Runs the tests of a suite in order, and prints the report. The line of a test is handed on as soon as it has ended.
 /// Where the output fails no further test is started.
@@ -121,6 +128,7 @@ fn run_tests<R: Wait, K: Children, T: Clock, O: Sink>(
     if !collected {
         return Ok(false);
     }
+    let mut spent = 0;
     for test in 0..suite.len() {
         let shown = run_test(
             rt,
@@ -132,6 +140,7 @@ fn run_tests<R: Wait, K: Children, T: Clock, O: Sink>(
             children,
             clock,
             out,
+            &mut spent,
         )?;
         if !shown {
             return Ok(false);
@@ -140,7 +149,16 @@ fn run_tests<R: Wait, K: Children, T: Clock, O: Sink>(
     Ok(true)
 }
 
-// Runs one test and prints its line; false where the output failed.
+// How many bytes may be kept of the next test's output, where so many are kept.
+fn room_behind(spent: usize) -> usize
+    requires { spent ≤ most_of_all }
+    ensures { result ≡ room_behind spent }
+{
+    MOST_OF_ONE.min(MOST_OF_ALL - spent)
+}
+
+// Runs one test and prints its line; false where the output failed. So many bytes of output are kept before and behind
+// it.
 fn run_test<R: Wait, K: Children, T: Clock, O: Sink>(
     rt: &R,
     alloc: Global,
@@ -151,10 +169,12 @@ fn run_test<R: Wait, K: Children, T: Clock, O: Sink>(
     children: &mut K,
     clock: &mut T,
     out: &mut O,
+    spent: &mut usize,
 ) -> Result<bool, OutOfMemory>
     requires test { test < length suite.now }
     requires told { Told reporter.old journal.old }
-    ensures ran { IfOk result (λ shown. RanTest shown test (run_at suite.now test) journal.old journal.new.entries.items (K.runs children.old) (K.runs children.new) (K.faults children.old) (K.faults children.new) (O.sunk out.old) (O.sunk out.new)) }
+    requires room { spent.old ≤ most_of_all }
+    ensures ran { IfOk result (λ shown. RanTest shown test (run_at suite.now test) spent.old spent.new journal.old journal.new.entries.items (K.runs children.old) (K.runs children.new) (K.faults children.old) (K.faults children.new) (O.sunk out.old) (O.sunk out.new)) }
     ensures told { OnOk result (Told reporter.new journal.new) }
     ensures settings { journal.new.settings ≡ journal.old.settings }
     ensures children_later { K.faults children.old ≤ K.faults children.new }
@@ -162,10 +182,12 @@ fn run_test<R: Wait, K: Children, T: Clock, O: Sink>(
     ensures rose { result ≡ Ok false → Rose (O.faults out.old) (O.faults out.new) }
 {
     let start = clock.now();
-    let outcome = run_child(rt, alloc, children, suite.command(test))?;
+    let room = room_behind(*spent);
+    let (outcome, output) = run_child(rt, alloc, children, suite.command(test), room)?;
     let ms = clock.now() - start;
     let from = journal.entries.len();
-    add_round(alloc, journal, test, outcome, ms)?;
+    *spent += output.as_slice().len();
+    add_round(alloc, journal, test, outcome, ms, output)?;
     let shown = print_lines(alloc, reporter, journal, from, out)?;
     Ok(shown)
 }
@@ -177,8 +199,9 @@ fn add_round(
     test: u32,
     outcome: Outcome,
     ms: u64,
+    output: Blob,
 ) -> Result<(), OutOfMemory>
-    ensures entries { OnOk result (AddsRound test outcome ms journal.old.entries.items journal.new.entries.items) }
+    ensures entries { OnOk result (AddsRound test outcome ms output journal.old.entries.items journal.new.entries.items) }
     ensures settings { journal.new.settings ≡ journal.old.settings }
 {
     let mut indices = Vec::new(alloc);
@@ -192,9 +215,7 @@ fn add_round(
         index: test,
         outcome,
         ms,
-        output: Blob {
-            bytes: Vec::new(alloc),
-        },
+        output,
     })?;
     Ok(())
 }

@@ -18,13 +18,20 @@ fn numbers(alloc: Global, all: &[u32]) -> Result<Indices, Fail> {
     })
 }
 
-// `sh -c SCRIPT` writes a piece of output and ends so.
-fn shell(alloc: Global, script: &str, end: ChildEnd) -> Result<(Texts, Blobs, ChildEnd), Fail> {
+// `sh -c SCRIPT` writes this output, the first byte by itself, and ends so.
+fn shell(
+    alloc: Global,
+    script: &str,
+    output: &str,
+    end: ChildEnd,
+) -> Result<(Texts, Blobs, ChildEnd), Fail> {
     let args = words(alloc, &["sh", "-c", script])?;
-    let pieces = Blobs {
-        items: vec![in alloc; Blob::of(alloc, "noise".as_bytes())?]?,
-    };
-    Ok((args, pieces, end))
+    let mut items = Vec::new(alloc);
+    if let Some((first, rest)) = output.as_bytes().split_first() {
+        items.push(Blob::of(alloc, &[*first])?)?;
+        items.push(Blob::of(alloc, rest)?)?;
+    }
+    Ok((args, Blobs { items }, end))
 }
 
 // Which calls of the outside fail: of the files, of the children, of standard output.
@@ -65,10 +72,11 @@ fn run<R: Wait + AllocGlobal>(
     ]?;
     let mut files = MemFiles::new(files, numbers(alloc, faults.files)?);
     let children = vec![in alloc;
-        shell(alloc, "exit 0", ChildEnd::Status(0))?,
-        shell(alloc, "exit 3", ChildEnd::Status(3))?,
-        shell(alloc, "exit 77", ChildEnd::Status(77))?,
-        shell(alloc, "kill -9 $$", ChildEnd::Killed)?,
+        shell(alloc, "exit 0", "noise", ChildEnd::Status(0))?,
+        shell(alloc, "exit 3", "", ChildEnd::Status(3))?,
+        shell(alloc, "exit 77", "noise", ChildEnd::Status(77))?,
+        shell(alloc, "kill -9 $$", "", ChildEnd::Killed)?,
+        shell(alloc, "echo hi; exit 1", "hi\n", ChildEnd::Status(1))?,
     ]?;
     let children = MemChildren::new(alloc, children, numbers(alloc, faults.children)?);
     let mut clock = MemClock::new(Vec::new(alloc));
@@ -99,17 +107,25 @@ const SUITE_0: [&str; 3] = ["s.toml", "-n", "0"];
 const THREE: &str =
     "[[test]]\nid = \"a\"\nrun = [\"sh\", \"-c\", \"exit 0\"]\n[[test]]\nid = \"b\"\nrun = [\"sh\", \"-c\", \"exit 3\"]\n[[test]]\nid = \"c\"\nrun = [\"sh\", \"-c\", \"exit 77\"]\n";
 
+// A test that fails with output.
+const HI: &str = "[[test]]\nid = \"x\"\nrun = [\"sh\", \"-c\", \"echo hi; exit 1\"]\n";
+
 const KILLED: &str = "[[test]]\nid = \"k\"\nrun = [\"sh\", \"-c\", \"kill -9 $$\"]\n";
 
 #[test]
 fn the_report_of_a_suite(rt: HostRuntime) -> Result<(), Fail> {
-    let rows: [(&str, u8, &str); 3] = [
+    let rows: [(&str, u8, &str); 4] = [
         (
             THREE,
             1,
             "3 tests\n[main] PASSED a\n[main] FAILED b\n[main] SKIPPED c\n==== [main] b ====\nstatus 3\n1 failed, 1 passed, 1 skipped\n",
         ),
         ("", 5, "0 tests\nno tests ran\n"),
+        (
+            HI,
+            1,
+            "1 tests\n[main] FAILED x\n==== [main] x ====\nstatus 1\n---- output: 3 bytes ----\nhi\n1 failed\n",
+        ),
         (
             KILLED,
             1,
@@ -197,7 +213,7 @@ fn a_program_that_fails_outside(rt: HostRuntime) -> Result<(), Fail> {
     let rows: [(u32, &str); 3] = [
         (0, "could not be started"),
         (1, "could not be read"),
-        (3, "could not be read"),
+        (2, "could not be read"),
     ];
     for (call, reason) in rows {
         let children = [call];

@@ -5,7 +5,7 @@ ghost use Rattle.xd_suite.specs.declared.test.Test.{Test};
 ghost use Rattle.xd_ledger.specs.declared.entry.RunStop.TheVariants.{Completed, OutFault};
 ghost use Rattle.xd_ledger.specs.Legal.{IsLegal};
 ghost use Rattle.xd_ledger.specs.Results.{numbers_from, reported_in, results_in};
-ghost use Rattle.xd_ledger.specs.Stop.{stop_of};
+ghost use Rattle.xd_ledger.specs.Ending.{stop_of};
 ghost use Rattle.xd_report.specs.Status.{status_of};
 ghost use Rattle.xd_report.specs.Text.{text_of};
 ghost use Rattle.xdrun.specs.Child.{faults_of};

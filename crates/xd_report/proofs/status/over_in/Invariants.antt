@@ -1,5 +1,5 @@
 use Rattle.std.proofs.Common.{◌≡◌, drop}
-use Rattle.xd_ledger.specs.Stop.{over_in}
+use Rattle.xd_ledger.specs.Ending.{over_in}
 use Rattle.xd_report.proofs.status.over_in.Given as goal
 
 abbrev pub invariant-loop-entry : goal.invariant-loop-entry

@@ -1,18 +1,6 @@
-use Rattle.std.proofs.Common.{◌≡◌, ◌++◌, ◌∷◌, [], ap, sym, subst, refl, ◌∙◌, true, false, List, ℕ, Bool, length}
-use Rattle.std.specs.Prelude.{if◌then◌else◌, Some}
-use Rattle.xd_ledger.specs.declared.entry.Entry.{Entry}
-use Rattle.xd_ledger.specs.declared.entry.Entry.TheVariants.{Collected}
-use Rattle.xd_ledger.specs.declared.member.Member.{Member}
-use Rattle.xd_ledger.specs.Books.{Books}
-use Rattle.xd_ledger.specs.Calls.{Turned}
-use Rattle.xd_ledger.specs.Collections.{listed}
-use Rattle.xd_ledger.specs.Modes.Call.{Joined, Share}
-use Rattle.xd_ledger.specs.Outputs.{acts_of, after_joining, shut_all, slots_of_rota}
-use Rattle.xd_ledger.specs.Sharing.{State, is_full, shared_now}
-use Rattle.xd_ledger.specs.Stops.{is_stopped, stopped_by}
-use Rattle.xd_ledger.specs.Workers.{slot_of, is_shut}
+use Rattle.std.proofs.Common.{◌≡◌, ap, sym, refl, ◌∙◌, true, false}
+use Rattle.xd_ledger.specs.Sharing.{is_full}
 use Rattle.xd_session.specs.Crew.{books_of}
-use Rattle.xd_session.specs.Rules.{crew_told}
 use Rattle.xd_session.proofs.Shares.{at-seated, seated_in, joined-by, full-unshared}
 use Rattle.xd_session.proofs.collecting.join.Goals as goal
 

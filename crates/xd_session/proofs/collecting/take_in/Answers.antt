@@ -1,20 +1,13 @@
-use Rattle.std.proofs.Common.{◌≡◌, ◌++◌, ◌∷◌, [], ap, sym, subst, refl, ◌∙◌, true, false, List, ℕ, Bool, length}
-use Rattle.std.specs.Prelude.{if◌then◌else◌, Some}
-use Rattle.xd_ledger.specs.declared.entry.Entry.{Entry}
-use Rattle.xd_ledger.specs.declared.entry.Entry.TheVariants.{Collected}
-use Rattle.xd_ledger.specs.declared.member.Member.{Member}
+use Rattle.std.proofs.Common.{◌≡◌, [], ap, sym, subst, ◌∙◌, false}
+use Rattle.std.specs.Prelude.{Some}
 use Rattle.xd_ledger.specs.Books.{Books}
-use Rattle.xd_ledger.specs.Calls.{Turned}
-use Rattle.xd_ledger.specs.Collections.{listed}
-use Rattle.xd_ledger.specs.Modes.Call.{Joined, Share}
-use Rattle.xd_ledger.specs.Outputs.{acts_of, after_joining, shut_all, slots_of_rota, unless_stopped}
-use Rattle.xd_ledger.specs.Sharing.{State, is_full, shared_now}
+use Rattle.xd_ledger.specs.Outputs.{after_joining, shut_all, unless_stopped}
+use Rattle.xd_ledger.specs.Sharing.{State}
 use Rattle.xd_ledger.specs.Stops.{is_stopped, stopped_by}
-use Rattle.xd_ledger.specs.Workers.{slot_of, is_shut}
 use Rattle.xd_session.specs.Crew.{books_of}
 use Rattle.xd_session.specs.declared.lists.Comparison.{Comparison}
 use Rattle.xd_session.specs.Compared.{stop_of}
-use Rattle.xd_session.specs.Rules.{Acted, At, crew_told}
+use Rattle.xd_session.specs.Rules.{Acted, At}
 use Rattle.xd_ledger.specs.declared.entry.RunStop.TheVariants.{Unequal}
 use Rattle.xd_session.specs.Joining.{taken_in}
 use Rattle.xd_session.proofs.Acts.{acted-by, acted-shut, choose-second, is_stopped-by}

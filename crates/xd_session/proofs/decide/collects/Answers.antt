@@ -1,9 +1,6 @@
-use Rattle.std.proofs.Common.{◌≡◌, sym, subst, ap, ◌∙◌, List, ℕ}
-use Rattle.std.specs.Prelude.{Option}
-use Rattle.xd_ledger.specs.declared.entry.Entry.{Entry}
+use Rattle.std.proofs.Common.{sym, ◌∙◌}
 use Rattle.xd_session.specs.Crew.{books_of}
 use Rattle.xd_session.specs.Kept.{log_in}
-use Rattle.xd_session.specs.Told.{Told}
 use Rattle.xd_session.proofs.Disorder.{out_of_order, told-as}
 use Rattle.xd_session.proofs.decide.collects.Goals as goal
 

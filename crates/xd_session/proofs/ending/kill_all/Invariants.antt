@@ -1,5 +1,5 @@
 use Rattle.std.proofs.Common.{◌≡◌, ◌++◌, take}
-use Rattle.xd_session.specs.Ending.{kills}
+use Rattle.xd_ledger.specs.Ending.{kills}
 use Rattle.xd_session.proofs.ending.kill_all.Given as goal
 
 abbrev pub invariant-loop-i : goal.invariant-loop-i

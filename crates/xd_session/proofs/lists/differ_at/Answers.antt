@@ -1,4 +1,4 @@
-use Rattle.std.proofs.Common.{◌≡◌, ◌≤◌, ◌<◌, [], length, arith, ◌∙◌}
+use Rattle.std.proofs.Common.{◌≡◌, [], length, arith, ◌∙◌}
 use Rattle.xd_session.proofs.Compares.{differ-short, differ-long}
 use Rattle.xd_session.proofs.lists.differ_at.Goals as goal
 

@@ -1,4 +1,4 @@
-use Rattle.std.proofs.Common.{◌≡◌, arith, length, ◌<◌}
+use Rattle.std.proofs.Common.{arith, length, ◌<◌}
 use Rattle.xd_session.specs.Crew.{made}
 use Rattle.xd_session.proofs.Loops.{map-step}
 use Rattle.xd_session.proofs.marks.remake.Goals as goal

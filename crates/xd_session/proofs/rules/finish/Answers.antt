@@ -1,19 +1,7 @@
-use Rattle.std.proofs.Common.{◌≡◌, ◌++◌, ◌∷◌, [], ap, sym, ◌∙◌, true, false, List, ℕ, Bool, length, append_assoc}
-use Rattle.std.specs.Prelude.{if◌then◌else◌}
-use Rattle.xd_ledger.specs.declared.entry.Entry.{Entry}
-use Rattle.xd_ledger.specs.declared.entry.Entry.TheVariants.{Ready, Done, Finished, Refused, Down, NotStarted, Start, Kill, Shutdown}
-use Rattle.xd_ledger.specs.declared.member.Member.{Member}
-use Rattle.xd_ledger.specs.Books.{Books, marked}
-use Rattle.xd_ledger.specs.Calls.{Turned, last_of}
-use Rattle.xd_ledger.specs.Modes.Call.{Died, TestDone}
-use Rattle.xd_ledger.specs.Outputs.{acts_of, after_death, own_outputs, shut_all}
-use Rattle.xd_ledger.specs.Plan.{Plan}
-use Rattle.xd_ledger.specs.Sharing.{State}
-use Rattle.xd_ledger.specs.State.{all_moved, moved, settles}
-use Rattle.xd_ledger.specs.Stops.{is_stopped, is_shutting}
-use Rattle.xd_ledger.specs.Workers.{made_ready, slot_of, waiting}
+use Rattle.std.proofs.Common.{◌≡◌, ap, sym, ◌∙◌, true, false}
+use Rattle.xd_ledger.specs.State.{settles}
+use Rattle.xd_ledger.specs.Stops.{is_shutting}
 use Rattle.xd_session.specs.Crew.{books_of}
-use Rattle.xd_session.specs.Rules.{crew_told, told, told_all}
 use Rattle.xd_session.proofs.Closing.{closed-now}
 use Rattle.xd_session.proofs.rules.finish.Goals as goal
 

@@ -1,6 +1,5 @@
-use Rattle.std.proofs.Common.{◌≡◌, ap, sym, true, false, ◌∙◌, List, ℕ, length, drop}
+use Rattle.std.proofs.Common.{ap, sym, ◌∙◌, List, ℕ, length, drop}
 use Rattle.xd_ledger.specs.Numbers.{first_of}
-use Rattle.xd_ledger.specs.Table.{Table, in_rota}
 use Rattle.xd_session.proofs.Deaths.{no_seat-dead, no_seat-held}
 use Rattle.xd_session.proofs.seats.die_where.Goals as goal
 

@@ -1,4 +1,4 @@
-use Rattle.std.proofs.Common.{◌≡◌, ap, sym, true, false, ◌∙◌}
+use Rattle.std.proofs.Common.{◌≡◌, ap, sym, false, ◌∙◌}
 use Rattle.xd_ledger.specs.Table.{Table, in_rota}
 use Rattle.xd_ledger.proofs.Seats.{no_seat-kept, no_seat-of_any}
 use Rattle.xd_session.proofs.seats.leave_seat.Goals as goal

@@ -21,7 +21,7 @@ loop-test-init g c = record {
 
 pub loop-test-preserved : goal.loop-test-preserved
 loop-test-preserved g c = record {
-  progress = next c.args.suite.now (map (λ t. t.id) c.args.suite.now) _ _ _ c.loop-test.test _ _ c.in_ok-shown.ensures.settings _ _ _ _ _ _ c.loop-test.invariant.progress (omega arith) c.in_ok-shown.shown c.in_ok-shown.ensures.ran c.in_ok-shown.ensures.children_later c.if-not-shown.false;
+  progress = next c.args.suite.now (map (λ t. t.id) c.args.suite.now) _ _ _ c.loop-test.test _ _ _ _ c.in_ok-shown.ensures.settings _ _ _ _ _ _ c.loop-test.invariant.progress (omega arith) c.in_ok-shown.shown c.in_ok-shown.ensures.ran c.in_ok-shown.ensures.children_later c.if-not-shown.false;
   settings = c.in_ok-shown.ensures.settings ∙ c.loop-test.invariant.settings;
   told = c.in_ok-shown.ensures.told;
   later = omega arith;
@@ -29,4 +29,4 @@ loop-test-preserved g c = record {
 
 pub returns-then-not-shown-clause-ran : goal.returns-then-not-shown-clause-ran
 returns-then-not-shown-clause-ran g c =
-    stop c.args.suite.now (map (λ t. t.id) c.args.suite.now) _ _ _ c.loop-test.test _ _ c.in_ok-shown.ensures.settings _ _ _ _ _ _ c.loop-test.invariant.progress (omega arith) c.in_ok-shown.shown c.in_ok-shown.ensures.ran c.in_ok-shown.ensures.children_later c.if-not-shown.true
+    stop c.args.suite.now (map (λ t. t.id) c.args.suite.now) _ _ _ c.loop-test.test _ _ _ _ c.in_ok-shown.ensures.settings _ _ _ _ _ _ c.loop-test.invariant.progress (omega arith) c.in_ok-shown.shown c.in_ok-shown.ensures.ran c.in_ok-shown.ensures.children_later c.if-not-shown.true

@@ -1,8 +1,8 @@
-use Rattle.std.proofs.Common.{◌≡◌, ◌≤◌, ◌<◌, ap, sym, ◌∙◌, arith, length, List, ℕ}
+use Rattle.std.proofs.Common.{◌≡◌, ap, sym, ◌∙◌, arith, List, ℕ}
 use Rattle.std.specs.Prelude.{Some, None}
 use Rattle.std.proofs.lemmas.Grind.{common_steps}
 use Rattle.xd_ledger.specs.declared.member.Listed.{Listed}
-use Rattle.xd_ledger.specs.Collections.{differ_at, key, listed, listed_in}
+use Rattle.xd_ledger.specs.Collections.{differ_at, listed, listed_in}
 use Rattle.xd_session.specs.Compared.{compared, comparison, place_in_lists}
 use Rattle.xd_session.specs.Crew.{books_of}
 use Rattle.xd_session.proofs.Compares.{list-found, list-missing}

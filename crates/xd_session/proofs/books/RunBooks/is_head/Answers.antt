@@ -1,4 +1,4 @@
-use Rattle.std.proofs.Common.{◌≡◌, ap, sym, true, false, ◌∙◌, List, ℕ}
+use Rattle.std.proofs.Common.{ap, sym, ◌∙◌, List, ℕ}
 use Rattle.xd_session.specs.Crew.{is_first}
 use Rattle.xd_session.proofs.Deaths.{no_seat-held}
 use Rattle.xd_session.proofs.books.RunBooks.is_head.Goals as goal

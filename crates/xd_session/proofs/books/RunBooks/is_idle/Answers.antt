@@ -1,4 +1,4 @@
-use Rattle.std.proofs.Common.{◌≡◌, ap, sym, true, false, ◌∙◌, List, ℕ, length}
+use Rattle.std.proofs.Common.{ap, sym, ◌∙◌, List, ℕ, length}
 use Rattle.std.specs.Prelude.{◌==◌}
 use Rattle.xd_session.proofs.Deaths.{no_seat-held}
 use Rattle.xd_session.proofs.books.RunBooks.is_idle.Goals as goal

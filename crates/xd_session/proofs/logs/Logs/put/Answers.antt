@@ -1,9 +1,7 @@
-use Rattle.std.proofs.Common.{◌≡◌, ◌≤◌, ◌<◌, ℕ, refl, ap, sym, ◌∙◌, arith, length}
+use Rattle.std.proofs.Common.{◌≡◌, refl, ap, ◌∙◌, arith}
 use Rattle.std.proofs.lemmas.Grind.{common_steps}
-use Rattle.xd_ledger.specs.Meaning.{with_news}
-use Rattle.xd_ledger.specs.declared.news.What.TheVariants as what
 use Rattle.xd_session.specs.Kept.{log_in, place_of}
-use Rattle.xd_session.proofs.Places.{log-changed, log-kept, log-pushed, log-placed}
+use Rattle.xd_session.proofs.Places.{log-pushed, log-placed}
 use Rattle.xd_session.proofs.logs.Logs.put.Goals as goal
 
 pub returns-then-place-len : goal.returns-then-place-len

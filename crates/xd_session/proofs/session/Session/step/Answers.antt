@@ -1,9 +1,8 @@
-use Rattle.std.proofs.Common.{◌≡◌, ap, sym, subst, ◌∙◌, true, List}
-use Rattle.xd_ledger.specs.declared.news.News.{News}
+use Rattle.std.proofs.Common.{◌≡◌, ap, ◌∙◌, true}
 use Rattle.xd_ledger.specs.Books.{Books}
 use Rattle.xd_ledger.specs.Workers.{is_active}
 use Rattle.xd_session.specs.Crew.{books_of}
-use Rattle.xd_session.specs.Stands.{Seen, StandsFor, state_of}
+use Rattle.xd_session.specs.Stands.{Seen, state_of}
 use Rattle.xd_session.proofs.Steady.{stands-inside, stands-next, step-bare, step-new, step-next}
 use Rattle.xd_session.proofs.session.Session.step.Goals as goal
 

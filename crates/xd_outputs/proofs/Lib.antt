@@ -1,0 +1,10 @@
+pub mod DifferLoops
+pub mod LargestFirst
+pub mod Lists
+pub mod Pins
+pub mod ScopeLoops
+pub mod SizeLoops
+pub mod StartLoops
+pub mod StateSteps
+pub mod TurnLoops
+pub mod UnitLoops

@@ -1,0 +1,105 @@
+-- The table of channels behind a call of the side.
+use Rattle.std.proofs.Common.{◌≡◌, ℕ, List, [], ◌∷◌, ◌++◌, Bool, true, false, Option, Some, None, refl, sym, ap, subst, ◌∙◌}
+use Rattle.std.proofs.Math.Path.{fun_ext}
+use Rattle.std.specs.Prelude.{◌==◌, if◌then◌else◌}
+use Rattle.std.proofs.lemmas.Bool.{eqb-true}
+use Rattle.std.proofs.lemmas.List.{append-nil}
+use Rattle.xd_value.specs.Tree.{Tree}
+use Rattle.xd_frame.specs.Message.{MessageView}
+use Rattle.xd_channel.specs.State.{after_close, is_done}
+use Rattle.xd_factory.specs.declared.parity.Parity.{Parity}
+use Rattle.xd_factory.specs.declared.faults.SideFault.{SideFault}
+use Rattle.xd_factory.specs.declared.faults.CloseFault.{CloseFault}
+use Rattle.xd_factory.specs.declared.faults.CloseFault.TheVariants as close
+use Rattle.xd_factory.specs.declared.side.Side.{Side}
+use Rattle.xd_factory.specs.Slot.{Slot, Unseen, Here, Gone, is_seen, closed_slot, function_ended_slot}
+use Rattle.xd_factory.specs.Table.{close_refusal, closing_message, IsRefusal}
+use Rattle.xd_factory.specs.View.{slot_of, parity_of, next_of, fault_of, is_finished, KeepsRest}
+use Rattle.xd_worker.specs.Table.{Table, table_of, changed_at}
+use Rattle.xd_worker.specs.Talk.{Talk}
+
+pub tables : (s s' : ℕ → Slot Tree) (p p' : Parity) (n n' : ℕ) (f f' : Option SideFault) (l l' : Bool) → s ≡ s' → p ≡ p' → n ≡ n' → f ≡ f' → l ≡ l'
+    → ◌≡◌ {A = Table} (record { slot = s; parity = p; next = n; fault = f; finished = l }) (record { slot = s'; parity = p'; next = n'; fault = f'; finished = l' })
+tables s s' p p' n n' f f' l l' a b c d e = rw (a, b, c, d, e) refl
+
+pub same_table : (old new : Side) (n : ℕ) (f : Slot Tree → Slot Tree) → ((c : ℕ) → slot_of new c ≡ (if n == c then f (slot_of old c) else slot_of old c)) → KeepsRest old new
+    → table_of new ≡ changed_at n f (table_of old)
+same_table old new n f e k =
+    tables (slot_of new) (λ c. if n == c then f (slot_of old c) else slot_of old c) (parity_of new) (parity_of old) (next_of new) (next_of old) (fault_of new) (fault_of old) (is_finished new) (is_finished old)
+    (fun_ext e) k.parity k.next k.fault k.finished
+
+-- a change that keeps what stands at the number changes nothing
+unchanged : (n c : ℕ) (slot : ℕ → Slot Tree) (f : Slot Tree → Slot Tree) → f (slot n) ≡ slot n → slot c ≡ (if n == c then f (slot c) else slot c)
+unchanged n c slot f e = by_test (n == c) (λ q. sym (rw (eqb-true n c q) at e))
+  where
+    by_test : (b : Bool) → (b ≡ true → slot c ≡ f (slot c)) → slot c ≡ (if b then f (slot c) else slot c)
+    by_test true k = k refl
+    by_test false k = refl
+
+pub kept_table : (old new : Side) (n : ℕ) (f : Slot Tree → Slot Tree) → f (slot_of old n) ≡ slot_of old n → ((c : ℕ) → slot_of new c ≡ slot_of old c) → KeepsRest old new
+    → table_of new ≡ changed_at n f (table_of old)
+kept_table old new n f e s k = same_table old new n f (λ c. s c ∙ unchanged n c (slot_of old) f e) k
+
+-- a call that was refused since the number is unknown
+pub unknown_ended : (s : Slot Tree) (long : Bool) → close_refusal (is_seen s) long ≡ Some close.Unknown → function_ended_slot s ≡ s
+unknown_ended Unseen long h = refl
+unknown_ended (Here s) true h = absurd (let z = h in cc)
+unknown_ended (Here s) false h = absurd (let z = h in cc)
+unknown_ended Gone long h = refl
+
+pub unknown_closed : (s : Slot Tree) (long : Bool) → close_refusal (is_seen s) long ≡ Some close.Unknown → closed_slot s ≡ s
+unknown_closed Unseen long h = refl
+unknown_closed (Here s) true h = absurd (let z = h in cc)
+unknown_closed (Here s) false h = absurd (let z = h in cc)
+unknown_closed Gone long h = refl
+
+-- which refusal it is
+pub refusal_is : (wanted : Option CloseFault) (f g : CloseFault) → f ≡ g → IsRefusal wanted f → IsRefusal wanted g
+refusal_is wanted f g e h = subst (λ (x : CloseFault). IsRefusal wanted x) e h
+
+-- a channel that was closed and then dropped
+dropped : (s : Slot Tree) → function_ended_slot (closed_slot s) ≡ function_ended_slot s
+dropped Unseen = refl
+dropped (Here s) = by_done (is_done (after_close s))
+  where
+    by_done : (b : Bool) → function_ended_slot (if b then Gone else Here (after_close s)) ≡ Gone
+    by_done true = refl
+    by_done false = refl
+dropped Gone = refl
+
+dropped_at : (b : Bool) (s : Slot Tree) → (if b then function_ended_slot (if b then closed_slot s else s) else (if b then closed_slot s else s)) ≡ (if b then function_ended_slot s else s)
+dropped_at true s = dropped s
+dropped_at false s = refl
+
+pub closed_dropped : (n : ℕ) (t : Table) → changed_at n function_ended_slot (changed_at n closed_slot t) ≡ changed_at n function_ended_slot t
+closed_dropped n t =
+    tables (λ c. if n == c then function_ended_slot (if n == c then closed_slot (t.slot c) else t.slot c) else (if n == c then closed_slot (t.slot c) else t.slot c)) (λ c. if n == c then function_ended_slot (t.slot c) else t.slot c)
+    t.parity t.parity t.next t.next t.fault t.fault t.finished t.finished (fun_ext (λ c. dropped_at (n == c) (t.slot c))) refl refl refl refl
+
+pub talks : (a b : Table) (x y : List MessageView) → a ≡ b → x ≡ y → ◌≡◌ {A = Talk} (record { table = a; says = x }) (record { table = b; says = y })
+talks a b x y e f = rw (e, f) refl
+
+-- what the end of a function says, by what the side answered
+pub ended_ok : (n : ℕ) (text other : Option (List ℕ)) (seen long : Bool) (says : List MessageView) (m : MessageView) → m ≡ closing_message n text → close_refusal seen long ≡ None
+    → says ++ m ∷ [] ≡ says ++ (if seen then closing_message n (if long then other else text) ∷ [] else [])
+ended_ok n text other true true says m h k = absurd (let z = k in cc)
+ended_ok n text other true false says m h k = ap (λ x. says ++ x ∷ []) h
+ended_ok n text other false long says m h k = absurd (let z = k in cc)
+
+pub ended_unknown : (n : ℕ) (text other : Option (List ℕ)) (seen long : Bool) (says : List MessageView) → close_refusal seen long ≡ Some close.Unknown
+    → says ≡ says ++ (if seen then closing_message n (if long then other else text) ∷ [] else [])
+ended_unknown n text other true true says k = absurd (let z = k in cc)
+ended_unknown n text other true false says k = absurd (let z = k in cc)
+ended_unknown n text other false long says k = sym (append-nil says)
+
+pub ended_long : (n : ℕ) (text other : Option (List ℕ)) (seen long : Bool) (old new : Table) (says says' : List MessageView) → new ≡ old → seen ≡ is_seen (old.slot n) → close_refusal seen long ≡ Some close.TooLong
+    → says' ≡ says ++ (if is_seen (new.slot n) then closing_message n other ∷ [] else [])
+    → says' ≡ says ++ (if is_seen (old.slot n) then closing_message n (if long then other else text) ∷ [] else [])
+ended_long n text other true true old new says says' e f k h = h ∙ ap (λ (x : Table). says ++ (if is_seen (x.slot n) then closing_message n other ∷ [] else [])) e
+ended_long n text other true false old new says says' e f k h = absurd (let z = k in cc)
+ended_long n text other false long old new says says' e f k h = absurd (let z = k in cc)
+
+pub kept_all : (old new : Side) → ((c : ℕ) → slot_of new c ≡ slot_of old c) → KeepsRest old new → table_of new ≡ table_of old
+kept_all old new s k =
+    tables (slot_of new) (slot_of old) (parity_of new) (parity_of old) (next_of new) (next_of old) (fault_of new) (fault_of old) (is_finished new) (is_finished old)
+    (fun_ext s) k.parity k.next k.fault k.finished

@@ -1,0 +1,6 @@
+use Rattle.xd_factory.specs.Slot.{hooked_slot}
+use Rattle.xd_worker.proofs.Tables.{same_table}
+use Rattle.xd_worker.proofs.talk.begin_function.Goals as goal
+
+pub returns : goal.returns
+returns c = same_table c.args.side.now c.set_callback.new.self c.args.number hooked_slot c.set_callback.ensures.slots c.set_callback.ensures.rest

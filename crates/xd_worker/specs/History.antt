@@ -1,0 +1,107 @@
+-- What a list of inputs makes a worker say and start. The last of them stands first.
+use Rattle.std.specs.Prelude.{◌≡◌, ℕ, List, [], ◌∷◌, ◌++◌, ◌&&◌, Bool, Option, Some, None, is_none, option_to_list, Result, Ok, Err, codes}
+use Rattle.std.specs.Str.{encode_utf8_all}
+use Rattle.xd_frame.specs.Message.{MessageView}
+use Rattle.xd_factory.specs.declared.faults.SideFault.{SideFault}
+use Rattle.xd_factory.specs.Numbers.{is_mine}
+use Rattle.xd_factory.specs.Said.{Means}
+use Rattle.xd_factory.specs.Slot.{is_new}
+use Rattle.xd_factory.specs.Table.{Refused}
+use Rattle.xd_suite.specs.declared.fault.SuiteFault.{SuiteFault}
+use Rattle.xd_suite.specs.declared.test.Test.{Test}
+use Rattle.xd_suite.specs.Suite.{IsSuiteOf, IsFaulty}
+use Rattle.xd_suite.specs.FaultText.{fault_text}
+use Rattle.xd_ledger.specs.declared.news.What.{What}
+use Rattle.xd_ledger.specs.declared.news.What.TheVariants.{Collected}
+use Rattle.xd_worker.specs.declared.input.WorkerInput.{WorkerInput}
+use Rattle.xd_worker.specs.declared.input.WorkerInput.TheVariants.{Message, SuiteBytes, SuiteTooLarge, SuiteUnread, Output, ChildDone, LinkEnd}
+use Rattle.xd_worker.specs.Table.{Table, Counts, heard, lost}
+use Rattle.xd_worker.specs.Worker.{Worker, Turn, new_worker, turn_of, behind, running_in}
+use Rattle.xd_worker.specs.Turns.{Came, Told, SuiteRead, NoSuite, Printed, ChildEnded, LinkEnded, turned}
+
+-- an input, and how many channels are in the table behind it, before anything is done
+pub record Heard : Type 0 where
+  pub came : Came
+  pub channels : ℕ
+
+abbrev pub turn_by : Worker → Heard → Turn
+turn_by w g = turned g.came g.channels (turn_of w)
+
+-- the worker behind these inputs
+abbrev pub worker_after : List Heard → Worker
+worker_after [] = new_worker
+worker_after (g ∷ h) = behind (turn_by (worker_after h) g)
+
+-- all that was said, in order
+abbrev pub all_said : List Heard → List MessageView
+all_said [] = []
+all_said (g ∷ h) = all_said h ++ (turn_by (worker_after h) g).talk.says
+
+-- the tests that were started, in order
+abbrev pub all_started : List Heard → List ℕ
+all_started [] = []
+all_started (g ∷ h) = all_started h ++ option_to_list (turn_by (worker_after h) g).run
+
+-- the worker is to end, and no test runs
+abbrev pub is_over : Worker → Bool
+is_over w = w.duties.stopped && is_none (running_in w.duties.service)
+
+-- why there is no suite, in words
+abbrev pub IsFaultText : List ℕ → List ℕ → Type 0
+IsFaultText b text = (fault : SuiteFault) × IsFaulty b fault × (encode_utf8_all text ≡ fault_text fault)
+
+-- what an input of the code is
+abbrev pub IsMessage : MessageView → Came → Type 0
+IsMessage m (Told said) = Means m said
+IsMessage m _ = ⊥
+
+abbrev pub IsSuite : List ℕ → Came → Type 0
+IsSuite b (SuiteRead tests) = IsSuiteOf b tests
+IsSuite b (NoSuite text) = IsFaultText b text
+IsSuite b _ = ⊥
+
+abbrev pub IsRead : List ℕ → Result (List Test) (List ℕ) → Type 0
+IsRead b (Ok tests) = IsSuiteOf b tests
+IsRead b (Err text) = IsFaultText b text
+
+abbrev pub IsCollected : What → Type 0
+IsCollected (Collected ids) = Unit {0}
+IsCollected _ = ⊥
+
+abbrev pub Is : WorkerInput → Came → Type 0
+Is (Message m) came = IsMessage m came
+Is (SuiteBytes b) came = IsSuite b came
+Is SuiteTooLarge came = came ≡ NoSuite (codes "suite is too large")
+Is SuiteUnread came = came ≡ NoSuite (codes "suite cannot be read")
+Is (Output b) came = came ≡ Printed b
+Is (ChildDone outcome ms) came = came ≡ ChildEnded outcome ms
+Is LinkEnd came = came ≡ LinkEnded
+
+-- the table in which the channels are counted
+abbrev pub table_behind : Came → Table → Table
+table_behind (Told said) t = heard said t
+table_behind (SuiteRead ts) t = t
+table_behind (NoSuite text) t = t
+table_behind (Printed b) t = t
+table_behind (ChildEnded outcome ms) t = t
+table_behind LinkEnded t = lost t
+
+-- why the side refuses a message: it did so before, or for what the message is
+abbrev pub RefusedBy : Option SideFault → Table → MessageView → SideFault → Type 0
+RefusedBy (Some before) t m fault = fault ≡ before
+RefusedBy None t m fault = (n : ℕ) × Counts t.slot n × Refused n (λ c. is_new (is_mine t.parity c) (t.slot c)) m fault
+
+-- the same, for each count: there is just one
+abbrev pub MustRefuse : Option SideFault → Table → MessageView → SideFault → Type 0
+MustRefuse (Some before) t m fault = fault ≡ before
+MustRefuse None t m fault = (n : ℕ) → Counts t.slot n → Refused n (λ c. is_new (is_mine t.parity c) (t.slot c)) m fault
+
+-- a refusal has its reason
+abbrev pub Refuses : Worker → WorkerInput → SideFault → Type 0
+Refuses w (Message m) fault = RefusedBy w.table.fault w.table m fault
+Refuses w _ fault = ⊥
+
+-- a message that is to be refused
+abbrev pub IsToRefuse : Worker → WorkerInput → SideFault → Type 0
+IsToRefuse w (Message m) fault = MustRefuse w.table.fault w.table m fault
+IsToRefuse w _ fault = ⊥

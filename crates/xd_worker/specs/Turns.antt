@@ -1,0 +1,206 @@
+-- What each input makes a worker do. The rules of `run_tests` are those of xd_run_tests, and the rules of channels those
+-- of xd_factory; the functions `echo` and `fail` are choices of this project.
+use Rattle.std.specs.Prelude.{ℕ, ◌-◌, ◌==◌, nat_lt, not, List, [], ◌∷◌, ◌++◌, filter, Bool, true, false, Option, Some, None, Result, Ok, Err, unwrap_or, if◌then◌else◌, codes}
+use Rattle.xd_edge.specs.declared.mode.ModeKind.{ModeKind}
+use Rattle.xd_value.specs.Tree.{Tree, bytes}
+use Rattle.xd_value.specs.Canonical.{dumped}
+use Rattle.xd_factory.specs.declared.taken.Taken.{Taken}
+use Rattle.xd_factory.specs.declared.taken.Taken.TheVariants.{Kept, Handed, EndKept, EndHanded, Dropped, Status, Exec, Terminate}
+use Rattle.xd_factory.specs.Said.{Said}
+use Rattle.xd_suite.specs.declared.test.Test.{Test}
+use Rattle.xd_suite.specs.Tests.{ids_in}
+use Rattle.xd_ledger.specs.declared.entry.Outcome.{Outcome}
+use Rattle.xd_ledger.specs.declared.news.What.TheVariants.{Ready, Collected}
+use Rattle.xd_gateway.specs.Orders.{tree_order}
+use Rattle.xd_gateway.specs.Events.{event_tree}
+use Rattle.xd_run_tests.specs.declared.ask.Ask.{Ask}
+use Rattle.xd_run_tests.specs.declared.ask.Ask.TheVariants.{Tell, Piece, CloseLog, End}
+use Rattle.xd_run_tests.specs.declared.input.Input.{Input}
+use Rattle.xd_run_tests.specs.declared.input.Input.TheVariants as input
+use Rattle.xd_run_tests.specs.Turns.{Turn as Act}
+use Rattle.xd_run_tests.specs.History.{Given, turn_after}
+use Rattle.xd_worker.specs.declared.function.CallFault.{CallFault}
+use Rattle.xd_worker.specs.declared.function.Called.{Called}
+use Rattle.xd_worker.specs.declared.function.Called.TheVariants.{Runs, Refused}
+use Rattle.xd_worker.specs.declared.function.Function.TheVariants as function
+use Rattle.xd_worker.specs.declared.talk.Sent.{Sent}
+use Rattle.xd_worker.specs.declared.talk.Sent.TheVariants as how
+use Rattle.xd_worker.specs.Functions.{called_in, fault_text}
+use Rattle.xd_worker.specs.Table.{heard, answer, lost}
+use Rattle.xd_worker.specs.Talk.{Talk, sent, sent_how, payload_on, told, opening, log_closed, function_ended, function_begun, status_told}
+use Rattle.xd_worker.specs.Worker.{Service, Turn, running_in, executing}
+
+-- what an input is: what a message says, the tests of the suite or why there are none, output of the running test, its
+-- end, or the link's end
+pub data Came : Type 0 where
+  Told : Said → Came
+  SuiteRead : List Test → Came
+  NoSuite : List ℕ → Came
+  Printed : List ℕ → Came
+  ChildEnded : Outcome → ℕ → Came
+  LinkEnded : Came
+
+abbrev pub at_talk : (Talk → Talk) → Turn → Turn
+at_talk f t = record t { talk = f t.talk }
+
+-- ---- what `run_tests` asks for
+
+abbrev pub ended_call : Option Service → Option Service
+ended_call None = None
+ended_call (Some s) = Some (record s { ended = true })
+
+abbrev pub ended_service : Turn → Turn
+ended_service t = record t { duties = record (t.duties) { service = ended_call t.duties.service } }
+
+abbrev pub asked : ℕ → Ask → Turn → Turn
+asked c (Tell event) t = at_talk (λ d. told c event (opening event d)) t
+asked c (Piece log b) t = at_talk (sent log (bytes b)) t
+asked c (CloseLog log) t = at_talk (log_closed log) t
+asked c (End text) t = ended_service (at_talk (function_ended c text None) t)
+
+abbrev pub all_asked : ℕ → List Ask → Turn → Turn
+all_asked c [] t = t
+all_asked c (a ∷ asks) t = all_asked c asks (asked c a t)
+
+-- the table of so many channels is not full, the log of the running test apart
+abbrev pub others : Option ℕ → ℕ → ℕ
+others None n = n
+others (Some test) n = n - 1
+
+abbrev pub given_in : Service → Input → ℕ → Given
+given_in s i n = record { input = i; room = nat_lt (others (running_in (Some s)) n) 4096 }
+
+abbrev pub acted : Service → Given → Act → Turn → Turn
+acted s g act t =
+    all_asked s.channel act.asks (record t {
+      duties = record (t.duties) { service = Some (record s { given = g ∷ s.given }) };
+      run = act.run;
+    })
+
+abbrev pub fed_to : Option Service → Input → ℕ → Turn → Turn
+fed_to None i n t = t
+fed_to (Some s) i n t = acted s (given_in s i n) (turn_after s.given (given_in s i n)) t
+
+-- something comes to `run_tests`, where it was called
+abbrev pub fed : Input → ℕ → Turn → Turn
+fed i n t = fed_to t.duties.service i n t
+
+-- ---- calls
+
+abbrev pub refused : ℕ → CallFault → Turn → Turn
+refused n fault t = at_talk (function_ended n (Some (fault_text fault)) None) t
+
+abbrev pub failed : ℕ → Option (List ℕ) → Turn → Turn
+failed n text t = at_talk (function_ended n (Some (unwrap_or text (codes "fail"))) (Some (codes "fail"))) t
+
+abbrev pub echo_begun : ℕ → Turn → Turn
+echo_begun n t = record t {
+  talk = function_begun n t.talk;
+  duties = record (t.duties) { echoes = t.duties.echoes ++ n ∷ [] };
+}
+
+abbrev pub tests_begun : ℕ → List ℕ → ModeKind → Turn → Turn
+tests_begun n path mode t = record t {
+  talk = told n Ready (function_begun n t.talk);
+  duties = record (t.duties) {
+    service = Some (record { channel = n; mode = mode; given = []; ended = false });
+    owed = true;
+  };
+  suite = Some path;
+}
+
+abbrev pub called : ℕ → Called → Turn → Turn
+called n (Runs function.Echo) t = echo_begun n t
+called n (Runs (function.Fail text)) t = failed n text t
+called n (Runs (function.RunTests path mode)) t = tests_begun n path mode t
+called n (Refused fault) t = refused n fault t
+
+-- `run_tests` was called before
+abbrev pub is_called : Option Service → Bool
+is_called None = false
+is_called (Some s) = true
+
+-- ---- `echo`
+
+abbrev pub without : ℕ → List ℕ → List ℕ
+without n ns = filter (λ m. not (m == n)) ns
+
+abbrev pub echo_ended : ℕ → Option (List ℕ) → Turn → Turn
+echo_ended n text t = record t {
+  talk = function_ended n text None t.talk;
+  duties = record (t.duties) { echoes = without n t.duties.echoes };
+}
+
+-- an item that has no payload of its own is too long: what was read can be written but for its length
+abbrev pub echoed_how : Sent → ℕ → Tree → Turn → Turn
+echoed_how how.Said n v t = at_talk (sent n v) t
+echoed_how how.LeftOut n v t = t
+echoed_how how.Unwritten n v t = echo_ended n (Some (codes "item is too long")) t
+
+abbrev pub echoed : ℕ → Tree → Turn → Turn
+echoed n v t = echoed_how (sent_how (payload_on n v t.talk.table)) n v t
+
+-- ---- messages
+
+-- the channel is that of `run_tests`
+abbrev pub is_service : Option Service → ℕ → Bool
+is_service None n = false
+is_service (Some s) n = s.channel == n
+
+-- GATEWAY_TERMINATE or the link's end
+abbrev pub stopped : ℕ → Turn → Turn
+stopped n t = fed input.Stop n (record t { duties = record (t.duties) { stopped = true } })
+
+-- a message that did this; so many channels are in the table
+abbrev pub did : Taken Tree → ℕ → Turn → Turn
+did (Status k) n t = at_talk (status_told k n (executing t.duties)) t
+did (Exec k v) n t = called k (called_in (is_called t.duties.service) v) t
+did (Handed k v) n t = if is_service t.duties.service k then fed (input.Command (tree_order v)) n t else echoed k v t
+did (EndHanded k end) n t = if is_service t.duties.service k then fed input.ReceivingEnded n t else echo_ended k None t
+did Terminate n t = stopped n t
+did (Kept k) n t = t
+did (EndKept k) n t = t
+did Dropped n t = t
+
+-- behind GATEWAY_TERMINATE and the link's end nothing is said
+abbrev pub did_unless : Bool → Taken Tree → ℕ → Turn → Turn
+did_unless true a n t = t
+did_unless false a n t = did a n t
+
+abbrev pub took : Said → ℕ → Turn → Turn
+took said n t =
+    did_unless t.duties.stopped (answer said t.talk.table) n (at_talk (λ d. record d { table = heard said d.table }) t)
+
+-- ---- the suite
+
+abbrev pub is_ok : {F : Type 0} → Result (List ℕ) F → Bool
+is_ok (Ok b) = true
+is_ok (Err f) = false
+
+abbrev pub is_written : Option Tree → Bool
+is_written None = false
+is_written (Some v) = is_ok (dumped v)
+
+-- a collection that no message can hold is refused like a suite that is too large
+abbrev pub suite_input : List (List ℕ) → Input
+suite_input ids = if is_written (event_tree (Collected ids)) then input.Suite ids else input.SuiteRefused (codes "suite is too large")
+
+abbrev pub ids_of : Option Service → List Test → List (List ℕ)
+ids_of None ts = []
+ids_of (Some s) ts = ids_in s.mode ts
+
+abbrev pub suite_read : List Test → ℕ → Turn → Turn
+suite_read ts n t =
+    fed (suite_input (ids_of t.duties.service ts)) n (record t { duties = record (t.duties) { owed = false; tests = ts } })
+
+abbrev pub suite_refused : List ℕ → ℕ → Turn → Turn
+suite_refused text n t = fed (input.SuiteRefused text) n (record t { duties = record (t.duties) { owed = false } })
+
+-- ---- one input, behind which so many channels are in the table
+abbrev pub turned : Came → ℕ → Turn → Turn
+turned (Told said) n t = took said n t
+turned (SuiteRead ts) n t = if t.duties.owed then suite_read ts n t else t
+turned (NoSuite text) n t = if t.duties.owed then suite_refused text n t else t
+turned (Printed b) n t = fed (input.Output b) n t
+turned (ChildEnded outcome ms) n t = fed (input.Done outcome ms) n t
+turned LinkEnded n t = stopped n (at_talk (λ d. record d { table = lost d.table }) t)

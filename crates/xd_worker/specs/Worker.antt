@@ -1,0 +1,60 @@
+-- A worker between two inputs, and what one input makes of it.
+use Rattle.std.specs.Prelude.{ℕ, ◌+◌, List, [], length, Bool, false, Option, Some, None, if◌then◌else◌}
+use Rattle.xd_edge.specs.declared.mode.ModeKind.{ModeKind}
+use Rattle.xd_suite.specs.declared.test.Test.{Test}
+use Rattle.xd_run_tests.specs.Line.{running_test}
+use Rattle.xd_run_tests.specs.History.{Given, call_after}
+use Rattle.xd_worker.specs.Table.{Table, empty}
+use Rattle.xd_worker.specs.Talk.{Talk}
+
+-- the call of `run_tests`: its channel and its mode, what came to the function, and whether it has ended
+pub record Service : Type 0 where
+  pub channel : ℕ
+  pub mode : ModeKind
+  pub given : List Given
+  pub ended : Bool
+
+-- what a worker does beside its channels: whether it is to end, the call of `run_tests`, the channels on which `echo`
+-- runs, whether a suite is to be read for it, and the tests of its suite
+pub record Duties : Type 0 where
+  pub stopped : Bool
+  pub service : Option Service
+  pub echoes : List ℕ
+  pub owed : Bool
+  pub tests : List Test
+
+pub record Worker : Type 0 where
+  pub table : Table
+  pub duties : Duties
+
+-- an input's effect so far: what is said, a suite file to read, and a test to start
+pub record Turn : Type 0 where
+  pub talk : Talk
+  pub duties : Duties
+  pub suite : Option (List ℕ)
+  pub run : Option ℕ
+
+abbrev pub idle : Duties
+idle = record { stopped = false; service = None; echoes = []; owed = false; tests = [] }
+
+abbrev pub new_worker : Worker
+new_worker = record { table = empty; duties = idle }
+
+abbrev pub turn_of : Worker → Turn
+turn_of w = record { talk = record { table = w.table; says = [] }; duties = w.duties; suite = None; run = None }
+
+abbrev pub behind : Turn → Worker
+behind t = record { table = t.talk.table; duties = t.duties }
+
+-- the test that runs
+abbrev pub running_in : Option Service → Option ℕ
+running_in None = None
+running_in (Some s) = running_test (call_after s.given)
+
+abbrev pub serving : Option Service → ℕ
+serving None = 0
+serving (Some s) = if s.ended then 0 else 1
+
+-- how many functions have not ended
+abbrev pub executing : Duties → ℕ
+executing d = length d.echoes + serving d.service

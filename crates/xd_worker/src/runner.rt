@@ -1,0 +1,83 @@
+// The call of `run_tests` on a link.
+ghost use Rattle.std.specs.Prelude.{◌≡◌, ◌∷◌, ℕ, nat_lt, IfOk, OnOk, Option, Some};
+ghost use Rattle.xd_run_tests.specs.Turns.{CanTake};
+ghost use Rattle.xd_run_tests.specs.Line.{running_test};
+ghost use Rattle.xd_run_tests.specs.History.{Given, turn_after, call_after};
+ghost use Rattle.xd_run_tests.specs.declared.input.Input.{Input};
+
+use xd_edge::{ModeKind, OutOfMemory};
+use xd_factory::MAX_ENTRIES;
+use xd_run_tests::{Acts, Input, RunTests};
+
+/// The call of `run_tests` on a link: its channel, the mode whose ids it sends, and whether it has ended.
+#[derive(Drop)]
+pub struct Runner {
+    pub channel: u32,
+    pub mode: ModeKind,
+    pub function: RunTests,
+    pub ended: bool,
+}
+
+/// What the function asks for, with its channel.
+#[derive(Drop)]
+pub struct Fed {
+    pub channel: u32,
+    pub acts: Acts,
+}
+
+impl Runner {
+    ghost use Rattle.xd_worker.specs.Worker.{Service, running_in};
+    ghost use Rattle.xd_worker.specs.Turns.{given_in};
+    ghost use Rattle.xd_worker.specs.Stands.{IsService, FedBy};
+
+    /// The test that runs.
+    pub fn runs(&self) -> Option<u32>
+        ensures { (s : Service) → IsService self.now s → result ≡ running_in (Some s) }
+    {
+        self.function.runs()
+    }
+
+    // The table of so many channels is not full, the log of the running test apart.
+    fn has_room(&self, channels: u32) -> bool
+        ensures { (s : Service) (i : Input) → IsService self.now s → result ≡ (given_in s i channels).room }
+    {
+        let others = match self.runs() {
+            None => channels,
+            Some(_) => channels.saturating_sub(1),
+        };
+        others < MAX_ENTRIES
+    }
+
+    fn feed(&mut self, input: Input, channels: u32) -> Result<Fed, OutOfMemory>
+        requires { CanTake input }
+        ensures { (s : Service) → IsService self.old s → IfOk result (λ fed. FedBy (Some self.new) s (given_in s input channels) fed) }
+    {
+        let room = self.has_room(channels);
+        let acts = self.function.step(input, room)?;
+        Ok(Fed {
+            channel: self.channel,
+            acts,
+        })
+    }
+}
+
+ghost use Rattle.xd_worker.specs.Worker.{Service};
+ghost use Rattle.xd_worker.specs.Stands.{AreServices, HasFed};
+
+/// Something comes to the function, where it was called. So many channels are in the table.
+pub fn feed(
+    runner: &mut Option<Runner>,
+    input: Input,
+    channels: u32,
+) -> Result<Option<Fed>, OutOfMemory>
+    requires { CanTake input }
+    ensures { (s : Option Service) → AreServices runner.old s → IfOk result (HasFed runner.new s input channels) }
+{
+    match runner {
+        None => Ok(None),
+        Some(runner) => {
+            let fed = runner.feed(input, channels)?;
+            Ok(Some(fed))
+        }
+    }
+}
