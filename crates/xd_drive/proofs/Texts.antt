@@ -16,6 +16,7 @@ use Rattle.xd_ledger.specs.Books.{Books}
 use Rattle.xd_ledger.specs.Sharing.{State}
 use Rattle.xd_ledger.specs.State.{all_moved, next, no_one, reached, settled, state_at}
 use Rattle.xd_ledger.specs.Workers.{started}
+use Rattle.xd_ledger.specs.Ending.{ending, kills}
 use Rattle.xd_ledger.specs.Histories.{first_starts, starts_from}
 use Rattle.xd_report.specs.declared.counts.Counts.{Counts}
 use Rattle.xd_report.specs.Blocks.{block_of, blocks_from}
@@ -24,7 +25,6 @@ use Rattle.xd_report.specs.StopLine.{line_of_stop, refusal, stop_line}
 use Rattle.xd_report.specs.Summary.{counted, counted_from, counts, summary_text}
 use Rattle.xd_report.specs.Tests.{mode_of}
 use Rattle.xd_report.specs.Text.{run_tail, run_text, tail_text, text_of}
-use Rattle.xd_session.specs.Ending.{ending, kills}
 use Rattle.xd_laws.proofs.Logic.{and, differ, split-and}
 
 pub text-is : (j : Journal) (x : Settings) (es : List Entry) → j.settings ≡ x → j.entries.items ≡ es → text_of j ≡ run_text x es
