@@ -1,4 +1,5 @@
 pub mod Bounds
+pub mod Follow
 pub mod Heard
 pub mod Loop
 pub mod NextListed

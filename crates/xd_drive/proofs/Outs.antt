@@ -173,11 +173,13 @@ run-few settings t w indices b k h =
     let d = split-and (may_run w t && not_empty indices && all_distinct items) (all_among items t.books.table.pool) e.0 in
     let c = split-and (may_run w t && not_empty indices) (all_distinct items) d.0 in
     let r = split-and (may_run w t) (not_empty indices) c.0 in
-    let a = split-and (in_rota w t.books.table) (not (is_shut w t.books)) r.0 in
-    (a.0, named-few slot indices t.plan (elim (cases_of (is_each t.plan.mode)) [
-      | inl y ↦ few-of_slot settings t slot items b c.1 (sym (ap (λ (q : Bool). if q then all_among items (slot_items slot t.plan) else true) y) ∙ e.1)
-      | inr y ↦ (let all = b.whole y in omega (arith, few-of_pool t items k c.1 d.1, all))
-    ]))
+    let a = split-and (in_rota w t.books.table) (not (is_shut w t.books)) r.0 in (
+      a.0,
+      named-few slot indices t.plan (elim (cases_of (is_each t.plan.mode)) [
+        | inl y ↦ few-of_slot settings t slot items b c.1 (sym (ap (λ (q : Bool). if q then all_among items (slot_items slot t.plan) else true) y) ∙ e.1)
+        | inr y ↦ (let all = b.whole y in omega (arith, few-of_pool t items k c.1 d.1, all))
+      ]),
+    )
 
 steal-few : (settings : Settings) (t : State) (w : ℕ) (indices : List ℕ) → Bounded settings t → Placed t → is_each t.plan.mode ≡ false → is_orderly t (Steal w indices) ≡ true → (in_rota w t.books.table ≡ true) × (length indices ≤ most_tests)
 steal-few settings t w indices b k y h =

@@ -16,6 +16,8 @@ use Rattle.xd_ledger.specs.Workers.{has_member, is_active}
 use Rattle.xd_ledger.specs.Sharing.{State}
 use Rattle.xd_ledger.specs.State.{all_moved, no_one, state_at}
 use Rattle.xd_ledger.specs.Proper.{IsProper}
+use Rattle.xd_report.specs.declared.reporter.Reporter.{Reporter}
+use Rattle.xd_report.specs.Follows.{Follows}
 use Rattle.xd_report.specs.Lines.{lines_between, lines_from}
 use Rattle.xd_session.specs.History.{Run as TheRun, after_news, input_of, run_of}
 use Rattle.xd_session.specs.Stands.{Seen, StandsFor, state_of}
@@ -26,6 +28,7 @@ use Rattle.xd_drive.specs.Marks.{Marks, is_end, marked_heard}
 use Rattle.xd_drive.specs.Performing.{AddsAll, Performs, after_all, after_entry, all_possible, between, is_start_of, was_started}
 use Rattle.xd_drive.specs.Printing.{Shows}
 use Rattle.xd_drive.specs.Taken.{taken_with}
+use Rattle.xd_drive.proofs.Follow.{follows-same}
 use Rattle.xd_drive.proofs.Performs.{all_possible-same, performs-none}
 use Rattle.xd_drive.proofs.Runs.{in_run, run-more}
 use Rattle.xd_drive.proofs.Turns.{bounded, entries-added, heard_by, step-agrees, step-possible, unkilled}
@@ -66,6 +69,14 @@ module _ (s0 s1 : Seen) (taken : List News) (n : News) (st0 : StandsFor taken s0
         ap (λ (k : ℕ). take k j.entries.items) first ∙ ap (take (length s0.entries)) entries_are ∙ old_ones s0.entries more s1.entries entries-more in
         ap (λ (es : List Entry). lines_from (all_moved (no_one j.settings) (take from j.entries.items)) es) between-is
         ∙ ap (λ (es : List Entry). lines_from (all_moved (no_one j.settings) es) more) before ∙ ap (λ (x : Settings). lines_from (all_moved (no_one x) s0.entries) more) (settings_are ∙ same)
+
+    pub follows-before : (r : Reporter) → Follows r (all_moved (no_one s0.settings) s0.entries) → Follows r (all_moved (no_one j.settings) (take from j.entries.items))
+    follows-before r f = follows-same r s0.settings j.settings s0.entries (take from j.entries.items) (sym (settings_are ∙ same))
+        (sym (ap (λ (k : ℕ). take k j.entries.items) first ∙ ap (take (length s0.entries)) entries_are ∙ old_ones s0.entries more s1.entries entries-more)) f
+
+    pub follows-behind : (r : Reporter) → Follows r (all_moved (no_one j.settings) (take to j.entries.items)) → Follows r (all_moved (no_one s1.settings) s1.entries)
+    follows-behind r f = follows-same r j.settings s1.settings (take to j.entries.items) s1.entries settings_are
+        (ap (λ (k : ℕ). take k j.entries.items) last ∙ ap (take (length s1.entries)) entries_are ∙ take_all (length s1.entries) s1.entries (omega arith)) f
 
 pub tells-as : (shown : Bool) (es fs : List Entry) (a b : List ℕ) (old new : Scene) → es ≡ fs → a ≡ b → TellsEntries shown es a old new → TellsEntries shown fs b old new
 tells-as shown es fs a b old new e l t = subst (λ (x : List Entry). TellsEntries shown x b old new) e (subst (λ (x : List ℕ). TellsEntries shown es x old new) l t)

@@ -8,7 +8,7 @@ ghost use Rattle.xd_drive.specs.Going.{EndsRun, EndsTail, IsFresh};
 use crate::Hub;
 use crate::news::{entry_count, take_news};
 use crate::perform::perform;
-use crate::printing::print_tail;
+use crate::printing::{print_tail, reporter_of};
 use std::alloc::Global;
 use std::sync::Wait;
 use xd_edge::{OutOfMemory, Sink};
@@ -54,12 +54,13 @@ fn run<R: Wait, M: Mode, H: Hub, O: Sink>(
     ensures rose { IfOk result (λ stopped. IfSome stopped (λ count. Rose (O.faults out.old) (O.faults out.new))) }
 {
     perform(alloc, hub, &session.journal().entries)?;
+    let mut reporter = reporter_of(alloc, session.journal())?;
     for _ in rt.forever() {
         if session.over() {
             let stopped = finish(alloc, session.journal(), out)?;
             return Ok(stopped);
         }
-        let stopped = take_news(rt, alloc, session, hub, out)?;
+        let stopped = take_news(rt, alloc, session, &mut reporter, hub, out)?;
         if let Some(count) = stopped {
             return Ok(Some(count));
         }

@@ -1,6 +1,7 @@
 use Rattle.std.proofs.Common.{◌≡◌, ◌≤◌, ◌++◌, ◌∷◌, ℕ, List, [], Option, Some, None, refl, sym, ap, ◌∙◌, subst, arith}
 use Rattle.xd_ledger.specs.declared.settings.Settings.{Settings}
 use Rattle.xd_ledger.specs.Proper.{IsProper}
+use Rattle.xd_drive.proofs.Follow.{follows-same}
 use Rattle.xd_drive.proofs.Loop.{begins, first-possible, going-next, over-ends, someone-first, someone-still, stop-by, takes-none}
 use Rattle.xd_drive.proofs.drive.run.Goals as goal
 
@@ -16,6 +17,7 @@ loop-init g c =
     record {
       going = ([], first);
       settings = refl;
+      reports = follows-same _ _ _ _ _ c.journal-2.ensures.settings c.journal-2.ensures.entries c.in_ok-reporter.ensures;
       slots = c.perform.ensures.slots;
       someone = someone-first c.args.session.now _ _ c.requires.proper c.requires.begins first;
       later = omega arith;
@@ -38,6 +40,7 @@ loop-preserved g c =
     let none = takes-none t.0 c.loop.session _ _ _ c.in_ok-stopped-2.stopped c.in_default.not-Some t.1 in
     record {
       going = (c.loop.invariant.going.0 ++ t.0 ∷ [], going-next c.loop.invariant.going.0 t.0 c.loop.session _ _ _ _ c.loop.invariant.going.1 none);
+      reports = c.in_ok-stopped-2.ensures.follows;
       settings = none.settings ∙ c.loop.invariant.settings;
       slots = c.take_news.ensures.slots ∙ c.loop.invariant.slots;
       someone = someone-still t.0 c.loop.session _ _ _ none c.loop.invariant.someone;
