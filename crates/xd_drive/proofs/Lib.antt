@@ -1,6 +1,8 @@
 pub mod Bounds
+pub mod Driven
 pub mod Follow
 pub mod Heard
+pub mod Kills
 pub mod Loop
 pub mod NextListed
 pub mod Orders

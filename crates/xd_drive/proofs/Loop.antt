@@ -1,12 +1,12 @@
 -- From one piece of news to the next.
-use Rattle.std.proofs.Common.{◌≡◌, ℕ, zero, suc, ◌+◌, ◌≤◌, ◌<◌, List, [], ◌∷◌, ◌++◌, length, take, Bool, true, false, not, ◌&&◌, ◌||◌, Option, Some, None, option_map, refl, sym, ◌∙◌, ap, subst, arith, inl, inr, append_assoc}
+use Rattle.std.proofs.Common.{◌≡◌, ℕ, zero, suc, ◌+◌, ◌≤◌, ◌<◌, List, [], ◌∷◌, ◌++◌, length, take, drop, length-append, Bool, true, false, not, ◌&&◌, ◌||◌, Option, Some, None, option_map, refl, sym, ◌∙◌, ap, subst, arith, inl, inr, append_assoc}
 use Rattle.std.specs.Prelude.{◌==◌, ◌⊎◌, nat_lt, if◌then◌else◌}
 use Rattle.std.specs.List.{list_any}
 use Rattle.std.proofs.Math.Path.{fun_ext}
 use Rattle.std.proofs.Math.Seq.{take-append_seam}
 use Rattle.std.proofs.lemmas.Bool.Decides.{nat_tests}
 use Rattle.std.proofs.lemmas.Grind.{fold-append}
-use Rattle.std.proofs.lemmas.List.{append-nil, take_all}
+use Rattle.std.proofs.lemmas.List.{append-nil, drop_all, drop_at, take_all}
 use Rattle.std.proofs.lemmas.List.Folds.{list_any-append}
 use Rattle.xd_edge.specs.Sink.{Sunk, Printed, PrintedPart, with_bytes, with_flush, with_close}
 use Rattle.xd_edge.proofs.SinkLemmas.{printed_more, printed_then_part, printed_part_of_more}
@@ -19,11 +19,12 @@ use Rattle.xd_ledger.specs.declared.journal.Journal.{Journal}
 use Rattle.xd_ledger.specs.Workers.{has_member, started, is_active}
 use Rattle.xd_ledger.specs.Sharing.{State}
 use Rattle.xd_ledger.specs.State.{all_moved, moved, next, no_one, reached, settled}
+use Rattle.xd_ledger.specs.Ending.{ending}
 use Rattle.xd_ledger.specs.Histories.{begun, first_starts, is_over, starts_from}
 use Rattle.xd_ledger.specs.Proper.{IsProper}
 use Rattle.xd_report.specs.Lines.{last_of_slot, lines_from, lines_of, replacing, run_lines}
 use Rattle.xd_report.specs.Tests.{mode_of}
-use Rattle.xd_report.specs.Text.{run_tail, tail_text, text_of}
+use Rattle.xd_report.specs.Text.{run_tail, tail_text}
 use Rattle.xd_session.specs.History.{run_of}
 use Rattle.xd_session.specs.Stands.{Seen, StandsFor, state_of}
 use Rattle.xd_laws.proofs.Logic.{and, cases_of, differ, not_true, split-and}
@@ -31,14 +32,14 @@ use Rattle.xd_laws.proofs.Crew.{has}
 use Rattle.xd_drive.specs.Agrees.{Agrees}
 use Rattle.xd_drive.specs.Going.{EndsRun, EndsTail, Finished, Going, IsDone, IsFresh, Scene, ShowsSome, Stopped, TakesNews, Told, Untold}
 use Rattle.xd_drive.specs.Marks.{Marks, no_marks}
-use Rattle.xd_drive.specs.Performing.{AddsAll, Performs, after_all, after_entry, all_possible, is_start_of, possible, was_started}
+use Rattle.xd_drive.specs.Performing.{AddsAll, Performs, after_all, after_entry, all_possible, is_start_of, kills_of_started, possible, was_started}
 use Rattle.xd_drive.specs.Printing.{ShowsEnd}
 use Rattle.xd_drive.specs.Taken.{taken_of, taken_with}
+use Rattle.xd_drive.proofs.Kills.{ending-possible, kills-go}
 use Rattle.xd_drive.proofs.Outs.{Goes, goes-start, started-more}
 use Rattle.xd_drive.proofs.Performs.{adds-more, adds-none, performs-more}
 use Rattle.xd_drive.proofs.Stepped.{started-by, state-is}
-use Rattle.xd_drive.proofs.Texts.{first-lines, tail-is, text-is}
-use Rattle.xd_drive.proofs.Turns.{unkilled}
+use Rattle.xd_drive.proofs.Texts.{first-lines, tail-is}
 
 -- the first starts
 
@@ -138,6 +139,9 @@ module _ (given : List News) (n : News) (s0 s1 : Seen) (old mid new : Scene) (g 
     before-is : take count s1.entries ≡ s0.entries
     before-is = ap (λ (k : ℕ). take k s1.entries) u.count_is ∙ ap (take (length s0.entries)) u.entries ∙ take-append_seam s0.entries more
 
+    left-is : drop count s1.entries ≡ more
+    left-is = ap (drop count) u.entries ∙ drop_at s0.entries more count (sym u.count_is)
+
     taken-was : taken_of s1.settings (given ++ n ∷ []) ≡ taken_of s0.settings given ++ n ∷ []
     taken-was =
         ap (λ (x : Settings). taken_of x (given ++ n ∷ [])) t.settings ∙ taken-more s0.settings given n
@@ -155,9 +159,10 @@ module _ (given : List News) (n : News) (s0 s1 : Seen) (old mid new : Scene) (g 
       performed = subst (λ (es : List Entry). Performs es old.starts new.starts old.calls new.calls) (sym before-is)
           (subst (λ (x : Option (List Entry)). Performs s0.entries old.starts x old.calls new.calls) (sym u.starts) (subst (λ (x : Option (List Entry)). Performs s0.entries old.starts mid.starts old.calls x) (sym u.calls) g.performed));
       started = λ w. u.started w ∙ g.started w ∙ ap (was_started w) (sym before-is);
-      unkilled = u.unkilled;
-      shows = λ j k e. printed_part_of_more (run_lines j.settings j.entries.items) (tail_text j) old.sunk new.sunk
-          (subst (λ (l : List ℕ). PrintedPart l old.sunk new.sunk) (sym (ap (λ (x : Settings). run_lines x j.entries.items) k ∙ ap (run_lines s1.settings) e)) part);
+      within = omega (arith, u.count_is, ap length u.entries, length-append s0.entries more);
+      kills = λ k. subst (λ (es : List Entry). all_possible k new.marks (kills_of_started (take count s1.entries) (es ++ ending true (state_of s1).books)) ≡ true) (sym left-is)
+          (u.kills (take count s1.entries) (λ w h. u.started w ∙ g.started w ∙ ap (was_started w) (sym before-is) ∙ h) k);
+      shows = printed_part_of_more (run_lines s1.settings s1.entries) (run_tail s1.settings s1.entries) old.sunk new.sunk part;
     }
 
 -- the tail
@@ -178,12 +183,11 @@ module _ (given : List News) (s : Seen) (old mid new : Scene) (g : Going given s
     gave = given_same ∙ g.gave;
     performed = performed-same;
     over = over;
-    shows = λ k a b. subst (λ (l : List ℕ). ShowsEnd true l old.sunk new.sunk) (sym (text-is k s.settings s.entries a b))
-        (shows-end (run_lines s.settings s.entries) (run_tail s.settings s.entries) old.sunk mid.sunk new.sunk g.shows (subst (λ (l : List ℕ). ShowsEnd true l mid.sunk new.sunk) tail-same shown));
+    shows = shows-end (run_lines s.settings s.entries) (run_tail s.settings s.entries) old.sunk mid.sunk new.sunk g.shows (subst (λ (l : List ℕ). ShowsEnd true l mid.sunk new.sunk) tail-same shown);
   }
 
-  pub unfinished : (count : ℕ) → count ≡ length s.entries → ShowsEnd false (tail_text j) mid.sunk new.sunk → Stopped given count s old new
-  unfinished count counted shown =
+  pub unfinished : IsProper s.settings [] → (count : ℕ) → count ≡ length s.entries → ShowsEnd false (tail_text j) mid.sunk new.sunk → Stopped given count s old new
+  unfinished proper count counted shown =
       let all : take count s.entries ≡ s.entries = take_all count s.entries (omega (arith, counted)) in
       record {
         stands = g.stands;
@@ -191,9 +195,13 @@ module _ (given : List News) (s : Seen) (old mid new : Scene) (g : Going given s
         is_done = inl (all ∙ g.stands.entries);
         performed = subst (λ (es : List Entry). Performs es old.starts new.starts old.calls new.calls) (sym all) performed-same;
         started = λ w. ap (λ (m : Marks). m.started) (marks_same w) ∙ g.started w ∙ ap (was_started w) (sym all);
-        unkilled = λ w a. ap (λ (m : Marks). m.killed) (marks_same w) ∙ unkilled (state_of s).books mid.marks g.agrees w a;
-        shows = λ k a b. subst (λ (l : List ℕ). PrintedPart l old.sunk new.sunk) (sym (text-is k s.settings s.entries a b))
-            (shows-part (run_lines s.settings s.entries) (run_tail s.settings s.entries) old.sunk mid.sunk new.sunk g.shows (subst (λ (l : List ℕ). PrintedPart l mid.sunk new.sunk) tail-same shown));
+        within = omega (arith, counted);
+        kills = λ k. kills-go (take count s.entries) k k (drop count s.entries ++ ending true (state_of s).books) new.marks new.marks
+            (λ w h. ap (λ (m : Marks). m.started) (marks_same w) ∙ g.started w ∙ ap (was_started w) (sym all) ∙ h) (λ w h. h)
+            (subst (λ (es : List Entry). all_possible k new.marks (es ++ ending true (state_of s).books) ≡ true) (sym (drop_all count s.entries (omega (arith, counted))))
+            (ending-possible s.settings (taken_of s.settings given) k (state_of s).books new.marks proper (ap (λ (x : State). x.books) (state-is s (taken_of s.settings given) proper g.stands))
+            (subst (λ (f : ℕ → Marks). Agrees (state_of s).books f) (sym (fun_ext marks_same)) g.agrees)));
+        shows = shows-part (run_lines s.settings s.entries) (run_tail s.settings s.entries) old.sunk mid.sunk new.sunk g.shows (subst (λ (l : List ℕ). PrintedPart l mid.sunk new.sunk) tail-same shown);
       }
 
 -- the beginning
@@ -236,14 +244,14 @@ begins s slots old new es is l st fresh performed marks given sunk =
     going-first s slots old new l st fresh (subst (λ (x : List Entry). Performs x old.starts new.starts old.calls new.calls) is performed) (λ w. marks w ∙ ap (λ (x : List Entry). after_all x old.marks w) is) given sunk
 
 pub over-ends : (given : List News) (s : Seen) (old mid new : Scene) (g : Going given s old mid) (starts_same : new.starts ≡ mid.starts) (calls_same : new.calls ≡ mid.calls) (given_same : new.given ≡ mid.given) (marks_same : (w : ℕ) → new.marks w ≡ mid.marks w)
-    (j : Journal) → j.settings ≡ s.settings → j.entries.items ≡ s.entries → is_over (state_of s).books ≡ true → (stopped : Option ℕ) → EndsTail stopped j mid.sunk new.sunk → EndsRun stopped s old new
-over-ends given s old mid new g a b c d j e f over None t = (given, finished given s old mid new g a b c d j e f over t)
-over-ends given s old mid new g a b c d j e f over (Some count) t = (given, unfinished given s old mid new g a b c d j e f count (t.0 ∙ ap length f) t.1)
+    (j : Journal) → j.settings ≡ s.settings → j.entries.items ≡ s.entries → is_over (state_of s).books ≡ true → IsProper s.settings [] → (stopped : Option ℕ) → EndsTail stopped j mid.sunk new.sunk → EndsRun stopped s old new
+over-ends given s old mid new g a b c d j e f over p None t = (given, finished given s old mid new g a b c d j e f over t)
+over-ends given s old mid new g a b c d j e f over p (Some count) t = (given, unfinished given s old mid new g a b c d j e f p count (t.0 ∙ ap length f) t.1)
 
 pub stop-by : (given : List News) (n : News) (s0 s1 : Seen) (old mid new : Scene) → Going given s0 old mid → IsProper s0.settings [] → (stopped : Option ℕ) (count : ℕ) → stopped ≡ Some count → TakesNews n stopped s0 s1 mid new → (all : List News) × Stopped all count s1 old new
 stop-by given n s0 s1 old mid new g p stopped count is t = (given ++ n ∷ [], going-stop given n s0 s1 old mid new g p count (subst (λ (o : Option ℕ). TakesNews n o s0 s1 mid new) is t))
 
-none-of : (o : Option ℕ) → ((x : ℕ) → o ≡ Some x → ⊥) → o ≡ None
+pub none-of : (o : Option ℕ) → ((x : ℕ) → o ≡ Some x → ⊥) → o ≡ None
 none-of None h = refl
 none-of (Some x) h = absurd (h x refl)
 

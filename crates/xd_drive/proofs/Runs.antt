@@ -230,3 +230,18 @@ by_mode WorkSteal settings inputs e m p h = by_rule (InMode WorkSteal) steal_rul
 
 pub lawful : (settings : Settings) (r : TheRun) (e : Entry) → InRun settings r → may_follow r.state e ≡ true → Lawful r.state e
 lawful settings r e i h = subst (λ (s : State). Lawful s e) (sym i.state) (by_mode settings.mode settings r.inputs e refl i.proper (ap (λ (s : State). may_follow s e) (sym i.state) ∙ h))
+
+tidy-rule : (X : State → Type 0) → Rule X → (settings : Settings) (inputs : List Entry) → X (no_one settings) → IsProper settings inputs → Tidy (stepped_all (begun settings) inputs)
+tidy-rule X rule settings inputs x p = (all-hold X rule (begun settings) inputs p.follow (begun-holds X rule settings x)).tidy
+
+tidy-mode : (k : ModeKind) (settings : Settings) (inputs : List Entry) → settings.mode ≡ k → IsProper settings inputs → Tidy (stepped_all (begun settings) inputs)
+tidy-mode Local settings inputs m p = absurd (differ (ap has_workers (sym m) ∙ p.mode))
+tidy-mode Each settings inputs m p = tidy-rule (InMode Each) each_rule settings inputs m p
+tidy-mode Load settings inputs m p = tidy-rule (InMode Load) load_rule settings inputs m p
+tidy-mode LoadScope settings inputs m p = tidy-rule Scoped scope_rule settings inputs (scoped-none settings (ap is_scope m)) p
+tidy-mode LoadFile settings inputs m p = tidy-rule Scoped scope_rule settings inputs (scoped-none settings (ap is_scope m)) p
+tidy-mode LoadGroup settings inputs m p = tidy-rule Scoped scope_rule settings inputs (scoped-none settings (ap is_scope m)) p
+tidy-mode WorkSteal settings inputs m p = tidy-rule (InMode WorkSteal) steal_rule settings inputs m p
+
+pub tidy : (settings : Settings) → IsProper settings [] → (taken : List News) → Tidy (run_of settings taken).state
+tidy settings p taken = (let i = in_run settings p taken in subst Tidy (sym i.state) (tidy-mode settings.mode settings (run_of settings taken).inputs refl i.proper))

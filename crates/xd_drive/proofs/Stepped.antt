@@ -12,6 +12,7 @@ use Rattle.xd_ledger.specs.declared.entry.Entry.{Entry}
 use Rattle.xd_ledger.specs.declared.entry.Entry.TheVariants.{Start, Kill}
 use Rattle.xd_ledger.specs.declared.journal.Journal.{Journal}
 use Rattle.xd_ledger.specs.Books.{Books}
+use Rattle.xd_ledger.specs.Ending.{ending}
 use Rattle.xd_ledger.specs.Workers.{has_member, is_active}
 use Rattle.xd_ledger.specs.Sharing.{State}
 use Rattle.xd_ledger.specs.State.{all_moved, no_one, state_at}
@@ -29,9 +30,10 @@ use Rattle.xd_drive.specs.Performing.{AddsAll, Performs, after_all, after_entry,
 use Rattle.xd_drive.specs.Printing.{Shows}
 use Rattle.xd_drive.specs.Taken.{taken_with}
 use Rattle.xd_drive.proofs.Follow.{follows-same}
+use Rattle.xd_drive.proofs.Kills.{ending-possible, kills-go, possible-both}
 use Rattle.xd_drive.proofs.Performs.{all_possible-same, performs-none}
 use Rattle.xd_drive.proofs.Runs.{in_run, run-more}
-use Rattle.xd_drive.proofs.Turns.{bounded, entries-added, heard_by, step-agrees, step-possible, unkilled}
+use Rattle.xd_drive.proofs.Turns.{bounded, entries-added, heard_by, step-agrees, step-possible}
 
 -- the state of a session is the one of the run that it stands for
 pub state-is : (s : Seen) (taken : List News) → IsProper s.settings [] → StandsFor taken s → state_of s ≡ (run_of s.settings taken).state
@@ -121,26 +123,6 @@ started-by (e ∷ es) marks w = started-by es (after_entry e marks) w ∙ ap (λ
     one (Kill v) = or-none (marks w).started
     one _ = or-none (marks w).started
 
--- a kill stays
-killed-stays : (es : List Entry) (marks : ℕ → Marks) (w : ℕ) → (marks w).killed ≡ true → (after_all es marks w).killed ≡ true
-killed-stays [] marks w h = h
-killed-stays (e ∷ es) marks w h = killed-stays es (after_entry e marks) w (one e)
-  where
-    or-yes : (b c : Bool) → b ≡ true → (b || c) ≡ true
-    or-yes true c k = refl
-    or-yes false c k = absurd (differ k)
-
-    one : (x : Entry) → (after_entry x marks w).killed ≡ true
-    one (Start v slot) = h
-    one (Kill v) = or-yes (marks w).killed (v == w) h
-    one _ = h
-
-not-killed : (es : List Entry) (marks : ℕ → Marks) (w : ℕ) → (after_all es marks w).killed ≡ false → (marks w).killed ≡ false
-not-killed es marks w h = elim (cases_of (marks w).killed) [
-  | inl k ↦ absurd (differ (sym h ∙ killed-stays es marks w k))
-  | inr k ↦ k
-]
-
 adds-nothing : {A : Type 0} (old new : Option (List A)) → AddsAll [] old new → new ≡ old
 adds-nothing None new h = h
 adds-nothing (Some l) new h = h ∙ ap Some (append-nil l)
@@ -209,6 +191,13 @@ module _ (s : Seen) (proper : IsProper s.settings []) (n : News) (old mid : Scen
           subst (λ (x : State). Agrees x.books (after_all es (heard_by n old.marks))) (sym (state-is s1 (taken ++ n ∷ []) p1 (stands taken st) ∙ ap (λ (x : Settings). (run_of x (taken ++ n ∷ [])).state) same))
           (step-agrees s.settings proper slots old.marks taken n room (bounded s.settings proper taken) (agrees-run taken st) (on-run taken st))
 
+      rest-possible : all_possible slots mid.marks (es ++ ending true (state_of s1).books) ≡ true
+      rest-possible =
+          let p1 : IsProper s1.settings [] = subst (λ (x : Settings). IsProper x []) (sym same) proper in
+          possible-both slots mid.marks es (ending true (state_of s1).books) (tellable slots refl taken st)
+          (ending-possible s1.settings (taken ++ n ∷ []) slots (state_of s1).books (after_all es mid.marks) p1 (ap (λ (x : State). x.books) (state-is s1 (taken ++ n ∷ []) p1 (stands taken st)))
+          (subst (λ (f : ℕ → Marks). Agrees (state_of s1).books (after_all es f)) (sym marks-are) behind))
+
       pub told : TellsEntries true es lines mid new → (m : News) × TakesNews m None s s1 old new
       told t = (
         n,
@@ -246,7 +235,7 @@ module _ (s : Seen) (proper : IsProper s.settings []) (n : News) (old mid : Scen
                   starts = adds-nothing mid.starts new.starts t.performed.starts ∙ starts;
                   calls = adds-nothing mid.calls new.calls t.performed.calls ∙ calls;
                   started = λ w. ap (λ (x : Marks). x.started) (marks_same w);
-                  unkilled = λ w a. ap (λ (x : Marks). x.killed) (marks_same w) ∙ not-killed es (heard_by n old.marks) w (unkilled (state_of s1).books (after_all es (heard_by n old.marks)) behind w a);
+                  kills = λ done f k. kills-go done slots k (es ++ ending true (state_of s1).books) mid.marks new.marks f (λ w h. ap (λ (x : Marks). x.killed) (t.marks w) ∙ h) rest-possible;
                   shows = subst (λ (x : Option Sunk). PrintedPart lines x new.sunk) sunk t.shows;
                 },
               );

@@ -1,22 +1,23 @@
 -- How far a session was driven.
-use Rattle.std.specs.Prelude.{◌≡◌, ℕ, ◌⊎◌, ◌||◌, Bool, true, false, List, [], ◌∷◌, ◌++◌, take, length, Option, Some, None, if◌then◌else◌}
+use Rattle.std.specs.Prelude.{◌≡◌, ◌≤◌, ℕ, ◌⊎◌, ◌||◌, Bool, true, false, List, [], ◌∷◌, ◌++◌, take, drop, length, Option, Some, None, if◌then◌else◌}
 use Rattle.xd_edge.specs.Sink.{Sunk, Printed, PrintedPart}
 use Rattle.xd_ledger.specs.declared.settings.Settings.{Settings}
 use Rattle.xd_ledger.specs.declared.entry.Entry.{Entry}
 use Rattle.xd_ledger.specs.declared.journal.Journal.{Journal}
 use Rattle.xd_ledger.specs.declared.news.News.{News}
+use Rattle.xd_ledger.specs.Ending.{ending}
 use Rattle.xd_ledger.specs.Histories.{is_over}
 use Rattle.xd_ledger.specs.Outputs.{outputs}
 use Rattle.xd_ledger.specs.Sharing.{State}
 use Rattle.xd_ledger.specs.State.{all_moved, no_one}
 use Rattle.xd_ledger.specs.Workers.{is_active}
 use Rattle.xd_report.specs.Lines.{lines_from, run_lines}
-use Rattle.xd_report.specs.Text.{tail_text, text_of}
+use Rattle.xd_report.specs.Text.{run_text, tail_text}
 use Rattle.xd_session.specs.History.{input_of, run_of}
 use Rattle.xd_session.specs.Stands.{Seen, StandsFor, state_of}
 use Rattle.xd_drive.specs.Agrees.{Agrees}
 use Rattle.xd_drive.specs.Marks.{Marks, no_marks}
-use Rattle.xd_drive.specs.Performing.{AddsAll, Performs, after_all, was_started}
+use Rattle.xd_drive.specs.Performing.{AddsAll, Performs, after_all, all_possible, kills_of_started, was_started}
 use Rattle.xd_drive.specs.Printing.{Shows, ShowsEnd}
 use Rattle.xd_drive.specs.Taken.{taken_of, taken_with}
 
@@ -45,16 +46,17 @@ pub record Going (given : List News) (s : Seen) (old new : Scene) : Type 0 where
 abbrev pub IsDone : Settings → List News → List Entry → Type 0
 IsDone settings taken done = (done ≡ (run_of settings taken).entries) ⊎ ((earlier : List News) × (n : News) × (taken ≡ earlier ++ n ∷ []) × (done ≡ (run_of settings earlier).entries))
 
--- The output failed: so many entries were performed, and of a worker that was started by them and is active the kill can
--- be asked for.
+-- The output failed: so many entries were performed, and of what is left, and of the end, the kills of the workers that
+-- were started can be asked for.
 pub record Stopped (given : List News) (count : ℕ) (s : Seen) (old new : Scene) : Type 0 where
   pub stands : StandsFor (taken_of s.settings given) s
   pub gave : AddsAll given old.given new.given
   pub is_done : IsDone s.settings (taken_of s.settings given) (take count s.entries)
   pub performed : Performs (take count s.entries) old.starts new.starts old.calls new.calls
   pub started : (w : ℕ) → (new.marks w).started ≡ was_started w (take count s.entries)
-  pub unkilled : (w : ℕ) → is_active w (state_of s).books ≡ true → (new.marks w).killed ≡ false
-  pub shows : (j : Journal) → j.settings ≡ s.settings → j.entries.items ≡ s.entries → PrintedPart (text_of j) old.sunk new.sunk
+  pub within : count ≤ length s.entries
+  pub kills : (slots : ℕ) → all_possible slots new.marks (kills_of_started (take count s.entries) (drop count s.entries ++ ending true (state_of s).books)) ≡ true
+  pub shows : PrintedPart (run_text s.settings s.entries) old.sunk new.sunk
 
 -- what the input adds to the journal
 abbrev pub added : State → Option Entry → List Entry
@@ -88,7 +90,8 @@ pub record Untold (n : News) (count : ℕ) (more : List Entry) (s_old s_new : Se
   pub starts : new.starts ≡ old.starts
   pub calls : new.calls ≡ old.calls
   pub started : (w : ℕ) → (new.marks w).started ≡ (old.marks w).started
-  pub unkilled : (w : ℕ) → is_active w (state_of s_new).books ≡ true → (new.marks w).killed ≡ false
+  pub kills : (done : List Entry) → ((w : ℕ) → was_started w done ≡ true → (new.marks w).started ≡ true)
+      → (slots : ℕ) → all_possible slots new.marks (kills_of_started done (more ++ ending true (state_of s_new).books)) ≡ true
   pub shows : PrintedPart (lines_from (all_moved (no_one s_old.settings) s_old.entries) more) old.sunk new.sunk
 
 abbrev pub TellsNews : News → Option ℕ → Seen → Seen → Scene → Scene → Type 0
@@ -108,7 +111,7 @@ pub record Finished (given : List News) (s : Seen) (old new : Scene) : Type 0 wh
   pub gave : AddsAll given old.given new.given
   pub performed : Performs s.entries old.starts new.starts old.calls new.calls
   pub over : is_over (state_of s).books ≡ true
-  pub shows : (j : Journal) → j.settings ≡ s.settings → j.entries.items ≡ s.entries → ShowsEnd true (text_of j) old.sunk new.sunk
+  pub shows : ShowsEnd true (run_text s.settings s.entries) old.sunk new.sunk
 
 -- How the run came to its end, where the output failed with so many entries performed.
 abbrev pub EndsRun : Option ℕ → Seen → Scene → Scene → Type 0

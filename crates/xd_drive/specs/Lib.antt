@@ -1,5 +1,6 @@
 pub mod Agrees
 pub mod Calls
+pub mod Driven
 pub mod Going
 pub mod Listed
 pub mod Marks

@@ -3,12 +3,13 @@
 #![tactic(auto)]
 
 mod copies;
-mod drive;
 mod hub;
 mod listed_hub;
 mod news;
 mod perform;
 mod printing;
+mod running;
 
 pub use hub::Hub;
 pub use listed_hub::ListedHub;
+pub use running::drive;

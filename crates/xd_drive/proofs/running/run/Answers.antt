@@ -3,7 +3,7 @@ use Rattle.xd_ledger.specs.declared.settings.Settings.{Settings}
 use Rattle.xd_ledger.specs.Proper.{IsProper}
 use Rattle.xd_drive.proofs.Follow.{follows-same}
 use Rattle.xd_drive.proofs.Loop.{begins, first-possible, going-next, over-ends, someone-first, someone-still, stop-by, takes-none}
-use Rattle.xd_drive.proofs.drive.run.Goals as goal
+use Rattle.xd_drive.proofs.running.run.Goals as goal
 
 pub perform-requires : goal.perform-requires
 perform-requires g c = first-possible c.args.session.now _ _ _ c.requires.slots c.requires.begins c.requires.fresh (c.deref.ensures.value ∙ c.journal.ensures.entries)
@@ -26,7 +26,7 @@ loop-init g c =
 pub returns-then-over-clause-ends : goal.returns-then-over-clause-ends
 returns-then-over-clause-ends g c =
     over-ends c.loop.invariant.going.0 c.loop.session _ _ _ c.loop.invariant.going.1 refl refl refl (λ w. refl) c.journal-then-over.result.now c.journal-then-over.ensures.settings c.journal-then-over.ensures.entries
-    (sym c.over.ensures ∙ c.if-over.true) c.in_ok-stopped.stopped c.in_ok-stopped.ensures.ends
+    (sym c.over.ensures ∙ c.if-over.true) (subst (λ (x : Settings). IsProper x []) (sym c.loop.invariant.settings) c.requires.proper) c.in_ok-stopped.stopped c.in_ok-stopped.ensures.ends
 
 pub returns-in-Some-stopped-clause-ends : goal.returns-in-Some-stopped-clause-ends
 returns-in-Some-stopped-clause-ends g c =

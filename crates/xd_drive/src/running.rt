@@ -1,13 +1,15 @@
 // The loop that runs a session over a hub.
-ghost use Rattle.std.specs.Prelude.{◌≡◌, ◌≤◌, [], IfOk, IfSome, OnOk};
+ghost use Rattle.std.specs.Prelude.{◌≡◌, ◌≤◌, ℕ, Option, [], IfOk, IfSome, OnOk};
 ghost use Rattle.xd_edge.specs.Faults.{Rose};
+ghost use Rattle.xd_ledger.specs.Legal.{IsLegal};
 ghost use Rattle.xd_ledger.specs.Proper.{IsProper};
 ghost use Rattle.xd_session.specs.Stands.{StandsFor};
+ghost use Rattle.xd_drive.specs.Driven.{Drives};
 ghost use Rattle.xd_drive.specs.Going.{EndsRun, EndsTail, IsFresh};
 
 use crate::Hub;
 use crate::news::{entry_count, take_news};
-use crate::perform::perform;
+use crate::perform::{kill_started, perform};
 use crate::printing::{print_tail, reporter_of};
 use std::alloc::Global;
 use std::sync::Wait;
@@ -66,4 +68,35 @@ fn run<R: Wait, M: Mode, H: Hub, O: Sink>(
         }
     }
     unreachable!()
+}
+
+/// Runs a session to its end: starts its workers, steps it with the news of active workers, performs what its journal asks
+/// for, and prints the lines of each entry before the entry is performed, then the tail. Gives the journal with its end.
+/// Where the output failed nothing more is performed but the kills of the workers that were started.
+pub fn drive<R: Wait, M: Mode, H: Hub, O: Sink>(
+    rt: &R,
+    alloc: Global,
+    mut session: Session<M>,
+    hub: &mut H,
+    out: &mut O,
+) -> Result<Journal, OutOfMemory>
+    requires proper { IsProper session.settings [] }
+    requires begins { StandsFor [] session }
+    requires slots { session.settings.workers ≤ H.slots hub.old }
+    requires fresh { IsFresh (H.marks hub.old) }
+    ensures settings { IfOk result (λ j. j.settings ≡ session.settings) }
+    ensures drives { IfOk result (λ j. (stopped : Option ℕ) × (Drives stopped j
+        (record { marks = H.marks hub.old; starts = H.starts hub.old; calls = H.calls hub.old; given = H.given hub.old; sunk = O.sunk out.old })
+        (record { marks = H.marks hub.new; starts = H.starts hub.new; calls = H.calls hub.new; given = H.given hub.new; sunk = O.sunk out.new })) × (IfSome stopped (λ count. Rose (O.faults out.old) (O.faults out.new)))) }
+    ensures legal { IfOk result IsLegal }
+    ensures later { O.faults out.old ≤ O.faults out.new }
+{
+    let stopped = run(rt, alloc, &mut session, hub, out)?;
+    let Some(done) = stopped else {
+        let journal = session.close(false)?;
+        return Ok(journal);
+    };
+    let journal = session.close(true)?;
+    kill_started(alloc, hub, &journal.entries[..done], &journal.entries[done..])?;
+    Ok(journal)
 }

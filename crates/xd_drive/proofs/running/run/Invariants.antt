@@ -3,7 +3,7 @@ use Rattle.xd_ledger.specs.declared.news.News.{News}
 use Rattle.xd_ledger.specs.State.{all_moved, no_one}
 use Rattle.xd_report.specs.Follows.{Follows}
 use Rattle.xd_drive.specs.Going.{Going}
-use Rattle.xd_drive.proofs.drive.run.Given as goal
+use Rattle.xd_drive.proofs.running.run.Given as goal
 
 abbrev pub invariant-loop : goal.invariant-loop
 invariant-loop g l = record {
