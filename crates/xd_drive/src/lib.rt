@@ -13,3 +13,6 @@ mod running;
 pub use hub::Hub;
 pub use listed_hub::ListedHub;
 pub use running::drive;
+
+#[cfg(test)]
+mod tests;
