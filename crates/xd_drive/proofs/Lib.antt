@@ -1,0 +1,16 @@
+pub mod Bounds
+pub mod Driven
+pub mod Follow
+pub mod Heard
+pub mod Kills
+pub mod Loop
+pub mod NextListed
+pub mod Orders
+pub mod Outs
+pub mod Performs
+pub mod Prints
+pub mod Runs
+pub mod Stepped
+pub mod Texts
+pub mod Turns
+pub mod Unkilled

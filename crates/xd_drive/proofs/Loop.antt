@@ -1,0 +1,257 @@
+-- From one piece of news to the next.
+use Rattle.std.proofs.Common.{◌≡◌, ℕ, zero, suc, ◌+◌, ◌≤◌, ◌<◌, List, [], ◌∷◌, ◌++◌, length, take, drop, length-append, Bool, true, false, not, ◌||◌, Option, Some, None, option_map, refl, sym, ◌∙◌, ap, subst, arith, inl, inr, append_assoc}
+use Rattle.std.specs.Prelude.{◌==◌, ◌⊎◌, nat_lt, if◌then◌else◌}
+use Rattle.std.specs.List.{list_any}
+use Rattle.std.proofs.Math.Path.{fun_ext}
+use Rattle.std.proofs.Math.Seq.{take-append_seam}
+use Rattle.std.proofs.lemmas.Bool.Decides.{nat_tests}
+use Rattle.std.proofs.lemmas.Grind.{fold-append}
+use Rattle.std.proofs.lemmas.List.{append-nil, drop_all, drop_at, take_all}
+use Rattle.std.proofs.lemmas.List.Folds.{list_any-append}
+use Rattle.xd_edge.specs.Sink.{Sunk, Printed, PrintedPart, with_bytes, with_flush, with_close}
+use Rattle.xd_edge.proofs.SinkLemmas.{printed_more, printed_then_part, printed_part_of_more}
+use Rattle.xd_ledger.specs.declared.settings.Settings.{Settings}
+use Rattle.xd_ledger.specs.declared.news.News.{News}
+use Rattle.xd_ledger.specs.declared.entry.Entry.{Entry}
+use Rattle.xd_ledger.specs.declared.entry.Entry.TheVariants.{Start}
+use Rattle.xd_ledger.specs.declared.journal.Journal.{Journal}
+use Rattle.xd_ledger.specs.Workers.{started, is_active}
+use Rattle.xd_ledger.specs.Sharing.{State}
+use Rattle.xd_ledger.specs.State.{all_moved, moved, next, no_one, reached, settled}
+use Rattle.xd_ledger.specs.Ending.{ending}
+use Rattle.xd_ledger.specs.Histories.{begun, first_starts, is_over, starts_from}
+use Rattle.xd_ledger.specs.Proper.{IsProper}
+use Rattle.xd_report.specs.Lines.{lines_from, lines_of, run_lines}
+use Rattle.xd_report.specs.Text.{run_tail, tail_text}
+use Rattle.xd_session.specs.History.{run_of}
+use Rattle.xd_session.specs.Stands.{Seen, StandsFor, state_of}
+use Rattle.xd_laws.proofs.Logic.{and, cases_of, differ}
+use Rattle.xd_laws.proofs.Crew.{has}
+use Rattle.xd_drive.specs.Agrees.{Agrees}
+use Rattle.xd_drive.specs.Going.{EndsRun, EndsTail, Finished, Going, IsFresh, Scene, ShowsSome, Stopped, TakesNews, Untold}
+use Rattle.xd_drive.specs.Marks.{Marks}
+use Rattle.xd_drive.specs.Performing.{AddsAll, Performs, after_all, after_entry, all_possible, is_start_of, kills_of_started, was_started}
+use Rattle.xd_drive.specs.Printing.{ShowsEnd}
+use Rattle.xd_drive.specs.Taken.{taken_of, taken_with}
+use Rattle.xd_drive.proofs.Kills.{ending-possible, kills-go}
+use Rattle.xd_drive.proofs.Outs.{goes-start, started-more}
+use Rattle.xd_drive.proofs.Performs.{adds-more, adds-none, performs-more}
+use Rattle.xd_drive.proofs.Stepped.{started-by, state-is}
+use Rattle.xd_drive.proofs.Texts.{first-lines, tail-is}
+
+-- the first starts
+
+agrees-none : (settings : Settings) (marks : ℕ → Marks) → IsFresh marks → Agrees (no_one settings).books marks
+agrees-none settings marks f = record {
+  started = λ w. ap (λ (m : Marks). m.started) (f w);
+  killed = λ w h. absurd (differ (sym (ap (λ (m : Marks). m.killed) (f w)) ∙ h));
+  ended = λ w h. absurd (differ (sym (ap (λ (m : Marks). m.ended) (f w)) ∙ h));
+  ready = λ w h. absurd (differ h);
+}
+
+pub record Starts (slots : ℕ) (marks : ℕ → Marks) (es : List Entry) (behind : State) : Type 0 where
+  pub possible : all_possible slots marks es ≡ true
+  pub agrees : Agrees behind.books (after_all es marks)
+
+starts-go : (slots : ℕ) (k w : ℕ) (s : State) (marks : ℕ → Marks) → ((v : ℕ) → has v (λ m. true) s.books.crew ≡ true → v < w) → Agrees s.books marks → w + k ≤ slots → Starts slots marks (starts_from w k) (all_moved s (starts_from w k))
+starts-go slots zero w s marks below a l = record { possible = refl; agrees = a }
+starts-go slots (suc k) w s marks below a l =
+    let new : has w (λ m. true) s.books.crew ≡ false = elim (cases_of (has w (λ m. true) s.books.crew)) [ inl h ↦ (let x = below w h in absurd (omega (arith, x))) | inr h ↦ h ] in
+    let room : nat_lt w slots ≡ true = lower w slots (omega (arith, l)) in
+    let one = goes-start slots marks s w w room (ap not new) a in
+    let more = starts-go slots k (w + 1) (moved s (Start w w)) (after_entry (Start w w) marks) (λ v h. below-next v h) one.agrees (omega (arith, l)) in
+    record { possible = and one.possible more.possible; agrees = more.agrees }
+  where
+    lower : (x y : ℕ) → x < y → nat_lt x y ≡ true
+    lower x y h = grind (arith, nat_tests)
+
+    by_either : (b : Bool) (v : ℕ) → (b || (w == v)) ≡ true → (b ≡ true → v < w) → v < w + 1
+    by_either true v h f = (let x = f refl in omega (arith, x))
+    by_either false v h f = grind (arith, nat_tests, h)
+
+    below-next : (v : ℕ) → has v (λ m. true) (s.books.crew ++ started w w ∷ []) ≡ true → v < w + 1
+    below-next v h = by_either (has v (λ m. true) s.books.crew) v (sym (started-more s.books.crew w w v) ∙ h) (below v)
+
+pub starts : (settings : Settings) (slots : ℕ) (marks : ℕ → Marks) → settings.workers ≤ slots → IsFresh marks → Starts slots marks (first_starts settings) (all_moved (no_one settings) (first_starts settings))
+starts settings slots marks l f = starts-go slots settings.workers 0 (no_one settings) marks (λ v h. absurd (differ h)) (agrees-none settings marks f) (omega (arith, l))
+
+-- lines
+
+pub lines-join : (s : State) (xs ys : List Entry) → lines_from s (xs ++ ys) ≡ lines_from s xs ++ lines_from (all_moved s xs) ys
+lines-join s [] ys = refl
+lines-join s (x ∷ xs) ys = ap (λ (l : List ℕ). lines_of (reached s x) x ++ l) (lines-join (next s x) xs ys) ∙ sym (append_assoc (lines_of (reached s x) x) (lines_from (next s x) xs) (lines_from (all_moved (next s x) xs) ys))
+
+shows-more : (a b : List ℕ) (old mid new : Option Sunk) → ShowsSome a old mid → ShowsSome b mid new → ShowsSome (a ++ b) old new
+shows-more a b old mid new (inl x) (inl y) = inl (ap (λ (l : List ℕ). l ++ b) x.0 ∙ y.0, y.1 ∙ x.1)
+shows-more a b old mid new (inl x) (inr y) = inr (subst (λ (l : List ℕ). Printed (l ++ b) old new) (sym x.0) (subst (λ (o : Option Sunk). Printed b o new) x.1 y))
+shows-more a b old mid new (inr x) (inl y) = inr (subst (λ (l : List ℕ). Printed l old new) (sym (ap (λ (l : List ℕ). a ++ l) y.0 ∙ append-nil a)) (subst (λ (o : Option Sunk). Printed a old o) (sym y.1) x))
+shows-more a b old mid new (inr x) (inr y) = inr (printed_more a b old mid new x y)
+
+shows-part : (a b : List ℕ) (old mid new : Option Sunk) → ShowsSome a old mid → PrintedPart b mid new → PrintedPart (a ++ b) old new
+shows-part a b old mid new (inl x) p = subst (λ (l : List ℕ). PrintedPart (l ++ b) old new) (sym x.0) (subst (λ (o : Option Sunk). PrintedPart b o new) x.1 p)
+shows-part a b old mid new (inr x) p = printed_then_part a b old mid new x p
+
+end-more : (a b : List ℕ) (old mid new : Option Sunk) → Printed a old mid → ShowsEnd true b mid new → ShowsEnd true (a ++ b) old new
+end-more a b None mid new x y = y ∙ ap (option_map (λ s. with_close (with_flush (with_bytes b s)))) x
+end-more a b (Some s) mid new x y =
+    y ∙ ap (option_map (λ s. with_close (with_flush (with_bytes b s)))) x
+    ∙ ap (λ (l : List ℕ). Some (with_close (with_flush (record { bytes = l; flushed = s.flushed; closed = s.closed })))) (append_assoc s.bytes a b)
+
+shows-end : (a b : List ℕ) (old mid new : Option Sunk) → ShowsSome a old mid → ShowsEnd true b mid new → ShowsEnd true (a ++ b) old new
+shows-end a b old mid new (inl x) y = subst (λ (l : List ℕ). ShowsEnd true (l ++ b) old new) (sym x.0) (subst (λ (o : Option Sunk). ShowsEnd true b o new) x.1 y)
+shows-end a b old mid new (inr x) y = end-more a b old mid new x y
+
+-- one more
+
+pub taken-more : (settings : Settings) (given : List News) (n : News) → taken_of settings (given ++ n ∷ []) ≡ taken_with settings (taken_of settings given) n
+taken-more settings given n = fold-append (taken_with settings) [] given (n ∷ [])
+
+stands-more : (given : List News) (n : News) (s0 s1 : Seen) → s1.settings ≡ s0.settings → StandsFor (taken_with s0.settings (taken_of s0.settings given) n) s1 → StandsFor (taken_of s1.settings (given ++ n ∷ [])) s1
+stands-more given n s0 s1 same st = subst (λ (t : List News). StandsFor t s1) (sym (taken-more s0.settings given n) ∙ ap (λ (x : Settings). taken_of x (given ++ n ∷ [])) (sym same)) st
+
+module _ (given : List News) (n : News) (s0 s1 : Seen) (old mid new : Scene) (g : Going given s0 old mid) where
+  lines-more : (more : List Entry) → s1.settings ≡ s0.settings → s1.entries ≡ s0.entries ++ more → run_lines s1.settings s1.entries ≡ run_lines s0.settings s0.entries ++ lines_from (all_moved (no_one s0.settings) s0.entries) more
+  lines-more more same is = ap (λ (x : Settings). run_lines x s1.entries) same ∙ ap (run_lines s0.settings) is ∙ lines-join (no_one s0.settings) s0.entries more
+
+  pub going-next : TakesNews n None s0 s1 mid new → Going (given ++ n ∷ []) s1 old new
+  going-next t =
+      let more = t.told.0 in
+      let told = t.told.1 in
+      record {
+        stands = stands-more given n s0 s1 t.settings (t.stands (taken_of s0.settings given) g.stands);
+        gave = adds-more given (n ∷ []) old.given mid.given new.given g.gave t.gave;
+        performed = subst (λ (es : List Entry). Performs es old.starts new.starts old.calls new.calls) (sym told.entries) (performs-more s0.entries more _ _ _ _ _ _ g.performed told.performed);
+        agrees = told.agrees;
+        started = λ w. told.started w ∙ ap (λ (b : Bool). b || was_started w more) (g.started w) ∙ sym (list_any-append (is_start_of w) s0.entries more) ∙ ap (was_started w) (sym told.entries);
+        shows = subst (λ (l : List ℕ). ShowsSome l old.sunk new.sunk) (sym (lines-more more t.settings told.entries)) (shows-more (run_lines s0.settings s0.entries) _ old.sunk mid.sunk new.sunk g.shows told.shows);
+      }
+
+  -- the output failed at the lines of the news
+  module _ (proper : IsProper s0.settings []) (count : ℕ) (t : TakesNews n (Some count) s0 s1 mid new) where
+    abbrev more : List Entry
+    more = t.told.0
+
+    abbrev u : Untold n count (t.told.0) s0 s1 mid new
+    u = t.told.1
+
+    before-is : take count s1.entries ≡ s0.entries
+    before-is = ap (λ (k : ℕ). take k s1.entries) u.count_is ∙ ap (take (length s0.entries)) u.entries ∙ take-append_seam s0.entries more
+
+    left-is : drop count s1.entries ≡ more
+    left-is = ap (drop count) u.entries ∙ drop_at s0.entries more count (sym u.count_is)
+
+    taken-was : taken_of s1.settings (given ++ n ∷ []) ≡ taken_of s0.settings given ++ n ∷ []
+    taken-was =
+        ap (λ (x : Settings). taken_of x (given ++ n ∷ [])) t.settings ∙ taken-more s0.settings given n
+        ∙ ap (λ (b : Bool). if b then taken_of s0.settings given ++ n ∷ [] else taken_of s0.settings given)
+        (ap (λ (x : State). is_active n.worker x.books) (sym (state-is s0 (taken_of s0.settings given) proper g.stands)) ∙ u.active)
+
+    part : PrintedPart (run_lines s1.settings s1.entries) old.sunk new.sunk
+    part = subst (λ (l : List ℕ). PrintedPart l old.sunk new.sunk) (sym (lines-more more t.settings u.entries)) (shows-part (run_lines s0.settings s0.entries) _ old.sunk mid.sunk new.sunk g.shows u.shows)
+
+    pub going-stop : Stopped (given ++ n ∷ []) count s1 old new
+    going-stop = record {
+      stands = stands-more given n s0 s1 t.settings (t.stands (taken_of s0.settings given) g.stands);
+      gave = adds-more given (n ∷ []) old.given mid.given new.given g.gave t.gave;
+      is_done = inr (taken_of s0.settings given, n, taken-was, before-is ∙ g.stands.entries ∙ ap (λ (x : Settings). (run_of x (taken_of s0.settings given)).entries) (sym t.settings));
+      performed = subst (λ (es : List Entry). Performs es old.starts new.starts old.calls new.calls) (sym before-is)
+          (subst (λ (x : Option (List Entry)). Performs s0.entries old.starts x old.calls new.calls) (sym u.starts) (subst (λ (x : Option (List Entry)). Performs s0.entries old.starts mid.starts old.calls x) (sym u.calls) g.performed));
+      started = λ w. u.started w ∙ g.started w ∙ ap (was_started w) (sym before-is);
+      within = omega (arith, u.count_is, ap length u.entries, length-append s0.entries more);
+      kills = λ k. subst (λ (es : List Entry). all_possible k new.marks (kills_of_started (take count s1.entries) (es ++ ending true (state_of s1).books)) ≡ true) (sym left-is)
+          (u.kills (take count s1.entries) (λ w h. u.started w ∙ g.started w ∙ ap (was_started w) (sym before-is) ∙ h) k);
+      shows = printed_part_of_more (run_lines s1.settings s1.entries) (run_tail s1.settings s1.entries) old.sunk new.sunk part;
+    }
+
+-- the tail
+
+module _ (given : List News) (s : Seen) (old mid new : Scene) (g : Going given s old mid) (starts_same : new.starts ≡ mid.starts) (calls_same : new.calls ≡ mid.calls) (given_same : new.given ≡ mid.given) (marks_same : (w : ℕ) → new.marks w ≡ mid.marks w)
+    (j : Journal) (settings_are : j.settings ≡ s.settings) (entries_are : j.entries.items ≡ s.entries) where
+  tail-same : tail_text j ≡ run_tail s.settings s.entries
+  tail-same = tail-is j s.settings s.entries settings_are entries_are
+
+  performed-same : Performs s.entries old.starts new.starts old.calls new.calls
+  performed-same =
+      subst (λ (x : Option (List Entry)). Performs s.entries old.starts x old.calls new.calls) (sym starts_same)
+      (subst (λ (x : Option (List Entry)). Performs s.entries old.starts mid.starts old.calls x) (sym calls_same) g.performed)
+
+  pub finished : is_over (state_of s).books ≡ true → ShowsEnd true (tail_text j) mid.sunk new.sunk → Finished given s old new
+  finished over shown = record {
+    stands = g.stands;
+    gave = given_same ∙ g.gave;
+    performed = performed-same;
+    over = over;
+    shows = shows-end (run_lines s.settings s.entries) (run_tail s.settings s.entries) old.sunk mid.sunk new.sunk g.shows (subst (λ (l : List ℕ). ShowsEnd true l mid.sunk new.sunk) tail-same shown);
+  }
+
+  pub unfinished : IsProper s.settings [] → (count : ℕ) → count ≡ length s.entries → ShowsEnd false (tail_text j) mid.sunk new.sunk → Stopped given count s old new
+  unfinished proper count counted shown =
+      let all : take count s.entries ≡ s.entries = take_all count s.entries (omega (arith, counted)) in
+      record {
+        stands = g.stands;
+        gave = given_same ∙ g.gave;
+        is_done = inl (all ∙ g.stands.entries);
+        performed = subst (λ (es : List Entry). Performs es old.starts new.starts old.calls new.calls) (sym all) performed-same;
+        started = λ w. ap (λ (m : Marks). m.started) (marks_same w) ∙ g.started w ∙ ap (was_started w) (sym all);
+        within = omega (arith, counted);
+        kills = λ k. kills-go (take count s.entries) k k (drop count s.entries ++ ending true (state_of s).books) new.marks new.marks
+            (λ w h. ap (λ (m : Marks). m.started) (marks_same w) ∙ g.started w ∙ ap (was_started w) (sym all) ∙ h) (λ w h. h)
+            (subst (λ (es : List Entry). all_possible k new.marks (es ++ ending true (state_of s).books) ≡ true) (sym (drop_all count s.entries (omega (arith, counted))))
+            (ending-possible s.settings (taken_of s.settings given) k (state_of s).books new.marks proper (ap (λ (x : State). x.books) (state-is s (taken_of s.settings given) proper g.stands))
+            (subst (λ (f : ℕ → Marks). Agrees (state_of s).books f) (sym (fun_ext marks_same)) g.agrees)));
+        shows = shows-part (run_lines s.settings s.entries) (run_tail s.settings s.entries) old.sunk mid.sunk new.sunk g.shows (subst (λ (l : List ℕ). PrintedPart l mid.sunk new.sunk) tail-same shown);
+      }
+
+-- the beginning
+
+pub going-first : (s : Seen) (slots : ℕ) (old new : Scene) → s.settings.workers ≤ slots → StandsFor [] s → IsFresh old.marks → Performs s.entries old.starts new.starts old.calls new.calls
+    → ((w : ℕ) → new.marks w ≡ after_all s.entries old.marks w) → new.given ≡ old.given → new.sunk ≡ old.sunk → Going [] s old new
+going-first s slots old new l st fresh performed marks given sunk =
+    let b = starts s.settings slots old.marks l fresh in
+    let m : new.marks ≡ after_all (first_starts s.settings) old.marks = fun_ext marks ∙ ap (λ (es : List Entry). after_all es old.marks) st.entries in
+    record {
+      stands = st;
+      gave = subst (λ (x : Option (List News)). AddsAll [] old.given x) (sym given) (adds-none old.given);
+      performed = performed;
+      agrees = subst (λ (es : List Entry). Agrees (Rattle.xd_ledger.specs.State.state_at s.settings es).books new.marks) (sym st.entries) (subst (λ (f : ℕ → Marks). Agrees (begun s.settings).books f) (sym m)
+          (record { started = b.agrees.started; killed = b.agrees.killed; ended = b.agrees.ended; ready = b.agrees.ready }));
+      started = λ w. ap (λ (x : Marks). x.started) (marks w) ∙ started-by s.entries old.marks w ∙ ap (λ (x : Marks). x.started || was_started w s.entries) (fresh w);
+      shows = inl (ap (run_lines s.settings) st.entries ∙ first-lines s.settings, sunk);
+    }
+
+pub first-possible : (s : Seen) (slots : ℕ) (marks : ℕ → Marks) (es : List Entry) → s.settings.workers ≤ slots → StandsFor [] s → IsFresh marks → es ≡ s.entries → all_possible slots marks es ≡ true
+first-possible s slots marks es l st fresh is = ap (all_possible slots marks) (is ∙ st.entries) ∙ (starts s.settings slots marks l fresh).possible
+
+-- someone was started
+
+pub someone-first : (s : Seen) (old new : Scene) → IsProper s.settings [] → StandsFor [] s → Going [] s old new → (w : ℕ) × ((new.marks w).started ≡ true)
+someone-first s old new p st g = (0, g.started 0 ∙ ap (was_started 0) st.entries ∙ by_count s.settings.workers p.some_worker)
+  where
+    by_count : (k : ℕ) → Rattle.std.specs.Prelude.nat_le 1 k ≡ true → was_started 0 (starts_from 0 k) ≡ true
+    by_count zero h = absurd (differ h)
+    by_count (suc k) h = refl
+
+pub someone-still : (n : News) (s0 s1 : Seen) (mid new : Scene) → TakesNews n None s0 s1 mid new → (w : ℕ) × ((mid.marks w).started ≡ true) → (w : ℕ) × ((new.marks w).started ≡ true)
+someone-still n s0 s1 mid new t w = (w.0, t.told.1.started w.0 ∙ ap (λ (b : Bool). b || was_started w.0 (t.told.0)) w.1)
+
+-- what the last step of the loop comes to
+
+pub begins : (s : Seen) (slots : ℕ) (old new : Scene) (es : List Entry) → es ≡ s.entries → s.settings.workers ≤ slots → StandsFor [] s → IsFresh old.marks → Performs es old.starts new.starts old.calls new.calls
+    → ((w : ℕ) → new.marks w ≡ after_all es old.marks w) → new.given ≡ old.given → new.sunk ≡ old.sunk → Going [] s old new
+begins s slots old new es is l st fresh performed marks given sunk =
+    going-first s slots old new l st fresh (subst (λ (x : List Entry). Performs x old.starts new.starts old.calls new.calls) is performed) (λ w. marks w ∙ ap (λ (x : List Entry). after_all x old.marks w) is) given sunk
+
+pub over-ends : (given : List News) (s : Seen) (old mid new : Scene) (g : Going given s old mid) (starts_same : new.starts ≡ mid.starts) (calls_same : new.calls ≡ mid.calls) (given_same : new.given ≡ mid.given) (marks_same : (w : ℕ) → new.marks w ≡ mid.marks w)
+    (j : Journal) → j.settings ≡ s.settings → j.entries.items ≡ s.entries → is_over (state_of s).books ≡ true → IsProper s.settings [] → (stopped : Option ℕ) → EndsTail stopped j mid.sunk new.sunk → EndsRun stopped s old new
+over-ends given s old mid new g a b c d j e f over p None t = (given, finished given s old mid new g a b c d j e f over t)
+over-ends given s old mid new g a b c d j e f over p (Some count) t = (given, unfinished given s old mid new g a b c d j e f p count (t.0 ∙ ap length f) t.1)
+
+pub stop-by : (given : List News) (n : News) (s0 s1 : Seen) (old mid new : Scene) → Going given s0 old mid → IsProper s0.settings [] → (stopped : Option ℕ) (count : ℕ) → stopped ≡ Some count → TakesNews n stopped s0 s1 mid new → (all : List News) × Stopped all count s1 old new
+stop-by given n s0 s1 old mid new g p stopped count is t = (given ++ n ∷ [], going-stop given n s0 s1 old mid new g p count (subst (λ (o : Option ℕ). TakesNews n o s0 s1 mid new) is t))
+
+pub none-of : (o : Option ℕ) → ((x : ℕ) → o ≡ Some x → ⊥) → o ≡ None
+none-of None h = refl
+none-of (Some x) h = absurd (h x refl)
+
+pub takes-none : (n : News) (s0 s1 : Seen) (mid new : Scene) (stopped : Option ℕ) → ((x : ℕ) → stopped ≡ Some x → ⊥) → TakesNews n stopped s0 s1 mid new → TakesNews n None s0 s1 mid new
+takes-none n s0 s1 mid new stopped h t = subst (λ (o : Option ℕ). TakesNews n o s0 s1 mid new) (none-of stopped h) t

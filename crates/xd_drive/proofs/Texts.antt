@@ -1,0 +1,190 @@
+-- What stands at the end of a journal prints nothing.
+use Rattle.std.proofs.Common.{◌≡◌, ℕ, zero, suc, ◌+◌, ◌≤◌, List, [], ◌∷◌, ◌++◌, map, filter, Bool, true, false, Option, Some, None, refl, ◌∙◌, ap, arith}
+use Rattle.std.specs.Prelude.{◌==◌, if◌then◌else◌}
+use Rattle.std.specs.List.{list_all}
+use Rattle.std.proofs.lemmas.Bool.Decides.{nat_tests}
+use Rattle.xd_edge.specs.declared.mode.ModeKind.{ModeKind}
+use Rattle.xd_ledger.specs.declared.settings.Settings.{Settings}
+use Rattle.xd_ledger.specs.declared.member.Member.{Member}
+use Rattle.xd_ledger.specs.declared.journal.Journal.{Journal}
+use Rattle.xd_ledger.specs.declared.entry.RunStop.{RunStop}
+use Rattle.xd_ledger.specs.declared.entry.RunStop.TheVariants.{Completed, MaxFail, Restarts, Unequal, CollectError, OutFault}
+use Rattle.xd_ledger.specs.declared.entry.Entry.{Entry}
+use Rattle.xd_ledger.specs.declared.entry.Entry.TheVariants.{Ready, Collected, Done, Back, Finished, Refused, Down, NotStarted, Start, Run, RunAll, Steal, Shutdown, Kill, Over}
+use Rattle.xd_ledger.specs.Books.{Books}
+use Rattle.xd_ledger.specs.Sharing.{State}
+use Rattle.xd_ledger.specs.State.{all_moved, next, no_one, reached, settled, state_at}
+use Rattle.xd_ledger.specs.Workers.{started}
+use Rattle.xd_ledger.specs.Ending.{ending}
+use Rattle.xd_ledger.specs.Histories.{first_starts, starts_from}
+use Rattle.xd_report.specs.declared.counts.Counts.{Counts}
+use Rattle.xd_report.specs.Blocks.{block_of, blocks_from}
+use Rattle.xd_report.specs.Lines.{last_of_slot, lines_from, lines_of, replacing, run_lines}
+use Rattle.xd_report.specs.StopLine.{line_of_stop, refusal, stop_line}
+use Rattle.xd_report.specs.Summary.{counted, counted_from, counts, summary_text}
+use Rattle.xd_report.specs.Tests.{mode_of}
+use Rattle.xd_report.specs.Text.{run_tail, run_text, tail_text, text_of}
+use Rattle.xd_laws.proofs.Logic.{differ, split-and}
+
+pub text-is : (j : Journal) (x : Settings) (es : List Entry) → j.settings ≡ x → j.entries.items ≡ es → text_of j ≡ run_text x es
+text-is j x es a b = ap (λ (y : Settings). run_text y j.entries.items) a ∙ ap (run_text x) b
+
+pub tail-is : (j : Journal) (x : Settings) (es : List Entry) → j.settings ≡ x → j.entries.items ≡ es → tail_text j ≡ run_tail x es
+tail-is j x es a b = ap (λ (y : Settings). run_tail y j.entries.items) a ∙ ap (run_tail x) b
+
+-- a kill or the end
+
+abbrev pub silent : Entry → Bool
+silent (Kill w) = true
+silent (Over how) = true
+silent _ = false
+
+record Silent (s : State) (e : Entry) : Type 0 where
+  next_is : next s e ≡ s
+  lines_are : lines_of (reached s e) e ≡ []
+  block_is : block_of (reached s e) e ≡ []
+  counted_is : (n : Counts) → counted (reached s e) e n ≡ n
+  refusal_is : (w : ℕ) → refusal w (e ∷ []) ≡ []
+
+none-counted : (n : Counts) → (record n { failed = n.failed + 0 }) ≡ n
+none-counted n = (let same : n.failed + 0 ≡ n.failed = omega arith in ap (λ (k : ℕ). record n { failed = k }) same)
+
+silent-one : (s : State) (e : Entry) → silent e ≡ true → Silent s e
+silent-one s (Kill w) h = record { next_is = refl; lines_are = refl; block_is = refl; counted_is = none-counted; refusal_is = λ v. refl }
+silent-one s (Over how) h = record { next_is = refl; lines_are = refl; block_is = refl; counted_is = none-counted; refusal_is = λ v. refl }
+silent-one s (Ready w) h = absurd (differ h)
+silent-one s (Collected w g) h = absurd (differ h)
+silent-one s (Done w i u m o) h = absurd (differ h)
+silent-one s (Back w is) h = absurd (differ h)
+silent-one s (Finished w) h = absurd (differ h)
+silent-one s (Refused w x) h = absurd (differ h)
+silent-one s (Down w c o) h = absurd (differ h)
+silent-one s (NotStarted w) h = absurd (differ h)
+silent-one s (Start w slot) h = absurd (differ h)
+silent-one s (Run w is) h = absurd (differ h)
+silent-one s (RunAll w) h = absurd (differ h)
+silent-one s (Steal w is) h = absurd (differ h)
+silent-one s (Shutdown w) h = absurd (differ h)
+
+-- such entries alone
+
+moved-silent : (s : State) (ys : List Entry) → list_all silent ys ≡ true → all_moved s ys ≡ s
+moved-silent s [] h = refl
+moved-silent s (y ∷ ys) h = (let p = split-and (silent y) (list_all silent ys) h in ap (λ (u : State). all_moved u ys) (silent-one s y p.0).next_is ∙ moved-silent s ys p.1)
+
+lines-silent : (s : State) (ys : List Entry) → list_all silent ys ≡ true → lines_from s ys ≡ []
+lines-silent s [] h = refl
+lines-silent s (y ∷ ys) h = (let p = split-and (silent y) (list_all silent ys) h in let k = silent-one s y p.0 in ap (λ (l : List ℕ). l ++ lines_from (next s y) ys) k.lines_are ∙ ap (λ (u : State). lines_from u ys) k.next_is ∙ lines-silent s ys p.1)
+
+blocks-silent : (s : State) (ys : List Entry) → list_all silent ys ≡ true → blocks_from s ys ≡ []
+blocks-silent s [] h = refl
+blocks-silent s (y ∷ ys) h = (let p = split-and (silent y) (list_all silent ys) h in let k = silent-one s y p.0 in ap (λ (l : List ℕ). l ++ blocks_from (next s y) ys) k.block_is ∙ ap (λ (u : State). blocks_from u ys) k.next_is ∙ blocks-silent s ys p.1)
+
+counted-silent : (s : State) (ys : List Entry) (n : Counts) → list_all silent ys ≡ true → counted_from s ys n ≡ n
+counted-silent s [] n h = refl
+counted-silent s (y ∷ ys) n h = (let p = split-and (silent y) (list_all silent ys) h in let k = silent-one s y p.0 in ap (counted_from (next s y) ys) (k.counted_is n) ∙ ap (λ (u : State). counted_from u ys n) k.next_is ∙ counted-silent s ys n p.1)
+
+refusal-silent : (w : ℕ) (ys : List Entry) → list_all silent ys ≡ true → refusal w ys ≡ []
+refusal-silent w [] h = refl
+refusal-silent w (Kill v ∷ ys) h = refusal-silent w ys h
+refusal-silent w (Over how ∷ ys) h = refusal-silent w ys h
+refusal-silent w (Ready v ∷ ys) h = absurd (differ h)
+refusal-silent w (Collected v g ∷ ys) h = absurd (differ h)
+refusal-silent w (Done v i u m o ∷ ys) h = absurd (differ h)
+refusal-silent w (Back v is ∷ ys) h = absurd (differ h)
+refusal-silent w (Finished v ∷ ys) h = absurd (differ h)
+refusal-silent w (Refused v x ∷ ys) h = absurd (differ h)
+refusal-silent w (Down v c o ∷ ys) h = absurd (differ h)
+refusal-silent w (NotStarted v ∷ ys) h = absurd (differ h)
+refusal-silent w (Start v slot ∷ ys) h = absurd (differ h)
+refusal-silent w (Run v is ∷ ys) h = absurd (differ h)
+refusal-silent w (RunAll v ∷ ys) h = absurd (differ h)
+refusal-silent w (Steal v is ∷ ys) h = absurd (differ h)
+refusal-silent w (Shutdown v ∷ ys) h = absurd (differ h)
+
+-- behind others
+
+module _ (ys : List Entry) (h : list_all silent ys ≡ true) where
+  moved-behind : (s : State) (xs : List Entry) → all_moved s (xs ++ ys) ≡ all_moved s xs
+  moved-behind s [] = moved-silent s ys h
+  moved-behind s (x ∷ xs) = moved-behind (next s x) xs
+
+  lines-behind : (s : State) (xs : List Entry) → lines_from s (xs ++ ys) ≡ lines_from s xs
+  lines-behind s [] = lines-silent s ys h
+  lines-behind s (x ∷ xs) = ap (λ (l : List ℕ). lines_of (reached s x) x ++ l) (lines-behind (next s x) xs)
+
+  blocks-behind : (s : State) (xs : List Entry) → blocks_from s (xs ++ ys) ≡ blocks_from s xs
+  blocks-behind s [] = blocks-silent s ys h
+  blocks-behind s (x ∷ xs) = ap (λ (l : List ℕ). block_of (reached s x) x ++ l) (blocks-behind (next s x) xs)
+
+  counted-behind : (s : State) (xs : List Entry) (n : Counts) → counted_from s (xs ++ ys) n ≡ counted_from s xs n
+  counted-behind s [] n = counted-silent s ys n h
+  counted-behind s (x ∷ xs) n = counted-behind (next s x) xs (counted (reached s x) x n)
+
+  refusal-behind : (w : ℕ) (xs : List Entry) → refusal w (xs ++ ys) ≡ refusal w xs
+  refusal-behind w [] = refusal-silent w ys h
+  refusal-behind w (Refused v x ∷ xs) = ap (λ (l : List ℕ). if v == w then x else l) (refusal-behind w xs)
+  refusal-behind w (Kill v ∷ xs) = refusal-behind w xs
+  refusal-behind w (Over how ∷ xs) = refusal-behind w xs
+  refusal-behind w (Ready v ∷ xs) = refusal-behind w xs
+  refusal-behind w (Collected v g ∷ xs) = refusal-behind w xs
+  refusal-behind w (Done v i u m o ∷ xs) = refusal-behind w xs
+  refusal-behind w (Back v is ∷ xs) = refusal-behind w xs
+  refusal-behind w (Finished v ∷ xs) = refusal-behind w xs
+  refusal-behind w (Down v c o ∷ xs) = refusal-behind w xs
+  refusal-behind w (NotStarted v ∷ xs) = refusal-behind w xs
+  refusal-behind w (Start v slot ∷ xs) = refusal-behind w xs
+  refusal-behind w (Run v is ∷ xs) = refusal-behind w xs
+  refusal-behind w (RunAll v ∷ xs) = refusal-behind w xs
+  refusal-behind w (Steal v is ∷ xs) = refusal-behind w xs
+  refusal-behind w (Shutdown v ∷ xs) = refusal-behind w xs
+
+  stop-behind : (mode : ModeKind) (xs : List Entry) (how : Option RunStop) → line_of_stop mode (xs ++ ys) how ≡ line_of_stop mode xs how
+  stop-behind mode xs None = refl
+  stop-behind mode xs (Some Completed) = refl
+  stop-behind mode xs (Some (MaxFail count)) = refl
+  stop-behind mode xs (Some (Restarts w limit)) = refl
+  stop-behind mode xs (Some (Unequal w other place)) = refl
+  stop-behind mode xs (Some (CollectError w)) = ap (λ (l : List ℕ). Rattle.xd_report.specs.StopLine.refused_line mode w l) (refusal-behind w xs)
+  stop-behind mode xs (Some OutFault) = refl
+
+  pub text-behind : (x : Settings) (xs : List Entry) → run_text x (xs ++ ys) ≡ run_text x xs
+  text-behind x xs =
+      let lines = lines-behind (no_one x) xs in
+      let blocks = blocks-behind (no_one x) xs in
+      let state : state_at x (xs ++ ys) ≡ state_at x xs = ap settled (moved-behind (no_one x) xs) in
+      let stops : line_of_stop x.mode (xs ++ ys) (state_at x (xs ++ ys)).books.stop ≡ line_of_stop x.mode xs (state_at x xs).books.stop =
+      stop-behind x.mode xs (state_at x (xs ++ ys)).books.stop ∙ ap (λ (s : State). line_of_stop x.mode xs s.books.stop) state in
+      let sums : summary_text (counts x (xs ++ ys)) ≡ summary_text (counts x xs) = ap summary_text (counted-behind (no_one x) xs (record { failed = 0; passed = 0; skipped = 0 })) in
+      join lines blocks stops sums
+    where
+      join : {a a' b b' c c' d d' : List ℕ} → a ≡ a' → b ≡ b' → c ≡ c' → d ≡ d' → a ++ (b ++ (c ++ (d ++ 10 ∷ []))) ≡ a' ++ (b' ++ (c' ++ (d' ++ 10 ∷ [])))
+      join p q r s = cc
+
+-- the end of a journal
+
+silent-kills : (ws : List Member) (how : RunStop) → list_all silent (map (λ (m : Member). Kill m.worker) ws ++ Over how ∷ []) ≡ true
+silent-kills [] how = refl
+silent-kills (w ∷ ws) how = silent-kills ws how
+
+pub silent-ending : (failed : Bool) (b : Books) → list_all silent (ending failed b) ≡ true
+silent-ending true b = silent-kills (filter (λ (m : Member). m.active) b.crew) OutFault
+silent-ending false b = refl
+
+-- the first starts print nothing
+
+last-more : (v : ℕ) (ms : List Member) (m : Member) (found : Option ℕ) → last_of_slot v (ms ++ m ∷ []) found ≡ (if m.slot == v then Some m.worker else last_of_slot v ms found)
+last-more v [] m found = refl
+last-more v (x ∷ xs) m found = last-more v xs m (if x.slot == v then Some x.worker else found)
+
+starts-silent : (k w : ℕ) (s : State) → ((v : ℕ) → w ≤ v → last_of_slot v s.books.crew None ≡ None) → lines_from s (starts_from w k) ≡ []
+starts-silent zero w s f = refl
+starts-silent (suc k) w s f =
+    ap (λ (o : Option ℕ). replacing (mode_of s) o ++ lines_from (next s (Start w w)) (starts_from (w + 1) k)) (f w (omega arith))
+    ∙ starts-silent k (w + 1) (next s (Start w w)) (λ v l. last-more v s.books.crew (started w w) None ∙ ap (λ (b : Bool). if b then Some w else last_of_slot v s.books.crew None) (other v l) ∙ f v (omega (arith, l)))
+  where
+    other : (v : ℕ) → w + 1 ≤ v → (w == v) ≡ false
+    other v l = grind (arith, nat_tests)
+
+pub first-lines : (x : Settings) → run_lines x (first_starts x) ≡ []
+first-lines x = starts-silent x.workers 0 (no_one x) (λ v l. refl)

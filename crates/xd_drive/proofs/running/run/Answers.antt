@@ -1,0 +1,48 @@
+use Rattle.std.proofs.Common.{◌++◌, ◌∷◌, [], refl, sym, ◌∙◌, subst, arith}
+use Rattle.xd_ledger.specs.declared.settings.Settings.{Settings}
+use Rattle.xd_ledger.specs.Proper.{IsProper}
+use Rattle.xd_drive.proofs.Follow.{follows-same}
+use Rattle.xd_drive.proofs.Loop.{begins, first-possible, going-next, over-ends, someone-first, someone-still, stop-by, takes-none}
+use Rattle.xd_drive.proofs.running.run.Goals as goal
+
+pub perform-requires : goal.perform-requires
+perform-requires g c = first-possible c.args.session.now _ _ _ c.requires.slots c.requires.begins c.requires.fresh (c.deref.ensures.value ∙ c.journal.ensures.entries)
+
+pub loop-init : goal.loop-init
+loop-init g c =
+    let first = begins c.args.session.now (g.H.Hub.slots c.args.hub.now)
+    (record { marks = g.H.Hub.marks c.args.hub.now; starts = g.H.Hub.starts c.args.hub.now; calls = g.H.Hub.calls c.args.hub.now; given = g.H.Hub.given c.args.hub.now; sunk = g.O.Sink.sunk c.args.out.now })
+    (record { marks = g.H.Hub.marks c.perform.new.hub; starts = g.H.Hub.starts c.perform.new.hub; calls = g.H.Hub.calls c.perform.new.hub; given = g.H.Hub.given c.perform.new.hub; sunk = g.O.Sink.sunk c.args.out.now })
+    c.deref.result.now (c.deref.ensures.value ∙ c.journal.ensures.entries) c.requires.slots c.requires.begins c.requires.fresh c.in_ok-perform.ensures.performs c.in_ok-perform.ensures.marks c.in_ok-perform.ensures.given refl in
+    record {
+      going = ([], first);
+      settings = refl;
+      reports = follows-same _ _ _ _ _ c.journal-2.ensures.settings c.journal-2.ensures.entries c.in_ok-reporter.ensures;
+      slots = c.perform.ensures.slots;
+      someone = someone-first c.args.session.now _ _ c.requires.proper c.requires.begins first;
+      later = omega arith;
+    }
+
+pub returns-then-over-clause-ends : goal.returns-then-over-clause-ends
+returns-then-over-clause-ends g c =
+    over-ends c.loop.invariant.going.0 c.loop.session _ _ _ c.loop.invariant.going.1 refl refl refl (λ w. refl) c.journal-then-over.result.now c.journal-then-over.ensures.settings c.journal-then-over.ensures.entries
+    (sym c.over.ensures ∙ c.if-over.true) (subst (λ (x : Settings). IsProper x []) (sym c.loop.invariant.settings) c.requires.proper) c.in_ok-stopped.stopped c.in_ok-stopped.ensures.ends
+
+pub returns-in-Some-stopped-clause-ends : goal.returns-in-Some-stopped-clause-ends
+returns-in-Some-stopped-clause-ends g c =
+    let t = c.in_ok-stopped-2.ensures.takes in
+    stop-by c.loop.invariant.going.0 t.0 c.loop.session _ _ _ _ c.loop.invariant.going.1
+    (subst (λ (x : Settings). IsProper x []) (sym c.loop.invariant.settings) c.requires.proper) c.in_ok-stopped-2.stopped c.in-Some-stopped.count c.in-Some-stopped.is t.1
+
+pub loop-preserved : goal.loop-preserved
+loop-preserved g c =
+    let t = c.in_ok-stopped-2.ensures.takes in
+    let none = takes-none t.0 c.loop.session _ _ _ c.in_ok-stopped-2.stopped c.in_default.not-Some t.1 in
+    record {
+      going = (c.loop.invariant.going.0 ++ t.0 ∷ [], going-next c.loop.invariant.going.0 t.0 c.loop.session _ _ _ _ c.loop.invariant.going.1 none);
+      reports = c.in_ok-stopped-2.ensures.follows;
+      settings = none.settings ∙ c.loop.invariant.settings;
+      slots = c.take_news.ensures.slots ∙ c.loop.invariant.slots;
+      someone = someone-still t.0 c.loop.session _ _ _ none c.loop.invariant.someone;
+      later = omega (arith, c.loop.invariant.later, c.take_news.ensures.later);
+    }

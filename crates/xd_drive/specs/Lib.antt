@@ -1,0 +1,9 @@
+pub mod Agrees
+pub mod Calls
+pub mod Driven
+pub mod Going
+pub mod Listed
+pub mod Marks
+pub mod Performing
+pub mod Printing
+pub mod Taken

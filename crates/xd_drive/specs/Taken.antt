@@ -1,0 +1,14 @@
+-- Which of the news that a hub gives are taken.
+use Rattle.std.specs.Prelude.{List, [], ◌∷◌, ◌++◌, fold, if◌then◌else◌}
+use Rattle.xd_ledger.specs.declared.settings.Settings.{Settings}
+use Rattle.xd_ledger.specs.declared.news.News.{News}
+use Rattle.xd_ledger.specs.Workers.{is_active}
+use Rattle.xd_session.specs.History.{run_of}
+
+-- behind these news a further one is taken where its worker is active
+abbrev pub taken_with : Settings → List News → News → List News
+taken_with settings taken n = if is_active n.worker (run_of settings taken).state.books then taken ++ n ∷ [] else taken
+
+-- the news that are taken of those that were given
+abbrev pub taken_of : Settings → List News → List News
+taken_of settings given = fold (taken_with settings) [] given

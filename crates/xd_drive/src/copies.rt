@@ -1,0 +1,110 @@
+// Copies of news and orders.
+ghost use Rattle.std.specs.Prelude.{◌≡◌, IfOk, true};
+ghost use Rattle.xd_drive.specs.Calls.{is_order};
+
+use std::alloc::Global;
+use xd_edge::{Indices, OutOfMemory, Text, Texts};
+use xd_ledger::{Entry, News, What};
+
+fn copy_indices(alloc: Global, indices: &Indices) -> Result<Indices, OutOfMemory>
+    ensures { IfOk result (λ copy. copy ≡ indices.now) }
+{
+    let items = indices.items.as_slice().to_vec(alloc)?;
+    Ok(Indices { items })
+}
+
+fn copy_texts(alloc: Global, texts: &Texts) -> Result<Texts, OutOfMemory>
+    ensures { IfOk result (λ copy. copy ≡ texts.now) }
+{
+    let mut items = Vec::with_capacity(alloc, texts.items.len())?;
+    for text in &texts.items {
+        items.push(text.copy()?)?;
+    }
+    Ok(Texts { items })
+}
+
+fn copy_text(text: &Option<Text>) -> Result<Option<Text>, OutOfMemory>
+    ensures { IfOk result (λ copy. copy ≡ text.now) }
+{
+    match text {
+        Some(text) => {
+            let text = text.copy()?;
+            Ok(Some(text))
+        }
+        None => Ok(None),
+    }
+}
+
+fn copy_what(alloc: Global, what: &What) -> Result<What, OutOfMemory>
+    ensures { IfOk result (λ copy. copy ≡ what.now) }
+{
+    match what {
+        What::Ready => Ok(What::Ready),
+        What::Collected(ids) => {
+            let ids = copy_texts(alloc, ids)?;
+            Ok(What::Collected(ids))
+        }
+        What::LogStart { index, log } => Ok(What::LogStart {
+            index: *index,
+            log: *log,
+        }),
+        What::Piece { log, bytes } => {
+            let bytes = bytes.copy()?;
+            Ok(What::Piece { log: *log, bytes })
+        }
+        What::LogClosed { log } => Ok(What::LogClosed { log: *log }),
+        What::Done { index, outcome, ms } => Ok(What::Done {
+            index: *index,
+            outcome: *outcome,
+            ms: *ms,
+        }),
+        What::Back(indices) => {
+            let indices = copy_indices(alloc, indices)?;
+            Ok(What::Back(indices))
+        }
+        What::Finished => Ok(What::Finished),
+        What::Closed(text) => {
+            let text = copy_text(text)?;
+            Ok(What::Closed(text))
+        }
+        What::Stray => Ok(What::Stray),
+        What::Gone(cause) => Ok(What::Gone(*cause)),
+        What::NotStarted => Ok(What::NotStarted),
+    }
+}
+
+/// The same piece of news again.
+pub(crate) fn copy_news(alloc: Global, news: &News) -> Result<News, OutOfMemory>
+    ensures { IfOk result (λ copy. copy ≡ news.now) }
+{
+    let what = copy_what(alloc, &news.what)?;
+    Ok(News {
+        worker: news.worker,
+        what,
+    })
+}
+
+/// The same order again.
+pub(crate) fn copy_order(alloc: Global, worker: u32, order: &Entry) -> Result<Entry, OutOfMemory>
+    requires { is_order worker order.now ≡ true }
+    ensures { IfOk result (λ copy. copy ≡ order.now) }
+{
+    match order {
+        Entry::Run { worker, indices } => {
+            let indices = copy_indices(alloc, indices)?;
+            Ok(Entry::Run {
+                worker: *worker,
+                indices,
+            })
+        }
+        Entry::RunAll { worker } => Ok(Entry::RunAll { worker: *worker }),
+        Entry::Steal { worker, indices } => {
+            let indices = copy_indices(alloc, indices)?;
+            Ok(Entry::Steal {
+                worker: *worker,
+                indices,
+            })
+        }
+        _ => Ok(Entry::Shutdown { worker }),
+    }
+}

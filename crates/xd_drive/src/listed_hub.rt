@@ -1,0 +1,182 @@
+// A hub over lists.
+ghost use Rattle.std.specs.Prelude.{◌≡◌, ◌<◌, ◌≤◌, ◌+◌, ◌++◌, ◌∷◌, [], ℕ, Some, true, false, option_to_list, vec_len, vec_capacity, IfOk, IsNone, OnOk};
+ghost use Rattle.xd_ledger.specs.declared.entry.Entry.TheVariants.{Start, Kill};
+ghost use Rattle.xd_drive.specs.Calls.{is_order};
+ghost use Rattle.xd_drive.specs.Listed.{GivesListed, from_started, is_among, marks_by, others_of, starts_of, unkilled, was_killed};
+ghost use Rattle.xd_drive.specs.Marks.{may_tell};
+
+use crate::Hub;
+use crate::copies::{copy_news, copy_order};
+use std::alloc::Global;
+use std::collections::VecDeque;
+use std::sync::Wait;
+use xd_edge::{Indices, OutOfMemory};
+use xd_ledger::{Cause, Entry, News, What};
+
+/// A hub over lists, with 32 slots: it gives the news of its list in order. A piece of news of a worker that was not
+/// started is dropped when its turn comes. Where its list is empty the workers that were started are gone, in turn, again
+/// and again.
+#[derive(Drop)]
+pub struct ListedHub {
+    /// The news that are still to be given, the next one first.
+    pub news: VecDeque<News>,
+    /// Copies of the news that were given, in order.
+    pub given: Vec<News>,
+    /// The workers that were started, in order.
+    pub started: Indices,
+    /// The calls that were made, in order, each as its entry.
+    pub calls: Vec<Entry>,
+    /// The workers whose start gives NotStarted as the next news.
+    pub refused: Indices,
+    /// Whose turn it is to be gone, a place in `started`.
+    pub turn: usize,
+    ghost roomy: { vec_len calls + unkilled calls.items started ≤ vec_capacity calls },
+}
+
+impl ListedHub {
+    /// No worker was started yet.
+    pub fn new(alloc: Global, news: VecDeque<News>, refused: Indices) -> ListedHub
+        ensures news { result.news ≡ news }
+        ensures refused { result.refused ≡ refused }
+        ensures given { result.given.items ≡ [] }
+        ensures started { result.started ≡ [] }
+        ensures calls { result.calls.items ≡ [] }
+    {
+        ListedHub {
+            news,
+            given: Vec::new(alloc),
+            started: Indices {
+                items: Vec::new(alloc),
+            },
+            calls: Vec::new(alloc),
+            refused,
+            turn: 0,
+        }
+    }
+}
+
+fn is_among(worker: u32, workers: &[u32]) -> bool
+    ensures { result ≡ is_among worker workers.now }
+{
+    workers.iter().any(|&other| other == worker)
+}
+
+// The next piece of news in the list of a worker that was started; those before it are dropped.
+fn next_listed(news: &mut VecDeque<News>, started: &[u32]) -> Option<News>
+    ensures gives { from_started started.now news.old.items ≡ option_to_list result ++ news.new.items }
+    ensures spent { IsNone result → news.new.items ≡ [] }
+{
+    while let Some(next) = news.pop_front() {
+        if is_among(next.worker, started) {
+            return Some(next);
+        }
+    }
+    None
+}
+
+// Whose turn it is to be gone. The next turn is the next worker's.
+fn next_gone(started: &[u32], turn: &mut usize) -> u32
+    requires { (w : ℕ) × (is_among w started.now ≡ true) }
+    ensures { is_among result started.now ≡ true }
+{
+    let place = if *turn < started.len() { *turn } else { 0 };
+    *turn = place + 1;
+    started[place]
+}
+
+// The next piece of news of a worker that was started, or that one of them is gone.
+fn next_news(news: &mut VecDeque<News>, started: &[u32], turn: &mut usize) -> News
+    requires { (w : ℕ) × (is_among w started.now ≡ true) }
+    ensures started { is_among result.worker started.now ≡ true }
+    ensures listed { GivesListed started.now news.old.items result news.new.items }
+{
+    if let Some(next) = next_listed(news, started) {
+        return next;
+    }
+    let worker = next_gone(started, turn);
+    News {
+        worker,
+        what: What::Gone(Cause::Ended),
+    }
+}
+
+impl ListedHub {
+    // Where the start of the worker is to be refused, that is the next news.
+    fn refuse(&mut self, worker: u32) -> Result<(), OutOfMemory>
+        ensures { (self.new.given ≡ self.old.given) × (self.new.started ≡ self.old.started) × (self.new.calls ≡ self.old.calls) × (self.new.refused ≡ self.old.refused) }
+    {
+        if is_among(worker, &self.refused.items) {
+            self.news.push_front(News {
+                worker,
+                what: What::NotStarted,
+            })?;
+        }
+        Ok(())
+    }
+}
+
+impl Hub for ListedHub {
+    ghost slots = { λ h. 32 };
+
+    ghost marks = { λ h w. marks_by h.started h.calls.items h.given.items w };
+
+    ghost starts = { λ h. Some (starts_of h.calls.items) };
+
+    ghost calls = { λ h. Some (others_of h.calls.items) };
+
+    ghost given = { λ h. Some h.given.items };
+
+    fn start(&mut self, _alloc: Global, worker: u32, slot: u32) -> Result<(), OutOfMemory>
+        requires new { is_among worker self.old.started ≡ false }
+        requires slot { slot < 32 }
+        ensures started { OnOk result (self.new.started ≡ self.old.started ++ worker ∷ []) }
+        ensures called { OnOk result (self.new.calls.items ≡ self.old.calls.items ++ Start worker slot ∷ []) }
+        ensures given { OnOk result (self.new.given.items ≡ self.old.given.items) }
+        ensures refused { self.new.refused ≡ self.old.refused }
+    {
+        self.refuse(worker)?;
+        self.calls.reserve(self.started.items.len() + 2)?;
+        self.started.items.reserve(1)?;
+        self.calls.push_reserved(Entry::Start { worker, slot });
+        self.started.items.push_reserved(worker);
+        Ok(())
+    }
+
+    fn say(&mut self, alloc: Global, worker: u32, order: &Entry) -> Result<(), OutOfMemory>
+        requires order { is_order worker order.now ≡ true }
+        requires told { may_tell (marks_by self.old.started self.old.calls.items self.old.given.items worker) ≡ true }
+        ensures called { OnOk result (self.new.calls.items ≡ self.old.calls.items ++ order.now ∷ []) }
+        ensures started { OnOk result (self.new.started ≡ self.old.started) }
+        ensures given { OnOk result (self.new.given.items ≡ self.old.given.items) }
+        ensures refused { self.new.refused ≡ self.old.refused }
+    {
+        let order = copy_order(alloc, worker, order)?;
+        self.calls.reserve(self.started.items.len() + 1)?;
+        self.calls.push_reserved(order);
+        Ok(())
+    }
+
+    fn kill(&mut self, worker: u32)
+        requires started { is_among worker self.old.started ≡ true }
+        requires once { was_killed worker self.old.calls.items ≡ false }
+        ensures called { self.new.calls.items ≡ self.old.calls.items ++ Kill worker ∷ [] }
+        ensures started { self.new.started ≡ self.old.started }
+        ensures given { self.new.given.items ≡ self.old.given.items }
+        ensures refused { self.new.refused ≡ self.old.refused }
+    {
+        self.calls.push_reserved(Entry::Kill { worker });
+    }
+
+    fn next<R: Wait>(&mut self, _rt: &R, alloc: Global) -> Result<News, OutOfMemory>
+        requires someone { (w : ℕ) × (is_among w self.old.started ≡ true) }
+        ensures started { IfOk result (λ n. is_among n.worker self.old.started ≡ true) }
+        ensures given { IfOk result (λ n. self.new.given.items ≡ self.old.given.items ++ n ∷ []) }
+        ensures same { OnOk result ((self.new.started ≡ self.old.started) × (self.new.calls ≡ self.old.calls)) }
+        ensures refused { self.new.refused ≡ self.old.refused }
+        ensures listed { IfOk result (λ n. GivesListed self.old.started self.old.news.items n self.new.news.items) }
+    {
+        let news = next_news(&mut self.news, &self.started.items, &mut self.turn);
+        self.given.push(copy_news(alloc, &news)?)?;
+        Ok(news)
+    }
+}

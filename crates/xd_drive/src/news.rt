@@ -1,0 +1,131 @@
+// One piece of news.
+ghost use Rattle.std.specs.Prelude.{◌≡◌, ◌≤◌, ℕ, List, [], ◌∷◌, ◌++◌, length, take, true, false, Ok, Some, IfOk, IfSome, OnOk};
+ghost use Rattle.xd_edge.specs.Faults.{Rose};
+ghost use Rattle.xd_ledger.specs.declared.news.News.{News};
+ghost use Rattle.xd_ledger.specs.Proper.{IsProper};
+ghost use Rattle.xd_ledger.specs.State.{all_moved, no_one};
+ghost use Rattle.xd_ledger.specs.Workers.{is_active};
+ghost use Rattle.xd_report.specs.Follows.{Follows};
+ghost use Rattle.xd_report.specs.Lines.{lines_between, lines_from};
+ghost use Rattle.xd_session.specs.Stands.{StandsFor, state_of};
+ghost use Rattle.xd_drive.specs.Agrees.{Agrees};
+ghost use Rattle.xd_drive.specs.Going.{TakesNews, TellsEntries, added_by};
+ghost use Rattle.xd_drive.specs.Performing.{all_possible, between};
+
+use crate::Hub;
+use crate::perform::perform;
+use crate::printing::print_lines;
+use std::alloc::Global;
+use std::sync::Wait;
+use xd_edge::{OutOfMemory, Sink};
+use xd_ledger::{Journal, Mode, News};
+use xd_report::Reporter;
+use xd_session::Session;
+
+// Prints the lines of the entries from one place up to another, and performs them; false where the output failed, and
+// then nothing is performed.
+fn tell_entries<H: Hub, O: Sink>(
+    alloc: Global,
+    reporter: &mut Reporter,
+    journal: &Journal,
+    from: usize,
+    to: usize,
+    hub: &mut H,
+    out: &mut O,
+) -> Result<bool, OutOfMemory>
+    requires order { from ≤ to }
+    requires within { to ≤ length journal.now.entries.items }
+    requires follows { Follows reporter.old (all_moved (no_one journal.now.settings) (take from journal.now.entries.items)) }
+    requires possible { all_possible (H.slots hub.old) (H.marks hub.old) (between from to journal.now.entries.items) ≡ true }
+    ensures tells { IfOk result (λ shown. TellsEntries shown (between from to journal.now.entries.items) (lines_between journal.now from to)
+        (record { marks = H.marks hub.old; starts = H.starts hub.old; calls = H.calls hub.old; given = H.given hub.old; sunk = O.sunk out.old })
+        (record { marks = H.marks hub.new; starts = H.starts hub.new; calls = H.calls hub.new; given = H.given hub.new; sunk = O.sunk out.new })) }
+    ensures follows { OnOk result (Follows reporter.new (all_moved (no_one journal.now.settings) (take to journal.now.entries.items))) }
+    ensures slots { H.slots hub.new ≡ H.slots hub.old }
+    ensures later { O.faults out.old ≤ O.faults out.new }
+    ensures rose { result ≡ Ok false → Rose (O.faults out.old) (O.faults out.new) }
+{
+    let shown = print_lines(alloc, reporter, journal, from, to, out)?;
+    if !shown {
+        return Ok(false);
+    }
+    perform(alloc, hub, &journal.entries[from..to])?;
+    Ok(true)
+}
+
+/// How many entries the journal has.
+pub(crate) fn entry_count(journal: &Journal) -> usize
+    ensures { result ≡ length journal.now.entries.items }
+{
+    journal.entries.len()
+}
+
+// Takes a piece of news of an active worker, prints the lines of what it adds to the journal, and performs that; false
+// where the output failed, and then nothing is performed.
+fn tell_news<M: Mode, H: Hub, O: Sink>(
+    alloc: Global,
+    session: &mut Session<M>,
+    reporter: &mut Reporter,
+    news: News,
+    hub: &mut H,
+    out: &mut O,
+) -> Result<bool, OutOfMemory>
+    requires stands { (taken : List News) × StandsFor taken session.old }
+    requires follows { Follows reporter.old (all_moved (no_one session.old.settings) session.old.entries) }
+    requires active { is_active news.worker (state_of session.old).books ≡ true }
+    requires possible { (taken : List News) → StandsFor taken session.old → all_possible (H.slots hub.old) (H.marks hub.old) (added_by session.old.settings taken news) ≡ true }
+    ensures stands { OnOk result ((taken : List News) → StandsFor taken session.old → StandsFor (taken ++ news ∷ []) session.new) }
+    ensures settings { session.new.settings ≡ session.old.settings }
+    ensures tells { IfOk result (λ shown. (taken : List News) → StandsFor taken session.old → TellsEntries shown (added_by session.old.settings taken news) (lines_from (all_moved (no_one session.old.settings) session.old.entries) (added_by session.old.settings taken news))
+        (record { marks = H.marks hub.old; starts = H.starts hub.old; calls = H.calls hub.old; given = H.given hub.old; sunk = O.sunk out.old })
+        (record { marks = H.marks hub.new; starts = H.starts hub.new; calls = H.calls hub.new; given = H.given hub.new; sunk = O.sunk out.new })) }
+    ensures follows { OnOk result (Follows reporter.new (all_moved (no_one session.new.settings) session.new.entries)) }
+    ensures slots { H.slots hub.new ≡ H.slots hub.old }
+    ensures later { O.faults out.old ≤ O.faults out.new }
+    ensures rose { result ≡ Ok false → Rose (O.faults out.old) (O.faults out.new) }
+{
+    let step = session.step(alloc, news)?;
+    let shown = tell_entries(
+        alloc,
+        reporter,
+        session.journal(),
+        step.from,
+        step.to,
+        hub,
+        out,
+    )?;
+    Ok(shown)
+}
+
+/// Takes the next piece of news, where its worker is active: prints the lines of what it adds to the journal, and
+/// performs the outputs. Where the output failed nothing is performed; gives how many entries stood before.
+pub(crate) fn take_news<R: Wait, M: Mode, H: Hub, O: Sink>(
+    rt: &R,
+    alloc: Global,
+    session: &mut Session<M>,
+    reporter: &mut Reporter,
+    hub: &mut H,
+    out: &mut O,
+) -> Result<Option<usize>, OutOfMemory>
+    requires proper { IsProper session.old.settings [] }
+    requires stands { (taken : List News) × StandsFor taken session.old }
+    requires follows { Follows reporter.old (all_moved (no_one session.old.settings) session.old.entries) }
+    requires slots { session.old.settings.workers ≤ H.slots hub.old }
+    requires agrees { Agrees (state_of session.old).books (H.marks hub.old) }
+    requires someone { (w : ℕ) × ((H.marks hub.old w).started ≡ true) }
+    ensures takes { IfOk result (λ stopped. (n : News) × TakesNews n stopped session.old session.new
+        (record { marks = H.marks hub.old; starts = H.starts hub.old; calls = H.calls hub.old; given = H.given hub.old; sunk = O.sunk out.old })
+        (record { marks = H.marks hub.new; starts = H.starts hub.new; calls = H.calls hub.new; given = H.given hub.new; sunk = O.sunk out.new })) }
+    ensures follows { OnOk result (Follows reporter.new (all_moved (no_one session.new.settings) session.new.entries)) }
+    ensures slots { H.slots hub.new ≡ H.slots hub.old }
+    ensures later { O.faults out.old ≤ O.faults out.new }
+    ensures rose { IfOk result (λ stopped. IfSome stopped (λ count. Rose (O.faults out.old) (O.faults out.new))) }
+{
+    let news = hub.next(rt, alloc)?;
+    if !session.is_active(news.worker) {
+        return Ok(None);
+    }
+    let before = entry_count(session.journal());
+    let shown = tell_news(alloc, session, reporter, news, hub, out)?;
+    if shown { Ok(None) } else { Ok(Some(before)) }
+}

@@ -1,0 +1,76 @@
+// What is printed of a run.
+ghost use Rattle.std.specs.Prelude.{◌≡◌, ◌≤◌, length, take, false, Ok, IfOk, OnOk};
+ghost use Rattle.xd_edge.specs.Faults.{Rose};
+ghost use Rattle.xd_ledger.specs.State.{all_moved, no_one};
+ghost use Rattle.xd_report.specs.Follows.{Follows};
+ghost use Rattle.xd_report.specs.Lines.{lines_between};
+ghost use Rattle.xd_report.specs.Text.{tail_text};
+ghost use Rattle.xd_drive.specs.Printing.{Shows, ShowsEnd};
+
+use std::alloc::Global;
+use xd_edge::{OutOfMemory, Sink, print};
+use xd_ledger::Journal;
+use xd_report::{Reporter, tail};
+
+/// A reporter that went over the journal so far.
+pub(crate) fn reporter_of(alloc: Global, journal: &Journal) -> Result<Reporter, OutOfMemory>
+    ensures { IfOk result (λ r. Follows r (all_moved (no_one journal.now.settings) journal.now.entries.items)) }
+{
+    let mut reporter = Reporter::new(alloc, journal.settings);
+    reporter.follow(alloc, &journal.entries)?;
+    Ok(reporter)
+}
+
+/// Prints the lines of the entries from one place up to another, with a reporter that went over those before; false where
+/// the output failed.
+pub(crate) fn print_lines<O: Sink>(
+    alloc: Global,
+    reporter: &mut Reporter,
+    journal: &Journal,
+    from: usize,
+    to: usize,
+    out: &mut O,
+) -> Result<bool, OutOfMemory>
+    requires order { from ≤ to }
+    requires within { to ≤ length journal.now.entries.items }
+    requires follows { Follows reporter.old (all_moved (no_one journal.now.settings) (take from journal.now.entries.items)) }
+    ensures shows { IfOk result (λ shown. Shows shown (lines_between journal.now from to) (O.sunk out.old) (O.sunk out.new)) }
+    ensures follows { OnOk result (Follows reporter.new (all_moved (no_one journal.now.settings) (take to journal.now.entries.items))) }
+    ensures later { O.faults out.old ≤ O.faults out.new }
+    ensures rose { result ≡ Ok false → Rose (O.faults out.old) (O.faults out.new) }
+{
+    let lines = reporter.lines(alloc, &journal.entries[from..to])?;
+    match print(out, lines.as_slice()) {
+        Ok(()) => Ok(true),
+        Err(_) => Ok(false),
+    }
+}
+
+/// Prints the tail, and closes the output; false where the output failed.
+pub(crate) fn print_tail<O: Sink>(
+    alloc: Global,
+    journal: &Journal,
+    out: &mut O,
+) -> Result<bool, OutOfMemory>
+    ensures shows { IfOk result (λ shown. ShowsEnd shown (tail_text journal.now) (O.sunk out.old) (O.sunk out.new)) }
+    ensures later { O.faults out.old ≤ O.faults out.new }
+    ensures rose { result ≡ Ok false → Rose (O.faults out.old) (O.faults out.new) }
+{
+    let tail = tail(alloc, journal)?;
+    Ok(print_and_close(out, tail.as_slice()))
+}
+
+// Prints the bytes and closes the output; false where it failed.
+fn print_and_close<O: Sink>(out: &mut O, bytes: &[u8]) -> bool
+    ensures shows { ShowsEnd result bytes.now (O.sunk out.old) (O.sunk out.new) }
+    ensures later { O.faults out.old ≤ O.faults out.new }
+    ensures rose { result ≡ false → Rose (O.faults out.old) (O.faults out.new) }
+{
+    if let Err(_) = print(out, bytes) {
+        return false;
+    }
+    match out.close() {
+        Ok(()) => true,
+        Err(_) => false,
+    }
+}

@@ -1,0 +1,107 @@
+// The loop that runs a session over a hub.
+ghost use Rattle.std.specs.Prelude.{◌≡◌, ◌≤◌, ℕ, Option, [], IfOk, IfSome, OnOk};
+ghost use Rattle.xd_edge.specs.Faults.{Rose};
+ghost use Rattle.xd_ledger.specs.Legal.{IsLegal};
+ghost use Rattle.xd_ledger.specs.Proper.{IsProper};
+ghost use Rattle.xd_session.specs.Stands.{StandsFor};
+ghost use Rattle.xd_drive.specs.Driven.{Drives};
+ghost use Rattle.xd_drive.specs.Going.{EndsRun, EndsTail, IsFresh};
+
+use crate::Hub;
+use crate::news::{entry_count, take_news};
+use crate::perform::{kill_started, perform};
+use crate::printing::{print_tail, reporter_of};
+use std::alloc::Global;
+use std::sync::Wait;
+use xd_edge::{OutOfMemory, Sink};
+use xd_ledger::{Journal, Mode};
+use xd_session::Session;
+
+// Prints the tail and closes the output. Where it failed, how many entries had been performed.
+fn finish<O: Sink>(
+    alloc: Global,
+    journal: &Journal,
+    out: &mut O,
+) -> Result<Option<usize>, OutOfMemory>
+    ensures ends { IfOk result (λ stopped. EndsTail stopped journal.now (O.sunk out.old) (O.sunk out.new)) }
+    ensures later { O.faults out.old ≤ O.faults out.new }
+    ensures rose { IfOk result (λ stopped. IfSome stopped (λ count. Rose (O.faults out.old) (O.faults out.new))) }
+{
+    let shown = print_tail(alloc, journal, out)?;
+    if shown {
+        Ok(None)
+    } else {
+        Ok(Some(entry_count(journal)))
+    }
+}
+
+// Performs the first starts, takes news until the run is over, and prints the tail. Where the output failed, how many
+// entries had been performed.
+fn run<R: Wait, M: Mode, H: Hub, O: Sink>(
+    rt: &R,
+    alloc: Global,
+    session: &mut Session<M>,
+    hub: &mut H,
+    out: &mut O,
+) -> Result<Option<usize>, OutOfMemory>
+    requires proper { IsProper session.old.settings [] }
+    requires begins { StandsFor [] session.old }
+    requires slots { session.old.settings.workers ≤ H.slots hub.old }
+    requires fresh { IsFresh (H.marks hub.old) }
+    ensures ends { IfOk result (λ stopped. EndsRun stopped session.new
+        (record { marks = H.marks hub.old; starts = H.starts hub.old; calls = H.calls hub.old; given = H.given hub.old; sunk = O.sunk out.old })
+        (record { marks = H.marks hub.new; starts = H.starts hub.new; calls = H.calls hub.new; given = H.given hub.new; sunk = O.sunk out.new })) }
+    ensures settings { OnOk result (session.new.settings ≡ session.old.settings) }
+    ensures later { O.faults out.old ≤ O.faults out.new }
+    ensures rose { IfOk result (λ stopped. IfSome stopped (λ count. Rose (O.faults out.old) (O.faults out.new))) }
+{
+    perform(alloc, hub, &session.journal().entries)?;
+    let mut reporter = reporter_of(alloc, session.journal())?;
+    for _ in rt.forever() {
+        if session.over() {
+            let stopped = finish(alloc, session.journal(), out)?;
+            return Ok(stopped);
+        }
+        let stopped = take_news(rt, alloc, session, &mut reporter, hub, out)?;
+        if let Some(count) = stopped {
+            return Ok(Some(count));
+        }
+    }
+    unreachable!()
+}
+
+/// Runs a session to its end: starts its workers, steps it with the news of active workers, performs what its journal asks
+/// for, and prints the lines of each entry before the entry is performed, then the tail. Gives the journal with its end.
+/// Where the output failed nothing more is performed but the kills of the workers that were started.
+pub fn drive<R: Wait, M: Mode, H: Hub, O: Sink>(
+    rt: &R,
+    alloc: Global,
+    mut session: Session<M>,
+    hub: &mut H,
+    out: &mut O,
+) -> Result<Journal, OutOfMemory>
+    requires proper { IsProper session.settings [] }
+    requires begins { StandsFor [] session }
+    requires slots { session.settings.workers ≤ H.slots hub.old }
+    requires fresh { IsFresh (H.marks hub.old) }
+    ensures settings { IfOk result (λ j. j.settings ≡ session.settings) }
+    ensures drives { IfOk result (λ j. (stopped : Option ℕ) × (Drives stopped j
+        (record { marks = H.marks hub.old; starts = H.starts hub.old; calls = H.calls hub.old; given = H.given hub.old; sunk = O.sunk out.old })
+        (record { marks = H.marks hub.new; starts = H.starts hub.new; calls = H.calls hub.new; given = H.given hub.new; sunk = O.sunk out.new })) × (IfSome stopped (λ count. Rose (O.faults out.old) (O.faults out.new)))) }
+    ensures legal { IfOk result IsLegal }
+    ensures later { O.faults out.old ≤ O.faults out.new }
+{
+    let stopped = run(rt, alloc, &mut session, hub, out)?;
+    let Some(done) = stopped else {
+        let journal = session.close(false)?;
+        return Ok(journal);
+    };
+    let journal = session.close(true)?;
+    kill_started(
+        alloc,
+        hub,
+        &journal.entries[..done],
+        &journal.entries[done..],
+    )?;
+    Ok(journal)
+}
