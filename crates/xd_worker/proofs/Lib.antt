@@ -3,3 +3,5 @@ pub mod Tables
 pub mod Standing
 pub mod Hearing
 pub mod Known
+pub mod Logs
+pub mod Opens

@@ -13,7 +13,7 @@ mod worker;
 
 pub use function::{CallFault, Called, Function, read_call};
 pub use input::{WorkerActions, WorkerFault, WorkerInput};
-pub use laws::a_test_is_of_the_suite;
+pub use laws::{a_test_is_of_the_suite, each_log_opens};
 pub use runner::{Fed, Runner};
 pub use status::status_value;
 pub use talk::Sent;
