@@ -1,30 +1,24 @@
 -- One log at a time is in the table, and each can open.
-use Rattle.std.proofs.Common.{◌≡◌, ℕ, ◌+◌, ◌*◌, ◌<◌, ◌≤◌, List, [], ◌∷◌, ◌++◌, length, Bool, true, false, ◌&&◌, ◌||◌, Option, Some, None, refl, sym, ap, subst, ◌∙◌, arith, eq-eqb, eqb-true, ltb-true, Less}
-use Rattle.std.specs.Prelude.{◌==◌, ◌-◌, ◌%◌, not, nat_lt, is_none, is_some, if◌then◌else◌, codes}
+use Rattle.std.proofs.Common.{◌≡◌, ℕ, ◌+◌, ◌≤◌, List, [], ◌∷◌, length, Bool, true, false, ◌&&◌, ◌||◌, Option, Some, None, refl, sym, ap, subst, ◌∙◌, arith, eq-eqb, eqb-true, Less}
+use Rattle.std.specs.Prelude.{◌==◌, ◌%◌, not, is_none, if◌then◌else◌}
 use Rattle.std.specs.Ordering.{nat_cmp}
 use Rattle.std.specs.List.Sorted.{IsStrictlySortedBy}
 use Rattle.std.specs.List.{AllByRecursion}
 use Rattle.std.proofs.lemmas.Map.Keys.{sorted_head, sorted_tail}
 use Rattle.std.proofs.lemmas.Bool.Decides.{nat_tests}
-use Rattle.std.proofs.lemmas.Grind.{common_steps}
-use Rattle.xd_value.specs.Tree.{Tree, bytes}
-use Rattle.xd_channel.specs.State.{EndState, fresh, after_arrive, after_put, after_peer_close, is_done, end_of, arrive_gives, put_gives}
+use Rattle.xd_value.specs.Tree.{Tree}
+use Rattle.xd_channel.specs.State.{EndState, fresh, after_put, end_of}
 use Rattle.xd_channel.specs.declared.end.End.{End}
 use Rattle.xd_channel.specs.declared.end.End.TheVariants.{LastMessage, Lost}
-use Rattle.xd_channel.specs.declared.answers.Arrived.{Arrived}
-use Rattle.xd_channel.specs.declared.answers.Arrived.TheVariants as arrived
 use Rattle.xd_factory.specs.declared.parity.Parity.{Parity}
 use Rattle.xd_factory.specs.declared.parity.Parity.TheVariants.{Even}
-use Rattle.xd_factory.specs.declared.taken.Taken.{Taken}
-use Rattle.xd_factory.specs.declared.taken.Taken.TheVariants as taken
 use Rattle.xd_factory.specs.Numbers.{is_mine, is_in}
 use Rattle.xd_factory.specs.Said.{Said, Status, Exec, Data, Close, Last, Terminate, names_of}
-use Rattle.xd_factory.specs.Slot.{Slot, Unseen, Here, Gone, is_here, is_new, named_slot, item_slot, item_gives, peer_closed_slot, peer_last_slot, lost_slot, settled, function_ended_slot, hooked_slot}
-use Rattle.xd_factory.specs.Table.{named_in, told_slot, heard_slot, arrived_answer, ended_answer, handed_answer, end_answer, answer_of}
+use Rattle.xd_factory.specs.Slot.{Slot, Unseen, Here, Gone, is_here, item_slot, peer_closed_slot, peer_last_slot, lost_slot, settled, function_ended_slot}
+use Rattle.xd_factory.specs.Table.{named_in, told_slot}
 use Rattle.xd_run_tests.specs.Line.{log_of}
-use Rattle.xd_run_tests.specs.Logs.{Logs}
 use Rattle.xd_run_tests.proofs.Once.{and_last}
-use Rattle.xd_worker.specs.Table.{Table, Counts, changed_at, opened, heard, answer, lost, empty}
+use Rattle.xd_worker.specs.Table.{Table, Counts, changed_at, opened, heard, lost}
 
 -- ---- numbers that are in a list once
 

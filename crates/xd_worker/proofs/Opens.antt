@@ -1,11 +1,11 @@
 -- Each log of a turn can open.
-use Rattle.std.proofs.Common.{◌≡◌, ℕ, ◌+◌, ◌*◌, ◌<◌, ◌≤◌, List, [], ◌∷◌, ◌++◌, length, Bool, true, false, ◌&&◌, Option, Some, None, refl, sym, ap, subst, ◌∙◌, arith, ltb-true, eq-eqb, eqb-true}
-use Rattle.std.specs.Prelude.{◌==◌, ◌-◌, not, nat_lt, is_none, is_some, if◌then◌else◌, codes, unwrap_or}
+use Rattle.std.proofs.Common.{◌≡◌, ℕ, ◌+◌, ◌<◌, ◌≤◌, List, [], ◌∷◌, ◌++◌, Bool, true, false, Option, Some, None, refl, sym, ap, subst, ◌∙◌, arith, ltb-true, eq-eqb, eqb-true}
+use Rattle.std.specs.Prelude.{◌==◌, ◌-◌, nat_lt, is_some, if◌then◌else◌, codes}
 use Rattle.xd_value.specs.Tree.{Tree, Trees, Pairs}
 use Rattle.xd_value.specs.Tree as tree
 use Rattle.xd_gateway.specs.Calls.{has_text_keys}
 use Rattle.xd_edge.specs.declared.mode.ModeKind.{ModeKind}
-use Rattle.xd_channel.specs.State.{EndState, fresh, end_of, arrive_gives, put_gives}
+use Rattle.xd_channel.specs.State.{fresh, end_of, put_gives}
 use Rattle.xd_channel.specs.declared.end.End.{End}
 use Rattle.xd_channel.specs.declared.end.End.TheVariants.{LastMessage}
 use Rattle.xd_channel.specs.declared.answers.Arrived.{Arrived}
@@ -17,8 +17,7 @@ use Rattle.xd_factory.specs.declared.taken.Taken.TheVariants as taken
 use Rattle.xd_factory.specs.Numbers.{is_mine}
 use Rattle.xd_factory.specs.Said.{Said, Status, Exec, Data, Close, Last, Terminate}
 use Rattle.xd_factory.specs.Slot.{Slot, Unseen, Here, Gone, is_here, is_new, named_slot, item_gives, function_ended_slot, hooked_slot}
-use Rattle.xd_factory.specs.Table.{arrived_answer, ended_answer, handed_answer, end_answer, answer_of}
-use Rattle.xd_suite.specs.declared.test.Test.{Test}
+use Rattle.xd_factory.specs.Table.{arrived_answer, ended_answer, handed_answer, end_answer}
 use Rattle.xd_ledger.specs.declared.news.What.{What}
 use Rattle.xd_ledger.specs.declared.news.What.TheVariants as what
 use Rattle.xd_gateway.specs.Orders.{tree_order}
@@ -28,12 +27,11 @@ use Rattle.xd_run_tests.specs.declared.ask.Ask.TheVariants.{Tell, Piece, CloseLo
 use Rattle.xd_run_tests.specs.declared.ask.Ask.TheVariants as ask
 use Rattle.xd_run_tests.specs.declared.input.Input.{Input}
 use Rattle.xd_run_tests.specs.declared.input.Input.TheVariants as input
-use Rattle.xd_run_tests.specs.declared.phase.Phase.{Phase}
 use Rattle.xd_run_tests.specs.declared.phase.Phase.TheVariants.{Stopped}
 use Rattle.xd_run_tests.specs.Line.{Call, log_of, running_test}
 use Rattle.xd_run_tests.specs.History.{Given, call_after, turn_after}
 use Rattle.xd_run_tests.specs.Logs.{Logs, begun, logs_of, LogStep, LogSteps}
-use Rattle.xd_run_tests.proofs.Logs.{one_log, does_run, is_stopped, stops, goes}
+use Rattle.xd_run_tests.proofs.Logs.{one_log, is_stopped, stops, goes}
 use Rattle.xd_worker.specs.declared.function.Called.{Called}
 use Rattle.xd_worker.specs.declared.function.Called.TheVariants.{Runs, Refused}
 use Rattle.xd_worker.specs.declared.function.Function.TheVariants as function
@@ -44,11 +42,11 @@ use Rattle.xd_worker.specs.declared.function.Name.{Name}
 use Rattle.xd_worker.specs.declared.function.Name.TheVariants as name
 use Rattle.xd_worker.specs.Functions.{called_in, call_of, is_plain, named, name_of, with_value, with_kwargs, function_of}
 use Rattle.xd_worker.specs.Table.{Table, Counts, empty, changed_at, opened, heard, answer, lost}
-use Rattle.xd_worker.specs.Talk.{Talk, told, told_tree, opening, sent_how, payload_on, function_begun}
-use Rattle.xd_worker.specs.Worker.{Service, Duties, Turn, Opening, turn_of, behind, running_in, opened_by}
+use Rattle.xd_worker.specs.Talk.{Talk, told_tree, sent_how, payload_on, function_begun}
+use Rattle.xd_worker.specs.Worker.{Service, Duties, Turn, Opening, turn_of, behind, running_in}
 use Rattle.xd_worker.specs.Turns.{Came, Told, SuiteRead, NoSuite, Printed, ChildEnded, LinkEnded, at_talk, ended_call, asked, all_asked, others, given_in, fed_to, fed, tests_begun, called, is_called, echo_ended, echoed, echoed_how, is_service, stopped, did, did_unless, suite_input, ids_of, suite_read, suite_refused, turned}
 use Rattle.xd_worker.specs.History.{Heard, worker_after, turn_by, table_behind}
-use Rattle.xd_worker.specs.Logs.{CanOpen, AllOpen, LogsOpen, LogLaw}
+use Rattle.xd_worker.specs.Logs.{CanOpen, AllOpen, LogLaw}
 use Rattle.xd_worker.proofs.Logs.{Plain, Evens, heard_evens, lost_evens, odd_evens, open_evens, close_evens, ended_here, Short, counted_short, counted_once, ended_short, close_short}
 
 -- ---- what `run_tests` asks for

@@ -39,6 +39,7 @@ impl WorkerCore {
     ghost use Rattle.xd_worker.specs.Worker.{Service, Worker, Turn, turn_of, running_in};
     ghost use Rattle.xd_worker.specs.Turns.{asked, all_asked, ended_service, fed, stopped};
     ghost use Rattle.xd_worker.specs.History.{Heard, worker_after, IsToRefuse};
+    ghost use Rattle.xd_worker.specs.Logs.{AllOpen, LogsOpen};
     ghost use Rattle.xd_worker.specs.Stands.{AreServices, HasTest, Stands, StandsFor, IsWorker, Does, Answers, IsFault, IsRefusal, fault_in};
 
     /// A worker to which nothing has come yet.
@@ -79,7 +80,7 @@ impl WorkerCore {
     }
 
     fn answer(&mut self, input: WorkerInput) -> Result<WorkerActions, WorkerFault>
-        ensures answers { (w : Worker) → IsWorker self.old w → IfOk result (Answers self.new w input) }
+        ensures answers { (w : Worker) → IsWorker self.old w → LogsOpen w → IfOk result (Answers self.new w input) }
         ensures refused { (w : Worker) → IsWorker self.old w → IfErr result (IsFault w input) }
         ensures refuses { (w : Worker) (fault : SideFault) → IsWorker self.old w → IsToRefuse w input fault → IsRefusal fault result }
     {
@@ -100,7 +101,7 @@ impl WorkerCore {
     }
 
     fn take(&mut self, acts: &mut WorkerActions, input: WorkerInput) -> Result<(), WorkerFault>
-        ensures does { (w : Worker) → Stands self.old acts.old (turn_of w) → OnOk result (Does self.new acts.new w input) }
+        ensures does { (w : Worker) → Stands self.old acts.old (turn_of w) → LogsOpen w → OnOk result (Does self.new acts.new w input) }
         ensures refused { (w : Worker) → Stands self.old acts.old (turn_of w) → IfErr result (IsFault w input) }
         ensures refuses { (w : Worker) (fault : SideFault) → Stands self.old acts.old (turn_of w) → IsToRefuse w input fault → IsRefusal fault result }
     {
@@ -187,7 +188,7 @@ impl WorkerCore {
 
     // Does what `run_tests` asks for.
     fn carry(&mut self, acts: &mut WorkerActions, channel: u32, ask: Ask) -> Result<(), OutOfMemory>
-        ensures { (t : Turn) → Stands self.old acts.old t → OnOk result (Stands self.new acts.new (asked channel ask t)) }
+        ensures { (t : Turn) → Stands self.old acts.old t → AllOpen (asked channel ask t).logs → OnOk result (Stands self.new acts.new (asked channel ask t)) }
     {
         match ask {
             Ask::Tell(event) => {
@@ -216,7 +217,7 @@ impl WorkerCore {
         channel: u32,
         asks: Vec<Ask>,
     ) -> Result<(), OutOfMemory>
-        ensures { (t : Turn) → Stands self.old acts.old t → OnOk result (Stands self.new acts.new (all_asked channel asks.items t)) }
+        ensures { (t : Turn) → Stands self.old acts.old t → AllOpen (all_asked channel asks.items t).logs → OnOk result (Stands self.new acts.new (all_asked channel asks.items t)) }
     {
         for ask in asks {
             self.carry(acts, channel, ask)?;
@@ -232,7 +233,7 @@ impl WorkerCore {
         channels: u32,
     ) -> Result<(), OutOfMemory>
         requires { CanTake input }
-        ensures { (t : Turn) → Stands self.old acts.old t → OnOk result (Stands self.new acts.new (fed input channels t)) }
+        ensures { (t : Turn) → Stands self.old acts.old t → AllOpen (fed input channels t).logs → OnOk result (Stands self.new acts.new (fed input channels t)) }
     {
         let Some(fed) = feed(&mut self.runner, input, channels)? else {
             return Ok(());
@@ -244,7 +245,7 @@ impl WorkerCore {
 
     // Nothing is said any more, and no test starts.
     fn stop(&mut self, acts: &mut WorkerActions, channels: u32) -> Result<(), OutOfMemory>
-        ensures { (t : Turn) → Stands self.old acts.old t → OnOk result (Stands self.new acts.new (stopped channels t)) }
+        ensures { (t : Turn) → Stands self.old acts.old t → AllOpen (stopped channels t).logs → OnOk result (Stands self.new acts.new (stopped channels t)) }
     {
         self.stopped = true;
         self.feed(acts, Input::Stop, channels)?;
