@@ -65,6 +65,10 @@ pub record IsWorker (c : WorkerCore) (w : Worker) : Type 0 where
 abbrev pub StandsFor : WorkerCore → List Heard → Type 0
 StandsFor c h = IsWorker c (worker_after h)
 
+-- it is behind some inputs
+abbrev pub Stood : WorkerCore → Type 0
+Stood c = (h : List Heard) × StandsFor c h
+
 -- the suite that was read has a test of this number
 abbrev pub HasTest : WorkerCore → ℕ → Type 0
 HasTest c k = (h : List Heard) × StandsFor c h × (k < length (worker_after h).duties.tests)

@@ -25,7 +25,7 @@ fn numbers(alloc: Global, words: &str) -> Result<Indices, Fail> {
 }
 
 fn message(kind: Kind, channel: u32, payload: Blob) -> Result<WorkerInput, Fail> {
-    if channel > 1000 || payload.as_slice().len() > 1000 {
+    if channel > 10_000 || payload.as_slice().len() > 1000 {
         return Err(Fail::from("a small message"));
     }
     Ok(WorkerInput::Message(Message::of(kind, channel, payload)))
@@ -304,6 +304,38 @@ fn what_is_said_and_started_is_what_the_model_says(rt: HostRuntime) -> Result<()
             let found = step(alloc, &mut worker, words)?;
             assert_eq!(rt; found.as_str(), wanted);
         }
+    }
+    Ok(())
+}
+
+// So many channels more are in the table.
+fn fill(alloc: Global, worker: &mut WorkerCore, count: u32) -> Result<(), Fail> {
+    if count > 5000 {
+        return Err(Fail::from("few channels"));
+    }
+    for i in 0..count {
+        let words = format!(in alloc; "ia@{}", 2 * i + 5)?;
+        step(alloc, worker, words.as_str())?;
+    }
+    Ok(())
+}
+
+// The last channel of the table takes a log, again and again; a full table takes none.
+#[test]
+fn a_full_table_ends_the_function(rt: HostRuntime) -> Result<(), Fail> {
+    let alloc = rt.alloc();
+    for (count, first, second) in [
+        (4094, "L0@2;!0", "2X;D0:p:0;L1@4;!1"),
+        (4095, "E:too many channels", ""),
+    ] {
+        let mut worker = WorkerCore::new(alloc);
+        step(alloc, &mut worker, "ca")?;
+        step(alloc, &mut worker, "I3")?;
+        fill(alloc, &mut worker, count)?;
+        let found = step(alloc, &mut worker, "A")?;
+        assert_eq!(rt; found.as_str(), first);
+        let found = step(alloc, &mut worker, "Dp:0")?;
+        assert_eq!(rt; found.as_str(), second);
     }
     Ok(())
 }

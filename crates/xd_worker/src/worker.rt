@@ -40,11 +40,12 @@ impl WorkerCore {
     ghost use Rattle.xd_worker.specs.Turns.{asked, all_asked, ended_service, fed, stopped};
     ghost use Rattle.xd_worker.specs.History.{Heard, worker_after, IsToRefuse};
     ghost use Rattle.xd_worker.specs.Logs.{AllOpen, LogsOpen};
-    ghost use Rattle.xd_worker.specs.Stands.{AreServices, HasTest, Stands, StandsFor, IsWorker, Does, Answers, IsFault, IsRefusal, fault_in};
+    ghost use Rattle.xd_worker.specs.Stands.{AreServices, HasTest, Stands, StandsFor, Stood, IsWorker, Does, Answers, IsFault, IsRefusal, fault_in};
 
     /// A worker to which nothing has come yet.
     pub fn new(alloc: Global) -> WorkerCore
-        ensures { StandsFor result [] }
+        ensures history { StandsFor result [] }
+        ensures stood { Stood result }
     {
         WorkerCore {
             alloc,
@@ -65,7 +66,8 @@ impl WorkerCore {
         ensures refuses { (h : List Heard) (fault : SideFault) → StandsFor self.old h → IsToRefuse (worker_after h) input fault → IsRefusal fault result }
         ensures failed { (fault : WorkerFault) → fault_in self.old ≡ Some fault → (result ≡ Err fault) × (self.new ≡ self.old) }
         ensures fails { IfErr result (λ fault. fault_in self.new ≡ Some fault) }
-        ensures command { (h : List Heard) → StandsFor self.old h → IfOk result (λ acts. (test : ℕ) → acts.run ≡ Some test → HasTest self.new test) }
+        ensures stood { Stood self.old → OnOk result (Stood self.new) }
+        ensures command { Stood self.old → IfOk result (λ acts. (test : ℕ) → acts.run ≡ Some test → HasTest self.new test) }
     {
         if let Some(fault) = self.fault {
             return Err(fault);
