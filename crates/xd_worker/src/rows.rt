@@ -190,8 +190,13 @@ fn take(worker: &mut WorkerCore, input: WorkerInput) -> Result<(), Fail>
 fn program(alloc: Global, worker: &mut WorkerCore, input: WorkerInput) -> Result<String, Fail>
     requires { Stood worker.now }
 {
-    let acts = worker.step(input).ok().ok_or("refused")?;
-    let test = acts.run.ok_or("no test")?;
+    let acts = match worker.step(input) {
+        Ok(acts) => acts,
+        Err(_) => return Err(Fail::from("refused")),
+    };
+    let Some(test) = acts.run else {
+        return Err(Fail::from("no test"));
+    };
     let command = worker.command(test);
     Ok(format!(in alloc; "{}", command[0].as_str())?)
 }
