@@ -1,11 +1,11 @@
 // What is said on the channels of a worker.
-ghost use Rattle.std.specs.Prelude.{ℕ, ◌≡◌, ◌≤◌, ◌++◌, ◌∷◌, [], List, IfOk, OnOk, option_to_list, if◌then◌else◌};
+ghost use Rattle.std.specs.Prelude.{ℕ, ◌≡◌, ◌≤◌, ◌++◌, ◌∷◌, [], List, IfOk, OnOk, option_to_list, false, if◌then◌else◌};
 ghost use Rattle.xd_value.specs.Tree.{bytes};
 ghost use Rattle.xd_value.specs.View.{view};
 ghost use Rattle.xd_frame.specs.Message.{MessageView};
 ghost use Rattle.xd_factory.specs.declared.side.Side.{Side};
 ghost use Rattle.xd_factory.specs.Slot.{closed_slot, function_ended_slot, hooked_slot, is_seen};
-ghost use Rattle.xd_factory.specs.Table.{close_says, closing_message};
+ghost use Rattle.xd_factory.specs.Table.{close_says, closing_message, is_long};
 ghost use Rattle.xd_worker.specs.Table.{table_of, changed_at, opened};
 ghost use Rattle.xd_worker.specs.Worker.{opened_by};
 ghost use Rattle.xd_worker.specs.Logs.{CanOpen, AllOpen};
@@ -149,7 +149,9 @@ fn close(side: &mut Side, say: &mut Messages, number: u32) -> Result<(), OutOfMe
         }
         Ok(None) => Ok(()),
         Err(CloseFault::Unknown) => Ok(()),
-        Err(CloseFault::TooLong | CloseFault::OutOfMemory) => Err(OutOfMemory),
+        // Without a text nothing is too long.
+        Err(CloseFault::TooLong) => unreachable!(),
+        Err(CloseFault::OutOfMemory) => Err(OutOfMemory),
     }
 }
 
@@ -162,7 +164,9 @@ fn drop_channel(side: &mut Side, number: u32) -> Result<(), OutOfMemory>
     };
     match fault {
         CloseFault::Unknown => Ok(()),
-        CloseFault::TooLong | CloseFault::OutOfMemory => Err(OutOfMemory),
+        // Without a text nothing is too long.
+        CloseFault::TooLong => unreachable!(),
+        CloseFault::OutOfMemory => Err(OutOfMemory),
     }
 }
 
@@ -184,6 +188,7 @@ pub fn end_function(
     text: Option<Text>,
     other: Option<Text>,
 ) -> Result<(), OutOfMemory>
+    requires { is_long other ≡ false }
     ensures { OnOk result (talk_of side.new say.new ≡ function_ended number text other (talk_of side.old say.old)) }
 {
     match side.end_function(number, text) {
@@ -207,6 +212,7 @@ fn end_shortly(
     number: u32,
     text: Option<Text>,
 ) -> Result<(), OutOfMemory>
+    requires { is_long text ≡ false }
     ensures table { OnOk result (table_of side.new ≡ changed_at number function_ended_slot (table_of side.old)) }
     ensures says { OnOk result (say.new ≡ say.old ++ (if is_seen ((table_of side.old).slot number) then closing_message number text ∷ [] else [])) }
 {
@@ -216,7 +222,8 @@ fn end_shortly(
             Ok(())
         }
         Err(CloseFault::Unknown) => Ok(()),
-        Err(CloseFault::TooLong | CloseFault::OutOfMemory) => Err(OutOfMemory),
+        Err(CloseFault::TooLong) => unreachable!(),
+        Err(CloseFault::OutOfMemory) => Err(OutOfMemory),
     }
 }
 
