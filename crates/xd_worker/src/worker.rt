@@ -1,5 +1,5 @@
 // The worker of one link.
-ghost use Rattle.std.specs.Prelude.{◌≡◌, ◌<◌, ◌^◌, ◌++◌, ◌∷◌, [], ℕ, List, length, IfOk, IfErr, OnOk, Option, Some, None, Ok, Err};
+ghost use Rattle.std.specs.Prelude.{◌≡◌, ◌&&◌, is_none, ◌<◌, ◌^◌, ◌++◌, ◌∷◌, [], ℕ, List, length, IfOk, IfErr, OnOk, Option, Some, None, Ok, Err};
 
 mod functions;
 mod messages;
@@ -36,11 +36,11 @@ impl WorkerCore {
     ghost use Rattle.xd_suite.specs.Tests.{run_at};
     ghost use Rattle.xd_worker.specs.declared.input.WorkerFault.{WorkerFault};
     ghost use Rattle.xd_worker.specs.Table.{Counts};
-    ghost use Rattle.xd_worker.specs.Worker.{Service, Worker, Turn, turn_of, running_in};
+    ghost use Rattle.xd_worker.specs.Worker.{Service, Duties, Worker, Turn, turn_of, running_in};
     ghost use Rattle.xd_worker.specs.Turns.{asked, all_asked, ended_service, fed, stopped};
     ghost use Rattle.xd_worker.specs.History.{Heard, worker_after, IsToRefuse};
     ghost use Rattle.xd_worker.specs.Logs.{AllOpen, LogsOpen};
-    ghost use Rattle.xd_worker.specs.Stands.{AreServices, HasTest, Stands, StandsFor, Stood, IsWorker, Does, Answers, IsFault, IsRefusal, fault_in};
+    ghost use Rattle.xd_worker.specs.Stands.{AreServices, AreDuties, HasTest, Stands, StandsFor, Stood, IsWorker, Does, Answers, IsFault, IsRefusal, fault_in};
 
     /// A worker to which nothing has come yet.
     pub fn new(alloc: Global) -> WorkerCore
@@ -98,7 +98,7 @@ impl WorkerCore {
             Ok(()) => (),
             Err(fault) => return Err(fault),
         }
-        acts.over = self.stopped && self.running().is_none();
+        acts.over = self.is_over();
         Ok(acts)
     }
 
@@ -149,6 +149,13 @@ impl WorkerCore {
         ensures command { (h : List Heard) (test : ℕ) → StandsFor self.now h → result ≡ Some test → HasTest self.now test }
     {
         self.running()
+    }
+
+    // The worker is to end, and no test runs.
+    fn is_over(&self) -> bool
+        ensures { (d : Duties) → AreDuties self.now d → result ≡ (d.stopped && is_none (running_in d.service)) }
+    {
+        self.stopped && self.running().is_none()
     }
 
     fn running(&self) -> Option<u32>
