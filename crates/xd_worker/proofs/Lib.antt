@@ -2,3 +2,6 @@ pub mod Fours
 pub mod Tables
 pub mod Standing
 pub mod Hearing
+pub mod Known
+pub mod Logs
+pub mod Opens

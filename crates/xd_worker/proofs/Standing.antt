@@ -11,8 +11,10 @@ use Rattle.xd_frame.specs.Message.{MessageView}
 use Rattle.xd_factory.specs.declared.side.Side.{Side}
 use Rattle.xd_run_tests.specs.declared.ask.Acts.{Acts}
 use Rattle.xd_run_tests.specs.declared.ask.Ask.{Ask}
+use Rattle.xd_run_tests.specs.declared.ask.Ask.TheVariants.{Tell, Piece, CloseLog, End}
 use Rattle.xd_run_tests.specs.declared.input.Input.{Input}
 use Rattle.xd_run_tests.specs.declared.input.Input.TheVariants as input
+use Rattle.xd_ledger.specs.declared.news.What.{What}
 use Rattle.xd_ledger.specs.declared.news.What.TheVariants.{Collected}
 use Rattle.xd_gateway.specs.Events.{event_tree}
 use Rattle.xd_run_tests.specs.declared.run_tests.RunTests.{RunTests}
@@ -21,7 +23,7 @@ use Rattle.xd_worker.specs.declared.input.WorkerActions.{WorkerActions}
 use Rattle.xd_worker.specs.declared.runner.Runner.{Runner}
 use Rattle.xd_worker.specs.declared.runner.Fed.{Fed}
 use Rattle.xd_worker.specs.declared.worker.WorkerCore.{WorkerCore}
-use Rattle.xd_worker.specs.Talk.{Talk, talk_of, saying, item_says, sent, sent_how, payload_on, function_ended}
+use Rattle.xd_worker.specs.Talk.{Talk, talk_of, told, opening, saying, item_says, sent, sent_how, payload_on, function_ended}
 use Rattle.xd_value.specs.declared.value.Value.{Value}
 use Rattle.xd_factory.specs.declared.taken.Taken.{Taken}
 use Rattle.xd_factory.specs.declared.faults.SideFault.{SideFault}
@@ -30,8 +32,9 @@ use Rattle.xd_factory.specs.View.{slot_of}
 use Rattle.xd_worker.specs.declared.input.WorkerFault.{WorkerFault}
 use Rattle.xd_worker.specs.declared.input.WorkerFault.TheVariants.{Link, OutOfMemory}
 use Rattle.xd_worker.specs.declared.input.WorkerInput.TheVariants.{Message}
-use Rattle.xd_worker.specs.History.{RefusedBy, MustRefuse, IsToRefuse}
-use Rattle.xd_worker.specs.Worker.{Service, Duties, Turn, Worker, turn_of}
+use Rattle.xd_worker.specs.History.{Heard, RefusedBy, MustRefuse, IsToRefuse}
+use Rattle.xd_worker.specs.Logs.{AllOpen, LogsOpen}
+use Rattle.xd_worker.specs.Worker.{Service, Duties, Turn, Opening, Worker, turn_of, opened_by}
 use Rattle.xd_worker.specs.Turns.{at_talk, asked, all_asked, given_in, fed_to, ended_call, failed, echo_ended, echoed, echoed_how, is_called, is_written, suite_input, Told, did_unless}
 use Rattle.xd_worker.specs.Stands.{IsService, AreServices, AreDuties, Stands, FedBy, HasFed, Does, IsHeard, IsFault, IsFaultAt, RefusedAt}
 
@@ -50,6 +53,34 @@ pub spoke : (c : WorkerCore) (side : Side) (a : WorkerActions) (say : List Messa
     → Stands (record c { side = side }) (record a { say = say }) (at_talk f t)
 spoke c side a say t f e h = record {
   talk_is = e ∙ ap f h.talk_is;
+  duties_are = moved c side t.duties h.duties_are;
+  suite_is = h.suite_is;
+  run_is = h.run_is;
+}
+
+-- ---- the logs that open
+
+pub first_open : (a b : List Opening) → AllOpen (a ++ b) → AllOpen a
+first_open [] b h = tt
+first_open (o ∷ a) b h = (h.0, first_open a b h.1)
+
+pub last_open : (a b : List Opening) → AllOpen (a ++ b) → AllOpen b
+last_open [] b h = h
+last_open (o ∷ a) b h = last_open a b h.1
+
+pub asked_before : (c : ℕ) (a : Ask) (t : Turn) → AllOpen (asked c a t).logs → AllOpen t.logs
+asked_before c (Tell event) t h = first_open t.logs (opened_by event t.talk.table) h
+asked_before c (Piece log b) t h = h
+asked_before c (CloseLog log) t h = h
+asked_before c (End text) t h = h
+
+-- an event was said, and a log opened for it
+pub announced : (c : WorkerCore) (side : Side) (a : WorkerActions) (say : List MessageView) (t : Turn) (n : ℕ) (event : What) → (AllOpen (opened_by event (table_of c.side)) → talk_of side say ≡ told n event (opening event (talk_of c.side a.say)))
+    → Stands c a t → AllOpen (asked n (Tell event) t).logs → Stands (record c { side = side }) (record a { say = say }) (asked n (Tell event) t)
+announced c side a say t n event g h k = record {
+  talk_is =
+      g (subst (λ (d : Talk). AllOpen (opened_by event d.table)) (sym h.talk_is) (last_open t.logs (opened_by event t.talk.table) k))
+      ∙ ap (λ (d : Talk). told n event (opening event d)) h.talk_is;
   duties_are = moved c side t.duties h.duties_are;
   suite_is = h.suite_is;
   run_is = h.run_is;
@@ -149,17 +180,21 @@ counts_at side say w n e k = subst (λ (d : Talk). Counts d.table.slot n) e k
 pub lost_counts : (side old : Side) (say : List MessageView) (w : Worker) (n : ℕ) → talk_of old say ≡ (turn_of w).talk → table_of side ≡ lost (table_of old) → Counts (slot_of side) n → Counts (lost w.table).slot n
 lost_counts side old say w n e l k = subst (λ (t : Table). Counts t.slot n) (l ∙ ap (λ (d : Talk). lost d.table) e) k
 
-pub heard_does : (c c' : WorkerCore) (side : Side) (a a' : WorkerActions) (w : Worker) (m : MessageView) (k : Taken Value) → Stands c a (turn_of w) → IsHeard m (table_of c.side) (table_of side) k
-    → (n : ℕ) → Counts (slot_of side) n → ((t : Turn) → Stands (record c { side = side }) a t → Stands c' a' (did_unless t.duties.stopped (taken_tree k) n t)) → Does c' a' w (Message m)
-heard_does c c' side a a' w m k h i n counts g =
+pub heard_does : (c c' : WorkerCore) (side : Side) (a a' : WorkerActions) (w : Worker) (m : MessageView) (k : Taken Value) → Stands c a (turn_of w) → LogsOpen w → IsHeard m (table_of c.side) (table_of side) k
+    → (n : ℕ) → Counts (slot_of side) n → ((t : Turn) → Stands (record c { side = side }) a t → AllOpen (did_unless t.duties.stopped (taken_tree k) n t).logs → Stands c' a' (did_unless t.duties.stopped (taken_tree k) n t)) → Does c' a' w (Message m)
+heard_does c c' side a a' w m k h l i n counts g =
     let old : table_of c.side ≡ w.table = ap (λ (d : Talk). d.table) h.talk_is in
     let t = at_talk (λ d. record d { table = heard i.said d.table }) (turn_of w) in
     let mid = spoke c side a a.say (turn_of w) (λ d. record d { table = heard i.said d.table }) (ap (λ (x : Table). record { table = x; says = a.say }) i.table_is) h in
+    let came : Heard = record { came = Told i.said; channels = n } in
+    let counted = subst (λ (x : Table). Counts x.slot n) (i.table_is ∙ ap (heard i.said) old) counts in
+    let does : taken_tree k ≡ answer i.said w.table = i.answer_is ∙ ap (answer i.said) old in
+    let logs = subst (λ (x : Taken Tree). AllOpen (did_unless w.duties.stopped x n t).logs) (sym does) (l came counted) in
     record {
-      heard = record { came = Told i.said; channels = n };
+      heard = came;
       is = i.means;
-      counts = subst (λ (x : Table). Counts x.slot n) (i.table_is ∙ ap (heard i.said) old) counts;
-      stands = subst (λ (x : Taken Tree). Stands c' a' (did_unless w.duties.stopped x n t)) (i.answer_is ∙ ap (answer i.said) old) (g t mid);
+      counts = counted;
+      stands = subst (λ (x : Taken Tree). Stands c' a' (did_unless w.duties.stopped x n t)) does (g t mid logs);
     }
 
 pub is_fault_at : (w : Worker) (t : Table) (m : MessageView) (f : WorkerFault) → t ≡ w.table → IsFaultAt t m f → IsFault w (Message m) f

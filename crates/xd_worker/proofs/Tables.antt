@@ -1,5 +1,5 @@
 -- The table of channels behind a call of the side.
-use Rattle.std.proofs.Common.{◌≡◌, ℕ, List, [], ◌∷◌, ◌++◌, Bool, true, false, Option, Some, None, refl, sym, ap, subst, ◌∙◌}
+use Rattle.std.proofs.Common.{◌≡◌, ℕ, ◌<◌, arith, List, [], ◌∷◌, ◌++◌, Bool, true, false, Option, Some, None, refl, sym, ap, subst, ◌∙◌}
 use Rattle.std.proofs.Math.Path.{fun_ext}
 use Rattle.std.specs.Prelude.{◌==◌, if◌then◌else◌}
 use Rattle.std.proofs.lemmas.Bool.{eqb-true}
@@ -9,13 +9,16 @@ use Rattle.xd_frame.specs.Message.{MessageView}
 use Rattle.xd_channel.specs.State.{after_close, is_done}
 use Rattle.xd_factory.specs.declared.parity.Parity.{Parity}
 use Rattle.xd_factory.specs.declared.faults.SideFault.{SideFault}
+use Rattle.xd_factory.specs.declared.faults.OpenFault.{OpenFault}
+use Rattle.xd_factory.specs.declared.faults.OpenFault.TheVariants as openfault
 use Rattle.xd_factory.specs.declared.faults.CloseFault.{CloseFault}
 use Rattle.xd_factory.specs.declared.faults.CloseFault.TheVariants as close
 use Rattle.xd_factory.specs.declared.side.Side.{Side}
 use Rattle.xd_factory.specs.Slot.{Slot, Unseen, Here, Gone, is_seen, closed_slot, function_ended_slot}
 use Rattle.xd_factory.specs.Table.{close_refusal, closing_message, IsRefusal}
-use Rattle.xd_factory.specs.View.{slot_of, parity_of, next_of, fault_of, is_finished, KeepsRest}
-use Rattle.xd_worker.specs.Table.{Table, table_of, changed_at}
+use Rattle.xd_factory.specs.View.{slot_of, parity_of, next_of, fault_of, is_finished, entry_count, KeepsRest}
+use Rattle.xd_worker.specs.Table.{Table, Counts, table_of, changed_at}
+use Rattle.xd_worker.specs.Logs.{CanOpen}
 use Rattle.xd_worker.specs.Talk.{Talk}
 
 pub tables : (s s' : ℕ → Slot Tree) (p p' : Parity) (n n' : ℕ) (f f' : Option SideFault) (l l' : Bool) → s ≡ s' → p ≡ p' → n ≡ n' → f ≡ f' → l ≡ l'
@@ -103,3 +106,15 @@ pub kept_all : (old new : Side) → ((c : ℕ) → slot_of new c ≡ slot_of old
 kept_all old new s k =
     tables (slot_of new) (slot_of old) (parity_of new) (parity_of old) (next_of new) (next_of old) (fault_of new) (fault_of old) (is_finished new) (is_finished old)
     (fun_ext s) k.parity k.next k.fault k.finished
+
+-- why a log does not open, where it can
+pub only_memory : (s : Side) (number : ℕ) (f : OpenFault) → CanOpen number (table_of s) → Counts (slot_of s) (entry_count s) → (f ≡ openfault.Finished → is_finished s ≡ true) → (is_finished s ≡ false → f ≡ openfault.TooManyOpen → entry_count s ≡ 4096)
+    → (is_finished s ≡ false → (entry_count s ≡ 4096 → ⊥) → f ≡ openfault.NumbersSpent → 2147483647 < next_of s) → f ≡ openfault.OutOfMemory
+only_memory s number openfault.Finished can k a b d = let z : true ≡ false = sym (a refl) ∙ can.linked in cc
+only_memory s number openfault.TooManyOpen can k a b d = let lt = can.room (entry_count s) k in let e = b can.linked refl in absurd (omega (arith, lt, e))
+only_memory s number openfault.NumbersSpent can k a b d =
+    let lt = can.room (entry_count s) k in
+    let le = can.numbered in
+    let gt = d can.linked (λ e. omega (arith, lt, e)) refl in
+    absurd (omega (arith, le, gt))
+only_memory s number openfault.OutOfMemory can k a b d = refl

@@ -5,4 +5,5 @@ pub mod Talk
 pub mod Worker
 pub mod Turns
 pub mod History
+pub mod Logs
 pub mod Stands

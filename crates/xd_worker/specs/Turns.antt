@@ -28,7 +28,7 @@ use Rattle.xd_worker.specs.declared.talk.Sent.TheVariants as how
 use Rattle.xd_worker.specs.Functions.{called_in, fault_text}
 use Rattle.xd_worker.specs.Table.{heard, answer, lost}
 use Rattle.xd_worker.specs.Talk.{Talk, sent, sent_how, payload_on, told, opening, log_closed, function_ended, function_begun, status_told}
-use Rattle.xd_worker.specs.Worker.{Service, Turn, running_in, executing}
+use Rattle.xd_worker.specs.Worker.{Service, Turn, running_in, executing, opened_by}
 
 -- what an input is: what a message says, the tests of the suite or why there are none, output of the running test, its
 -- end, or the link's end
@@ -53,7 +53,7 @@ abbrev pub ended_service : Turn → Turn
 ended_service t = record t { duties = record (t.duties) { service = ended_call t.duties.service } }
 
 abbrev pub asked : ℕ → Ask → Turn → Turn
-asked c (Tell event) t = at_talk (λ d. told c event (opening event d)) t
+asked c (Tell event) t = record t { talk = told c event (opening event t.talk); logs = t.logs ++ opened_by event t.talk.table }
 asked c (Piece log b) t = at_talk (sent log (bytes b)) t
 asked c (CloseLog log) t = at_talk (log_closed log) t
 asked c (End text) t = ended_service (at_talk (function_ended c text None) t)

@@ -1,7 +1,9 @@
 -- A worker between two inputs, and what one input makes of it.
-use Rattle.std.specs.Prelude.{ℕ, ◌+◌, List, [], length, Bool, false, Option, Some, None, if◌then◌else◌}
+use Rattle.std.specs.Prelude.{ℕ, ◌+◌, List, [], ◌∷◌, length, Bool, false, Option, Some, None, if◌then◌else◌}
 use Rattle.xd_edge.specs.declared.mode.ModeKind.{ModeKind}
 use Rattle.xd_suite.specs.declared.test.Test.{Test}
+use Rattle.xd_ledger.specs.declared.news.What.{What}
+use Rattle.xd_ledger.specs.declared.news.What.TheVariants.{LogStart}
 use Rattle.xd_run_tests.specs.Line.{running_test}
 use Rattle.xd_run_tests.specs.History.{Given, call_after}
 use Rattle.xd_worker.specs.Table.{Table, empty}
@@ -27,12 +29,22 @@ pub record Worker : Type 0 where
   pub table : Table
   pub duties : Duties
 
--- an input's effect so far: what is said, a suite file to read, and a test to start
+-- a log that opens: the number that the start of its test names, and the table in which it opens
+pub record Opening : Type 0 where
+  pub number : ℕ
+  pub table : Table
+
+-- an input's effect so far: what is said, a suite file to read, a test to start, and the logs that opened
 pub record Turn : Type 0 where
   pub talk : Talk
   pub duties : Duties
   pub suite : Option (List ℕ)
   pub run : Option ℕ
+  pub logs : List Opening
+
+abbrev pub opened_by : What → Table → List Opening
+opened_by (LogStart n log) t = record { number = log; table = t } ∷ []
+opened_by _ t = []
 
 abbrev pub idle : Duties
 idle = record { stopped = false; service = None; echoes = []; owed = false; tests = [] }
@@ -41,7 +53,7 @@ abbrev pub new_worker : Worker
 new_worker = record { table = empty; duties = idle }
 
 abbrev pub turn_of : Worker → Turn
-turn_of w = record { talk = record { table = w.table; says = [] }; duties = w.duties; suite = None; run = None }
+turn_of w = record { talk = record { table = w.table; says = [] }; duties = w.duties; suite = None; run = None; logs = [] }
 
 abbrev pub behind : Turn → Worker
 behind t = record { table = t.talk.table; duties = t.duties }

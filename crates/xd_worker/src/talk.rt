@@ -1,18 +1,20 @@
 // What is said on the channels of a worker.
-ghost use Rattle.std.specs.Prelude.{◌≡◌, ◌≤◌, ◌++◌, ◌∷◌, [], List, IfOk, OnOk, option_to_list, if◌then◌else◌};
+ghost use Rattle.std.specs.Prelude.{ℕ, ◌≡◌, ◌≤◌, ◌++◌, ◌∷◌, [], List, IfOk, OnOk, option_to_list, false, if◌then◌else◌};
 ghost use Rattle.xd_value.specs.Tree.{bytes};
 ghost use Rattle.xd_value.specs.View.{view};
 ghost use Rattle.xd_frame.specs.Message.{MessageView};
 ghost use Rattle.xd_factory.specs.declared.side.Side.{Side};
 ghost use Rattle.xd_factory.specs.Slot.{closed_slot, function_ended_slot, hooked_slot, is_seen};
-ghost use Rattle.xd_factory.specs.Table.{close_says, closing_message};
+ghost use Rattle.xd_factory.specs.Table.{close_says, closing_message, is_long};
 ghost use Rattle.xd_worker.specs.Table.{table_of, changed_at, opened};
+ghost use Rattle.xd_worker.specs.Worker.{opened_by};
+ghost use Rattle.xd_worker.specs.Logs.{CanOpen, AllOpen};
 ghost use Rattle.xd_worker.specs.Talk.{talk_of, sent, sent_how, payload_on, told, opening, log_closed, function_ended, function_begun, status_told};
 
 use crate::status_value;
 use std::alloc::Global;
 use xd_edge::{Blob, OutOfMemory, Text};
-use xd_factory::{CloseFault, SendFault, Side};
+use xd_factory::{CloseFault, OpenFault, SendFault, Side};
 use xd_frame::{Kind, Message, Messages};
 use xd_gateway::event_value;
 use xd_ledger::What;
@@ -83,7 +85,7 @@ pub fn tell(
 
 // The log of a test that starts opens.
 fn open_if_start(side: &mut Side, event: &What) -> Result<(), OutOfMemory>
-    ensures { (says : List MessageView) → OnOk result (talk_of side.new says ≡ opening event.now (talk_of side.old says)) }
+    ensures { (says : List MessageView) → AllOpen (opened_by event.now (table_of side.old)) → OnOk result (talk_of side.new says ≡ opening event.now (talk_of side.old says)) }
 {
     match event {
         What::LogStart { .. } => open_log(side),
@@ -99,7 +101,7 @@ pub fn announce(
     number: u32,
     event: &What,
 ) -> Result<(), OutOfMemory>
-    ensures { OnOk result (talk_of side.new say.new ≡ told number event.now (opening event.now (talk_of side.old say.old))) }
+    ensures { AllOpen (opened_by event.now (table_of side.old)) → OnOk result (talk_of side.new say.new ≡ told number event.now (opening event.now (talk_of side.old say.old))) }
 {
     open_if_start(side, event)?;
     tell(alloc, side, say, number, event)
@@ -119,13 +121,19 @@ pub fn send_piece(
     Ok(())
 }
 
-/// Opens the channel of a log.
+/// Opens the channel of a log, where it can open.
 fn open_log(side: &mut Side) -> Result<(), OutOfMemory>
-    ensures { OnOk result (table_of side.new ≡ opened (table_of side.old)) }
+    ensures { (number : ℕ) → CanOpen number (table_of side.old) → OnOk result (table_of side.new ≡ opened (table_of side.old)) }
 {
+    // Whether it can is told by how many channels there are.
+    prove!(side.status() <= xd_factory::MAX_ENTRIES);
     match side.open_channel() {
         Ok(_) => Ok(()),
-        Err(_) => Err(OutOfMemory),
+        Err(OpenFault::OutOfMemory) => Err(OutOfMemory),
+        // Where it can, nothing else is refused.
+        Err(OpenFault::Finished) => Ok(()),
+        Err(OpenFault::TooManyOpen) => Ok(()),
+        Err(OpenFault::NumbersSpent) => Ok(()),
     }
 }
 
@@ -141,7 +149,9 @@ fn close(side: &mut Side, say: &mut Messages, number: u32) -> Result<(), OutOfMe
         }
         Ok(None) => Ok(()),
         Err(CloseFault::Unknown) => Ok(()),
-        Err(CloseFault::TooLong | CloseFault::OutOfMemory) => Err(OutOfMemory),
+        // Without a text nothing is too long.
+        Err(CloseFault::TooLong) => unreachable!(),
+        Err(CloseFault::OutOfMemory) => Err(OutOfMemory),
     }
 }
 
@@ -154,7 +164,9 @@ fn drop_channel(side: &mut Side, number: u32) -> Result<(), OutOfMemory>
     };
     match fault {
         CloseFault::Unknown => Ok(()),
-        CloseFault::TooLong | CloseFault::OutOfMemory => Err(OutOfMemory),
+        // Without a text nothing is too long.
+        CloseFault::TooLong => unreachable!(),
+        CloseFault::OutOfMemory => Err(OutOfMemory),
     }
 }
 
@@ -176,6 +188,7 @@ pub fn end_function(
     text: Option<Text>,
     other: Option<Text>,
 ) -> Result<(), OutOfMemory>
+    requires { is_long other ≡ false }
     ensures { OnOk result (talk_of side.new say.new ≡ function_ended number text other (talk_of side.old say.old)) }
 {
     match side.end_function(number, text) {
@@ -199,6 +212,7 @@ fn end_shortly(
     number: u32,
     text: Option<Text>,
 ) -> Result<(), OutOfMemory>
+    requires { is_long text ≡ false }
     ensures table { OnOk result (table_of side.new ≡ changed_at number function_ended_slot (table_of side.old)) }
     ensures says { OnOk result (say.new ≡ say.old ++ (if is_seen ((table_of side.old).slot number) then closing_message number text ∷ [] else [])) }
 {
@@ -208,7 +222,8 @@ fn end_shortly(
             Ok(())
         }
         Err(CloseFault::Unknown) => Ok(()),
-        Err(CloseFault::TooLong | CloseFault::OutOfMemory) => Err(OutOfMemory),
+        Err(CloseFault::TooLong) => unreachable!(),
+        Err(CloseFault::OutOfMemory) => Err(OutOfMemory),
     }
 }
 

@@ -1,5 +1,5 @@
 // The worker of one link.
-ghost use Rattle.std.specs.Prelude.{◌≡◌, ◌<◌, ◌^◌, ◌++◌, ◌∷◌, [], ℕ, List, length, IfOk, IfErr, OnOk, Option, Some, None, Ok, Err};
+ghost use Rattle.std.specs.Prelude.{◌≡◌, ◌&&◌, is_none, ◌<◌, ◌^◌, ◌++◌, ◌∷◌, [], ℕ, List, length, IfOk, IfErr, OnOk, Option, Some, None, Ok, Err};
 
 mod functions;
 mod messages;
@@ -36,14 +36,16 @@ impl WorkerCore {
     ghost use Rattle.xd_suite.specs.Tests.{run_at};
     ghost use Rattle.xd_worker.specs.declared.input.WorkerFault.{WorkerFault};
     ghost use Rattle.xd_worker.specs.Table.{Counts};
-    ghost use Rattle.xd_worker.specs.Worker.{Service, Worker, Turn, turn_of, running_in};
+    ghost use Rattle.xd_worker.specs.Worker.{Service, Duties, Worker, Turn, turn_of, running_in};
     ghost use Rattle.xd_worker.specs.Turns.{asked, all_asked, ended_service, fed, stopped};
     ghost use Rattle.xd_worker.specs.History.{Heard, worker_after, IsToRefuse};
-    ghost use Rattle.xd_worker.specs.Stands.{AreServices, tests_of, Stands, StandsFor, IsWorker, Does, Answers, IsFault, IsRefusal, fault_in};
+    ghost use Rattle.xd_worker.specs.Logs.{AllOpen, LogsOpen};
+    ghost use Rattle.xd_worker.specs.Stands.{AreServices, AreDuties, HasTest, Stands, StandsFor, Stood, IsWorker, Does, Answers, IsFault, IsRefusal, fault_in};
 
     /// A worker to which nothing has come yet.
     pub fn new(alloc: Global) -> WorkerCore
-        ensures { StandsFor result [] }
+        ensures history { StandsFor result [] }
+        ensures stood { Stood result }
     {
         WorkerCore {
             alloc,
@@ -64,6 +66,8 @@ impl WorkerCore {
         ensures refuses { (h : List Heard) (fault : SideFault) → StandsFor self.old h → IsToRefuse (worker_after h) input fault → IsRefusal fault result }
         ensures failed { (fault : WorkerFault) → fault_in self.old ≡ Some fault → (result ≡ Err fault) × (self.new ≡ self.old) }
         ensures fails { IfErr result (λ fault. fault_in self.new ≡ Some fault) }
+        ensures stood { Stood self.old → OnOk result (Stood self.new) }
+        ensures command { Stood self.old → IfOk result (λ acts. (test : ℕ) → acts.run ≡ Some test → HasTest self.new test) }
     {
         if let Some(fault) = self.fault {
             return Err(fault);
@@ -78,7 +82,7 @@ impl WorkerCore {
     }
 
     fn answer(&mut self, input: WorkerInput) -> Result<WorkerActions, WorkerFault>
-        ensures answers { (w : Worker) → IsWorker self.old w → IfOk result (Answers self.new w input) }
+        ensures answers { (w : Worker) → IsWorker self.old w → LogsOpen w → IfOk result (Answers self.new w input) }
         ensures refused { (w : Worker) → IsWorker self.old w → IfErr result (IsFault w input) }
         ensures refuses { (w : Worker) (fault : SideFault) → IsWorker self.old w → IsToRefuse w input fault → IsRefusal fault result }
     {
@@ -94,12 +98,12 @@ impl WorkerCore {
             Ok(()) => (),
             Err(fault) => return Err(fault),
         }
-        acts.over = self.stopped && self.running().is_none();
+        acts.over = self.is_over();
         Ok(acts)
     }
 
     fn take(&mut self, acts: &mut WorkerActions, input: WorkerInput) -> Result<(), WorkerFault>
-        ensures does { (w : Worker) → Stands self.old acts.old (turn_of w) → OnOk result (Does self.new acts.new w input) }
+        ensures does { (w : Worker) → Stands self.old acts.old (turn_of w) → LogsOpen w → OnOk result (Does self.new acts.new w input) }
         ensures refused { (w : Worker) → Stands self.old acts.old (turn_of w) → IfErr result (IsFault w input) }
         ensures refuses { (w : Worker) (fault : SideFault) → Stands self.old acts.old (turn_of w) → IsToRefuse w input fault → IsRefusal fault result }
     {
@@ -141,9 +145,17 @@ impl WorkerCore {
 
     /// The test that runs.
     pub fn runs(&self) -> Option<u32>
-        ensures { (h : List Heard) → StandsFor self.now h → result ≡ running_in (worker_after h).duties.service }
+        ensures running { (h : List Heard) → StandsFor self.now h → result ≡ running_in (worker_after h).duties.service }
+        ensures command { (h : List Heard) (test : ℕ) → StandsFor self.now h → result ≡ Some test → HasTest self.now test }
     {
         self.running()
+    }
+
+    // The worker is to end, and no test runs.
+    fn is_over(&self) -> bool
+        ensures { (d : Duties) → AreDuties self.now d → result ≡ (d.stopped && is_none (running_in d.service)) }
+    {
+        self.stopped && self.running().is_none()
     }
 
     fn running(&self) -> Option<u32>
@@ -157,8 +169,8 @@ impl WorkerCore {
 
     /// The program of a test of the suite that was read, with its arguments.
     pub fn command(&self, test: u32) -> &[Text]
-        requires { test < length (tests_of self.now.suite) }
-        ensures run { result.now ≡ run_at (tests_of self.now.suite) test }
+        requires { HasTest self.now test }
+        ensures run { (h : List Heard) → StandsFor self.now h → result.now ≡ run_at (worker_after h).duties.tests test }
         ensures program { 0 < length result.now }
     {
         match &self.suite {
@@ -185,7 +197,7 @@ impl WorkerCore {
 
     // Does what `run_tests` asks for.
     fn carry(&mut self, acts: &mut WorkerActions, channel: u32, ask: Ask) -> Result<(), OutOfMemory>
-        ensures { (t : Turn) → Stands self.old acts.old t → OnOk result (Stands self.new acts.new (asked channel ask t)) }
+        ensures { (t : Turn) → Stands self.old acts.old t → AllOpen (asked channel ask t).logs → OnOk result (Stands self.new acts.new (asked channel ask t)) }
     {
         match ask {
             Ask::Tell(event) => {
@@ -214,7 +226,7 @@ impl WorkerCore {
         channel: u32,
         asks: Vec<Ask>,
     ) -> Result<(), OutOfMemory>
-        ensures { (t : Turn) → Stands self.old acts.old t → OnOk result (Stands self.new acts.new (all_asked channel asks.items t)) }
+        ensures { (t : Turn) → Stands self.old acts.old t → AllOpen (all_asked channel asks.items t).logs → OnOk result (Stands self.new acts.new (all_asked channel asks.items t)) }
     {
         for ask in asks {
             self.carry(acts, channel, ask)?;
@@ -230,7 +242,7 @@ impl WorkerCore {
         channels: u32,
     ) -> Result<(), OutOfMemory>
         requires { CanTake input }
-        ensures { (t : Turn) → Stands self.old acts.old t → OnOk result (Stands self.new acts.new (fed input channels t)) }
+        ensures { (t : Turn) → Stands self.old acts.old t → AllOpen (fed input channels t).logs → OnOk result (Stands self.new acts.new (fed input channels t)) }
     {
         let Some(fed) = feed(&mut self.runner, input, channels)? else {
             return Ok(());
@@ -242,7 +254,7 @@ impl WorkerCore {
 
     // Nothing is said any more, and no test starts.
     fn stop(&mut self, acts: &mut WorkerActions, channels: u32) -> Result<(), OutOfMemory>
-        ensures { (t : Turn) → Stands self.old acts.old t → OnOk result (Stands self.new acts.new (stopped channels t)) }
+        ensures { (t : Turn) → Stands self.old acts.old t → AllOpen (stopped channels t).logs → OnOk result (Stands self.new acts.new (stopped channels t)) }
     {
         self.stopped = true;
         self.feed(acts, Input::Stop, channels)?;

@@ -25,6 +25,7 @@ impl WorkerCore {
     ghost use Rattle.xd_worker.specs.Worker.{Worker, Turn, Service, Duties, turn_of, executing, serving};
     ghost use Rattle.xd_worker.specs.Turns.{at_talk, did, did_unless, is_service};
     ghost use Rattle.xd_worker.specs.History.{IsToRefuse};
+    ghost use Rattle.xd_worker.specs.Logs.{AllOpen, LogsOpen};
     ghost use Rattle.xd_worker.specs.Stands.{Stands, AreServices, AreDuties, Does, IsFault, IsSmall};
 
     // How many functions have not ended.
@@ -70,7 +71,7 @@ impl WorkerCore {
         value: &Value,
         channels: u32,
     ) -> Result<(), OutOfMemory>
-        ensures { (t : Turn) → Stands self.old acts.old t → OnOk result (Stands self.new acts.new (did (taken.Handed number (view value.now)) channels t)) }
+        ensures { (t : Turn) → Stands self.old acts.old t → AllOpen (did (taken.Handed number (view value.now)) channels t).logs → OnOk result (Stands self.new acts.new (did (taken.Handed number (view value.now)) channels t)) }
     {
         if self.is_service(number) {
             let order = value_order(self.alloc, value)?;
@@ -89,7 +90,7 @@ impl WorkerCore {
         number: u32,
         channels: u32,
     ) -> Result<(), OutOfMemory>
-        ensures { (t : Turn) (end : End) → Stands self.old acts.old t → OnOk result (Stands self.new acts.new (did (taken.EndHanded number end) channels t)) }
+        ensures { (t : Turn) (end : End) → Stands self.old acts.old t → AllOpen (did (taken.EndHanded number end) channels t).logs → OnOk result (Stands self.new acts.new (did (taken.EndHanded number end) channels t)) }
     {
         if self.is_service(number) {
             self.feed(acts, Input::ReceivingEnded, channels)?;
@@ -108,7 +109,7 @@ impl WorkerCore {
         channels: u32,
     ) -> Result<(), OutOfMemory>
         requires { IsSmall (taken_tree taken) }
-        ensures { (t : Turn) → Stands self.old acts.old t → OnOk result (Stands self.new acts.new (did (taken_tree taken) channels t)) }
+        ensures { (t : Turn) → Stands self.old acts.old t → AllOpen (did (taken_tree taken) channels t).logs → OnOk result (Stands self.new acts.new (did (taken_tree taken) channels t)) }
     {
         match taken {
             Taken::Status(number) => {
@@ -142,7 +143,7 @@ impl WorkerCore {
         taken: Taken,
     ) -> Result<(), OutOfMemory>
         requires { IsSmall (taken_tree taken) }
-        ensures { OnOk result ((n : ℕ) × Counts (slot_of self.old.side) n × ((t : Turn) → Stands self.old acts.old t → Stands self.new acts.new (did_unless t.duties.stopped (taken_tree taken) n t))) }
+        ensures { OnOk result ((n : ℕ) × Counts (slot_of self.old.side) n × ((t : Turn) → Stands self.old acts.old t → AllOpen (did_unless t.duties.stopped (taken_tree taken) n t).logs → Stands self.new acts.new (did_unless t.duties.stopped (taken_tree taken) n t))) }
     {
         let channels = self.channels();
         if self.stopped {
@@ -158,7 +159,7 @@ impl WorkerCore {
         acts: &mut WorkerActions,
         message: Message,
     ) -> Result<(), WorkerFault>
-        ensures does { (w : Worker) → Stands self.old acts.old (turn_of w) → OnOk result (Does self.new acts.new w (MessageCame message)) }
+        ensures does { (w : Worker) → Stands self.old acts.old (turn_of w) → LogsOpen w → OnOk result (Does self.new acts.new w (MessageCame message)) }
         ensures refused { (w : Worker) → Stands self.old acts.old (turn_of w) → IfErr result (IsFault w (MessageCame message)) }
         ensures refuses { (w : Worker) (fault : SideFault) → Stands self.old acts.old (turn_of w) → IsToRefuse w (MessageCame message) fault → IsRefusal fault result }
     {
@@ -175,7 +176,7 @@ impl WorkerCore {
 
     // The link ended.
     pub(super) fn take_link_end(&mut self, acts: &mut WorkerActions) -> Result<(), OutOfMemory>
-        ensures { (w : Worker) → Stands self.old acts.old (turn_of w) → OnOk result (Does self.new acts.new w LinkEnd) }
+        ensures { (w : Worker) → Stands self.old acts.old (turn_of w) → LogsOpen w → OnOk result (Does self.new acts.new w LinkEnd) }
     {
         lose(&mut self.side)?;
         let channels = self.channels();

@@ -17,6 +17,7 @@ impl WorkerCore {
     ghost use Rattle.xd_suite.specs.declared.test.Test.{Test};
     ghost use Rattle.xd_worker.specs.Worker.{Worker, Turn, Service, turn_of};
     ghost use Rattle.xd_worker.specs.Turns.{SuiteRead, NoSuite, ids_of, suite_read, suite_refused, turned};
+    ghost use Rattle.xd_worker.specs.Logs.{AllOpen, LogsOpen};
     ghost use Rattle.xd_worker.specs.Stands.{Stands, AreServices, Does};
 
     // The ids of a suite, in the mode of the call.
@@ -42,7 +43,7 @@ impl WorkerCore {
         suite: Suite,
         channels: u32,
     ) -> Result<(), OutOfMemory>
-        ensures { (t : Turn) → Stands self.old acts.old t → OnOk result (Stands self.new acts.new (suite_read suite channels t)) }
+        ensures { (t : Turn) → Stands self.old acts.old t → AllOpen (suite_read suite channels t).logs → OnOk result (Stands self.new acts.new (suite_read suite channels t)) }
     {
         let ids = self.ids(&suite)?;
         let input = collection(self.alloc, ids)?;
@@ -58,7 +59,7 @@ impl WorkerCore {
         text: Text,
         channels: u32,
     ) -> Result<(), OutOfMemory>
-        ensures { (t : Turn) → Stands self.old acts.old t → OnOk result (Stands self.new acts.new (suite_refused text channels t)) }
+        ensures { (t : Turn) → Stands self.old acts.old t → AllOpen (suite_refused text channels t).logs → OnOk result (Stands self.new acts.new (suite_refused text channels t)) }
     {
         self.owed = false;
         self.feed(acts, Input::SuiteRefused(text), channels)?;
@@ -71,7 +72,7 @@ impl WorkerCore {
         acts: &mut WorkerActions,
         bytes: Blob,
     ) -> Result<(), OutOfMemory>
-        ensures { (w : Worker) → Stands self.old acts.old (turn_of w) → OnOk result (Does self.new acts.new w (SuiteBytes bytes)) }
+        ensures { (w : Worker) → Stands self.old acts.old (turn_of w) → LogsOpen w → OnOk result (Does self.new acts.new w (SuiteBytes bytes)) }
     {
         let channels = self.channels();
         match read_suite(self.alloc, &bytes)? {
@@ -92,7 +93,7 @@ impl WorkerCore {
         suite: Suite,
         channels: u32,
     ) -> Result<(), OutOfMemory>
-        ensures { (t : Turn) → Stands self.old acts.old t → OnOk result (Stands self.new acts.new (turned (SuiteRead suite) channels t)) }
+        ensures { (t : Turn) → Stands self.old acts.old t → AllOpen (turned (SuiteRead suite) channels t).logs → OnOk result (Stands self.new acts.new (turned (SuiteRead suite) channels t)) }
     {
         if self.owed {
             self.hold(acts, suite, channels)?;
@@ -106,7 +107,7 @@ impl WorkerCore {
         text: Text,
         channels: u32,
     ) -> Result<(), OutOfMemory>
-        ensures { (t : Turn) → Stands self.old acts.old t → OnOk result (Stands self.new acts.new (turned (NoSuite text) channels t)) }
+        ensures { (t : Turn) → Stands self.old acts.old t → AllOpen (turned (NoSuite text) channels t).logs → OnOk result (Stands self.new acts.new (turned (NoSuite text) channels t)) }
     {
         if self.owed {
             self.refuse_suite(acts, text, channels)?;
@@ -116,7 +117,7 @@ impl WorkerCore {
 
     // The suite file is too large.
     pub(super) fn take_large(&mut self, acts: &mut WorkerActions) -> Result<(), OutOfMemory>
-        ensures { (w : Worker) → Stands self.old acts.old (turn_of w) → OnOk result (Does self.new acts.new w SuiteTooLarge) }
+        ensures { (w : Worker) → Stands self.old acts.old (turn_of w) → LogsOpen w → OnOk result (Does self.new acts.new w SuiteTooLarge) }
     {
         let channels = self.channels();
         let text = large_suite_word(self.alloc)?;
@@ -126,7 +127,7 @@ impl WorkerCore {
 
     // The suite file cannot be read.
     pub(super) fn take_unread(&mut self, acts: &mut WorkerActions) -> Result<(), OutOfMemory>
-        ensures { (w : Worker) → Stands self.old acts.old (turn_of w) → OnOk result (Does self.new acts.new w SuiteUnread) }
+        ensures { (w : Worker) → Stands self.old acts.old (turn_of w) → LogsOpen w → OnOk result (Does self.new acts.new w SuiteUnread) }
     {
         let channels = self.channels();
         let text = unread_suite_word(self.alloc)?;
@@ -140,7 +141,7 @@ impl WorkerCore {
         acts: &mut WorkerActions,
         bytes: Blob,
     ) -> Result<(), OutOfMemory>
-        ensures { (w : Worker) → Stands self.old acts.old (turn_of w) → OnOk result (Does self.new acts.new w (Output bytes)) }
+        ensures { (w : Worker) → Stands self.old acts.old (turn_of w) → LogsOpen w → OnOk result (Does self.new acts.new w (Output bytes)) }
     {
         let channels = self.channels();
         self.feed(acts, Input::Output(bytes), channels)?;
@@ -154,7 +155,7 @@ impl WorkerCore {
         outcome: Outcome,
         ms: u64,
     ) -> Result<(), OutOfMemory>
-        ensures { (w : Worker) → Stands self.old acts.old (turn_of w) → OnOk result (Does self.new acts.new w (ChildDone outcome ms)) }
+        ensures { (w : Worker) → Stands self.old acts.old (turn_of w) → LogsOpen w → OnOk result (Does self.new acts.new w (ChildDone outcome ms)) }
     {
         let channels = self.channels();
         self.feed(acts, Input::Done { outcome, ms }, channels)?;

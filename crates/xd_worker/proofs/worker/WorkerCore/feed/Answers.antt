@@ -1,12 +1,13 @@
 use Rattle.std.proofs.Common.{Option, sym, subst, refl}
 use Rattle.xd_worker.specs.declared.runner.Fed.{Fed}
 use Rattle.xd_worker.specs.Worker.{Turn}
+use Rattle.xd_worker.specs.Logs.{AllOpen}
 use Rattle.xd_worker.specs.Stands.{Stands, HasFed}
 use Rattle.xd_worker.proofs.Standing.{fed_something}
 use Rattle.xd_worker.proofs.worker.WorkerCore.feed.Goals as goal
 
 pub returns : goal.returns
-returns c = λ t h.
+returns c = λ t h l.
     let s = t.duties.service in
     let k = subst (λ (o : Option Fed). HasFed c.feed.new.runner s c.args.input c.args.channels o) c.in-Some.is (c.in_ok-fed.ensures s h.duties_are.services_are) in
     let r = fed_something c.feed.new.runner s c.args.input c.args.channels t c.in-Some.fed k in
@@ -24,4 +25,5 @@ returns c = λ t h.
       };
       suite_is = h.suite_is;
       run_is = refl;
-    }))
+    })
+    (subst (λ (x : Turn). AllOpen x.logs) r.2 l))
