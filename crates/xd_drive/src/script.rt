@@ -150,7 +150,8 @@ fn test(alloc: Global, words: &str, news: &mut VecDeque<News>) -> Result<(), Fai
     let index = number(words.next().ok_or("a test")?)?;
     let outcome = words.next().ok_or("an outcome")?;
     let ms = words.next().ok_or("a duration")?;
-    let log = (news.len() as u32).wrapping_mul(2).wrapping_add(2);
+    let before = u32::try_from(news.len()).ok().ok_or("fewer news")?;
+    let log = before.wrapping_mul(2).wrapping_add(2);
     say(worker, What::LogStart { index, log }, news)?;
     if let Some(words) = words.next() {
         let bytes = output(alloc, words)?;
