@@ -2,14 +2,18 @@
 //! say, one function for each of them. Plain and slow: it is what other programs are compared with.
 #![tactic(auto)]
 
+mod arrivals;
 mod books;
 mod collections;
+mod departures;
 mod each;
 mod histories;
 mod load;
 mod modes;
+mod moves;
 mod numbers;
 mod plan;
+mod results;
 mod rule;
 mod scope_modes;
 mod scopes;

@@ -1,3 +1,4 @@
+pub mod Alone
 pub mod NewLines
 pub mod Ran
 pub mod Refused

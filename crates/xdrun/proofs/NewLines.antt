@@ -9,8 +9,7 @@ use Rattle.xd_ledger.specs.declared.entry.Outcome.{Outcome}
 use Rattle.xd_ledger.specs.declared.journal.Journal.{Journal}
 use Rattle.xd_ledger.specs.declared.settings.Settings.{Settings}
 use Rattle.xd_ledger.specs.Kept.{room_behind}
-use Rattle.xd_ledger.specs.Legal.{round}
-use Rattle.xd_ledger.specs.Results.{TestResult}
+use Rattle.xd_ledger.specs.Local.{TestResult, round}
 use Rattle.xd_ledger.specs.Sharing.{State}
 use Rattle.xd_ledger.specs.State.{all_moved, no_one}
 use Rattle.xd_report.specs.declared.reporter.Reporter.{Reporter}

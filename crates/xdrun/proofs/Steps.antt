@@ -18,13 +18,12 @@ use Rattle.xd_ledger.specs.declared.entry.Outcome.TheVariants.{Passed, Skipped, 
 use Rattle.xd_ledger.specs.declared.journal.Journal.{Journal}
 use Rattle.xd_ledger.specs.declared.settings.Settings.{Settings}
 use Rattle.xd_ledger.specs.Kept.{most_of_one, room_behind, kept_of}
-use Rattle.xd_ledger.specs.Legal.{round, rounds, local_entries}
-use Rattle.xd_ledger.specs.Results.{TestResult}
+use Rattle.xd_ledger.specs.Local.{TestResult, round, rounds, local_entries}
 use Rattle.xd_ledger.specs.State.{all_moved, no_one}
 use Rattle.xd_report.specs.Lines.{lines_from, run_lines}
 use Rattle.xd_report.proofs.Texts.{lines-more}
-use Rattle.xdrun.specs.Child.{fault_count, faults_of, outcome_of, RanChild}
-use Rattle.xdrun.specs.Local.{kept_by, kept_outputs, Progress, RanAll, RanTest, RanTests, SoFar}
+use Rattle.xdrun.specs.Child.{fault_count, outcome_of, RanChild}
+use Rattle.xdrun.specs.Local.{kept_by, kept_outputs, result_faults, Progress, RanAll, RanTest, RanTests, SoFar}
 use Rattle.xdrun.specs.Print.{Shows}
 
 rounds-last : (n : ℕ) (rs : List TestResult) (r : TestResult) → rounds n (rs ++ r ∷ []) ≡ rounds n rs ++ round (n + length rs) r
@@ -170,9 +169,9 @@ module _ (tests : List Test) where
         entries = grown;
         ran = one_more p.results more.result runs0 runs1 runs2 (omega (arith, p.counted)) p.so_far.ran (subst (λ n. RanChild (run_at tests (length p.results)) (room_behind n) more.result.outcome more.result.output runs1 runs2) p.spent_is (subst (λ n. RanChild (run_at tests n) (room_behind spent1) more.result.outcome more.result.output runs1 runs2) (sym p.counted) more.ran));
         faults =
-            let total : faults_of results ≡ faults_of p.results + fault_count more.result.outcome =
+            let total : result_faults results ≡ result_faults p.results + fault_count more.result.outcome =
             omega (arith, sum_by-append (λ (r : TestResult). fault_count r.outcome) p.results (more.result ∷ [])) in
-            subst (λ n. RoseBy n faults0 faults2) (sym total) (rose_more (faults_of p.results) (fault_count more.result.outcome) faults0 faults1 faults2 p.so_far.faults more.faults later);
+            subst (λ n. RoseBy n faults0 faults2) (sym total) (rose_more (result_faults p.results) (fault_count more.result.outcome) faults0 faults1 faults2 p.so_far.faults more.faults later);
         few_kept = few_more p.results more.result spent1 p.so_far.few_kept low;
         few_in_all = (let t = total_kept in let l = low in let s = p.spent_is in let f = p.so_far.few_in_all in grind (arith, common_steps));
       }

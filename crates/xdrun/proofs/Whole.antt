@@ -1,38 +1,33 @@
 -- A whole run, with its end.
-use Rattle.std.proofs.Common.{◌≡◌, ℕ, ◌+◌, inl, inr, Bool, true, false, List, [], ◌∷◌, ◌++◌, length, map, take, Option, refl, sym, ◌∙◌, ap, subst, arith}
+use Rattle.std.proofs.Common.{◌≡◌, ℕ, ◌+◌, inl, inr, Bool, true, false, List, [], ◌∷◌, ◌++◌, length, map, take, Option, None, refl, sym, ◌∙◌, ap, subst, arith}
 use Rattle.std.proofs.lemmas.List.{length-map}
 use Rattle.xd_edge.specs.Children.{ChildRun}
-use Rattle.xd_edge.specs.Faults.{Rose, RoseBy}
+use Rattle.xd_edge.specs.Faults.{Rose, RoseBy, StoodStill}
 use Rattle.xd_edge.specs.Sink.{Sunk}
 use Rattle.xd_suite.specs.declared.test.Test.{Test}
 use Rattle.xd_ledger.specs.declared.settings.Settings.{Settings}
 use Rattle.xd_ledger.specs.declared.entry.Entry.{Entry}
-use Rattle.xd_ledger.specs.declared.entry.Entry.TheVariants.{Over}
+use Rattle.xd_ledger.specs.declared.entry.Entry.TheVariants.{Collected, Over}
+use Rattle.xd_ledger.specs.declared.entry.Ids.TheVariants.{List as Listed}
 use Rattle.xd_ledger.specs.declared.entry.RunStop.{RunStop}
 use Rattle.xd_ledger.specs.declared.entry.RunStop.TheVariants.{Completed, OutFault}
 use Rattle.xd_ledger.specs.declared.journal.Journal.{Journal}
-use Rattle.std.specs.List.{list_all}
-use Rattle.std.specs.Prelude.{nat_le, ◌≤◌}
-use Rattle.xd_ledger.specs.Kept.{most_of_one, most_of_all}
-use Rattle.xd_ledger.specs.Legal.{EndsSo, IsLegal, failed, local_entries, rounds}
-use Rattle.xd_ledger.specs.Results.{TestResult, ids_in, numbers_from, reported_in, results_in}
+use Rattle.std.specs.List.{range_with_len}
+use Rattle.std.specs.Prelude.{◌==◌, ◌||◌, ◌≤◌, ◌⊎◌, is_some, unwrap_or}
+use Rattle.xd_ledger.specs.Legal.{IsLegal, books_behind}
+use Rattle.xd_ledger.specs.Local.{TestResult, local_entries, rounds}
+use Rattle.xd_ledger.specs.Reports.{NamesInOrder, collected_in, item_of, reports, reports_in}
+use Rattle.xd_ledger.specs.Sharing.{State, ids_at}
+use Rattle.xd_ledger.specs.Stops.{is_stopped}
 use Rattle.xd_ledger.specs.Ending.{over_in, stop_of}
 use Rattle.xd_ledger.specs.Histories.{end_of}
-use Rattle.xd_ledger.specs.State.{state_at}
-use Rattle.xd_ledger.specs.Stop.{reaches}
+use Rattle.xd_ledger.specs.State.{next, no_one, state_at}
 use Rattle.xd_report.specs.Text.{run_text, text_of}
 use Rattle.xd_report.proofs.Texts.{over-same}
 use Rattle.xdrun.specs.Child.{faults_of}
-use Rattle.xdrun.specs.Local.{kept_by, RanPrinted, RanTests, RunsSuite, local_settings, stop_after}
+use Rattle.xdrun.proofs.Alone.{eq_same, faults-alone, items-alone, length-alone, lists-rounds, reports-rounds, reports_alone, unstopped-rounds}
+use Rattle.xdrun.specs.Local.{RanPrinted, RunsSuite, local_settings, stop_after}
 use Rattle.xdrun.specs.Print.{PrintsReport, Shows}
-
-results_in-rounds : (n : ℕ) (rs : List TestResult) (how : RunStop) → results_in (rounds n rs ++ Over how ∷ []) ≡ rs
-results_in-rounds n [] how = refl
-results_in-rounds n (r ∷ rs) how = ap (λ (l : List TestResult). r ∷ l) (results_in-rounds (n + 1) rs how)
-
-reported_in-rounds : (n : ℕ) (rs : List TestResult) (how : RunStop) → reported_in (rounds n rs ++ Over how ∷ []) ≡ numbers_from n (length rs)
-reported_in-rounds n [] how = refl
-reported_in-rounds n (r ∷ rs) how = ap (λ (l : List ℕ). n ∷ l) (reported_in-rounds (n + 1) rs how)
 
 over_in-rounds : (n : ℕ) (rs : List TestResult) (how other : RunStop) → over_in (rounds n rs ++ Over how ∷ []) other ≡ how
 over_in-rounds n [] how other = refl
@@ -56,53 +51,80 @@ module _ (tests : List Test) (j0 j1 : Journal) (shown : Bool) (runs0 runs1 : Opt
   entries_are : j1.entries.items ≡ local_entries ids e.ran.results ++ Over how ∷ []
   entries_are = e.ended ∙ ap (λ (l : List Entry). l ++ Over how ∷ []) e.ran.so_far.entries
 
-  ids_are : ids_in j1.entries.items ≡ ids
-  ids_are = ap ids_in entries_are
-
-  results_are : results_in j1.entries.items ≡ e.ran.results
-  results_are = ap results_in entries_are ∙ results_in-rounds 0 e.ran.results how
-
   stop_is : stop_of j1 ≡ how
   stop_is = ap (λ (es : List Entry). over_in es (end_of (state_at j1.settings j1.entries.items).books)) entries_are ∙ over_in-rounds 0 e.ran.results how (end_of (state_at j1.settings j1.entries.items).books)
 
-  never : (n : ℕ) → reaches j1.settings.maxfail n ≡ false
-  never n = ap (λ (s : Settings). reaches s.maxfail n) (e.same_settings ∙ e.settings)
+  -- behind the collection
+  abbrev start : State
+  start = next (no_one local_settings) (Collected 0 (Listed ids))
 
-  ends : EndsSo j1.settings.maxfail (length (ids_in j1.entries.items)) (results_in j1.entries.items) (stop_of j1)
+  settings_are : j1.settings ≡ local_settings
+  settings_are = e.same_settings ∙ e.settings
+
+  reports_are : reports_in j1 ≡ reports_alone 0 e.ran.results
+  reports_are =
+      ap (λ (st : Settings). reports st j1.entries.items) settings_are ∙ ap (reports local_settings) entries_are ∙ reports-rounds start 0 e.ran.results how refl
+
+  reports_count : length (reports_in j1) ≡ length e.ran.results
+  reports_count = ap length reports_are ∙ length-alone 0 e.ran.results
+
+  collected_are : collected_in j1 ≡ ids
+  collected_are =
+      ap (λ (st : Settings). ids_at 0 (state_at st j1.entries.items).books.lists) settings_are
+      ∙ ap (λ (es : List Entry). ids_at 0 (state_at local_settings es).books.lists) entries_are
+      ∙ ap (ids_at 0) (lists-rounds start 0 e.ran.results how)
+
+  never : (rs : List TestResult) → (books_behind j1.settings ids rs).stop ≡ None
+  never rs = ap (λ (st : Settings). (books_behind st ids rs).stop) settings_are ∙ unstopped-rounds start 0 rs refl refl
+
+  ends : (stop_of j1 ≡ OutFault)
+      ⊎ ((stop_of j1 ≡ end_of (books_behind j1.settings ids e.ran.results))
+      × ((is_stopped (books_behind j1.settings ids e.ran.results) || (length e.ran.results == length ids)) ≡ true))
   ends = by_end shown refl
     where
-      by_end : (b : Bool) → shown ≡ b → EndsSo j1.settings.maxfail (length (ids_in j1.entries.items)) (results_in j1.entries.items) (stop_of j1)
-      by_end true is_shown = inl (
-        stop_is ∙ ap stop_after is_shown,
-        omega (arith, e.ran.all is_shown, ap length results_are, ap length ids_are, length-map tests (λ (t : Test). t.id)),
-        never (failed (results_in j1.entries.items)),
+      by_end : (b : Bool) → shown ≡ b → (stop_of j1 ≡ OutFault)
+          ⊎ ((stop_of j1 ≡ end_of (books_behind j1.settings ids e.ran.results))
+          × ((is_stopped (books_behind j1.settings ids e.ran.results) || (length e.ran.results == length ids)) ≡ true))
+      by_end false is_shown = inl (stop_is ∙ ap stop_after is_shown)
+      by_end true is_shown = inr (
+        stop_is ∙ ap stop_after is_shown ∙ sym (ap (λ (s : Option RunStop). unwrap_or s Completed) (never e.ran.results)),
+        ap (λ (s : Option RunStop). is_some s || (length e.ran.results == length ids)) (never e.ran.results)
+            ∙ ap (λ n. n == length ids) (e.ran.all is_shown ∙ sym (length-map tests (λ (t : Test). t.id))) ∙ eq_same (length ids),
       )
-      by_end false is_shown = inr (inr (stop_is ∙ ap stop_after is_shown))
 
   pub legal : IsLegal j1
   legal = inl (record {
-    mode = ap (λ (s : Settings). s.mode) (e.same_settings ∙ e.settings);
-    entries = entries_are ∙ ap (λ (l : List (List ℕ)). local_entries l e.ran.results ++ Over how ∷ []) (sym ids_are)
-        ∙ ap (λ (l : List TestResult). local_entries (ids_in j1.entries.items) l ++ Over how ∷ []) (sym results_are)
-        ∙ ap (λ (s : RunStop). local_entries (ids_in j1.entries.items) (results_in j1.entries.items) ++ Over s ∷ []) (sym stop_is);
-    within = omega (arith, e.ran.within, ap length results_are, ap length ids_are, length-map tests (λ (t : Test). t.id));
-    unstopped = λ k h. never (failed (take k (results_in j1.entries.items)));
+    mode = ap (λ (s : Settings). s.mode) settings_are;
+    ids = ids;
+    results = e.ran.results;
+    entries = entries_are ∙ ap (λ (s : RunStop). local_entries ids e.ran.results ++ Over s ∷ []) (sym stop_is);
+    within = omega (arith, e.ran.within, length-map tests (λ (t : Test). t.id));
+    unstopped = λ k h. never (take k e.ran.results);
     ends = ends;
   })
 
   pub suite : RunsSuite tests j1 runs0 runs1
   suite = record {
-    ids = ids_are;
-    ran = subst (λ (rs : List TestResult). RanTests tests rs runs0 runs1) (sym results_are) e.ran.so_far.ran;
-    few_kept = subst (λ (rs : List TestResult). list_all (λ r. nat_le (length r.output) most_of_one) rs ≡ true) (sym results_are) e.ran.so_far.few_kept;
-    few_in_all = subst (λ (rs : List TestResult). kept_by rs ≤ most_of_all) (sym results_are) e.ran.so_far.few_in_all;
+    results = e.ran.results;
+    entries = entries_are ∙ ap (λ (s : RunStop). local_entries ids e.ran.results ++ Over s ∷ []) (sym stop_is);
+    ran = e.ran.so_far.ran;
+    few_kept = e.ran.so_far.few_kept;
+    few_in_all = e.ran.so_far.few_in_all;
   }
 
-  pub once : reported_in j1.entries.items ≡ numbers_from 0 (length (results_in j1.entries.items))
-  once = ap reported_in entries_are ∙ reported_in-rounds 0 e.ran.results how ∙ ap (λ (rs : List TestResult). numbers_from 0 (length rs)) (sym results_are)
+  pub once : NamesInOrder j1
+  once = record {
+    in_order = ap (map item_of) reports_are ∙ items-alone 0 e.ran.results ∙ ap (range_with_len 0) (sym reports_count);
+    within = omega (arith, e.ran.within, reports_count, ap length collected_are, length-map tests (λ (t : Test). t.id));
+    all = λ completed. by_end completed shown refl;
+  }
+    where
+      by_end : stop_of j1 ≡ Completed → (b : Bool) → shown ≡ b → length (reports_in j1) ≡ length (collected_in j1)
+      by_end completed true is_shown = omega (arith, e.ran.all is_shown, reports_count, ap length collected_are, length-map tests (λ (t : Test). t.id))
+      by_end completed false is_shown = let no : OutFault ≡ Completed = sym (stop_is ∙ ap stop_after is_shown) ∙ completed in absurd (cc)
 
-  pub child_faults : RoseBy (faults_of (results_in j1.entries.items)) faults0 faults1
-  child_faults = subst (λ (rs : List TestResult). RoseBy (faults_of rs) faults0 faults1) (sym results_are) e.ran.so_far.faults
+  pub child_faults : RoseBy (faults_of (reports_in j1)) faults0 faults1
+  child_faults = subst (λ n. RoseBy n faults0 faults1) (sym (ap faults_of reports_are ∙ faults-alone 0 e.ran.results)) e.ran.so_far.faults
 
   pub out_fault : (before now : ℕ) → (shown ≡ false → Rose before now) → stop_of j1 ≡ OutFault → Rose before now
   out_fault before now rose stopped = by_end shown refl
@@ -110,6 +132,13 @@ module _ (tests : List Test) (j0 j1 : Journal) (shown : Bool) (runs0 runs1 : Opt
       by_end : (b : Bool) → shown ≡ b → Rose before now
       by_end true is_shown = let no : Completed ≡ OutFault = sym (stop_is ∙ ap stop_after is_shown) ∙ stopped in absurd (cc)
       by_end false is_shown = rose is_shown
+
+  pub completed : (before now : ℕ) → (shown ≡ false → Rose before now) → StoodStill before now → stop_of j1 ≡ Completed
+  completed before now rose still = by_end shown refl
+    where
+      by_end : (b : Bool) → shown ≡ b → stop_of j1 ≡ Completed
+      by_end true is_shown = stop_is ∙ ap stop_after is_shown
+      by_end false is_shown = let more : before + 1 ≤ now = rose is_shown still.1 in absurd (omega (arith, more, still.0))
 
   text_same : text_of j1 ≡ text_of j0
   text_same = ap (λ (st : Settings). run_text st j1.entries.items) e.same_settings ∙ ap (run_text j0.settings) e.ended ∙ over-same how j0.settings j0.entries.items

@@ -8,7 +8,8 @@ use Rattle.xd_edge.specs.Children.{ChildRun, AddsRun, ChangesRun, with_output, w
 use Rattle.xd_ledger.specs.declared.entry.Outcome.{Outcome}
 use Rattle.xd_ledger.specs.declared.entry.Outcome.TheVariants.{Passed, Skipped, Failed}
 use Rattle.xd_ledger.specs.Kept.{kept_of}
-use Rattle.xd_ledger.specs.Results.{TestResult}
+use Rattle.xd_ledger.specs.Reports.{Report}
+use Rattle.xd_ledger.specs.Reports.Report.{Result, Crash}
 
 -- of a child that was waited for
 abbrev pub outcome_of_end : ChildEnd → Outcome
@@ -59,5 +60,9 @@ fault_count (Failed (negsuc (suc zero))) = 1
 fault_count (Failed (negsuc (suc (suc zero)))) = 1
 fault_count _ = 0
 
-abbrev pub faults_of : List TestResult → ℕ
-faults_of rs = sum_by (λ r. fault_count r.outcome) rs
+abbrev pub report_faults : Report → ℕ
+report_faults (Result w item outcome) = fault_count outcome
+report_faults (Crash w item) = 0
+
+abbrev pub faults_of : List Report → ℕ
+faults_of rs = sum_by report_faults rs

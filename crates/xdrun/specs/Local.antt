@@ -1,5 +1,5 @@
 -- A run in the program itself, as far as it came.
-use Rattle.std.specs.Prelude.{ℕ, ◌≡◌, ◌+◌, ◌≤◌, nat_le, Bool, true, false, List, [], ◌∷◌, ◌++◌, map, take, length, Option, Some, None, option_map, unwrap_or}
+use Rattle.std.specs.Prelude.{ℕ, ◌≡◌, ◌+◌, ◌≤◌, nat_le, Bool, true, false, List, [], ◌∷◌, ◌++◌, map, take, length, sum_by, Option, Some, None, option_map, unwrap_or}
 use Rattle.std.specs.List.{list_all}
 use Rattle.xd_edge.specs.declared.mode.ModeKind.TheVariants.{Local}
 use Rattle.xd_edge.specs.Children.{ChildRun}
@@ -9,18 +9,19 @@ use Rattle.xd_suite.specs.declared.test.Test.{Test}
 use Rattle.xd_ledger.specs.declared.settings.Settings.{Settings}
 use Rattle.xd_ledger.specs.declared.entry.Entry.{Entry}
 use Rattle.xd_ledger.specs.declared.entry.Outcome.{Outcome}
+use Rattle.xd_ledger.specs.declared.entry.Entry.TheVariants.{Over}
 use Rattle.xd_ledger.specs.declared.entry.RunStop.{RunStop}
 use Rattle.xd_ledger.specs.declared.entry.RunStop.TheVariants.{Completed, OutFault}
 use Rattle.xd_ledger.specs.declared.journal.Journal.{Journal}
 use Rattle.xd_ledger.specs.Kept.{most_of_one, most_of_all, room_behind, kept_of}
-use Rattle.xd_ledger.specs.Legal.{round, local_entries}
-use Rattle.xd_ledger.specs.Results.{TestResult, ids_in, results_in}
+use Rattle.xd_ledger.specs.Ending.{stop_of}
+use Rattle.xd_ledger.specs.Local.{TestResult, round, local_entries}
 use Rattle.xd_ledger.specs.State.{all_moved, no_one}
 use Rattle.xd_report.specs.declared.reporter.Reporter.{Reporter}
 use Rattle.xd_report.specs.Follows.{Follows}
 use Rattle.xd_report.specs.Lines.{lines_from, run_lines}
 use Rattle.xd_report.specs.Text.{text_of}
-use Rattle.xdrun.specs.Child.{fault_count, faults_of, outcome_of, RanChild}
+use Rattle.xdrun.specs.Child.{fault_count, outcome_of, RanChild}
 use Rattle.xdrun.specs.Print.{Shows}
 
 -- without workers, and without a limit on failures
@@ -48,13 +49,18 @@ pub record RanTests (tests : List Test) (results : List TestResult) (old new : O
   pub outputs : map (λ r. r.output) results ≡ kept_outputs 0 runs
   pub added : new ≡ option_map (λ l. l ++ runs) old
 
--- The journal has the ids of these tests, its results are those of their programs, and what it keeps of their output
--- is within the limits.
+-- how many faults of the outside these results stand for
+abbrev pub result_faults : List TestResult → ℕ
+result_faults rs = sum_by (λ r. fault_count r.outcome) rs
+
+-- The journal is the collection of these tests, their results and the end; the results are those of their programs, and
+-- what they keep of their output is within the limits.
 pub record RunsSuite (tests : List Test) (j : Journal) (old new : Option (List ChildRun)) : Type 0 where
-  pub ids : ids_in j.entries.items ≡ map (λ t. t.id) tests
-  pub ran : RanTests tests (results_in j.entries.items) old new
-  pub few_kept : list_all (λ r. nat_le (length r.output) most_of_one) (results_in j.entries.items) ≡ true
-  pub few_in_all : kept_by (results_in j.entries.items) ≤ most_of_all
+  pub results : List TestResult
+  pub entries : j.entries.items ≡ local_entries (map (λ t. t.id) tests) results ++ Over (stop_of j) ∷ []
+  pub ran : RanTests tests results old new
+  pub few_kept : list_all (λ r. nat_le (length r.output) most_of_one) results ≡ true
+  pub few_in_all : kept_by results ≤ most_of_all
 
 -- the entries grew by the run of a test and its result
 abbrev pub AddsRound : ℕ → Outcome → ℕ → List ℕ → List Entry → List Entry → Type 0
@@ -77,7 +83,7 @@ pub record RanTest (shown : Bool) (test : ℕ) (args : List (List ℕ)) (spent_o
 pub record SoFar (results : List TestResult) (tests : List Test) (ids : List (List ℕ)) (es : List Entry) (runs_old runs_new : Option (List ChildRun)) (faults_old faults_new : ℕ) : Type 0 where
   pub entries : es ≡ local_entries ids results
   pub ran : RanTests tests results runs_old runs_new
-  pub faults : RoseBy (faults_of results) faults_old faults_new
+  pub faults : RoseBy (result_faults results) faults_old faults_new
   pub few_kept : list_all (λ r. nat_le (length r.output) most_of_one) results ≡ true
   pub few_in_all : kept_by results ≤ most_of_all
 

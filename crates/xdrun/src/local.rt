@@ -1,11 +1,12 @@
 // The tests of a suite, one after another in this program.
 ghost use Rattle.std.specs.Prelude.{◌≡◌, ◌<◌, ◌≤◌, [], map, false, Ok, drop, length, IfOk, OnOk};
-ghost use Rattle.xd_edge.specs.Faults.{Rose, RoseBy};
+ghost use Rattle.xd_edge.specs.Faults.{Rose, RoseBy, StoodStill};
 ghost use Rattle.xd_suite.specs.Tests.{run_at};
-ghost use Rattle.xd_ledger.specs.declared.entry.RunStop.TheVariants.{OutFault};
+ghost use Rattle.xd_ledger.specs.declared.entry.RunStop.TheVariants.{Completed, OutFault};
 ghost use Rattle.xd_ledger.specs.Kept.{most_of_all, room_behind};
-ghost use Rattle.xd_ledger.specs.Legal.{IsLegal, local_entries};
-ghost use Rattle.xd_ledger.specs.Results.{numbers_from, reported_in, results_in};
+ghost use Rattle.xd_ledger.specs.Legal.{IsLegal};
+ghost use Rattle.xd_ledger.specs.Local.{local_entries};
+ghost use Rattle.xd_ledger.specs.Reports.{NamesInOrder, reports_in};
 ghost use Rattle.xd_ledger.specs.Ending.{stop_of};
 ghost use Rattle.xd_ledger.specs.Sharing.{State};
 ghost use Rattle.xd_ledger.specs.State.{all_moved};
@@ -43,10 +44,11 @@ pub fn run_suite<R: Wait, K: Children, T: Clock, O: Sink>(
     ensures legal { IfOk result IsLegal }
     ensures settings { IfOk result (λ j. j.settings ≡ local_settings) }
     ensures suite { IfOk result (λ j. RunsSuite suite.now j (K.runs children.old) (K.runs children.new)) }
-    ensures once { IfOk result (λ j. reported_in j.entries.items ≡ numbers_from 0 (length (results_in j.entries.items))) }
+    ensures once { IfOk result NamesInOrder }
     ensures printed { IfOk result (λ j. PrintsReport (stop_of j) (text_of j) (O.sunk out.old) (O.sunk out.new)) }
     ensures out_fault { IfOk result (λ j. stop_of j ≡ OutFault → Rose (O.faults out.old) (O.faults out.new)) }
-    ensures child_faults { IfOk result (λ j. RoseBy (faults_of (results_in j.entries.items)) (K.faults children.old) (K.faults children.new)) }
+    ensures completed { IfOk result (λ j. StoodStill (O.faults out.old) (O.faults out.new) → stop_of j ≡ Completed) }
+    ensures child_faults { IfOk result (λ j. RoseBy (faults_of (reports_in j)) (K.faults children.old) (K.faults children.new)) }
 {
     let mut journal = Journal::new(alloc, local_settings());
     let ids = suite.ids(alloc, ModeKind::Local)?;

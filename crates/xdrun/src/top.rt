@@ -4,7 +4,7 @@ ghost use Rattle.xd_edge.specs.Faults.{Rose, RoseBy, StoodStill};
 ghost use Rattle.xd_suite.specs.declared.test.Test.{Test};
 ghost use Rattle.xd_ledger.specs.declared.entry.RunStop.TheVariants.{Completed, OutFault};
 ghost use Rattle.xd_ledger.specs.Legal.{IsLegal};
-ghost use Rattle.xd_ledger.specs.Results.{numbers_from, reported_in, results_in};
+ghost use Rattle.xd_ledger.specs.Reports.{NamesInOrder, reports_in};
 ghost use Rattle.xd_ledger.specs.Ending.{stop_of};
 ghost use Rattle.xd_report.specs.Status.{status_of};
 ghost use Rattle.xd_report.specs.Text.{text_of};
@@ -68,13 +68,13 @@ pub fn xdrun<R: Wait, F: Files, K: Children, T: Clock, O: Sink, E: Sink>(
     ensures legal { IfOk result (λ e. IfSome e.journal IsLegal) }
     ensures settings { IfOk result (λ e. IfSome e.journal (λ j. j.settings ≡ local_settings)) }
     ensures suite { IfOk result (λ e. IfSome e.journal (λ j. RunsNamed words.now (F.held files.old) j (K.runs children) (K.runs e.children))) }
-    ensures once { IfOk result (λ e. IfSome e.journal (λ j. reported_in j.entries.items ≡ numbers_from 0 (length (results_in j.entries.items)))) }
+    ensures once { IfOk result (λ e. IfSome e.journal NamesInOrder) }
     ensures printed { IfOk result (λ e. IfSome e.journal (λ j. PrintsReport (stop_of j) (text_of j) (O.sunk out.old) (O.sunk out.new))) }
     ensures status { IfOk result (λ e. IfSome e.journal (λ j. e.status ≡ status_of j)) }
 
     // The outside's faults, where they show.
     ensures out_fault { IfOk result (λ e. IfSome e.journal (λ j. stop_of j ≡ OutFault → Rose (O.faults out.old) (O.faults out.new))) }
-    ensures child_faults { IfOk result (λ e. IfSome e.journal (λ j. RoseBy (faults_of (results_in j.entries.items)) (K.faults children) (K.faults e.children))) }
+    ensures child_faults { IfOk result (λ e. IfSome e.journal (λ j. RoseBy (faults_of (reports_in j)) (K.faults children) (K.faults e.children))) }
 
     // No run: the messages of a file, or a refusal, which has status 4.
     ensures messages { IfOk result (λ e. IfNone e.journal (e.status ≢ 4 → PrintsMessages words.now (F.held files.old) (Rose (O.faults out.old) (O.faults out.new)) e.status (O.sunk out.old) (O.sunk out.new))) }
