@@ -1,7 +1,5 @@
 -- A session that was driven to its end.
 use Rattle.std.proofs.Common.{◌≡◌, ℕ, ◌-◌, List, [], ◌∷◌, ◌++◌, length, take, drop, filter, Bool, true, false, Option, Some, None, refl, ap, sym, ◌∙◌, subst, inr}
-use Rattle.std.specs.Prelude.{IfSome}
-use Rattle.std.specs.List.{list_all}
 use Rattle.std.proofs.lemmas.List.{append-nil, drop-append-le, take-append-le, take_rest}
 use Rattle.std.proofs.lemmas.List.Elements.{filter-append}
 use Rattle.xd_edge.specs.Sink.{Sunk, PrintedPart}
@@ -11,18 +9,16 @@ use Rattle.xd_ledger.specs.declared.journal.Journal.{Journal}
 use Rattle.xd_ledger.specs.declared.entry.Entry.{Entry}
 use Rattle.xd_ledger.specs.declared.entry.Entry.TheVariants.{Ready, Collected, Done, Back, Finished, Refused, Down, NotStarted, Start, Run, RunAll, Steal, Shutdown, Kill, Over}
 use Rattle.xd_ledger.specs.Books.{Books}
-use Rattle.xd_ledger.specs.Ending.{ending, may_close}
+use Rattle.xd_ledger.specs.Ending.{ending, may_close, stop_of}
 use Rattle.xd_ledger.specs.Histories.{end_of}
-use Rattle.xd_ledger.specs.Legal.{IsLegal}
-use Rattle.xd_ledger.specs.Outputs.{stepped}
-use Rattle.xd_ledger.specs.Proper.{IsProper, all_may_follow, may_follow}
+use Rattle.xd_ledger.specs.Proper.{IsProper}
 use Rattle.xd_ledger.specs.Sharing.{State}
-use Rattle.xd_ledger.specs.State.{is_input}
 use Rattle.xd_report.specs.Text.{run_text, text_of}
+use Rattle.xd_session.specs.Ends.{last_stop}
 use Rattle.xd_session.specs.Stands.{Seen, StandsFor, state_of}
 use Rattle.xd_session.proofs.Steps.{sound-run}
 use Rattle.xd_laws.proofs.Logic.{and, differ, split-and}
-use Rattle.xd_drive.specs.Driven.{Drives, Ended, run_given}
+use Rattle.xd_drive.specs.Driven.{Broken, Ended, Whole, run_given}
 use Rattle.xd_drive.specs.Going.{EndsRun, IsDone, Scene}
 use Rattle.xd_drive.specs.Performing.{AddsAll, Performs, all_possible, is_call, is_start, kills_of_started}
 use Rattle.xd_drive.specs.Printing.{ShowsEnd}
@@ -32,47 +28,6 @@ use Rattle.xd_drive.proofs.Performs.{performs-more}
 use Rattle.xd_drive.proofs.Stepped.{state-is}
 use Rattle.xd_drive.proofs.Texts.{silent-ending, text-behind, text-is}
 
--- inputs
-
-is-input : (s : State) (e : Entry) → may_follow s e ≡ true → is_input e ≡ true
-is-input s (Ready w) h = refl
-is-input s (Collected w g) h = refl
-is-input s (Done w i u m o) h = refl
-is-input s (Back w is) h = refl
-is-input s (Finished w) h = refl
-is-input s (Refused w x) h = refl
-is-input s (Down w c o) h = refl
-is-input s (NotStarted w) h = refl
-is-input s (Start w slot) h = absurd (differ h)
-is-input s (Run w is) h = absurd (differ h)
-is-input s (RunAll w) h = absurd (differ h)
-is-input s (Steal w is) h = absurd (differ h)
-is-input s (Shutdown w) h = absurd (differ h)
-is-input s (Kill w) h = absurd (differ h)
-is-input s (Over how) h = absurd (differ h)
-
-all-inputs : (s : State) (es : List Entry) → all_may_follow s es ≡ true → list_all is_input es ≡ true
-all-inputs s [] h = refl
-all-inputs s (e ∷ es) h = (let p = split-and (may_follow s e) (all_may_follow (stepped s e) es) h in and (is-input s e p.0) (all-inputs (stepped s e) es p.1))
-
--- such a journal is legal
-legal-ended : (failed : Bool) (given : List News) (j : Journal) → IsProper j.settings [] → Ended failed given j → IsLegal j
-legal-ended failed given j p e =
-    let r = run_given j.settings given in
-    let k = sound-run j.settings (taken_of j.settings given) p in
-    inr (record {
-      mode = p.mode;
-      inputs = r.inputs;
-      are_inputs = all-inputs _ r.inputs k.proper.follow;
-      last = ending failed r.state.books;
-      entries = e.entries ∙ ap (λ (es : List Entry). es ++ ending failed r.state.books) k.journal;
-      ends = inr (failed, ap (λ (s : State). may_close failed s.books) (sym k.state) ∙ e.may_end, ap (λ (s : State). ending failed s.books) k.state);
-    })
-
-pub legal : (stopped : Option ℕ) (j : Journal) (old new : Scene) (settings : Settings) → j.settings ≡ settings → IsProper settings [] → Drives stopped j old new → IsLegal j
-legal None j old new settings same p d = legal-ended false d.0 j (subst (λ (x : Settings). IsProper x []) (sym same) p) d.1.ended
-legal (Some count) j old new settings same p d = legal-ended true d.0 j (subst (λ (x : Settings). IsProper x []) (sym same) p) d.1.ended
-
 -- the end asks for no start and no call where the run is over
 over-performs : (es : List Entry) (b : Books) (s0 s1 c0 c1 : _) → Performs es s0 s1 c0 c1 → Performs (es ++ ending false b) s0 s1 c0 c1
 over-performs es b s0 s1 c0 c1 p = record {
@@ -81,23 +36,25 @@ over-performs es b s0 s1 c0 c1 p = record {
 }
 
 module _ (failed : Bool) (s : Seen) (given : List News) (j : Journal) (p : IsProper s.settings []) (same : j.settings ≡ s.settings) (entries_are : j.entries.items ≡ s.entries ++ ending failed (state_of s).books) (st : StandsFor (taken_of s.settings given) s) where
-  ended : may_close failed (state_of s).books ≡ true → Ended failed given j
-  ended may = record {
+  ended : may_close failed (state_of s).books ≡ true → stop_of j ≡ last_stop failed (state_of s).books → Ended failed given j
+  ended may stop = record {
     entries = entries_are ∙ ap (λ (es : List Entry). es ++ ending failed (state_of s).books) st.entries
         ∙ ap (λ (x : State). (run_given s.settings given).entries ++ ending failed x.books) (state-is s (taken_of s.settings given) p st)
         ∙ ap (λ (x : Settings). (run_given x given).entries ++ ending failed (run_given x given).state.books) (sym same);
     may_end = ap (λ (x : Settings). may_close failed (run_given x given).state.books) same ∙ ap (λ (x : State). may_close failed x.books) (sym (state-is s (taken_of s.settings given) p st)) ∙ may;
+    stop = stop ∙ ap (λ (x : State). last_stop failed x.books) (state-is s (taken_of s.settings given) p st) ∙ ap (λ (x : Settings). last_stop failed (run_given x given).state.books) (sym same);
   }
 
   text-same : text_of j ≡ run_text s.settings s.entries
   text-same = text-is j s.settings (s.entries ++ ending failed (state_of s).books) same entries_are ∙ text-behind (ending failed (state_of s).books) (silent-ending failed (state_of s).books) s.settings s.entries
 
-pub whole : (s : Seen) (j : Journal) (old new : Scene) → IsProper s.settings [] → j.settings ≡ s.settings → j.entries.items ≡ s.entries ++ ending false (state_of s).books → EndsRun None s old new → Drives None j old new
-whole s j old new p same is e =
+pub whole : (s : Seen) (j : Journal) (old new : Scene) → IsProper s.settings [] → j.settings ≡ s.settings → j.entries.items ≡ s.entries ++ ending false (state_of s).books → stop_of j ≡ last_stop false (state_of s).books → EndsRun None s old new
+    → (given : List News) × Whole given j old new
+whole s j old new p same is stop e =
     let f = e.1 in (
       e.0,
       record {
-        ended = ended false s (e.0) j p same is f.stands f.over;
+        ended = ended false s (e.0) j p same is f.stands f.over stop;
         gave = f.gave;
         performed = subst (λ (es : List Entry). Performs es old.starts new.starts old.calls new.calls) (sym is) (over-performs s.entries (state_of s).books _ _ _ _ f.performed);
         shows = subst (λ (l : List ℕ). ShowsEnd true l old.sunk new.sunk) (sym (text-same false s (e.0) j p same is f.stands)) f.shows;
@@ -112,14 +69,14 @@ kills-left count s j old new slots is e =
     ∙ ap (λ (es : List Entry). all_possible slots new.marks (kills_of_started es (drop count (s.entries ++ ending true (state_of s).books)))) (take-append-le count s.entries (ending true (state_of s).books) f.within)
     ∙ ap (λ (es : List Entry). all_possible slots new.marks (kills_of_started (take count s.entries) es)) (drop-append-le count s.entries (ending true (state_of s).books) f.within) ∙ f.kills slots
 
-pub broken : (count : ℕ) (s : Seen) (j : Journal) (old mid new : Scene) → IsProper s.settings [] → j.settings ≡ s.settings → j.entries.items ≡ s.entries ++ ending true (state_of s).books → EndsRun (Some count) s old mid
-    → Performs (kills_of_started (take count j.entries.items) (drop count j.entries.items)) mid.starts new.starts mid.calls new.calls → new.given ≡ mid.given → new.sunk ≡ mid.sunk → Drives (Some count) j old new
-broken count s j old mid new p same is e kills given sunk =
+pub broken : (count : ℕ) (s : Seen) (j : Journal) (old mid new : Scene) → IsProper s.settings [] → j.settings ≡ s.settings → j.entries.items ≡ s.entries ++ ending true (state_of s).books → stop_of j ≡ last_stop true (state_of s).books → EndsRun (Some count) s old mid
+    → Performs (kills_of_started (take count j.entries.items) (drop count j.entries.items)) mid.starts new.starts mid.calls new.calls → new.given ≡ mid.given → new.sunk ≡ mid.sunk → (given : List News) × Broken count given j old new
+broken count s j old mid new p same is stop e kills given sunk =
     let f = e.1 in
     let first : take count j.entries.items ≡ take count s.entries = ap (take count) is ∙ take-append-le count s.entries (ending true (state_of s).books) f.within in (
       e.0,
       record {
-        ended = ended true s (e.0) j p same is f.stands refl;
+        ended = ended true s (e.0) j p same is f.stands refl stop;
         gave = given ∙ f.gave;
         is_done = subst (λ (x : Settings). IsDone x (taken_of x (e.0)) (take count j.entries.items)) (sym same) (subst (λ (es : List Entry). IsDone s.settings (taken_of s.settings (e.0)) es) (sym first) f.is_done);
         performed = performs-more (take count j.entries.items) (kills_of_started (take count j.entries.items) (drop count j.entries.items)) old.starts mid.starts new.starts old.calls mid.calls new.calls
@@ -139,18 +96,18 @@ module _ (settings : Settings) (s : Seen) (j : Journal) (proper : IsProper setti
   still : IsProper s.settings []
   still = subst (λ (x : Settings). IsProper x []) (sym kept) proper
 
-  pub drive-whole : (rose : Type 0) (old new : Scene) → ((x : ℕ) → stopped ≡ Some x → ⊥) → j.entries.items ≡ s.entries ++ ending false (state_of s).books → EndsRun stopped s old new → (x : Option ℕ) × Drives x j old new × IfSome x (λ count. rose)
-  drive-whole rose old new none is e = (None, whole s j old new still same is (subst (λ (o : Option ℕ). EndsRun o s old new) (none-of stopped none) e), tt)
+  pub drive-whole : (old new : Scene) → ((x : ℕ) → stopped ≡ Some x → ⊥) → j.entries.items ≡ s.entries ++ ending false (state_of s).books → stop_of j ≡ last_stop false (state_of s).books → EndsRun stopped s old new
+      → (given : List News) × Whole given j old new
+  drive-whole old new none is stop e = whole s j old new still same is stop (subst (λ (o : Option ℕ). EndsRun o s old new) (none-of stopped none) e)
 
   module _ (count : ℕ) (some : stopped ≡ Some count) (is : j.entries.items ≡ s.entries ++ ending true (state_of s).books) (a b : List Entry) (first : a ≡ j.entries.items) (second : b ≡ j.entries.items) where
     pub drive-kills : (old mid : Scene) (slots : ℕ) → EndsRun stopped s old mid → all_possible slots mid.marks (kills_of_started (take count a) (take (length b - count) (drop count b))) ≡ true
     drive-kills old mid slots e =
         ap (all_possible slots mid.marks) (slices count a b j.entries.items first second) ∙ kills-left count s j old mid slots is (subst (λ (o : Option ℕ). EndsRun o s old mid) some e)
 
-    pub drive-broken : (rose : Type 0) (old mid new : Scene) → EndsRun stopped s old mid → IfSome stopped (λ n. rose) → Performs (kills_of_started (take count a) (take (length b - count) (drop count b))) mid.starts new.starts mid.calls new.calls
-        → new.given ≡ mid.given → new.sunk ≡ mid.sunk → (x : Option ℕ) × Drives x j old new × IfSome x (λ n. rose)
-    drive-broken rose old mid new e r kills given sunk = (
-      Some count,
-      broken count s j old mid new still same is (subst (λ (o : Option ℕ). EndsRun o s old mid) some e) (subst (λ (es : List Entry). Performs es mid.starts new.starts mid.calls new.calls) (slices count a b j.entries.items first second) kills) given sunk,
-      subst (λ (o : Option ℕ). IfSome o (λ n. rose)) some r,
-    )
+    pub drive-broken : (old mid new : Scene) → stop_of j ≡ last_stop true (state_of s).books → EndsRun stopped s old mid → Performs (kills_of_started (take count a) (take (length b - count) (drop count b))) mid.starts new.starts mid.calls new.calls
+        → new.given ≡ mid.given → new.sunk ≡ mid.sunk → (n : ℕ) × (given : List News) × Broken n given j old new
+    drive-broken old mid new stop e kills given sunk =
+        let whole_of = broken count s j old mid new still same is stop (subst (λ (o : Option ℕ). EndsRun o s old mid) some e)
+        (subst (λ (es : List Entry). Performs es mid.starts new.starts mid.calls new.calls) (slices count a b j.entries.items first second) kills) given sunk in
+        (count, whole_of.0, whole_of.1)

@@ -5,7 +5,6 @@ pub mod Heard
 pub mod Kills
 pub mod Loop
 pub mod NextListed
-pub mod Orders
 pub mod Outs
 pub mod Performs
 pub mod Prints

@@ -1,11 +1,12 @@
 -- How a session was driven to its end.
-use Rattle.std.specs.Prelude.{◌≡◌, ℕ, Bool, true, false, List, ◌++◌, take, drop, Option, Some, None}
+use Rattle.std.specs.Prelude.{◌≡◌, ℕ, Bool, true, false, List, ◌++◌, take, drop}
 use Rattle.xd_edge.specs.Sink.{PrintedPart}
 use Rattle.xd_ledger.specs.declared.settings.Settings.{Settings}
 use Rattle.xd_ledger.specs.declared.journal.Journal.{Journal}
 use Rattle.xd_ledger.specs.declared.news.News.{News}
-use Rattle.xd_ledger.specs.Ending.{ending, may_close}
+use Rattle.xd_ledger.specs.Ending.{ending, may_close, stop_of}
 use Rattle.xd_report.specs.Text.{text_of}
+use Rattle.xd_session.specs.Ends.{last_stop}
 use Rattle.xd_session.specs.History.{Run, run_of}
 use Rattle.xd_drive.specs.Going.{IsDone, Scene}
 use Rattle.xd_drive.specs.Performing.{AddsAll, Performs, kills_of_started}
@@ -16,10 +17,12 @@ use Rattle.xd_drive.specs.Taken.{taken_of}
 abbrev pub run_given : Settings → List News → Run
 run_given settings given = run_of settings (taken_of settings given)
 
--- The journal of the news that were given, with its end.
+-- The journal of the news that were given, with its end: where the output failed that is the stop, else the first stop of
+-- the run, or that all was done.
 pub record Ended (failed : Bool) (given : List News) (j : Journal) : Type 0 where
   pub entries : j.entries.items ≡ (run_given j.settings given).entries ++ ending failed (run_given j.settings given).state.books
   pub may_end : may_close failed (run_given j.settings given).state.books ≡ true
+  pub stop : stop_of j ≡ last_stop failed (run_given j.settings given).state.books
 
 -- The run is over: what the journal asks for was performed, and its whole report was printed.
 pub record Whole (given : List News) (j : Journal) (old new : Scene) : Type 0 where
@@ -36,8 +39,3 @@ pub record Broken (count : ℕ) (given : List News) (j : Journal) (old new : Sce
   pub is_done : IsDone j.settings (taken_of j.settings given) (take count j.entries.items)
   pub performed : Performs (take count j.entries.items ++ kills_of_started (take count j.entries.items) (drop count j.entries.items)) old.starts new.starts old.calls new.calls
   pub shows : PrintedPart (text_of j) old.sunk new.sunk
-
--- How it came to its end, where the output failed with so many entries performed.
-abbrev pub Drives : Option ℕ → Journal → Scene → Scene → Type 0
-Drives None j old new = (given : List News) × Whole given j old new
-Drives (Some count) j old new = (given : List News) × Broken count given j old new

@@ -15,4 +15,14 @@ pub use listed_hub::ListedHub;
 pub use running::drive;
 
 #[cfg(test)]
+mod breaches;
+#[cfg(test)]
+mod failing_outputs;
+#[cfg(test)]
+mod random_runs;
+#[cfg(test)]
+mod script;
+#[cfg(test)]
 mod tests;
+#[cfg(test)]
+mod worked_runs;

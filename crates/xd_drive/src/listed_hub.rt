@@ -3,7 +3,7 @@ ghost use Rattle.std.specs.Prelude.{◌≡◌, ◌<◌, ◌≤◌, ◌+◌, ◌+
 ghost use Rattle.xd_ledger.specs.declared.entry.Entry.TheVariants.{Start, Kill};
 ghost use Rattle.xd_drive.specs.Calls.{is_order};
 ghost use Rattle.xd_drive.specs.Listed.{GivesListed, from_started, is_among, marks_by, others_of, starts_of, unkilled, was_killed};
-ghost use Rattle.xd_drive.specs.Marks.{may_tell};
+ghost use Rattle.xd_drive.specs.Marks.{may_tell, no_marks};
 
 use crate::Hub;
 use crate::copies::{copy_news, copy_order};
@@ -41,6 +41,7 @@ impl ListedHub {
         ensures given { result.given.items ≡ [] }
         ensures started { result.started ≡ [] }
         ensures calls { result.calls.items ≡ [] }
+        ensures fresh { (w : ℕ) → marks_by result.started result.calls.items result.given.items w ≡ no_marks }
     {
         ListedHub {
             news,

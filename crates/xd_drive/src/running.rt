@@ -1,10 +1,13 @@
 // The loop that runs a session over a hub.
-ghost use Rattle.std.specs.Prelude.{◌≡◌, ◌≤◌, ℕ, Option, [], IfOk, IfSome, OnOk};
+ghost use Rattle.std.specs.Prelude.{◌≡◌, ◌≤◌, ℕ, List, [], true, false, IfOk, IfSome, OnOk};
 ghost use Rattle.xd_edge.specs.Faults.{Rose};
+ghost use Rattle.xd_ledger.specs.declared.news.News.{News};
+ghost use Rattle.xd_ledger.specs.Ending.{stop_of};
 ghost use Rattle.xd_ledger.specs.Legal.{IsLegal};
 ghost use Rattle.xd_ledger.specs.Proper.{IsProper};
+ghost use Rattle.xd_session.specs.Ends.{is_out_fault};
 ghost use Rattle.xd_session.specs.Stands.{StandsFor};
-ghost use Rattle.xd_drive.specs.Driven.{Drives};
+ghost use Rattle.xd_drive.specs.Driven.{Broken, Whole};
 ghost use Rattle.xd_drive.specs.Going.{EndsRun, EndsTail, IsFresh};
 
 use crate::Hub;
@@ -72,7 +75,10 @@ fn run<R: Wait, M: Mode, H: Hub, O: Sink>(
 
 /// Runs a session to its end: starts its workers, steps it with the news of active workers, performs what its journal asks
 /// for, and prints the lines of each entry before the entry is performed, then the tail. Gives the journal with its end.
-/// Where the output failed nothing more is performed but the kills of the workers that were started.
+///
+/// The journal ends with `OutFault` exactly where not all of the report could be printed, handed on and closed; the count
+/// of faults of the output rose in this call then, and nothing more was performed but the kills of the workers that were
+/// started. Else it ends with the first stop of the run, or with `Completed` where there was none.
 pub fn drive<R: Wait, M: Mode, H: Hub, O: Sink>(
     rt: &R,
     alloc: Global,
@@ -80,15 +86,18 @@ pub fn drive<R: Wait, M: Mode, H: Hub, O: Sink>(
     hub: &mut H,
     out: &mut O,
 ) -> Result<Journal, OutOfMemory>
-    requires proper { IsProper session.settings [] }
     requires begins { StandsFor [] session }
     requires slots { session.settings.workers ≤ H.slots hub.old }
     requires fresh { IsFresh (H.marks hub.old) }
     ensures settings { IfOk result (λ j. j.settings ≡ session.settings) }
-    ensures drives { IfOk result (λ j. (stopped : Option ℕ) × (Drives stopped j
-        (record { marks = H.marks hub.old; starts = H.starts hub.old; calls = H.calls hub.old; given = H.given hub.old; sunk = O.sunk out.old })
-        (record { marks = H.marks hub.new; starts = H.starts hub.new; calls = H.calls hub.new; given = H.given hub.new; sunk = O.sunk out.new })) × (IfSome stopped (λ count. Rose (O.faults out.old) (O.faults out.new)))) }
     ensures legal { IfOk result IsLegal }
+    ensures whole { IfOk result (λ j. is_out_fault (stop_of j) ≡ false → (given : List News) × Whole given j
+        (record { marks = H.marks hub.old; starts = H.starts hub.old; calls = H.calls hub.old; given = H.given hub.old; sunk = O.sunk out.old })
+        (record { marks = H.marks hub.new; starts = H.starts hub.new; calls = H.calls hub.new; given = H.given hub.new; sunk = O.sunk out.new })) }
+    ensures broken { IfOk result (λ j. is_out_fault (stop_of j) ≡ true → (count : ℕ) × (given : List News) × Broken count given j
+        (record { marks = H.marks hub.old; starts = H.starts hub.old; calls = H.calls hub.old; given = H.given hub.old; sunk = O.sunk out.old })
+        (record { marks = H.marks hub.new; starts = H.starts hub.new; calls = H.calls hub.new; given = H.given hub.new; sunk = O.sunk out.new })) }
+    ensures out_fault { IfOk result (λ j. is_out_fault (stop_of j) ≡ true → Rose (O.faults out.old) (O.faults out.new)) }
     ensures later { O.faults out.old ≤ O.faults out.new }
 {
     let stopped = run(rt, alloc, &mut session, hub, out)?;

@@ -5,6 +5,7 @@ ghost use Rattle.xd_drive.specs.Listed.{is_among, is_kill_of, marks_by, was_kill
 ghost use Rattle.xd_drive.specs.Marks.{is_end, is_ready, may_tell};
 
 use super::*;
+use crate::script::run_of;
 use std::alloc::Global;
 use std::collections::VecDeque;
 use std::test::Fail;
@@ -122,5 +123,62 @@ fn behind_the_list_the_started_workers_are_gone_in_turn(rt: HostRuntime) -> Resu
     assert!(rt; is_gone(1, &second) && was_started(&hub, 0));
     let third = hub.next(&rt, alloc)?;
     assert!(rt; is_gone(0, &third));
+    Ok(())
+}
+
+fn next_field(words: &str) -> Result<(&str, &str), Fail> {
+    Ok(words.split_once(" ~ ").ok_or("one more field")?)
+}
+
+#[test]
+fn worked_runs_have_their_journals_and_texts(rt: HostRuntime) -> Result<(), Fail> {
+    let alloc = rt.alloc();
+    for line in worked_runs::RUNS.lines() {
+        let (name, line) = next_field(line)?;
+        let (settings, line) = next_field(line)?;
+        let (news, wanted) = next_field(line)?;
+        let found = run_of(&rt, alloc, settings, news)?;
+        assert_eq!(rt; found.rest.as_str(), wanted, "{name}");
+    }
+    Ok(())
+}
+
+#[test]
+fn breaches_and_their_neighbours_have_their_journals(rt: HostRuntime) -> Result<(), Fail> {
+    let alloc = rt.alloc();
+    for line in breaches::RUNS.lines() {
+        let (name, line) = next_field(line)?;
+        let (settings, line) = next_field(line)?;
+        let (news, wanted) = next_field(line)?;
+        let found = run_of(&rt, alloc, settings, news)?;
+        assert_eq!(rt; found.rest.as_str(), wanted, "{name}");
+    }
+    Ok(())
+}
+
+#[test]
+fn random_runs_are_those_of_the_model(rt: HostRuntime) -> Result<(), Fail> {
+    let alloc = rt.alloc();
+    for line in random_runs::RUNS.lines() {
+        let (name, line) = next_field(line)?;
+        let (settings, line) = next_field(line)?;
+        let (news, wanted) = next_field(line)?;
+        let found = run_of(&rt, alloc, settings, news)?;
+        assert_eq!(rt; found.rest.as_str(), wanted, "{name}");
+    }
+    Ok(())
+}
+
+#[test]
+fn behind_a_failing_output_only_kills_are_asked_for(rt: HostRuntime) -> Result<(), Fail> {
+    let alloc = rt.alloc();
+    for line in failing_outputs::RUNS.lines() {
+        let (name, line) = next_field(line)?;
+        let (settings, line) = next_field(line)?;
+        let (news, wanted) = next_field(line)?;
+        let found = run_of(&rt, alloc, settings, news)?;
+        let all = format!(in alloc; "{}~ {}", found.calls, found.rest)?;
+        assert_eq!(rt; all.as_str(), wanted, "{name}");
+    }
     Ok(())
 }

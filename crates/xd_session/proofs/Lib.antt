@@ -6,9 +6,12 @@ pub mod Closing
 pub mod Compares
 pub mod Deaths
 pub mod Disorder
+pub mod Ends
 pub mod Follow
 pub mod Joins
+pub mod Lawful
 pub mod Loops
+pub mod Orders
 pub mod Places
 pub mod Shares
 pub mod Steady

@@ -138,6 +138,7 @@ stands-next settings entries now logs logs_now spent spent_now b c st st_now n t
     let inp : meaning_of w (log_in w logs) spent s0 n.what ≡ input_of r n = m3 ∙ sym (m1 ∙ m2) in
     record {
       whole = refl;
+      can_begin = f.can_begin;
       entries = t.told.entries_are ∙ ap (λ o. entries_with o entries s0) inp ∙ ap (λ es. entries_with (input_of r n) es s0) f.entries ∙ ap (λ u. entries_with (input_of r n) r.entries u) (sym same)
           ∙ ap (λ (x : SoFar). x.entries) (sym (run-more settings taken n));
       logs = logs-more taken n logs logs_now f.logs t.logs_are;

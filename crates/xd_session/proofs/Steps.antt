@@ -42,7 +42,7 @@ state-grown settings es outs e h =
     let f : Bool → State = λ b. settled (all_moved (moved (if b then settled raw else raw) e) outs) in
     ap settled a ∙ ap f h
 
-input-of : (s : State) (e : Entry) → may_follow s e ≡ true → is_input e ≡ true
+pub input-of : (s : State) (e : Entry) → may_follow s e ≡ true → is_input e ≡ true
 input-of s (Ready w) h = refl
 input-of s (Collected w g) h = refl
 input-of s (Done w i u m o) h = refl

@@ -1,6 +1,7 @@
 pub mod Bounded
 pub mod Compared
 pub mod Crew
+pub mod Ends
 pub mod History
 pub mod Joining
 pub mod Kept

@@ -22,15 +22,17 @@ pub record Seen : Type 0 where
 abbrev pub state_of : Seen → State
 state_of s = state_at s.settings s.entries
 
--- the session took these news: its journal is theirs, and it keeps the last log of each worker
-pub record StandsFor (taken : List News) (s : Seen) : Type 0 where
-  pub whole : s.whole ≡ true
-  pub entries : s.entries ≡ (run_of s.settings taken).entries
-  pub logs : (worker : ℕ) → log_in worker s.logs ≡ shortened (log_of (said_by worker taken))
-
 -- settings that a session can be made with: so far those of mode load
 pub record CanBegin (settings : Settings) : Type 0 where
   pub mode : settings.mode ≡ Load
   pub some_worker : nat_le 1 settings.workers ≡ true
   pub few_workers : nat_le settings.workers most_workers ≡ true
   pub few_restarts : nat_le settings.restarts most_restarts ≡ true
+
+-- the session took these news: its settings are such, its journal is that of these news, and it keeps the last log of each
+-- worker
+pub record StandsFor (taken : List News) (s : Seen) : Type 0 where
+  pub whole : s.whole ≡ true
+  pub can_begin : CanBegin s.settings
+  pub entries : s.entries ≡ (run_of s.settings taken).entries
+  pub logs : (worker : ℕ) → log_in worker s.logs ≡ shortened (log_of (said_by worker taken))

@@ -6,7 +6,9 @@ ghost use Rattle.xd_ledger.specs.Plan.{Plan};
 ghost use Rattle.xd_ledger.specs.State.{no_one, all_moved};
 ghost use Rattle.xd_ledger.specs.Workers.{is_active};
 ghost use Rattle.xd_session.specs.Crew.{books_of};
-ghost use Rattle.xd_ledger.specs.Ending.{ending, may_close};
+ghost use Rattle.xd_ledger.specs.Ending.{ending, may_close, stop_of};
+ghost use Rattle.xd_ledger.specs.Legal.{IsLegal};
+ghost use Rattle.xd_session.specs.Ends.{is_out_fault, last_stop};
 ghost use Rattle.xd_session.specs.Stands.{CanBegin, StandsFor, state_of};
 
 use crate::books::RunBooks;
@@ -133,6 +135,7 @@ impl<M: Mode> Session<M> {
     pub fn journal(&self) -> &Journal
         ensures settings { result.now.settings ≡ self.now.settings }
         ensures entries { result.now.entries.items ≡ self.now.entries }
+        ensures legal { self.now.whole ≡ true → IsLegal result.now }
     {
         &self.journal
     }
@@ -144,6 +147,9 @@ impl<M: Mode> Session<M> {
         requires done { may_close out_failed (state_of self).books ≡ true }
         ensures settings { IfOk result (λ j. j.settings ≡ self.settings) }
         ensures entries { IfOk result (λ j. j.entries.items ≡ self.entries ++ ending out_failed (state_of self).books) }
+        ensures stop { IfOk result (λ j. stop_of j ≡ last_stop out_failed (state_of self).books) }
+        ensures told { IfOk result (λ j. is_out_fault (stop_of j) ≡ out_failed) }
+        ensures legal { IfOk result IsLegal }
     {
         end(out_failed, &self.core.books, &mut self.journal.entries)?;
         Ok(self.journal)

@@ -1,0 +1,84 @@
+-- The journal of a session is legal, so far and with its end.
+use Rattle.std.proofs.Common.{◌≡◌, ℕ, List, [], ◌∷◌, ◌++◌, Bool, true, refl, ap, sym, ◌∙◌, subst, inl, inr}
+use Rattle.std.specs.List.{list_all}
+use Rattle.xd_ledger.specs.declared.settings.Settings.{Settings}
+use Rattle.xd_ledger.specs.declared.journal.Journal.{Journal}
+use Rattle.xd_ledger.specs.declared.entry.Entry.{Entry}
+use Rattle.xd_ledger.specs.declared.news.News.{News}
+use Rattle.xd_ledger.specs.Books.{Books}
+use Rattle.xd_ledger.specs.Plan.{Plan}
+use Rattle.xd_ledger.specs.Sharing.{State}
+use Rattle.xd_ledger.specs.State.{is_input, state_at}
+use Rattle.xd_ledger.specs.Outputs.{stepped}
+use Rattle.xd_ledger.specs.Histories.{begun, journal_of}
+use Rattle.xd_ledger.specs.Ending.{ending, may_close, stop_of}
+use Rattle.xd_ledger.specs.Legal.{EndsWith, IsLegal}
+use Rattle.xd_ledger.specs.Proper.{IsProper, all_may_follow, may_follow}
+use Rattle.xd_laws.proofs.Logic.{and, split-and}
+use Rattle.xd_session.specs.declared.logs.WorkerLog.{WorkerLog}
+use Rattle.xd_session.specs.Ends.{is_out_fault, last_stop}
+use Rattle.xd_session.specs.Rules.{InStep}
+use Rattle.xd_session.specs.Stands.{Seen, StandsFor, state_of}
+use Rattle.xd_session.proofs.Begin.{begun-proper}
+use Rattle.xd_session.proofs.Closing.{append-nil}
+use Rattle.xd_session.proofs.Ends.{ending-stop, no-over-journal, told-so}
+use Rattle.xd_session.proofs.Steps.{input-of, journal-state}
+
+-- whoever stands for news has settings of a proper run
+pub stands-proper : (taken : List News) (s : Seen) → StandsFor taken s → IsProper s.settings []
+stands-proper taken s st = begun-proper s.settings st.can_begin
+
+all-inputs : (s : State) (es : List Entry) → all_may_follow s es ≡ true → list_all is_input es ≡ true
+all-inputs s [] h = refl
+all-inputs s (e ∷ es) h = (let p = split-and (may_follow s e) (all_may_follow (stepped s e) es) h in and (input-of s e p.0) (all-inputs (stepped s e) es p.1))
+
+module _ (settings : Settings) (entries : List Entry) (logs : List WorkerLog) (spent : ℕ) (b : Books) (st : Plan → Type 0) (k : InStep settings entries logs spent b st) (j : Journal) (same : j.settings ≡ settings) where
+  inputs-are : list_all is_input k.inputs ≡ true
+  inputs-are = all-inputs (begun settings) k.inputs k.proper.follow
+
+  legal-by : (last : List Entry) → j.entries.items ≡ entries ++ last → EndsWith (state_at settings entries).books last → IsLegal j
+  legal-by last is e =
+      let behind = ap (state_at settings) k.journal ∙ journal-state settings k.inputs k.proper.follow in
+      inr (record {
+        mode = subst (λ (x : Settings). Rattle.xd_ledger.specs.Proper.has_workers x.mode ≡ true) (sym same) k.proper.mode;
+        inputs = k.inputs;
+        are_inputs = inputs-are;
+        last = last;
+        entries = is ∙ ap (λ (es : List Entry). es ++ last) k.journal ∙ ap (λ (x : Settings). journal_of x k.inputs ++ last) (sym same);
+        ends = subst (λ (x : Settings). EndsWith (Rattle.xd_ledger.specs.Histories.stepped_all (begun x) k.inputs).books last) (sym same) (subst (λ (x : State). EndsWith x.books last) behind e);
+      })
+
+  pub legal-so-far : j.entries.items ≡ entries → IsLegal j
+  legal-so-far is = legal-by [] (is ∙ sym (append-nil entries)) (inl refl)
+
+  module _ (failed : Bool) (is : j.entries.items ≡ entries ++ ending failed (state_at settings entries).books) where
+    pub legal-ended : may_close failed (state_at settings entries).books ≡ true → IsLegal j
+    legal-ended may = legal-by (ending failed (state_at settings entries).books) is (inr (failed, may, refl))
+
+    pub stop-ended : stop_of j ≡ last_stop failed (state_at settings entries).books
+    stop-ended =
+        let none = no-over-journal settings k.inputs inputs-are in
+        let over = λ (es : List Entry). Rattle.xd_ledger.specs.Ending.over_in es (Rattle.xd_ledger.specs.Histories.end_of (state_at j.settings j.entries.items).books) in
+        ap over (is ∙ ap (λ (es : List Entry). es ++ ending failed (state_at settings entries).books) k.journal)
+        ∙ ending-stop failed (state_at settings entries).books (journal_of settings k.inputs) _ none
+
+    pub told-ended : is_out_fault (stop_of j) ≡ failed
+    told-ended = ap is_out_fault stop-ended ∙ told-so failed settings entries
+
+pub record Closed (failed : Bool) (v : Seen) (j : Journal) : Type 0 where
+  pub stop : stop_of j ≡ last_stop failed (state_of v).books
+  pub told : is_out_fault (stop_of j) ≡ failed
+  pub legal : IsLegal j
+
+-- in the words of the call
+pub closed : (settings : Settings) (entries : List Entry) (logs : List WorkerLog) (spent : ℕ) (b : Books) (st : Plan → Type 0) → InStep settings entries logs spent b st
+    → (j : Journal) (failed whole : Bool) (v : Seen) → record { settings = settings; entries = entries; logs = logs; whole = whole } ≡ v → j.settings ≡ settings → j.entries.items ≡ entries ++ ending failed b
+    → may_close failed (state_of v).books ≡ true → Closed failed v j
+closed settings entries logs spent b st k j failed whole v e same is may =
+    let own : j.entries.items ≡ entries ++ ending failed (state_at settings entries).books = is ∙ ap (λ (c : Books). entries ++ ending failed c) k.at.books_are in
+    let seen : (state_at settings entries).books ≡ (state_of v).books = ap (λ (u : Seen). (state_of u).books) e in
+    record {
+      stop = stop-ended settings entries logs spent b st k j same failed own ∙ ap (last_stop failed) seen;
+      told = told-ended settings entries logs spent b st k j same failed own;
+      legal = legal-ended settings entries logs spent b st k j same failed own (ap (may_close failed) seen ∙ may);
+    }
