@@ -9,15 +9,15 @@ use Rattle.xd_run_tests.specs.Line.{has_test, can_give, kept, is_among}
 use Rattle.xd_run_tests.specs.Stands.{once}
 use Rattle.xd_run_tests.proofs.Cut.{has_test-append}
 
-and_first : (a b : Bool) → (a && b) ≡ true → a ≡ true
+pub and_first : (a b : Bool) → (a && b) ≡ true → a ≡ true
 and_first true b e = refl
 and_first false b e = e
 
-and_last : (a b : Bool) → (a && b) ≡ true → b ≡ true
+pub and_last : (a b : Bool) → (a && b) ≡ true → b ≡ true
 and_last true b e = e
 and_last false b e = let z : false ≡ true = e in cc
 
-and_both : (a b : Bool) → a ≡ true → b ≡ true → (a && b) ≡ true
+pub and_both : (a b : Bool) → a ≡ true → b ≡ true → (a && b) ≡ true
 and_both a b e f = rw (e, f)
 
 pub not_true : (a : Bool) → not a ≡ true → a ≡ false

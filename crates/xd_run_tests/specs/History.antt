@@ -1,9 +1,13 @@
 -- What a list of inputs makes the function do. The last of them stands first.
-use Rattle.std.specs.Prelude.{◌≡◌, ◌&&◌, not, true, ℕ, List, [], ◌∷◌, ◌++◌, Bool, option_to_list}
+use Rattle.std.specs.Prelude.{◌≡◌, ◌<◌, ◌&&◌, not, true, ℕ, List, [], ◌∷◌, ◌++◌, length, Bool, Some, option_to_list}
 use Rattle.xd_run_tests.specs.declared.ask.Ask.{Ask}
 use Rattle.xd_run_tests.specs.declared.input.Input.{Input}
+use Rattle.xd_run_tests.specs.declared.input.Input.TheVariants as input
+use Rattle.xd_run_tests.specs.declared.phase.Phase.{Phase}
+use Rattle.xd_run_tests.specs.declared.phase.Phase.TheVariants.{Awaiting, Serving, Stopped, Over}
+use Rattle.xd_run_tests.specs.declared.phase.Phase.TheVariants as phase
 use Rattle.xd_run_tests.specs.declared.run_tests.RunTests.{RunTests}
-use Rattle.xd_run_tests.specs.Line.{Call, called, is_among}
+use Rattle.xd_run_tests.specs.Line.{Call, called, is_among, running_test}
 use Rattle.xd_run_tests.specs.Turns.{Turn, turn_of, answered}
 use Rattle.xd_run_tests.specs.Stands.{IsCall, IsReady}
 
@@ -39,6 +43,29 @@ distinct (n ∷ ns) = not (is_among n ns) && distinct ns
 -- Whatever comes, no test is started twice.
 abbrev pub StartsOnce : Type 0
 StartsOnce = (h : List Given) → distinct (started_tests h) ≡ true
+
+-- how many tests the suite has behind an input: as many as the one that was taken
+abbrev pub size_opened : Phase → List (List ℕ) → ℕ → ℕ
+size_opened Awaiting ids n = length ids
+size_opened Serving ids n = n
+size_opened (phase.Ending e) ids n = n
+size_opened Stopped ids n = n
+size_opened Over ids n = n
+
+abbrev pub size_behind : Phase → Input → ℕ → ℕ
+size_behind p (input.Command o) n = n
+size_behind p input.ReceivingEnded n = n
+size_behind p (input.Suite ids) n = size_opened p ids n
+size_behind p (input.SuiteRefused text) n = n
+size_behind p (input.Output bytes) n = n
+size_behind p (input.Done outcome ms) n = n
+size_behind p input.Stop n = n
+
+-- Whatever comes, a test that runs or that is started is one of the suite.
+pub record KnownTests : Type 0 where
+  pub size : (h : List Given) (g : Given) → (turn_after h g).call.size ≡ size_behind (call_after h).phase g.input (call_after h).size
+  pub runs : (h : List Given) (n : ℕ) → running_test (call_after h) ≡ Some n → n < (call_after h).size
+  pub starts : (h : List Given) (g : Given) (n : ℕ) → (turn_after h g).run ≡ Some n → n < (turn_after h g).call.size
 
 -- this call of the function is behind these inputs
 pub record StandsFor (s : RunTests) (h : List Given) : Type 0 where

@@ -3,3 +3,4 @@ pub mod Turns
 pub mod History
 pub mod Stands
 pub mod Rows
+pub mod Logs

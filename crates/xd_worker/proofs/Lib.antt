@@ -2,3 +2,4 @@ pub mod Fours
 pub mod Tables
 pub mod Standing
 pub mod Hearing
+pub mod Known

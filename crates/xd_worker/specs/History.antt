@@ -1,5 +1,5 @@
 -- What a list of inputs makes a worker say and start. The last of them stands first.
-use Rattle.std.specs.Prelude.{◌≡◌, ℕ, List, [], ◌∷◌, ◌++◌, ◌&&◌, Bool, Option, Some, None, is_none, option_to_list, Result, Ok, Err, codes}
+use Rattle.std.specs.Prelude.{◌≡◌, ◌<◌, ℕ, List, [], ◌∷◌, ◌++◌, length, ◌&&◌, Bool, Option, Some, None, is_none, option_to_list, Result, Ok, Err, codes}
 use Rattle.std.specs.Str.{encode_utf8_all}
 use Rattle.xd_frame.specs.Message.{MessageView}
 use Rattle.xd_factory.specs.declared.faults.SideFault.{SideFault}
@@ -41,6 +41,11 @@ all_said (g ∷ h) = all_said h ++ (turn_by (worker_after h) g).talk.says
 abbrev pub all_started : List Heard → List ℕ
 all_started [] = []
 all_started (g ∷ h) = all_started h ++ option_to_list (turn_by (worker_after h) g).run
+
+-- A test that runs, or that is started, is one of the suite that was read.
+pub record KnownTests : Type 0 where
+  pub runs : (h : List Heard) (k : ℕ) → running_in (worker_after h).duties.service ≡ Some k → k < length (worker_after h).duties.tests
+  pub starts : (h : List Heard) (g : Heard) (k : ℕ) → (turn_by (worker_after h) g).run ≡ Some k → k < length (worker_after (g ∷ h)).duties.tests
 
 -- the worker is to end, and no test runs
 abbrev pub is_over : Worker → Bool

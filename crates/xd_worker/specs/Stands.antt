@@ -1,5 +1,5 @@
 -- How the parts of the code stand for the worker of the definitions.
-use Rattle.std.specs.Prelude.{◌≡◌, ◌≤◌, ℕ, List, [], ◌∷◌, Option, Some, None, Result, Ok, Err}
+use Rattle.std.specs.Prelude.{◌≡◌, ◌≤◌, ◌<◌, ℕ, List, [], ◌∷◌, length, Option, Some, None, Result, Ok, Err}
 use Rattle.xd_factory.specs.declared.faults.SideFault.{SideFault}
 use Rattle.xd_factory.specs.declared.faults.SideFault.TheVariants as side
 use Rattle.xd_suite.specs.declared.test.Test.{Test}
@@ -64,6 +64,10 @@ pub record IsWorker (c : WorkerCore) (w : Worker) : Type 0 where
 -- this worker is behind these inputs
 abbrev pub StandsFor : WorkerCore → List Heard → Type 0
 StandsFor c h = IsWorker c (worker_after h)
+
+-- the suite that was read has a test of this number
+abbrev pub HasTest : WorkerCore → ℕ → Type 0
+HasTest c k = (h : List Heard) × StandsFor c h × (k < length (worker_after h).duties.tests)
 
 -- an input was answered by the turn that it makes
 pub record Does (c : WorkerCore) (a : WorkerActions) (w : Worker) (input : WorkerInput) : Type 0 where

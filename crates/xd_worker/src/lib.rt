@@ -4,6 +4,7 @@
 
 mod function;
 mod input;
+mod laws;
 mod runner;
 mod status;
 mod talk;
@@ -12,11 +13,16 @@ mod worker;
 
 pub use function::{CallFault, Called, Function, read_call};
 pub use input::{WorkerActions, WorkerFault, WorkerInput};
+pub use laws::a_test_is_of_the_suite;
 pub use runner::{Fed, Runner};
 pub use status::status_value;
 pub use talk::Sent;
 pub use worker::WorkerCore;
 
+#[cfg(test)]
+mod histories;
+#[cfg(test)]
+mod replays;
 #[cfg(test)]
 mod rows;
 #[cfg(test)]

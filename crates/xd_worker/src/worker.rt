@@ -39,7 +39,7 @@ impl WorkerCore {
     ghost use Rattle.xd_worker.specs.Worker.{Service, Worker, Turn, turn_of, running_in};
     ghost use Rattle.xd_worker.specs.Turns.{asked, all_asked, ended_service, fed, stopped};
     ghost use Rattle.xd_worker.specs.History.{Heard, worker_after, IsToRefuse};
-    ghost use Rattle.xd_worker.specs.Stands.{AreServices, tests_of, Stands, StandsFor, IsWorker, Does, Answers, IsFault, IsRefusal, fault_in};
+    ghost use Rattle.xd_worker.specs.Stands.{AreServices, HasTest, Stands, StandsFor, IsWorker, Does, Answers, IsFault, IsRefusal, fault_in};
 
     /// A worker to which nothing has come yet.
     pub fn new(alloc: Global) -> WorkerCore
@@ -64,6 +64,7 @@ impl WorkerCore {
         ensures refuses { (h : List Heard) (fault : SideFault) → StandsFor self.old h → IsToRefuse (worker_after h) input fault → IsRefusal fault result }
         ensures failed { (fault : WorkerFault) → fault_in self.old ≡ Some fault → (result ≡ Err fault) × (self.new ≡ self.old) }
         ensures fails { IfErr result (λ fault. fault_in self.new ≡ Some fault) }
+        ensures command { (h : List Heard) → StandsFor self.old h → IfOk result (λ acts. (test : ℕ) → acts.run ≡ Some test → HasTest self.new test) }
     {
         if let Some(fault) = self.fault {
             return Err(fault);
@@ -141,7 +142,8 @@ impl WorkerCore {
 
     /// The test that runs.
     pub fn runs(&self) -> Option<u32>
-        ensures { (h : List Heard) → StandsFor self.now h → result ≡ running_in (worker_after h).duties.service }
+        ensures running { (h : List Heard) → StandsFor self.now h → result ≡ running_in (worker_after h).duties.service }
+        ensures command { (h : List Heard) (test : ℕ) → StandsFor self.now h → result ≡ Some test → HasTest self.now test }
     {
         self.running()
     }
@@ -157,8 +159,8 @@ impl WorkerCore {
 
     /// The program of a test of the suite that was read, with its arguments.
     pub fn command(&self, test: u32) -> &[Text]
-        requires { test < length (tests_of self.now.suite) }
-        ensures run { result.now ≡ run_at (tests_of self.now.suite) test }
+        requires { HasTest self.now test }
+        ensures run { (h : List Heard) → StandsFor self.now h → result.now ≡ run_at (worker_after h).duties.tests test }
         ensures program { 0 < length result.now }
     {
         match &self.suite {
