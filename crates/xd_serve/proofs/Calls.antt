@@ -1,6 +1,6 @@
 -- What one input makes of a call of `run_tests`: where no test runs, the one that runs behind it is the one that it
 -- starts; where one runs, its output leaves it, and its end makes room for the next.
-use Rattle.std.proofs.Common.{◌≡◌, ℕ, zero, suc, ◌+◌, List, [], ◌∷◌, ◌++◌, length, take, drop, Bool, true, false, ◌&&◌, Option, Some, None, refl, ap, sym, ◌∙◌}
+use Rattle.std.proofs.Common.{◌≡◌, ℕ, zero, suc, ◌+◌, List, [], ◌∷◌, ◌++◌, length, take, drop, Bool, true, false, ◌&&◌, Option, Some, None, refl, ap, sym, ◌∙◌, ◌<◌, arith}
 use Rattle.std.specs.Prelude.{map, not, if◌then◌else◌}
 use Rattle.std.specs.List.{range_with_len}
 use Rattle.xd_gateway.specs.declared.order.Order.{Order}
@@ -77,15 +77,16 @@ head_more zero (Mark ∷ l) more n h = cc
 head_more (suc e) [] more n h = cc
 head_more (suc e) (p ∷ l) more n h = head_more e l more n h
 
-head_front : (e : ℕ) (l more : List Place) (n : ℕ) → head_test (drop e l) ≡ Some n → head_test (drop e (take (e + 2) l ++ more)) ≡ Some n
-head_front zero [] more n h = cc
-head_front zero (Test k ∷ l) more n h = h
-head_front zero (Mark ∷ l) more n h = cc
-head_front (suc e) [] more n h = cc
-head_front (suc e) (p ∷ l) more n h = head_front e l more n h
+head_front : (e k : ℕ) (l more : List Place) (n : ℕ) → e < k → head_test (drop e l) ≡ Some n → head_test (drop e (take k l ++ more)) ≡ Some n
+head_front e zero l more n lt h = absurd (omega (arith, lt))
+head_front zero (suc k) [] more n lt h = cc
+head_front zero (suc k) (Test m ∷ l) more n lt h = h
+head_front zero (suc k) (Mark ∷ l) more n lt h = cc
+head_front (suc e) (suc k) [] more n lt h = cc
+head_front (suc e) (suc k) (p ∷ l) more n lt h = head_front e k l more n (omega (arith, lt)) h
 
 -- the line changed behind what runs
-lined : List Place → Turn → Turn
+abbrev lined : List Place → Turn → Turn
 lined ps t = record t { call = record (t.call) { line = ps } }
 
 lined_fresh : (t : Turn) (ps : List Place) → Fresh t → ((n : ℕ) → t.call.running ≡ true → head_test (left t.call) ≡ Some n → head_test (drop t.call.ended ps) ≡ Some n) → Fresh (lined ps t)
@@ -103,7 +104,7 @@ front_fresh : (t : Turn) (ps : List Place) → Fresh t → Fresh (lined (front t
 front_fresh t ps f = lined_fresh t (front t.call ++ ps) f (λ n r h. go t.call.running r n h)
   where
     go : (b : Bool) → b ≡ true → (n : ℕ) → head_test (left t.call) ≡ Some n → head_test (drop t.call.ended (take (t.call.ended + (if b then 2 else 1)) t.call.line ++ ps)) ≡ Some n
-    go true r n h = head_front t.call.ended t.call.line ps n h
+    go true r n h = head_front t.call.ended (t.call.ended + 2) t.call.line ps n (omega arith) h
     go false r n h = cc
 
 given_fresh : (room : Bool) (ns : List ℕ) (t : Turn) → Fresh t → rests t.call.phase ≡ false → Fresh (given room ns t)

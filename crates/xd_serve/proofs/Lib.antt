@@ -1,4 +1,8 @@
 pub mod Calls
+pub mod Carrying
+pub mod Goings
+pub mod Hearing
 pub mod Steps
 pub mod Tellings
+pub mod Watching
 pub mod Writing

@@ -6,7 +6,8 @@ use Rattle.xd_frame.specs.declared.kind.Kind.{Kind}
 use Rattle.xd_frame.specs.declared.kind.Kind.TheVariants as kind
 use Rattle.xd_frame.specs.Message.{MessageView}
 use Rattle.xd_channel.specs.declared.end.End.{End}
-use Rattle.xd_channel.specs.declared.arrived.Arrived.{Arrived}
+use Rattle.xd_channel.specs.declared.answers.Arrived.{Arrived}
+use Rattle.xd_channel.specs.declared.answers.Arrived.TheVariants as arrived
 use Rattle.xd_factory.specs.declared.parity.Parity.{Parity}
 use Rattle.xd_factory.specs.declared.taken.Taken.{Taken}
 use Rattle.xd_factory.specs.declared.taken.Taken.TheVariants.{Kept, Handed, EndKept, EndHanded, Dropped, Status, Exec, Terminate}
@@ -87,7 +88,7 @@ pub record Step (t u : Turn) : Type 0 where
   pub rest : Rest t u
 
 -- a turn that did this to the call
-acted_turn : Service → Given → Turn → Turn
+abbrev acted_turn : Service → Given → Turn → Turn
 acted_turn s g t = record t { duties = record (t.duties) { service = Some (record s { given = g ∷ s.given }) }; run = (turn_after s.given g).run }
 
 fresh_step : (s : Service) (g : Given) (t : Turn) → Fresh (turn_after s.given g) → Step t (all_asked s.channel (turn_after s.given g).asks (acted_turn s g t))
@@ -251,14 +252,30 @@ says_last (said.Last c) = false
 says_last said.Terminate = true
 
 arrived_last : (k : ℕ) (a : Arrived Tree) → is_terminate (arrived_answer k a) ≡ false
-arrived_last k a = search
+arrived_last k arrived.Kept = refl
+arrived_last k (arrived.Handed v) = refl
+arrived_last k arrived.Dropped = refl
+
+handed_last : (k : ℕ) (o : Option End) → is_terminate (handed_answer k o) ≡ false
+handed_last k None = refl
+handed_last k (Some e) = refl
+
+ended_last : (k : ℕ) (b : Bool) (o : Option End) → is_terminate (ended_answer k b o) ≡ false
+ended_last k true o = handed_last k o
+ended_last k false o = refl
 
 end_last : (k : ℕ) (s : Slot Tree) (e : End) → is_terminate (end_answer k s e) ≡ false
-end_last k s e = search
+end_last k Unseen e = refl
+end_last k (Here s) e = ended_last k s.callback _
+end_last k Gone e = refl
+
+call_last : (b : Bool) (k : ℕ) (v : Tree) → is_terminate (if b then Exec k v else Dropped) ≡ false
+call_last true k v = refl
+call_last false k v = refl
 
 answer_last : (s : Said) (t : Table) → is_terminate (answer s t) ≡ says_last s
 answer_last (said.Status c) t = refl
-answer_last (said.Exec c v) t = search
+answer_last (said.Exec c v) t = call_last _ c v
 answer_last (said.Data c v) t = arrived_last c _
 answer_last (said.Close c e) t = end_last c (t.slot c) _
 answer_last (said.Last c) t = end_last c (t.slot c) _
@@ -294,7 +311,19 @@ message_does w m s n means i = subst (λ (b : Bool). Does b (took s n (turn_of w
 pub link_end_does : (w : Worker) (n : ℕ) → (call_in w.duties.service).running ≡ false → Does true (turned LinkEnded n (turn_of w))
 link_end_does w n i = stopped_does n (at_talk (λ d. record d { table = lost d.table }) (turn_of w)) i refl refl
 
-pub suite_does : (w : Worker) (ts : List Test) (n : ℕ) → Waits w → Does false (turned (SuiteRead ts) n (turn_of w))
+-- What a suite does: it asks for none.
+pub record Plain (u : Turn) : Type 0 where
+  pub ready : Ready u
+  pub unstopped : u.duties.stopped ≡ false
+  pub suite : u.suite ≡ None
+
+calm_plain : (t : Turn) → Calm t → Plain t
+calm_plain t c = record { ready = ready_idle t c.idle c.run; unstopped = c.unstopped; suite = c.suite }
+
+step_plain : (t u : Turn) → Calm t → Step t u → Plain u
+step_plain t u c s = record { ready = s.ready; unstopped = s.rest.stopped ∙ c.unstopped; suite = s.rest.suite ∙ c.suite }
+
+pub suite_does : (w : Worker) (ts : List Test) (n : ℕ) → Waits w → Plain (turned (SuiteRead ts) n (turn_of w))
 suite_does w ts n i = go w.duties.owed
   where
     u : Turn
@@ -303,11 +332,11 @@ suite_does w ts n i = go w.duties.owed
     c : Calm u
     c = record { idle = i.idle; run = refl; suite = refl; unstopped = i.unstopped }
 
-    go : (b : Bool) → Does false (if b then suite_read ts n (turn_of w) else turn_of w)
-    go true = step_does u (suite_read ts n (turn_of w)) c (fed_idle (suite_input (ids_of w.duties.service ts)) n u i.idle refl)
-    go false = calm_does (turn_of w) (record { idle = i.idle; run = refl; suite = refl; unstopped = i.unstopped })
+    go : (b : Bool) → Plain (if b then suite_read ts n (turn_of w) else turn_of w)
+    go true = step_plain u (suite_read ts n (turn_of w)) c (fed_idle (suite_input (ids_of w.duties.service ts)) n u i.idle refl)
+    go false = calm_plain (turn_of w) (record { idle = i.idle; run = refl; suite = refl; unstopped = i.unstopped })
 
-pub no_suite_does : (w : Worker) (text : List ℕ) (n : ℕ) → Waits w → Does false (turned (NoSuite text) n (turn_of w))
+pub no_suite_does : (w : Worker) (text : List ℕ) (n : ℕ) → Waits w → Plain (turned (NoSuite text) n (turn_of w))
 no_suite_does w text n i = go w.duties.owed
   where
     u : Turn
@@ -316,9 +345,9 @@ no_suite_does w text n i = go w.duties.owed
     c : Calm u
     c = record { idle = i.idle; run = refl; suite = refl; unstopped = i.unstopped }
 
-    go : (b : Bool) → Does false (if b then suite_refused text n (turn_of w) else turn_of w)
-    go true = step_does u (suite_refused text n (turn_of w)) c (fed_idle (input.SuiteRefused text) n u i.idle refl)
-    go false = calm_does (turn_of w) (record { idle = i.idle; run = refl; suite = refl; unstopped = i.unstopped })
+    go : (b : Bool) → Plain (if b then suite_refused text n (turn_of w) else turn_of w)
+    go true = step_plain u (suite_refused text n (turn_of w)) c (fed_idle (input.SuiteRefused text) n u i.idle refl)
+    go false = calm_plain (turn_of w) (record { idle = i.idle; run = refl; suite = refl; unstopped = i.unstopped })
 
 pub output_does : (w : Worker) (bytes : List ℕ) (n : ℕ) → Prints (turn_of w) (turned (Printed bytes) n (turn_of w))
 output_does w bytes n = fed_output bytes n (turn_of w) refl

@@ -1,7 +1,8 @@
 -- Messages that are written one after another.
-use Rattle.std.proofs.Common.{◌≡◌, ℕ, ◌+◌, List, [], ◌∷◌, ◌++◌, take, Option, refl, sym, ap, ◌∙◌, subst}
+use Rattle.std.proofs.Common.{◌≡◌, ℕ, ◌+◌, ◌<◌, List, [], ◌∷◌, ◌++◌, take, drop, length, get_or, Option, refl, sym, ap, ◌∙◌, subst, arith, append_assoc}
+use Rattle.std.proofs.lemmas.Grind.{common_steps}
 use Rattle.std.proofs.lemmas.List.Concat.{flat_map-append}
-use Rattle.std.proofs.lemmas.List.{append-nil}
+use Rattle.std.proofs.lemmas.List.{append-nil, take_more}
 use Rattle.xd_edge.specs.Sink.{Sunk, Took, TookPart}
 use Rattle.xd_edge.proofs.SinkLemmas.{part_of_more, took_more, took_then_part}
 use Rattle.xd_frame.specs.Message.{MessageView, frame, frames, header}
@@ -22,3 +23,9 @@ pub frames_part : (a : List MessageView) (m : MessageView) (rest all : List Mess
 frames_part a m rest all old mid new e t f =
     subst (λ (l : List ℕ). TookPart l old new) (sym (ap frames e ∙ flat_map-append frame a (m ∷ rest)))
     (took_then_part (frames a) (frames (m ∷ rest)) old mid new t (part_of_more (frame m) (frames rest) mid new f))
+
+pub parted : (l : List MessageView) (i : ℕ) (m : MessageView) → i < length l → m ≡ get_or l i m → l ≡ take i l ++ m ∷ drop (i + 1) l
+parted l i m lt is = sym (halves l (i + 1)) ∙ (ap (λ (a : List MessageView). a ++ drop (i + 1) l) (take_more l i m lt ∙ ap (λ (x : MessageView). take i l ++ x ∷ []) (sym is)) ∙ append_assoc (take i l) (m ∷ []) (drop (i + 1) l))
+  where
+    halves : (l : List MessageView) (n : ℕ) → take n l ++ drop n l ≡ l
+    halves l n = grind (arith, common_steps)

@@ -127,8 +127,8 @@ pub record Going (held : Option Held) (taken : List MessageView) (next : Next) (
   pub next_is : IsNext next (worker_after history)
 
 -- The same, whatever was taken before.
-abbrev pub Goes : Next → WorkerCore → Bool → Scene → Type 0
-Goes next core broken new = (held : Option Held) × (taken : List MessageView) × (old : Scene) × Going held taken next core broken old new
+abbrev pub Goes : Option Held → Next → WorkerCore → Bool → Scene → Type 0
+Goes held next core broken new = (taken : List MessageView) × (old : Scene) × Going held taken next core broken old new
 
 -- a start of this command came to this outcome, and this is what it printed
 pub record CameTo (args : List (List ℕ)) (output : List ℕ) (outcome : Outcome) (old new : Option (List ChildRun)) : Type 0 where

@@ -1,5 +1,5 @@
 -- The messages that a worker takes, and those with which it ends.
-use Rattle.std.specs.Prelude.{◌≡◌, ◌⊎◌, ℕ, Bool, true, false, List, [], ◌∷◌, ◌++◌, Option, Some, None, Ok}
+use Rattle.std.specs.Prelude.{◌≡◌, ◌⊎◌, ℕ, Bool, true, false, not, List, [], ◌∷◌, ◌++◌, Option, Some, None, Ok}
 use Rattle.xd_edge.specs.Files.{Held}
 use Rattle.xd_frame.specs.declared.fault.FrameFault.{FrameFault}
 use Rattle.xd_frame.specs.Message.{MessageView}
@@ -12,7 +12,7 @@ use Rattle.xd_worker.specs.History.{Heard, Refuses, is_over, worker_after}
 use Rattle.xd_serve.specs.declared.stop.Stop.{Stop}
 use Rattle.xd_serve.specs.declared.stop.Stop.TheVariants as stop
 use Rattle.xd_serve.specs.Inputs.{has_end, has_last, is_last, messages_in}
-use Rattle.xd_serve.specs.Going.{Free, Going, Scene, Told}
+use Rattle.xd_serve.specs.Going.{Free, Going, Scene, Told, to_do}
 
 -- the sink is whole, but where it failed
 abbrev pub is_whole : Stop → Bool
@@ -49,6 +49,16 @@ pub record Halted (held : Option Held) (taken : List MessageView) (m : MessageVi
   pub left_is : AreLeft (is_whole why) left
   pub none_last : has_last taken ≡ false
   pub cause : Halts why taken m inputs history
+
+-- GATEWAY_TERMINATE was taken; the sink may have failed with it.
+abbrev pub end_by : Bool → Stop
+end_by true = stop.WriteFault
+end_by false = stop.Terminated
+
+-- A message was heard: it was the last one, or this is to be done.
+abbrev pub Hears : Bool → Option (List ℕ) → Option ℕ → Option Held → List MessageView → MessageView → WorkerCore → Bool → Scene → Scene → Type 0
+Hears true suite run held taken m core broken old new = Halted held taken m (end_by broken) old new
+Hears false suite run held taken m core broken old new = (args : List (List ℕ)) × (has_last taken ≡ false) × Going held (taken ++ m ∷ []) (to_do suite run args) core broken old new
 
 -- The message was taken, or the worker ended with it.
 abbrev pub Takes : Option Stop → Option Held → List MessageView → MessageView → WorkerCore → Bool → Scene → Scene → Type 0
@@ -97,11 +107,6 @@ TakesBytes (Some stop.Ended) held bytes framer core broken old new = ⊥
 TakesBytes (Some stop.Cut) held bytes framer core broken old new = ⊥
 TakesBytes (Some stop.ReadFault) held bytes framer core broken old new = ⊥
 
--- GATEWAY_TERMINATE was taken; the sink may have failed with it.
-abbrev pub end_by : Bool → Stop
-end_by true = stop.WriteFault
-end_by false = stop.Terminated
-
 -- What the end of the bytes means where all their messages were taken.
 abbrev pub EndMeans : Stop → List ℕ → Type 0
 EndMeans stop.Ended bytes = rest bytes ≡ Clean
@@ -111,6 +116,16 @@ EndMeans stop.Terminated bytes = ⊥
 EndMeans (stop.Header fault) bytes = ⊥
 EndMeans (stop.Message fault) bytes = ⊥
 EndMeans stop.ReadFault bytes = ⊥
+
+-- The worker heard of the link's end.
+pub record EndTold (held : Option Held) (taken : List MessageView) (broken : Bool) (old new : Scene) : Type 0 where
+  pub inputs : List WorkerInput
+  pub history : List Heard
+  pub told : Told held inputs history (not broken) [] old new
+  pub taken_is : messages_in inputs ≡ taken
+  pub none_last : has_last taken ≡ false
+  pub end : has_end inputs ≡ true
+  pub over : is_over (worker_after history) ≡ true
 
 -- All messages of the bytes were taken, and then the worker heard of the link's end.
 pub record EndsAt (why : Stop) (held : Option Held) (bytes : List ℕ) (taken : List MessageView) (old new : Scene) : Type 0 where

@@ -6,7 +6,7 @@ ghost use Rattle.xd_frame.specs.Framer.{FramerView};
 ghost use Rattle.xd_frame.specs.Message.{MessageView};
 ghost use Rattle.xd_serve.specs.Going.{Carried, Free, Goes, Going, Reading, Scene, scene, to_do, to_start};
 ghost use Rattle.xd_serve.specs.Served.{Ends, Spring, spring};
-ghost use Rattle.xd_serve.specs.Taking.{EndsAt, Listens, Takes, TakesAll, TakesBytes, end_by};
+ghost use Rattle.xd_serve.specs.Taking.{EndTold, EndsAt, Hears, Listens, Takes, TakesAll, TakesBytes, end_by};
 
 use crate::program::run_program;
 use crate::speaker::Speaker;
@@ -29,10 +29,10 @@ pub fn listen<R: Wait, S: Source, N: Sink, F: Files, K: Children, T: Clock>(
     children: &mut K,
     clock: &mut T,
 ) -> Result<Stop, OutOfMemory>
-    requires goes { Goes Free speaker.old.core speaker.old.is_broken (scene (N.sunk speaker.old.sink) (N.faults speaker.old.sink) (K.runs children.old) (K.faults children.old) (F.faults files.old)) }
+    requires goes { (held : Option Held) × (F.held files.old ≡ held) × Goes held Free speaker.old.core speaker.old.is_broken (scene (N.sunk speaker.old.sink) (N.faults speaker.old.sink) (K.runs children.old) (K.faults children.old) (F.faults files.old)) }
     requires whole { speaker.old.is_broken ≡ false }
-    ensures ends { (first : Scene) → Going (F.held files.old) [] Free speaker.old.core speaker.old.is_broken first (scene (N.sunk speaker.old.sink) (N.faults speaker.old.sink) (K.runs children.old) (K.faults children.old) (F.faults files.old)) →
-        IfOk result (λ why. Ends why (F.held files.old) (spring (S.supply source.old) (S.is_ended source.old) (S.faults source.old)) (spring (S.supply source.new) (S.is_ended source.new) (S.faults source.new)) first (scene (N.sunk speaker.new.sink) (N.faults speaker.new.sink) (K.runs children.new) (K.faults children.new) (F.faults files.new))) }
+    ensures ends { (held : Option Held) (first : Scene) → F.held files.old ≡ held → Going held [] Free speaker.old.core speaker.old.is_broken first (scene (N.sunk speaker.old.sink) (N.faults speaker.old.sink) (K.runs children.old) (K.faults children.old) (F.faults files.old)) →
+        IfOk result (λ why. Ends why held (spring (S.supply source.old) (S.is_ended source.old) (S.faults source.old)) (spring (S.supply source.new) (S.is_ended source.new) (S.faults source.new)) first (scene (N.sunk speaker.new.sink) (N.faults speaker.new.sink) (K.runs children.new) (K.faults children.new) (F.faults files.new))) }
 {
     let mut framer = Framer::new(alloc);
     let mut buffer = [0u8; 4096];
@@ -69,10 +69,7 @@ fn end_link<N: Sink>(speaker: &mut Speaker<N>, framer: &Framer) -> Result<Stop, 
         Listens held bytes taken framer.now speaker.old.core speaker.old.is_broken first (scene (N.sunk speaker.old.sink) (N.faults speaker.old.sink) before.runs before.child_faults before.file_faults) →
         IfOk result (λ why. EndsAt why held bytes taken first (scene (N.sunk speaker.new.sink) (N.faults speaker.new.sink) before.runs before.child_faults before.file_faults)) }
 {
-    // The side refuses messages alone.
-    if speaker.hear(WorkerInput::LinkEnd).is_err() {
-        return Err(OutOfMemory);
-    }
+    tell_link_end(speaker)?;
     if speaker.is_broken {
         return Ok(Stop::WriteFault);
     }
@@ -80,6 +77,16 @@ fn end_link<N: Sink>(speaker: &mut Speaker<N>, framer: &Framer) -> Result<Stop, 
         Ok(()) => Ok(Stop::Ended),
         Err(_) => Ok(Stop::Cut),
     }
+}
+
+fn tell_link_end<N: Sink>(speaker: &mut Speaker<N>) -> Result<(), OutOfMemory>
+    ensures ends { (held : Option Held) (taken : List MessageView) (first before : Scene) →
+        Going held taken Free speaker.old.core speaker.old.is_broken first (scene (N.sunk speaker.old.sink) (N.faults speaker.old.sink) before.runs before.child_faults before.file_faults) →
+        OnOk result (EndTold held taken speaker.new.is_broken first (scene (N.sunk speaker.new.sink) (N.faults speaker.new.sink) before.runs before.child_faults before.file_faults)) }
+    ensures sink_later { N.faults speaker.old.sink ≤ N.faults speaker.new.sink }
+{
+    let _acts = speaker.tell(WorkerInput::LinkEnd)?;
+    Ok(())
 }
 
 // Takes the messages that are whole behind these bytes.
@@ -93,11 +100,11 @@ fn take_bytes<R: Wait, N: Sink, F: Files, K: Children, T: Clock>(
     children: &mut K,
     clock: &mut T,
 ) -> Result<Option<Stop>, OutOfMemory>
-    requires goes { Goes Free speaker.old.core speaker.old.is_broken (scene (N.sunk speaker.old.sink) (N.faults speaker.old.sink) (K.runs children.old) (K.faults children.old) (F.faults files.old)) }
+    requires goes { (held : Option Held) × (F.held files.old ≡ held) × Goes held Free speaker.old.core speaker.old.is_broken (scene (N.sunk speaker.old.sink) (N.faults speaker.old.sink) (K.runs children.old) (K.faults children.old) (F.faults files.old)) }
     requires whole { speaker.old.is_broken ≡ false }
-    ensures takes { (fed : List ℕ) (taken : List MessageView) (first : Scene) →
-        Listens (F.held files.old) fed taken framer.old speaker.old.core speaker.old.is_broken first (scene (N.sunk speaker.old.sink) (N.faults speaker.old.sink) (K.runs children.old) (K.faults children.old) (F.faults files.old)) →
-        IfOk result (λ stop. TakesBytes stop (F.held files.old) (fed ++ bytes.now) framer.new speaker.new.core speaker.new.is_broken first (scene (N.sunk speaker.new.sink) (N.faults speaker.new.sink) (K.runs children.new) (K.faults children.new) (F.faults files.new))) }
+    ensures takes { (held : Option Held) (fed : List ℕ) (taken : List MessageView) (first : Scene) → F.held files.old ≡ held →
+        Listens held fed taken framer.old speaker.old.core speaker.old.is_broken first (scene (N.sunk speaker.old.sink) (N.faults speaker.old.sink) (K.runs children.old) (K.faults children.old) (F.faults files.old)) →
+        IfOk result (λ stop. TakesBytes stop held (fed ++ bytes.now) framer.new speaker.new.core speaker.new.is_broken first (scene (N.sunk speaker.new.sink) (N.faults speaker.new.sink) (K.runs children.new) (K.faults children.new) (F.faults files.new))) }
     ensures kept { F.held files.new ≡ F.held files.old }
     ensures sink_later { N.faults speaker.old.sink ≤ N.faults speaker.new.sink }
 {
@@ -125,11 +132,11 @@ fn take_messages<R: Wait, N: Sink, F: Files, K: Children, T: Clock>(
     children: &mut K,
     clock: &mut T,
 ) -> Result<Option<Stop>, OutOfMemory>
-    requires goes { Goes Free speaker.old.core speaker.old.is_broken (scene (N.sunk speaker.old.sink) (N.faults speaker.old.sink) (K.runs children.old) (K.faults children.old) (F.faults files.old)) }
+    requires goes { (held : Option Held) × (F.held files.old ≡ held) × Goes held Free speaker.old.core speaker.old.is_broken (scene (N.sunk speaker.old.sink) (N.faults speaker.old.sink) (K.runs children.old) (K.faults children.old) (F.faults files.old)) }
     requires whole { speaker.old.is_broken ≡ false }
-    ensures takes { (taken : List MessageView) (first : Scene) →
-        Going (F.held files.old) taken Free speaker.old.core speaker.old.is_broken first (scene (N.sunk speaker.old.sink) (N.faults speaker.old.sink) (K.runs children.old) (K.faults children.old) (F.faults files.old)) →
-        IfOk result (λ stop. TakesAll stop (F.held files.old) taken framer.old.waiting speaker.new.core speaker.new.is_broken first (scene (N.sunk speaker.new.sink) (N.faults speaker.new.sink) (K.runs children.new) (K.faults children.new) (F.faults files.new))) }
+    ensures takes { (held : Option Held) (taken : List MessageView) (first : Scene) → F.held files.old ≡ held →
+        Going held taken Free speaker.old.core speaker.old.is_broken first (scene (N.sunk speaker.old.sink) (N.faults speaker.old.sink) (K.runs children.old) (K.faults children.old) (F.faults files.old)) →
+        IfOk result (λ stop. TakesAll stop held taken framer.old.waiting speaker.new.core speaker.new.is_broken first (scene (N.sunk speaker.new.sink) (N.faults speaker.new.sink) (K.runs children.new) (K.faults children.new) (F.faults files.new))) }
     ensures none_waits { IfOk result (λ stop. IfNone stop (framer.new.waiting ≡ [])) }
     ensures held { framer.new.held ≡ framer.old.held }
     ensures failed { framer.new.failed ≡ framer.old.failed }
@@ -155,24 +162,51 @@ fn take_message<R: Wait, N: Sink, F: Files, K: Children, T: Clock>(
     children: &mut K,
     clock: &mut T,
 ) -> Result<Option<Stop>, OutOfMemory>
-    requires goes { Goes Free speaker.old.core speaker.old.is_broken (scene (N.sunk speaker.old.sink) (N.faults speaker.old.sink) (K.runs children.old) (K.faults children.old) (F.faults files.old)) }
+    requires goes { (held : Option Held) × (F.held files.old ≡ held) × Goes held Free speaker.old.core speaker.old.is_broken (scene (N.sunk speaker.old.sink) (N.faults speaker.old.sink) (K.runs children.old) (K.faults children.old) (F.faults files.old)) }
     requires whole { speaker.old.is_broken ≡ false }
-    ensures takes { (taken : List MessageView) (first : Scene) →
-        Going (F.held files.old) taken Free speaker.old.core speaker.old.is_broken first (scene (N.sunk speaker.old.sink) (N.faults speaker.old.sink) (K.runs children.old) (K.faults children.old) (F.faults files.old)) →
-        IfOk result (λ stop. Takes stop (F.held files.old) taken message speaker.new.core speaker.new.is_broken first (scene (N.sunk speaker.new.sink) (N.faults speaker.new.sink) (K.runs children.new) (K.faults children.new) (F.faults files.new))) }
+    ensures takes { (held : Option Held) (taken : List MessageView) (first : Scene) → F.held files.old ≡ held →
+        Going held taken Free speaker.old.core speaker.old.is_broken first (scene (N.sunk speaker.old.sink) (N.faults speaker.old.sink) (K.runs children.old) (K.faults children.old) (F.faults files.old)) →
+        IfOk result (λ stop. Takes stop held taken message speaker.new.core speaker.new.is_broken first (scene (N.sunk speaker.new.sink) (N.faults speaker.new.sink) (K.runs children.new) (K.faults children.new) (F.faults files.new))) }
     ensures kept { F.held files.new ≡ F.held files.old }
     ensures sink_later { N.faults speaker.old.sink ≤ N.faults speaker.new.sink }
 {
-    let acts = match speaker.hear(WorkerInput::Message(message)) {
-        Ok(acts) => acts,
-        Err(WorkerFault::Link(fault)) => return Ok(Some(Stop::Message(fault))),
-        Err(WorkerFault::OutOfMemory) => return Err(OutOfMemory),
-    };
-    if acts.over {
+    match speaker.hear(WorkerInput::Message(message)) {
+        Ok(acts) => {
+            let run = acts.run;
+            let over = acts.over;
+            let stop = follow(
+                rt, alloc, over, acts.suite, run, speaker, files, children, clock,
+            )?;
+            Ok(stop)
+        }
+        Err(WorkerFault::Link(fault)) => Ok(Some(Stop::Message(fault))),
+        Err(WorkerFault::OutOfMemory) => Err(OutOfMemory),
+    }
+}
+
+// Does what a message asks for. `over` says that it was the last one.
+fn follow<R: Wait, N: Sink, F: Files, K: Children, T: Clock>(
+    rt: &R,
+    alloc: Global,
+    over: bool,
+    suite: Option<Text>,
+    run: Option<u32>,
+    speaker: &mut Speaker<N>,
+    files: &mut F,
+    children: &mut K,
+    clock: &mut T,
+) -> Result<Option<Stop>, OutOfMemory>
+    requires goes { over ≡ false → (held : Option Held) × (F.held files.old ≡ held) × (args : List (List ℕ)) × Goes held (to_do suite run args) speaker.old.core speaker.old.is_broken (scene (N.sunk speaker.old.sink) (N.faults speaker.old.sink) (K.runs children.old) (K.faults children.old) (F.faults files.old)) }
+    ensures takes { (held : Option Held) (taken : List MessageView) (m : MessageView) (first : Scene) → F.held files.old ≡ held →
+        Hears over suite run held taken m speaker.old.core speaker.old.is_broken first (scene (N.sunk speaker.old.sink) (N.faults speaker.old.sink) (K.runs children.old) (K.faults children.old) (F.faults files.old)) →
+        IfOk result (λ stop. Takes stop held taken m speaker.new.core speaker.new.is_broken first (scene (N.sunk speaker.new.sink) (N.faults speaker.new.sink) (K.runs children.new) (K.faults children.new) (F.faults files.new))) }
+    ensures kept { F.held files.new ≡ F.held files.old }
+    ensures sink_later { N.faults speaker.old.sink ≤ N.faults speaker.new.sink }
+{
+    if over {
         return Ok(Some(end_by(speaker.is_broken)));
     }
-    let run = acts.run;
-    carry_out(rt, alloc, acts.suite, run, speaker, files, children, clock)?;
+    carry_out(rt, alloc, suite, run, speaker, files, children, clock)?;
     if speaker.is_broken {
         return Ok(Some(Stop::WriteFault));
     }
@@ -201,17 +235,14 @@ fn carry_out<R: Wait, N: Sink, F: Files, K: Children, T: Clock>(
     children: &mut K,
     clock: &mut T,
 ) -> Result<(), OutOfMemory>
-    requires goes { (args : List (List ℕ)) × Goes (to_do suite run args) speaker.old.core speaker.old.is_broken (scene (N.sunk speaker.old.sink) (N.faults speaker.old.sink) (K.runs children.old) (K.faults children.old) (F.faults files.old)) }
-    ensures carried { (taken : List MessageView) (args : List (List ℕ)) (first : Scene) →
-        Going (F.held files.old) taken (to_do suite run args) speaker.old.core speaker.old.is_broken first (scene (N.sunk speaker.old.sink) (N.faults speaker.old.sink) (K.runs children.old) (K.faults children.old) (F.faults files.old)) →
-        OnOk result (Carried (F.held files.old) taken speaker.new.core speaker.new.is_broken first (scene (N.sunk speaker.new.sink) (N.faults speaker.new.sink) (K.runs children.new) (K.faults children.new) (F.faults files.new))) }
+    requires goes { (held : Option Held) × (F.held files.old ≡ held) × (args : List (List ℕ)) × Goes held (to_do suite run args) speaker.old.core speaker.old.is_broken (scene (N.sunk speaker.old.sink) (N.faults speaker.old.sink) (K.runs children.old) (K.faults children.old) (F.faults files.old)) }
+    ensures carried { (held : Option Held) (taken : List MessageView) (args : List (List ℕ)) (first : Scene) → F.held files.old ≡ held →
+        Going held taken (to_do suite run args) speaker.old.core speaker.old.is_broken first (scene (N.sunk speaker.old.sink) (N.faults speaker.old.sink) (K.runs children.old) (K.faults children.old) (F.faults files.old)) →
+        OnOk result (Carried held taken speaker.new.core speaker.new.is_broken first (scene (N.sunk speaker.new.sink) (N.faults speaker.new.sink) (K.runs children.new) (K.faults children.new) (F.faults files.new))) }
     ensures kept { F.held files.new ≡ F.held files.old }
     ensures sink_later { N.faults speaker.old.sink ≤ N.faults speaker.new.sink }
 {
-    let mut next = match suite {
-        Some(path) => take_suite(alloc, speaker, files, &path)?,
-        None => run,
-    };
+    let mut next = first_test(alloc, suite, run, speaker, files)?;
     for _ in rt.forever() {
         let Some(test) = next else {
             return Ok(());
@@ -224,6 +255,29 @@ fn carry_out<R: Wait, N: Sink, F: Files, K: Children, T: Clock>(
     unreachable!()
 }
 
+// Reads the suite that a message asks for, if any. Gives the test that is to be started.
+fn first_test<N: Sink, F: Files>(
+    alloc: Global,
+    suite: Option<Text>,
+    run: Option<u32>,
+    speaker: &mut Speaker<N>,
+    files: &mut F,
+) -> Result<Option<u32>, OutOfMemory>
+    ensures goes { (held : Option Held) (taken : List MessageView) (args : List (List ℕ)) (first : Scene) (runs : Option (List ChildRun)) (child_faults : ℕ) → F.held files.old ≡ held →
+        Going held taken (to_do suite run args) speaker.old.core speaker.old.is_broken first (scene (N.sunk speaker.old.sink) (N.faults speaker.old.sink) runs child_faults (F.faults files.old)) →
+        IfOk result (λ next. (args : List (List ℕ)) × Going held taken (to_start next args) speaker.new.core speaker.new.is_broken first (scene (N.sunk speaker.new.sink) (N.faults speaker.new.sink) runs child_faults (F.faults files.new))) }
+    ensures kept { F.held files.new ≡ F.held files.old }
+    ensures sink_later { N.faults speaker.old.sink ≤ N.faults speaker.new.sink }
+{
+    match suite {
+        Some(path) => {
+            let next = take_suite(alloc, speaker, files, &path)?;
+            Ok(next)
+        }
+        None => Ok(run),
+    }
+}
+
 // Reads the suite file of a path and tells the worker. Gives the test that is to be started.
 fn take_suite<N: Sink, F: Files>(
     alloc: Global,
@@ -231,16 +285,13 @@ fn take_suite<N: Sink, F: Files>(
     files: &mut F,
     path: &Text,
 ) -> Result<Option<u32>, OutOfMemory>
-    ensures goes { (taken : List MessageView) (first : Scene) (runs : Option (List ChildRun)) (child_faults : ℕ) →
-        Going (F.held files.old) taken (Reading path.now) speaker.old.core speaker.old.is_broken first (scene (N.sunk speaker.old.sink) (N.faults speaker.old.sink) runs child_faults (F.faults files.old)) →
-        IfOk result (λ next. (args : List (List ℕ)) × Going (F.held files.old) taken (to_start next args) speaker.new.core speaker.new.is_broken first (scene (N.sunk speaker.new.sink) (N.faults speaker.new.sink) runs child_faults (F.faults files.new))) }
+    ensures goes { (held : Option Held) (taken : List MessageView) (first : Scene) (runs : Option (List ChildRun)) (child_faults : ℕ) → F.held files.old ≡ held →
+        Going held taken (Reading path.now) speaker.old.core speaker.old.is_broken first (scene (N.sunk speaker.old.sink) (N.faults speaker.old.sink) runs child_faults (F.faults files.old)) →
+        IfOk result (λ next. (args : List (List ℕ)) × Going held taken (to_start next args) speaker.new.core speaker.new.is_broken first (scene (N.sunk speaker.new.sink) (N.faults speaker.new.sink) runs child_faults (F.faults files.new))) }
     ensures kept { F.held files.new ≡ F.held files.old }
     ensures sink_later { N.faults speaker.old.sink ≤ N.faults speaker.new.sink }
 {
     let suite = read_suite(alloc, files, path)?;
-    match speaker.hear(suite) {
-        Ok(acts) => Ok(acts.run),
-        // The side refuses messages alone.
-        Err(_) => Err(OutOfMemory),
-    }
+    let acts = speaker.tell(suite)?;
+    Ok(acts.run)
 }

@@ -24,7 +24,7 @@ pub fn run_program<R: Wait, N: Sink, K: Children, T: Clock>(
     clock: &mut T,
     test: u32,
 ) -> Result<Option<u32>, OutOfMemory>
-    requires going { (files : ℕ) × (args : List (List ℕ)) × Goes (Running test args []) speaker.old.core speaker.old.is_broken (scene (N.sunk speaker.old.sink) (N.faults speaker.old.sink) (K.runs children.old) (K.faults children.old) files) }
+    requires going { (held : Option Held) × (files : ℕ) × (args : List (List ℕ)) × Goes held (Running test args []) speaker.old.core speaker.old.is_broken (scene (N.sunk speaker.old.sink) (N.faults speaker.old.sink) (K.runs children.old) (K.faults children.old) files) }
     ensures goes { (held : Option Held) (taken : List MessageView) (args : List (List ℕ)) (first : Scene) (files : ℕ) →
         Going held taken (Running test args []) speaker.old.core speaker.old.is_broken first (scene (N.sunk speaker.old.sink) (N.faults speaker.old.sink) (K.runs children.old) (K.faults children.old) files) →
         IfOk result (λ next. (args : List (List ℕ)) × Going held taken (to_start next args) speaker.new.core speaker.new.is_broken first (scene (N.sunk speaker.new.sink) (N.faults speaker.new.sink) (K.runs children.new) (K.faults children.new) files)) }
@@ -48,11 +48,8 @@ fn tell_end<N: Sink>(
         IfOk result (λ next. (args : List (List ℕ)) × Going held taken (to_start next args) speaker.new.core speaker.new.is_broken first (scene (N.sunk speaker.new.sink) (N.faults speaker.new.sink) runs child_faults files)) }
     ensures sink_later { N.faults speaker.old.sink ≤ N.faults speaker.new.sink }
 {
-    match speaker.hear(WorkerInput::ChildDone { outcome, ms }) {
-        Ok(acts) => Ok(acts.run),
-        // The side refuses messages alone.
-        Err(_) => Err(OutOfMemory),
-    }
+    let acts = speaker.tell(WorkerInput::ChildDone { outcome, ms })?;
+    Ok(acts.run)
 }
 
 // Starts the program of a test, tells the worker what it prints, and waits for it.
@@ -63,7 +60,7 @@ fn watch<R: Wait, N: Sink, K: Children>(
     children: &mut K,
     test: u32,
 ) -> Result<Outcome, OutOfMemory>
-    requires going { (files : ℕ) × (args : List (List ℕ)) × Goes (Running test args []) speaker.old.core speaker.old.is_broken (scene (N.sunk speaker.old.sink) (N.faults speaker.old.sink) (K.runs children.old) (K.faults children.old) files) }
+    requires going { (held : Option Held) × (files : ℕ) × (args : List (List ℕ)) × Goes held (Running test args []) speaker.old.core speaker.old.is_broken (scene (N.sunk speaker.old.sink) (N.faults speaker.old.sink) (K.runs children.old) (K.faults children.old) files) }
     ensures watched { (held : Option Held) (taken : List MessageView) (args : List (List ℕ)) (first : Scene) (files : ℕ) →
         Going held taken (Running test args []) speaker.old.core speaker.old.is_broken first (scene (N.sunk speaker.old.sink) (N.faults speaker.old.sink) (K.runs children.old) (K.faults children.old) files) →
         IfOk result (λ outcome. Watched held taken test args outcome speaker.new.core speaker.new.is_broken first (scene (N.sunk speaker.new.sink) (N.faults speaker.new.sink) (K.runs children.old) (K.faults children.old) files) (scene (N.sunk speaker.new.sink) (N.faults speaker.new.sink) (K.runs children.new) (K.faults children.new) files)) }
@@ -109,12 +106,13 @@ fn hear_output<R: Wait, N: Sink, K: Children>(
     for _ in rt.forever() {
         match children.read(rt, child, &mut buffer) {
             Ok(0) => return Ok(true),
-            Ok(n) => {
-                if tell_output(alloc, speaker, &buffer[..n]).is_err() {
+            Ok(n) => match tell_output(alloc, speaker, &buffer[..n]) {
+                Ok(()) => (),
+                Err(fault) => {
                     drop_output(rt, children, child);
-                    return Err(OutOfMemory);
+                    return Err(fault);
                 }
-            }
+            },
             Err(_) => return Ok(false),
         }
     }
@@ -134,17 +132,15 @@ fn tell_output<N: Sink>(
     ensures sink_later { N.faults speaker.old.sink ≤ N.faults speaker.new.sink }
 {
     let piece = Blob::of(alloc, piece)?;
-    match speaker.hear(WorkerInput::Output(piece)) {
-        Ok(_) => Ok(()),
-        // The side refuses messages alone.
-        Err(_) => Err(OutOfMemory),
-    }
+    let _acts = speaker.tell(WorkerInput::Output(piece))?;
+    Ok(())
 }
 
 // Reads what a program still prints, and drops it.
 fn drop_output<R: Wait, K: Children>(rt: &R, children: &mut K, child: &mut K::Child)
     ensures same_child { K.place child.new ≡ K.place child.old }
     ensures is_read { IsTrue (K.is_read child.new) }
+    ensures later { K.faults children.old ≤ K.faults children.new }
 {
     let mut buffer = [0u8; 4096];
     for _ in rt.forever() {

@@ -6,7 +6,7 @@ ghost use Rattle.xd_frame.specs.Message.{frame, frames};
 ghost use Rattle.xd_serve.specs.Speaking.{Shows, ShowsMore, greeting};
 
 use std::alloc::Global;
-use xd_edge::{Failed, Sink, print, write_all};
+use xd_edge::{Failed, OutOfMemory, Sink, print, write_all};
 use xd_frame::{Message, header_of};
 use xd_worker::{WorkerActions, WorkerCore, WorkerFault, WorkerInput};
 
@@ -59,6 +59,19 @@ impl<N: Sink> Speaker<N> {
                 Ok(acts)
             }
             Err(fault) => Err(fault),
+        }
+    }
+
+    /// One input that is no message. The side refuses messages alone.
+    pub fn tell(&mut self, input: WorkerInput) -> Result<WorkerActions, OutOfMemory>
+        ensures answers { (h : List Heard) → StandsFor self.old.core h → IfOk result (Answers self.new.core (worker_after h) input) }
+        ensures shows { IfOk result (λ acts. ShowsMore self.old.is_broken self.new.is_broken (frames acts.say) (N.sunk self.old.sink) (N.sunk self.new.sink)) }
+        ensures later { N.faults self.old.sink ≤ N.faults self.new.sink }
+        ensures rose { self.old.is_broken ≡ false → self.new.is_broken ≡ true → Rose (N.faults self.old.sink) (N.faults self.new.sink) }
+    {
+        match self.hear(input) {
+            Ok(acts) => Ok(acts),
+            Err(_) => Err(OutOfMemory),
         }
     }
 
