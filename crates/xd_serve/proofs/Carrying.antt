@@ -7,8 +7,8 @@ use Rattle.xd_serve.specs.Going.{Carried, Free, Going, Next, Running, Scene, to_
 
 module _ (held : Option Held) (taken : List MessageView) where
   pub free_carried : (next : Option ℕ) (args : List (List ℕ)) (core : WorkerCore) (broken : Bool) (first s : Scene) → ((x : ℕ) → next ≡ Some x → ⊥) → Going held taken (to_start next args) core broken first s → Carried held taken core broken first s
-  free_carried None args core broken first s no g = (Free, g, λ e. refl)
-  free_carried (Some k) args core broken first s no g = absurd (no k refl)
+  free_carried None args core broken first s none g = (Free, g, λ e. refl)
+  free_carried (Some k) args core broken first s none g = absurd (none k refl)
 
   pub broken_carried : (next : Option ℕ) (args : List (List ℕ)) (core : WorkerCore) (broken : Bool) (first s : Scene) → broken ≡ true → Going held taken (to_start next args) core broken first s → Carried held taken core broken first s
   broken_carried next args core broken first s b g = (to_start next args, g, λ e. (let x = sym b ∙ e in cc))

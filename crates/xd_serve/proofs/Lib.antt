@@ -2,7 +2,9 @@ pub mod Calls
 pub mod Carrying
 pub mod Goings
 pub mod Hearing
+pub mod Listening
 pub mod Steps
+pub mod Taking
 pub mod Tellings
 pub mod Watching
 pub mod Writing

@@ -26,7 +26,7 @@ returns-then-speaker-clause-carried g c = λ held taken args first e going.
 pub run_program-requires : goal.run_program-requires
 run_program-requires g c =
     let r = c.loop.invariant.goes in
-    (r.0, g.F.Files.faults c.first_test.new.files, r.2, (r.3.0, r.3.1, started r.0 r.3.0 c.loop.next c.in-Some-next.test r.2 c.loop.speaker.core c.loop.speaker.is_broken r.3.1 _ c.in-Some-next.is r.3.2))
+    record { going = (r.0, g.F.Files.faults c.first_test.new.files, r.2, (r.3.0, r.3.1, started r.0 r.3.0 c.loop.next c.in-Some-next.test r.2 c.loop.speaker.core c.loop.speaker.is_broken r.3.1 _ c.in-Some-next.is r.3.2)) }
 
 pub loop-preserved : goal.loop-preserved
 loop-preserved g c =

@@ -9,7 +9,7 @@ returns-then-over-clause-takes g c = λ held taken m first e hears.
     heard_over c.args.over c.args.suite c.args.run held taken m c.args.speaker.now.core c.args.speaker.now.is_broken first _ c.end_by.result c.if-over.true c.end_by.ensures hears
 
 pub carry_out-requires : goal.carry_out-requires
-carry_out-requires g c = c.requires.goes c.if-over.false
+carry_out-requires g c = record { goes = c.requires.goes c.if-over.false }
 
 pub returns-then-speaker-clause-takes : goal.returns-then-speaker-clause-takes
 returns-then-speaker-clause-takes g c = λ held taken m first e hears.
