@@ -145,25 +145,27 @@ going_end held taken test args outcome ms core0 core1 b0 b1 first s runs child_f
     let p : Step (turn_of w) u = subst (λ (c : Came). Step (turn_of w) (turned c a.heard.channels (turn_of w))) (sym a.is) (end_does w outcome ms a.heard.channels test g.next_is.1 g.next_is.2) in
     let s0 = at_sink s sunk0 f0 in
     let s1 = scene sunk1 f1 runs child_faults s.file_faults in
-    let next = args_of acts.run u.duties.tests in
-    (next, record {
-      inputs = ChildDone outcome ms ∷ g.inputs;
-      history = a.heard ∷ h;
-      told = told_more held g.inputs h b0 b1 (args ∷ []) (left_of (to_start acts.run next)) first s0 s1 core1 (ChildDone outcome ms) acts g.told a
-          (subst (λ (o : Option ℕ). IsSome o) (sym (running_is w.duties.service ∙ g.next_is.1)) search)
-          (subst (λ (o : Option (List ℕ)). Follows held (Rose first.file_faults s1.file_faults) o (ChildDone outcome ms)) (sym g.path_is) refl)
-          (λ e. cc) shows rose (record { sink = later; children = watched.later; files = omega arith })
-          (subst (λ (l : List (List (List ℕ))). Programs (ChildDone outcome ms ∷ g.inputs) (a.heard ∷ h) l first s1) (sym (next_left acts.run u a.run))
-          (programs_end outcome ms g.inputs a.heard h args watched.output first s0 s1 g.output_is watched.came watched.faults watched.later g.told.programs));
-      stands = a.worker;
-      taken_is = append-nil (messages_in g.inputs) ∙ g.taken_is;
-      none_last = g.none_last;
-      unstopped = p.rest.stopped ∙ g.unstopped;
-      no_end = g.no_end;
-      path_is = p.rest.suite ∙ next_path acts.run next;
-      output_is = next_output acts.run next;
-      next_is = next_ready acts.run u a.run p.ready;
-    })
+    let next = args_of acts.run u.duties.tests in (
+      next,
+      record {
+        inputs = ChildDone outcome ms ∷ g.inputs;
+        history = a.heard ∷ h;
+        told = told_more held g.inputs h b0 b1 (args ∷ []) (left_of (to_start acts.run next)) first s0 s1 core1 (ChildDone outcome ms) acts g.told a
+            (subst (λ (o : Option ℕ). IsSome o) (sym (running_is w.duties.service ∙ g.next_is.1)) search)
+            (subst (λ (o : Option (List ℕ)). Follows held (Rose first.file_faults s1.file_faults) o (ChildDone outcome ms)) (sym g.path_is) refl)
+            (λ e. cc) shows rose (record { sink = later; children = watched.later; files = omega arith })
+            (subst (λ (l : List (List (List ℕ))). Programs (ChildDone outcome ms ∷ g.inputs) (a.heard ∷ h) l first s1) (sym (next_left acts.run u a.run))
+            (programs_end outcome ms g.inputs a.heard h args watched.output first s0 s1 g.output_is watched.came watched.faults watched.later g.told.programs));
+        stands = a.worker;
+        taken_is = append-nil (messages_in g.inputs) ∙ g.taken_is;
+        none_last = g.none_last;
+        unstopped = p.rest.stopped ∙ g.unstopped;
+        no_end = g.no_end;
+        path_is = p.rest.suite ∙ next_path acts.run next;
+        output_is = next_output acts.run next;
+        next_is = next_ready acts.run u a.run p.ready;
+      },
+    )
 
 -- ---- a suite
 
@@ -212,24 +214,26 @@ going_suite held taken path i core0 core1 b0 b1 first runs child_faults sunk0 su
     let d : Plain u = x.does w a.heard a.is (record { idle = g.next_is.0; unstopped = g.unstopped }) in
     let s0 = scene sunk0 f0 runs child_faults files0 in
     let s1 = scene sunk1 f1 runs child_faults files1 in
-    let next = args_of acts.run u.duties.tests in
-    (next, record {
-      inputs = i ∷ g.inputs;
-      history = a.heard ∷ h;
-      told = told_more held g.inputs h b0 b1 [] (left_of (to_start acts.run next)) first s0 s1 core1 i acts g.told a (x.due w g.next_is.1)
-          (subst (λ (o : Option (List ℕ)). Follows held (Rose first.file_faults files1) o i) (sym g.path_is) (since i gave))
-          (λ e. let z = sym x.link ∙ e in cc) shows rose (record { sink = later; children = omega arith; files = files })
-          (subst (λ (l : List (List (List ℕ))). Programs (i ∷ g.inputs) (a.heard ∷ h) l first s1) (sym (next_left acts.run u a.run))
-          (programs_more i g.inputs a.heard h [] first s0 s1 x.end refl refl g.told.programs));
-      stands = a.worker;
-      taken_is = ap (λ (l : List MessageView). messages_in g.inputs ++ l) x.message ∙ (append-nil (messages_in g.inputs) ∙ g.taken_is);
-      none_last = g.none_last;
-      unstopped = d.unstopped;
-      no_end = ap (λ (b : Bool). b || has_end g.inputs) x.last ∙ g.no_end;
-      path_is = d.suite ∙ next_path acts.run next;
-      output_is = x.output g.inputs ∙ (g.output_is ∙ next_output acts.run next);
-      next_is = next_ready acts.run u a.run d.ready;
-    })
+    let next = args_of acts.run u.duties.tests in (
+      next,
+      record {
+        inputs = i ∷ g.inputs;
+        history = a.heard ∷ h;
+        told = told_more held g.inputs h b0 b1 [] (left_of (to_start acts.run next)) first s0 s1 core1 i acts g.told a (x.due w g.next_is.1)
+            (subst (λ (o : Option (List ℕ)). Follows held (Rose first.file_faults files1) o i) (sym g.path_is) (since i gave))
+            (λ e. let z = sym x.link ∙ e in cc) shows rose (record { sink = later; children = omega arith; files = files })
+            (subst (λ (l : List (List (List ℕ))). Programs (i ∷ g.inputs) (a.heard ∷ h) l first s1) (sym (next_left acts.run u a.run))
+            (programs_more i g.inputs a.heard h [] first s0 s1 x.end refl refl g.told.programs));
+        stands = a.worker;
+        taken_is = ap (λ (l : List MessageView). messages_in g.inputs ++ l) x.message ∙ (append-nil (messages_in g.inputs) ∙ g.taken_is);
+        none_last = g.none_last;
+        unstopped = d.unstopped;
+        no_end = ap (λ (b : Bool). b || has_end g.inputs) x.last ∙ g.no_end;
+        path_is = d.suite ∙ next_path acts.run next;
+        output_is = x.output g.inputs ∙ (g.output_is ∙ next_output acts.run next);
+        next_is = next_ready acts.run u a.run d.ready;
+      },
+    )
   where
     since : (j : WorkerInput) → FilesGave held (Rose files0 files1) path j → FilesGave held (Rose first.file_faults files1) path j
     since (Message m) f = f
@@ -325,20 +329,22 @@ module _ (held : Option Held) (taken : List MessageView) (m : MessageView) (core
   going_message not_over =
       let last : is_last m.kind ≡ false = sym over_is ∙ not_over in
       let plain : Does false u = subst (λ (b : Bool). Does b u) last d in
-      let next = args_of acts.run u.duties.tests in
-      (next, record {
-        inputs = Message m ∷ g.inputs;
-        history = a.heard ∷ h;
-        told = told_message (left_of (to_do acts.suite acts.run next)) (do_left acts.suite acts.run u plain a.suite a.run);
-        stands = a.worker;
-        taken_is = ap (λ (l : List MessageView). l ++ m ∷ []) g.taken_is;
-        none_last = none_more taken m g.none_last last;
-        unstopped = plain.stopped;
-        no_end = g.no_end;
-        path_is = sym a.suite ∙ do_path acts.suite acts.run next;
-        output_is = g.output_is ∙ do_output acts.suite acts.run next;
-        next_is = do_ready acts.suite acts.run u plain a.suite a.run;
-      })
+      let next = args_of acts.run u.duties.tests in (
+        next,
+        record {
+          inputs = Message m ∷ g.inputs;
+          history = a.heard ∷ h;
+          told = told_message (left_of (to_do acts.suite acts.run next)) (do_left acts.suite acts.run u plain a.suite a.run);
+          stands = a.worker;
+          taken_is = ap (λ (l : List MessageView). l ++ m ∷ []) g.taken_is;
+          none_last = none_more taken m g.none_last last;
+          unstopped = plain.stopped;
+          no_end = g.no_end;
+          path_is = sym a.suite ∙ do_path acts.suite acts.run next;
+          output_is = g.output_is ∙ do_output acts.suite acts.run next;
+          next_is = do_ready acts.suite acts.run u plain a.suite a.run;
+        },
+      )
 
   -- it is the last
   pub halted_message : acts.over ≡ true → Halted held taken m (end_by b1) first (at_sink s sunk1 f1)

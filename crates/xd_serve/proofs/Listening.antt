@@ -1,6 +1,7 @@
 -- A link that is read to its end.
-use Rattle.std.proofs.Common.{◌≡◌, ℕ, ◌+◌, ◌≤◌, List, [], ◌∷◌, ◌++◌, length, take, drop, length-append, Bool, true, false, not, inl, Option, Some, None, Result, Ok, Err, refl, ap, sym, ◌∙◌, subst, arith, append_assoc}
-use Rattle.std.specs.Prelude.{option_map, option_to_list, IfSome, is_some, IsTrue}
+use Rattle.std.proofs.Common.{◌≡◌, ℕ, ◌+◌, ◌≤◌, ◌<◌, List, [], ◌∷◌, ◌++◌, length, take, drop, length-append, Bool, true, false, not, ◌||◌, inl, Option, Some, None, Result, Ok, Err, refl, ap, sym, ◌∙◌, subst, arith, append_assoc}
+use Rattle.std.specs.Prelude.{option_map, option_to_list, IfSome, IfNone, is_some, nat_lt}
+use Rattle.std.proofs.lemmas.Bool.Decides.{nat_tests}
 use Rattle.std.proofs.lemmas.List.{append-nil, drop-drop}
 use Rattle.std.proofs.Math.Seq.{take-add}
 use Rattle.xd_edge.specs.Faults.{Rose}
@@ -12,7 +13,7 @@ use Rattle.xd_frame.specs.Message.{MessageView}
 use Rattle.xd_frame.specs.Framer.{FramerView, IsFirstOf, IsOrNoMemory, StandsFor, feed_gives, fresh}
 use Rattle.xd_frame.specs.Stream.{messages, behind, parts, parts_within, rest, Rest, Clean, Unfinished, Refused, end_of}
 use Rattle.xd_frame.proofs.Framers.{next_moves}
-use Rattle.xd_link.specs.Source.{Gave, Supply, with_given}
+use Rattle.xd_link.specs.Source.{Gave, Supply, is_end, with_given}
 use Rattle.xd_worker.specs.declared.input.WorkerInput.{WorkerInput}
 use Rattle.xd_worker.specs.declared.worker.WorkerCore.{WorkerCore}
 use Rattle.xd_worker.specs.History.{Heard}
@@ -21,7 +22,7 @@ use Rattle.xd_serve.specs.declared.stop.Stop.TheVariants as stop
 use Rattle.xd_serve.specs.Inputs.{has_last, messages_in}
 use Rattle.xd_serve.specs.Going.{Free, Going, Scene, Told}
 use Rattle.xd_serve.specs.Taking.{AreLeft, EndMeans, EndTold, EndsAt, HaltedIn, Halted, Listens, RefusedIn, TakesAll, TakesBytes, is_whole}
-use Rattle.xd_serve.specs.Served.{Ends, IsCause, ReadToEnd, Spring, TookAll}
+use Rattle.xd_serve.specs.Served.{Ends, IsCause, ReadToEnd, Spring, TookAll, spring}
 
 -- ---- what the source gave
 
@@ -36,16 +37,51 @@ gave_more a b (Some s) mid new x y =
     let given : take (length (a ++ b)) s.left ≡ take (length a) s.left ++ take (length b) (drop (length a) s.left) = ap (λ (n : ℕ). take n s.left) size ∙ take-add (length a) (length b) s.left in
     let later : drop (length b) (drop (length a) s.left) ≡ drop (length (a ++ b)) s.left = drop-drop (length b) (length a) s.left ∙ ap (λ (n : ℕ). drop n s.left) (sym size) in
     let told : IfSome (Some (with_given (length a) s)) (λ t. take (length b) t.left ≡ b) = subst (λ (o : Option Supply). IfSome o (λ t. take (length b) t.left ≡ b)) x.0 y.1 in
-    let bytes : (s.given ++ take (length a) s.left) ++ take (length b) (drop (length a) s.left) ≡ s.given ++ take (length (a ++ b)) s.left = append_assoc s.given (take (length a) s.left) (take (length b) (drop (length a) s.left)) ∙ ap (λ (l : List ℕ). s.given ++ l) (sym given) in
-    (y.0 ∙ (ap (option_map (with_given (length b))) x.0 ∙ ap Some (ap (λ (g : List ℕ). record { given = g; left = drop (length b) (drop (length a) s.left) }) bytes ∙ ap (λ (l : List ℕ). record { given = s.given ++ take (length (a ++ b)) s.left; left = l }) later)),
-    given ∙ (ap (λ (l : List ℕ). l ++ take (length b) (drop (length a) s.left)) x.1 ∙ ap (λ (l : List ℕ). a ++ l) told))
+    let bytes : (s.given ++ take (length a) s.left) ++ take (length b) (drop (length a) s.left) ≡ s.given ++ take (length (a ++ b)) s.left = append_assoc s.given (take (length a) s.left) (take (length b) (drop (length a) s.left)) ∙ ap (λ (l : List ℕ). s.given ++ l) (sym given) in (
+      y.0 ∙ (ap (option_map (with_given (length b))) x.0 ∙ ap Some (ap (λ (g : List ℕ). record { given = g; left = drop (length b) (drop (length a) s.left) }) bytes ∙ ap (λ (l : List ℕ). record { given = s.given ++ take (length (a ++ b)) s.left; left = l }) later)),
+      given ∙ (ap (λ (l : List ℕ). l ++ take (length b) (drop (length a) s.left)) x.1 ∙ ap (λ (l : List ℕ). a ++ l) told),
+    )
 
 -- the end was met: none is left
 pub none_left : (old new : Option Supply) → Gave [] old new → IfSome old (λ s. s.left ≡ []) → IfSome new (λ s. s.left ≡ [])
 none_left None new g n = subst (λ (o : Option Supply). IfSome o (λ s. s.left ≡ [])) (sym g.0) tt
 none_left (Some s) new g n = subst (λ (o : Option Supply). IfSome o (λ t. t.left ≡ [])) (sym g.0) n
 
+pub gave_end : (n : ℕ) (a into : List ℕ) (old mid new : Option Supply) → n ≡ 0 → Gave a old mid → Gave (take n into) mid new → Gave a old new
+gave_end n a into old mid new e x y = subst (λ (l : List ℕ). Gave l old new) (ap (λ (k : ℕ). a ++ take k into) e ∙ append-nil a) (gave_more a (take n into) old mid new x y)
+
+pub met_end : (n size : ℕ) (into : List ℕ) (old new : Option Supply) (ended0 ended1 : Bool) (faults : ℕ) → n ≡ 0 → 0 < size → Gave (take n into) old new → (is_end n size ≡ true → IfSome old (λ s. s.left ≡ [])) → ended1 ≡ (ended0 || is_end n size) → ReadToEnd (spring new ended1 faults)
+met_end n size into old new ended0 ended1 faults z some gave left ends =
+    let end : is_end n size ≡ true = ap (λ (k : ℕ). is_end k size) z ∙ lower size some in
+    record {
+      ended = ends ∙ (ap (λ (b : Bool). ended0 || b) end ∙ or_true ended0);
+      none_left = none_left old new (subst (λ (k : ℕ). Gave (take k into) old new) z gave) (left end);
+    }
+  where
+    or_true : (b : Bool) → (b || true) ≡ true
+    or_true true = refl
+    or_true false = refl
+
+    lower : (k : ℕ) → 0 < k → nat_lt 0 k ≡ true
+    lower k h = grind (arith, nat_tests)
+
 -- ---- the messages of the bytes
+
+pub memory_held : (b : Bool) (P : Type 0) → (b ≡ true → P) → (P → ⊥) → b ≡ false
+memory_held true P f n = absurd (n (f refl))
+memory_held false P f n = refl
+
+pub bad_of : (x : FeedFault) (fault : FrameFault) (want : Result (Unit {0}) FeedFault) → x ≡ Bad fault → IsOrNoMemory (Err x) want → want ≡ Err (Bad fault)
+bad_of (Bad f) fault want e h = h ∙ ap (λ (y : FeedFault). Err y) e
+bad_of OutOfMemory fault want e h = cc
+
+pub if_none : {A : Type 0} (r : Option A) (P : Type 0) → is_some r ≡ false → IfNone r P → P
+if_none None P e h = h
+if_none (Some x) P e h = cc
+
+pub takes_on : (r : Option Stop) (held : Option Held) (bytes : List ℕ) (framer : FramerView) (core : WorkerCore) (broken : Bool) (first s : Scene) → ((x : Stop) → r ≡ Some x → ⊥) → TakesBytes r held bytes framer core broken first s → (t : List MessageView) × Listens held bytes t framer core broken first s
+takes_on None held bytes framer core broken first s none t = t
+takes_on (Some x) held bytes framer core broken first s none t = absurd (none x refl)
 
 rest_none : rest [] ≡ Clean
 unfolding parts parts_within
@@ -91,14 +127,17 @@ module _ (held : Option Held) (bytes : List ℕ) (taken : List MessageView) (fra
 
   pub listens_more : Going held (taken ++ framer1.waiting) Free core broken first s → broken ≡ false → framer2.waiting ≡ [] → framer2.held ≡ framer1.held → framer2.failed ≡ framer1.failed → feed_gives (rest bytes) ≡ Ok tt
       → (t : List MessageView) × Listens held bytes t framer2 core broken first s
-  listens_more g whole waits keeps fails readable = (taken ++ framer1.waiting, record {
-    going = g;
-    whole = whole;
-    stands = next_moves framer1 framer2 bytes taken framer1.waiting (sym (ap (λ (l : List MessageView). framer1.waiting ++ l) waits ∙ append-nil framer1.waiting)) keeps fails stands;
-    none_waits = waits;
-    memory = fails ∙ memory;
-    readable = readable;
-  })
+  listens_more g whole waits keeps fails readable = (
+    taken ++ framer1.waiting,
+    record {
+      going = g;
+      whole = whole;
+      stands = next_moves framer1 framer2 bytes taken framer1.waiting (sym (ap (λ (l : List MessageView). framer1.waiting ++ l) waits ∙ append-nil framer1.waiting)) keeps fails stands;
+      none_waits = waits;
+      memory = fails ∙ memory;
+      readable = readable;
+    },
+  )
 
   pub refused_in : (fault : FrameFault) → Going held (taken ++ framer1.waiting) Free core broken first s → broken ≡ false → feed_gives (rest bytes) ≡ Err (Bad fault) → RefusedIn held bytes fault core broken first s
   refused_in fault g whole e = record { taken = taken ++ framer1.waiting; going = g; whole = whole; all = all_of; ends = by (rest bytes) e }
@@ -229,3 +268,17 @@ module _ (held : Option Held) (bytes : List ℕ) (s0 s1 : Spring) (first s : Sce
   ends_taken stop.WriteFault framer core broken h =
       let c = h.halted.cause in
       ends_halted stop.WriteFault h (h.halted.told.sink_fault refl) (with_last h.halted.inputs h.taken h.later h.last h.all c)
+
+-- the greeting was not written
+pub ends_broken : (held : Option Held) (s0 s1 : Spring) (core : WorkerCore) (broken : Bool) (first s : Scene) → Gave [] s0.supply s1.supply → broken ≡ true → Going held [] Free core broken first s → Ends stop.WriteFault held s0 s1 first s
+ends_broken held s0 s1 core broken first s gave b g = record {
+  bytes = [];
+  inputs = g.inputs;
+  history = g.history;
+  left = [];
+  gave = gave;
+  first = (messages [], ap (λ (l : List MessageView). l ++ messages []) (sym g.taken_is));
+  told = subst (λ (x : Bool). Told held g.inputs g.history x [] first s) (ap not b) g.told;
+  left_is = inl refl;
+  cause = g.told.sink_fault (ap not b);
+}

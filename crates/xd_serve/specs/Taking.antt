@@ -1,7 +1,8 @@
 -- The messages that a worker takes, and those with which it ends.
-use Rattle.std.specs.Prelude.{◌≡◌, ◌⊎◌, ℕ, Bool, true, false, not, List, [], ◌∷◌, ◌++◌, Option, Some, None, Ok}
+use Rattle.std.specs.Prelude.{◌≡◌, ◌⊎◌, ℕ, Bool, true, false, not, List, [], ◌∷◌, ◌++◌, Option, Some, None, Ok, Err}
 use Rattle.xd_edge.specs.Files.{Held}
 use Rattle.xd_frame.specs.declared.fault.FrameFault.{FrameFault}
+use Rattle.xd_frame.specs.declared.framer.FeedFault.TheVariants.{Bad}
 use Rattle.xd_frame.specs.Message.{MessageView}
 use Rattle.xd_frame.specs.Framer.{FramerView, StandsFor, feed_gives}
 use Rattle.xd_frame.specs.Stream.{messages, rest, Clean, Unfinished, Refused}
@@ -79,6 +80,17 @@ pub record Listens (held : Option Held) (bytes : List ℕ) (taken : List Message
   pub none_waits : framer.waiting ≡ []
   pub memory : framer.failed ≡ false
   pub readable : feed_gives (rest bytes) ≡ Ok tt
+
+-- What a feed says of the bytes: a header that is refused, or none.
+abbrev pub FedSo : Option FrameFault → List ℕ → Type 0
+FedSo None bytes = feed_gives (rest bytes) ≡ Ok tt
+FedSo (Some fault) bytes = feed_gives (rest bytes) ≡ Err (Bad fault)
+
+-- The framer was fed.
+pub record Fed (refused : Option FrameFault) (bytes : List ℕ) (taken : List MessageView) (framer : FramerView) : Type 0 where
+  pub stands : StandsFor framer bytes taken
+  pub memory : framer.failed ≡ false
+  pub so : FedSo refused bytes
 
 -- All whole messages of the bytes were taken, and behind them stands a header that is refused.
 pub record RefusedIn (held : Option Held) (bytes : List ℕ) (fault : FrameFault) (core : WorkerCore) (broken : Bool) (old new : Scene) : Type 0 where

@@ -12,3 +12,6 @@ mod suite;
 
 pub use child::outcome_of_end;
 pub use serving::{ServeEnd, serve};
+
+#[cfg(test)]
+mod tests;

@@ -2,11 +2,11 @@
 ghost use Rattle.std.specs.Prelude.{◌≡◌, ◌≤◌, ℕ, [], ◌++◌, List, Option, None, false, length, IfOk, IfNone, OnOk};
 ghost use Rattle.xd_edge.specs.Children.{ChildRun};
 ghost use Rattle.xd_edge.specs.Files.{Held};
-ghost use Rattle.xd_frame.specs.Framer.{FramerView};
+ghost use Rattle.xd_frame.specs.Framer.{StandsFor};
 ghost use Rattle.xd_frame.specs.Message.{MessageView};
 ghost use Rattle.xd_serve.specs.Going.{Carried, Free, Goes, Going, Reading, Scene, scene, to_do, to_start};
 ghost use Rattle.xd_serve.specs.Served.{Ends, Spring, spring};
-ghost use Rattle.xd_serve.specs.Taking.{EndTold, EndsAt, Hears, Listens, Takes, TakesAll, TakesBytes, end_by};
+ghost use Rattle.xd_serve.specs.Taking.{EndTold, EndsAt, Fed, Hears, Listens, Takes, TakesAll, TakesBytes, end_by};
 
 use crate::program::run_program;
 use crate::speaker::Speaker;
@@ -15,7 +15,7 @@ use crate::suite::read_suite;
 use std::alloc::Global;
 use std::sync::Wait;
 use xd_edge::{Children, Clock, Files, OutOfMemory, Sink, Text};
-use xd_frame::{FeedFault, Framer, Message};
+use xd_frame::{FeedFault, FrameFault, Framer, Message};
 use xd_link::Source;
 use xd_worker::{WorkerFault, WorkerInput};
 
@@ -29,11 +29,13 @@ pub fn listen<R: Wait, S: Source, N: Sink, F: Files, K: Children, T: Clock>(
     children: &mut K,
     clock: &mut T,
 ) -> Result<Stop, OutOfMemory>
-    requires goes { (held : Option Held) × (F.held files.old ≡ held) × Goes held Free speaker.old.core speaker.old.is_broken (scene (N.sunk speaker.old.sink) (N.faults speaker.old.sink) (K.runs children.old) (K.faults children.old) (F.faults files.old)) }
-    requires whole { speaker.old.is_broken ≡ false }
+    requires { (held : Option Held) × (F.held files.old ≡ held) × (first : Scene) × Going held [] Free speaker.old.core speaker.old.is_broken first (scene (N.sunk speaker.old.sink) (N.faults speaker.old.sink) (K.runs children.old) (K.faults children.old) (F.faults files.old)) }
     ensures ends { (held : Option Held) (first : Scene) → F.held files.old ≡ held → Going held [] Free speaker.old.core speaker.old.is_broken first (scene (N.sunk speaker.old.sink) (N.faults speaker.old.sink) (K.runs children.old) (K.faults children.old) (F.faults files.old)) →
         IfOk result (λ why. Ends why held (spring (S.supply source.old) (S.is_ended source.old) (S.faults source.old)) (spring (S.supply source.new) (S.is_ended source.new) (S.faults source.new)) first (scene (N.sunk speaker.new.sink) (N.faults speaker.new.sink) (K.runs children.new) (K.faults children.new) (F.faults files.new))) }
 {
+    if speaker.is_broken {
+        return Ok(Stop::WriteFault);
+    }
     let mut framer = Framer::new(alloc);
     let mut buffer = [0u8; 4096];
     for _ in rt.forever() {
@@ -108,17 +110,25 @@ fn take_bytes<R: Wait, N: Sink, F: Files, K: Children, T: Clock>(
     ensures kept { F.held files.new ≡ F.held files.old }
     ensures sink_later { N.faults speaker.old.sink ≤ N.faults speaker.new.sink }
 {
-    let fed = framer.feed(bytes);
-    if fed == Err(FeedFault::OutOfMemory) {
-        return Err(OutOfMemory);
-    }
+    let refused = feed(framer, bytes)?;
     let stop = take_messages(rt, alloc, framer, speaker, files, children, clock)?;
     if stop.is_some() {
         return Ok(stop);
     }
-    match fed {
-        Err(FeedFault::Bad(fault)) => Ok(Some(Stop::Header(fault))),
-        _ => Ok(None),
+    match refused {
+        Some(fault) => Ok(Some(Stop::Header(fault))),
+        None => Ok(None),
+    }
+}
+
+// Feeds the framer. Gives why a header is refused, if one is.
+fn feed(framer: &mut Framer, bytes: &[u8]) -> Result<Option<FrameFault>, OutOfMemory>
+    ensures { (fed : List ℕ) (taken : List MessageView) → StandsFor framer.old fed taken → IfOk result (λ refused. Fed refused (fed ++ bytes.now) taken framer.new) }
+{
+    match framer.feed(bytes) {
+        Ok(()) => Ok(None),
+        Err(FeedFault::Bad(fault)) => Ok(Some(fault)),
+        Err(FeedFault::OutOfMemory) => Err(OutOfMemory),
     }
 }
 

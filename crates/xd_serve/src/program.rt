@@ -96,8 +96,8 @@ fn hear_output<R: Wait, N: Sink, K: Children>(
     ensures is_read { IsTrue (K.is_read child.new) }
     ensures heard { IfOk result (λ whole. (output : List ℕ) × ChangesRun (K.place child.old) (read_so whole output) (K.runs children.old) (K.runs children.new)
         × ((held : Option Held) (taken : List MessageView) (test : ℕ) (args : List (List ℕ)) (first before : Scene) →
-            Going held taken (Running test args []) speaker.old.core speaker.old.is_broken first (scene (N.sunk speaker.old.sink) (N.faults speaker.old.sink) before.runs before.child_faults before.file_faults) →
-            Going held taken (Running test args output) speaker.new.core speaker.new.is_broken first (scene (N.sunk speaker.new.sink) (N.faults speaker.new.sink) before.runs before.child_faults before.file_faults))) }
+        Going held taken (Running test args []) speaker.old.core speaker.old.is_broken first (scene (N.sunk speaker.old.sink) (N.faults speaker.old.sink) before.runs before.child_faults before.file_faults) →
+        Going held taken (Running test args output) speaker.new.core speaker.new.is_broken first (scene (N.sunk speaker.new.sink) (N.faults speaker.new.sink) before.runs before.child_faults before.file_faults))) }
     ensures later { K.faults children.old ≤ K.faults children.new }
     ensures rose { result ≡ Ok false → Rose (K.faults children.old) (K.faults children.new) }
     ensures sink_later { N.faults speaker.old.sink ≤ N.faults speaker.new.sink }

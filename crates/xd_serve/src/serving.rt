@@ -5,7 +5,6 @@ ghost use Rattle.xd_serve.specs.Served.{Served, spring};
 
 use crate::link::listen;
 use crate::speaker::Speaker;
-use crate::stop::Stop;
 use std::alloc::Global;
 use std::sync::Wait;
 use xd_edge::{Children, Clock, Files, OutOfMemory, Sink};
@@ -43,19 +42,15 @@ pub fn serve<R: Wait, S: Source + Drop, N: Sink + Drop, F: Files, K: Children, T
     let mut source = link.source;
     let mut children = children;
     let mut speaker = Speaker::begin(alloc, link.sink);
-    let stop = if speaker.is_broken {
-        Stop::WriteFault
-    } else {
-        listen(
-            rt,
-            alloc,
-            &mut source,
-            &mut speaker,
-            files,
-            &mut children,
-            clock,
-        )?
-    };
+    let stop = listen(
+        rt,
+        alloc,
+        &mut source,
+        &mut speaker,
+        files,
+        &mut children,
+        clock,
+    )?;
     Ok(ServeEnd {
         status: stop.status(),
         source,

@@ -31,11 +31,8 @@ impl Stop {
     {
         match self {
             Stop::Terminated | Stop::Ended => 0,
-            Stop::Cut
-            | Stop::Header(_)
-            | Stop::Message(_)
-            | Stop::ReadFault
-            | Stop::WriteFault => 3,
+            Stop::Cut | Stop::Header(_) | Stop::Message(_) | Stop::ReadFault | Stop::WriteFault =>
+                3,
         }
     }
 }

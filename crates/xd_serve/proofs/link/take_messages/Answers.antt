@@ -30,9 +30,12 @@ loop-message-preserved g c =
     let r = v.goes in
     let one = taken_one r.0 c.take_message.new.speaker.core c.take_message.new.speaker.is_broken r.2.1 (scene (g.N.Sink.sunk c.take_message.new.speaker.sink) (g.N.Sink.faults c.take_message.new.speaker.sink) (g.K.Children.runs c.take_message.new.children) (g.K.Children.faults c.take_message.new.children) (g.F.Files.faults c.take_message.new.files)) c.in_ok-stop.stop r.2.0 m none (c.in_ok-stop.ensures.takes r.0 r.2.0 r.2.1 r.1 r.2.2) in
     record {
-      going = (v.going.0 ++ m ∷ [], next_waits c.args.framer.now.waiting v.going.0 c.loop-message.framer.waiting c.next.new.self.waiting m v.going.1 c.in-Some.ensures.first,
-          λ held taken first e going. taken_more held c.take_message.new.speaker.core c.take_message.new.speaker.is_broken first (scene (g.N.Sink.sunk c.take_message.new.speaker.sink) (g.N.Sink.faults c.take_message.new.speaker.sink) (g.K.Children.runs c.take_message.new.children) (g.K.Children.faults c.take_message.new.children) (g.F.Files.faults c.take_message.new.files)) taken v.going.0 m
-              (taken_one held c.take_message.new.speaker.core c.take_message.new.speaker.is_broken first (scene (g.N.Sink.sunk c.take_message.new.speaker.sink) (g.N.Sink.faults c.take_message.new.speaker.sink) (g.K.Children.runs c.take_message.new.children) (g.K.Children.faults c.take_message.new.children) (g.F.Files.faults c.take_message.new.files)) c.in_ok-stop.stop (taken ++ v.going.0) m none (c.in_ok-stop.ensures.takes held (taken ++ v.going.0) first (v.kept ∙ e) (v.going.2 held taken first e going))).0);
+      going = (
+        v.going.0 ++ m ∷ [],
+        next_waits c.args.framer.now.waiting v.going.0 c.loop-message.framer.waiting c.next.new.self.waiting m v.going.1 c.in-Some.ensures.first,
+        λ held taken first e going. taken_more held c.take_message.new.speaker.core c.take_message.new.speaker.is_broken first (scene (g.N.Sink.sunk c.take_message.new.speaker.sink) (g.N.Sink.faults c.take_message.new.speaker.sink) (g.K.Children.runs c.take_message.new.children) (g.K.Children.faults c.take_message.new.children) (g.F.Files.faults c.take_message.new.files)) taken v.going.0 m
+            (taken_one held c.take_message.new.speaker.core c.take_message.new.speaker.is_broken first (scene (g.N.Sink.sunk c.take_message.new.speaker.sink) (g.N.Sink.faults c.take_message.new.speaker.sink) (g.K.Children.runs c.take_message.new.children) (g.K.Children.faults c.take_message.new.children) (g.F.Files.faults c.take_message.new.files)) c.in_ok-stop.stop (taken ++ v.going.0) m none (c.in_ok-stop.ensures.takes held (taken ++ v.going.0) first (v.kept ∙ e) (v.going.2 held taken first e going))).0,
+      );
       goes = (r.0, c.take_message.ensures.kept ∙ r.1, (r.2.0 ++ m ∷ [], r.2.1, one.0));
       whole = one.1;
       held = c.next.ensures.rest.0 ∙ v.held;
