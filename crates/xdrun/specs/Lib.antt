@@ -5,3 +5,4 @@ pub mod Refusal
 pub mod Top
 pub mod Wire
 pub mod Words
+pub mod Worker

@@ -30,3 +30,8 @@ suite_named _ = None
 abbrev pub messages_named : List (List ℕ) → Option (List ℕ)
 messages_named (command ∷ file ∷ []) = if is_word command (codes "wire") && is_path file then Some file else None
 messages_named _ = None
+
+-- worker, alone
+abbrev pub names_worker : List (List ℕ) → Bool
+names_worker (command ∷ []) = is_word command (codes "worker")
+names_worker _ = false

@@ -5,8 +5,10 @@ mod child;
 mod local;
 mod refusal;
 mod top;
+mod unlinked;
 mod wire;
 mod words;
+mod worker;
 
 pub use child::run_child;
 pub use local::run_suite;
@@ -16,8 +18,9 @@ use std::io::BufWriter;
 use std::process::ExitCode;
 use std::rt::Env;
 use std::{env, io};
-pub use top::{RunEnd, xdrun};
+pub use top::{LinkEnd, RunEnd, xdrun};
 use xd_edge::{OutSink, RealChildren, RealClock, RealFiles, Text, Texts};
+use xd_link::RealStarter;
 
 // The words behind the program's name.
 fn words_of(rt: &(impl Env + AllocGlobal), alloc: Global) -> io::Result<Texts> {
@@ -41,6 +44,7 @@ fn main(rt: HostRuntime) -> io::Result<ExitCode> {
         return out_of_memory(&rt);
     };
     let mut files = RealFiles::new(&rt);
+    let starter = RealStarter::new(&rt);
     let children = RealChildren::new(&rt);
     let mut clock = RealClock::new(&rt);
     let mut out = OutSink::new(writer);
@@ -50,6 +54,7 @@ fn main(rt: HostRuntime) -> io::Result<ExitCode> {
         alloc,
         &words.items,
         &mut files,
+        starter,
         children,
         &mut clock,
         &mut out,

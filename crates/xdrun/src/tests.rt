@@ -88,6 +88,7 @@ fn run<R: Wait + AllocGlobal>(
         alloc,
         &words.items,
         &mut files,
+        starter,
         children,
         &mut clock,
         &mut out,

@@ -1,6 +1,8 @@
 // The top call.
-ghost use Rattle.std.specs.Prelude.{◌≡◌, ◌≢◌, ◌≤◌, ℕ, Bool, List, None, false, IsSome, IsNone, IfOk, IfSome, IfNone, MatchResult, length};
+ghost use Rattle.std.specs.Prelude.{◌≡◌, ◌≢◌, ◌≤◌, ◌×◌, ℕ, Bool, List, None, true, false, IsSome, IsNone, IfOk, IfSome, IfNone, MatchResult, length, option_map};
 ghost use Rattle.xd_edge.specs.Faults.{Rose, RoseBy, StoodStill};
+ghost use Rattle.xd_link.specs.Starter.{with_failure, with_start};
+ghost use Rattle.xd_link.specs.declared.place.Place.TheVariants.{Own};
 ghost use Rattle.xd_suite.specs.declared.test.Test.{Test};
 ghost use Rattle.xd_ledger.specs.declared.entry.RunStop.TheVariants.{Completed, OutFault};
 ghost use Rattle.xd_ledger.specs.Legal.{IsLegal};
@@ -8,39 +10,45 @@ ghost use Rattle.xd_ledger.specs.Reports.{NamesInOrder, reports_in};
 ghost use Rattle.xd_ledger.specs.Ending.{stop_of};
 ghost use Rattle.xd_report.specs.Status.{status_of};
 ghost use Rattle.xd_report.specs.Text.{text_of};
+ghost use Rattle.xd_serve.specs.Going.{scene};
+ghost use Rattle.xd_serve.specs.Served.{spring};
 ghost use Rattle.xdrun.specs.Child.{faults_of};
-ghost use Rattle.xdrun.specs.Local.{RunsSuite, local_settings};
-ghost use Rattle.xdrun.specs.Print.{PrintsReport, Shows};
-ghost use Rattle.xdrun.specs.Refusal.{IsRefused, NamesSuite, TellsSuite, WhySuiteRefused, refusal_line};
+ghost use Rattle.xdrun.specs.Local.{local_settings};
+ghost use Rattle.xdrun.specs.Print.{PrintsReport};
+ghost use Rattle.xdrun.specs.Refusal.{IsRefused, TellsSuite};
 ghost use Rattle.xdrun.specs.Top.{RunsNamed};
 ghost use Rattle.xdrun.specs.Wire.{PrintsMessages, TellsMessages, status_by};
+ghost use Rattle.xdrun.specs.Words.{names_worker};
+ghost use Rattle.xdrun.specs.Worker.{ServedOwn};
 ghost use Rattle.xd_wire.specs.WireText.{IsWireText};
 
-use crate::local::run_suite;
-use crate::refusal::{Refusal, refuse};
-use crate::wire::{print_file, wire_status};
-use crate::words::{messages_named, suite_named};
+use crate::unlinked::run_unlinked;
+use crate::words::names_worker;
+use crate::worker::serve_own;
 use std::alloc::Global;
 use std::sync::Wait;
-use xd_edge::{Children, Clock, FileFault, Files, OutOfMemory, Sink, Text};
+use xd_edge::{Children, Clock, Files, OutOfMemory, Sink, Text};
 use xd_ledger::Journal;
-use xd_report::status_of;
-use xd_suite::{Suite, SuiteFault, SuiteRefusal, SuiteWhat};
+use xd_link::{Source, Starter};
 
-const MAX_SUITE_BYTES: u64 = 4_194_304;
-
-const TOO_LARGE: SuiteFault = SuiteFault {
-    test: None,
-    what: SuiteWhat::TooLarge,
-};
+/// A link that was served.
+#[derive(Drop)]
+pub struct LinkEnd<A: Source, B: Sink> {
+    pub source: A,
+    pub sink: B,
+}
 
 /// What a call came to.
 #[derive(Drop)]
-pub struct RunEnd<K: Children> {
+pub struct RunEnd<St: Starter, K: Children> {
     /// The exit status.
     pub status: u8,
     /// The journal of the run, where one was begun.
     pub journal: Option<Journal>,
+    /// The link of a worker, where it was started.
+    pub link: Option<LinkEnd<St::Src, St::Snk>>,
+    /// The starter that was handed in.
+    pub starter: St,
     /// The programs that were handed in.
     pub children: K,
 }
@@ -50,20 +58,24 @@ pub struct RunEnd<K: Children> {
 /// `SUITE -n 0` runs the tests of a suite file in this program, one after another. Its status is 0 where all is well, 1
 /// where a test failed, 3 where the report could not be written, 5 where there is no test.
 ///
+/// `worker` serves the program's own standard input and output as a worker of execnet's messages. Its status is 0 where
+/// it was told to end or its input ended behind a whole message, else 3.
+///
 /// `wire FILE` prints a file of messages. Its status is 0 where the file has no fault, 1 where it has one, 3 where the
 /// text could not be written.
 ///
 /// The status is 4 where the words or the file are refused.
-pub fn xdrun<R: Wait, F: Files, K: Children, T: Clock, O: Sink, E: Sink>(
+pub fn xdrun<R: Wait, F: Files, St: Starter, K: Children, T: Clock, O: Sink, E: Sink>(
     rt: &R,
     alloc: Global,
     words: &[Text],
     files: &mut F,
+    starter: St,
     children: K,
     clock: &mut T,
     out: &mut O,
     err: &mut E,
-) -> Result<RunEnd<K>, OutOfMemory>
+) -> Result<RunEnd<St, K>, OutOfMemory>
     // A run: its journal, its suite, its programs, its report and its status.
     ensures legal { IfOk result (λ e. IfSome e.journal IsLegal) }
     ensures settings { IfOk result (λ e. IfSome e.journal (λ j. j.settings ≡ local_settings)) }
@@ -77,89 +89,37 @@ pub fn xdrun<R: Wait, F: Files, K: Children, T: Clock, O: Sink, E: Sink>(
     ensures child_faults { IfOk result (λ e. IfSome e.journal (λ j. RoseBy (faults_of (reports_in j)) (K.faults children) (K.faults e.children))) }
 
     // No run: the messages of a file, or a refusal, which has status 4.
-    ensures messages { IfOk result (λ e. IfNone e.journal (e.status ≢ 4 → PrintsMessages words.now (F.held files.old) (Rose (O.faults out.old) (O.faults out.new)) e.status (O.sunk out.old) (O.sunk out.new))) }
+    ensures messages { IfOk result (λ e. names_worker words.now ≡ false → IfNone e.journal (e.status ≢ 4 → PrintsMessages words.now (F.held files.old) (Rose (O.faults out.old) (O.faults out.new)) e.status (O.sunk out.old) (O.sunk out.new))) }
     ensures refused { IfOk result (λ e. e.status ≡ 4 → IsRefused words.now (F.held files.old) (Rose (F.faults files.old) (F.faults files.new)) (O.sunk out.old) (O.sunk out.new) (E.sunk err.old) (E.sunk err.new) (E.faults err.old) (E.faults err.new)) }
     ensures four { IfOk result (λ e. e.status ≡ 4 → IsNone e.journal) }
-    ensures no_child { IfOk result (λ e. IsNone e.journal → K.runs e.children ≡ K.runs children) }
+    ensures no_child { IfOk result (λ e. names_worker words.now ≡ false → IsNone e.journal → K.runs e.children ≡ K.runs children) }
     ensures quiet { IfOk result (λ e. e.status ≢ 4 → E.sunk err.new ≡ E.sunk err.old) }
+
+    // A worker: the link to the own streams and how it was served, or that it could not be started. Else there is no link.
+    ensures worker { IfOk result (λ e. names_worker words.now ≡ true → IfSome e.link (λ l. ServedOwn e.status (F.held files.old)
+        (spring (St.Src.supply l.source) (St.Src.is_ended l.source) (St.Src.faults l.source))
+        (K.runs children) (K.faults children) (F.faults files.old)
+        (scene (St.Snk.sunk l.sink) (St.Snk.faults l.sink) (K.runs e.children) (K.faults e.children) (F.faults files.new)))) }
+    ensures started { IfOk result (λ e. names_worker words.now ≡ true → IfSome e.link (λ l. St.begun e.starter ≡ option_map (with_start Own) (St.begun starter))) }
+    ensures not_started { IfOk result (λ e. names_worker words.now ≡ true → IfNone e.link ((e.status ≡ 3) × Rose (St.faults starter) (St.faults e.starter) × (St.begun e.starter ≡ option_map (with_failure Own) (St.begun starter)) × (K.runs e.children ≡ K.runs children))) }
+    ensures no_report { IfOk result (λ e. names_worker words.now ≡ true → (e.journal ≡ None) × (O.sunk out.new ≡ O.sunk out.old)) }
+    ensures no_link { IfOk result (λ e. names_worker words.now ≡ false → (e.link ≡ None) × (e.starter ≡ starter)) }
 
     // What is accepted is done to its end where no count of faults rises.
     ensures accepted { IfOk result (λ e. (tests : List Test) → TellsSuite words.now (F.held files.old) tests → StoodStill (F.faults files.old) (F.faults files.new) → IsSome e.journal) }
     ensures completed { IfOk result (λ e. IfSome e.journal (λ j. StoodStill (O.faults out.old) (O.faults out.new) → stop_of j ≡ Completed)) }
     ensures readable { IfOk result (λ e. (bytes : List ℕ) → TellsMessages words.now (F.held files.old) bytes → StoodStill (F.faults files.old) (F.faults files.new) → StoodStill (O.faults out.old) (O.faults out.new) → (text : List ℕ) (faulty : Bool) → IsWireText bytes text faulty → e.status ≡ status_by faulty) }
 {
-    let mut children = children;
-    if let Some(path) = messages_named(words) {
-        return match print_file(alloc, path, files, out)? {
-            Ok(how) => Ok(without_run(wire_status(how), children)),
-            Err(why) => refused(alloc, err, why, children),
-        };
+    if names_worker(words) {
+        let end = serve_own(rt, alloc, files, starter, children, clock)?;
+        return Ok(end);
     }
-    match read_suite(alloc, words, files)? {
-        Ok(suite) => {
-            let journal = run_suite(rt, alloc, &suite, &mut children, clock, out)?;
-            let status = status_of(alloc, &journal)?;
-            Ok(RunEnd {
-                status,
-                journal: Some(journal),
-                children,
-            })
-        }
-        Err(why) => {
-            let end = refused(alloc, err, why, children)?;
-            Ok(end)
-        }
-    }
-}
-
-fn without_run<K: Children>(status: u8, children: K) -> RunEnd<K>
-    ensures status { result.status ≡ status }
-    ensures journal { result.journal ≡ None }
-    ensures children { result.children ≡ children }
-{
-    RunEnd {
-        status,
-        journal: None,
-        children,
-    }
-}
-
-fn refused<K: Children, E: Sink>(
-    alloc: Global,
-    err: &mut E,
-    why: Refusal,
-    children: K,
-) -> Result<RunEnd<K>, OutOfMemory>
-    ensures status { IfOk result (λ e. e.status ≡ 4) }
-    ensures journal { IfOk result (λ e. e.journal ≡ None) }
-    ensures children { IfOk result (λ e. e.children ≡ children) }
-    ensures line { IfOk result (λ _. (shown : Bool) × Shows shown (refusal_line why) (E.sunk err.old) (E.sunk err.new) × (shown ≡ false → Rose (E.faults err.old) (E.faults err.new))) }
-{
-    let _shown = refuse(alloc, err, why)?;
-    Ok(without_run(4, children))
-}
-
-// The suite that the words name, or why there is none.
-fn read_suite<F: Files>(
-    alloc: Global,
-    words: &[Text],
-    files: &mut F,
-) -> Result<Result<Suite, Refusal>, OutOfMemory>
-    ensures read { IfOk result (λ r. MatchResult r (NamesSuite words.now (F.held files.old)) (WhySuiteRefused words.now (F.held files.old) (Rose (F.faults files.old) (F.faults files.new)))) }
-    ensures later { F.faults files.old ≤ F.faults files.new }
-{
-    let Some(path) = suite_named(words) else {
-        return Ok(Err(Refusal::BadWords));
-    };
-    let bytes = match files.read_file(alloc, path, MAX_SUITE_BYTES) {
-        Ok(bytes) => bytes,
-        Err(FileFault::Failed) => return Ok(Err(Refusal::Unread)),
-        Err(FileFault::TooLarge) => return Ok(Err(Refusal::Suite(TOO_LARGE))),
-        Err(FileFault::OutOfMemory) => return Err(OutOfMemory),
-    };
-    match Suite::read(alloc, bytes.as_slice()) {
-        Ok(suite) => Ok(Ok(suite)),
-        Err(SuiteRefusal::OutOfMemory) => Err(OutOfMemory),
-        Err(SuiteRefusal::Bad(fault)) => Ok(Err(Refusal::Suite(fault))),
-    }
+    let end = run_unlinked(rt, alloc, words, files, children, clock, out, err)?;
+    Ok(RunEnd {
+        status: end.status,
+        journal: end.journal,
+        link: None,
+        starter,
+        children: end.children,
+    })
 }

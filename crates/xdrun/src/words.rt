@@ -1,6 +1,6 @@
 // What the words behind the program's name ask for.
 ghost use Rattle.std.specs.Prelude.{◌≡◌, option_copied};
-ghost use Rattle.xdrun.specs.Words.{begins_with_dash, is_command, is_path, is_suite, is_word, messages_named, suite_named};
+ghost use Rattle.xdrun.specs.Words.{begins_with_dash, is_command, is_path, is_suite, is_word, messages_named, names_worker, suite_named};
 
 use xd_edge::Text;
 
@@ -33,6 +33,16 @@ pub fn messages_named(words: &[Text]) -> Option<&Text>
             }
         }
         _ => None,
+    }
+}
+
+/// The words are `worker`, alone.
+pub fn names_worker(words: &[Text]) -> bool
+    ensures { result ≡ names_worker words.now }
+{
+    match words {
+        [command] => is_word(command, "worker"),
+        _ => false,
     }
 }
 

@@ -1,0 +1,19 @@
+-- What the command worker does. A choice of this project; the worker's side is execnet's `serve_popen`.
+use Rattle.std.specs.Prelude.{ℕ, ◌≡◌, false, List, [], Option, IfSome}
+use Rattle.xd_edge.specs.Children.{ChildRun}
+use Rattle.xd_edge.specs.Files.{Held}
+use Rattle.xd_edge.specs.Sink.{Sunk}
+use Rattle.xd_link.specs.FreshLink.{unused}
+use Rattle.xd_serve.specs.Going.{Scene, scene}
+use Rattle.xd_serve.specs.Served.{Served, Spring}
+
+-- A link to the program's own streams was started, of which nothing was read or written before, and it was served to its
+-- end, with this exit status.
+pub record ServedOwn (status : ℕ) (held : Option Held) (end : Spring) (runs : Option (List ChildRun)) (child_faults file_faults : ℕ) (new : Scene) : Type 0 where
+  pub start : Spring
+  pub sunk : Option Sunk
+  pub none_given : IfSome start.supply (λ s. s.given ≡ [])
+  pub not_ended : start.ended ≡ false
+  pub no_reads : start.faults ≡ 0
+  pub none_taken : IfSome sunk (λ s. s ≡ unused)
+  pub served : Served status held start end (scene sunk 0 runs child_faults file_faults) new
