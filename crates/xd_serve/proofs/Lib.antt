@@ -1,0 +1,11 @@
+pub mod Beginning
+pub mod Calls
+pub mod Carrying
+pub mod Goings
+pub mod Hearing
+pub mod Listening
+pub mod Steps
+pub mod Taking
+pub mod Tellings
+pub mod Watching
+pub mod Writing

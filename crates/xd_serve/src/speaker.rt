@@ -1,0 +1,123 @@
+// A worker whose messages are written to its link.
+ghost use Rattle.std.specs.Prelude.{◌≡◌, ◌≤◌, true, false, not, List, ℕ, IfOk, IfErr, OnOk, OnErr};
+ghost use Rattle.xd_edge.specs.Faults.{Rose};
+ghost use Rattle.xd_edge.specs.Sink.{Took, TookPart, Printed, PrintedPart};
+ghost use Rattle.xd_frame.specs.Message.{frame, frames};
+ghost use Rattle.xd_serve.specs.Speaking.{Shows, ShowsMore, greeting};
+
+use std::alloc::Global;
+use xd_edge::{Failed, OutOfMemory, Sink, print, write_all};
+use xd_frame::{Message, header_of};
+use xd_worker::{WorkerActions, WorkerCore, WorkerFault, WorkerInput};
+
+// The byte by which a worker is known to the other side.
+const GREETING: &[u8] = b"1";
+
+/// A worker whose messages are written to its link. Behind a fault of the sink it goes on, and writes nothing more.
+#[derive(Drop)]
+pub struct Speaker<N: Sink> {
+    pub core: WorkerCore,
+    pub sink: N,
+    pub is_broken: bool,
+}
+
+impl<N: Sink> Speaker<N> {
+    ghost use Rattle.std.specs.Prelude.{[]};
+    ghost use Rattle.xd_factory.specs.declared.faults.SideFault.{SideFault};
+    ghost use Rattle.xd_worker.specs.History.{Heard, worker_after, IsToRefuse};
+    ghost use Rattle.xd_worker.specs.Stands.{StandsFor, Answers, IsFault, IsRefusal};
+
+    /// A worker to which nothing has come yet, and which has written its greeting.
+    pub fn begin(alloc: Global, sink: N) -> Speaker<N>
+        ensures stands { StandsFor result.core [] }
+        ensures shows { Shows (not result.is_broken) greeting (N.sunk sink) (N.sunk result.sink) }
+        ensures later { N.faults sink ≤ N.faults result.sink }
+        ensures rose { result.is_broken ≡ true → Rose (N.faults sink) (N.faults result.sink) }
+    {
+        let mut sink = sink;
+        let is_broken = print(&mut sink, GREETING).is_err();
+        Speaker {
+            core: WorkerCore::new(alloc),
+            sink,
+            is_broken,
+        }
+    }
+
+    /// One input. What the worker says to it is written and handed on.
+    pub fn hear(&mut self, input: WorkerInput) -> Result<WorkerActions, WorkerFault>
+        ensures answers { (h : List Heard) → StandsFor self.old.core h → IfOk result (Answers self.new.core (worker_after h) input) }
+        ensures refused { (h : List Heard) → StandsFor self.old.core h → IfErr result (IsFault (worker_after h) input) }
+        ensures shows { IfOk result (λ acts. ShowsMore self.old.is_broken self.new.is_broken (frames acts.say) (N.sunk self.old.sink) (N.sunk self.new.sink)) }
+        ensures silent { OnErr result (N.sunk self.new.sink ≡ N.sunk self.old.sink) }
+        ensures as_before { OnErr result (self.new.is_broken ≡ self.old.is_broken) }
+        ensures later { N.faults self.old.sink ≤ N.faults self.new.sink }
+        ensures rose { self.old.is_broken ≡ false → self.new.is_broken ≡ true → Rose (N.faults self.old.sink) (N.faults self.new.sink) }
+    {
+        match self.core.step(input) {
+            Ok(acts) => {
+                self.say(&acts.say.items);
+                Ok(acts)
+            }
+            Err(fault) => Err(fault),
+        }
+    }
+
+    /// One input that is no message. The side refuses messages alone.
+    pub fn tell(&mut self, input: WorkerInput) -> Result<WorkerActions, OutOfMemory>
+        ensures answers { (h : List Heard) → StandsFor self.old.core h → IfOk result (Answers self.new.core (worker_after h) input) }
+        ensures shows { IfOk result (λ acts. ShowsMore self.old.is_broken self.new.is_broken (frames acts.say) (N.sunk self.old.sink) (N.sunk self.new.sink)) }
+        ensures later { N.faults self.old.sink ≤ N.faults self.new.sink }
+        ensures rose { self.old.is_broken ≡ false → self.new.is_broken ≡ true → Rose (N.faults self.old.sink) (N.faults self.new.sink) }
+    {
+        match self.hear(input) {
+            Ok(acts) => Ok(acts),
+            Err(_) => Err(OutOfMemory),
+        }
+    }
+
+    fn say(&mut self, messages: &[Message])
+        ensures core { self.new.core ≡ self.old.core }
+        ensures shows { ShowsMore self.old.is_broken self.new.is_broken (frames messages.now) (N.sunk self.old.sink) (N.sunk self.new.sink) }
+        ensures later { N.faults self.old.sink ≤ N.faults self.new.sink }
+        ensures rose { self.old.is_broken ≡ false → self.new.is_broken ≡ true → Rose (N.faults self.old.sink) (N.faults self.new.sink) }
+    {
+        if !self.is_broken {
+            self.is_broken = print_frames(&mut self.sink, messages).is_err();
+        }
+    }
+}
+
+// Writes the messages and hands them on.
+fn print_frames<N: Sink>(sink: &mut N, messages: &[Message]) -> Result<(), Failed>
+    ensures ok { OnOk result (Printed (frames messages.now) (N.sunk sink.old) (N.sunk sink.new)) }
+    ensures part { OnErr result (PrintedPart (frames messages.now) (N.sunk sink.old) (N.sunk sink.new)) }
+    ensures later { N.faults sink.old ≤ N.faults sink.new }
+    ensures rose { OnErr result (Rose (N.faults sink.old) (N.faults sink.new)) }
+{
+    write_frames(sink, messages)?;
+    sink.flush()?;
+    Ok(())
+}
+
+fn write_frames<N: Sink>(sink: &mut N, messages: &[Message]) -> Result<(), Failed>
+    ensures ok { OnOk result (Took (frames messages.now) (N.sunk sink.old) (N.sunk sink.new)) }
+    ensures part { OnErr result (TookPart (frames messages.now) (N.sunk sink.old) (N.sunk sink.new)) }
+    ensures later { N.faults sink.old ≤ N.faults sink.new }
+    ensures rose { OnErr result (Rose (N.faults sink.old) (N.faults sink.new)) }
+{
+    for message in messages {
+        write_frame(sink, message)?;
+    }
+    Ok(())
+}
+
+fn write_frame<N: Sink>(sink: &mut N, message: &Message) -> Result<(), Failed>
+    ensures ok { OnOk result (Took (frame message.now) (N.sunk sink.old) (N.sunk sink.new)) }
+    ensures part { OnErr result (TookPart (frame message.now) (N.sunk sink.old) (N.sunk sink.new)) }
+    ensures later { N.faults sink.old ≤ N.faults sink.new }
+    ensures rose { OnErr result (Rose (N.faults sink.old) (N.faults sink.new)) }
+{
+    write_all(sink, &header_of(message))?;
+    write_all(sink, message.payload.as_slice())?;
+    Ok(())
+}
