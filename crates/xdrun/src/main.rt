@@ -72,3 +72,5 @@ fn out_of_memory(rt: &impl Eprint) -> io::Result<ExitCode> {
 
 #[cfg(test)]
 mod tests;
+#[cfg(test)]
+mod worker_tests;

@@ -1,10 +1,12 @@
 // The top call over the forms in memory.
 use super::*;
+use std::collections::VecDeque;
 use std::sync::Wait;
 use std::test::Fail;
 use xd_edge::{Blob, Blobs, ChildEnd, Indices, MemChildren, MemClock, MemFiles, MemSink};
+use xd_link::MemStarter;
 
-fn words(alloc: Global, all: &[&str]) -> Result<Texts, Fail> {
+pub(crate) fn words(alloc: Global, all: &[&str]) -> Result<Texts, Fail> {
     let mut items = Vec::new(alloc);
     for word in all {
         items.push(Text::of(alloc, word)?)?;
@@ -12,14 +14,14 @@ fn words(alloc: Global, all: &[&str]) -> Result<Texts, Fail> {
     Ok(Texts { items })
 }
 
-fn numbers(alloc: Global, all: &[u32]) -> Result<Indices, Fail> {
+pub(crate) fn numbers(alloc: Global, all: &[u32]) -> Result<Indices, Fail> {
     Ok(Indices {
         items: all.to_vec(alloc)?,
     })
 }
 
 // `sh -c SCRIPT` writes this output, the first byte by itself, and ends so.
-fn shell(
+pub(crate) fn shell(
     alloc: Global,
     script: &str,
     output: &str,
@@ -79,6 +81,7 @@ fn run<R: Wait + AllocGlobal>(
         shell(alloc, "echo hi; exit 1", "hi\n", ChildEnd::Status(1))?,
     ]?;
     let children = MemChildren::new(alloc, children, numbers(alloc, faults.children)?);
+    let starter = MemStarter::new(alloc, VecDeque::new(alloc), numbers(alloc, &[])?);
     let mut clock = MemClock::new(Vec::new(alloc));
     let mut out = MemSink::new(alloc, 1000, numbers(alloc, faults.out)?)?;
     let mut err = MemSink::new(alloc, 1000, numbers(alloc, &[])?)?;
@@ -105,7 +108,7 @@ fn run<R: Wait + AllocGlobal>(
 const SUITE_0: [&str; 3] = ["s.toml", "-n", "0"];
 
 // Tests with the ids a, b and c.
-const THREE: &str =
+pub(crate) const THREE: &str =
     "[[test]]\nid = \"a\"\nrun = [\"sh\", \"-c\", \"exit 0\"]\n[[test]]\nid = \"b\"\nrun = [\"sh\", \"-c\", \"exit 3\"]\n[[test]]\nid = \"c\"\nrun = [\"sh\", \"-c\", \"exit 77\"]\n";
 
 // A test that fails with output.

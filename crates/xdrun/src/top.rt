@@ -1,5 +1,5 @@
 // The top call.
-ghost use Rattle.std.specs.Prelude.{◌≡◌, ◌≢◌, ◌≤◌, ◌×◌, ℕ, Bool, List, None, true, false, IsSome, IsNone, IfOk, IfSome, IfNone, MatchResult, length, option_map};
+ghost use Rattle.std.specs.Prelude.{◌≡◌, ◌≢◌, ◌≤◌, ℕ, Bool, List, None, true, false, IsSome, IsNone, IfOk, IfSome, IfNone, MatchResult, length, option_map};
 ghost use Rattle.xd_edge.specs.Faults.{Rose, RoseBy, StoodStill};
 ghost use Rattle.xd_link.specs.Starter.{with_failure, with_start};
 ghost use Rattle.xd_link.specs.declared.place.Place.TheVariants.{Own};
