@@ -1,0 +1,168 @@
+#!/usr/bin/env python3
+"""Times `xdrun worker` behind a controller that speaks execnet's messages over its standard streams.
+
+Run it at the top of the repository: python3 bench/worker.py [PROGRAM]. PROGRAM is ./xdrun where none is named. It runs
+5,000 tests of `true` in one worker beside `-n 0` on the same suite (goal: at most 1.15 times its time), compares the
+peak memory of 500 and 5,000 tests run from one suite of 5,000 (goal: the same but for what is kept of each test), and
+sends 20,000 integers through `echo` beside the real execnet's echo (goal: at least 10 times as many a second), each the
+best of three runs. Where execnet is not installed (python3-execnet on Debian) its part is skipped with a word.
+"""
+
+import os
+import struct
+import subprocess
+import sys
+import tempfile
+import threading
+import time
+
+TESTS = 5_000
+ITEMS = 20_000
+RUNS = 3
+
+EXECNET_ECHO = """
+import sys, time, execnet
+count = int(sys.argv[1])
+gateway = execnet.makegateway("popen")
+channel = gateway.remote_exec("for item in channel: channel.send(item)")
+begun = time.monotonic()
+for item in range(count):
+    channel.send(item)
+for item in range(count):
+    assert channel.receive() == item
+print(time.monotonic() - begun)
+gateway.exit()
+"""
+
+
+def text(word):
+    return b"N" + struct.pack("!i", len(word)) + word.encode()
+
+
+def number(n):
+    return b"F" + struct.pack("!i", n)
+
+
+def message(kind, channel, payload=b""):
+    return struct.pack("!bii", kind, channel, len(payload)) + payload
+
+
+def call(name, **kwargs):
+    pairs = b"".join(text(key) + text(word) + b"P" for key, word in kwargs.items())
+    return message(3, 1, text("") + b"L" + text(name) + b"J" + pairs + b"@" + struct.pack("!i", 4) + b"Q")
+
+
+def command(name, pairs=b""):
+    return message(4, 1, text(name) + b"J" + pairs + b"@" + struct.pack("!i", 2) + b"Q")
+
+
+def indices(count):
+    items = b"".join(number(i) + number(i) + b"P" for i in range(count))
+    return text("indices") + b"K" + struct.pack("!i", count) + items + b"P"
+
+
+class Worker:
+    """`xdrun worker`, with a buffered reader of its messages."""
+
+    def __init__(self, program):
+        self.child = subprocess.Popen([program, "worker"], stdin=subprocess.PIPE, stdout=subprocess.PIPE)
+        assert self.child.stdout.read(1) == b"1"
+
+    def send(self, data):
+        self.child.stdin.write(data)
+        self.child.stdin.flush()
+
+    def read(self):
+        kind, channel, size = struct.unpack("!bii", self.child.stdout.read(9))
+        return kind, channel, self.child.stdout.read(size)
+
+    def end(self):
+        """Ends the worker; its peak memory in MiB."""
+        self.send(message(2, 0))
+        _, status, usage = os.wait4(self.child.pid, 0)
+        self.child.returncode = os.waitstatus_to_exitcode(status)
+        assert self.child.returncode == 0, self.child.returncode
+        return usage.ru_maxrss / 1024
+
+
+def run_tests(program, suite, count):
+    """The seconds and the peak memory of a worker that runs the first tests of the suite."""
+    begun = time.monotonic()
+    worker = Worker(program)
+    worker.send(call("run_tests", suite=suite, dist="load"))
+    while b"collectionfinish" not in worker.read()[2][:30]:
+        pass
+    worker.send(command("runtests", indices(count)) + command("shutdown"))
+    done = 0
+    while True:
+        kind, channel, payload = worker.read()
+        if kind == 4 and b"runtest_protocol_complete" in payload[:40]:
+            done += 1
+        if kind in (5, 6) and channel == 1:
+            break
+    memory = worker.end()
+    took = time.monotonic() - begun
+    assert kind == 5 and done == count, (kind, done)
+    return took, memory
+
+
+def run_alone(program, suite):
+    begun = time.monotonic()
+    subprocess.run([program, suite, "-n", "0"], stdout=subprocess.DEVNULL, check=True)
+    return time.monotonic() - begun
+
+
+def echo(program, count):
+    """The seconds in which so many integers go through `echo` and come back."""
+    items = b"".join(message(4, 1, number(i) + b"Q") for i in range(count))
+    worker = Worker(program)
+    worker.send(call("echo"))
+    begun = time.monotonic()
+    writer = threading.Thread(target=worker.send, args=(items,))
+    writer.start()
+    back = b""
+    while len(back) < len(items):
+        piece = worker.child.stdout.read1(1 << 20)
+        assert piece
+        back += piece
+    took = time.monotonic() - begun
+    writer.join()
+    assert back == items
+    worker.end()
+    return took
+
+
+def execnet_echo(count):
+    """The same through execnet's gateway, or None where it is not installed."""
+    for python in (sys.executable, "/usr/bin/python3"):
+        if subprocess.run([python, "-c", "import execnet"], capture_output=True).returncode == 0:
+            done = subprocess.run([python, "-c", EXECNET_ECHO, str(count)], capture_output=True, text=True, check=True)
+            return float(done.stdout)
+    return None
+
+
+def main():
+    program = os.path.abspath(sys.argv[1] if len(sys.argv) > 1 else "./xdrun")
+    with tempfile.TemporaryDirectory() as folder:
+        suite = os.path.join(folder, "suite.toml")
+        with open(suite, "w") as f:
+            for i in range(TESTS):
+                f.write(f'[[test]]\nid = "test_{i}"\nrun = ["true"]\n')
+        run_alone(program, suite)
+        worker = min(run_tests(program, suite, TESTS)[0] for _ in range(RUNS))
+        alone = min(run_alone(program, suite) for _ in range(RUNS))
+        few = run_tests(program, suite, TESTS // 10)[1]
+        many = run_tests(program, suite, TESTS)[1]
+    print(f"{TESTS} tests: worker {worker:.2f} s, -n 0 {alone:.2f} s, {worker / alone:.2f} times its time (goal: at most 1.15)")
+    print(f"peak memory: {few:.1f} MiB for {TESTS // 10} tests, {many:.1f} MiB for {TESTS}")
+    ours = min(echo(program, ITEMS) for _ in range(RUNS))
+    print(f"{ITEMS} items through echo: {ITEMS / ours:.0f} a second")
+    theirs = [execnet_echo(ITEMS) for _ in range(RUNS)]
+    if None in theirs:
+        print("execnet is not installed: its part is skipped")
+        return
+    print(f"execnet: {ITEMS / min(theirs):.0f} a second; {min(theirs) / ours:.1f} times as many (goal: at least 10)")
+
+
+if __name__ == "__main__":
+    main()
