@@ -1,9 +1,10 @@
 -- Lists that rise.
-use Rattle.std.proofs.Common.{◌≡◌, ℕ, zero, suc, ◌+◌, ◌<◌, ◌==◌, true, false, List, [], ◌∷◌, length, drop, Some, is_some, unwrap_or, refl, sym, ap, arith}
+use Rattle.std.proofs.Common.{◌≡◌, ℕ, zero, suc, ◌+◌, ◌<◌, ◌==◌, true, false, List, [], ◌∷◌, ◌++◌, length, drop, Some, is_some, unwrap_or, slice_index, subst, refl, sym, ap, arith}
 use Rattle.std.specs.List.{All}
 use Rattle.std.specs.List.Sorted.{IsStrictlyIncreasing}
 use Rattle.std.proofs.lemmas.Bool.{true≢false, eq-eqb, ne_eqb}
 use Rattle.std.proofs.lemmas.List.Kept.{AllPairs-from_increasing}
+use Rattle.std.proofs.lemmas.List.{get_or_append_left, length_push}
 use Rattle.xd_ledger.specs.Numbers.{first_of, without}
 
 -- a number that is below all others is not among them
@@ -22,3 +23,13 @@ without-first (t ∷ []) (x ∷ xs) rises one same =
     let below : All (λ y. t < y) xs = λ k d within. omega (arith, is, AllPairs-from_increasing (x ∷ xs) rises zero (suc k) d (omega arith) (omega arith)) in
     rw (eq-eqb x t (sym is)) (without-lower t xs below)
 without-first (t ∷ u ∷ those) xs rises one same = absurd (omega (arith, one))
+
+pub rises-behind : (xs : List ℕ) → IsStrictlyIncreasing xs → IsStrictlyIncreasing (drop 1 xs)
+rises-behind [] rises = rises
+rises-behind (x ∷ xs) rises = λ k within.
+    let at : suc k + 1 ≡ suc (k + 1) = omega arith in
+    subst (λ n. slice_index xs k < slice_index (x ∷ xs) n) at (rises (suc k) (omega arith))
+
+pub rises-before : (xs : List ℕ) (y : ℕ) → IsStrictlyIncreasing (xs ++ y ∷ []) → IsStrictlyIncreasing xs
+rises-before xs y rises k within =
+    rw (← get_or_append_left xs (y ∷ []) 0 k (omega arith), ← get_or_append_left xs (y ∷ []) 0 (k + 1) within) (rises k (omega (arith, length_push xs y)))

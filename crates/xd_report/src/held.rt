@@ -1,5 +1,5 @@
 // The items that one worker holds.
-ghost use Rattle.std.specs.Prelude.{◌≡◌, [], ◌∷◌, ◌++◌, length, OnOk, true};
+ghost use Rattle.std.specs.Prelude.{◌≡◌, [], ◌∷◌, ◌++◌, length, OnOk, true, ◌↔◌};
 ghost use Rattle.std.specs.List.Sorted.{IsStrictlyIncreasing};
 ghost use Rattle.xd_ledger.specs.Numbers.{first_of, without};
 
@@ -11,8 +11,8 @@ use xd_edge::OutOfMemory;
 
 /// The items that a worker holds, the one that runs first in front. Contracts see the list.
 ///
-/// A worker is mostly given items in rising order, and mostly completes the first one. Where the list rises its first
-/// item stands nowhere behind, so that it is taken without a walk over the others.
+/// A worker mostly gets items in rising order and completes the first. Where the list rises, its first item stands
+/// nowhere behind, so it is taken without a walk over the others.
 #[derive(Drop)]
 pub struct Held {
     items: VecDeque<u64>,
@@ -20,17 +20,18 @@ pub struct Held {
 }
 
 impl Model for Held {
-    ghost use Rattle.std.specs.Prelude.{◌≡◌, ℕ, List, true};
+    ghost use Rattle.std.specs.Prelude.{◌≡◌, ℕ, List, true, ◌↔◌};
     ghost use Rattle.std.specs.List.Sorted.{IsStrictlyIncreasing};
 
     ghost Value = { List ℕ };
 
     ghost view = { λ h. h.items.items };
 
-    ghost invariant = { λ h. h.rising ≡ true → IsStrictlyIncreasing h.items.items };
+    ghost invariant = { λ h. (h.rising ≡ true) ↔ IsStrictlyIncreasing h.items.items };
 }
 
 impl Held {
+    /// Nothing is held.
     pub fn new(alloc: Global) -> Held
         ensures { result ≡ [] }
     {
@@ -40,6 +41,7 @@ impl Held {
         }
     }
 
+    /// The item that runs first.
     pub fn first(&self) -> Option<u64>
         ensures { result ≡ first_of self.now }
     {
@@ -56,15 +58,24 @@ impl Held {
         Ok(())
     }
 
+    // One more behind the others.
     fn push(&mut self, item: u64) -> Result<(), OutOfMemory>
         ensures { OnOk result (self.new ≡ self.old ++ item ∷ []) }
     {
-        self.rising = match self.items.back() {
+        let rising = self.rises_with(item);
+        self.items.push_back(item)?;
+        self.rising = rising;
+        Ok(())
+    }
+
+    // Whether the list rises with this item behind it.
+    fn rises_with(&self, item: u64) -> bool
+        ensures { (result ≡ true) ↔ IsStrictlyIncreasing (self.now ++ item ∷ []) }
+    {
+        match self.items.back() {
             Some(last) => self.rising && *last < item,
             None => true,
-        };
-        self.items.push_back(item)?;
-        Ok(())
+        }
     }
 
     /// These are held no more.
@@ -78,6 +89,7 @@ impl Held {
         }
     }
 
+    // The same by a walk over all. What is left may rise where the list did not.
     fn walk(&mut self, items: &[u64])
         ensures { self.new ≡ without items.now self.old }
     {
@@ -86,14 +98,16 @@ impl Held {
     }
 }
 
+// Whether they are the first one that is held, and no other.
 fn is_first(held: &VecDeque<u64>, items: &[u64]) -> bool
-    ensures { result ≡ true → (length items.now ≡ 1) × (first_of items.now ≡ first_of held.now.items) }
+    ensures { (result ≡ true) ↔ ((length items.now ≡ 1) × (first_of items.now ≡ first_of held.now.items)) }
 {
     items.len() == 1 && items.first() == held.front()
 }
 
+// Whether each one is larger than the one before it.
 fn rises(items: &VecDeque<u64>) -> bool
-    ensures { result ≡ true → IsStrictlyIncreasing items.now.items }
+    ensures { (result ≡ true) ↔ IsStrictlyIncreasing items.now.items }
 {
     for i in 1..items.len() {
         if items[i] <= items[i - 1] {
