@@ -19,7 +19,7 @@ abbrev pub bare_seat : Seat → Seat
 bare_seat s = record s { shut = false }
 
 abbrev pub seat_of : Desk → Seat
-seat_of d = record { worker = d.worker; held = d.held.items; shut = false }
+seat_of d = record { worker = d.worker; held = d.held; shut = false }
 
 -- the books behind the count of a result
 abbrev pub judged : Outcome → Books → Books

@@ -1,30 +1,30 @@
 // What the workers of the rota hold.
 ghost use Rattle.std.specs.Prelude.{◌≡◌, ◌==◌, ◌++◌, ◌∷◌, [], map, filter, not, OnOk, false, if◌then◌else◌};
-ghost use Rattle.xd_ledger.specs.Numbers.{without};
+ghost use Rattle.xd_ledger.specs.Numbers.{first_of, without};
 ghost use Rattle.xd_ledger.specs.Table.{at_seat, held_in, without_seat};
 ghost use Rattle.xd_report.specs.Follows.{seat_of};
 
-use crate::numbers::is_among;
+use crate::held::Held;
 use std::alloc::Global;
 use xd_edge::OutOfMemory;
 
-/// A worker of the rota, and the items that it holds, the one that runs first.
+/// A worker of the rota, and the items that it holds.
 #[derive(Drop)]
 pub struct Desk {
     pub worker: u32,
-    pub held: Vec<u64>,
+    pub held: Held,
 }
 
-/// What a worker holds.
-pub fn held_in(rota: &[Desk], worker: u32) -> &[u64]
-    ensures { result.now ≡ held_in worker (map seat_of rota.now) }
+/// The first item that a worker holds.
+pub fn head_in(rota: &[Desk], worker: u32) -> Option<u64>
+    ensures { result ≡ first_of (held_in worker (map seat_of rota.now)) }
 {
     for desk in rota {
         if desk.worker == worker {
-            return &desk.held;
+            return desk.held.first();
         }
     }
-    &[]
+    None
 }
 
 /// The worker gets these behind what it holds.
@@ -59,26 +59,26 @@ pub fn join(alloc: Global, rota: &mut Vec<Desk>, worker: u32) -> Result<(), OutO
 {
     rota.push(Desk {
         worker,
-        held: Vec::new(alloc),
+        held: Held::new(alloc),
     })?;
     Ok(())
 }
 
 impl Desk {
     fn add(&mut self, worker: u32, items: &[u64]) -> Result<(), OutOfMemory>
-        ensures { OnOk result (seat_of self.new ≡ (if self.old.worker == worker then record (seat_of self.old) { held = self.old.held.items ++ items.now } else seat_of self.old)) }
+        ensures { OnOk result (seat_of self.new ≡ (if self.old.worker == worker then record (seat_of self.old) { held = self.old.held ++ items.now } else seat_of self.old)) }
     {
         if self.worker == worker {
-            self.held.extend_from_slice(items)?;
+            self.held.add(items)?;
         }
         Ok(())
     }
 
     fn take(&mut self, worker: u32, items: &[u64])
-        ensures { seat_of self.new ≡ (if self.old.worker == worker then record (seat_of self.old) { held = without items.now self.old.held.items } else seat_of self.old) }
+        ensures { seat_of self.new ≡ (if self.old.worker == worker then record (seat_of self.old) { held = without items.now self.old.held } else seat_of self.old) }
     {
         if self.worker == worker {
-            self.held.retain(|&item| !is_among(item, items));
+            self.held.take(items);
         }
     }
 }

@@ -8,6 +8,7 @@ mod crew;
 mod desk;
 mod ending;
 mod handing;
+mod held;
 mod laws;
 mod lines;
 mod lists;

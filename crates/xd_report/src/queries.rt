@@ -2,8 +2,6 @@
 ghost use Rattle.std.specs.Prelude.{◌≡◌, [], IfOk, Some, slice_index, slice_index_or};
 ghost use Rattle.std.specs.Str.{chars};
 ghost use Rattle.xd_ledger.specs.Collections.{key};
-ghost use Rattle.xd_ledger.specs.Numbers.{first_of};
-ghost use Rattle.xd_ledger.specs.Table.{held};
 ghost use Rattle.xd_ledger.specs.Plan.{base, is_each, items_named};
 ghost use Rattle.xd_ledger.specs.Sharing.{State, ids_at};
 ghost use Rattle.xd_ledger.specs.Workers.{is_shut, slot_of};
@@ -72,18 +70,11 @@ impl Reporter {
         Ok(self.id_of(worker, item.saturating_sub(base)))
     }
 
-    // What a worker holds.
-    pub(crate) fn held(&self, worker: u32) -> &[u64]
-        ensures { (s : State) → Follows self.now s → result.now ≡ held worker s.books.table }
-    {
-        desk::held_in(&self.rota, worker)
-    }
-
     // The first item that a worker holds.
     pub(crate) fn head(&self, worker: u32) -> Option<u64>
         ensures { (s : State) → Follows self.now s → result ≡ head worker s }
     {
-        first_of(self.held(worker))
+        desk::head_in(&self.rota, worker)
     }
 
     // The first item of a worker's slot.
@@ -131,12 +122,6 @@ impl Reporter {
             _ => sum_of(&self.sizes),
         }
     }
-}
-
-fn first_of(items: &[u64]) -> Option<u64>
-    ensures { result ≡ first_of items.now }
-{
-    items.first().copied()
 }
 
 fn id_at(ids: &[Text], index: u64) -> &str

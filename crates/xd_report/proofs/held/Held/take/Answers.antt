@@ -1,0 +1,12 @@
+use Rattle.std.proofs.Common.{sym, ap, ◌∙◌}
+use Rattle.xd_ledger.specs.Numbers.{without}
+use Rattle.xd_report.proofs.Rising.{rises-behind, without-first}
+use Rattle.xd_report.proofs.held.Held.take.Goals as goal
+
+pub returns-then-is_first : goal.returns-then-is_first
+returns-then-is_first c =
+    let first = c.is_first.ensures.0 c.if-is_first.true in
+    c.pop_front.ensures.rest ∙ sym (without-first c.args.items.now _ (c.self.invariant.0 c.if-self.true) first.0 first.1) ∙ ap (without c.args.items.now) c.self.view_is
+
+pub invariant_of-self : goal.invariant_of-self
+invariant_of-self c = (λ _. rw c.pop_front.ensures.rest (rises-behind _ (c.self.invariant.0 c.if-self.true)), λ _. c.if-self.true)
