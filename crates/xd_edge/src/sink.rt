@@ -5,7 +5,7 @@ ghost use Rattle.xd_edge.specs.Sink.{Sunk, with_flush, with_close, Took, TookPar
 
 use crate::Failed;
 
-/// A place that takes bytes. A call that fails changes nothing that is told.
+/// A place that takes bytes. A call that fails changes nothing that is told, and one that succeeds raises no count.
 pub trait Sink {
     /// How often it has failed.
     ghost faults: { Self → ℕ };
@@ -20,6 +20,7 @@ pub trait Sink {
         ensures took { IfOk result (λ n. Took (take n piece.now) (sunk self.old) (sunk self.new)) }
         ensures kept { OnErr result (sunk self.new ≡ sunk self.old) }
         ensures later { faults self.old ≤ faults self.new }
+        ensures still { OnOk result (faults self.new ≡ faults self.old) }
         ensures rose { OnErr result (Rose (faults self.old) (faults self.new)) };
 
     /// Hands on what it took.
@@ -27,6 +28,7 @@ pub trait Sink {
         ensures flushed { OnOk result (sunk self.new ≡ option_map with_flush (sunk self.old)) }
         ensures kept { OnErr result (sunk self.new ≡ sunk self.old) }
         ensures later { faults self.old ≤ faults self.new }
+        ensures still { OnOk result (faults self.new ≡ faults self.old) }
         ensures rose { OnErr result (Rose (faults self.old) (faults self.new)) };
 
     /// Ends the writing direction.
@@ -34,6 +36,7 @@ pub trait Sink {
         ensures closed { OnOk result (sunk self.new ≡ option_map with_close (sunk self.old)) }
         ensures kept { OnErr result (sunk self.new ≡ sunk self.old) }
         ensures later { faults self.old ≤ faults self.new }
+        ensures still { OnOk result (faults self.new ≡ faults self.old) }
         ensures rose { OnErr result (Rose (faults self.old) (faults self.new)) };
 }
 
@@ -42,6 +45,7 @@ pub fn write_all<S: Sink>(sink: &mut S, bytes: &[u8]) -> Result<(), Failed>
     ensures ok { OnOk result (Took bytes.now (S.sunk sink.old) (S.sunk sink.new)) }
     ensures part { OnErr result (TookPart bytes.now (S.sunk sink.old) (S.sunk sink.new)) }
     ensures later { S.faults sink.old ≤ S.faults sink.new }
+    ensures still { OnOk result (S.faults sink.new ≡ S.faults sink.old) }
     ensures rose { OnErr result (Rose (S.faults sink.old) (S.faults sink.new)) }
 {
     let mut done = 0;
@@ -56,6 +60,7 @@ pub fn print<S: Sink>(sink: &mut S, bytes: &[u8]) -> Result<(), Failed>
     ensures ok { OnOk result (Printed bytes.now (S.sunk sink.old) (S.sunk sink.new)) }
     ensures part { OnErr result (PrintedPart bytes.now (S.sunk sink.old) (S.sunk sink.new)) }
     ensures later { S.faults sink.old ≤ S.faults sink.new }
+    ensures still { OnOk result (S.faults sink.new ≡ S.faults sink.old) }
     ensures rose { OnErr result (Rose (S.faults sink.old) (S.faults sink.new)) }
 {
     write_all(sink, bytes)?;
