@@ -1,3 +1,4 @@
+pub mod EachReport
 pub mod Kept
 pub mod Loops
 pub mod Moves

@@ -1,4 +1,5 @@
 pub mod Blocks
+pub mod EachReport
 pub mod Follows
 pub mod Lines
 pub mod Names

@@ -1,0 +1,91 @@
+-- How the printed text speaks of the reports of a run: each has one line, each failed one has a block, and each is
+-- counted once.
+use Rattle.std.specs.Prelude.{ℕ, ◌≡◌, ◌+◌, Bool, true, false, List, [], ◌∷◌, ◌++◌, length, map, filter, Some}
+use Rattle.xd_edge.specs.declared.mode.ModeKind.{ModeKind}
+use Rattle.xd_ledger.specs.declared.entry.Outcome.TheVariants.{Passed, Skipped, Failed}
+use Rattle.xd_ledger.specs.Reports.{Report, Result, Crash}
+use Rattle.xd_report.specs.declared.counts.Counts.{Counts}
+use Rattle.xd_report.specs.Blocks.{block, crash_reason, reason_of}
+use Rattle.xd_report.specs.Lines.{tests_line, result_line, crashed_line, down_line, replacing}
+
+-- what a line tells: how many tests there are on how many workers, how a test went, that a worker went down, or whom a
+-- new worker replaces
+pub data Line : Type 0 where
+  Tests : (tests : ℕ) → (workers : ℕ) → Line
+  Of : (report : Report) → (id : List ℕ) → Line
+  NodeDown : (worker : ℕ) → (why : List ℕ) → Line
+  Replaces : (old : ℕ) → Line
+
+abbrev pub text_of_line : ModeKind → Line → List ℕ
+text_of_line mode (Tests tests workers) = tests_line mode tests workers
+text_of_line mode (Of (Result worker item outcome) id) = result_line mode worker outcome id
+text_of_line mode (Of (Crash worker item) id) = crashed_line mode worker id
+text_of_line mode (NodeDown worker why) = down_line mode worker why
+text_of_line mode (Replaces old) = replacing mode (Some old)
+
+abbrev pub text_of_lines : ModeKind → List Line → List ℕ
+text_of_lines mode [] = []
+text_of_lines mode (l ∷ ls) = text_of_line mode l ++ text_of_lines mode ls
+
+-- the reports that these lines are of
+abbrev pub reports_told : List Line → List Report
+reports_told [] = []
+reports_told (Of report id ∷ ls) = report ∷ reports_told ls
+reports_told (Tests tests workers ∷ ls) = reports_told ls
+reports_told (NodeDown worker why ∷ ls) = reports_told ls
+reports_told (Replaces old ∷ ls) = reports_told ls
+
+-- The text is a list of lines, and each of these reports has one of them, in order.
+pub record HasLineEach (mode : ModeKind) (text : List ℕ) (rs : List Report) : Type 0 where
+  pub lines : List Line
+  pub text_is : text ≡ text_of_lines mode lines
+  pub each_once : reports_told lines ≡ rs
+
+-- a test that passed
+abbrev pub is_passed : Report → Bool
+is_passed (Result worker item Passed) = true
+is_passed (Result worker item Skipped) = false
+is_passed (Result worker item (Failed code)) = false
+is_passed (Crash worker item) = false
+
+abbrev pub is_skipped : Report → Bool
+is_skipped (Result worker item Passed) = false
+is_skipped (Result worker item Skipped) = true
+is_skipped (Result worker item (Failed code)) = false
+is_skipped (Crash worker item) = false
+
+-- a test that failed, or at whose head a worker went down
+abbrev pub is_failure : Report → Bool
+is_failure (Result worker item Passed) = false
+is_failure (Result worker item Skipped) = false
+is_failure (Result worker item (Failed code)) = true
+is_failure (Crash worker item) = true
+
+-- the block of a failed report, and what was kept of its output
+pub record Block : Type 0 where
+  pub report : Report
+  pub id : List ℕ
+  pub output : List ℕ
+
+abbrev pub text_of_report : ModeKind → Report → List ℕ → List ℕ → List ℕ
+text_of_report mode (Result worker item (Failed code)) id output = block mode worker id (reason_of code) output
+text_of_report mode (Crash worker item) id output = block mode worker id (crash_reason mode worker id) output
+text_of_report mode (Result worker item Passed) id output = []
+text_of_report mode (Result worker item Skipped) id output = []
+
+abbrev pub text_of_blocks : ModeKind → List Block → List ℕ
+text_of_blocks mode [] = []
+text_of_blocks mode (b ∷ bs) = text_of_report mode b.report b.id b.output ++ text_of_blocks mode bs
+
+-- The text is a list of blocks, one for each failed report among these, in order.
+pub record HasBlockEach (mode : ModeKind) (text : List ℕ) (rs : List Report) : Type 0 where
+  pub blocks : List Block
+  pub text_is : text ≡ text_of_blocks mode blocks
+  pub each_once : map (λ b. b.report) blocks ≡ filter is_failure rs
+
+-- The counts are how many of these reports are of each kind, and each report is of one.
+pub record Counted (n : Counts) (rs : List Report) : Type 0 where
+  pub failed : n.failed ≡ length (filter is_failure rs)
+  pub passed : n.passed ≡ length (filter is_passed rs)
+  pub skipped : n.skipped ≡ length (filter is_skipped rs)
+  pub all : n.failed + n.passed + n.skipped ≡ length rs
