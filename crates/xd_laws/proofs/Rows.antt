@@ -1,14 +1,20 @@
 -- A worked run that the laws speak of: it is proper, it is over without a stop, and its reports are of all its tests.
+-- Behind it stands what the laws rule out.
 use Rattle.std.specs.Prelude.{◌≡◌, ℕ, List, [], ◌∷◌, true, false, Some, None, map}
-use Rattle.std.proofs.Common.{refl}
+use Rattle.std.proofs.Common.{refl, arith, ◌<◌, ◌≤◌, take}
 use Rattle.xd_edge.specs.declared.mode.ModeKind.TheVariants.{Load}
 use Rattle.xd_ledger.specs.declared.settings.Settings.{Settings}
 use Rattle.xd_ledger.specs.declared.entry.Ids.TheVariants as ids
 use Rattle.xd_ledger.specs.declared.entry.Cause.TheVariants.{Ended}
 use Rattle.xd_ledger.specs.declared.entry.Outcome.TheVariants.{Passed}
 use Rattle.xd_ledger.specs.declared.entry.Entry.{Entry}
-use Rattle.xd_ledger.specs.declared.entry.Entry.TheVariants.{Ready, Collected, Done, Finished, Down}
+use Rattle.xd_ledger.specs.declared.entry.Entry.TheVariants.{Ready, Collected, Done, Finished, Down, Run, Steal, Shutdown}
+use Rattle.xd_ledger.specs.Books.{on_table}
+use Rattle.xd_ledger.specs.Sharing.{State, in_books}
+use Rattle.xd_ledger.specs.Orderly.{is_orderly}
 use Rattle.xd_ledger.specs.Stops.{is_stopped}
+use Rattle.xd_laws.specs.Once.{IsOnce}
+use Rattle.xd_laws.specs.Reported.{AreOnce}
 use Rattle.xd_ledger.specs.Plan.{total}
 use Rattle.xd_ledger.specs.Histories.{begun, journal_of, stepped_all, is_over}
 use Rattle.xd_ledger.specs.Proper.{IsProper}
@@ -36,3 +42,48 @@ a_death-tests = refl
 
 pub a_death-reports : reports three (journal_of three a_death) ≡ Crash 0 0 ∷ Result 1 1 Passed ∷ Result 2 2 Passed ∷ []
 a_death-reports = refl
+
+-- what the laws rule out
+
+abbrev ended : State
+ended = stepped_all (begun three) a_death
+
+-- a test that was reported stands in the pool again
+again_in_pool : IsOnce (in_books (on_table (λ t. record t { pool = 0 ∷ [] })) ended) → ⊥
+again_in_pool once =
+    let two : 2 ≡ 1 = once.each_once refl 0 (omega arith) in
+    omega (two, arith)
+
+-- a test stands nowhere
+lost : IsOnce (in_books (on_table (λ t. record t { reported = 1 ∷ 2 ∷ [] })) ended) → ⊥
+lost once =
+    let none : 0 ≡ 1 = once.each_once refl 0 (omega arith) in
+    omega (none, arith)
+
+-- a test has a result and is told as crashed as well
+told_twice : AreOnce (Result 1 0 Passed ∷ Crash 0 0 ∷ []) ended → ⊥
+told_twice once =
+    let two : 2 ≤ 1 = once.at_most 0 in
+    omega (two, arith)
+
+-- a run is over, and one test has no report
+not_told : AreOnce (Result 1 1 Passed ∷ Result 2 2 Passed ∷ []) ended → ⊥
+not_told once =
+    let none : 0 ≡ 1 = once.all_told refl refl 0 (omega arith) in
+    omega (none, arith)
+
+-- two workers, to whom the three tests went
+abbrev shared_out : State
+shared_out = stepped_all (begun three) (take 4 a_death)
+
+-- a test is given to a second worker
+given_twice : is_orderly shared_out (Run 1 (0 ∷ [])) ≡ false
+given_twice = refl
+
+-- a worker that was told to shut down is told so again
+shut_twice : is_orderly shared_out (Shutdown 0) ≡ false
+shut_twice = refl
+
+-- a test that its worker may be running is asked back
+head_asked_back : is_orderly shared_out (Steal 0 (0 ∷ [])) ≡ false
+head_asked_back = refl
