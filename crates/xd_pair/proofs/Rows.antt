@@ -1,10 +1,10 @@
--- Histories that compute: two channels, one of them named in a value.
-use Rattle.std.proofs.Common.{◌≡◌, List, [], ◌∷◌, ◌++◌, true, false, None, refl}
+-- Histories that compute: two channels, one of them named in a value; and what the law rules out.
+use Rattle.std.proofs.Common.{◌≡◌, List, [], ◌∷◌, ◌++◌, length, true, false, None, refl, ap, arith}
 use Rattle.std.specs.Prelude.{pos}
 use Rattle.xd_value.specs.Tree.{int, channel}
 use Rattle.xd_factory.specs.Slot.{Gone}
 use Rattle.xd_pair.specs.Notes.{all_notes, Lasts, Item, Ends}
-use Rattle.xd_pair.specs.Pair.{Open, Send, Ask, Answer, Close_own, Give_up, Receive, Set_callback, Take, Step, Odd, Even, run, start}
+use Rattle.xd_pair.specs.Pair.{Law, untouched, Open, Send, Ask, Answer, Close_own, Give_up, Receive, Set_callback, Take, Step, Odd, Even, run, start}
 
 abbrev two_channels : List Step
 two_channels = Odd Open ∷ Odd Open ∷ Odd (Send 1 (channel 3)) ∷ Odd (Send 3 (int (pos 7))) ∷ Even Take ∷ Even Take ∷ Even (Receive 1) ∷ Even (Receive 3) ∷ Even (Receive 3) ∷ []
@@ -47,3 +47,24 @@ not_let_go = refl
 -- the items ahead of the CHANNEL_CLOSE, which stands last
 all_said : all_notes 1 (run late_answer start).odd.taken ≡ Lasts ∷ Item (int (pos 9)) ∷ Ends None ∷ []
 all_said = refl
+
+-- what the law rules out
+
+-- one item more was handed out than was sent
+handed_twice : Law (record untouched { got = int (pos 7) ∷ int (pos 7) ∷ [] }) (int (pos 7) ∷ []) (Item (int (pos 7)) ∷ []) → ⊥
+handed_twice law =
+    let more = law.prefix.0 in
+    let one : length (int (pos 7) ∷ int (pos 7) ∷ more) ≡ 1 = ap length law.prefix.1 in
+    omega (one, arith)
+
+-- an orderly end came, and an item that was sent ahead of it did not
+item_lost : Law (record untouched { ended = true }) (int (pos 7) ∷ []) (Item (int (pos 7)) ∷ Ends None ∷ []) → ⊥
+item_lost law =
+    let one : 0 ≡ 1 = ap length (law.whole refl refl refl) in
+    omega (one, arith)
+
+-- an orderly end came that the peer did not say
+end_from_nowhere : Law (record untouched { ended = true }) [] [] → ⊥
+end_from_nowhere law =
+    let said : false ≡ true = law.end_came refl refl refl in
+    cc
