@@ -59,7 +59,8 @@ added s (Some e) = e ∷ outputs s e
 abbrev pub added_by : Settings → List News → News → List Entry
 added_by settings taken n = added (run_of settings taken).state (input_of (run_of settings taken) n)
 
--- These entries were performed and their lines printed, or nothing of it was performed and a first part of the lines taken.
+-- These entries were performed and their lines printed, or nothing of it was performed and a first part of the lines
+-- taken.
 pub record TellsEntries (shown : Bool) (es : List Entry) (lines : List ℕ) (old new : Scene) : Type 0 where
   pub performed : Performs (if shown then es else []) old.starts new.starts old.calls new.calls
   pub marks : (w : ℕ) → new.marks w ≡ after_all (if shown then es else []) old.marks w
