@@ -1,5 +1,5 @@
 -- A session that was driven to its end.
-use Rattle.std.proofs.Common.{◌≡◌, ℕ, ◌-◌, List, [], ◌∷◌, ◌++◌, length, take, drop, filter, Bool, true, false, Option, Some, None, refl, ap, sym, ◌∙◌, subst, inr}
+use Rattle.std.proofs.Common.{◌≡◌, ℕ, ◌-◌, List, [], ◌∷◌, ◌++◌, length, take, drop, filter, Bool, true, false, Option, Some, None, refl, ap, sym, ◌∙◌, subst}
 use Rattle.std.proofs.lemmas.List.{append-nil, drop-append-le, take-append-le, take_rest}
 use Rattle.std.proofs.lemmas.List.Elements.{filter-append}
 use Rattle.xd_edge.specs.Sink.{Sunk, PrintedPart}
@@ -7,22 +7,24 @@ use Rattle.xd_ledger.specs.declared.settings.Settings.{Settings}
 use Rattle.xd_ledger.specs.declared.news.News.{News}
 use Rattle.xd_ledger.specs.declared.journal.Journal.{Journal}
 use Rattle.xd_ledger.specs.declared.entry.Entry.{Entry}
-use Rattle.xd_ledger.specs.declared.entry.Entry.TheVariants.{Ready, Collected, Done, Back, Finished, Refused, Down, NotStarted, Start, Run, RunAll, Steal, Shutdown, Kill, Over}
+use Rattle.xd_ledger.specs.declared.entry.Entry.TheVariants.{Over}
 use Rattle.xd_ledger.specs.Books.{Books}
 use Rattle.xd_ledger.specs.Ending.{ending, may_close, stop_of}
 use Rattle.xd_ledger.specs.Histories.{end_of}
 use Rattle.xd_ledger.specs.Proper.{IsProper}
 use Rattle.xd_ledger.specs.Sharing.{State}
 use Rattle.xd_report.specs.Text.{run_text, text_of}
+use Rattle.xd_session.specs.Bounded.{IsBounded}
 use Rattle.xd_session.specs.Ends.{last_stop}
 use Rattle.xd_session.specs.Stands.{Seen, StandsFor, state_of}
-use Rattle.xd_session.proofs.Steps.{sound-run}
-use Rattle.xd_laws.proofs.Logic.{and, differ, split-and}
 use Rattle.xd_drive.specs.Driven.{Broken, Ended, Whole, run_given}
-use Rattle.xd_drive.specs.Going.{EndsRun, IsDone, Scene}
+use Rattle.xd_drive.specs.Failing.{FailedAt}
+use Rattle.xd_drive.specs.Going.{EndsRun, Scene}
 use Rattle.xd_drive.specs.Performing.{AddsAll, Performs, all_possible, is_call, is_start, kills_of_started}
 use Rattle.xd_drive.specs.Printing.{ShowsEnd}
 use Rattle.xd_drive.specs.Taken.{taken_of}
+use Rattle.xd_drive.proofs.Failing.{failed-behind, failed-part}
+use Rattle.xd_drive.proofs.Kept.{kept-ended}
 use Rattle.xd_drive.proofs.Loop.{none-of}
 use Rattle.xd_drive.proofs.Performs.{performs-more}
 use Rattle.xd_drive.proofs.Stepped.{state-is}
@@ -78,12 +80,23 @@ broken count s j old mid new p same is stop e kills given sunk =
       record {
         ended = ended true s (e.0) j p same is f.stands refl stop;
         gave = given ∙ f.gave;
-        is_done = subst (λ (x : Settings). IsDone x (taken_of x (e.0)) (take count j.entries.items)) (sym same) (subst (λ (es : List Entry). IsDone s.settings (taken_of s.settings (e.0)) es) (sym first) f.is_done);
         performed = performs-more (take count j.entries.items) (kills_of_started (take count j.entries.items) (drop count j.entries.items)) old.starts mid.starts new.starts old.calls mid.calls new.calls
             (subst (λ (es : List Entry). Performs es old.starts mid.starts old.calls mid.calls) (sym first) f.performed) kills;
-        shows = subst (λ (o : Option Sunk). PrintedPart (text_of j) old.sunk o) (sym sunk) (subst (λ (l : List ℕ). PrintedPart l old.sunk mid.sunk) (sym (text-same true s (e.0) j p same is f.stands)) f.shows);
+        failed = subst (λ (o : Option Sunk). FailedAt j.settings (taken_of j.settings (e.0)) count j.entries.items old.sunk o) (sym sunk)
+            (subst (λ (x : Settings). FailedAt x (taken_of x (e.0)) count j.entries.items old.sunk mid.sunk) (sym same)
+            (subst (λ (es : List Entry). FailedAt s.settings (taken_of s.settings (e.0)) count es old.sunk mid.sunk) (sym is)
+            (failed-behind s.settings (taken_of s.settings (e.0)) count s.entries old.sunk mid.sunk (ending true (state_of s).books) (silent-ending true (state_of s).books) f.within f.failed)));
+        shows = subst (λ (o : Option Sunk). PrintedPart (text_of j) old.sunk o) (sym sunk) (subst (λ (l : List ℕ). PrintedPart l old.sunk mid.sunk) (sym (text-same true s (e.0) j p same is f.stands))
+            (failed-part s.settings (taken_of s.settings (e.0)) count s.entries old.sunk mid.sunk f.stands.entries f.failed));
       },
     )
+
+ends-stand : (stopped : Option ℕ) (s : Seen) (old new : Scene) → EndsRun stopped s old new → (taken : List News) × StandsFor taken s
+ends-stand None s old new e = (taken_of s.settings (e.0), e.1.stands)
+ends-stand (Some count) s old new e = (taken_of s.settings (e.0), e.1.stands)
+
+pub drive-kept : (failed : Bool) (stopped : Option ℕ) (s : Seen) (j : Journal) (old new : Scene) → EndsRun stopped s old new → j.entries.items ≡ s.entries ++ ending failed (state_of s).books → IsBounded j.entries.items
+drive-kept failed stopped s j old new e is = (let st = ends-stand stopped s old new e in subst IsBounded (sym is) (kept-ended failed (st.0) s (st.1)))
 
 -- in the words of the call
 

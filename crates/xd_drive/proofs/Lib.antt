@@ -1,7 +1,9 @@
 pub mod Bounds
 pub mod Driven
+pub mod Failing
 pub mod Follow
 pub mod Heard
+pub mod Kept
 pub mod Kills
 pub mod Loop
 pub mod NextListed

@@ -1,15 +1,14 @@
 -- From one piece of news to the next.
-use Rattle.std.proofs.Common.{◌≡◌, ℕ, zero, suc, ◌+◌, ◌≤◌, ◌<◌, List, [], ◌∷◌, ◌++◌, length, take, drop, length-append, Bool, true, false, not, ◌||◌, Option, Some, None, option_map, refl, sym, ◌∙◌, ap, subst, arith, inl, inr, append_assoc}
+use Rattle.std.proofs.Common.{◌≡◌, ℕ, zero, suc, ◌+◌, ◌≤◌, ◌<◌, List, [], ◌∷◌, ◌++◌, length, take, drop, length-append, Bool, true, false, not, ◌||◌, Option, Some, None, refl, sym, ◌∙◌, ap, subst, arith, inl, inr, append_assoc}
 use Rattle.std.specs.Prelude.{◌==◌, ◌⊎◌, nat_lt, if◌then◌else◌}
 use Rattle.std.specs.List.{list_any}
 use Rattle.std.proofs.Math.Path.{fun_ext}
 use Rattle.std.proofs.Math.Seq.{take-append_seam}
 use Rattle.std.proofs.lemmas.Bool.Decides.{nat_tests}
 use Rattle.std.proofs.lemmas.Grind.{fold-append}
-use Rattle.std.proofs.lemmas.List.{append-nil, drop_all, drop_at, take_all}
+use Rattle.std.proofs.lemmas.List.{drop_all, drop_at, take_all}
 use Rattle.std.proofs.lemmas.List.Folds.{list_any-append}
-use Rattle.xd_edge.specs.Sink.{Sunk, Printed, PrintedPart, with_bytes, with_flush, with_close}
-use Rattle.xd_edge.proofs.SinkLemmas.{printed_more, printed_then_part, printed_part_of_more}
+use Rattle.xd_edge.specs.Sink.{Printed, TookPart}
 use Rattle.xd_ledger.specs.declared.settings.Settings.{Settings}
 use Rattle.xd_ledger.specs.declared.news.News.{News}
 use Rattle.xd_ledger.specs.declared.entry.Entry.{Entry}
@@ -22,20 +21,21 @@ use Rattle.xd_ledger.specs.Ending.{ending}
 use Rattle.xd_ledger.specs.Histories.{begun, first_starts, is_over, starts_from}
 use Rattle.xd_ledger.specs.Proper.{IsProper}
 use Rattle.xd_report.specs.Lines.{lines_from, lines_of, run_lines}
-use Rattle.xd_report.specs.Text.{run_tail, tail_text}
+use Rattle.xd_report.specs.Text.{run_tail, run_text, tail_text}
 use Rattle.xd_session.specs.History.{run_of}
 use Rattle.xd_session.specs.Stands.{Seen, StandsFor, state_of}
 use Rattle.xd_laws.proofs.Logic.{and, cases_of, differ}
 use Rattle.xd_laws.proofs.Crew.{has}
 use Rattle.xd_drive.specs.Agrees.{Agrees}
-use Rattle.xd_drive.specs.Going.{EndsRun, EndsTail, Finished, Going, IsFresh, Scene, ShowsSome, Stopped, TakesNews, Untold}
+use Rattle.xd_drive.specs.Going.{EndsRun, EndsTail, Finished, Going, IsFresh, Scene, Stopped, TakesNews, Untold}
 use Rattle.xd_drive.specs.Marks.{Marks}
 use Rattle.xd_drive.specs.Performing.{AddsAll, Performs, after_all, after_entry, all_possible, is_start_of, kills_of_started, was_started}
-use Rattle.xd_drive.specs.Printing.{ShowsEnd}
+use Rattle.xd_drive.specs.Printing.{BreaksOff, ShowsEnd, ShowsSome}
 use Rattle.xd_drive.specs.Taken.{taken_of, taken_with}
 use Rattle.xd_drive.proofs.Kills.{ending-possible, kills-go}
 use Rattle.xd_drive.proofs.Outs.{goes-start, started-more}
 use Rattle.xd_drive.proofs.Performs.{adds-more, adds-none, performs-more}
+use Rattle.xd_drive.proofs.Prints.{shows-all, shows-end, shows-more}
 use Rattle.xd_drive.proofs.Stepped.{started-by, state-is}
 use Rattle.xd_drive.proofs.Texts.{first-lines, tail-is}
 
@@ -80,26 +80,6 @@ starts settings slots marks l f = starts-go slots settings.workers 0 (no_one set
 pub lines-join : (s : State) (xs ys : List Entry) → lines_from s (xs ++ ys) ≡ lines_from s xs ++ lines_from (all_moved s xs) ys
 lines-join s [] ys = refl
 lines-join s (x ∷ xs) ys = ap (λ (l : List ℕ). lines_of (reached s x) x ++ l) (lines-join (next s x) xs ys) ∙ sym (append_assoc (lines_of (reached s x) x) (lines_from (next s x) xs) (lines_from (all_moved (next s x) xs) ys))
-
-shows-more : (a b : List ℕ) (old mid new : Option Sunk) → ShowsSome a old mid → ShowsSome b mid new → ShowsSome (a ++ b) old new
-shows-more a b old mid new (inl x) (inl y) = inl (ap (λ (l : List ℕ). l ++ b) x.0 ∙ y.0, y.1 ∙ x.1)
-shows-more a b old mid new (inl x) (inr y) = inr (subst (λ (l : List ℕ). Printed (l ++ b) old new) (sym x.0) (subst (λ (o : Option Sunk). Printed b o new) x.1 y))
-shows-more a b old mid new (inr x) (inl y) = inr (subst (λ (l : List ℕ). Printed l old new) (sym (ap (λ (l : List ℕ). a ++ l) y.0 ∙ append-nil a)) (subst (λ (o : Option Sunk). Printed a old o) (sym y.1) x))
-shows-more a b old mid new (inr x) (inr y) = inr (printed_more a b old mid new x y)
-
-shows-part : (a b : List ℕ) (old mid new : Option Sunk) → ShowsSome a old mid → PrintedPart b mid new → PrintedPart (a ++ b) old new
-shows-part a b old mid new (inl x) p = subst (λ (l : List ℕ). PrintedPart (l ++ b) old new) (sym x.0) (subst (λ (o : Option Sunk). PrintedPart b o new) x.1 p)
-shows-part a b old mid new (inr x) p = printed_then_part a b old mid new x p
-
-end-more : (a b : List ℕ) (old mid new : Option Sunk) → Printed a old mid → ShowsEnd true b mid new → ShowsEnd true (a ++ b) old new
-end-more a b None mid new x y = y ∙ ap (option_map (λ s. with_close (with_flush (with_bytes b s)))) x
-end-more a b (Some s) mid new x y =
-    y ∙ ap (option_map (λ s. with_close (with_flush (with_bytes b s)))) x
-    ∙ ap (λ (l : List ℕ). Some (with_close (with_flush (record { bytes = l; flushed = s.flushed; closed = s.closed })))) (append_assoc s.bytes a b)
-
-shows-end : (a b : List ℕ) (old mid new : Option Sunk) → ShowsSome a old mid → ShowsEnd true b mid new → ShowsEnd true (a ++ b) old new
-shows-end a b old mid new (inl x) y = subst (λ (l : List ℕ). ShowsEnd true (l ++ b) old new) (sym x.0) (subst (λ (o : Option Sunk). ShowsEnd true b o new) x.1 y)
-shows-end a b old mid new (inr x) y = end-more a b old mid new x y
 
 -- one more
 
@@ -146,21 +126,31 @@ module _ (given : List News) (n : News) (s0 s1 : Seen) (old mid new : Scene) (g 
         ∙ ap (λ (b : Bool). if b then taken_of s0.settings given ++ n ∷ [] else taken_of s0.settings given)
         (ap (λ (x : State). is_active n.worker x.books) (sym (state-is s0 (taken_of s0.settings given) proper g.stands)) ∙ u.active)
 
-    part : PrintedPart (run_lines s1.settings s1.entries) old.sunk new.sunk
-    part = subst (λ (l : List ℕ). PrintedPart l old.sunk new.sunk) (sym (lines-more more t.settings u.entries)) (shows-part (run_lines s0.settings s0.entries) _ old.sunk mid.sunk new.sunk g.shows u.shows)
+    lines-before : run_lines s1.settings (take count s1.entries) ≡ run_lines s0.settings s0.entries
+    lines-before = ap (λ (x : Settings). run_lines x (take count s1.entries)) t.settings ∙ ap (run_lines s0.settings) before-is
+
+    lines-left : lines_from (all_moved (no_one s1.settings) (take count s1.entries)) (drop count s1.entries) ≡ lines_from (all_moved (no_one s0.settings) s0.entries) more
+    lines-left =
+        ap (λ (x : Settings). lines_from (all_moved (no_one x) (take count s1.entries)) (drop count s1.entries)) t.settings
+        ∙ ap (λ (es : List Entry). lines_from (all_moved (no_one s0.settings) es) (drop count s1.entries)) before-is ∙ ap (lines_from (all_moved (no_one s0.settings) s0.entries)) left-is
+
+    breaks : BreaksOff (run_lines s1.settings (take count s1.entries)) (lines_from (all_moved (no_one s1.settings) (take count s1.entries)) (drop count s1.entries)) old.sunk new.sunk
+    breaks = (mid.sunk, subst (λ (l : List ℕ). ShowsSome l old.sunk mid.sunk) (sym lines-before) g.shows, subst (λ (l : List ℕ). TookPart l mid.sunk new.sunk) (sym lines-left) u.shows)
 
     pub going-stop : Stopped (given ++ n ∷ []) count s1 old new
     going-stop = record {
       stands = stands-more given n s0 s1 t.settings (t.stands (taken_of s0.settings given) g.stands);
       gave = adds-more given (n ∷ []) old.given mid.given new.given g.gave t.gave;
-      is_done = inr (taken_of s0.settings given, n, taken-was, before-is ∙ g.stands.entries ∙ ap (λ (x : Settings). (run_of x (taken_of s0.settings given)).entries) (sym t.settings));
       performed = subst (λ (es : List Entry). Performs es old.starts new.starts old.calls new.calls) (sym before-is)
           (subst (λ (x : Option (List Entry)). Performs s0.entries old.starts x old.calls new.calls) (sym u.starts) (subst (λ (x : Option (List Entry)). Performs s0.entries old.starts mid.starts old.calls x) (sym u.calls) g.performed));
       started = λ w. u.started w ∙ g.started w ∙ ap (was_started w) (sym before-is);
       within = omega (arith, u.count_is, ap length u.entries, length-append s0.entries more);
       kills = λ k. subst (λ (es : List Entry). all_possible k new.marks (kills_of_started (take count s1.entries) (es ++ ending true (state_of s1).books)) ≡ true) (sym left-is)
           (u.kills (take count s1.entries) (λ w h. u.started w ∙ g.started w ∙ ap (was_started w) (sym before-is) ∙ h) k);
-      shows = printed_part_of_more (run_lines s1.settings s1.entries) (run_tail s1.settings s1.entries) old.sunk new.sunk part;
+      failed = inl (record {
+        before = (taken_of s0.settings given, n, taken-was, before-is ∙ g.stands.entries ∙ ap (λ (x : Settings). (run_of x (taken_of s0.settings given)).entries) (sym t.settings));
+        shows = breaks;
+      });
     }
 
 -- the tail
@@ -184,13 +174,18 @@ module _ (given : List News) (s : Seen) (old mid new : Scene) (g : Going given s
     shows = shows-end (run_lines s.settings s.entries) (run_tail s.settings s.entries) old.sunk mid.sunk new.sunk g.shows (subst (λ (l : List ℕ). ShowsEnd true l mid.sunk new.sunk) tail-same shown);
   }
 
-  pub unfinished : IsProper s.settings [] → (count : ℕ) → count ≡ length s.entries → ShowsEnd false (tail_text j) mid.sunk new.sunk → Stopped given count s old new
-  unfinished proper count counted shown =
+  -- what the tail comes to where the output failed
+  tail-breaks : (count : ℕ) → take count s.entries ≡ s.entries → ShowsEnd false (tail_text j) mid.sunk new.sunk
+      → BreaksOff (run_lines s.settings (take count s.entries)) (run_tail s.settings s.entries) old.sunk new.sunk ⊎ Printed (run_text s.settings s.entries) old.sunk new.sunk
+  tail-breaks count all (inl p) = inl (mid.sunk, subst (λ (es : List Entry). ShowsSome (run_lines s.settings es) old.sunk mid.sunk) (sym all) g.shows, subst (λ (l : List ℕ). TookPart l mid.sunk new.sunk) tail-same p)
+  tail-breaks count all (inr p) = inr (shows-all (run_lines s.settings s.entries) (run_tail s.settings s.entries) old.sunk mid.sunk new.sunk g.shows (subst (λ (l : List ℕ). Printed l mid.sunk new.sunk) tail-same p))
+
+  pub unfinished : is_over (state_of s).books ≡ true → IsProper s.settings [] → (count : ℕ) → count ≡ length s.entries → ShowsEnd false (tail_text j) mid.sunk new.sunk → Stopped given count s old new
+  unfinished over proper count counted shown =
       let all : take count s.entries ≡ s.entries = take_all count s.entries (omega (arith, counted)) in
       record {
         stands = g.stands;
         gave = given_same ∙ g.gave;
-        is_done = inl (all ∙ g.stands.entries);
         performed = subst (λ (es : List Entry). Performs es old.starts new.starts old.calls new.calls) (sym all) performed-same;
         started = λ w. ap (λ (m : Marks). m.started) (marks_same w) ∙ g.started w ∙ ap (was_started w) (sym all);
         within = omega (arith, counted);
@@ -199,7 +194,11 @@ module _ (given : List News) (s : Seen) (old mid new : Scene) (g : Going given s
             (subst (λ (es : List Entry). all_possible k new.marks (es ++ ending true (state_of s).books) ≡ true) (sym (drop_all count s.entries (omega (arith, counted))))
             (ending-possible s.settings (taken_of s.settings given) k (state_of s).books new.marks proper (ap (λ (x : State). x.books) (state-is s (taken_of s.settings given) proper g.stands))
             (subst (λ (f : ℕ → Marks). Agrees (state_of s).books f) (sym (fun_ext marks_same)) g.agrees)));
-        shows = shows-part (run_lines s.settings s.entries) (run_tail s.settings s.entries) old.sunk mid.sunk new.sunk g.shows (subst (λ (l : List ℕ). PrintedPart l mid.sunk new.sunk) tail-same shown);
+        failed = inr (record {
+          over = ap (λ (x : State). is_over x.books) (sym (state-is s (taken_of s.settings given) proper g.stands)) ∙ over;
+          all = all ∙ g.stands.entries;
+          shows = tail-breaks count all shown;
+        });
       }
 
 -- the beginning
@@ -244,7 +243,7 @@ begins s slots old new es is l st fresh performed marks given sunk =
 pub over-ends : (given : List News) (s : Seen) (old mid new : Scene) (g : Going given s old mid) (starts_same : new.starts ≡ mid.starts) (calls_same : new.calls ≡ mid.calls) (given_same : new.given ≡ mid.given) (marks_same : (w : ℕ) → new.marks w ≡ mid.marks w)
     (j : Journal) → j.settings ≡ s.settings → j.entries.items ≡ s.entries → is_over (state_of s).books ≡ true → IsProper s.settings [] → (stopped : Option ℕ) → EndsTail stopped j mid.sunk new.sunk → EndsRun stopped s old new
 over-ends given s old mid new g a b c d j e f over p None t = (given, finished given s old mid new g a b c d j e f over t)
-over-ends given s old mid new g a b c d j e f over p (Some count) t = (given, unfinished given s old mid new g a b c d j e f p count (t.0 ∙ ap length f) t.1)
+over-ends given s old mid new g a b c d j e f over p (Some count) t = (given, unfinished given s old mid new g a b c d j e f over p count (t.0 ∙ ap length f) t.1)
 
 pub stop-by : (given : List News) (n : News) (s0 s1 : Seen) (old mid new : Scene) → Going given s0 old mid → IsProper s0.settings [] → (stopped : Option ℕ) (count : ℕ) → stopped ≡ Some count → TakesNews n stopped s0 s1 mid new → (all : List News) × Stopped all count s1 old new
 stop-by given n s0 s1 old mid new g p stopped count is t = (given ++ n ∷ [], going-stop given n s0 s1 old mid new g p count (subst (λ (o : Option ℕ). TakesNews n o s0 s1 mid new) is t))

@@ -4,7 +4,7 @@ use Rattle.std.specs.Prelude.{◌==◌, if◌then◌else◌}
 use Rattle.std.proofs.Math.Path.{fun_ext}
 use Rattle.std.proofs.lemmas.Bool.Decides.{nat_tests}
 use Rattle.std.proofs.lemmas.List.{append-nil, take_all, drop_at}
-use Rattle.xd_edge.specs.Sink.{Sunk, PrintedPart}
+use Rattle.xd_edge.specs.Sink.{Sunk, TookPart}
 use Rattle.xd_ledger.specs.declared.settings.Settings.{Settings}
 use Rattle.xd_ledger.specs.declared.news.News.{News}
 use Rattle.xd_ledger.specs.declared.entry.Entry.{Entry}
@@ -235,7 +235,7 @@ module _ (s : Seen) (proper : IsProper s.settings []) (n : News) (old mid : Scen
                   calls = adds-nothing mid.calls new.calls t.performed.calls ∙ calls;
                   started = λ w. ap (λ (x : Marks). x.started) (marks_same w);
                   kills = λ done f k. kills-go done slots k (es ++ ending true (state_of s1).books) mid.marks new.marks f (λ w h. ap (λ (x : Marks). x.killed) (t.marks w) ∙ h) rest-possible;
-                  shows = subst (λ (x : Option Sunk). PrintedPart lines x new.sunk) sunk t.shows;
+                  shows = subst (λ (x : Option Sunk). TookPart lines x new.sunk) sunk t.shows;
                 },
               );
             },

@@ -109,7 +109,7 @@ module _ (ys : List Entry) (h : list_all silent ys ≡ true) where
   moved-behind s [] = moved-silent s ys h
   moved-behind s (x ∷ xs) = moved-behind (next s x) xs
 
-  lines-behind : (s : State) (xs : List Entry) → lines_from s (xs ++ ys) ≡ lines_from s xs
+  pub lines-behind : (s : State) (xs : List Entry) → lines_from s (xs ++ ys) ≡ lines_from s xs
   lines-behind s [] = lines-silent s ys h
   lines-behind s (x ∷ xs) = ap (λ (l : List ℕ). lines_of (reached s x) x ++ l) (lines-behind (next s x) xs)
 
@@ -148,18 +148,20 @@ module _ (ys : List Entry) (h : list_all silent ys ≡ true) where
   stop-behind mode xs (Some (CollectError w)) = ap (λ (l : List ℕ). Rattle.xd_report.specs.StopLine.refused_line mode w l) (refusal-behind w xs)
   stop-behind mode xs (Some OutFault) = refl
 
-  pub text-behind : (x : Settings) (xs : List Entry) → run_text x (xs ++ ys) ≡ run_text x xs
-  text-behind x xs =
-      let lines = lines-behind (no_one x) xs in
+  pub tail-behind : (x : Settings) (xs : List Entry) → run_tail x (xs ++ ys) ≡ run_tail x xs
+  tail-behind x xs =
       let blocks = blocks-behind (no_one x) xs in
       let state : state_at x (xs ++ ys) ≡ state_at x xs = ap settled (moved-behind (no_one x) xs) in
       let stops : line_of_stop x.mode (xs ++ ys) (state_at x (xs ++ ys)).books.stop ≡ line_of_stop x.mode xs (state_at x xs).books.stop =
       stop-behind x.mode xs (state_at x (xs ++ ys)).books.stop ∙ ap (λ (s : State). line_of_stop x.mode xs s.books.stop) state in
       let sums : summary_text (counts x (xs ++ ys)) ≡ summary_text (counts x xs) = ap summary_text (counted-behind (no_one x) xs (record { failed = 0; passed = 0; skipped = 0 })) in
-      join lines blocks stops sums
+      join blocks stops sums
     where
-      join : {a a' b b' c c' d d' : List ℕ} → a ≡ a' → b ≡ b' → c ≡ c' → d ≡ d' → a ++ (b ++ (c ++ (d ++ 10 ∷ []))) ≡ a' ++ (b' ++ (c' ++ (d' ++ 10 ∷ [])))
-      join p q r s = cc
+      join : {b b' c c' d d' : List ℕ} → b ≡ b' → c ≡ c' → d ≡ d' → b ++ (c ++ (d ++ 10 ∷ [])) ≡ b' ++ (c' ++ (d' ++ 10 ∷ []))
+      join p q r = cc
+
+  pub text-behind : (x : Settings) (xs : List Entry) → run_text x (xs ++ ys) ≡ run_text x xs
+  text-behind x xs = ap (λ (l : List ℕ). l ++ run_tail x (xs ++ ys)) (lines-behind (no_one x) xs) ∙ ap (λ (l : List ℕ). run_lines x xs ++ l) (tail-behind x xs)
 
 -- the end of a journal
 

@@ -8,7 +8,8 @@ use Rattle.xd_ledger.specs.Ending.{ending, may_close, stop_of}
 use Rattle.xd_report.specs.Text.{text_of}
 use Rattle.xd_session.specs.Ends.{last_stop}
 use Rattle.xd_session.specs.History.{Run, run_of}
-use Rattle.xd_drive.specs.Going.{IsDone, Scene}
+use Rattle.xd_drive.specs.Failing.{FailedAt}
+use Rattle.xd_drive.specs.Going.{Scene}
 use Rattle.xd_drive.specs.Performing.{AddsAll, Performs, kills_of_started}
 use Rattle.xd_drive.specs.Printing.{ShowsEnd}
 use Rattle.xd_drive.specs.Taken.{taken_of}
@@ -31,11 +32,11 @@ pub record Whole (given : List News) (j : Journal) (old new : Scene) : Type 0 wh
   pub performed : Performs j.entries.items old.starts new.starts old.calls new.calls
   pub shows : ShowsEnd true (text_of j) old.sunk new.sunk
 
--- The output failed: so many entries were performed, and of the others the kills of the workers that these had started;
--- of the report a first part was printed.
+-- The output failed: so many entries were performed, each behind its lines, and of the others the kills of the workers
+-- that these had started; of the report a first part was taken.
 pub record Broken (count : ℕ) (given : List News) (j : Journal) (old new : Scene) : Type 0 where
   pub ended : Ended true given j
   pub gave : AddsAll given old.given new.given
-  pub is_done : IsDone j.settings (taken_of j.settings given) (take count j.entries.items)
   pub performed : Performs (take count j.entries.items ++ kills_of_started (take count j.entries.items) (drop count j.entries.items)) old.starts new.starts old.calls new.calls
+  pub failed : FailedAt j.settings (taken_of j.settings given) count j.entries.items old.sunk new.sunk
   pub shows : PrintedPart (text_of j) old.sunk new.sunk

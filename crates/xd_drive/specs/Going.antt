@@ -1,6 +1,6 @@
 -- How far a session was driven.
-use Rattle.std.specs.Prelude.{◌≡◌, ◌≤◌, ℕ, ◌⊎◌, ◌||◌, Bool, true, false, List, [], ◌∷◌, ◌++◌, take, drop, length, Option, Some, None, if◌then◌else◌}
-use Rattle.xd_edge.specs.Sink.{Sunk, Printed, PrintedPart}
+use Rattle.std.specs.Prelude.{◌≡◌, ◌≤◌, ℕ, ◌||◌, Bool, true, false, List, [], ◌∷◌, ◌++◌, take, drop, length, Option, Some, None, if◌then◌else◌}
+use Rattle.xd_edge.specs.Sink.{Sunk, TookPart}
 use Rattle.xd_ledger.specs.declared.settings.Settings.{Settings}
 use Rattle.xd_ledger.specs.declared.entry.Entry.{Entry}
 use Rattle.xd_ledger.specs.declared.journal.Journal.{Journal}
@@ -16,9 +16,10 @@ use Rattle.xd_report.specs.Text.{run_text, tail_text}
 use Rattle.xd_session.specs.History.{input_of, run_of}
 use Rattle.xd_session.specs.Stands.{Seen, StandsFor, state_of}
 use Rattle.xd_drive.specs.Agrees.{Agrees}
+use Rattle.xd_drive.specs.Failing.{FailedAt}
 use Rattle.xd_drive.specs.Marks.{Marks, no_marks}
 use Rattle.xd_drive.specs.Performing.{AddsAll, Performs, after_all, all_possible, kills_of_started, was_started}
-use Rattle.xd_drive.specs.Printing.{Shows, ShowsEnd}
+use Rattle.xd_drive.specs.Printing.{Shows, ShowsEnd, ShowsSome}
 use Rattle.xd_drive.specs.Taken.{taken_of, taken_with}
 
 -- what is seen of a hub and of the output
@@ -29,10 +30,6 @@ pub record Scene : Type 0 where
   pub given : Option (List News)
   pub sunk : Option Sunk
 
--- The bytes were printed; where there are none the sink may be as it was.
-abbrev pub ShowsSome : List ℕ → Option Sunk → Option Sunk → Type 0
-ShowsSome bytes old new = ((bytes ≡ []) × (new ≡ old)) ⊎ Printed bytes old new
-
 -- All that the news told was printed and performed.
 pub record Going (given : List News) (s : Seen) (old new : Scene) : Type 0 where
   pub stands : StandsFor (taken_of s.settings given) s
@@ -42,21 +39,16 @@ pub record Going (given : List News) (s : Seen) (old new : Scene) : Type 0 where
   pub started : (w : ℕ) → (new.marks w).started ≡ was_started w s.entries
   pub shows : ShowsSome (run_lines s.settings s.entries) old.sunk new.sunk
 
--- The entries so far, perhaps without those of the last news.
-abbrev pub IsDone : Settings → List News → List Entry → Type 0
-IsDone settings taken done = (done ≡ (run_of settings taken).entries) ⊎ ((earlier : List News) × (n : News) × (taken ≡ earlier ++ n ∷ []) × (done ≡ (run_of settings earlier).entries))
-
 -- The output failed: so many entries were performed, and of what is left, and of the end, the kills of the workers that
 -- were started can be asked for.
 pub record Stopped (given : List News) (count : ℕ) (s : Seen) (old new : Scene) : Type 0 where
   pub stands : StandsFor (taken_of s.settings given) s
   pub gave : AddsAll given old.given new.given
-  pub is_done : IsDone s.settings (taken_of s.settings given) (take count s.entries)
   pub performed : Performs (take count s.entries) old.starts new.starts old.calls new.calls
   pub started : (w : ℕ) → (new.marks w).started ≡ was_started w (take count s.entries)
   pub within : count ≤ length s.entries
   pub kills : (slots : ℕ) → all_possible slots new.marks (kills_of_started (take count s.entries) (drop count s.entries ++ ending true (state_of s).books)) ≡ true
-  pub shows : PrintedPart (run_text s.settings s.entries) old.sunk new.sunk
+  pub failed : FailedAt s.settings (taken_of s.settings given) count s.entries old.sunk new.sunk
 
 -- what the input adds to the journal
 abbrev pub added : State → Option Entry → List Entry
@@ -67,7 +59,8 @@ added s (Some e) = e ∷ outputs s e
 abbrev pub added_by : Settings → List News → News → List Entry
 added_by settings taken n = added (run_of settings taken).state (input_of (run_of settings taken) n)
 
--- These entries were performed and their lines printed, or nothing of it was performed and a first part printed.
+-- These entries were performed and their lines printed, or nothing of it was performed and a first part of the lines
+-- taken.
 pub record TellsEntries (shown : Bool) (es : List Entry) (lines : List ℕ) (old new : Scene) : Type 0 where
   pub performed : Performs (if shown then es else []) old.starts new.starts old.calls new.calls
   pub marks : (w : ℕ) → new.marks w ≡ after_all (if shown then es else []) old.marks w
@@ -82,7 +75,7 @@ pub record Told (more : List Entry) (s_old s_new : Seen) (old new : Scene) : Typ
   pub started : (w : ℕ) → (new.marks w).started ≡ ((old.marks w).started || was_started w more)
   pub shows : ShowsSome (lines_from (all_moved (no_one s_old.settings) s_old.entries) more) old.sunk new.sunk
 
--- What one piece of news adds was printed in part, and nothing of it was performed.
+-- Of the lines of what one piece of news adds a first part was taken, and nothing of it was performed.
 pub record Untold (n : News) (count : ℕ) (more : List Entry) (s_old s_new : Seen) (old new : Scene) : Type 0 where
   pub entries : s_new.entries ≡ s_old.entries ++ more
   pub count_is : count ≡ length s_old.entries
@@ -92,7 +85,7 @@ pub record Untold (n : News) (count : ℕ) (more : List Entry) (s_old s_new : Se
   pub started : (w : ℕ) → (new.marks w).started ≡ (old.marks w).started
   pub kills : (done : List Entry) → ((w : ℕ) → was_started w done ≡ true → (new.marks w).started ≡ true)
       → (slots : ℕ) → all_possible slots new.marks (kills_of_started done (more ++ ending true (state_of s_new).books)) ≡ true
-  pub shows : PrintedPart (lines_from (all_moved (no_one s_old.settings) s_old.entries) more) old.sunk new.sunk
+  pub shows : TookPart (lines_from (all_moved (no_one s_old.settings) s_old.entries) more) old.sunk new.sunk
 
 abbrev pub TellsNews : News → Option ℕ → Seen → Seen → Scene → Scene → Type 0
 TellsNews n None s_old s_new old new = (more : List Entry) × Told more s_old s_new old new

@@ -1,6 +1,7 @@
 pub mod Agrees
 pub mod Calls
 pub mod Driven
+pub mod Failing
 pub mod Going
 pub mod Listed
 pub mod Marks

@@ -1,5 +1,5 @@
 // What is printed of a run.
-ghost use Rattle.std.specs.Prelude.{◌≡◌, ◌≤◌, length, take, false, Ok, IfOk, OnOk};
+ghost use Rattle.std.specs.Prelude.{◌≡◌, ◌≤◌, length, take, true, false, Ok, IfOk, OnOk};
 ghost use Rattle.xd_edge.specs.Faults.{Rose};
 ghost use Rattle.xd_ledger.specs.State.{all_moved, no_one};
 ghost use Rattle.xd_report.specs.Follows.{Follows};
@@ -8,7 +8,7 @@ ghost use Rattle.xd_report.specs.Text.{tail_text};
 ghost use Rattle.xd_drive.specs.Printing.{Shows, ShowsEnd};
 
 use std::alloc::Global;
-use xd_edge::{OutOfMemory, Sink, print};
+use xd_edge::{OutOfMemory, Sink, write_all};
 use xd_ledger::Journal;
 use xd_report::{Reporter, tail};
 
@@ -21,8 +21,24 @@ pub(crate) fn reporter_of(alloc: Global, journal: &Journal) -> Result<Reporter, 
     Ok(reporter)
 }
 
+// Prints the bytes and hands them on; false where the output failed, and then nothing was handed on.
+fn print_all<O: Sink>(out: &mut O, bytes: &[u8]) -> bool
+    ensures shows { Shows result bytes.now (O.sunk out.old) (O.sunk out.new) }
+    ensures later { O.faults out.old ≤ O.faults out.new }
+    ensures still { result ≡ true → O.faults out.new ≡ O.faults out.old }
+    ensures rose { result ≡ false → Rose (O.faults out.old) (O.faults out.new) }
+{
+    if let Err(_) = write_all(out, bytes) {
+        return false;
+    }
+    match out.flush() {
+        Ok(()) => true,
+        Err(_) => false,
+    }
+}
+
 /// Prints the lines of the entries from one place up to another, with a reporter that went over those before; false where
-/// the output failed.
+/// the output failed, and then nothing was handed on.
 pub(crate) fn print_lines<O: Sink>(
     alloc: Global,
     reporter: &mut Reporter,
@@ -37,13 +53,11 @@ pub(crate) fn print_lines<O: Sink>(
     ensures shows { IfOk result (λ shown. Shows shown (lines_between journal.now from to) (O.sunk out.old) (O.sunk out.new)) }
     ensures follows { OnOk result (Follows reporter.new (all_moved (no_one journal.now.settings) (take to journal.now.entries.items))) }
     ensures later { O.faults out.old ≤ O.faults out.new }
+    ensures still { result ≡ Ok true → O.faults out.new ≡ O.faults out.old }
     ensures rose { result ≡ Ok false → Rose (O.faults out.old) (O.faults out.new) }
 {
     let lines = reporter.lines(alloc, &journal.entries[from..to])?;
-    match print(out, lines.as_slice()) {
-        Ok(()) => Ok(true),
-        Err(_) => Ok(false),
-    }
+    Ok(print_all(out, lines.as_slice()))
 }
 
 /// Prints the tail, and closes the output; false where the output failed.
@@ -54,6 +68,7 @@ pub(crate) fn print_tail<O: Sink>(
 ) -> Result<bool, OutOfMemory>
     ensures shows { IfOk result (λ shown. ShowsEnd shown (tail_text journal.now) (O.sunk out.old) (O.sunk out.new)) }
     ensures later { O.faults out.old ≤ O.faults out.new }
+    ensures still { result ≡ Ok true → O.faults out.new ≡ O.faults out.old }
     ensures rose { result ≡ Ok false → Rose (O.faults out.old) (O.faults out.new) }
 {
     let tail = tail(alloc, journal)?;
@@ -64,9 +79,10 @@ pub(crate) fn print_tail<O: Sink>(
 fn print_and_close<O: Sink>(out: &mut O, bytes: &[u8]) -> bool
     ensures shows { ShowsEnd result bytes.now (O.sunk out.old) (O.sunk out.new) }
     ensures later { O.faults out.old ≤ O.faults out.new }
+    ensures still { result ≡ true → O.faults out.new ≡ O.faults out.old }
     ensures rose { result ≡ false → Rose (O.faults out.old) (O.faults out.new) }
 {
-    if let Err(_) = print(out, bytes) {
+    if !print_all(out, bytes) {
         return false;
     }
     match out.close() {

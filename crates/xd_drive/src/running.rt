@@ -1,10 +1,11 @@
 // The loop that runs a session over a hub.
-ghost use Rattle.std.specs.Prelude.{◌≡◌, ◌≤◌, ℕ, List, [], true, false, IfOk, IfSome, OnOk};
+ghost use Rattle.std.specs.Prelude.{◌≡◌, ◌≤◌, ℕ, List, [], true, false, Ok, None, IfOk, IfSome, OnOk};
 ghost use Rattle.xd_edge.specs.Faults.{Rose};
 ghost use Rattle.xd_ledger.specs.declared.news.News.{News};
 ghost use Rattle.xd_ledger.specs.Ending.{stop_of};
 ghost use Rattle.xd_ledger.specs.Legal.{IsLegal};
 ghost use Rattle.xd_ledger.specs.Proper.{IsProper};
+ghost use Rattle.xd_session.specs.Bounded.{IsBounded};
 ghost use Rattle.xd_session.specs.Ends.{is_out_fault};
 ghost use Rattle.xd_session.specs.Stands.{StandsFor};
 ghost use Rattle.xd_drive.specs.Driven.{Broken, Whole};
@@ -28,6 +29,7 @@ fn finish<O: Sink>(
 ) -> Result<Option<usize>, OutOfMemory>
     ensures ends { IfOk result (λ stopped. EndsTail stopped journal.now (O.sunk out.old) (O.sunk out.new)) }
     ensures later { O.faults out.old ≤ O.faults out.new }
+    ensures still { result ≡ Ok None → O.faults out.new ≡ O.faults out.old }
     ensures rose { IfOk result (λ stopped. IfSome stopped (λ count. Rose (O.faults out.old) (O.faults out.new))) }
 {
     let shown = print_tail(alloc, journal, out)?;
@@ -56,6 +58,7 @@ fn run<R: Wait, M: Mode, H: Hub, O: Sink>(
         (record { marks = H.marks hub.new; starts = H.starts hub.new; calls = H.calls hub.new; given = H.given hub.new; sunk = O.sunk out.new })) }
     ensures settings { OnOk result (session.new.settings ≡ session.old.settings) }
     ensures later { O.faults out.old ≤ O.faults out.new }
+    ensures still { result ≡ Ok None → O.faults out.new ≡ O.faults out.old }
     ensures rose { IfOk result (λ stopped. IfSome stopped (λ count. Rose (O.faults out.old) (O.faults out.new))) }
 {
     perform(alloc, hub, &session.journal().entries)?;
@@ -76,9 +79,12 @@ fn run<R: Wait, M: Mode, H: Hub, O: Sink>(
 /// Runs a session to its end: starts its workers, steps it with the news of active workers, performs what its journal asks
 /// for, and prints the lines of each entry before the entry is performed, then the tail. Gives the journal with its end.
 ///
-/// The journal ends with `OutFault` exactly where not all of the report could be printed, handed on and closed; the count
-/// of faults of the output rose in this call then, and nothing more was performed but the kills of the workers that were
-/// started. Else it ends with the first stop of the run, or with `Completed` where there was none.
+/// The journal ends with `OutFault` exactly where not all of the report could be printed, handed on and closed. The count
+/// of faults of the output rose in this call then, and is as before else. The lines of all that was performed were handed
+/// on by then, and nothing more was performed but the kills of the workers that were started. Else the journal ends with
+/// the first stop of the run, or with `Completed` where there was none.
+///
+/// The journal keeps at most 8,192 bytes of the output of a test, and at most 67,108,864 bytes of all output.
 pub fn drive<R: Wait, M: Mode, H: Hub, O: Sink>(
     rt: &R,
     alloc: Global,
@@ -98,7 +104,9 @@ pub fn drive<R: Wait, M: Mode, H: Hub, O: Sink>(
         (record { marks = H.marks hub.old; starts = H.starts hub.old; calls = H.calls hub.old; given = H.given hub.old; sunk = O.sunk out.old })
         (record { marks = H.marks hub.new; starts = H.starts hub.new; calls = H.calls hub.new; given = H.given hub.new; sunk = O.sunk out.new })) }
     ensures out_fault { IfOk result (λ j. is_out_fault (stop_of j) ≡ true → Rose (O.faults out.old) (O.faults out.new)) }
+    ensures still { IfOk result (λ j. is_out_fault (stop_of j) ≡ false → O.faults out.new ≡ O.faults out.old) }
     ensures later { O.faults out.old ≤ O.faults out.new }
+    ensures kept { IfOk result (λ j. IsBounded j.entries.items) }
 {
     let stopped = run(rt, alloc, &mut session, hub, out)?;
     let Some(done) = stopped else {

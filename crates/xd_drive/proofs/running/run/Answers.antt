@@ -1,8 +1,8 @@
-use Rattle.std.proofs.Common.{◌++◌, ◌∷◌, [], refl, sym, ◌∙◌, subst, arith}
+use Rattle.std.proofs.Common.{◌++◌, ◌∷◌, [], refl, sym, ◌∙◌, ap, subst, Ok}
 use Rattle.xd_ledger.specs.declared.settings.Settings.{Settings}
 use Rattle.xd_ledger.specs.Proper.{IsProper}
 use Rattle.xd_drive.proofs.Follow.{follows-same}
-use Rattle.xd_drive.proofs.Loop.{begins, first-possible, going-next, over-ends, someone-first, someone-still, stop-by, takes-none}
+use Rattle.xd_drive.proofs.Loop.{begins, first-possible, going-next, none-of, over-ends, someone-first, someone-still, stop-by, takes-none}
 use Rattle.xd_drive.proofs.running.run.Goals as goal
 
 pub perform-requires : goal.perform-requires
@@ -20,7 +20,7 @@ loop-init g c =
       reports = follows-same _ _ _ _ _ c.journal-2.ensures.settings c.journal-2.ensures.entries c.in_ok-reporter.ensures;
       slots = c.perform.ensures.slots;
       someone = someone-first c.args.session.now _ _ c.requires.proper c.requires.begins first;
-      later = omega arith;
+      still = refl;
     }
 
 pub returns-then-over-clause-ends : goal.returns-then-over-clause-ends
@@ -44,5 +44,5 @@ loop-preserved g c =
       settings = none.settings ∙ c.loop.invariant.settings;
       slots = c.take_news.ensures.slots ∙ c.loop.invariant.slots;
       someone = someone-still t.0 c.loop.session _ _ _ none c.loop.invariant.someone;
-      later = omega (arith, c.loop.invariant.later, c.take_news.ensures.later);
+      still = c.in_ok-stopped-2.ensures.still (ap Ok (none-of c.in_ok-stopped-2.stopped c.in_default.not-Some)) ∙ c.loop.invariant.still;
     }

@@ -1,4 +1,4 @@
-use Rattle.std.proofs.Common.{◌≡◌, ◌≤◌, ℕ, List, true}
+use Rattle.std.proofs.Common.{◌≡◌, ℕ, List, true}
 use Rattle.xd_ledger.specs.declared.news.News.{News}
 use Rattle.xd_ledger.specs.State.{all_moved, no_one}
 use Rattle.xd_report.specs.Follows.{Follows}
@@ -14,5 +14,5 @@ invariant-loop g l = record {
   settings : l.session.settings ≡ l.fn.session.settings;
   slots : g.H.Hub.slots l.hub ≡ g.H.Hub.slots l.fn.hub;
   someone : (w : ℕ) × ((g.H.Hub.marks l.hub w).started ≡ true);
-  later : g.O.Sink.faults l.fn.out ≤ g.O.Sink.faults l.out;
+  still : g.O.Sink.faults l.out ≡ g.O.Sink.faults l.fn.out;
 }
