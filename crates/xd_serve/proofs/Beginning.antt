@@ -3,11 +3,11 @@ use Rattle.std.proofs.Common.{◌≡◌, ℕ, ◌≤◌, List, [], ◌++◌, Boo
 use Rattle.std.specs.Prelude.{option_map}
 use Rattle.std.proofs.lemmas.List.{append-nil}
 use Rattle.xd_edge.specs.Children.{ChildRun}
-use Rattle.xd_edge.specs.Faults.{Rose}
 use Rattle.xd_edge.specs.Files.{Held}
 use Rattle.xd_edge.specs.Sink.{Sunk}
 use Rattle.xd_worker.specs.declared.worker.WorkerCore.{WorkerCore}
 use Rattle.xd_worker.specs.Stands.{StandsFor}
+use Rattle.xd_serve.specs.Counts.{CountAfter}
 use Rattle.xd_serve.specs.Speaking.{Shows, greeting}
 use Rattle.xd_serve.specs.Going.{Free, Going, scene}
 
@@ -16,9 +16,9 @@ none_added None = refl
 none_added (Some l) = ap Some (sym (append-nil l))
 
 pub begun : (held : Option Held) (core : WorkerCore) (broken : Bool) (sunk0 sunk1 : Option Sunk) (f0 f1 : ℕ) (runs : Option (List ChildRun)) (child_faults file_faults : ℕ)
-    → StandsFor core [] → Shows (not broken) greeting sunk0 sunk1 → f0 ≤ f1 → (broken ≡ true → Rose f0 f1)
+    → StandsFor core [] → Shows (not broken) greeting sunk0 sunk1 → CountAfter (not broken) f0 f1 → f0 ≤ f1
     → Going held [] Free core broken (scene sunk0 f0 runs child_faults file_faults) (scene sunk1 f1 runs child_faults file_faults)
-begun held core broken sunk0 sunk1 f0 f1 runs child_faults file_faults stands shows later rose = record {
+begun held core broken sunk0 sunk1 f0 f1 runs child_faults file_faults stands shows count later = record {
   inputs = [];
   history = [];
   told = record {
@@ -26,7 +26,7 @@ begun held core broken sunk0 sunk1 f0 f1 runs child_faults file_faults stands sh
     ends = tt;
     answered = tt;
     says = shows;
-    sink_fault = λ e. rose (is_broken broken e);
+    sink_count = count;
     programs = record {
       started = [];
       commands = refl;
@@ -44,7 +44,3 @@ begun held core broken sunk0 sunk1 f0 f1 runs child_faults file_faults stands sh
   output_is = refl;
   next_is = refl;
 }
-  where
-    is_broken : (b : Bool) → not b ≡ false → b ≡ true
-    is_broken true e = refl
-    is_broken false e = cc

@@ -1,6 +1,7 @@
 pub mod Beginning
 pub mod Calls
 pub mod Carrying
+pub mod Completing
 pub mod Goings
 pub mod Hearing
 pub mod Listening

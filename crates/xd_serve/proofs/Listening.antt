@@ -22,7 +22,8 @@ use Rattle.xd_serve.specs.declared.stop.Stop.TheVariants as stop
 use Rattle.xd_serve.specs.Inputs.{has_last, messages_in}
 use Rattle.xd_serve.specs.Going.{Free, Going, Scene, Told}
 use Rattle.xd_serve.specs.Taking.{AreLeft, EndMeans, EndTold, EndsAt, HaltedIn, Halted, Listens, RefusedIn, TakesAll, TakesBytes, is_whole}
-use Rattle.xd_serve.specs.Served.{Ends, IsCause, ReadToEnd, Spring, TookAll, spring}
+use Rattle.xd_serve.specs.Counts.{CountAfter}
+use Rattle.xd_serve.specs.Served.{Ends, IsCause, is_read, ReadToEnd, Spring, TookAll, spring}
 
 -- ---- what the source gave
 
@@ -189,8 +190,8 @@ first_of_all : (a b : List MessageView) → a ≡ b → IsFirstOf a b
 first_of_all a b e = ([], sym e ∙ sym (append-nil a))
 
 module _ (held : Option Held) (bytes : List ℕ) (s0 s1 : Spring) (first s : Scene) (gave : Gave bytes s0.supply s1.supply) where
-  pub ends_at : (why : Stop) (taken : List MessageView) → EndsAt why held bytes taken first s → ReadToEnd s1 → Ends why held s0 s1 first s
-  ends_at why taken e r = record {
+  pub ends_at : (why : Stop) (taken : List MessageView) → EndsAt why held bytes taken first s → ReadToEnd s1 → s1.faults ≡ s0.faults → Ends why held s0 s1 first s
+  ends_at why taken e r still = record {
     bytes = bytes;
     inputs = e.inputs;
     history = e.history;
@@ -199,7 +200,8 @@ module _ (held : Option Held) (bytes : List ℕ) (s0 s1 : Spring) (first s : Sce
     first = first_of_all (messages_in e.inputs) (messages bytes) (e.taken_is ∙ e.all);
     told = e.told;
     left_is = empty (is_whole why);
-    cause = by why e.means (e.told.sink_fault);
+    source_count = count why e.means;
+    cause = by why e.means e.told.sink_count;
   }
     where
       empty : (b : Bool) → AreLeft b []
@@ -209,19 +211,28 @@ module _ (held : Option Held) (bytes : List ℕ) (s0 s1 : Spring) (first s : Sce
       took : TookAll (messages bytes) (messages_in e.inputs)
       took = record { all_are = e.taken_is ∙ e.all; none_is = ap has_last e.taken_is ∙ e.none_last }
 
-      by : (w : Stop) → EndMeans w bytes → (is_whole w ≡ false → Rose first.sink_faults s.sink_faults) → IsCause w bytes e.inputs e.history s0 s1 first s
+      count : (w : Stop) → EndMeans w bytes → CountAfter (is_read w) s0.faults s1.faults
+      count stop.Terminated m = absurd m
+      count stop.Ended m = still
+      count stop.Cut m = still
+      count (stop.Header fault) m = absurd m
+      count (stop.Message fault) m = absurd m
+      count stop.ReadFault m = absurd m
+      count stop.WriteFault m = still
+
+      by : (w : Stop) → EndMeans w bytes → CountAfter (is_whole w) first.sink_faults s.sink_faults → IsCause w bytes e.inputs e.history s0 s1 first s
       by stop.Terminated m f = absurd m
       by stop.Ended m f = (took, e.end, e.over, r, m)
       by stop.Cut m f = (took, r, m)
       by (stop.Header fault) m f = absurd m
       by (stop.Message fault) m f = absurd m
       by stop.ReadFault m f = absurd m
-      by stop.WriteFault m f = f refl
+      by stop.WriteFault m f = f
 
   -- all whole messages were taken, and the worker goes on
-  ends_going : (why : Stop) (taken : List MessageView) (core : WorkerCore) (broken : Bool) → Going held taken Free core broken first s → broken ≡ false → is_whole why ≡ true → taken ≡ messages bytes
+  ends_going : (why : Stop) (taken : List MessageView) (core : WorkerCore) (broken : Bool) → Going held taken Free core broken first s → broken ≡ false → is_whole why ≡ true → taken ≡ messages bytes → CountAfter (is_read why) s0.faults s1.faults
       → ((inputs : List WorkerInput) (h : List Heard) → TookAll (messages bytes) (messages_in inputs) → IsCause why bytes inputs h s0 s1 first s) → Ends why held s0 s1 first s
-  ends_going why taken core broken g whole w all cause = record {
+  ends_going why taken core broken g whole w all count cause = record {
     bytes = bytes;
     inputs = g.inputs;
     history = g.history;
@@ -230,14 +241,15 @@ module _ (held : Option Held) (bytes : List ℕ) (s0 s1 : Spring) (first s : Sce
     first = first_of_all (messages_in g.inputs) (messages bytes) (g.taken_is ∙ all);
     told = subst (λ (b : Bool). Told held g.inputs g.history b [] first s) (ap not whole ∙ sym w) g.told;
     left_is = subst (λ (b : Bool). AreLeft b []) (sym w) refl;
+    source_count = count;
     cause = cause g.inputs g.history (record { all_are = g.taken_is ∙ all; none_is = ap has_last g.taken_is ∙ g.none_last });
   }
 
   pub ends_unread : (taken : List MessageView) (framer : FramerView) (core : WorkerCore) (broken : Bool) → Listens held bytes taken framer core broken first s → Rose s0.faults s1.faults → Ends stop.ReadFault held s0 s1 first s
-  ends_unread taken framer core broken l rose = ends_going stop.ReadFault taken core broken l.going l.whole refl (all_taken bytes taken framer l.stands l.memory l.none_waits) (λ inputs h t. (t, rose))
+  ends_unread taken framer core broken l rose = ends_going stop.ReadFault taken core broken l.going l.whole refl (all_taken bytes taken framer l.stands l.memory l.none_waits) rose (λ inputs h t. (t, rose))
 
-  ends_halted : (why : Stop) (h : HaltedIn held bytes why first s) → IsCause why bytes h.halted.inputs h.halted.history s0 s1 first s → IsFirstOf (messages_in h.halted.inputs) (messages bytes) → Ends why held s0 s1 first s
-  ends_halted why h cause begins = record {
+  ends_halted : (why : Stop) (h : HaltedIn held bytes why first s) → IsCause why bytes h.halted.inputs h.halted.history s0 s1 first s → CountAfter (is_read why) s0.faults s1.faults → IsFirstOf (messages_in h.halted.inputs) (messages bytes) → Ends why held s0 s1 first s
+  ends_halted why h cause count begins = record {
     bytes = bytes;
     inputs = h.halted.inputs;
     history = h.halted.history;
@@ -246,32 +258,33 @@ module _ (held : Option Held) (bytes : List ℕ) (s0 s1 : Spring) (first s : Sce
     first = begins;
     told = h.halted.told;
     left_is = h.halted.left_is;
+    source_count = count;
     cause = cause;
   }
 
   with_last : (inputs : List WorkerInput) (taken later : List MessageView) (m : MessageView) → messages bytes ≡ taken ++ m ∷ later → messages_in inputs ≡ taken ++ m ∷ [] → IsFirstOf (messages_in inputs) (messages bytes)
   with_last inputs taken later m all is = (later, all ∙ (sym (append_assoc taken (m ∷ []) later) ∙ ap (λ (l : List MessageView). l ++ later) (sym is)))
 
-  pub ends_taken : (why : Stop) (framer : FramerView) (core : WorkerCore) (broken : Bool) → TakesBytes (Some why) held bytes framer core broken first s → Ends why held s0 s1 first s
-  ends_taken stop.Terminated framer core broken h =
+  pub ends_taken : (why : Stop) (framer : FramerView) (core : WorkerCore) (broken : Bool) → TakesBytes (Some why) held bytes framer core broken first s → s1.faults ≡ s0.faults → Ends why held s0 s1 first s
+  ends_taken stop.Terminated framer core broken h still =
       let c = h.halted.cause in
-      ends_halted stop.Terminated h (record { earlier = h.taken; last = h.last; taken_is = c.0; last_is = c.2; none_is = h.halted.none_last }, c.1, c.3) (with_last h.halted.inputs h.taken h.later h.last h.all c.0)
-  ends_taken stop.Ended framer core broken h = absurd h
-  ends_taken stop.Cut framer core broken h = absurd h
-  ends_taken (stop.Header fault) framer core broken h = ends_going (stop.Header fault) h.taken core broken h.going h.whole refl h.all (λ inputs x t. (t, h.ends))
-  ends_taken (stop.Message fault) framer core broken h =
+      ends_halted stop.Terminated h (record { earlier = h.taken; last = h.last; taken_is = c.0; last_is = c.2; none_is = h.halted.none_last }, c.1, c.3) still (with_last h.halted.inputs h.taken h.later h.last h.all c.0)
+  ends_taken stop.Ended framer core broken h still = absurd h
+  ends_taken stop.Cut framer core broken h still = absurd h
+  ends_taken (stop.Header fault) framer core broken h still = ends_going (stop.Header fault) h.taken core broken h.going h.whole refl h.all still (λ inputs x t. (t, h.ends))
+  ends_taken (stop.Message fault) framer core broken h still =
       let c = h.halted.cause in
       ends_halted (stop.Message fault) h
-      (record { refused = h.last; later = h.later; all_are = h.all ∙ ap (λ (l : List MessageView). l ++ h.last ∷ h.later) (sym c.0); none_is = ap has_last c.0 ∙ h.halted.none_last; why = c.1 })
+      (record { refused = h.last; later = h.later; all_are = h.all ∙ ap (λ (l : List MessageView). l ++ h.last ∷ h.later) (sym c.0); none_is = ap has_last c.0 ∙ h.halted.none_last; why = c.2 }, c.1) still
       (h.last ∷ h.later, h.all ∙ ap (λ (l : List MessageView). l ++ h.last ∷ h.later) (sym c.0))
-  ends_taken stop.ReadFault framer core broken h = absurd h
-  ends_taken stop.WriteFault framer core broken h =
+  ends_taken stop.ReadFault framer core broken h still = absurd h
+  ends_taken stop.WriteFault framer core broken h still =
       let c = h.halted.cause in
-      ends_halted stop.WriteFault h (h.halted.told.sink_fault refl) (with_last h.halted.inputs h.taken h.later h.last h.all c)
+      ends_halted stop.WriteFault h h.halted.told.sink_count still (with_last h.halted.inputs h.taken h.later h.last h.all c)
 
 -- the greeting was not written
-pub ends_broken : (held : Option Held) (s0 s1 : Spring) (core : WorkerCore) (broken : Bool) (first s : Scene) → Gave [] s0.supply s1.supply → broken ≡ true → Going held [] Free core broken first s → Ends stop.WriteFault held s0 s1 first s
-ends_broken held s0 s1 core broken first s gave b g = record {
+pub ends_broken : (held : Option Held) (s0 s1 : Spring) (core : WorkerCore) (broken : Bool) (first s : Scene) → Gave [] s0.supply s1.supply → s1.faults ≡ s0.faults → broken ≡ true → Going held [] Free core broken first s → Ends stop.WriteFault held s0 s1 first s
+ends_broken held s0 s1 core broken first s gave still b g = record {
   bytes = [];
   inputs = g.inputs;
   history = g.history;
@@ -280,5 +293,6 @@ ends_broken held s0 s1 core broken first s gave b g = record {
   first = (messages [], ap (λ (l : List MessageView). l ++ messages []) (sym g.taken_is));
   told = subst (λ (x : Bool). Told held g.inputs g.history x [] first s) (ap not b) g.told;
   left_is = inl refl;
-  cause = g.told.sink_fault (ap not b);
+  source_count = still;
+  cause = subst (λ (x : Bool). CountAfter x first.sink_faults s.sink_faults) (ap not b) g.told.sink_count;
 }

@@ -22,6 +22,7 @@ use Rattle.xd_serve.specs.Suites.{AreAnswered, asked_path}
 use Rattle.xd_serve.specs.Programs.{AreRun, commands_in, faults_of, output_in, ran_in}
 use Rattle.xd_serve.specs.Child.{fault_count, outcome_of}
 use Rattle.xd_serve.specs.Speaking.{Shows, written}
+use Rattle.xd_serve.specs.Counts.{CountAfter}
 
 -- what is seen of the outside, the link's source apart
 pub record Scene : Type 0 where
@@ -50,13 +51,14 @@ pub record Programs (inputs : List WorkerInput) (h : List Heard) (left : List (L
   pub faults : RoseBy (faults_of (ran_in inputs)) old.child_faults new.child_faults
 
 -- The inputs came, what they make the worker say was written, as long as the sink is whole, and the programs that they
--- make it start were run, but for those that are left.
+-- make it start were run, but for those that are left. The sink's count of faults is the one before, where the sink is
+-- whole, and else it rose.
 pub record Told (held : Option Held) (inputs : List WorkerInput) (h : List Heard) (whole : Bool) (left : List (List (List ℕ))) (old new : Scene) : Type 0 where
   pub heard : AreHeard inputs h
   pub ends : EndsOnce inputs
   pub answered : AreAnswered held (Rose old.file_faults new.file_faults) inputs h
   pub says : Shows whole (written (all_said h)) old.sunk new.sunk
-  pub sink_fault : whole ≡ false → Rose old.sink_faults new.sink_faults
+  pub sink_count : CountAfter whole old.sink_faults new.sink_faults
   pub programs : Programs inputs h left old new
   pub later : Later old new
 

@@ -1,4 +1,5 @@
 pub mod Child
+pub mod Counts
 pub mod Inputs
 pub mod Suites
 pub mod Programs
@@ -6,3 +7,4 @@ pub mod Speaking
 pub mod Going
 pub mod Taking
 pub mod Served
+pub mod Complete

@@ -14,6 +14,7 @@ use Rattle.xd_worker.specs.History.{Heard, Refuses, is_over, worker_after}
 use Rattle.xd_serve.specs.declared.stop.Stop.{Stop}
 use Rattle.xd_serve.specs.declared.stop.Stop.TheVariants as stop
 use Rattle.xd_serve.specs.Going.{Scene, Told}
+use Rattle.xd_serve.specs.Counts.{CountAfter}
 use Rattle.xd_serve.specs.Taking.{AreLeft, is_whole}
 use Rattle.xd_serve.specs.Inputs.{has_end, has_last, is_last, messages_in}
 
@@ -40,6 +41,16 @@ spring supply ended faults = record { supply = supply; ended = ended; faults = f
 pub record ReadToEnd (s : Spring) : Type 0 where
   pub ended : s.ended ≡ true
   pub none_left : IfSome s.supply (λ s. s.left ≡ [])
+
+-- the link could be read
+abbrev pub is_read : Stop → Bool
+is_read stop.Terminated = true
+is_read stop.Ended = true
+is_read stop.Cut = true
+is_read (stop.Header fault) = true
+is_read (stop.Message fault) = true
+is_read stop.ReadFault = false
+is_read stop.WriteFault = true
 
 -- Of these messages all were taken, and GATEWAY_TERMINATE is not among them.
 pub record TookAll (all taken : List MessageView) : Type 0 where
@@ -73,13 +84,13 @@ IsCause stop.Cut bytes inputs h s0 s1 old new =
 IsCause (stop.Header fault) bytes inputs h s0 s1 old new =
     TookAll (messages bytes) (messages_in inputs) × (rest bytes ≡ Refused fault)
 IsCause (stop.Message fault) bytes inputs h s0 s1 old new =
-    TookToRefused (messages bytes) (messages_in inputs) h fault
+    TookToRefused (messages bytes) (messages_in inputs) h fault × (has_end inputs ≡ false)
 IsCause stop.ReadFault bytes inputs h s0 s1 old new =
     TookAll (messages bytes) (messages_in inputs) × Rose s0.faults s1.faults
 IsCause stop.WriteFault bytes inputs h s0 s1 old new = Rose old.sink_faults new.sink_faults
 
 -- A link was read until this: the bytes that it gave, what came to the worker and its history, and the programs that were
--- left.
+-- left. The source's count of faults rose where the link could not be read, and else it is the one before.
 pub record Ends (why : Stop) (held : Option Held) (s0 s1 : Spring) (old new : Scene) : Type 0 where
   pub bytes : List ℕ
   pub inputs : List WorkerInput
@@ -89,6 +100,7 @@ pub record Ends (why : Stop) (held : Option Held) (s0 s1 : Spring) (old new : Sc
   pub first : IsFirstOf (messages_in inputs) (messages bytes)
   pub told : Told held inputs history (is_whole why) left old new
   pub left_is : AreLeft (is_whole why) left
+  pub source_count : CountAfter (is_read why) s0.faults s1.faults
   pub cause : IsCause why bytes inputs history s0 s1 old new
 
 -- A link was served, and this is the exit status.

@@ -34,7 +34,7 @@ AreLeft false left = (left ≡ []) ⊎ ((command : List (List ℕ)) × (left ≡
 abbrev pub Halts : Stop → List MessageView → MessageView → List WorkerInput → List Heard → Type 0
 Halts stop.Terminated taken m inputs h =
     (messages_in inputs ≡ taken ++ m ∷ []) × (has_end inputs ≡ false) × (is_last m.kind ≡ true) × (is_over (worker_after h) ≡ true)
-Halts (stop.Message fault) taken m inputs h = (messages_in inputs ≡ taken) × Refuses (worker_after h) (Message m) fault
+Halts (stop.Message fault) taken m inputs h = (messages_in inputs ≡ taken) × (has_end inputs ≡ false) × Refuses (worker_after h) (Message m) fault
 Halts stop.WriteFault taken m inputs h = messages_in inputs ≡ taken ++ m ∷ []
 Halts stop.Ended taken m inputs h = ⊥
 Halts stop.Cut taken m inputs h = ⊥

@@ -1,5 +1,7 @@
 // A link that is served to its end.
-ghost use Rattle.std.specs.Prelude.{IfOk};
+ghost use Rattle.std.specs.Prelude.{◌≡◌, ◌≢◌, IfOk, IfSome};
+ghost use Rattle.xd_edge.specs.Faults.{StoodStill};
+ghost use Rattle.xd_serve.specs.Complete.{AreGood, GoesWrong};
 ghost use Rattle.xd_serve.specs.Going.{scene};
 ghost use Rattle.xd_serve.specs.Served.{Served, spring};
 
@@ -38,6 +40,16 @@ pub fn serve<R: Wait, S: Source + Drop, N: Sink + Drop, F: Files, K: Children, T
         (spring (S.supply e.source) (S.is_ended e.source) (S.faults e.source))
         (scene (N.sunk link.sink) (N.faults link.sink) (K.runs children) (K.faults children) (F.faults files.old))
         (scene (N.sunk e.sink) (N.faults e.sink) (K.runs e.children) (K.faults e.children) (F.faults files.new))) }
+    // Status 0 only where no count of the link rose, and another one only where something is wrong. Where the source tells
+    // its bytes, and nothing is wrong with all of them, and no count rises, the status is 0.
+    ensures calm { IfOk result (λ e. e.status ≡ 0 → (S.faults e.source ≡ S.faults link.source) × (N.faults e.sink ≡ N.faults link.sink)) }
+    ensures wrong { IfOk result (λ e. e.status ≢ 0 → IfSome (S.supply link.source) (λ s. GoesWrong (F.held files.old) s.left (S.faults link.source) (S.faults e.source)
+        (scene (N.sunk link.sink) (N.faults link.sink) (K.runs children) (K.faults children) (F.faults files.old))
+        (scene (N.sunk e.sink) (N.faults e.sink) (K.runs e.children) (K.faults e.children) (F.faults files.new)))) }
+    ensures complete { IfOk result (λ e. IfSome (S.supply link.source) (λ s. AreGood (F.held files.old) s.left
+        (scene (N.sunk link.sink) (N.faults link.sink) (K.runs children) (K.faults children) (F.faults files.old))
+        (scene (N.sunk e.sink) (N.faults e.sink) (K.runs e.children) (K.faults e.children) (F.faults files.new)) →
+        StoodStill (S.faults link.source) (S.faults e.source) → StoodStill (N.faults link.sink) (N.faults e.sink) → e.status ≡ 0)) }
 {
     let mut source = link.source;
     let mut children = children;

@@ -1,8 +1,9 @@
 // A worker whose messages are written to its link.
-ghost use Rattle.std.specs.Prelude.{◌≡◌, ◌≤◌, true, false, not, List, ℕ, IfOk, IfErr, OnOk, OnErr};
+ghost use Rattle.std.specs.Prelude.{◌≡◌, ◌≤◌, not, List, ℕ, IfOk, IfErr, OnOk, OnErr};
 ghost use Rattle.xd_edge.specs.Faults.{Rose};
 ghost use Rattle.xd_edge.specs.Sink.{Took, TookPart, Printed, PrintedPart};
 ghost use Rattle.xd_frame.specs.Message.{frame, frames};
+ghost use Rattle.xd_serve.specs.Counts.{CountAfter, CountBehind};
 ghost use Rattle.xd_serve.specs.Speaking.{Shows, ShowsMore, greeting};
 
 use std::alloc::Global;
@@ -31,8 +32,8 @@ impl<N: Sink> Speaker<N> {
     pub fn begin(alloc: Global, sink: N) -> Speaker<N>
         ensures stands { StandsFor result.core [] }
         ensures shows { Shows (not result.is_broken) greeting (N.sunk sink) (N.sunk result.sink) }
+        ensures count { CountAfter (not result.is_broken) (N.faults sink) (N.faults result.sink) }
         ensures later { N.faults sink ≤ N.faults result.sink }
-        ensures rose { result.is_broken ≡ true → Rose (N.faults sink) (N.faults result.sink) }
     {
         let mut sink = sink;
         let is_broken = print(&mut sink, GREETING).is_err();
@@ -50,8 +51,9 @@ impl<N: Sink> Speaker<N> {
         ensures shows { IfOk result (λ acts. ShowsMore self.old.is_broken self.new.is_broken (frames acts.say) (N.sunk self.old.sink) (N.sunk self.new.sink)) }
         ensures silent { OnErr result (N.sunk self.new.sink ≡ N.sunk self.old.sink) }
         ensures as_before { OnErr result (self.new.is_broken ≡ self.old.is_broken) }
+        ensures count { IfOk result (λ acts. CountBehind self.old.is_broken self.new.is_broken (N.faults self.old.sink) (N.faults self.new.sink)) }
+        ensures still { OnErr result (N.faults self.new.sink ≡ N.faults self.old.sink) }
         ensures later { N.faults self.old.sink ≤ N.faults self.new.sink }
-        ensures rose { self.old.is_broken ≡ false → self.new.is_broken ≡ true → Rose (N.faults self.old.sink) (N.faults self.new.sink) }
     {
         match self.core.step(input) {
             Ok(acts) => {
@@ -66,8 +68,8 @@ impl<N: Sink> Speaker<N> {
     pub fn tell(&mut self, input: WorkerInput) -> Result<WorkerActions, OutOfMemory>
         ensures answers { (h : List Heard) → StandsFor self.old.core h → IfOk result (Answers self.new.core (worker_after h) input) }
         ensures shows { IfOk result (λ acts. ShowsMore self.old.is_broken self.new.is_broken (frames acts.say) (N.sunk self.old.sink) (N.sunk self.new.sink)) }
+        ensures count { IfOk result (λ acts. CountBehind self.old.is_broken self.new.is_broken (N.faults self.old.sink) (N.faults self.new.sink)) }
         ensures later { N.faults self.old.sink ≤ N.faults self.new.sink }
-        ensures rose { self.old.is_broken ≡ false → self.new.is_broken ≡ true → Rose (N.faults self.old.sink) (N.faults self.new.sink) }
     {
         match self.hear(input) {
             Ok(acts) => Ok(acts),
@@ -78,8 +80,8 @@ impl<N: Sink> Speaker<N> {
     fn say(&mut self, messages: &[Message])
         ensures core { self.new.core ≡ self.old.core }
         ensures shows { ShowsMore self.old.is_broken self.new.is_broken (frames messages.now) (N.sunk self.old.sink) (N.sunk self.new.sink) }
+        ensures count { CountBehind self.old.is_broken self.new.is_broken (N.faults self.old.sink) (N.faults self.new.sink) }
         ensures later { N.faults self.old.sink ≤ N.faults self.new.sink }
-        ensures rose { self.old.is_broken ≡ false → self.new.is_broken ≡ true → Rose (N.faults self.old.sink) (N.faults self.new.sink) }
     {
         if !self.is_broken {
             self.is_broken = print_frames(&mut self.sink, messages).is_err();
@@ -92,6 +94,7 @@ fn print_frames<N: Sink>(sink: &mut N, messages: &[Message]) -> Result<(), Faile
     ensures ok { OnOk result (Printed (frames messages.now) (N.sunk sink.old) (N.sunk sink.new)) }
     ensures part { OnErr result (PrintedPart (frames messages.now) (N.sunk sink.old) (N.sunk sink.new)) }
     ensures later { N.faults sink.old ≤ N.faults sink.new }
+    ensures still { OnOk result (N.faults sink.new ≡ N.faults sink.old) }
     ensures rose { OnErr result (Rose (N.faults sink.old) (N.faults sink.new)) }
 {
     write_frames(sink, messages)?;
@@ -103,6 +106,7 @@ fn write_frames<N: Sink>(sink: &mut N, messages: &[Message]) -> Result<(), Faile
     ensures ok { OnOk result (Took (frames messages.now) (N.sunk sink.old) (N.sunk sink.new)) }
     ensures part { OnErr result (TookPart (frames messages.now) (N.sunk sink.old) (N.sunk sink.new)) }
     ensures later { N.faults sink.old ≤ N.faults sink.new }
+    ensures still { OnOk result (N.faults sink.new ≡ N.faults sink.old) }
     ensures rose { OnErr result (Rose (N.faults sink.old) (N.faults sink.new)) }
 {
     for message in messages {
@@ -115,6 +119,7 @@ fn write_frame<N: Sink>(sink: &mut N, message: &Message) -> Result<(), Failed>
     ensures ok { OnOk result (Took (frame message.now) (N.sunk sink.old) (N.sunk sink.new)) }
     ensures part { OnErr result (TookPart (frame message.now) (N.sunk sink.old) (N.sunk sink.new)) }
     ensures later { N.faults sink.old ≤ N.faults sink.new }
+    ensures still { OnOk result (N.faults sink.new ≡ N.faults sink.old) }
     ensures rose { OnErr result (Rose (N.faults sink.old) (N.faults sink.new)) }
 {
     write_all(sink, &header_of(message))?;

@@ -1,4 +1,4 @@
-use Rattle.std.proofs.Common.{◌≡◌, ◌≤◌, ℕ, List, [], false}
+use Rattle.std.proofs.Common.{◌≡◌, ℕ, List, [], false}
 use Rattle.std.specs.Prelude.{Option}
 use Rattle.xd_edge.specs.Files.{Held}
 use Rattle.xd_frame.specs.Message.{MessageView}
@@ -15,5 +15,5 @@ invariant-loop g l = record {
   goes : (held : Option Held) × (g.F.Files.held l.files ≡ held) × (bytes : List ℕ) × (taken : List MessageView) × (first : Scene) × Listens held bytes taken l.framer l.speaker.core l.speaker.is_broken first (scene (g.N.Sink.sunk l.speaker.sink) (g.N.Sink.faults l.speaker.sink) (g.K.Children.runs l.children) (g.K.Children.faults l.children) (g.F.Files.faults l.files));
   whole : l.speaker.is_broken ≡ false;
   kept : g.F.Files.held l.files ≡ g.F.Files.held l.fn.files;
-  later : g.S.Source.faults l.fn.source ≤ g.S.Source.faults l.source;
+  still : g.S.Source.faults l.source ≡ g.S.Source.faults l.fn.source;
 }
