@@ -1,5 +1,5 @@
 // A file of messages, printed line by line.
-ghost use Rattle.std.specs.Prelude.{◌≡◌, ◌≤◌, ℕ, List, Bool, Ok, IfOk, OnErr};
+ghost use Rattle.std.specs.Prelude.{◌≡◌, ◌≢◌, ◌≤◌, ℕ, List, Bool, Ok, IfOk, OnOk, OnErr};
 ghost use Rattle.xd_edge.specs.Faults.{Rose};
 ghost use Rattle.xd_wire.specs.WireText.{IsWireText};
 ghost use Rattle.xd_wire.specs.Lines.{texts_at};
@@ -33,6 +33,7 @@ pub fn print_messages<O: Sink>(
     // What the output took is that text, or a first part of it.
     ensures prints { (text : List ℕ) (faulty : Bool) → IsWireText bytes.now text faulty → Prints result text faulty (O.sunk out.old) (O.sunk out.new) }
     ensures failed { result ≡ Ok WireEnd.OutFailed → Rose (O.faults out.old) (O.faults out.new) }
+    ensures still { IfOk result (λ how. how ≢ WireEnd.OutFailed → O.faults out.new ≡ O.faults out.old) }
     ensures later { O.faults out.old ≤ O.faults out.new }
 {
     let written = write_lines(alloc, bytes, out)?;
@@ -63,6 +64,7 @@ fn write_lines<O: Sink>(
 ) -> Result<Result<bool, Failed>, OutOfMemory>
     ensures leaves { Leaves result (texts_at bytes.now 0) (O.sunk out.old) (O.sunk out.new) }
     ensures failed { IfOk result (λ written. OnErr written (Rose (O.faults out.old) (O.faults out.new))) }
+    ensures still { IfOk result (λ written. OnOk written (O.faults out.new ≡ O.faults out.old)) }
     ensures later { O.faults out.old ≤ O.faults out.new }
 {
     let mut at = 0;

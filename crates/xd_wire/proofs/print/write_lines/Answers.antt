@@ -1,4 +1,4 @@
-use Rattle.std.proofs.Common.{List, ℕ, length, sym, subst, ◌∙◌, arith}
+use Rattle.std.proofs.Common.{List, ℕ, length, sym, subst, ◌∙◌}
 use Rattle.std.proofs.lemmas.Result.{err_from_is_err_and}
 use Rattle.xd_edge.specs.Sink.{Took, TookPart}
 use Rattle.xd_wire.specs.declared.step.Then.{Then}
@@ -26,7 +26,7 @@ loop-step-preserved g c =
           (up_to_next _ _ _ _ _ _ _ c.loop-step.invariant.took c.in_ok-step.ensures.step
           (subst (λ (l : List ℕ). Took l (g.O.Sink.sunk c.loop-step.out) (g.O.Sink.sunk c.write_all.new.sink)) (c.as_bytes.ensures.value ∙ c.as_str.ensures.value)
           (when_ok c.write_all.result _ (sym c.is_err.ensures.value ∙ c.if-is_err.false) c.write_all.ensures.ok)));
-      later = omega (arith, c.loop-step.invariant.later, c.write_all.ensures.later);
+      still = when_ok c.write_all.result _ (sym c.is_err.ensures.value ∙ c.if-is_err.false) c.write_all.ensures.still ∙ c.loop-step.invariant.still;
     }
 
 pub returns-in-End-clause-leaves : goal.returns-in-End-clause-leaves
