@@ -13,7 +13,7 @@ use Rattle.xd_ledger.specs.declared.entry.RunStop.{RunStop}
 use Rattle.xd_ledger.specs.declared.entry.RunStop.TheVariants.{Completed, OutFault}
 use Rattle.xd_ledger.specs.declared.journal.Journal.{Journal}
 use Rattle.std.specs.List.{range_with_len}
-use Rattle.std.specs.Prelude.{◌==◌, ◌||◌, ◌≤◌, ◌⊎◌, is_some, unwrap_or}
+use Rattle.std.specs.Prelude.{◌≢◌, ◌==◌, ◌||◌, ◌≤◌, ◌⊎◌, is_some, unwrap_or}
 use Rattle.xd_ledger.specs.Legal.{IsLegal, books_behind}
 use Rattle.xd_ledger.specs.Local.{TestResult, local_entries, rounds}
 use Rattle.xd_ledger.specs.Reports.{NamesInOrder, collected_in, item_of, reports, reports_in}
@@ -132,6 +132,13 @@ module _ (tests : List Test) (j0 j1 : Journal) (shown : Bool) (runs0 runs1 : Opt
       by_end : (b : Bool) → shown ≡ b → Rose before now
       by_end true is_shown = let no : Completed ≡ OutFault = sym (stop_is ∙ ap stop_after is_shown) ∙ stopped in absurd (cc)
       by_end false is_shown = rose is_shown
+
+  pub still : (before now : ℕ) → (shown ≡ true → now ≡ before) → stop_of j1 ≢ OutFault → now ≡ before
+  still before now same stopped = by_end shown refl
+    where
+      by_end : (b : Bool) → shown ≡ b → now ≡ before
+      by_end true is_shown = same is_shown
+      by_end false is_shown = absurd (stopped (stop_is ∙ ap stop_after is_shown))
 
   pub completed : (before now : ℕ) → (shown ≡ false → Rose before now) → StoodStill before now → stop_of j1 ≡ Completed
   completed before now rose still = by_end shown refl

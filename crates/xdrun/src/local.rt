@@ -1,5 +1,5 @@
 // The tests of a suite, one after another in this program.
-ghost use Rattle.std.specs.Prelude.{◌≡◌, ◌<◌, ◌≤◌, [], map, false, Ok, drop, length, IfOk, OnOk};
+ghost use Rattle.std.specs.Prelude.{◌≡◌, ◌≢◌, ◌<◌, ◌≤◌, [], map, true, false, Ok, drop, length, IfOk, OnOk};
 ghost use Rattle.xd_edge.specs.Faults.{Rose, RoseBy, StoodStill};
 ghost use Rattle.xd_suite.specs.Tests.{run_at};
 ghost use Rattle.xd_ledger.specs.declared.entry.RunStop.TheVariants.{Completed, OutFault};
@@ -47,6 +47,7 @@ pub fn run_suite<R: Wait, K: Children, T: Clock, O: Sink>(
     ensures once { IfOk result NamesInOrder }
     ensures printed { IfOk result (λ j. PrintsReport (stop_of j) (text_of j) (O.sunk out.old) (O.sunk out.new)) }
     ensures out_fault { IfOk result (λ j. stop_of j ≡ OutFault → Rose (O.faults out.old) (O.faults out.new)) }
+    ensures still { IfOk result (λ j. stop_of j ≢ OutFault → O.faults out.new ≡ O.faults out.old) }
     ensures completed { IfOk result (λ j. StoodStill (O.faults out.old) (O.faults out.new) → stop_of j ≡ Completed) }
     ensures child_faults { IfOk result (λ j. RoseBy (faults_of (reports_in j)) (K.faults children.old) (K.faults children.new)) }
 {
@@ -99,6 +100,7 @@ fn run_and_print<R: Wait, K: Children, T: Clock, O: Sink>(
     ensures ran { IfOk result (λ shown. RanPrinted shown suite.now (map (λ t. t.id) suite.now) journal.new (K.runs children.old) (K.runs children.new) (K.faults children.old) (K.faults children.new) (O.sunk out.old) (O.sunk out.new)) }
     ensures settings { journal.new.settings ≡ journal.old.settings }
     ensures later { O.faults out.old ≤ O.faults out.new }
+    ensures still { result ≡ Ok true → O.faults out.new ≡ O.faults out.old }
     ensures rose { result ≡ Ok false → Rose (O.faults out.old) (O.faults out.new) }
 {
     let ran = run_tests(rt, alloc, suite, journal, children, clock, out)?;
@@ -123,6 +125,7 @@ fn run_tests<R: Wait, K: Children, T: Clock, O: Sink>(
     ensures ran { IfOk result (λ shown. RanAll shown suite.now (map (λ t. t.id) suite.now) journal.new (K.runs children.old) (K.runs children.new) (K.faults children.old) (K.faults children.new) (O.sunk out.old) (O.sunk out.new)) }
     ensures settings { journal.new.settings ≡ journal.old.settings }
     ensures later { O.faults out.old ≤ O.faults out.new }
+    ensures still { result ≡ Ok true → O.faults out.new ≡ O.faults out.old }
     ensures rose { result ≡ Ok false → Rose (O.faults out.old) (O.faults out.new) }
 {
     let mut reporter = Reporter::new(alloc, journal.settings);
@@ -181,6 +184,7 @@ fn run_test<R: Wait, K: Children, T: Clock, O: Sink>(
     ensures settings { journal.new.settings ≡ journal.old.settings }
     ensures children_later { K.faults children.old ≤ K.faults children.new }
     ensures later { O.faults out.old ≤ O.faults out.new }
+    ensures still { result ≡ Ok true → O.faults out.new ≡ O.faults out.old }
     ensures rose { result ≡ Ok false → Rose (O.faults out.old) (O.faults out.new) }
 {
     let start = clock.now();
@@ -234,6 +238,7 @@ fn print_lines<O: Sink>(
     ensures shows { (s : State) → Follows reporter.old s → IfOk result (λ shown. Shows shown (lines_from s (drop from journal.now.entries.items)) (O.sunk out.old) (O.sunk out.new)) }
     ensures follows { (s : State) → Follows reporter.old s → OnOk result (Follows reporter.new (all_moved s (drop from journal.now.entries.items))) }
     ensures later { O.faults out.old ≤ O.faults out.new }
+    ensures still { result ≡ Ok true → O.faults out.new ≡ O.faults out.old }
     ensures rose { result ≡ Ok false → Rose (O.faults out.old) (O.faults out.new) }
 {
     let lines = reporter.lines(alloc, &journal.entries[from..])?;
@@ -247,6 +252,7 @@ fn print_lines<O: Sink>(
 fn print_tail<O: Sink>(alloc: Global, journal: &Journal, out: &mut O) -> Result<bool, OutOfMemory>
     ensures shows { IfOk result (λ shown. Shows shown (tail_text journal.now) (O.sunk out.old) (O.sunk out.new)) }
     ensures later { O.faults out.old ≤ O.faults out.new }
+    ensures still { result ≡ Ok true → O.faults out.new ≡ O.faults out.old }
     ensures rose { result ≡ Ok false → Rose (O.faults out.old) (O.faults out.new) }
 {
     let tail = tail(alloc, journal)?;

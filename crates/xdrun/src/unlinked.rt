@@ -64,6 +64,7 @@ pub fn run_unlinked<R: Wait, F: Files, K: Children, T: Clock, O: Sink, E: Sink>(
 
     // The outside's faults, where they show.
     ensures out_fault { IfOk result (λ e. IfSome e.journal (λ j. stop_of j ≡ OutFault → Rose (O.faults out.old) (O.faults out.new))) }
+    ensures still { IfOk result (λ e. e.status ≢ 3 → O.faults out.new ≡ O.faults out.old) }
     ensures child_faults { IfOk result (λ e. IfSome e.journal (λ j. RoseBy (faults_of (reports_in j)) (K.faults children) (K.faults e.children))) }
 
     // No run: the messages of a file, or a refusal, which has status 4.

@@ -1,7 +1,7 @@
-use Rattle.std.proofs.Common.{◌≡◌, ◌++◌, ◌∷◌, [], ap, ◌∙◌, Bool, false, Ok}
+use Rattle.std.proofs.Common.{◌≡◌, ◌++◌, ◌∷◌, [], ap, ◌∙◌, Bool, true, false, Ok}
 use Rattle.xd_ledger.specs.declared.entry.Entry.TheVariants.{Over}
 use Rattle.xd_ledger.specs.declared.entry.RunStop.{RunStop}
-use Rattle.xdrun.proofs.Whole.{Ended, legal, suite, once, printed, out_fault, completed, child_faults}
+use Rattle.xdrun.proofs.Whole.{Ended, legal, suite, once, printed, out_fault, still, completed, child_faults}
 use Rattle.xdrun.proofs.local.run_suite.Goals as goal
 use Rattle.xdrun.proofs.local.run_suite.Goals.{In_ok-push-2}
 use Rattle.xdrun.proofs.local.run_suite.Given.{Over as Outer}
@@ -30,6 +30,10 @@ returns-clause-printed g c = printed _ _ _ _ _ _ _ _ _ _ (ended g c)
 pub returns-clause-out_fault : goal.returns-clause-out_fault
 returns-clause-out_fault g c =
     out_fault _ _ _ _ _ _ _ _ _ _ (ended g c) _ _ (λ (is : c.in_ok-shown.shown ≡ false). c.in_ok-shown.ensures.rose (ap (λ (b : Bool). Ok b) is))
+
+pub returns-clause-still : goal.returns-clause-still
+returns-clause-still g c =
+    still _ _ _ _ _ _ _ _ _ _ (ended g c) _ _ (λ (is : c.in_ok-shown.shown ≡ true). c.in_ok-shown.ensures.still (ap (λ (b : Bool). Ok b) is))
 
 pub returns-clause-child_faults : goal.returns-clause-child_faults
 returns-clause-child_faults g c = child_faults _ _ _ _ _ _ _ _ _ _ (ended g c)
