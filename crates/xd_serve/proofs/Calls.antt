@@ -1,7 +1,7 @@
 -- What one input makes of a call of `run_tests`: where no test runs, the one that runs behind it is the one that it
 -- starts; where one runs, its output leaves it, and its end makes room for the next.
 use Rattle.std.proofs.Common.{◌≡◌, ℕ, zero, suc, ◌+◌, List, [], ◌∷◌, ◌++◌, length, take, drop, Bool, true, false, ◌&&◌, Option, Some, None, refl, ap, sym, ◌∙◌, ◌<◌, arith}
-use Rattle.std.specs.Prelude.{map, not, if◌then◌else◌}
+use Rattle.std.specs.Prelude.{map, if◌then◌else◌}
 use Rattle.std.specs.List.{range_with_len}
 use Rattle.xd_gateway.specs.declared.order.Order.{Order}
 use Rattle.xd_gateway.specs.declared.order.Order.TheVariants.{RunTests, RunAll, Steal, Shutdown}
@@ -19,7 +19,7 @@ use Rattle.xd_run_tests.specs.declared.ask.Ask.TheVariants.{Tell}
 use Rattle.xd_run_tests.specs.declared.input.Input.{Input}
 use Rattle.xd_run_tests.specs.declared.input.Input.TheVariants as input
 use Rattle.xd_run_tests.specs.Line.{Call, left, front, queue, running_test, head_test, can_give, can_ask, all_queued, kept, taken}
-use Rattle.xd_run_tests.specs.Turns.{Turn, turn_of, answered, answered_in, over, ended_early, ending_text, asking, finished, started, has_log, too_many_channels, moved_on, settled, given, stolen, stolen_if, told, heard_in, heard, all_heard, opened, collected_in, receiving_ended_in, suite_refused_in, put_out, output_in, output_of, told_done, done_in, done_of, stopped}
+use Rattle.xd_run_tests.specs.Turns.{Turn, turn_of, answered, answered_in, over, ended_early, ending_text, asking, finished, started, has_log, too_many_channels, moved_on, settled, given, stolen, stolen_if, told, heard_in, heard, all_heard, opened, collected_in, receiving_ended_in, suite_refused_in, put_out, output_of, told_done, done_in, stopped}
 use Rattle.xd_serve.specs.Going.{rests}
 
 -- The test that runs is the one that this turn starts.

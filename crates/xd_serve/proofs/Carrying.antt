@@ -1,5 +1,5 @@
 -- What a message asks for, carried out.
-use Rattle.std.proofs.Common.{◌≡◌, ℕ, List, [], Bool, true, false, Option, Some, None, refl, sym, ◌∙◌, subst}
+use Rattle.std.proofs.Common.{◌≡◌, ℕ, List, [], Bool, true, Option, Some, None, refl, sym, ◌∙◌, subst}
 use Rattle.xd_edge.specs.Files.{Held}
 use Rattle.xd_frame.specs.Message.{MessageView}
 use Rattle.xd_worker.specs.declared.worker.WorkerCore.{WorkerCore}

@@ -1,6 +1,6 @@
 -- What all the bytes of a link say of how it was served.
-use Rattle.std.proofs.Common.{◌≡◌, ℕ, ◌+◌, ◌-◌, ◌^◌, ◌<◌, ◌≤◌, List, [], ◌∷◌, ◌++◌, length, take, drop, Bool, true, false, Option, Some, None, Result, Ok, Err, refl, ap, sym, ◌∙◌, subst, arith, append_assoc, inl, inr}
-use Rattle.std.specs.Prelude.{◌⊎◌, ◌≢◌, option_map, IfSome}
+use Rattle.std.proofs.Common.{◌≡◌, ℕ, List, [], ◌∷◌, ◌++◌, length, take, drop, true, false, Option, Some, None, Result, Ok, Err, refl, ap, sym, ◌∙◌, subst, arith, append_assoc, inl, inr}
+use Rattle.std.specs.Prelude.{◌⊎◌, ◌≢◌, IfSome}
 use Rattle.std.proofs.lemmas.Grind.{common_steps}
 use Rattle.std.proofs.lemmas.List.{append-nil}
 use Rattle.xd_edge.specs.Faults.{Rose, StoodStill}
@@ -9,18 +9,18 @@ use Rattle.xd_factory.specs.declared.faults.SideFault.{SideFault}
 use Rattle.xd_frame.specs.declared.header.Header.{Header}
 use Rattle.xd_frame.specs.declared.fault.FrameFault.{FrameFault}
 use Rattle.xd_frame.specs.Message.{MessageView}
-use Rattle.xd_frame.specs.Stream.{header_in_front, messages, behind, rest, rest_of, rest_by, Rest, Clean, Unfinished, Refused}
+use Rattle.xd_frame.specs.Stream.{header_in_front, messages, behind, rest, rest_of, rest_by, Clean, Refused}
 use Rattle.xd_frame.proofs.Front.{err_front-append}
 use Rattle.xd_frame.proofs.Framers.{front_says}
 use Rattle.xd_frame.proofs.Streams.{behind-append, messages-append}
-use Rattle.xd_link.specs.Source.{Gave, Supply, with_given}
+use Rattle.xd_link.specs.Source.{Gave, Supply}
 use Rattle.xd_worker.specs.History.{Heard}
 use Rattle.xd_serve.specs.declared.stop.Stop.{Stop}
 use Rattle.xd_serve.specs.declared.stop.Stop.TheVariants as stop
 use Rattle.xd_serve.specs.Inputs.{has_last, messages_in}
 use Rattle.xd_serve.specs.Going.{Scene, Told}
 use Rattle.xd_serve.specs.Served.{Ends, Served, Spring, TookAll, TookToRefused, status_of}
-use Rattle.xd_serve.specs.Complete.{AreGood, GoesWrong, IsWrong, RefusesOne}
+use Rattle.xd_serve.specs.Complete.{AreGood, GoesWrong, IsWrong}
 
 -- ---- more bytes
 

@@ -1,9 +1,9 @@
 -- From one input to the next.
-use Rattle.std.proofs.Common.{◌≡◌, ℕ, ◌+◌, ◌≤◌, List, [], ◌∷◌, ◌++◌, length, map, Bool, true, false, not, ◌||◌, ◌&&◌, Option, Some, None, Result, Ok, Err, refl, ap, sym, ◌∙◌, subst, arith, append_assoc, inl, inr}
-use Rattle.std.specs.Prelude.{◌⊎◌, option_to_list, is_none, IsSome, option_map, if◌then◌else◌}
+use Rattle.std.proofs.Common.{◌≡◌, ℕ, ◌≤◌, List, [], ◌∷◌, ◌++◌, length, map, Bool, true, false, not, ◌||◌, ◌&&◌, Option, Some, None, refl, ap, sym, ◌∙◌, subst, arith, inl, inr}
+use Rattle.std.specs.Prelude.{option_to_list, is_none, IsSome, if◌then◌else◌}
 use Rattle.std.proofs.lemmas.List.{append-nil}
 use Rattle.xd_edge.specs.Children.{ChildRun}
-use Rattle.xd_edge.specs.Faults.{Rose, RoseBy}
+use Rattle.xd_edge.specs.Faults.{Rose}
 use Rattle.xd_edge.specs.Files.{Held}
 use Rattle.xd_edge.specs.Sink.{Sunk}
 use Rattle.xd_factory.specs.declared.faults.SideFault.{SideFault}
@@ -16,22 +16,20 @@ use Rattle.xd_worker.specs.declared.input.WorkerInput.{WorkerInput}
 use Rattle.xd_worker.specs.declared.input.WorkerInput.TheVariants.{Message, SuiteBytes, SuiteTooLarge, SuiteUnread, Output, ChildDone, LinkEnd}
 use Rattle.xd_worker.specs.declared.input.WorkerActions.{WorkerActions}
 use Rattle.xd_worker.specs.declared.worker.WorkerCore.{WorkerCore}
-use Rattle.xd_worker.specs.Worker.{Service, Worker, Turn, turn_of, behind, running_in}
+use Rattle.xd_worker.specs.Worker.{Worker, Turn, turn_of, behind, running_in}
 use Rattle.xd_worker.specs.Turns.{Came, Told as Says, SuiteRead, NoSuite, Printed, ChildEnded, LinkEnded, turned}
 use Rattle.xd_worker.specs.History.{Heard, Is, IsMessage, IsSuite, Refuses, all_said, is_over, turn_by, worker_after}
 use Rattle.xd_worker.specs.Stands.{Answers, StandsFor}
-use Rattle.xd_serve.specs.declared.stop.Stop.{Stop}
 use Rattle.xd_serve.specs.declared.stop.Stop.TheVariants as stop
-use Rattle.xd_serve.specs.Child.{fault_count}
 use Rattle.xd_serve.specs.Inputs.{IsDue, has_end, has_last, is_last, is_link_end, is_of_link, message_in, messages_in}
-use Rattle.xd_serve.specs.Suites.{AreAnswered, FilesGave, Follows, asked_path}
+use Rattle.xd_serve.specs.Suites.{FilesGave, Follows}
 use Rattle.xd_serve.specs.Programs.{commands_of, output_in}
 use Rattle.xd_serve.specs.Counts.{CountAfter, CountBehind}
 use Rattle.xd_serve.specs.Speaking.{Shows, ShowsMore, written}
-use Rattle.xd_serve.specs.Going.{CameTo, Free, Going, Later, Next, Programs, Reading, Running, Scene, Told, Watched, call_in, IsNext, left_of, output_of, path_of, rests, scene, to_do, to_start}
+use Rattle.xd_serve.specs.Going.{Free, Going, Later, Next, Programs, Reading, Running, Scene, Told, Watched, call_in, IsNext, left_of, output_of, path_of, rests, scene, to_do, to_start}
 use Rattle.xd_serve.specs.Taking.{AreLeft, Halted, Halts, end_by, is_whole}
-use Rattle.xd_serve.proofs.Steps.{Does, Plain, Prints, Ready, Step, Waits, end_does, link_end_does, message_does, no_suite_does, output_does, running_is, suite_does}
-use Rattle.xd_serve.proofs.Tellings.{is_end, programs_end, programs_more, rose_later, told_more}
+use Rattle.xd_serve.proofs.Steps.{Does, Plain, Prints, Ready, Step, Waits, end_does, message_does, no_suite_does, output_does, running_is, suite_does}
+use Rattle.xd_serve.proofs.Tellings.{is_end, programs_end, programs_more, told_more}
 
 -- ---- small facts
 

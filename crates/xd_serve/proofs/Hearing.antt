@@ -1,23 +1,21 @@
 -- What a message makes the worker do, and what the link's end does.
-use Rattle.std.proofs.Common.{◌≡◌, ℕ, ◌≤◌, List, [], ◌∷◌, ◌++◌, Bool, true, false, not, Option, Some, None, refl, ap, sym, ◌∙◌, subst}
+use Rattle.std.proofs.Common.{◌≡◌, ℕ, ◌≤◌, List, [], ◌∷◌, ◌++◌, Bool, true, false, Option, refl, sym, ◌∙◌, subst}
 use Rattle.std.proofs.lemmas.List.{append-nil}
-use Rattle.xd_edge.specs.Children.{ChildRun}
 use Rattle.xd_edge.specs.Faults.{Rose}
 use Rattle.xd_edge.specs.Files.{Held}
 use Rattle.xd_edge.specs.Sink.{Sunk}
 use Rattle.xd_frame.specs.Message.{MessageView, frames}
-use Rattle.xd_worker.specs.declared.input.WorkerInput.{WorkerInput}
 use Rattle.xd_worker.specs.declared.input.WorkerInput.TheVariants.{Message, LinkEnd}
 use Rattle.xd_worker.specs.declared.input.WorkerActions.{WorkerActions}
 use Rattle.xd_worker.specs.declared.worker.WorkerCore.{WorkerCore}
-use Rattle.xd_worker.specs.Worker.{Worker, Turn, turn_of}
-use Rattle.xd_worker.specs.Turns.{Came, LinkEnded, turned}
+use Rattle.xd_worker.specs.Worker.{turn_of}
+use Rattle.xd_worker.specs.Turns.{Came, turned}
 use Rattle.xd_worker.specs.History.{Heard, turn_by, worker_after}
 use Rattle.xd_worker.specs.Stands.{Answers, StandsFor}
 use Rattle.xd_serve.specs.declared.stop.Stop.{Stop}
 use Rattle.xd_serve.specs.Inputs.{has_last, messages_in}
 use Rattle.xd_serve.specs.Suites.{Follows}
-use Rattle.xd_serve.specs.Counts.{CountAfter, CountBehind}
+use Rattle.xd_serve.specs.Counts.{CountBehind}
 use Rattle.xd_serve.specs.Speaking.{ShowsMore}
 use Rattle.xd_serve.specs.Going.{Free, Going, Programs, Scene, to_do}
 use Rattle.xd_serve.specs.Taking.{EndTold, Halted, Hears, end_by}

@@ -8,5 +8,6 @@ pub mod Listening
 pub mod Steps
 pub mod Taking
 pub mod Tellings
+pub mod Waiting
 pub mod Watching
 pub mod Writing

@@ -1,6 +1,6 @@
 -- A link that is read to its end.
-use Rattle.std.proofs.Common.{◌≡◌, ℕ, ◌+◌, ◌≤◌, ◌<◌, List, [], ◌∷◌, ◌++◌, length, take, drop, length-append, Bool, true, false, not, ◌||◌, inl, Option, Some, None, Result, Ok, Err, refl, ap, sym, ◌∙◌, subst, arith, append_assoc}
-use Rattle.std.specs.Prelude.{option_map, option_to_list, IfSome, IfNone, is_some, nat_lt}
+use Rattle.std.proofs.Common.{◌≡◌, ℕ, ◌+◌, ◌<◌, List, [], ◌∷◌, ◌++◌, length, take, drop, length-append, Bool, true, false, not, ◌||◌, inl, Option, Some, None, Result, Ok, Err, refl, ap, sym, ◌∙◌, subst, arith, append_assoc}
+use Rattle.std.specs.Prelude.{option_map, IfSome, IfNone, is_some, nat_lt}
 use Rattle.std.proofs.lemmas.Bool.Decides.{nat_tests}
 use Rattle.std.proofs.lemmas.List.{append-nil, drop-drop}
 use Rattle.std.proofs.Math.Seq.{take-add}
@@ -11,7 +11,7 @@ use Rattle.xd_frame.specs.declared.framer.FeedFault.{FeedFault}
 use Rattle.xd_frame.specs.declared.framer.FeedFault.TheVariants.{Bad, OutOfMemory}
 use Rattle.xd_frame.specs.Message.{MessageView}
 use Rattle.xd_frame.specs.Framer.{FramerView, IsFirstOf, IsOrNoMemory, StandsFor, feed_gives, fresh}
-use Rattle.xd_frame.specs.Stream.{messages, behind, parts, parts_within, rest, Rest, Clean, Unfinished, Refused, end_of}
+use Rattle.xd_frame.specs.Stream.{messages, parts, parts_within, rest, Rest, Clean, Unfinished, Refused, end_of}
 use Rattle.xd_frame.proofs.Framers.{next_moves}
 use Rattle.xd_link.specs.Source.{Gave, Supply, is_end, with_given}
 use Rattle.xd_worker.specs.declared.input.WorkerInput.{WorkerInput}
@@ -21,7 +21,7 @@ use Rattle.xd_serve.specs.declared.stop.Stop.{Stop}
 use Rattle.xd_serve.specs.declared.stop.Stop.TheVariants as stop
 use Rattle.xd_serve.specs.Inputs.{has_last, messages_in}
 use Rattle.xd_serve.specs.Going.{Free, Going, Scene, Told}
-use Rattle.xd_serve.specs.Taking.{AreLeft, EndMeans, EndTold, EndsAt, HaltedIn, Halted, Listens, RefusedIn, TakesAll, TakesBytes, is_whole}
+use Rattle.xd_serve.specs.Taking.{AreLeft, EndMeans, EndTold, EndsAt, HaltedIn, Listens, RefusedIn, TakesAll, TakesBytes, is_whole}
 use Rattle.xd_serve.specs.Counts.{CountAfter}
 use Rattle.xd_serve.specs.Served.{Ends, IsCause, is_read, ReadToEnd, Spring, TookAll, spring}
 

@@ -1,6 +1,6 @@
 -- What one input makes of a worker that serves its link: which test runs behind it, and what it asks for.
-use Rattle.std.proofs.Common.{◌≡◌, ℕ, List, [], ◌∷◌, ◌++◌, Bool, true, false, ◌&&◌, Option, Some, None, refl, ap, sym, ◌∙◌, subst}
-use Rattle.std.specs.Prelude.{is_none, nat_lt, codes, if◌then◌else◌}
+use Rattle.std.proofs.Common.{◌≡◌, ℕ, List, [], ◌∷◌, Bool, true, false, Option, Some, None, refl, ap, sym, ◌∙◌, subst}
+use Rattle.std.specs.Prelude.{if◌then◌else◌}
 use Rattle.xd_value.specs.Tree.{Tree}
 use Rattle.xd_frame.specs.declared.kind.Kind.{Kind}
 use Rattle.xd_frame.specs.declared.kind.Kind.TheVariants as kind
@@ -8,13 +8,12 @@ use Rattle.xd_frame.specs.Message.{MessageView}
 use Rattle.xd_channel.specs.declared.end.End.{End}
 use Rattle.xd_channel.specs.declared.answers.Arrived.{Arrived}
 use Rattle.xd_channel.specs.declared.answers.Arrived.TheVariants as arrived
-use Rattle.xd_factory.specs.declared.parity.Parity.{Parity}
 use Rattle.xd_factory.specs.declared.taken.Taken.{Taken}
 use Rattle.xd_factory.specs.declared.taken.Taken.TheVariants.{Kept, Handed, EndKept, EndHanded, Dropped, Status, Exec, Terminate}
 use Rattle.xd_factory.specs.Said.{Said, Means, SaysBy}
 use Rattle.xd_factory.specs.Said as said
 use Rattle.xd_factory.specs.Slot.{Slot, Unseen, Here, Gone}
-use Rattle.xd_factory.specs.Table.{answer_of, arrived_answer, ended_answer, end_answer, handed_answer}
+use Rattle.xd_factory.specs.Table.{arrived_answer, ended_answer, end_answer, handed_answer}
 use Rattle.xd_gateway.specs.Orders.{tree_order}
 use Rattle.xd_ledger.specs.declared.entry.Outcome.{Outcome}
 use Rattle.xd_run_tests.specs.declared.ask.Ask.{Ask}
@@ -22,10 +21,9 @@ use Rattle.xd_run_tests.specs.declared.ask.Ask.TheVariants.{Tell, Piece, CloseLo
 use Rattle.xd_run_tests.specs.declared.input.Input.{Input}
 use Rattle.xd_run_tests.specs.declared.input.Input.TheVariants as input
 use Rattle.xd_run_tests.specs.Line.{Call, running_test}
-use Rattle.xd_run_tests.specs.Turns.{answered, turn_of as call_turn}
+use Rattle.xd_run_tests.specs.Turns.{turn_of as call_turn}
 use Rattle.xd_run_tests.specs.History.{Given, call_after, turn_after}
 use Rattle.xd_suite.specs.declared.test.Test.{Test}
-use Rattle.xd_worker.specs.declared.function.CallFault.{CallFault}
 use Rattle.xd_worker.specs.declared.function.Called.{Called}
 use Rattle.xd_worker.specs.declared.function.Called.TheVariants.{Runs, Refused}
 use Rattle.xd_worker.specs.declared.function.Function.TheVariants as function
@@ -34,12 +32,11 @@ use Rattle.xd_worker.specs.declared.talk.Sent.TheVariants as how
 use Rattle.xd_worker.specs.Functions.{called_in}
 use Rattle.xd_worker.specs.Table.{Table, answer, heard, lost}
 use Rattle.xd_worker.specs.Talk.{sent_how, payload_on}
-use Rattle.xd_worker.specs.Worker.{Service, Duties, Worker, Turn, turn_of, behind, running_in}
-use Rattle.xd_worker.specs.Turns.{Came, Told, SuiteRead, NoSuite, Printed, ChildEnded, LinkEnded, at_talk, asked, all_asked, ended_call, given_in, fed, fed_to, called, is_called, is_service, echoed, echoed_how, echo_ended, stopped, did, did_unless, took, suite_read, suite_refused, suite_input, ids_of, turned}
-use Rattle.xd_worker.specs.History.{is_over}
+use Rattle.xd_worker.specs.Worker.{Service, Duties, Worker, Turn, turn_of, running_in}
+use Rattle.xd_worker.specs.Turns.{Told, SuiteRead, NoSuite, Printed, ChildEnded, LinkEnded, at_talk, asked, all_asked, ended_call, given_in, fed, fed_to, called, is_called, is_service, echoed, echoed_how, echo_ended, stopped, did, did_unless, took, suite_read, suite_refused, suite_input, ids_of, turned}
 use Rattle.xd_serve.specs.Going.{call_in, rests}
 use Rattle.xd_serve.specs.Inputs.{is_last}
-use Rattle.xd_serve.proofs.Calls.{Fresh, Printing, idle, answered_idle, answered_end, answered_output}
+use Rattle.xd_serve.proofs.Calls.{Fresh, idle, answered_idle, answered_end, answered_output}
 
 -- ---- what is asked of the side leaves the work as it is
 

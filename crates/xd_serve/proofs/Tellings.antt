@@ -1,7 +1,6 @@
 -- One input more.
-use Rattle.std.proofs.Common.{◌≡◌, ℕ, ◌+◌, ◌-◌, ◌^◌, ◌<◌, ◌≤◌, List, [], ◌∷◌, ◌++◌, map, Bool, true, false, not, ◌||◌, Option, Some, None, option_map, refl, ap, sym, ◌∙◌, subst, arith, append_assoc}
-use Rattle.std.specs.Prelude.{◌⊎◌, option_to_list}
-use Rattle.std.proofs.lemmas.List.{append-nil, map-append}
+use Rattle.std.proofs.Common.{◌≡◌, ℕ, ◌+◌, ◌-◌, ◌^◌, ◌<◌, ◌≤◌, List, [], ◌∷◌, ◌++◌, map, Bool, true, false, not, Option, Some, None, option_map, refl, ap, sym, ◌∙◌, subst, arith, append_assoc}
+use Rattle.std.proofs.lemmas.List.{map-append}
 use Rattle.std.proofs.lemmas.List.Concat.{flat_map-append}
 use Rattle.std.proofs.lemmas.List.Sums.{sum_by-append}
 use Rattle.xd_edge.specs.Children.{ChildRun, AddsRun}
@@ -11,17 +10,15 @@ use Rattle.xd_edge.specs.Sink.{Sunk, PrintedPart}
 use Rattle.xd_edge.proofs.SinkLemmas.{printed_more, printed_then_part, printed_part_of_more}
 use Rattle.xd_frame.specs.Message.{MessageView, frame, frames}
 use Rattle.xd_ledger.specs.declared.entry.Outcome.{Outcome}
-use Rattle.xd_suite.specs.Tests.{run_at}
 use Rattle.xd_worker.specs.declared.input.WorkerInput.{WorkerInput}
 use Rattle.xd_worker.specs.declared.input.WorkerInput.TheVariants.{Message, SuiteBytes, SuiteTooLarge, SuiteUnread, Output, ChildDone, LinkEnd}
 use Rattle.xd_worker.specs.declared.input.WorkerActions.{WorkerActions}
 use Rattle.xd_worker.specs.declared.worker.WorkerCore.{WorkerCore}
-use Rattle.xd_worker.specs.Worker.{Worker, Turn}
 use Rattle.xd_worker.specs.History.{Heard, all_said, turn_by, worker_after}
 use Rattle.xd_worker.specs.Stands.{Answers}
 use Rattle.xd_serve.specs.Child.{fault_count, outcome_of}
-use Rattle.xd_serve.specs.Inputs.{AreHeard, EndsOnce, IsDue, has_end, is_of_link}
-use Rattle.xd_serve.specs.Suites.{AreAnswered, Follows, FilesGave, asked_path}
+use Rattle.xd_serve.specs.Inputs.{IsDue, has_end, is_of_link}
+use Rattle.xd_serve.specs.Suites.{AreAnswered, Follows, asked_path}
 use Rattle.xd_serve.specs.Programs.{AreRun, Ran, commands_of, faults_of, output_in, ran_in}
 use Rattle.xd_serve.specs.Counts.{CountAfter, CountBehind}
 use Rattle.xd_serve.specs.Speaking.{Shows, ShowsMore, written}

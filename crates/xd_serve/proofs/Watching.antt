@@ -1,23 +1,20 @@
 -- A program, from its start to its end.
-use Rattle.std.proofs.Common.{◌≡◌, ℕ, ◌≤◌, ◌^◌, ◌-◌, ◌+◌, List, [], ◌∷◌, ◌++◌, Bool, true, false, Option, Some, None, Result, Ok, Err, refl, sym, ap, ◌∙◌, subst, arith, append_assoc}
-use Rattle.std.specs.Prelude.{option_map, pos, ◌==◌, if◌then◌else◌, IfOk, OnErr}
+use Rattle.std.proofs.Common.{◌≡◌, ℕ, ◌≤◌, List, [], ◌++◌, Bool, true, false, Option, Some, None, refl, sym, ap, ◌∙◌, subst, append_assoc}
+use Rattle.std.specs.Prelude.{option_map}
 use Rattle.std.proofs.lemmas.List.{append-nil}
-use Rattle.xd_edge.specs.declared.refusals.Failed.{Failed as Fault}
-use Rattle.xd_edge.specs.declared.children.ChildEnd.{ChildEnd}
-use Rattle.xd_edge.specs.declared.children.ChildEnd.TheVariants.{Status, Killed}
-use Rattle.xd_edge.specs.Children.{ChildRun, AddsRun, ChangesRun, IsNext, change_at, not_started, running, with_end, with_output, with_wait_fault, with_read_fault}
+use Rattle.xd_edge.specs.Children.{ChildRun, AddsRun, ChangesRun, IsNext, change_at, not_started, running, with_last, with_output, with_read_fault}
 use Rattle.xd_edge.specs.Faults.{Rose, RoseBy}
 use Rattle.xd_edge.specs.Files.{Held}
 use Rattle.xd_edge.proofs.ChildLemmas.{change_at_end, change_at_not, change_at_twice}
 use Rattle.xd_frame.specs.Message.{MessageView}
 use Rattle.xd_ledger.specs.declared.entry.Outcome.{Outcome}
-use Rattle.xd_ledger.specs.declared.entry.Outcome.TheVariants.{Passed, Skipped, Failed}
+use Rattle.xd_ledger.specs.declared.entry.Outcome.TheVariants.{Failed}
 use Rattle.xd_suite.specs.Tests.{run_at}
 use Rattle.xd_worker.specs.declared.worker.WorkerCore.{WorkerCore}
 use Rattle.xd_worker.specs.History.{Heard, worker_after}
 use Rattle.xd_worker.specs.Stands.{HasTest, StandsFor}
-use Rattle.xd_serve.specs.Child.{fault_count, outcome_of_end}
-use Rattle.xd_serve.specs.Going.{CameTo, Going, Goes, Running, Scene, Watched, read_so, scene}
+use Rattle.xd_serve.specs.Child.{Waited, fault_count}
+use Rattle.xd_serve.specs.Going.{CameTo, Going, Goes, Running, Scene, Watched, read_so}
 use Rattle.xd_serve.proofs.Steps.{running_is}
 use Rattle.xd_worker.proofs.Known.{all_known_tests}
 use lib.IntN.{negsuc}
@@ -51,15 +48,6 @@ output_part k place a old mid new e x y = changes_twice place with_read_fault (w
 
 -- ---- what a program came to
 
-no_fault : (e : ChildEnd) → fault_count (outcome_of_end e) ≡ 0
-no_fault (Status s) = go (s == 0) (s == 77)
-  where
-    go : (a b : Bool) → fault_count (if a then Passed else if b then Skipped else Failed (pos s)) ≡ 0
-    go true b = refl
-    go false true = refl
-    go false false = refl
-no_fault Killed = refl
-
 module _ (held : Option Held) (taken : List MessageView) (test : ℕ) (args : List (List ℕ)) (core : WorkerCore) (broken : Bool) (first before new : Scene) where
   pub watched_none : Going held taken (Running test args []) core broken first before → AddsRun (not_started args) before.runs new.runs → Rose before.child_faults new.child_faults → before.child_faults ≤ new.child_faults → Watched held taken test args (Failed (negsuc 1)) core broken first before new
   watched_none g added rose later = record {
@@ -72,45 +60,15 @@ module _ (held : Option Held) (taken : List MessageView) (test : ℕ) (args : Li
 
   module _ (k place : ℕ) (output : List ℕ) (mid read : Option (List ChildRun)) (g : Going held taken (Running test args output) core broken first before)
       (next : IsNext place before.runs) (added : AddsRun (running args) before.runs mid) (same : k ≡ place) (later : before.child_faults ≤ new.child_faults) where
-    at_place : (f : ChildRun → ChildRun) → ChangesRun k f read new.runs → ChangesRun place f read new.runs
-    at_place f c = subst (λ (n : ℕ). ChangesRun n f read new.runs) same c
+    run_then : (whole : Bool) (f : ChildRun → ChildRun) → ChangesRun place (read_so whole output) mid read → ChangesRun k f read new.runs → AddsRun (f (read_so whole output (running args))) before.runs new.runs
+    run_then whole f r c = changed place f (read_so whole output (running args)) before.runs read new.runs next (changed place (read_so whole output) (running args) before.runs mid read next added r) (subst (λ (n : ℕ). ChangesRun n f read new.runs) same c)
 
-    run_then : (w : Bool) (f : ChildRun → ChildRun) → ChangesRun place (read_so w output) mid read → ChangesRun k f read new.runs → AddsRun (f (read_so w output (running args))) before.runs new.runs
-    run_then w f r c = changed place f (read_so w output (running args)) before.runs read new.runs next (changed place (read_so w output) (running args) before.runs mid read next added r) (at_place f c)
+    came_to : (whole : Bool) (outcome : Outcome) → ChangesRun place (read_so whole output) mid read → Waited whole k outcome read new.runs → CameTo args output outcome before.runs new.runs
+    came_to true outcome r w = record { run = with_last w.last (read_so true output (running args)); args_are = refl; output_is = refl; outcome_is = w.outcome_is; added = run_then true (with_last w.last) r w.changes }
+    came_to false outcome r w = record { run = with_last w.last (read_so false output (running args)); args_are = refl; output_is = refl; outcome_is = w.outcome_is; added = run_then false (with_last w.last) r w.changes }
 
-    pub watched_end : (end : ChildEnd) → ChangesRun place (read_so true output) mid read → ChangesRun k (with_end end) read new.runs → Watched held taken test args (outcome_of_end end) core broken first before new
-    watched_end end r c = record {
-      output = output;
-      going = g;
-      came = record { run = with_end end (read_so true output (running args)); args_are = refl; output_is = refl; outcome_is = refl; added = run_then true (with_end end) r c };
-      faults = subst (λ (n : ℕ). RoseBy n before.child_faults new.child_faults) (sym (no_fault end)) (λ below. omega (arith, later));
-      later = later;
-    }
-
-    pub watched_unwaited : ChangesRun place (read_so true output) mid read → ChangesRun k with_wait_fault read new.runs → Rose before.child_faults new.child_faults → Watched held taken test args (Failed (negsuc 2)) core broken first before new
-    watched_unwaited r c rose = record {
-      output = output;
-      going = g;
-      came = record { run = with_wait_fault (read_so true output (running args)); args_are = refl; output_is = refl; outcome_is = refl; added = run_then true with_wait_fault r c };
-      faults = rose;
-      later = later;
-    }
-
-    pub watched_unread : (waited : Result ChildEnd Fault) → ChangesRun place (read_so false output) mid read → IfOk waited (λ end. ChangesRun k (with_end end) read new.runs) → OnErr waited (ChangesRun k with_wait_fault read new.runs) → Rose before.child_faults new.child_faults → Watched held taken test args (Failed (negsuc 2)) core broken first before new
-    watched_unread (Ok end) r ends fails rose = record {
-      output = output;
-      going = g;
-      came = record { run = with_end end (read_so false output (running args)); args_are = refl; output_is = refl; outcome_is = refl; added = run_then false (with_end end) r ends };
-      faults = rose;
-      later = later;
-    }
-    watched_unread (Err e) r ends fails rose = record {
-      output = output;
-      going = g;
-      came = record { run = with_wait_fault (read_so false output (running args)); args_are = refl; output_is = refl; outcome_is = refl; added = run_then false with_wait_fault r fails };
-      faults = rose;
-      later = later;
-    }
+    pub watched_waited : (whole : Bool) (outcome : Outcome) → ChangesRun place (read_so whole output) mid read → Waited whole k outcome read new.runs → RoseBy (fault_count outcome) before.child_faults new.child_faults → Watched held taken test args outcome core broken first before new
+    watched_waited whole outcome r w faults = record { output = output; going = g; came = came_to whole outcome r w; faults = faults; later = later }
 
 -- the command of the test that is to be started
 pub has_test : (held : Option Held) (test : ℕ) (args : List (List ℕ)) (core : WorkerCore) (broken : Bool) (s : Scene) → Goes held (Running test args []) core broken s → HasTest core test

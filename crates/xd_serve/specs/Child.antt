@@ -1,5 +1,6 @@
 -- What the end of a child means for its test. The status 77 for a skipped test is that of automake; the rest is a choice of this project.
-use Rattle.std.specs.Prelude.{ℕ, zero, suc, ◌==◌, Option, Some, None, pos, negsuc, if◌then◌else◌}
+use Rattle.std.specs.Prelude.{ℕ, zero, suc, ◌≡◌, ◌==◌, Bool, true, false, List, Option, Some, None, pos, negsuc, if◌then◌else◌}
+use Rattle.xd_edge.specs.Children.{ChildRun, ChangesRun, with_last}
 use Rattle.xd_edge.specs.declared.children.ChildEnd.{ChildEnd}
 use Rattle.xd_edge.specs.declared.children.ChildEnd.TheVariants.{Status, Killed}
 use Rattle.xd_edge.specs.declared.children.Fate.{Fate}
@@ -26,3 +27,14 @@ abbrev pub fault_count : Outcome → ℕ
 fault_count (Failed (negsuc (suc zero))) = 1
 fault_count (Failed (negsuc (suc (suc zero)))) = 1
 fault_count _ = 0
+
+-- the fate of a child whose output was read to its end, or else could not be read, and whose end came to this
+abbrev pub fate_so : Bool → Fate → Fate
+fate_so true last = last
+fate_so false last = NotRead
+
+-- Where it is told, the child at this place was waited for, and its test came to this outcome.
+pub record Waited (whole : Bool) (place : ℕ) (outcome : Outcome) (old new : Option (List ChildRun)) : Type 0 where
+  pub last : Fate
+  pub outcome_is : outcome_of (fate_so whole last) ≡ Some outcome
+  pub changes : ChangesRun place (with_last last) old new

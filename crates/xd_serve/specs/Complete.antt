@@ -1,5 +1,5 @@
 -- When a link is served to a good end. Spoken of are all the bytes that it has, also those that it did not give.
-use Rattle.std.specs.Prelude.{◌≡◌, ◌⊎◌, ℕ, Bool, true, false, List, [], Option}
+use Rattle.std.specs.Prelude.{◌≡◌, ◌⊎◌, ℕ, true, false, List, [], Option}
 use Rattle.xd_edge.specs.Faults.{Rose}
 use Rattle.xd_edge.specs.Files.{Held}
 use Rattle.xd_factory.specs.declared.faults.SideFault.{SideFault}

@@ -1,5 +1,5 @@
 -- The programs of the tests that a worker starts, and what came of them.
-use Rattle.std.specs.Prelude.{◌≡◌, ℕ, List, [], ◌∷◌, ◌++◌, map, Option, Some, None, option_map, option_to_list, sum_by}
+use Rattle.std.specs.Prelude.{◌≡◌, ℕ, List, [], ◌∷◌, ◌++◌, map, Option, Some, option_map, option_to_list, sum_by}
 use Rattle.xd_edge.specs.Children.{ChildRun}
 use Rattle.xd_suite.specs.Tests.{run_at}
 use Rattle.xd_ledger.specs.declared.entry.Outcome.{Outcome}

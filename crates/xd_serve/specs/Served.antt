@@ -1,14 +1,13 @@
 -- How a link was served to its end.
-use Rattle.std.specs.Prelude.{◌≡◌, ◌⊎◌, ℕ, Bool, true, false, List, [], ◌∷◌, ◌++◌, Option, Some, None, IfSome}
+use Rattle.std.specs.Prelude.{◌≡◌, ℕ, Bool, true, false, List, [], ◌∷◌, ◌++◌, Option, IfSome}
 use Rattle.xd_edge.specs.Files.{Held}
 use Rattle.xd_edge.specs.Faults.{Rose}
-use Rattle.xd_frame.specs.declared.fault.FrameFault.{FrameFault}
 use Rattle.xd_frame.specs.Message.{MessageView}
 use Rattle.xd_frame.specs.Framer.{IsFirstOf}
 use Rattle.xd_frame.specs.Stream.{messages, rest, Clean, Unfinished, Refused}
 use Rattle.xd_link.specs.Source.{Supply, Gave}
 use Rattle.xd_worker.specs.declared.input.WorkerInput.{WorkerInput}
-use Rattle.xd_worker.specs.declared.input.WorkerInput.TheVariants.{Message, LinkEnd}
+use Rattle.xd_worker.specs.declared.input.WorkerInput.TheVariants.{Message}
 use Rattle.xd_factory.specs.declared.faults.SideFault.{SideFault}
 use Rattle.xd_worker.specs.History.{Heard, Refuses, is_over, worker_after}
 use Rattle.xd_serve.specs.declared.stop.Stop.{Stop}

@@ -1,6 +1,6 @@
 -- What a worker wrote to its link.
 use Rattle.std.specs.Prelude.{◌≡◌, ℕ, Bool, true, false, not, List, [], ◌∷◌, ◌++◌, Option}
-use Rattle.xd_edge.specs.Sink.{Sunk, Printed, PrintedPart, Took, TookPart}
+use Rattle.xd_edge.specs.Sink.{Sunk, Printed, PrintedPart}
 use Rattle.xd_frame.specs.Message.{MessageView, frames}
 
 -- the byte by which a worker is known, as in execnet's gateway_base.py

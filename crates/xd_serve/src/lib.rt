@@ -10,7 +10,7 @@ mod speaker;
 mod stop;
 mod suite;
 
-pub use child::outcome_of_end;
+pub use child::wait_for;
 pub use serving::{ServeEnd, serve};
 
 #[cfg(test)]

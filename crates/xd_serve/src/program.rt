@@ -6,7 +6,7 @@ ghost use Rattle.xd_edge.specs.Children.{ChildRun, ChangesRun};
 ghost use Rattle.xd_frame.specs.Message.{MessageView};
 ghost use Rattle.xd_serve.specs.Going.{Goes, Going, Running, Scene, Watched, read_so, scene, to_start};
 
-use crate::child::outcome_of_end;
+use crate::child::wait_for;
 use crate::speaker::Speaker;
 use std::alloc::Global;
 use std::sync::Wait;
@@ -72,15 +72,9 @@ fn watch<R: Wait, N: Sink, K: Children>(
         Err(ChildFault::Failed) => return Ok(Outcome::Failed(-2)),
     };
     let heard = hear_output(rt, alloc, speaker, children, &mut child);
-    let waited = children.wait(rt, child);
-    let is_whole = heard?;
-    if !is_whole {
-        return Ok(Outcome::Failed(-3));
-    }
-    match waited {
-        Ok(end) => Ok(outcome_of_end(end)),
-        Err(_) => Ok(Outcome::Failed(-3)),
-    }
+    let outcome = wait_for(rt, children, child, heard.unwrap_or(false));
+    heard?;
+    Ok(outcome)
 }
 
 // Tells the worker what a program prints, piece by piece; false where a read failed. However it ends, the program can be

@@ -96,6 +96,15 @@ fn a_header_that_is_refused_gives_three(rt: HostRuntime) -> Result<(), Fail> {
     Ok(())
 }
 
+// GATEWAY_TERMINATE, and behind it a header that is refused.
+#[test]
+fn what_stands_behind_the_last_message_does_not_matter(rt: HostRuntime) -> Result<(), Fail> {
+    let bytes = b"\x02\0\0\0\0\0\0\0\0\x08\0\0\0\x01\0\0\0\0";
+    let end = served(&rt, rt.alloc(), bytes, none(rt.alloc()))?;
+    assert_eq!(rt; end.status, 0);
+    Ok(())
+}
+
 #[test]
 fn a_sink_that_fails_at_once_gives_three(rt: HostRuntime) -> Result<(), Fail> {
     let mut first = none(rt.alloc());

@@ -5,3 +5,4 @@ pub mod Refused
 pub mod Report
 pub mod Steps
 pub mod Whole
+pub mod Workers

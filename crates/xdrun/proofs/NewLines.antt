@@ -16,7 +16,8 @@ use Rattle.xd_report.specs.declared.reporter.Reporter.{Reporter}
 use Rattle.xd_report.specs.Follows.{Follows}
 use Rattle.xd_report.specs.Lines.{lines_from}
 use Rattle.xd_report.proofs.Texts.{moved-more}
-use Rattle.xdrun.specs.Child.{fault_count, RanChild}
+use Rattle.xd_serve.specs.Child.{fault_count}
+use Rattle.xdrun.specs.Child.{RanChild}
 use Rattle.xdrun.specs.Local.{AddsRound, RanTest, Told}
 use Rattle.xdrun.specs.Print.{Shows}
 

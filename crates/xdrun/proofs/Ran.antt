@@ -3,12 +3,12 @@ use Rattle.std.proofs.Common.{◌≡◌, ℕ, ◌+◌, ◌-◌, ◌≤◌, min, 
 use Rattle.std.proofs.lemmas.List.{append-nil}
 use Rattle.std.proofs.Math.Seq.{take-append-add}
 use Rattle.std.proofs.lemmas.Grind.{common_steps}
-use Rattle.std.specs.Result.{IfOk, OnErr}
-use Rattle.xd_edge.specs.declared.refusals.Failed.{Failed as Fault}
-use Rattle.xd_edge.specs.declared.children.ChildEnd.{ChildEnd}
-use Rattle.xd_edge.specs.Children.{ChildRun, AddsRun, ChangesRun, IsNext, change_at, not_started, running, with_end, with_output, with_wait_fault, with_read_fault}
+use Rattle.std.specs.Prelude.{Bool, true, false}
+use Rattle.std.specs.Bool.{OnTrue, OnFalse}
+use Rattle.xd_edge.specs.Children.{ChildRun, AddsRun, ChangesRun, IsNext, change_at, not_started, running, with_last, with_output, with_read_fault}
 use Rattle.xd_edge.proofs.ChildLemmas.{change_at_end, change_at_not, change_at_twice}
-use Rattle.xdrun.specs.Child.{CameTo, Drained, DrainedPart, RanChild, outcome_of_end}
+use Rattle.xd_serve.specs.Child.{Waited}
+use Rattle.xdrun.specs.Child.{CameTo, Drained, DrainedPart, RanChild}
 use Rattle.xd_ledger.specs.declared.entry.Outcome.{Outcome}
 use Rattle.xd_ledger.specs.declared.entry.Outcome.TheVariants.{Passed, Skipped, Failed}
 use Rattle.xd_ledger.specs.Kept.{kept_of}
@@ -20,46 +20,29 @@ module _ (k : ℕ) (f : ChildRun → ChildRun) (run : ChildRun) where
   changed (Some l) mid new next added changes = changes ∙ ap (option_map (change_at k f)) added ∙ ap Some (change_at_end f l run k next)
 
 module _ (args : List (List ℕ)) (room k : ℕ) (first : List ℕ) (old mid : Option (List ChildRun)) (next : IsNext k old) (added : AddsRun (running args) old mid) where
-  given : List ℕ → ChildRun
-  given bytes = with_output bytes (running args)
+  then_changed : (f g : ChildRun → ChildRun) (read new : Option (List ChildRun)) → ChangesRun k f mid read → ChangesRun k g read new → AddsRun (g (f (running args))) old new
+  then_changed f g read new a b = changed k g (f (running args)) old read new next (changed k f (running args) old mid read next added a) b
 
-  module _ (read : Option (List ChildRun)) (d : Drained room k first mid read) where
-    -- read to its end, and waited for
-    pub ended : (end : ChildEnd) (new : Option (List ChildRun)) → ChangesRun k (with_end end) read new → CameTo args room (outcome_of_end end) first old new
-    ended end new changes = record {
-      run = with_end end (with_output d.gave (running args));
-      args_are = refl;
-      came_to = refl;
-      first_is = d.kept_is;
-      added = changed k (with_end end) _ old read new next (changed k (with_output d.gave) (running args) old mid read next added d.changes) changes;
-    }
-
-    pub not_waited : (new : Option (List ChildRun)) → ChangesRun k with_wait_fault read new → CameTo args room (Failed (negsuc 2)) first old new
-    not_waited new changes = record {
-      run = with_wait_fault (with_output d.gave (running args));
-      args_are = refl;
-      came_to = refl;
-      first_is = d.kept_is;
-      added = changed k with_wait_fault _ old read new next (changed k (with_output d.gave) (running args) old mid read next added d.changes) changes;
-    }
-
-  -- not read, and then waited for with whatever result
-  pub not_read : (read new : Option (List ChildRun)) (waited : Result ChildEnd Fault) → DrainedPart room k first mid read
-      → IfOk waited (λ end. ChangesRun k (with_end end) read new) → OnErr waited (ChangesRun k with_wait_fault read new) → CameTo args room (Failed (negsuc 2)) first old new
-  not_read read new (Ok end) d ends fails = record {
-    run = with_end end (with_read_fault (with_output d.gave (running args)));
+  -- read to its end, or else until a read failed, and waited for
+  pub came_to : (whole : Bool) (outcome : Outcome) (read new : Option (List ChildRun)) → OnTrue whole (Drained room k first mid read) → OnFalse whole (DrainedPart room k first mid read) → Waited whole k outcome read new → CameTo args room outcome first old new
+  came_to true outcome read new d part w = record {
+    run = with_last w.last (with_output d.gave (running args));
     args_are = refl;
-    came_to = refl;
+    came_to = w.outcome_is;
     first_is = d.kept_is;
-    added = changed k (with_end end) _ old read new next (changed k (λ run. with_read_fault (with_output d.gave run)) (running args) old mid read next added d.changes) ends;
+    added = then_changed (with_output d.gave) (with_last w.last) read new d.changes w.changes;
   }
-  not_read read new (Err e) d ends fails = record {
-    run = with_wait_fault (with_read_fault (with_output d.gave (running args)));
+  came_to false outcome read new whole d w = record {
+    run = with_last w.last (with_read_fault (with_output d.gave (running args)));
     args_are = refl;
-    came_to = refl;
+    came_to = w.outcome_is;
     first_is = d.kept_is;
-    added = changed k with_wait_fault _ old read new next (changed k (λ run. with_read_fault (with_output d.gave run)) (running args) old mid read next added d.changes) fails;
+    added = then_changed (λ run. with_read_fault (with_output d.gave run)) (with_last w.last) read new d.changes w.changes;
   }
+
+pub when_false : (b : Bool) (P : Type 0) → b ≡ false → OnFalse b P → P
+when_false true P e p = cc
+when_false false P e p = p
 
 -- never started
 pub never_started : (args : List (List ℕ)) (room : ℕ) (first : List ℕ) (old new : Option (List ChildRun)) → first ≡ [] → AddsRun (not_started args) old new → CameTo args room (Failed (negsuc 1)) first old new

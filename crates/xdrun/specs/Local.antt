@@ -21,7 +21,8 @@ use Rattle.xd_report.specs.declared.reporter.Reporter.{Reporter}
 use Rattle.xd_report.specs.Follows.{Follows}
 use Rattle.xd_report.specs.Lines.{lines_from, run_lines}
 use Rattle.xd_report.specs.Text.{text_of}
-use Rattle.xdrun.specs.Child.{fault_count, outcome_of, RanChild}
+use Rattle.xd_serve.specs.Child.{fault_count, outcome_of}
+use Rattle.xdrun.specs.Child.{RanChild}
 use Rattle.xdrun.specs.Print.{Shows}
 
 -- without workers, and without a limit on failures

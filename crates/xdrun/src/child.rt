@@ -3,12 +3,14 @@ ghost use Rattle.std.specs.Prelude.{◌≡◌, ◌<◌, ◌≤◌, ℕ, [], ◌+
 ghost use Rattle.std.specs.Bool.{OnTrue, OnFalse};
 ghost use Rattle.xd_edge.specs.Faults.{Rose, RoseBy};
 ghost use Rattle.xd_ledger.specs.Kept.{kept_of};
-ghost use Rattle.xdrun.specs.Child.{fault_count, outcome_of_end, CameTo, Drained, DrainedPart, RanChild};
+ghost use Rattle.xd_serve.specs.Child.{fault_count};
+ghost use Rattle.xdrun.specs.Child.{CameTo, Drained, DrainedPart, RanChild};
 
 use std::alloc::Global;
 use std::sync::Wait;
-use xd_edge::{Blob, ChildEnd, ChildFault, Children, OutOfMemory, Text};
+use xd_edge::{Blob, ChildFault, Children, OutOfMemory, Text};
 use xd_ledger::Outcome;
+use xd_serve::wait_for;
 
 /// Runs a program to its end, and says how its test went, with the first bytes of its output up to the room where it
 /// failed, and none else. A program that was started is waited for.
@@ -64,14 +66,8 @@ fn run_to_end<R: Wait, K: Children>(
         Err(ChildFault::Failed) => return Ok(Outcome::Failed(-2)),
     };
     let is_whole = drain(rt, children, &mut child, output, room);
-    let waited = children.wait(rt, child);
-    if !is_whole {
-        return Ok(Outcome::Failed(-3));
-    }
-    match waited {
-        Ok(end) => Ok(outcome_of_end(end)),
-        Err(_) => Ok(Outcome::Failed(-3)),
-    }
+    let outcome = wait_for(rt, children, child, is_whole);
+    Ok(outcome)
 }
 
 // Reads the output to its end and keeps its first bytes, up to the room; false where a read failed.
@@ -112,16 +108,5 @@ fn keep(output: &mut Vec<u8>, bytes: &[u8], room: usize)
     let count = bytes.len().min(room - output.len());
     for i in 0..count {
         output.push_reserved(bytes[i]);
-    }
-}
-
-fn outcome_of_end(end: ChildEnd) -> Outcome
-    ensures { result ≡ outcome_of_end end }
-{
-    match end {
-        ChildEnd::Status(0) => Outcome::Passed,
-        ChildEnd::Status(77) => Outcome::Skipped,
-        ChildEnd::Status(status) => Outcome::Failed(i32::from(status)),
-        ChildEnd::Killed => Outcome::Failed(-1),
     }
 }

@@ -10,6 +10,7 @@ ghost use Rattle.xd_ledger.specs.Reports.{NamesInOrder, reports_in};
 ghost use Rattle.xd_ledger.specs.Ending.{stop_of};
 ghost use Rattle.xd_report.specs.Status.{status_of};
 ghost use Rattle.xd_report.specs.Text.{text_of};
+ghost use Rattle.xd_serve.specs.Complete.{AreGood, GoesWrong};
 ghost use Rattle.xd_serve.specs.Going.{scene};
 ghost use Rattle.xd_serve.specs.Served.{spring};
 ghost use Rattle.xdrun.specs.Child.{faults_of};
@@ -19,7 +20,7 @@ ghost use Rattle.xdrun.specs.Refusal.{IsRefused, TellsSuite};
 ghost use Rattle.xdrun.specs.Top.{RunsNamed};
 ghost use Rattle.xdrun.specs.Wire.{PrintsMessages, TellsMessages, status_by};
 ghost use Rattle.xdrun.specs.Words.{names_worker};
-ghost use Rattle.xdrun.specs.Worker.{ServedOwn};
+ghost use Rattle.xdrun.specs.Worker.{ServedOwn, all_bytes, unwritten};
 ghost use Rattle.xd_wire.specs.WireText.{IsWireText};
 
 use crate::unlinked::run_unlinked;
@@ -105,6 +106,18 @@ pub fn xdrun<R: Wait, F: Files, St: Starter, K: Children, T: Clock, O: Sink, E: 
     ensures not_started { IfOk result (λ e. names_worker words.now ≡ true → IfNone e.link ((e.status ≡ 3) × Rose (St.faults starter) (St.faults e.starter) × (St.begun e.starter ≡ option_map (with_failure Own) (St.begun starter)) × (K.runs e.children ≡ K.runs children))) }
     ensures no_report { IfOk result (λ e. names_worker words.now ≡ true → (e.journal ≡ None) × (O.sunk out.new ≡ O.sunk out.old)) }
     ensures no_link { IfOk result (λ e. names_worker words.now ≡ false → (e.link ≡ None) × (e.starter ≡ starter)) }
+
+    // Its status is 0 only where no count of the starter and the link rose, and another one only where something is wrong
+    // with the link. Where the link tells its bytes, nothing is wrong with all of them and no count rises, it is 0.
+    ensures worker_calm { IfOk result (λ e. names_worker words.now ≡ true → e.status ≡ 0 → (St.faults e.starter ≡ St.faults starter) × IfSome e.link (λ l. (St.Src.faults l.source ≡ 0) × (St.Snk.faults l.sink ≡ 0))) }
+    ensures worker_wrong { IfOk result (λ e. names_worker words.now ≡ true → IfSome e.link (λ l. e.status ≢ 0 → IfSome (St.Src.supply l.source) (λ s. GoesWrong (F.held files.old) (all_bytes s) 0 (St.Src.faults l.source)
+        (scene (unwritten (St.Snk.sunk l.sink)) 0 (K.runs children) (K.faults children) (F.faults files.old))
+        (scene (St.Snk.sunk l.sink) (St.Snk.faults l.sink) (K.runs e.children) (K.faults e.children) (F.faults files.new))))) }
+    ensures worker_complete { IfOk result (λ e. names_worker words.now ≡ true → IfSome e.link (λ l. IfSome (St.Src.supply l.source) (λ s. AreGood (F.held files.old) (all_bytes s)
+        (scene (unwritten (St.Snk.sunk l.sink)) 0 (K.runs children) (K.faults children) (F.faults files.old))
+        (scene (St.Snk.sunk l.sink) (St.Snk.faults l.sink) (K.runs e.children) (K.faults e.children) (F.faults files.new)) →
+        St.Src.faults l.source ≡ 0 → St.Snk.faults l.sink ≡ 0 → e.status ≡ 0))) }
+    ensures worker_linked { IfOk result (λ e. names_worker words.now ≡ true → StoodStill (St.faults starter) (St.faults e.starter) → IsSome e.link) }
 
     // What is accepted is done to its end where no count of faults rises.
     ensures accepted { IfOk result (λ e. (tests : List Test) → TellsSuite words.now (F.held files.old) tests → StoodStill (F.faults files.old) (F.faults files.new) → IsSome e.journal) }

@@ -1,11 +1,12 @@
 // `worker`: the program's own streams are served as a worker.
-ghost use Rattle.std.specs.Prelude.{◌≡◌, ◌≤◌, None, IfOk, IfSome, IfNone, option_map};
+ghost use Rattle.std.specs.Prelude.{◌≡◌, ◌≢◌, ◌≤◌, None, IsSome, IfOk, IfSome, IfNone, option_map};
 ghost use Rattle.xd_edge.specs.Faults.{Rose, StoodStill};
 ghost use Rattle.xd_link.specs.Starter.{with_failure, with_start};
 ghost use Rattle.xd_link.specs.declared.place.Place.TheVariants.{Own};
+ghost use Rattle.xd_serve.specs.Complete.{AreGood, GoesWrong};
 ghost use Rattle.xd_serve.specs.Going.{scene};
 ghost use Rattle.xd_serve.specs.Served.{spring};
-ghost use Rattle.xdrun.specs.Worker.{ServedOwn};
+ghost use Rattle.xdrun.specs.Worker.{ServedOwn, all_bytes, unwritten};
 
 use crate::top::{LinkEnd, RunEnd};
 use std::alloc::Global;
@@ -32,6 +33,15 @@ pub fn serve_own<R: Wait, F: Files, St: Starter, K: Children, T: Clock>(
     ensures status { IfOk result (λ e. IfNone e.link (e.status ≡ 3)) }
     ensures not_started { IfOk result (λ e. IfNone e.link (St.begun e.starter ≡ option_map (with_failure Own) (St.begun starter))) }
     ensures no_child { IfOk result (λ e. IfNone e.link (K.runs e.children ≡ K.runs children)) }
+    ensures calm { IfOk result (λ e. e.status ≡ 0 → (St.faults e.starter ≡ St.faults starter) × IfSome e.link (λ l. (St.Src.faults l.source ≡ 0) × (St.Snk.faults l.sink ≡ 0))) }
+    ensures wrong { IfOk result (λ e. IfSome e.link (λ l. e.status ≢ 0 → IfSome (St.Src.supply l.source) (λ s. GoesWrong (F.held files.old) (all_bytes s) 0 (St.Src.faults l.source)
+        (scene (unwritten (St.Snk.sunk l.sink)) 0 (K.runs children) (K.faults children) (F.faults files.old))
+        (scene (St.Snk.sunk l.sink) (St.Snk.faults l.sink) (K.runs e.children) (K.faults e.children) (F.faults files.new))))) }
+    ensures complete { IfOk result (λ e. IfSome e.link (λ l. IfSome (St.Src.supply l.source) (λ s. AreGood (F.held files.old) (all_bytes s)
+        (scene (unwritten (St.Snk.sunk l.sink)) 0 (K.runs children) (K.faults children) (F.faults files.old))
+        (scene (St.Snk.sunk l.sink) (St.Snk.faults l.sink) (K.runs e.children) (K.faults e.children) (F.faults files.new)) →
+        St.Src.faults l.source ≡ 0 → St.Snk.faults l.sink ≡ 0 → e.status ≡ 0))) }
+    ensures linked { IfOk result (λ e. StoodStill (St.faults starter) (St.faults e.starter) → IsSome e.link) }
     ensures fault { IfOk result (λ e. IfNone e.link (Rose (St.faults starter) (St.faults e.starter))) }
 {
     let mut starter = starter;

@@ -1,6 +1,5 @@
 use Rattle.std.proofs.Common.{arith}
 use Rattle.xd_serve.proofs.Carrying.{broken_carried, free_carried, started}
-use Rattle.xd_serve.specs.Going.{scene}
 use Rattle.xd_serve.proofs.link.carry_out.Goals as goal
 
 pub loop-init : goal.loop-init

@@ -1,4 +1,3 @@
-use Rattle.std.proofs.Common.{refl, subst, sym, Bool}
 use Rattle.xd_serve.proofs.Carrying.{settled}
 use Rattle.xd_serve.proofs.Goings.{halted_broken}
 use Rattle.xd_serve.proofs.Hearing.{heard_over, heard_next}

@@ -1,4 +1,4 @@
-use Rattle.std.proofs.Common.{ℕ, [], ◌++◌, ◌∙◌, arith, refl, rules, subst, sym, take}
+use Rattle.std.proofs.Common.{ℕ, [], ◌++◌, ◌∙◌, refl, rules, subst, sym, take}
 use Rattle.std.specs.Prelude.{Option}
 use Rattle.xd_edge.specs.Faults.{Rose}
 use Rattle.xd_link.specs.Source.{Gave, Supply}

@@ -1,8 +1,7 @@
-use Rattle.std.proofs.Common.{◌++◌, ◌≡◌, ◌≤◌, List, ℕ, length, subst, sym}
+use Rattle.std.proofs.Common.{List, ℕ, subst}
 use Rattle.xd_worker.specs.declared.input.WorkerInput.TheVariants.{Output}
 use Rattle.xd_worker.specs.History.{Heard, worker_after}
 use Rattle.xd_worker.specs.Stands.{Answers, StandsFor}
-use Rattle.xd_serve.specs.Going.{Going, Running, scene}
 use Rattle.xd_serve.proofs.Goings.{going_output}
 use Rattle.xd_serve.proofs.program.tell_output.Goals as goal
 
