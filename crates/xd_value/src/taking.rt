@@ -1,5 +1,6 @@
 // The opcodes that take the last values off the stack and build a tuple or a set of them.
-ghost use Rattle.std.specs.Prelude.{◌≡◌, ◌<◌, map, Ok, Some, None, IfOk};
+ghost use Rattle.std.specs.Prelude.{◌≡◌, ◌<◌, ◌≤◌, length, map, drop, Ok, Some, None, IfOk, OnOk};
+ghost use Rattle.std.specs.Prelude.{take as take_list};
 ghost use Rattle.std.specs.List.{list_any};
 ghost use Rattle.xd_value.specs.Tree.{trees_depth};
 ghost use Rattle.xd_value.specs.Reading.{Gives, is_short, values_of, take_parts, build_tuple, set_parts as set_parts_of, set_fault as set_fault_of, do_op};
@@ -28,11 +29,14 @@ fn is_any_short(slots: &[Slot]) -> bool
     false
 }
 
-fn values(alloc: Global, slots: Vec<Slot>) -> Result<Vec<Value>, StepFault>
-    ensures { Gives (λ v. views v.items) result (Ok (values_of (map cell_of slots.items))) }
+/// The values of the slots from this one on, which are taken off the stack.
+fn values_from(alloc: Global, stack: &mut Vec<Slot>, at: usize) -> Result<Vec<Value>, AllocError>
+    requires { at ≤ length stack.old.items }
+    ensures taken { IfOk result (λ v. views v.items ≡ values_of (map cell_of (drop at stack.old.items))) }
+    ensures left { OnOk result (stack.new.items ≡ take_list at stack.old.items) }
 {
-    let mut items = Vec::with_capacity(alloc, slots.len())?;
-    for slot in slots {
+    let mut items = Vec::with_capacity(alloc, stack.len() - at)?;
+    for slot in stack.drain(at..) {
         items.push(slot.value)?;
     }
     Ok(items)
@@ -60,12 +64,13 @@ fn take(alloc: Global, stack: &mut Vec<Slot>, n: usize) -> Result<Taken, StepFau
     if stack.len() < n {
         return Err(StepFault::Bad(LoadWhat::Misplaced));
     }
-    let slots = stack.split_off(stack.len() - n)?;
-    if is_any_short(&slots) {
+    let at = stack.len() - n;
+    let (_, slots) = stack.split_at(at);
+    if is_any_short(slots) {
         return Err(StepFault::Bad(LoadWhat::ListOrder));
     }
-    let depth = deepest(&slots);
-    let items = values(alloc, slots)?;
+    let depth = deepest(slots);
+    let items = values_from(alloc, stack, at)?;
     Ok(Taken { items, depth })
 }
 
