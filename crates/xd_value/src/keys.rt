@@ -62,39 +62,33 @@ fn seen_keys(alloc: Global, pairs: &[(Value, Value)]) -> Result<Box<Seen>, Alloc
     Ok(Box::new(alloc, seen)?)
 }
 
-/// What is kept of these items once they are more than a few.
+/// What is kept, or else the bytes of these items.
 fn kept_items(
     alloc: Global,
     kept: Option<Box<Seen>>,
     items: &[Value],
-) -> Result<Option<Box<Seen>>, AllocError>
+) -> Result<Box<Seen>, AllocError>
     requires { Keeps kept (λ t. has t (views items.now)) }
-    ensures { IfOk result (λ k. Keeps k (λ t. has t (views items.now))) }
+    ensures { IfOk result (λ s. Holds s.value (λ t. has t (views items.now))) }
 {
     match kept {
-        None if items.len() >= FEW => {
-            let seen = seen_items(alloc, items)?;
-            Ok(Some(seen))
-        }
-        kept => Ok(kept),
+        Some(seen) => Ok(seen),
+        None => seen_items(alloc, items),
     }
 }
 
-/// What is kept of the keys of these pairs, as `kept_items`.
+/// What is kept, or else the bytes of the keys of these pairs.
 fn kept_keys(
     alloc: Global,
     kept: Option<Box<Seen>>,
     pairs: &[(Value, Value)],
-) -> Result<Option<Box<Seen>>, AllocError>
+) -> Result<Box<Seen>, AllocError>
     requires { Keeps kept (λ t. has_key t (pair_views pairs.now)) }
-    ensures { IfOk result (λ k. Keeps k (λ t. has_key t (pair_views pairs.now))) }
+    ensures { IfOk result (λ s. Holds s.value (λ t. has_key t (pair_views pairs.now))) }
 {
     match kept {
-        None if pairs.len() >= FEW => {
-            let seen = seen_keys(alloc, pairs)?;
-            Ok(Some(seen))
-        }
-        kept => Ok(kept),
+        Some(seen) => Ok(seen),
+        None => seen_keys(alloc, pairs),
     }
 }
 
@@ -111,6 +105,16 @@ impl Keys {
         Keys { seen: None }
     }
 
+    /// The keys. None are kept from now on.
+    pub(crate) fn take(&mut self) -> Keys
+        ensures taken { result ≡ self.old }
+        ensures left { (p : Tree → Bool) → Knows self.new p }
+    {
+        Keys {
+            seen: self.seen.take(),
+        }
+    }
+
     /// Whether the item stands among the others, all of which are known if any is.
     pub(crate) fn repeats(
         &mut self,
@@ -122,9 +126,24 @@ impl Keys {
         ensures answer { IfOk result (λ b. b ≡ has (view item.now) (views others.now)) }
         ensures known { OnOk result (Knows self.new (λ t. same t (view item.now) || has t (views others.now))) }
     {
-        let Some(mut seen) = kept_items(alloc, self.seen.take(), others)? else {
+        if self.seen.is_none() && others.len() < FEW {
             return Ok(is_among(item, others));
-        };
+        }
+        self.repeats_among_many(alloc, item, others)
+    }
+
+    #[inline(never)]
+    fn repeats_among_many(
+        &mut self,
+        alloc: Global,
+        item: &Value,
+        others: &[Value],
+    ) -> Result<bool, AllocError>
+        requires { Knows self.old (λ t. has t (views others.now)) }
+        ensures answer { IfOk result (λ b. b ≡ has (view item.now) (views others.now)) }
+        ensures known { OnOk result (Knows self.new (λ t. same t (view item.now) || has t (views others.now))) }
+    {
+        let mut seen = kept_items(alloc, self.seen.take(), others)?;
         let added = seen.add(alloc, item)?;
         self.seen = Some(seen);
         Ok(!added && is_among(item, others))
@@ -141,9 +160,24 @@ impl Keys {
         ensures answer { IfOk result (λ b. b ≡ has_key (view key.now) (pair_views pairs.now)) }
         ensures known { OnOk result (Knows self.new (λ t. same t (view key.now) || has_key t (pair_views pairs.now))) }
     {
-        let Some(mut seen) = kept_keys(alloc, self.seen.take(), pairs)? else {
+        if self.seen.is_none() && pairs.len() < FEW {
             return Ok(is_key(key, pairs));
-        };
+        }
+        self.repeats_key_of_many(alloc, key, pairs)
+    }
+
+    #[inline(never)]
+    fn repeats_key_of_many(
+        &mut self,
+        alloc: Global,
+        key: &Value,
+        pairs: &[(Value, Value)],
+    ) -> Result<bool, AllocError>
+        requires { Knows self.old (λ t. has_key t (pair_views pairs.now)) }
+        ensures answer { IfOk result (λ b. b ≡ has_key (view key.now) (pair_views pairs.now)) }
+        ensures known { OnOk result (Knows self.new (λ t. same t (view key.now) || has_key t (pair_views pairs.now))) }
+    {
+        let mut seen = kept_keys(alloc, self.seen.take(), pairs)?;
         let added = seen.add(alloc, key)?;
         self.seen = Some(seen);
         Ok(!added && is_key(key, pairs))

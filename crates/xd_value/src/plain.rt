@@ -2,8 +2,9 @@
 ghost use Rattle.std.specs.Prelude.{◌≡◌, ◌∷◌, ℕ, List, false, Ok, IfOk};
 ghost use Rattle.xd_value.specs.Tree.{depth as depth_of};
 ghost use Rattle.xd_value.specs.View.{view};
-ghost use Rattle.xd_value.specs.Reading.{Cell, Gives, whole, read_int, read_text, read_long, read_channel};
+ghost use Rattle.xd_value.specs.Reading.{Cell, Gives, whole, read_int, read_text, read_long, read_channel, do_op};
 ghost use Rattle.xd_value.specs.Slots.{cells_of};
+ghost use Rattle.xd_value.specs.declared.opcode.Opcode.TheVariants as opcode;
 
 use crate::fault::{LoadWhat, StepFault};
 use crate::input::{chunk, number};
@@ -12,7 +13,7 @@ use crate::slot::Slot;
 use crate::stack::push;
 use crate::value::Value;
 use std::alloc::{AllocError, Global};
-use xd_edge::Text;
+use xd_edge::{Blob, Text};
 
 /// Pushes a value of which nothing follows the opcode.
 pub(crate) fn constant<'a>(
@@ -37,6 +38,7 @@ pub(crate) fn int<'a>(stack: &mut Vec<Slot>, rest: &'a [u8]) -> Result<&'a [u8],
     Ok(rest)
 }
 
+#[inline(never)]
 #[tactic(auto, using(crate::proofs::Cells::is_utf8_holds, crate::proofs::Cells::is_utf8_fails), unfolding(crate::specs::Reading::read_text))]
 pub(crate) fn text<'a>(
     alloc: Global,
@@ -53,7 +55,7 @@ pub(crate) fn text<'a>(
     Ok(rest)
 }
 
-pub(crate) fn latin(alloc: Global, bytes: &[u8]) -> Result<Text, AllocError>
+fn latin_text(alloc: Global, bytes: &[u8]) -> Result<Text, AllocError>
     ensures { IfOk result (λ t. t ≡ bytes.now) }
 {
     let mut text = String::new(alloc);
@@ -63,6 +65,37 @@ pub(crate) fn latin(alloc: Global, bytes: &[u8]) -> Result<Text, AllocError>
     Ok(Text::from_string(text))
 }
 
+#[inline(never)]
+#[tactic(auto, unfolding(crate::specs::Reading::do_op))]
+pub(crate) fn latin<'a>(
+    alloc: Global,
+    stack: &mut Vec<Slot>,
+    rest: &'a [u8],
+) -> Result<&'a [u8], StepFault>
+    ensures { Gives (λ r. (cells_of stack.new.items, r.now)) result
+        (do_op opcode.Latin (cells_of stack.old.items) rest.now) }
+{
+    let (bytes, rest) = chunk(rest)?;
+    push(stack, Value::Text(latin_text(alloc, bytes)?), 0, 0)?;
+    Ok(rest)
+}
+
+#[inline(never)]
+#[tactic(auto, unfolding(crate::specs::Reading::do_op))]
+pub(crate) fn bytes<'a>(
+    alloc: Global,
+    stack: &mut Vec<Slot>,
+    rest: &'a [u8],
+) -> Result<&'a [u8], StepFault>
+    ensures { Gives (λ r. (cells_of stack.new.items, r.now)) result
+        (do_op opcode.Bytes (cells_of stack.old.items) rest.now) }
+{
+    let (bytes, rest) = chunk(rest)?;
+    push(stack, Value::Bytes(Blob::of(alloc, bytes)?), 0, 0)?;
+    Ok(rest)
+}
+
+#[inline(never)]
 #[tactic(auto, unfolding(crate::specs::Reading::read_long))]
 pub(crate) fn long<'a>(stack: &mut Vec<Slot>, rest: &'a [u8]) -> Result<&'a [u8], StepFault>
     ensures { Gives (λ r. (cells_of stack.new.items, r.now)) result
@@ -76,6 +109,7 @@ pub(crate) fn long<'a>(stack: &mut Vec<Slot>, rest: &'a [u8]) -> Result<&'a [u8]
     Ok(rest)
 }
 
+#[inline(never)]
 #[tactic(auto, unfolding(crate::specs::Reading::read_channel))]
 pub(crate) fn channel<'a>(stack: &mut Vec<Slot>, rest: &'a [u8]) -> Result<&'a [u8], StepFault>
     ensures { Gives (λ r. (cells_of stack.new.items, r.now)) result

@@ -2,7 +2,7 @@
 ghost use Rattle.std.specs.Prelude.{◌≡◌, ◌<◌, ◌||◌, suc, max, Some, None, IfOk};
 ghost use Rattle.xd_value.specs.Keys.{Knows};
 ghost use Rattle.xd_value.specs.Reading.{Gives, set_item, put_one, is_index, item_fault as item_fault_of, pair_fault as pair_fault_of};
-ghost use Rattle.xd_value.specs.Slots.{cell_of, cells_of};
+ghost use Rattle.xd_value.specs.Slots.{cell_of, cells_of, list_cell, dict_cell};
 ghost use Rattle.xd_value.specs.Tree.{list, dict, same, has_key, depth as depth_of};
 ghost use Rattle.xd_value.specs.View.{view, views, pair_views};
 
@@ -10,10 +10,11 @@ use crate::checks::is_hashable;
 use crate::fault::{LoadWhat, StepFault};
 use crate::keys::Keys;
 use crate::slot::Slot;
-use crate::stack::{pop, push_back};
+use crate::stack::pop;
 use crate::value::Value;
 use std::alloc::{AllocError, Global};
 
+#[inline(never)]
 #[tactic(auto, unfolding(crate::specs::Reading::set_item))]
 pub(crate) fn put(alloc: Global, stack: &mut Vec<Slot>) -> Result<(), StepFault>
     ensures { Gives (λ _. cells_of stack.new.items) result (set_item (cells_of stack.old.items)) }
@@ -24,84 +25,87 @@ pub(crate) fn put(alloc: Global, stack: &mut Vec<Slot>) -> Result<(), StepFault>
     let Some(key) = pop(stack) else {
         return Err(StepFault::Bad(LoadWhat::Misplaced));
     };
-    let Some(target) = pop(stack) else {
+    if stack.is_empty() {
         return Err(StepFault::Bad(LoadWhat::Misplaced));
-    };
-    let target = put_into(alloc, value, key, target)?;
-    push_back(stack, target)?;
+    }
+    let last = stack.len() - 1;
+    put_into(alloc, value, key, &mut stack[last])?;
     Ok(())
 }
 
-fn put_into(alloc: Global, value: Slot, key: Slot, target: Slot) -> Result<Slot, StepFault>
-    ensures { Gives (λ s. cell_of s) result
-        (put_one (cell_of value) (cell_of key) (view target.value) target.missing) }
+fn put_into(alloc: Global, value: Slot, key: Slot, target: &mut Slot) -> Result<(), StepFault>
+    ensures { Gives (λ _. cell_of target.new) result
+        (put_one (cell_of value) (cell_of key) (view target.old.value) target.old.missing) }
 {
-    let Slot {
-        value: target,
-        missing,
-        depth,
-        keys,
-    } = target;
-    match target {
-        Value::List(items) => put_item(value, key, items, missing, depth, keys),
-        Value::Dict(pairs) => put_pair(alloc, value, key, pairs, missing, depth, keys),
-        _ => Err(StepFault::Bad(LoadWhat::Misplaced)),
+    match &mut target.value {
+        Value::List(items) => put_item(value, key, items, &mut target.missing, &mut target.depth)?,
+        Value::Dict(pairs) => put_pair(
+            alloc,
+            value,
+            key,
+            pairs,
+            target.missing,
+            &mut target.depth,
+            &mut target.keys,
+        )?,
+        _ => return Err(StepFault::Bad(LoadWhat::Misplaced)),
     }
+    Ok(())
 }
 
+/// Where it fails, the list stays as it is.
 fn put_item(
     value: Slot,
     key: Slot,
-    items: Vec<Value>,
-    missing: u32,
-    depth: u32,
-    keys: Keys,
-) -> Result<Slot, StepFault>
-    requires { depth ≡ depth_of (list (views items.items)) }
-    ensures { Gives (λ s. cell_of s) result
-        (put_one (cell_of value) (cell_of key) (list (views items.items)) missing) }
+    items: &mut Vec<Value>,
+    missing: &mut u32,
+    depth: &mut u32,
+) -> Result<(), StepFault>
+    requires { depth.old ≡ depth_of (list (views items.old.items)) }
+    ensures put { Gives (λ _. list_cell items.new missing.new) result
+        (put_one (cell_of value) (cell_of key) (list (views items.old.items)) missing.old) }
+    ensures measured { depth.new ≡ depth_of (list (views items.new.items)) }
 {
-    let mut items = items;
-    if let Some(what) = item_fault(&value, &key, items.len(), missing) {
+    if let Some(what) = item_fault(&value, &key, items.len(), *missing) {
         return Err(StepFault::Bad(what));
     }
-    let depth = deepened(depth, value.depth);
-    items.push(value.value)?;
-    Ok(Slot {
-        value: Value::List(items),
-        missing: missing - 1,
-        depth,
-        keys,
-    })
+    let Slot {
+        value,
+        depth: part,
+        ..
+    } = value;
+    items.push(value)?;
+    *missing -= 1;
+    *depth = deepened(*depth, part);
+    Ok(())
 }
 
+/// Where it fails, the pairs stay as they are.
 fn put_pair(
     alloc: Global,
     value: Slot,
     key: Slot,
-    pairs: Vec<(Value, Value)>,
+    pairs: &mut Vec<(Value, Value)>,
     missing: u32,
-    depth: u32,
-    keys: Keys,
-) -> Result<Slot, StepFault>
-    requires measured { depth ≡ depth_of (dict (pair_views pairs.items)) }
-    requires known { Knows keys (λ t. has_key t (pair_views pairs.items)) }
-    ensures { Gives (λ s. cell_of s) result
-        (put_one (cell_of value) (cell_of key) (dict (pair_views pairs.items)) missing) }
+    depth: &mut u32,
+    keys: &mut Keys,
+) -> Result<(), StepFault>
+    requires measured { depth.old ≡ depth_of (dict (pair_views pairs.old.items)) }
+    requires known { Knows keys.old (λ t. has_key t (pair_views pairs.old.items)) }
+    ensures put { Gives (λ _. dict_cell pairs.new missing) result
+        (put_one (cell_of value) (cell_of key) (dict (pair_views pairs.old.items)) missing) }
+    ensures measured { depth.new ≡ depth_of (dict (pair_views pairs.new.items)) }
+    ensures known { Knows keys.new (λ t. has_key t (pair_views pairs.new.items)) }
 {
-    let mut pairs = pairs;
-    let mut keys = keys;
-    if let Some(what) = pair_fault(alloc, &value, &key, &pairs, &mut keys)? {
+    let mut known = keys.take();
+    if let Some(what) = pair_fault(alloc, &value, &key, pairs, &mut known)? {
         return Err(StepFault::Bad(what));
     }
-    let depth = deepened(deepened(depth, key.depth), value.depth);
+    let deeper = deepened(deepened(*depth, key.depth), value.depth);
     pairs.push((key.value, value.value))?;
-    Ok(Slot {
-        value: Value::Dict(pairs),
-        missing,
-        depth,
-        keys,
-    })
+    *depth = deeper;
+    *keys = known;
+    Ok(())
 }
 
 /// Why value and key cannot go into a dict of these pairs. Where they can, the key stands among the keys from now on.

@@ -1,14 +1,17 @@
 // The opcodes that take the last values off the stack and build a tuple or a set of them.
-ghost use Rattle.std.specs.Prelude.{◌≡◌, ◌<◌, map, Ok, Some, None, IfOk};
+ghost use Rattle.std.specs.Prelude.{◌≡◌, ◌<◌, ◌≤◌, length, map, drop, Ok, Some, None, IfOk, OnOk};
+ghost use Rattle.std.specs.Prelude.{take as take_list};
 ghost use Rattle.std.specs.List.{list_any};
 ghost use Rattle.xd_value.specs.Tree.{trees_depth};
-ghost use Rattle.xd_value.specs.Reading.{Gives, is_short, values_of, take_parts, build_tuple, set_parts as set_parts_of, set_fault as set_fault_of};
+ghost use Rattle.xd_value.specs.Reading.{Gives, is_short, values_of, take_parts, build_tuple, set_parts as set_parts_of, set_fault as set_fault_of, do_op};
 ghost use Rattle.xd_value.specs.Slots.{cell_of, cells_of};
 ghost use Rattle.xd_value.specs.View.{views};
+ghost use Rattle.xd_value.specs.declared.opcode.Opcode.TheVariants as opcode;
 
 use crate::checks::are_hashable;
 use crate::distinct::are_distinct;
 use crate::fault::{LoadWhat, StepFault};
+use crate::input::count_of;
 use crate::slot::Slot;
 use crate::stack::push;
 use crate::taken::Taken;
@@ -26,11 +29,14 @@ fn is_any_short(slots: &[Slot]) -> bool
     false
 }
 
-fn values(alloc: Global, slots: Vec<Slot>) -> Result<Vec<Value>, StepFault>
-    ensures { Gives (λ v. views v.items) result (Ok (values_of (map cell_of slots.items))) }
+/// The values of the slots from this one on, which are taken off the stack.
+fn values_from(alloc: Global, stack: &mut Vec<Slot>, at: usize) -> Result<Vec<Value>, AllocError>
+    requires { at ≤ length stack.old.items }
+    ensures taken { IfOk result (λ v. views v.items ≡ values_of (map cell_of (drop at stack.old.items))) }
+    ensures left { OnOk result (stack.new.items ≡ take_list at stack.old.items) }
 {
-    let mut items = Vec::with_capacity(alloc, slots.len())?;
-    for slot in slots {
+    let mut items = Vec::with_capacity(alloc, stack.len() - at)?;
+    for slot in stack.drain(at..) {
         items.push(slot.value)?;
     }
     Ok(items)
@@ -58,17 +64,18 @@ fn take(alloc: Global, stack: &mut Vec<Slot>, n: usize) -> Result<Taken, StepFau
     if stack.len() < n {
         return Err(StepFault::Bad(LoadWhat::Misplaced));
     }
-    let slots = stack.split_off(stack.len() - n)?;
-    if is_any_short(&slots) {
+    let at = stack.len() - n;
+    let (_, slots) = stack.split_at(at);
+    if is_any_short(slots) {
         return Err(StepFault::Bad(LoadWhat::ListOrder));
     }
-    let depth = deepest(&slots);
-    let items = values(alloc, slots)?;
+    let depth = deepest(slots);
+    let items = values_from(alloc, stack, at)?;
     Ok(Taken { items, depth })
 }
 
 #[tactic(auto, unfolding(crate::specs::Reading::build_tuple))]
-pub(crate) fn tuple(alloc: Global, stack: &mut Vec<Slot>, n: usize) -> Result<(), StepFault>
+fn build(alloc: Global, stack: &mut Vec<Slot>, n: usize) -> Result<(), StepFault>
     ensures { Gives (λ _. cells_of stack.new.items) result (build_tuple n (cells_of stack.old.items)) }
 {
     let Taken { items, depth } = take(alloc, stack, n)?;
@@ -79,9 +86,56 @@ pub(crate) fn tuple(alloc: Global, stack: &mut Vec<Slot>, n: usize) -> Result<()
     Ok(())
 }
 
+#[inline(never)]
+#[tactic(auto, unfolding(crate::specs::Reading::do_op))]
+pub(crate) fn tuple<'a>(
+    alloc: Global,
+    stack: &mut Vec<Slot>,
+    rest: &'a [u8],
+) -> Result<&'a [u8], StepFault>
+    ensures { Gives (λ r. (cells_of stack.new.items, r.now)) result
+        (do_op opcode.Tuple (cells_of stack.old.items) rest.now) }
+{
+    let (n, rest) = count_of(rest)?;
+    build(alloc, stack, n as usize)?;
+    Ok(rest)
+}
+
+#[inline(never)]
+#[tactic(auto, unfolding(crate::specs::Reading::do_op))]
+pub(crate) fn set<'a>(
+    alloc: Global,
+    stack: &mut Vec<Slot>,
+    rest: &'a [u8],
+) -> Result<&'a [u8], StepFault>
+    ensures { Gives (λ r. (cells_of stack.new.items, r.now)) result
+        (do_op opcode.Set (cells_of stack.old.items) rest.now) }
+{
+    let (n, rest) = count_of(rest)?;
+    let Taken { items, depth } = set_parts(alloc, stack, n as usize)?;
+    push(stack, Value::Set(items), 0, depth + 1)?;
+    Ok(rest)
+}
+
+#[inline(never)]
+#[tactic(auto, unfolding(crate::specs::Reading::do_op))]
+pub(crate) fn frozen_set<'a>(
+    alloc: Global,
+    stack: &mut Vec<Slot>,
+    rest: &'a [u8],
+) -> Result<&'a [u8], StepFault>
+    ensures { Gives (λ r. (cells_of stack.new.items, r.now)) result
+        (do_op opcode.FrozenSet (cells_of stack.old.items) rest.now) }
+{
+    let (n, rest) = count_of(rest)?;
+    let Taken { items, depth } = set_parts(alloc, stack, n as usize)?;
+    push(stack, Value::FrozenSet(items), 0, depth + 1)?;
+    Ok(rest)
+}
+
 /// Takes the items of a set.
 #[tactic(auto, unfolding(crate::specs::Reading::set_parts))]
-pub(crate) fn set_parts(alloc: Global, stack: &mut Vec<Slot>, n: usize) -> Result<Taken, StepFault>
+fn set_parts(alloc: Global, stack: &mut Vec<Slot>, n: usize) -> Result<Taken, StepFault>
     ensures items { Gives (λ p. (views p.items.items, cells_of stack.new.items)) result
         (set_parts_of n (cells_of stack.old.items)) }
     ensures shallow { IfOk result (λ p. p.depth < 64) }
