@@ -77,14 +77,15 @@ def test_command(test):
 """
 
 
-def best_of(words, text=None):
-    """The shortest of some runs, in seconds."""
-    best = None
+def best_of_each(commands):
+    """The shortest of some runs of each command, in seconds; the runs of the commands alternate, since a machine has busy times."""
+    best = {}
     for _ in range(shared.RUNS):
-        begun = time.monotonic()
-        subprocess.run(words, check=True, stdout=subprocess.DEVNULL, input=text)
-        took = time.monotonic() - begun
-        best = took if best is None else min(best, took)
+        for name, (words, text) in commands.items():
+            begun = time.monotonic()
+            subprocess.run(words, check=True, stdout=subprocess.DEVNULL, input=text)
+            took = time.monotonic() - begun
+            best[name] = min(took, best.get(name, took))
     return best
 
 
@@ -126,30 +127,32 @@ def others(folder, tests):
     yield "pytest with `subprocess.run`", python and [python, "-m", "pytest", "-q", "-p", "no:cacheprovider", file], None
 
 
+OURS, IN_C = "xdrun", "a loop in C"
+
+
 def measure(program):
-    rows, ours = [], {}
+    rows, cost = [], {}
     with tempfile.TemporaryDirectory() as folder:
         loop = c_loop(folder)
         for tests in (FEW, MANY):
             what = f"`-n 0`, {tests:,} tests of `true`"
-            ours[tests] = best_of([program, suite_of(folder, tests), "-n", "0"])
-            shared.note(f"{tests} tests: xdrun {ours[tests]:.2f} s")
-            if loop is None:
-                rows.append(shared.skipped(what, "a loop in C", "there is no cc"))
-                continue
-            theirs = best_of([loop, str(tests)])
-            shared.note(f"{tests} tests: loop in C {theirs:.2f} s")
-            rows.append(shared.at_most(what, "a loop in C", ours[tests] / theirs, 1.10))
-        growth = ours[MANY] / MANY / (ours[FEW] / FEW)
-        rows.append(shared.at_most(f"cost per test at {MANY:,}", f"cost per test at {FEW:,}", growth, 1.05, "times"))
-        for name, words, text in others(folder, FEW):
-            what = f"`-n 0`, {FEW:,} tests of `true`"
-            if not words:
-                rows.append(shared.skipped(what, name, "it is not installed"))
-                continue
-            theirs = best_of(words, text)
-            shared.note(f"{FEW} tests: {name} {theirs:.2f} s, {theirs / FEW * 1e3:.2f} ms each")
-            rows.append(shared.Row(what, name, ours[FEW] / theirs))
+            commands = {OURS: ([program, suite_of(folder, tests), "-n", "0"], None)}
+            beside = [(IN_C, loop and [loop, str(tests)], None)]
+            if tests == FEW:
+                beside += others(folder, tests)
+            commands |= {name: (words, text) for name, words, text in beside if words}
+            best = best_of_each(commands)
+            for name, took in best.items():
+                shared.note(f"{tests} tests: {name} {took:.2f} s, {took / tests * 1e3:.2f} ms each")
+            cost[tests] = best[OURS] / tests
+            for name, words, _ in beside:
+                if not words:
+                    rows.append(shared.skipped(what, name, "it is not installed"))
+                elif name == IN_C:
+                    rows.append(shared.at_most(what, name, best[OURS] / best[name], 1.10))
+                else:
+                    rows.append(shared.Row(what, name, best[OURS] / best[name]))
+    rows.append(shared.at_most(f"cost per test at {MANY:,}", f"cost per test at {FEW:,}", cost[MANY] / cost[FEW], 1.05, "times"))
     return rows
 
 

@@ -143,8 +143,8 @@ def measure(program):
     with tempfile.TemporaryDirectory() as folder:
         suite = os.path.join(folder, "suite.toml")
         shared.write(suite, "".join(f'[[test]]\nid = "test_{i}"\nrun = ["true"]\n' for i in range(TESTS)))
-        worker = min(run_tests(program, suite, TESTS)[0] for _ in range(shared.RUNS))
-        alone = min(run_alone(program, suite) for _ in range(shared.RUNS))
+        times = [(run_tests(program, suite, TESTS)[0], run_alone(program, suite)) for _ in range(shared.RUNS)]
+        worker, alone = map(min, zip(*times))
         few = run_tests(program, suite, TESTS // 10)[1]
         many = run_tests(program, suite, TESTS)[1]
     shared.note(f"{TESTS} tests: worker {worker:.2f} s, -n 0 {alone:.2f} s")
