@@ -2,7 +2,7 @@
 """Runs every benchmark of this folder, one after another, and prints one table of ratios. What is not installed is skipped
 with a word. What was measured is told on standard error as it comes.
 
-Usage: bench/all.py [PROGRAM]   from any folder; PROGRAM is the xdrun at the top of the repository where none is named.
+Usage: bench/all.py [PROGRAM]   from any folder; PROGRAM is the one of this repository where none is named.
 """
 import drive
 import local

@@ -6,7 +6,7 @@ Beside it stand a loop in C that starts, reads and waits for the same programs o
 parallel with one job, and pytest with a test function that calls subprocess.run for each command. Goals: at most 1.10 times the time
 of the loop in C, and a cost per test at 20,000 of at most 1.05 times that at 1,000.
 
-Usage: bench/local.py [PROGRAM]   from any folder; PROGRAM is the xdrun at the top of the repository where none is named.
+Usage: bench/local.py [PROGRAM]   from any folder; PROGRAM is the one of this repository where none is named.
 """
 import os
 import shutil

@@ -53,12 +53,13 @@ def note(text):
 
 
 def program():
-    """The program that the first argument names, or else the xdrun at the top of the repository, which is built here where
-    it has to be."""
-    path = os.path.abspath(sys.argv[1]) if len(sys.argv) > 1 else os.path.join(ROOT, "xdrun")
+    """The program that the first argument names, or else the one of this repository, which is built here where it has to be."""
+    script = os.path.join(ROOT, "xdrun")
+    path = os.path.abspath(sys.argv[1]) if len(sys.argv) > 1 else script
     if subprocess.run([path, "wire", "/dev/null"]).returncode != 0:
-        sys.exit(f"{path} does not run; name a program that was built, or build the one at the top by ./xdrun")
-    return path
+        sys.exit(f"{path} does not run; name a program that was built, or build the one of this repository by ./xdrun")
+    # The script looks for changes of the source at each start, which is no part of what is timed.
+    return os.path.join(ROOT, "crates", "xdrun", "out", "xdrun") if path == script else path
 
 
 def python_with(module):

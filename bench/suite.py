@@ -2,7 +2,7 @@
 """Times how long `xdrun SUITE -n 0` takes to read a suite of 50,000 tests, each with a group. The last test repeats
 the first one's id, so the whole file is read and nothing runs. Goal: well under a second; the table says whether it is under one.
 
-Usage: bench/suite.py [PROGRAM]   from any folder; PROGRAM is the xdrun at the top of the repository where none is named.
+Usage: bench/suite.py [PROGRAM]   from any folder; PROGRAM is the one of this repository where none is named.
 """
 import os
 import resource

@@ -1,7 +1,7 @@
 #!/usr/bin/env python3
 """Times `xdrun wire FILE` beside `cat` and beside loops over the real execnet's message reader.
 
-Usage: bench/wire.py [PROGRAM]   from any folder; PROGRAM is the xdrun at the top of the repository where none is named.
+Usage: bench/wire.py [PROGRAM]   from any folder; PROGRAM is the one of this repository where none is named.
 
 It writes a file of small messages, one of collections of 50,000 test ids, one of large texts and one of large bytes, some
 60 MiB each, and measures MB a second by the clock and by the processor's time (user and system), and peak memory, each

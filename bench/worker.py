@@ -1,7 +1,7 @@
 #!/usr/bin/env python3
 """Times `xdrun worker` behind a controller that speaks execnet's messages over its standard streams.
 
-Usage: bench/worker.py [PROGRAM]   from any folder; PROGRAM is the xdrun at the top of the repository where none is named.
+Usage: bench/worker.py [PROGRAM]   from any folder; PROGRAM is the one of this repository where none is named.
 
 It runs 5,000 tests of `true` in one worker beside `-n 0` on the same suite (goal: at most 1.15 times its time), compares
 the peak memory of 500 and 5,000 tests run from one suite of 5,000 (goal: the same but for what is kept of each test),
