@@ -148,7 +148,7 @@ MIXED, FEW, MANY, _, NESTED = (name for name, _ in CASES)
 
 
 def measure(_):
-    took, peaks, compared = {}, {}, []
+    took, peaks, sizes, compared = {}, {}, {}, []
     python = shared.python_with("execnet")
     with tempfile.TemporaryDirectory() as folder:
         program = shared.build(folder, "value_bench", PROGRAM, ": xd_value xd_edge")
@@ -164,9 +164,9 @@ def measure(_):
                     compared.append(theirs(python, path))
             loads, dumps, _ = best(runs)
             peak = max(run[2] for run in runs)
-            took[name], peaks[name] = (loads, dumps), peak / len(payload)
+            took[name], peaks[name], sizes[name] = (loads, dumps), peak, len(payload)
             wrote = f"dumps {dumps / 1e6:.3f} s" if dumps is not None else "dumps refused"
-            shared.note(f"{name}, {len(payload)} bytes: loads {loads / 1e6:.3f} s, {wrote}, peak {peak >> 20} MiB, {peaks[name]:.1f} bytes a byte")
+            shared.note(f"{name}, {len(payload)} bytes: loads {loads / 1e6:.3f} s, {wrote}, peak {peak >> 20} MiB")
     rows = []
     if python is None:
         for what in ("reading", "writing"):
@@ -176,8 +176,9 @@ def measure(_):
         rows.append(shared.at_least(f"reading {MIXED}", "execnet's `loads`", read / loads, 20))
         rows.append(shared.at_least(f"writing {MIXED}", "execnet's `dumps`", written / dumps, 20))
     rows.append(shared.at_most(f"reading {MANY}", FEW, took[MANY][0] / took[FEW][0], 25))
-    peak = max(each for name, each in peaks.items() if name != NESTED)
-    rows.append(shared.at_most("peak memory of reading", "the payload", peak, 40, "bytes a byte"))
+    # What the program takes anyhow is what it takes for the smallest payload.
+    peak = max((peaks[name] - peaks[NESTED]) / sizes[name] for name in peaks if name != NESTED)
+    rows.append(shared.at_most("peak memory of reading, without the program's own", "the payload", peak, 40, "bytes a byte"))
     return rows
 
 
