@@ -52,11 +52,19 @@ def note(text):
     print(text, file=sys.stderr, flush=True)
 
 
+def runs(program):
+    """Runs it on no message; where it has to be built first, that is done here, and not while it is timed."""
+    try:
+        return subprocess.run([program, "wire", "/dev/null"]).returncode == 0
+    except OSError:
+        return False
+
+
 def program():
     """The program that the first argument names, or else the one of this repository, which is built here where it has to be."""
     script = os.path.join(ROOT, "xdrun")
     path = os.path.abspath(sys.argv[1]) if len(sys.argv) > 1 else script
-    if subprocess.run([path, "wire", "/dev/null"]).returncode != 0:
+    if not runs(path):
         sys.exit(f"{path} does not run; name a program that was built, or build the one of this repository by ./xdrun")
     # The script looks for changes of the source at each start, which is no part of what is timed.
     return os.path.join(ROOT, "crates", "xdrun", "out", "xdrun") if path == script else path
