@@ -3,22 +3,21 @@
 drops what it takes. Goal: at most 12 times the time. Beside it stands the same with a chunk of 1, where no worker holds more
 than two tests: what grows there does not come of the lists of what workers hold.
 
-Usage: bench/drive.py   at the top of the repository. It builds a small program over xd_drive in a temporary repository with
-rt, as rt run builds it. The program reads which worker runs which test, in order, makes the news of four honest
-workers, and times one call of drive. The runs of the two sizes alternate, and the best of each counts.
+Usage: bench/drive.py   from any folder. It builds a small program over xd_drive in a temporary repository with rt, as rt run
+builds it. The program reads which worker runs which test, in order, makes the news of four honest workers, and times one
+call of drive. The runs of the two sizes alternate, and the best of each counts.
 """
 import collections
 import os
-import shutil
 import subprocess
 import sys
 import tempfile
 
-HERE = os.path.dirname(os.path.dirname(os.path.abspath(__file__)))
+import shared
+
 WORKERS = 4
 CHUNKS = None, 1
 SIZES = 5_000, 50_000
-RUNS = 4
 
 PROGRAM = """//! Times a run of mode load by a file: the chunk or -, and then a line for each test, with its worker.
 #![tactic(auto)]
@@ -191,35 +190,9 @@ def order_of(tests, chunk):
     return order
 
 
-def build(folder):
-    """Makes a repository with the program, and gives the folder of its crate."""
-    shutil.copytree(os.path.join(HERE, "crates"), os.path.join(folder, "crates"), ignore=shutil.ignore_patterns("out"))
-    shutil.copy(os.path.join(HERE, "HANDLES"), folder)
-    crate = os.path.join(folder, "crates", "drive_bench")
-    subprocess.run(["rt", "new", crate, "start_io"], check=True, capture_output=True)
-    for name in ("stdin", "stdout", "BUILD.bazel"):
-        if os.path.exists(os.path.join(crate, name)):
-            os.remove(os.path.join(crate, name))
-    shutil.rmtree(os.path.join(crate, "src"))
-    shutil.rmtree(os.path.join(crate, "proofs"), ignore_errors=True)
-    os.makedirs(os.path.join(crate, "src"))
-    with open(os.path.join(crate, "src", "main.rt"), "w") as file:
-        file.write(PROGRAM.replace("WORKERS", str(WORKERS)))
-    os.makedirs(os.path.join(crate, "proofs", "begun"))
-    with open(os.path.join(crate, "proofs", "begun", "Answers.antt"), "w") as file:
-        file.write(ANSWERS)
-    with open(os.path.join(HERE, "crates.txt")) as file:
-        lines = file.read()
-    with open(os.path.join(folder, "crates.txt"), "w") as file:
-        file.write(lines + "drive_bench may_wait=1: xd_drive xd_session xd_laws xd_report xd_load xd_ledger xd_edge\n")
-    return crate
-
-
-def took(crate, path, tests):
+def took(program, path, tests):
     """Microseconds of one run, whose journal has to have every test once."""
-    program = os.path.join(crate, "out", "drive_bench")
-    command = [program, path] if os.path.exists(program) else ["rt", "run", "--", path]
-    done = subprocess.run(command, cwd=crate, capture_output=True, text=True)
+    done = subprocess.run([program, path], capture_output=True, text=True)
     words = [line.split() for line in done.stdout.splitlines() if line.startswith("took ")]
     if len(words) != 1:
         sys.exit(f"the program did not run:\n{done.stdout}{done.stderr}")
@@ -229,27 +202,30 @@ def took(crate, path, tests):
     return int(micros)
 
 
-def main():
+def measure(_):
     few, many = SIZES
+    rows = []
     with tempfile.TemporaryDirectory() as folder:
-        crate = build(folder)
+        crates = " may_wait=1: xd_drive xd_session xd_laws xd_report xd_load xd_ledger xd_edge"
+        source = PROGRAM.replace("WORKERS", str(WORKERS))
+        program = shared.build(folder, "drive_bench", source, crates, {"begun": ANSWERS})
         best = {}
         for chunk in CHUNKS:
             for tests in SIZES:
-                with open(os.path.join(folder, f"{tests}.{chunk}"), "w") as file:
-                    file.write(f"{chunk or '-'}\n")
-                    file.write("".join(f"{worker} {test}\n" for worker, test in order_of(tests, chunk)))
-        for _ in range(RUNS):
+                lines = "".join(f"{worker} {test}\n" for worker, test in order_of(tests, chunk))
+                shared.write(os.path.join(folder, f"{tests}.{chunk}"), f"{chunk or '-'}\n{lines}")
+        for _ in range(shared.RUNS):
             for case in [(tests, chunk) for chunk in CHUNKS for tests in SIZES]:
-                micros = took(crate, os.path.join(folder, "%d.%s" % case), case[0])
+                micros = took(program, os.path.join(folder, "%d.%s" % case), case[0])
                 best[case] = min(micros, best.get(case, micros))
-        for chunk in CHUNKS:
-            print("batches of mode load" if chunk is None else f"a chunk of {chunk}")
-            for tests in SIZES:
-                print(f"  {tests} tests: {best[tests, chunk] / 1e6:.3f} s, {best[tests, chunk] / tests:.2f} us each")
-            ratio = best[many, chunk] / best[few, chunk]
-            print(f"  {many} tests take {ratio:.1f} times the time of {few} (at most 12 is wanted)")
+    for chunk in CHUNKS:
+        batches = "the batches of mode load" if chunk is None else f"a chunk of {chunk}"
+        for tests in SIZES:
+            shared.note(f"{batches}, {tests} tests: {best[tests, chunk] / 1e6:.3f} s, {best[tests, chunk] / tests:.2f} us each")
+        what = f"`drive`, {many:,} tests in mode load, {batches}, {best[many, chunk] / 1e6:.2f} s"
+        rows.append(shared.at_most(what, f"{few:,} tests", best[many, chunk] / best[few, chunk], 12))
+    return rows
 
 
 if __name__ == "__main__":
-    main()
+    shared.print_table(measure(None))

@@ -1,16 +1,22 @@
 #!/usr/bin/env python3
-"""Times `xdrun SUITE -n 0` on 1,000 and 20,000 tests of `true`, beside a loop in C that starts, reads and waits for
-the same programs over the same kind of pipe. Prints the ratio, and how the cost of a test grows with their number.
+"""Times `xdrun SUITE -n 0` on 1,000 and 20,000 tests of `true`.
 
-Usage: bench/local.py [TESTS ..]   from any folder; needs cc.
+Beside it stand a loop in C that starts, reads and waits for the same programs over the same kind of pipe, and, for the
+1,000 tests, what else runs a list of commands one after another, where it is installed: a loop of the shell, xargs, GNU
+parallel with one job, and pytest with a test function that calls subprocess.run for each command. Goals: at most 1.10 times the time
+of the loop in C, and a cost per test at 20,000 of at most 1.05 times that at 1,000.
+
+Usage: bench/local.py [PROGRAM]   from any folder; PROGRAM is the one of this repository where none is named.
 """
 import os
+import shutil
 import subprocess
-import sys
 import tempfile
 import time
 
-ROOT = os.path.dirname(os.path.dirname(os.path.abspath(__file__)))
+import shared
+
+FEW, MANY = 1_000, 20_000
 
 C_LOOP = r"""
 #define _GNU_SOURCE
@@ -52,40 +58,103 @@ int main(int argc, char **argv) {
 """
 
 
-def best_of(times, words):
-    """The shortest of some runs, in seconds."""
-    best = None
-    for _ in range(times):
-        start = time.monotonic()
-        subprocess.run(words, check=True, stdout=subprocess.DEVNULL)
-        took = time.monotonic() - start
-        best = took if best is None else min(best, took)
+SHELL_LOOP = """i=0
+while [ $i -lt "$1" ]; do
+    if "$2" < /dev/null 2> /dev/null; then echo "PASSED t$i"; else echo "FAILED t$i"; fi
+    i=$((i + 1))
+done
+"""
+
+PYTEST_FILE = """import subprocess
+
+import pytest
+
+
+@pytest.mark.parametrize("test", range(TESTS))
+def test_command(test):
+    null = subprocess.DEVNULL
+    assert subprocess.run(["true"], stdin=null, stdout=subprocess.PIPE, stderr=null).returncode == 0
+"""
+
+
+def best_of_each(commands):
+    """The shortest of some runs of each command, in seconds; the runs of the commands alternate, since a machine has busy times."""
+    best = {}
+    for _ in range(shared.RUNS):
+        for name, (words, text) in commands.items():
+            begun = time.monotonic()
+            subprocess.run(words, check=True, stdout=subprocess.DEVNULL, input=text)
+            took = time.monotonic() - begun
+            best[name] = min(took, best.get(name, took))
     return best
 
 
-def main():
-    counts = [int(word) for word in sys.argv[1:]] or [1000, 20000]
-    program = os.path.join(ROOT, "xdrun")
-    subprocess.run([program, "wire", "/dev/null"], check=True)
+def suite_of(folder, tests):
+    path = os.path.join(folder, f"suite{tests}.toml")
+    shared.write(path, "".join(f'[[test]]\nid = "t{test}"\nrun = ["true"]\n\n' for test in range(tests)))
+    return path
+
+
+def c_loop(folder):
+    """The path of the loop in C, or None where there is no compiler."""
+    if shutil.which("cc") is None:
+        return None
+    source, loop = os.path.join(folder, "loop.c"), os.path.join(folder, "loop")
+    shared.write(source, C_LOOP)
+    subprocess.run(["cc", "-O2", "-o", loop, source], check=True)
+    return loop
+
+
+def gnu_parallel():
+    path = shutil.which("parallel")
+    if path is None:
+        return None
+    told = subprocess.run([path, "--version"], capture_output=True, text=True)
+    return path if told.stdout.startswith("GNU parallel") else None
+
+
+def others(folder, tests):
+    """What else runs so many commands: a name, and its words and its input, or None where it is not installed."""
+    true = shutil.which("true")
+    numbers = "".join(f"{test}\n" for test in range(tests)).encode()
+    yield "a loop of the shell", ["sh", "-c", SHELL_LOOP, "sh", str(tests), true], None
+    yield "`xargs -n 1`", shutil.which("xargs") and ["xargs", "-n", "1", true], numbers
+    parallel = gnu_parallel()
+    yield "GNU `parallel -j 1`", parallel and [parallel, "--will-cite", "-j", "1", true], numbers
+    python = shared.python_with("pytest")
+    file = os.path.join(folder, "test_commands.py")
+    shared.write(file, PYTEST_FILE.replace("TESTS", str(tests)))
+    yield "pytest with `subprocess.run`", python and [python, "-m", "pytest", "-q", "-p", "no:cacheprovider", file], None
+
+
+OURS, IN_C = "xdrun", "a loop in C"
+
+
+def measure(program):
+    rows, cost = [], {}
     with tempfile.TemporaryDirectory() as folder:
-        source, loop = os.path.join(folder, "loop.c"), os.path.join(folder, "loop")
-        with open(source, "w", encoding="utf-8") as file:
-            file.write(C_LOOP)
-        subprocess.run(["cc", "-O2", "-o", loop, source], check=True)
-        costs = []
-        for count in counts:
-            suite = os.path.join(folder, f"suite{count}.toml")
-            with open(suite, "w", encoding="utf-8") as file:
-                for test in range(count):
-                    file.write(f'[[test]]\nid = "t{test}"\nrun = ["true"]\n\n')
-            times = 3 if count <= 5000 else 2
-            ours = best_of(times, [program, suite, "-n", "0"])
-            theirs = best_of(times, [loop, str(count)])
-            costs.append(ours / count)
-            print(f"{count} tests: xdrun {ours:.2f} s, C loop {theirs:.2f} s, ratio {ours / theirs:.3f}")
-        if len(costs) > 1:
-            print(f"cost per test at {counts[-1]} over that at {counts[0]}: {costs[-1] / costs[0]:.3f}")
+        loop = c_loop(folder)
+        for tests in (FEW, MANY):
+            what = f"`-n 0`, {tests:,} tests of `true`"
+            commands = {OURS: ([program, suite_of(folder, tests), "-n", "0"], None)}
+            beside = [(IN_C, loop and [loop, str(tests)], None)]
+            if tests == FEW:
+                beside += others(folder, tests)
+            commands |= {name: (words, text) for name, words, text in beside if words}
+            best = best_of_each(commands)
+            for name, took in best.items():
+                shared.note(f"{tests} tests: {name} {took:.2f} s, {took / tests * 1e3:.2f} ms each")
+            cost[tests] = best[OURS] / tests
+            for name, words, _ in beside:
+                if not words:
+                    rows.append(shared.skipped(what, name, "it is not installed"))
+                elif name == IN_C:
+                    rows.append(shared.at_most(what, name, best[OURS] / best[name], 1.10))
+                else:
+                    rows.append(shared.Row(what, name, best[OURS] / best[name]))
+    rows.append(shared.at_most(f"cost per test at {MANY:,}", f"cost per test at {FEW:,}", cost[MANY] / cost[FEW], 1.05, "times"))
+    return rows
 
 
 if __name__ == "__main__":
-    main()
+    shared.main(measure)

@@ -1,19 +1,18 @@
 #!/usr/bin/env python3
 """Times how long `xdrun SUITE -n 0` takes to read a suite of 50,000 tests, each with a group. The last test repeats
-the first one's id, so the whole file is read and nothing runs. Goal: well under a second.
+the first one's id, so the whole file is read and nothing runs. Goal: well under a second; the table says whether it is under one.
 
-Usage: bench/suite.py [PROGRAM]   from any folder; PROGRAM is the xdrun at the top of the repository where none is named.
+Usage: bench/suite.py [PROGRAM]   from any folder; PROGRAM is the one of this repository where none is named.
 """
 import os
 import resource
 import subprocess
-import sys
 import tempfile
 import time
 
-ROOT = os.path.dirname(os.path.dirname(os.path.abspath(__file__)))
+import shared
+
 MAX_TESTS = 50_000
-RUNS = 5
 
 
 def write_suite(path, tests):
@@ -27,7 +26,7 @@ def write_suite(path, tests):
 def read_time(program, path, tests):
     """The shortest of some runs, in seconds, of which each has to refuse the last test."""
     best = None
-    for _ in range(RUNS):
+    for _ in range(shared.RUNS):
         start = time.monotonic()
         done = subprocess.run([program, path, "-n", "0"], capture_output=True)
         took = time.monotonic() - start
@@ -38,20 +37,22 @@ def read_time(program, path, tests):
     return best
 
 
-def main():
-    program = sys.argv[1] if len(sys.argv) > 1 else os.path.join(ROOT, "xdrun")
+def measure(program):
+    few, many = MAX_TESTS // 10, MAX_TESTS
     times = {}
     with tempfile.TemporaryDirectory() as folder:
         path = os.path.join(folder, "suite.toml")
-        for tests in (MAX_TESTS // 10, MAX_TESTS):
+        for tests in (few, many):
             write_suite(path, tests)
             times[tests] = read_time(program, path, tests)
-            print(f"{tests} tests, {os.path.getsize(path) / 1e6:.1f} MB: {times[tests]:.3f} s")
-    few, many = sorted(times)
-    print(f"cost per test at {many} over that at {few}: {times[many] / many / (times[few] / few):.2f}")
+            shared.note(f"{tests} tests, {os.path.getsize(path) / 1e6:.1f} MB: {times[tests]:.3f} s")
     peak = resource.getrusage(resource.RUSAGE_CHILDREN).ru_maxrss / 1024
-    print(f"peak memory {peak:.0f} MiB")
+    shared.note(f"peak memory of a child so far: {peak:.0f} MiB")
+    ratio = times[many] / many / (times[few] / few)
+    row = shared.Row(f"cost per test of reading {many:,} tests, {times[many]:.2f} s in all", f"of reading {few:,}", ratio, "times")
+    row.goal, row.is_met = "under 1 s in all", times[many] < 1
+    return [row]
 
 
 if __name__ == "__main__":
-    main()
+    shared.main(measure)

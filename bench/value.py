@@ -1,9 +1,9 @@
 #!/usr/bin/env python3
 """Times xd_value beside the real execnet, and measures its peak memory.
 
-Run it at the top of the repository, by the Python that has execnet (on Debian: /usr/bin/python3 bench/value.py, with
-python3-execnet installed). It builds a small program over xd_value in a temporary repository with rt, as rt run builds it,
-and prints times, ratios and peak memory. Where execnet is not installed, its part is skipped with a word.
+Usage: bench/value.py   from any folder. It builds a small program over xd_value in a temporary repository with rt, as rt run
+builds it, and prints times, ratios and peak memory. Where execnet is not installed (python3-execnet on Debian) its part is skipped
+with a word.
 
 Both sides are measured alike: each run is a process of its own that first reads the payload from a file, and then times one
 call of loads and one call of dumps of what it gave; neither the start of the process, nor the reading of the file, nor the
@@ -12,13 +12,12 @@ end of the value counts. The runs alternate, and the best of each side counts.
 
 import os
 import random
-import shutil
 import struct
 import subprocess
 import sys
 import tempfile
 
-HERE = os.path.dirname(os.path.dirname(os.path.abspath(__file__)))
+import shared
 
 PROGRAM = """//! Reads a payload from the file that the first argument names, and writes its value again.
 #![tactic(auto)]
@@ -71,10 +70,6 @@ dumps_internal(value)
 print((middle - begun) * 1e6, (time.perf_counter() - middle) * 1e6)
 """
 
-# Runs of each payload, the best of which counts.
-ROUNDS = 5
-
-
 def number(n):
     return struct.pack("!I", n)
 
@@ -121,32 +116,9 @@ def nested(depth):
     return (b"K" + number(1) + integer(0)) * (depth - 1) + b"K" + number(0) + b"P" * (depth - 1) + b"Q"
 
 
-def build(folder):
-    """Makes a repository with the program, and gives the folder of its crate."""
-    shutil.copytree(os.path.join(HERE, "crates"), os.path.join(folder, "crates"), ignore=shutil.ignore_patterns("out"))
-    shutil.copy(os.path.join(HERE, "HANDLES"), folder)
-    crate = os.path.join(folder, "crates", "value_bench")
-    subprocess.run(["rt", "new", crate, "start_io"], check=True, capture_output=True)
-    for name in ("stdin", "stdout", "BUILD.bazel"):
-        if os.path.exists(os.path.join(crate, name)):
-            os.remove(os.path.join(crate, name))
-    shutil.rmtree(os.path.join(crate, "src"))
-    shutil.rmtree(os.path.join(crate, "proofs"), ignore_errors=True)
-    os.makedirs(os.path.join(crate, "src"))
-    with open(os.path.join(crate, "src", "main.rt"), "w") as f:
-        f.write(PROGRAM)
-    with open(os.path.join(HERE, "crates.txt")) as f:
-        lines = f.read()
-    with open(os.path.join(folder, "crates.txt"), "w") as f:
-        f.write(lines + "value_bench: xd_value xd_edge\n")
-    return crate
-
-
-def ours(crate, path):
+def ours(program, path):
     """Reads and writes once, in a process of its own: microseconds of each, and peak memory in bytes."""
-    program = os.path.join(crate, "out", "value_bench")
-    command = [program, path] if os.path.exists(program) else ["rt", "run", "--", path]
-    done = subprocess.run(command, cwd=crate, capture_output=True, text=True)
+    done = subprocess.run([program, path], capture_output=True, text=True)
     words = {line.split()[0]: line.split()[1:] for line in done.stdout.splitlines() if line.strip()}
     if "loads" not in words or "VmHWM:" not in words:
         sys.exit(f"the program did not run:\n{done.stdout}{done.stderr}")
@@ -154,10 +126,10 @@ def ours(crate, path):
     return took["loads"], took["dumps"], int(words["VmHWM:"][0]) * 1024
 
 
-def theirs(path):
-    """The same by execnet, in a process of its own, without the memory; None where it is not installed."""
-    done = subprocess.run([sys.executable, "-c", THEIRS, path], capture_output=True, text=True)
-    return tuple(map(float, done.stdout.split())) if done.returncode == 0 else None
+def theirs(python, path):
+    """The same by execnet, in a process of its own, without the memory."""
+    done = subprocess.run([python, "-c", THEIRS, path], capture_output=True, text=True, check=True)
+    return tuple(map(float, done.stdout.split()))
 
 
 def best(runs):
@@ -165,42 +137,50 @@ def best(runs):
     return [None if None in column else min(column) for column in zip(*runs)]
 
 
-def main():
+CASES = [
+    ("10 MB of mixed values", lambda: mixed(10_000_000)),
+    ("a set of 100,000 integers", lambda: set_of_integers(100_000)),
+    ("a set of 2,000,000 integers", lambda: set_of_integers(2_000_000)),
+    ("a dict of 1,000,000 texts", lambda: dict_of_texts(1_000_000)),
+    ("a list nested 64 deep", lambda: nested(64)),
+]
+MIXED, FEW, MANY, _, NESTED = (name for name, _ in CASES)
+
+
+def measure(_):
+    took, peaks, sizes, compared = {}, {}, {}, []
+    python = shared.python_with("execnet")
     with tempfile.TemporaryDirectory() as folder:
-        crate = build(folder)
-        print("payload                     bytes     loads     dumps      peak  bytes a byte")
-        took = {}
-        cases = [
-            ("10 MB of mixed values", mixed(10_000_000)),
-            ("set of 100,000 integers", set_of_integers(100_000)),
-            ("set of 2,000,000 integers", set_of_integers(2_000_000)),
-            ("dict of 1,000,000 texts", dict_of_texts(1_000_000)),
-            ("list nested 64 deep", nested(64)),
-        ]
+        program = shared.build(folder, "value_bench", PROGRAM, ": xd_value xd_edge")
         path = os.path.join(folder, "payload")
-        compared = []
-        for name, payload in cases:
+        for name, make in CASES:
+            payload = make()
             with open(path, "wb") as f:
                 f.write(payload)
             runs = []
-            for _ in range(ROUNDS):
-                runs.append(ours(crate, path))
-                if payload is cases[0][1]:
-                    compared.append(theirs(path))
+            for _ in range(shared.RUNS):
+                runs.append(ours(program, path))
+                if name == MIXED and python is not None:
+                    compared.append(theirs(python, path))
             loads, dumps, _ = best(runs)
             peak = max(run[2] for run in runs)
-            took[name] = loads, dumps
-            wrote = f"{dumps / 1e6:8.3f}s" if dumps is not None else "  refused"
-            print(f"{name:26} {len(payload):9} {loads / 1e6:8.3f}s {wrote} {peak >> 20:6} MB {peak / len(payload):9.1f}")
-        few, many = took["set of 100,000 integers"], took["set of 2,000,000 integers"]
-        print(f"2,000,000 keys take {many[0] / few[0]:.1f} times the time of 100,000 (at most 25 is wanted)")
-        if None in compared:
-            print("execnet is not installed, so it is not compared with")
-        else:
-            loads, dumps = took["10 MB of mixed values"]
-            read, written = best(compared)
-            print(f"execnet takes {read / loads:.1f} times as long to read, {written / dumps:.1f} times to write (20 is wanted)")
+            took[name], peaks[name], sizes[name] = (loads, dumps), peak, len(payload)
+            wrote = f"dumps {dumps / 1e6:.3f} s" if dumps is not None else "dumps refused"
+            shared.note(f"{name}, {len(payload)} bytes: loads {loads / 1e6:.3f} s, {wrote}, peak {peak >> 20} MiB")
+    rows = []
+    if python is None:
+        for what in ("reading", "writing"):
+            rows.append(shared.skipped(f"{what} {MIXED}", "execnet", "execnet is not installed"))
+    else:
+        (read, written), (loads, dumps) = best(compared), took[MIXED]
+        rows.append(shared.at_least(f"reading {MIXED}", "execnet's `loads`", read / loads, 20))
+        rows.append(shared.at_least(f"writing {MIXED}", "execnet's `dumps`", written / dumps, 20))
+    rows.append(shared.at_most(f"reading {MANY}", FEW, took[MANY][0] / took[FEW][0], 25))
+    # What the program takes anyhow is what it takes for the smallest payload.
+    peak = max((peaks[name] - peaks[NESTED]) / sizes[name] for name in peaks if name != NESTED)
+    rows.append(shared.at_most("peak memory of reading, without the program's own", "the payload", peak, 40, "bytes a byte"))
+    return rows
 
 
 if __name__ == "__main__":
-    main()
+    shared.print_table(measure(None))

@@ -1,13 +1,15 @@
 #!/usr/bin/env python3
 """Times `xdrun wire FILE` beside `cat` and beside loops over the real execnet's message reader.
 
-Run it at the top of the repository: python3 bench/wire.py [PROGRAM]. PROGRAM is ./xdrun where none is named. It writes
-a file of small messages, one of collections of 50,000 test ids, one of large texts and one of large bytes, some 60 MiB
-each, and prints MB a second by the clock and by the processor's time (user and system), and peak memory, each the best
-of three runs with the output thrown away. On a busy machine only the processor's time tells something. Of execnet there
-are two loops: one reads each message and decodes its payload, and one prints its line as well, as `wire` does, with the
-value in Python's own notation. Goals: at least 30 times the speed of execnet's loop, and a peak of at most the file and a few
-messages. Where execnet is not installed (python3-execnet on Debian) its part is skipped with a word.
+Usage: bench/wire.py [PROGRAM]   from any folder; PROGRAM is the one of this repository where none is named.
+
+It writes a file of small messages, one of collections of 50,000 test ids, one of large texts and one of large bytes, some
+60 MiB each, and measures MB a second by the clock and by the processor's time (user and system), and peak memory, each
+the best of some runs with the output thrown away. The ratios are of the processor's time, which tells something on a
+busy machine, too. Of execnet there are two loops: one reads each message and decodes its payload, and one prints its line as well,
+as `wire` does, with the value in Python's own notation. Goals: at least 30 times the speed of the loop that prints, and a
+peak of at most the file and a few messages. Where execnet is not installed (python3-execnet on Debian) its part is
+skipped with a word.
 """
 
 import os
@@ -17,8 +19,9 @@ import sys
 import tempfile
 import time
 
+import shared
+
 SIZE = 60 * 1024 * 1024
-RUNS = 3
 
 EXECNET_READS = """
 import io, sys
@@ -102,11 +105,11 @@ FILES = {
 }
 
 
-def measure(words):
+def timed(words):
     """The seconds by the clock and of the processor, each of the best of the runs, and the least peak memory in MiB, or
     None where it cannot be run."""
     best = None
-    for _ in range(RUNS):
+    for _ in range(shared.RUNS):
         begun = time.monotonic()
         try:
             child = subprocess.Popen(words, stdout=subprocess.DEVNULL, stderr=subprocess.PIPE)
@@ -117,19 +120,54 @@ def measure(words):
         child.returncode = os.waitstatus_to_exitcode(status)
         took = time.monotonic() - begun
         if child.returncode != 0:
-            print(f"  {words[0]}: status {child.returncode} {error[-200:]}")
+            shared.note(f"  {words[0]}: status {child.returncode} {error[-200:]}")
             return None
         run = (took, usage.ru_utime + usage.ru_stime, usage.ru_maxrss / 1024)
         best = run if best is None else tuple(map(min, best, run))
     return best
 
 
-def python_with_execnet():
-    for python in (sys.executable, "/usr/bin/python3"):
-        done = subprocess.run([python, "-c", "import execnet.gateway_base"], capture_output=True)
-        if done.returncode == 0:
-            return python
-    return None
+def measure(program):
+    rows = []
+    python = shared.python_with("execnet.gateway_base")
+    with tempfile.TemporaryDirectory() as folder:
+        for name in FILES:
+            path = os.path.join(folder, "messages")
+            # A process of its own makes the file, because a child's peak counts that of its parent.
+            subprocess.run([sys.executable, os.path.abspath(__file__), "--make", name, path], check=True)
+            megabytes = os.path.getsize(path) / 1e6
+            shared.note(f"{name}, {megabytes:.0f} MB")
+            runs = [("cat", ["cat", path]), ("xdrun wire", [program, "wire", path])]
+            if python is not None:
+                runs.append(("execnet reads", [python, "-c", EXECNET_READS, path]))
+                runs.append(("execnet prints", [python, "-c", EXECNET_PRINTS, path]))
+            times = {}
+            for what, words in runs:
+                times[what] = timed(words)
+                if times[what] is not None:
+                    clock, processor, peak = times[what]
+                    speeds = f"{megabytes / clock:.1f} MB/s, {megabytes / processor:.1f} MB/s of the processor"
+                    shared.note(f"  {what}: {speeds}, peak {peak:.1f} MiB")
+            rows += rows_of(name, megabytes, times)
+    return rows
+
+
+def rows_of(name, megabytes, times):
+    """The rows of one file, by the processor's time."""
+    rows = []
+    what, ours = f"`wire`, {megabytes:.0f} MB of {name}", times["xdrun wire"]
+    for which, beside in (("execnet prints", "a loop that prints them by execnet"), ("execnet reads", "a loop that reads them by execnet")):
+        theirs = times.get(which)
+        if ours is None or theirs is None:
+            why = "wire did not run" if ours is None else "execnet is not installed"
+            rows.append(shared.skipped(what, beside, why))
+        elif which == "execnet prints":
+            rows.append(shared.at_least(what, beside, theirs[1] / ours[1], 30))
+        else:
+            rows.append(shared.Row(what, beside, theirs[1] / ours[1], "times as fast"))
+    if ours is not None:
+        rows.append(shared.Row(f"peak memory of {what}", "the file", ours[2] * 1024 * 1024 / 1e6 / megabytes, "times", "the file and a few messages"))
+    return rows
 
 
 def main():
@@ -137,32 +175,7 @@ def main():
         with open(sys.argv[3], "wb") as f:
             f.write(FILES[sys.argv[2]]())
         return
-    program = sys.argv[1] if len(sys.argv) > 1 else "./xdrun"
-    python = python_with_execnet()
-    with tempfile.TemporaryDirectory() as folder:
-        for name in FILES:
-            path = os.path.join(folder, "messages")
-            # A process of its own makes the file, because a child's peak counts that of its parent.
-            subprocess.run([sys.executable, os.path.abspath(__file__), "--make", name, path], check=True)
-            megabytes = os.path.getsize(path) / 1e6
-            print(f"{name}, {megabytes:.0f} MB")
-            runs = [("cat", ["cat", path]), ("xdrun wire", [program, "wire", path])]
-            if python is None:
-                print("  execnet is not installed: its loops are skipped")
-            else:
-                runs.append(("execnet reads", [python, "-c", EXECNET_READS, path]))
-                runs.append(("execnet prints", [python, "-c", EXECNET_PRINTS, path]))
-            speeds = {}
-            for what, words in runs:
-                found = measure(words)
-                if found is not None:
-                    speeds[what] = megabytes / found[0], megabytes / found[1]
-                    clock, processor = speeds[what]
-                    print(f"  {what:16} {clock:9.1f} MB/s, {processor:9.1f} MB/s of the processor, peak {found[2]:7.1f} MiB")
-            for what in ("execnet reads", "execnet prints"):
-                if "xdrun wire" in speeds and what in speeds:
-                    clock, processor = (a / b for a, b in zip(speeds["xdrun wire"], speeds[what]))
-                    print(f"  xdrun wire beside `{what}`: {clock:.1f} times as fast, {processor:.1f} times by the processor")
+    shared.main(measure)
 
 
 if __name__ == "__main__":

@@ -1,24 +1,25 @@
 #!/usr/bin/env python3
 """Times `xdrun worker` behind a controller that speaks execnet's messages over its standard streams.
 
-Run it at the top of the repository: python3 bench/worker.py [PROGRAM]. PROGRAM is ./xdrun where none is named. It runs
-5,000 tests of `true` in one worker beside `-n 0` on the same suite (goal: at most 1.15 times its time), compares the
-peak memory of 500 and 5,000 tests run from one suite of 5,000 (goal: the same but for what is kept of each test), and
-sends 20,000 integers through `echo` beside the real execnet's echo (goal: at least 10 times as many a second), each the
-best of three runs. Where execnet is not installed (python3-execnet on Debian) its part is skipped with a word.
+Usage: bench/worker.py [PROGRAM]   from any folder; PROGRAM is the one of this repository where none is named.
+
+It runs 5,000 tests of `true` in one worker beside `-n 0` on the same suite (goal: at most 1.15 times its time), compares
+the peak memory of 500 and 5,000 tests run from one suite of 5,000 (goal: the same but for what is kept of each test),
+and sends 20,000 integers through `echo` beside the real execnet's echo (goal: at least 10 times as many a second), each
+the best of some runs. Where execnet is not installed (python3-execnet on Debian) its part is skipped with a word.
 """
 
 import os
 import struct
 import subprocess
-import sys
 import tempfile
 import threading
 import time
 
+import shared
+
 TESTS = 5_000
 ITEMS = 20_000
-RUNS = 3
 
 EXECNET_ECHO = """
 import sys, time, execnet
@@ -77,12 +78,12 @@ class Worker:
         return kind, channel, self.child.stdout.read(size)
 
     def end(self):
-        """Ends the worker; its peak memory in MiB."""
+        """Ends the worker; its peak memory in MiB. The system's count for a child that ended would count its parent's, too."""
+        with open(f"/proc/{self.child.pid}/status", encoding="utf-8") as file:
+            peak = next(int(line.split()[1]) for line in file if line.startswith("VmHWM:"))
         self.send(message(2, 0))
-        _, status, usage = os.wait4(self.child.pid, 0)
-        self.child.returncode = os.waitstatus_to_exitcode(status)
-        assert self.child.returncode == 0, self.child.returncode
-        return usage.ru_maxrss / 1024
+        assert self.child.wait() == 0, self.child.returncode
+        return peak / 1024
 
 
 def run_tests(program, suite, count):
@@ -132,37 +133,37 @@ def echo(program, count):
     return took
 
 
-def execnet_echo(count):
-    """The same through execnet's gateway, or None where it is not installed."""
-    for python in (sys.executable, "/usr/bin/python3"):
-        if subprocess.run([python, "-c", "import execnet"], capture_output=True).returncode == 0:
-            done = subprocess.run([python, "-c", EXECNET_ECHO, str(count)], capture_output=True, text=True, check=True)
-            return float(done.stdout)
-    return None
+def execnet_echo(python, count):
+    """The same through execnet's gateway."""
+    done = subprocess.run([python, "-c", EXECNET_ECHO, str(count)], capture_output=True, text=True, check=True)
+    return float(done.stdout)
 
 
-def main():
-    program = os.path.abspath(sys.argv[1] if len(sys.argv) > 1 else "./xdrun")
+def measure(program):
     with tempfile.TemporaryDirectory() as folder:
         suite = os.path.join(folder, "suite.toml")
-        with open(suite, "w") as f:
-            for i in range(TESTS):
-                f.write(f'[[test]]\nid = "test_{i}"\nrun = ["true"]\n')
-        run_alone(program, suite)
-        worker = min(run_tests(program, suite, TESTS)[0] for _ in range(RUNS))
-        alone = min(run_alone(program, suite) for _ in range(RUNS))
+        shared.write(suite, "".join(f'[[test]]\nid = "test_{i}"\nrun = ["true"]\n' for i in range(TESTS)))
+        times = [(run_tests(program, suite, TESTS)[0], run_alone(program, suite)) for _ in range(shared.RUNS)]
+        worker, alone = map(min, zip(*times))
         few = run_tests(program, suite, TESTS // 10)[1]
         many = run_tests(program, suite, TESTS)[1]
-    print(f"{TESTS} tests: worker {worker:.2f} s, -n 0 {alone:.2f} s, {worker / alone:.2f} times its time (goal: at most 1.15)")
-    print(f"peak memory: {few:.1f} MiB for {TESTS // 10} tests, {many:.1f} MiB for {TESTS}")
-    ours = min(echo(program, ITEMS) for _ in range(RUNS))
-    print(f"{ITEMS} items through echo: {ITEMS / ours:.0f} a second")
-    theirs = [execnet_echo(ITEMS) for _ in range(RUNS)]
-    if None in theirs:
-        print("execnet is not installed: its part is skipped")
-        return
-    print(f"execnet: {ITEMS / min(theirs):.0f} a second; {min(theirs) / ours:.1f} times as many (goal: at least 10)")
+    shared.note(f"{TESTS} tests: worker {worker:.2f} s, -n 0 {alone:.2f} s")
+    shared.note(f"peak memory: {few:.1f} MiB for {TESTS // 10} tests, {many:.1f} MiB for {TESTS}")
+    rows = [shared.at_most(f"a worker behind pipes, {TESTS:,} tests of `true`", "`-n 0`", worker / alone, 1.15)]
+    what = f"peak memory of a worker that ran {TESTS:,} tests of its suite, {many:.1f} MiB"
+    rows.append(shared.Row(what, f"one that ran {TESTS // 10:,} of them", many / few, "times", "the same"))
+    ours = min(echo(program, ITEMS) for _ in range(shared.RUNS))
+    shared.note(f"{ITEMS} items through echo: {ITEMS / ours:.0f} a second")
+    what, beside = f"{ITEMS:,} integers through `echo` of a worker", "execnet's own echo"
+    python = shared.python_with("execnet")
+    if python is None:
+        rows.append(shared.skipped(what, beside, "execnet is not installed"))
+        return rows
+    theirs = min(execnet_echo(python, ITEMS) for _ in range(shared.RUNS))
+    shared.note(f"{ITEMS} items through execnet's echo: {ITEMS / theirs:.0f} a second")
+    rows.append(shared.at_least(what, beside, theirs / ours, 10, "times as many a second"))
+    return rows
 
 
 if __name__ == "__main__":
-    main()
+    shared.main(measure)

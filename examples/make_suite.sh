@@ -5,7 +5,8 @@
 #
 #     pytest --collect-only -q | grep '::' | sh make_suite.sh pytest -q {} > suite.toml
 #
-# Empty lines are left out. The result is refused by xdrun where two ids are the same.
+# Empty lines are left out. Where no id is left, it says so, and its status is 1. The result is refused by xdrun where
+# two ids are the same.
 exec awk '
 BEGIN {
     for (i = 1; i < ARGC; i++) {
@@ -14,7 +15,8 @@ BEGIN {
     }
     count = ARGC - 1
     if (count == 0) {
-        print "make_suite.sh: name the command of a test" > "/dev/stderr"
+        print "make_suite.sh: no command is named; write the command of one test behind make_suite.sh, with {} for its id" > "/dev/stderr"
+        is_refused = 1
         exit 1
     }
 }
@@ -67,5 +69,13 @@ function split_at(id,    at, from, place) {
     for (i = 1; i <= count; i++)
         run = run (i > 1 ? ", " : "") quoted(filled(words[i], $0, ahead, behind))
     printf "%s[[test]]\nid = %s\nrun = [%s]\n", (told++ ? "\n" : ""), quoted($0), run
+}
+
+END {
+    if (is_refused) exit 1
+    if (told == 0) {
+        print "make_suite.sh: no test id was read; look at what the command that lists the tests prints" > "/dev/stderr"
+        exit 1
+    }
 }
 ' "$@"
