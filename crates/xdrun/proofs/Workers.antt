@@ -1,11 +1,11 @@
 -- What all the bytes of the own streams say of how they were served.
-use Rattle.std.proofs.Common.{◌≡◌, ℕ, ◌-◌, ◌^◌, ◌<◌, List, [], ◌++◌, length, take, drop, Option, Some, None, refl, ap, sym, ◌∙◌, subst, arith}
+use Rattle.std.proofs.Common.{◌≡◌, ℕ, List, [], ◌++◌, length, take, drop, Option, Some, None, ap, sym, ◌∙◌, subst, arith}
 use Rattle.std.specs.Prelude.{◌≢◌, Bool, true, false, option_map, IfSome}
 use Rattle.std.proofs.lemmas.Grind.{common_steps}
 use Rattle.xd_edge.specs.Children.{ChildRun}
 use Rattle.xd_edge.specs.Faults.{StoodStill}
 use Rattle.xd_edge.specs.Files.{Held}
-use Rattle.xd_edge.specs.Sink.{Sunk, Printed, PrintedPart}
+use Rattle.xd_edge.specs.Sink.{Sunk}
 use Rattle.xd_link.specs.FreshLink.{unused}
 use Rattle.xd_link.specs.Source.{Gave, Supply, with_given}
 use Rattle.xd_serve.specs.Complete.{AreGood, GoesWrong}
