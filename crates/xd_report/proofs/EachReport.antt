@@ -306,7 +306,7 @@ entry_blocks s (Done w i Skipped ms out) =
 entry_blocks s (Done w i (Failed code) ms out) =
     let one = done-reports s w i (Failed code) ms out in
     subst (λ (rs : List Report). HasBlockEach (mode_of s) (block_of s (Done w i (Failed code) ms out)) rs) (sym one.1)
-        (one_block (mode_of s) (Result w one.0 (Failed code)) (id_of w i s) out refl)
+    (one_block (mode_of s) (Result w one.0 (Failed code)) (id_of w i s) out refl)
 entry_blocks s (Down w cause out) = crash_blocks (mode_of s) w (λ item. item_id w item s) out (held w s.books.table)
 entry_blocks s (Collected w given) = no_block (mode_of s) [] refl
 entry_blocks s (NotStarted w) = no_block (mode_of s) [] refl
@@ -327,5 +327,5 @@ all_blocks s [] = no_block (mode_of s) [] refl
 all_blocks s (e ∷ es) =
     let t = reached s e in
     join_blocks (mode_of s) (block_of t e) (blocks_from (next s e) es) (reports_of t e) (reports_from (next s e) es)
-        (subst (λ (k : Settings). HasBlockEach k.mode (block_of t e) (reports_of t e)) (reached-settings s e) (entry_blocks t e))
-        (subst (λ (k : Settings). HasBlockEach k.mode (blocks_from (next s e) es) (reports_from (next s e) es)) (next-settings s e) (all_blocks (next s e) es))
+    (subst (λ (k : Settings). HasBlockEach k.mode (block_of t e) (reports_of t e)) (reached-settings s e) (entry_blocks t e))
+    (subst (λ (k : Settings). HasBlockEach k.mode (blocks_from (next s e) es) (reports_from (next s e) es)) (next-settings s e) (all_blocks (next s e) es))
