@@ -4,28 +4,31 @@ with a word. What was measured is told on standard error as it comes.
 
 Usage: bench/all.py [PROGRAM]   from any folder; PROGRAM is the one of this repository where none is named.
 """
-import drive
-import local
-import shared
-import suite
-import value
-import wire
-import worker
+import importlib
+import multiprocessing
 
-BENCHMARKS = local, suite, drive, worker, value, wire
+import shared
+
+BENCHMARKS = "local", "suite", "drive", "worker", "value", "wire"
+
+
+def measured(name, program):
+    """The rows of a benchmark, or one that says why there are none."""
+    shared.note(f"-- {name} --")
+    try:
+        return importlib.import_module(name).measure(program)
+    except (Exception, SystemExit) as fault:
+        shared.note(f"{name} failed: {fault}")
+        return [shared.skipped(f"bench/{name}.py", "-", f"it failed: {str(fault).strip().splitlines()[-1:]}")]
 
 
 def main():
     program = shared.program()
     rows = []
-    for benchmark in BENCHMARKS:
-        name = benchmark.__name__
-        shared.note(f"-- {name} --")
-        try:
-            rows += benchmark.measure(program)
-        except (Exception, SystemExit) as fault:
-            rows.append(shared.skipped(f"bench/{name}.py", "-", f"it failed: {str(fault).strip().splitlines()[-1:]}"))
-            shared.note(f"{name} failed: {fault}")
+    # Each has a process of its own, because the peak of a program counts that of the process that started it.
+    for name in BENCHMARKS:
+        with multiprocessing.get_context("spawn").Pool(1) as pool:
+            rows += pool.apply(measured, (name, program))
     shared.print_table(rows)
 
 
