@@ -13,9 +13,9 @@ use Rattle.xd_report.specs.Lines.{lines_from, run_lines}
 use Rattle.xd_report.specs.Text.{run_tail, run_text}
 use Rattle.xd_session.specs.History.{run_of}
 use Rattle.xd_drive.specs.Failing.{FailedAt}
-use Rattle.xd_drive.specs.Printing.{BreaksOff}
+use Rattle.xd_edge.specs.Printing.{BreaksOff}
 use Rattle.xd_drive.proofs.Loop.{lines-join}
-use Rattle.xd_drive.proofs.Prints.{broken-part, printed_is_part}
+use Rattle.xd_edge.proofs.PrintLemmas.{broken-part, printed_is_part}
 use Rattle.xd_drive.proofs.Texts.{lines-behind, silent, tail-behind, text-behind}
 
 module _ (x : Settings) (taken : List News) (count : ℕ) (es : List Entry) (old new : Option Sunk) where

@@ -26,7 +26,7 @@ use Rattle.xd_drive.specs.Agrees.{Agrees}
 use Rattle.xd_drive.specs.Going.{Scene, TakesNews, TellsEntries, added_by}
 use Rattle.xd_drive.specs.Marks.{Marks, is_end, marked_heard}
 use Rattle.xd_drive.specs.Performing.{AddsAll, Performs, after_all, after_entry, all_possible, between, is_start_of, was_started}
-use Rattle.xd_drive.specs.Printing.{Shows}
+use Rattle.xd_edge.specs.Printing.{Shows}
 use Rattle.xd_drive.specs.Taken.{taken_with}
 use Rattle.xd_drive.proofs.Follow.{follows-same}
 use Rattle.xd_drive.proofs.Kills.{ending-possible, kills-go, possible-both}

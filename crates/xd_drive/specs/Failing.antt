@@ -9,7 +9,7 @@ use Rattle.xd_ledger.specs.State.{all_moved, no_one}
 use Rattle.xd_report.specs.Lines.{lines_from, run_lines}
 use Rattle.xd_report.specs.Text.{run_tail, run_text}
 use Rattle.xd_session.specs.History.{run_of}
-use Rattle.xd_drive.specs.Printing.{BreaksOff}
+use Rattle.xd_edge.specs.Printing.{BreaksOff}
 
 -- At the lines of the last news: the first so many entries are those before it, and their lines were printed; of the lines
 -- of the others a first part was taken.

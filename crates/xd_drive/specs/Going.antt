@@ -19,7 +19,8 @@ use Rattle.xd_drive.specs.Agrees.{Agrees}
 use Rattle.xd_drive.specs.Failing.{FailedAt}
 use Rattle.xd_drive.specs.Marks.{Marks, no_marks}
 use Rattle.xd_drive.specs.Performing.{AddsAll, Performs, after_all, all_possible, kills_of_started, was_started}
-use Rattle.xd_drive.specs.Printing.{Shows, ShowsEnd, ShowsSome}
+use Rattle.xd_edge.specs.Printing.{Shows, ShowsSome}
+use Rattle.xd_drive.specs.Printing.{ShowsEnd}
 use Rattle.xd_drive.specs.Taken.{taken_of, taken_with}
 
 -- what is seen of a hub and of the output

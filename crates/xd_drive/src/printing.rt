@@ -5,10 +5,11 @@ ghost use Rattle.xd_ledger.specs.State.{all_moved, no_one};
 ghost use Rattle.xd_report.specs.Follows.{Follows};
 ghost use Rattle.xd_report.specs.Lines.{lines_between};
 ghost use Rattle.xd_report.specs.Text.{tail_text};
-ghost use Rattle.xd_drive.specs.Printing.{Shows, ShowsEnd};
+ghost use Rattle.xd_edge.specs.Printing.{Shows};
+ghost use Rattle.xd_drive.specs.Printing.{ShowsEnd};
 
 use std::alloc::Global;
-use xd_edge::{OutOfMemory, Sink, write_all};
+use xd_edge::{OutOfMemory, Sink, print};
 use xd_ledger::Journal;
 use xd_report::{Reporter, tail};
 
@@ -19,22 +20,6 @@ pub(crate) fn reporter_of(alloc: Global, journal: &Journal) -> Result<Reporter, 
     let mut reporter = Reporter::new(alloc, journal.settings);
     reporter.follow(alloc, &journal.entries)?;
     Ok(reporter)
-}
-
-// Prints the bytes and hands them on; false where the output failed, and then nothing was handed on.
-fn print_all<O: Sink>(out: &mut O, bytes: &[u8]) -> bool
-    ensures shows { Shows result bytes.now (O.sunk out.old) (O.sunk out.new) }
-    ensures later { O.faults out.old ≤ O.faults out.new }
-    ensures still { result ≡ true → O.faults out.new ≡ O.faults out.old }
-    ensures rose { result ≡ false → Rose (O.faults out.old) (O.faults out.new) }
-{
-    if let Err(_) = write_all(out, bytes) {
-        return false;
-    }
-    match out.flush() {
-        Ok(()) => true,
-        Err(_) => false,
-    }
 }
 
 /// Prints the lines of the entries from one place up to another, with a reporter that went over those before; false where
@@ -57,7 +42,7 @@ pub(crate) fn print_lines<O: Sink>(
     ensures rose { result ≡ Ok false → Rose (O.faults out.old) (O.faults out.new) }
 {
     let lines = reporter.lines(alloc, &journal.entries[from..to])?;
-    Ok(print_all(out, lines.as_slice()))
+    Ok(print(out, lines.as_slice()).is_ok())
 }
 
 /// Prints the tail, and closes the output; false where the output failed.
@@ -82,7 +67,7 @@ fn print_and_close<O: Sink>(out: &mut O, bytes: &[u8]) -> bool
     ensures still { result ≡ true → O.faults out.new ≡ O.faults out.old }
     ensures rose { result ≡ false → Rose (O.faults out.old) (O.faults out.new) }
 {
-    if !print_all(out, bytes) {
+    if print(out, bytes).is_err() {
         return false;
     }
     match out.close() {
