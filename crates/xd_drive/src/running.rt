@@ -85,6 +85,8 @@ fn run<R: Wait, M: Mode, H: Hub, O: Sink>(
 /// the first stop of the run, or with `Completed` where there was none.
 ///
 /// The journal keeps at most 8,192 bytes of the output of a test, and at most 67,108,864 bytes of all output.
+///
+/// Where memory is refused it returns as it stands: the workers that the hub started are left to the hub's owner to end.
 pub fn drive<R: Wait, M: Mode, H: Hub, O: Sink>(
     rt: &R,
     alloc: Global,
