@@ -49,7 +49,7 @@ cons_ascii b bs h k (suc i) = k i
 nil_ascii : IsAscii []
 nil_ascii i = omega arith
 
-digit_ascii : (n : ℕ) → n < 16 → digit_char n < 128
+pub digit_ascii : (n : ℕ) → n < 16 → digit_char n < 128
 digit_ascii n h = grind (arith, nat_tests)
 
 pair_ascii : (c : ℕ) → c < 128 → IsAscii (hex_pair c)

@@ -1,5 +1,5 @@
 // Values as text, in the notation of Python.
-ghost use Rattle.std.specs.Prelude.{◌≡◌, ◌++◌, ◌∷◌, [], ◌<◌, ◌≤◌, true, false, IfOk, OnOk, IsTrue, codes, string_bytes};
+ghost use Rattle.std.specs.Prelude.{◌≡◌, ◌++◌, ◌∷◌, [], ◌<◌, ◌≤◌, ◌*◌, ◌-◌, true, false, IfOk, OnOk, IsTrue, codes, string_bytes, length, take, drop, get_or};
 ghost use Rattle.std.specs.List.{list_all};
 ghost use Rattle.std.specs.Char.{is_ascii, digit_char};
 ghost use Rattle.std.specs.Fmt.{decimal, signed_decimal};
@@ -159,22 +159,34 @@ fn print_channel(out: &mut Text, n: u32) -> Result<(), AllocError>
 }
 
 /// The hexadecimal digit of a number below 16.
-fn digit(n: u8) -> char
+fn digit(n: u8) -> u8
     requires { n < 16 }
     ensures { result ≡ digit_char n }
 {
-    if n < 10 {
-        (b'0' + n) as char
-    } else {
-        (b'a' + (n - 10)) as char
-    }
+    if n < 10 { b'0' + n } else { b'a' + (n - 10) }
 }
 
-fn print_byte(out: &mut Text, byte: u8) -> Result<(), AllocError>
-    ensures { OnOk result (out.new ≡ out.old ++ hex_pair byte) }
+/// The digits of up to 32 bytes, of which only the first two for each byte count.
+fn digits_of(piece: &[u8]) -> [u8; 64]
+    requires { length piece.now ≤ 32 }
+    ensures { take (2 * length piece.now) result ≡ hex piece.now }
 {
-    put_char(out, digit(byte / 16))?;
-    put_char(out, digit(byte % 16))?;
+    let mut digits = [0; 64];
+    for at in 0..piece.len() {
+        let byte = piece[at];
+        digits[2 * at] = digit(byte / 16);
+        digits[2 * at + 1] = digit(byte % 16);
+    }
+    digits
+}
+
+fn print_piece(out: &mut Text, piece: &[u8]) -> Result<(), AllocError>
+    requires { length piece.now ≤ 32 }
+    ensures { OnOk result (out.new ≡ out.old ++ hex piece.now) }
+{
+    let digits = digits_of(piece);
+    let words = str::from_utf8(&digits[..2 * piece.len()]).unwrap();
+    put(out, words)?;
     Ok(())
 }
 
@@ -182,8 +194,11 @@ fn print_bytes(out: &mut Text, bytes: &[u8]) -> Result<(), AllocError>
     ensures { OnOk result (out.new ≡ out.old ++ between (codes "bytes(") (hex bytes.now) (codes ")")) }
 {
     put(out, "bytes(")?;
-    for byte in bytes {
-        print_byte(out, *byte)?;
+    let mut rest = bytes;
+    while !rest.is_empty() {
+        let (piece, after) = rest.split_at(rest.len().min(32));
+        print_piece(out, piece)?;
+        rest = after;
     }
     put(out, ")")?;
     Ok(())
@@ -207,8 +222,8 @@ fn push_escaped(out: &mut String, byte: u8) -> Result<(), AllocError>
         out.push(byte as char)?;
     } else if byte < b' ' || byte == 0x7f {
         out.push_str("\\x")?;
-        out.push(digit(byte / 16))?;
-        out.push(digit(byte % 16))?;
+        out.push(digit(byte / 16) as char)?;
+        out.push(digit(byte % 16) as char)?;
     } else {
         out.push(byte as char)?;
     }
