@@ -6,40 +6,72 @@ use Rattle.std.specs.Str.{IsUtf8, IsAscii, chars, encode_utf8_all}
 use Rattle.std.proofs.lemmas.Bool.{cases_lt}
 use Rattle.std.proofs.lemmas.Bool.Decides.{nat_tests}
 use Rattle.std.proofs.lemmas.Str.{encode_ascii, encodes-IsAscii, encodes-append, encodes-chars, chars_from_encodes, inside_one}
-use Rattle.std.proofs.lemmas.List.{take_more, get_or-drop, length-drop}
+use Rattle.std.proofs.lemmas.List.{take_more, drop-drop, take-append-drop, drop_all}
+use Rattle.std.proofs.Math.Seq.{take-add, drop-cons}
 use Rattle.xd_value.specs.Show.{escaped, escapes, hex_pair}
 use Rattle.xd_value.proofs.Prints.{escapes_append}
 
--- the stretch behind the last character with a backslash, with one byte more
-stretch : (t : List ℕ) (from i : ℕ) → from ≤ i → i < length t → take (i + 1 - from) (drop from t) ≡ take (i - from) (drop from t) ++ get_or t i 0 ∷ []
-stretch t from i le lt =
-    let place : from + (i - from) ≡ i = omega arith in
-    let next : i + 1 - from ≡ (i - from) + 1 = omega arith in
-    let size = length-drop from t in
-    ap (λ n. take n (drop from t)) next ∙ take_more (drop from t) (i - from) 0 (omega arith)
-    ∙ ap (λ (x : ℕ). take (i - from) (drop from t) ++ x ∷ []) (get_or-drop from t (i - from) 0 ∙ ap (λ n. get_or t n 0) place)
+-- a stretch that is printed as it is, made longer by such bytes, and what stands behind it
+pub stretch_more : (t : List ℕ) (from at n : ℕ) → from ≤ at → escapes (take n (drop at t)) ≡ take n (drop at t)
+    → escapes (drop from t) ≡ take (at - from) (drop from t) ++ escapes (drop at t) → escapes (drop from t) ≡ take (at + n - from) (drop from t) ++ escapes (drop (at + n) t)
+stretch_more t from at n le plain so_far =
+    let place : from + (at - from) ≡ at = omega arith in
+    let size : at + n - from ≡ (at - from) + n = omega arith in
+    let front : List ℕ = take (at - from) (drop from t) in
+    let behind : List ℕ = escapes (drop (at + n) t) in
+    let there : drop (at - from) (drop from t) ≡ drop at t = drop-drop (at - from) from t ∙ ap (λ k. drop k t) place in
+    let longer : take (at + n - from) (drop from t) ≡ front ++ take n (drop at t) =
+    ap (λ k. take k (drop from t)) size ∙ (take-add (at - from) n (drop from t) ∙ ap (λ (x : List ℕ). front ++ take n x) there) in
+    let parts : escapes (drop at t) ≡ take n (drop at t) ++ behind =
+    ap escapes (sym (take-append-drop n (drop at t))) ∙ (escapes_append (take n (drop at t)) (drop n (drop at t)) ∙ ap₂ (λ (x y : List ℕ). x ++ escapes y) plain (drop-drop n at t)) in
+    so_far ∙ (ap (λ (x : List ℕ). front ++ x) parts ∙ (sym (append_assoc front (take n (drop at t)) behind) ∙ ap (λ (x : List ℕ). x ++ behind) (sym longer)))
 
-one_more : (t : List ℕ) (i : ℕ) → i < length t → escapes (take (i + 1) t) ≡ escapes (take i t) ++ escaped (get_or t i 0)
-one_more t i lt =
-    ap escapes (take_more t i 0 lt) ∙ escapes_append (take i t) (get_or t i 0 ∷ [])
-    ∙ ap (λ (x : List ℕ). escapes (take i t) ++ x) (append-nil (escaped (get_or t i 0)))
+drop_one : (t : List ℕ) (at : ℕ) → at < length t → drop at t ≡ get_or t at 0 ∷ drop (at + 1) t
+drop_one t at lt =
+    let next : suc at ≡ at + 1 = omega arith in
+    drop-cons t at 0 lt ∙ ap (λ k. get_or t at 0 ∷ drop k t) next
 
--- a byte that is printed as it is
-pub plain_more : (t out start : List ℕ) (from i : ℕ) → from ≤ i → i < length t → escaped (get_or t i 0) ≡ get_or t i 0 ∷ []
-    → out ++ take (i - from) (drop from t) ≡ start ++ escapes (take i t) → out ++ take (i + 1 - from) (drop from t) ≡ start ++ escapes (take (i + 1) t)
-plain_more t out start from i le lt plain so_far =
-    ap (λ (x : List ℕ). out ++ x) (stretch t from i le lt) ∙ sym (append_assoc out (take (i - from) (drop from t)) (get_or t i 0 ∷ []))
-    ∙ ap₂ (λ (x y : List ℕ). x ++ y) so_far (sym plain) ∙ append_assoc start (escapes (take i t)) (escaped (get_or t i 0))
-    ∙ ap (λ (x : List ℕ). start ++ x) (sym (one_more t i lt))
+one_here : (t : List ℕ) (at : ℕ) → at < length t → take 1 (drop at t) ≡ get_or t at 0 ∷ []
+one_here t at lt = ap (λ (x : List ℕ). take 1 x) (drop_one t at lt)
 
--- a byte with a backslash, behind the stretch before it
-pub escaped_more : (t out new start : List ℕ) (from i : ℕ) → i < length t → new ≡ (out ++ take (i - from) (drop from t)) ++ escaped (get_or t i 0)
-    → out ++ take (i - from) (drop from t) ≡ start ++ escapes (take i t) → new ++ take (i + 1 - (i + 1)) (drop (i + 1) t) ≡ start ++ escapes (take (i + 1) t)
-escaped_more t out new start from i lt is so_far =
-    let none : i + 1 - (i + 1) ≡ 0 = omega arith in
-    ap (λ n. new ++ take n (drop (i + 1) t)) none ∙ append-nil new ∙ is
-    ∙ ap (λ (x : List ℕ). x ++ escaped (get_or t i 0)) so_far ∙ append_assoc start (escapes (take i t)) (escaped (get_or t i 0))
-    ∙ ap (λ (x : List ℕ). start ++ x) (sym (one_more t i lt))
+-- one byte that is printed as it is
+pub byte_more : (t : List ℕ) (from at : ℕ) → from ≤ at → at < length t → escaped (get_or t at 0) ≡ get_or t at 0 ∷ []
+    → escapes (drop from t) ≡ take (at - from) (drop from t) ++ escapes (drop at t) → escapes (drop from t) ≡ take (at + 1 - from) (drop from t) ++ escapes (drop (at + 1) t)
+byte_more t from at le lt plain so_far =
+    let one = one_here t at lt in
+    stretch_more t from at 1 le (ap escapes one ∙ (append-nil (escaped (get_or t at 0)) ∙ (plain ∙ sym one))) so_far
+
+-- no stretch yet
+pub stretch_start : (t : List ℕ) (from : ℕ) → escapes (drop from t) ≡ take (from - from) (drop from t) ++ escapes (drop from t)
+stretch_start t from =
+    let none : from - from ≡ 0 = omega arith in
+    sym (ap (λ k. take k (drop from t) ++ escapes (drop from t)) none)
+
+-- a piece with one byte more, none of which is escaped
+pub piece_more : (p : List ℕ) (i : ℕ) (found now : Bool) → i < length p → (found ≡ false → escapes (take i p) ≡ take i p)
+    → (now ≡ false → escaped (get_or p i 0) ≡ get_or p i 0 ∷ []) → (found || now) ≡ false → escapes (take (i + 1) p) ≡ take (i + 1) p
+piece_more p i true now lt before here none = absurd (cc)
+piece_more p i false now lt before here none =
+    let more = take_more p i 0 lt in
+    ap escapes more ∙ (escapes_append (take i p) (get_or p i 0 ∷ []) ∙ (ap₂ (λ (x y : List ℕ). x ++ y) (before refl) (append-nil (escaped (get_or p i 0)) ∙ here none) ∙ sym more))
+
+-- the last stretch
+pub last_stretch : (t out new start : List ℕ) (from at : ℕ) → at ≡ length t → new ≡ out ++ take (at - from) (drop from t)
+    → escapes (drop from t) ≡ take (at - from) (drop from t) ++ escapes (drop at t) → out ++ escapes (drop from t) ≡ start ++ escapes t → new ≡ start ++ escapes t
+last_stretch t out new start from at end is plain so_far =
+    let none : escapes (drop at t) ≡ [] = ap escapes (drop_all at t (omega arith)) in
+    is ∙ (ap (λ (x : List ℕ). out ++ x) (sym (plain ∙ (ap (λ (x : List ℕ). take (at - from) (drop from t) ++ x) none ∙ append-nil (take (at - from) (drop from t))))) ∙ so_far)
+
+-- a stretch and the byte behind it
+pub escaped_more : (t out mid new start : List ℕ) (from at : ℕ) → at < length t → mid ≡ out ++ take (at - from) (drop from t) → new ≡ mid ++ escaped (get_or t at 0)
+    → escapes (drop from t) ≡ take (at - from) (drop from t) ++ escapes (drop at t) → out ++ escapes (drop from t) ≡ start ++ escapes t → new ++ escapes (drop (at + 1) t) ≡ start ++ escapes t
+escaped_more t out mid new start from at lt before is plain so_far =
+    let front : List ℕ = take (at - from) (drop from t) in
+    let here : List ℕ = escaped (get_or t at 0) in
+    let later : List ℕ = escapes (drop (at + 1) t) in
+    let next : escapes (drop at t) ≡ here ++ later = ap escapes (drop_one t at lt) in
+    ap (λ (x : List ℕ). x ++ later) is ∙ (append_assoc mid here later ∙ (ap₂ (λ (x y : List ℕ). x ++ y) before (sym next)
+    ∙ (append_assoc out front (escapes (drop at t)) ∙ (ap (λ (x : List ℕ). out ++ x) (sym plain) ∙ so_far))))
 
 -- ---- bytes and characters
 cons_ascii : (b : ℕ) (bs : List ℕ) → b < 128 → IsAscii bs → IsAscii (b ∷ bs)

@@ -212,6 +212,50 @@ fn is_escaped(byte: u8) -> bool
     byte < b' ' || byte == b'"' || byte == b'\\' || byte == 0x7f
 }
 
+/// Whether a byte of the piece is not printed as it is. It has no branch on a byte, so it takes many at a time.
+fn has_escaped(piece: &[u8]) -> bool
+    ensures { result ≡ false → escapes piece.now ≡ piece.now }
+{
+    let mut found = false;
+    for byte in piece {
+        found |= is_escaped(*byte);
+    }
+    found
+}
+
+/// A place from this one on, with no byte between that is not printed as it is. Where it can, it is far ahead.
+fn skip_plain(bytes: &[u8], from: usize) -> usize
+    requires { from ≤ length bytes.now }
+    ensures order { (from ≤ result) × (result ≤ length bytes.now) }
+    ensures plain { escapes (drop from bytes.now) ≡ take (result - from) (drop from bytes.now) ++ escapes (drop result bytes.now) }
+{
+    let mut at = from;
+    while bytes.len() - at >= 32 {
+        if has_escaped(&bytes[at..at + 32]) {
+            return at;
+        }
+        at += 32;
+    }
+    at
+}
+
+/// The first place from this one on where a byte is not printed as it is, or the end.
+fn next_escaped(bytes: &[u8], from: usize) -> usize
+    requires { from ≤ length bytes.now }
+    ensures order { (from ≤ result) × (result ≤ length bytes.now) }
+    ensures plain { escapes (drop from bytes.now) ≡ take (result - from) (drop from bytes.now) ++ escapes (drop result bytes.now) }
+    ensures ascii { result < length bytes.now → get_or bytes.now result 0 < 128 }
+{
+    let mut at = skip_plain(bytes, from);
+    while at < bytes.len() {
+        if is_escaped(bytes[at]) {
+            return at;
+        }
+        at += 1;
+    }
+    at
+}
+
 /// Appends a character of ASCII as it stands inside a text.
 fn push_escaped(out: &mut String, byte: u8) -> Result<(), AllocError>
     requires { byte < 128 }
@@ -236,16 +280,15 @@ fn push_escapes(out: &mut String, text: &str) -> Result<(), AllocError>
 {
     let bytes = text.as_bytes();
     let mut from = 0;
-    for at in 0..bytes.len() {
-        let byte = bytes[at];
-        if is_escaped(byte) {
-            out.push_str(&text[from..at])?;
-            push_escaped(out, byte)?;
-            from = at + 1;
+    loop {
+        let at = next_escaped(bytes, from);
+        out.push_str(&text[from..at])?;
+        if at == bytes.len() {
+            return Ok(());
         }
+        push_escaped(out, bytes[at])?;
+        from = at + 1;
     }
-    out.push_str(&text[from..])?;
-    Ok(())
 }
 
 fn print_text(out: &mut Text, text: &Text) -> Result<(), AllocError>
