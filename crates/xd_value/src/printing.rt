@@ -294,9 +294,9 @@ fn push_escapes(out: &mut String, text: &str) -> Result<(), AllocError>
 fn print_text(out: &mut Text, text: &Text) -> Result<(), AllocError>
     ensures { OnOk result (out.new ≡ out.old ++ between (codes "\"") (escapes text.now) (codes "\"")) }
 {
-    put(out, "\"")?;
+    put_char(out, '"')?;
     put_escapes(out, text)?;
-    put(out, "\"")?;
+    put_char(out, '"')?;
     Ok(())
 }
 
