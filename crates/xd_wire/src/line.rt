@@ -10,7 +10,7 @@ use itoa::Buffer;
 use std::alloc::Global;
 use xd_edge::{OutOfMemory, Text};
 use xd_frame::{Header, Kind};
-use xd_value::LoadWhat;
+use xd_value::{LoadWhat, Reader};
 
 /// What a message is printed as: its line, or the first fault of its payload.
 #[derive(Drop)]
@@ -23,6 +23,7 @@ pub enum Line {
 /// the room of a string that is done with.
 pub fn line_of(
     alloc: Global,
+    reader: &mut Reader,
     header: Header,
     payload: &[u8],
     room: String,
@@ -36,7 +37,7 @@ pub fn line_of(
         return Ok(Line::Text(line));
     }
     let before = spaced(start)?;
-    match show_payload(alloc, before, payload)? {
+    match show_payload(alloc, reader, before, payload)? {
         Shown::Value(text) => {
             let line = ended_text(text)?;
             Ok(Line::Text(line))
@@ -69,6 +70,7 @@ fn start_of(header: Header, room: String) -> Result<String, OutOfMemory>
 }
 
 /// Appends a space and a number.
+#[inline(always)]
 fn push_number(line: &mut String, number: u32) -> Result<(), OutOfMemory>
     ensures { OnOk result (string_bytes line.new ≡ string_bytes line.old ++ (32 ∷ decimal number)) }
 {
@@ -96,6 +98,7 @@ fn ended(text: String) -> Result<String, OutOfMemory>
     Ok(line)
 }
 
+#[inline(always)]
 fn ended_text(text: Text) -> Result<String, OutOfMemory>
     ensures { IfOk result (λ line. string_bytes line ≡ encode_utf8_all text ++ (10 ∷ [])) }
 {

@@ -6,7 +6,7 @@ ghost use Rattle.xd_wire.specs.Payloads.{ShowsPayload, gives_fault};
 
 use std::alloc::Global;
 use xd_edge::{OutOfMemory, Text};
-use xd_value::{LoadFault, LoadWhat, Value, loads, show_onto};
+use xd_value::{LoadFault, LoadWhat, Reader, Value, show_onto};
 
 /// What a payload is printed as: its value behind a text, or its first fault and the place of that in the payload.
 #[derive(Drop)]
@@ -16,10 +16,15 @@ pub enum Shown {
 }
 
 /// The value that the bytes are a payload of, appended to the text, or their first fault.
-pub fn show_payload(alloc: Global, before: Text, bytes: &[u8]) -> Result<Shown, OutOfMemory>
+pub fn show_payload(
+    alloc: Global,
+    reader: &mut Reader,
+    before: Text,
+    bytes: &[u8],
+) -> Result<Shown, OutOfMemory>
     ensures { IfOk result (ShowsPayload before bytes.now) }
 {
-    match loads(alloc, bytes) {
+    match reader.loads(alloc, bytes) {
         Ok(value) => {
             let text = appended(before, &value)?;
             Ok(Shown::Value(text))

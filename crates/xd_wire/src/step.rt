@@ -8,6 +8,7 @@ use crate::names::{name_of_frame_fault, name_of_what};
 use std::alloc::Global;
 use xd_edge::OutOfMemory;
 use xd_frame::{HEADER_LENGTH, first_header};
+use xd_value::Reader;
 
 /// A line of the text, and what follows it.
 #[derive(Drop)]
@@ -25,7 +26,13 @@ pub enum Then {
 
 /// The line of what stands at this place of the file. Behind the last message the line is empty. A message's line is
 /// made in the room of a string that is done with.
-pub fn step_at(alloc: Global, bytes: &[u8], at: usize, room: String) -> Result<Step, OutOfMemory>
+pub fn step_at(
+    alloc: Global,
+    reader: &mut Reader,
+    bytes: &[u8],
+    at: usize,
+    room: String,
+) -> Result<Step, OutOfMemory>
     requires { at ≤ length bytes.now }
     ensures step { IfOk result (IsStepAt bytes.now at) }
     ensures ahead { IfOk result (λ step. IsAhead at (length bytes.now) step.then) }
@@ -38,7 +45,7 @@ pub fn step_at(alloc: Global, bytes: &[u8], at: usize, room: String) -> Result<S
     };
     let start = at + HEADER_LENGTH;
     let next = start + header.length as usize;
-    match line_of(alloc, header, &bytes[start..next], room)? {
+    match line_of(alloc, reader, header, &bytes[start..next], room)? {
         Line::Text(line) => Ok(Step {
             line,
             then: Then::At(next),
