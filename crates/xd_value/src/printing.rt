@@ -213,6 +213,7 @@ fn is_escaped(byte: u8) -> bool
 }
 
 /// Whether a byte of the piece is not printed as it is. It has no branch on a byte, so it takes many at a time.
+#[inline(always)]
 fn has_escaped(piece: &[u8]) -> bool
     ensures { result ≡ false → escapes piece.now ≡ piece.now }
 {
@@ -223,18 +224,20 @@ fn has_escaped(piece: &[u8]) -> bool
     found
 }
 
-/// A place from this one on, with no byte between that is not printed as it is. Where it can, it is far ahead.
-fn skip_plain(bytes: &[u8], from: usize) -> usize
-    requires { from ≤ length bytes.now }
+/// Goes from this place past each piece of so many bytes that has none that is not printed as it is.
+#[inline(always)]
+fn skip_plain(bytes: &[u8], from: usize, piece: usize) -> usize
+    requires inside { from ≤ length bytes.now }
+    requires some { 0 < piece }
     ensures order { (from ≤ result) × (result ≤ length bytes.now) }
     ensures plain { escapes (drop from bytes.now) ≡ take (result - from) (drop from bytes.now) ++ escapes (drop result bytes.now) }
 {
     let mut at = from;
-    while bytes.len() - at >= 32 {
-        if has_escaped(&bytes[at..at + 32]) {
+    while bytes.len() - at >= piece {
+        if has_escaped(&bytes[at..at + piece]) {
             return at;
         }
-        at += 32;
+        at += piece;
     }
     at
 }
@@ -246,7 +249,8 @@ fn next_escaped(bytes: &[u8], from: usize) -> usize
     ensures plain { escapes (drop from bytes.now) ≡ take (result - from) (drop from bytes.now) ++ escapes (drop result bytes.now) }
     ensures ascii { result < length bytes.now → get_or bytes.now result 0 < 128 }
 {
-    let mut at = skip_plain(bytes, from);
+    let far = skip_plain(bytes, from, 32);
+    let mut at = skip_plain(bytes, far, 8);
     while at < bytes.len() {
         if is_escaped(bytes[at]) {
             return at;
