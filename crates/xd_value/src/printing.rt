@@ -3,7 +3,7 @@ ghost use Rattle.std.specs.Prelude.{◌≡◌, ◌++◌, ◌∷◌, [], ◌<◌,
 ghost use Rattle.std.specs.List.{list_all};
 ghost use Rattle.std.specs.Char.{is_ascii, digit_char};
 ghost use Rattle.std.specs.Fmt.{decimal, signed_decimal};
-ghost use Rattle.xd_value.specs.Show.{shown, shown_items, shown_pairs, shown_set, between, hex, hex_pair, escaped, escapes, tuple_end};
+ghost use Rattle.xd_value.specs.Show.{shown, shown_items, shown_pairs, shown_set, between, hex, escaped, escapes, tuple_end};
 ghost use Rattle.xd_value.specs.Tree.{count};
 ghost use Rattle.xd_value.specs.View.{view, views, pair_views};
 
