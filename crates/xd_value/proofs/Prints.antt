@@ -23,7 +23,7 @@ chars_append a b u v =
     let joined : encode_utf8_all (u.0 ++ v.0) ≡ a ++ b = encodes-append u.0 v.0 ∙ ap₂ (λ (x y : List ℕ). x ++ y) u.1.1 v.1.1 in
     ap chars (sym joined) ∙ chars-encodes (u.0 ++ v.0) (scalars_append u.0 v.0 u.1.0 v.1.0) ∙ ap₂ (λ (x y : List ℕ). x ++ y) (sym one) (sym two)
 
-is_ascii_all : (w : List ℕ) → list_all is_ascii w ≡ true → IsAscii w
+pub is_ascii_all : (w : List ℕ) → list_all is_ascii w ≡ true → IsAscii w
 is_ascii_all [] h i = omega arith
 is_ascii_all (b ∷ w) h zero = ltb-true b 128 (and_parts (is_ascii b) (list_all is_ascii w) h).0
 is_ascii_all (b ∷ w) h (suc i) = is_ascii_all w (and_parts (is_ascii b) (list_all is_ascii w) h).1 i

@@ -1,9 +1,9 @@
 // Values as text, in the notation of Python.
-ghost use Rattle.std.specs.Prelude.{◌≡◌, ◌++◌, ◌∷◌, [], ◌<◌, ◌≤◌, true, false, IfOk, OnOk, IsTrue, codes, string_bytes};
+ghost use Rattle.std.specs.Prelude.{◌≡◌, ◌++◌, ◌∷◌, [], ◌<◌, ◌≤◌, ◌*◌, ◌-◌, true, false, IfOk, OnOk, IsTrue, codes, string_bytes, length, take, drop, get_or};
 ghost use Rattle.std.specs.List.{list_all};
 ghost use Rattle.std.specs.Char.{is_ascii, digit_char};
 ghost use Rattle.std.specs.Fmt.{decimal, signed_decimal};
-ghost use Rattle.xd_value.specs.Show.{shown, shown_items, shown_pairs, shown_set, between, hex, hex_pair, escaped, escapes, tuple_end};
+ghost use Rattle.xd_value.specs.Show.{shown, shown_items, shown_pairs, shown_set, between, hex, escaped, escapes, tuple_end};
 ghost use Rattle.xd_value.specs.Tree.{count};
 ghost use Rattle.xd_value.specs.View.{view, views, pair_views};
 
@@ -159,22 +159,34 @@ fn print_channel(out: &mut Text, n: u32) -> Result<(), AllocError>
 }
 
 /// The hexadecimal digit of a number below 16.
-fn digit(n: u8) -> char
+fn digit(n: u8) -> u8
     requires { n < 16 }
     ensures { result ≡ digit_char n }
 {
-    if n < 10 {
-        (b'0' + n) as char
-    } else {
-        (b'a' + (n - 10)) as char
-    }
+    if n < 10 { b'0' + n } else { b'a' + (n - 10) }
 }
 
-fn print_byte(out: &mut Text, byte: u8) -> Result<(), AllocError>
-    ensures { OnOk result (out.new ≡ out.old ++ hex_pair byte) }
+/// The digits of up to 32 bytes, of which only the first two for each byte count.
+fn digits_of(piece: &[u8]) -> [u8; 64]
+    requires { length piece.now ≤ 32 }
+    ensures { take (2 * length piece.now) result ≡ hex piece.now }
 {
-    put_char(out, digit(byte / 16))?;
-    put_char(out, digit(byte % 16))?;
+    let mut digits = [0; 64];
+    for at in 0..piece.len() {
+        let byte = piece[at];
+        digits[2 * at] = digit(byte / 16);
+        digits[2 * at + 1] = digit(byte % 16);
+    }
+    digits
+}
+
+fn print_piece(out: &mut Text, piece: &[u8]) -> Result<(), AllocError>
+    requires { length piece.now ≤ 32 }
+    ensures { OnOk result (out.new ≡ out.old ++ hex piece.now) }
+{
+    let digits = digits_of(piece);
+    let words = str::from_utf8(&digits[..2 * piece.len()]).unwrap();
+    put(out, words)?;
     Ok(())
 }
 
@@ -182,8 +194,11 @@ fn print_bytes(out: &mut Text, bytes: &[u8]) -> Result<(), AllocError>
     ensures { OnOk result (out.new ≡ out.old ++ between (codes "bytes(") (hex bytes.now) (codes ")")) }
 {
     put(out, "bytes(")?;
-    for byte in bytes {
-        print_byte(out, *byte)?;
+    let mut rest = bytes;
+    while !rest.is_empty() {
+        let (piece, after) = rest.split_at(rest.len().min(32));
+        print_piece(out, piece)?;
+        rest = after;
     }
     put(out, ")")?;
     Ok(())
@@ -197,6 +212,54 @@ fn is_escaped(byte: u8) -> bool
     byte < b' ' || byte == b'"' || byte == b'\\' || byte == 0x7f
 }
 
+/// Whether a byte of the piece is not printed as it is. It has no branch on a byte, so it takes many at a time.
+#[inline(always)]
+fn has_escaped(piece: &[u8]) -> bool
+    ensures { result ≡ false → escapes piece.now ≡ piece.now }
+{
+    let mut found = false;
+    for byte in piece {
+        found |= is_escaped(*byte);
+    }
+    found
+}
+
+/// Goes from this place past each piece of so many bytes that has none that is not printed as it is.
+#[inline(always)]
+fn skip_plain(bytes: &[u8], from: usize, piece: usize) -> usize
+    requires inside { from ≤ length bytes.now }
+    requires some { 0 < piece }
+    ensures order { (from ≤ result) × (result ≤ length bytes.now) }
+    ensures plain { escapes (drop from bytes.now) ≡ take (result - from) (drop from bytes.now) ++ escapes (drop result bytes.now) }
+{
+    let mut at = from;
+    while bytes.len() - at >= piece {
+        if has_escaped(&bytes[at..at + piece]) {
+            return at;
+        }
+        at += piece;
+    }
+    at
+}
+
+/// The first place from this one on where a byte is not printed as it is, or the end.
+fn next_escaped(bytes: &[u8], from: usize) -> usize
+    requires { from ≤ length bytes.now }
+    ensures order { (from ≤ result) × (result ≤ length bytes.now) }
+    ensures plain { escapes (drop from bytes.now) ≡ take (result - from) (drop from bytes.now) ++ escapes (drop result bytes.now) }
+    ensures ascii { result < length bytes.now → get_or bytes.now result 0 < 128 }
+{
+    let far = skip_plain(bytes, from, 32);
+    let mut at = skip_plain(bytes, far, 8);
+    while at < bytes.len() {
+        if is_escaped(bytes[at]) {
+            return at;
+        }
+        at += 1;
+    }
+    at
+}
+
 /// Appends a character of ASCII as it stands inside a text.
 fn push_escaped(out: &mut String, byte: u8) -> Result<(), AllocError>
     requires { byte < 128 }
@@ -207,8 +270,8 @@ fn push_escaped(out: &mut String, byte: u8) -> Result<(), AllocError>
         out.push(byte as char)?;
     } else if byte < b' ' || byte == 0x7f {
         out.push_str("\\x")?;
-        out.push(digit(byte / 16))?;
-        out.push(digit(byte % 16))?;
+        out.push(digit(byte / 16) as char)?;
+        out.push(digit(byte % 16) as char)?;
     } else {
         out.push(byte as char)?;
     }
@@ -221,24 +284,23 @@ fn push_escapes(out: &mut String, text: &str) -> Result<(), AllocError>
 {
     let bytes = text.as_bytes();
     let mut from = 0;
-    for at in 0..bytes.len() {
-        let byte = bytes[at];
-        if is_escaped(byte) {
-            out.push_str(&text[from..at])?;
-            push_escaped(out, byte)?;
-            from = at + 1;
+    loop {
+        let at = next_escaped(bytes, from);
+        out.push_str(&text[from..at])?;
+        if at == bytes.len() {
+            return Ok(());
         }
+        push_escaped(out, bytes[at])?;
+        from = at + 1;
     }
-    out.push_str(&text[from..])?;
-    Ok(())
 }
 
 fn print_text(out: &mut Text, text: &Text) -> Result<(), AllocError>
     ensures { OnOk result (out.new ≡ out.old ++ between (codes "\"") (escapes text.now) (codes "\"")) }
 {
-    put(out, "\"")?;
+    put_char(out, '"')?;
     put_escapes(out, text)?;
-    put(out, "\"")?;
+    put_char(out, '"')?;
     Ok(())
 }
 

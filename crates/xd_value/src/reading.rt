@@ -26,14 +26,43 @@ pub fn loads(alloc: Global, bytes: &[u8]) -> Result<Value, LoadFault>
     // Bytes with a first fault are refused with it, unless memory runs out.
     ensures faults { (at : ℕ) → (f : What) → FirstFault bytes.now at f → IsFault at f result }
 {
-    run(alloc, bytes)
+    Reader::new(alloc).loads(alloc, bytes)
 }
 
-fn run(alloc: Global, bytes: &[u8]) -> Result<Value, LoadFault>
+/// Reads one payload after another, each in the room that those before it took. What one of them leaves is of no
+/// consequence for the next.
+#[derive(Drop)]
+pub struct Reader {
+    pub(crate) stack: Vec<Slot>,
+}
+
+impl Reader {
+    pub fn new(alloc: Global) -> Reader {
+        Reader {
+            stack: Vec::new(alloc),
+        }
+    }
+
+    /// As [`loads`].
+    pub fn loads(&mut self, alloc: Global, bytes: &[u8]) -> Result<Value, LoadFault>
+        // What is read has the bytes as a payload.
+        ensures read { IfOk result (λ v. IsPayload (view v) bytes.now) }
+        // What has them as a payload is read, unless memory runs out.
+        ensures only { (v : Tree) → IsPayload v bytes.now → IsValue v result }
+        // A refusal names the first fault.
+        ensures refused { IfErr result (IsRefusal bytes.now) }
+        // Bytes with a first fault are refused with it, unless memory runs out.
+        ensures faults { (at : ℕ) → (f : What) → FirstFault bytes.now at f → IsFault at f result }
+    {
+        run(alloc, bytes, &mut self.stack)
+    }
+}
+
+fn run(alloc: Global, bytes: &[u8], stack: &mut Vec<Slot>) -> Result<Value, LoadFault>
     ensures read { IfOk result (λ v. IsPayload (view v) bytes.now) }
     ensures refused { IfErr result (IsRefusal bytes.now) }
 {
-    let mut stack = Vec::new(alloc);
+    stack.clear();
     let mut rest = bytes;
     'opcodes: loop {
         let at = bytes.len() - rest.len();
@@ -52,7 +81,7 @@ fn run(alloc: Global, bytes: &[u8]) -> Result<Value, LoadFault>
         if let Opcode::Stop = op {
             return last(stack, after, at);
         }
-        rest = match step(alloc, op, &mut stack, after) {
+        rest = match step(alloc, op, stack, after) {
             Ok(left) => left,
             Err(fault) => return Err(placed(at, fault)),
         };
@@ -69,11 +98,11 @@ fn placed(at: usize, fault: StepFault) -> LoadFault
 }
 
 /// The value at STOP.
-fn last(mut stack: Vec<Slot>, after: &[u8], at: usize) -> Result<Value, LoadFault>
+fn last(stack: &mut Vec<Slot>, after: &[u8], at: usize) -> Result<Value, LoadFault>
     requires { at < 0xffff_ffff_ffff_ffff }
-    ensures { Stops (cells_of stack.items) after.now at result }
+    ensures { Stops (cells_of stack.old.items) after.now at result }
 {
-    let Some(slot) = pop(&mut stack) else {
+    let Some(slot) = pop(stack) else {
         return Err(LoadFault::Bad {
             at,
             what: LoadWhat::Misplaced,

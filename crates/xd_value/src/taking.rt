@@ -36,9 +36,11 @@ fn values_from(alloc: Global, stack: &mut Vec<Slot>, at: usize) -> Result<Vec<Va
     ensures left { OnOk result (stack.new.items ≡ take_list at stack.old.items) }
 {
     let mut items = Vec::with_capacity(alloc, stack.len() - at)?;
-    for slot in stack.drain(at..) {
+    while stack.len() > at {
+        let slot = stack.pop().unwrap();
         items.push(slot.value)?;
     }
+    items.reverse();
     Ok(items)
 }
 

@@ -1,6 +1,6 @@
 -- Lines, one after another.
-use Rattle.std.proofs.Common.{String, Global, Some, Result, Ok, Err, ◌≡◌, ℕ, ◌+◌, ◌≤◌, inl, inr, Bool, true, false, List, [], ◌∷◌, ◌++◌, length, take, drop, refl, sym, ap, subst, ◌∙◌, append_assoc, arith}
-use Rattle.std.specs.Prelude.{IfOk, string_bytes, encode_utf8_all}
+use Rattle.std.proofs.Common.{Some, Result, Ok, Err, ◌≡◌, ℕ, ◌+◌, ◌≤◌, inl, inr, Bool, true, false, List, [], ◌∷◌, ◌++◌, length, take, drop, refl, sym, ap, subst, ◌∙◌, append_assoc, arith}
+use Rattle.std.specs.Prelude.{IfOk, OnOk, encode_utf8_all}
 use Rattle.std.proofs.lemmas.Str.{encodes-append}
 use Rattle.std.proofs.lemmas.List.{append-nil, drop-drop, length-take-le, length-drop}
 use Rattle.xd_frame.specs.declared.header.Header.{Header}
@@ -15,12 +15,11 @@ use Rattle.xd_wire.specs.Names.{what_name}
 use Rattle.xd_wire.specs.Payloads.{ShowsPayload}
 use Rattle.xd_wire.specs.WireText.{line_start, value_line, fault_line, message_with, LineBy, IsLine, FaultBy, IsPayloadFault, IsTextFrom}
 use Rattle.xd_edge.specs.declared.refusals.OutOfMemory.{OutOfMemory}
-use Rattle.xd_wire.specs.declared.step.Step.{Step}
 use Rattle.xd_wire.specs.declared.step.Then.{Then}
 use Rattle.xd_wire.specs.declared.step.Then.TheVariants.{End}
 use Rattle.xd_wire.specs.Lines.{IsLineOf, IsStepAt, Texts, texts_at, texts_of, ended, Continues}
 
-pub value_is_line : (b : Bool) (m : MessageView) (before text printed : List ℕ) → b ≡ true → ShowsPayload before m.payload (Value text)
+pub value_is_line : (b : Bool) (m : MessageView) (before text printed : List ℕ) → b ≡ true → ShowsPayload before m.payload text Value
     → encode_utf8_all before ≡ line_start m.kind m.channel (length m.payload) ++ (32 ∷ []) → printed ≡ encode_utf8_all text ++ (10 ∷ [])
     → LineBy b m printed × ((other : List ℕ) → LineBy b m other → other ≡ printed) × ((place : ℕ) (found : LoadWhat) → FaultBy b m place found → ⊥)
 value_is_line false m before text printed t k s e = absurd (cc)
@@ -32,10 +31,10 @@ value_is_line true m before text printed t k s e =
     ∙ append_assoc start (32 ∷ value) (10 ∷ []) in
     ((k.0, k.1, is), λ other o. o.2 ∙ (ap (λ v. value_line m.kind m.channel (length m.payload) (encode_utf8_all (shown v))) (k.3 o.0 o.1) ∙ sym is), k.4)
 
-pub fault_is_fault : (b : Bool) (m : MessageView) (before : List ℕ) (place : ℕ) (found : LoadWhat) → b ≡ true → ShowsPayload before m.payload (Fault place found)
+pub fault_is_fault : (b : Bool) (m : MessageView) (before text : List ℕ) (place : ℕ) (found : LoadWhat) → b ≡ true → ShowsPayload before m.payload text (Fault place found)
     → FaultBy b m place found × ((other : List ℕ) → LineBy b m other → ⊥) × ((at : ℕ) (what : LoadWhat) → FaultBy b m at what → (at ≡ place) × (what ≡ found))
-fault_is_fault false m before place found t k = absurd (cc)
-fault_is_fault true m before place found t k = (k.0, λ other o. k.1 o.0 o.1, k.2)
+fault_is_fault false m before text place found t k = absurd (cc)
+fault_is_fault true m before text place found t k = (k.0, λ other o. k.1 o.0 o.1, k.2)
 
 -- a message and the line of it, and then the rest of the file
 pub line_continues : (bytes : List ℕ) (at next : ℕ) (h : Header) (payload printed : List ℕ) → payload ≡ take h.length (drop 9 (drop at bytes)) → length payload ≡ h.length → next ≡ at + (9 + h.length)
@@ -82,27 +81,27 @@ fault_continues bytes at h payload printed place found pe me e is none only =
     }
 
 -- the same from what the code knows: the bytes from the place on, and the payload there
-pub next_step : (bytes : List ℕ) (at : ℕ) (h : Header) (front payload : List ℕ) (f : Line) (text : String Global) → front ≡ drop at bytes → payload ≡ take h.length (drop (at + 9) bytes) → 9 + h.length ≤ length front
-    → FrontSays front (Ok (Some h)) → IsLineOf (message_with h payload) f → f ≡ line.Text text → Continues (texts_at bytes at) (string_bytes text) (texts_at bytes (at + 9 + h.length))
-next_step bytes at h front payload f text fe pe whole says is e =
-    let k = subst (IsLineOf (message_with h payload)) e is in
+pub next_step : (bytes : List ℕ) (at : ℕ) (h : Header) (front payload printed : List ℕ) (f : Line) → front ≡ drop at bytes → payload ≡ take h.length (drop (at + 9) bytes) → 9 + h.length ≤ length front
+    → FrontSays front (Ok (Some h)) → IsLineOf (message_with h payload) printed f → f ≡ line.Made → Continues (texts_at bytes at) printed (texts_at bytes (at + 9 + h.length))
+next_step bytes at h front payload printed f fe pe whole says is e =
+    let k = subst (IsLineOf (message_with h payload) printed) e is in
     let s = subst (λ (d : List ℕ). FrontSays d (Ok (Some h))) fe says in
     let p : payload ≡ take h.length (drop 9 (drop at bytes)) = pe ∙ ap (take h.length) (sym (drop-drop 9 at bytes)) in
     let size : length payload ≡ h.length = ap length p ∙ length-take-le h.length (drop 9 (drop at bytes)) (omega (arith, length-drop 9 (drop at bytes), ap length fe)) in
-    line_continues bytes at (at + 9 + h.length) h payload (string_bytes text) p size (omega arith) s.0 s.1 k.0 k.1 k.2
+    line_continues bytes at (at + 9 + h.length) h payload printed p size (omega arith) s.0 s.1 k.0 k.1 k.2
 
-pub last_step : (bytes : List ℕ) (at : ℕ) (h : Header) (front payload printed : List ℕ) (f : Line) (place : ℕ) (found : LoadWhat) → front ≡ drop at bytes → payload ≡ take h.length (drop (at + 9) bytes)
-    → FrontSays front (Ok (Some h)) → IsLineOf (message_with h payload) f → f ≡ line.Fault place found → printed ≡ fault_line (what_name found) (at + 9 + place) → Continues (texts_at bytes at) printed (ended true)
-last_step bytes at h front payload printed f place found fe pe says is e pr =
-    let k = subst (IsLineOf (message_with h payload)) e is in
+pub last_step : (bytes : List ℕ) (at : ℕ) (h : Header) (front payload written printed : List ℕ) (f : Line) (place : ℕ) (found : LoadWhat) → front ≡ drop at bytes → payload ≡ take h.length (drop (at + 9) bytes)
+    → FrontSays front (Ok (Some h)) → IsLineOf (message_with h payload) written f → f ≡ line.Fault place found → printed ≡ fault_line (what_name found) (at + 9 + place) → Continues (texts_at bytes at) printed (ended true)
+last_step bytes at h front payload written printed f place found fe pe says is e pr =
+    let k = subst (IsLineOf (message_with h payload) written) e is in
     let s = subst (λ (d : List ℕ). FrontSays d (Ok (Some h))) fe says in
     let p : payload ≡ take h.length (drop 9 (drop at bytes)) = pe ∙ ap (take h.length) (sym (drop-drop 9 at bytes)) in
     let there : at + 9 + place ≡ at + (9 + place) = omega arith in
     fault_continues bytes at h payload printed place found p s.0 (pr ∙ ap (fault_line (what_name found)) there) k.0 k.1 k.2
 
 -- a step whose line tells a fault
-pub fault_steps : (r : Result Step OutOfMemory) (bytes : List ℕ) (at : ℕ) (printed : List ℕ) → IfOk r (λ s. string_bytes s.line ≡ printed) → IfOk r (λ s. s.then ≡ End true)
-    → Continues (texts_at bytes at) printed (ended true) → IfOk r (IsStepAt bytes at)
-fault_steps (Err e) bytes at printed line then k = tt
-fault_steps (Ok s) bytes at printed line then k =
-    subst (λ (t : Then). Continues (texts_at bytes at) (string_bytes s.line) (texts_of bytes t)) (sym then) (subst (λ (l : List ℕ). Continues (texts_at bytes at) l (ended true)) (sym line) k)
+pub fault_steps : (r : Result Then OutOfMemory) (bytes : List ℕ) (at : ℕ) (printed new : List ℕ) → OnOk r (new ≡ printed) → IfOk r (λ t. t ≡ End true)
+    → Continues (texts_at bytes at) printed (ended true) → IfOk r (IsStepAt bytes at new)
+fault_steps (Err e) bytes at printed new line then k = tt
+fault_steps (Ok s) bytes at printed new line then k =
+    subst (λ (t : Then). Continues (texts_at bytes at) new (texts_of bytes t)) (sym then) (subst (λ (l : List ℕ). Continues (texts_at bytes at) l (ended true)) (sym line) k)

@@ -12,9 +12,9 @@ use Rattle.xd_value.specs.Show.{shown}
 use Rattle.xd_wire.specs.declared.payload.Shown.TheVariants.{Value}
 use Rattle.xd_wire.specs.Payloads.{ShowsPayload, gives_fault}
 
-pub shows_value : (before b : List ℕ) (x : ValueOf) (text : List ℕ) → IsPayload (view x) b → ((v : Tree) → IsPayload v b → view x ≡ v) → ((at : ℕ) (f : LoadWhat) → FirstFault b at f → ⊥) → text ≡ before ++ shown (view x) → ShowsPayload before b (Value text)
+pub shows_value : (before b : List ℕ) (x : ValueOf) (text : List ℕ) → IsPayload (view x) b → ((v : Tree) → IsPayload v b → view x ≡ v) → ((at : ℕ) (f : LoadWhat) → FirstFault b at f → ⊥) → text ≡ before ++ shown (view x) → ShowsPayload before b text Value
 shows_value before b x text p only none e = (view x, p, e, λ w q. sym (only w q), none)
 
-pub shows_fault : (before b : List ℕ) (f : LoadFault) → IsRefusal b f → ((v : Tree) → IsPayload v b → IsValue v (Err f)) → ((at : ℕ) (g : LoadWhat) → FirstFault b at g → IsFault at g (Err f)) → IfOk (gives_fault f) (ShowsPayload before b)
-shows_fault before b (fault.Bad at f) r only faults = (r, only, λ p g h. let k = faults p g h in (sym k.0, sym k.1))
-shows_fault before b fault.OutOfMemory r only faults = tt
+pub shows_fault : (before b text : List ℕ) (f : LoadFault) → IsRefusal b f → ((v : Tree) → IsPayload v b → IsValue v (Err f)) → ((at : ℕ) (g : LoadWhat) → FirstFault b at g → IsFault at g (Err f)) → IfOk (gives_fault f) (ShowsPayload before b text)
+shows_fault before b text (fault.Bad at f) r only faults = (r, only, λ p g h. let k = faults p g h in (sym k.0, sym k.1))
+shows_fault before b text fault.OutOfMemory r only faults = tt

@@ -1,20 +1,19 @@
 -- One line after another.
-use Rattle.std.specs.Prelude.{◌≡◌, ℕ, ◌<◌, ◌≤◌, List, [], ◌++◌, Bool, drop, string_bytes}
+use Rattle.std.specs.Prelude.{◌≡◌, ℕ, ◌<◌, ◌≤◌, List, [], ◌++◌, Bool, drop}
 use Rattle.xd_frame.specs.Message.{MessageView}
 use Rattle.xd_frame.specs.Stream.{messages, rest}
 use Rattle.xd_value.specs.declared.fault.LoadWhat.{LoadWhat}
 use Rattle.xd_wire.specs.declared.line.Line.{Line}
-use Rattle.xd_wire.specs.declared.line.Line.TheVariants.{Text, Fault}
-use Rattle.xd_wire.specs.declared.step.Step.{Step}
+use Rattle.xd_wire.specs.declared.line.Line.TheVariants.{Made, Fault}
 use Rattle.xd_wire.specs.declared.step.Then.{Then}
 use Rattle.xd_wire.specs.declared.step.Then.TheVariants.{At, End}
 use Rattle.xd_wire.specs.WireText.{IsLine, IsPayloadFault, IsTextFrom}
 
--- what a message is printed as, and nothing else
-abbrev pub IsLineOf : MessageView → Line → Type 0
-IsLineOf m (Text line) =
-    IsLine m (string_bytes line) × ((other : List ℕ) → IsLine m other → other ≡ string_bytes line) × ((place : ℕ) (what : LoadWhat) → IsPayloadFault m place what → ⊥)
-IsLineOf m (Fault place what) =
+-- what a message is printed as, and nothing else; a line is these bytes
+abbrev pub IsLineOf : MessageView → List ℕ → Line → Type 0
+IsLineOf m printed Made =
+    IsLine m printed × ((other : List ℕ) → IsLine m other → other ≡ printed) × ((place : ℕ) (what : LoadWhat) → IsPayloadFault m place what → ⊥)
+IsLineOf m printed (Fault place what) =
     IsPayloadFault m place what × ((other : List ℕ) → IsLine m other → ⊥) × ((at : ℕ) (found : LoadWhat) → IsPayloadFault m at found → (at ≡ place) × (found ≡ what))
 
 -- a text, and whether a fault ends it
@@ -39,9 +38,9 @@ abbrev pub texts_of : List ℕ → Then → Texts
 texts_of bytes (At next) = texts_at bytes next
 texts_of bytes (End faulty) = ended faulty
 
--- the line at a place of a file, and what follows it
-abbrev pub IsStepAt : List ℕ → ℕ → Step → Type 0
-IsStepAt bytes at step = Continues (texts_at bytes at) (string_bytes step.line) (texts_of bytes step.then)
+-- the line at a place of a file is these bytes, and what follows it
+abbrev pub IsStepAt : List ℕ → ℕ → List ℕ → Then → Type 0
+IsStepAt bytes at line then = Continues (texts_at bytes at) line (texts_of bytes then)
 
 -- the next line begins behind this one, inside the file or at its end
 abbrev pub IsAhead : ℕ → ℕ → Then → Type 0

@@ -10,11 +10,11 @@ use Rattle.xd_value.specs.Show.{shown}
 use Rattle.xd_wire.specs.declared.payload.Shown.{Shown}
 use Rattle.xd_wire.specs.declared.payload.Shown.TheVariants.{Value, Fault}
 
--- the one value that the bytes are a payload of, as text behind this one, or their one first fault
-abbrev pub ShowsPayload : List ℕ → List ℕ → Shown → Type 0
-ShowsPayload before bytes (Value text) =
+-- the one value that the bytes are a payload of, as text behind the one before, or their one first fault
+abbrev pub ShowsPayload : List ℕ → List ℕ → List ℕ → Shown → Type 0
+ShowsPayload before bytes text Value =
     (v : Tree) × IsPayload v bytes × (text ≡ before ++ shown v) × ((w : Tree) → IsPayload w bytes → w ≡ v) × ((at : ℕ) (found : LoadWhat) → FirstFault bytes at found → ⊥)
-ShowsPayload before bytes (Fault place what) =
+ShowsPayload before bytes text (Fault place what) =
     FirstFault bytes place what × ((w : Tree) → IsPayload w bytes → ⊥) × ((at : ℕ) (found : LoadWhat) → FirstFault bytes at found → (at ≡ place) × (found ≡ what))
 
 -- a refusal of bytes as what they are shown as

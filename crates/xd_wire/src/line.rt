@@ -1,5 +1,5 @@
 // One message as a line.
-ghost use Rattle.std.specs.Prelude.{◌≡◌, ◌++◌, ◌∷◌, [], IfOk, OnOk, length, string_bytes, encode_utf8_all};
+ghost use Rattle.std.specs.Prelude.{◌≡◌, ◌<◌, ◌++◌, ◌∷◌, [], IfOk, OnOk, length, string_bytes, encode_utf8_all};
 ghost use Rattle.std.specs.Fmt.{decimal};
 ghost use Rattle.xd_wire.specs.WireText.{has_value, line_start, message_with};
 ghost use Rattle.xd_wire.specs.Lines.{IsLineOf};
@@ -10,36 +10,36 @@ use itoa::Buffer;
 use std::alloc::Global;
 use xd_edge::{OutOfMemory, Text};
 use xd_frame::{Header, Kind};
-use xd_value::LoadWhat;
+use xd_value::{LoadWhat, Reader};
 
-/// What a message is printed as: its line, or the first fault of its payload.
-#[derive(Drop)]
+/// What a message is printed as: a line, or the first fault of its payload and the place of that there.
+#[derive(Clone, Copy)]
 pub enum Line {
-    Text(String),
+    Made,
     Fault(usize, LoadWhat),
 }
 
-/// The line of a message with this payload, or the first fault of the payload and its place there. The line is made in
-/// the room of a string that is done with.
+/// Makes the line of a message with this payload in place of what the text was, or finds the first fault of the payload.
 pub fn line_of(
     alloc: Global,
+    reader: &mut Reader,
     header: Header,
     payload: &[u8],
-    room: String,
+    line: &mut Text,
 ) -> Result<Line, OutOfMemory>
     requires { length payload.now ≡ header.length }
-    ensures { IfOk result (IsLineOf (message_with header payload.now)) }
+    ensures { IfOk result (IsLineOf (message_with header payload.now) (encode_utf8_all line.new)) }
 {
-    let start = start_of(header, room)?;
+    start(line, header)?;
     if !reads_value(header.kind) {
-        let line = ended(start)?;
-        return Ok(Line::Text(line));
+        push(line, '\n')?;
+        return Ok(Line::Made);
     }
-    let before = spaced(start)?;
-    match show_payload(alloc, before, payload)? {
-        Shown::Value(text) => {
-            let line = ended_text(text)?;
-            Ok(Line::Text(line))
+    push(line, ' ')?;
+    match show_payload(alloc, reader, line, payload)? {
+        Shown::Value => {
+            push(line, '\n')?;
+            Ok(Line::Made)
         }
         Shown::Fault(at, what) => Ok(Line::Fault(at, what)),
     }
@@ -56,19 +56,26 @@ fn reads_value(kind: Kind) -> bool
     }
 }
 
-/// The name of a message, its channel and the length of its payload.
-fn start_of(header: Header, room: String) -> Result<String, OutOfMemory>
-    ensures { IfOk result (λ start. string_bytes start ≡ line_start header.kind header.channel header.length) }
+/// The name of a message, its channel and the length of its payload, in place of what the text was.
+fn start(line: &mut Text, header: Header) -> Result<(), OutOfMemory>
+    ensures { OnOk result (encode_utf8_all line.new ≡ line_start header.kind header.channel header.length) }
 {
-    let mut start = room;
-    start.clear();
-    start.push_str(name_of_kind(header.kind))?;
-    push_number(&mut start, header.channel)?;
-    push_number(&mut start, header.length)?;
-    Ok(start)
+    write_start(&mut line.text, header)?;
+    Ok(())
+}
+
+fn write_start(line: &mut String, header: Header) -> Result<(), OutOfMemory>
+    ensures { OnOk result (string_bytes line.new ≡ line_start header.kind header.channel header.length) }
+{
+    line.clear();
+    line.push_str(name_of_kind(header.kind))?;
+    push_number(line, header.channel)?;
+    push_number(line, header.length)?;
+    Ok(())
 }
 
 /// Appends a space and a number.
+#[inline(always)]
 fn push_number(line: &mut String, number: u32) -> Result<(), OutOfMemory>
     ensures { OnOk result (string_bytes line.new ≡ string_bytes line.old ++ (32 ∷ decimal number)) }
 {
@@ -78,27 +85,11 @@ fn push_number(line: &mut String, number: u32) -> Result<(), OutOfMemory>
     Ok(())
 }
 
-/// The text with a space behind it.
-fn spaced(start: String) -> Result<Text, OutOfMemory>
-    ensures { IfOk result (λ text. encode_utf8_all text ≡ string_bytes start ++ (32 ∷ [])) }
+/// Appends a character of ASCII.
+fn push(line: &mut Text, c: char) -> Result<(), OutOfMemory>
+    requires { c < 128 }
+    ensures { OnOk result (encode_utf8_all line.new ≡ encode_utf8_all line.old ++ (c ∷ [])) }
 {
-    let mut text = start;
-    text.push(' ')?;
-    Ok(Text::from_string(text))
-}
-
-/// The text as a line.
-fn ended(text: String) -> Result<String, OutOfMemory>
-    ensures { IfOk result (λ line. string_bytes line ≡ string_bytes text ++ (10 ∷ [])) }
-{
-    let mut line = text;
-    line.push('\n')?;
-    Ok(line)
-}
-
-fn ended_text(text: Text) -> Result<String, OutOfMemory>
-    ensures { IfOk result (λ line. string_bytes line ≡ encode_utf8_all text ++ (10 ∷ [])) }
-{
-    let line = ended(text.text)?;
-    Ok(line)
+    line.text.push(c)?;
+    Ok(())
 }

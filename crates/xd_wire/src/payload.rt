@@ -1,39 +1,35 @@
 // A payload as text.
-ghost use Rattle.std.specs.Prelude.{◌≡◌, ◌++◌, IfOk};
-ghost use Rattle.xd_value.specs.Show.{shown};
-ghost use Rattle.xd_value.specs.View.{view};
+ghost use Rattle.std.specs.Prelude.{◌≡◌, IfOk};
 ghost use Rattle.xd_wire.specs.Payloads.{ShowsPayload, gives_fault};
 
 use std::alloc::Global;
 use xd_edge::{OutOfMemory, Text};
-use xd_value::{LoadFault, LoadWhat, Value, loads, show_onto};
+use xd_value::{LoadFault, LoadWhat, Reader, show_onto};
 
-/// What a payload is printed as: its value behind a text, or its first fault and the place of that in the payload.
-#[derive(Drop)]
+/// What a payload is printed as: its value, behind what the text had, or its first fault and the place of that in the
+/// payload.
+#[derive(Clone, Copy)]
 pub enum Shown {
-    Value(Text),
+    Value,
     Fault(usize, LoadWhat),
 }
 
-/// The value that the bytes are a payload of, appended to the text, or their first fault.
-pub fn show_payload(alloc: Global, before: Text, bytes: &[u8]) -> Result<Shown, OutOfMemory>
-    ensures { IfOk result (ShowsPayload before bytes.now) }
+/// Appends the value that the bytes are a payload of to the text, or finds their first fault.
+pub fn show_payload(
+    alloc: Global,
+    reader: &mut Reader,
+    text: &mut Text,
+    bytes: &[u8],
+) -> Result<Shown, OutOfMemory>
+    ensures { IfOk result (ShowsPayload text.old bytes.now text.new) }
 {
-    match loads(alloc, bytes) {
+    match reader.loads(alloc, bytes) {
         Ok(value) => {
-            let text = appended(before, &value)?;
-            Ok(Shown::Value(text))
+            show_onto(text, &value)?;
+            Ok(Shown::Value)
         }
         Err(fault) => shown_fault(fault),
     }
-}
-
-fn appended(before: Text, value: &Value) -> Result<Text, OutOfMemory>
-    ensures { IfOk result (λ text. text ≡ before ++ shown (view value.now)) }
-{
-    let mut text = before;
-    show_onto(&mut text, value)?;
-    Ok(text)
 }
 
 fn shown_fault(fault: LoadFault) -> Result<Shown, OutOfMemory>

@@ -7,7 +7,8 @@ ghost use Rattle.xd_wire.specs.Printing.{HasText, Prints, Leaves, end_with};
 
 use crate::step::{Then, step_at};
 use std::alloc::Global;
-use xd_edge::{Failed, OutOfMemory, Sink, write_all};
+use xd_edge::{Failed, OutOfMemory, Sink, Text, write_all};
+use xd_value::Reader;
 
 /// How the printing of a file of messages came to its end.
 #[derive(Clone, Copy, Debug, PartialEq, Eq)]
@@ -68,14 +69,14 @@ fn write_lines<O: Sink>(
     ensures later { O.faults out.old ≤ O.faults out.new }
 {
     let mut at = 0;
-    let mut room = String::new(alloc);
-    loop {
-        let step = step_at(alloc, bytes, at, room)?;
-        if write_all(out, step.line.as_str().as_bytes()).is_err() {
+    let mut reader = Reader::new(alloc);
+    let mut line = Text::from_string(String::new(alloc));
+    'lines: loop {
+        let then = step_at(alloc, &mut reader, bytes, at, &mut line)?;
+        if write_all(out, line.as_str().as_bytes()).is_err() {
             return Ok(Err(Failed));
         }
-        room = step.line;
-        match step.then {
+        match then {
             Then::At(next) => at = next,
             Then::End { faulty } => return Ok(Ok(faulty)),
         }

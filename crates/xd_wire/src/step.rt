@@ -1,20 +1,14 @@
 // What stands at a place of a file of messages.
-ghost use Rattle.std.specs.Prelude.{◌≡◌, ◌≤◌, [], true, false, IfOk, length, string_bytes};
+ghost use Rattle.std.specs.Prelude.{◌≡◌, ◌≤◌, [], true, false, IfOk, OnOk, length, string_bytes, encode_utf8_all};
 ghost use Rattle.xd_wire.specs.WireText.{fault_line};
 ghost use Rattle.xd_wire.specs.Lines.{IsStepAt, IsAhead};
 
 use crate::line::{Line, line_of};
 use crate::names::{name_of_frame_fault, name_of_what};
 use std::alloc::Global;
-use xd_edge::OutOfMemory;
+use xd_edge::{OutOfMemory, Text};
 use xd_frame::{HEADER_LENGTH, first_header};
-
-/// A line of the text, and what follows it.
-#[derive(Drop)]
-pub struct Step {
-    pub line: String,
-    pub then: Then,
-}
+use xd_value::Reader;
 
 /// What follows a line: the line of the message at a place of the file, or nothing, behind a fault or none.
 #[derive(Clone, Copy)]
@@ -23,52 +17,58 @@ pub enum Then {
     End { faulty: bool },
 }
 
-/// The line of what stands at this place of the file. Behind the last message the line is empty. A message's line is
-/// made in the room of a string that is done with.
-pub fn step_at(alloc: Global, bytes: &[u8], at: usize, room: String) -> Result<Step, OutOfMemory>
+/// Makes the line of what stands at this place of the file, in place of what the text was, and says what follows it.
+/// Behind the last message the line is empty.
+pub fn step_at(
+    alloc: Global,
+    reader: &mut Reader,
+    bytes: &[u8],
+    at: usize,
+    line: &mut Text,
+) -> Result<Then, OutOfMemory>
     requires { at ≤ length bytes.now }
-    ensures step { IfOk result (IsStepAt bytes.now at) }
-    ensures ahead { IfOk result (λ step. IsAhead at (length bytes.now) step.then) }
+    ensures step { IfOk result (IsStepAt bytes.now at (encode_utf8_all line.new)) }
+    ensures ahead { IfOk result (IsAhead at (length bytes.now)) }
 {
     let header = match first_header(&bytes[at..]) {
         Ok(Some(header)) => header,
-        Ok(None) if at == bytes.len() => return Ok(clean_end(alloc)),
-        Ok(None) => return fault_step(alloc, "Cut", at as u128),
-        Err(fault) => return fault_step(alloc, name_of_frame_fault(fault), at as u128),
+        Ok(None) if at == bytes.len() => return Ok(clean_end(line)),
+        Ok(None) => return fault_step(alloc, "Cut", at as u128, line),
+        Err(fault) => return fault_step(alloc, name_of_frame_fault(fault), at as u128, line),
     };
     let start = at + HEADER_LENGTH;
     let next = start + header.length as usize;
-    match line_of(alloc, header, &bytes[start..next], room)? {
-        Line::Text(line) => Ok(Step {
-            line,
-            then: Then::At(next),
-        }),
+    match line_of(alloc, reader, header, &bytes[start..next], line)? {
+        Line::Made => Ok(Then::At(next)),
         Line::Fault(place, what) => {
             // No contract bounds the place in the payload, so the sum has 128 bits.
             let place = start as u128 + place as u128;
-            fault_step(alloc, name_of_what(what), place)
+            fault_step(alloc, name_of_what(what), place, line)
         }
     }
 }
 
-fn clean_end(alloc: Global) -> Step
-    ensures line { string_bytes result.line ≡ [] }
-    ensures then { result.then ≡ Then.End false }
+fn clean_end(line: &mut Text) -> Then
+    ensures line { encode_utf8_all line.new ≡ [] }
+    ensures then { result ≡ Then.End false }
 {
-    Step {
-        line: String::new(alloc),
-        then: Then::End { faulty: false },
-    }
+    line.text.clear();
+    Then::End { faulty: false }
 }
 
 /// The line of a fault, which is the last.
-fn fault_step(alloc: Global, name: &str, place: u128) -> Result<Step, OutOfMemory>
-    ensures line { IfOk result (λ step. string_bytes step.line ≡ fault_line name.now place) }
-    ensures then { IfOk result (λ step. step.then ≡ Then.End true) }
+fn fault_step(alloc: Global, name: &str, place: u128, line: &mut Text) -> Result<Then, OutOfMemory>
+    ensures line { OnOk result (encode_utf8_all line.new ≡ fault_line name.now place) }
+    ensures then { IfOk result (λ then. then ≡ Then.End true) }
 {
-    let line = format!(in alloc; "fault {name} at {place}\n")?;
-    Ok(Step {
-        line,
-        then: Then::End { faulty: true },
-    })
+    let text = text_of_fault(alloc, name, place)?;
+    *line = Text::from_string(text);
+    Ok(Then::End { faulty: true })
+}
+
+fn text_of_fault(alloc: Global, name: &str, place: u128) -> Result<String, OutOfMemory>
+    ensures { IfOk result (λ text. string_bytes text ≡ fault_line name.now place) }
+{
+    let text = format!(in alloc; "fault {name} at {place}\n")?;
+    Ok(text)
 }

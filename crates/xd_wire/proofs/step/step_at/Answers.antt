@@ -7,19 +7,19 @@ use Rattle.xd_wire.specs.WireText.{fault_line}
 use Rattle.xd_wire.proofs.LineLemmas.{next_step, last_step, fault_steps}
 use Rattle.xd_wire.proofs.step.step_at.Goals as goal
 
-pub returns-in-Text-clause-step : goal.returns-in-Text-clause-step
-returns-in-Text-clause-step c =
+pub returns-in-Made-clause-step : goal.returns-in-Made-clause-step
+returns-in-Made-clause-step c =
     let h = c.in-Ok-Some.header in
     let size : (c.args.at + 9 + h.length) - (c.args.at + 9) ≡ h.length = omega arith in
-    next_step c.args.bytes.now c.args.at h _ _ c.in_ok-line.field-0 c.in-Text.line (take_rest c.args.bytes.now c.args.at) (ap (λ n. take n (drop (c.args.at + 9) c.args.bytes.now)) size)
+    next_step c.args.bytes.now c.args.at h _ _ _ c.in_ok-line_of.field-0 (take_rest c.args.bytes.now c.args.at) (ap (λ n. take n (drop (c.args.at + 9) c.args.bytes.now)) size)
     (subst (λ (o : Option Header). IfSome o (λ g. 9 + g.length ≤ length (take (length c.args.bytes.now - c.args.at) (drop c.args.at c.args.bytes.now)))) c.in-Ok-Some.field-0-is c.in-Ok-Some.ensures.whole)
-    (subst (λ (o : Option Header). FrontSays (take (length c.args.bytes.now - c.args.at) (drop c.args.at c.args.bytes.now)) (Ok o)) c.in-Ok-Some.field-0-is c.in-Ok-Some.ensures.says) c.in_ok-line.ensures c.in-Text.is
+    (subst (λ (o : Option Header). FrontSays (take (length c.args.bytes.now - c.args.at) (drop c.args.at c.args.bytes.now)) (Ok o)) c.in-Ok-Some.field-0-is c.in-Ok-Some.ensures.says) c.in_ok-line_of.ensures c.in-Made.is
 
 pub returns-in-Fault-clause-step : goal.returns-in-Fault-clause-step
 returns-in-Fault-clause-step c =
     let h = c.in-Ok-Some.header in
     let size : (c.args.at + 9 + h.length) - (c.args.at + 9) ≡ h.length = omega arith in
-    fault_steps c.fault_step-in-Fault.result c.args.bytes.now c.args.at _ c.fault_step-in-Fault.ensures.line c.fault_step-in-Fault.ensures.then
-    (last_step c.args.bytes.now c.args.at h _ _ _ c.in_ok-line.field-0 c.in-Fault.place c.in-Fault.what (take_rest c.args.bytes.now c.args.at) (ap (λ n. take n (drop (c.args.at + 9) c.args.bytes.now)) size)
-    (subst (λ (o : Option Header). FrontSays (take (length c.args.bytes.now - c.args.at) (drop c.args.at c.args.bytes.now)) (Ok o)) c.in-Ok-Some.field-0-is c.in-Ok-Some.ensures.says) c.in_ok-line.ensures c.in-Fault.is
+    fault_steps c.fault_step-in-Fault.result c.args.bytes.now c.args.at _ _ c.fault_step-in-Fault.ensures.line c.fault_step-in-Fault.ensures.then
+    (last_step c.args.bytes.now c.args.at h _ _ _ _ c.in_ok-line_of.field-0 c.in-Fault.place c.in-Fault.what (take_rest c.args.bytes.now c.args.at) (ap (λ n. take n (drop (c.args.at + 9) c.args.bytes.now)) size)
+    (subst (λ (o : Option Header). FrontSays (take (length c.args.bytes.now - c.args.at) (drop c.args.at c.args.bytes.now)) (Ok o)) c.in-Ok-Some.field-0-is c.in-Ok-Some.ensures.says) c.in_ok-line_of.ensures c.in-Fault.is
     (ap (λ (n : List ℕ). fault_line n (c.args.at + 9 + c.in-Fault.place)) c.name_of_what.ensures))
