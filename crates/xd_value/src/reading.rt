@@ -37,6 +37,7 @@ pub struct Reader {
 }
 
 impl Reader {
+    /// A reader that has no room yet.
     pub fn new(alloc: Global) -> Reader {
         Reader {
             stack: Vec::new(alloc),

@@ -37,11 +37,6 @@ abbrev pub all_said : List Heard → List MessageView
 all_said [] = []
 all_said (g ∷ h) = all_said h ++ (turn_by (worker_after h) g).talk.says
 
--- the tests that were started, in order
-abbrev pub all_started : List Heard → List ℕ
-all_started [] = []
-all_started (g ∷ h) = all_started h ++ option_to_list (turn_by (worker_after h) g).run
-
 -- A test that runs, or that is started, is one of the suite that was read.
 pub record KnownTests : Type 0 where
   pub runs : (h : List Heard) (k : ℕ) → running_in (worker_after h).duties.service ≡ Some k → k < length (worker_after h).duties.tests
