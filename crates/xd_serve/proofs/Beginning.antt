@@ -8,7 +8,7 @@ use Rattle.xd_edge.specs.Sink.{Sunk}
 use Rattle.xd_worker.specs.declared.worker.WorkerCore.{WorkerCore}
 use Rattle.xd_worker.specs.Stands.{StandsFor}
 use Rattle.xd_serve.specs.Counts.{CountAfter}
-use Rattle.xd_serve.specs.Speaking.{Shows, greeting}
+use Rattle.xd_serve.specs.Speaking.{Writes, greeting}
 use Rattle.xd_serve.specs.Going.{Free, Going, scene}
 
 none_added : (runs : Option (List ChildRun)) → runs ≡ option_map (λ l. l ++ []) runs
@@ -16,16 +16,16 @@ none_added None = refl
 none_added (Some l) = ap Some (sym (append-nil l))
 
 pub begun : (held : Option Held) (core : WorkerCore) (broken : Bool) (sunk0 sunk1 : Option Sunk) (f0 f1 : ℕ) (runs : Option (List ChildRun)) (child_faults file_faults : ℕ)
-    → StandsFor core [] → Shows (not broken) greeting sunk0 sunk1 → CountAfter (not broken) f0 f1 → f0 ≤ f1
+    → StandsFor core [] → Writes (not broken) greeting sunk0 sunk1 → CountAfter (not broken) f0 f1 → f0 ≤ f1
     → Going held [] Free core broken (scene sunk0 f0 runs child_faults file_faults) (scene sunk1 f1 runs child_faults file_faults)
-begun held core broken sunk0 sunk1 f0 f1 runs child_faults file_faults stands shows count later = record {
+begun held core broken sunk0 sunk1 f0 f1 runs child_faults file_faults stands writes count later = record {
   inputs = [];
   history = [];
   told = record {
     heard = tt;
     ends = tt;
     answered = tt;
-    says = shows;
+    says = writes;
     sink_count = count;
     programs = record {
       started = [];

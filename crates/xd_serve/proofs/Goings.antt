@@ -25,7 +25,7 @@ use Rattle.xd_serve.specs.Inputs.{IsDue, has_end, has_last, is_last, is_link_end
 use Rattle.xd_serve.specs.Suites.{FilesGave, Follows}
 use Rattle.xd_serve.specs.Programs.{commands_of, output_in}
 use Rattle.xd_serve.specs.Counts.{CountAfter, CountBehind}
-use Rattle.xd_serve.specs.Speaking.{Shows, ShowsMore, written}
+use Rattle.xd_serve.specs.Speaking.{Writes, WritesMore, written}
 use Rattle.xd_serve.specs.Going.{Free, Going, Later, Next, Programs, Reading, Running, Scene, Told, Watched, call_in, IsNext, left_of, output_of, path_of, rests, scene, to_do, to_start}
 use Rattle.xd_serve.specs.Taking.{AreLeft, Halted, Halts, end_by, is_whole}
 use Rattle.xd_serve.proofs.Steps.{Does, Plain, Prints, Ready, Step, Waits, end_does, message_does, no_suite_does, output_does, running_is, suite_does}
@@ -99,9 +99,9 @@ sink_later s sunk0 sunk1 f0 f1 l = record { sink = l; children = omega arith; fi
 pub going_output : (held : Option Held) (taken : List MessageView) (test : ℕ) (args : List (List ℕ)) (output piece : List ℕ) (core0 core1 : WorkerCore) (b0 b1 : Bool) (first s : Scene) (sunk0 sunk1 : Option Sunk) (f0 f1 : ℕ) (acts : WorkerActions)
     → Going held taken (Running test args output) core0 b0 first (at_sink s sunk0 f0)
     → ((h : List Heard) → StandsFor core0 h → Answers core1 (worker_after h) (Output piece) acts) → length piece ≤ 4096
-    → ShowsMore b0 b1 (frames acts.say) sunk0 sunk1 → CountBehind b0 b1 f0 f1 → f0 ≤ f1
+    → WritesMore b0 b1 (frames acts.say) sunk0 sunk1 → CountBehind b0 b1 f0 f1 → f0 ≤ f1
     → Going held taken (Running test args (output ++ piece)) core1 b1 first (at_sink s sunk1 f1)
-going_output held taken test args output piece core0 core1 b0 b1 first s sunk0 sunk1 f0 f1 acts g answers few shows count later =
+going_output held taken test args output piece core0 core1 b0 b1 first s sunk0 sunk1 f0 f1 acts g answers few writes count later =
     let h = g.history in
     let w = worker_after h in
     let a = answers h g.stands in
@@ -115,7 +115,7 @@ going_output held taken test args output piece core0 core1 b0 b1 first s sunk0 s
       told = told_more held g.inputs h b0 b1 (args ∷ []) (args ∷ []) first s0 s1 core1 (Output piece) acts g.told a
           (subst (λ (o : Option ℕ). IsSome o) (sym (running_is w.duties.service ∙ g.next_is.1)) search, few)
           (subst (λ (o : Option (List ℕ)). Follows held (Rose first.file_faults s1.file_faults) o (Output piece)) (sym g.path_is) refl)
-          (λ e. cc) shows count (sink_later s sunk0 sunk1 f0 f1 later)
+          (λ e. cc) writes count (sink_later s sunk0 sunk1 f0 f1 later)
           (subst (λ (l : List (List (List ℕ))). Programs (Output piece ∷ g.inputs) (a.heard ∷ h) ((args ∷ []) ++ l) first s1) (no_commands u p.run)
           (programs_more (Output piece) g.inputs a.heard h (args ∷ []) first s0 s1 refl refl refl g.told.programs));
       stands = a.worker;
@@ -133,9 +133,9 @@ going_output held taken test args output piece core0 core1 b0 b1 first s sunk0 s
 pub going_end : (held : Option Held) (taken : List MessageView) (test : ℕ) (args : List (List ℕ)) (outcome : Outcome) (ms : ℕ) (core0 core1 : WorkerCore) (b0 b1 : Bool) (first s : Scene) (runs : Option (List ChildRun)) (child_faults : ℕ) (sunk0 sunk1 : Option Sunk) (f0 f1 : ℕ) (acts : WorkerActions)
     → Watched held taken test args outcome core0 b0 first (at_sink s sunk0 f0) (scene sunk0 f0 runs child_faults s.file_faults)
     → ((h : List Heard) → StandsFor core0 h → Answers core1 (worker_after h) (ChildDone outcome ms) acts)
-    → ShowsMore b0 b1 (frames acts.say) sunk0 sunk1 → CountBehind b0 b1 f0 f1 → f0 ≤ f1
+    → WritesMore b0 b1 (frames acts.say) sunk0 sunk1 → CountBehind b0 b1 f0 f1 → f0 ≤ f1
     → (args : List (List ℕ)) × Going held taken (to_start acts.run args) core1 b1 first (scene sunk1 f1 runs child_faults s.file_faults)
-going_end held taken test args outcome ms core0 core1 b0 b1 first s runs child_faults sunk0 sunk1 f0 f1 acts watched answers shows count later =
+going_end held taken test args outcome ms core0 core1 b0 b1 first s runs child_faults sunk0 sunk1 f0 f1 acts watched answers writes count later =
     let g = watched.going in
     let h = g.history in
     let w = worker_after h in
@@ -152,7 +152,7 @@ going_end held taken test args outcome ms core0 core1 b0 b1 first s runs child_f
         told = told_more held g.inputs h b0 b1 (args ∷ []) (left_of (to_start acts.run next)) first s0 s1 core1 (ChildDone outcome ms) acts g.told a
             (subst (λ (o : Option ℕ). IsSome o) (sym (running_is w.duties.service ∙ g.next_is.1)) search)
             (subst (λ (o : Option (List ℕ)). Follows held (Rose first.file_faults s1.file_faults) o (ChildDone outcome ms)) (sym g.path_is) refl)
-            (λ e. cc) shows count (record { sink = later; children = watched.later; files = omega arith })
+            (λ e. cc) writes count (record { sink = later; children = watched.later; files = omega arith })
             (subst (λ (l : List (List (List ℕ))). Programs (ChildDone outcome ms ∷ g.inputs) (a.heard ∷ h) l first s1) (sym (next_left acts.run u a.run))
             (programs_end outcome ms g.inputs a.heard h args watched.output first s0 s1 g.output_is watched.came watched.faults watched.later g.told.programs));
         stands = a.worker;
@@ -202,9 +202,9 @@ pub going_suite : (held : Option Held) (taken : List MessageView) (path : List �
     → Going held taken (Reading path) core0 b0 first (scene sunk0 f0 runs child_faults files0)
     → FilesGave held (Rose files0 files1) path i → files0 ≤ files1
     → ((h : List Heard) → StandsFor core0 h → Answers core1 (worker_after h) i acts)
-    → ShowsMore b0 b1 (frames acts.say) sunk0 sunk1 → CountBehind b0 b1 f0 f1 → f0 ≤ f1
+    → WritesMore b0 b1 (frames acts.say) sunk0 sunk1 → CountBehind b0 b1 f0 f1 → f0 ≤ f1
     → (args : List (List ℕ)) × Going held taken (to_start acts.run args) core1 b1 first (scene sunk1 f1 runs child_faults files1)
-going_suite held taken path i core0 core1 b0 b1 first runs child_faults sunk0 sunk1 f0 f1 files0 files1 acts g gave files answers shows count later =
+going_suite held taken path i core0 core1 b0 b1 first runs child_faults sunk0 sunk1 f0 f1 files0 files1 acts g gave files answers writes count later =
     let h = g.history in
     let w = worker_after h in
     let a = answers h g.stands in
@@ -220,7 +220,7 @@ going_suite held taken path i core0 core1 b0 b1 first runs child_faults sunk0 su
         history = a.heard ∷ h;
         told = told_more held g.inputs h b0 b1 [] (left_of (to_start acts.run next)) first s0 s1 core1 i acts g.told a (x.due w g.next_is.1)
             (subst (λ (o : Option (List ℕ)). Follows held (Rose first.file_faults files1) o i) (sym g.path_is) (since i gave))
-            (λ e. let z = sym x.link ∙ e in cc) shows count (record { sink = later; children = omega arith; files = files })
+            (λ e. let z = sym x.link ∙ e in cc) writes count (record { sink = later; children = omega arith; files = files })
             (subst (λ (l : List (List (List ℕ))). Programs (i ∷ g.inputs) (a.heard ∷ h) l first s1) (sym (next_left acts.run u a.run))
             (programs_more i g.inputs a.heard h [] first s0 s1 x.end refl refl g.told.programs));
         stands = a.worker;
@@ -297,7 +297,7 @@ do_path (Some p) run args = refl
 module _ (held : Option Held) (taken : List MessageView) (m : MessageView) (core0 core1 : WorkerCore) (b0 b1 : Bool) (first s : Scene) (sunk0 sunk1 : Option Sunk) (f0 f1 : ℕ) (acts : WorkerActions)
     (g : Going held taken Free core0 b0 first (at_sink s sunk0 f0))
     (answers : (h : List Heard) → StandsFor core0 h → Answers core1 (worker_after h) (Message m) acts)
-    (shows : ShowsMore b0 b1 (frames acts.say) sunk0 sunk1) (count : CountBehind b0 b1 f0 f1) (later : f0 ≤ f1) where
+    (writes : WritesMore b0 b1 (frames acts.say) sunk0 sunk1) (count : CountBehind b0 b1 f0 f1) (later : f0 ≤ f1) where
   abbrev h : List Heard
   h = g.history
 
@@ -319,7 +319,7 @@ module _ (held : Option Held) (taken : List MessageView) (m : MessageView) (core
   told_message : (left1 : List (List (List ℕ))) → left1 ≡ commands_of u → Told held (Message m ∷ g.inputs) (a.heard ∷ h) (not b1) left1 first (at_sink s sunk1 f1)
   told_message left1 e = told_more held g.inputs h b0 b1 [] left1 first (at_sink s sunk0 f0) (at_sink s sunk1 f1) core1 (Message m) acts g.told a tt
       (subst (λ (o : Option (List ℕ)). Follows held (Rose first.file_faults s.file_faults) o (Message m)) (sym g.path_is) refl)
-      (λ e. g.no_end) shows count (sink_later s sunk0 sunk1 f0 f1 later)
+      (λ e. g.no_end) writes count (sink_later s sunk0 sunk1 f0 f1 later)
       (subst (λ (l : List (List (List ℕ))). Programs (Message m ∷ g.inputs) (a.heard ∷ h) l first (at_sink s sunk1 f1)) (sym e)
       (programs_more (Message m) g.inputs a.heard h [] first (at_sink s sunk0 f0) (at_sink s sunk1 f1) refl refl refl g.told.programs))
 
@@ -379,7 +379,7 @@ told_same held inputs h whole left first s sunk0 sunk1 f0 f1 e l t = record {
   heard = t.heard;
   ends = t.ends;
   answered = t.answered;
-  says = subst (λ (o : Option Sunk). Shows whole (written (all_said h)) first.sunk o) (sym e) t.says;
+  says = subst (λ (o : Option Sunk). Writes whole (written (all_said h)) first.sunk o) (sym e) t.says;
   sink_count = subst (λ (n : ℕ). CountAfter whole first.sink_faults n) (sym l) t.sink_count;
   programs = record { started = t.programs.started; commands = t.programs.commands; run = t.programs.run; faults = t.programs.faults };
   later = record { sink = omega (arith, l, t.later.sink); children = t.later.children; files = t.later.files };

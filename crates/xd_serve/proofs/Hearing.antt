@@ -16,7 +16,7 @@ use Rattle.xd_serve.specs.declared.stop.Stop.{Stop}
 use Rattle.xd_serve.specs.Inputs.{has_last, messages_in}
 use Rattle.xd_serve.specs.Suites.{Follows}
 use Rattle.xd_serve.specs.Counts.{CountBehind}
-use Rattle.xd_serve.specs.Speaking.{ShowsMore}
+use Rattle.xd_serve.specs.Speaking.{WritesMore}
 use Rattle.xd_serve.specs.Going.{Free, Going, Programs, Scene, to_do}
 use Rattle.xd_serve.specs.Taking.{EndTold, Halted, Hears, end_by}
 use Rattle.xd_serve.proofs.Steps.{Does, link_end_does}
@@ -37,10 +37,10 @@ heard_next false suite run held taken m core broken first s e h = h
 pub hears_message : (held : Option Held) (taken : List MessageView) (m : MessageView) (core0 core1 : WorkerCore) (b0 b1 : Bool) (first s : Scene) (sunk0 sunk1 : Option Sunk) (f0 f1 : ℕ) (acts : WorkerActions)
     → Going held taken Free core0 b0 first (at_sink s sunk0 f0)
     → ((h : List Heard) → StandsFor core0 h → Answers core1 (worker_after h) (Message m) acts)
-    → ShowsMore b0 b1 (frames acts.say) sunk0 sunk1 → CountBehind b0 b1 f0 f1 → f0 ≤ f1
+    → WritesMore b0 b1 (frames acts.say) sunk0 sunk1 → CountBehind b0 b1 f0 f1 → f0 ≤ f1
     → Hears acts.over acts.suite acts.run held taken m core1 b1 first (at_sink s sunk1 f1)
-hears_message held taken m core0 core1 b0 b1 first s sunk0 sunk1 f0 f1 acts g answers shows count later =
-    go acts.over (halted_message held taken m core0 core1 b0 b1 first s sunk0 sunk1 f0 f1 acts g answers shows count later) (going_message held taken m core0 core1 b0 b1 first s sunk0 sunk1 f0 f1 acts g answers shows count later)
+hears_message held taken m core0 core1 b0 b1 first s sunk0 sunk1 f0 f1 acts g answers writes count later =
+    go acts.over (halted_message held taken m core0 core1 b0 b1 first s sunk0 sunk1 f0 f1 acts g answers writes count later) (going_message held taken m core0 core1 b0 b1 first s sunk0 sunk1 f0 f1 acts g answers writes count later)
   where
     go : (over : Bool) → (over ≡ true → Halted held taken m (end_by b1) first (at_sink s sunk1 f1)) → (over ≡ false → (args : List (List ℕ)) × Going held (taken ++ m ∷ []) (to_do acts.suite acts.run args) core1 b1 first (at_sink s sunk1 f1)) → Hears over acts.suite acts.run held taken m core1 b1 first (at_sink s sunk1 f1)
     go true x y = x refl
@@ -50,9 +50,9 @@ hears_message held taken m core0 core1 b0 b1 first s sunk0 sunk1 f0 f1 acts g an
 pub end_told : (held : Option Held) (taken : List MessageView) (core0 core1 : WorkerCore) (b0 b1 : Bool) (first s : Scene) (sunk0 sunk1 : Option Sunk) (f0 f1 : ℕ) (acts : WorkerActions)
     → Going held taken Free core0 b0 first (at_sink s sunk0 f0)
     → ((h : List Heard) → StandsFor core0 h → Answers core1 (worker_after h) LinkEnd acts)
-    → ShowsMore b0 b1 (frames acts.say) sunk0 sunk1 → CountBehind b0 b1 f0 f1 → f0 ≤ f1
+    → WritesMore b0 b1 (frames acts.say) sunk0 sunk1 → CountBehind b0 b1 f0 f1 → f0 ≤ f1
     → EndTold held taken b1 first (at_sink s sunk1 f1)
-end_told held taken core0 core1 b0 b1 first s sunk0 sunk1 f0 f1 acts g answers shows count later =
+end_told held taken core0 core1 b0 b1 first s sunk0 sunk1 f0 f1 acts g answers writes count later =
     let h = g.history in
     let w = worker_after h in
     let a = answers h g.stands in
@@ -63,7 +63,7 @@ end_told held taken core0 core1 b0 b1 first s sunk0 sunk1 f0 f1 acts g answers s
       history = a.heard ∷ h;
       told = told_more held g.inputs h b0 b1 [] [] first (at_sink s sunk0 f0) (at_sink s sunk1 f1) core1 LinkEnd acts g.told a tt
           (subst (λ (o : Option (List ℕ)). Follows held (Rose first.file_faults s.file_faults) o LinkEnd) (sym g.path_is) refl)
-          (λ e. g.no_end) shows count (sink_later s sunk0 sunk1 f0 f1 later)
+          (λ e. g.no_end) writes count (sink_later s sunk0 sunk1 f0 f1 later)
           (subst (λ (l : List (List (List ℕ))). Programs (LinkEnd ∷ g.inputs) (a.heard ∷ h) l first (at_sink s sunk1 f1)) (no_commands u (d.ends refl).0)
           (programs_more LinkEnd g.inputs a.heard h [] first (at_sink s sunk0 f0) (at_sink s sunk1 f1) refl refl refl g.told.programs));
       taken_is = append-nil (messages_in g.inputs) ∙ g.taken_is;

@@ -21,7 +21,7 @@ use Rattle.xd_serve.specs.Inputs.{IsDue, has_end, is_of_link}
 use Rattle.xd_serve.specs.Suites.{AreAnswered, Follows, asked_path}
 use Rattle.xd_serve.specs.Programs.{AreRun, Ran, commands_of, faults_of, output_in, ran_in}
 use Rattle.xd_serve.specs.Counts.{CountAfter, CountBehind}
-use Rattle.xd_serve.specs.Speaking.{Shows, ShowsMore, written}
+use Rattle.xd_serve.specs.Speaking.{Writes, WritesMore, written}
 use Rattle.xd_serve.specs.Going.{CameTo, Later, Programs, Scene, Told}
 
 -- ---- counts
@@ -50,11 +50,11 @@ frames_more a b = flat_map-append frame a b
 pub written_more : (a b : List MessageView) → written (a ++ b) ≡ written a ++ frames b
 written_more a b = ap (λ (l : List ℕ). 49 ∷ l) (frames_more a b)
 
-pub shows_more : (b0 b1 : Bool) (a b : List ℕ) (first mid new : Option Sunk) → Shows (not b0) a first mid → ShowsMore b0 b1 b mid new → Shows (not b1) (a ++ b) first new
-shows_more true true a b first mid new s m = printed_part_of_more a b first new (subst (λ (o : Option Sunk). PrintedPart a first o) (sym m.1) s)
-shows_more true false a b first mid new s m = let x = m.0 in cc
-shows_more false true a b first mid new s m = printed_then_part a b first mid new s m
-shows_more false false a b first mid new s m = printed_more a b first mid new s m
+pub writes_more : (b0 b1 : Bool) (a b : List ℕ) (first mid new : Option Sunk) → Writes (not b0) a first mid → WritesMore b0 b1 b mid new → Writes (not b1) (a ++ b) first new
+writes_more true true a b first mid new s m = printed_part_of_more a b first new (subst (λ (o : Option Sunk). PrintedPart a first o) (sym m.1) s)
+writes_more true false a b first mid new s m = let x = m.0 in cc
+writes_more false true a b first mid new s m = printed_then_part a b first mid new s m
+writes_more false false a b first mid new s m = printed_more a b first mid new s m
 
 -- the count of a sink behind what was written next
 pub count_more : (b0 b1 : Bool) (a b c : ℕ) → CountAfter (not b0) a b → CountBehind b0 b1 b c → CountAfter (not b1) a c
@@ -149,14 +149,14 @@ later_trans a b c x y = record { sink = omega (arith, x.sink, y.sink); children 
 -- what an input adds, apart from what it does to the programs
 pub told_more : (held : Option Held) (inputs : List WorkerInput) (h : List Heard) (b0 b1 : Bool) (left left1 : List (List (List ℕ))) (first s0 s1 : Scene) (core : WorkerCore) (i : WorkerInput) (acts : WorkerActions)
     → Told held inputs h (not b0) left first s0 → (a : Answers core (worker_after h) i acts) → IsDue (worker_after h) i → Follows held (Rose first.file_faults s1.file_faults) (asked_path h) i
-    → (is_of_link i ≡ true → has_end inputs ≡ false) → ShowsMore b0 b1 (frames acts.say) s0.sunk s1.sunk → CountBehind b0 b1 s0.sink_faults s1.sink_faults → Later s0 s1
+    → (is_of_link i ≡ true → has_end inputs ≡ false) → WritesMore b0 b1 (frames acts.say) s0.sunk s1.sunk → CountBehind b0 b1 s0.sink_faults s1.sink_faults → Later s0 s1
     → Programs (i ∷ inputs) (a.heard ∷ h) left1 first s1 → Told held (i ∷ inputs) (a.heard ∷ h) (not b1) left1 first s1
-told_more held inputs h b0 b1 left left1 first s0 s1 core i acts t a due follows once shows count later programs = record {
+told_more held inputs h b0 b1 left left1 first s0 s1 core i acts t a due follows once writes count later programs = record {
   heard = (record { is = a.is; counts = a.counts; due = due }, t.heard);
   ends = (once, t.ends);
   answered = (follows, answered_later held (Rose first.file_faults s0.file_faults) (Rose first.file_faults s1.file_faults) (λ r. rose_later first.file_faults s0.file_faults s1.file_faults r later.files) inputs h t.answered);
-  says = subst (λ (l : List ℕ). Shows (not b1) l first.sunk s1.sunk) (ap (λ (m : List MessageView). written (all_said h) ++ frames m) a.says ∙ sym (written_more (all_said h) (turn_by (worker_after h) a.heard).talk.says))
-      (shows_more b0 b1 (written (all_said h)) (frames acts.say) first.sunk s0.sunk s1.sunk t.says shows);
+  says = subst (λ (l : List ℕ). Writes (not b1) l first.sunk s1.sunk) (ap (λ (m : List MessageView). written (all_said h) ++ frames m) a.says ∙ sym (written_more (all_said h) (turn_by (worker_after h) a.heard).talk.says))
+      (writes_more b0 b1 (written (all_said h)) (frames acts.say) first.sunk s0.sunk s1.sunk t.says writes);
   sink_count = count_more b0 b1 first.sink_faults s0.sink_faults s1.sink_faults t.sink_count count;
   programs = programs;
   later = later_trans first s0 s1 t.later later;

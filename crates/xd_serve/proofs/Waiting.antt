@@ -1,5 +1,6 @@
 -- A program that was waited for.
-use Rattle.std.proofs.Common.{◌≡◌, ℕ, ◌≤◌, List, Bool, true, false, Option, Some, None, refl, ap, sym, arith}
+use Rattle.std.proofs.Common.{◌≡◌, ℕ, ◌≤◌, List, Bool, true, false, Option, Some, None, refl, ap, sym, ◌∙◌, arith}
+use Rattle.std.specs.Bool.{OnTrue}
 use Rattle.xd_edge.specs.declared.children.ChildEnd.{ChildEnd}
 use Rattle.xd_edge.specs.declared.children.Fate.TheVariants.{Ended, NotWaited}
 use Rattle.xd_edge.specs.Children.{ChildRun, ChangesRun, with_end, with_wait_fault}
@@ -40,3 +41,9 @@ faults_to_end false place outcome old new first read now w a b rose waited = λ 
     let x = rose refl (omega (arith, below, b)) in
     let e = unread place outcome old new w in
     omega (arith, x, b, e)
+
+-- from the start of a program to its end, where its outcome stands for no fault
+pub still_to_end : (whole : Bool) (place : ℕ) (outcome : Outcome) (old new : Option (List ChildRun)) (first started read now : ℕ) → Waited whole place outcome old new
+    → started ≡ first → OnTrue whole (read ≡ started) → (fault_count outcome ≡ 0 → now ≡ read) → fault_count outcome ≡ 0 → now ≡ first
+still_to_end true place outcome old new first started read now w a b waited none = waited none ∙ b ∙ a
+still_to_end false place outcome old new first started read now w a b waited none = let e = unread place outcome old new w in absurd (omega (arith, e, none))

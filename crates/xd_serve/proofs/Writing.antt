@@ -1,11 +1,13 @@
 -- Messages that are written one after another.
-use Rattle.std.proofs.Common.{◌≡◌, ℕ, ◌+◌, ◌<◌, List, [], ◌∷◌, ◌++◌, take, drop, length, get_or, Option, sym, ap, ◌∙◌, subst, arith, append_assoc}
+use Rattle.std.proofs.Common.{◌≡◌, ℕ, ◌+◌, ◌<◌, List, [], ◌∷◌, ◌++◌, take, drop, length, get_or, Bool, true, false, not, Option, Result, Ok, Err, sym, ap, ◌∙◌, subst, arith, append_assoc}
+use Rattle.std.specs.Prelude.{OnErr, OnOk, is_err}
 use Rattle.std.proofs.lemmas.Grind.{common_steps}
 use Rattle.std.proofs.lemmas.List.Concat.{flat_map-append}
 use Rattle.std.proofs.lemmas.List.{append-nil, take_more}
-use Rattle.xd_edge.specs.Sink.{Sunk, Took, TookPart}
-use Rattle.xd_edge.proofs.SinkLemmas.{part_of_more, took_more, took_then_part}
+use Rattle.xd_edge.specs.Sink.{Sunk, Printed, Took, TookPart}
+use Rattle.xd_edge.proofs.SinkLemmas.{part_of_more, printed_part, took_more, took_then_part}
 use Rattle.xd_frame.specs.Message.{MessageView, frame, frames, header}
+use Rattle.xd_serve.specs.Speaking.{Writes, WritesMore}
 
 pub header_part : (h : List ℕ) (m : MessageView) (old new : Option Sunk) → h ≡ header m → TookPart h old new → TookPart (frame m) old new
 header_part h m old new e p = part_of_more (header m) m.payload old new (subst (λ (l : List ℕ). TookPart l old new) e p)
@@ -29,3 +31,13 @@ parted l i m lt is = sym (halves l (i + 1)) ∙ (ap (λ (a : List MessageView). 
   where
     halves : (l : List MessageView) (n : ℕ) → take n l ++ drop n l ≡ l
     halves l n = grind (arith, common_steps)
+
+-- one print, where the sink failed or did not
+pub one_print : {T E : Type 0} (r : Result T E) (broken : Bool) (bytes : List ℕ) (old new : Option Sunk) → broken ≡ is_err r → OnOk r (Printed bytes old new) → OnErr r (TookPart bytes old new) → Writes (not broken) bytes old new
+one_print (Ok x) broken bytes old new is ok part = subst (λ (b : Bool). Writes (not b) bytes old new) (sym is) ok
+one_print (Err e) broken bytes old new is ok part = subst (λ (b : Bool). Writes (not b) bytes old new) (sym is) (printed_part bytes old new part)
+
+-- a print behind others, none of which failed
+pub next_print : {T E : Type 0} (r : Result T E) (before broken : Bool) (bytes : List ℕ) (old new : Option Sunk) → before ≡ false → broken ≡ is_err r → OnOk r (Printed bytes old new) → OnErr r (TookPart bytes old new) → WritesMore before broken bytes old new
+next_print r false broken bytes old new unbroken is ok part = one_print r broken bytes old new is ok part
+next_print r true broken bytes old new unbroken is ok part = cc

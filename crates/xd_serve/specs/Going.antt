@@ -21,7 +21,7 @@ use Rattle.xd_serve.specs.Inputs.{AreHeard, EndsOnce, has_end, has_last, message
 use Rattle.xd_serve.specs.Suites.{AreAnswered, asked_path}
 use Rattle.xd_serve.specs.Programs.{AreRun, commands_in, faults_of, output_in, ran_in}
 use Rattle.xd_serve.specs.Child.{fault_count, outcome_of}
-use Rattle.xd_serve.specs.Speaking.{Shows, written}
+use Rattle.xd_serve.specs.Speaking.{Writes, written}
 use Rattle.xd_serve.specs.Counts.{CountAfter}
 
 -- what is seen of the outside, the link's source apart
@@ -57,7 +57,7 @@ pub record Told (held : Option Held) (inputs : List WorkerInput) (h : List Heard
   pub heard : AreHeard inputs h
   pub ends : EndsOnce inputs
   pub answered : AreAnswered held (Rose old.file_faults new.file_faults) inputs h
-  pub says : Shows whole (written (all_said h)) old.sunk new.sunk
+  pub says : Writes whole (written (all_said h)) old.sunk new.sunk
   pub sink_count : CountAfter whole old.sink_faults new.sink_faults
   pub programs : Programs inputs h left old new
   pub later : Later old new

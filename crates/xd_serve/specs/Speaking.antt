@@ -11,12 +11,13 @@ greeting = 49 ∷ []
 abbrev pub written : List MessageView → List ℕ
 written messages = greeting ++ frames messages
 
--- The bytes were written and handed on, or a first part of them where the sink failed.
-abbrev pub Shows : Bool → List ℕ → Option Sunk → Option Sunk → Type 0
-Shows true bytes old new = Printed bytes old new
-Shows false bytes old new = PrintedPart bytes old new
+-- These bytes, of one print or of several, were written and handed on; or, where the sink failed, a first part of them was
+-- written, and some of it was handed on.
+abbrev pub Writes : Bool → List ℕ → Option Sunk → Option Sunk → Type 0
+Writes true bytes old new = Printed bytes old new
+Writes false bytes old new = PrintedPart bytes old new
 
 -- Behind a fault of the sink nothing more is written.
-abbrev pub ShowsMore : Bool → Bool → List ℕ → Option Sunk → Option Sunk → Type 0
-ShowsMore true broken bytes old new = (broken ≡ true) × (new ≡ old)
-ShowsMore false broken bytes old new = Shows (not broken) bytes old new
+abbrev pub WritesMore : Bool → Bool → List ℕ → Option Sunk → Option Sunk → Type 0
+WritesMore true broken bytes old new = (broken ≡ true) × (new ≡ old)
+WritesMore false broken bytes old new = Writes (not broken) bytes old new

@@ -19,6 +19,7 @@ pub fn wait_for<R: Wait, K: Children>(
     ensures waited { Waited is_whole (K.place child) result (K.runs children.old) (K.runs children.new) }
     ensures later { K.faults children.old ≤ K.faults children.new }
     ensures faults { is_whole ≡ true → RoseBy (fault_count result) (K.faults children.old) (K.faults children.new) }
+    ensures still { fault_count result ≡ 0 → K.faults children.new ≡ K.faults children.old }
 {
     match children.wait(rt, child) {
         Err(_) => Outcome::Failed(-3),

@@ -1,10 +1,10 @@
 // A worker whose messages are written to its link.
 ghost use Rattle.std.specs.Prelude.{◌≡◌, ◌≤◌, not, List, ℕ, IfOk, IfErr, OnOk, OnErr};
 ghost use Rattle.xd_edge.specs.Faults.{Rose};
-ghost use Rattle.xd_edge.specs.Sink.{Took, TookPart, Printed, PrintedPart};
+ghost use Rattle.xd_edge.specs.Sink.{Took, TookPart, Printed};
 ghost use Rattle.xd_frame.specs.Message.{frame, frames};
 ghost use Rattle.xd_serve.specs.Counts.{CountAfter, CountBehind};
-ghost use Rattle.xd_serve.specs.Speaking.{Shows, ShowsMore, greeting};
+ghost use Rattle.xd_serve.specs.Speaking.{Writes, WritesMore, greeting};
 
 use std::alloc::Global;
 use xd_edge::{Failed, OutOfMemory, Sink, print, write_all};
@@ -31,7 +31,7 @@ impl<N: Sink> Speaker<N> {
     /// A worker to which nothing has come yet, and which has written its greeting.
     pub fn begin(alloc: Global, sink: N) -> Speaker<N>
         ensures stands { StandsFor result.core [] }
-        ensures shows { Shows (not result.is_broken) greeting (N.sunk sink) (N.sunk result.sink) }
+        ensures writes { Writes (not result.is_broken) greeting (N.sunk sink) (N.sunk result.sink) }
         ensures count { CountAfter (not result.is_broken) (N.faults sink) (N.faults result.sink) }
         ensures later { N.faults sink ≤ N.faults result.sink }
     {
@@ -48,7 +48,7 @@ impl<N: Sink> Speaker<N> {
     pub fn hear(&mut self, input: WorkerInput) -> Result<WorkerActions, WorkerFault>
         ensures answers { (h : List Heard) → StandsFor self.old.core h → IfOk result (Answers self.new.core (worker_after h) input) }
         ensures refused { (h : List Heard) → StandsFor self.old.core h → IfErr result (IsFault (worker_after h) input) }
-        ensures shows { IfOk result (λ acts. ShowsMore self.old.is_broken self.new.is_broken (frames acts.say) (N.sunk self.old.sink) (N.sunk self.new.sink)) }
+        ensures writes { IfOk result (λ acts. WritesMore self.old.is_broken self.new.is_broken (frames acts.say) (N.sunk self.old.sink) (N.sunk self.new.sink)) }
         ensures silent { OnErr result (N.sunk self.new.sink ≡ N.sunk self.old.sink) }
         ensures as_before { OnErr result (self.new.is_broken ≡ self.old.is_broken) }
         ensures count { IfOk result (λ acts. CountBehind self.old.is_broken self.new.is_broken (N.faults self.old.sink) (N.faults self.new.sink)) }
@@ -67,7 +67,7 @@ impl<N: Sink> Speaker<N> {
     /// One input that is no message. The side refuses messages alone.
     pub fn tell(&mut self, input: WorkerInput) -> Result<WorkerActions, OutOfMemory>
         ensures answers { (h : List Heard) → StandsFor self.old.core h → IfOk result (Answers self.new.core (worker_after h) input) }
-        ensures shows { IfOk result (λ acts. ShowsMore self.old.is_broken self.new.is_broken (frames acts.say) (N.sunk self.old.sink) (N.sunk self.new.sink)) }
+        ensures writes { IfOk result (λ acts. WritesMore self.old.is_broken self.new.is_broken (frames acts.say) (N.sunk self.old.sink) (N.sunk self.new.sink)) }
         ensures count { IfOk result (λ acts. CountBehind self.old.is_broken self.new.is_broken (N.faults self.old.sink) (N.faults self.new.sink)) }
         ensures later { N.faults self.old.sink ≤ N.faults self.new.sink }
     {
@@ -79,7 +79,7 @@ impl<N: Sink> Speaker<N> {
 
     fn say(&mut self, messages: &[Message])
         ensures core { self.new.core ≡ self.old.core }
-        ensures shows { ShowsMore self.old.is_broken self.new.is_broken (frames messages.now) (N.sunk self.old.sink) (N.sunk self.new.sink) }
+        ensures writes { WritesMore self.old.is_broken self.new.is_broken (frames messages.now) (N.sunk self.old.sink) (N.sunk self.new.sink) }
         ensures count { CountBehind self.old.is_broken self.new.is_broken (N.faults self.old.sink) (N.faults self.new.sink) }
         ensures later { N.faults self.old.sink ≤ N.faults self.new.sink }
     {
@@ -89,10 +89,10 @@ impl<N: Sink> Speaker<N> {
     }
 }
 
-// Writes the messages and hands them on.
+// Writes the messages and hands them on; or takes a first part of them, and hands on nothing, where the sink failed.
 fn print_frames<N: Sink>(sink: &mut N, messages: &[Message]) -> Result<(), Failed>
     ensures ok { OnOk result (Printed (frames messages.now) (N.sunk sink.old) (N.sunk sink.new)) }
-    ensures part { OnErr result (PrintedPart (frames messages.now) (N.sunk sink.old) (N.sunk sink.new)) }
+    ensures part { OnErr result (TookPart (frames messages.now) (N.sunk sink.old) (N.sunk sink.new)) }
     ensures later { N.faults sink.old ≤ N.faults sink.new }
     ensures still { OnOk result (N.faults sink.new ≡ N.faults sink.old) }
     ensures rose { OnErr result (Rose (N.faults sink.old) (N.faults sink.new)) }

@@ -3,6 +3,7 @@ use Rattle.std.proofs.Common.{◌≡◌, ℕ, ◌+◌, Bool, List, ◌++◌, len
 use Rattle.std.proofs.lemmas.List.{drop_at}
 use Rattle.xd_edge.specs.Children.{ChildRun}
 use Rattle.xd_edge.specs.Faults.{RoseBy}
+use Rattle.xd_edge.specs.Printing.{Shows}
 use Rattle.xd_edge.specs.Sink.{Sunk}
 use Rattle.xd_ledger.specs.declared.entry.Entry.{Entry}
 use Rattle.xd_ledger.specs.declared.entry.Outcome.{Outcome}
@@ -19,7 +20,6 @@ use Rattle.xd_report.proofs.Texts.{moved-more}
 use Rattle.xd_serve.specs.Child.{fault_count}
 use Rattle.xdrun.specs.Child.{RanChild}
 use Rattle.xdrun.specs.Local.{AddsRound, RanTest, Told}
-use Rattle.xdrun.specs.Print.{Shows}
 
 -- the entries that came last
 new_ones : (old added new : List Entry) (from : ℕ) → new ≡ old ++ added → from ≡ length old → drop from new ≡ added

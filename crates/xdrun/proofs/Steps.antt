@@ -1,5 +1,5 @@
 -- From each number of tests to the next.
-use Rattle.std.proofs.Common.{◌≡◌, ℕ, ◌+◌, ◌-◌, ◌^◌, ◌<◌, ◌≤◌, Bool, true, false, List, [], ◌∷◌, ◌++◌, length, take, map, Option, Some, None, option_map, refl, sym, ◌∙◌, ap, subst, arith, append_assoc, length-append}
+use Rattle.std.proofs.Common.{◌≡◌, ℕ, ◌+◌, ◌-◌, ◌^◌, ◌<◌, ◌≤◌, Bool, true, false, List, [], ◌∷◌, ◌++◌, length, take, map, Option, Some, None, option_map, refl, sym, ◌∙◌, ap, subst, arith, inl, inr, append_assoc, length-append}
 use Rattle.std.proofs.lemmas.List.{append-nil, map-append, take_more, length-map}
 use Rattle.std.proofs.lemmas.List.Sums.{sum_by-append}
 use Rattle.std.proofs.lemmas.Bool.Decides.{nat_tests}
@@ -8,8 +8,9 @@ use Rattle.std.specs.List.{list_all}
 use Rattle.std.specs.Prelude.{nat_le, unwrap_or}
 use Rattle.xd_edge.specs.Children.{ChildRun, AddsRun}
 use Rattle.xd_edge.specs.Faults.{RoseBy}
-use Rattle.xd_edge.specs.Sink.{Sunk, Printed, PrintedPart}
-use Rattle.xd_edge.proofs.SinkLemmas.{printed_more, printed_then_part}
+use Rattle.xd_edge.specs.Printing.{Shows}
+use Rattle.xd_edge.specs.Sink.{Sunk, Printed, TookPart}
+use Rattle.xd_edge.proofs.SinkLemmas.{printed_more}
 use Rattle.xd_suite.specs.declared.test.Test.{Test}
 use Rattle.xd_suite.specs.Tests.{run_at}
 use Rattle.xd_ledger.specs.declared.entry.Entry.{Entry}
@@ -25,7 +26,7 @@ use Rattle.xd_report.proofs.Texts.{lines-more}
 use Rattle.xd_serve.specs.Child.{fault_count, outcome_of}
 use Rattle.xdrun.specs.Child.{RanChild}
 use Rattle.xdrun.specs.Local.{kept_by, kept_outputs, result_faults, Progress, RanAll, RanTest, RanTests, SoFar}
-use Rattle.xdrun.specs.Print.{Shows}
+use Rattle.xdrun.specs.Print.{AtStep}
 
 rounds-last : (n : ℕ) (rs : List TestResult) (r : TestResult) → rounds n (rs ++ r ∷ []) ≡ rounds n rs ++ round (n + length rs) r
 rounds-last n [] r = let same : n ≡ n + 0 = omega arith in ap (λ k. round k r) same
@@ -134,7 +135,13 @@ module _ (tests : List Test) where
       so_far = none_ran j.entries.items is;
       within = omega arith;
       all = λ no. cc;
-      shows = shows;
+      shows = record {
+        before = [];
+        step = local_entries ids [];
+        entries = is;
+        is_step = inl (ids, refl);
+        shows = (out0, inl (refl, refl), subst (λ (es : List Entry). TookPart (run_lines j.settings es) out0 out1) is shows);
+      };
     }
 
     module _ (k spent1 spent2 : ℕ) (j1 j2 : Journal) (same : j2.settings ≡ j1.settings) (runs1 runs2 : Option (List ChildRun)) (faults1 faults2 : ℕ) (out1 out2 : Option Sunk) (p : Progress k spent1 tests ids j1 runs0 runs1 faults0 faults1 out0 out1)
@@ -183,6 +190,16 @@ module _ (tests : List Test) where
       text : run_lines j2.settings es2 ≡ run_lines j1.settings es1 ++ added
       text = ap (λ (st : Settings). run_lines st es2) same ∙ ap (run_lines j1.settings) more.entries ∙ lines-more (no_one j1.settings) es1 (round k more.result)
 
+      -- at the lines of this test
+      broke : TookPart added out1 out2 → AtStep j1.settings es2 out0 out2
+      broke part = record {
+        before = es1;
+        step = round k more.result;
+        entries = more.entries;
+        is_step = inr (k, more.result, refl);
+        shows = (out1, inr p.shows, part);
+      }
+
       pub next : shown ≡ true → Progress (k + 1) spent2 tests ids j2 runs0 runs2 faults0 faults2 out0 out2
       next is = record {
         results = results;
@@ -198,7 +215,7 @@ module _ (tests : List Test) where
         so_far = so_far;
         within = omega (arith, long);
         all = λ no. cc;
-        shows = subst (λ (l : List ℕ). PrintedPart l out0 out2) (sym text) (printed_then_part (run_lines j1.settings es1) added out0 out1 out2 p.shows (subst (λ b. Shows b added out1 out2) is more.shows));
+        shows = subst (λ (st : Settings). AtStep st es2 out0 out2) (sym same) (broke (subst (λ b. Shows b added out1 out2) is more.shows));
       }
 
     pub finish : (spent : ℕ) (j : Journal) (runs : Option (List ChildRun)) (faults : ℕ) (out : Option Sunk) → Progress (length tests) spent tests ids j runs0 runs faults0 faults out0 out → RanAll true tests ids j runs0 runs faults0 faults out0 out

@@ -3,7 +3,7 @@ use Rattle.std.proofs.Common.{◌≡◌, ℕ, ◌+◌, inl, inr, Bool, true, fal
 use Rattle.std.proofs.lemmas.List.{length-map}
 use Rattle.xd_edge.specs.Children.{ChildRun}
 use Rattle.xd_edge.specs.Faults.{Rose, RoseBy, StoodStill}
-use Rattle.xd_edge.specs.Sink.{Sunk}
+use Rattle.xd_edge.specs.Sink.{Sunk, Printed, PrintedPart}
 use Rattle.xd_suite.specs.declared.test.Test.{Test}
 use Rattle.xd_ledger.specs.declared.settings.Settings.{Settings}
 use Rattle.xd_ledger.specs.declared.entry.Entry.{Entry}
@@ -26,8 +26,9 @@ use Rattle.xd_report.specs.Text.{run_text, text_of}
 use Rattle.xd_report.proofs.Texts.{over-same}
 use Rattle.xdrun.specs.Child.{faults_of}
 use Rattle.xdrun.proofs.Alone.{eq_same, faults-alone, items-alone, length-alone, lists-rounds, reports-rounds, reports_alone, unstopped-rounds}
-use Rattle.xdrun.specs.Local.{RanPrinted, RunsSuite, local_settings, stop_after}
-use Rattle.xdrun.specs.Print.{PrintsReport, Shows}
+use Rattle.xdrun.specs.Local.{RanPrinted, RunsSuite, ShowsReport, local_settings, stop_after}
+use Rattle.xdrun.specs.Print.{AtStep, AtTail, FailedAt, PrintsReport}
+use Rattle.xdrun.proofs.Report.{failed_part}
 
 over_in-rounds : (n : ℕ) (rs : List TestResult) (how other : RunStop) → over_in (rounds n rs ++ Over how ∷ []) other ≡ how
 over_in-rounds n [] how other = refl
@@ -150,11 +151,21 @@ module _ (tests : List Test) (j0 j1 : Journal) (shown : Bool) (runs0 runs1 : Opt
   text_same : text_of j1 ≡ text_of j0
   text_same = ap (λ (st : Settings). run_text st j1.entries.items) e.same_settings ∙ ap (run_text j0.settings) e.ended ∙ over-same how j0.settings j0.entries.items
 
-  pub printed : PrintsReport (stop_of j1) (text_of j1) out0 out1
-  printed =
-      subst (λ (t : List ℕ). PrintsReport (stop_of j1) t out0 out1) (sym text_same)
-      (subst (λ (s : RunStop). PrintsReport s (text_of j0) out0 out1) (sym stop_is) (by_end shown e.ran.shows))
+  all_reported : length e.ran.results ≡ length tests → length (reports_in j1) ≡ length (collected_in j1)
+  all_reported all = omega (arith, all, reports_count, ap length collected_are, length-map tests (λ (t : Test). t.id))
+
+  failed_at : FailedAt (length e.ran.results ≡ length tests) j0.settings j0.entries.items out0 out1 → FailedAt (length (reports_in j1) ≡ length (collected_in j1)) j1.settings j0.entries.items out0 out1
+  failed_at (inl s) = inl (subst (λ (st : Settings). AtStep st j0.entries.items out0 out1) (sym e.same_settings) s)
+  failed_at (inr t) = inr (subst (λ (st : Settings). AtTail (length (reports_in j1) ≡ length (collected_in j1)) st j0.entries.items out0 out1) (sym e.same_settings) (record { all = all_reported t.all; shows = t.shows }))
+
+  pub printed : PrintsReport (stop_of j1) j1 out0 out1
+  printed = subst (λ (s : RunStop). PrintsReport s j1 out0 out1) (sym stop_is) (by_end shown refl e.ran.shows)
     where
-      by_end : (b : Bool) → Shows b (text_of j0) out0 out1 → PrintsReport (stop_after b) (text_of j0) out0 out1
-      by_end true all = all
-      by_end false part = part
+      by_end : (b : Bool) → shown ≡ b → ShowsReport b (length e.ran.results ≡ length tests) j0 out0 out1 → PrintsReport (stop_after b) j1 out0 out1
+      by_end true is_shown all = subst (λ (t : List ℕ). Printed t out0 out1) (sym text_same) all
+      by_end false is_shown failed = record {
+        es = j0.entries.items;
+        entries = e.ended ∙ ap (λ (b : Bool). j0.entries.items ++ Over (stop_after b) ∷ []) is_shown;
+        failed = failed_at failed;
+        shows = subst (λ (t : List ℕ). PrintedPart t out0 out1) (sym text_same) (failed_part j0.settings j0.entries.items out0 out1 _ failed);
+      }

@@ -11,7 +11,7 @@ use Rattle.xd_link.specs.Source.{Gave, Supply, with_given}
 use Rattle.xd_serve.specs.Complete.{AreGood, GoesWrong}
 use Rattle.xd_serve.specs.Going.{Scene, scene}
 use Rattle.xd_serve.specs.Served.{Served, Spring}
-use Rattle.xd_serve.specs.Speaking.{Shows}
+use Rattle.xd_serve.specs.Speaking.{Writes}
 use Rattle.xd_serve.specs.Taking.{is_whole}
 use Rattle.xd_serve.proofs.Completing.{calm, complete, goes_wrong}
 use Rattle.xdrun.specs.Worker.{ServedOwn, all_bytes, unwritten}
@@ -21,7 +21,7 @@ unwritten_by : (old new : Option Sunk) (f : Sunk → Sunk) → IfSome old (λ s.
 unwritten_by None new f fresh e = sym (ap unwritten e)
 unwritten_by (Some s) new f fresh e = ap Some fresh ∙ sym (ap unwritten e)
 
-unwritten_is : (whole : Bool) (bytes : List ℕ) (old new : Option Sunk) → IfSome old (λ s. s ≡ unused) → Shows whole bytes old new → old ≡ unwritten new
+unwritten_is : (whole : Bool) (bytes : List ℕ) (old new : Option Sunk) → IfSome old (λ s. s ≡ unused) → Writes whole bytes old new → old ≡ unwritten new
 unwritten_is true bytes old new fresh s = unwritten_by old new _ fresh s
 unwritten_is false bytes old new fresh s = unwritten_by old new _ fresh s.2.1
 

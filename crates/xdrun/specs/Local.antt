@@ -4,7 +4,8 @@ use Rattle.std.specs.List.{list_all}
 use Rattle.xd_edge.specs.declared.mode.ModeKind.TheVariants.{Local}
 use Rattle.xd_edge.specs.Children.{ChildRun}
 use Rattle.xd_edge.specs.Faults.{RoseBy}
-use Rattle.xd_edge.specs.Sink.{Sunk}
+use Rattle.xd_edge.specs.Printing.{Shows}
+use Rattle.xd_edge.specs.Sink.{Sunk, Printed}
 use Rattle.xd_suite.specs.declared.test.Test.{Test}
 use Rattle.xd_ledger.specs.declared.settings.Settings.{Settings}
 use Rattle.xd_ledger.specs.declared.entry.Entry.{Entry}
@@ -23,7 +24,7 @@ use Rattle.xd_report.specs.Lines.{lines_from, run_lines}
 use Rattle.xd_report.specs.Text.{text_of}
 use Rattle.xd_serve.specs.Child.{fault_count, outcome_of}
 use Rattle.xdrun.specs.Child.{RanChild}
-use Rattle.xdrun.specs.Print.{Shows}
+use Rattle.xdrun.specs.Print.{AtStep, FailedAt}
 
 -- without workers, and without a limit on failures
 abbrev pub local_settings : Settings
@@ -94,7 +95,17 @@ pub record Progress (count spent : ℕ) (tests : List Test) (ids : List (List �
   pub so_far : SoFar results tests ids j.entries.items runs_old runs_new faults_old faults_new
   pub counted : length results ≡ count
   pub spent_is : spent ≡ kept_by results
-  pub shows : Shows true (run_lines j.settings j.entries.items) out_old out_new
+  pub shows : Printed (run_lines j.settings j.entries.items) out_old out_new
+
+-- all lines so far were printed, or the output failed at those of the last step
+abbrev pub ShowsSteps : Bool → Journal → Option Sunk → Option Sunk → Type 0
+ShowsSteps true j old new = Printed (run_lines j.settings j.entries.items) old new
+ShowsSteps false j old new = AtStep j.settings j.entries.items old new
+
+-- the whole report was printed, or the output failed at the last step, or at the tail where all was done
+abbrev pub ShowsReport : Bool → Type 0 → Journal → Option Sunk → Option Sunk → Type 0
+ShowsReport true did_all j old new = Printed (text_of j) old new
+ShowsReport false did_all j old new = FailedAt did_all j.settings j.entries.items old new
 
 -- all tests were run and their lines printed, or the output failed at the collection or behind one of them
 pub record RanAll (shown : Bool) (tests : List Test) (ids : List (List ℕ)) (j : Journal) (runs_old runs_new : Option (List ChildRun)) (faults_old faults_new : ℕ) (out_old out_new : Option Sunk) : Type 0 where
@@ -102,7 +113,7 @@ pub record RanAll (shown : Bool) (tests : List Test) (ids : List (List ℕ)) (j 
   pub so_far : SoFar results tests ids j.entries.items runs_old runs_new faults_old faults_new
   pub within : length results ≤ length tests
   pub all : shown ≡ true → length results ≡ length tests
-  pub shows : Shows shown (run_lines j.settings j.entries.items) out_old out_new
+  pub shows : ShowsSteps shown j out_old out_new
 
 -- the same with the tail: the journal without its end, and the whole report
 pub record RanPrinted (shown : Bool) (tests : List Test) (ids : List (List ℕ)) (j : Journal) (runs_old runs_new : Option (List ChildRun)) (faults_old faults_new : ℕ) (out_old out_new : Option Sunk) : Type 0 where
@@ -110,7 +121,7 @@ pub record RanPrinted (shown : Bool) (tests : List Test) (ids : List (List ℕ))
   pub so_far : SoFar results tests ids j.entries.items runs_old runs_new faults_old faults_new
   pub within : length results ≤ length tests
   pub all : shown ≡ true → length results ≡ length tests
-  pub shows : Shows shown (text_of j) out_old out_new
+  pub shows : ShowsReport shown (length results ≡ length tests) j out_old out_new
 
 -- how a run ends whose report was printed, or was not
 abbrev pub stop_after : Bool → RunStop

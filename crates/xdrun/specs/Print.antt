@@ -1,15 +1,50 @@
--- What was printed, in a word.
-use Rattle.std.specs.Prelude.{ℕ, Bool, true, false, List, Option}
+-- What was printed of a run.
+use Rattle.std.specs.Prelude.{ℕ, ◌≡◌, ◌⊎◌, List, [], ◌∷◌, ◌++◌, length, Option}
+use Rattle.xd_edge.specs.Printing.{BreaksOff}
 use Rattle.xd_edge.specs.Sink.{Sunk, Printed, PrintedPart}
+use Rattle.xd_ledger.specs.declared.entry.Entry.{Entry}
+use Rattle.xd_ledger.specs.declared.entry.Entry.TheVariants.{Collected, Over}
+use Rattle.xd_ledger.specs.declared.entry.Ids.TheVariants.{List as Listed}
 use Rattle.xd_ledger.specs.declared.entry.RunStop.{RunStop}
 use Rattle.xd_ledger.specs.declared.entry.RunStop.TheVariants.{OutFault}
+use Rattle.xd_ledger.specs.declared.journal.Journal.{Journal}
+use Rattle.xd_ledger.specs.declared.settings.Settings.{Settings}
+use Rattle.xd_ledger.specs.Local.{TestResult, round}
+use Rattle.xd_ledger.specs.Reports.{collected_in, reports_in}
+use Rattle.xd_ledger.specs.State.{all_moved, no_one}
+use Rattle.xd_report.specs.Lines.{lines_from, run_lines}
+use Rattle.xd_report.specs.Text.{run_tail, text_of}
 
--- The bytes were printed, or a first part of them where the sink failed.
-abbrev pub Shows : Bool → List ℕ → Option Sunk → Option Sunk → Type 0
-Shows true bytes old new = Printed bytes old new
-Shows false bytes old new = PrintedPart bytes old new
+-- A step of a run: the collection, or a test that was run and came to its result.
+abbrev pub IsStep : List Entry → Type 0
+IsStep es = ((ids : List (List ℕ)) × (es ≡ Collected 0 (Listed ids) ∷ [])) ⊎ ((test : ℕ) × (result : TestResult) × (es ≡ round test result))
 
--- The text of a run that ended so was printed: a first part of it where the output failed, and else all of it.
-abbrev pub PrintsReport : RunStop → List ℕ → Option Sunk → Option Sunk → Type 0
-PrintsReport OutFault text old new = PrintedPart text old new
-PrintsReport _ text old new = Printed text old new
+-- At the lines of the last step: those of the entries before it had been printed, and of its own a first part was taken.
+pub record AtStep (settings : Settings) (es : List Entry) (old new : Option Sunk) : Type 0 where
+  pub before : List Entry
+  pub step : List Entry
+  pub entries : es ≡ before ++ step
+  pub is_step : IsStep step
+  pub shows : BreaksOff (run_lines settings before) (lines_from (all_moved (no_one settings) before) step) old new
+
+-- At the tail of a run that did all that it had to do: all lines had been printed, and of the tail a first part was taken.
+pub record AtTail (did_all : Type 0) (settings : Settings) (es : List Entry) (old new : Option Sunk) : Type 0 where
+  pub all : did_all
+  pub shows : BreaksOff (run_lines settings es) (run_tail settings es) old new
+
+-- Where the output failed.
+abbrev pub FailedAt : Type 0 → Settings → List Entry → Option Sunk → Option Sunk → Type 0
+FailedAt did_all settings es old new = AtStep settings es old new ⊎ AtTail did_all settings es old new
+
+-- The output failed at the last step of the run, or at the tail behind the reports of all tests; of the report a first
+-- part was taken. The entries are those ahead of the journal's end.
+pub record BreaksReport (j : Journal) (old new : Option Sunk) : Type 0 where
+  pub es : List Entry
+  pub entries : j.entries.items ≡ es ++ Over OutFault ∷ []
+  pub failed : FailedAt (length (reports_in j) ≡ length (collected_in j)) j.settings es old new
+  pub shows : PrintedPart (text_of j) old new
+
+-- The report of a run that ended so was printed, or broke off where the output failed.
+abbrev pub PrintsReport : RunStop → Journal → Option Sunk → Option Sunk → Type 0
+PrintsReport OutFault j old new = BreaksReport j old new
+PrintsReport _ j old new = Printed (text_of j) old new

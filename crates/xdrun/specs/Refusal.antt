@@ -2,6 +2,7 @@
 use Rattle.std.specs.Prelude.{ℕ, ◌≡◌, ◌≤◌, ◌⊎◌, Bool, false, List, [], ◌∷◌, ◌++◌, length, Option, Some, None, IsSomeAnd, codes}
 use Rattle.xd_edge.specs.Faults.{Rose}
 use Rattle.xd_edge.specs.Files.{Held, HasFile, HasLarger}
+use Rattle.xd_edge.specs.Printing.{Shows}
 use Rattle.xd_edge.specs.Sink.{Sunk}
 use Rattle.xd_suite.specs.declared.test.Test.{Test}
 use Rattle.xd_suite.specs.declared.fault.SuiteFault.{SuiteFault}
@@ -11,7 +12,6 @@ use Rattle.xd_suite.specs.Faults.{of_file}
 use Rattle.xd_suite.specs.Suite.{IsFaulty, IsSuiteOf}
 use Rattle.xdrun.specs.declared.refusal.Refusal.{Refusal}
 use Rattle.xdrun.specs.declared.refusal.Refusal.TheVariants.{BadWords, Unread, Suite, FileUnread, FileTooLarge}
-use Rattle.xdrun.specs.Print.{Shows}
 use Rattle.xdrun.specs.Wire.{WhyFileRefused}
 use Rattle.xdrun.specs.Words.{messages_named, suite_named}
 
@@ -70,8 +70,8 @@ WhyRefused words held rose why =
     ((messages_named words ≡ None) × WhySuiteRefused words held rose why)
     ⊎ ((path : List ℕ) × (messages_named words ≡ Some path) × WhyFileRefused path held rose why)
 
--- A refusal: its cause, nothing on standard output, and its line on standard error, or a first part of the line where
--- that failed.
+-- A refusal: its cause, nothing on standard output, and its line on standard error, or a first part of the line, which
+-- was not handed on, where that failed.
 pub record IsRefused (words : List (List ℕ)) (held : Option Held) (rose : Type 0) (out_old out_new err_old err_new : Option Sunk) (faults_old faults_new : ℕ) : Type 0 where
   pub why : Refusal
   pub cause : WhyRefused words held rose why

@@ -1,6 +1,7 @@
 // The tests of a suite, one after another in this program.
 ghost use Rattle.std.specs.Prelude.{◌≡◌, ◌≢◌, ◌<◌, ◌≤◌, [], map, true, false, Ok, drop, length, IfOk, OnOk};
 ghost use Rattle.xd_edge.specs.Faults.{Rose, RoseBy, StoodStill};
+ghost use Rattle.xd_edge.specs.Printing.{Shows};
 ghost use Rattle.xd_suite.specs.Tests.{run_at};
 ghost use Rattle.xd_ledger.specs.declared.entry.RunStop.TheVariants.{Completed, OutFault};
 ghost use Rattle.xd_ledger.specs.Kept.{most_of_all, room_behind};
@@ -12,10 +13,10 @@ ghost use Rattle.xd_ledger.specs.Sharing.{State};
 ghost use Rattle.xd_ledger.specs.State.{all_moved};
 ghost use Rattle.xd_report.specs.Follows.{Follows};
 ghost use Rattle.xd_report.specs.Lines.{lines_from};
-ghost use Rattle.xd_report.specs.Text.{tail_text, text_of};
+ghost use Rattle.xd_report.specs.Text.{tail_text};
 ghost use Rattle.xdrun.specs.Child.{faults_of};
 ghost use Rattle.xdrun.specs.Local.{AddsRound, RanAll, RanPrinted, RanTest, RunsSuite, Told, local_settings, stop_after};
-ghost use Rattle.xdrun.specs.Print.{PrintsReport, Shows};
+ghost use Rattle.xdrun.specs.Print.{PrintsReport};
 
 use crate::child::run_child;
 use std::alloc::Global;
@@ -45,7 +46,7 @@ pub fn run_suite<R: Wait, K: Children, T: Clock, O: Sink>(
     ensures settings { IfOk result (λ j. j.settings ≡ local_settings) }
     ensures suite { IfOk result (λ j. RunsSuite suite.now j (K.runs children.old) (K.runs children.new)) }
     ensures once { IfOk result NamesInOrder }
-    ensures printed { IfOk result (λ j. PrintsReport (stop_of j) (text_of j) (O.sunk out.old) (O.sunk out.new)) }
+    ensures printed { IfOk result (λ j. PrintsReport (stop_of j) j (O.sunk out.old) (O.sunk out.new)) }
     ensures out_fault { IfOk result (λ j. stop_of j ≡ OutFault → Rose (O.faults out.old) (O.faults out.new)) }
     ensures still { IfOk result (λ j. stop_of j ≢ OutFault → O.faults out.new ≡ O.faults out.old) }
     ensures completed { IfOk result (λ j. StoodStill (O.faults out.old) (O.faults out.new) → stop_of j ≡ Completed) }
@@ -226,7 +227,7 @@ fn add_round(
     Ok(())
 }
 
-// Prints the lines of the entries from a place on; false where the output failed.
+// Prints the lines of the entries from a place on; false where the output failed, and then nothing was handed on.
 fn print_lines<O: Sink>(
     alloc: Global,
     reporter: &mut Reporter,
@@ -248,7 +249,7 @@ fn print_lines<O: Sink>(
     }
 }
 
-// Prints the tail; false where the output failed.
+// Prints the tail; false where the output failed, and then nothing was handed on.
 fn print_tail<O: Sink>(alloc: Global, journal: &Journal, out: &mut O) -> Result<bool, OutOfMemory>
     ensures shows { IfOk result (λ shown. Shows shown (tail_text journal.now) (O.sunk out.old) (O.sunk out.new)) }
     ensures later { O.faults out.old ≤ O.faults out.new }

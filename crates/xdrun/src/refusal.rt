@@ -1,8 +1,8 @@
 // Why nothing is run.
 ghost use Rattle.std.specs.Prelude.{◌≡◌, ◌≤◌, false, IfOk, string_bytes};
 ghost use Rattle.xd_edge.specs.Faults.{Rose};
+ghost use Rattle.xd_edge.specs.Printing.{Shows};
 ghost use Rattle.xd_suite.specs.FaultText.{fault_text};
-ghost use Rattle.xdrun.specs.Print.{Shows};
 ghost use Rattle.xdrun.specs.Refusal.{refusal_line, suite_line};
 
 use std::alloc::Global;
@@ -52,7 +52,7 @@ fn suite_line(alloc: Global, fault: SuiteFault) -> Result<String, OutOfMemory>
     Ok(line)
 }
 
-/// Prints the line; false where standard error failed.
+/// Prints the line; false where standard error failed, and then nothing of it was handed on.
 pub fn refuse<E: Sink>(alloc: Global, err: &mut E, why: Refusal) -> Result<bool, OutOfMemory>
     ensures line { IfOk result (λ shown. Shows shown (refusal_line why) (E.sunk err.old) (E.sunk err.new)) }
     ensures later { E.faults err.old ≤ E.faults err.new }

@@ -1,16 +1,16 @@
 // The commands that need no link: `SUITE -n 0` and `wire FILE`.
 ghost use Rattle.std.specs.Prelude.{◌≡◌, ◌≢◌, ◌≤◌, ℕ, Bool, List, None, false, IsSome, IsNone, IfOk, IfSome, IfNone, MatchResult, length};
 ghost use Rattle.xd_edge.specs.Faults.{Rose, RoseBy, StoodStill};
+ghost use Rattle.xd_edge.specs.Printing.{Shows};
 ghost use Rattle.xd_suite.specs.declared.test.Test.{Test};
 ghost use Rattle.xd_ledger.specs.declared.entry.RunStop.TheVariants.{Completed, OutFault};
 ghost use Rattle.xd_ledger.specs.Legal.{IsLegal};
 ghost use Rattle.xd_ledger.specs.Reports.{NamesInOrder, reports_in};
 ghost use Rattle.xd_ledger.specs.Ending.{stop_of};
 ghost use Rattle.xd_report.specs.Status.{status_of};
-ghost use Rattle.xd_report.specs.Text.{text_of};
 ghost use Rattle.xdrun.specs.Child.{faults_of};
 ghost use Rattle.xdrun.specs.Local.{RunsSuite, local_settings};
-ghost use Rattle.xdrun.specs.Print.{PrintsReport, Shows};
+ghost use Rattle.xdrun.specs.Print.{PrintsReport};
 ghost use Rattle.xdrun.specs.Refusal.{IsRefused, NamesSuite, TellsSuite, WhySuiteRefused, refusal_line};
 ghost use Rattle.xdrun.specs.Top.{RunsNamed};
 ghost use Rattle.xdrun.specs.Wire.{PrintsMessages, TellsMessages, status_by};
@@ -59,7 +59,7 @@ pub fn run_unlinked<R: Wait, F: Files, K: Children, T: Clock, O: Sink, E: Sink>(
     ensures settings { IfOk result (λ e. IfSome e.journal (λ j. j.settings ≡ local_settings)) }
     ensures suite { IfOk result (λ e. IfSome e.journal (λ j. RunsNamed words.now (F.held files.old) j (K.runs children) (K.runs e.children))) }
     ensures once { IfOk result (λ e. IfSome e.journal NamesInOrder) }
-    ensures printed { IfOk result (λ e. IfSome e.journal (λ j. PrintsReport (stop_of j) (text_of j) (O.sunk out.old) (O.sunk out.new))) }
+    ensures printed { IfOk result (λ e. IfSome e.journal (λ j. PrintsReport (stop_of j) j (O.sunk out.old) (O.sunk out.new))) }
     ensures status { IfOk result (λ e. IfSome e.journal (λ j. e.status ≡ status_of j)) }
 
     // The outside's faults, where they show.

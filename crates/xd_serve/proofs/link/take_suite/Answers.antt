@@ -12,4 +12,4 @@ returns-clause-goes g c = λ held taken first runs child_faults e going.
     (g.N.Sink.sunk c.args.speaker.now.sink) (g.N.Sink.sunk c.tell.new.self.sink) (g.N.Sink.faults c.args.speaker.now.sink) (g.N.Sink.faults c.tell.new.self.sink)
     (g.F.Files.faults c.args.files.now) (g.F.Files.faults c.read_suite.new.files) c.in_ok-acts.acts
     going (subst (λ (h : Option Held). FilesGave h (Rose (g.F.Files.faults c.args.files.now) (g.F.Files.faults c.read_suite.new.files)) c.args.path.now c.in_ok-suite.suite) e c.in_ok-suite.ensures.gave)
-    c.read_suite.ensures.later c.in_ok-acts.ensures.answers c.in_ok-acts.ensures.shows c.in_ok-acts.ensures.count c.tell.ensures.later
+    c.read_suite.ensures.later c.in_ok-acts.ensures.answers c.in_ok-acts.ensures.writes c.in_ok-acts.ensures.count c.tell.ensures.later

@@ -10,4 +10,4 @@ returns-clause-goes g c = λ held taken test args output first before going.
     going_output held taken test args output c.args.piece.now c.args.speaker.now.core c.tell.new.self.core c.args.speaker.now.is_broken c.tell.new.self.is_broken first before (g.N.Sink.sunk c.args.speaker.now.sink) (g.N.Sink.sunk c.tell.new.self.sink) (g.N.Sink.faults c.args.speaker.now.sink) (g.N.Sink.faults c.tell.new.self.sink) c.in_ok-_acts._acts
     going
     (subst (λ (b : List ℕ). (h : List Heard) → StandsFor c.args.speaker.now.core h → Answers c.tell.new.self.core (worker_after h) (Output b) c.in_ok-_acts._acts) c.in_ok-piece.ensures c.in_ok-_acts.ensures.answers)
-    c.requires c.in_ok-_acts.ensures.shows c.in_ok-_acts.ensures.count c.tell.ensures.later
+    c.requires c.in_ok-_acts.ensures.writes c.in_ok-_acts.ensures.count c.tell.ensures.later

@@ -11,7 +11,7 @@ listen-requires g c = (
   refl,
   scene (g.N.Sink.sunk c.args.link.sink) (g.N.Sink.faults c.args.link.sink) (g.K.Children.runs c.args.children) (g.K.Children.faults c.args.children) (g.F.Files.faults c.args.files.now),
   begun (g.F.Files.held c.args.files.now) c.begin-speaker.result.core c.begin-speaker.result.is_broken (g.N.Sink.sunk c.args.link.sink) (g.N.Sink.sunk c.begin-speaker.result.sink) (g.N.Sink.faults c.args.link.sink) (g.N.Sink.faults c.begin-speaker.result.sink)
-      (g.K.Children.runs c.args.children) (g.K.Children.faults c.args.children) (g.F.Files.faults c.args.files.now) c.begin-speaker.ensures.stands c.begin-speaker.ensures.shows c.begin-speaker.ensures.count c.begin-speaker.ensures.later,
+      (g.K.Children.runs c.args.children) (g.K.Children.faults c.args.children) (g.F.Files.faults c.args.files.now) c.begin-speaker.ensures.stands c.begin-speaker.ensures.writes c.begin-speaker.ensures.count c.begin-speaker.ensures.later,
 )
 
 pub returns : goal.returns
@@ -26,7 +26,7 @@ returns g c =
       c.status.ensures,
       c.in_ok-stop.ensures.ends held old refl
           (begun held c.begin-speaker.result.core c.begin-speaker.result.is_broken (g.N.Sink.sunk c.args.link.sink) (g.N.Sink.sunk c.begin-speaker.result.sink) (g.N.Sink.faults c.args.link.sink) (g.N.Sink.faults c.begin-speaker.result.sink)
-          (g.K.Children.runs c.args.children) (g.K.Children.faults c.args.children) (g.F.Files.faults c.args.files.now) c.begin-speaker.ensures.stands c.begin-speaker.ensures.shows c.begin-speaker.ensures.count c.begin-speaker.ensures.later),
+          (g.K.Children.runs c.args.children) (g.K.Children.faults c.args.children) (g.F.Files.faults c.args.files.now) c.begin-speaker.ensures.stands c.begin-speaker.ensures.writes c.begin-speaker.ensures.count c.begin-speaker.ensures.later),
     ) in
     record {
       served = served;

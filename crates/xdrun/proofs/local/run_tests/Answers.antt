@@ -1,7 +1,7 @@
 use Rattle.std.proofs.Common.{Bool, Ok, map, ◌∙◌, refl, ap, subst, arith}
+use Rattle.xd_edge.specs.Printing.{Shows}
 use Rattle.xd_ledger.specs.State.{no_one}
 use Rattle.xd_report.specs.Lines.{run_lines}
-use Rattle.xdrun.specs.Print.{Shows}
 use Rattle.xdrun.proofs.Steps.{start, not_collected, next, stop}
 use Rattle.xdrun.proofs.local.run_tests.Goals as goal
 
