@@ -30,9 +30,9 @@ abbrev pub behind : Journal → State
 behind j = all_moved (no_one j.settings) j.entries.items
 
 pub ran_test : (shown : Bool) (test : ℕ) (args : List (List ℕ)) (spent_old spent_new room : ℕ) (outcome : Outcome) (ms : ℕ) (output : List ℕ) (j0 j1 : Journal) (from : ℕ) (runs_old runs_new : Option (List ChildRun)) (faults_old faults_new : ℕ) (out_old out_new : Option Sunk)
-    → AddsRound test outcome ms output j0.entries.items j1.entries.items → from ≡ length j0.entries.items → room ≡ room_behind spent_old → RanChild args room outcome output runs_old runs_new → spent_new ≡ spent_old + length output → RoseBy (fault_count outcome) faults_old faults_new
+    → AddsRound test outcome ms output j0.entries.items j1.entries.items → from ≡ length j0.entries.items → room ≡ room_behind spent_old → RanChild args room outcome output runs_old runs_new → spent_new ≡ spent_old + length output → RoseBy (fault_count outcome) faults_old faults_new → (fault_count outcome ≡ 0 → faults_new ≡ faults_old)
     → Shows shown (lines_from (behind j0) (drop from j1.entries.items)) out_old out_new → RanTest shown test args spent_old spent_new j0 j1.entries.items runs_old runs_new faults_old faults_new out_old out_new
-ran_test shown test args spent_old spent_new room outcome ms output j0 j1 from runs_old runs_new faults_old faults_new out_old out_new entries from_is room_is ran spent faults shows =
+ran_test shown test args spent_old spent_new room outcome ms output j0 j1 from runs_old runs_new faults_old faults_new out_old out_new entries from_is room_is ran spent faults still shows =
     let result : TestResult = record { outcome = outcome; ms = ms; output = output } in
     record {
       result = result;
@@ -40,6 +40,7 @@ ran_test shown test args spent_old spent_new room outcome ms output j0 j1 from r
       ran = subst (λ (n : ℕ). RanChild args n outcome output runs_old runs_new) room_is ran;
       spent = spent;
       faults = faults;
+      still = still;
       shows = subst (λ (l : List Entry). Shows shown (lines_from (behind j0) l) out_old out_new) (new_ones j0.entries.items (round test result) j1.entries.items from entries from_is) shows;
     }
 

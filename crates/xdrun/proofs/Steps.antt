@@ -116,6 +116,7 @@ module _ (tests : List Test) where
       entries = is;
       ran = record { runs = []; commands = refl; outcomes = refl; outputs = refl; added = added_none runs0 };
       faults = λ below. omega arith;
+      still = λ none. refl;
       few_kept = refl;
       few_in_all = omega arith;
     }
@@ -172,14 +173,16 @@ module _ (tests : List Test) where
       total_kept : kept_by results ≡ kept_by p.results + length more.result.output
       total_kept = kept_by-more p.results more.result
 
+      faults_total : result_faults results ≡ result_faults p.results + fault_count more.result.outcome
+      faults_total = omega (arith, sum_by-append (λ (r : TestResult). fault_count r.outcome) p.results (more.result ∷ []))
+
       so_far : SoFar results tests ids es2 runs0 runs2 faults0 faults2
       so_far = record {
         entries = grown;
         ran = one_more p.results more.result runs0 runs1 runs2 (omega (arith, p.counted)) p.so_far.ran (subst (λ n. RanChild (run_at tests (length p.results)) (room_behind n) more.result.outcome more.result.output runs1 runs2) p.spent_is (subst (λ n. RanChild (run_at tests n) (room_behind spent1) more.result.outcome more.result.output runs1 runs2) (sym p.counted) more.ran));
         faults =
-            let total : result_faults results ≡ result_faults p.results + fault_count more.result.outcome =
-            omega (arith, sum_by-append (λ (r : TestResult). fault_count r.outcome) p.results (more.result ∷ [])) in
-            subst (λ n. RoseBy n faults0 faults2) (sym total) (rose_more (result_faults p.results) (fault_count more.result.outcome) faults0 faults1 faults2 p.so_far.faults more.faults later);
+            subst (λ n. RoseBy n faults0 faults2) (sym faults_total) (rose_more (result_faults p.results) (fault_count more.result.outcome) faults0 faults1 faults2 p.so_far.faults more.faults later);
+        still = λ none. more.still (omega (arith, none, faults_total)) ∙ p.so_far.still (omega (arith, none, faults_total));
         few_kept = few_more p.results more.result spent1 p.so_far.few_kept low;
         few_in_all = (let t = total_kept in let l = low in let s = p.spent_is in let f = p.so_far.few_in_all in grind (arith, common_steps));
       }

@@ -127,6 +127,9 @@ module _ (tests : List Test) (j0 j1 : Journal) (shown : Bool) (runs0 runs1 : Opt
   pub child_faults : RoseBy (faults_of (reports_in j1)) faults0 faults1
   child_faults = subst (λ n. RoseBy n faults0 faults1) (sym (ap faults_of reports_are ∙ faults-alone 0 e.ran.results)) e.ran.so_far.faults
 
+  pub child_still : faults_of (reports_in j1) ≡ 0 → faults1 ≡ faults0
+  child_still none = e.ran.so_far.still (sym (ap faults_of reports_are ∙ faults-alone 0 e.ran.results) ∙ none)
+
   pub out_fault : (before now : ℕ) → (shown ≡ false → Rose before now) → stop_of j1 ≡ OutFault → Rose before now
   out_fault before now rose stopped = by_end shown refl
     where

@@ -79,6 +79,7 @@ pub record RanTest (shown : Bool) (test : ℕ) (args : List (List ℕ)) (spent_o
   pub ran : RanChild args (room_behind spent_old) result.outcome result.output runs_old runs_new
   pub spent : spent_new ≡ spent_old + length result.output
   pub faults : RoseBy (fault_count result.outcome) faults_old faults_new
+  pub still : fault_count result.outcome ≡ 0 → faults_new ≡ faults_old
   pub shows : Shows shown (lines_from (all_moved (no_one j_old.settings) j_old.entries.items) (round test result)) out_old out_new
 
 -- the first tests, as far as they came, with what the outside tells of them
@@ -86,6 +87,7 @@ pub record SoFar (results : List TestResult) (tests : List Test) (ids : List (Li
   pub entries : es ≡ local_entries ids results
   pub ran : RanTests tests results runs_old runs_new
   pub faults : RoseBy (result_faults results) faults_old faults_new
+  pub still : result_faults results ≡ 0 → faults_new ≡ faults_old
   pub few_kept : list_all (λ r. nat_le (length r.output) most_of_one) results ≡ true
   pub few_in_all : kept_by results ≤ most_of_all
 

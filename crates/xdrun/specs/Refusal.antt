@@ -70,11 +70,18 @@ WhyRefused words held rose why =
     ((messages_named words ≡ None) × WhySuiteRefused words held rose why)
     ⊎ ((path : List ℕ) × (messages_named words ≡ Some path) × WhyFileRefused path held rose why)
 
+-- the count of faults of the files: it rose where a file could not be read, and is else as before
+abbrev pub FilesCount : Refusal → ℕ → ℕ → Type 0
+FilesCount Unread before now = Rose before now
+FilesCount FileUnread before now = Rose before now
+FilesCount _ before now = now ≡ before
+
 -- A refusal: its cause, nothing on standard output, and its line on standard error, or a first part of the line, which
 -- was not handed on, where that failed.
-pub record IsRefused (words : List (List ℕ)) (held : Option Held) (rose : Type 0) (out_old out_new err_old err_new : Option Sunk) (faults_old faults_new : ℕ) : Type 0 where
+pub record IsRefused (words : List (List ℕ)) (held : Option Held) (files_old files_new : ℕ) (out_old out_new err_old err_new : Option Sunk) (faults_old faults_new : ℕ) : Type 0 where
   pub why : Refusal
-  pub cause : WhyRefused words held rose why
+  pub cause : WhyRefused words held (Rose files_old files_new) why
+  pub files_count : FilesCount why files_old files_new
   pub no_output : out_new ≡ out_old
   pub shown : Bool
   pub line : Shows shown (refusal_line why) err_old err_new

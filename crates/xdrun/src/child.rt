@@ -25,6 +25,7 @@ pub fn run_child<R: Wait, K: Children>(
     ensures ran { IfOk result (λ r. RanChild args.now room r.0 r.1 (K.runs children.old) (K.runs children.new)) }
     ensures later { K.faults children.old ≤ K.faults children.new }
     ensures faults { IfOk result (λ r. RoseBy (fault_count r.0) (K.faults children.old) (K.faults children.new)) }
+    ensures still { IfOk result (λ r. fault_count r.0 ≡ 0 → K.faults children.new ≡ K.faults children.old) }
 {
     let mut output = Vec::with_capacity(alloc, room)?;
     let outcome = run_to_end(rt, alloc, children, args, &mut output, room)?;
@@ -59,6 +60,7 @@ fn run_to_end<R: Wait, K: Children>(
     ensures ran { IfOk result (λ o. CameTo args.now room o output.new.items (K.runs children.old) (K.runs children.new)) }
     ensures later { K.faults children.old ≤ K.faults children.new }
     ensures faults { IfOk result (λ o. RoseBy (fault_count o) (K.faults children.old) (K.faults children.new)) }
+    ensures still { IfOk result (λ o. fault_count o ≡ 0 → K.faults children.new ≡ K.faults children.old) }
 {
     let mut child = match children.start(alloc, args) {
         Ok(child) => child,
@@ -85,6 +87,7 @@ fn drain<R: Wait, K: Children>(
     ensures whole { OnTrue result (Drained room (K.place child.old) output.new.items (K.runs children.old) (K.runs children.new)) }
     ensures part { OnFalse result (DrainedPart room (K.place child.old) output.new.items (K.runs children.old) (K.runs children.new)) }
     ensures later { K.faults children.old ≤ K.faults children.new }
+    ensures still { OnTrue result (K.faults children.new ≡ K.faults children.old) }
     ensures rose { OnFalse result (Rose (K.faults children.old) (K.faults children.new)) }
 {
     let mut buffer = [0u8; 4096];

@@ -51,6 +51,7 @@ pub fn run_suite<R: Wait, K: Children, T: Clock, O: Sink>(
     ensures still { IfOk result (λ j. stop_of j ≢ OutFault → O.faults out.new ≡ O.faults out.old) }
     ensures completed { IfOk result (λ j. StoodStill (O.faults out.old) (O.faults out.new) → stop_of j ≡ Completed) }
     ensures child_faults { IfOk result (λ j. RoseBy (faults_of (reports_in j)) (K.faults children.old) (K.faults children.new)) }
+    ensures child_still { IfOk result (λ j. faults_of (reports_in j) ≡ 0 → K.faults children.new ≡ K.faults children.old) }
 {
     let mut journal = Journal::new(alloc, local_settings());
     let ids = suite.ids(alloc, ModeKind::Local)?;

@@ -88,12 +88,14 @@ pub fn xdrun<R: Wait, F: Files, St: Starter, K: Children, T: Clock, O: Sink, E: 
     ensures out_fault { IfOk result (λ e. IfSome e.journal (λ j. stop_of j ≡ OutFault → Rose (O.faults out.old) (O.faults out.new))) }
     ensures still { IfOk result (λ e. e.status ≢ 3 → O.faults out.new ≡ O.faults out.old) }
     ensures child_faults { IfOk result (λ e. IfSome e.journal (λ j. RoseBy (faults_of (reports_in j)) (K.faults children) (K.faults e.children))) }
+    ensures child_still { IfOk result (λ e. IfSome e.journal (λ j. faults_of (reports_in j) ≡ 0 → K.faults e.children ≡ K.faults children)) }
+    ensures files_still { IfOk result (λ e. names_worker words.now ≡ false → e.status ≢ 4 → F.faults files.new ≡ F.faults files.old) }
 
     // No run: the messages of a file, or a refusal, which has status 4.
     ensures messages { IfOk result (λ e. names_worker words.now ≡ false → IfNone e.journal (e.status ≢ 4 → PrintsMessages words.now (F.held files.old) (Rose (O.faults out.old) (O.faults out.new)) e.status (O.sunk out.old) (O.sunk out.new))) }
-    ensures refused { IfOk result (λ e. e.status ≡ 4 → IsRefused words.now (F.held files.old) (Rose (F.faults files.old) (F.faults files.new)) (O.sunk out.old) (O.sunk out.new) (E.sunk err.old) (E.sunk err.new) (E.faults err.old) (E.faults err.new)) }
+    ensures refused { IfOk result (λ e. e.status ≡ 4 → IsRefused words.now (F.held files.old) (F.faults files.old) (F.faults files.new) (O.sunk out.old) (O.sunk out.new) (E.sunk err.old) (E.sunk err.new) (E.faults err.old) (E.faults err.new)) }
     ensures four { IfOk result (λ e. e.status ≡ 4 → IsNone e.journal) }
-    ensures no_child { IfOk result (λ e. names_worker words.now ≡ false → IsNone e.journal → K.runs e.children ≡ K.runs children) }
+    ensures no_child { IfOk result (λ e. names_worker words.now ≡ false → IsNone e.journal → e.children ≡ children) }
     ensures quiet { IfOk result (λ e. e.status ≢ 4 → E.sunk err.new ≡ E.sunk err.old) }
 
     // A worker: the link to the own streams and how it was served, or that it could not be started. Else there is no link.

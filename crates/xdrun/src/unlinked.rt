@@ -11,7 +11,7 @@ ghost use Rattle.xd_report.specs.Status.{status_of};
 ghost use Rattle.xdrun.specs.Child.{faults_of};
 ghost use Rattle.xdrun.specs.Local.{RunsSuite, local_settings};
 ghost use Rattle.xdrun.specs.Print.{PrintsReport};
-ghost use Rattle.xdrun.specs.Refusal.{IsRefused, NamesSuite, TellsSuite, WhySuiteRefused, refusal_line};
+ghost use Rattle.xdrun.specs.Refusal.{FilesCount, IsRefused, NamesSuite, TellsSuite, WhySuiteRefused, refusal_line};
 ghost use Rattle.xdrun.specs.Top.{RunsNamed};
 ghost use Rattle.xdrun.specs.Wire.{PrintsMessages, TellsMessages, status_by};
 ghost use Rattle.xd_wire.specs.WireText.{IsWireText};
@@ -66,12 +66,14 @@ pub fn run_unlinked<R: Wait, F: Files, K: Children, T: Clock, O: Sink, E: Sink>(
     ensures out_fault { IfOk result (λ e. IfSome e.journal (λ j. stop_of j ≡ OutFault → Rose (O.faults out.old) (O.faults out.new))) }
     ensures still { IfOk result (λ e. e.status ≢ 3 → O.faults out.new ≡ O.faults out.old) }
     ensures child_faults { IfOk result (λ e. IfSome e.journal (λ j. RoseBy (faults_of (reports_in j)) (K.faults children) (K.faults e.children))) }
+    ensures child_still { IfOk result (λ e. IfSome e.journal (λ j. faults_of (reports_in j) ≡ 0 → K.faults e.children ≡ K.faults children)) }
+    ensures files_still { IfOk result (λ e. e.status ≢ 4 → F.faults files.new ≡ F.faults files.old) }
 
     // No run: the messages of a file, or a refusal, which has status 4.
     ensures messages { IfOk result (λ e. IfNone e.journal (e.status ≢ 4 → PrintsMessages words.now (F.held files.old) (Rose (O.faults out.old) (O.faults out.new)) e.status (O.sunk out.old) (O.sunk out.new))) }
-    ensures refused { IfOk result (λ e. e.status ≡ 4 → IsRefused words.now (F.held files.old) (Rose (F.faults files.old) (F.faults files.new)) (O.sunk out.old) (O.sunk out.new) (E.sunk err.old) (E.sunk err.new) (E.faults err.old) (E.faults err.new)) }
+    ensures refused { IfOk result (λ e. e.status ≡ 4 → IsRefused words.now (F.held files.old) (F.faults files.old) (F.faults files.new) (O.sunk out.old) (O.sunk out.new) (E.sunk err.old) (E.sunk err.new) (E.faults err.old) (E.faults err.new)) }
     ensures four { IfOk result (λ e. e.status ≡ 4 → IsNone e.journal) }
-    ensures no_child { IfOk result (λ e. IsNone e.journal → K.runs e.children ≡ K.runs children) }
+    ensures no_child { IfOk result (λ e. IsNone e.journal → e.children ≡ children) }
     ensures quiet { IfOk result (λ e. e.status ≢ 4 → E.sunk err.new ≡ E.sunk err.old) }
 
     // What is accepted is done to its end where no count of faults rises.
@@ -138,6 +140,7 @@ fn read_suite<F: Files>(
 ) -> Result<Result<Suite, Refusal>, OutOfMemory>
     ensures read { IfOk result (λ r. MatchResult r (NamesSuite words.now (F.held files.old)) (WhySuiteRefused words.now (F.held files.old) (Rose (F.faults files.old) (F.faults files.new)))) }
     ensures later { F.faults files.old ≤ F.faults files.new }
+    ensures count { IfOk result (λ r. MatchResult r (λ _. F.faults files.new ≡ F.faults files.old) (λ why. FilesCount why (F.faults files.old) (F.faults files.new))) }
 {
     let Some(path) = suite_named(words) else {
         return Ok(Err(Refusal::BadWords));

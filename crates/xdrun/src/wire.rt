@@ -2,6 +2,7 @@
 ghost use Rattle.std.specs.Prelude.{◌≡◌, ◌≢◌, ◌≤◌, IfOk, MatchResult};
 ghost use Rattle.xd_edge.specs.Faults.{Rose};
 ghost use Rattle.xd_wire.specs.declared.print.WireEnd.TheVariants.{OutFailed};
+ghost use Rattle.xdrun.specs.Refusal.{FilesCount};
 ghost use Rattle.xdrun.specs.Wire.{IsFileRefused, PrintsFile, wire_status};
 
 use crate::refusal::Refusal;
@@ -21,6 +22,7 @@ pub fn print_file<F: Files, O: Sink>(
     ensures printed { IfOk result (λ r. MatchResult r (λ how. PrintsFile path.now (F.held files.old) (Rose (O.faults out.old) (O.faults out.new)) how (O.sunk out.old) (O.sunk out.new)) (λ why. IsFileRefused path.now (F.held files.old) (Rose (F.faults files.old) (F.faults files.new)) why (O.sunk out.old) (O.sunk out.new))) }
     ensures still { IfOk result (λ r. MatchResult r (λ how. how ≢ OutFailed → O.faults out.new ≡ O.faults out.old) (λ _. O.faults out.new ≡ O.faults out.old)) }
     ensures later { F.faults files.old ≤ F.faults files.new }
+    ensures files_count { IfOk result (λ r. MatchResult r (λ _. F.faults files.new ≡ F.faults files.old) (λ why. FilesCount why (F.faults files.old) (F.faults files.new))) }
 {
     let bytes = match files.read_file(alloc, path, MAX_FILE_BYTES) {
         Ok(bytes) => bytes,

@@ -10,6 +10,7 @@ loop-init g c = record {
   drained = subst (λ (l : List ℕ). Drained c.args.room (g.K.Children.place c.args.child.now) l (g.K.Children.runs c.args.children.now) (g.K.Children.runs c.args.children.now)) (sym c.requires.empty) (nothing_drained c.args.room (g.K.Children.place c.args.child.now) (g.K.Children.runs c.args.children.now));
   within = (let e = ap length c.requires.empty in omega (arith, e));
   room = c.requires.room;
+  still = refl;
   later = omega arith;
 }
 
@@ -27,6 +28,7 @@ loop-preserved g c = record {
       c.keep.ensures.kept;
   within = kept_short c.args.room _ _ c.keep.ensures.kept;
   room = c.keep.ensures.room;
+  still = c.in-Ok.ensures.still ∙ c.loop.invariant.still;
   later = omega arith;
 }
 

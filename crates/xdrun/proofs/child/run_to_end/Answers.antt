@@ -1,7 +1,7 @@
 use Rattle.std.proofs.Common.{ℕ, arith, subst}
 use Rattle.xd_serve.specs.Child.{Waited}
 use Rattle.xd_serve.proofs.Tellings.{rose_earlier}
-use Rattle.xd_serve.proofs.Waiting.{faults_to_end}
+use Rattle.xd_serve.proofs.Waiting.{faults_to_end, still_to_end}
 use Rattle.xdrun.proofs.Ran.{came_to, when_false}
 use Rattle.xdrun.proofs.child.run_to_end.Goals as goal
 
@@ -18,3 +18,9 @@ returns-clause-faults g c =
     (omega (arith, c.start.ensures.later, c.drain-is_whole.ensures.later)) c.wait_for-outcome.ensures.later
     (λ e. rose_earlier (g.K.Children.faults c.args.children.now) (g.K.Children.faults c.start.new.self) (g.K.Children.faults c.drain-is_whole.new.children) c.start.ensures.later (when_false c.drain-is_whole.result _ e c.drain-is_whole.ensures.rose))
     c.wait_for-outcome.ensures.faults
+
+pub returns-clause-still : goal.returns-clause-still
+returns-clause-still g c =
+    still_to_end c.drain-is_whole.result (g.K.Children.place c.drain-is_whole.new.child) c.wait_for-outcome.result (g.K.Children.runs c.drain-is_whole.new.children) (g.K.Children.runs c.wait_for-outcome.new.children)
+    (g.K.Children.faults c.args.children.now) (g.K.Children.faults c.start.new.self) (g.K.Children.faults c.drain-is_whole.new.children) (g.K.Children.faults c.wait_for-outcome.new.children) c.wait_for-outcome.ensures.waited
+    c.in-Ok.ensures.still c.drain-is_whole.ensures.still c.wait_for-outcome.ensures.still

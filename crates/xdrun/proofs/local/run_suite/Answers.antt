@@ -1,7 +1,7 @@
 use Rattle.std.proofs.Common.{◌≡◌, ◌++◌, ◌∷◌, [], ap, ◌∙◌, Bool, true, false, Ok}
 use Rattle.xd_ledger.specs.declared.entry.Entry.TheVariants.{Over}
 use Rattle.xd_ledger.specs.declared.entry.RunStop.{RunStop}
-use Rattle.xdrun.proofs.Whole.{Ended, legal, suite, once, printed, out_fault, still, completed, child_faults}
+use Rattle.xdrun.proofs.Whole.{Ended, legal, suite, once, printed, out_fault, still, completed, child_faults, child_still}
 use Rattle.xdrun.proofs.local.run_suite.Goals as goal
 use Rattle.xdrun.proofs.local.run_suite.Goals.{In_ok-push-2}
 use Rattle.xdrun.proofs.local.run_suite.Given.{Over as Outer}
@@ -41,3 +41,6 @@ returns-clause-child_faults g c = child_faults _ _ _ _ _ _ _ _ _ _ (ended g c)
 pub returns-clause-completed : goal.returns-clause-completed
 returns-clause-completed g c =
     completed _ _ _ _ _ _ _ _ _ _ (ended g c) _ _ (λ (is : c.in_ok-shown.shown ≡ false). c.in_ok-shown.ensures.rose (ap (λ (b : Bool). Ok b) is))
+
+pub returns-clause-child_still : goal.returns-clause-child_still
+returns-clause-child_still g c = child_still _ _ _ _ _ _ _ _ _ _ (ended g c)

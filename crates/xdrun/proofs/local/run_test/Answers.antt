@@ -8,7 +8,7 @@ returns-clause-ran g c =
     ran_test c.in_ok-shown.shown c.args.test _ c.args.spent.now _ _ c.in_ok-outcome.outcome (c.now.result - c.now-start.result) c.in_ok-outcome.output c.args.journal.now c.add_round.new.journal c.len-from.result _ _ _ _ _ _
     c.in_ok-add_round.ensures.entries (search rules) c.room_behind-room.ensures
     (subst (λ (args : List (List ℕ)). RanChild args c.room_behind-room.result c.in_ok-outcome.outcome c.in_ok-outcome.output (g.K.Children.runs c.args.children.now) (g.K.Children.runs c.run_child.new.children)) c.command.ensures.run c.in_ok-outcome.ensures.ran)
-    (ap (λ (l : List ℕ). c.args.spent.now + length l) c.as_slice.ensures) c.in_ok-outcome.ensures.faults (c.in_ok-shown.ensures.shows (behind c.args.journal.now) c.requires.told)
+    (ap (λ (l : List ℕ). c.args.spent.now + length l) c.as_slice.ensures) c.in_ok-outcome.ensures.faults c.in_ok-outcome.ensures.still (c.in_ok-shown.ensures.shows (behind c.args.journal.now) c.requires.told)
 
 pub returns-clause-told : goal.returns-clause-told
 returns-clause-told g c =
