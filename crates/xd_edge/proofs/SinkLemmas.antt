@@ -39,8 +39,6 @@ took_is_part more old new took =
     let all : take (length more) more ≡ more = take_all (length more) more (omega arith) in
     (length more, omega arith, subst (λ (l : List ℕ). Took l old new) (sym all) took)
 
-pub not_flushed : (more : List ℕ) (old mid new : Option Sunk) → Took more old mid → new ≡ mid → PrintedPart more old new
-not_flushed more old mid new took same = printed_part more old new (took_is_part more old new (same ∙ took))
 
 -- one print after another
 pub printed_more : (a b : List ℕ) (old mid new : Option Sunk) → Printed a old mid → Printed b mid new → Printed (a ++ b) old new

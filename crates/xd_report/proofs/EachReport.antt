@@ -163,7 +163,7 @@ collecting-settings w None s =
     let t = in_books (on_table (joined w)) s in
     either (is_shut w s.books) s (if is_full t.books then shared_now t else t) s.books.settings refl (either (is_full t.books) (shared_now t) t s.books.settings refl refl)
 
-collected-settings : (w : ℕ) (given : Ids) (s : State) → (after_collected w given s).books.settings ≡ s.books.settings
+pub collected-settings : (w : ℕ) (given : Ids) (s : State) → (after_collected w given s).books.settings ≡ s.books.settings
 collected-settings w given s = collecting-settings w (unequal w given (listed w s.books)) (in_books (λ b. marked (made_collected w) (with_list w given b)) s)
 
 moved-settings : (s : State) (e : Entry) → (moved s e).books.settings ≡ s.books.settings
@@ -186,24 +186,24 @@ moved-settings s (Over how) = refl
 reached-settings : (s : State) (e : Entry) → (reached s e).books.settings ≡ s.books.settings
 reached-settings s e = either (is_input e) (settled s) s s.books.settings refl refl
 
-next-settings : (s : State) (e : Entry) → (next s e).books.settings ≡ s.books.settings
+pub next-settings : (s : State) (e : Entry) → (next s e).books.settings ≡ s.books.settings
 next-settings s e = moved-settings (reached s e) e ∙ reached-settings s e
 
 -- lines
 
-text-append : (mode : ModeKind) (xs ys : List Line) → text_of_lines mode (xs ++ ys) ≡ text_of_lines mode xs ++ text_of_lines mode ys
+pub text-append : (mode : ModeKind) (xs ys : List Line) → text_of_lines mode (xs ++ ys) ≡ text_of_lines mode xs ++ text_of_lines mode ys
 text-append mode [] ys = refl
 text-append mode (x ∷ xs) ys =
     ap (λ (l : List ℕ). text_of_line mode x ++ l) (text-append mode xs ys) ∙ sym (append_assoc (text_of_line mode x) (text_of_lines mode xs) (text_of_lines mode ys))
 
-told-append : (xs ys : List Line) → reports_told (xs ++ ys) ≡ reports_told xs ++ reports_told ys
+pub told-append : (xs ys : List Line) → reports_told (xs ++ ys) ≡ reports_told xs ++ reports_told ys
 told-append [] ys = refl
 told-append (Of report id ∷ xs) ys = ap (λ (l : List Report). report ∷ l) (told-append xs ys)
 told-append (Tests n k ∷ xs) ys = told-append xs ys
 told-append (NodeDown w why ∷ xs) ys = told-append xs ys
 told-append (Replaces old ∷ xs) ys = told-append xs ys
 
-join : (mode : ModeKind) (a b : List ℕ) (rs ss : List Report) → HasLineEach mode a rs → HasLineEach mode b ss → HasLineEach mode (a ++ b) (rs ++ ss)
+abbrev pub join : (mode : ModeKind) (a b : List ℕ) (rs ss : List Report) → HasLineEach mode a rs → HasLineEach mode b ss → HasLineEach mode (a ++ b) (rs ++ ss)
 join mode a b rs ss x y = record {
   lines = x.lines ++ y.lines;
   text_is = ap (λ (l : List ℕ). l ++ b) x.text_is ∙ ap (λ (l : List ℕ). text_of_lines mode x.lines ++ l) y.text_is ∙ sym (text-append mode x.lines y.lines);
@@ -264,17 +264,17 @@ all_lines s (e ∷ es) =
 
 -- blocks
 
-blocks-append : (mode : ModeKind) (xs ys : List Block) → text_of_blocks mode (xs ++ ys) ≡ text_of_blocks mode xs ++ text_of_blocks mode ys
+pub blocks-append : (mode : ModeKind) (xs ys : List Block) → text_of_blocks mode (xs ++ ys) ≡ text_of_blocks mode xs ++ text_of_blocks mode ys
 blocks-append mode [] ys = refl
 blocks-append mode (x ∷ xs) ys =
     let first = text_of_report mode x.report x.id x.output in
     ap (λ (l : List ℕ). first ++ l) (blocks-append mode xs ys) ∙ sym (append_assoc first (text_of_blocks mode xs) (text_of_blocks mode ys))
 
-named-append : (xs ys : List Block) → map (λ b. b.report) (xs ++ ys) ≡ map (λ b. b.report) xs ++ map (λ b. b.report) ys
+pub named-append : (xs ys : List Block) → map (λ b. b.report) (xs ++ ys) ≡ map (λ b. b.report) xs ++ map (λ b. b.report) ys
 named-append [] ys = refl
 named-append (x ∷ xs) ys = ap (λ (l : List Report). x.report ∷ l) (named-append xs ys)
 
-join_blocks : (mode : ModeKind) (a b : List ℕ) (rs ss : List Report) → HasBlockEach mode a rs → HasBlockEach mode b ss → HasBlockEach mode (a ++ b) (rs ++ ss)
+abbrev pub join_blocks : (mode : ModeKind) (a b : List ℕ) (rs ss : List Report) → HasBlockEach mode a rs → HasBlockEach mode b ss → HasBlockEach mode (a ++ b) (rs ++ ss)
 join_blocks mode a b rs ss x y = record {
   blocks = x.blocks ++ y.blocks;
   text_is = ap (λ (l : List ℕ). l ++ b) x.text_is ∙ ap (λ (l : List ℕ). text_of_blocks mode x.blocks ++ l) y.text_is ∙ sym (blocks-append mode x.blocks y.blocks);

@@ -2,6 +2,8 @@ pub mod EachReport
 pub mod Kept
 pub mod Loops
 pub mod Moves
+pub mod LocalLines
+pub mod Named
 pub mod Rising
 pub mod Rows
 pub mod Texts

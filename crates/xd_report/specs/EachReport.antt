@@ -1,9 +1,9 @@
--- How the printed text speaks of the reports of a run: each has one line, each failed one has a block, and each is
--- counted once.
-use Rattle.std.specs.Prelude.{ℕ, ◌≡◌, ◌+◌, Bool, true, false, List, [], ◌∷◌, ◌++◌, length, map, filter, Some}
+-- How the printed text speaks of the reports of a run: each has one line, with the id of its test, each failed one has a
+-- block, and each is counted once.
+use Rattle.std.specs.Prelude.{ℕ, ◌≡◌, ◌+◌, Bool, true, false, List, [], ◌∷◌, ◌++◌, length, map, filter, slice_index_or, Some}
 use Rattle.xd_edge.specs.declared.mode.ModeKind.{ModeKind}
 use Rattle.xd_ledger.specs.declared.entry.Outcome.TheVariants.{Passed, Skipped, Failed}
-use Rattle.xd_ledger.specs.Reports.{Report, Result, Crash}
+use Rattle.xd_ledger.specs.Reports.{Report, Result, Crash, item_of}
 use Rattle.xd_report.specs.declared.counts.Counts.{Counts}
 use Rattle.xd_report.specs.Blocks.{block, crash_reason, reason_of}
 use Rattle.xd_report.specs.Lines.{tests_line, result_line, crashed_line, down_line, replacing}
@@ -40,6 +40,23 @@ pub record HasLineEach (mode : ModeKind) (text : List ℕ) (rs : List Report) : 
   pub lines : List Line
   pub text_is : text ≡ text_of_lines mode lines
   pub each_once : reports_told lines ≡ rs
+
+-- each line that is of a report gives the id that its test has by these names
+abbrev pub Names : (Report → List ℕ) → List Line → Type 0
+Names name [] = Unit
+Names name (Of report id ∷ ls) = (id ≡ name report) × Names name ls
+Names name (Tests tests workers ∷ ls) = Names name ls
+Names name (NodeDown worker why ∷ ls) = Names name ls
+Names name (Replaces old ∷ ls) = Names name ls
+
+-- The same, and the line of each report gives the id of its test.
+pub record HasNamedLineEach (name : Report → List ℕ) (mode : ModeKind) (text : List ℕ) (rs : List Report) : Type 0 where
+  pub each : HasLineEach mode text rs
+  pub names : Names name each.lines
+
+-- the id that the test of a report has in a collection
+abbrev pub id_in : List (List ℕ) → Report → List ℕ
+id_in ids report = slice_index_or ids (item_of report) []
 
 -- a test that passed
 abbrev pub is_passed : Report → Bool
@@ -82,6 +99,16 @@ pub record HasBlockEach (mode : ModeKind) (text : List ℕ) (rs : List Report) :
   pub blocks : List Block
   pub text_is : text ≡ text_of_blocks mode blocks
   pub each_once : map (λ b. b.report) blocks ≡ filter is_failure rs
+
+-- each block gives the id that its test has by these names
+abbrev pub NamesBlocks : (Report → List ℕ) → List Block → Type 0
+NamesBlocks name [] = Unit
+NamesBlocks name (b ∷ bs) = (b.id ≡ name b.report) × NamesBlocks name bs
+
+-- The same, and each block gives the id of its test.
+pub record HasNamedBlockEach (name : Report → List ℕ) (mode : ModeKind) (text : List ℕ) (rs : List Report) : Type 0 where
+  pub each : HasBlockEach mode text rs
+  pub names : NamesBlocks name each.blocks
 
 -- The counts are how many of these reports are of each kind, and each report is of one.
 pub record Counted (n : Counts) (rs : List Report) : Type 0 where

@@ -2,6 +2,7 @@ pub mod Blocks
 pub mod EachReport
 pub mod Follows
 pub mod Lines
+pub mod LocalLines
 pub mod Names
 pub mod Status
 pub mod StopLine

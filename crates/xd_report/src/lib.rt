@@ -24,7 +24,7 @@ mod writing;
 
 pub use blocks::{failure_block, is_failed_at};
 pub use ending::tail;
-pub use laws::{block_law, counts_law, line_law, lines_law};
+pub use laws::{block_law, counts_law, id_law, line_law, lines_law, local_law};
 pub use lines::report_lines;
 pub use reporter::Reporter;
 pub use status::status_of;

@@ -56,7 +56,7 @@ fn print(out: &mut Text, value: &Value) -> Result<(), AllocError>
         Value::Int(n) => print_int(out, *n)?,
         Value::Bytes(bytes) => print_bytes(out, bytes.as_slice())?,
         Value::Text(text) => print_text(out, text)?,
-        Value::List(items) => print_items(out, "[", items, "]")?,
+        Value::List(items) => print_between(out, '[', items, ']')?,
         Value::Tuple(items) => print_tuple(out, items)?,
         Value::Set(items) => print_set(out, items)?,
         Value::FrozenSet(items) => print_frozenset(out, items)?,
@@ -66,21 +66,39 @@ fn print(out: &mut Text, value: &Value) -> Result<(), AllocError>
     Ok(())
 }
 
-/// Items between two marks.
-#[cycle(print)]
-fn print_items(out: &mut Text, first: &str, items: &[Value], last: &str) -> Result<(), AllocError>
-    requires opens { IsTrue (list_all is_ascii first.now) }
-    requires closes { IsTrue (list_all is_ascii last.now) }
-    ensures { OnOk result (out.new ≡ out.old ++ between first.now (shown_items [] (views items.now)) last.now) }
+/// What stands before an item that is not the first.
+fn put_comma(out: &mut Text) -> Result<(), AllocError>
+    ensures { OnOk result (out.new ≡ out.old ++ codes ", ") }
 {
-    put(out, first)?;
-    let mut before = "";
+    put_char(out, ',')?;
+    put_char(out, ' ')?;
+    Ok(())
+}
+
+/// Items, each but the first behind a comma.
+#[cycle(print)]
+fn print_items(out: &mut Text, items: &[Value]) -> Result<(), AllocError>
+    ensures { OnOk result (out.new ≡ out.old ++ shown_items [] (views items.now)) }
+{
+    let mut is_first = true;
     for item in items {
-        put(out, before)?;
+        if !is_first {
+            put_comma(out)?;
+        }
         print(out, item)?;
-        before = ", ";
+        is_first = false;
     }
-    put(out, last)?;
+    Ok(())
+}
+
+/// Items between two characters.
+#[cycle(print)]
+fn print_between(out: &mut Text, first: char, items: &[Value], last: char) -> Result<(), AllocError>
+    ensures { OnOk result (out.new ≡ out.old ++ between (first ∷ []) (shown_items [] (views items.now)) (last ∷ [])) }
+{
+    put_char(out, first)?;
+    print_items(out, items)?;
+    put_char(out, last)?;
     Ok(())
 }
 
@@ -89,10 +107,12 @@ fn print_tuple(out: &mut Text, items: &[Value]) -> Result<(), AllocError>
     ensures { OnOk result (out.new ≡ out.old
         ++ between (40 ∷ []) (shown_items [] (views items.now)) (tuple_end (count (views items.now)))) }
 {
+    put_char(out, '(')?;
+    print_items(out, items)?;
     if items.len() == 1 {
-        print_items(out, "(", items, ",)")?;
+        put(out, ",)")?;
     } else {
-        print_items(out, "(", items, ")")?;
+        put_char(out, ')')?;
     }
     Ok(())
 }
@@ -105,7 +125,7 @@ fn print_set(out: &mut Text, items: &[Value]) -> Result<(), AllocError>
     if items.is_empty() {
         put(out, "set()")?;
     } else {
-        print_items(out, "{", items, "}")?;
+        print_between(out, '{', items, '}')?;
     }
     Ok(())
 }
@@ -119,7 +139,9 @@ fn print_frozenset(out: &mut Text, items: &[Value]) -> Result<(), AllocError>
     if items.is_empty() {
         put(out, "frozenset()")?;
     } else {
-        print_items(out, "frozenset({", items, "})")?;
+        put(out, "frozenset(")?;
+        print_between(out, '{', items, '}')?;
+        put_char(out, ')')?;
     }
     Ok(())
 }
@@ -128,16 +150,19 @@ fn print_frozenset(out: &mut Text, items: &[Value]) -> Result<(), AllocError>
 fn print_pairs(out: &mut Text, pairs: &[(Value, Value)]) -> Result<(), AllocError>
     ensures { OnOk result (out.new ≡ out.old ++ between (codes "{") (shown_pairs [] (pair_views pairs.now)) (codes "}")) }
 {
-    put(out, "{")?;
-    let mut before = "";
+    put_char(out, '{')?;
+    let mut is_first = true;
     for pair in pairs {
-        put(out, before)?;
+        if !is_first {
+            put_comma(out)?;
+        }
         print(out, &pair.0)?;
-        put(out, ": ")?;
+        put_char(out, ':')?;
+        put_char(out, ' ')?;
         print(out, &pair.1)?;
-        before = ", ";
+        is_first = false;
     }
-    put(out, "}")?;
+    put_char(out, '}')?;
     Ok(())
 }
 

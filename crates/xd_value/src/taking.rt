@@ -36,11 +36,9 @@ fn values_from(alloc: Global, stack: &mut Vec<Slot>, at: usize) -> Result<Vec<Va
     ensures left { OnOk result (stack.new.items ≡ take_list at stack.old.items) }
 {
     let mut items = Vec::with_capacity(alloc, stack.len() - at)?;
-    while stack.len() > at {
-        let slot = stack.pop().unwrap();
+    for slot in stack.drain(at..) {
         items.push(slot.value)?;
     }
-    items.reverse();
     Ok(items)
 }
 

@@ -1,0 +1,338 @@
+-- The line of each report, and the block of each failed one, gives the id of its test.
+use Rattle.std.proofs.Common.{◌≡◌, ℕ, ◌+◌, ◌-◌, Bool, true, false, List, [], ◌∷◌, ◌++◌, filter, map, take, Option, Some, None, if◌then◌else◌, refl, sym, ◌∙◌, ap, subst, arith, append-nil, append_assoc}
+use Rattle.std.specs.Prelude.{codes, slice_index_or, sum}
+use Rattle.xd_edge.specs.declared.mode.ModeKind.{ModeKind}
+use Rattle.xd_ledger.specs.declared.entry.Entry.{Entry}
+use Rattle.xd_ledger.specs.declared.entry.Entry.TheVariants.{Ready, Collected, Done, Back, Finished, Refused, Down, NotStarted, Start, Run, RunAll, Steal, Shutdown, Kill, Over}
+use Rattle.xd_ledger.specs.declared.entry.Ids.{Ids}
+use Rattle.xd_ledger.specs.declared.entry.Outcome.{Outcome}
+use Rattle.xd_ledger.specs.declared.entry.Outcome.TheVariants.{Passed, Skipped, Failed}
+use Rattle.xd_ledger.specs.declared.entry.RunStop.{RunStop}
+use Rattle.xd_ledger.specs.declared.member.Listed.{Listed}
+use Rattle.xd_ledger.specs.declared.settings.Settings.{Settings}
+use Rattle.xd_ledger.specs.Books.{marked, on_table}
+use Rattle.xd_ledger.specs.Collections.{ids_of, key, listed, listed_in, lists_with, unequal, with_list}
+use Rattle.xd_ledger.specs.Numbers.{first_of}
+use Rattle.xd_ledger.specs.Plan.{base, is_each}
+use Rattle.xd_ledger.specs.Reports.{Report, Result, Crash, reports, reports_from, reports_of}
+use Rattle.xd_ledger.specs.Sharing.{State, ids_at, in_books, is_full, shared_now}
+use Rattle.xd_ledger.specs.State.{after_collected, all_moved, collecting, is_input, moved, next, no_one, reached, settled}
+use Rattle.xd_ledger.specs.Stops.{stopped_by}
+use Rattle.xd_ledger.specs.Table.{held, joined}
+use Rattle.xd_ledger.specs.Workers.{is_shut, made_collected, slot_of}
+use Rattle.xd_report.specs.Blocks.{block, block_of, blocks_from, crash_reason}
+use Rattle.xd_report.specs.EachReport.{Block, Line, Tests, Of, NodeDown, Replaces, HasNamedBlockEach, HasNamedLineEach, Names, NamesBlocks, id_in, is_failure, reports_told, text_of_line, text_of_report}
+use Rattle.xd_report.specs.Lines.{collected_line, crashed_line, last_of_slot, lines_from, lines_of, replacing, run_lines}
+use Rattle.xd_report.specs.Names.{cause_text}
+use Rattle.xd_report.specs.Tests.{id_of, item_id, mode_of, tests}
+use Rattle.xd_report.proofs.EachReport.{all_blocks, all_lines, collected-settings, join, join_blocks, next-settings}
+use Rattle.xd_report.proofs.Texts.{blocks-more, lines-more}
+
+-- lines with names, put together
+
+names-append : (name : Report → List ℕ) (xs ys : List Line) → Names name xs → Names name ys → Names name (xs ++ ys)
+names-append name [] ys n m = m
+names-append name (Of report id ∷ xs) ys n m = (n.0, names-append name xs ys n.1 m)
+names-append name (Tests k workers ∷ xs) ys n m = names-append name xs ys n m
+names-append name (NodeDown w why ∷ xs) ys n m = names-append name xs ys n m
+names-append name (Replaces old ∷ xs) ys n m = names-append name xs ys n m
+
+both : (name : Report → List ℕ) (mode : ModeKind) (a b : List ℕ) (rs ss : List Report) → HasNamedLineEach name mode a rs → HasNamedLineEach name mode b ss → HasNamedLineEach name mode (a ++ b) (rs ++ ss)
+both name mode a b rs ss x y = record {
+  each = join mode a b rs ss x.each y.each;
+  names = names-append name x.each.lines y.each.lines x.names y.names;
+}
+
+none : (name : Report → List ℕ) (mode : ModeKind) → HasNamedLineEach name mode [] []
+none name mode = record { each = record { lines = []; text_is = refl; each_once = refl }; names = tt }
+
+-- one line that is of no report, and one that is
+other : (name : Report → List ℕ) (mode : ModeKind) (l : Line) → reports_told (l ∷ []) ≡ [] → Names name (l ∷ []) → HasNamedLineEach name mode (text_of_line mode l) []
+other name mode l told names = record { each = record { lines = l ∷ []; text_is = sym (append-nil (text_of_line mode l)); each_once = told }; names = names }
+
+one : (name : Report → List ℕ) (mode : ModeKind) (report : Report) (id : List ℕ) → id ≡ name report → HasNamedLineEach name mode (text_of_line mode (Of report id)) (report ∷ [])
+one name mode report id right = record {
+  each = record { lines = Of report id ∷ []; text_is = sym (append-nil (text_of_line mode (Of report id))); each_once = refl };
+  names = (right, tt);
+}
+
+perhaps : (name : Report → List ℕ) (mode : ModeKind) (b : Bool) (n k : ℕ) → HasNamedLineEach name mode (if b then text_of_line mode (Tests n k) else []) []
+perhaps name mode true n k = other name mode (Tests n k) refl tt
+perhaps name mode false n k = none name mode
+
+replacing_named : (name : Report → List ℕ) (mode : ModeKind) (old : Option ℕ) → HasNamedLineEach name mode (replacing mode old) []
+replacing_named name mode None = none name mode
+replacing_named name mode (Some old) = other name mode (Replaces old) refl tt
+
+crash_named : (name : Report → List ℕ) (mode : ModeKind) (w : ℕ) (id : ℕ → List ℕ) (h : List ℕ) → ((item : ℕ) → id item ≡ name (Crash w item))
+    → HasNamedLineEach name mode (elim (first_of h) [ None ↦ [] | Some item ↦ crashed_line mode w (id item) ]) (map (λ item. Crash w item) (take 1 h))
+crash_named name mode w id [] right = none name mode
+crash_named name mode w id (x ∷ xs) right = one name mode (Crash w x) (id x) (right x)
+
+-- lines that are of no report
+unnamed : (name : Report → List ℕ) (ls : List Line) → reports_told ls ≡ [] → Names name ls
+unnamed name [] e = tt
+unnamed name (Of report id ∷ ls) e = absurd (cc)
+unnamed name (Tests k workers ∷ ls) e = unnamed name ls e
+unnamed name (NodeDown w why ∷ ls) e = unnamed name ls e
+unnamed name (Replaces old ∷ ls) e = unnamed name ls e
+
+-- a run whose first collection this is, in no mode each
+record Listing (settings : Settings) (first : Listed) (s : State) : Type 0 where
+  set : s.books.settings ≡ settings
+  planned : s.plan.mode ≡ settings.mode
+  first_is : listed_in 0 s.books.lists ≡ Some first
+
+module _ (settings : Settings) (first : Listed) (one_list : is_each settings.mode ≡ false) where
+  keeps-either : (b : Bool) (x y : State) → Listing settings first x → Listing settings first y → Listing settings first (if b then x else y)
+  keeps-either true x y l m = l
+  keeps-either false x y l m = m
+
+  settles : (s : State) (e : Entry) → Listing settings first s → Listing settings first (reached s e)
+  settles s e l = keeps-either (is_input e) (settled s) s (record { set = l.set; planned = l.planned; first_is = l.first_is }) l
+
+  key-zero : (w : ℕ) (s : State) → Listing settings first s → key w s.books ≡ 0
+  key-zero w s l = ap (λ (b : Bool). if b then slot_of w s.books else 0) (ap (λ (k : Settings). is_each k.mode) l.set ∙ one_list)
+
+  -- a later collection is none of those that are compared with
+  listed-more : (w : ℕ) (given : Ids) (s : State) → Listing settings first s → Listing settings first (in_books (λ b. marked (made_collected w) (with_list w given b)) s)
+  listed-more w given s l =
+      let stands : listed w s.books ≡ Some first = ap (λ (k : ℕ). listed_in k s.books.lists) (key-zero w s l) ∙ l.first_is in
+      record {
+        set = l.set;
+        planned = l.planned;
+        first_is = ap (λ (o : Option Listed). listed_in 0 (lists_with o (record { slot = key w s.books; worker = w; ids = ids_of given }) s.books.lists)) stands ∙ l.first_is;
+      }
+
+  collecting-keeps : (w : ℕ) (how : Option RunStop) (s : State) → Listing settings first s → Listing settings first (collecting w how s)
+  collecting-keeps w (Some how) s l =
+      keeps-either (is_shut w s.books) s (in_books (stopped_by (Some how)) s) l (record { set = l.set; planned = l.planned; first_is = l.first_is })
+  collecting-keeps w None s l =
+      let t = in_books (on_table (joined w)) s in
+      let there : Listing settings first t = record { set = l.set; planned = l.planned; first_is = l.first_is } in
+      keeps-either (is_shut w s.books) s (if is_full t.books then shared_now t else t) l
+      (keeps-either (is_full t.books) (shared_now t) t (record { set = l.set; planned = l.planned; first_is = l.first_is }) there)
+
+  moves : (s : State) (e : Entry) → Listing settings first s → Listing settings first (moved s e)
+  moves s (Collected w given) l =
+      collecting-keeps w (unequal w given (listed w s.books)) (in_books (λ b. marked (made_collected w) (with_list w given b)) s) (listed-more w given s l)
+  moves s (Done w i outcome ms out) l = record { set = l.set; planned = l.planned; first_is = l.first_is }
+  moves s (Down w cause out) l = record { set = l.set; planned = l.planned; first_is = l.first_is }
+  moves s (Ready w) l = record { set = l.set; planned = l.planned; first_is = l.first_is }
+  moves s (Back w is) l = record { set = l.set; planned = l.planned; first_is = l.first_is }
+  moves s (Finished w) l = record { set = l.set; planned = l.planned; first_is = l.first_is }
+  moves s (Refused w text) l = record { set = l.set; planned = l.planned; first_is = l.first_is }
+  moves s (NotStarted w) l = record { set = l.set; planned = l.planned; first_is = l.first_is }
+  moves s (Start w slot) l = record { set = l.set; planned = l.planned; first_is = l.first_is }
+  moves s (Run w is) l = record { set = l.set; planned = l.planned; first_is = l.first_is }
+  moves s (RunAll w) l = record { set = l.set; planned = l.planned; first_is = l.first_is }
+  moves s (Steal w is) l = record { set = l.set; planned = l.planned; first_is = l.first_is }
+  moves s (Shutdown w) l = record { set = l.set; planned = l.planned; first_is = l.first_is }
+  moves s (Kill w) l = l
+  moves s (Over how) l = l
+
+  -- the id of a test by its number in a collection, and by its item
+  id-right : (w i : ℕ) (s : State) → Listing settings first s → id_of w i s ≡ slice_index_or first.ids i []
+  id-right w i s l =
+      ap (λ (k : ℕ). slice_index_or (ids_at k s.books.lists) i []) (key-zero w s l)
+      ∙ ap (λ (o : Option Listed). slice_index_or (elim o [ None ↦ [] | Some x ↦ x.ids ]) i []) l.first_is
+
+  no-base : (s : State) → Listing settings first s → is_each s.plan.mode ≡ false
+  no-base s l = ap is_each l.planned ∙ one_list
+
+  item-right : (w item : ℕ) (s : State) → Listing settings first s → item_id w item s ≡ slice_index_or first.ids item []
+  item-right w item s l =
+      let at : item - base (slot_of w s.books) s.plan ≡ item =
+      ap (λ (b : Bool). item - (if b then sum (take (slot_of w s.books) s.plan.sizes) else 0)) (no-base s l) ∙ omega arith in
+      ap (λ (i : ℕ). id_of w i s) at ∙ id-right w item s l
+
+  done-one : (w i : ℕ) (outcome : Outcome) (ms : ℕ) (out : List ℕ) (s : State) → Listing settings first s → reports_of s (Done w i outcome ms out) ≡ Result w i outcome ∷ []
+  done-one w i outcome ms out s l =
+      ap (λ (b : Bool). map (λ item. Result w item outcome) (if b then map (λ x. base (slot_of w s.books) s.plan + x) (i ∷ []) else (i ∷ []))) (no-base s l)
+
+  abbrev name : Report → List ℕ
+  name = id_in first.ids
+
+  entry_named : (s : State) (e : Entry) → Listing settings first s → HasNamedLineEach name (mode_of s) (lines_of s e) (reports_of s e)
+  entry_named s (Collected w given) l =
+      let t = after_collected w given s in
+      subst (λ (k : Settings). HasNamedLineEach name k.mode (collected_line s.books.shared t) []) (collected-settings w given s) (perhaps name (mode_of t) _ (tests t) t.books.settings.workers)
+  entry_named s (Done w i outcome ms out) l =
+      subst (λ (rs : List Report). HasNamedLineEach name (mode_of s) (lines_of s (Done w i outcome ms out)) rs) (sym (done-one w i outcome ms out s l))
+      (one name (mode_of s) (Result w i outcome) (id_of w i s) (id-right w i s l))
+  entry_named s (Down w cause out) l =
+      both name (mode_of s) _ _ [] _ (other name (mode_of s) (NodeDown w (cause_text cause)) refl tt)
+      (crash_named name (mode_of s) w (λ item. item_id w item s) (held w s.books.table) (λ item. item-right w item s l))
+  entry_named s (NotStarted w) l = other name (mode_of s) (NodeDown w (codes "not started")) refl tt
+  entry_named s (Start w slot) l = replacing_named name (mode_of s) (last_of_slot slot s.books.crew None)
+  entry_named s (Ready w) l = none name (mode_of s)
+  entry_named s (Back w is) l = none name (mode_of s)
+  entry_named s (Finished w) l = none name (mode_of s)
+  entry_named s (Refused w text) l = none name (mode_of s)
+  entry_named s (Run w is) l = none name (mode_of s)
+  entry_named s (RunAll w) l = none name (mode_of s)
+  entry_named s (Steal w is) l = none name (mode_of s)
+  entry_named s (Shutdown w) l = none name (mode_of s)
+  entry_named s (Kill w) l = none name (mode_of s)
+  entry_named s (Over how) l = none name (mode_of s)
+
+  all_named : (s : State) (es : List Entry) → Listing settings first s → HasNamedLineEach name settings.mode (lines_from s es) (reports_from s es)
+  all_named s [] l = none name settings.mode
+  all_named s (e ∷ es) l =
+      let t = reached s e in
+      let there = settles s e l in
+      both name settings.mode (lines_of t e) (lines_from (next s e) es) (reports_of t e) (reports_from (next s e) es)
+      (subst (λ (k : Settings). HasNamedLineEach name k.mode (lines_of t e) (reports_of t e)) there.set (entry_named t e there))
+      (all_named (next s e) es (moves t e there))
+
+-- blocks
+
+blocks-append : (name : Report → List ℕ) (xs ys : List Block) → NamesBlocks name xs → NamesBlocks name ys → NamesBlocks name (xs ++ ys)
+blocks-append name [] ys n m = m
+blocks-append name (x ∷ xs) ys n m = (n.0, blocks-append name xs ys n.1 m)
+
+both_blocks : (name : Report → List ℕ) (mode : ModeKind) (a b : List ℕ) (rs ss : List Report) → HasNamedBlockEach name mode a rs → HasNamedBlockEach name mode b ss → HasNamedBlockEach name mode (a ++ b) (rs ++ ss)
+both_blocks name mode a b rs ss x y = record {
+  each = join_blocks mode a b rs ss x.each y.each;
+  names = blocks-append name x.each.blocks y.each.blocks x.names y.names;
+}
+
+no_block : (name : Report → List ℕ) (mode : ModeKind) (rs : List Report) → filter is_failure rs ≡ [] → HasNamedBlockEach name mode [] rs
+no_block name mode rs no_failure = record { each = record { blocks = []; text_is = refl; each_once = sym no_failure }; names = tt }
+
+one_block : (name : Report → List ℕ) (mode : ModeKind) (report : Report) (id output : List ℕ) → is_failure report ≡ true → id ≡ name report → HasNamedBlockEach name mode (text_of_report mode report id output) (report ∷ [])
+one_block name mode report id output fails right = record {
+  each = record {
+    blocks = record { report = report; id = id; output = output } ∷ [];
+    text_is = sym (append-nil (text_of_report mode report id output));
+    each_once = ap (λ (b : Bool). if b then (report ∷ []) else []) (sym fails);
+  };
+  names = (right, tt);
+}
+
+crash_block : (name : Report → List ℕ) (mode : ModeKind) (w : ℕ) (id : ℕ → List ℕ) (output h : List ℕ) → ((item : ℕ) → id item ≡ name (Crash w item))
+    → HasNamedBlockEach name mode (elim (first_of h) [ None ↦ [] | Some item ↦ block mode w (id item) (crash_reason mode w (id item)) output ]) (map (λ item. Crash w item) (take 1 h))
+crash_block name mode w id output [] right = no_block name mode [] refl
+crash_block name mode w id output (x ∷ xs) right = one_block name mode (Crash w x) (id x) output refl (right x)
+
+module _ (settings : Settings) (first : Listed) (one_list : is_each settings.mode ≡ false) where
+  abbrev name_in : Report → List ℕ
+  name_in = id_in first.ids
+
+  entry_block : (s : State) (e : Entry) → Listing settings first s → HasNamedBlockEach name_in (mode_of s) (block_of s e) (reports_of s e)
+  entry_block s (Done w i Passed ms out) l =
+      no_block name_in (mode_of s) (reports_of s (Done w i Passed ms out)) (ap (filter is_failure) (done-one settings first one_list w i Passed ms out s l))
+  entry_block s (Done w i Skipped ms out) l =
+      no_block name_in (mode_of s) (reports_of s (Done w i Skipped ms out)) (ap (filter is_failure) (done-one settings first one_list w i Skipped ms out s l))
+  entry_block s (Done w i (Failed code) ms out) l =
+      subst (λ (rs : List Report). HasNamedBlockEach name_in (mode_of s) (block_of s (Done w i (Failed code) ms out)) rs) (sym (done-one settings first one_list w i (Failed code) ms out s l))
+      (one_block name_in (mode_of s) (Result w i (Failed code)) (id_of w i s) out refl (id-right settings first one_list w i s l))
+  entry_block s (Down w cause out) l =
+      crash_block name_in (mode_of s) w (λ item. item_id w item s) out (held w s.books.table) (λ item. item-right settings first one_list w item s l)
+  entry_block s (Collected w given) l = no_block name_in (mode_of s) [] refl
+  entry_block s (NotStarted w) l = no_block name_in (mode_of s) [] refl
+  entry_block s (Start w slot) l = no_block name_in (mode_of s) [] refl
+  entry_block s (Ready w) l = no_block name_in (mode_of s) [] refl
+  entry_block s (Back w is) l = no_block name_in (mode_of s) [] refl
+  entry_block s (Finished w) l = no_block name_in (mode_of s) [] refl
+  entry_block s (Refused w text) l = no_block name_in (mode_of s) [] refl
+  entry_block s (Run w is) l = no_block name_in (mode_of s) [] refl
+  entry_block s (RunAll w) l = no_block name_in (mode_of s) [] refl
+  entry_block s (Steal w is) l = no_block name_in (mode_of s) [] refl
+  entry_block s (Shutdown w) l = no_block name_in (mode_of s) [] refl
+  entry_block s (Kill w) l = no_block name_in (mode_of s) [] refl
+  entry_block s (Over how) l = no_block name_in (mode_of s) [] refl
+
+  all_blocks_named : (s : State) (es : List Entry) → Listing settings first s → HasNamedBlockEach name_in settings.mode (blocks_from s es) (reports_from s es)
+  all_blocks_named s [] l = no_block name_in settings.mode [] refl
+  all_blocks_named s (e ∷ es) l =
+      let t = reached s e in
+      let there = settles settings first one_list s e l in
+      both_blocks name_in settings.mode (block_of t e) (blocks_from (next s e) es) (reports_of t e) (reports_from (next s e) es)
+      (subst (λ (k : Settings). HasNamedBlockEach name_in k.mode (block_of t e) (reports_of t e)) there.set (entry_block t e there))
+      (all_blocks_named (next s e) es (moves settings first one_list t e there))
+
+-- where no report is, no block is
+no-names : (name : Report → List ℕ) (bs : List Block) → map (λ b. b.report) bs ≡ [] → NamesBlocks name bs
+no-names name [] e = tt
+no-names name (b ∷ bs) e = absurd (cc)
+
+reports-more : (s : State) (es more : List Entry) → reports_from s (es ++ more) ≡ reports_from s es ++ reports_from (all_moved s es) more
+reports-more s [] more = refl
+reports-more s (e ∷ es) more =
+    ap (λ (rs : List Report). reports_of (reached s e) e ++ rs) (reports-more (next s e) es more)
+    ∙ sym (append_assoc (reports_of (reached s e) e) (reports_from (next s e) es) (reports_from (all_moved (next s e) es) more))
+
+-- the mode of the plan stays
+
+plan-either : (b : Bool) (x y : State) (m : ModeKind) → x.plan.mode ≡ m → y.plan.mode ≡ m → (if b then x else y).plan.mode ≡ m
+plan-either true x y m first second = first
+plan-either false x y m first second = second
+
+collecting-plan : (w : ℕ) (how : Option RunStop) (s : State) → (collecting w how s).plan.mode ≡ s.plan.mode
+collecting-plan w (Some how) s = plan-either (is_shut w s.books) s (in_books (stopped_by (Some how)) s) s.plan.mode refl refl
+collecting-plan w None s =
+    let t = in_books (on_table (joined w)) s in
+    plan-either (is_shut w s.books) s (if is_full t.books then shared_now t else t) s.plan.mode refl (plan-either (is_full t.books) (shared_now t) t s.plan.mode refl refl)
+
+moved-plan : (s : State) (e : Entry) → (moved s e).plan.mode ≡ s.plan.mode
+moved-plan s (Collected w given) = collecting-plan w (unequal w given (listed w s.books)) (in_books (λ b. marked (made_collected w) (with_list w given b)) s)
+moved-plan s (Done w i outcome ms out) = refl
+moved-plan s (Down w cause out) = refl
+moved-plan s (Ready w) = refl
+moved-plan s (Back w is) = refl
+moved-plan s (Finished w) = refl
+moved-plan s (Refused w text) = refl
+moved-plan s (NotStarted w) = refl
+moved-plan s (Start w slot) = refl
+moved-plan s (Run w is) = refl
+moved-plan s (RunAll w) = refl
+moved-plan s (Steal w is) = refl
+moved-plan s (Shutdown w) = refl
+moved-plan s (Kill w) = refl
+moved-plan s (Over how) = refl
+
+plan-kept : (s : State) (es : List Entry) → (all_moved s es).plan.mode ≡ s.plan.mode
+plan-kept s [] = refl
+plan-kept s (e ∷ es) =
+    plan-kept (next s e) es ∙ moved-plan (reached s e) e ∙ plan-either (is_input e) (settled s) s s.plan.mode refl refl
+
+settings-kept : (s : State) (es : List Entry) → (all_moved s es).books.settings ≡ s.books.settings
+settings-kept s [] = refl
+settings-kept s (e ∷ es) = settings-kept (next s e) es ∙ next-settings s e
+
+-- the state behind the first collection
+behind : (settings : Settings) (before : List Entry) (first : Listed) → listed_in 0 (all_moved (no_one settings) before).books.lists ≡ Some first → Listing settings first (all_moved (no_one settings) before)
+behind settings before first first_is = record {
+  set = settings-kept (no_one settings) before;
+  planned = plan-kept (no_one settings) before;
+  first_is = first_is;
+}
+
+pub lines-named : (settings : Settings) (before more : List Entry) (first : Listed) → is_each settings.mode ≡ false → reports settings before ≡ []
+    → listed_in 0 (all_moved (no_one settings) before).books.lists ≡ Some first
+    → HasNamedLineEach (id_in first.ids) settings.mode (run_lines settings (before ++ more)) (reports settings (before ++ more))
+lines-named settings before more first one_list no_report first_is =
+    let s = all_moved (no_one settings) before in
+    let l = behind settings before first first_is in
+    let ahead = all_lines (no_one settings) before in
+    let x : HasNamedLineEach (id_in first.ids) settings.mode (run_lines settings before) (reports settings before) =
+    record { each = ahead; names = unnamed (id_in first.ids) ahead.lines (ahead.each_once ∙ no_report) } in
+    let y = all_named settings first one_list s more l in
+    let joined_up = both (id_in first.ids) settings.mode (run_lines settings before) (lines_from s more) (reports settings before) (reports_from s more) x y in
+    subst (λ (text : List ℕ). HasNamedLineEach (id_in first.ids) settings.mode text (reports settings (before ++ more))) (sym (lines-more (no_one settings) before more))
+    (subst (λ (rs : List Report). HasNamedLineEach (id_in first.ids) settings.mode (run_lines settings before ++ lines_from s more) rs) (sym (reports-more (no_one settings) before more)) joined_up)
+
+pub blocks-named : (settings : Settings) (before more : List Entry) (first : Listed) → is_each settings.mode ≡ false → reports settings before ≡ []
+    → listed_in 0 (all_moved (no_one settings) before).books.lists ≡ Some first
+    → HasNamedBlockEach (id_in first.ids) settings.mode (blocks_from (no_one settings) (before ++ more)) (reports settings (before ++ more))
+blocks-named settings before more first one_list no_report first_is =
+    let s = all_moved (no_one settings) before in
+    let l = behind settings before first first_is in
+    let ahead = all_blocks (no_one settings) before in
+    let x : HasNamedBlockEach (id_in first.ids) settings.mode (blocks_from (no_one settings) before) (reports settings before) =
+    record { each = ahead; names = no-names (id_in first.ids) ahead.blocks (ahead.each_once ∙ ap (filter is_failure) no_report) } in
+    let y = all_blocks_named settings first one_list s more l in
+    let joined_up = both_blocks (id_in first.ids) settings.mode (blocks_from (no_one settings) before) (blocks_from s more) (reports settings before) (reports_from s more) x y in
+    subst (λ (text : List ℕ). HasNamedBlockEach (id_in first.ids) settings.mode text (reports settings (before ++ more))) (sym (blocks-more (no_one settings) before more))
+    (subst (λ (rs : List Report). HasNamedBlockEach (id_in first.ids) settings.mode (blocks_from (no_one settings) before ++ blocks_from s more) rs) (sym (reports-more (no_one settings) before more)) joined_up)
