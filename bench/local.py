@@ -95,16 +95,6 @@ def suite_of(folder, tests):
     return path
 
 
-def c_loop(folder):
-    """The path of the loop in C, or None where there is no compiler."""
-    if shutil.which("cc") is None:
-        return None
-    source, loop = os.path.join(folder, "loop.c"), os.path.join(folder, "loop")
-    shared.write(source, C_LOOP)
-    subprocess.run(["cc", "-O2", "-o", loop, source], check=True)
-    return loop
-
-
 def gnu_parallel():
     path = shutil.which("parallel")
     if path is None:
@@ -133,7 +123,7 @@ OURS, IN_C = "xdrun", "a loop in C"
 def measure(program):
     rows, cost = [], {}
     with tempfile.TemporaryDirectory() as folder:
-        loop = c_loop(folder)
+        loop = shared.in_c(folder, "loop", C_LOOP)
         for tests in (FEW, MANY):
             what = f"`-n 0`, {tests:,} tests of `true`"
             commands = {OURS: ([program, suite_of(folder, tests), "-n", "0"], None)}

@@ -81,6 +81,16 @@ def python_with(module):
     return None
 
 
+def in_c(folder, name, source):
+    """The path of a program in C, or None where there is no compiler."""
+    if shutil.which("cc") is None:
+        return None
+    file, path = os.path.join(folder, f"{name}.c"), os.path.join(folder, name)
+    write(file, source)
+    subprocess.run(["cc", "-O2", "-o", path, file], check=True)
+    return path
+
+
 def build(folder, name, source, crates, answers=None):
     """Builds a small program over crates of the repository, in a temporary copy of it, as rt run builds it, and gives its
     path. `crates` is its line of crates.txt behind its name; `answers` has the proofs of functions that need some."""

@@ -5,7 +5,10 @@ Usage: bench/value.py   from any folder. It builds a small program over xd_value
 builds it, and prints times, ratios and peak memory. Where execnet is not installed (python3-execnet on Debian) its part is skipped
 with a word.
 
-Both sides are measured alike: each run is a process of its own that first reads the payload from a file, and then times one
+Beside it stands a program in C that makes the same value in memory and checks nothing: no program can be faster that gives
+such a value by the system's allocator, so the ratio to it says what is left to gain.
+
+All sides are measured alike: each run is a process of its own that first reads the payload from a file, and then times one
 call of loads and one call of dumps of what it gave; neither the start of the process, nor the reading of the file, nor the
 end of the value counts. The runs alternate, and the best of each side counts.
 """
@@ -70,6 +73,109 @@ dumps_internal(value)
 print((middle - begun) * 1e6, (time.perf_counter() - middle) * 1e6)
 """
 
+# The same value in memory as `loads` gives: 32 bytes a value, 64 bytes a pair of a dict, and each text, each bytes and each
+# list in a piece of its own. It checks nothing, and reads only the opcodes of the mixed values. So it says how much of the
+# time is for the memory of the value, whoever fills it.
+SAME_IN_C = r"""
+#include <stdint.h>
+#include <stdio.h>
+#include <stdlib.h>
+#include <string.h>
+#include <time.h>
+
+typedef struct { void *at; size_t room, length; } Items;
+typedef struct { uint64_t tag; union { Items items; struct { uint64_t unused, low, high; } integer; }; } Value;
+
+enum { NONE, TRUE, INTEGER, WORDS, TUPLE, LIST, DICT };
+
+static uint32_t number(const unsigned char *from) {
+    return (uint32_t)from[0] << 24 | (uint32_t)from[1] << 16 | (uint32_t)from[2] << 8 | from[3];
+}
+
+static Value *stack;
+static size_t room, depth;
+
+static Value *pushed(uint64_t tag) {
+    if (depth == room) {
+        room = room ? 2 * room : 64;
+        stack = realloc(stack, room * sizeof *stack);
+    }
+    Value *value = &stack[depth++];
+    value->tag = tag;
+    value->items = (Items){0, 0, 0};
+    return value;
+}
+
+static void put(void) {
+    Value *target = &stack[depth - 3];
+    Items *items = &target->items;
+    size_t size = target->tag == DICT ? 2 : 1;
+    if (items->length == items->room) {
+        items->room = items->room ? 2 * items->room : 4;
+        items->at = realloc(items->at, items->room * size * sizeof(Value));
+    }
+    memcpy((Value *)items->at + items->length++ * size, &stack[depth - size], size * sizeof(Value));
+    depth -= 2;
+}
+
+static void run(const unsigned char *at) {
+    for (;;) {
+        unsigned char opcode = *at++;
+        switch (opcode) {
+        case 'K': pushed(LIST); at += 4; break;
+        case 'J': pushed(DICT); break;
+        case 'L': pushed(NONE); break;
+        case 'R': pushed(TRUE); break;
+        case 'P': put(); break;
+        case 'Q': return;
+        case 'F': {
+            int64_t n = (int32_t)number(at);
+            Value *value = pushed(INTEGER);
+            value->integer.low = n;
+            value->integer.high = n >> 63;
+            at += 4;
+            break;
+        }
+        case 'A':
+        case 'N': {
+            uint32_t length = number(at);
+            Items *items = &pushed(WORDS)->items;
+            *items = (Items){length ? malloc(length) : 0, length, length};
+            memcpy(items->at, at + 4, length);
+            at += 4 + length;
+            break;
+        }
+        case '@': {
+            uint32_t length = number(at);
+            Value *parts = malloc(length * sizeof *parts);
+            depth -= length;
+            memcpy(parts, &stack[depth], length * sizeof *parts);
+            pushed(TUPLE)->items = (Items){parts, length, length};
+            at += 4;
+            break;
+        }
+        default: exit(1);
+        }
+    }
+}
+
+int main(int argc, char **argv) {
+    FILE *file = fopen(argv[1], "rb");
+    fseek(file, 0, SEEK_END);
+    size_t length = ftell(file);
+    rewind(file);
+    unsigned char *payload = malloc(length);
+    if (fread(payload, 1, length, file) != length) return 1;
+    struct timespec begun, ended;
+    clock_gettime(CLOCK_MONOTONIC, &begun);
+    run(payload);
+    clock_gettime(CLOCK_MONOTONIC, &ended);
+    printf("%.0f\n", (ended.tv_sec - begun.tv_sec) * 1e6 + (ended.tv_nsec - begun.tv_nsec) / 1e3);
+    return 0;
+}
+"""
+
+
 def number(n):
     return struct.pack("!I", n)
 
@@ -132,6 +238,11 @@ def theirs(python, path):
     return tuple(map(float, done.stdout.split()))
 
 
+def in_c(program, path):
+    """The microseconds in which the program in C makes the same value."""
+    return float(subprocess.run([program, path], capture_output=True, text=True, check=True).stdout)
+
+
 def best(runs):
     """The least of each number over the runs; a number that a run lacks is lacking."""
     return [None if None in column else min(column) for column in zip(*runs)]
@@ -148,10 +259,11 @@ MIXED, FEW, MANY, _, NESTED = (name for name, _ in CASES)
 
 
 def measure(_):
-    took, peaks, sizes, compared = {}, {}, {}, []
+    took, peaks, sizes, compared, bare = {}, {}, {}, [], []
     python = shared.python_with("execnet")
     with tempfile.TemporaryDirectory() as folder:
         program = shared.build(folder, "value_bench", PROGRAM, ": xd_value xd_edge")
+        same = shared.in_c(folder, "same_value", SAME_IN_C)
         path = os.path.join(folder, "payload")
         for name, make in CASES:
             payload = make()
@@ -162,6 +274,8 @@ def measure(_):
                 runs.append(ours(program, path))
                 if name == MIXED and python is not None:
                     compared.append(theirs(python, path))
+                if name == MIXED and same is not None:
+                    bare.append(in_c(same, path))
             loads, dumps, _ = best(runs)
             peak = max(run[2] for run in runs)
             took[name], peaks[name], sizes[name] = (loads, dumps), peak, len(payload)
@@ -175,6 +289,13 @@ def measure(_):
         (read, written), (loads, dumps) = best(compared), took[MIXED]
         rows.append(shared.at_least(f"reading {MIXED}", "execnet's `loads`", read / loads, 20))
         rows.append(shared.at_least(f"writing {MIXED}", "execnet's `dumps`", written / dumps, 20))
+    what, beside = f"reading {MIXED}", "a program in C that fills the same memory and checks nothing"
+    if same is None:
+        rows.append(shared.skipped(what, beside, "there is no compiler of C"))
+    else:
+        rows.append(shared.Row(what, beside, took[MIXED][0] / min(bare)))
+        if python is not None:
+            rows.append(shared.Row(f"that program in C on {MIXED}", "execnet's `loads`", read / min(bare), "times as fast"))
     rows.append(shared.at_most(f"reading {MANY}", FEW, took[MANY][0] / took[FEW][0], 25))
     # What the program takes anyhow is what it takes for the smallest payload.
     peak = max((peaks[name] - peaks[NESTED]) / sizes[name] for name in peaks if name != NESTED)

@@ -7,7 +7,8 @@ It writes a file of small messages, one of collections of 50,000 test ids, one o
 60 MiB each, and measures MB a second by the clock and by the processor's time (user and system), and peak memory, each
 the best of some runs with the output thrown away. The ratios are of the processor's time, which tells something on a
 busy machine, too. Of execnet there are two loops: one reads each message and decodes its payload, and one prints its line as well,
-as `wire` does, with the value in Python's own notation. Goals: at least 30 times the speed of the loop that prints, and a
+as `wire` does, with the value in Python's own notation. A program in C that only reads the file whole says what no program
+can be faster than that reads it so. Goals: at least 30 times the speed of the loop that prints, and a
 peak of at most the file and a few messages. Where execnet is not installed (python3-execnet on Debian) its part is
 skipped with a word.
 """
@@ -51,6 +52,29 @@ while stream.tell() < size:
     else:
         write(f"{name} {message.channelid} {len(data)}\\n")
 """
+
+# A program that only reads the file whole, as `wire` has to, since it refuses one that is too large before it prints a line.
+WHOLE_IN_C = r"""
+#include <fcntl.h>
+#include <stdlib.h>
+#include <sys/stat.h>
+#include <unistd.h>
+
+int main(int argc, char **argv) {
+    int file = open(argv[1], O_RDONLY);
+    struct stat about;
+    if (file < 0 || fstat(file, &about)) return 1;
+    char *bytes = malloc(about.st_size);
+    off_t taken = 0;
+    while (taken < about.st_size) {
+        ssize_t more = read(file, bytes + taken, about.st_size - taken);
+        if (more <= 0) return 1;
+        taken += more;
+    }
+    return 0;
+}
+"""
+
 
 def number(n):
     return struct.pack("!i", n)
@@ -131,6 +155,7 @@ def measure(program):
     rows = []
     python = shared.python_with("execnet.gateway_base")
     with tempfile.TemporaryDirectory() as folder:
+        whole = shared.in_c(folder, "whole", WHOLE_IN_C)
         for name in FILES:
             path = os.path.join(folder, "messages")
             # A process of its own makes the file, because a child's peak counts that of its parent.
@@ -138,6 +163,8 @@ def measure(program):
             megabytes = os.path.getsize(path) / 1e6
             shared.note(f"{name}, {megabytes:.0f} MB")
             runs = [("cat", ["cat", path]), ("xdrun wire", [program, "wire", path])]
+            if whole is not None:
+                runs.append(("reading it whole", [whole, path]))
             if python is not None:
                 runs.append(("execnet reads", [python, "-c", EXECNET_READS, path]))
                 runs.append(("execnet prints", [python, "-c", EXECNET_PRINTS, path]))
@@ -165,6 +192,9 @@ def rows_of(name, megabytes, times):
             rows.append(shared.at_least(what, beside, theirs[1] / ours[1], 30))
         else:
             rows.append(shared.Row(what, beside, theirs[1] / ours[1], "times as fast"))
+    read, printed = times.get("reading it whole"), times.get("execnet prints")
+    if read is not None and printed is not None:
+        rows.append(shared.Row(f"a program in C that only reads the {name} whole", "a loop that prints them by execnet", printed[1] / read[1], "times as fast"))
     if ours is not None:
         rows.append(shared.Row(f"peak memory of {what}", "the file", ours[2] * 1024 * 1024 / 1e6 / megabytes, "times", "the file and a few messages"))
     return rows

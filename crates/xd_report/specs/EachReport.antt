@@ -3,10 +3,12 @@
 use Rattle.std.specs.Prelude.{ℕ, ◌≡◌, ◌+◌, Bool, true, false, List, [], ◌∷◌, ◌++◌, length, map, filter, slice_index_or, Some}
 use Rattle.xd_edge.specs.declared.mode.ModeKind.{ModeKind}
 use Rattle.xd_ledger.specs.declared.entry.Outcome.TheVariants.{Passed, Skipped, Failed}
-use Rattle.xd_ledger.specs.Reports.{Report, Result, Crash, item_of}
+use Rattle.xd_ledger.specs.declared.journal.Journal.{Journal}
+use Rattle.xd_ledger.specs.Reports.{Report, Result, Crash, collected_in, item_of, reports_in}
+use Rattle.xd_ledger.specs.State.{no_one}
 use Rattle.xd_report.specs.declared.counts.Counts.{Counts}
-use Rattle.xd_report.specs.Blocks.{block, crash_reason, reason_of}
-use Rattle.xd_report.specs.Lines.{tests_line, result_line, crashed_line, down_line, replacing}
+use Rattle.xd_report.specs.Blocks.{block, blocks_from, crash_reason, reason_of}
+use Rattle.xd_report.specs.Lines.{tests_line, result_line, crashed_line, down_line, replacing, run_lines}
 
 -- what a line tells: how many tests there are on how many workers, how a test went, that a worker went down, or whom a
 -- new worker replaces
@@ -109,6 +111,12 @@ NamesBlocks name (b ∷ bs) = (b.id ≡ name b.report) × NamesBlocks name bs
 pub record HasNamedBlockEach (name : Report → List ℕ) (mode : ModeKind) (text : List ℕ) (rs : List Report) : Type 0 where
   pub each : HasBlockEach mode text rs
   pub names : NamesBlocks name each.blocks
+
+-- In the text of this journal the line of each report, and the block of each failed one, gives the id of its test among
+-- those that were collected.
+pub record NamesTests (j : Journal) : Type 0 where
+  pub lines : HasNamedLineEach (id_in (collected_in j)) j.settings.mode (run_lines j.settings j.entries.items) (reports_in j)
+  pub blocks : HasNamedBlockEach (id_in (collected_in j)) j.settings.mode (blocks_from (no_one j.settings) j.entries.items) (reports_in j)
 
 -- The counts are how many of these reports are of each kind, and each report is of one.
 pub record Counted (n : Counts) (rs : List Report) : Type 0 where

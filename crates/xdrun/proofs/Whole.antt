@@ -22,7 +22,11 @@ use Rattle.xd_ledger.specs.Stops.{is_stopped}
 use Rattle.xd_ledger.specs.Ending.{over_in, stop_of}
 use Rattle.xd_ledger.specs.Histories.{end_of}
 use Rattle.xd_ledger.specs.State.{next, no_one, state_at}
+use Rattle.xd_report.specs.Blocks.{blocks_from}
+use Rattle.xd_report.specs.EachReport.{HasNamedBlockEach, HasNamedLineEach, NamesTests, id_in}
+use Rattle.xd_report.specs.Lines.{run_lines}
 use Rattle.xd_report.specs.Text.{run_text, text_of}
+use Rattle.xd_report.proofs.Named.{blocks-named, lines-named}
 use Rattle.xd_report.proofs.Texts.{over-same}
 use Rattle.xdrun.specs.Child.{faults_of}
 use Rattle.xdrun.proofs.Alone.{eq_same, faults-alone, items-alone, length-alone, lists-rounds, reports-rounds, reports_alone, unstopped-rounds}
@@ -123,6 +127,31 @@ module _ (tests : List Test) (j0 j1 : Journal) (shown : Bool) (runs0 runs1 : Opt
       by_end : stop_of j1 ≡ Completed → (b : Bool) → shown ≡ b → length (reports_in j1) ≡ length (collected_in j1)
       by_end completed true is_shown = omega (arith, e.ran.all is_shown, reports_count, ap length collected_are, length-map tests (λ (t : Test). t.id))
       by_end completed false is_shown = let no : OutFault ≡ Completed = sym (stop_is ∙ ap stop_after is_shown) ∙ completed in absurd (cc)
+
+  -- the collection of such a run
+  abbrev first : Entry
+  first = Collected 0 (Listed ids)
+
+  abbrev rest : List Entry
+  rest = rounds 0 e.ran.results ++ Over how ∷ []
+
+  pub names : NamesTests j1
+  names = record {
+    lines = stands Lines (lines-named local_settings (first ∷ []) rest (record { slot = 0; worker = 0; ids = ids }) refl refl refl);
+    blocks = stands Blocks (blocks-named local_settings (first ∷ []) rest (record { slot = 0; worker = 0; ids = ids }) refl refl refl);
+  }
+    where
+      Lines : Settings → List Entry → List (List ℕ) → Type 0
+      Lines st es collected = HasNamedLineEach (id_in collected) st.mode (run_lines st es) (reports st es)
+
+      Blocks : Settings → List Entry → List (List ℕ) → Type 0
+      Blocks st es collected = HasNamedBlockEach (id_in collected) st.mode (blocks_from (no_one st) es) (reports st es)
+
+      stands : (T : Settings → List Entry → List (List ℕ) → Type 0) → T local_settings (first ∷ rest) ids → T j1.settings j1.entries.items (collected_in j1)
+      stands T x =
+          subst (λ (c : List (List ℕ)). T j1.settings j1.entries.items c) (sym collected_are)
+          (subst (λ (es : List Entry). T j1.settings es ids) (sym entries_are)
+          (subst (λ (st : Settings). T st (first ∷ rest) ids) (sym settings_are) x))
 
   pub child_faults : RoseBy (faults_of (reports_in j1)) faults0 faults1
   child_faults = subst (λ n. RoseBy n faults0 faults1) (sym (ap faults_of reports_are ∙ faults-alone 0 e.ran.results)) e.ran.so_far.faults

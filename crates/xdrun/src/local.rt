@@ -11,6 +11,7 @@ ghost use Rattle.xd_ledger.specs.Reports.{NamesInOrder, reports_in};
 ghost use Rattle.xd_ledger.specs.Ending.{stop_of};
 ghost use Rattle.xd_ledger.specs.Sharing.{State};
 ghost use Rattle.xd_ledger.specs.State.{all_moved};
+ghost use Rattle.xd_report.specs.EachReport.{NamesTests};
 ghost use Rattle.xd_report.specs.Follows.{Follows};
 ghost use Rattle.xd_report.specs.Lines.{lines_from};
 ghost use Rattle.xd_report.specs.Text.{tail_text};
@@ -46,6 +47,7 @@ pub fn run_suite<R: Wait, K: Children, T: Clock, O: Sink>(
     ensures settings { IfOk result (λ j. j.settings ≡ local_settings) }
     ensures suite { IfOk result (λ j. RunsSuite suite.now j (K.runs children.old) (K.runs children.new)) }
     ensures once { IfOk result NamesInOrder }
+    ensures names { IfOk result NamesTests }
     ensures printed { IfOk result (λ j. PrintsReport (stop_of j) j (O.sunk out.old) (O.sunk out.new)) }
     ensures out_fault { IfOk result (λ j. stop_of j ≡ OutFault → Rose (O.faults out.old) (O.faults out.new)) }
     ensures still { IfOk result (λ j. stop_of j ≢ OutFault → O.faults out.new ≡ O.faults out.old) }

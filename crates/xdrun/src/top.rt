@@ -8,6 +8,7 @@ ghost use Rattle.xd_ledger.specs.declared.entry.RunStop.TheVariants.{Completed, 
 ghost use Rattle.xd_ledger.specs.Legal.{IsLegal};
 ghost use Rattle.xd_ledger.specs.Reports.{NamesInOrder, reports_in};
 ghost use Rattle.xd_ledger.specs.Ending.{stop_of};
+ghost use Rattle.xd_report.specs.EachReport.{NamesTests};
 ghost use Rattle.xd_report.specs.Status.{status_of};
 ghost use Rattle.xd_serve.specs.Complete.{AreGood, GoesWrong};
 ghost use Rattle.xd_serve.specs.Going.{scene};
@@ -81,6 +82,7 @@ pub fn xdrun<R: Wait, F: Files, St: Starter, K: Children, T: Clock, O: Sink, E: 
     ensures settings { IfOk result (λ e. IfSome e.journal (λ j. j.settings ≡ local_settings)) }
     ensures suite { IfOk result (λ e. IfSome e.journal (λ j. RunsNamed words.now (F.held files.old) j (K.runs children) (K.runs e.children))) }
     ensures once { IfOk result (λ e. IfSome e.journal NamesInOrder) }
+    ensures names { IfOk result (λ e. IfSome e.journal NamesTests) }
     ensures printed { IfOk result (λ e. IfSome e.journal (λ j. PrintsReport (stop_of j) j (O.sunk out.old) (O.sunk out.new))) }
     ensures status { IfOk result (λ e. IfSome e.journal (λ j. e.status ≡ status_of j)) }
 

@@ -7,6 +7,7 @@ ghost use Rattle.xd_ledger.specs.declared.entry.RunStop.TheVariants.{Completed, 
 ghost use Rattle.xd_ledger.specs.Legal.{IsLegal};
 ghost use Rattle.xd_ledger.specs.Reports.{NamesInOrder, reports_in};
 ghost use Rattle.xd_ledger.specs.Ending.{stop_of};
+ghost use Rattle.xd_report.specs.EachReport.{NamesTests};
 ghost use Rattle.xd_report.specs.Status.{status_of};
 ghost use Rattle.xdrun.specs.Child.{faults_of};
 ghost use Rattle.xdrun.specs.Local.{RunsSuite, local_settings};
@@ -59,6 +60,7 @@ pub fn run_unlinked<R: Wait, F: Files, K: Children, T: Clock, O: Sink, E: Sink>(
     ensures settings { IfOk result (λ e. IfSome e.journal (λ j. j.settings ≡ local_settings)) }
     ensures suite { IfOk result (λ e. IfSome e.journal (λ j. RunsNamed words.now (F.held files.old) j (K.runs children) (K.runs e.children))) }
     ensures once { IfOk result (λ e. IfSome e.journal NamesInOrder) }
+    ensures names { IfOk result (λ e. IfSome e.journal NamesTests) }
     ensures printed { IfOk result (λ e. IfSome e.journal (λ j. PrintsReport (stop_of j) j (O.sunk out.old) (O.sunk out.new))) }
     ensures status { IfOk result (λ e. IfSome e.journal (λ j. e.status ≡ status_of j)) }
 

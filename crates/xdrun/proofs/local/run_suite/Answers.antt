@@ -1,7 +1,7 @@
 use Rattle.std.proofs.Common.{◌≡◌, ◌++◌, ◌∷◌, [], ap, ◌∙◌, Bool, true, false, Ok}
 use Rattle.xd_ledger.specs.declared.entry.Entry.TheVariants.{Over}
 use Rattle.xd_ledger.specs.declared.entry.RunStop.{RunStop}
-use Rattle.xdrun.proofs.Whole.{Ended, legal, suite, once, printed, out_fault, still, completed, child_faults, child_still}
+use Rattle.xdrun.proofs.Whole.{Ended, legal, suite, once, names, printed, out_fault, still, completed, child_faults, child_still}
 use Rattle.xdrun.proofs.local.run_suite.Goals as goal
 use Rattle.xdrun.proofs.local.run_suite.Goals.{In_ok-push-2}
 use Rattle.xdrun.proofs.local.run_suite.Given.{Over as Outer}
@@ -23,6 +23,9 @@ returns-clause-suite g c = suite _ _ _ _ _ _ _ _ _ _ (ended g c)
 
 pub returns-clause-once : goal.returns-clause-once
 returns-clause-once g c = once _ _ _ _ _ _ _ _ _ _ (ended g c)
+
+pub returns-clause-names : goal.returns-clause-names
+returns-clause-names g c = names _ _ _ _ _ _ _ _ _ _ (ended g c)
 
 pub returns-clause-printed : goal.returns-clause-printed
 returns-clause-printed g c = printed _ _ _ _ _ _ _ _ _ _ (ended g c)
