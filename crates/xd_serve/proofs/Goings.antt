@@ -6,7 +6,6 @@ use Rattle.xd_edge.specs.Children.{ChildRun}
 use Rattle.xd_edge.specs.Faults.{Rose}
 use Rattle.xd_edge.specs.Files.{Held}
 use Rattle.xd_edge.specs.Sink.{Sunk}
-use Rattle.xd_factory.specs.declared.faults.SideFault.{SideFault}
 use Rattle.xd_frame.specs.Message.{MessageView, frames}
 use Rattle.xd_ledger.specs.declared.entry.Outcome.{Outcome}
 use Rattle.xd_run_tests.specs.Line.{Call, running_test, head_test, left}
@@ -18,14 +17,14 @@ use Rattle.xd_worker.specs.declared.input.WorkerActions.{WorkerActions}
 use Rattle.xd_worker.specs.declared.worker.WorkerCore.{WorkerCore}
 use Rattle.xd_worker.specs.Worker.{Worker, Turn, turn_of, behind, running_in}
 use Rattle.xd_worker.specs.Turns.{Came, Told as Says, SuiteRead, NoSuite, Printed, ChildEnded, LinkEnded, turned}
-use Rattle.xd_worker.specs.History.{Heard, Is, IsMessage, IsSuite, Refuses, all_said, is_over, turn_by, worker_after}
+use Rattle.xd_worker.specs.History.{Heard, Is, IsMessage, IsSuite, is_over, turn_by, worker_after}
 use Rattle.xd_worker.specs.Stands.{Answers, StandsFor}
 use Rattle.xd_serve.specs.declared.stop.Stop.TheVariants as stop
 use Rattle.xd_serve.specs.Inputs.{IsDue, has_end, has_last, is_last, is_link_end, is_of_link, message_in, messages_in}
 use Rattle.xd_serve.specs.Suites.{FilesGave, Follows}
 use Rattle.xd_serve.specs.Programs.{commands_of, output_in}
-use Rattle.xd_serve.specs.Counts.{CountAfter, CountBehind}
-use Rattle.xd_serve.specs.Speaking.{Writes, WritesMore, written}
+use Rattle.xd_serve.specs.Counts.{CountBehind}
+use Rattle.xd_serve.specs.Speaking.{Writes, WritesMore}
 use Rattle.xd_serve.specs.Going.{Free, Going, Later, Next, Programs, Reading, Running, Scene, Told, Watched, call_in, IsNext, left_of, output_of, path_of, rests, scene, to_do, to_start}
 use Rattle.xd_serve.specs.Taking.{AreLeft, Halted, Halts, end_by, is_whole}
 use Rattle.xd_serve.proofs.Steps.{Does, Plain, Prints, Ready, Step, Waits, end_does, message_does, no_suite_does, output_does, running_is, suite_does}
@@ -371,33 +370,6 @@ module _ (held : Option Held) (taken : List MessageView) (m : MessageView) (core
       why : (b : Bool) → is_last m.kind ≡ true → is_over (behind u) ≡ true → Halts (end_by b) taken m (Message m ∷ g.inputs) (a.heard ∷ h)
       why true l o = ap (λ (x : List MessageView). x ++ m ∷ []) g.taken_is
       why false l o = (ap (λ (x : List MessageView). x ++ m ∷ []) g.taken_is, g.no_end, l, o)
-
--- the outside is as before
-pub told_same : (held : Option Held) (inputs : List WorkerInput) (h : List Heard) (whole : Bool) (left : List (List (List ℕ))) (first s : Scene) (sunk0 sunk1 : Option Sunk) (f0 f1 : ℕ) → sunk1 ≡ sunk0 → f1 ≡ f0
-    → Told held inputs h whole left first (at_sink s sunk0 f0) → Told held inputs h whole left first (at_sink s sunk1 f1)
-told_same held inputs h whole left first s sunk0 sunk1 f0 f1 e l t = record {
-  heard = t.heard;
-  ends = t.ends;
-  answered = t.answered;
-  says = subst (λ (o : Option Sunk). Writes whole (written (all_said h)) first.sunk o) (sym e) t.says;
-  sink_count = subst (λ (n : ℕ). CountAfter whole first.sink_faults n) (sym l) t.sink_count;
-  programs = record { started = t.programs.started; commands = t.programs.commands; run = t.programs.run; faults = t.programs.faults };
-  later = record { sink = omega (arith, l, t.later.sink); children = t.later.children; files = t.later.files };
-}
-
--- a message that is refused
-pub halted_refused : (held : Option Held) (taken : List MessageView) (m : MessageView) (fault : SideFault) (core0 : WorkerCore) (b0 : Bool) (first s : Scene) (sunk0 sunk1 : Option Sunk) (f0 f1 : ℕ)
-    → Going held taken Free core0 b0 first (at_sink s sunk0 f0) → b0 ≡ false → ((h : List Heard) → StandsFor core0 h → Refuses (worker_after h) (Message m) fault) → sunk1 ≡ sunk0 → f1 ≡ f0
-    → Halted held taken m (stop.Message fault) first (at_sink s sunk1 f1)
-halted_refused held taken m fault core0 b0 first s sunk0 sunk1 f0 f1 g whole refuses e l = record {
-  inputs = g.inputs;
-  history = g.history;
-  left = [];
-  told = subst (λ (b : Bool). Told held g.inputs g.history (not b) [] first (at_sink s sunk1 f1)) whole (told_same held g.inputs g.history (not b0) [] first s sunk0 sunk1 f0 f1 e l g.told);
-  left_is = refl;
-  none_last = g.none_last;
-  cause = (g.taken_is, g.no_end, refuses g.history g.stands);
-}
 
 left_any : (next : Next) → AreLeft false (left_of next)
 left_any Free = inl refl
