@@ -5,8 +5,8 @@ Usage: bench/value.py   from any folder. It builds a small program over xd_value
 builds it, and prints times, ratios and peak memory. Where execnet is not installed (python3-execnet on Debian) its part is skipped
 with a word.
 
-Beside it stands a program in C that makes the same value in memory and checks nothing: no program can be faster that gives
-such a value by the system's allocator, so the ratio to it says what is left to gain.
+Beside it stands a plain program in C that makes the same value in memory, by the system's allocator, and checks nothing: the
+ratio to it says about how much is left to gain.
 
 All sides are measured alike: each run is a process of its own that first reads the payload from a file, and then times one
 call of loads and one call of dumps of what it gave; neither the start of the process, nor the reading of the file, nor the

@@ -7,8 +7,8 @@ It writes a file of small messages, one of collections of 50,000 test ids, one o
 60 MiB each, and measures MB a second by the clock and by the processor's time (user and system), and peak memory, each
 the best of some runs with the output thrown away. The ratios are of the processor's time, which tells something on a
 busy machine, too. Of execnet there are two loops: one reads each message and decodes its payload, and one prints its line as well,
-as `wire` does, with the value in Python's own notation. A program in C that only reads the file whole says what no program
-can be faster than that reads it so. Goals: at least 30 times the speed of the loop that prints, and a
+as `wire` does, with the value in Python's own notation. A program in C that only reads the file whole stands for what that
+part takes by itself. Goals: at least 30 times the speed of the loop that prints, and a
 peak of at most the file and a few messages. Where execnet is not installed (python3-execnet on Debian) its part is
 skipped with a word.
 """
