@@ -1,138 +1,166 @@
 // SETITEM: a value and its key go into the list or dict below them.
-ghost use Rattle.std.specs.Prelude.{◌≡◌, ◌<◌, ◌||◌, suc, max, Some, None, IfOk};
+ghost use Rattle.std.specs.Prelude.{◌≡◌, ◌<◌, ◌≤◌, ◌-◌, ◌||◌, suc, max, length, take, Some, None, IfOk, OnOk};
 ghost use Rattle.xd_value.specs.Keys.{Knows};
 ghost use Rattle.xd_value.specs.Reading.{Gives, set_item, put_one, is_index, item_fault as item_fault_of, pair_fault as pair_fault_of};
-ghost use Rattle.xd_value.specs.Slots.{cell_of, cells_of, list_cell, dict_cell};
-ghost use Rattle.xd_value.specs.Tree.{list, dict, same, has_key, depth as depth_of};
+ghost use Rattle.xd_value.specs.Seats.{AreSeats, Fits, IsStack, seat, seats, cell_of, cells, cells_of, dict_cell, list_cell};
+ghost use Rattle.xd_value.specs.Tree.{Tree, list, dict, same, has_key, depth as depth_of};
 ghost use Rattle.xd_value.specs.View.{view, views, pair_views};
 
 use crate::checks::is_hashable;
 use crate::fault::{LoadWhat, StepFault};
 use crate::keys::Keys;
-use crate::slot::Slot;
-use crate::stack::pop;
+use crate::stack::{Mark, Stack};
 use crate::value::Value;
 use std::alloc::{AllocError, Global};
+use std::mem;
 
 #[inline(never)]
-#[tactic(auto, unfolding(crate::specs::Reading::set_item))]
-pub(crate) fn put(alloc: Global, stack: &mut Vec<Slot>) -> Result<(), StepFault>
-    ensures { Gives (λ _. cells_of stack.new.items) result (set_item (cells_of stack.old.items)) }
+pub(crate) fn put(alloc: Global, stack: &mut Stack) -> Result<(), StepFault>
+    requires stack { IsStack stack.old }
+    ensures gives { Gives (λ _. cells_of stack.new) result (set_item (cells_of stack.old)) }
+    ensures stack { OnOk result (IsStack stack.new) }
 {
-    let Some(value) = pop(stack) else {
-        return Err(StepFault::Bad(LoadWhat::Misplaced));
-    };
-    let Some(key) = pop(stack) else {
-        return Err(StepFault::Bad(LoadWhat::Misplaced));
-    };
-    if stack.is_empty() {
+    let count = stack.values.len();
+    if count < 3 {
         return Err(StepFault::Bad(LoadWhat::Misplaced));
     }
-    let last = stack.len() - 1;
-    put_into(alloc, value, key, &mut stack[last])?;
+    put_last(alloc, &mut stack.values, &mut stack.marks)?;
+    stack.values.truncate(count - 2);
+    stack.marks.truncate(count - 2);
     Ok(())
 }
 
-fn put_into(alloc: Global, value: Slot, key: Slot, target: &mut Slot) -> Result<(), StepFault>
-    ensures { Gives (λ _. cell_of target.new) result
-        (put_one (cell_of value) (cell_of key) (view target.old.value) target.old.missing) }
+/// Puts the last two values into the one below them, and leaves their places to be taken off.
+fn put_last(alloc: Global, values: &mut [Value], marks: &mut [Mark]) -> Result<(), StepFault>
+    requires some { 3 ≤ length values.old }
+    requires seats { AreSeats values.old marks.old }
+    ensures gives { Gives (λ _. cells (seats (take (length values.old - 2) values.new) (take (length values.old - 2) marks.new))) result
+        (set_item (cells (seats values.old marks.old))) }
+    ensures seats { OnOk result (AreSeats (take (length values.old - 2) values.new) (take (length values.old - 2) marks.new)) }
 {
-    match &mut target.value {
-        Value::List(items) => put_item(value, key, items, &mut target.missing, &mut target.depth)?,
-        Value::Dict(pairs) => put_pair(
-            alloc,
-            value,
-            key,
-            pairs,
-            target.missing,
-            &mut target.depth,
-            &mut target.keys,
-        )?,
+    let last = values.len() - 1;
+    let (below, value) = values.split_at_mut(last);
+    let (below, key) = below.split_at_mut(last - 1);
+    let (lower, value_mark) = marks.split_at_mut(last);
+    let (lower, key_mark) = lower.split_at_mut(last - 1);
+    put_into(
+        alloc,
+        &mut value[0],
+        &value_mark[0],
+        &mut key[0],
+        &key_mark[0],
+        &mut below[last - 2],
+        &mut lower[last - 2],
+    )?;
+    Ok(())
+}
+
+/// Puts a value and its key into a list or a dict. None stands in the place of each that was put.
+fn put_into(
+    alloc: Global,
+    value: &mut Value,
+    value_mark: &Mark,
+    key: &mut Value,
+    key_mark: &Mark,
+    target: &mut Value,
+    mark: &mut Mark,
+) -> Result<(), StepFault>
+    requires value { Fits (seat value.old value_mark.now) }
+    requires key { Fits (seat key.old key_mark.now) }
+    requires target { Fits (seat target.old mark.old) }
+    ensures gives { Gives (λ _. cell_of (seat target.new mark.new)) result
+        (put_one (cell_of (seat value.old value_mark.now)) (cell_of (seat key.old key_mark.now)) (view target.old) mark.old.missing) }
+    ensures target { OnOk result (Fits (seat target.new mark.new)) }
+{
+    match target {
+        Value::List(items) => put_item(value, value_mark, key, key_mark, items, mark)?,
+        Value::Dict(pairs) => put_pair(alloc, value, value_mark, key, key_mark, pairs, mark)?,
         _ => return Err(StepFault::Bad(LoadWhat::Misplaced)),
     }
     Ok(())
 }
 
-/// Where it fails, the list stays as it is.
 fn put_item(
-    value: Slot,
-    key: Slot,
+    value: &mut Value,
+    value_mark: &Mark,
+    key: &Value,
+    key_mark: &Mark,
     items: &mut Vec<Value>,
-    missing: &mut u32,
-    depth: &mut u32,
+    mark: &mut Mark,
 ) -> Result<(), StepFault>
-    requires { depth.old ≡ depth_of (list (views items.old.items)) }
-    ensures put { Gives (λ _. list_cell items.new missing.new) result
-        (put_one (cell_of value) (cell_of key) (list (views items.old.items)) missing.old) }
-    ensures measured { depth.new ≡ depth_of (list (views items.new.items)) }
+    requires value { value_mark.now.depth ≡ depth_of (view value.old) }
+    requires measured { mark.old.depth ≡ depth_of (list (views items.old.items)) }
+    ensures put { Gives (λ _. list_cell items.new mark.new.missing) result
+        (put_one (cell_of (seat value.old value_mark.now)) (cell_of (seat key.now key_mark.now)) (list (views items.old.items)) mark.old.missing) }
+    ensures measured { OnOk result (mark.new.depth ≡ depth_of (list (views items.new.items))) }
 {
-    if let Some(what) = item_fault(&value, &key, items.len(), *missing) {
+    if let Some(what) = item_fault(value_mark, key, key_mark, items.len(), mark.missing) {
         return Err(StepFault::Bad(what));
     }
-    let Slot {
-        value,
-        depth: part,
-        ..
-    } = value;
-    items.push(value)?;
-    *missing -= 1;
-    *depth = deepened(*depth, part);
+    items.push(mem::replace(value, Value::None))?;
+    mark.missing -= 1;
+    mark.depth = deepened(mark.depth, value_mark.depth);
     Ok(())
 }
 
-/// Where it fails, the pairs stay as they are.
 fn put_pair(
     alloc: Global,
-    value: Slot,
-    key: Slot,
+    value: &mut Value,
+    value_mark: &Mark,
+    key: &mut Value,
+    key_mark: &Mark,
     pairs: &mut Vec<(Value, Value)>,
-    missing: u32,
-    depth: &mut u32,
-    keys: &mut Keys,
+    mark: &mut Mark,
 ) -> Result<(), StepFault>
-    requires measured { depth.old ≡ depth_of (dict (pair_views pairs.old.items)) }
-    requires known { Knows keys.old (λ t. has_key t (pair_views pairs.old.items)) }
-    ensures put { Gives (λ _. dict_cell pairs.new missing) result
-        (put_one (cell_of value) (cell_of key) (dict (pair_views pairs.old.items)) missing) }
-    ensures measured { depth.new ≡ depth_of (dict (pair_views pairs.new.items)) }
-    ensures known { Knows keys.new (λ t. has_key t (pair_views pairs.new.items)) }
+    requires value { value_mark.now.depth ≡ depth_of (view value.old) }
+    requires key { key_mark.now.depth ≡ depth_of (view key.old) }
+    requires measured { mark.old.depth ≡ depth_of (dict (pair_views pairs.old.items)) }
+    requires known { Knows mark.old.keys (λ t. has_key t (pair_views pairs.old.items)) }
+    ensures put { Gives (λ _. dict_cell pairs.new mark.new.missing) result
+        (put_one (cell_of (seat value.old value_mark.now)) (cell_of (seat key.old key_mark.now)) (dict (pair_views pairs.old.items)) mark.old.missing) }
+    ensures measured { OnOk result (mark.new.depth ≡ depth_of (dict (pair_views pairs.new.items))) }
+    ensures known { OnOk result (Knows mark.new.keys (λ t. has_key t (pair_views pairs.new.items))) }
 {
-    let mut known = keys.take();
-    if let Some(what) = pair_fault(alloc, &value, &key, pairs, &mut known)? {
+    if let Some(what) = pair_fault(alloc, value_mark, key, key_mark, pairs, &mut mark.keys)? {
         return Err(StepFault::Bad(what));
     }
-    let deeper = deepened(deepened(*depth, key.depth), value.depth);
-    pairs.push((key.value, value.value))?;
-    *depth = deeper;
-    *keys = known;
+    mark.depth = deepened(deepened(mark.depth, key_mark.depth), value_mark.depth);
+    pairs.push((
+        mem::replace(key, Value::None),
+        mem::replace(value, Value::None),
+    ))?;
     Ok(())
 }
 
-/// Why value and key cannot go into a dict of these pairs. Where they can, the key stands among the keys from now on.
+/// Why a value of which this is kept and the key cannot go into a dict of these pairs. Where they can, the key stands among
+/// the keys from now on.
 #[tactic(auto, using(crate::proofs::Walks::ltb_max), unfolding(crate::specs::Reading::pair_fault))]
 fn pair_fault(
     alloc: Global,
-    value: &Slot,
-    key: &Slot,
+    value_mark: &Mark,
+    key: &Value,
+    key_mark: &Mark,
     pairs: &[(Value, Value)],
     keys: &mut Keys,
 ) -> Result<Option<LoadWhat>, AllocError>
-    requires { Knows keys.old (λ t. has_key t (pair_views pairs.now)) }
-    ensures fault { IfOk result (λ f. f ≡ pair_fault_of (cell_of value.now) (cell_of key.now) (pair_views pairs.now)) }
+    requires key { key_mark.now.depth ≡ depth_of (view key.now) }
+    requires known { Knows keys.old (λ t. has_key t (pair_views pairs.now)) }
+    ensures fault { IfOk result (λ f. (t : Tree) → value_mark.now.depth ≡ depth_of t
+        → f ≡ pair_fault_of (record { value = t; missing = value_mark.now.missing }) (cell_of (seat key.now key_mark.now)) (pair_views pairs.now)) }
     ensures known { IfOk result (λ f. f ≡ None
-        → Knows keys.new (λ t. same t (view key.now.value) || has_key t (pair_views pairs.now))) }
-    ensures shallow { IfOk result (λ f. f ≡ None → (key.now.depth < 64) × (value.now.depth < 64)) }
+        → Knows keys.new (λ t. same t (view key.now) || has_key t (pair_views pairs.now))) }
+    ensures shallow { IfOk result (λ f. f ≡ None → (key_mark.now.depth < 64) × (value_mark.now.depth < 64)) }
 {
-    if value.missing != 0 || key.missing != 0 {
+    if value_mark.missing != 0 || key_mark.missing != 0 {
         return Ok(Some(LoadWhat::ListOrder));
     }
-    if !is_hashable(&key.value) {
+    if !is_hashable(key) {
         return Ok(Some(LoadWhat::Unhashable));
     }
-    if keys.repeats_key(alloc, &key.value, pairs)? {
+    if keys.repeats_key(alloc, key, pairs)? {
         return Ok(Some(LoadWhat::Repeated));
     }
-    if key.depth > 63 || value.depth > 63 {
+    if key_mark.depth > 63 || value_mark.depth > 63 {
         return Ok(Some(LoadWhat::TooDeep));
     }
     Ok(None)
@@ -146,16 +174,24 @@ fn deepened(depth: u32, part: u32) -> u32
     if part < depth { depth } else { part + 1 }
 }
 
+/// Why a value of which this is kept and the key cannot go into a list of so many items, of which so many are missing.
 #[tactic(auto, unfolding(crate::specs::Reading::item_fault))]
-fn item_fault(value: &Slot, key: &Slot, len: usize, missing: u32) -> Option<LoadWhat>
-    ensures fault { result ≡ item_fault_of (cell_of value.now) (cell_of key.now) len missing }
+fn item_fault(
+    value_mark: &Mark,
+    key: &Value,
+    key_mark: &Mark,
+    len: usize,
+    missing: u32,
+) -> Option<LoadWhat>
+    ensures fault { (t : Tree) → value_mark.now.depth ≡ depth_of t
+        → result ≡ item_fault_of (record { value = t; missing = value_mark.now.missing }) (cell_of (seat key.now key_mark.now)) len missing }
     ensures room { result ≡ None → 0 < missing }
-    ensures shallow { result ≡ None → value.now.depth < 64 }
+    ensures shallow { result ≡ None → value_mark.now.depth < 64 }
 {
-    if value.missing != 0 || key.missing != 0 || missing == 0 || !is_next(&key.value, len) {
+    if value_mark.missing != 0 || key_mark.missing != 0 || missing == 0 || !is_next(key, len) {
         return Some(LoadWhat::ListOrder);
     }
-    if value.depth > 63 {
+    if value_mark.depth > 63 {
         return Some(LoadWhat::TooDeep);
     }
     None

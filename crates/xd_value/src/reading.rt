@@ -1,7 +1,7 @@
 // Payloads.
 ghost use Rattle.std.specs.Prelude.{◌≡◌, ℕ, ◌<◌, IfOk, IfErr};
 ghost use Rattle.xd_value.specs.Payload.{IsPayload, IsRefusal, IsValue, IsFault, FirstFault, Stops, IsPlaced};
-ghost use Rattle.xd_value.specs.Slots.{cells_of};
+ghost use Rattle.xd_value.specs.Seats.{IsStack, cells_of};
 ghost use Rattle.xd_value.specs.Tree.{Tree};
 ghost use Rattle.xd_value.specs.View.{view};
 ghost use Rattle.xd_value.specs.declared.fault.LoadWhat.{LoadWhat as What};
@@ -9,8 +9,7 @@ ghost use Rattle.xd_value.specs.declared.fault.LoadWhat.{LoadWhat as What};
 use crate::fault::{LoadFault, LoadWhat, StepFault};
 use crate::machine::step;
 use crate::opcode::{Opcode, opcode_of};
-use crate::slot::Slot;
-use crate::stack::pop;
+use crate::stack::Stack;
 use crate::value::Value;
 use std::alloc::Global;
 
@@ -33,14 +32,14 @@ pub fn loads(alloc: Global, bytes: &[u8]) -> Result<Value, LoadFault>
 /// consequence for the next.
 #[derive(Drop)]
 pub struct Reader {
-    pub(crate) stack: Vec<Slot>,
+    pub(crate) stack: Stack,
 }
 
 impl Reader {
     /// A reader that has no room yet.
     pub fn new(alloc: Global) -> Reader {
         Reader {
-            stack: Vec::new(alloc),
+            stack: Stack::new(alloc),
         }
     }
 
@@ -59,7 +58,7 @@ impl Reader {
     }
 }
 
-fn run(alloc: Global, bytes: &[u8], stack: &mut Vec<Slot>) -> Result<Value, LoadFault>
+fn run(alloc: Global, bytes: &[u8], stack: &mut Stack) -> Result<Value, LoadFault>
     ensures read { IfOk result (λ v. IsPayload (view v) bytes.now) }
     ensures refused { IfErr result (IsRefusal bytes.now) }
 {
@@ -99,23 +98,24 @@ fn placed(at: usize, fault: StepFault) -> LoadFault
 }
 
 /// The value at STOP.
-fn last(stack: &mut Vec<Slot>, after: &[u8], at: usize) -> Result<Value, LoadFault>
-    requires { at < 0xffff_ffff_ffff_ffff }
-    ensures { Stops (cells_of stack.old.items) after.now at result }
+fn last(stack: &mut Stack, after: &[u8], at: usize) -> Result<Value, LoadFault>
+    requires stack { IsStack stack.old }
+    requires place { at < 0xffff_ffff_ffff_ffff }
+    ensures { Stops (cells_of stack.old) after.now at result }
 {
-    let Some(slot) = pop(stack) else {
-        return Err(LoadFault::Bad {
-            at,
-            what: LoadWhat::Misplaced,
-        });
-    };
-    if !stack.is_empty() {
+    if stack.values.len() > 1 {
         return Err(LoadFault::Bad {
             at,
             what: LoadWhat::Leftover,
         });
     }
-    if slot.missing != 0 {
+    let Some(value) = stack.values.pop() else {
+        return Err(LoadFault::Bad {
+            at,
+            what: LoadWhat::Misplaced,
+        });
+    };
+    if stack.marks[0].missing != 0 {
         return Err(LoadFault::Bad {
             at,
             what: LoadWhat::ListOrder,
@@ -127,5 +127,5 @@ fn last(stack: &mut Vec<Slot>, after: &[u8], at: usize) -> Result<Value, LoadFau
             what: LoadWhat::Leftover,
         });
     }
-    Ok(slot.value)
+    Ok(value)
 }
