@@ -1,4 +1,3 @@
-pub mod PayloadLemmas
 pub mod LineLemmas
 pub mod PrintLemmas
 pub mod TextLemmas

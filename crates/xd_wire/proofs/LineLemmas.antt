@@ -8,33 +8,63 @@ use Rattle.xd_frame.specs.Message.{MessageView}
 use Rattle.xd_frame.specs.Stream.{messages, rest, rest_of, behind, message_of, FrontSays}
 use Rattle.xd_value.specs.declared.fault.LoadWhat.{LoadWhat}
 use Rattle.xd_value.specs.Show.{shown}
-use Rattle.xd_wire.specs.declared.payload.Shown.TheVariants.{Value, Fault}
+use Rattle.xd_value.specs.declared.value.Value.{Value as ValueOf}
+use Rattle.xd_value.specs.Tree.{Tree}
+use Rattle.xd_value.specs.View.{view}
+use Rattle.xd_value.specs.Payload.{IsPayload, FirstFault, IsRefusal, IsValue, IsFault}
+use Rattle.xd_value.specs.declared.fault.LoadFault.{LoadFault}
+use Rattle.xd_value.specs.declared.fault.LoadFault.TheVariants as fault
 use Rattle.xd_wire.specs.declared.line.Line.{Line}
 use Rattle.xd_wire.specs.declared.line.Line.TheVariants as line
 use Rattle.xd_wire.specs.Names.{what_name}
-use Rattle.xd_wire.specs.Payloads.{ShowsPayload}
-use Rattle.xd_wire.specs.WireText.{line_start, value_line, fault_line, message_with, LineBy, IsLine, FaultBy, IsPayloadFault, IsTextFrom}
+use Rattle.xd_wire.specs.WireText.{has_value, value_line, plain_line, fault_line, message_with, LineBy, IsLine, FaultBy, IsPayloadFault, IsTextFrom}
 use Rattle.xd_edge.specs.declared.refusals.OutOfMemory.{OutOfMemory}
 use Rattle.xd_wire.specs.declared.step.Then.{Then}
-use Rattle.xd_wire.specs.declared.step.Then.TheVariants.{End}
-use Rattle.xd_wire.specs.Lines.{IsLineOf, IsStepAt, Texts, texts_at, texts_of, ended, Continues}
+use Rattle.xd_wire.specs.declared.step.Then.TheVariants.{At, End}
+use Rattle.xd_wire.specs.Lines.{IsLineOf, AppendsLine, AppendsStep, gives_fault, Texts, texts_at, texts_of, ended, Continues}
 
-pub value_is_line : (b : Bool) (m : MessageView) (before text printed : List ℕ) → b ≡ true → ShowsPayload before m.payload text Value
-    → encode_utf8_all before ≡ line_start m.kind m.channel (length m.payload) ++ (32 ∷ []) → printed ≡ encode_utf8_all text ++ (10 ∷ [])
+-- the start of a line, a space, a value and the end of the line, one after another
+pub value_written : (before t1 t2 t3 start value after : List ℕ) → encode_utf8_all t1 ≡ encode_utf8_all before ++ start → encode_utf8_all t2 ≡ encode_utf8_all t1 ++ (32 ∷ []) → t3 ≡ t2 ++ value → after ≡ encode_utf8_all t3 ++ (10 ∷ [])
+    → after ≡ encode_utf8_all before ++ (start ++ (32 ∷ (encode_utf8_all value ++ (10 ∷ []))))
+value_written before t1 t2 t3 start value after h1 h2 h3 h4 =
+    let eb = encode_utf8_all before in
+    let ev = encode_utf8_all value in
+    h4 ∙ ap (λ (x : List ℕ). x ++ (10 ∷ [])) (ap encode_utf8_all h3 ∙ encodes-append t2 value ∙ ap (λ (x : List ℕ). x ++ ev) (h2 ∙ ap (λ (x : List ℕ). x ++ (32 ∷ [])) h1))
+    ∙ append_assoc ((eb ++ start) ++ (32 ∷ [])) ev (10 ∷ [])
+    ∙ append_assoc (eb ++ start) (32 ∷ []) (ev ++ (10 ∷ []))
+    ∙ append_assoc eb start (32 ∷ (ev ++ (10 ∷ [])))
+
+only_line : (b : Bool) (m : MessageView) (x : ValueOf) (printed : List ℕ) → b ≡ true → IsPayload (view x) m.payload → ((v : Tree) → IsPayload v m.payload → view x ≡ v) → ((at : ℕ) (found : LoadWhat) → FirstFault m.payload at found → ⊥)
+    → printed ≡ value_line m.kind m.channel (length m.payload) (encode_utf8_all (shown (view x)))
     → LineBy b m printed × ((other : List ℕ) → LineBy b m other → other ≡ printed) × ((place : ℕ) (found : LoadWhat) → FaultBy b m place found → ⊥)
-value_is_line false m before text printed t k s e = absurd (cc)
-value_is_line true m before text printed t k s e =
-    let start : List ℕ = line_start m.kind m.channel (length m.payload) in
-    let value : List ℕ = encode_utf8_all (shown k.0) in
-    let is : printed ≡ value_line m.kind m.channel (length m.payload) value =
-    e ∙ ap (λ (x : List ℕ). x ++ (10 ∷ [])) (ap encode_utf8_all k.2 ∙ encodes-append before (shown k.0) ∙ ap (λ (x : List ℕ). x ++ value) s ∙ append_assoc start (32 ∷ []) value)
-    ∙ append_assoc start (32 ∷ value) (10 ∷ []) in
-    ((k.0, k.1, is), λ other o. o.2 ∙ (ap (λ v. value_line m.kind m.channel (length m.payload) (encode_utf8_all (shown v))) (k.3 o.0 o.1) ∙ sym is), k.4)
+only_line false m x printed t read only none is = absurd (cc)
+only_line true m x printed t read only none is =
+    ((view x, read, is), λ other o. o.2 ∙ (ap (λ v. value_line m.kind m.channel (length m.payload) (encode_utf8_all (shown v))) (sym (only o.0 o.1)) ∙ sym is), none)
 
-pub fault_is_fault : (b : Bool) (m : MessageView) (before text : List ℕ) (place : ℕ) (found : LoadWhat) → b ≡ true → ShowsPayload before m.payload text (Fault place found)
+-- the line of a message with this value was appended
+pub value_appends : (m : MessageView) (x : ValueOf) (before after : List ℕ) → has_value m.kind ≡ true → IsPayload (view x) m.payload → ((v : Tree) → IsPayload v m.payload → view x ≡ v) → ((at : ℕ) (found : LoadWhat) → FirstFault m.payload at found → ⊥)
+    → after ≡ before ++ value_line m.kind m.channel (length m.payload) (encode_utf8_all (shown (view x))) → AppendsLine m before after line.Made
+value_appends m x before after t read only none is = (value_line m.kind m.channel (length m.payload) (encode_utf8_all (shown (view x))), is, only_line (has_value m.kind) m x _ t read only none refl)
+
+plain_is : (b : Bool) (m : MessageView) (printed : List ℕ) → b ≡ false → printed ≡ plain_line m.kind m.channel (length m.payload)
+    → LineBy b m printed × ((other : List ℕ) → LineBy b m other → other ≡ printed) × ((place : ℕ) (found : LoadWhat) → FaultBy b m place found → ⊥)
+plain_is true m printed t is = absurd (cc)
+plain_is false m printed t is = (is, λ other o. o ∙ sym is, λ place found h. h)
+
+-- the line of a message whose payload is not read was appended
+pub plain_appends : (m : MessageView) (before after : List ℕ) → has_value m.kind ≡ false → after ≡ before ++ plain_line m.kind m.channel (length m.payload) → AppendsLine m before after line.Made
+plain_appends m before after t is = (plain_line m.kind m.channel (length m.payload), is, plain_is (has_value m.kind) m _ t refl)
+
+only_fault : (b : Bool) (m : MessageView) (place : ℕ) (found : LoadWhat) → b ≡ true → FirstFault m.payload place found → ((v : Tree) → IsPayload v m.payload → ⊥) → ((at : ℕ) (what : LoadWhat) → FirstFault m.payload at what → (place ≡ at) × (found ≡ what))
     → FaultBy b m place found × ((other : List ℕ) → LineBy b m other → ⊥) × ((at : ℕ) (what : LoadWhat) → FaultBy b m at what → (at ≡ place) × (what ≡ found))
-fault_is_fault false m before text place found t k = absurd (cc)
-fault_is_fault true m before text place found t k = (k.0, λ other o. k.1 o.0 o.1, k.2)
+only_fault false m place found t first none only = absurd (cc)
+only_fault true m place found t first none only = (first, λ other o. none o.0 o.1, λ at what h. (sym (only at what h).0, sym (only at what h).1))
+
+-- a fault was found, and nothing was appended
+pub fault_appends : (m : MessageView) (text : List ℕ) (f : LoadFault) → has_value m.kind ≡ true → IsRefusal m.payload f → ((v : Tree) → IsPayload v m.payload → IsValue v (Err f)) → ((at : ℕ) (what : LoadWhat) → FirstFault m.payload at what → IsFault at what (Err f))
+    → IfOk (gives_fault f) (AppendsLine m text text)
+fault_appends m text (fault.Bad place found) t first none only = (refl, only_fault (has_value m.kind) m place found t first none only)
+fault_appends m text fault.OutOfMemory t first none only = tt
 
 -- a message and the line of it, and then the rest of the file
 pub line_continues : (bytes : List ℕ) (at next : ℕ) (h : Header) (payload printed : List ℕ) → payload ≡ take h.length (drop 9 (drop at bytes)) → length payload ≡ h.length → next ≡ at + (9 + h.length)
@@ -99,9 +129,20 @@ last_step bytes at h front payload written printed f place found fe pe says is e
     let there : at + 9 + place ≡ at + (9 + place) = omega arith in
     fault_continues bytes at h payload printed place found p s.0 (pr ∙ ap (fault_line (what_name found)) there) k.0 k.1 k.2
 
--- a step whose line tells a fault
-pub fault_steps : (r : Result Then OutOfMemory) (bytes : List ℕ) (at : ℕ) (printed new : List ℕ) → OnOk r (new ≡ printed) → IfOk r (λ t. t ≡ End true)
-    → Continues (texts_at bytes at) printed (ended true) → IfOk r (IsStepAt bytes at new)
-fault_steps (Err e) bytes at printed new line then k = tt
-fault_steps (Ok s) bytes at printed new line then k =
-    subst (λ (t : Then). Continues (texts_at bytes at) new (texts_of bytes t)) (sym then) (subst (λ (l : List ℕ). Continues (texts_at bytes at) l (ended true)) (sym line) k)
+-- a step that made a line
+pub made_appends : (bytes : List ℕ) (at : ℕ) (h : Header) (front payload before after : List ℕ) (f : Line) → front ≡ drop at bytes → payload ≡ take h.length (drop (at + 9) bytes) → 9 + h.length ≤ length front
+    → FrontSays front (Ok (Some h)) → AppendsLine (message_with h payload) before after f → f ≡ line.Made → AppendsStep bytes at before after (At (at + 9 + h.length))
+made_appends bytes at h front payload before after f fe pe whole says k e =
+    let made = subst (AppendsLine (message_with h payload) before after) e k in
+    (made.0, made.1, next_step bytes at h front payload made.0 line.Made fe pe whole says made.2 refl)
+
+-- a step whose line tells a fault of a payload
+pub fault_steps : (r : Result Then OutOfMemory) (bytes : List ℕ) (at : ℕ) (h : Header) (front payload before mid after name : List ℕ) (f : Line) (place : ℕ) (found : LoadWhat) → front ≡ drop at bytes → payload ≡ take h.length (drop (at + 9) bytes)
+    → FrontSays front (Ok (Some h)) → AppendsLine (message_with h payload) before mid f → f ≡ line.Fault place found → name ≡ what_name found → OnOk r (after ≡ mid ++ fault_line name (at + 9 + place)) → IfOk r (λ t. t ≡ End true)
+    → IfOk r (AppendsStep bytes at before after)
+fault_steps (Err e) bytes at h front payload before mid after name f place found fe pe says k is ne written then = tt
+fault_steps (Ok s) bytes at h front payload before mid after name f place found fe pe says k is ne written then =
+    let found_it = subst (AppendsLine (message_with h payload) before mid) is k in
+    let printed : List ℕ = fault_line name (at + 9 + place) in
+    let step : Continues (texts_at bytes at) printed (ended true) = last_step bytes at h front payload [] printed (line.Fault place found) place found fe pe says found_it.1 refl (ap (λ (n : List ℕ). fault_line n (at + 9 + place)) ne) in
+    (printed, written ∙ ap (λ (x : List ℕ). x ++ printed) found_it.0, subst (λ (t : Then). Continues (texts_at bytes at) printed (texts_of bytes t)) (sym then) step)

@@ -4,9 +4,11 @@ use Rattle.std.specs.Prelude.{OnOk, OnErr, is_err}
 use Rattle.std.proofs.lemmas.List.{append-nil}
 use Rattle.xd_edge.specs.Sink.{Sunk, Took, TookPart, Printed, with_flush}
 use Rattle.xd_edge.proofs.SinkLemmas.{took_nothing, took_more, took_then_part, part_of_more, took_is_part}
+use Rattle.xd_wire.specs.declared.step.Then.{Then}
+use Rattle.xd_wire.specs.declared.step.Then.TheVariants.{At, End}
 use Rattle.xd_wire.specs.Lines.{Texts, Continues, ended, texts_at}
 use Rattle.xd_wire.specs.WireText.{IsWireText}
-use Rattle.xd_wire.specs.Printing.{TookUpTo, TookPartOfEach, HasText, Prints, end_with}
+use Rattle.xd_wire.specs.Printing.{TookUpTo, TookPage, IsEmptyAt, MadeUpTo, TookPartOfEach, HasText, Prints, end_with}
 
 continues_self : (whole : Texts) → Continues whole [] whole
 continues_self whole = record { forth = λ more faulty k. k; back = λ all faulty k. (all, refl, k) }
@@ -18,26 +20,39 @@ continues_more whole mid later a b first then =
       back = λ all faulty k. let x = first.back all faulty k in let y = then.back x.0 faulty x.2 in (y.0, x.1 ∙ (ap (λ l. a ++ l) y.1 ∙ sym (append_assoc a b y.0)), y.2);
     }
 
--- nothing was taken yet
-pub up_to_start : (whole : Texts) (sunk : Option Sunk) → TookUpTo whole whole sunk sunk
-up_to_start whole sunk = record { text = []; continues = continues_self whole; took = took_nothing sunk }
+-- nothing was made yet
+pub made_start : (whole : Texts) (sunk : Option Sunk) → MadeUpTo whole whole [] sunk sunk
+made_start whole sunk = record { text = []; continues = continues_self whole; took = took_nothing sunk }
 
--- one more line was taken
-pub up_to_next : (whole mid later : Texts) (line : List ℕ) (old now new : Option Sunk) → TookUpTo whole mid old now → Continues mid line later → Took line now new → TookUpTo whole later old new
-up_to_next whole mid later line old now new k c t =
-    record { text = k.text ++ line; continues = continues_more whole mid later k.text line k.continues c; took = took_more k.text line old now new k.took t }
+-- one more line was made
+pub made_next : (whole mid later : Texts) (left line more : List ℕ) (old new : Option Sunk) → MadeUpTo whole mid left old new → more ≡ left ++ line → Continues mid line later → MadeUpTo whole later more old new
+made_next whole mid later left line more old new k e c =
+    let text : (k.text ++ left) ++ line ≡ k.text ++ more = append_assoc k.text left line ∙ ap (λ l. k.text ++ l) (sym e) in
+    record { text = k.text; continues = subst (λ l. Continues whole l later) text (continues_more whole mid later (k.text ++ left) line k.continues c); took = k.took }
 
--- a part of one more line was taken
-pub up_to_part : (whole mid later : Texts) (line : List ℕ) (old now new : Option Sunk) → TookUpTo whole mid old now → Continues mid line later → TookPart line now new → TookPartOfEach whole old new
-up_to_part whole mid later line old now new k c t all faulty w =
-    let more = (continues_more whole mid later k.text line k.continues c).back all faulty w in
-    subst (λ l. TookPart l old new) (sym more.1) (part_of_more (k.text ++ line) more.0 old new (took_then_part k.text line old now new k.took t))
+-- what was made, or a first part of it, was written
+pub made_taken : (whole later : Texts) (before after : List ℕ) (old now new : Option Sunk) → MadeUpTo whole later before old now → TookPage before after now new → MadeUpTo whole later after old new
+made_taken whole later before after old now new k t =
+    let text : k.text ++ before ≡ (k.text ++ t.0) ++ after = ap (λ l. k.text ++ l) t.1 ∙ sym (append_assoc k.text t.0 after) in
+    record { text = k.text ++ t.0; continues = subst (λ l. Continues whole l later) text k.continues; took = took_more k.text t.0 old now new k.took t.2 }
+
+-- all that was made was written
+pub made_all : (whole later : Texts) (left : List ℕ) (old new : Option Sunk) → MadeUpTo whole later left old new → left ≡ [] → TookUpTo whole later old new
+made_all whole later left old new k none =
+    record { text = k.text; continues = subst (λ l. Continues whole l later) (ap (λ l. k.text ++ l) none ∙ append-nil k.text) k.continues; took = k.took }
+
+-- a part of what was made was taken
+pub made_part : (whole later : Texts) (left : List ℕ) (old now new : Option Sunk) → MadeUpTo whole later left old now → TookPart left now new → TookPartOfEach whole old new
+made_part whole later left old now new k t all faulty w =
+    let more = k.continues.back all faulty w in
+    subst (λ l. TookPart l old new) (sym more.1) (part_of_more (k.text ++ left) more.0 old new (took_then_part k.text left old now new k.took t))
 
 -- no further line was made
-pub up_to_stop : (whole later : Texts) (old new : Option Sunk) → TookUpTo whole later old new → TookPartOfEach whole old new
-up_to_stop whole later old new k all faulty w =
+pub made_stop : (whole later : Texts) (left : List ℕ) (old new : Option Sunk) → MadeUpTo whole later left old new → TookPartOfEach whole old new
+made_stop whole later left old new k all faulty w =
     let more = k.continues.back all faulty w in
-    subst (λ l. TookPart l old new) (sym more.1) (part_of_more k.text more.0 old new (took_is_part k.text old new k.took))
+    let text : all ≡ k.text ++ (left ++ more.0) = more.1 ∙ append_assoc k.text left more.0 in
+    subst (λ l. TookPart l old new) (sym text) (part_of_more k.text (left ++ more.0) old new (took_is_part k.text old new k.took))
 
 -- the text was taken as a whole
 pub whole_text : (whole : Texts) (fault : Bool) (old new : Option Sunk) → TookUpTo whole (ended fault) old new → (text : List ℕ) × whole text fault
@@ -63,6 +78,10 @@ pub prints : (bytes : List ℕ) (fault : Bool) (old now new : Option Sunk) → T
     → (text : List ℕ) (faulty : Bool) → IsWireText bytes text faulty → Prints (Ok (end_with fault)) text faulty old new
 prints bytes true old now new k e text faulty w = let o = only_text (texts_at bytes 0) true old now k text faulty w in (o.0, printed_by text old now new o.1 e)
 prints bytes false old now new k e text faulty w = let o = only_text (texts_at bytes 0) false old now k text faulty w in (o.0, printed_by text old now new o.1 e)
+
+pub empty_at : (t : Then) (left : List ℕ) → left ≡ [] → IsEmptyAt t left
+empty_at (At next) left none = tt
+empty_at (End faulty) left none = none
 
 pub when_err : {A E : Type 0} (r : Result A E) (P : Type 0) → is_err r ≡ true → OnErr r P → P
 when_err (Ok x) P e p = cc

@@ -1,7 +1,10 @@
 -- One line after another.
-use Rattle.std.specs.Prelude.{◌≡◌, ℕ, ◌<◌, ◌≤◌, List, [], ◌++◌, Bool, drop}
+use Rattle.std.specs.Prelude.{◌≡◌, ℕ, ◌<◌, ◌≤◌, List, [], ◌++◌, Bool, Result, Ok, Err, drop}
 use Rattle.xd_frame.specs.Message.{MessageView}
 use Rattle.xd_frame.specs.Stream.{messages, rest}
+use Rattle.xd_edge.specs.declared.refusals.OutOfMemory.{OutOfMemory}
+use Rattle.xd_value.specs.declared.fault.LoadFault.{LoadFault}
+use Rattle.xd_value.specs.declared.fault.LoadFault.TheVariants as fault
 use Rattle.xd_value.specs.declared.fault.LoadWhat.{LoadWhat}
 use Rattle.xd_wire.specs.declared.line.Line.{Line}
 use Rattle.xd_wire.specs.declared.line.Line.TheVariants.{Made, Fault}
@@ -15,6 +18,16 @@ IsLineOf m printed Made =
     IsLine m printed × ((other : List ℕ) → IsLine m other → other ≡ printed) × ((place : ℕ) (what : LoadWhat) → IsPayloadFault m place what → ⊥)
 IsLineOf m printed (Fault place what) =
     IsPayloadFault m place what × ((other : List ℕ) → IsLine m other → ⊥) × ((at : ℕ) (found : LoadWhat) → IsPayloadFault m at found → (at ≡ place) × (found ≡ what))
+
+-- behind a text, the line of a message was appended, or nothing where its payload has a fault
+abbrev pub AppendsLine : MessageView → List ℕ → List ℕ → Line → Type 0
+AppendsLine m before after Made = (line : List ℕ) × (after ≡ before ++ line) × IsLineOf m line Made
+AppendsLine m before after (Fault place what) = (after ≡ before) × IsLineOf m [] (Fault place what)
+
+-- the refusal of a payload, as what its message is printed as
+abbrev pub gives_fault : LoadFault → Result Line OutOfMemory
+gives_fault (fault.Bad at what) = Ok (Fault at what)
+gives_fault fault.OutOfMemory = Err (record {})
 
 -- a text, and whether a fault ends it
 abbrev pub Texts : Type 1
@@ -41,6 +54,10 @@ texts_of bytes (End faulty) = ended faulty
 -- the line at a place of a file is these bytes, and what follows it
 abbrev pub IsStepAt : List ℕ → ℕ → List ℕ → Then → Type 0
 IsStepAt bytes at line then = Continues (texts_at bytes at) line (texts_of bytes then)
+
+-- behind a text, the line at a place of a file was appended, and what follows it
+abbrev pub AppendsStep : List ℕ → ℕ → List ℕ → List ℕ → Then → Type 0
+AppendsStep bytes at before after then = (line : List ℕ) × (after ≡ before ++ line) × IsStepAt bytes at line then
 
 -- the next line begins behind this one, inside the file or at its end
 abbrev pub IsAhead : ℕ → ℕ → Then → Type 0

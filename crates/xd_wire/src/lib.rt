@@ -4,7 +4,6 @@
 mod law;
 mod line;
 mod names;
-mod payload;
 mod print;
 mod step;
 

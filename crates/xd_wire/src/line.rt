@@ -1,16 +1,17 @@
 // One message as a line.
 ghost use Rattle.std.specs.Prelude.{◌≡◌, ◌<◌, ◌++◌, ◌∷◌, [], IfOk, OnOk, length, string_bytes, encode_utf8_all};
 ghost use Rattle.std.specs.Fmt.{decimal};
-ghost use Rattle.xd_wire.specs.WireText.{has_value, line_start, message_with};
-ghost use Rattle.xd_wire.specs.Lines.{IsLineOf};
+ghost use Rattle.xd_value.specs.Show.{shown};
+ghost use Rattle.xd_value.specs.View.{view};
+ghost use Rattle.xd_wire.specs.WireText.{has_value, line_start, message_with, value_line as value_line_of};
+ghost use Rattle.xd_wire.specs.Lines.{AppendsLine, gives_fault};
 
 use crate::names::name_of_kind;
-use crate::payload::{Shown, show_payload};
 use itoa::Buffer;
 use std::alloc::Global;
 use xd_edge::{OutOfMemory, Text};
 use xd_frame::{Header, Kind};
-use xd_value::{LoadWhat, Reader};
+use xd_value::{LoadFault, LoadWhat, Reader, Value, show_onto};
 
 /// What a message is printed as: a line, or the first fault of its payload and the place of that there.
 #[derive(Clone, Copy)]
@@ -19,29 +20,37 @@ pub enum Line {
     Fault(usize, LoadWhat),
 }
 
-/// Makes the line of a message with this payload in place of what the text was, or finds the first fault of the payload.
+/// Appends the line of a message with this payload to the text; or finds the first fault of the payload, and appends
+/// nothing.
 pub fn line_of(
     alloc: Global,
     reader: &mut Reader,
     header: Header,
     payload: &[u8],
-    line: &mut Text,
+    text: &mut Text,
 ) -> Result<Line, OutOfMemory>
     requires { length payload.now ≡ header.length }
-    ensures { IfOk result (IsLineOf (message_with header payload.now) (encode_utf8_all line.new)) }
+    ensures { IfOk result (AppendsLine (message_with header payload.now) (encode_utf8_all text.old) (encode_utf8_all text.new)) }
 {
-    start(line, header)?;
     if !reads_value(header.kind) {
-        push(line, '\n')?;
+        plain_line(text, header)?;
         return Ok(Line::Made);
     }
-    push(line, ' ')?;
-    match show_payload(alloc, reader, line, payload)? {
-        Shown::Value => {
-            push(line, '\n')?;
+    match reader.loads(alloc, payload) {
+        Ok(value) => {
+            value_line(text, header, &value)?;
             Ok(Line::Made)
         }
-        Shown::Fault(at, what) => Ok(Line::Fault(at, what)),
+        Err(fault) => line_fault(fault),
+    }
+}
+
+fn line_fault(fault: LoadFault) -> Result<Line, OutOfMemory>
+    ensures { result ≡ gives_fault fault }
+{
+    match fault {
+        LoadFault::Bad { at, what } => Ok(Line::Fault(at, what)),
+        LoadFault::OutOfMemory => Err(OutOfMemory),
     }
 }
 
@@ -56,40 +65,62 @@ fn reads_value(kind: Kind) -> bool
     }
 }
 
-/// The name of a message, its channel and the length of its payload, in place of what the text was.
-fn start(line: &mut Text, header: Header) -> Result<(), OutOfMemory>
-    ensures { OnOk result (encode_utf8_all line.new ≡ line_start header.kind header.channel header.length) }
+/// Appends the line of a message whose payload is not read.
+fn plain_line(text: &mut Text, header: Header) -> Result<(), OutOfMemory>
+    ensures { OnOk result (encode_utf8_all text.new ≡ encode_utf8_all text.old ++ (line_start header.kind header.channel header.length ++ (10 ∷ []))) }
 {
-    write_start(&mut line.text, header)?;
+    start(text, header)?;
+    push(text, '\n')?;
     Ok(())
 }
 
-fn write_start(line: &mut String, header: Header) -> Result<(), OutOfMemory>
-    ensures { OnOk result (string_bytes line.new ≡ line_start header.kind header.channel header.length) }
+/// Appends the line of a message whose payload is this value.
+fn value_line(text: &mut Text, header: Header, value: &Value) -> Result<(), OutOfMemory>
+    ensures { OnOk result (encode_utf8_all text.new
+        ≡ encode_utf8_all text.old ++ value_line_of header.kind header.channel header.length (encode_utf8_all (shown (view value.now)))) }
 {
-    line.clear();
-    line.push_str(name_of_kind(header.kind))?;
-    push_number(line, header.channel)?;
-    push_number(line, header.length)?;
+    start(text, header)?;
+    push(text, ' ')?;
+    show_onto(text, value)?;
+    push(text, '\n')?;
+    Ok(())
+}
+
+/// Appends the name of a message, its channel and the length of its payload.
+#[inline(always)]
+fn start(text: &mut Text, header: Header) -> Result<(), OutOfMemory>
+    ensures { OnOk result (encode_utf8_all text.new ≡ encode_utf8_all text.old ++ line_start header.kind header.channel header.length) }
+{
+    write_start(&mut text.text, header)?;
+    Ok(())
+}
+
+#[inline(always)]
+fn write_start(text: &mut String, header: Header) -> Result<(), OutOfMemory>
+    ensures { OnOk result (string_bytes text.new ≡ string_bytes text.old ++ line_start header.kind header.channel header.length) }
+{
+    text.push_str(name_of_kind(header.kind))?;
+    push_number(text, header.channel)?;
+    push_number(text, header.length)?;
     Ok(())
 }
 
 /// Appends a space and a number.
 #[inline(always)]
-fn push_number(line: &mut String, number: u32) -> Result<(), OutOfMemory>
-    ensures { OnOk result (string_bytes line.new ≡ string_bytes line.old ++ (32 ∷ decimal number)) }
+fn push_number(text: &mut String, number: u32) -> Result<(), OutOfMemory>
+    ensures { OnOk result (string_bytes text.new ≡ string_bytes text.old ++ (32 ∷ decimal number)) }
 {
     let mut buffer = Buffer::new();
-    line.push(' ')?;
-    line.push_str(buffer.format(number))?;
+    text.push(' ')?;
+    text.push_str(buffer.format(number))?;
     Ok(())
 }
 
 /// Appends a character of ASCII.
-fn push(line: &mut Text, c: char) -> Result<(), OutOfMemory>
+fn push(text: &mut Text, c: char) -> Result<(), OutOfMemory>
     requires { c < 128 }
-    ensures { OnOk result (encode_utf8_all line.new ≡ encode_utf8_all line.old ++ (c ∷ [])) }
+    ensures { OnOk result (encode_utf8_all text.new ≡ encode_utf8_all text.old ++ (c ∷ [])) }
 {
-    line.text.push(c)?;
+    text.text.push(c)?;
     Ok(())
 }

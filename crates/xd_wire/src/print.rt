@@ -1,9 +1,10 @@
 // A file of messages, printed line by line.
-ghost use Rattle.std.specs.Prelude.{◌≡◌, ◌≢◌, ◌≤◌, ℕ, List, Bool, Ok, IfOk, OnOk, OnErr};
+ghost use Rattle.std.specs.Prelude.{◌≡◌, ◌≢◌, ◌≤◌, ℕ, List, Bool, Ok, IfOk, OnOk, OnErr, encode_utf8_all};
 ghost use Rattle.xd_edge.specs.Faults.{Rose};
+ghost use Rattle.xd_edge.specs.Sink.{TookPart};
 ghost use Rattle.xd_wire.specs.WireText.{IsWireText};
 ghost use Rattle.xd_wire.specs.Lines.{texts_at};
-ghost use Rattle.xd_wire.specs.Printing.{HasText, Prints, Leaves, end_with};
+ghost use Rattle.xd_wire.specs.Printing.{HasText, Prints, Leaves, TookPage, IsEmptyAt, end_with};
 
 use crate::step::{Then, step_at};
 use std::alloc::Global;
@@ -23,7 +24,8 @@ pub enum WireEnd {
 
 /// Prints a file of messages: a line for each message, to the first fault, which has a line of its own.
 ///
-/// It holds one line at a time. Where the output fails or memory is refused, the output took a first part of the text.
+/// It holds a page of lines at a time, of 64 KiB and at most one line more. Where the output fails or memory is refused, the
+/// output took a first part of the text.
 pub fn print_messages<O: Sink>(
     alloc: Global,
     bytes: &[u8],
@@ -57,6 +59,9 @@ fn end_with(faulty: bool) -> WireEnd
     }
 }
 
+/// So many bytes of lines are written as one piece.
+const PAGE: usize = 65_536;
+
 /// Writes the lines of the file, and says whether the last one tells a fault.
 fn write_lines<O: Sink>(
     alloc: Global,
@@ -70,10 +75,10 @@ fn write_lines<O: Sink>(
 {
     let mut at = 0;
     let mut reader = Reader::new(alloc);
-    let mut line = Text::from_string(String::new(alloc));
+    let mut page = Text::from_string(String::new(alloc));
     'lines: loop {
-        let then = step_at(alloc, &mut reader, bytes, at, &mut line)?;
-        if write_all(out, line.as_str().as_bytes()).is_err() {
+        let then = step_at(alloc, &mut reader, bytes, at, &mut page)?;
+        if write_page(out, &mut page, then).is_err() {
             return Ok(Err(Failed));
         }
         match then {
@@ -81,4 +86,23 @@ fn write_lines<O: Sink>(
             Then::End { faulty } => return Ok(Ok(faulty)),
         }
     }
+}
+
+/// Writes the page where it is full or nothing follows it, and leaves it to be filled.
+fn write_page<O: Sink>(out: &mut O, page: &mut Text, then: Then) -> Result<(), Failed>
+    ensures took { OnOk result (TookPage (encode_utf8_all page.old) (encode_utf8_all page.new) (O.sunk out.old) (O.sunk out.new)) }
+    ensures last { OnOk result (IsEmptyAt then (encode_utf8_all page.new)) }
+    ensures part { OnErr result (TookPart (encode_utf8_all page.old) (O.sunk out.old) (O.sunk out.new)) }
+    ensures later { O.faults out.old ≤ O.faults out.new }
+    ensures still { OnOk result (O.faults out.new ≡ O.faults out.old) }
+    ensures rose { OnErr result (Rose (O.faults out.old) (O.faults out.new)) }
+{
+    if let Then::At(_) = then {
+        if page.text.len() < PAGE {
+            return Ok(());
+        }
+    }
+    write_all(out, page.as_str().as_bytes())?;
+    page.text.clear();
+    Ok(())
 }

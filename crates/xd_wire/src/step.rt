@@ -1,7 +1,7 @@
 // What stands at a place of a file of messages.
-ghost use Rattle.std.specs.Prelude.{◌≡◌, ◌≤◌, [], true, false, IfOk, OnOk, length, string_bytes, encode_utf8_all};
+ghost use Rattle.std.specs.Prelude.{◌≡◌, ◌≤◌, ◌++◌, true, IfOk, OnOk, length, string_bytes, encode_utf8_all};
 ghost use Rattle.xd_wire.specs.WireText.{fault_line};
-ghost use Rattle.xd_wire.specs.Lines.{IsStepAt, IsAhead};
+ghost use Rattle.xd_wire.specs.Lines.{AppendsStep, IsAhead};
 
 use crate::line::{Line, line_of};
 use crate::names::{name_of_frame_fault, name_of_what};
@@ -17,53 +17,52 @@ pub enum Then {
     End { faulty: bool },
 }
 
-/// Makes the line of what stands at this place of the file, in place of what the text was, and says what follows it.
-/// Behind the last message the line is empty.
+/// Appends the line of what stands at this place of the file to the text, and says what follows it. Behind the last
+/// message nothing is appended.
 pub fn step_at(
     alloc: Global,
     reader: &mut Reader,
     bytes: &[u8],
     at: usize,
-    line: &mut Text,
+    text: &mut Text,
 ) -> Result<Then, OutOfMemory>
     requires { at ≤ length bytes.now }
-    ensures step { IfOk result (IsStepAt bytes.now at (encode_utf8_all line.new)) }
+    ensures step { IfOk result (AppendsStep bytes.now at (encode_utf8_all text.old) (encode_utf8_all text.new)) }
     ensures ahead { IfOk result (IsAhead at (length bytes.now)) }
 {
     let header = match first_header(&bytes[at..]) {
         Ok(Some(header)) => header,
-        Ok(None) if at == bytes.len() => return Ok(clean_end(line)),
-        Ok(None) => return fault_step(alloc, "Cut", at as u128, line),
-        Err(fault) => return fault_step(alloc, name_of_frame_fault(fault), at as u128, line),
+        Ok(None) if at == bytes.len() => return Ok(Then::End { faulty: false }),
+        Ok(None) => return fault_step(alloc, "Cut", at as u128, text),
+        Err(fault) => return fault_step(alloc, name_of_frame_fault(fault), at as u128, text),
     };
     let start = at + HEADER_LENGTH;
     let next = start + header.length as usize;
-    match line_of(alloc, reader, header, &bytes[start..next], line)? {
+    match line_of(alloc, reader, header, &bytes[start..next], text)? {
         Line::Made => Ok(Then::At(next)),
         Line::Fault(place, what) => {
             // No contract bounds the place in the payload, so the sum has 128 bits.
             let place = start as u128 + place as u128;
-            fault_step(alloc, name_of_what(what), place, line)
+            fault_step(alloc, name_of_what(what), place, text)
         }
     }
 }
 
-fn clean_end(line: &mut Text) -> Then
-    ensures line { encode_utf8_all line.new ≡ [] }
-    ensures then { result ≡ Then.End false }
-{
-    line.text.clear();
-    Then::End { faulty: false }
-}
-
-/// The line of a fault, which is the last.
-fn fault_step(alloc: Global, name: &str, place: u128, line: &mut Text) -> Result<Then, OutOfMemory>
-    ensures line { OnOk result (encode_utf8_all line.new ≡ fault_line name.now place) }
+/// Appends the line of a fault, which is the last.
+fn fault_step(alloc: Global, name: &str, place: u128, text: &mut Text) -> Result<Then, OutOfMemory>
+    ensures line { OnOk result (encode_utf8_all text.new ≡ encode_utf8_all text.old ++ fault_line name.now place) }
     ensures then { IfOk result (λ then. then ≡ Then.End true) }
 {
-    let text = text_of_fault(alloc, name, place)?;
-    *line = Text::from_string(text);
+    let line = text_of_fault(alloc, name, place)?;
+    append(text, &line)?;
     Ok(Then::End { faulty: true })
+}
+
+fn append(text: &mut Text, line: &str) -> Result<(), OutOfMemory>
+    ensures { OnOk result (encode_utf8_all text.new ≡ encode_utf8_all text.old ++ line.now) }
+{
+    text.text.push_str(line)?;
+    Ok(())
 }
 
 fn text_of_fault(alloc: Global, name: &str, place: u128) -> Result<String, OutOfMemory>

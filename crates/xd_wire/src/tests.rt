@@ -20,7 +20,7 @@ const THREE_TEXT: &str =
 /// A sink with ample room that fails at this call, where there is one.
 fn sink(alloc: Global, fails: &[u32]) -> Result<MemSink, OutOfMemory> {
     let items = fails.to_vec(alloc)?;
-    MemSink::new(alloc, 10_000, Indices { items })
+    MemSink::new(alloc, 200_000, Indices { items })
 }
 
 /// The file prints this text and comes to this end, and all of the text is handed on.
@@ -128,16 +128,23 @@ fn the_first_fault_of_a_payload_has_its_line(rt: HostRuntime) -> Result<(), Fail
     Ok(())
 }
 
+/// 8,000 lines of 18 bytes each are written as pages of 3,641 lines, of 3,641 and of 718, and handed on.
 #[test]
 fn an_output_that_fails_took_a_first_part(rt: HostRuntime) -> Result<(), Fail> {
-    for (call, taken) in [(0, 0), (1, 18), (2, 47), (3, THREE_TEXT.len())] {
+    let mut file = Vec::new(rt.alloc());
+    let mut text = Vec::new(rt.alloc());
+    for _ in 0..8_000 {
+        file.extend_from_slice(b"\x05\x00\x00\x00\x03\x00\x00\x00\x00")?;
+        text.extend_from_slice(b"CHANNEL_CLOSE 3 0\n")?;
+    }
+    for (call, taken) in [(0, 0), (1, 65_538), (2, 131_076), (3, 144_000)] {
         let mut out = sink(rt.alloc(), &[call])?;
         assert_eq!(rt;
-            print_messages(rt.alloc(), THREE, &mut out)?,
+            print_messages(rt.alloc(), &file, &mut out)?,
             WireEnd::OutFailed
         );
-        assert!(rt; taken <= THREE_TEXT.len());
-        assert_eq!(rt; out.bytes.as_slice(), &THREE_TEXT.as_bytes()[..taken]);
+        assert!(rt; taken <= text.len());
+        assert_eq!(rt; out.bytes.as_slice(), &text[..taken]);
         assert_eq!(rt; out.plan.faults, 1);
     }
     let mut narrow = MemSink::new(

@@ -1,17 +1,16 @@
-use Rattle.std.proofs.Common.{List, ℕ, [], ◌∷◌, ◌++◌, sym, ap, subst, ◌∙◌}
-use Rattle.xd_wire.specs.Payloads.{ShowsPayload}
-use Rattle.xd_wire.specs.WireText.{has_value, line_start, message_with}
-use Rattle.xd_wire.proofs.LineLemmas.{value_is_line, fault_is_fault}
+use Rattle.std.proofs.Common.{ℕ, ◌++◌, encode_utf8_all, sym, ap, ◌∙◌}
+use Rattle.xd_value.specs.Show.{shown}
+use Rattle.xd_value.specs.View.{view}
+use Rattle.xd_wire.specs.WireText.{message_with, value_line}
+use Rattle.xd_wire.proofs.LineLemmas.{value_appends, fault_appends}
 use Rattle.xd_wire.proofs.line.line_of.Goals as goal
 
-pub returns-in_ok-push-in-Value : goal.returns-in_ok-push-in-Value
-returns-in_ok-push-in-Value c =
-    value_is_line (has_value c.args.header.kind) (message_with c.args.header c.args.payload.now) c.push-2.new.line c.show_payload.new.text _ (sym c.reads_value.ensures ∙ c.if-not-reads_value.false)
-    (subst (ShowsPayload c.push-2.new.line c.args.payload.now c.show_payload.new.text) c.in-Value.is c.in_ok-show_payload.ensures)
-    (c.in_ok-push-2.ensures ∙ ap (λ (x : List ℕ). x ++ (32 ∷ [])) (c.in_ok-start.ensures ∙ ap (line_start c.args.header.kind c.args.header.channel) (sym c.requires)))
-    c.in_ok-push-in-Value.ensures
+pub returns-in_ok-value_line-in-Ok : goal.returns-in_ok-value_line-in-Ok
+returns-in_ok-value_line-in-Ok c =
+    value_appends (message_with c.args.header c.args.payload.now) c.in-Ok.value (encode_utf8_all c.args.text.now) (encode_utf8_all c.value_line.new.text) (sym c.reads_value.ensures ∙ c.if-not-reads_value.false)
+    c.in-Ok.ensures.read c.in-Ok.ensures.only c.in-Ok.ensures.faults
+    (c.in_ok-value_line-in-Ok.ensures ∙ ap (λ (n : ℕ). encode_utf8_all c.args.text.now ++ value_line c.args.header.kind c.args.header.channel n (encode_utf8_all (shown (view c.in-Ok.value)))) (sym c.requires))
 
-pub returns-in-Fault : goal.returns-in-Fault
-returns-in-Fault c =
-    fault_is_fault (has_value c.args.header.kind) (message_with c.args.header c.args.payload.now) c.push-2.new.line c.show_payload.new.text c.in-Fault.at c.in-Fault.what (sym c.reads_value.ensures ∙ c.if-not-reads_value.false)
-    (subst (ShowsPayload c.push-2.new.line c.args.payload.now c.show_payload.new.text) c.in-Fault.is c.in_ok-show_payload.ensures)
+pub returns-in-Err : goal.returns-in-Err
+returns-in-Err c =
+    rw c.line_fault.ensures (fault_appends (message_with c.args.header c.args.payload.now) (encode_utf8_all c.args.text.now) c.in-Err.fault (sym c.reads_value.ensures ∙ c.if-not-reads_value.false) c.in-Err.ensures.refused c.in-Err.ensures.only c.in-Err.ensures.faults)
