@@ -10,7 +10,9 @@ ratio to it says about how much is left to gain.
 
 All sides are measured alike: each run is a process of its own that first reads the payload from a file, and then times one
 call of loads and one call of dumps of what it gave; neither the start of the process, nor the reading of the file, nor the
-end of the value counts. The runs alternate, and the best of each side counts.
+end of the value counts. The runs alternate, and the best of each side counts. The mixed values are also read again and again
+in one process, where memory that the system gave for one value is there for the next; the rows with `again` tell the best of
+those readings behind the first.
 """
 
 import os
@@ -64,13 +66,15 @@ THEIRS = """
 import sys, time
 from execnet.gateway_base import dumps_internal, loads_internal
 
-with open(sys.argv[1], "rb") as f:
-    payload = f.read()
-begun = time.perf_counter()
-value = loads_internal(payload)
-middle = time.perf_counter()
-dumps_internal(value)
-print((middle - begun) * 1e6, (time.perf_counter() - middle) * 1e6)
+for path in sys.argv[1:]:
+    with open(path, "rb") as f:
+        payload = f.read()
+    begun = time.perf_counter()
+    value = loads_internal(payload)
+    middle = time.perf_counter()
+    dumps_internal(value)
+    print((middle - begun) * 1e6, (time.perf_counter() - middle) * 1e6)
+    del value
 """
 
 # The same value in memory as `loads` gives: 32 bytes a value, 64 bytes a pair of a dict, and each text, each bytes and each
@@ -159,18 +163,42 @@ static void run(const unsigned char *at) {
     }
 }
 
-int main(int argc, char **argv) {
-    FILE *file = fopen(argv[1], "rb");
+static void drop(Value *value) {
+    Value *parts = value->items.at;
+    size_t count = value->tag == DICT ? 2 * value->items.length : value->items.length;
+    switch (value->tag) {
+    case LIST:
+    case TUPLE:
+    case DICT:
+        for (size_t i = 0; i < count; i++) drop(&parts[i]);
+        free(parts);
+        break;
+    case WORDS: free(parts);
+    }
+}
+
+static void timed(const char *path) {
+    FILE *file = fopen(path, "rb");
     fseek(file, 0, SEEK_END);
     size_t length = ftell(file);
     rewind(file);
     unsigned char *payload = malloc(length);
-    if (fread(payload, 1, length, file) != length) return 1;
+    if (fread(payload, 1, length, file) != length) exit(1);
+    fclose(file);
+    stack = 0;
+    room = depth = 0;
     struct timespec begun, ended;
     clock_gettime(CLOCK_MONOTONIC, &begun);
     run(payload);
     clock_gettime(CLOCK_MONOTONIC, &ended);
     printf("%.0f\n", (ended.tv_sec - begun.tv_sec) * 1e6 + (ended.tv_nsec - begun.tv_nsec) / 1e3);
+    drop(&stack[0]);
+    free(stack);
+    free(payload);
+}
+
+int main(int argc, char **argv) {
+    for (int i = 1; i < argc; i++) timed(argv[i]);
     return 0;
 }
 """
@@ -222,25 +250,28 @@ def nested(depth):
     return (b"K" + number(1) + integer(0)) * (depth - 1) + b"K" + number(0) + b"P" * (depth - 1) + b"Q"
 
 
-def ours(program, path):
-    """Reads and writes once, in a process of its own: microseconds of each, and peak memory in bytes."""
-    done = subprocess.run([program, path], capture_output=True, text=True)
-    words = {line.split()[0]: line.split()[1:] for line in done.stdout.splitlines() if line.strip()}
-    if "loads" not in words or "VmHWM:" not in words:
+def ours(program, paths):
+    """Reads and writes each in turn, in one process of its own: the microseconds of each reading, of each writing, None for
+    one that was refused, and peak memory in bytes."""
+    done = subprocess.run([program, *paths], capture_output=True, text=True)
+    words = [line.split() for line in done.stdout.splitlines() if line.strip()]
+    took = {which: [int(n) if n.isdigit() else None for name, n, *_ in words if name == which] for which in ("loads", "dumps")}
+    peaks = [int(n) * 1024 for name, n, *_ in words if name == "VmHWM:"]
+    if len(took["loads"]) != len(paths) or len(took["dumps"]) != len(paths) or None in took["loads"] or not peaks:
         sys.exit(f"the program did not run:\n{done.stdout}{done.stderr}")
-    took = {k: int(words[k][0]) if words.get(k, ["-"])[0].isdigit() else None for k in ("loads", "dumps")}
-    return took["loads"], took["dumps"], int(words["VmHWM:"][0]) * 1024
+    return took["loads"], took["dumps"], peaks[0]
 
 
-def theirs(python, path):
+def theirs(python, paths):
     """The same by execnet, in a process of its own, without the memory."""
-    done = subprocess.run([python, "-c", THEIRS, path], capture_output=True, text=True, check=True)
-    return tuple(map(float, done.stdout.split()))
+    done = subprocess.run([python, "-c", THEIRS, *paths], capture_output=True, text=True, check=True)
+    loads, dumps = zip(*(map(float, line.split()) for line in done.stdout.splitlines()))
+    return list(loads), list(dumps)
 
 
-def in_c(program, path):
-    """The microseconds in which the program in C makes the same value."""
-    return float(subprocess.run([program, path], capture_output=True, text=True, check=True).stdout)
+def in_c(program, paths):
+    """The microseconds in which the program in C makes the same values."""
+    return [float(n) for n in subprocess.run([program, *paths], capture_output=True, text=True, check=True).stdout.split()]
 
 
 def best(runs):
@@ -258,8 +289,13 @@ CASES = [
 MIXED, FEW, MANY, _, NESTED = (name for name, _ in CASES)
 
 
+# So often the mixed values are read in one process.
+AGAIN = 6
+
+
 def measure(_):
     took, peaks, sizes, compared, bare = {}, {}, {}, [], []
+    again = {"loads": [], "execnet": [], "c": []}
     python = shared.python_with("execnet")
     with tempfile.TemporaryDirectory() as folder:
         program = shared.build(folder, "value_bench", PROGRAM, ": xd_value xd_edge")
@@ -271,11 +307,18 @@ def measure(_):
                 f.write(payload)
             runs = []
             for _ in range(shared.RUNS):
-                runs.append(ours(program, path))
-                if name == MIXED and python is not None:
-                    compared.append(theirs(python, path))
-                if name == MIXED and same is not None:
-                    bare.append(in_c(same, path))
+                loads, dumps, peak = ours(program, [path])
+                runs.append((loads[0], dumps[0], peak))
+                if name != MIXED:
+                    continue
+                again["loads"] += ours(program, [path] * AGAIN)[0][1:]
+                if python is not None:
+                    loads, dumps = theirs(python, [path])
+                    compared.append((loads[0], dumps[0]))
+                    again["execnet"] += theirs(python, [path] * AGAIN)[0][1:]
+                if same is not None:
+                    bare += in_c(same, [path])
+                    again["c"] += in_c(same, [path] * AGAIN)[1:]
             loads, dumps, _ = best(runs)
             peak = max(run[2] for run in runs)
             took[name], peaks[name], sizes[name] = (loads, dumps), peak, len(payload)
@@ -288,14 +331,17 @@ def measure(_):
     else:
         (read, written), (loads, dumps) = best(compared), took[MIXED]
         rows.append(shared.at_least(f"reading {MIXED}", "execnet's `loads`", read / loads, 20))
+        rows.append(shared.Row(f"reading {MIXED} again", "execnet's `loads` again", min(again["execnet"]) / min(again["loads"]), "times as fast"))
         rows.append(shared.at_least(f"writing {MIXED}", "execnet's `dumps`", written / dumps, 20))
     what, beside = f"reading {MIXED}", "a program in C that fills the same memory and checks nothing"
     if same is None:
         rows.append(shared.skipped(what, beside, "there is no compiler of C"))
     else:
         rows.append(shared.Row(what, beside, took[MIXED][0] / min(bare)))
+        rows.append(shared.Row(f"{what} again", "that program again", min(again["loads"]) / min(again["c"])))
         if python is not None:
             rows.append(shared.Row(f"that program in C on {MIXED}", "execnet's `loads`", read / min(bare), "times as fast"))
+            rows.append(shared.Row(f"that program in C on {MIXED} again", "execnet's `loads` again", min(again["execnet"]) / min(again["c"]), "times as fast"))
     rows.append(shared.at_most(f"reading {MANY}", FEW, took[MANY][0] / took[FEW][0], 25))
     # What the program takes anyhow is what it takes for the smallest payload.
     peak = max((peaks[name] - peaks[NESTED]) / sizes[name] for name in peaks if name != NESTED)
