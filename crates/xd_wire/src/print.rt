@@ -7,7 +7,7 @@ ghost use Rattle.xd_wire.specs.Lines.{texts_at};
 ghost use Rattle.xd_wire.specs.Printing.{HasText, Prints, Leaves, TookPage, IsEmptyAt, end_with};
 
 use crate::step::{Then, step_at};
-use std::alloc::Global;
+use std::alloc::{AllocError, Global};
 use xd_edge::{Failed, OutOfMemory, Sink, Text, write_all};
 use xd_value::Reader;
 
@@ -39,6 +39,7 @@ pub fn print_messages<O: Sink>(
     ensures still { IfOk result (λ how. how ≢ WireEnd.OutFailed → O.faults out.new ≡ O.faults out.old) }
     ensures later { O.faults out.old ≤ O.faults out.new }
 {
+    make_room(alloc);
     let written = write_lines(alloc, bytes, out)?;
     let Ok(faulty) = written else {
         return Ok(WireEnd::OutFailed);
@@ -47,6 +48,16 @@ pub fn print_messages<O: Sink>(
         return Ok(WireEnd::OutFailed);
     }
     Ok(end_with(faulty))
+}
+
+/// So many bytes are taken and given back ahead of the first message.
+const ROOM: usize = 32_000_000;
+
+/// Takes room as for a large message and gives it back untouched. From then on the system's allocator keeps what one message
+/// gave back for the next one, where else it would hand it to the system and get it page by page again. Where there is no such
+/// room nothing changes.
+fn make_room(alloc: Global) {
+    let _room: Result<Vec<u8>, AllocError> = Vec::with_capacity(alloc, ROOM);
 }
 
 fn end_with(faulty: bool) -> WireEnd
