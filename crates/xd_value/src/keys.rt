@@ -105,16 +105,6 @@ impl Keys {
         Keys { seen: None }
     }
 
-    /// The keys. None are kept from now on.
-    pub(crate) fn take(&mut self) -> Keys
-        ensures taken { result ≡ self.old }
-        ensures left { (p : Tree → Bool) → Knows self.new p }
-    {
-        Keys {
-            seen: self.seen.take(),
-        }
-    }
-
     /// Whether the item stands among the others, all of which are known if any is.
     pub(crate) fn repeats(
         &mut self,
