@@ -6,9 +6,11 @@ ghost use Rattle.xd_value.specs.Tree.{Tree};
 ghost use Rattle.xd_value.specs.View.{view};
 ghost use Rattle.xd_value.specs.declared.fault.LoadWhat.{LoadWhat as What};
 
+use crate::descent::usual;
 use crate::fault::{LoadFault, LoadWhat, StepFault};
 use crate::machine::step;
 use crate::opcode::{Opcode, opcode_of};
+use crate::shape::Shape;
 use crate::stack::Stack;
 use crate::value::Value;
 use std::alloc::Global;
@@ -32,6 +34,7 @@ pub fn loads(alloc: Global, bytes: &[u8]) -> Result<Value, LoadFault>
 /// consequence for the next.
 #[derive(Drop)]
 pub struct Reader {
+    pub(crate) shape: Shape,
     pub(crate) stack: Stack,
 }
 
@@ -39,6 +42,7 @@ impl Reader {
     /// A reader that has no room yet.
     pub fn new(alloc: Global) -> Reader {
         Reader {
+            shape: Shape::new(alloc),
             stack: Stack::new(alloc),
         }
     }
@@ -54,6 +58,9 @@ impl Reader {
         // Bytes with a first fault are refused with it, unless memory runs out.
         ensures faults { (at : ℕ) → (f : What) → FirstFault bytes.now at f → IsFault at f result }
     {
+        if let Some(value) = usual(alloc, bytes, &mut self.shape) {
+            return Ok(value);
+        }
         run(alloc, bytes, &mut self.stack)
     }
 }

@@ -1,0 +1,38 @@
+use Rattle.std.proofs.Common.{◌≡◌, ◌+◌, ◌*◌, length}
+use Rattle.xd_value.specs.Keys.{Knows}
+use Rattle.xd_value.specs.Tree.{has_key}
+use Rattle.xd_value.specs.View.{views, pair_views}
+use Rattle.xd_value.specs.Walk.{BeginParts, BeginItems, BeginPairs}
+use Rattle.xd_value.proofs.descent.+descent.Given as goal
+
+abbrev pub decreases-built : goal.decreases-built
+decreases-built l = 4 * l.limit
+
+abbrev pub decreases-filled : goal.decreases-filled
+decreases-filled l = 4 * l.limit
+
+abbrev pub decreases-items_of : goal.decreases-items_of
+decreases-items_of l = 4 * l.limit + 3
+
+abbrev pub decreases-next_value : goal.decreases-next_value
+decreases-next_value l = 4 * l.limit + 2
+
+abbrev pub decreases-pairs_of : goal.decreases-pairs_of
+decreases-pairs_of l = 4 * l.limit + 3
+
+abbrev pub decreases-parts_of : goal.decreases-parts_of
+decreases-parts_of l = 4 * l.limit + 3
+
+abbrev pub decreases-value_at : goal.decreases-value_at
+decreases-value_at l = 4 * l.limit + 1
+
+abbrev pub invariant-items_of-loop-index : goal.invariant-items_of-loop-index
+invariant-items_of-loop-index l =
+    record { read : BeginItems l.limit l.fn.walk.rest.now l.walk.rest.now (views l.items.items); length : length l.items.items ≡ l.index }
+
+abbrev pub invariant-pairs_of-loop : goal.invariant-pairs_of-loop
+invariant-pairs_of-loop l =
+    record { read : BeginPairs l.limit l.fn.walk.rest.now l.walk.rest.now (pair_views l.pairs.items); known : Knows l.keys (λ t. has_key t (pair_views l.pairs.items)) }
+
+abbrev pub invariant-parts_of-loop : goal.invariant-parts_of-loop
+invariant-parts_of-loop l = BeginParts l.limit l.fn.walk.rest.now l.walk.rest.now (views l.items.items)

@@ -1,0 +1,317 @@
+// Reading a payload along its shape.
+ghost use Rattle.std.specs.Prelude.{◌≡◌, ◌∷◌, ◌⊎◌, ◌||◌, ℕ, true, length, IfSome};
+ghost use Rattle.xd_value.specs.Payload.{IsPayload};
+ghost use Rattle.xd_value.specs.Keys.{Knows};
+ghost use Rattle.xd_value.specs.Spelling.{IsNewKey, IsSet};
+ghost use Rattle.xd_value.specs.Tree.{same, has_key};
+ghost use Rattle.xd_value.specs.View.{view, views, pair_views};
+ghost use Rattle.xd_value.specs.Walk.{Begins, BeginParts, BeginItems, BeginPairs, BeginsIndex, BeginsLeaf, Closes};
+
+use crate::checks::{are_hashable, is_hashable};
+use crate::distinct::are_distinct;
+use crate::keys::Keys;
+use crate::number::long_value;
+use crate::shape::{Node, Shape};
+use crate::value::Value;
+use crate::walk::Walk;
+use std::alloc::Global;
+use xd_edge::{Blob, Text};
+
+/// The value that the bytes are a payload of, where they are one of the usual kind and there is room. Where this gives
+/// nothing, nothing is known of the bytes.
+pub(crate) fn usual(alloc: Global, bytes: &[u8], shape: &mut Shape) -> Option<Value>
+    ensures { IfSome result (λ v. IsPayload (view v) bytes.now) }
+{
+    shape.find(bytes)?;
+    let mut walk = Walk {
+        rest: bytes,
+        heads: &shape.heads,
+    };
+    let value = next_value(alloc, &shape.nodes, &mut walk, 64)?;
+    match walk.rest {
+        [b'Q'] => Some(value),
+        _ => None,
+    }
+}
+
+/// The value that begins here. It nests at most so deep.
+#[cycle(descent)]
+fn next_value(alloc: Global, nodes: &[Node], walk: &mut Walk<'_>, limit: u32) -> Option<Value>
+    ensures { IfSome result (λ v. Begins limit walk.old.rest.now walk.new.rest.now (view v)) }
+{
+    let head = walk.head()?;
+    let value = value_at(alloc, nodes, walk, head, limit)?;
+    Some(value)
+}
+
+/// The value of this node.
+#[cycle(descent)]
+fn value_at(
+    alloc: Global,
+    nodes: &[Node],
+    walk: &mut Walk<'_>,
+    node: u32,
+    limit: u32,
+) -> Option<Value>
+    ensures { IfSome result (λ v. Begins limit walk.old.rest.now walk.new.rest.now (view v)) }
+{
+    match nodes.get(node as usize) {
+        None => plain(alloc, walk),
+        Some(Node::Built { parts, first }) => built(alloc, nodes, walk, *parts, *first, limit),
+        Some(Node::Filled { parts }) => filled(alloc, nodes, walk, *parts, limit),
+    }
+}
+
+/// A tuple, a set or a frozenset.
+#[cycle(descent)]
+fn built(
+    alloc: Global,
+    nodes: &[Node],
+    walk: &mut Walk<'_>,
+    parts: u32,
+    first: u32,
+    limit: u32,
+) -> Option<Value>
+    ensures { IfSome result (λ v. Begins limit walk.old.rest.now walk.new.rest.now (view v)) }
+{
+    let limit = limit.checked_sub(1)?;
+    let items = parts_of(alloc, nodes, walk, parts, first, limit)?;
+    let value = closed(alloc, walk, items)?;
+    Some(value)
+}
+
+/// The parts of a tuple or a set, the first of which has this node.
+#[cycle(descent)]
+fn parts_of(
+    alloc: Global,
+    nodes: &[Node],
+    walk: &mut Walk<'_>,
+    parts: u32,
+    first: u32,
+    limit: u32,
+) -> Option<Vec<Value>>
+    ensures { IfSome result (λ items. BeginParts limit walk.old.rest.now walk.new.rest.now (views items.items)) }
+{
+    let Ok(mut items) = Vec::with_capacity(alloc, parts as usize) else {
+        return None;
+    };
+    let item = value_at(alloc, nodes, walk, first, limit)?;
+    let Ok(()) = items.push(item) else {
+        return None;
+    };
+    for _ in 1..parts {
+        let item = next_value(alloc, nodes, walk, limit)?;
+        let Ok(()) = items.push(item) else {
+            return None;
+        };
+    }
+    Some(items)
+}
+
+/// What the opcode behind these parts makes of them.
+fn closed(alloc: Global, walk: &mut Walk<'_>, items: Vec<Value>) -> Option<Value>
+    ensures { IfSome result (λ v. Closes (views items.items) walk.old.rest.now walk.new.rest.now (view v)) }
+{
+    let opcode = walk.byte()?;
+    let parts = walk.count()?;
+    if parts as usize != items.len() {
+        return None;
+    }
+    if opcode == b'@' {
+        return Some(Value::Tuple(items));
+    }
+    if !can_be_set(alloc, &items) {
+        return None;
+    }
+    match opcode {
+        b'O' => Some(Value::Set(items)),
+        b'E' => Some(Value::FrozenSet(items)),
+        _ => None,
+    }
+}
+
+/// Whether these are known to be hashable and to differ.
+fn can_be_set(alloc: Global, items: &[Value]) -> bool
+    ensures { result ≡ true → IsSet (views items.now) }
+{
+    if !are_hashable(items) {
+        return false;
+    }
+    match are_distinct(alloc, items) {
+        Ok(distinct) => distinct,
+        Err(_) => false,
+    }
+}
+
+/// A list or a dict.
+#[cycle(descent)]
+fn filled(
+    alloc: Global,
+    nodes: &[Node],
+    walk: &mut Walk<'_>,
+    parts: u32,
+    limit: u32,
+) -> Option<Value>
+    ensures { IfSome result (λ v. Begins limit walk.old.rest.now walk.new.rest.now (view v)) }
+{
+    let limit = limit.checked_sub(1)?;
+    match walk.byte()? {
+        b'K' => {
+            if walk.count()? != parts {
+                return None;
+            }
+            let items = items_of(alloc, nodes, walk, parts, limit)?;
+            Some(Value::List(items))
+        }
+        b'J' => {
+            let pairs = pairs_of(alloc, nodes, walk, parts, limit)?;
+            Some(Value::Dict(pairs))
+        }
+        _ => None,
+    }
+}
+
+/// The items of a list.
+#[cycle(descent)]
+fn items_of(
+    alloc: Global,
+    nodes: &[Node],
+    walk: &mut Walk<'_>,
+    parts: u32,
+    limit: u32,
+) -> Option<Vec<Value>>
+    ensures items { IfSome result (λ items. BeginItems limit walk.old.rest.now walk.new.rest.now (views items.items)) }
+    ensures length { IfSome result (λ items. length items.items ≡ parts) }
+{
+    let Ok(mut items) = Vec::with_capacity(alloc, parts as usize) else {
+        return None;
+    };
+    for index in 0..parts {
+        skip_index(walk, index)?;
+        let item = next_value(alloc, nodes, walk, limit)?;
+        if walk.byte()? != b'P' {
+            return None;
+        }
+        let Ok(()) = items.push(item) else {
+            return None;
+        };
+    }
+    Some(items)
+}
+
+/// The pairs of a dict.
+#[cycle(descent)]
+fn pairs_of(
+    alloc: Global,
+    nodes: &[Node],
+    walk: &mut Walk<'_>,
+    parts: u32,
+    limit: u32,
+) -> Option<Vec<(Value, Value)>>
+    ensures { IfSome result (λ pairs. BeginPairs limit walk.old.rest.now walk.new.rest.now (pair_views pairs.items)) }
+{
+    let Ok(mut pairs) = Vec::with_capacity(alloc, parts as usize) else {
+        return None;
+    };
+    let mut keys = Keys::new();
+    for _ in 0..parts {
+        let key = next_value(alloc, nodes, walk, limit)?;
+        if !is_new_key(alloc, &key, &pairs, &mut keys) {
+            return None;
+        }
+        let value = next_value(alloc, nodes, walk, limit)?;
+        if walk.byte()? != b'P' {
+            return None;
+        }
+        let Ok(()) = pairs.push((key, value)) else {
+            return None;
+        };
+    }
+    Some(pairs)
+}
+
+/// Whether this is known to be a new key of a dict of these pairs. If so, it stands among the keys from now on.
+#[inline(always)]
+fn is_new_key(alloc: Global, key: &Value, pairs: &[(Value, Value)], keys: &mut Keys) -> bool
+    requires { Knows keys.old (λ t. has_key t (pair_views pairs.now)) }
+    ensures new { result ≡ true → IsNewKey (pair_views pairs.now) (view key.now) }
+    ensures known { result ≡ true → Knows keys.new (λ t. same t (view key.now) || has_key t (pair_views pairs.now)) }
+{
+    if !is_hashable(key) {
+        return false;
+    }
+    match keys.repeats_key(alloc, key, pairs) {
+        Ok(repeats) => !repeats,
+        Err(_) => false,
+    }
+}
+
+/// The index ahead of an item of a list.
+#[inline(always)]
+fn skip_index(walk: &mut Walk<'_>, index: u32) -> Option<()>
+    ensures { IfSome result (λ _. BeginsIndex index walk.old.rest.now walk.new.rest.now) }
+{
+    walk.head()?;
+    if walk.byte()? != b'F' || walk.number()? != index {
+        return None;
+    }
+    if index < 0x8000_0000 { Some(()) } else { None }
+}
+
+/// A value without parts.
+fn plain(alloc: Global, walk: &mut Walk<'_>) -> Option<Value>
+    ensures { IfSome result (λ v. BeginsLeaf walk.old.rest.now walk.new.rest.now (view v)) }
+{
+    match walk.byte()? {
+        b'F' | b'G' => int(walk),
+        b'N' | b'S' => text(alloc, walk),
+        b'A' => bytes(alloc, walk),
+        b'L' => Some(Value::None),
+        b'R' => Some(Value::Bool(true)),
+        b'C' => Some(Value::Bool(false)),
+        b'H' | b'I' => long(walk),
+        _ => None,
+    }
+}
+
+/// The integer behind its opcode.
+#[inline(always)]
+fn int(walk: &mut Walk<'_>) -> Option<Value>
+    ensures { IfSome result (λ v. (opcode : ℕ) → (opcode ≡ 70) ⊎ (opcode ≡ 71) → BeginsLeaf (opcode ∷ walk.old.rest.now) walk.new.rest.now (view v)) }
+{
+    let n = walk.number()?;
+    Some(Value::Int(n.cast_signed() as i128))
+}
+
+/// The text behind its opcode.
+fn text(alloc: Global, walk: &mut Walk<'_>) -> Option<Value>
+    ensures { IfSome result (λ v. (opcode : ℕ) → (opcode ≡ 78) ⊎ (opcode ≡ 83) → BeginsLeaf (opcode ∷ walk.old.rest.now) walk.new.rest.now (view v)) }
+{
+    let bytes = walk.chunk()?;
+    let Ok(text) = str::from_utf8(bytes) else {
+        return None;
+    };
+    let Ok(text) = Text::of(alloc, text) else {
+        return None;
+    };
+    Some(Value::Text(text))
+}
+
+/// The bytes behind their opcode.
+fn bytes(alloc: Global, walk: &mut Walk<'_>) -> Option<Value>
+    ensures { IfSome result (λ v. BeginsLeaf (65 ∷ walk.old.rest.now) walk.new.rest.now (view v)) }
+{
+    let bytes = walk.chunk()?;
+    let Ok(bytes) = Blob::of(alloc, bytes) else {
+        return None;
+    };
+    Some(Value::Bytes(bytes))
+}
+
+/// The integer whose digits stand behind its opcode.
+fn long(walk: &mut Walk<'_>) -> Option<Value>
+    ensures { IfSome result (λ v. (opcode : ℕ) → (opcode ≡ 72) ⊎ (opcode ≡ 73) → BeginsLeaf (opcode ∷ walk.old.rest.now) walk.new.rest.now (view v)) }
+{
+    let n = long_value(walk.chunk()?)?;
+    Some(Value::Int(n))
+}
