@@ -36,16 +36,22 @@ pub(crate) fn usual(alloc: Global, bytes: &[u8], shape: &mut Shape) -> Option<Va
 
 /// The value that begins here. It nests at most so deep.
 #[cycle(descent)]
-fn next_value(alloc: Global, nodes: &[Node], walk: &mut Walk<'_>, limit: u32) -> Option<Value>
+#[inline(always)]
+pub(crate) fn next_value(
+    alloc: Global,
+    nodes: &[Node],
+    walk: &mut Walk<'_>,
+    limit: u32,
+) -> Option<Value>
     ensures { IfSome result (λ v. Begins limit walk.old.rest.now walk.new.rest.now (view v)) }
 {
     let head = walk.head()?;
-    let value = value_at(alloc, nodes, walk, head, limit)?;
-    Some(value)
+    value_at(alloc, nodes, walk, head, limit)
 }
 
 /// The value of this node.
 #[cycle(descent)]
+#[inline(always)]
 fn value_at(
     alloc: Global,
     nodes: &[Node],
@@ -64,6 +70,7 @@ fn value_at(
 
 /// A tuple, a set or a frozenset.
 #[cycle(descent)]
+#[inline(never)]
 fn built(
     alloc: Global,
     nodes: &[Node],
@@ -76,8 +83,7 @@ fn built(
 {
     let limit = limit.checked_sub(1)?;
     let items = parts_of(alloc, nodes, walk, parts, first, limit)?;
-    let value = closed(alloc, walk, items)?;
-    Some(value)
+    closed(alloc, walk, items)
 }
 
 /// The parts of a tuple or a set, the first of which has this node.
@@ -145,6 +151,7 @@ fn can_be_set(alloc: Global, items: &[Value]) -> bool
 
 /// A list or a dict.
 #[cycle(descent)]
+#[inline(never)]
 fn filled(
     alloc: Global,
     nodes: &[Node],
@@ -232,7 +239,12 @@ fn pairs_of(
 
 /// Whether this is known to be a new key of a dict of these pairs. If so, it stands among the keys from now on.
 #[inline(always)]
-fn is_new_key(alloc: Global, key: &Value, pairs: &[(Value, Value)], keys: &mut Keys) -> bool
+pub(crate) fn is_new_key(
+    alloc: Global,
+    key: &Value,
+    pairs: &[(Value, Value)],
+    keys: &mut Keys,
+) -> bool
     requires { Knows keys.old (λ t. has_key t (pair_views pairs.now)) }
     ensures new { result ≡ true → IsNewKey (pair_views pairs.now) (view key.now) }
     ensures known { result ≡ true → Knows keys.new (λ t. same t (view key.now) || has_key t (pair_views pairs.now)) }
@@ -248,7 +260,7 @@ fn is_new_key(alloc: Global, key: &Value, pairs: &[(Value, Value)], keys: &mut K
 
 /// The index ahead of an item of a list.
 #[inline(always)]
-fn skip_index(walk: &mut Walk<'_>, index: u32) -> Option<()>
+pub(crate) fn skip_index(walk: &mut Walk<'_>, index: u32) -> Option<()>
     ensures { IfSome result (λ _. BeginsIndex index walk.old.rest.now walk.new.rest.now) }
 {
     walk.head()?;

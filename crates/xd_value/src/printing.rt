@@ -3,6 +3,7 @@ ghost use Rattle.std.specs.Prelude.{◌≡◌, ◌++◌, ◌∷◌, [], ◌<◌,
 ghost use Rattle.std.specs.List.{list_all};
 ghost use Rattle.std.specs.Char.{is_ascii, digit_char};
 ghost use Rattle.std.specs.Fmt.{decimal, signed_decimal};
+ghost use Rattle.std.specs.Str.{chars};
 ghost use Rattle.xd_value.specs.Show.{shown, shown_items, shown_pairs, shown_set, between, hex, escaped, escapes, tuple_end};
 ghost use Rattle.xd_value.specs.Tree.{count};
 ghost use Rattle.xd_value.specs.View.{view, views, pair_views};
@@ -30,8 +31,15 @@ pub fn show_onto(out: &mut Text, value: &Value) -> Result<(), OutOfMemory>
     Ok(())
 }
 
+/// Makes the text empty.
+pub(crate) fn clear(out: &mut Text)
+    ensures { out.new ≡ [] }
+{
+    out.text.clear();
+}
+
 /// Appends words of ASCII.
-fn put(out: &mut Text, words: &str) -> Result<(), AllocError>
+pub(crate) fn put(out: &mut Text, words: &str) -> Result<(), AllocError>
     requires { IsTrue (list_all is_ascii words.now) }
     ensures { OnOk result (out.new ≡ out.old ++ words.now) }
 {
@@ -39,7 +47,7 @@ fn put(out: &mut Text, words: &str) -> Result<(), AllocError>
     Ok(())
 }
 
-fn put_char(out: &mut Text, c: char) -> Result<(), AllocError>
+pub(crate) fn put_char(out: &mut Text, c: char) -> Result<(), AllocError>
     ensures { OnOk result (out.new ≡ out.old ++ c ∷ []) }
 {
     out.text.push(c)?;
@@ -47,7 +55,7 @@ fn put_char(out: &mut Text, c: char) -> Result<(), AllocError>
 }
 
 #[cycle(print)]
-fn print(out: &mut Text, value: &Value) -> Result<(), AllocError>
+pub(crate) fn print(out: &mut Text, value: &Value) -> Result<(), AllocError>
     ensures { OnOk result (out.new ≡ out.old ++ shown (view value.now)) }
 {
     match value {
@@ -67,7 +75,7 @@ fn print(out: &mut Text, value: &Value) -> Result<(), AllocError>
 }
 
 /// What stands before an item that is not the first.
-fn put_comma(out: &mut Text) -> Result<(), AllocError>
+pub(crate) fn put_comma(out: &mut Text) -> Result<(), AllocError>
     ensures { OnOk result (out.new ≡ out.old ++ codes ", ") }
 {
     put_char(out, ',')?;
@@ -166,7 +174,7 @@ fn print_pairs(out: &mut Text, pairs: &[(Value, Value)]) -> Result<(), AllocErro
     Ok(())
 }
 
-fn print_int(out: &mut Text, n: i128) -> Result<(), AllocError>
+pub(crate) fn print_int(out: &mut Text, n: i128) -> Result<(), AllocError>
     ensures { OnOk result (out.new ≡ out.old ++ signed_decimal n) }
 {
     let mut buffer = Buffer::new();
@@ -215,7 +223,7 @@ fn print_piece(out: &mut Text, piece: &[u8]) -> Result<(), AllocError>
     Ok(())
 }
 
-fn print_bytes(out: &mut Text, bytes: &[u8]) -> Result<(), AllocError>
+pub(crate) fn print_bytes(out: &mut Text, bytes: &[u8]) -> Result<(), AllocError>
     ensures { OnOk result (out.new ≡ out.old ++ between (codes "bytes(") (hex bytes.now) (codes ")")) }
 {
     put(out, "bytes(")?;
@@ -323,15 +331,23 @@ fn push_escapes(out: &mut String, text: &str) -> Result<(), AllocError>
 fn print_text(out: &mut Text, text: &Text) -> Result<(), AllocError>
     ensures { OnOk result (out.new ≡ out.old ++ between (codes "\"") (escapes text.now) (codes "\"")) }
 {
+    print_str(out, text.as_str())?;
+    Ok(())
+}
+
+/// Appends a text between quotes.
+pub(crate) fn print_str(out: &mut Text, text: &str) -> Result<(), AllocError>
+    ensures { OnOk result (out.new ≡ out.old ++ between (codes "\"") (escapes (chars text.now)) (codes "\"")) }
+{
     put_char(out, '"')?;
     put_escapes(out, text)?;
     put_char(out, '"')?;
     Ok(())
 }
 
-fn put_escapes(out: &mut Text, text: &Text) -> Result<(), AllocError>
-    ensures { OnOk result (out.new ≡ out.old ++ escapes text.now) }
+fn put_escapes(out: &mut Text, text: &str) -> Result<(), AllocError>
+    ensures { OnOk result (out.new ≡ out.old ++ escapes (chars text.now)) }
 {
-    push_escapes(&mut out.text, text.as_str())?;
+    push_escapes(&mut out.text, text)?;
     Ok(())
 }

@@ -1,7 +1,8 @@
 // Payloads.
-ghost use Rattle.std.specs.Prelude.{◌≡◌, ℕ, ◌<◌, IfOk, IfErr};
+ghost use Rattle.std.specs.Prelude.{◌≡◌, ℕ, ◌<◌, IfOk, IfErr, OnOk};
 ghost use Rattle.xd_value.specs.Payload.{IsPayload, IsRefusal, IsValue, IsFault, FirstFault, Stops, IsPlaced};
 ghost use Rattle.xd_value.specs.Seats.{IsStack, cells_of};
+ghost use Rattle.xd_value.specs.Telling.{IsTold, IsShown, IsShowFault};
 ghost use Rattle.xd_value.specs.Tree.{Tree};
 ghost use Rattle.xd_value.specs.View.{view};
 ghost use Rattle.xd_value.specs.declared.fault.LoadWhat.{LoadWhat as What};
@@ -10,10 +11,13 @@ use crate::descent::usual;
 use crate::fault::{LoadFault, LoadWhat, StepFault};
 use crate::machine::step;
 use crate::opcode::{Opcode, opcode_of};
+use crate::printing::{clear, show_onto};
 use crate::shape::Shape;
 use crate::stack::Stack;
+use crate::telling::tell;
 use crate::value::Value;
 use std::alloc::Global;
+use xd_edge::{OutOfMemory, Text};
 
 /// The value that the bytes are a payload of, or the first opcode that cannot be done and why. The bytes may come from
 /// a hostile peer: time and memory grow with their length, whatever they declare.
@@ -62,6 +66,42 @@ impl Reader {
             return Ok(value);
         }
         run(alloc, bytes, &mut self.stack)
+    }
+
+    /// Makes the text what [`show`](crate::show) prints of the value that the bytes are a payload of; or says, as
+    /// [`loads`], why they are none. What the text held is gone. The value of a usual payload is not made in between.
+    pub fn show(&mut self, alloc: Global, bytes: &[u8], out: &mut Text) -> Result<(), LoadFault>
+        // What is printed is a value that has the bytes as a payload.
+        ensures told { OnOk result (IsTold bytes.now out.new) }
+        // A value that has them as a payload is printed, unless memory runs out.
+        ensures only { (v : Tree) → IsPayload v bytes.now → IsShown v out.new result }
+        // A refusal names the first fault.
+        ensures refused { IfErr result (IsRefusal bytes.now) }
+        // Bytes with a first fault are refused with it, unless memory runs out.
+        ensures faults { (at : ℕ) → (f : What) → FirstFault bytes.now at f → IsShowFault at f result }
+    {
+        print_payload(alloc, bytes, self, out)
+    }
+}
+
+/// Prints a usual payload along its shape, and any other by its value.
+fn print_payload(
+    alloc: Global,
+    bytes: &[u8],
+    reader: &mut Reader,
+    out: &mut Text,
+) -> Result<(), LoadFault>
+    ensures told { OnOk result (IsTold bytes.now out.new) }
+    ensures refused { IfErr result (IsRefusal bytes.now) }
+{
+    if tell(alloc, bytes, &mut reader.shape, out).is_some() {
+        return Ok(());
+    }
+    let value = run(alloc, bytes, &mut reader.stack)?;
+    clear(out);
+    match show_onto(out, &value) {
+        Ok(()) => Ok(()),
+        Err(OutOfMemory) => Err(LoadFault::OutOfMemory),
     }
 }
 

@@ -133,6 +133,25 @@ fn first_faults(rt: HostRuntime) {
 }
 
 #[test]
+fn one_reader_prints_each_payload_and_refuses_each_fault(rt: HostRuntime) -> Result<(), Fail> {
+    let alloc = rt.alloc();
+    let mut reader = Reader::new(alloc);
+    let mut text = Text::from_string(String::new(alloc));
+    for (digits, words) in VALUES {
+        let payload = decoded(alloc, digits)?;
+        assert!(rt; reader.show(alloc, &payload, &mut text).is_ok());
+        assert_eq!(rt; text.as_str(), words);
+    }
+    for (payload, place, fault) in FAULTS {
+        let found = reader.show(alloc, payload, &mut text);
+        assert!(rt;
+            matches!(found, Err(LoadFault::Bad { at, what }) if at == place && what == fault)
+        );
+    }
+    Ok(())
+}
+
+#[test]
 fn other_spellings_are_read(rt: HostRuntime) -> Result<(), Fail> {
     for (payload, canonical) in OTHER_SPELLINGS {
         let value = value_of(rt.alloc(), payload)?;

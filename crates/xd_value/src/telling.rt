@@ -1,0 +1,375 @@
+// Printing the value of a payload along its shape, without making it.
+ghost use Rattle.std.specs.Prelude.{◌≡◌, ◌∷◌, ◌⊎◌, ◌++◌, ℕ, suc, IfSome, IsTrue, OnOk};
+ghost use Rattle.std.specs.Char.{is_ascii};
+ghost use Rattle.std.specs.List.{list_all};
+ghost use Rattle.xd_value.specs.Show.{shown, tuple_end};
+ghost use Rattle.xd_value.specs.Telling.{comma, IsTold, Tells, TellsParts, TellsItems, TellsPairs};
+ghost use Rattle.xd_value.specs.Tree.{Pairs};
+ghost use Rattle.xd_value.specs.View.{view};
+ghost use Rattle.xd_value.specs.Walk.{Begins};
+
+use crate::descent::{is_new_key, next_value, skip_index};
+use crate::keys::Keys;
+use crate::number::long_value;
+use crate::printing::{clear, print, print_bytes, print_int, print_str, put, put_char, put_comma};
+use crate::shape::{Node, Shape};
+use crate::value::Value;
+use crate::walk::Walk;
+use std::alloc::{AllocError, Global};
+use xd_edge::Text;
+
+/// Makes the text what the value of a payload is printed as, where the bytes are a payload of the usual kind and there is
+/// room. Where this gives nothing, nothing is known of the bytes, and nothing of the text.
+pub(crate) fn tell(alloc: Global, bytes: &[u8], shape: &mut Shape, out: &mut Text) -> Option<()>
+    ensures { IfSome result (λ _. IsTold bytes.now out.new) }
+{
+    clear(out);
+    shape.find(bytes)?;
+    let mut walk = Walk {
+        rest: bytes,
+        heads: &shape.heads,
+    };
+    tell_next(alloc, &shape.nodes, &mut walk, out, 64)?;
+    match walk.rest {
+        [b'Q'] => Some(()),
+        _ => None,
+    }
+}
+
+/// Prints the value that begins here. It nests at most so deep.
+#[cycle(telling)]
+#[inline(always)]
+fn tell_next(
+    alloc: Global,
+    nodes: &[Node],
+    walk: &mut Walk<'_>,
+    out: &mut Text,
+    limit: u32,
+) -> Option<()>
+    ensures { IfSome result (λ _. Tells limit walk.old.rest.now walk.new.rest.now out.old out.new) }
+{
+    let head = walk.head()?;
+    tell_at(alloc, nodes, walk, out, head, limit)
+}
+
+/// Prints the value of this node.
+#[cycle(telling)]
+#[inline(always)]
+fn tell_at(
+    alloc: Global,
+    nodes: &[Node],
+    walk: &mut Walk<'_>,
+    out: &mut Text,
+    node: u32,
+    limit: u32,
+) -> Option<()>
+    ensures { IfSome result (λ _. Tells limit walk.old.rest.now walk.new.rest.now out.old out.new) }
+{
+    match nodes.get(node as usize) {
+        None => tell_plain(walk, out),
+        Some(Node::Built { parts, first }) => tell_tuple(
+            alloc, nodes, walk, out, *parts, *first, limit,
+        ),
+        Some(Node::Filled { parts }) => tell_filled(alloc, nodes, walk, out, *parts, limit),
+    }
+}
+
+/// Prints a tuple.
+#[cycle(telling)]
+#[inline(never)]
+fn tell_tuple(
+    alloc: Global,
+    nodes: &[Node],
+    walk: &mut Walk<'_>,
+    out: &mut Text,
+    parts: u32,
+    first: u32,
+    limit: u32,
+) -> Option<()>
+    ensures { IfSome result (λ _. Tells limit walk.old.rest.now walk.new.rest.now out.old out.new) }
+{
+    let limit = limit.checked_sub(1)?;
+    let Ok(()) = put_char(out, '(') else {
+        return None;
+    };
+    tell_parts(alloc, nodes, walk, out, parts, first, limit)?;
+    if walk.byte()? != b'@' || walk.count()? != parts {
+        return None;
+    }
+    let Ok(()) = put_tuple_end(out, parts) else {
+        return None;
+    };
+    Some(())
+}
+
+/// Prints so many parts of a tuple, at least one. The first has this node.
+#[cycle(telling)]
+fn tell_parts(
+    alloc: Global,
+    nodes: &[Node],
+    walk: &mut Walk<'_>,
+    out: &mut Text,
+    parts: u32,
+    first: u32,
+    limit: u32,
+) -> Option<()>
+    ensures { IfSome result (λ _. TellsParts limit parts walk.old.rest.now walk.new.rest.now out.old out.new) }
+{
+    if parts == 0 {
+        return None;
+    }
+    tell_at(alloc, nodes, walk, out, first, limit)?;
+    for _ in 1..parts {
+        let Ok(()) = put_comma(out) else {
+            return None;
+        };
+        tell_next(alloc, nodes, walk, out, limit)?;
+    }
+    Some(())
+}
+
+/// Appends the end of a tuple of so many parts.
+fn put_tuple_end(out: &mut Text, parts: u32) -> Result<(), AllocError>
+    ensures { OnOk result (out.new ≡ out.old ++ tuple_end parts) }
+{
+    if parts == 1 {
+        put(out, ",)")?;
+    } else {
+        put_char(out, ')')?;
+    }
+    Ok(())
+}
+
+/// Prints a list or a dict.
+#[cycle(telling)]
+#[inline(never)]
+fn tell_filled(
+    alloc: Global,
+    nodes: &[Node],
+    walk: &mut Walk<'_>,
+    out: &mut Text,
+    parts: u32,
+    limit: u32,
+) -> Option<()>
+    ensures { IfSome result (λ _. Tells limit walk.old.rest.now walk.new.rest.now out.old out.new) }
+{
+    let limit = limit.checked_sub(1)?;
+    match walk.byte()? {
+        b'K' => tell_list(alloc, nodes, walk, out, parts, limit),
+        b'J' => tell_dict(alloc, nodes, walk, out, parts, limit),
+        _ => None,
+    }
+}
+
+/// Prints a list, behind its opcode. Its items nest at most so deep.
+#[cycle(telling)]
+fn tell_list(
+    alloc: Global,
+    nodes: &[Node],
+    walk: &mut Walk<'_>,
+    out: &mut Text,
+    parts: u32,
+    limit: u32,
+) -> Option<()>
+    ensures { IfSome result (λ _. Tells (suc limit) (75 ∷ walk.old.rest.now) walk.new.rest.now out.old out.new) }
+{
+    if walk.count()? != parts {
+        return None;
+    }
+    let Ok(()) = put_char(out, '[') else {
+        return None;
+    };
+    tell_items(alloc, nodes, walk, out, parts, limit)?;
+    let Ok(()) = put_char(out, ']') else {
+        return None;
+    };
+    Some(())
+}
+
+/// Prints so many items of a list.
+#[cycle(telling)]
+fn tell_items(
+    alloc: Global,
+    nodes: &[Node],
+    walk: &mut Walk<'_>,
+    out: &mut Text,
+    parts: u32,
+    limit: u32,
+) -> Option<()>
+    ensures { IfSome result (λ _. TellsItems limit parts walk.old.rest.now walk.new.rest.now out.old out.new) }
+{
+    for index in 0..parts {
+        let Ok(()) = separate(out, index) else {
+            return None;
+        };
+        skip_index(walk, index)?;
+        tell_next(alloc, nodes, walk, out, limit)?;
+        if walk.byte()? != b'P' {
+            return None;
+        }
+    }
+    Some(())
+}
+
+/// Prints a dict, behind its opcode. Its keys and values nest at most so deep.
+#[cycle(telling)]
+fn tell_dict(
+    alloc: Global,
+    nodes: &[Node],
+    walk: &mut Walk<'_>,
+    out: &mut Text,
+    parts: u32,
+    limit: u32,
+) -> Option<()>
+    ensures { IfSome result (λ _. Tells (suc limit) (74 ∷ walk.old.rest.now) walk.new.rest.now out.old out.new) }
+{
+    let Ok(()) = put_char(out, '{') else {
+        return None;
+    };
+    tell_pairs(alloc, nodes, walk, out, parts, limit)?;
+    let Ok(()) = put_char(out, '}') else {
+        return None;
+    };
+    Some(())
+}
+
+/// Prints so many pairs of a dict.
+#[cycle(telling)]
+fn tell_pairs(
+    alloc: Global,
+    nodes: &[Node],
+    walk: &mut Walk<'_>,
+    out: &mut Text,
+    parts: u32,
+    limit: u32,
+) -> Option<()>
+    ensures { IfSome result (λ _. (seen : Pairs) × TellsPairs limit parts walk.old.rest.now walk.new.rest.now out.old out.new seen) }
+{
+    // The keys, each beside nothing.
+    let mut seen = Vec::new(alloc);
+    let mut keys = Keys::new();
+    for index in 0..parts {
+        let Ok(()) = separate(out, index) else {
+            return None;
+        };
+        let key = tell_key(alloc, nodes, walk, out, limit)?;
+        if !is_new_key(alloc, &key, &seen, &mut keys) {
+            return None;
+        }
+        let Ok(()) = put(out, ": ") else {
+            return None;
+        };
+        tell_next(alloc, nodes, walk, out, limit)?;
+        if walk.byte()? != b'P' {
+            return None;
+        }
+        let Ok(()) = seen.push((key, Value::None)) else {
+            return None;
+        };
+    }
+    Some(())
+}
+
+/// Reads the key that begins here, and prints it.
+fn tell_key(
+    alloc: Global,
+    nodes: &[Node],
+    walk: &mut Walk<'_>,
+    out: &mut Text,
+    limit: u32,
+) -> Option<Value>
+    ensures begins { IfSome result (λ key. Begins limit walk.old.rest.now walk.new.rest.now (view key)) }
+    ensures text { IfSome result (λ key. out.new ≡ out.old ++ shown (view key)) }
+{
+    let key = next_value(alloc, nodes, walk, limit)?;
+    let Ok(()) = print(out, &key) else {
+        return None;
+    };
+    Some(key)
+}
+
+/// Appends what stands ahead of the item at this place.
+fn separate(out: &mut Text, index: u32) -> Result<(), AllocError>
+    ensures { OnOk result (out.new ≡ out.old ++ comma index) }
+{
+    if index > 0 {
+        put_comma(out)?;
+    }
+    Ok(())
+}
+
+/// Prints a value without parts.
+fn tell_plain(walk: &mut Walk<'_>, out: &mut Text) -> Option<()>
+    ensures { IfSome result (λ _. Tells 0 walk.old.rest.now walk.new.rest.now out.old out.new) }
+{
+    match walk.byte()? {
+        b'F' | b'G' => tell_int(walk, out),
+        b'N' | b'S' => tell_text(walk, out),
+        b'A' => tell_bytes(walk, out),
+        b'L' => tell_word(out, "None"),
+        b'R' => tell_word(out, "True"),
+        b'C' => tell_word(out, "False"),
+        b'H' | b'I' => tell_long(walk, out),
+        _ => None,
+    }
+}
+
+/// Appends a word of ASCII.
+#[inline(always)]
+fn tell_word(out: &mut Text, word: &str) -> Option<()>
+    requires { IsTrue (list_all is_ascii word.now) }
+    ensures { IfSome result (λ _. out.new ≡ out.old ++ word.now) }
+{
+    match put(out, word) {
+        Ok(()) => Some(()),
+        Err(_) => None,
+    }
+}
+
+/// Prints an integer, behind its opcode.
+#[inline(always)]
+fn tell_int(walk: &mut Walk<'_>, out: &mut Text) -> Option<()>
+    ensures { IfSome result (λ _. (opcode : ℕ) → (opcode ≡ 70) ⊎ (opcode ≡ 71) → Tells 0 (opcode ∷ walk.old.rest.now) walk.new.rest.now out.old out.new) }
+{
+    let n = walk.number()?;
+    match print_int(out, n.cast_signed() as i128) {
+        Ok(()) => Some(()),
+        Err(_) => None,
+    }
+}
+
+/// Prints an integer whose digits stand behind its opcode.
+fn tell_long(walk: &mut Walk<'_>, out: &mut Text) -> Option<()>
+    ensures { IfSome result (λ _. (opcode : ℕ) → (opcode ≡ 72) ⊎ (opcode ≡ 73) → Tells 0 (opcode ∷ walk.old.rest.now) walk.new.rest.now out.old out.new) }
+{
+    let n = long_value(walk.chunk()?)?;
+    match print_int(out, n) {
+        Ok(()) => Some(()),
+        Err(_) => None,
+    }
+}
+
+/// Prints a text, behind its opcode.
+fn tell_text(walk: &mut Walk<'_>, out: &mut Text) -> Option<()>
+    ensures { IfSome result (λ _. (opcode : ℕ) → (opcode ≡ 78) ⊎ (opcode ≡ 83) → Tells 0 (opcode ∷ walk.old.rest.now) walk.new.rest.now out.old out.new) }
+{
+    let bytes = walk.chunk()?;
+    let Ok(text) = str::from_utf8(bytes) else {
+        return None;
+    };
+    match print_str(out, text) {
+        Ok(()) => Some(()),
+        Err(_) => None,
+    }
+}
+
+/// Prints bytes, behind their opcode.
+fn tell_bytes(walk: &mut Walk<'_>, out: &mut Text) -> Option<()>
+    ensures { IfSome result (λ _. Tells 0 (65 ∷ walk.old.rest.now) walk.new.rest.now out.old out.new) }
+{
+    let bytes = walk.chunk()?;
+    match print_bytes(out, bytes) {
+        Ok(()) => Some(()),
+        Err(_) => None,
+    }
+}
