@@ -45,7 +45,7 @@ pub(crate) fn next_value(
 ) -> Option<Value>
     ensures { IfSome result (λ v. Begins limit walk.old.rest.now walk.new.rest.now (view v)) }
 {
-    let head = walk.head()?;
+    let head = walk.head();
     value_at(alloc, nodes, walk, head, limit)
 }
 
@@ -263,7 +263,7 @@ pub(crate) fn is_new_key(
 pub(crate) fn skip_index(walk: &mut Walk<'_>, index: u32) -> Option<()>
     ensures { IfSome result (λ _. BeginsIndex index walk.old.rest.now walk.new.rest.now) }
 {
-    walk.head()?;
+    walk.head();
     if walk.byte()? != b'F' || walk.number()? != index {
         return None;
     }

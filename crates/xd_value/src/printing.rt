@@ -182,6 +182,15 @@ pub(crate) fn print_int(out: &mut Text, n: i128) -> Result<(), AllocError>
     Ok(())
 }
 
+/// The same of a number of four bytes.
+pub(crate) fn print_short(out: &mut Text, n: i32) -> Result<(), AllocError>
+    ensures { OnOk result (out.new ≡ out.old ++ signed_decimal n) }
+{
+    let mut buffer = Buffer::new();
+    put(out, buffer.format(n))?;
+    Ok(())
+}
+
 fn print_channel(out: &mut Text, n: u32) -> Result<(), AllocError>
     ensures { OnOk result (out.new ≡ out.old ++ between (codes "channel(") (decimal n) (codes ")")) }
 {

@@ -11,7 +11,9 @@ ghost use Rattle.xd_value.specs.Walk.{Begins};
 use crate::descent::{is_new_key, next_value, skip_index};
 use crate::keys::Keys;
 use crate::number::long_value;
-use crate::printing::{clear, print, print_bytes, print_int, print_str, put, put_char, put_comma};
+use crate::printing::{
+    clear, print, print_bytes, print_int, print_short, print_str, put, put_char, put_comma,
+};
 use crate::shape::{Node, Shape};
 use crate::value::Value;
 use crate::walk::Walk;
@@ -23,17 +25,41 @@ use xd_edge::Text;
 pub(crate) fn tell(alloc: Global, bytes: &[u8], shape: &mut Shape, out: &mut Text) -> Option<()>
     ensures { IfSome result (λ _. IsTold bytes.now out.new) }
 {
-    clear(out);
+    // A list of plain values and of such lists has its counts ahead of its items, and needs no shape.
+    if let [b'K', ..] = bytes {
+        if tell_along(alloc, bytes, &[], &[], out).is_some() {
+            return Some(());
+        }
+    }
     shape.find(bytes)?;
-    let mut walk = Walk {
-        rest: bytes,
-        heads: &shape.heads,
-    };
-    tell_next(alloc, &shape.nodes, &mut walk, out, 64)?;
+    tell_along(alloc, bytes, &shape.heads, &shape.nodes, out)
+}
+
+/// The same along these nodes, the first of which are of the values that begin in this order.
+fn tell_along(
+    alloc: Global,
+    bytes: &[u8],
+    heads: &[u32],
+    nodes: &[Node],
+    out: &mut Text,
+) -> Option<()>
+    ensures { IfSome result (λ _. IsTold bytes.now out.new) }
+{
+    clear(out);
+    make_room(out, bytes.len());
+    let mut walk = Walk { rest: bytes, heads };
+    tell_next(alloc, nodes, &mut walk, out, 64)?;
     match walk.rest {
         [b'Q'] => Some(()),
         _ => None,
     }
+}
+
+/// Makes room for so many more bytes, where there is some.
+fn make_room(out: &mut Text, length: usize)
+    ensures { out.new ≡ out.old }
+{
+    let _room: Result<(), AllocError> = out.text.reserve(length);
 }
 
 /// Prints the value that begins here. It nests at most so deep.
@@ -48,7 +74,7 @@ fn tell_next(
 ) -> Option<()>
     ensures { IfSome result (λ _. Tells limit walk.old.rest.now walk.new.rest.now out.old out.new) }
 {
-    let head = walk.head()?;
+    let head = walk.head();
     tell_at(alloc, nodes, walk, out, head, limit)
 }
 
@@ -66,11 +92,30 @@ fn tell_at(
     ensures { IfSome result (λ _. Tells limit walk.old.rest.now walk.new.rest.now out.old out.new) }
 {
     match nodes.get(node as usize) {
-        None => tell_plain(walk, out),
+        None => tell_bare(alloc, nodes, walk, out, limit),
         Some(Node::Built { parts, first }) => tell_tuple(
             alloc, nodes, walk, out, *parts, *first, limit,
         ),
         Some(Node::Filled { parts }) => tell_filled(alloc, nodes, walk, out, *parts, limit),
+    }
+}
+
+/// Prints a value that has no node: a list, whose items are counted ahead of them, or a value without parts.
+#[cycle(telling)]
+#[inline(always)]
+fn tell_bare(
+    alloc: Global,
+    nodes: &[Node],
+    walk: &mut Walk<'_>,
+    out: &mut Text,
+    limit: u32,
+) -> Option<()>
+    ensures { IfSome result (λ _. Tells limit walk.old.rest.now walk.new.rest.now out.old out.new) }
+{
+    if let [b'K', ..] = walk.rest {
+        tell_filled(alloc, nodes, walk, out, 0, limit)
+    } else {
+        tell_plain(walk, out)
     }
 }
 
@@ -140,7 +185,7 @@ fn put_tuple_end(out: &mut Text, parts: u32) -> Result<(), AllocError>
     Ok(())
 }
 
-/// Prints a list or a dict.
+/// Prints a list, or a dict of so many pairs.
 #[cycle(telling)]
 #[inline(never)]
 fn tell_filled(
@@ -155,7 +200,7 @@ fn tell_filled(
 {
     let limit = limit.checked_sub(1)?;
     match walk.byte()? {
-        b'K' => tell_list(alloc, nodes, walk, out, parts, limit),
+        b'K' => tell_list(alloc, nodes, walk, out, limit),
         b'J' => tell_dict(alloc, nodes, walk, out, parts, limit),
         _ => None,
     }
@@ -168,18 +213,15 @@ fn tell_list(
     nodes: &[Node],
     walk: &mut Walk<'_>,
     out: &mut Text,
-    parts: u32,
     limit: u32,
 ) -> Option<()>
     ensures { IfSome result (λ _. Tells (suc limit) (75 ∷ walk.old.rest.now) walk.new.rest.now out.old out.new) }
 {
-    if walk.count()? != parts {
-        return None;
-    }
+    let items = walk.count()?;
     let Ok(()) = put_char(out, '[') else {
         return None;
     };
-    tell_items(alloc, nodes, walk, out, parts, limit)?;
+    tell_items(alloc, nodes, walk, out, items, limit)?;
     let Ok(()) = put_char(out, ']') else {
         return None;
     };
@@ -332,7 +374,7 @@ fn tell_int(walk: &mut Walk<'_>, out: &mut Text) -> Option<()>
     ensures { IfSome result (λ _. (opcode : ℕ) → (opcode ≡ 70) ⊎ (opcode ≡ 71) → Tells 0 (opcode ∷ walk.old.rest.now) walk.new.rest.now out.old out.new) }
 {
     let n = walk.number()?;
-    match print_int(out, n.cast_signed() as i128) {
+    match print_short(out, n.cast_signed()) {
         Ok(()) => Some(()),
         Err(_) => None,
     }

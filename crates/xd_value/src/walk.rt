@@ -4,6 +4,7 @@ ghost use Rattle.std.specs.Int.{w32, to_be_bytes};
 ghost use Rattle.xd_value.specs.Spelling.{chunk};
 
 use crate::input;
+use crate::shape::NO_NODE;
 
 /// What is left of a payload.
 #[derive(Drop)]
@@ -16,12 +17,14 @@ pub(crate) struct Walk<'a> {
 impl<'a> Walk<'a> {
     /// The node of the next value, which begins.
     #[inline(always)]
-    pub(crate) fn head(&mut self) -> Option<u32>
+    pub(crate) fn head(&mut self) -> u32
         ensures { self.new.rest.now ≡ self.old.rest.now }
     {
-        let (head, after) = self.heads.split_first()?;
+        let Some((head, after)) = self.heads.split_first() else {
+            return NO_NODE;
+        };
         self.heads = after;
-        Some(*head)
+        *head
     }
 
     /// The next byte.

@@ -1,17 +1,15 @@
 -- Lines, one after another.
 use Rattle.std.proofs.Common.{Some, Result, Ok, Err, ◌≡◌, ℕ, ◌+◌, ◌≤◌, inl, inr, Bool, true, false, List, [], ◌∷◌, ◌++◌, length, take, drop, refl, sym, ap, subst, ◌∙◌, append_assoc, arith}
 use Rattle.std.specs.Prelude.{IfOk, OnOk, encode_utf8_all}
-use Rattle.std.proofs.lemmas.Str.{encodes-append}
 use Rattle.std.proofs.lemmas.List.{append-nil, drop-drop, length-take-le, length-drop}
 use Rattle.xd_frame.specs.declared.header.Header.{Header}
 use Rattle.xd_frame.specs.Message.{MessageView}
 use Rattle.xd_frame.specs.Stream.{messages, rest, rest_of, behind, message_of, FrontSays}
 use Rattle.xd_value.specs.declared.fault.LoadWhat.{LoadWhat}
 use Rattle.xd_value.specs.Show.{shown}
-use Rattle.xd_value.specs.declared.value.Value.{Value as ValueOf}
 use Rattle.xd_value.specs.Tree.{Tree}
-use Rattle.xd_value.specs.View.{view}
-use Rattle.xd_value.specs.Payload.{IsPayload, FirstFault, IsRefusal, IsValue, IsFault}
+use Rattle.xd_value.specs.Payload.{IsPayload, FirstFault, IsRefusal}
+use Rattle.xd_value.specs.Telling.{IsTold, IsShown, IsShowFault}
 use Rattle.xd_value.specs.declared.fault.LoadFault.{LoadFault}
 use Rattle.xd_value.specs.declared.fault.LoadFault.TheVariants as fault
 use Rattle.xd_wire.specs.declared.line.Line.{Line}
@@ -24,27 +22,25 @@ use Rattle.xd_wire.specs.declared.step.Then.TheVariants.{At, End}
 use Rattle.xd_wire.specs.Lines.{IsLineOf, AppendsLine, AppendsStep, gives_fault, Texts, texts_at, texts_of, ended, Continues}
 
 -- the start of a line, a space, a value and the end of the line, one after another
-pub value_written : (before t1 t2 t3 start value after : List ℕ) → encode_utf8_all t1 ≡ encode_utf8_all before ++ start → encode_utf8_all t2 ≡ encode_utf8_all t1 ++ (32 ∷ []) → t3 ≡ t2 ++ value → after ≡ encode_utf8_all t3 ++ (10 ∷ [])
-    → after ≡ encode_utf8_all before ++ (start ++ (32 ∷ (encode_utf8_all value ++ (10 ∷ []))))
+pub value_written : (before t1 t2 t3 start value after : List ℕ) → t1 ≡ before ++ start → t2 ≡ t1 ++ (32 ∷ []) → t3 ≡ t2 ++ value → after ≡ t3 ++ (10 ∷ []) → after ≡ before ++ (start ++ (32 ∷ (value ++ (10 ∷ []))))
 value_written before t1 t2 t3 start value after h1 h2 h3 h4 =
-    let eb = encode_utf8_all before in
-    let ev = encode_utf8_all value in
-    h4 ∙ ap (λ (x : List ℕ). x ++ (10 ∷ [])) (ap encode_utf8_all h3 ∙ encodes-append t2 value ∙ ap (λ (x : List ℕ). x ++ ev) (h2 ∙ ap (λ (x : List ℕ). x ++ (32 ∷ [])) h1))
-    ∙ append_assoc ((eb ++ start) ++ (32 ∷ [])) ev (10 ∷ [])
-    ∙ append_assoc (eb ++ start) (32 ∷ []) (ev ++ (10 ∷ []))
-    ∙ append_assoc eb start (32 ∷ (ev ++ (10 ∷ [])))
+    h4 ∙ ap (λ (x : List ℕ). x ++ (10 ∷ [])) (h3 ∙ ap (λ (x : List ℕ). x ++ value) (h2 ∙ ap (λ (x : List ℕ). x ++ (32 ∷ [])) h1))
+    ∙ append_assoc ((before ++ start) ++ (32 ∷ [])) value (10 ∷ [])
+    ∙ append_assoc (before ++ start) (32 ∷ []) (value ++ (10 ∷ []))
+    ∙ append_assoc before start (32 ∷ (value ++ (10 ∷ [])))
 
-only_line : (b : Bool) (m : MessageView) (x : ValueOf) (printed : List ℕ) → b ≡ true → IsPayload (view x) m.payload → ((v : Tree) → IsPayload v m.payload → view x ≡ v) → ((at : ℕ) (found : LoadWhat) → FirstFault m.payload at found → ⊥)
-    → printed ≡ value_line m.kind m.channel (length m.payload) (encode_utf8_all (shown (view x)))
+only_line : (b : Bool) (m : MessageView) (told printed : List ℕ) → b ≡ true → IsTold m.payload told → ((v : Tree) → IsPayload v m.payload → told ≡ shown v) → ((at : ℕ) (found : LoadWhat) → FirstFault m.payload at found → ⊥)
+    → printed ≡ value_line m.kind m.channel (length m.payload) (encode_utf8_all told)
     → LineBy b m printed × ((other : List ℕ) → LineBy b m other → other ≡ printed) × ((place : ℕ) (found : LoadWhat) → FaultBy b m place found → ⊥)
-only_line false m x printed t read only none is = absurd (cc)
-only_line true m x printed t read only none is =
-    ((view x, read, is), λ other o. o.2 ∙ (ap (λ v. value_line m.kind m.channel (length m.payload) (encode_utf8_all (shown v))) (sym (only o.0 o.1)) ∙ sym is), none)
+only_line false m told printed t is_told only none is = absurd (cc)
+only_line true m told printed t is_told only none is =
+    let line : List ℕ → List ℕ = λ x. value_line m.kind m.channel (length m.payload) (encode_utf8_all x) in
+    ((is_told.value, is_told.payload, is ∙ ap line is_told.printed), λ other o. o.2 ∙ (ap line (sym (only o.0 o.1)) ∙ sym is), none)
 
--- the line of a message with this value was appended
-pub value_appends : (m : MessageView) (x : ValueOf) (before after : List ℕ) → has_value m.kind ≡ true → IsPayload (view x) m.payload → ((v : Tree) → IsPayload v m.payload → view x ≡ v) → ((at : ℕ) (found : LoadWhat) → FirstFault m.payload at found → ⊥)
-    → after ≡ before ++ value_line m.kind m.channel (length m.payload) (encode_utf8_all (shown (view x))) → AppendsLine m before after line.Made
-value_appends m x before after t read only none is = (value_line m.kind m.channel (length m.payload) (encode_utf8_all (shown (view x))), is, only_line (has_value m.kind) m x _ t read only none refl)
+-- the line of a message whose value is printed so was appended
+pub value_appends : (m : MessageView) (told before after : List ℕ) → has_value m.kind ≡ true → IsTold m.payload told → ((v : Tree) → IsPayload v m.payload → told ≡ shown v) → ((at : ℕ) (found : LoadWhat) → FirstFault m.payload at found → ⊥)
+    → after ≡ before ++ value_line m.kind m.channel (length m.payload) (encode_utf8_all told) → AppendsLine m before after line.Made
+value_appends m told before after t is_told only none is = (value_line m.kind m.channel (length m.payload) (encode_utf8_all told), is, only_line (has_value m.kind) m told _ t is_told only none refl)
 
 plain_is : (b : Bool) (m : MessageView) (printed : List ℕ) → b ≡ false → printed ≡ plain_line m.kind m.channel (length m.payload)
     → LineBy b m printed × ((other : List ℕ) → LineBy b m other → other ≡ printed) × ((place : ℕ) (found : LoadWhat) → FaultBy b m place found → ⊥)
@@ -61,10 +57,10 @@ only_fault false m place found t first none only = absurd (cc)
 only_fault true m place found t first none only = (first, λ other o. none o.0 o.1, λ at what h. (sym (only at what h).0, sym (only at what h).1))
 
 -- a fault was found, and nothing was appended
-pub fault_appends : (m : MessageView) (text : List ℕ) (f : LoadFault) → has_value m.kind ≡ true → IsRefusal m.payload f → ((v : Tree) → IsPayload v m.payload → IsValue v (Err f)) → ((at : ℕ) (what : LoadWhat) → FirstFault m.payload at what → IsFault at what (Err f))
+pub fault_appends : (m : MessageView) (told text : List ℕ) (f : LoadFault) → has_value m.kind ≡ true → IsRefusal m.payload f → ((v : Tree) → IsPayload v m.payload → IsShown v told (Err f)) → ((at : ℕ) (what : LoadWhat) → FirstFault m.payload at what → IsShowFault at what (Err f))
     → IfOk (gives_fault f) (AppendsLine m text text)
-fault_appends m text (fault.Bad place found) t first none only = (refl, only_fault (has_value m.kind) m place found t first none only)
-fault_appends m text fault.OutOfMemory t first none only = tt
+fault_appends m told text (fault.Bad place found) t first none only = (refl, only_fault (has_value m.kind) m place found t first none only)
+fault_appends m told text fault.OutOfMemory t first none only = tt
 
 -- a message and the line of it, and then the rest of the file
 pub line_continues : (bytes : List ℕ) (at next : ℕ) (h : Header) (payload printed : List ℕ) → payload ≡ take h.length (drop 9 (drop at bytes)) → length payload ≡ h.length → next ≡ at + (9 + h.length)

@@ -1,8 +1,6 @@
 // One message as a line.
 ghost use Rattle.std.specs.Prelude.{◌≡◌, ◌<◌, ◌++◌, ◌∷◌, [], IfOk, OnOk, length, string_bytes, encode_utf8_all};
 ghost use Rattle.std.specs.Fmt.{decimal};
-ghost use Rattle.xd_value.specs.Show.{shown};
-ghost use Rattle.xd_value.specs.View.{view};
 ghost use Rattle.xd_wire.specs.WireText.{has_value, line_start, message_with, value_line as value_line_of};
 ghost use Rattle.xd_wire.specs.Lines.{AppendsLine, gives_fault};
 
@@ -11,7 +9,24 @@ use itoa::Buffer;
 use std::alloc::Global;
 use xd_edge::{OutOfMemory, Text};
 use xd_frame::{Header, Kind};
-use xd_value::{LoadFault, LoadWhat, Reader, Value, show_onto};
+use xd_value::{LoadFault, LoadWhat, Reader};
+
+/// What is kept from one line to the next: how payloads are read, and the room for what one of them is printed as.
+#[derive(Drop)]
+pub struct Room {
+    pub reader: Reader,
+    pub told: Text,
+}
+
+impl Room {
+    /// There is no room yet.
+    pub fn new(alloc: Global) -> Room {
+        Room {
+            reader: Reader::new(alloc),
+            told: Text::from_string(String::new(alloc)),
+        }
+    }
+}
 
 /// What a message is printed as: a line, or the first fault of its payload and the place of that there.
 #[derive(Clone, Copy)]
@@ -24,7 +39,7 @@ pub enum Line {
 /// nothing.
 pub fn line_of(
     alloc: Global,
-    reader: &mut Reader,
+    room: &mut Room,
     header: Header,
     payload: &[u8],
     text: &mut Text,
@@ -36,9 +51,9 @@ pub fn line_of(
         plain_line(text, header)?;
         return Ok(Line::Made);
     }
-    match reader.loads(alloc, payload) {
-        Ok(value) => {
-            value_line(text, header, &value)?;
+    match room.reader.show(alloc, payload, &mut room.told) {
+        Ok(()) => {
+            value_line(text, header, &room.told)?;
             Ok(Line::Made)
         }
         Err(fault) => line_fault(fault),
@@ -74,15 +89,23 @@ fn plain_line(text: &mut Text, header: Header) -> Result<(), OutOfMemory>
     Ok(())
 }
 
-/// Appends the line of a message whose payload is this value.
-fn value_line(text: &mut Text, header: Header, value: &Value) -> Result<(), OutOfMemory>
+/// Appends the line of a message whose payload is a value that is printed so.
+fn value_line(text: &mut Text, header: Header, told: &Text) -> Result<(), OutOfMemory>
     ensures { OnOk result (encode_utf8_all text.new
-        ≡ encode_utf8_all text.old ++ value_line_of header.kind header.channel header.length (encode_utf8_all (shown (view value.now)))) }
+        ≡ encode_utf8_all text.old ++ value_line_of header.kind header.channel header.length (encode_utf8_all told.now)) }
 {
     start(text, header)?;
     push(text, ' ')?;
-    show_onto(text, value)?;
+    append(text, told.as_str())?;
     push(text, '\n')?;
+    Ok(())
+}
+
+/// Appends a text.
+pub(crate) fn append(text: &mut Text, more: &str) -> Result<(), OutOfMemory>
+    ensures { OnOk result (encode_utf8_all text.new ≡ encode_utf8_all text.old ++ more.now) }
+{
+    text.text.push_str(more)?;
     Ok(())
 }
 

@@ -6,10 +6,10 @@ ghost use Rattle.xd_wire.specs.WireText.{IsWireText};
 ghost use Rattle.xd_wire.specs.Lines.{texts_at};
 ghost use Rattle.xd_wire.specs.Printing.{HasText, Prints, Leaves, TookPage, IsEmptyAt, end_with};
 
+use crate::line::Room;
 use crate::step::{Then, step_at};
 use std::alloc::{AllocError, Global};
 use xd_edge::{Failed, OutOfMemory, Sink, Text, write_all};
-use xd_value::Reader;
 
 /// How the printing of a file of messages came to its end.
 #[derive(Clone, Copy, Debug, PartialEq, Eq)]
@@ -85,10 +85,10 @@ fn write_lines<O: Sink>(
     ensures later { O.faults out.old ≤ O.faults out.new }
 {
     let mut at = 0;
-    let mut reader = Reader::new(alloc);
+    let mut room = Room::new(alloc);
     let mut page = Text::from_string(String::new(alloc));
     'lines: loop {
-        let then = step_at(alloc, &mut reader, bytes, at, &mut page)?;
+        let then = step_at(alloc, &mut room, bytes, at, &mut page)?;
         if write_page(out, &mut page, then).is_err() {
             return Ok(Err(Failed));
         }

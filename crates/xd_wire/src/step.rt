@@ -3,12 +3,11 @@ ghost use Rattle.std.specs.Prelude.{◌≡◌, ◌≤◌, ◌++◌, true, IfOk, 
 ghost use Rattle.xd_wire.specs.WireText.{fault_line};
 ghost use Rattle.xd_wire.specs.Lines.{AppendsStep, IsAhead};
 
-use crate::line::{Line, line_of};
+use crate::line::{Line, Room, append, line_of};
 use crate::names::{name_of_frame_fault, name_of_what};
 use std::alloc::Global;
 use xd_edge::{OutOfMemory, Text};
 use xd_frame::{HEADER_LENGTH, first_header};
-use xd_value::Reader;
 
 /// What follows a line: the line of the message at a place of the file, or nothing, behind a fault or none.
 #[derive(Clone, Copy)]
@@ -21,7 +20,7 @@ pub enum Then {
 /// message nothing is appended.
 pub fn step_at(
     alloc: Global,
-    reader: &mut Reader,
+    room: &mut Room,
     bytes: &[u8],
     at: usize,
     text: &mut Text,
@@ -38,7 +37,7 @@ pub fn step_at(
     };
     let start = at + HEADER_LENGTH;
     let next = start + header.length as usize;
-    match line_of(alloc, reader, header, &bytes[start..next], text)? {
+    match line_of(alloc, room, header, &bytes[start..next], text)? {
         Line::Made => Ok(Then::At(next)),
         Line::Fault(place, what) => {
             // No contract bounds the place in the payload, so the sum has 128 bits.
@@ -56,13 +55,6 @@ fn fault_step(alloc: Global, name: &str, place: u128, text: &mut Text) -> Result
     let line = text_of_fault(alloc, name, place)?;
     append(text, &line)?;
     Ok(Then::End { faulty: true })
-}
-
-fn append(text: &mut Text, line: &str) -> Result<(), OutOfMemory>
-    ensures { OnOk result (encode_utf8_all text.new ≡ encode_utf8_all text.old ++ line.now) }
-{
-    text.text.push_str(line)?;
-    Ok(())
 }
 
 fn text_of_fault(alloc: Global, name: &str, place: u128) -> Result<String, OutOfMemory>

@@ -34,9 +34,7 @@ tell_items-loop-index-preserved t c =
     one_more_item c.args.limit c.loop-index.index _ _ _ _ _ _ _ _ _ c.loop-index.invariant c.in-Ok.ensures c.in_ok-skip_index.ensures c.in_ok-tell_next.ensures end
 
 pub tell_list-returns : goal.tell_list-returns
-tell_list-returns t c =
-    let count = subst (λ (n : ℕ). c.args.walk.now.rest.now ≡ to_be_bytes w32 n ++ c.count.new.self.rest.now) c.if-branch-parts.false c.in_ok-count.ensures.spelled in
-    told_list c.args.limit c.args.parts _ _ _ _ _ _ _ count (omega (arith, c.in_ok-count.ensures.fits, c.if-branch-parts.false)) c.in-Ok.ensures c.in_ok-tell_items.ensures c.in-Ok-put_char.ensures
+tell_list-returns t c = told_list c.args.limit c.in_ok-items.items _ _ _ _ _ _ _ c.in_ok-items.ensures.spelled c.in_ok-items.ensures.fits c.in-Ok.ensures c.in_ok-tell_items.ensures c.in-Ok-put_char.ensures
 
 pub tell_dict-returns : goal.tell_dict-returns
 tell_dict-returns t c = told_dict c.args.limit c.args.parts _ _ _ _ _ _ c.in_ok-tell_pairs.ensures.0 c.in-Ok.ensures c.in_ok-tell_pairs.ensures.1 c.in-Ok-put_char.ensures

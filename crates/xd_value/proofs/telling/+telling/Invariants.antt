@@ -6,31 +6,34 @@ use Rattle.xd_value.specs.Telling.{TellsParts, TellsItems, TellsPairs}
 use Rattle.xd_value.proofs.telling.+telling.Given as goal
 
 abbrev pub decreases-tell_tuple : goal.decreases-tell_tuple
-decreases-tell_tuple l = 5 * l.limit
+decreases-tell_tuple l = 6 * l.limit
 
 abbrev pub decreases-tell_filled : goal.decreases-tell_filled
-decreases-tell_filled l = 5 * l.limit
+decreases-tell_filled l = 6 * l.limit
+
+abbrev pub decreases-tell_bare : goal.decreases-tell_bare
+decreases-tell_bare l = 6 * l.limit + 1
 
 abbrev pub decreases-tell_at : goal.decreases-tell_at
-decreases-tell_at l = 5 * l.limit + 1
+decreases-tell_at l = 6 * l.limit + 2
 
 abbrev pub decreases-tell_next : goal.decreases-tell_next
-decreases-tell_next l = 5 * l.limit + 2
+decreases-tell_next l = 6 * l.limit + 3
 
 abbrev pub decreases-tell_parts : goal.decreases-tell_parts
-decreases-tell_parts l = 5 * l.limit + 3
+decreases-tell_parts l = 6 * l.limit + 4
 
 abbrev pub decreases-tell_items : goal.decreases-tell_items
-decreases-tell_items l = 5 * l.limit + 3
+decreases-tell_items l = 6 * l.limit + 4
 
 abbrev pub decreases-tell_pairs : goal.decreases-tell_pairs
-decreases-tell_pairs l = 5 * l.limit + 3
+decreases-tell_pairs l = 6 * l.limit + 4
 
 abbrev pub decreases-tell_list : goal.decreases-tell_list
-decreases-tell_list l = 5 * l.limit + 4
+decreases-tell_list l = 6 * l.limit + 5
 
 abbrev pub decreases-tell_dict : goal.decreases-tell_dict
-decreases-tell_dict l = 5 * l.limit + 4
+decreases-tell_dict l = 6 * l.limit + 5
 
 abbrev pub invariant-tell_parts-loop : goal.invariant-tell_parts-loop
 invariant-tell_parts-loop l = TellsParts l.limit l.counter l.fn.walk.rest.now l.walk.rest.now l.fn.out l.out
