@@ -181,24 +181,24 @@ told_dict limit n b c x y z w seen starts p end = record {
 
 -- ---- a payload
 
-pub told : (b left x : List ℕ) → Tells 64 b left [] x → left ≡ 81 ∷ [] → IsTold b x
-told b left x h e = record { value = h.value; payload = whole_payload b left h.value h.begins e; printed = h.text }
+pub told : (b left ahead x : List ℕ) → Tells 64 b left ahead x → left ≡ 81 ∷ [] → IsTold ahead b x
+told b left ahead x h e = record { value = h.value; payload = whole_payload b left h.value h.begins e; printed = h.text }
 
-abbrev pub IfToldPayload : List ℕ → List ℕ → Result (Unit {0}) LoadFault → Type 0
-IfToldPayload b x r = OnOk r (IsTold b x)
+abbrev pub IfToldPayload : List ℕ → List ℕ → List ℕ → Result (Unit {0}) LoadFault → Type 0
+IfToldPayload ahead b x r = OnOk r (IsTold ahead b x)
 
 abbrev pub IfRefusal : List ℕ → Result (Unit {0}) LoadFault → Type 0
 IfRefusal b r = IfErr r (IsRefusal b)
 
-pub only_shown : (b x : List ℕ) (r : Result (Unit {0}) LoadFault) (v : Tree) → IsPayload v b → IfToldPayload b x r → IfRefusal b r → IsShown v x r
-only_shown b x (Ok u) v h ok err = ok.printed ∙ ap shown (one_payload ok.value v b b [] ok.payload h (sym (append-nil b))).0
-only_shown b x (Err (fault.Bad at f)) v h ok err = no_fault v b at f h err
-only_shown b x (Err fault.OutOfMemory) v h ok err = tt
+pub only_shown : (ahead b x : List ℕ) (r : Result (Unit {0}) LoadFault) (v : Tree) → IsPayload v b → IfToldPayload ahead b x r → IfRefusal b r → IsShown ahead v x r
+only_shown ahead b x (Ok u) v h ok err = ok.printed ∙ ap (λ (t : Tree). ahead ++ shown t) (one_payload ok.value v b b [] ok.payload h (sym (append-nil b))).0
+only_shown ahead b x (Err (fault.Bad at f)) v h ok err = no_fault v b at f h err
+only_shown ahead b x (Err fault.OutOfMemory) v h ok err = tt
 
-pub faults_shown : (b x : List ℕ) (r : Result (Unit {0}) LoadFault) (p : ℕ) (f : LoadWhat) → FirstFault b p f → IfToldPayload b x r → IfRefusal b r → IsShowFault p f r
-faults_shown b x (Ok u) p f h ok err = no_fault ok.value b p f ok.payload h
-faults_shown b x (Err (fault.Bad at g)) p f h ok err = one_fault b at p g f err h
-faults_shown b x (Err fault.OutOfMemory) p f h ok err = tt
+pub faults_shown : (ahead b x : List ℕ) (r : Result (Unit {0}) LoadFault) (p : ℕ) (f : LoadWhat) → FirstFault b p f → IfToldPayload ahead b x r → IfRefusal b r → IsShowFault p f r
+faults_shown ahead b x (Ok u) p f h ok err = no_fault ok.value b p f ok.payload h
+faults_shown ahead b x (Err (fault.Bad at g)) p f h ok err = one_fault b at p g f err h
+faults_shown ahead b x (Err fault.OutOfMemory) p f h ok err = tt
 
 pub one_byte : (xs : List ℕ) → 1 ≤ length xs → length xs ≤ 1 → get_or xs 0 0 ≡ 81 → xs ≡ 81 ∷ []
 one_byte [] some few e = absurd (omega (arith, some))

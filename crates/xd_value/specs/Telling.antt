@@ -45,17 +45,17 @@ pub record TellsPairs (limit n : ℕ) (bytes left before after : List ℕ) (seen
   pub counted : count_pairs pairs ≡ n
   pub same_keys : (t : Tree) → has_key t pairs ≡ has_key t seen
 
--- the text is what the value of this payload is printed as
-pub record IsTold (bytes text : List ℕ) : Type 0 where
+-- the text is what stands ahead and then what the value of this payload is printed as
+pub record IsTold (ahead bytes text : List ℕ) : Type 0 where
   pub value : Tree
   pub payload : IsPayload value bytes
-  pub printed : text ≡ shown value
+  pub printed : text ≡ ahead ++ shown value
 
--- the text is what the value is printed as, unless memory ran out
-abbrev pub IsShown : Tree → List ℕ → Result (Unit {0}) LoadFault → Type 0
-IsShown v text (Ok x) = text ≡ shown v
-IsShown v text (Err (fault.Bad at f)) = ⊥
-IsShown v text (Err fault.OutOfMemory) = Unit {0}
+-- the text is what stands ahead and then what the value is printed as, unless memory ran out
+abbrev pub IsShown : List ℕ → Tree → List ℕ → Result (Unit {0}) LoadFault → Type 0
+IsShown ahead v text (Ok x) = text ≡ ahead ++ shown v
+IsShown ahead v text (Err (fault.Bad at f)) = ⊥
+IsShown ahead v text (Err fault.OutOfMemory) = Unit {0}
 
 -- the answer is this fault, unless memory ran out
 abbrev pub IsShowFault : ℕ → LoadWhat → Result (Unit {0}) LoadFault → Type 0

@@ -31,11 +31,13 @@ pub fn show_onto(out: &mut Text, value: &Value) -> Result<(), OutOfMemory>
     Ok(())
 }
 
-/// Makes the text empty.
-pub(crate) fn clear(out: &mut Text)
-    ensures { out.new ≡ [] }
+/// Makes the text this one.
+pub(crate) fn start(out: &mut Text, text: &Text) -> Result<(), AllocError>
+    ensures { OnOk result (out.new ≡ text.now) }
 {
     out.text.clear();
+    out.text.push_str(text.as_str())?;
+    Ok(())
 }
 
 /// Appends words of ASCII.

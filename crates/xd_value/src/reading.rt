@@ -1,7 +1,8 @@
 // Payloads.
-ghost use Rattle.std.specs.Prelude.{◌≡◌, ℕ, ◌<◌, IfOk, IfErr, OnOk};
+ghost use Rattle.std.specs.Prelude.{◌≡◌, ◌++◌, ℕ, ◌<◌, IfOk, IfErr, OnOk};
 ghost use Rattle.xd_value.specs.Payload.{IsPayload, IsRefusal, IsValue, IsFault, FirstFault, Stops, IsPlaced};
 ghost use Rattle.xd_value.specs.Seats.{IsStack, cells_of};
+ghost use Rattle.xd_value.specs.Show.{shown};
 ghost use Rattle.xd_value.specs.Telling.{IsTold, IsShown, IsShowFault};
 ghost use Rattle.xd_value.specs.Tree.{Tree};
 ghost use Rattle.xd_value.specs.View.{view};
@@ -11,13 +12,13 @@ use crate::descent::usual;
 use crate::fault::{LoadFault, LoadWhat, StepFault};
 use crate::machine::step;
 use crate::opcode::{Opcode, opcode_of};
-use crate::printing::{clear, show_onto};
+use crate::printing::{print, start};
 use crate::shape::Shape;
 use crate::stack::Stack;
 use crate::telling::tell;
 use crate::value::Value;
-use std::alloc::Global;
-use xd_edge::{OutOfMemory, Text};
+use std::alloc::{AllocError, Global};
+use xd_edge::Text;
 
 /// The value that the bytes are a payload of, or the first opcode that cannot be done and why. The bytes may come from
 /// a hostile peer: time and memory grow with their length, whatever they declare.
@@ -68,19 +69,26 @@ impl Reader {
         run(alloc, bytes, &mut self.stack)
     }
 
-    /// Makes the text what [`show`](crate::show) prints of the value that the bytes are a payload of; or says, as
-    /// [`loads`], why they are none. What the text held is gone. The value of a usual payload is not made in between.
-    pub fn show(&mut self, alloc: Global, bytes: &[u8], out: &mut Text) -> Result<(), LoadFault>
+    /// Makes the text what stands ahead and then what [`show`](crate::show) prints of the value that the bytes are a payload
+    /// of; or says, as [`loads`], why they are none. What the text held is gone in any case, and nothing is told of it behind
+    /// a refusal. The value of a usual payload is not made in between.
+    pub fn show(
+        &mut self,
+        alloc: Global,
+        bytes: &[u8],
+        ahead: &Text,
+        out: &mut Text,
+    ) -> Result<(), LoadFault>
         // What is printed is a value that has the bytes as a payload.
-        ensures told { OnOk result (IsTold bytes.now out.new) }
+        ensures told { OnOk result (IsTold ahead.now bytes.now out.new) }
         // A value that has them as a payload is printed, unless memory runs out.
-        ensures only { (v : Tree) → IsPayload v bytes.now → IsShown v out.new result }
+        ensures only { (v : Tree) → IsPayload v bytes.now → IsShown ahead.now v out.new result }
         // A refusal names the first fault.
         ensures refused { IfErr result (IsRefusal bytes.now) }
         // Bytes with a first fault are refused with it, unless memory runs out.
         ensures faults { (at : ℕ) → (f : What) → FirstFault bytes.now at f → IsShowFault at f result }
     {
-        print_payload(alloc, bytes, self, out)
+        print_payload(alloc, bytes, self, ahead, out)
     }
 }
 
@@ -89,20 +97,29 @@ fn print_payload(
     alloc: Global,
     bytes: &[u8],
     reader: &mut Reader,
+    ahead: &Text,
     out: &mut Text,
 ) -> Result<(), LoadFault>
-    ensures told { OnOk result (IsTold bytes.now out.new) }
+    ensures told { OnOk result (IsTold ahead.now bytes.now out.new) }
     ensures refused { IfErr result (IsRefusal bytes.now) }
 {
-    if tell(alloc, bytes, &mut reader.shape, out).is_some() {
+    if tell(alloc, bytes, &mut reader.shape, ahead, out).is_some() {
         return Ok(());
     }
     let value = run(alloc, bytes, &mut reader.stack)?;
-    clear(out);
-    match show_onto(out, &value) {
+    match print_behind(out, ahead, &value) {
         Ok(()) => Ok(()),
-        Err(OutOfMemory) => Err(LoadFault::OutOfMemory),
+        Err(_) => Err(LoadFault::OutOfMemory),
     }
+}
+
+/// Makes the text what stands ahead and then the value.
+fn print_behind(out: &mut Text, ahead: &Text, value: &Value) -> Result<(), AllocError>
+    ensures { OnOk result (out.new ≡ ahead.now ++ shown (view value.now)) }
+{
+    start(out, ahead)?;
+    print(out, value)?;
+    Ok(())
 }
 
 fn run(alloc: Global, bytes: &[u8], stack: &mut Stack) -> Result<Value, LoadFault>

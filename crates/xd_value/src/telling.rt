@@ -12,7 +12,7 @@ use crate::descent::{is_new_key, next_value, skip_index};
 use crate::keys::Keys;
 use crate::number::long_value;
 use crate::printing::{
-    clear, print, print_bytes, print_int, print_short, print_str, put, put_char, put_comma,
+    print, print_bytes, print_int, print_short, print_str, put, put_char, put_comma, start,
 };
 use crate::shape::{Node, Shape};
 use crate::value::Value;
@@ -20,19 +20,25 @@ use crate::walk::Walk;
 use std::alloc::{AllocError, Global};
 use xd_edge::Text;
 
-/// Makes the text what the value of a payload is printed as, where the bytes are a payload of the usual kind and there is
-/// room. Where this gives nothing, nothing is known of the bytes, and nothing of the text.
-pub(crate) fn tell(alloc: Global, bytes: &[u8], shape: &mut Shape, out: &mut Text) -> Option<()>
-    ensures { IfSome result (λ _. IsTold bytes.now out.new) }
+/// Makes the text what stands ahead and then what the value of a payload is printed as, where the bytes are a payload of the
+/// usual kind and there is room. Where this gives nothing, nothing is known of the bytes, and nothing of the text.
+pub(crate) fn tell(
+    alloc: Global,
+    bytes: &[u8],
+    shape: &mut Shape,
+    ahead: &Text,
+    out: &mut Text,
+) -> Option<()>
+    ensures { IfSome result (λ _. IsTold ahead.now bytes.now out.new) }
 {
     // A list of plain values and of such lists has its counts ahead of its items, and needs no shape.
     if let [b'K', ..] = bytes {
-        if tell_along(alloc, bytes, &[], &[], out).is_some() {
+        if tell_along(alloc, bytes, &[], &[], ahead, out).is_some() {
             return Some(());
         }
     }
     shape.find(bytes)?;
-    tell_along(alloc, bytes, &shape.heads, &shape.nodes, out)
+    tell_along(alloc, bytes, &shape.heads, &shape.nodes, ahead, out)
 }
 
 /// The same along these nodes, the first of which are of the values that begin in this order.
@@ -41,12 +47,15 @@ fn tell_along(
     bytes: &[u8],
     heads: &[u32],
     nodes: &[Node],
+    ahead: &Text,
     out: &mut Text,
 ) -> Option<()>
-    ensures { IfSome result (λ _. IsTold bytes.now out.new) }
+    ensures { IfSome result (λ _. IsTold ahead.now bytes.now out.new) }
 {
-    clear(out);
     make_room(out, bytes.len());
+    let Ok(()) = start(out, ahead) else {
+        return None;
+    };
     let mut walk = Walk { rest: bytes, heads };
     tell_next(alloc, nodes, &mut walk, out, 64)?;
     match walk.rest {

@@ -136,14 +136,22 @@ fn first_faults(rt: HostRuntime) {
 fn one_reader_prints_each_payload_and_refuses_each_fault(rt: HostRuntime) -> Result<(), Fail> {
     let alloc = rt.alloc();
     let mut reader = Reader::new(alloc);
+    let none = Text::from_string(String::new(alloc));
     let mut text = Text::from_string(String::new(alloc));
     for (digits, words) in VALUES {
         let payload = decoded(alloc, digits)?;
-        assert!(rt; reader.show(alloc, &payload, &mut text).is_ok());
+        assert!(rt; reader.show(alloc, &payload, &none, &mut text).is_ok());
         assert_eq!(rt; text.as_str(), words);
     }
+    let ahead = Text::of(alloc, "日 ").ok().ok_or("memory")?;
+    assert!(rt;
+        reader
+            .show(alloc, b"F\0\0\0\x05Q", &ahead, &mut text)
+            .is_ok()
+    );
+    assert_eq!(rt; text.as_str(), "日 5");
     for (payload, place, fault) in FAULTS {
-        let found = reader.show(alloc, payload, &mut text);
+        let found = reader.show(alloc, payload, &ahead, &mut text);
         assert!(rt;
             matches!(found, Err(LoadFault::Bad { at, what }) if at == place && what == fault)
         );
