@@ -1,6 +1,7 @@
 -- Lines, one after another.
 use Rattle.std.proofs.Common.{Some, Result, Ok, Err, ◌≡◌, ℕ, ◌+◌, ◌≤◌, inl, inr, Bool, true, false, List, [], ◌∷◌, ◌++◌, length, take, drop, refl, sym, ap, subst, ◌∙◌, append_assoc, arith}
 use Rattle.std.specs.Prelude.{IfOk, OnOk, encode_utf8_all}
+use Rattle.std.proofs.lemmas.Str.{encodes-append}
 use Rattle.std.proofs.lemmas.List.{append-nil, drop-drop, length-take-le, length-drop}
 use Rattle.xd_frame.specs.declared.header.Header.{Header}
 use Rattle.xd_frame.specs.Message.{MessageView}
@@ -15,52 +16,56 @@ use Rattle.xd_value.specs.declared.fault.LoadFault.TheVariants as fault
 use Rattle.xd_wire.specs.declared.line.Line.{Line}
 use Rattle.xd_wire.specs.declared.line.Line.TheVariants as line
 use Rattle.xd_wire.specs.Names.{what_name}
-use Rattle.xd_wire.specs.WireText.{has_value, value_line, plain_line, fault_line, message_with, LineBy, IsLine, FaultBy, IsPayloadFault, IsTextFrom}
+use Rattle.xd_wire.specs.WireText.{has_value, line_start, value_line, plain_line, fault_line, message_with, LineBy, IsLine, FaultBy, IsPayloadFault, IsTextFrom}
 use Rattle.xd_edge.specs.declared.refusals.OutOfMemory.{OutOfMemory}
 use Rattle.xd_wire.specs.declared.step.Then.{Then}
 use Rattle.xd_wire.specs.declared.step.Then.TheVariants.{At, End}
-use Rattle.xd_wire.specs.Lines.{IsLineOf, AppendsLine, AppendsStep, gives_fault, Texts, texts_at, texts_of, ended, Continues}
+use Rattle.xd_wire.specs.Lines.{IsLineOf, IsStepAt, gives_fault, Texts, texts_at, texts_of, ended, Continues}
 
--- the start of a line, a space, a value and the end of the line, one after another
-pub value_written : (before t1 t2 t3 start value after : List ℕ) → t1 ≡ before ++ start → t2 ≡ t1 ++ (32 ∷ []) → t3 ≡ t2 ++ value → after ≡ t3 ++ (10 ∷ []) → after ≡ before ++ (start ++ (32 ∷ (value ++ (10 ∷ []))))
-value_written before t1 t2 t3 start value after h1 h2 h3 h4 =
-    h4 ∙ ap (λ (x : List ℕ). x ++ (10 ∷ [])) (h3 ∙ ap (λ (x : List ℕ). x ++ value) (h2 ∙ ap (λ (x : List ℕ). x ++ (32 ∷ [])) h1))
-    ∙ append_assoc ((before ++ start) ++ (32 ∷ [])) value (10 ∷ [])
-    ∙ append_assoc (before ++ start) (32 ∷ []) (value ++ (10 ∷ []))
-    ∙ append_assoc before start (32 ∷ (value ++ (10 ∷ [])))
+-- a text behind the start of a line, and the end of the line
+made_line : (m : MessageView) (ahead told value after : List ℕ) → encode_utf8_all ahead ≡ line_start m.kind m.channel (length m.payload) ++ (32 ∷ []) → told ≡ ahead ++ value → after ≡ encode_utf8_all told ++ (10 ∷ [])
+    → after ≡ value_line m.kind m.channel (length m.payload) (encode_utf8_all value)
+made_line m ahead told value after starts e end =
+    let start : List ℕ = line_start m.kind m.channel (length m.payload) in
+    let shows : List ℕ = encode_utf8_all value in
+    end ∙ ap (λ (x : List ℕ). x ++ (10 ∷ [])) (ap encode_utf8_all e ∙ encodes-append ahead value ∙ ap (λ (x : List ℕ). x ++ shows) starts)
+    ∙ append_assoc (start ++ (32 ∷ [])) shows (10 ∷ [])
+    ∙ append_assoc start (32 ∷ []) (shows ++ (10 ∷ []))
 
-only_line : (b : Bool) (m : MessageView) (told printed : List ℕ) → b ≡ true → IsTold m.payload told → ((v : Tree) → IsPayload v m.payload → told ≡ shown v) → ((at : ℕ) (found : LoadWhat) → FirstFault m.payload at found → ⊥)
-    → printed ≡ value_line m.kind m.channel (length m.payload) (encode_utf8_all told)
-    → LineBy b m printed × ((other : List ℕ) → LineBy b m other → other ≡ printed) × ((place : ℕ) (found : LoadWhat) → FaultBy b m place found → ⊥)
-only_line false m told printed t is_told only none is = absurd (cc)
-only_line true m told printed t is_told only none is =
-    let line : List ℕ → List ℕ = λ x. value_line m.kind m.channel (length m.payload) (encode_utf8_all x) in
-    ((is_told.value, is_told.payload, is ∙ ap line is_told.printed), λ other o. o.2 ∙ (ap line (sym (only o.0 o.1)) ∙ sym is), none)
+only_line : (b : Bool) (m : MessageView) (ahead told after : List ℕ) → b ≡ true → IsTold ahead m.payload told → ((v : Tree) → IsPayload v m.payload → told ≡ ahead ++ shown v) → ((at : ℕ) (found : LoadWhat) → FirstFault m.payload at found → ⊥)
+    → encode_utf8_all ahead ≡ line_start m.kind m.channel (length m.payload) ++ (32 ∷ []) → after ≡ encode_utf8_all told ++ (10 ∷ [])
+    → LineBy b m after × ((other : List ℕ) → LineBy b m other → other ≡ after) × ((place : ℕ) (found : LoadWhat) → FaultBy b m place found → ⊥)
+only_line false m ahead told after t is_told only none starts end = absurd (cc)
+only_line true m ahead told after t is_told only none starts end = (
+  (is_told.value, is_told.payload, made_line m ahead told (shown is_told.value) after starts is_told.printed end),
+  λ other o. o.2 ∙ sym (made_line m ahead told (shown o.0) after starts (only o.0 o.1) end),
+  none,
+)
 
--- the line of a message whose value is printed so was appended
-pub value_appends : (m : MessageView) (told before after : List ℕ) → has_value m.kind ≡ true → IsTold m.payload told → ((v : Tree) → IsPayload v m.payload → told ≡ shown v) → ((at : ℕ) (found : LoadWhat) → FirstFault m.payload at found → ⊥)
-    → after ≡ before ++ value_line m.kind m.channel (length m.payload) (encode_utf8_all told) → AppendsLine m before after line.Made
-value_appends m told before after t is_told only none is = (value_line m.kind m.channel (length m.payload) (encode_utf8_all told), is, only_line (has_value m.kind) m told _ t is_told only none refl)
+-- the text is the line of a message whose value is printed so
+pub value_line_is : (m : MessageView) (ahead told after : List ℕ) → has_value m.kind ≡ true → IsTold ahead m.payload told → ((v : Tree) → IsPayload v m.payload → told ≡ ahead ++ shown v) → ((at : ℕ) (found : LoadWhat) → FirstFault m.payload at found → ⊥)
+    → encode_utf8_all ahead ≡ line_start m.kind m.channel (length m.payload) ++ (32 ∷ []) → after ≡ encode_utf8_all told ++ (10 ∷ []) → IsLineOf m after line.Made
+value_line_is m = only_line (has_value m.kind) m
 
 plain_is : (b : Bool) (m : MessageView) (printed : List ℕ) → b ≡ false → printed ≡ plain_line m.kind m.channel (length m.payload)
     → LineBy b m printed × ((other : List ℕ) → LineBy b m other → other ≡ printed) × ((place : ℕ) (found : LoadWhat) → FaultBy b m place found → ⊥)
 plain_is true m printed t is = absurd (cc)
 plain_is false m printed t is = (is, λ other o. o ∙ sym is, λ place found h. h)
 
--- the line of a message whose payload is not read was appended
-pub plain_appends : (m : MessageView) (before after : List ℕ) → has_value m.kind ≡ false → after ≡ before ++ plain_line m.kind m.channel (length m.payload) → AppendsLine m before after line.Made
-plain_appends m before after t is = (plain_line m.kind m.channel (length m.payload), is, plain_is (has_value m.kind) m _ t refl)
+-- the text is the line of a message whose payload is not read
+pub plain_line_is : (m : MessageView) (after : List ℕ) → has_value m.kind ≡ false → after ≡ plain_line m.kind m.channel (length m.payload) → IsLineOf m after line.Made
+plain_line_is m = plain_is (has_value m.kind) m
 
 only_fault : (b : Bool) (m : MessageView) (place : ℕ) (found : LoadWhat) → b ≡ true → FirstFault m.payload place found → ((v : Tree) → IsPayload v m.payload → ⊥) → ((at : ℕ) (what : LoadWhat) → FirstFault m.payload at what → (place ≡ at) × (found ≡ what))
     → FaultBy b m place found × ((other : List ℕ) → LineBy b m other → ⊥) × ((at : ℕ) (what : LoadWhat) → FaultBy b m at what → (at ≡ place) × (what ≡ found))
 only_fault false m place found t first none only = absurd (cc)
 only_fault true m place found t first none only = (first, λ other o. none o.0 o.1, λ at what h. (sym (only at what h).0, sym (only at what h).1))
 
--- a fault was found, and nothing was appended
-pub fault_appends : (m : MessageView) (told text : List ℕ) (f : LoadFault) → has_value m.kind ≡ true → IsRefusal m.payload f → ((v : Tree) → IsPayload v m.payload → IsShown v told (Err f)) → ((at : ℕ) (what : LoadWhat) → FirstFault m.payload at what → IsShowFault at what (Err f))
-    → IfOk (gives_fault f) (AppendsLine m text text)
-fault_appends m told text (fault.Bad place found) t first none only = (refl, only_fault (has_value m.kind) m place found t first none only)
-fault_appends m told text fault.OutOfMemory t first none only = tt
+-- a fault was found
+pub fault_line_is : (m : MessageView) (ahead told text : List ℕ) (f : LoadFault) → has_value m.kind ≡ true → IsRefusal m.payload f → ((v : Tree) → IsPayload v m.payload → IsShown ahead v told (Err f)) → ((at : ℕ) (what : LoadWhat) → FirstFault m.payload at what → IsShowFault at what (Err f))
+    → IfOk (gives_fault f) (IsLineOf m text)
+fault_line_is m ahead told text (fault.Bad place found) t first none only = only_fault (has_value m.kind) m place found t first none only
+fault_line_is m ahead told text fault.OutOfMemory t first none only = tt
 
 -- a message and the line of it, and then the rest of the file
 pub line_continues : (bytes : List ℕ) (at next : ℕ) (h : Header) (payload printed : List ℕ) → payload ≡ take h.length (drop 9 (drop at bytes)) → length payload ≡ h.length → next ≡ at + (9 + h.length)
@@ -126,19 +131,15 @@ last_step bytes at h front payload written printed f place found fe pe says is e
     fault_continues bytes at h payload printed place found p s.0 (pr ∙ ap (fault_line (what_name found)) there) k.0 k.1 k.2
 
 -- a step that made a line
-pub made_appends : (bytes : List ℕ) (at : ℕ) (h : Header) (front payload before after : List ℕ) (f : Line) → front ≡ drop at bytes → payload ≡ take h.length (drop (at + 9) bytes) → 9 + h.length ≤ length front
-    → FrontSays front (Ok (Some h)) → AppendsLine (message_with h payload) before after f → f ≡ line.Made → AppendsStep bytes at before after (At (at + 9 + h.length))
-made_appends bytes at h front payload before after f fe pe whole says k e =
-    let made = subst (AppendsLine (message_with h payload) before after) e k in
-    (made.0, made.1, next_step bytes at h front payload made.0 line.Made fe pe whole says made.2 refl)
+pub made_steps : (bytes : List ℕ) (at : ℕ) (h : Header) (front payload printed : List ℕ) (f : Line) → front ≡ drop at bytes → payload ≡ take h.length (drop (at + 9) bytes) → 9 + h.length ≤ length front
+    → FrontSays front (Ok (Some h)) → IsLineOf (message_with h payload) printed f → f ≡ line.Made → IsStepAt bytes at printed (At (at + 9 + h.length))
+made_steps = next_step
 
 -- a step whose line tells a fault of a payload
-pub fault_steps : (r : Result Then OutOfMemory) (bytes : List ℕ) (at : ℕ) (h : Header) (front payload before mid after name : List ℕ) (f : Line) (place : ℕ) (found : LoadWhat) → front ≡ drop at bytes → payload ≡ take h.length (drop (at + 9) bytes)
-    → FrontSays front (Ok (Some h)) → AppendsLine (message_with h payload) before mid f → f ≡ line.Fault place found → name ≡ what_name found → OnOk r (after ≡ mid ++ fault_line name (at + 9 + place)) → IfOk r (λ t. t ≡ End true)
-    → IfOk r (AppendsStep bytes at before after)
-fault_steps (Err e) bytes at h front payload before mid after name f place found fe pe says k is ne written then = tt
-fault_steps (Ok s) bytes at h front payload before mid after name f place found fe pe says k is ne written then =
-    let found_it = subst (AppendsLine (message_with h payload) before mid) is k in
-    let printed : List ℕ = fault_line name (at + 9 + place) in
-    let step : Continues (texts_at bytes at) printed (ended true) = last_step bytes at h front payload [] printed (line.Fault place found) place found fe pe says found_it.1 refl (ap (λ (n : List ℕ). fault_line n (at + 9 + place)) ne) in
-    (printed, written ∙ ap (λ (x : List ℕ). x ++ printed) found_it.0, subst (λ (t : Then). Continues (texts_at bytes at) printed (texts_of bytes t)) (sym then) step)
+pub fault_steps : (r : Result Then OutOfMemory) (bytes : List ℕ) (at : ℕ) (h : Header) (front payload mid after name : List ℕ) (f : Line) (place : ℕ) (found : LoadWhat) → front ≡ drop at bytes → payload ≡ take h.length (drop (at + 9) bytes)
+    → FrontSays front (Ok (Some h)) → IsLineOf (message_with h payload) mid f → f ≡ line.Fault place found → name ≡ what_name found → OnOk r (after ≡ fault_line name (at + 9 + place)) → IfOk r (λ t. t ≡ End true)
+    → IfOk r (IsStepAt bytes at after)
+fault_steps (Err e) bytes at h front payload mid after name f place found fe pe says k is ne written then = tt
+fault_steps (Ok s) bytes at h front payload mid after name f place found fe pe says k is ne written then =
+    let step : Continues (texts_at bytes at) after (ended true) = last_step bytes at h front payload mid after f place found fe pe says k is (written ∙ ap (λ (n : List ℕ). fault_line n (at + 9 + place)) ne) in
+    subst (λ (t : Then). Continues (texts_at bytes at) after (texts_of bytes t)) (sym then) step

@@ -19,11 +19,6 @@ IsLineOf m printed Made =
 IsLineOf m printed (Fault place what) =
     IsPayloadFault m place what × ((other : List ℕ) → IsLine m other → ⊥) × ((at : ℕ) (found : LoadWhat) → IsPayloadFault m at found → (at ≡ place) × (found ≡ what))
 
--- behind a text, the line of a message was appended, or nothing where its payload has a fault
-abbrev pub AppendsLine : MessageView → List ℕ → List ℕ → Line → Type 0
-AppendsLine m before after Made = (line : List ℕ) × (after ≡ before ++ line) × IsLineOf m line Made
-AppendsLine m before after (Fault place what) = (after ≡ before) × IsLineOf m [] (Fault place what)
-
 -- the refusal of a payload, as what its message is printed as
 abbrev pub gives_fault : LoadFault → Result Line OutOfMemory
 gives_fault (fault.Bad at what) = Ok (Fault at what)
@@ -54,10 +49,6 @@ texts_of bytes (End faulty) = ended faulty
 -- the line at a place of a file is these bytes, and what follows it
 abbrev pub IsStepAt : List ℕ → ℕ → List ℕ → Then → Type 0
 IsStepAt bytes at line then = Continues (texts_at bytes at) line (texts_of bytes then)
-
--- behind a text, the line at a place of a file was appended, and what follows it
-abbrev pub AppendsStep : List ℕ → ℕ → List ℕ → List ℕ → Then → Type 0
-AppendsStep bytes at before after then = (line : List ℕ) × (after ≡ before ++ line) × IsStepAt bytes at line then
 
 -- the next line begins behind this one, inside the file or at its end
 abbrev pub IsAhead : ℕ → ℕ → Then → Type 0

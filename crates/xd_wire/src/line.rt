@@ -1,8 +1,8 @@
 // One message as a line.
-ghost use Rattle.std.specs.Prelude.{◌≡◌, ◌<◌, ◌++◌, ◌∷◌, [], IfOk, OnOk, length, string_bytes, encode_utf8_all};
+ghost use Rattle.std.specs.Prelude.{◌≡◌, ◌<◌, ◌++◌, ◌∷◌, [], IfOk, OnOk, OnErr, length, string_bytes, encode_utf8_all};
 ghost use Rattle.std.specs.Fmt.{decimal};
-ghost use Rattle.xd_wire.specs.WireText.{has_value, line_start, message_with, value_line as value_line_of};
-ghost use Rattle.xd_wire.specs.Lines.{AppendsLine, gives_fault};
+ghost use Rattle.xd_wire.specs.WireText.{has_value, line_start, message_with};
+ghost use Rattle.xd_wire.specs.Lines.{IsLineOf, gives_fault};
 
 use crate::names::name_of_kind;
 use itoa::Buffer;
@@ -11,11 +11,11 @@ use xd_edge::{OutOfMemory, Text};
 use xd_frame::{Header, Kind};
 use xd_value::{LoadFault, LoadWhat, Reader};
 
-/// What is kept from one line to the next: how payloads are read, and the room for what one of them is printed as.
+/// What is kept from one line to the next: how payloads are read, and the room for the start of a line.
 #[derive(Drop)]
 pub struct Room {
     pub reader: Reader,
-    pub told: Text,
+    pub ahead: Text,
 }
 
 impl Room {
@@ -23,7 +23,7 @@ impl Room {
     pub fn new(alloc: Global) -> Room {
         Room {
             reader: Reader::new(alloc),
-            told: Text::from_string(String::new(alloc)),
+            ahead: Text::from_string(String::new(alloc)),
         }
     }
 }
@@ -35,8 +35,8 @@ pub enum Line {
     Fault(usize, LoadWhat),
 }
 
-/// Appends the line of a message with this payload to the text; or finds the first fault of the payload, and appends
-/// nothing.
+/// Makes the text the line of a message with this payload; or finds the first fault of the payload, and then nothing is told
+/// of the text.
 pub fn line_of(
     alloc: Global,
     room: &mut Room,
@@ -45,15 +45,17 @@ pub fn line_of(
     text: &mut Text,
 ) -> Result<Line, OutOfMemory>
     requires { length payload.now ≡ header.length }
-    ensures { IfOk result (AppendsLine (message_with header payload.now) (encode_utf8_all text.old) (encode_utf8_all text.new)) }
+    ensures { IfOk result (IsLineOf (message_with header payload.now) (encode_utf8_all text.new)) }
 {
     if !reads_value(header.kind) {
         plain_line(text, header)?;
         return Ok(Line::Made);
     }
-    match room.reader.show(alloc, payload, &mut room.told) {
+    start(&mut room.ahead, header)?;
+    push(&mut room.ahead, ' ')?;
+    match room.reader.show(alloc, payload, &room.ahead, text) {
         Ok(()) => {
-            value_line(text, header, &room.told)?;
+            push(text, '\n')?;
             Ok(Line::Made)
         }
         Err(fault) => line_fault(fault),
@@ -80,38 +82,44 @@ fn reads_value(kind: Kind) -> bool
     }
 }
 
-/// Appends the line of a message whose payload is not read.
+/// Makes the text the line of a message whose payload is not read.
 fn plain_line(text: &mut Text, header: Header) -> Result<(), OutOfMemory>
-    ensures { OnOk result (encode_utf8_all text.new ≡ encode_utf8_all text.old ++ (line_start header.kind header.channel header.length ++ (10 ∷ []))) }
+    ensures { OnOk result (encode_utf8_all text.new ≡ line_start header.kind header.channel header.length ++ (10 ∷ [])) }
 {
     start(text, header)?;
     push(text, '\n')?;
     Ok(())
 }
 
-/// Appends the line of a message whose payload is a value that is printed so.
-fn value_line(text: &mut Text, header: Header, told: &Text) -> Result<(), OutOfMemory>
-    ensures { OnOk result (encode_utf8_all text.new
-        ≡ encode_utf8_all text.old ++ value_line_of header.kind header.channel header.length (encode_utf8_all told.now)) }
+/// Makes the text empty.
+#[inline(always)]
+pub(crate) fn clear(text: &mut Text)
+    ensures { encode_utf8_all text.new ≡ [] }
 {
-    start(text, header)?;
-    push(text, ' ')?;
-    append(text, told.as_str())?;
-    push(text, '\n')?;
-    Ok(())
+    text.text.clear();
 }
 
 /// Appends a text.
 pub(crate) fn append(text: &mut Text, more: &str) -> Result<(), OutOfMemory>
-    ensures { OnOk result (encode_utf8_all text.new ≡ encode_utf8_all text.old ++ more.now) }
+    ensures added { OnOk result (encode_utf8_all text.new ≡ encode_utf8_all text.old ++ more.now) }
+    ensures kept { OnErr result (text.new ≡ text.old) }
 {
     text.text.push_str(more)?;
     Ok(())
 }
 
-/// Appends the name of a message, its channel and the length of its payload.
+/// Makes the text the name of a message, its channel and the length of its payload.
 #[inline(always)]
 fn start(text: &mut Text, header: Header) -> Result<(), OutOfMemory>
+    ensures { OnOk result (encode_utf8_all text.new ≡ line_start header.kind header.channel header.length) }
+{
+    clear(text);
+    append_start(text, header)?;
+    Ok(())
+}
+
+#[inline(always)]
+fn append_start(text: &mut Text, header: Header) -> Result<(), OutOfMemory>
     ensures { OnOk result (encode_utf8_all text.new ≡ encode_utf8_all text.old ++ line_start header.kind header.channel header.length) }
 {
     write_start(&mut text.text, header)?;

@@ -1,12 +1,12 @@
 // A file of messages, printed line by line.
-ghost use Rattle.std.specs.Prelude.{◌≡◌, ◌≢◌, ◌≤◌, ℕ, List, Bool, Ok, IfOk, OnOk, OnErr, encode_utf8_all};
+ghost use Rattle.std.specs.Prelude.{◌≡◌, ◌≢◌, ◌≤◌, ◌++◌, [], ℕ, List, Bool, true, false, Ok, IfOk, OnOk, OnErr, encode_utf8_all};
 ghost use Rattle.xd_edge.specs.Faults.{Rose};
-ghost use Rattle.xd_edge.specs.Sink.{TookPart};
+ghost use Rattle.xd_edge.specs.Sink.{Took, TookPart};
 ghost use Rattle.xd_wire.specs.WireText.{IsWireText};
 ghost use Rattle.xd_wire.specs.Lines.{texts_at};
 ghost use Rattle.xd_wire.specs.Printing.{HasText, Prints, Leaves, TookPage, IsEmptyAt, end_with};
 
-use crate::line::Room;
+use crate::line::{Room, append, clear};
 use crate::step::{Then, step_at};
 use std::alloc::{AllocError, Global};
 use xd_edge::{Failed, OutOfMemory, Sink, Text, write_all};
@@ -24,7 +24,7 @@ pub enum WireEnd {
 
 /// Prints a file of messages: a line for each message, to the first fault, which has a line of its own.
 ///
-/// It holds a page of lines at a time, of 64 KiB and at most one line more. Where the output fails or memory is refused, the
+/// It holds a page of lines of 64 KiB at a time, and one line beside it. Where the output fails or memory is refused, the
 /// output took a first part of the text.
 pub fn print_messages<O: Sink>(
     alloc: Global,
@@ -87,9 +87,10 @@ fn write_lines<O: Sink>(
     let mut at = 0;
     let mut room = Room::new(alloc);
     let mut page = Text::from_string(String::new(alloc));
+    let mut line = Text::from_string(String::new(alloc));
     'lines: loop {
-        let then = step_at(alloc, &mut room, bytes, at, &mut page)?;
-        if write_page(out, &mut page, then).is_err() {
+        let then = step_at(alloc, &mut room, bytes, at, &mut line)?;
+        if put_line(out, &mut page, &line, then).is_err() {
             return Ok(Err(Failed));
         }
         match then {
@@ -97,6 +98,53 @@ fn write_lines<O: Sink>(
             Then::End { faulty } => return Ok(Ok(faulty)),
         }
     }
+}
+
+/// Puts a line behind those of the page, and writes the page where it is full or nothing follows it. A long line, and one
+/// for which the page has no room, is written by itself, behind the page.
+fn put_line<O: Sink>(out: &mut O, page: &mut Text, line: &Text, then: Then) -> Result<(), Failed>
+    ensures took { OnOk result (TookPage (encode_utf8_all page.old ++ encode_utf8_all line.now) (encode_utf8_all page.new) (O.sunk out.old) (O.sunk out.new)) }
+    ensures last { OnOk result (IsEmptyAt then (encode_utf8_all page.new)) }
+    ensures part { OnErr result (TookPart (encode_utf8_all page.old ++ encode_utf8_all line.now) (O.sunk out.old) (O.sunk out.new)) }
+    ensures later { O.faults out.old ≤ O.faults out.new }
+    ensures still { OnOk result (O.faults out.new ≡ O.faults out.old) }
+    ensures rose { OnErr result (Rose (O.faults out.old) (O.faults out.new)) }
+{
+    if takes(page, line) {
+        write_page(out, page, then)?;
+        return Ok(());
+    }
+    write_long(out, page, line)?;
+    Ok(())
+}
+
+/// Whether the page takes the line: it is no long one, and there is room.
+fn takes(page: &mut Text, line: &Text) -> bool
+    ensures added { result ≡ true → encode_utf8_all page.new ≡ encode_utf8_all page.old ++ encode_utf8_all line.now }
+    ensures kept { result ≡ false → page.new ≡ page.old }
+{
+    if line.text.len() >= PAGE {
+        return false;
+    }
+    match append(page, line.as_str()) {
+        Ok(()) => true,
+        Err(_) => false,
+    }
+}
+
+/// Writes the page and then the line.
+fn write_long<O: Sink>(out: &mut O, page: &mut Text, line: &Text) -> Result<(), Failed>
+    ensures empty { OnOk result (encode_utf8_all page.new ≡ []) }
+    ensures took { OnOk result (Took (encode_utf8_all page.old ++ encode_utf8_all line.now) (O.sunk out.old) (O.sunk out.new)) }
+    ensures part { OnErr result (TookPart (encode_utf8_all page.old ++ encode_utf8_all line.now) (O.sunk out.old) (O.sunk out.new)) }
+    ensures later { O.faults out.old ≤ O.faults out.new }
+    ensures still { OnOk result (O.faults out.new ≡ O.faults out.old) }
+    ensures rose { OnErr result (Rose (O.faults out.old) (O.faults out.new)) }
+{
+    write_all(out, page.as_str().as_bytes())?;
+    clear(page);
+    write_all(out, line.as_str().as_bytes())?;
+    Ok(())
 }
 
 /// Writes the page where it is full or nothing follows it, and leaves it to be filled.

@@ -1,9 +1,9 @@
 // What stands at a place of a file of messages.
-ghost use Rattle.std.specs.Prelude.{◌≡◌, ◌≤◌, ◌++◌, true, IfOk, OnOk, length, string_bytes, encode_utf8_all};
+ghost use Rattle.std.specs.Prelude.{◌≡◌, ◌≤◌, [], true, false, IfOk, OnOk, length, string_bytes, encode_utf8_all};
 ghost use Rattle.xd_wire.specs.WireText.{fault_line};
-ghost use Rattle.xd_wire.specs.Lines.{AppendsStep, IsAhead};
+ghost use Rattle.xd_wire.specs.Lines.{IsStepAt, IsAhead};
 
-use crate::line::{Line, Room, append, line_of};
+use crate::line::{Line, Room, append, clear, line_of};
 use crate::names::{name_of_frame_fault, name_of_what};
 use std::alloc::Global;
 use xd_edge::{OutOfMemory, Text};
@@ -16,8 +16,8 @@ pub enum Then {
     End { faulty: bool },
 }
 
-/// Appends the line of what stands at this place of the file to the text, and says what follows it. Behind the last
-/// message nothing is appended.
+/// Makes the text the line of what stands at this place of the file, and says what follows it. Behind the last message the
+/// text is empty.
 pub fn step_at(
     alloc: Global,
     room: &mut Room,
@@ -26,12 +26,12 @@ pub fn step_at(
     text: &mut Text,
 ) -> Result<Then, OutOfMemory>
     requires { at ≤ length bytes.now }
-    ensures step { IfOk result (AppendsStep bytes.now at (encode_utf8_all text.old) (encode_utf8_all text.new)) }
+    ensures step { IfOk result (IsStepAt bytes.now at (encode_utf8_all text.new)) }
     ensures ahead { IfOk result (IsAhead at (length bytes.now)) }
 {
     let header = match first_header(&bytes[at..]) {
         Ok(Some(header)) => header,
-        Ok(None) if at == bytes.len() => return Ok(Then::End { faulty: false }),
+        Ok(None) if at == bytes.len() => return Ok(end_step(text)),
         Ok(None) => return fault_step(alloc, "Cut", at as u128, text),
         Err(fault) => return fault_step(alloc, name_of_frame_fault(fault), at as u128, text),
     };
@@ -47,12 +47,22 @@ pub fn step_at(
     }
 }
 
-/// Appends the line of a fault, which is the last.
+/// Makes the text empty: nothing follows the last message.
+fn end_step(text: &mut Text) -> Then
+    ensures line { encode_utf8_all text.new ≡ [] }
+    ensures then { result ≡ Then.End false }
+{
+    clear(text);
+    Then::End { faulty: false }
+}
+
+/// Makes the text the line of a fault, which is the last.
 fn fault_step(alloc: Global, name: &str, place: u128, text: &mut Text) -> Result<Then, OutOfMemory>
-    ensures line { OnOk result (encode_utf8_all text.new ≡ encode_utf8_all text.old ++ fault_line name.now place) }
+    ensures line { OnOk result (encode_utf8_all text.new ≡ fault_line name.now place) }
     ensures then { IfOk result (λ then. then ≡ Then.End true) }
 {
     let line = text_of_fault(alloc, name, place)?;
+    clear(text);
     append(text, &line)?;
     Ok(Then::End { faulty: true })
 }

@@ -1,4 +1,4 @@
-use Rattle.std.proofs.Common.{List, ℕ, length, string_bytes, encode_utf8_all, refl, sym, ap, subst, ◌∙◌, arith}
+use Rattle.std.proofs.Common.{List, ℕ, ◌++◌, length, string_bytes, encode_utf8_all, refl, sym, ap, subst, ◌∙◌, arith}
 use Rattle.std.proofs.lemmas.Result.{err_from_is_err_and}
 use Rattle.std.proofs.lemmas.Str.{IsUtf8-string_bytes, encodes-chars}
 use Rattle.xd_wire.specs.declared.step.Then.{Then}
@@ -23,31 +23,31 @@ returns-in_err-then-clause-leaves g c =
 pub returns-then-is_err-clause-leaves : goal.returns-then-is_err-clause-leaves
 returns-then-is_err-clause-leaves g c =
     let step = c.in_ok-then.ensures.step in
-    let made : MadeUpTo (texts_at c.args.bytes.now 0) (texts_of c.args.bytes.now c.in_ok-then.then) (encode_utf8_all c.step_at.new.text) (g.O.Sink.sunk c.args.out.now) (g.O.Sink.sunk c.lines.out) =
-    made_next _ _ _ _ step.0 _ _ _ c.lines.invariant.made step.1 step.2 in
-    made_part _ _ _ _ _ _ made (when_err c.write_page.result _ (sym c.is_err.ensures.value ∙ c.if-is_err.true) c.write_page.ensures.part)
+    let made : MadeUpTo (texts_at c.args.bytes.now 0) (texts_of c.args.bytes.now c.in_ok-then.then) (encode_utf8_all c.lines.page ++ encode_utf8_all c.step_at.new.text) (g.O.Sink.sunk c.args.out.now) (g.O.Sink.sunk c.lines.out) =
+    made_next _ _ _ _ (encode_utf8_all c.step_at.new.text) _ _ _ c.lines.invariant.made refl step in
+    made_part _ _ _ _ _ _ made (when_err c.put_line.result _ (sym c.is_err.ensures.value ∙ c.if-is_err.true) c.put_line.ensures.part)
 
 pub lines-preserved : goal.lines-preserved
 lines-preserved g c =
     let ahead = subst (IsAhead c.lines.at (length c.args.bytes.now)) c.in-At.is c.in_ok-then.ensures.ahead in
     let step = c.in_ok-then.ensures.step in
-    let made : MadeUpTo (texts_at c.args.bytes.now 0) (texts_of c.args.bytes.now c.in_ok-then.then) (encode_utf8_all c.step_at.new.text) (g.O.Sink.sunk c.args.out.now) (g.O.Sink.sunk c.lines.out) =
-    made_next _ _ _ _ step.0 _ _ _ c.lines.invariant.made step.1 step.2 in
-    let took = when_ok c.write_page.result _ (sym c.is_err.ensures.value ∙ c.if-is_err.false) c.write_page.ensures.took in
+    let made : MadeUpTo (texts_at c.args.bytes.now 0) (texts_of c.args.bytes.now c.in_ok-then.then) (encode_utf8_all c.lines.page ++ encode_utf8_all c.step_at.new.text) (g.O.Sink.sunk c.args.out.now) (g.O.Sink.sunk c.lines.out) =
+    made_next _ _ _ _ (encode_utf8_all c.step_at.new.text) _ _ _ c.lines.invariant.made refl step in
+    let took = when_ok c.put_line.result _ (sym c.is_err.ensures.value ∙ c.if-is_err.false) c.put_line.ensures.took in
     record {
       within = ahead.1;
-      made = subst (λ (t : Then). MadeUpTo (texts_at c.args.bytes.now 0) (texts_of c.args.bytes.now t) (encode_utf8_all c.write_page.new.page) (g.O.Sink.sunk c.args.out.now) (g.O.Sink.sunk c.write_page.new.out)) c.in-At.is
+      made = subst (λ (t : Then). MadeUpTo (texts_at c.args.bytes.now 0) (texts_of c.args.bytes.now t) (encode_utf8_all c.put_line.new.page) (g.O.Sink.sunk c.args.out.now) (g.O.Sink.sunk c.put_line.new.out)) c.in-At.is
           (made_taken _ _ _ _ _ _ _ made took);
-      still = when_ok c.write_page.result _ (sym c.is_err.ensures.value ∙ c.if-is_err.false) c.write_page.ensures.still ∙ c.lines.invariant.still;
+      still = when_ok c.put_line.result _ (sym c.is_err.ensures.value ∙ c.if-is_err.false) c.put_line.ensures.still ∙ c.lines.invariant.still;
     }
 
 pub returns-in-End-clause-leaves : goal.returns-in-End-clause-leaves
 returns-in-End-clause-leaves g c =
     let step = c.in_ok-then.ensures.step in
-    let made : MadeUpTo (texts_at c.args.bytes.now 0) (texts_of c.args.bytes.now c.in_ok-then.then) (encode_utf8_all c.step_at.new.text) (g.O.Sink.sunk c.args.out.now) (g.O.Sink.sunk c.lines.out) =
-    made_next _ _ _ _ step.0 _ _ _ c.lines.invariant.made step.1 step.2 in
-    let took = when_ok c.write_page.result _ (sym c.is_err.ensures.value ∙ c.if-is_err.false) c.write_page.ensures.took in
-    let last = subst (λ (t : Then). IsEmptyAt t (encode_utf8_all c.write_page.new.page)) c.in-End.is (when_ok c.write_page.result _ (sym c.is_err.ensures.value ∙ c.if-is_err.false) c.write_page.ensures.last) in
+    let made : MadeUpTo (texts_at c.args.bytes.now 0) (texts_of c.args.bytes.now c.in_ok-then.then) (encode_utf8_all c.lines.page ++ encode_utf8_all c.step_at.new.text) (g.O.Sink.sunk c.args.out.now) (g.O.Sink.sunk c.lines.out) =
+    made_next _ _ _ _ (encode_utf8_all c.step_at.new.text) _ _ _ c.lines.invariant.made refl step in
+    let took = when_ok c.put_line.result _ (sym c.is_err.ensures.value ∙ c.if-is_err.false) c.put_line.ensures.took in
+    let last = subst (λ (t : Then). IsEmptyAt t (encode_utf8_all c.put_line.new.page)) c.in-End.is (when_ok c.put_line.result _ (sym c.is_err.ensures.value ∙ c.if-is_err.false) c.put_line.ensures.last) in
     made_all _ _ _ _ _
-    (subst (λ (t : Then). MadeUpTo (texts_at c.args.bytes.now 0) (texts_of c.args.bytes.now t) (encode_utf8_all c.write_page.new.page) (g.O.Sink.sunk c.args.out.now) (g.O.Sink.sunk c.write_page.new.out)) c.in-End.is (made_taken _ _ _ _ _ _ _ made took))
+    (subst (λ (t : Then). MadeUpTo (texts_at c.args.bytes.now 0) (texts_of c.args.bytes.now t) (encode_utf8_all c.put_line.new.page) (g.O.Sink.sunk c.args.out.now) (g.O.Sink.sunk c.put_line.new.out)) c.in-End.is (made_taken _ _ _ _ _ _ _ made took))
     last

@@ -1,7 +1,7 @@
 use Rattle.std.proofs.Common.{List, ℕ, ◌++◌, string_bytes, encode_utf8_all, sym, ap, ◌∙◌}
 use Rattle.std.proofs.lemmas.Str.{IsUtf8-string_bytes, encodes-chars}
 use Rattle.xd_wire.specs.WireText.{line_start}
-use Rattle.xd_wire.proofs.line.start.Goals as goal
+use Rattle.xd_wire.proofs.line.append_start.Goals as goal
 
 pub returns : goal.returns
 returns c =
