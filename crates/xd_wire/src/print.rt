@@ -8,7 +8,7 @@ ghost use Rattle.xd_wire.specs.Printing.{HasText, Prints, Leaves, TookPage, IsEm
 
 use crate::line::{Room, append, clear};
 use crate::step::{Then, step_at};
-use std::alloc::{AllocError, Global};
+use std::alloc::Global;
 use xd_edge::{Failed, OutOfMemory, Sink, Text, write_all};
 
 /// How the printing of a file of messages came to its end.
@@ -39,7 +39,6 @@ pub fn print_messages<O: Sink>(
     ensures still { IfOk result (λ how. how ≢ WireEnd.OutFailed → O.faults out.new ≡ O.faults out.old) }
     ensures later { O.faults out.old ≤ O.faults out.new }
 {
-    make_room(alloc);
     let written = write_lines(alloc, bytes, out)?;
     let Ok(faulty) = written else {
         return Ok(WireEnd::OutFailed);
@@ -48,16 +47,6 @@ pub fn print_messages<O: Sink>(
         return Ok(WireEnd::OutFailed);
     }
     Ok(end_with(faulty))
-}
-
-/// So many bytes are taken and given back ahead of the first message.
-const ROOM: usize = 32_000_000;
-
-/// Takes room as for a large message and gives it back untouched. From then on the system's allocator keeps what one message
-/// gave back for the next one, where else it would hand it to the system and get it page by page again. Where there is no such
-/// room nothing changes.
-fn make_room(alloc: Global) {
-    let _room: Result<Vec<u8>, AllocError> = Vec::with_capacity(alloc, ROOM);
 }
 
 fn end_with(faulty: bool) -> WireEnd

@@ -162,6 +162,32 @@ fn an_output_that_fails_took_a_first_part(rt: HostRuntime) -> Result<(), Fail> {
     Ok(())
 }
 
+/// A line of 70,024 bytes between two small ones: the page ahead of it, the line, and the page behind it are written, and
+/// handed on.
+#[test]
+fn a_long_line_stands_in_its_place(rt: HostRuntime) -> Result<(), Fail> {
+    let alloc = rt.alloc();
+    let mut file = b"\x05\x00\x00\x00\x03\x00\x00\x00\x00".to_vec(alloc)?;
+    let mut text = b"CHANNEL_CLOSE 3 0\nCHANNEL_DATA 1 70006 \"".to_vec(alloc)?;
+    file.extend_from_slice(b"\x04\x00\x00\x00\x01\x00\x01\x11\x76N\x00\x01\x11\x70")?;
+    for _ in 0..70_000 {
+        file.push(b'x')?;
+        text.push(b'x')?;
+    }
+    file.extend_from_slice(b"Q\x05\x00\x00\x00\x03\x00\x00\x00\x00")?;
+    text.extend_from_slice(b"\"\nCHANNEL_CLOSE 3 0\n")?;
+    let mut out = sink(alloc, &[])?;
+    assert_eq!(rt; print_messages(alloc, &file, &mut out)?, WireEnd::Whole);
+    assert_eq!(rt; out.bytes.as_slice(), text.as_slice());
+    for (call, taken) in [(0, 0), (1, 18), (2, 70_042), (3, 70_060)] {
+        let mut out = sink(alloc, &[call])?;
+        assert_eq!(rt; print_messages(alloc, &file, &mut out)?, WireEnd::OutFailed);
+        assert!(rt; taken <= text.len());
+        assert_eq!(rt; out.bytes.as_slice(), &text[..taken]);
+    }
+    Ok(())
+}
+
 #[test]
 fn a_value_is_printed_behind_a_text(rt: HostRuntime) -> Result<(), Fail> {
     let mut line = Text::of(rt.alloc(), "\u{e9} ")?;
