@@ -11,8 +11,10 @@ ratio to it says about how much is left to gain.
 All sides are measured alike: each run is a process of its own that first reads the payload from a file, and then times one
 call of loads and one call of dumps of what it gave; neither the start of the process, nor the reading of the file, nor the
 end of the value counts. The runs alternate, and the best of each side counts. The mixed values are also read again and again
-in one process, where memory that the system gave for one value is there for the next; the rows with `again` tell the best of
-those readings behind the first.
+in one process; the rows with `again` tell the best of those readings behind the first. Between two readings the C library
+may give the memory of a value back to the system, and get it page by page again; the rows that say that memory is kept tell
+of processes in which it is asked not to. The rows with large pages tell of processes in which the C library asks the system
+for them.
 """
 
 import os
@@ -250,10 +252,20 @@ def nested(depth):
     return (b"K" + number(1) + integer(0)) * (depth - 1) + b"K" + number(0) + b"P" * (depth - 1) + b"Q"
 
 
-def ours(program, paths):
+# What the C library is asked for: large pages, and to keep memory that was given back.
+LARGE_PAGES = "glibc.malloc.hugetlb=1"
+KEPT = "glibc.malloc.trim_threshold=1000000000:glibc.malloc.mmap_threshold=1000000000"
+
+
+def asking(words):
+    """The environment in which the C library is asked for this, or for nothing."""
+    return {**os.environ, "GLIBC_TUNABLES": words} if words else None
+
+
+def ours(program, paths, words=""):
     """Reads and writes each in turn, in one process of its own: the microseconds of each reading, of each writing, None for
     one that was refused, and peak memory in bytes."""
-    done = subprocess.run([program, *paths], capture_output=True, text=True)
+    done = subprocess.run([program, *paths], capture_output=True, text=True, env=asking(words))
     words = [line.split() for line in done.stdout.splitlines() if line.strip()]
     took = {which: [int(n) if n.isdigit() else None for name, n, *_ in words if name == which] for which in ("loads", "dumps")}
     peaks = [int(n) * 1024 for name, n, *_ in words if name == "VmHWM:"]
@@ -269,9 +281,10 @@ def theirs(python, paths):
     return list(loads), list(dumps)
 
 
-def in_c(program, paths):
+def in_c(program, paths, words=""):
     """The microseconds in which the program in C makes the same values."""
-    return [float(n) for n in subprocess.run([program, *paths], capture_output=True, text=True, check=True).stdout.split()]
+    done = subprocess.run([program, *paths], capture_output=True, text=True, check=True, env=asking(words))
+    return [float(n) for n in done.stdout.split()]
 
 
 def best(runs):
@@ -295,7 +308,8 @@ AGAIN = 6
 
 def measure(_):
     took, peaks, sizes, compared, bare = {}, {}, {}, [], []
-    again = {"loads": [], "execnet": [], "c": []}
+    again = {"loads": [], "execnet": [], "c": [], "kept": [], "kept in c": []}
+    large = {"loads": [], "c": []}
     python = shared.python_with("execnet")
     with tempfile.TemporaryDirectory() as folder:
         program = shared.build(folder, "value_bench", PROGRAM, ": xd_value xd_edge")
@@ -312,6 +326,8 @@ def measure(_):
                 if name != MIXED:
                     continue
                 again["loads"] += ours(program, [path] * AGAIN)[0][1:]
+                again["kept"] += ours(program, [path] * AGAIN, KEPT)[0][1:]
+                large["loads"] += ours(program, [path], LARGE_PAGES)[0]
                 if python is not None:
                     loads, dumps = theirs(python, [path])
                     compared.append((loads[0], dumps[0]))
@@ -319,6 +335,8 @@ def measure(_):
                 if same is not None:
                     bare += in_c(same, [path])
                     again["c"] += in_c(same, [path] * AGAIN)[1:]
+                    again["kept in c"] += in_c(same, [path] * AGAIN, KEPT)[1:]
+                    large["c"] += in_c(same, [path], LARGE_PAGES)
             loads, dumps, _ = best(runs)
             peak = max(run[2] for run in runs)
             took[name], peaks[name], sizes[name] = (loads, dumps), peak, len(payload)
@@ -331,7 +349,9 @@ def measure(_):
     else:
         (read, written), (loads, dumps) = best(compared), took[MIXED]
         rows.append(shared.at_least(f"reading {MIXED}", "execnet's `loads`", read / loads, 20))
+        rows.append(shared.at_least(f"reading {MIXED}, with large pages", "execnet's `loads`", read / min(large["loads"]), 20))
         rows.append(shared.Row(f"reading {MIXED} again", "execnet's `loads` again", min(again["execnet"]) / min(again["loads"]), "times as fast"))
+        rows.append(shared.at_least(f"reading {MIXED} again where memory is kept", "execnet's `loads` again", min(again["execnet"]) / min(again["kept"]), 20))
         rows.append(shared.at_least(f"writing {MIXED}", "execnet's `dumps`", written / dumps, 20))
     what, beside = f"reading {MIXED}", "a program in C that fills the same memory and checks nothing"
     if same is None:
@@ -341,7 +361,9 @@ def measure(_):
         rows.append(shared.Row(f"{what} again", "that program again", min(again["loads"]) / min(again["c"])))
         if python is not None:
             rows.append(shared.Row(f"that program in C on {MIXED}", "execnet's `loads`", read / min(bare), "times as fast"))
+            rows.append(shared.Row(f"that program in C on {MIXED}, with large pages", "execnet's `loads`", read / min(large["c"]), "times as fast"))
             rows.append(shared.Row(f"that program in C on {MIXED} again", "execnet's `loads` again", min(again["execnet"]) / min(again["c"]), "times as fast"))
+            rows.append(shared.Row(f"that program in C on {MIXED} again where memory is kept", "execnet's `loads` again", min(again["execnet"]) / min(again["kept in c"]), "times as fast"))
     rows.append(shared.at_most(f"reading {MANY}", FEW, took[MANY][0] / took[FEW][0], 25))
     # What the program takes anyhow is what it takes for the smallest payload.
     peak = max((peaks[name] - peaks[NESTED]) / sizes[name] for name in peaks if name != NESTED)

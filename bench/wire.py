@@ -3,14 +3,15 @@
 
 Usage: bench/wire.py [PROGRAM]   from any folder; PROGRAM is the one of this repository where none is named.
 
-It writes a file of small messages, one of collections of 50,000 test ids, one of large texts and one of large bytes, some
-60 MiB each, and measures MB a second by the clock and by the processor's time (user and system), and peak memory, each
-the best of some runs with the output thrown away. The ratios are of the processor's time, which tells something on a
-busy machine, too. Of execnet there are two loops: one reads each message and decodes its payload, and one prints its line as well,
-as `wire` does, with the value in Python's own notation. A program in C that only reads the file whole stands for what that
-part takes by itself. Goals: at least 30 times the speed of the loop that prints, and a
-peak of at most the file and a few messages. Where execnet is not installed (python3-execnet on Debian) its part is
-skipped with a word.
+It writes a file of small messages, and files of large ones: lists of a million integers, collections of 50,000 test ids,
+the mixed values of bench/value.py, texts and bytes; some 60 MiB each. It measures MB a second by the clock and by the
+processor's time (user and system), and peak memory, each the best of some runs with the output thrown away. The ratios are
+of the processor's time, which tells something on a busy machine, too. Of execnet there are two loops: one reads each message
+and decodes its payload, and one prints its line as well, as `wire` does, with the value in Python's own notation. A program
+in C that only reads the file whole stands for what that part takes by itself. xdrun and that program run twice: with the
+word for large pages that the script ./xdrun gives, and without it. Goals: at least 30 times the speed of the loop that
+prints, and a peak of at most the file and a few messages. Where execnet is not installed (python3-execnet on Debian) its
+part is skipped with a word.
 """
 
 import os
@@ -21,6 +22,10 @@ import tempfile
 import time
 
 import shared
+import value
+
+# What the script ./xdrun adds to the environment of `wire`.
+LARGE_PAGES = {"GLIBC_TUNABLES": "glibc.malloc.hugetlb=1"}
 
 SIZE = 60 * 1024 * 1024
 
@@ -102,6 +107,17 @@ def up_to_size(payload):
     return message(4, 1, payload) * (SIZE // len(payload))
 
 
+def integers():
+    """Lists of a million integers."""
+    items = (value.integer(i) + value.integer(i * 7919 % 2**31) + b"P" for i in range(1_000_000))
+    return up_to_size(b"K" + number(1_000_000) + b"".join(items) + b"Q")
+
+
+def mixed_values():
+    """Values of 10 MB, as bench/value.py has them."""
+    return up_to_size(value.mixed(10_000_000))
+
+
 def collections():
     """Lists of 50,000 test ids, as a worker sends its collection."""
     ids = (f"tests/unit/test_module_{i % 400:03}.py::TestClass{i % 7}::test_case_{i:05}[param-{i % 3}]" for i in range(50_000))
@@ -123,20 +139,26 @@ def large_bytes():
 
 FILES = {
     "small messages": small_messages,
+    "lists of a million integers": integers,
     "collections of 50,000 ids": collections,
+    "mixed values of 10 MB": mixed_values,
     "texts of 10 MiB": large_texts,
     "bytes of 10 MiB": large_bytes,
 }
 
 
-def timed(words):
+WIRE, SMALL_WIRE = "xdrun wire", "xdrun wire without large pages"
+WHOLE, SMALL_WHOLE = "reading it whole", "reading it whole without large pages"
+
+
+def timed(words, more):
     """The seconds by the clock and of the processor, each of the best of the runs, and the least peak memory in MiB, or
-    None where it cannot be run."""
+    None where it cannot be run. These words are added to its environment."""
     best = None
     for _ in range(shared.RUNS):
         begun = time.monotonic()
         try:
-            child = subprocess.Popen(words, stdout=subprocess.DEVNULL, stderr=subprocess.PIPE)
+            child = subprocess.Popen(words, stdout=subprocess.DEVNULL, stderr=subprocess.PIPE, env={**os.environ, **more})
         except OSError:
             return None
         error = child.stderr.read().decode(errors="replace").strip()
@@ -162,15 +184,16 @@ def measure(program):
             subprocess.run([sys.executable, os.path.abspath(__file__), "--make", name, path], check=True)
             megabytes = os.path.getsize(path) / 1e6
             shared.note(f"{name}, {megabytes:.0f} MB")
-            runs = [("cat", ["cat", path]), ("xdrun wire", [program, "wire", path])]
+            runs = [("cat", ["cat", path], {}), (WIRE, [program, "wire", path], LARGE_PAGES), (SMALL_WIRE, [program, "wire", path], {})]
             if whole is not None:
-                runs.append(("reading it whole", [whole, path]))
+                runs.append((WHOLE, [whole, path], LARGE_PAGES))
+                runs.append((SMALL_WHOLE, [whole, path], {}))
             if python is not None:
-                runs.append(("execnet reads", [python, "-c", EXECNET_READS, path]))
-                runs.append(("execnet prints", [python, "-c", EXECNET_PRINTS, path]))
+                runs.append(("execnet reads", [python, "-c", EXECNET_READS, path], {}))
+                runs.append(("execnet prints", [python, "-c", EXECNET_PRINTS, path], {}))
             times = {}
-            for what, words in runs:
-                times[what] = timed(words)
+            for what, words, more in runs:
+                times[what] = timed(words, more)
                 if times[what] is not None:
                     clock, processor, peak = times[what]
                     speeds = f"{megabytes / clock:.1f} MB/s, {megabytes / processor:.1f} MB/s of the processor"
@@ -182,19 +205,22 @@ def measure(program):
 def rows_of(name, megabytes, times):
     """The rows of one file, by the processor's time."""
     rows = []
-    what, ours = f"`wire`, {megabytes:.0f} MB of {name}", times["xdrun wire"]
-    for which, beside in (("execnet prints", "a loop that prints them by execnet"), ("execnet reads", "a loop that reads them by execnet")):
-        theirs = times.get(which)
-        if ours is None or theirs is None:
-            why = "wire did not run" if ours is None else "execnet is not installed"
-            rows.append(shared.skipped(what, beside, why))
-        elif which == "execnet prints":
-            rows.append(shared.at_least(what, beside, theirs[1] / ours[1], 30))
-        else:
-            rows.append(shared.Row(what, beside, theirs[1] / ours[1], "times as fast"))
-    read, printed = times.get("reading it whole"), times.get("execnet prints")
-    if read is not None and printed is not None:
-        rows.append(shared.Row(f"a program in C that only reads the {name} whole", "a loop that prints them by execnet", printed[1] / read[1], "times as fast"))
+    what, printed = f"`wire`, {megabytes:.0f} MB of {name}", times.get("execnet prints")
+    beside = "a loop that prints them by execnet"
+    ours, small = times[WIRE], times[SMALL_WIRE]
+    if ours is None or small is None or printed is None:
+        why = "execnet is not installed" if printed is None else "wire did not run"
+        rows.append(shared.skipped(what, beside, why))
+    else:
+        rows.append(shared.at_least(what, beside, printed[1] / ours[1], 30))
+        rows.append(shared.at_least(f"{what}, without large pages", beside, printed[1] / small[1], 30))
+    read = times.get("execnet reads")
+    if ours is not None and read is not None:
+        rows.append(shared.Row(what, "a loop that reads them by execnet", read[1] / ours[1], "times as fast"))
+    for which, how in ((WHOLE, ""), (SMALL_WHOLE, ", without large pages")):
+        if times.get(which) is not None and printed is not None:
+            what_in_c = f"a program in C that only reads the {name} whole{how}"
+            rows.append(shared.Row(what_in_c, beside, printed[1] / times[which][1], "times as fast"))
     if ours is not None:
         rows.append(shared.Row(f"peak memory of {what}", "the file", ours[2] * 1024 * 1024 / 1e6 / megabytes, "times", "the file and a few messages"))
     return rows

@@ -53,6 +53,8 @@ pub fn line_of(
     }
     start(&mut room.ahead, header)?;
     push(&mut room.ahead, ' ')?;
+    // So the reader asks for room for this line alone, and not behind the one before.
+    clear(text);
     match room.reader.show(alloc, payload, &room.ahead, text) {
         Ok(()) => {
             push(text, '\n')?;
