@@ -20,7 +20,7 @@ use Rattle.xd_wire.specs.WireText.{has_value, line_start, value_line, plain_line
 use Rattle.xd_edge.specs.declared.refusals.OutOfMemory.{OutOfMemory}
 use Rattle.xd_wire.specs.declared.step.Then.{Then}
 use Rattle.xd_wire.specs.declared.step.Then.TheVariants.{At, End}
-use Rattle.xd_wire.specs.Lines.{IsLineOf, IsStepAt, gives_fault, Texts, texts_at, texts_of, ended, Continues}
+use Rattle.xd_wire.specs.Lines.{IsLineOf, LeadsTo, gives_fault, Texts, texts_at, texts_of, ended, Continues}
 
 -- a text behind the start of a line, and the end of the line
 made_line : (m : MessageView) (ahead told value after : List ℕ) → encode_utf8_all ahead ≡ line_start m.kind m.channel (length m.payload) ++ (32 ∷ []) → told ≡ ahead ++ value → after ≡ encode_utf8_all told ++ (10 ∷ [])
@@ -132,13 +132,13 @@ last_step bytes at h front payload written printed f place found fe pe says is e
 
 -- a step that made a line
 pub made_steps : (bytes : List ℕ) (at : ℕ) (h : Header) (front payload printed : List ℕ) (f : Line) → front ≡ drop at bytes → payload ≡ take h.length (drop (at + 9) bytes) → 9 + h.length ≤ length front
-    → FrontSays front (Ok (Some h)) → IsLineOf (message_with h payload) printed f → f ≡ line.Made → IsStepAt bytes at printed (At (at + 9 + h.length))
+    → FrontSays front (Ok (Some h)) → IsLineOf (message_with h payload) printed f → f ≡ line.Made → LeadsTo bytes at printed (At (at + 9 + h.length))
 made_steps = next_step
 
 -- a step whose line tells a fault of a payload
 pub fault_steps : (r : Result Then OutOfMemory) (bytes : List ℕ) (at : ℕ) (h : Header) (front payload mid after name : List ℕ) (f : Line) (place : ℕ) (found : LoadWhat) → front ≡ drop at bytes → payload ≡ take h.length (drop (at + 9) bytes)
     → FrontSays front (Ok (Some h)) → IsLineOf (message_with h payload) mid f → f ≡ line.Fault place found → name ≡ what_name found → OnOk r (after ≡ fault_line name (at + 9 + place)) → IfOk r (λ t. t ≡ End true)
-    → IfOk r (IsStepAt bytes at after)
+    → IfOk r (LeadsTo bytes at after)
 fault_steps (Err e) bytes at h front payload mid after name f place found fe pe says k is ne written then = tt
 fault_steps (Ok s) bytes at h front payload mid after name f place found fe pe says k is ne written then =
     let step : Continues (texts_at bytes at) after (ended true) = last_step bytes at h front payload mid after f place found fe pe says k is (written ∙ ap (λ (n : List ℕ). fault_line n (at + 9 + place)) ne) in

@@ -1,58 +1,53 @@
 -- What a sink took of the text of a file.
-use Rattle.std.proofs.Common.{◌≡◌, ℕ, Bool, true, false, List, [], ◌++◌, Option, Some, None, Result, Ok, Err, option_map, refl, sym, ap, subst, ◌∙◌, append_assoc}
+use Rattle.std.proofs.Common.{◌≡◌, ℕ, ◌⊎◌, inl, inr, arith, Bool, true, false, List, [], ◌++◌, Option, Some, None, Result, Ok, Err, option_map, refl, sym, ap, subst, ◌∙◌, append_assoc}
 use Rattle.std.specs.Prelude.{OnOk, OnErr, is_err}
 use Rattle.std.proofs.lemmas.List.{append-nil}
 use Rattle.xd_edge.specs.Sink.{Sunk, Took, TookPart, Printed, with_flush}
 use Rattle.xd_edge.proofs.SinkLemmas.{took_nothing, took_more, took_then_part, part_of_more, took_is_part}
 use Rattle.xd_wire.specs.declared.step.Then.{Then}
 use Rattle.xd_wire.specs.declared.step.Then.TheVariants.{At, End}
-use Rattle.xd_wire.specs.Lines.{Texts, Continues, ended, texts_at}
+use Rattle.xd_wire.specs.Lines.{Texts, Continues, IsAhead, ended, texts_at}
 use Rattle.xd_wire.specs.WireText.{IsWireText}
-use Rattle.xd_wire.specs.Printing.{TookUpTo, TookPage, IsEmptyAt, MadeUpTo, TookPartOfEach, HasText, Prints, end_with}
+use Rattle.xd_wire.specs.Printing.{TookUpTo, TookPartOfEach, HasText, Prints, end_with}
 
-continues_self : (whole : Texts) → Continues whole [] whole
+pub continues_self : (whole : Texts) → Continues whole [] whole
 continues_self whole = record { forth = λ more faulty k. k; back = λ all faulty k. (all, refl, k) }
 
-continues_more : (whole mid later : Texts) (a b : List ℕ) → Continues whole a mid → Continues mid b later → Continues whole (a ++ b) later
+pub continues_more : (whole mid later : Texts) (a b : List ℕ) → Continues whole a mid → Continues mid b later → Continues whole (a ++ b) later
 continues_more whole mid later a b first then =
     record {
       forth = λ more faulty k. subst (λ l. whole l faulty) (sym (append_assoc a b more)) (first.forth (b ++ more) faulty (then.forth more faulty k));
       back = λ all faulty k. let x = first.back all faulty k in let y = then.back x.0 faulty x.2 in (y.0, x.1 ∙ (ap (λ l. a ++ l) y.1 ∙ sym (append_assoc a b y.0)), y.2);
     }
 
--- nothing was made yet
-pub made_start : (whole : Texts) (sunk : Option Sunk) → MadeUpTo whole whole [] sunk sunk
-made_start whole sunk = record { text = []; continues = continues_self whole; took = took_nothing sunk }
+-- nothing was taken yet
+pub took_start : (whole : Texts) (sunk : Option Sunk) → TookUpTo whole whole sunk sunk
+took_start whole sunk = record { text = []; continues = continues_self whole; took = took_nothing sunk }
 
--- one more line was made
-pub made_next : (whole mid later : Texts) (left line more : List ℕ) (old new : Option Sunk) → MadeUpTo whole mid left old new → more ≡ left ++ line → Continues mid line later → MadeUpTo whole later more old new
-made_next whole mid later left line more old new k e c =
-    let text : (k.text ++ left) ++ line ≡ k.text ++ more = append_assoc k.text left line ∙ ap (λ l. k.text ++ l) (sym e) in
-    record { text = k.text; continues = subst (λ l. Continues whole l later) text (continues_more whole mid later (k.text ++ left) line k.continues c); took = k.took }
+-- more lines were taken
+pub took_lines : (whole mid later : Texts) (lines : List ℕ) (old now new : Option Sunk) → TookUpTo whole mid old now → Continues mid lines later → Took lines now new → TookUpTo whole later old new
+took_lines whole mid later lines old now new k c t =
+    record { text = k.text ++ lines; continues = continues_more whole mid later k.text lines k.continues c; took = took_more k.text lines old now new k.took t }
 
--- what was made, or a first part of it, was written
-pub made_taken : (whole later : Texts) (before after : List ℕ) (old now new : Option Sunk) → MadeUpTo whole later before old now → TookPage before after now new → MadeUpTo whole later after old new
-made_taken whole later before after old now new k t =
-    let text : k.text ++ before ≡ (k.text ++ t.0) ++ after = ap (λ l. k.text ++ l) t.1 ∙ sym (append_assoc k.text t.0 after) in
-    record { text = k.text ++ t.0; continues = subst (λ l. Continues whole l later) text k.continues; took = took_more k.text t.0 old now new k.took t.2 }
+-- and as many as were taken up to some place
+pub took_on : (whole mid later : Texts) (old now new : Option Sunk) → TookUpTo whole mid old now → TookUpTo mid later now new → TookUpTo whole later old new
+took_on whole mid later old now new k more = took_lines whole mid later more.text old now new k more.continues more.took
 
--- all that was made was written
-pub made_all : (whole later : Texts) (left : List ℕ) (old new : Option Sunk) → MadeUpTo whole later left old new → left ≡ [] → TookUpTo whole later old new
-made_all whole later left old new k none =
-    record { text = k.text; continues = subst (λ l. Continues whole l later) (ap (λ l. k.text ++ l) none ∙ append-nil k.text) k.continues; took = k.took }
-
--- a part of what was made was taken
-pub made_part : (whole later : Texts) (left : List ℕ) (old now new : Option Sunk) → MadeUpTo whole later left old now → TookPart left now new → TookPartOfEach whole old new
-made_part whole later left old now new k t all faulty w =
+-- a first part of what comes next was taken
+pub took_first_part : (whole mid : Texts) (old now new : Option Sunk) → TookUpTo whole mid old now → TookPartOfEach mid now new → TookPartOfEach whole old new
+took_first_part whole mid old now new k part all faulty w =
     let more = k.continues.back all faulty w in
-    subst (λ l. TookPart l old new) (sym more.1) (part_of_more (k.text ++ left) more.0 old new (took_then_part k.text left old now new k.took t))
+    subst (λ l. TookPart l old new) (sym more.1) (took_then_part k.text more.0 old now new k.took (part more.0 faulty more.2))
 
--- no further line was made
-pub made_stop : (whole later : Texts) (left : List ℕ) (old new : Option Sunk) → MadeUpTo whole later left old new → TookPartOfEach whole old new
-made_stop whole later left old new k all faulty w =
-    let more = k.continues.back all faulty w in
-    let text : all ≡ k.text ++ (left ++ more.0) = more.1 ∙ append_assoc k.text left more.0 in
-    subst (λ l. TookPart l old new) (sym text) (part_of_more k.text (left ++ more.0) old new (took_is_part k.text old new k.took))
+-- a first part of the lines that come next is one of each text
+pub part_of_lines : (whole later : Texts) (lines : List ℕ) (old new : Option Sunk) → Continues whole lines later → TookPart lines old new → TookPartOfEach whole old new
+part_of_lines whole later lines old new c t all faulty w =
+    let more = c.back all faulty w in
+    subst (λ l. TookPart l old new) (sym more.1) (part_of_more lines more.0 old new t)
+
+-- no further line was taken
+pub took_stop : (whole later : Texts) (old new : Option Sunk) → TookUpTo whole later old new → TookPartOfEach whole old new
+took_stop whole later old new k = part_of_lines whole later k.text old new k.continues (took_is_part k.text old new k.took)
 
 -- the text was taken as a whole
 pub whole_text : (whole : Texts) (fault : Bool) (old new : Option Sunk) → TookUpTo whole (ended fault) old new → (text : List ℕ) × whole text fault
@@ -79,10 +74,6 @@ pub prints : (bytes : List ℕ) (fault : Bool) (old now new : Option Sunk) → T
 prints bytes true old now new k e text faulty w = let o = only_text (texts_at bytes 0) true old now k text faulty w in (o.0, printed_by text old now new o.1 e)
 prints bytes false old now new k e text faulty w = let o = only_text (texts_at bytes 0) false old now k text faulty w in (o.0, printed_by text old now new o.1 e)
 
-pub empty_at : (t : Then) (left : List ℕ) → left ≡ [] → IsEmptyAt t left
-empty_at (At next) left none = tt
-empty_at (End faulty) left none = none
-
 pub when_err : {A E : Type 0} (r : Result A E) (P : Type 0) → is_err r ≡ true → OnErr r P → P
 when_err (Ok x) P e p = cc
 when_err (Err x) P e p = p
@@ -90,3 +81,15 @@ when_err (Err x) P e p = p
 pub when_ok : {A E : Type 0} (r : Result A E) (P : Type 0) → is_err r ≡ false → OnOk r P → P
 when_ok (Ok x) P e p = p
 when_ok (Err x) P e p = cc
+
+abbrev place_in : Then → ℕ
+place_in (At place) = place
+place_in (End faulty) = 0
+
+-- what follows a part that is further on is further on, too
+pub further_on : (at size place : ℕ) (now next : Then) → (now ≡ At at) ⊎ IsAhead at size now → now ≡ At place → IsAhead place size next → IsAhead at size next
+further_on at size place now (End faulty) from is ahead = tt
+further_on at size place now (At next) (inl here) is ahead =
+    let same : at ≡ place = ap place_in (sym here ∙ is) in (omega (arith, same, ahead.0), ahead.1)
+further_on at size place now (At next) (inr there) is ahead =
+    let before = subst (IsAhead at size) is there in (omega (arith, before.0, ahead.0), ahead.1)

@@ -46,11 +46,11 @@ abbrev pub texts_of : List ℕ → Then → Texts
 texts_of bytes (At next) = texts_at bytes next
 texts_of bytes (End faulty) = ended faulty
 
--- the line at a place of a file is these bytes, and what follows it
-abbrev pub IsStepAt : List ℕ → ℕ → List ℕ → Then → Type 0
-IsStepAt bytes at line then = Continues (texts_at bytes at) line (texts_of bytes then)
+-- the texts of a file from a place on begin with these lines, and then comes what follows
+abbrev pub LeadsTo : List ℕ → ℕ → List ℕ → Then → Type 0
+LeadsTo bytes at lines then = Continues (texts_at bytes at) lines (texts_of bytes then)
 
--- the next line begins behind this one, inside the file or at its end
+-- the next line begins behind this place, inside the file or at its end
 abbrev pub IsAhead : ℕ → ℕ → Then → Type 0
 IsAhead at size (At next) = (at < next) × (next ≤ size)
 IsAhead at size (End faulty) = Unit {0}

@@ -1,5 +1,5 @@
 -- What printing a file of messages leaves.
-use Rattle.std.specs.Prelude.{◌≡◌, ℕ, List, [], ◌++◌, Bool, true, false, Option, Result, Ok, Err}
+use Rattle.std.specs.Prelude.{◌≡◌, ℕ, List, [], ◌++◌, Bool, true, false, Option, Result, Ok, Err, length}
 use Rattle.xd_edge.specs.Sink.{Sunk, Took, TookPart, Printed}
 use Rattle.xd_edge.specs.declared.refusals.Failed.{Failed}
 use Rattle.xd_edge.specs.declared.refusals.OutOfMemory.{OutOfMemory}
@@ -7,8 +7,7 @@ use Rattle.xd_wire.specs.declared.print.WireEnd.{WireEnd}
 use Rattle.xd_wire.specs.declared.print.WireEnd.TheVariants.{Whole, Faulty, OutFailed}
 use Rattle.xd_wire.specs.WireText.{IsWireText}
 use Rattle.xd_wire.specs.declared.step.Then.{Then}
-use Rattle.xd_wire.specs.declared.step.Then.TheVariants.{At, End}
-use Rattle.xd_wire.specs.Lines.{Texts, Continues, ended}
+use Rattle.xd_wire.specs.Lines.{Texts, Continues, IsAhead, ended, texts_at, texts_of}
 
 -- where the printing came to its end, the file has a text, with a fault where the answer says so
 abbrev pub HasText : List ℕ → WireEnd → Type 0
@@ -27,21 +26,6 @@ Prints (Err e) text faulty old new = TookPart text old new
 abbrev pub TookPartOfEach : Texts → Option Sunk → Option Sunk → Type 0
 TookPartOfEach whole old new = (text : List ℕ) (faulty : Bool) → whole text faulty → TookPart text old new
 
--- what a sink took of the text before, and what is left to be written
-abbrev pub TookPage : List ℕ → List ℕ → Option Sunk → Option Sunk → Type 0
-TookPage before after old new = (taken : List ℕ) × (before ≡ taken ++ after) × Took taken old new
-
--- nothing is left to be written where nothing follows
-abbrev pub IsEmptyAt : Then → List ℕ → Type 0
-IsEmptyAt (At next) left = Unit {0}
-IsEmptyAt (End faulty) left = left ≡ []
-
--- the texts of the first kind begin with what was taken and what is left to be written, and go on with one of the second kind
-pub record MadeUpTo (whole later : Texts) (left : List ℕ) (old new : Option Sunk) : Type 0 where
-  pub text : List ℕ
-  pub continues : Continues whole (text ++ left) later
-  pub took : Took text old new
-
 -- the texts of the first kind begin with what was taken, and go on with one of the second kind
 pub record TookUpTo (whole later : Texts) (old new : Option Sunk) : Type 0 where
   pub text : List ℕ
@@ -58,3 +42,9 @@ abbrev pub Leaves : Result (Result Bool Failed) OutOfMemory → Texts → Option
 Leaves (Ok (Ok faulty)) whole old new = TookUpTo whole (ended faulty) old new
 Leaves (Ok (Err e)) whole old new = TookPartOfEach whole old new
 Leaves (Err e) whole old new = TookPartOfEach whole old new
+
+-- what one round of parts leaves: what follows it, further on, or a first part
+abbrev pub LeavesRound : Result (Result Then Failed) OutOfMemory → List ℕ → ℕ → Option Sunk → Option Sunk → Type 0
+LeavesRound (Ok (Ok then)) bytes at old new = TookUpTo (texts_at bytes at) (texts_of bytes then) old new × IsAhead at (length bytes) then
+LeavesRound (Ok (Err e)) bytes at old new = TookPartOfEach (texts_at bytes at) old new
+LeavesRound (Err e) bytes at old new = TookPartOfEach (texts_at bytes at) old new

@@ -4,6 +4,7 @@
 mod law;
 mod line;
 mod names;
+mod part;
 mod print;
 mod step;
 

@@ -1,15 +1,17 @@
 // A file of messages, printed line by line.
-ghost use Rattle.std.specs.Prelude.{◌≡◌, ◌≢◌, ◌≤◌, ◌++◌, [], ℕ, List, Bool, true, false, Ok, IfOk, OnOk, OnErr, encode_utf8_all};
+ghost use Rattle.std.specs.Prelude.{◌≡◌, ◌≢◌, ◌<◌, ◌≤◌, ℕ, List, Bool, true, false, Ok, IfOk, OnOk, OnErr, length, vec_len};
 ghost use Rattle.xd_edge.specs.Faults.{Rose};
-ghost use Rattle.xd_edge.specs.Sink.{Took, TookPart};
 ghost use Rattle.xd_wire.specs.WireText.{IsWireText};
 ghost use Rattle.xd_wire.specs.Lines.{texts_at};
-ghost use Rattle.xd_wire.specs.Printing.{HasText, Prints, Leaves, TookPage, IsEmptyAt, end_with};
+ghost use Rattle.xd_wire.specs.Parts.{AreParts};
+ghost use Rattle.xd_wire.specs.Printing.{HasText, Prints, Leaves, LeavesRound, end_with};
 
-use crate::line::{Room, append, clear};
-use crate::step::{Then, step_at};
+use crate::part::{PART, Part};
+use crate::step::Then;
 use std::alloc::Global;
-use xd_edge::{Failed, OutOfMemory, Sink, Text, write_all};
+use std::thread;
+use std::thread::Threads;
+use xd_edge::{Failed, OutOfMemory, Sink};
 
 /// How the printing of a file of messages came to its end.
 #[derive(Clone, Copy, Debug, PartialEq, Eq)]
@@ -24,9 +26,11 @@ pub enum WireEnd {
 
 /// Prints a file of messages: a line for each message, to the first fault, which has a line of its own.
 ///
-/// It holds a page of lines of 64 KiB at a time, and one line beside it. Where the output fails or memory is refused, the
-/// output took a first part of the text.
-pub fn print_messages<O: Sink>(
+/// It prints parts of half a mebibyte of the file, or of one message that is longer, in as many threads as there are
+/// processors, but at most four, and holds the lines of so many parts at a time. Where the output fails or memory is
+/// refused, the output took a first part of the text.
+pub fn print_messages<R: Threads + Sync, O: Sink>(
+    rt: &R,
     alloc: Global,
     bytes: &[u8],
     out: &mut O,
@@ -39,7 +43,7 @@ pub fn print_messages<O: Sink>(
     ensures still { IfOk result (λ how. how ≢ WireEnd.OutFailed → O.faults out.new ≡ O.faults out.old) }
     ensures later { O.faults out.old ≤ O.faults out.new }
 {
-    let written = write_lines(alloc, bytes, out)?;
+    let written = write_lines(rt, alloc, bytes, out)?;
     let Ok(faulty) = written else {
         return Ok(WireEnd::OutFailed);
     };
@@ -59,11 +63,12 @@ fn end_with(faulty: bool) -> WireEnd
     }
 }
 
-/// So many bytes of lines are written as one piece.
-const PAGE: usize = 65_536;
+/// At most so many parts are printed at a time.
+const MOST_PARTS: usize = 4;
 
 /// Writes the lines of the file, and says whether the last one tells a fault.
-fn write_lines<O: Sink>(
+fn write_lines<R: Threads + Sync, O: Sink>(
+    rt: &R,
     alloc: Global,
     bytes: &[u8],
     out: &mut O,
@@ -73,15 +78,12 @@ fn write_lines<O: Sink>(
     ensures still { IfOk result (λ written. OnOk written (O.faults out.new ≡ O.faults out.old)) }
     ensures later { O.faults out.old ≤ O.faults out.new }
 {
+    let mut parts = make_parts(alloc, count_of_parts(rt))?;
     let mut at = 0;
-    let mut room = Room::new(alloc);
-    let mut page = Text::from_string(String::new(alloc));
-    let mut line = Text::from_string(String::new(alloc));
-    'lines: loop {
-        let then = step_at(alloc, &mut room, bytes, at, &mut line)?;
-        if put_line(out, &mut page, &line, then).is_err() {
+    'rounds: loop {
+        let Ok(then) = print_round(rt, alloc, bytes, at, &mut parts, out)? else {
             return Ok(Err(Failed));
-        }
+        };
         match then {
             Then::At(next) => at = next,
             Then::End { faulty } => return Ok(Ok(faulty)),
@@ -89,68 +91,101 @@ fn write_lines<O: Sink>(
     }
 }
 
-/// Puts a line behind those of the page, and writes the page where it is full or nothing follows it. A long line, and one
-/// for which the page has no room, is written by itself, behind the page.
-fn put_line<O: Sink>(out: &mut O, page: &mut Text, line: &Text, then: Then) -> Result<(), Failed>
-    ensures took { OnOk result (TookPage (encode_utf8_all page.old ++ encode_utf8_all line.now) (encode_utf8_all page.new) (O.sunk out.old) (O.sunk out.new)) }
-    ensures last { OnOk result (IsEmptyAt then (encode_utf8_all page.new)) }
-    ensures part { OnErr result (TookPart (encode_utf8_all page.old ++ encode_utf8_all line.now) (O.sunk out.old) (O.sunk out.new)) }
-    ensures later { O.faults out.old ≤ O.faults out.new }
-    ensures still { OnOk result (O.faults out.new ≡ O.faults out.old) }
-    ensures rose { OnErr result (Rose (O.faults out.old) (O.faults out.new)) }
+/// As many as there are processors, but at most four; and one where the system does not say how many there are.
+fn count_of_parts<R: Threads>(rt: &R) -> usize
+    ensures { 0 < result }
 {
-    if takes(page, line) {
-        write_page(out, page, then)?;
-        return Ok(());
-    }
-    write_long(out, page, line)?;
-    Ok(())
-}
-
-/// Whether the page takes the line: it is no long one, and there is room.
-fn takes(page: &mut Text, line: &Text) -> bool
-    ensures added { result ≡ true → encode_utf8_all page.new ≡ encode_utf8_all page.old ++ encode_utf8_all line.now }
-    ensures kept { result ≡ false → page.new ≡ page.old }
-{
-    if line.text.len() >= PAGE {
-        return false;
-    }
-    match append(page, line.as_str()) {
-        Ok(()) => true,
-        Err(_) => false,
+    match thread::available_parallelism(rt) {
+        Ok(processors) => processors.get().min(MOST_PARTS),
+        Err(_) => 1,
     }
 }
 
-/// Writes the page and then the line.
-fn write_long<O: Sink>(out: &mut O, page: &mut Text, line: &Text) -> Result<(), Failed>
-    ensures empty { OnOk result (encode_utf8_all page.new ≡ []) }
-    ensures took { OnOk result (Took (encode_utf8_all page.old ++ encode_utf8_all line.now) (O.sunk out.old) (O.sunk out.new)) }
-    ensures part { OnErr result (TookPart (encode_utf8_all page.old ++ encode_utf8_all line.now) (O.sunk out.old) (O.sunk out.new)) }
-    ensures later { O.faults out.old ≤ O.faults out.new }
-    ensures still { OnOk result (O.faults out.new ≡ O.faults out.old) }
-    ensures rose { OnErr result (Rose (O.faults out.old) (O.faults out.new)) }
+fn make_parts(alloc: Global, count: usize) -> Result<Vec<Part>, OutOfMemory>
+    ensures { IfOk result (λ parts. vec_len parts ≡ count) }
 {
-    write_all(out, page.as_str().as_bytes())?;
-    clear(page);
-    write_all(out, line.as_str().as_bytes())?;
-    Ok(())
+    let mut parts = Vec::with_capacity(alloc, count)?;
+    'parts: for _ in 0..count {
+        parts.push(Part::new(alloc))?;
+    }
+    Ok(parts)
 }
 
-/// Writes the page where it is full or nothing follows it, and leaves it to be filled.
-fn write_page<O: Sink>(out: &mut O, page: &mut Text, then: Then) -> Result<(), Failed>
-    ensures took { OnOk result (TookPage (encode_utf8_all page.old) (encode_utf8_all page.new) (O.sunk out.old) (O.sunk out.new)) }
-    ensures last { OnOk result (IsEmptyAt then (encode_utf8_all page.new)) }
-    ensures part { OnErr result (TookPart (encode_utf8_all page.old) (O.sunk out.old) (O.sunk out.new)) }
+/// Prints the next parts from a place on, and writes them. It says what follows the last that was written.
+fn print_round<R: Threads + Sync, O: Sink>(
+    rt: &R,
+    alloc: Global,
+    bytes: &[u8],
+    at: usize,
+    parts: &mut [Part],
+    out: &mut O,
+) -> Result<Result<Then, Failed>, OutOfMemory>
+    requires within { at ≤ length bytes.now }
+    requires some { 0 < length parts.old }
+    ensures leaves { LeavesRound result bytes.now at (O.sunk out.old) (O.sunk out.new) }
+    ensures len { length parts.new ≡ length parts.old }
+    ensures failed { IfOk result (λ written. OnErr written (Rose (O.faults out.old) (O.faults out.new))) }
+    ensures still { IfOk result (λ written. OnOk written (O.faults out.new ≡ O.faults out.old)) }
     ensures later { O.faults out.old ≤ O.faults out.new }
-    ensures still { OnOk result (O.faults out.new ≡ O.faults out.old) }
-    ensures rose { OnErr result (Rose (O.faults out.old) (O.faults out.new)) }
 {
-    if let Then::At(_) = then {
-        if page.text.len() < PAGE {
-            return Ok(());
+    let count = parts.len().min((bytes.len() - at) / PART + 1);
+    print_parts(rt, alloc, bytes, at, &mut parts[..count]);
+    write_parts(bytes, at, &parts[..count], out)
+}
+
+/// Makes them the parts that follow one another from a place on, each in a thread of its own.
+fn print_parts<R: Threads + Sync>(
+    rt: &R,
+    alloc: Global,
+    bytes: &[u8],
+    at: usize,
+    parts: &mut [Part],
+)
+    requires within { at ≤ length bytes.now }
+    requires some { 0 < length parts.old }
+    ensures len { length parts.new ≡ length parts.old }
+    ensures parts { AreParts bytes.now at parts.new }
+{
+    let threads = parts.len();
+    thread::for_each_mut(rt, parts, threads, &|number, part| part.print(alloc, bytes, at, number));
+}
+
+/// Writes the parts, as far as each begins where the one before it ends.
+fn write_parts<O: Sink>(
+    bytes: &[u8],
+    at: usize,
+    parts: &[Part],
+    out: &mut O,
+) -> Result<Result<Then, Failed>, OutOfMemory>
+    requires some { 0 < length parts.now }
+    requires parts { AreParts bytes.now at parts.now }
+    ensures leaves { LeavesRound result bytes.now at (O.sunk out.old) (O.sunk out.new) }
+    ensures failed { IfOk result (λ written. OnErr written (Rose (O.faults out.old) (O.faults out.new))) }
+    ensures still { IfOk result (λ written. OnOk written (O.faults out.new ≡ O.faults out.old)) }
+    ensures later { O.faults out.old ≤ O.faults out.new }
+{
+    let mut then = Then::At(at);
+    'parts: for number in 0..parts.len() {
+        let part = &parts[number];
+        if !begins(part, then) {
+            break;
         }
+        let next = part.then?;
+        if part.write(out).is_err() {
+            return Ok(Err(Failed));
+        }
+        then = next;
     }
-    write_all(out, page.as_str().as_bytes())?;
-    page.text.clear();
-    Ok(())
+    Ok(Ok(then))
+}
+
+/// Whether this is the part that follows.
+fn begins(part: &Part, then: Then) -> bool
+    ensures begins { result ≡ true → then ≡ Then.At part.now.start }
+    ensures other { result ≡ false → then ≢ Then.At part.now.start }
+{
+    match then {
+        Then::At(place) => place == part.start,
+        Then::End { .. } => false,
+    }
 }

@@ -1,7 +1,7 @@
 // What stands at a place of a file of messages.
 ghost use Rattle.std.specs.Prelude.{◌≡◌, ◌≤◌, [], true, false, IfOk, OnOk, length, string_bytes, encode_utf8_all};
 ghost use Rattle.xd_wire.specs.WireText.{fault_line};
-ghost use Rattle.xd_wire.specs.Lines.{IsStepAt, IsAhead};
+ghost use Rattle.xd_wire.specs.Lines.{LeadsTo, IsAhead};
 
 use crate::line::{Line, Room, append, clear, line_of};
 use crate::names::{name_of_frame_fault, name_of_what};
@@ -26,7 +26,7 @@ pub fn step_at(
     text: &mut Text,
 ) -> Result<Then, OutOfMemory>
     requires { at ≤ length bytes.now }
-    ensures step { IfOk result (IsStepAt bytes.now at (encode_utf8_all text.new)) }
+    ensures step { IfOk result (LeadsTo bytes.now at (encode_utf8_all text.new)) }
     ensures ahead { IfOk result (IsAhead at (length bytes.now)) }
 {
     let header = match first_header(&bytes[at..]) {

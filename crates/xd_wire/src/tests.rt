@@ -3,6 +3,7 @@ use super::*;
 use std::alloc::Global;
 use std::process::Abort;
 use std::test::Fail;
+use std::thread::Threads;
 use xd_edge::{Indices, MemSink, OutOfMemory, Text};
 use xd_value::{Value, show_onto};
 
@@ -20,19 +21,19 @@ const THREE_TEXT: &str =
 /// A sink with ample room that fails at this call, where there is one.
 fn sink(alloc: Global, fails: &[u32]) -> Result<MemSink, OutOfMemory> {
     let items = fails.to_vec(alloc)?;
-    MemSink::new(alloc, 200_000, Indices { items })
+    MemSink::new(alloc, 3_000_000, Indices { items })
 }
 
 /// The file prints this text and comes to this end, and all of the text is handed on.
 fn expect_text(
-    rt: &impl Abort,
+    rt: &(impl Abort + Threads + Sync),
     alloc: Global,
     file: &[u8],
     text: &str,
     end: WireEnd,
 ) -> Result<(), OutOfMemory> {
     let mut out = sink(alloc, &[])?;
-    assert_eq!(rt; print_messages(alloc, file, &mut out)?, end);
+    assert_eq!(rt; print_messages(rt, alloc, file, &mut out)?, end);
     assert_eq!(rt; out.bytes.as_slice(), text.as_bytes());
     assert_eq!(rt; out.flushed, text.len());
     Ok(())
@@ -128,63 +129,107 @@ fn the_first_fault_of_a_payload_has_its_line(rt: HostRuntime) -> Result<(), Fail
     Ok(())
 }
 
-/// 8,000 lines of 18 bytes each are written as pages of 3,641 lines, of 3,641 and of 718, and handed on.
-#[test]
-fn an_output_that_fails_took_a_first_part(rt: HostRuntime) -> Result<(), Fail> {
-    let mut file = Vec::new(rt.alloc());
-    let mut text = Vec::new(rt.alloc());
-    for _ in 0..8_000 {
+/// Appends so many messages of 9 bytes to the file, and their lines of 18 bytes to the text.
+fn add_closes(file: &mut Vec<u8>, text: &mut Vec<u8>, count: u32) -> Result<(), OutOfMemory> {
+    for _ in 0..count {
         file.extend_from_slice(b"\x05\x00\x00\x00\x03\x00\x00\x00\x00")?;
         text.extend_from_slice(b"CHANNEL_CLOSE 3 0\n")?;
     }
-    for (call, taken) in [(0, 0), (1, 65_538), (2, 131_076), (3, 144_000)] {
-        let mut out = sink(rt.alloc(), &[call])?;
-        assert_eq!(rt;
-            print_messages(rt.alloc(), &file, &mut out)?,
-            WireEnd::OutFailed
-        );
-        assert!(rt; taken <= text.len());
-        assert_eq!(rt; out.bytes.as_slice(), &text[..taken]);
+    Ok(())
+}
+
+/// Where the output fails at a call, it took so many bytes of the text.
+fn expect_first_parts(
+    rt: &(impl Abort + Threads + Sync),
+    alloc: Global,
+    file: &[u8],
+    text: &[u8],
+    parts: &[(u32, usize)],
+) -> Result<(), OutOfMemory> {
+    for (call, taken) in parts {
+        let mut out = sink(alloc, &[*call])?;
+        assert_eq!(rt; print_messages(rt, alloc, file, &mut out)?, WireEnd::OutFailed);
+        assert!(rt; *taken <= text.len());
+        assert_eq!(rt; out.bytes.as_slice(), &text[..*taken]);
         assert_eq!(rt; out.plan.faults, 1);
     }
+    Ok(())
+}
+
+/// 130,000 messages are parts of 58,255, of 58,255 and of 13,490. Of each part all lines but the last are written, and then
+/// the last, but behind the last part of the file nothing is left; and then all is handed on.
+#[test]
+fn an_output_that_fails_took_a_first_part(rt: HostRuntime) -> Result<(), Fail> {
+    let alloc = rt.alloc();
+    let (mut file, mut text) = (Vec::new(alloc), Vec::new(alloc));
+    add_closes(&mut file, &mut text, 130_000)?;
+    let mut out = sink(alloc, &[])?;
+    assert_eq!(rt; print_messages(&rt, alloc, &file, &mut out)?, WireEnd::Whole);
+    assert_eq!(rt; out.bytes.as_slice(), text.as_slice());
+    let parts = [
+        (0, 0),
+        (1, 1_048_572),
+        (2, 1_048_590),
+        (3, 2_097_162),
+        (4, 2_097_180),
+        (5, 2_340_000),
+    ];
+    expect_first_parts(&rt, alloc, &file, &text, &parts)?;
     let mut narrow = MemSink::new(
-        rt.alloc(),
+        alloc,
         5,
         Indices {
-            items: Vec::new(rt.alloc()),
+            items: Vec::new(alloc),
         },
     )?;
-    assert_eq!(rt;
-        print_messages(rt.alloc(), THREE, &mut narrow)?,
-        WireEnd::OutFailed
-    );
+    assert_eq!(rt; print_messages(&rt, alloc, THREE, &mut narrow)?, WireEnd::OutFailed);
     assert_eq!(rt; narrow.bytes.as_slice(), b"CHANN".as_slice());
     Ok(())
 }
 
-/// A line of 70,024 bytes between two small ones: the page ahead of it, the line, and the page behind it are written, and
-/// handed on.
+/// A message of 600,016 bytes between two small ones ends a part: the line ahead of it, its line, and the line behind it
+/// are written, and handed on.
 #[test]
 fn a_long_line_stands_in_its_place(rt: HostRuntime) -> Result<(), Fail> {
     let alloc = rt.alloc();
-    let mut file = b"\x05\x00\x00\x00\x03\x00\x00\x00\x00".to_vec(alloc)?;
-    let mut text = b"CHANNEL_CLOSE 3 0\nCHANNEL_DATA 1 70006 \"".to_vec(alloc)?;
-    file.extend_from_slice(b"\x04\x00\x00\x00\x01\x00\x01\x11\x76N\x00\x01\x11\x70")?;
-    for _ in 0..70_000 {
+    let (mut file, mut text) = (Vec::new(alloc), Vec::new(alloc));
+    add_closes(&mut file, &mut text, 1)?;
+    file.extend_from_slice(b"\x04\x00\x00\x00\x01\x00\x09\x27\xc6N\x00\x09\x27\xc0")?;
+    text.extend_from_slice(b"CHANNEL_DATA 1 600006 \"")?;
+    for _ in 0..600_000 {
         file.push(b'x')?;
         text.push(b'x')?;
     }
-    file.extend_from_slice(b"Q\x05\x00\x00\x00\x03\x00\x00\x00\x00")?;
-    text.extend_from_slice(b"\"\nCHANNEL_CLOSE 3 0\n")?;
+    file.push(b'Q')?;
+    text.extend_from_slice(b"\"\n")?;
+    add_closes(&mut file, &mut text, 1)?;
     let mut out = sink(alloc, &[])?;
-    assert_eq!(rt; print_messages(alloc, &file, &mut out)?, WireEnd::Whole);
+    assert_eq!(rt; print_messages(&rt, alloc, &file, &mut out)?, WireEnd::Whole);
     assert_eq!(rt; out.bytes.as_slice(), text.as_slice());
-    for (call, taken) in [(0, 0), (1, 18), (2, 70_042), (3, 70_060)] {
-        let mut out = sink(alloc, &[call])?;
-        assert_eq!(rt; print_messages(alloc, &file, &mut out)?, WireEnd::OutFailed);
-        assert!(rt; taken <= text.len());
-        assert_eq!(rt; out.bytes.as_slice(), &text[..taken]);
+    let parts = [(0, 0), (1, 18), (2, 600_043), (3, 600_061)];
+    expect_first_parts(&rt, alloc, &file, &text, &parts)?;
+    Ok(())
+}
+
+/// The line of the first message is four times as long as the message, and ends the part ahead of where another thread
+/// takes it to end.
+#[test]
+fn a_part_that_ends_early_is_followed_by_the_next(rt: HostRuntime) -> Result<(), Fail> {
+    let alloc = rt.alloc();
+    let mut file = b"\x04\x00\x00\x00\x01\x00\x03\x0d\x46N\x00\x03\x0d\x40".to_vec(alloc)?;
+    let mut text = b"CHANNEL_DATA 1 200006 \"".to_vec(alloc)?;
+    for _ in 0..200_000 {
+        file.push(b'\n')?;
+        text.extend_from_slice(b"\\x0a")?;
     }
+    file.push(b'Q')?;
+    text.extend_from_slice(b"\"\n")?;
+    add_closes(&mut file, &mut text, 80_000)?;
+    file.extend_from_slice(b"\x05\x00")?;
+    text.extend_from_slice(b"fault Cut at 920015\n")?;
+    let mut out = sink(alloc, &[])?;
+    assert_eq!(rt; print_messages(&rt, alloc, &file, &mut out)?, WireEnd::Faulty);
+    assert_eq!(rt; out.bytes.as_slice(), text.as_slice());
     Ok(())
 }
 

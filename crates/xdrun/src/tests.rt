@@ -2,6 +2,7 @@
 use super::*;
 use std::collections::VecDeque;
 use std::sync::Wait;
+use std::thread::Threads;
 use std::test::Fail;
 use xd_edge::{Blob, Blobs, ChildEnd, Indices, MemChildren, MemClock, MemFiles, MemSink};
 use xd_link::MemStarter;
@@ -59,7 +60,7 @@ struct Seen {
 }
 
 // What the program did with these words, where the file s.toml holds this suite.
-fn run<R: Wait + AllocGlobal>(
+fn run<R: Wait + Threads + Sync + AllocGlobal>(
     rt: &R,
     suite: &str,
     given: &[&str],

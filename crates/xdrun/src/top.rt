@@ -28,6 +28,7 @@ use crate::words::names_worker;
 use crate::worker::serve_own;
 use std::alloc::Global;
 use std::sync::Wait;
+use std::thread::Threads;
 use xd_edge::{Children, Clock, Files, OutOfMemory, Sink, Text};
 use xd_ledger::Journal;
 use xd_link::{Source, Starter};
@@ -66,7 +67,7 @@ pub struct RunEnd<St: Starter, K: Children> {
 /// text could not be written.
 ///
 /// The status is 4 where the words or the file are refused.
-pub fn xdrun<R: Wait, F: Files, St: Starter, K: Children, T: Clock, O: Sink, E: Sink>(
+pub fn xdrun<R: Wait + Threads + Sync, F: Files, St: Starter, K: Children, T: Clock, O: Sink, E: Sink>(
     rt: &R,
     alloc: Global,
     words: &[Text],

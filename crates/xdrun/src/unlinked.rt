@@ -23,6 +23,7 @@ use crate::wire::{print_file, wire_status};
 use crate::words::{messages_named, suite_named};
 use std::alloc::Global;
 use std::sync::Wait;
+use std::thread::Threads;
 use xd_edge::{Children, Clock, FileFault, Files, OutOfMemory, Sink, Text};
 use xd_ledger::Journal;
 use xd_report::status_of;
@@ -45,7 +46,7 @@ pub struct Unlinked<K: Children> {
 }
 
 /// Runs the suite or prints the file that the words name, or refuses them.
-pub fn run_unlinked<R: Wait, F: Files, K: Children, T: Clock, O: Sink, E: Sink>(
+pub fn run_unlinked<R: Wait + Threads + Sync, F: Files, K: Children, T: Clock, O: Sink, E: Sink>(
     rt: &R,
     alloc: Global,
     words: &[Text],
@@ -85,7 +86,7 @@ pub fn run_unlinked<R: Wait, F: Files, K: Children, T: Clock, O: Sink, E: Sink>(
 {
     let mut children = children;
     if let Some(path) = messages_named(words) {
-        return match print_file(alloc, path, files, out)? {
+        return match print_file(rt, alloc, path, files, out)? {
             Ok(how) => Ok(without_run(wire_status(how), children)),
             Err(why) => refused(alloc, err, why, children),
         };

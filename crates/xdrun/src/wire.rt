@@ -7,13 +7,15 @@ ghost use Rattle.xdrun.specs.Wire.{IsFileRefused, PrintsFile, wire_status};
 
 use crate::refusal::Refusal;
 use std::alloc::Global;
+use std::thread::Threads;
 use xd_edge::{FileFault, Files, OutOfMemory, Sink, Text};
 use xd_wire::{WireEnd, print_messages};
 
 const MAX_FILE_BYTES: u64 = 67_108_864;
 
 /// Prints the messages of a file, or says why it is refused.
-pub fn print_file<F: Files, O: Sink>(
+pub fn print_file<R: Threads + Sync, F: Files, O: Sink>(
+    rt: &R,
     alloc: Global,
     path: &Text,
     files: &mut F,
@@ -30,7 +32,7 @@ pub fn print_file<F: Files, O: Sink>(
         Err(FileFault::TooLarge) => return Ok(Err(Refusal::FileTooLarge)),
         Err(FileFault::OutOfMemory) => return Err(OutOfMemory),
     };
-    let how = print_messages(alloc, bytes.as_slice(), out)?;
+    let how = print_messages(rt, alloc, bytes.as_slice(), out)?;
     Ok(Ok(how))
 }
 

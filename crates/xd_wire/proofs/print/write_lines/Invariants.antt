@@ -1,15 +1,16 @@
-use Rattle.std.proofs.Common.{◌≡◌, ◌≤◌, ◌-◌, length, encode_utf8_all}
+use Rattle.std.proofs.Common.{◌≡◌, ◌<◌, ◌≤◌, ◌-◌, length, vec_len}
 use Rattle.xd_wire.specs.Lines.{texts_at}
-use Rattle.xd_wire.specs.Printing.{MadeUpTo}
+use Rattle.xd_wire.specs.Printing.{TookUpTo}
 use Rattle.xd_wire.proofs.print.write_lines.Given as goal
 
--- the lines before the place were made, and all but the page was taken
-abbrev pub invariant-lines : goal.invariant-lines
-invariant-lines g l = record {
+-- the lines before the place were taken
+abbrev pub invariant-rounds : goal.invariant-rounds
+invariant-rounds g l = record {
+  some : 0 < vec_len l.parts;
   within : l.at ≤ length l.bytes;
-  made : MadeUpTo (texts_at l.bytes 0) (texts_at l.bytes l.at) (encode_utf8_all l.page) (g.O.Sink.sunk l.initial.out) (g.O.Sink.sunk l.out);
+  took : TookUpTo (texts_at l.bytes 0) (texts_at l.bytes l.at) (g.O.Sink.sunk l.initial.out) (g.O.Sink.sunk l.out);
   still : g.O.Sink.faults l.out ≡ g.O.Sink.faults l.initial.out;
 }
 
-abbrev pub decreases-lines : goal.decreases-lines
-decreases-lines g l = length l.bytes - l.at
+abbrev pub decreases-rounds : goal.decreases-rounds
+decreases-rounds g l = length l.bytes - l.at
