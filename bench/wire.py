@@ -6,12 +6,12 @@ Usage: bench/wire.py [PROGRAM]   from any folder; PROGRAM is the one of this rep
 It writes a file of small messages, and files of large ones: lists of a million integers, collections of 50,000 test ids,
 the mixed values of bench/value.py, texts and bytes; some 60 MiB each. It measures MB a second by the clock and by the
 processor's time (user and system), and peak memory, each the best of some runs with the output thrown away. The ratios are
-of the processor's time, which tells something on a busy machine, too. Of execnet there are two loops: one reads each message
-and decodes its payload, and one prints its line as well, as `wire` does, with the value in Python's own notation. A program
-in C that only reads the file whole stands for what that part takes by itself. xdrun and that program run twice: with the
-word for large pages that the script ./xdrun gives, and without it. Goals: at least 30 times the speed of the loop that
-prints, and a peak of at most the file and a few messages. Where execnet is not installed (python3-execnet on Debian) its
-part is skipped with a word.
+of the time by the clock, since `wire` prints in up to four threads; run it on a machine that does nothing else. Of execnet
+there are two loops: one reads each message and decodes its payload, and one prints its line as well, as `wire` does, with the
+value in Python's own notation. A program in C that only reads the file whole stands for what that part takes by itself. xdrun
+and that program run with the word for large pages that the script ./xdrun gives, and without it; and xdrun with it on one
+processor alone. Goals: at least 30 times the speed of the loop that prints, and a peak of at most the file and a few
+messages. Where execnet is not installed (python3-execnet on Debian) its part is skipped with a word.
 """
 
 import os
@@ -147,18 +147,23 @@ FILES = {
 }
 
 
-WIRE, SMALL_WIRE = "xdrun wire", "xdrun wire without large pages"
+WIRE, SMALL_WIRE, SINGLE_WIRE = "xdrun wire", "xdrun wire without large pages", "xdrun wire on one processor"
 WHOLE, SMALL_WHOLE = "reading it whole", "reading it whole without large pages"
 
 
-def timed(words, more):
+def on_one_processor():
+    """Whatever this process starts runs on the first of its processors."""
+    os.sched_setaffinity(0, {min(os.sched_getaffinity(0))})
+
+
+def timed(words, more, ahead=None):
     """The seconds by the clock and of the processor, each of the best of the runs, and the least peak memory in MiB, or
-    None where it cannot be run. These words are added to its environment."""
+    None where it cannot be run. These words are added to its environment, and this is done ahead of it."""
     best = None
     for _ in range(shared.RUNS):
         begun = time.monotonic()
         try:
-            child = subprocess.Popen(words, stdout=subprocess.DEVNULL, stderr=subprocess.PIPE, env={**os.environ, **more})
+            child = subprocess.Popen(words, stdout=subprocess.DEVNULL, stderr=subprocess.PIPE, env={**os.environ, **more}, preexec_fn=ahead)
         except OSError:
             return None
         error = child.stderr.read().decode(errors="replace").strip()
@@ -184,7 +189,8 @@ def measure(program):
             subprocess.run([sys.executable, os.path.abspath(__file__), "--make", name, path], check=True)
             megabytes = os.path.getsize(path) / 1e6
             shared.note(f"{name}, {megabytes:.0f} MB")
-            runs = [("cat", ["cat", path], {}), (WIRE, [program, "wire", path], LARGE_PAGES), (SMALL_WIRE, [program, "wire", path], {})]
+            wire = [program, "wire", path]
+            runs = [("cat", ["cat", path], {}), (WIRE, wire, LARGE_PAGES), (SMALL_WIRE, wire, {}), (SINGLE_WIRE, wire, LARGE_PAGES, on_one_processor)]
             if whole is not None:
                 runs.append((WHOLE, [whole, path], LARGE_PAGES))
                 runs.append((SMALL_WHOLE, [whole, path], {}))
@@ -192,8 +198,8 @@ def measure(program):
                 runs.append(("execnet reads", [python, "-c", EXECNET_READS, path], {}))
                 runs.append(("execnet prints", [python, "-c", EXECNET_PRINTS, path], {}))
             times = {}
-            for what, words, more in runs:
-                times[what] = timed(words, more)
+            for what, *run in runs:
+                times[what] = timed(*run)
                 if times[what] is not None:
                     clock, processor, peak = times[what]
                     speeds = f"{megabytes / clock:.1f} MB/s, {megabytes / processor:.1f} MB/s of the processor"
@@ -203,7 +209,7 @@ def measure(program):
 
 
 def rows_of(name, megabytes, times):
-    """The rows of one file, by the processor's time."""
+    """The rows of one file, by the clock."""
     rows = []
     what, printed = f"`wire`, {megabytes:.0f} MB of {name}", times.get("execnet prints")
     beside = "a loop that prints them by execnet"
@@ -212,15 +218,18 @@ def rows_of(name, megabytes, times):
         why = "execnet is not installed" if printed is None else "wire did not run"
         rows.append(shared.skipped(what, beside, why))
     else:
-        rows.append(shared.at_least(what, beside, printed[1] / ours[1], 30))
-        rows.append(shared.at_least(f"{what}, without large pages", beside, printed[1] / small[1], 30))
+        rows.append(shared.at_least(what, beside, printed[0] / ours[0], 30))
+        rows.append(shared.at_least(f"{what}, without large pages", beside, printed[0] / small[0], 30))
+    single = times[SINGLE_WIRE]
+    if single is not None and printed is not None:
+        rows.append(shared.Row(f"{what}, on one processor", beside, printed[0] / single[0], "times as fast"))
     read = times.get("execnet reads")
     if ours is not None and read is not None:
-        rows.append(shared.Row(what, "a loop that reads them by execnet", read[1] / ours[1], "times as fast"))
+        rows.append(shared.Row(what, "a loop that reads them by execnet", read[0] / ours[0], "times as fast"))
     for which, how in ((WHOLE, ""), (SMALL_WHOLE, ", without large pages")):
         if times.get(which) is not None and printed is not None:
             what_in_c = f"a program in C that only reads the {name} whole{how}"
-            rows.append(shared.Row(what_in_c, beside, printed[1] / times[which][1], "times as fast"))
+            rows.append(shared.Row(what_in_c, beside, printed[0] / times[which][0], "times as fast"))
     if ours is not None:
         rows.append(shared.Row(f"peak memory of {what}", "the file", ours[2] * 1024 * 1024 / 1e6 / megabytes, "times", "the file and a few messages"))
     return rows

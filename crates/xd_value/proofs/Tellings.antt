@@ -3,7 +3,9 @@ use Rattle.std.proofs.Common.{◌≡◌, ℕ, zero, suc, ◌+◌, ◌<◌, ◌�
 use Rattle.std.specs.Prelude.{codes, Option, Some, None, IfSome, Result, Ok, Err, OnOk, IfErr}
 use Rattle.std.proofs.lemmas.Bool.{ne_eqb}
 use Rattle.std.specs.Int.{w32, to_be_bytes}
-use Rattle.xd_value.specs.Tree.{Tree, Trees, Pairs, no_trees, tree, no_pairs, pair, tuple, list, dict, count, depth, same, has_key}
+use Rattle.std.specs.Str.{chars}
+use denote.Ref.{Bor}
+use Rattle.xd_value.specs.Tree.{Tree, Trees, Pairs, no_trees, tree, none, text, no_pairs, pair, tuple, list, dict, count, depth, same, has_key}
 use Rattle.xd_value.specs.Reading.{snoc, snoc_pair}
 use Rattle.xd_value.specs.Show.{shown, shown_items, shown_pairs, between, tuple_end}
 use Rattle.xd_value.specs.Spelling.{Spelled, IsNewKey}
@@ -12,7 +14,7 @@ use Rattle.xd_value.specs.declared.fault.LoadWhat.{LoadWhat}
 use Rattle.xd_value.specs.declared.fault.LoadFault.{LoadFault}
 use Rattle.xd_value.specs.declared.fault.LoadFault.TheVariants as fault
 use Rattle.xd_value.specs.Walk.{Begins, BeginsIndex}
-use Rattle.xd_value.specs.Telling.{count_pairs, comma, Tells, TellsParts, TellsItems, TellsPairs, IsTold, IsShown, IsShowFault}
+use Rattle.xd_value.specs.Telling.{count_pairs, named, comma, Tells, TellsParts, TellsItems, TellsPairs, IsTold, IsShown, IsShowFault}
 use Rattle.xd_value.proofs.Complete.{count-snoc}
 use Rattle.xd_value.proofs.OneAnswer.{one_payload, no_fault, one_fault}
 use Rattle.xd_value.proofs.Prints.{in_turn}
@@ -149,6 +151,10 @@ told_list limit n b c d x y z w f lt starts p end = record {
 
 pub no_pairs_told : (limit : ℕ) (a x : List ℕ) → TellsPairs limit 0 a a x x no_pairs
 no_pairs_told limit a x = record { pairs = no_pairs; begin = no_pairs_yet limit a; text = sym (append-nil x); counted = refl; same_keys = λ t. refl }
+
+pub named_push : (names : List (Bor (List ℕ))) (name : Bor (List ℕ)) → named (names ++ name ∷ []) ≡ snoc_pair (named names) (text (chars name.now)) none
+named_push [] name = refl
+named_push (n ∷ names) name = ap (pair (text (chars n.now)) none) (named_push names name)
 
 new_key_is : (ps qs : Pairs) (k : Tree) → ((t : Tree) → has_key t ps ≡ has_key t qs) → IsNewKey qs k → IsNewKey ps k
 new_key_is ps qs k same new = record { hashable_key = new.hashable_key; fresh = same k ∙ new.fresh }

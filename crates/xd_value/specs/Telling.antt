@@ -1,6 +1,8 @@
 -- What a walk along a payload that prints has behind it.
-use Rattle.std.specs.Prelude.{◌≡◌, ◌==◌, ℕ, suc, if◌then◌else◌, List, [], ◌++◌, codes, Result, Ok, Err}
-use Rattle.xd_value.specs.Tree.{Tree, Trees, Pairs, no_pairs, pair, count, has_key}
+use Rattle.std.specs.Prelude.{◌≡◌, ◌==◌, ℕ, suc, if◌then◌else◌, List, [], ◌∷◌, ◌++◌, codes, Result, Ok, Err}
+use Rattle.std.specs.Str.{chars}
+use denote.Ref.{Bor}
+use Rattle.xd_value.specs.Tree.{Tree, Trees, Pairs, none as nothing, text as word, no_pairs, pair, count, has_key}
 use Rattle.xd_value.specs.Show.{shown, shown_items, shown_pairs}
 use Rattle.xd_value.specs.Payload.{IsPayload}
 use Rattle.xd_value.specs.declared.fault.LoadWhat.{LoadWhat}
@@ -12,6 +14,11 @@ use Rattle.xd_value.specs.Walk.{Begins, BeginParts, BeginItems, BeginPairs}
 abbrev pub count_pairs : Pairs → ℕ
 count_pairs no_pairs = 0
 count_pairs (pair k v ps) = suc (count_pairs ps)
+
+-- pairs of a dict whose keys are these texts, each beside nothing
+abbrev pub named : List (Bor (List ℕ)) → Pairs
+named [] = no_pairs
+named (name ∷ names) = pair (word (chars name.now)) nothing (named names)
 
 -- what stands ahead of the item at this place
 abbrev pub comma : ℕ → List ℕ

@@ -85,6 +85,15 @@ pub(crate) fn put_comma(out: &mut Text) -> Result<(), AllocError>
     Ok(())
 }
 
+/// What stands between a key and its value.
+pub(crate) fn put_colon(out: &mut Text) -> Result<(), AllocError>
+    ensures { OnOk result (out.new ≡ out.old ++ codes ": ") }
+{
+    put_char(out, ':')?;
+    put_char(out, ' ')?;
+    Ok(())
+}
+
 /// Items, each but the first behind a comma.
 #[cycle(print)]
 fn print_items(out: &mut Text, items: &[Value]) -> Result<(), AllocError>
@@ -167,8 +176,7 @@ fn print_pairs(out: &mut Text, pairs: &[(Value, Value)]) -> Result<(), AllocErro
             put_comma(out)?;
         }
         print(out, &pair.0)?;
-        put_char(out, ':')?;
-        put_char(out, ' ')?;
+        put_colon(out)?;
         print(out, &pair.1)?;
         is_first = false;
     }
@@ -294,7 +302,8 @@ fn next_escaped(bytes: &[u8], from: usize) -> usize
     ensures ascii { result < length bytes.now → get_or bytes.now result 0 < 128 }
 {
     let far = skip_plain(bytes, from, 32);
-    let mut at = skip_plain(bytes, far, 8);
+    let near = skip_plain(bytes, far, 8);
+    let mut at = skip_plain(bytes, near, 4);
     while at < bytes.len() {
         if is_escaped(bytes[at]) {
             return at;

@@ -4,15 +4,18 @@ ghost use Rattle.std.specs.Char.{is_ascii};
 ghost use Rattle.std.specs.List.{list_all};
 ghost use Rattle.xd_value.specs.Show.{shown, tuple_end};
 ghost use Rattle.xd_value.specs.Telling.{comma, IsTold, Tells, TellsParts, TellsItems, TellsPairs};
-ghost use Rattle.xd_value.specs.Tree.{Pairs};
+ghost use Rattle.std.specs.Str.{chars};
+ghost use Rattle.xd_value.specs.Tree.{Pairs, text};
 ghost use Rattle.xd_value.specs.View.{view};
-ghost use Rattle.xd_value.specs.Walk.{Begins};
+ghost use Rattle.xd_value.specs.Walk.{Begins, BeginsLeaf};
 
+use crate::checks::is_named;
 use crate::descent::{is_new_key, next_value, skip_index};
 use crate::keys::Keys;
 use crate::number::long_value;
 use crate::printing::{
-    print, print_bytes, print_int, print_short, print_str, put, put_char, put_comma, start,
+    print, print_bytes, print_int, print_short, print_str, put, put_char, put_colon, put_comma,
+    start,
 };
 use crate::shape::{Node, Shape};
 use crate::value::Value;
@@ -277,11 +280,86 @@ fn tell_dict(
     let Ok(()) = put_char(out, '{') else {
         return None;
     };
-    tell_pairs(alloc, nodes, walk, out, parts, limit)?;
+    tell_some_pairs(alloc, nodes, walk, out, parts, limit)?;
     let Ok(()) = put_char(out, '}') else {
         return None;
     };
     Some(())
+}
+
+/// Up to so many keys that are texts are compared as they stand in the payload.
+const FEW_NAMES: u32 = 8;
+
+/// Prints so many pairs of a dict. Where there are few, and the first key is a text, each has to be one.
+#[cycle(telling)]
+#[inline(always)]
+fn tell_some_pairs(
+    alloc: Global,
+    nodes: &[Node],
+    walk: &mut Walk<'_>,
+    out: &mut Text,
+    parts: u32,
+    limit: u32,
+) -> Option<()>
+    ensures { IfSome result (λ _. (seen : Pairs) × TellsPairs limit parts walk.old.rest.now walk.new.rest.now out.old out.new seen) }
+{
+    match walk.rest {
+        [b'N', ..] if parts <= FEW_NAMES => tell_named(alloc, nodes, walk, out, parts, limit),
+        _ => tell_pairs(alloc, nodes, walk, out, parts, limit),
+    }
+}
+
+/// Prints so many pairs of a dict whose keys are texts. No key is made as a value.
+#[cycle(telling)]
+fn tell_named(
+    alloc: Global,
+    nodes: &[Node],
+    walk: &mut Walk<'_>,
+    out: &mut Text,
+    parts: u32,
+    limit: u32,
+) -> Option<()>
+    ensures { IfSome result (λ _. (seen : Pairs) × TellsPairs limit parts walk.old.rest.now walk.new.rest.now out.old out.new seen) }
+{
+    let mut names = Vec::new(alloc);
+    for index in 0..parts {
+        let Ok(()) = separate(out, index) else {
+            return None;
+        };
+        let name = tell_name(walk, out)?;
+        if is_named(name, &names) {
+            return None;
+        }
+        let Ok(()) = put_colon(out) else {
+            return None;
+        };
+        tell_next(alloc, nodes, walk, out, limit)?;
+        if walk.byte()? != b'P' {
+            return None;
+        }
+        let Ok(()) = names.push(name) else {
+            return None;
+        };
+    }
+    Some(())
+}
+
+/// Prints the text that begins here, and gives it.
+fn tell_name<'a>(walk: &mut Walk<'a>, out: &mut Text) -> Option<&'a str>
+    ensures begins { IfSome result (λ name. BeginsLeaf walk.old.rest.now walk.new.rest.now (text (chars name.now))) }
+    ensures text { IfSome result (λ name. out.new ≡ out.old ++ shown (text (chars name.now))) }
+{
+    walk.head();
+    if walk.byte()? != b'N' {
+        return None;
+    }
+    let Ok(name) = str::from_utf8(walk.chunk()?) else {
+        return None;
+    };
+    match print_str(out, name) {
+        Ok(()) => Some(name),
+        Err(_) => None,
+    }
 }
 
 /// Prints so many pairs of a dict.
@@ -307,7 +385,7 @@ fn tell_pairs(
         if !is_new_key(alloc, &key, &seen, &mut keys) {
             return None;
         }
-        let Ok(()) = put(out, ": ") else {
+        let Ok(()) = put_colon(out) else {
             return None;
         };
         tell_next(alloc, nodes, walk, out, limit)?;

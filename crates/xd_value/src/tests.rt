@@ -5,7 +5,7 @@ use std::test::*;
 use xd_edge::{Blob, Text};
 
 /// Payloads, the place of the first fault, and the fault.
-const FAULTS: [(&[u8], usize, LoadWhat); 30] = [
+const FAULTS: [(&[u8], usize, LoadWhat); 31] = [
     (b"D\0\0\0\0\0\0\0\0Q", 0, LoadWhat::FloatOpcode),
     (b"LT\0Q", 1, LoadWhat::FloatOpcode),
     (b"K\0\0\0\x01F\0\0\0\x01LPQ", 11, LoadWhat::ListOrder),
@@ -44,6 +44,7 @@ const FAULTS: [(&[u8], usize, LoadWhat); 30] = [
     (b"JO\0\0\0\0LPQ", 7, LoadWhat::Unhashable),
     (b"LLO\0\0\0\x02Q", 2, LoadWhat::Repeated),
     (b"JLLPLLPQ", 6, LoadWhat::Repeated),
+    (b"JN\0\0\0\x01aLPN\0\0\0\x01aLPQ", 16, LoadWhat::Repeated),
 ];
 
 /// Payloads that are read but never written, and what is written in their place.
@@ -150,6 +151,10 @@ fn one_reader_prints_each_payload_and_refuses_each_fault(rt: HostRuntime) -> Res
             .is_ok()
     );
     assert_eq!(rt; text.as_str(), "日 5");
+    // The first key is a text, and the second is none.
+    let keys = b"JN\0\0\0\x01aLPF\0\0\0\x02RPQ";
+    assert!(rt; reader.show(alloc, keys, &none, &mut text).is_ok());
+    assert_eq!(rt; text.as_str(), "{\"a\": None, 2: True}");
     for (payload, place, fault) in FAULTS {
         let found = reader.show(alloc, payload, &ahead, &mut text);
         assert!(rt;

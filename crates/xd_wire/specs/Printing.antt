@@ -1,5 +1,5 @@
 -- What printing a file of messages leaves.
-use Rattle.std.specs.Prelude.{◌≡◌, ℕ, List, [], ◌++◌, Bool, true, false, Option, Result, Ok, Err, length}
+use Rattle.std.specs.Prelude.{◌≡◌, ℕ, List, Bool, true, false, Option, Result, Ok, Err, length}
 use Rattle.xd_edge.specs.Sink.{Sunk, Took, TookPart, Printed}
 use Rattle.xd_edge.specs.declared.refusals.Failed.{Failed}
 use Rattle.xd_edge.specs.declared.refusals.OutOfMemory.{OutOfMemory}

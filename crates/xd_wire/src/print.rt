@@ -147,7 +147,12 @@ fn print_parts<R: Threads + Sync>(
     ensures parts { AreParts bytes.now at parts.new }
 {
     let threads = parts.len();
-    thread::for_each_mut(rt, parts, threads, &|number, part| part.print(alloc, bytes, at, number));
+    thread::for_each_mut(
+        rt,
+        parts,
+        threads,
+        &|number, part| part.print(alloc, bytes, at, number),
+    );
 }
 
 /// Writes the parts, as far as each begins where the one before it ends.

@@ -148,7 +148,10 @@ fn expect_first_parts(
 ) -> Result<(), OutOfMemory> {
     for (call, taken) in parts {
         let mut out = sink(alloc, &[*call])?;
-        assert_eq!(rt; print_messages(rt, alloc, file, &mut out)?, WireEnd::OutFailed);
+        assert_eq!(rt;
+            print_messages(rt, alloc, file, &mut out)?,
+            WireEnd::OutFailed
+        );
         assert!(rt; *taken <= text.len());
         assert_eq!(rt; out.bytes.as_slice(), &text[..*taken]);
         assert_eq!(rt; out.plan.faults, 1);
@@ -164,7 +167,10 @@ fn an_output_that_fails_took_a_first_part(rt: HostRuntime) -> Result<(), Fail> {
     let (mut file, mut text) = (Vec::new(alloc), Vec::new(alloc));
     add_closes(&mut file, &mut text, 130_000)?;
     let mut out = sink(alloc, &[])?;
-    assert_eq!(rt; print_messages(&rt, alloc, &file, &mut out)?, WireEnd::Whole);
+    assert_eq!(rt;
+        print_messages(&rt, alloc, &file, &mut out)?,
+        WireEnd::Whole
+    );
     assert_eq!(rt; out.bytes.as_slice(), text.as_slice());
     let parts = [
         (0, 0),
@@ -182,7 +188,10 @@ fn an_output_that_fails_took_a_first_part(rt: HostRuntime) -> Result<(), Fail> {
             items: Vec::new(alloc),
         },
     )?;
-    assert_eq!(rt; print_messages(&rt, alloc, THREE, &mut narrow)?, WireEnd::OutFailed);
+    assert_eq!(rt;
+        print_messages(&rt, alloc, THREE, &mut narrow)?,
+        WireEnd::OutFailed
+    );
     assert_eq!(rt; narrow.bytes.as_slice(), b"CHANN".as_slice());
     Ok(())
 }
@@ -204,7 +213,10 @@ fn a_long_line_stands_in_its_place(rt: HostRuntime) -> Result<(), Fail> {
     text.extend_from_slice(b"\"\n")?;
     add_closes(&mut file, &mut text, 1)?;
     let mut out = sink(alloc, &[])?;
-    assert_eq!(rt; print_messages(&rt, alloc, &file, &mut out)?, WireEnd::Whole);
+    assert_eq!(rt;
+        print_messages(&rt, alloc, &file, &mut out)?,
+        WireEnd::Whole
+    );
     assert_eq!(rt; out.bytes.as_slice(), text.as_slice());
     let parts = [(0, 0), (1, 18), (2, 600_043), (3, 600_061)];
     expect_first_parts(&rt, alloc, &file, &text, &parts)?;
@@ -228,7 +240,10 @@ fn a_part_that_ends_early_is_followed_by_the_next(rt: HostRuntime) -> Result<(),
     file.extend_from_slice(b"\x05\x00")?;
     text.extend_from_slice(b"fault Cut at 920015\n")?;
     let mut out = sink(alloc, &[])?;
-    assert_eq!(rt; print_messages(&rt, alloc, &file, &mut out)?, WireEnd::Faulty);
+    assert_eq!(rt;
+        print_messages(&rt, alloc, &file, &mut out)?,
+        WireEnd::Faulty
+    );
     assert_eq!(rt; out.bytes.as_slice(), text.as_slice());
     Ok(())
 }

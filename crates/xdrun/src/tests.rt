@@ -2,8 +2,8 @@
 use super::*;
 use std::collections::VecDeque;
 use std::sync::Wait;
-use std::thread::Threads;
 use std::test::Fail;
+use std::thread::Threads;
 use xd_edge::{Blob, Blobs, ChildEnd, Indices, MemChildren, MemClock, MemFiles, MemSink};
 use xd_link::MemStarter;
 

@@ -67,7 +67,15 @@ pub struct RunEnd<St: Starter, K: Children> {
 /// text could not be written.
 ///
 /// The status is 4 where the words or the file are refused.
-pub fn xdrun<R: Wait + Threads + Sync, F: Files, St: Starter, K: Children, T: Clock, O: Sink, E: Sink>(
+pub fn xdrun<
+    R: Wait + Threads + Sync,
+    F: Files,
+    St: Starter,
+    K: Children,
+    T: Clock,
+    O: Sink,
+    E: Sink,
+>(
     rt: &R,
     alloc: Global,
     words: &[Text],
