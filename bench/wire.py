@@ -6,7 +6,7 @@ Usage: bench/wire.py [PROGRAM]   from any folder; PROGRAM is the one of this rep
 It writes a file of small messages, and files of large ones: lists of a million integers, collections of 50,000 test ids,
 the mixed values of bench/value.py, texts and bytes; some 60 MiB each. It measures MB a second by the clock and by the
 processor's time (user and system), and peak memory, each the best of some runs with the output thrown away. The ratios are
-of the time by the clock, since `wire` prints in up to four threads; run it on a machine that does nothing else. Of execnet
+of the time by the clock, since `wire` prints in up to three threads; run it on a machine that does nothing else. Of execnet
 there are two loops: one reads each message and decodes its payload, and one prints its line as well, as `wire` does, with the
 value in Python's own notation. A program in C that only reads the file whole stands for what that part takes by itself. xdrun
 and that program run with the word for large pages that the script ./xdrun gives, and without it; and xdrun with it on one
