@@ -1,5 +1,5 @@
 -- What a walk along a payload that prints has behind it.
-use Rattle.std.specs.Prelude.{◌≡◌, ◌==◌, ℕ, suc, if◌then◌else◌, List, [], ◌∷◌, ◌++◌, codes, Result, Ok, Err}
+use Rattle.std.specs.Prelude.{◌≡◌, ◌==◌, ◌||◌, nat_lt, ℕ, suc, Bool, if◌then◌else◌, List, [], ◌∷◌, ◌++◌, codes, Result, Ok, Err}
 use Rattle.std.specs.Str.{chars}
 use denote.Ref.{Bor}
 use Rattle.xd_value.specs.Tree.{Tree, Trees, Pairs, none as nothing, text as word, no_pairs, pair, count, has_key}
@@ -19,6 +19,10 @@ count_pairs (pair k v ps) = suc (count_pairs ps)
 abbrev pub named : List (Bor (List ℕ)) → Pairs
 named [] = no_pairs
 named (name ∷ names) = pair (word (chars name.now)) nothing (named names)
+
+-- a byte is anything but a character of ASCII that a text prints as it is
+abbrev pub special : ℕ → Bool
+special b = nat_lt b 32 || (b == 34 || (b == 92 || nat_lt 126 b))
 
 -- what stands ahead of the item at this place
 abbrev pub comma : ℕ → List ℕ

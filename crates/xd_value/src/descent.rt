@@ -8,6 +8,7 @@ ghost use Rattle.xd_value.specs.View.{view, views, pair_views};
 ghost use Rattle.xd_value.specs.Walk.{Begins, BeginParts, BeginItems, BeginPairs, BeginsIndex, BeginsLeaf, Closes};
 
 use crate::checks::{are_hashable, is_hashable};
+use crate::clean::text_of;
 use crate::distinct::are_distinct;
 use crate::keys::Keys;
 use crate::number::long_value;
@@ -300,10 +301,8 @@ fn text(alloc: Global, walk: &mut Walk<'_>) -> Option<Value>
     ensures { IfSome result (λ v. (opcode : ℕ) → (opcode ≡ 78) ⊎ (opcode ≡ 83) → BeginsLeaf (opcode ∷ walk.old.rest.now) walk.new.rest.now (view v)) }
 {
     let bytes = walk.chunk()?;
-    let Ok(text) = str::from_utf8(bytes) else {
-        return None;
-    };
-    let Ok(text) = Text::of(alloc, text) else {
+    let words = text_of(bytes)?;
+    let Ok(text) = Text::of(alloc, words) else {
         return None;
     };
     Some(Value::Text(text))

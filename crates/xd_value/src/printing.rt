@@ -1,13 +1,15 @@
 // Values as text, in the notation of Python.
-ghost use Rattle.std.specs.Prelude.{◌≡◌, ◌++◌, ◌∷◌, [], ◌<◌, ◌≤◌, ◌*◌, ◌-◌, true, false, IfOk, OnOk, IsTrue, codes, string_bytes, length, take, drop, get_or};
-ghost use Rattle.std.specs.List.{list_all};
+ghost use Rattle.std.specs.Prelude.{◌≡◌, ◌++◌, ◌∷◌, [], ◌<◌, ◌≤◌, ◌*◌, ◌-◌, true, false, IfOk, IfSome, OnOk, IsTrue, codes, string_bytes, length, take, drop, get_or};
+ghost use Rattle.std.specs.List.{list_all, list_any};
 ghost use Rattle.std.specs.Char.{is_ascii, digit_char};
 ghost use Rattle.std.specs.Fmt.{decimal, signed_decimal};
-ghost use Rattle.std.specs.Str.{chars};
+ghost use Rattle.std.specs.Str.{chars, IsUtf8};
 ghost use Rattle.xd_value.specs.Show.{shown, shown_items, shown_pairs, shown_set, between, hex, escaped, escapes, tuple_end};
+ghost use Rattle.xd_value.specs.Telling.{special};
 ghost use Rattle.xd_value.specs.Tree.{count};
 ghost use Rattle.xd_value.specs.View.{view, views, pair_views};
 
+use crate::clean::clean_text;
 use crate::value::Value;
 use itoa::Buffer;
 use std::alloc::{AllocError, Global};
@@ -218,26 +220,36 @@ fn digit(n: u8) -> u8
     if n < 10 { b'0' + n } else { b'a' + (n - 10) }
 }
 
-/// The digits of up to 32 bytes, of which only the first two for each byte count.
-fn digits_of(piece: &[u8]) -> [u8; 64]
-    requires { length piece.now ≤ 32 }
-    ensures { take (2 * length piece.now) result ≡ hex piece.now }
+/// The digits of 32 bytes.
+fn digits_of(bytes: [u8; 32]) -> [u8; 64]
+    ensures { result ≡ hex bytes }
 {
     let mut digits = [0; 64];
-    for at in 0..piece.len() {
-        let byte = piece[at];
+    for at in 0..32 {
+        let byte = bytes[at];
         digits[2 * at] = digit(byte / 16);
         digits[2 * at + 1] = digit(byte % 16);
     }
     digits
 }
 
+/// Up to 32 bytes, and zeros behind them.
+fn padded(piece: &[u8]) -> [u8; 32]
+    requires { length piece.now ≤ 32 }
+    ensures { take (length piece.now) result ≡ piece.now }
+{
+    let mut bytes = [0; 32];
+    bytes[..piece.len()].copy_from_slice(piece);
+    bytes
+}
+
 fn print_piece(out: &mut Text, piece: &[u8]) -> Result<(), AllocError>
     requires { length piece.now ≤ 32 }
     ensures { OnOk result (out.new ≡ out.old ++ hex piece.now) }
 {
-    let digits = digits_of(piece);
-    let words = str::from_utf8(&digits[..2 * piece.len()]).unwrap();
+    let digits = digits_of(padded(piece));
+    // Digits are ASCII, which is UTF-8.
+    let words = unsafe { str::from_utf8_unchecked(&digits[..2 * piece.len()]) };
     put(out, words)?;
     Ok(())
 }
@@ -362,6 +374,45 @@ pub(crate) fn print_str(out: &mut Text, text: &str) -> Result<(), AllocError>
     put_char(out, '"')?;
     put_escapes(out, text)?;
     put_char(out, '"')?;
+    Ok(())
+}
+
+/// Appends the text of these bytes between quotes, and gives it, where they are UTF-8 and there is room.
+pub(crate) fn print_utf8<'a>(out: &mut Text, bytes: &'a [u8]) -> Option<&'a str>
+    ensures is { IfSome result (λ text. (text.now ≡ bytes.now) × IsUtf8 bytes.now) }
+    ensures text { IfSome result (λ _. out.new ≡ out.old ++ between (codes "\"") (escapes (chars bytes.now)) (codes "\"")) }
+{
+    if let Some(text) = clean_text(bytes) {
+        return match print_clean(out, text) {
+            Ok(()) => Some(text),
+            Err(_) => None,
+        };
+    }
+    let Ok(text) = str::from_utf8(bytes) else {
+        return None;
+    };
+    match print_str(out, text) {
+        Ok(()) => Some(text),
+        Err(_) => None,
+    }
+}
+
+/// Appends a text between quotes that has no special byte.
+fn print_clean(out: &mut Text, text: &str) -> Result<(), AllocError>
+    requires { list_any special text.now ≡ false }
+    ensures { OnOk result (out.new ≡ out.old ++ between (codes "\"") (escapes (chars text.now)) (codes "\"")) }
+{
+    put_char(out, '"')?;
+    put_clean(out, text)?;
+    put_char(out, '"')?;
+    Ok(())
+}
+
+fn put_clean(out: &mut Text, text: &str) -> Result<(), AllocError>
+    requires { list_any special text.now ≡ false }
+    ensures { OnOk result (out.new ≡ out.old ++ escapes (chars text.now)) }
+{
+    put(out, text)?;
     Ok(())
 }
 

@@ -14,13 +14,16 @@ pub(crate) enum Node {
 /// The node of a value that has none.
 pub(crate) const NO_NODE: u32 = u32::MAX;
 
-/// A value that stands, while a payload is gone over.
+/// No place among the heads.
+const NOWHERE: u32 = u32::MAX;
+
+/// Where a value begins.
 #[derive(Clone, Copy, Drop)]
-struct Standing {
-    /// Which value of the payload begins where it begins, counted from 0.
-    begins: u32,
-    /// Its node, if it is a list or a dict.
-    node: u32,
+pub(crate) struct Head {
+    /// The node of the outermost value that begins here.
+    pub node: u32,
+    /// Where the value begins that stands below that one, while a payload is gone over.
+    below: u32,
 }
 
 /// How the values of a payload are put together. Whoever reads the payload along it knows ahead of each value how many parts
@@ -29,10 +32,11 @@ struct Standing {
 /// It is a guess: nothing is promised of it, and each reader sees for itself that the payload is as it says.
 #[derive(Drop)]
 pub(crate) struct Shape {
-    /// For each value in the order in which they begin, the node of the outermost one that begins there.
-    pub heads: Vec<u32>,
+    /// One for each value, in the order in which they begin.
+    pub heads: Vec<Head>,
     pub nodes: Vec<Node>,
-    standing: Vec<Standing>,
+    /// Where the last value that stands begins, while a payload is gone over.
+    top: u32,
 }
 
 impl Shape {
@@ -41,7 +45,7 @@ impl Shape {
         Shape {
             heads: Vec::new(alloc),
             nodes: Vec::new(alloc),
-            standing: Vec::new(alloc),
+            top: NOWHERE,
         }
     }
 
@@ -50,7 +54,7 @@ impl Shape {
     pub(crate) fn find(&mut self, bytes: &[u8]) -> Option<()> {
         self.heads.clear();
         self.nodes.clear();
-        self.standing.clear();
+        self.top = NOWHERE;
         let mut rest = bytes;
         // Each opcode has at least one byte.
         for _ in bytes {
@@ -104,9 +108,10 @@ impl Shape {
     /// A value begins here, and stands behind its opcode.
     #[inline(always)]
     fn begin(&mut self, node: u32) -> Option<()> {
-        let begins = u32::try_from(self.heads.len()).ok()?;
-        self.heads.push(node).ok()?;
-        self.standing.push(Standing { begins, node }).ok()?;
+        let here = u32::try_from(self.heads.len()).ok()?;
+        let below = self.top;
+        self.heads.push(Head { node, below }).ok()?;
+        self.top = here;
         Some(())
     }
 
@@ -119,21 +124,29 @@ impl Shape {
     }
 
     /// A list or a dict begins, without parts.
+    #[inline(always)]
     fn open(&mut self) -> Option<()> {
         let node = self.add(Node::Filled { parts: 0 })?;
         self.begin(node)
     }
 
+    /// Where the value begins that stands below the one that begins here.
+    #[inline(always)]
+    fn below(&self, here: u32) -> Option<u32> {
+        Some(self.heads.get(here as usize)?.below)
+    }
+
     /// A value and its key go into the list or dict below them.
     #[inline(always)]
     fn fill(&mut self) -> Option<()> {
-        self.standing.pop()?;
-        self.standing.pop()?;
-        let holder = self.standing.last()?;
-        let node = self.nodes.get_mut(holder.node as usize)?;
+        let key = self.below(self.top)?;
+        let holder = self.below(key)?;
+        let head = self.heads.get(holder as usize)?;
+        let node = self.nodes.get_mut(head.node as usize)?;
         if let Node::Filled { parts } = node {
             *parts = parts.checked_add(1)?;
         }
+        self.top = holder;
         Some(())
     }
 
@@ -142,19 +155,20 @@ impl Shape {
         if parts == 0 {
             return self.begin(NO_NODE);
         }
-        let below = self.standing.len().checked_sub(parts as usize)?;
-        let begins = self.standing.get(below)?.begins;
-        let first = *self.heads.get(begins as usize)?;
+        let mut here = self.top;
+        for _ in 1..parts {
+            here = self.below(here)?;
+        }
+        let first = self.heads.get(here as usize)?.node;
         let node = self.add(Node::Built { parts, first })?;
-        *self.heads.get_mut(begins as usize)? = node;
-        self.standing.truncate(below);
-        self.standing.push(Standing { begins, node }).ok()?;
+        self.heads.get_mut(here as usize)?.node = node;
+        self.top = here;
         Some(())
     }
 
     /// One value stands at the end.
     fn end(&self) -> Option<()> {
-        if self.standing.len() == 1 {
+        if self.below(self.top)? == NOWHERE {
             Some(())
         } else {
             None

@@ -1,5 +1,5 @@
 // Printing the value of a payload along its shape, without making it.
-ghost use Rattle.std.specs.Prelude.{◌≡◌, ◌∷◌, ◌⊎◌, ◌++◌, ℕ, suc, IfSome, IsTrue, OnOk};
+ghost use Rattle.std.specs.Prelude.{◌≡◌, ◌≤◌, ◌∷◌, ◌⊎◌, ◌++◌, ℕ, suc, IfSome, IsTrue, OnOk};
 ghost use Rattle.std.specs.Char.{is_ascii};
 ghost use Rattle.std.specs.List.{list_all};
 ghost use Rattle.xd_value.specs.Show.{shown, tuple_end};
@@ -14,10 +14,10 @@ use crate::descent::{is_new_key, next_value, skip_index};
 use crate::keys::Keys;
 use crate::number::long_value;
 use crate::printing::{
-    print, print_bytes, print_int, print_short, print_str, put, put_char, put_colon, put_comma,
+    print, print_bytes, print_int, print_short, print_utf8, put, put_char, put_colon, put_comma,
     start,
 };
-use crate::shape::{Node, Shape};
+use crate::shape::{Head, Node, Shape};
 use crate::value::Value;
 use crate::walk::Walk;
 use std::alloc::{AllocError, Global};
@@ -44,11 +44,11 @@ pub(crate) fn tell(
     tell_along(alloc, bytes, &shape.heads, &shape.nodes, ahead, out)
 }
 
-/// The same along these nodes, the first of which are of the values that begin in this order.
+/// The same along these nodes and heads.
 fn tell_along(
     alloc: Global,
     bytes: &[u8],
-    heads: &[u32],
+    heads: &[Head],
     nodes: &[Node],
     ahead: &Text,
     out: &mut Text,
@@ -288,7 +288,7 @@ fn tell_dict(
 }
 
 /// Up to so many keys that are texts are compared as they stand in the payload.
-const FEW_NAMES: u32 = 8;
+const FEW_NAMES: usize = 8;
 
 /// Prints so many pairs of a dict. Where there are few, and the first key is a text, each has to be one.
 #[cycle(telling)]
@@ -304,7 +304,9 @@ fn tell_some_pairs(
     ensures { IfSome result (λ _. (seen : Pairs) × TellsPairs limit parts walk.old.rest.now walk.new.rest.now out.old out.new seen) }
 {
     match walk.rest {
-        [b'N', ..] if parts <= FEW_NAMES => tell_named(alloc, nodes, walk, out, parts, limit),
+        [b'N', ..] if parts as usize <= FEW_NAMES => tell_named(
+            alloc, nodes, walk, out, parts, limit,
+        ),
         _ => tell_pairs(alloc, nodes, walk, out, parts, limit),
     }
 }
@@ -319,17 +321,19 @@ fn tell_named(
     parts: u32,
     limit: u32,
 ) -> Option<()>
+    requires { parts ≤ 8 }
     ensures { IfSome result (λ _. (seen : Pairs) × TellsPairs limit parts walk.old.rest.now walk.new.rest.now out.old out.new seen) }
 {
-    let mut names = Vec::new(alloc);
+    let mut names = [""; FEW_NAMES];
     for index in 0..parts {
         let Ok(()) = separate(out, index) else {
             return None;
         };
         let name = tell_name(walk, out)?;
-        if is_named(name, &names) {
+        if is_named(name, &names[..index as usize]) {
             return None;
         }
+        names[index as usize] = name;
         let Ok(()) = put_colon(out) else {
             return None;
         };
@@ -337,9 +341,6 @@ fn tell_named(
         if walk.byte()? != b'P' {
             return None;
         }
-        let Ok(()) = names.push(name) else {
-            return None;
-        };
     }
     Some(())
 }
@@ -353,13 +354,8 @@ fn tell_name<'a>(walk: &mut Walk<'a>, out: &mut Text) -> Option<&'a str>
     if walk.byte()? != b'N' {
         return None;
     }
-    let Ok(name) = str::from_utf8(walk.chunk()?) else {
-        return None;
-    };
-    match print_str(out, name) {
-        Ok(()) => Some(name),
-        Err(_) => None,
-    }
+    let name = print_utf8(out, walk.chunk()?)?;
+    Some(name)
 }
 
 /// Prints so many pairs of a dict.
@@ -482,14 +478,8 @@ fn tell_long(walk: &mut Walk<'_>, out: &mut Text) -> Option<()>
 fn tell_text(walk: &mut Walk<'_>, out: &mut Text) -> Option<()>
     ensures { IfSome result (λ _. (opcode : ℕ) → (opcode ≡ 78) ⊎ (opcode ≡ 83) → Tells 0 (opcode ∷ walk.old.rest.now) walk.new.rest.now out.old out.new) }
 {
-    let bytes = walk.chunk()?;
-    let Ok(text) = str::from_utf8(bytes) else {
-        return None;
-    };
-    match print_str(out, text) {
-        Ok(()) => Some(()),
-        Err(_) => None,
-    }
+    print_utf8(out, walk.chunk()?)?;
+    Some(())
 }
 
 /// Prints bytes, behind their opcode.

@@ -4,14 +4,14 @@ ghost use Rattle.std.specs.Int.{w32, to_be_bytes};
 ghost use Rattle.xd_value.specs.Spelling.{chunk};
 
 use crate::input;
-use crate::shape::NO_NODE;
+use crate::shape::{Head, NO_NODE};
 
 /// What is left of a payload.
 #[derive(Drop)]
 pub(crate) struct Walk<'a> {
     pub rest: &'a [u8],
-    /// The nodes of the values that have not begun.
-    pub heads: &'a [u32],
+    /// The heads of the values that have not begun.
+    pub heads: &'a [Head],
 }
 
 impl<'a> Walk<'a> {
@@ -24,7 +24,7 @@ impl<'a> Walk<'a> {
             return NO_NODE;
         };
         self.heads = after;
-        *head
+        head.node
     }
 
     /// The next byte.

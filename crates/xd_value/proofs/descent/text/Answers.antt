@@ -7,5 +7,5 @@ use Rattle.xd_value.proofs.descent.text.Goals as goal
 
 pub returns : goal.returns
 returns c opcode is =
-    let same = ap text (ap chars (sym c.in-Ok.ensures.cases.0) ∙ sym c.in-Ok-of.ensures) ∙ sym (view-Text c.in-Ok-of.text) in
-    begins_is 0 _ _ _ _ same (begins_text opcode c.in_ok-bytes.bytes.now c.args.walk.now.rest.now c.chunk.new.self.rest.now is c.in_ok-bytes.ensures.fits c.in-Ok.ensures.cases.1 c.in_ok-bytes.ensures.spelled)
+    let same = ap text (ap chars (sym c.in_ok-words.ensures.0) ∙ sym c.in-Ok.ensures) ∙ sym (view-Text c.in-Ok.text) in
+    begins_is 0 _ _ _ _ same (begins_text opcode c.in_ok-bytes.bytes.now c.args.walk.now.rest.now c.chunk.new.self.rest.now is c.in_ok-bytes.ensures.fits c.in_ok-words.ensures.1 c.in_ok-bytes.ensures.spelled)

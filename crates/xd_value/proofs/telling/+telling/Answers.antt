@@ -1,9 +1,9 @@
-use Rattle.std.proofs.Common.{◌≡◌, ◌∷◌, ◌++◌, ◌+◌, ℕ, suc, false, List, refl, sym, ap, subst, ◌∙◌, arith}
+use Rattle.std.proofs.Common.{◌≡◌, ◌∷◌, ◌++◌, ◌+◌, ℕ, suc, List, refl, sym, ap, subst, take, ◌∙◌, arith}
+use Rattle.std.proofs.lemmas.List.{take_more_set}
 use Rattle.std.specs.Int.{w32, to_be_bytes}
 use Rattle.xd_value.specs.Keys.{Knows}
 use Rattle.xd_value.specs.Spelling.{IsNewKey}
 use Rattle.std.specs.Str.{chars}
-use denote.Ref.{Bor}
 use Rattle.xd_value.specs.Tree.{Pairs, none, text, has_key}
 use Rattle.xd_value.specs.View.{view, pair_views}
 use Rattle.xd_value.specs.Telling.{named, TellsPairs}
@@ -43,17 +43,18 @@ pub tell_dict-returns : goal.tell_dict-returns
 tell_dict-returns t c = told_dict c.args.limit c.args.parts _ _ _ _ _ _ c.in_ok-tell_some_pairs.ensures.0 c.in-Ok.ensures c.in_ok-tell_some_pairs.ensures.1 c.in-Ok-put_char.ensures
 
 pub tell_named-loop-index-init : goal.tell_named-loop-index-init
-tell_named-loop-index-init t c =
-    subst (λ (ps : Pairs). TellsPairs c.args.limit 0 c.args.walk.now.rest.now c.args.walk.now.rest.now c.args.out.now c.args.out.now ps) (sym (ap named c.new-names.ensures.items)) (no_pairs_told c.args.limit c.args.walk.now.rest.now c.args.out.now)
+tell_named-loop-index-init t c = no_pairs_told c.args.limit c.args.walk.now.rest.now c.args.out.now
 
 pub tell_named-loop-index-preserved : goal.tell_named-loop-index-preserved
 tell_named-loop-index-preserved t c =
+    let index = c.loop-index.index in
+    let before = take index c.loop-index.names in
     let key = text (chars c.in_ok-name.name.now) in
-    let grown = ap named c.in-Ok-push.ensures.items ∙ named_push c.loop-index.names.items c.in_ok-name.name in
-    let new : IsNewKey (named c.loop-index.names.items) key = record { hashable_key = refl; fresh = subst (λ (ns : List (Bor (List ℕ))). has_key key (named ns) ≡ false) c.deref.ensures.value (sym c.is_named.ensures ∙ c.if-is_named.false) } in
+    let grown = ap named (take_more_set c.loop-index.names index c.in_ok-name.name (omega arith)) ∙ named_push before c.in_ok-name.name in
+    let new : IsNewKey (named before) key = record { hashable_key = refl; fresh = sym c.is_named.ensures ∙ c.if-is_named.false } in
     let end = c.in_ok-byte.ensures ∙ ap (λ (o : ℕ). o ∷ c.byte.new.self.rest.now) c.if-branch-ne80.false in
-    subst (λ (ps : Pairs). TellsPairs c.args.limit (c.loop-index.index + 1) c.args.walk.now.rest.now c.byte.new.self.rest.now c.args.out.now c.tell_next.new.out ps) (sym grown)
-    (one_more_pair c.args.limit c.loop-index.index _ _ _ _ _ _ _ _ _ _ _ (named c.loop-index.names.items) key none c.loop-index.invariant c.in-Ok.ensures (deeper 0 c.args.limit _ _ key (omega arith) c.in_ok-name.ensures.begins) c.in_ok-name.ensures.text new c.in-Ok-put_colon.ensures c.in_ok-tell_next.ensures end)
+    subst (λ (ps : Pairs). TellsPairs c.args.limit (index + 1) c.args.walk.now.rest.now c.byte.new.self.rest.now c.args.out.now c.tell_next.new.out ps) (sym grown)
+    (one_more_pair c.args.limit index _ _ _ _ _ _ _ _ _ _ _ (named before) key none c.loop-index.invariant c.in-Ok.ensures (deeper 0 c.args.limit _ _ key (omega arith) c.in_ok-name.ensures.begins) c.in_ok-name.ensures.text new c.in-Ok-put_colon.ensures c.in_ok-tell_next.ensures end)
 
 pub tell_pairs-loop-index-init : goal.tell_pairs-loop-index-init
 tell_pairs-loop-index-init t c =

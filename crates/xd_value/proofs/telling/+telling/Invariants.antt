@@ -1,4 +1,4 @@
-use Rattle.std.proofs.Common.{◌+◌, ◌*◌}
+use Rattle.std.proofs.Common.{◌+◌, ◌*◌, take}
 use Rattle.xd_value.specs.Keys.{Knows}
 use Rattle.xd_value.specs.Tree.{has_key}
 use Rattle.xd_value.specs.View.{pair_views}
@@ -48,7 +48,7 @@ abbrev pub invariant-tell_items-loop-index : goal.invariant-tell_items-loop-inde
 invariant-tell_items-loop-index l = TellsItems l.limit l.index l.fn.walk.rest.now l.walk.rest.now l.fn.out l.out
 
 abbrev pub invariant-tell_named-loop-index : goal.invariant-tell_named-loop-index
-invariant-tell_named-loop-index l = TellsPairs l.limit l.index l.fn.walk.rest.now l.walk.rest.now l.fn.out l.out (named l.names.items)
+invariant-tell_named-loop-index l = TellsPairs l.limit l.index l.fn.walk.rest.now l.walk.rest.now l.fn.out l.out (named (take l.index l.names))
 
 abbrev pub invariant-tell_pairs-loop-index : goal.invariant-tell_pairs-loop-index
 invariant-tell_pairs-loop-index l =
