@@ -27,7 +27,7 @@ pub enum WireEnd {
 /// Prints a file of messages: a line for each message, to the first fault, which has a line of its own.
 ///
 /// It prints parts of half a mebibyte of the file, or of one message that is longer, in as many threads as there are
-/// processors, but at most four, and holds the lines of so many parts at a time. Where the output fails or memory is
+/// processors, but at most three, and holds the lines of so many parts at a time. Where the output fails or memory is
 /// refused, the output took a first part of the text.
 pub fn print_messages<R: Threads + Sync, O: Sink>(
     rt: &R,
@@ -64,7 +64,7 @@ fn end_with(faulty: bool) -> WireEnd
 }
 
 /// At most so many parts are printed at a time, so that a few lines stand in memory beside the file.
-const MOST_PARTS: usize = 4;
+const MOST_PARTS: usize = 3;
 
 /// Writes the lines of the file, and says whether the last one tells a fault.
 fn write_lines<R: Threads + Sync, O: Sink>(
@@ -91,7 +91,7 @@ fn write_lines<R: Threads + Sync, O: Sink>(
     }
 }
 
-/// As many as there are processors, but at most four; and one where the system does not say how many there are.
+/// As many as there are processors, but at most three; and one where the system does not say how many there are.
 fn count_of_parts<R: Threads>(rt: &R) -> usize
     ensures { 0 < result }
 {
