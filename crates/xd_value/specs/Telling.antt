@@ -1,9 +1,9 @@
 -- What a walk along a payload that prints has behind it.
-use Rattle.std.specs.Prelude.{◌≡◌, ◌==◌, ◌||◌, nat_lt, ℕ, suc, Bool, if◌then◌else◌, List, [], ◌∷◌, ◌++◌, codes, Result, Ok, Err}
+use Rattle.std.specs.Prelude.{◌≡◌, ◌==◌, ◌||◌, nat_lt, ℕ, suc, Bool, if◌then◌else◌, List, [], ◌∷◌, ◌++◌, length, codes, Result, Ok, Err}
 use Rattle.std.specs.Str.{chars}
 use denote.Ref.{Bor}
 use Rattle.xd_value.specs.Tree.{Tree, Trees, Pairs, none as nothing, text as word, no_pairs, pair, count, has_key}
-use Rattle.xd_value.specs.Show.{shown, shown_items, shown_pairs}
+use Rattle.xd_value.specs.Show.{escaped, shown, shown_items, shown_pairs}
 use Rattle.xd_value.specs.Payload.{IsPayload}
 use Rattle.xd_value.specs.declared.fault.LoadWhat.{LoadWhat}
 use Rattle.xd_value.specs.declared.fault.LoadFault.{LoadFault}
@@ -20,9 +20,9 @@ abbrev pub named : List (Bor (List ℕ)) → Pairs
 named [] = no_pairs
 named (name ∷ names) = pair (word (chars name.now)) nothing (named names)
 
--- a byte is anything but a character of ASCII that a text prints as it is
+-- a byte of a text is no character of ASCII, or one that is printed as more than one character
 abbrev pub special : ℕ → Bool
-special b = nat_lt b 32 || (b == 34 || (b == 92 || nat_lt 126 b))
+special b = nat_lt 127 b || nat_lt 1 (length (escaped b))
 
 -- what stands ahead of the item at this place
 abbrev pub comma : ℕ → List ℕ

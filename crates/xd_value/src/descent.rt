@@ -1,5 +1,5 @@
 // Reading a payload along its shape.
-ghost use Rattle.std.specs.Prelude.{◌≡◌, ◌∷◌, ◌⊎◌, ◌||◌, ℕ, true, length, IfSome};
+ghost use Rattle.std.specs.Prelude.{◌≡◌, ◌∷◌, ◌⊎◌, ◌||◌, ℕ, true, length, IfSome, IsNone};
 ghost use Rattle.xd_value.specs.Payload.{IsPayload};
 ghost use Rattle.xd_value.specs.Keys.{Knows};
 ghost use Rattle.xd_value.specs.Spelling.{IsNewKey, IsSet};
@@ -7,12 +7,12 @@ ghost use Rattle.xd_value.specs.Tree.{same, has_key};
 ghost use Rattle.xd_value.specs.View.{view, views, pair_views};
 ghost use Rattle.xd_value.specs.Walk.{Begins, BeginParts, BeginItems, BeginPairs, BeginsIndex, BeginsLeaf, Closes};
 
-use crate::checks::{are_hashable, is_hashable};
+use crate::checks::{are_hashable, is_hashable, is_plain};
 use crate::clean::text_of;
 use crate::distinct::are_distinct;
 use crate::keys::Keys;
 use crate::number::long_value;
-use crate::shape::{Node, Shape};
+use crate::shape::{Node, Shape, is_plain_alone};
 use crate::value::Value;
 use crate::walk::Walk;
 use std::alloc::Global;
@@ -23,16 +23,109 @@ use xd_edge::{Blob, Text};
 pub(crate) fn usual(alloc: Global, bytes: &[u8], shape: &mut Shape) -> Option<Value>
     ensures { IfSome result (λ v. IsPayload (view v) bytes.now) }
 {
-    shape.find(bytes)?;
-    let mut walk = Walk {
-        rest: bytes,
-        heads: &shape.heads,
-    };
-    let value = next_value(alloc, &shape.nodes, &mut walk, 64)?;
+    let mut walk = Walk::new(bytes, &[]);
+    let value = outermost(alloc, shape, &mut walk)?;
     match walk.rest {
         [b'Q'] => Some(value),
         _ => None,
     }
+}
+
+/// The value of a payload.
+fn outermost(alloc: Global, shape: &mut Shape, walk: &mut Walk<'_, '_>) -> Option<Value>
+    ensures { IfSome result (λ v. Begins 64 walk.old.rest.now walk.new.rest.now (view v)) }
+{
+    match walk.rest {
+        [b'K', ..] => long_list(alloc, shape, walk),
+        _ => alone(alloc, shape, walk, 64),
+    }
+}
+
+/// A list, each item of which is read along a shape of its own. So a shape stays small, however long the list is.
+fn long_list(alloc: Global, shape: &mut Shape, walk: &mut Walk<'_, '_>) -> Option<Value>
+    ensures { IfSome result (λ v. Begins 64 walk.old.rest.now walk.new.rest.now (view v)) }
+{
+    if walk.byte()? != b'K' {
+        return None;
+    }
+    let parts = walk.count()?;
+    let items = each_of(alloc, shape, walk, parts)?;
+    Some(Value::List(items))
+}
+
+/// An item of a list has at least so many bytes: an index, a value and `P`.
+const SHORTEST_ITEM: usize = 7;
+
+/// So many items of a list.
+fn each_of(
+    alloc: Global,
+    shape: &mut Shape,
+    walk: &mut Walk<'_, '_>,
+    parts: u32,
+) -> Option<Vec<Value>>
+    ensures items { IfSome result (λ items. BeginItems 63 walk.old.rest.now walk.new.rest.now (views items.items)) }
+    ensures length { IfSome result (λ items. length items.items ≡ parts) }
+{
+    // No more room than the bytes can fill, whatever the list declares.
+    let most = walk.rest.len() / SHORTEST_ITEM;
+    let Ok(mut items) = Vec::with_capacity(alloc, most.min(parts as usize)) else {
+        return None;
+    };
+    // No item has a shape yet that the next one could have.
+    let mut alike = false;
+    for index in 0..parts {
+        skip_index(walk, index)?;
+        let item = item(alloc, shape, &mut alike, walk)?;
+        if walk.byte()? != b'P' {
+            return None;
+        }
+        let Ok(()) = items.push(item) else {
+            return None;
+        };
+    }
+    Some(items)
+}
+
+/// The item of a list that begins here. The items of a list are often alike, so each is tried along the shape of the one before
+/// it, but not behind one for which that was in vain.
+fn item(
+    alloc: Global,
+    shape: &mut Shape,
+    alike: &mut bool,
+    walk: &mut Walk<'_, '_>,
+) -> Option<Value>
+    ensures { IfSome result (λ v. Begins 63 walk.old.rest.now walk.new.rest.now (view v)) }
+{
+    if is_plain_alone(walk.rest) {
+        return plain(alloc, walk);
+    }
+    if *alike {
+        if let Some(value) = along(alloc, shape, walk, 63) {
+            return Some(value);
+        }
+    }
+    *alike = !*alike;
+    shape.find(walk.rest)?;
+    along(alloc, shape, walk, 63)
+}
+
+/// The value that begins here, along a shape of its own.
+fn alone(alloc: Global, shape: &mut Shape, walk: &mut Walk<'_, '_>, limit: u32) -> Option<Value>
+    ensures { IfSome result (λ v. Begins limit walk.old.rest.now walk.new.rest.now (view v)) }
+{
+    shape.find(walk.rest)?;
+    along(alloc, shape, walk, limit)
+}
+
+/// The value that begins here, along this shape. Where there is none, the walk stays where it is.
+fn along(alloc: Global, shape: &Shape, walk: &mut Walk<'_, '_>, limit: u32) -> Option<Value>
+    ensures value { IfSome result (λ v. Begins limit walk.old.rest.now walk.new.rest.now (view v)) }
+    ensures stays { IsNone result → walk.new.rest.now ≡ walk.old.rest.now }
+{
+    let mut along = Walk::new(walk.rest, &shape.heads);
+    let value = next_value(alloc, &shape.nodes, &mut along, limit)?;
+    walk.rest = along.rest;
+    Some(value)
 }
 
 /// The value that begins here. It nests at most so deep.
@@ -41,7 +134,7 @@ pub(crate) fn usual(alloc: Global, bytes: &[u8], shape: &mut Shape) -> Option<Va
 pub(crate) fn next_value(
     alloc: Global,
     nodes: &[Node],
-    walk: &mut Walk<'_>,
+    walk: &mut Walk<'_, '_>,
     limit: u32,
 ) -> Option<Value>
     ensures { IfSome result (λ v. Begins limit walk.old.rest.now walk.new.rest.now (view v)) }
@@ -56,7 +149,7 @@ pub(crate) fn next_value(
 fn value_at(
     alloc: Global,
     nodes: &[Node],
-    walk: &mut Walk<'_>,
+    walk: &mut Walk<'_, '_>,
     node: u32,
     limit: u32,
 ) -> Option<Value>
@@ -65,7 +158,7 @@ fn value_at(
     match nodes.get(node as usize) {
         None => plain(alloc, walk),
         Some(Node::Built { parts, first }) => built(alloc, nodes, walk, *parts, *first, limit),
-        Some(Node::Filled { parts }) => filled(alloc, nodes, walk, *parts, limit),
+        Some(Node::Filled { parts, bare }) => filled(alloc, nodes, walk, *parts, *bare, limit),
     }
 }
 
@@ -75,7 +168,7 @@ fn value_at(
 fn built(
     alloc: Global,
     nodes: &[Node],
-    walk: &mut Walk<'_>,
+    walk: &mut Walk<'_, '_>,
     parts: u32,
     first: u32,
     limit: u32,
@@ -92,7 +185,7 @@ fn built(
 fn parts_of(
     alloc: Global,
     nodes: &[Node],
-    walk: &mut Walk<'_>,
+    walk: &mut Walk<'_, '_>,
     parts: u32,
     first: u32,
     limit: u32,
@@ -116,7 +209,7 @@ fn parts_of(
 }
 
 /// What the opcode behind these parts makes of them.
-fn closed(alloc: Global, walk: &mut Walk<'_>, items: Vec<Value>) -> Option<Value>
+fn closed(alloc: Global, walk: &mut Walk<'_, '_>, items: Vec<Value>) -> Option<Value>
     ensures { IfSome result (λ v. Closes (views items.items) walk.old.rest.now walk.new.rest.now (view v)) }
 {
     let opcode = walk.byte()?;
@@ -150,19 +243,21 @@ fn can_be_set(alloc: Global, items: &[Value]) -> bool
     }
 }
 
-/// A list or a dict.
+/// A list or a dict, behind which so many values are bare.
 #[cycle(descent)]
 #[inline(never)]
 fn filled(
     alloc: Global,
     nodes: &[Node],
-    walk: &mut Walk<'_>,
+    walk: &mut Walk<'_, '_>,
     parts: u32,
+    bare: u32,
     limit: u32,
 ) -> Option<Value>
     ensures { IfSome result (λ v. Begins limit walk.old.rest.now walk.new.rest.now (view v)) }
 {
     let limit = limit.checked_sub(1)?;
+    walk.bare = bare;
     match walk.byte()? {
         b'K' => {
             if walk.count()? != parts {
@@ -184,7 +279,7 @@ fn filled(
 fn items_of(
     alloc: Global,
     nodes: &[Node],
-    walk: &mut Walk<'_>,
+    walk: &mut Walk<'_, '_>,
     parts: u32,
     limit: u32,
 ) -> Option<Vec<Value>>
@@ -209,10 +304,11 @@ fn items_of(
 
 /// The pairs of a dict.
 #[cycle(descent)]
+#[inline(never)]
 fn pairs_of(
     alloc: Global,
     nodes: &[Node],
-    walk: &mut Walk<'_>,
+    walk: &mut Walk<'_, '_>,
     parts: u32,
     limit: u32,
 ) -> Option<Vec<(Value, Value)>>
@@ -250,7 +346,7 @@ pub(crate) fn is_new_key(
     ensures new { result ≡ true → IsNewKey (pair_views pairs.now) (view key.now) }
     ensures known { result ≡ true → Knows keys.new (λ t. same t (view key.now) || has_key t (pair_views pairs.now)) }
 {
-    if !is_hashable(key) {
+    if !is_plain(key) && !is_hashable(key) {
         return false;
     }
     match keys.repeats_key(alloc, key, pairs) {
@@ -261,7 +357,7 @@ pub(crate) fn is_new_key(
 
 /// The index ahead of an item of a list.
 #[inline(always)]
-pub(crate) fn skip_index(walk: &mut Walk<'_>, index: u32) -> Option<()>
+pub(crate) fn skip_index(walk: &mut Walk<'_, '_>, index: u32) -> Option<()>
     ensures { IfSome result (λ _. BeginsIndex index walk.old.rest.now walk.new.rest.now) }
 {
     walk.head();
@@ -272,7 +368,8 @@ pub(crate) fn skip_index(walk: &mut Walk<'_>, index: u32) -> Option<()>
 }
 
 /// A value without parts.
-fn plain(alloc: Global, walk: &mut Walk<'_>) -> Option<Value>
+#[inline(always)]
+fn plain(alloc: Global, walk: &mut Walk<'_, '_>) -> Option<Value>
     ensures { IfSome result (λ v. BeginsLeaf walk.old.rest.now walk.new.rest.now (view v)) }
 {
     match walk.byte()? {
@@ -289,7 +386,7 @@ fn plain(alloc: Global, walk: &mut Walk<'_>) -> Option<Value>
 
 /// The integer behind its opcode.
 #[inline(always)]
-fn int(walk: &mut Walk<'_>) -> Option<Value>
+fn int(walk: &mut Walk<'_, '_>) -> Option<Value>
     ensures { IfSome result (λ v. (opcode : ℕ) → (opcode ≡ 70) ⊎ (opcode ≡ 71) → BeginsLeaf (opcode ∷ walk.old.rest.now) walk.new.rest.now (view v)) }
 {
     let n = walk.number()?;
@@ -297,7 +394,8 @@ fn int(walk: &mut Walk<'_>) -> Option<Value>
 }
 
 /// The text behind its opcode.
-fn text(alloc: Global, walk: &mut Walk<'_>) -> Option<Value>
+#[inline(never)]
+fn text(alloc: Global, walk: &mut Walk<'_, '_>) -> Option<Value>
     ensures { IfSome result (λ v. (opcode : ℕ) → (opcode ≡ 78) ⊎ (opcode ≡ 83) → BeginsLeaf (opcode ∷ walk.old.rest.now) walk.new.rest.now (view v)) }
 {
     let bytes = walk.chunk()?;
@@ -309,7 +407,8 @@ fn text(alloc: Global, walk: &mut Walk<'_>) -> Option<Value>
 }
 
 /// The bytes behind their opcode.
-fn bytes(alloc: Global, walk: &mut Walk<'_>) -> Option<Value>
+#[inline(never)]
+fn bytes(alloc: Global, walk: &mut Walk<'_, '_>) -> Option<Value>
     ensures { IfSome result (λ v. BeginsLeaf (65 ∷ walk.old.rest.now) walk.new.rest.now (view v)) }
 {
     let bytes = walk.chunk()?;
@@ -320,7 +419,8 @@ fn bytes(alloc: Global, walk: &mut Walk<'_>) -> Option<Value>
 }
 
 /// The integer whose digits stand behind its opcode.
-fn long(walk: &mut Walk<'_>) -> Option<Value>
+#[inline(never)]
+fn long(walk: &mut Walk<'_, '_>) -> Option<Value>
     ensures { IfSome result (λ v. (opcode : ℕ) → (opcode ≡ 72) ⊎ (opcode ≡ 73) → BeginsLeaf (opcode ∷ walk.old.rest.now) walk.new.rest.now (view v)) }
 {
     let n = long_value(walk.chunk()?)?;

@@ -82,8 +82,7 @@ pub(crate) fn print(out: &mut Text, value: &Value) -> Result<(), AllocError>
 pub(crate) fn put_comma(out: &mut Text) -> Result<(), AllocError>
     ensures { OnOk result (out.new ≡ out.old ++ codes ", ") }
 {
-    put_char(out, ',')?;
-    put_char(out, ' ')?;
+    put(out, ", ")?;
     Ok(())
 }
 
@@ -91,8 +90,7 @@ pub(crate) fn put_comma(out: &mut Text) -> Result<(), AllocError>
 pub(crate) fn put_colon(out: &mut Text) -> Result<(), AllocError>
     ensures { OnOk result (out.new ≡ out.old ++ codes ": ") }
 {
-    put_char(out, ':')?;
-    put_char(out, ' ')?;
+    put(out, ": ")?;
     Ok(())
 }
 

@@ -34,14 +34,31 @@ pub(crate) fn tell(
 ) -> Option<()>
     ensures { IfSome result (λ _. IsTold ahead.now bytes.now out.new) }
 {
-    // A list of plain values and of such lists has its counts ahead of its items, and needs no shape.
     if let [b'K', ..] = bytes {
-        if tell_along(alloc, bytes, &[], &[], ahead, out).is_some() {
-            return Some(());
-        }
+        return tell_list_first(alloc, bytes, shape, ahead, out);
     }
     shape.find(bytes)?;
     tell_along(alloc, bytes, &shape.heads, &shape.nodes, ahead, out)
+}
+
+/// The same of a list: by the least work that some lists need, and where that does not serve, anew by more.
+fn tell_list_first(
+    alloc: Global,
+    bytes: &[u8],
+    shape: &mut Shape,
+    ahead: &Text,
+    out: &mut Text,
+) -> Option<()>
+    ensures { IfSome result (λ _. IsTold ahead.now bytes.now out.new) }
+{
+    // A list of plain values and of such lists has its counts ahead of its items, and needs no shape.
+    if tell_along(alloc, bytes, &[], &[], ahead, out).is_some() {
+        return Some(());
+    }
+    if tell_long_list(alloc, bytes, shape, true, ahead, out).is_some() {
+        return Some(());
+    }
+    tell_long_list(alloc, bytes, shape, false, ahead, out)
 }
 
 /// The same along these nodes and heads.
@@ -59,12 +76,97 @@ fn tell_along(
     let Ok(()) = start(out, ahead) else {
         return None;
     };
-    let mut walk = Walk { rest: bytes, heads };
+    let mut walk = Walk::new(bytes, heads);
     tell_next(alloc, nodes, &mut walk, out, 64)?;
     match walk.rest {
         [b'Q'] => Some(()),
         _ => None,
     }
+}
+
+/// The same of a list, each item of which is printed along a shape of its own, or all along that of the first where they are
+/// `alike`. So a shape stays small, however long the list is.
+fn tell_long_list(
+    alloc: Global,
+    bytes: &[u8],
+    shape: &mut Shape,
+    alike: bool,
+    ahead: &Text,
+    out: &mut Text,
+) -> Option<()>
+    ensures { IfSome result (λ _. IsTold ahead.now bytes.now out.new) }
+{
+    let Ok(()) = start(out, ahead) else {
+        return None;
+    };
+    let mut walk = Walk::new(bytes, &[]);
+    tell_by_items(alloc, shape, alike, &mut walk, out)?;
+    match walk.rest {
+        [b'Q'] => Some(()),
+        _ => None,
+    }
+}
+
+/// Prints a list item by item.
+fn tell_by_items(
+    alloc: Global,
+    shape: &mut Shape,
+    alike: bool,
+    walk: &mut Walk<'_, '_>,
+    out: &mut Text,
+) -> Option<()>
+    ensures { IfSome result (λ _. Tells 64 walk.old.rest.now walk.new.rest.now out.old out.new) }
+{
+    if walk.byte()? != b'K' {
+        return None;
+    }
+    let items = walk.count()?;
+    let Ok(()) = put_char(out, '[') else {
+        return None;
+    };
+    tell_each(alloc, shape, alike, walk, out, items)?;
+    let Ok(()) = put_char(out, ']') else {
+        return None;
+    };
+    Some(())
+}
+
+/// Prints so many items of a list.
+fn tell_each(
+    alloc: Global,
+    shape: &mut Shape,
+    alike: bool,
+    walk: &mut Walk<'_, '_>,
+    out: &mut Text,
+    parts: u32,
+) -> Option<()>
+    ensures { IfSome result (λ _. TellsItems 63 parts walk.old.rest.now walk.new.rest.now out.old out.new) }
+{
+    for index in 0..parts {
+        let Ok(()) = separate(out, index) else {
+            return None;
+        };
+        skip_index(walk, index)?;
+        if !alike || index == 0 {
+            shape.find(walk.rest)?;
+        }
+        tell_item(alloc, shape, walk, out)?;
+        if walk.byte()? != b'P' {
+            return None;
+        }
+    }
+    Some(())
+}
+
+/// Prints an item along its shape.
+#[inline(always)]
+fn tell_item(alloc: Global, shape: &Shape, walk: &mut Walk<'_, '_>, out: &mut Text) -> Option<()>
+    ensures { IfSome result (λ _. Tells 63 walk.old.rest.now walk.new.rest.now out.old out.new) }
+{
+    let mut along = Walk::new(walk.rest, &shape.heads);
+    tell_next(alloc, &shape.nodes, &mut along, out, 63)?;
+    walk.rest = along.rest;
+    Some(())
 }
 
 /// Makes room for so many more bytes, where there is some.
@@ -80,7 +182,7 @@ fn make_room(out: &mut Text, length: usize)
 fn tell_next(
     alloc: Global,
     nodes: &[Node],
-    walk: &mut Walk<'_>,
+    walk: &mut Walk<'_, '_>,
     out: &mut Text,
     limit: u32,
 ) -> Option<()>
@@ -96,7 +198,7 @@ fn tell_next(
 fn tell_at(
     alloc: Global,
     nodes: &[Node],
-    walk: &mut Walk<'_>,
+    walk: &mut Walk<'_, '_>,
     out: &mut Text,
     node: u32,
     limit: u32,
@@ -108,7 +210,9 @@ fn tell_at(
         Some(Node::Built { parts, first }) => tell_tuple(
             alloc, nodes, walk, out, *parts, *first, limit,
         ),
-        Some(Node::Filled { parts }) => tell_filled(alloc, nodes, walk, out, *parts, limit),
+        Some(Node::Filled { parts, bare }) => tell_filled(
+            alloc, nodes, walk, out, *parts, *bare, limit,
+        ),
     }
 }
 
@@ -118,14 +222,14 @@ fn tell_at(
 fn tell_bare(
     alloc: Global,
     nodes: &[Node],
-    walk: &mut Walk<'_>,
+    walk: &mut Walk<'_, '_>,
     out: &mut Text,
     limit: u32,
 ) -> Option<()>
     ensures { IfSome result (λ _. Tells limit walk.old.rest.now walk.new.rest.now out.old out.new) }
 {
     if let [b'K', ..] = walk.rest {
-        tell_filled(alloc, nodes, walk, out, 0, limit)
+        tell_filled(alloc, nodes, walk, out, 0, 0, limit)
     } else {
         tell_plain(walk, out)
     }
@@ -137,7 +241,7 @@ fn tell_bare(
 fn tell_tuple(
     alloc: Global,
     nodes: &[Node],
-    walk: &mut Walk<'_>,
+    walk: &mut Walk<'_, '_>,
     out: &mut Text,
     parts: u32,
     first: u32,
@@ -164,7 +268,7 @@ fn tell_tuple(
 fn tell_parts(
     alloc: Global,
     nodes: &[Node],
-    walk: &mut Walk<'_>,
+    walk: &mut Walk<'_, '_>,
     out: &mut Text,
     parts: u32,
     first: u32,
@@ -197,20 +301,22 @@ fn put_tuple_end(out: &mut Text, parts: u32) -> Result<(), AllocError>
     Ok(())
 }
 
-/// Prints a list, or a dict of so many pairs.
+/// Prints a list, or a dict of so many pairs. So many values behind it are bare.
 #[cycle(telling)]
 #[inline(never)]
 fn tell_filled(
     alloc: Global,
     nodes: &[Node],
-    walk: &mut Walk<'_>,
+    walk: &mut Walk<'_, '_>,
     out: &mut Text,
     parts: u32,
+    bare: u32,
     limit: u32,
 ) -> Option<()>
     ensures { IfSome result (λ _. Tells limit walk.old.rest.now walk.new.rest.now out.old out.new) }
 {
     let limit = limit.checked_sub(1)?;
+    walk.bare = bare;
     match walk.byte()? {
         b'K' => tell_list(alloc, nodes, walk, out, limit),
         b'J' => tell_dict(alloc, nodes, walk, out, parts, limit),
@@ -223,7 +329,7 @@ fn tell_filled(
 fn tell_list(
     alloc: Global,
     nodes: &[Node],
-    walk: &mut Walk<'_>,
+    walk: &mut Walk<'_, '_>,
     out: &mut Text,
     limit: u32,
 ) -> Option<()>
@@ -245,7 +351,7 @@ fn tell_list(
 fn tell_items(
     alloc: Global,
     nodes: &[Node],
-    walk: &mut Walk<'_>,
+    walk: &mut Walk<'_, '_>,
     out: &mut Text,
     parts: u32,
     limit: u32,
@@ -270,7 +376,7 @@ fn tell_items(
 fn tell_dict(
     alloc: Global,
     nodes: &[Node],
-    walk: &mut Walk<'_>,
+    walk: &mut Walk<'_, '_>,
     out: &mut Text,
     parts: u32,
     limit: u32,
@@ -296,7 +402,7 @@ const FEW_NAMES: usize = 8;
 fn tell_some_pairs(
     alloc: Global,
     nodes: &[Node],
-    walk: &mut Walk<'_>,
+    walk: &mut Walk<'_, '_>,
     out: &mut Text,
     parts: u32,
     limit: u32,
@@ -316,7 +422,7 @@ fn tell_some_pairs(
 fn tell_named(
     alloc: Global,
     nodes: &[Node],
-    walk: &mut Walk<'_>,
+    walk: &mut Walk<'_, '_>,
     out: &mut Text,
     parts: u32,
     limit: u32,
@@ -346,7 +452,7 @@ fn tell_named(
 }
 
 /// Prints the text that begins here, and gives it.
-fn tell_name<'a>(walk: &mut Walk<'a>, out: &mut Text) -> Option<&'a str>
+fn tell_name<'a>(walk: &mut Walk<'a, '_>, out: &mut Text) -> Option<&'a str>
     ensures begins { IfSome result (λ name. BeginsLeaf walk.old.rest.now walk.new.rest.now (text (chars name.now))) }
     ensures text { IfSome result (λ name. out.new ≡ out.old ++ shown (text (chars name.now))) }
 {
@@ -363,7 +469,7 @@ fn tell_name<'a>(walk: &mut Walk<'a>, out: &mut Text) -> Option<&'a str>
 fn tell_pairs(
     alloc: Global,
     nodes: &[Node],
-    walk: &mut Walk<'_>,
+    walk: &mut Walk<'_, '_>,
     out: &mut Text,
     parts: u32,
     limit: u32,
@@ -399,7 +505,7 @@ fn tell_pairs(
 fn tell_key(
     alloc: Global,
     nodes: &[Node],
-    walk: &mut Walk<'_>,
+    walk: &mut Walk<'_, '_>,
     out: &mut Text,
     limit: u32,
 ) -> Option<Value>
@@ -424,7 +530,7 @@ fn separate(out: &mut Text, index: u32) -> Result<(), AllocError>
 }
 
 /// Prints a value without parts.
-fn tell_plain(walk: &mut Walk<'_>, out: &mut Text) -> Option<()>
+fn tell_plain(walk: &mut Walk<'_, '_>, out: &mut Text) -> Option<()>
     ensures { IfSome result (λ _. Tells 0 walk.old.rest.now walk.new.rest.now out.old out.new) }
 {
     match walk.byte()? {
@@ -453,7 +559,7 @@ fn tell_word(out: &mut Text, word: &str) -> Option<()>
 
 /// Prints an integer, behind its opcode.
 #[inline(always)]
-fn tell_int(walk: &mut Walk<'_>, out: &mut Text) -> Option<()>
+fn tell_int(walk: &mut Walk<'_, '_>, out: &mut Text) -> Option<()>
     ensures { IfSome result (λ _. (opcode : ℕ) → (opcode ≡ 70) ⊎ (opcode ≡ 71) → Tells 0 (opcode ∷ walk.old.rest.now) walk.new.rest.now out.old out.new) }
 {
     let n = walk.number()?;
@@ -464,7 +570,7 @@ fn tell_int(walk: &mut Walk<'_>, out: &mut Text) -> Option<()>
 }
 
 /// Prints an integer whose digits stand behind its opcode.
-fn tell_long(walk: &mut Walk<'_>, out: &mut Text) -> Option<()>
+fn tell_long(walk: &mut Walk<'_, '_>, out: &mut Text) -> Option<()>
     ensures { IfSome result (λ _. (opcode : ℕ) → (opcode ≡ 72) ⊎ (opcode ≡ 73) → Tells 0 (opcode ∷ walk.old.rest.now) walk.new.rest.now out.old out.new) }
 {
     let n = long_value(walk.chunk()?)?;
@@ -475,7 +581,7 @@ fn tell_long(walk: &mut Walk<'_>, out: &mut Text) -> Option<()>
 }
 
 /// Prints a text, behind its opcode.
-fn tell_text(walk: &mut Walk<'_>, out: &mut Text) -> Option<()>
+fn tell_text(walk: &mut Walk<'_, '_>, out: &mut Text) -> Option<()>
     ensures { IfSome result (λ _. (opcode : ℕ) → (opcode ≡ 78) ⊎ (opcode ≡ 83) → Tells 0 (opcode ∷ walk.old.rest.now) walk.new.rest.now out.old out.new) }
 {
     print_utf8(out, walk.chunk()?)?;
@@ -483,7 +589,7 @@ fn tell_text(walk: &mut Walk<'_>, out: &mut Text) -> Option<()>
 }
 
 /// Prints bytes, behind their opcode.
-fn tell_bytes(walk: &mut Walk<'_>, out: &mut Text) -> Option<()>
+fn tell_bytes(walk: &mut Walk<'_, '_>, out: &mut Text) -> Option<()>
     ensures { IfSome result (λ _. Tells 0 (65 ∷ walk.old.rest.now) walk.new.rest.now out.old out.new) }
 {
     let bytes = walk.chunk()?;

@@ -8,18 +8,36 @@ use crate::shape::{Head, NO_NODE};
 
 /// What is left of a payload.
 #[derive(Drop)]
-pub(crate) struct Walk<'a> {
+pub(crate) struct Walk<'a, 'b> {
     pub rest: &'a [u8],
     /// The heads of the values that have not begun.
-    pub heads: &'a [Head],
+    pub heads: &'b [Head],
+    /// So many of the next values have no heads.
+    pub bare: u32,
 }
 
-impl<'a> Walk<'a> {
+impl<'a, 'b> Walk<'a, 'b> {
+    /// The walk along these bytes, whose values have these heads.
+    #[inline(always)]
+    pub(crate) fn new(rest: &'a [u8], heads: &'b [Head]) -> Walk<'a, 'b>
+        ensures { result.rest.now ≡ rest.now }
+    {
+        Walk {
+            rest,
+            heads,
+            bare: 0,
+        }
+    }
+
     /// The node of the next value, which begins.
     #[inline(always)]
     pub(crate) fn head(&mut self) -> u32
         ensures { self.new.rest.now ≡ self.old.rest.now }
     {
+        if let Some(left) = self.bare.checked_sub(1) {
+            self.bare = left;
+            return NO_NODE;
+        }
         let Some((head, after)) = self.heads.split_first() else {
             return NO_NODE;
         };
