@@ -1,12 +1,15 @@
 -- What a walk along a payload has behind it, with one more part.
 use Rattle.std.proofs.Common.{◌≡◌, ℕ, suc, ◌^◌, ◌<◌, ◌≤◌, ◌⊎◌, ℤ, List, [], ◌∷◌, ◌++◌, length, Some, Ok, refl, sym, ap, subst, ◌∙◌, append_assoc, arith, inl, inr}
+use Rattle.std.specs.Prelude.{Option, None, IfSome}
 use Rattle.std.specs.Int.{w32, to_be_bytes, cast_signed}
 use Rattle.std.specs.Str.{chars, IsUtf8}
 use Rattle.xd_value.specs.Tree.{Tree, Trees, Pairs, int, bytes, text, list, tuple, set, frozenset, dict, no_trees, no_pairs, count, depth, trees_depth}
 use Rattle.xd_value.specs.Reading.{number_at, length_at, chunk_at, long_value, snoc, snoc_pair}
 use Rattle.xd_value.specs.Spelling.{Spelled, PartsSpelled, IsNewKey, IsSet, chunk}
 use Rattle.xd_value.specs.Payload.{IsPayload}
-use Rattle.xd_value.specs.Walk.{Begins, BeginsLeaf, BeginParts, BeginItems, BeginPairs, BeginsIndex, Closes}
+use Rattle.xd_value.specs.Walk.{Begins, BeginsLeaf, BeginParts, BeginItems, BeginPairs, BeginsIndex, Closes, Puts, PutsPair}
+use Rattle.xd_value.specs.View.{view, views, pair_views}
+use Rattle.xd_value.specs.declared.value.Value.{Value}
 use Rattle.xd_value.proofs.Numbers.{IsBytes, number_takes, length_takes, chunk_takes}
 use Rattle.xd_value.proofs.SoundLeaf.{spells_int, spells_text}
 use Rattle.xd_value.proofs.SoundList.{items_snoc, parts_snoc, trees_depth-snoc}
@@ -41,10 +44,23 @@ begins_text o bs b left i lt u e = begins_leaf (o ∷ b) left (text (chars bs)) 
 pub begins_bytes : (bs b left : List ℕ) → length bs < 2147483648 → b ≡ chunk bs ++ left → BeginsLeaf (65 ∷ b) left (bytes bs)
 begins_bytes bs b left lt e = begins_leaf (65 ∷ b) left (bytes bs) (65 ∷ chunk bs) refl (ap (λ (x : List ℕ). 65 ∷ x) e) (record { fits = lt; spelled = refl })
 
--- ---- parts of tuples and sets
+-- ---- a value that is put behind others
 
 pub deeper : (limit more : ℕ) (b left : List ℕ) (v : Tree) → limit ≤ more → Begins limit b left v → Begins more b left v
 deeper limit more b left v le h = record { shallow = omega (arith, h.shallow); spelling = h.spelling; parts = h.parts; spelled = h.spelled }
+
+pub put_if : (r : Option (Unit {0})) (limit : ℕ) (b left : List ℕ) (before after : List Value) (v : Value) → Begins limit b left (view v) → IfSome r (λ _. after ≡ before ++ v ∷ []) → IfSome r (λ _. Puts limit b left before after)
+put_if (Some u) limit b left before after v h e = record { value = v; begins = h; put = e }
+put_if None limit b left before after v h e = tt
+
+pub put_if_behind : (r : Option (Unit {0})) (IsOpcode : ℕ → Type 0) (b left : List ℕ) (before after : List Value) (v : Value) → IfSome r (λ _. after ≡ before ++ v ∷ []) → ((o : ℕ) → IsOpcode o → BeginsLeaf (o ∷ b) left (view v)) → IfSome r (λ _. (o : ℕ) → IsOpcode o → Puts 0 (o ∷ b) left before after)
+put_if_behind (Some u) IsOpcode b left before after v e h = λ o is. record { value = v; begins = h o is; put = e }
+put_if_behind None IsOpcode b left before after v e h = tt
+
+pub puts_deeper : (limit more : ℕ) (b left : List ℕ) (before after : List Value) → limit ≤ more → Puts limit b left before after → Puts more b left before after
+puts_deeper limit more b left before after le p = record { value = p.value; begins = deeper limit more b left (view p.value) le p.begins; put = p.put }
+
+-- ---- parts of tuples and sets
 
 pub no_parts : (limit : ℕ) (b : List ℕ) → BeginParts limit b b no_trees
 no_parts limit b = record { shallow = omega arith; spelling = []; parts = refl; spelled = refl }

@@ -1,7 +1,9 @@
 -- What a walk along a payload has behind it.
-use Rattle.std.specs.Prelude.{◌≡◌, ℕ, suc, pos, ◌≤◌, List, ◌++◌}
+use Rattle.std.specs.Prelude.{◌≡◌, ℕ, suc, pos, ◌≤◌, List, [], ◌∷◌, ◌++◌}
 use Rattle.xd_value.specs.Tree.{Tree, Trees, Pairs, depth, trees_depth, pairs_depth, no_pairs}
-use Rattle.xd_value.specs.Spelling.{SpellsInteger, Spelled, PartsSpelled, ItemsSpelled, PairsSpelled}
+use Rattle.xd_value.specs.Spelling.{IsNewKey, SpellsInteger, Spelled, PartsSpelled, ItemsSpelled, PairsSpelled}
+use Rattle.xd_value.specs.View.{view, pair_views}
+use Rattle.xd_value.specs.declared.value.Value.{Value}
 
 -- the bytes are a spelling of the value, which nests at most so deep, and then what is left
 pub record Begins (limit : ℕ) (bytes left : List ℕ) (v : Tree) : Type 0 where
@@ -47,3 +49,19 @@ pub record Closes (vs : Trees) (bytes left : List ℕ) (v : Tree) : Type 0 where
 -- the same of a value without parts
 abbrev pub BeginsLeaf : List ℕ → List ℕ → Tree → Type 0
 BeginsLeaf bytes left v = Begins 0 bytes left v
+
+-- the bytes are a value, which nests at most so deep, and then what is left; it was put behind the values that stood
+pub record Puts (limit : ℕ) (bytes left : List ℕ) (before after : List Value) : Type 0 where
+  pub value : Value
+  pub begins : Begins limit bytes left (view value)
+  pub put : after ≡ before ++ (value ∷ [])
+
+-- the bytes are a pair of a dict, whose key is new, and then what is left; it was put behind the pairs that stood
+pub record PutsPair (limit : ℕ) (bytes left : List ℕ) (before after : List (Value × Value)) : Type 0 where
+  pub key : Value
+  pub value : Value
+  pub middle : List ℕ
+  pub begins : Begins limit bytes middle (view key)
+  pub new : IsNewKey (pair_views before) (view key)
+  pub follows : Begins limit middle (80 ∷ left) (view value)
+  pub put : after ≡ before ++ ((key, value) ∷ [])

@@ -1,18 +1,18 @@
 // Reading a payload along its shape.
-ghost use Rattle.std.specs.Prelude.{◌≡◌, ◌∷◌, ◌⊎◌, ◌||◌, ℕ, true, length, IfSome, IsNone};
+ghost use Rattle.std.specs.Prelude.{◌≡◌, [], ◌∷◌, ◌++◌, ◌⊎◌, ◌||◌, ℕ, true, length, IfSome, IsNone};
 ghost use Rattle.xd_value.specs.Payload.{IsPayload};
 ghost use Rattle.xd_value.specs.Keys.{Knows};
 ghost use Rattle.xd_value.specs.Spelling.{IsNewKey, IsSet};
-ghost use Rattle.xd_value.specs.Tree.{same, has_key};
+ghost use Rattle.xd_value.specs.Tree.{same, has_key, int, text, bytes};
 ghost use Rattle.xd_value.specs.View.{view, views, pair_views};
-ghost use Rattle.xd_value.specs.Walk.{Begins, BeginParts, BeginItems, BeginPairs, BeginsIndex, BeginsLeaf, Closes};
+ghost use Rattle.xd_value.specs.Walk.{Begins, BeginParts, BeginItems, BeginPairs, BeginsIndex, BeginsLeaf, Closes, Puts, PutsPair};
 
-use crate::checks::{are_hashable, is_hashable, is_plain};
+use crate::checks::{are_hashable, is_hashable, is_plain, is_text_key};
 use crate::clean::text_of;
 use crate::distinct::are_distinct;
 use crate::keys::Keys;
 use crate::number::long_value;
-use crate::shape::{Node, Shape, is_plain_alone};
+use crate::shape::{NO_NODE, Node, Shape, is_plain_alone};
 use crate::value::Value;
 use crate::walk::Walk;
 use std::alloc::Global;
@@ -143,6 +143,53 @@ pub(crate) fn next_value(
     value_at(alloc, nodes, walk, head, limit)
 }
 
+/// Puts the value that begins here behind these, where they have room. It nests at most so deep.
+#[cycle(descent)]
+#[inline(always)]
+fn put_next(
+    alloc: Global,
+    nodes: &[Node],
+    walk: &mut Walk<'_, '_>,
+    items: &mut Vec<Value>,
+    limit: u32,
+) -> Option<()>
+    ensures { IfSome result (λ _. Puts limit walk.old.rest.now walk.new.rest.now items.old.items items.new.items) }
+{
+    let head = walk.head();
+    put_at(alloc, nodes, walk, items, head, limit)
+}
+
+/// The same of the value of this node.
+#[cycle(descent)]
+#[inline(always)]
+fn put_at(
+    alloc: Global,
+    nodes: &[Node],
+    walk: &mut Walk<'_, '_>,
+    items: &mut Vec<Value>,
+    node: u32,
+    limit: u32,
+) -> Option<()>
+    ensures { IfSome result (λ _. Puts limit walk.old.rest.now walk.new.rest.now items.old.items items.new.items) }
+{
+    if node == NO_NODE {
+        return put_plain(alloc, walk, items);
+    }
+    put(items, value_at(alloc, nodes, walk, node, limit)?)
+}
+
+/// Puts a value behind these, where they have room.
+#[inline(always)]
+fn put(items: &mut Vec<Value>, value: Value) -> Option<()>
+    ensures { IfSome result (λ _. items.new.items ≡ items.old.items ++ value ∷ []) }
+{
+    if items.len() >= items.capacity() {
+        return None;
+    }
+    items.push_reserved(value);
+    Some(())
+}
+
 /// The value of this node.
 #[cycle(descent)]
 #[inline(always)]
@@ -195,15 +242,9 @@ fn parts_of(
     let Ok(mut items) = Vec::with_capacity(alloc, parts as usize) else {
         return None;
     };
-    let item = value_at(alloc, nodes, walk, first, limit)?;
-    let Ok(()) = items.push(item) else {
-        return None;
-    };
+    put_at(alloc, nodes, walk, &mut items, first, limit)?;
     for _ in 1..parts {
-        let item = next_value(alloc, nodes, walk, limit)?;
-        let Ok(()) = items.push(item) else {
-            return None;
-        };
+        put_next(alloc, nodes, walk, &mut items, limit)?;
     }
     Some(items)
 }
@@ -291,13 +332,10 @@ fn items_of(
     };
     for index in 0..parts {
         skip_index(walk, index)?;
-        let item = next_value(alloc, nodes, walk, limit)?;
+        put_next(alloc, nodes, walk, &mut items, limit)?;
         if walk.byte()? != b'P' {
             return None;
         }
-        let Ok(()) = items.push(item) else {
-            return None;
-        };
     }
     Some(items)
 }
@@ -319,19 +357,146 @@ fn pairs_of(
     };
     let mut keys = Keys::new();
     for _ in 0..parts {
-        let key = next_value(alloc, nodes, walk, limit)?;
-        if !is_new_key(alloc, &key, &pairs, &mut keys) {
-            return None;
-        }
-        let value = next_value(alloc, nodes, walk, limit)?;
-        if walk.byte()? != b'P' {
-            return None;
-        }
-        let Ok(()) = pairs.push((key, value)) else {
-            return None;
-        };
+        put_pair(alloc, nodes, walk, &mut pairs, &mut keys, limit)?;
     }
     Some(pairs)
+}
+
+/// Puts the pair that begins here behind these, where they have room.
+#[cycle(descent)]
+#[inline(always)]
+fn put_pair(
+    alloc: Global,
+    nodes: &[Node],
+    walk: &mut Walk<'_, '_>,
+    pairs: &mut Vec<(Value, Value)>,
+    keys: &mut Keys,
+    limit: u32,
+) -> Option<()>
+    requires { Knows keys.old (λ t. has_key t (pair_views pairs.old.items)) }
+    ensures pair { IfSome result (λ _. PutsPair limit walk.old.rest.now walk.new.rest.now pairs.old.items pairs.new.items) }
+    ensures known { IfSome result (λ _. Knows keys.new (λ t. has_key t (pair_views pairs.new.items))) }
+{
+    if let [b'N', ..] = walk.rest {
+        if keys.are_few(pairs.len()) {
+            put_named(alloc, nodes, walk, pairs, limit)?;
+            return Some(());
+        }
+    }
+    put_any_pair(alloc, nodes, walk, pairs, keys, limit)?;
+    Some(())
+}
+
+/// The same of any key.
+#[cycle(descent)]
+#[inline(never)]
+fn put_any_pair(
+    alloc: Global,
+    nodes: &[Node],
+    walk: &mut Walk<'_, '_>,
+    pairs: &mut Vec<(Value, Value)>,
+    keys: &mut Keys,
+    limit: u32,
+) -> Option<()>
+    requires { Knows keys.old (λ t. has_key t (pair_views pairs.old.items)) }
+    ensures pair { IfSome result (λ _. PutsPair limit walk.old.rest.now walk.new.rest.now pairs.old.items pairs.new.items) }
+    ensures known { IfSome result (λ _. Knows keys.new (λ t. has_key t (pair_views pairs.new.items))) }
+{
+    let key = next_value(alloc, nodes, walk, limit)?;
+    if !is_new_key(alloc, &key, pairs, keys) {
+        return None;
+    }
+    let value = next_value(alloc, nodes, walk, limit)?;
+    end_pair(walk)?;
+    put_two(pairs, key, value)?;
+    Some(())
+}
+
+/// The same of a key that is a text, which is compared with each key that stands.
+#[cycle(descent)]
+#[inline(always)]
+fn put_named(
+    alloc: Global,
+    nodes: &[Node],
+    walk: &mut Walk<'_, '_>,
+    pairs: &mut Vec<(Value, Value)>,
+    limit: u32,
+) -> Option<()>
+    ensures { IfSome result (λ _. PutsPair limit walk.old.rest.now walk.new.rest.now pairs.old.items pairs.new.items) }
+{
+    walk.head();
+    if walk.byte()? != b'N' {
+        return None;
+    }
+    let name = text(alloc, walk)?;
+    if is_text_key(&name, pairs) {
+        return None;
+    }
+    put_behind(alloc, nodes, walk, pairs, name, limit)?;
+    Some(())
+}
+
+/// Puts the value that begins here behind these pairs, with its key.
+#[cycle(descent)]
+#[inline(always)]
+fn put_behind(
+    alloc: Global,
+    nodes: &[Node],
+    walk: &mut Walk<'_, '_>,
+    pairs: &mut Vec<(Value, Value)>,
+    name: Text,
+    limit: u32,
+) -> Option<()>
+    ensures { IfSome result (λ _. (value : Value) × Begins limit walk.old.rest.now (80 ∷ walk.new.rest.now) (view value) × (pairs.new.items ≡ pairs.old.items ++ (Value.Text name, value) ∷ [])) }
+{
+    if let [b'F', ..] = walk.rest {
+        return put_int_behind(walk, pairs, name);
+    }
+    let value = next_value(alloc, nodes, walk, limit)?;
+    end_pair(walk)?;
+    put_two(pairs, Value::Text(name), value)
+}
+
+/// The same of an integer.
+#[inline(always)]
+fn put_int_behind(
+    walk: &mut Walk<'_, '_>,
+    pairs: &mut Vec<(Value, Value)>,
+    name: Text,
+) -> Option<()>
+    ensures { IfSome result (λ _. (value : Value) × BeginsLeaf walk.old.rest.now (80 ∷ walk.new.rest.now) (view value) × (pairs.new.items ≡ pairs.old.items ++ (Value.Text name, value) ∷ [])) }
+{
+    walk.head();
+    if walk.byte()? != b'F' {
+        return None;
+    }
+    let n = int(walk)?;
+    end_pair(walk)?;
+    put_two(pairs, Value::Text(name), Value::Int(n))
+}
+
+/// The end of a pair.
+#[inline(always)]
+fn end_pair(walk: &mut Walk<'_, '_>) -> Option<()>
+    ensures { IfSome result (λ _. walk.old.rest.now ≡ 80 ∷ walk.new.rest.now) }
+{
+    if walk.byte()? == b'P' {
+        Some(())
+    } else {
+        None
+    }
+}
+
+/// Puts a pair behind these, where they have room.
+#[inline(always)]
+fn put_two(pairs: &mut Vec<(Value, Value)>, key: Value, value: Value) -> Option<()>
+    ensures { IfSome result (λ _. pairs.new.items ≡ pairs.old.items ++ (key, value) ∷ []) }
+{
+    if pairs.len() >= pairs.capacity() {
+        return None;
+    }
+    pairs.push_reserved((key, value));
+    Some(())
 }
 
 /// Whether this is known to be a new key of a dict of these pairs. If so, it stands among the keys from now on.
@@ -368,61 +533,86 @@ pub(crate) fn skip_index(walk: &mut Walk<'_, '_>, index: u32) -> Option<()>
 }
 
 /// A value without parts.
-#[inline(always)]
+#[inline(never)]
 fn plain(alloc: Global, walk: &mut Walk<'_, '_>) -> Option<Value>
     ensures { IfSome result (λ v. BeginsLeaf walk.old.rest.now walk.new.rest.now (view v)) }
 {
     match walk.byte()? {
-        b'F' | b'G' => int(walk),
-        b'N' | b'S' => text(alloc, walk),
-        b'A' => bytes(alloc, walk),
+        b'F' | b'G' => Some(Value::Int(int(walk)?)),
+        b'N' | b'S' => Some(Value::Text(text(alloc, walk)?)),
+        b'A' => Some(Value::Bytes(bytes(alloc, walk)?)),
         b'L' => Some(Value::None),
         b'R' => Some(Value::Bool(true)),
         b'C' => Some(Value::Bool(false)),
-        b'H' | b'I' => long(walk),
+        b'H' | b'I' => Some(Value::Int(long(walk)?)),
         _ => None,
     }
 }
 
+/// Puts a value without parts behind these, where they have room.
+#[inline(always)]
+fn put_plain(alloc: Global, walk: &mut Walk<'_, '_>, items: &mut Vec<Value>) -> Option<()>
+    ensures { IfSome result (λ _. Puts 0 walk.old.rest.now walk.new.rest.now items.old.items items.new.items) }
+{
+    match walk.byte()? {
+        b'F' | b'G' => put(items, Value::Int(int(walk)?)),
+        b'N' | b'S' => put(items, Value::Text(text(alloc, walk)?)),
+        b'A' => put(items, Value::Bytes(bytes(alloc, walk)?)),
+        b'L' => put(items, Value::None),
+        b'R' => put(items, Value::Bool(true)),
+        b'C' => put(items, Value::Bool(false)),
+        b'H' | b'I' => put_long(walk, items),
+        _ => None,
+    }
+}
+
+/// Puts the integer whose digits stand behind its opcode behind these, where they have room.
+fn put_long(walk: &mut Walk<'_, '_>, items: &mut Vec<Value>) -> Option<()>
+    ensures { IfSome result (λ _. (opcode : ℕ) → (opcode ≡ 72) ⊎ (opcode ≡ 73) → Puts 0 (opcode ∷ walk.old.rest.now) walk.new.rest.now items.old.items items.new.items) }
+{
+    let n = long(walk)?;
+    put(items, Value::Int(n))
+}
+
 /// The integer behind its opcode.
 #[inline(always)]
-fn int(walk: &mut Walk<'_, '_>) -> Option<Value>
-    ensures { IfSome result (λ v. (opcode : ℕ) → (opcode ≡ 70) ⊎ (opcode ≡ 71) → BeginsLeaf (opcode ∷ walk.old.rest.now) walk.new.rest.now (view v)) }
+fn int(walk: &mut Walk<'_, '_>) -> Option<i128>
+    ensures { IfSome result (λ n. (opcode : ℕ) → (opcode ≡ 70) ⊎ (opcode ≡ 71) → BeginsLeaf (opcode ∷ walk.old.rest.now) walk.new.rest.now (int n)) }
 {
     let n = walk.number()?;
-    Some(Value::Int(n.cast_signed() as i128))
+    Some(n.cast_signed() as i128)
 }
 
 /// The text behind its opcode.
 #[inline(never)]
-fn text(alloc: Global, walk: &mut Walk<'_, '_>) -> Option<Value>
-    ensures { IfSome result (λ v. (opcode : ℕ) → (opcode ≡ 78) ⊎ (opcode ≡ 83) → BeginsLeaf (opcode ∷ walk.old.rest.now) walk.new.rest.now (view v)) }
+fn text(alloc: Global, walk: &mut Walk<'_, '_>) -> Option<Text>
+    ensures { IfSome result (λ t. (opcode : ℕ) → (opcode ≡ 78) ⊎ (opcode ≡ 83) → BeginsLeaf (opcode ∷ walk.old.rest.now) walk.new.rest.now (text t)) }
 {
     let bytes = walk.chunk()?;
     let words = text_of(bytes)?;
-    let Ok(text) = Text::of(alloc, words) else {
-        return None;
-    };
-    Some(Value::Text(text))
+    match Text::of(alloc, words) {
+        Ok(text) => Some(text),
+        Err(_) => None,
+    }
 }
 
 /// The bytes behind their opcode.
 #[inline(never)]
-fn bytes(alloc: Global, walk: &mut Walk<'_, '_>) -> Option<Value>
-    ensures { IfSome result (λ v. BeginsLeaf (65 ∷ walk.old.rest.now) walk.new.rest.now (view v)) }
+fn bytes(alloc: Global, walk: &mut Walk<'_, '_>) -> Option<Blob>
+    ensures { IfSome result (λ b. BeginsLeaf (65 ∷ walk.old.rest.now) walk.new.rest.now (bytes b)) }
 {
     let bytes = walk.chunk()?;
-    let Ok(bytes) = Blob::of(alloc, bytes) else {
-        return None;
-    };
-    Some(Value::Bytes(bytes))
+    match Blob::of(alloc, bytes) {
+        Ok(bytes) => Some(bytes),
+        Err(_) => None,
+    }
 }
 
 /// The integer whose digits stand behind its opcode.
 #[inline(never)]
-fn long(walk: &mut Walk<'_, '_>) -> Option<Value>
-    ensures { IfSome result (λ v. (opcode : ℕ) → (opcode ≡ 72) ⊎ (opcode ≡ 73) → BeginsLeaf (opcode ∷ walk.old.rest.now) walk.new.rest.now (view v)) }
+fn long(walk: &mut Walk<'_, '_>) -> Option<i128>
+    ensures { IfSome result (λ n. (opcode : ℕ) → (opcode ≡ 72) ⊎ (opcode ≡ 73) → BeginsLeaf (opcode ∷ walk.old.rest.now) walk.new.rest.now (int n)) }
 {
     let n = long_value(walk.chunk()?)?;
-    Some(Value::Int(n))
+    Some(n)
 }

@@ -105,6 +105,14 @@ impl Keys {
         Keys { seen: None }
     }
 
+    /// Whether so many keys stand that they are compared with a new one directly. Then nothing is kept of them.
+    #[inline(always)]
+    pub(crate) fn are_few(&self, count: usize) -> bool
+        ensures { result ≡ true → (p : Tree → Bool) → Knows self.now p }
+    {
+        self.seen.is_none() && count < FEW
+    }
+
     /// Whether the item stands among the others, all of which are known if any is.
     pub(crate) fn repeats(
         &mut self,
@@ -116,7 +124,7 @@ impl Keys {
         ensures answer { IfOk result (λ b. b ≡ has (view item.now) (views others.now)) }
         ensures known { OnOk result (Knows self.new (λ t. same t (view item.now) || has t (views others.now))) }
     {
-        if self.seen.is_none() && others.len() < FEW {
+        if self.are_few(others.len()) {
             return Ok(is_among(item, others));
         }
         self.repeats_among_many(alloc, item, others)
@@ -150,7 +158,7 @@ impl Keys {
         ensures answer { IfOk result (λ b. b ≡ has_key (view key.now) (pair_views pairs.now)) }
         ensures known { OnOk result (Knows self.new (λ t. same t (view key.now) || has_key t (pair_views pairs.now))) }
     {
-        if self.seen.is_none() && pairs.len() < FEW {
+        if self.are_few(pairs.len()) {
             return Ok(is_key(key, pairs));
         }
         self.repeats_key_of_many(alloc, key, pairs)

@@ -1,14 +1,14 @@
-use Rattle.std.proofs.Common.{◌≡◌, ◌∷◌, ℕ, suc, List, sym, ap, subst, ◌∙◌, arith}
-use Rattle.xd_value.specs.Tree.{Trees, Pairs, count, has_key}
+use Rattle.std.proofs.Common.{◌≡◌, [], ◌∷◌, ℕ, suc, List, length, length-append, inl, sym, ap, subst, refl, ◌∙◌, arith}
+use Rattle.xd_value.specs.Tree.{Tree, Trees, Pairs, text, count, hashable, has_key}
 use Rattle.xd_value.specs.Keys.{Knows}
 use Rattle.xd_value.specs.Spelling.{IsNewKey}
 use Rattle.xd_value.specs.View.{view, views, pair_views}
-use Rattle.xd_value.specs.Walk.{BeginParts, BeginItems, BeginPairs}
+use Rattle.xd_value.specs.Walk.{Begins, BeginParts, BeginItems, BeginPairs}
 use Rattle.xd_value.proofs.Along.{begins_is, deeper, list_value, dict_value, parts_more, items_more, pairs_more}
 use Rattle.xd_value.proofs.Cells.{views_push, count_views, pair_views_push}
 use Rattle.xd_value.proofs.KeyLemmas.{snoc_known, known_or_along}
-use Rattle.xd_value.proofs.Walks.{view-List, view-Dict}
-use Rattle.xd_value.specs.declared.value.Value.{Value}
+use Rattle.xd_value.proofs.Walks.{view-Text, view-List, view-Dict}
+use Rattle.xd_value.specs.declared.value.Value.{Value, Text as TextV}
 use Rattle.xd_value.proofs.descent.+descent.Goals as goal
 
 pub filled-returns-in_ok-items-in-75 : goal.filled-returns-in_ok-items-in-75
@@ -29,29 +29,51 @@ filled-returns-in_ok-pairs-in-74 t c =
 
 pub parts_of-loop-preserved : goal.parts_of-loop-preserved
 parts_of-loop-preserved t c =
-    subst (λ (ts : Trees). BeginParts c.args.limit c.args.walk.now.rest.now c.next_value.new.walk.rest.now ts) (sym (ap views c.in-Ok-push-2.ensures.items ∙ views_push c.loop.items.items c.in_ok-item-2.item))
-    (parts_more c.args.limit c.args.walk.now.rest.now c.loop.walk.rest.now c.next_value.new.walk.rest.now (views c.loop.items.items) (view c.in_ok-item-2.item) c.loop.invariant c.in_ok-item-2.ensures)
+    let p = c.in_ok-put_next.ensures in
+    subst (λ (ts : Trees). BeginParts c.args.limit c.args.walk.now.rest.now c.put_next.new.walk.rest.now ts) (sym (ap views p.put ∙ views_push c.loop.items.items p.value))
+    (parts_more c.args.limit c.args.walk.now.rest.now c.loop.walk.rest.now c.put_next.new.walk.rest.now (views c.loop.items.items) (view p.value) c.loop.invariant p.begins)
 
 pub items_of-loop-index-preserved : goal.items_of-loop-index-preserved
 items_of-loop-index-preserved t c =
     let counted : c.loop-index.index ≡ count (views c.loop-index.items.items) = omega (arith, c.loop-index.invariant.length, count_views c.loop-index.items.items) in
     let end = c.in_ok-byte.ensures ∙ ap (λ (o : ℕ). o ∷ c.byte.new.self.rest.now) c.if-branch-ne80.false in
+    let p = c.in_ok-put_next.ensures in
     record {
-      read = subst (λ (ts : Trees). BeginItems c.args.limit c.args.walk.now.rest.now c.byte.new.self.rest.now ts) (sym (ap views c.in-Ok-push.ensures.items ∙ views_push c.loop-index.items.items c.in_ok-item.item))
-          (items_more c.args.limit c.loop-index.index c.args.walk.now.rest.now c.loop-index.walk.rest.now c.skip_index.new.walk.rest.now c.next_value.new.walk.rest.now c.byte.new.self.rest.now (views c.loop-index.items.items) (view c.in_ok-item.item) c.loop-index.invariant.read counted c.in_ok-skip_index.ensures c.in_ok-item.ensures end);
-      length = grind (arith, c.in-Ok-push.ensures.items, c.loop-index.invariant.length);
+      read = subst (λ (ts : Trees). BeginItems c.args.limit c.args.walk.now.rest.now c.byte.new.self.rest.now ts) (sym (ap views p.put ∙ views_push c.loop-index.items.items p.value))
+          (items_more c.args.limit c.loop-index.index c.args.walk.now.rest.now c.loop-index.walk.rest.now c.skip_index.new.walk.rest.now c.put_next.new.walk.rest.now c.byte.new.self.rest.now (views c.loop-index.items.items) (view p.value) c.loop-index.invariant.read counted c.in_ok-skip_index.ensures p.begins end);
+      length = omega (arith, ap length p.put, length-append c.loop-index.items.items (p.value ∷ []), c.loop-index.invariant.length);
     }
 
 pub pairs_of-loop-preserved : goal.pairs_of-loop-preserved
 pairs_of-loop-preserved t c =
-    let key = view c.in_ok-key.key in
-    let value = view c.in_ok-value.value in
-    let grown = ap pair_views c.in-Ok-push.ensures.items ∙ pair_views_push c.loop.pairs.items c.in_ok-key.key c.in_ok-value.value in
-    let new = subst (λ (ps : List (Value × Value)). IsNewKey (pair_views ps) key) c.deref.ensures.value (c.is_new_key.ensures.new c.if-not-is_new_key.false) in
-    let end = c.in_ok-byte.ensures ∙ ap (λ (o : ℕ). o ∷ c.byte.new.self.rest.now) c.if-branch-ne80.false in
+    let p = c.in_ok-put_pair.ensures.pair in
     record {
-      read = subst (λ (ps : Pairs). BeginPairs c.args.limit c.args.walk.now.rest.now c.byte.new.self.rest.now ps) (sym grown)
-          (pairs_more c.args.limit c.args.walk.now.rest.now c.loop.walk.rest.now c.next_value.new.walk.rest.now c.next_value-in-loop.new.walk.rest.now c.byte.new.self.rest.now (pair_views c.loop.pairs.items) key value c.loop.invariant.read c.in_ok-key.ensures new c.in_ok-value.ensures end);
-      known = subst (λ (ps : Pairs). Knows c.is_new_key.new.keys (λ t. has_key t ps)) (sym grown)
-          (snoc_known c.is_new_key.new.keys (pair_views c.loop.pairs.items) key value (known_or_along c.is_new_key.new.keys key c.loop.pairs.items c.deref.result.now c.deref.ensures.value (c.is_new_key.ensures.known c.if-not-is_new_key.false)));
+      read = subst (λ (ps : Pairs). BeginPairs c.args.limit c.args.walk.now.rest.now c.put_pair.new.walk.rest.now ps) (sym (ap pair_views p.put ∙ pair_views_push c.loop.pairs.items p.key p.value))
+          (pairs_more c.args.limit c.args.walk.now.rest.now c.loop.walk.rest.now p.middle (80 ∷ c.put_pair.new.walk.rest.now) c.put_pair.new.walk.rest.now (pair_views c.loop.pairs.items) (view p.key) (view p.value) c.loop.invariant.read p.begins p.new p.follows refl);
+      known = c.in_ok-put_pair.ensures.known;
+    }
+
+pub put_any_pair-returns-clause-known : goal.put_any_pair-returns-clause-known
+put_any_pair-returns-clause-known t c =
+    let key = c.in_ok-key.key in
+    let value = c.in_ok-value.value in
+    subst (λ (ps : Pairs). Knows c.is_new_key.new.keys (λ t. has_key t ps)) (sym (ap pair_views c.in_ok-put_two.ensures ∙ pair_views_push c.args.pairs.now.items key value))
+    (snoc_known c.is_new_key.new.keys (pair_views c.args.pairs.now.items) (view key) (view value) (known_or_along c.is_new_key.new.keys (view key) c.args.pairs.now.items c.deref.result.now c.deref.ensures.value (c.is_new_key.ensures.known c.if-not-is_new_key.false)))
+
+pub put_named-returns : goal.put_named-returns
+put_named-returns t c =
+    let start = sym c.head.ensures ∙ c.in_ok-byte.ensures ∙ ap (λ (o : ℕ). o ∷ c.byte.new.self.rest.now) c.if-branch-ne78.false in
+    let read = subst (λ (b : List ℕ). Begins 0 b c.text.new.walk.rest.now (text c.in_ok-name.name)) (sym start) (c.in_ok-name.ensures 78 (inl refl)) in
+    let name = c.in_ok-name.name in
+    let pairs = c.args.pairs.now.items in
+    let new = ap (λ (k : Tree). has_key k (pair_views pairs)) (view-Text name) ∙ ap (λ (ps : List (Value × Value)). has_key (text name) (pair_views ps)) (sym c.deref.ensures.value) ∙ sym c.is_text_key.ensures ∙ c.if-is_text_key.false in
+    let p = c.in_ok-put_behind.ensures in
+    record {
+      key = TextV name;
+      value = p.0;
+      middle = c.text.new.walk.rest.now;
+      begins = begins_is c.args.limit _ _ _ _ (sym (view-Text name)) (deeper 0 c.args.limit _ _ _ (omega arith) read);
+      new = record { hashable_key = ap hashable (view-Text name); fresh = new };
+      follows = p.1;
+      put = p.2;
     }

@@ -6,25 +6,43 @@ use Rattle.xd_value.specs.Walk.{BeginParts, BeginItems, BeginPairs}
 use Rattle.xd_value.proofs.descent.+descent.Given as goal
 
 abbrev pub decreases-built : goal.decreases-built
-decreases-built l = 4 * l.limit
+decreases-built l = 8 * l.limit
 
 abbrev pub decreases-filled : goal.decreases-filled
-decreases-filled l = 4 * l.limit
+decreases-filled l = 8 * l.limit
 
 abbrev pub decreases-items_of : goal.decreases-items_of
-decreases-items_of l = 4 * l.limit + 3
+decreases-items_of l = 8 * l.limit + 7
 
 abbrev pub decreases-next_value : goal.decreases-next_value
-decreases-next_value l = 4 * l.limit + 2
+decreases-next_value l = 8 * l.limit + 2
 
 abbrev pub decreases-pairs_of : goal.decreases-pairs_of
-decreases-pairs_of l = 4 * l.limit + 3
+decreases-pairs_of l = 8 * l.limit + 7
 
 abbrev pub decreases-parts_of : goal.decreases-parts_of
-decreases-parts_of l = 4 * l.limit + 3
+decreases-parts_of l = 8 * l.limit + 7
+
+abbrev pub decreases-put_any_pair : goal.decreases-put_any_pair
+decreases-put_any_pair l = 8 * l.limit + 3
+
+abbrev pub decreases-put_at : goal.decreases-put_at
+decreases-put_at l = 8 * l.limit + 3
+
+abbrev pub decreases-put_behind : goal.decreases-put_behind
+decreases-put_behind l = 8 * l.limit + 4
+
+abbrev pub decreases-put_named : goal.decreases-put_named
+decreases-put_named l = 8 * l.limit + 5
+
+abbrev pub decreases-put_next : goal.decreases-put_next
+decreases-put_next l = 8 * l.limit + 4
+
+abbrev pub decreases-put_pair : goal.decreases-put_pair
+decreases-put_pair l = 8 * l.limit + 6
 
 abbrev pub decreases-value_at : goal.decreases-value_at
-decreases-value_at l = 4 * l.limit + 1
+decreases-value_at l = 8 * l.limit + 1
 
 abbrev pub invariant-items_of-loop-index : goal.invariant-items_of-loop-index
 invariant-items_of-loop-index l =

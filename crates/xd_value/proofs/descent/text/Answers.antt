@@ -1,11 +1,11 @@
-use Rattle.std.proofs.Common.{ap, sym, ◌∙◌}
+use Rattle.std.proofs.Common.{ap, subst, sym, ◌∙◌, ℕ, List}
 use Rattle.std.specs.Str.{chars}
 use Rattle.xd_value.specs.Tree.{text}
+use Rattle.xd_value.specs.Walk.{BeginsLeaf}
 use Rattle.xd_value.proofs.Along.{begins_is, begins_text}
-use Rattle.xd_value.proofs.Walks.{view-Text}
 use Rattle.xd_value.proofs.descent.text.Goals as goal
 
-pub returns : goal.returns
-returns c opcode is =
-    let same = ap text (ap chars (sym c.in_ok-words.ensures.0) ∙ sym c.in-Ok.ensures) ∙ sym (view-Text c.in-Ok.text) in
+pub returns-in-Ok : goal.returns-in-Ok
+returns-in-Ok c opcode is =
+    let same = ap text (ap chars (sym c.in_ok-words.ensures.0) ∙ sym c.in-Ok.ensures) in
     begins_is 0 _ _ _ _ same (begins_text opcode c.in_ok-bytes.bytes.now c.args.walk.now.rest.now c.chunk.new.self.rest.now is c.in_ok-bytes.ensures.fits c.in_ok-words.ensures.1 c.in_ok-bytes.ensures.spelled)
