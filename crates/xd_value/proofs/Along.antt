@@ -7,8 +7,8 @@ use Rattle.xd_value.specs.Tree.{Tree, Trees, Pairs, int, bytes, text, list, tupl
 use Rattle.xd_value.specs.Reading.{number_at, length_at, chunk_at, long_value, snoc, snoc_pair}
 use Rattle.xd_value.specs.Spelling.{Spelled, PartsSpelled, IsNewKey, IsSet, chunk}
 use Rattle.xd_value.specs.Payload.{IsPayload}
-use Rattle.xd_value.specs.Walk.{Begins, BeginsLeaf, BeginParts, BeginItems, BeginPairs, BeginsIndex, Closes, Puts, PutsPair}
-use Rattle.xd_value.specs.View.{view, views, pair_views}
+use Rattle.xd_value.specs.Walk.{Begins, BeginsLeaf, BeginParts, BeginItems, BeginPairs, BeginsIndex, Closes, Puts}
+use Rattle.xd_value.specs.View.{view}
 use Rattle.xd_value.specs.declared.value.Value.{Value}
 use Rattle.xd_value.proofs.Numbers.{IsBytes, number_takes, length_takes, chunk_takes}
 use Rattle.xd_value.proofs.SoundLeaf.{spells_int, spells_text}

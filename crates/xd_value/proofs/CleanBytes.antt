@@ -1,6 +1,6 @@
 -- Bytes of which none is special are ASCII, and stand in a text as they are.
 use Rattle.std.proofs.Common.{◌≡◌, ℕ, ◌∙◌, sym, ap, ap₂, true, false, Bool, refl, List, [], ◌∷◌, ◌++◌, arith}
-use Rattle.std.specs.Prelude.{◌||◌}
+use Rattle.std.specs.Prelude.{◌||◌, nat_lt}
 use Rattle.std.specs.List.{list_all, list_any}
 use Rattle.std.specs.Char.{is_ascii}
 use Rattle.std.specs.Str.{IsUtf8, chars}
@@ -13,6 +13,9 @@ use Rattle.xd_value.proofs.Prints.{is_ascii_all}
 
 byte_ascii : (b : ℕ) → special b ≡ false → is_ascii b ≡ true
 byte_ascii b h = grind (arith, nat_tests)
+
+narrow_byte : (b : ℕ) → nat_lt 127 b ≡ false → is_ascii b ≡ true
+narrow_byte b h = grind (arith, nat_tests)
 
 byte_escaped : (b : ℕ) → special b ≡ false → escaped b ≡ b ∷ []
 byte_escaped b h = grind (arith, nat_tests)
@@ -39,3 +42,13 @@ clean_utf8 bs h = IsUtf8-from_ascii bs (is_ascii_all bs (clean_ascii bs h))
 -- what has no special byte is printed as it is
 pub clean_shown : (bs : List ℕ) → list_any special bs ≡ false → bs ≡ escapes (chars bs)
 clean_shown bs h = sym (clean_escapes bs h) ∙ ap escapes (sym (chars-IsAscii bs (is_ascii_all bs (clean_ascii bs h))))
+
+narrow_ascii : (bs : List ℕ) → list_any (nat_lt 127) bs ≡ false → list_all is_ascii bs ≡ true
+narrow_ascii [] h = refl
+narrow_ascii (b ∷ bs) h =
+    let parts = neither (nat_lt 127 b) (list_any (nat_lt 127) bs) h in
+    and_from (is_ascii b) (list_all is_ascii bs) (narrow_byte b parts.0) (narrow_ascii bs parts.1)
+
+-- what has no byte beyond ASCII is UTF-8
+pub narrow_utf8 : (bs : List ℕ) → list_any (nat_lt 127) bs ≡ false → IsUtf8 bs
+narrow_utf8 bs h = IsUtf8-from_ascii bs (is_ascii_all bs (narrow_ascii bs h))

@@ -75,38 +75,51 @@ fn each_of(
     let mut alike = false;
     for index in 0..parts {
         skip_index(walk, index)?;
-        let item = item(alloc, shape, &mut alike, walk)?;
+        put_item(alloc, shape, &mut alike, walk, &mut items)?;
         if walk.byte()? != b'P' {
             return None;
         }
-        let Ok(()) = items.push(item) else {
-            return None;
-        };
     }
     Some(items)
 }
 
-/// The item of a list that begins here. The items of a list are often alike, so each is tried along the shape of the one before
-/// it, but not behind one for which that was in vain.
-fn item(
+/// Puts the item of a list that begins here behind these. The items of a list are often alike, so each is tried along the shape
+/// of the one before it, but not behind one for which that was in vain.
+fn put_item(
     alloc: Global,
     shape: &mut Shape,
     alike: &mut bool,
     walk: &mut Walk<'_, '_>,
-) -> Option<Value>
-    ensures { IfSome result (λ v. Begins 63 walk.old.rest.now walk.new.rest.now (view v)) }
+    items: &mut Vec<Value>,
+) -> Option<()>
+    ensures { IfSome result (λ _. Puts 63 walk.old.rest.now walk.new.rest.now items.old.items items.new.items) }
 {
     if is_plain_alone(walk.rest) {
-        return plain(alloc, walk);
+        return put_plain(alloc, walk, items);
     }
-    if *alike {
-        if let Some(value) = along(alloc, shape, walk, 63) {
-            return Some(value);
-        }
+    if *alike && put_along(alloc, shape, walk, items).is_some() {
+        return Some(());
     }
     *alike = !*alike;
     shape.find(walk.rest)?;
-    along(alloc, shape, walk, 63)
+    put_along(alloc, shape, walk, items)
+}
+
+/// The same along this shape. Where there is nothing, the walk and the items stay as they are.
+fn put_along(
+    alloc: Global,
+    shape: &Shape,
+    walk: &mut Walk<'_, '_>,
+    items: &mut Vec<Value>,
+) -> Option<()>
+    ensures puts { IfSome result (λ _. Puts 63 walk.old.rest.now walk.new.rest.now items.old.items items.new.items) }
+    ensures stays { IsNone result → walk.new.rest.now ≡ walk.old.rest.now }
+    ensures kept { IsNone result → items.new.items ≡ items.old.items }
+{
+    let mut item = Walk::new(walk.rest, &shape.heads);
+    put_next(alloc, &shape.nodes, &mut item, items, 63)?;
+    walk.rest = item.rest;
+    Some(())
 }
 
 /// The value that begins here, along a shape of its own.
@@ -114,14 +127,6 @@ fn alone(alloc: Global, shape: &mut Shape, walk: &mut Walk<'_, '_>, limit: u32) 
     ensures { IfSome result (λ v. Begins limit walk.old.rest.now walk.new.rest.now (view v)) }
 {
     shape.find(walk.rest)?;
-    along(alloc, shape, walk, limit)
-}
-
-/// The value that begins here, along this shape. Where there is none, the walk stays where it is.
-fn along(alloc: Global, shape: &Shape, walk: &mut Walk<'_, '_>, limit: u32) -> Option<Value>
-    ensures value { IfSome result (λ v. Begins limit walk.old.rest.now walk.new.rest.now (view v)) }
-    ensures stays { IsNone result → walk.new.rest.now ≡ walk.old.rest.now }
-{
     let mut along = Walk::new(walk.rest, &shape.heads);
     let value = next_value(alloc, &shape.nodes, &mut along, limit)?;
     walk.rest = along.rest;
@@ -153,7 +158,8 @@ fn put_next(
     items: &mut Vec<Value>,
     limit: u32,
 ) -> Option<()>
-    ensures { IfSome result (λ _. Puts limit walk.old.rest.now walk.new.rest.now items.old.items items.new.items) }
+    ensures puts { IfSome result (λ _. Puts limit walk.old.rest.now walk.new.rest.now items.old.items items.new.items) }
+    ensures kept { IsNone result → items.new.items ≡ items.old.items }
 {
     let head = walk.head();
     put_at(alloc, nodes, walk, items, head, limit)
@@ -170,7 +176,8 @@ fn put_at(
     node: u32,
     limit: u32,
 ) -> Option<()>
-    ensures { IfSome result (λ _. Puts limit walk.old.rest.now walk.new.rest.now items.old.items items.new.items) }
+    ensures puts { IfSome result (λ _. Puts limit walk.old.rest.now walk.new.rest.now items.old.items items.new.items) }
+    ensures kept { IsNone result → items.new.items ≡ items.old.items }
 {
     if node == NO_NODE {
         return put_plain(alloc, walk, items);
@@ -181,7 +188,8 @@ fn put_at(
 /// Puts a value behind these, where they have room.
 #[inline(always)]
 fn put(items: &mut Vec<Value>, value: Value) -> Option<()>
-    ensures { IfSome result (λ _. items.new.items ≡ items.old.items ++ value ∷ []) }
+    ensures puts { IfSome result (λ _. items.new.items ≡ items.old.items ++ value ∷ []) }
+    ensures kept { IsNone result → items.new.items ≡ items.old.items }
 {
     if items.len() >= items.capacity() {
         return None;
@@ -480,11 +488,7 @@ fn put_int_behind(
 fn end_pair(walk: &mut Walk<'_, '_>) -> Option<()>
     ensures { IfSome result (λ _. walk.old.rest.now ≡ 80 ∷ walk.new.rest.now) }
 {
-    if walk.byte()? == b'P' {
-        Some(())
-    } else {
-        None
-    }
+    if walk.byte()? == b'P' { Some(()) } else { None }
 }
 
 /// Puts a pair behind these, where they have room.
@@ -552,7 +556,8 @@ fn plain(alloc: Global, walk: &mut Walk<'_, '_>) -> Option<Value>
 /// Puts a value without parts behind these, where they have room.
 #[inline(always)]
 fn put_plain(alloc: Global, walk: &mut Walk<'_, '_>, items: &mut Vec<Value>) -> Option<()>
-    ensures { IfSome result (λ _. Puts 0 walk.old.rest.now walk.new.rest.now items.old.items items.new.items) }
+    ensures puts { IfSome result (λ _. Puts 0 walk.old.rest.now walk.new.rest.now items.old.items items.new.items) }
+    ensures kept { IsNone result → items.new.items ≡ items.old.items }
 {
     match walk.byte()? {
         b'F' | b'G' => put(items, Value::Int(int(walk)?)),
@@ -568,7 +573,8 @@ fn put_plain(alloc: Global, walk: &mut Walk<'_, '_>, items: &mut Vec<Value>) -> 
 
 /// Puts the integer whose digits stand behind its opcode behind these, where they have room.
 fn put_long(walk: &mut Walk<'_, '_>, items: &mut Vec<Value>) -> Option<()>
-    ensures { IfSome result (λ _. (opcode : ℕ) → (opcode ≡ 72) ⊎ (opcode ≡ 73) → Puts 0 (opcode ∷ walk.old.rest.now) walk.new.rest.now items.old.items items.new.items) }
+    ensures puts { IfSome result (λ _. (opcode : ℕ) → (opcode ≡ 72) ⊎ (opcode ≡ 73) → Puts 0 (opcode ∷ walk.old.rest.now) walk.new.rest.now items.old.items items.new.items) }
+    ensures kept { IsNone result → items.new.items ≡ items.old.items }
 {
     let n = long(walk)?;
     put(items, Value::Int(n))

@@ -1,7 +1,6 @@
 use Rattle.std.proofs.Common.{◌≡◌, [], ◌∷◌, ℕ, suc, List, length, length-append, inl, sym, ap, subst, refl, ◌∙◌, arith}
 use Rattle.xd_value.specs.Tree.{Tree, Trees, Pairs, text, count, hashable, has_key}
 use Rattle.xd_value.specs.Keys.{Knows}
-use Rattle.xd_value.specs.Spelling.{IsNewKey}
 use Rattle.xd_value.specs.View.{view, views, pair_views}
 use Rattle.xd_value.specs.Walk.{Begins, BeginParts, BeginItems, BeginPairs}
 use Rattle.xd_value.proofs.Along.{begins_is, deeper, list_value, dict_value, parts_more, items_more, pairs_more}
@@ -29,7 +28,7 @@ filled-returns-in_ok-pairs-in-74 t c =
 
 pub parts_of-loop-preserved : goal.parts_of-loop-preserved
 parts_of-loop-preserved t c =
-    let p = c.in_ok-put_next.ensures in
+    let p = c.in_ok-put_next.ensures.puts in
     subst (λ (ts : Trees). BeginParts c.args.limit c.args.walk.now.rest.now c.put_next.new.walk.rest.now ts) (sym (ap views p.put ∙ views_push c.loop.items.items p.value))
     (parts_more c.args.limit c.args.walk.now.rest.now c.loop.walk.rest.now c.put_next.new.walk.rest.now (views c.loop.items.items) (view p.value) c.loop.invariant p.begins)
 
@@ -37,7 +36,7 @@ pub items_of-loop-index-preserved : goal.items_of-loop-index-preserved
 items_of-loop-index-preserved t c =
     let counted : c.loop-index.index ≡ count (views c.loop-index.items.items) = omega (arith, c.loop-index.invariant.length, count_views c.loop-index.items.items) in
     let end = c.in_ok-byte.ensures ∙ ap (λ (o : ℕ). o ∷ c.byte.new.self.rest.now) c.if-branch-ne80.false in
-    let p = c.in_ok-put_next.ensures in
+    let p = c.in_ok-put_next.ensures.puts in
     record {
       read = subst (λ (ts : Trees). BeginItems c.args.limit c.args.walk.now.rest.now c.byte.new.self.rest.now ts) (sym (ap views p.put ∙ views_push c.loop-index.items.items p.value))
           (items_more c.args.limit c.loop-index.index c.args.walk.now.rest.now c.loop-index.walk.rest.now c.skip_index.new.walk.rest.now c.put_next.new.walk.rest.now c.byte.new.self.rest.now (views c.loop-index.items.items) (view p.value) c.loop-index.invariant.read counted c.in_ok-skip_index.ensures p.begins end);

@@ -1,7 +1,6 @@
-use Rattle.std.proofs.Common.{ap, subst, sym, ◌∙◌, ℕ, List}
+use Rattle.std.proofs.Common.{ap, sym, ◌∙◌}
 use Rattle.std.specs.Str.{chars}
 use Rattle.xd_value.specs.Tree.{text}
-use Rattle.xd_value.specs.Walk.{BeginsLeaf}
 use Rattle.xd_value.proofs.Along.{begins_is, begins_text}
 use Rattle.xd_value.proofs.descent.text.Goals as goal
 

@@ -1,4 +1,4 @@
-use Rattle.std.proofs.Common.{◌≡◌, ◌∷◌, ℕ, List, sym, ap, subst, ◌∙◌}
+use Rattle.std.proofs.Common.{◌∷◌, ℕ, List, sym, ap, subst, ◌∙◌}
 use Rattle.xd_value.specs.Telling.{Tells}
 use Rattle.xd_value.proofs.Tellings.{told_list}
 use Rattle.xd_value.proofs.telling.tell_by_items.Goals as goal

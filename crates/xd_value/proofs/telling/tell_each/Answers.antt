@@ -1,4 +1,4 @@
-use Rattle.std.proofs.Common.{◌≡◌, ◌∷◌, ℕ, ap, ◌∙◌}
+use Rattle.std.proofs.Common.{◌∷◌, ℕ, ap, ◌∙◌}
 use Rattle.xd_value.proofs.Tellings.{no_items_told, one_more_item}
 use Rattle.xd_value.proofs.telling.tell_each.Goals as goal
 
