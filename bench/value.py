@@ -10,11 +10,10 @@ ratio to it says about how much is left to gain.
 
 All sides are measured alike: each run is a process of its own that first reads the payload from a file, and then times one
 call of loads and one call of dumps of what it gave; neither the start of the process, nor the reading of the file, nor the
-end of the value counts. The runs alternate, and the best of each side counts. The mixed values are also read again and again
-in one process; the rows with `again` tell the best of those readings behind the first. Between two readings the C library
-may give the memory of a value back to the system, and get it page by page again; the rows that say that memory is kept tell
-of processes in which it is asked not to. The rows with large pages tell of processes in which the C library asks the system
-for them.
+end of the value counts. The runs alternate, and the best of each side counts. The mixed values are read again and again in
+one process, as a process does that lives longer than for one value: the best of those readings behind the first counts, on
+each side. What the first value of a process takes stands in rows of its own, since most of that is the system's, which hands
+out the memory page by page. The rows with large pages tell of processes in which the C library asks the system for them.
 """
 
 import os
@@ -26,7 +25,7 @@ import tempfile
 
 import shared
 
-PROGRAM = """//! Reads a payload from the file that the first argument names, and writes its value again.
+PROGRAM = """//! Reads each payload from a file that an argument names, and writes its value again.
 #![tactic(auto)]
 
 use std::time::Instant;
@@ -35,23 +34,28 @@ use xd_value::{dumps, loads};
 
 fn main(rt: HostRuntime) -> io::Result<()> {
     let alloc = rt.alloc();
+    // The microseconds of each reading and writing, which are printed at the end.
+    let mut took = Vec::new(alloc);
     for path in env::args(&rt)?.skip(1) {
         let bytes = fs::read(&rt, path.as_str())?;
         let begun = Instant::now(&rt)?;
         let read = loads(alloc, &bytes);
-        let took = begun.elapsed(&rt)?.as_micros();
-        match read {
-            Ok(value) => {
-                println!(rt; "loads {took}")?;
-                let begun = Instant::now(&rt)?;
-                let written = dumps(alloc, &value);
-                let took = begun.elapsed(&rt)?.as_micros();
-                match written {
-                    Ok(_) => println!(rt; "dumps {took}")?,
-                    Err(_) => println!(rt; "dumps refused")?,
-                }
-            }
-            Err(_) => println!(rt; "loads refused {took}")?,
+        let reading = begun.elapsed(&rt)?.as_micros();
+        let Ok(value) = read else {
+            println!(rt; "loads refused")?;
+            continue;
+        };
+        let begun = Instant::now(&rt)?;
+        let written = dumps(alloc, &value);
+        let writing = begun.elapsed(&rt)?.as_micros();
+        took.push((reading, written.is_ok(), writing))?;
+    }
+    for (reading, is_written, writing) in took {
+        println!(rt; "loads {reading}")?;
+        if is_written {
+            println!(rt; "dumps {writing}")?;
+        } else {
+            println!(rt; "dumps refused")?;
         }
     }
     let status = fs::read_to_string(&rt, "/proc/self/status")?;
@@ -252,9 +256,8 @@ def nested(depth):
     return (b"K" + number(1) + integer(0)) * (depth - 1) + b"K" + number(0) + b"P" * (depth - 1) + b"Q"
 
 
-# What the C library is asked for: large pages, and to keep memory that was given back.
+# What the C library is asked for, for large pages.
 LARGE_PAGES = "glibc.malloc.hugetlb=1"
-KEPT = "glibc.malloc.trim_threshold=1000000000:glibc.malloc.mmap_threshold=1000000000"
 
 
 def asking(words):
@@ -308,7 +311,7 @@ AGAIN = 6
 
 def measure(_):
     took, peaks, sizes, compared, bare = {}, {}, {}, [], []
-    again = {"loads": [], "execnet": [], "c": [], "kept": [], "kept in c": []}
+    again = {"loads": [], "execnet": [], "c": []}
     large = {"loads": [], "c": []}
     python = shared.python_with("execnet")
     with tempfile.TemporaryDirectory() as folder:
@@ -326,7 +329,6 @@ def measure(_):
                 if name != MIXED:
                     continue
                 again["loads"] += ours(program, [path] * AGAIN)[0][1:]
-                again["kept"] += ours(program, [path] * AGAIN, KEPT)[0][1:]
                 large["loads"] += ours(program, [path], LARGE_PAGES)[0]
                 if python is not None:
                     loads, dumps = theirs(python, [path])
@@ -335,7 +337,6 @@ def measure(_):
                 if same is not None:
                     bare += in_c(same, [path])
                     again["c"] += in_c(same, [path] * AGAIN)[1:]
-                    again["kept in c"] += in_c(same, [path] * AGAIN, KEPT)[1:]
                     large["c"] += in_c(same, [path], LARGE_PAGES)
             loads, dumps, _ = best(runs)
             peak = max(run[2] for run in runs)
@@ -348,22 +349,22 @@ def measure(_):
             rows.append(shared.skipped(f"{what} {MIXED}", "execnet", "execnet is not installed"))
     else:
         (read, written), (loads, dumps) = best(compared), took[MIXED]
-        rows.append(shared.at_least(f"reading {MIXED}", "execnet's `loads`", read / loads, 20))
-        rows.append(shared.at_least(f"reading {MIXED}, with large pages", "execnet's `loads`", read / min(large["loads"]), 20))
-        rows.append(shared.Row(f"reading {MIXED} again", "execnet's `loads` again", min(again["execnet"]) / min(again["loads"]), "times as fast"))
-        rows.append(shared.at_least(f"reading {MIXED} again where memory is kept", "execnet's `loads` again", min(again["execnet"]) / min(again["kept"]), 20))
+        beside = "execnet's `loads`"
+        rows.append(shared.at_least(f"reading {MIXED}, again and again in one process", beside, min(again["execnet"]) / min(again["loads"]), 20))
+        rows.append(shared.Row(f"reading {MIXED}, the first value of a process", beside, read / loads, "times as fast"))
+        rows.append(shared.Row(f"reading {MIXED}, the first value of a process, with large pages", beside, read / min(large["loads"]), "times as fast"))
         rows.append(shared.at_least(f"writing {MIXED}", "execnet's `dumps`", written / dumps, 20))
     what, beside = f"reading {MIXED}", "a program in C that fills the same memory and checks nothing"
     if same is None:
         rows.append(shared.skipped(what, beside, "there is no compiler of C"))
     else:
-        rows.append(shared.Row(what, beside, took[MIXED][0] / min(bare)))
-        rows.append(shared.Row(f"{what} again", "that program again", min(again["loads"]) / min(again["c"])))
+        rows.append(shared.Row(f"{what}, again and again in one process", beside, min(again["loads"]) / min(again["c"])))
+        rows.append(shared.Row(f"{what}, the first value of a process", beside, took[MIXED][0] / min(bare)))
         if python is not None:
-            rows.append(shared.Row(f"that program in C on {MIXED}", "execnet's `loads`", read / min(bare), "times as fast"))
-            rows.append(shared.Row(f"that program in C on {MIXED}, with large pages", "execnet's `loads`", read / min(large["c"]), "times as fast"))
-            rows.append(shared.Row(f"that program in C on {MIXED} again", "execnet's `loads` again", min(again["execnet"]) / min(again["c"]), "times as fast"))
-            rows.append(shared.Row(f"that program in C on {MIXED} again where memory is kept", "execnet's `loads` again", min(again["execnet"]) / min(again["kept in c"]), "times as fast"))
+            beside = "execnet's `loads`"
+            rows.append(shared.Row(f"that program in C on {MIXED}, again and again in one process", beside, min(again["execnet"]) / min(again["c"]), "times as fast"))
+            rows.append(shared.Row(f"that program in C on {MIXED}, the first value of a process", beside, read / min(bare), "times as fast"))
+            rows.append(shared.Row(f"that program in C on {MIXED}, the first value of a process, with large pages", beside, read / min(large["c"]), "times as fast"))
     rows.append(shared.at_most(f"reading {MANY}", FEW, took[MANY][0] / took[FEW][0], 25))
     # What the program takes anyhow is what it takes for the smallest payload.
     peak = max((peaks[name] - peaks[NESTED]) / sizes[name] for name in peaks if name != NESTED)

@@ -385,17 +385,16 @@ fn put_pair(
     ensures pair { IfSome result (λ _. PutsPair limit walk.old.rest.now walk.new.rest.now pairs.old.items pairs.new.items) }
     ensures known { IfSome result (λ _. Knows keys.new (λ t. has_key t (pair_views pairs.new.items))) }
 {
-    if let [b'N', ..] = walk.rest {
-        if keys.are_few(pairs.len()) {
-            put_named(alloc, nodes, walk, pairs, limit)?;
-            return Some(());
-        }
+    let node = walk.head();
+    if node == NO_NODE && matches!(walk.rest, [b'N', ..]) && keys.are_few(pairs.len()) {
+        put_named(alloc, nodes, walk, pairs, limit)?;
+        return Some(());
     }
-    put_any_pair(alloc, nodes, walk, pairs, keys, limit)?;
+    put_any_pair(alloc, nodes, walk, pairs, keys, node, limit)?;
     Some(())
 }
 
-/// The same of any key.
+/// The same of any key, which has this node.
 #[cycle(descent)]
 #[inline(never)]
 fn put_any_pair(
@@ -404,13 +403,14 @@ fn put_any_pair(
     walk: &mut Walk<'_, '_>,
     pairs: &mut Vec<(Value, Value)>,
     keys: &mut Keys,
+    node: u32,
     limit: u32,
 ) -> Option<()>
     requires { Knows keys.old (λ t. has_key t (pair_views pairs.old.items)) }
     ensures pair { IfSome result (λ _. PutsPair limit walk.old.rest.now walk.new.rest.now pairs.old.items pairs.new.items) }
     ensures known { IfSome result (λ _. Knows keys.new (λ t. has_key t (pair_views pairs.new.items))) }
 {
-    let key = next_value(alloc, nodes, walk, limit)?;
+    let key = value_at(alloc, nodes, walk, node, limit)?;
     if !is_new_key(alloc, &key, pairs, keys) {
         return None;
     }
@@ -432,7 +432,6 @@ fn put_named(
 ) -> Option<()>
     ensures { IfSome result (λ _. PutsPair limit walk.old.rest.now walk.new.rest.now pairs.old.items pairs.new.items) }
 {
-    walk.head();
     if walk.byte()? != b'N' {
         return None;
     }
@@ -457,10 +456,11 @@ fn put_behind(
 ) -> Option<()>
     ensures { IfSome result (λ _. (value : Value) × Begins limit walk.old.rest.now (80 ∷ walk.new.rest.now) (view value) × (pairs.new.items ≡ pairs.old.items ++ (Value.Text name, value) ∷ [])) }
 {
-    if let [b'F', ..] = walk.rest {
+    let node = walk.head();
+    if node == NO_NODE && matches!(walk.rest, [b'F', ..]) {
         return put_int_behind(walk, pairs, name);
     }
-    let value = next_value(alloc, nodes, walk, limit)?;
+    let value = value_at(alloc, nodes, walk, node, limit)?;
     end_pair(walk)?;
     put_two(pairs, Value::Text(name), value)
 }
@@ -474,7 +474,6 @@ fn put_int_behind(
 ) -> Option<()>
     ensures { IfSome result (λ _. (value : Value) × BeginsLeaf walk.old.rest.now (80 ∷ walk.new.rest.now) (view value) × (pairs.new.items ≡ pairs.old.items ++ (Value.Text name, value) ∷ [])) }
 {
-    walk.head();
     if walk.byte()? != b'F' {
         return None;
     }

@@ -61,7 +61,7 @@ put_any_pair-returns-clause-known t c =
 
 pub put_named-returns : goal.put_named-returns
 put_named-returns t c =
-    let start = sym c.head.ensures ∙ c.in_ok-byte.ensures ∙ ap (λ (o : ℕ). o ∷ c.byte.new.self.rest.now) c.if-branch-ne78.false in
+    let start = c.in_ok-byte.ensures ∙ ap (λ (o : ℕ). o ∷ c.byte.new.self.rest.now) c.if-branch-ne78.false in
     let read = subst (λ (b : List ℕ). Begins 0 b c.text.new.walk.rest.now (text c.in_ok-name.name)) (sym start) (c.in_ok-name.ensures 78 (inl refl)) in
     let name = c.in_ok-name.name in
     let pairs = c.args.pairs.now.items in
