@@ -11,9 +11,10 @@ ratio to it says about how much is left to gain.
 All sides are measured alike: each run is a process of its own that first reads the payload from a file, and then times one
 call of loads and one call of dumps of what it gave; neither the start of the process, nor the reading of the file, nor the
 end of the value counts. The runs alternate, and the best of each side counts. The mixed values are read again and again in
-one process, as a process does that lives longer than for one value: the best of those readings behind the first counts, on
-each side. What the first value of a process takes stands in rows of its own, since most of that is the system's, which hands
-out the memory page by page. The rows with large pages tell of processes in which the C library asks the system for them.
+one process; the best of those readings behind the first counts, on each side. The times that the program keeps stand on the
+heap behind the first value, so the C library does not give the memory of a value back to the system between two readings; in
+a program where nothing stands there it does, and then each value costs as much as the first, for which the system hands out
+the memory page by page. The rows with large pages tell of processes in which the C library asks the system for them.
 """
 
 import os
@@ -351,8 +352,8 @@ def measure(_):
         (read, written), (loads, dumps) = best(compared), took[MIXED]
         beside = "execnet's `loads`"
         rows.append(shared.at_least(f"reading {MIXED}, again and again in one process", beside, min(again["execnet"]) / min(again["loads"]), 20))
-        rows.append(shared.Row(f"reading {MIXED}, the first value of a process", beside, read / loads, "times as fast"))
-        rows.append(shared.Row(f"reading {MIXED}, the first value of a process, with large pages", beside, read / min(large["loads"]), "times as fast"))
+        rows.append(shared.at_least(f"reading {MIXED}, the first value of a process", beside, read / loads, 20))
+        rows.append(shared.at_least(f"reading {MIXED}, the first value of a process, with large pages", beside, read / min(large["loads"]), 20))
         rows.append(shared.at_least(f"writing {MIXED}", "execnet's `dumps`", written / dumps, 20))
     what, beside = f"reading {MIXED}", "a program in C that fills the same memory and checks nothing"
     if same is None:

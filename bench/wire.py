@@ -10,10 +10,8 @@ of the time by the clock, since `wire` prints in up to three threads; run it on 
 there are two loops: one reads each message and decodes its payload, and one prints its line as well, as `wire` does, with the
 value in Python's own notation. A program in C that only reads the file whole stands for what that part takes by itself. xdrun
 and that program run with the word for large pages that the script ./xdrun gives, and without it; and xdrun with it on one
-processor alone. Goals: for the small messages, and for the large ones of mixed values, at least 30 times the speed of the loop
-that prints; and a peak of at most the file and a few messages. The other files have one kind of value each, and no goal: a
-long text, or bytes, is one copy for execnet too, so there the reading of the file is most of it. Where execnet is not
-installed (python3-execnet on Debian) its part is skipped with a word.
+processor alone. Goals: at least 30 times the speed of the loop that prints, and a peak of at most the file and a few
+messages. Where execnet is not installed (python3-execnet on Debian) its part is skipped with a word.
 """
 
 import os
@@ -149,9 +147,6 @@ FILES = {
 }
 
 
-# Those of which a goal is asked.
-WITH_GOAL = ("small messages", "mixed values of 10 MB")
-
 WIRE, SMALL_WIRE, SINGLE_WIRE = "xdrun wire", "xdrun wire without large pages", "xdrun wire on one processor"
 WHOLE, SMALL_WHOLE = "reading it whole", "reading it whole without large pages"
 
@@ -223,9 +218,8 @@ def rows_of(name, megabytes, times):
         why = "execnet is not installed" if printed is None else "wire did not run"
         rows.append(shared.skipped(what, beside, why))
     else:
-        for row, ratio in ((what, printed[0] / ours[0]), (f"{what}, without large pages", printed[0] / small[0])):
-            made = shared.at_least(row, beside, ratio, 30) if name in WITH_GOAL else shared.Row(row, beside, ratio, "times as fast")
-            rows.append(made)
+        rows.append(shared.at_least(what, beside, printed[0] / ours[0], 30))
+        rows.append(shared.at_least(f"{what}, without large pages", beside, printed[0] / small[0], 30))
     single = times[SINGLE_WIRE]
     if single is not None and printed is not None:
         rows.append(shared.Row(f"{what}, on one processor", beside, printed[0] / single[0], "times as fast"))
