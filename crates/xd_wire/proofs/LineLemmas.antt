@@ -1,9 +1,11 @@
 -- Lines, one after another.
-use Rattle.std.proofs.Common.{Some, Result, Ok, Err, ◌≡◌, ℕ, ◌+◌, ◌≤◌, inl, inr, Bool, true, false, List, [], ◌∷◌, ◌++◌, length, take, drop, refl, sym, ap, subst, ◌∙◌, append_assoc, arith}
-use Rattle.std.specs.Prelude.{IfOk, OnOk, encode_utf8_all}
+use Rattle.std.proofs.Common.{Some, None, Option, ◌<◌, Result, Ok, Err, ◌≡◌, ℕ, ◌+◌, ◌≤◌, inl, inr, Bool, true, false, List, [], ◌∷◌, ◌++◌, length, take, drop, refl, sym, ap, subst, ◌∙◌, append_assoc, arith}
+use Rattle.std.specs.Prelude.{IfOk, IfSome, OnOk, encode_utf8_all}
+use Rattle.std.proofs.Math.Nat.{eq-or-lt_of_le}
 use Rattle.std.proofs.lemmas.Str.{encodes-append}
-use Rattle.std.proofs.lemmas.List.{append-nil, drop-drop, length-take-le, length-drop}
+use Rattle.std.proofs.lemmas.List.{append-nil, drop-drop, length-take-le, length-drop, take_all}
 use Rattle.xd_frame.specs.declared.header.Header.{Header}
+use Rattle.xd_frame.specs.declared.fault.FrameFault.{FrameFault}
 use Rattle.xd_frame.specs.Message.{MessageView}
 use Rattle.xd_frame.specs.Stream.{messages, rest, rest_of, behind, message_of, FrontSays}
 use Rattle.xd_value.specs.declared.fault.LoadWhat.{LoadWhat}
@@ -143,3 +145,14 @@ fault_steps (Err e) bytes at h front payload mid after name f place found fe pe 
 fault_steps (Ok s) bytes at h front payload mid after name f place found fe pe says k is ne written then =
     let step : Continues (texts_at bytes at) after (ended true) = last_step bytes at h front payload mid after f place found fe pe says k is (written ∙ ap (λ (n : List ℕ). fault_line n (at + 9 + place)) ne) in
     subst (λ (t : Then). Continues (texts_at bytes at) after (texts_of bytes t)) (sym then) step
+
+-- the first bytes of a header that stands here, or all of them
+pub first_nine : (bytes : List ℕ) (n : ℕ) → n ≤ 9 → (n < 9 → length bytes ≤ n) → take n bytes ≡ take 9 bytes
+first_nine bytes n most all =
+    elim (eq-or-lt_of_le most) [ inl same ↦ ap (λ (k : ℕ). take k bytes) same | inr less ↦ take_all n bytes (all less) ∙ sym (take_all 9 bytes (omega (arith, all less, less))) ]
+
+-- a message that has room in the bytes from a place on has room in all of them
+pub whole_at : (r : Result (Option Header) FrameFault) (at left size : ℕ) → IfOk r (λ found. IfSome found (λ h. 9 + h.length ≤ left)) → at + left ≡ size → IfOk r (λ found. IfSome found (λ h. at + 9 + h.length ≤ size))
+whole_at (Ok (Some h)) at left size w e = omega (arith, w, e)
+whole_at (Ok None) at left size w e = tt
+whole_at (Err f) at left size w e = tt

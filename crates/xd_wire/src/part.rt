@@ -6,10 +6,11 @@ ghost use Rattle.xd_wire.specs.Lines.{IsAhead, LeadsTo};
 ghost use Rattle.xd_wire.specs.Parts.{IsPart, lines_of};
 
 use crate::line::{Room, append, clear};
-use crate::step::{Then, step_at};
+use crate::step::{Then, header_at, step_at};
 use std::alloc::Global;
 use xd_edge::{Failed, OutOfMemory, Sink, Text, write_all};
-use xd_frame::{HEADER_LENGTH, first_header};
+use xd_frame::HEADER_LENGTH;
+use xd_pieces::Pieces;
 
 /// A part ends behind the first message at which it has so many bytes of the file, and behind a line that is so long.
 pub const PART: usize = 524_288;
@@ -18,6 +19,8 @@ pub const PART: usize = 524_288;
 #[derive(Drop)]
 pub struct Part {
     room: Room,
+    /// The room for what of the file stands in several pieces of memory.
+    joined: Vec<u8>,
     /// The lines but for the last.
     pub page: Text,
     /// The last line.
@@ -33,6 +36,7 @@ impl Part {
     pub fn new(alloc: Global) -> Part {
         Part {
             room: Room::new(alloc),
+            joined: Vec::new(alloc),
             page: Text::from_string(String::new(alloc)),
             line: Text::from_string(String::new(alloc)),
             start: 0,
@@ -41,26 +45,33 @@ impl Part {
     }
 
     /// Makes it the part of this number, counted from 0, among those that follow one another from a place of the file on.
-    pub fn print(&mut self, alloc: Global, bytes: &[u8], at: usize, number: usize)
-        requires { at ≤ length bytes.now }
-        ensures part { IsPart bytes.now self.new }
+    pub fn print(&mut self, alloc: Global, file: &Pieces, at: usize, number: usize)
+        requires { at ≤ length file.now }
+        ensures part { IsPart file.now self.new }
         ensures first { number ≡ 0 → self.new.start ≡ at }
     {
-        self.start = start_of(bytes, at, number);
-        self.then = self.fill(alloc, bytes, self.start);
+        self.start = start_of(file, at, number, &mut self.joined);
+        self.then = self.fill(alloc, file, self.start);
     }
 
     /// Makes its lines those of the messages from this place on.
-    fn fill(&mut self, alloc: Global, bytes: &[u8], start: usize) -> Result<Then, OutOfMemory>
-        requires { start ≤ length bytes.now }
-        ensures lines { IfOk result (LeadsTo bytes.now start (lines_of self.new)) }
-        ensures ahead { IfOk result (IsAhead start (length bytes.now)) }
+    fn fill(&mut self, alloc: Global, file: &Pieces, start: usize) -> Result<Then, OutOfMemory>
+        requires { start ≤ length file.now }
+        ensures lines { IfOk result (LeadsTo file.now start (lines_of self.new)) }
+        ensures ahead { IfOk result (IsAhead start (length file.now)) }
         ensures start { self.new.start ≡ self.old.start }
     {
         clear(&mut self.page);
         let mut at = start;
         'lines: loop {
-            let then = step_at(alloc, &mut self.room, bytes, at, &mut self.line)?;
+            let then = step_at(
+                alloc,
+                &mut self.room,
+                &mut self.joined,
+                file,
+                at,
+                &mut self.line,
+            )?;
             let Then::At(next) = then else {
                 return Ok(then);
             };
@@ -100,26 +111,27 @@ fn takes(page: &mut Text, line: &Text) -> bool
 }
 
 /// The place at which the part of this number begins, among those that follow one another from a place on.
-fn start_of(bytes: &[u8], at: usize, number: usize) -> usize
-    requires { at ≤ length bytes.now }
-    ensures within { result ≤ length bytes.now }
+fn start_of(file: &Pieces, at: usize, number: usize, joined: &mut Vec<u8>) -> usize
+    requires { at ≤ length file.now }
+    ensures within { result ≤ length file.now }
     ensures first { number ≡ 0 → result ≡ at }
 {
     let mut start = at;
     'parts: for _ in 0..number {
-        start = end_of(bytes, start);
+        start = end_of(file, start, joined);
     }
     start
 }
 
 /// The place behind the messages of the part that begins here, by their headers alone.
-fn end_of(bytes: &[u8], start: usize) -> usize
-    requires { start ≤ length bytes.now }
-    ensures { result ≤ length bytes.now }
+fn end_of(file: &Pieces, start: usize, joined: &mut Vec<u8>) -> usize
+    requires { start ≤ length file.now }
+    ensures { result ≤ length file.now }
 {
+    let size = file.len();
     let mut end = start;
-    'messages: while end - start < PART {
-        let Ok(Some(header)) = first_header(&bytes[end..]) else {
+    'messages: while end < size && end - start < PART {
+        let Ok(Ok(Some(header))) = header_at(file, end, joined) else {
             break;
         };
         end += HEADER_LENGTH + header.length as usize;

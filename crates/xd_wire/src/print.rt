@@ -12,6 +12,7 @@ use std::alloc::Global;
 use std::thread;
 use std::thread::Threads;
 use xd_edge::{Failed, OutOfMemory, Sink};
+use xd_pieces::Pieces;
 
 /// How the printing of a file of messages came to its end.
 #[derive(Clone, Copy, Debug, PartialEq, Eq)]
@@ -32,18 +33,18 @@ pub enum WireEnd {
 pub fn print_messages<R: Threads + Sync, O: Sink>(
     rt: &R,
     alloc: Global,
-    bytes: &[u8],
+    file: &Pieces,
     out: &mut O,
 ) -> Result<WireEnd, OutOfMemory>
     // The file has a text, and the answer says whether a fault ends it.
-    ensures text { IfOk result (HasText bytes.now) }
+    ensures text { IfOk result (HasText file.now) }
     // What the output took is that text, or a first part of it.
-    ensures prints { (text : List ℕ) (faulty : Bool) → IsWireText bytes.now text faulty → Prints result text faulty (O.sunk out.old) (O.sunk out.new) }
+    ensures prints { (text : List ℕ) (faulty : Bool) → IsWireText file.now text faulty → Prints result text faulty (O.sunk out.old) (O.sunk out.new) }
     ensures failed { result ≡ Ok WireEnd.OutFailed → Rose (O.faults out.old) (O.faults out.new) }
     ensures still { IfOk result (λ how. how ≢ WireEnd.OutFailed → O.faults out.new ≡ O.faults out.old) }
     ensures later { O.faults out.old ≤ O.faults out.new }
 {
-    let written = write_lines(rt, alloc, bytes, out)?;
+    let written = write_lines(rt, alloc, file, out)?;
     let Ok(faulty) = written else {
         return Ok(WireEnd::OutFailed);
     };
@@ -70,10 +71,10 @@ const MOST_PARTS: usize = 3;
 fn write_lines<R: Threads + Sync, O: Sink>(
     rt: &R,
     alloc: Global,
-    bytes: &[u8],
+    file: &Pieces,
     out: &mut O,
 ) -> Result<Result<bool, Failed>, OutOfMemory>
-    ensures leaves { Leaves result (texts_at bytes.now 0) (O.sunk out.old) (O.sunk out.new) }
+    ensures leaves { Leaves result (texts_at file.now 0) (O.sunk out.old) (O.sunk out.new) }
     ensures failed { IfOk result (λ written. OnErr written (Rose (O.faults out.old) (O.faults out.new))) }
     ensures still { IfOk result (λ written. OnOk written (O.faults out.new ≡ O.faults out.old)) }
     ensures later { O.faults out.old ≤ O.faults out.new }
@@ -81,7 +82,7 @@ fn write_lines<R: Threads + Sync, O: Sink>(
     let mut parts = make_parts(alloc, count_of_parts(rt))?;
     let mut at = 0;
     'rounds: loop {
-        let Ok(then) = print_round(rt, alloc, bytes, at, &mut parts, out)? else {
+        let Ok(then) = print_round(rt, alloc, file, at, &mut parts, out)? else {
             return Ok(Err(Failed));
         };
         match then {
@@ -115,56 +116,56 @@ fn make_parts(alloc: Global, count: usize) -> Result<Vec<Part>, OutOfMemory>
 fn print_round<R: Threads + Sync, O: Sink>(
     rt: &R,
     alloc: Global,
-    bytes: &[u8],
+    file: &Pieces,
     at: usize,
     parts: &mut [Part],
     out: &mut O,
 ) -> Result<Result<Then, Failed>, OutOfMemory>
-    requires within { at ≤ length bytes.now }
+    requires within { at ≤ length file.now }
     requires some { 0 < length parts.old }
-    ensures leaves { LeavesRound result bytes.now at (O.sunk out.old) (O.sunk out.new) }
+    ensures leaves { LeavesRound result file.now at (O.sunk out.old) (O.sunk out.new) }
     ensures len { length parts.new ≡ length parts.old }
     ensures failed { IfOk result (λ written. OnErr written (Rose (O.faults out.old) (O.faults out.new))) }
     ensures still { IfOk result (λ written. OnOk written (O.faults out.new ≡ O.faults out.old)) }
     ensures later { O.faults out.old ≤ O.faults out.new }
 {
-    let count = parts.len().min((bytes.len() - at) / PART + 1);
-    print_parts(rt, alloc, bytes, at, &mut parts[..count]);
-    write_parts(bytes, at, &parts[..count], out)
+    let count = parts.len().min((file.len() - at) / PART + 1);
+    print_parts(rt, alloc, file, at, &mut parts[..count]);
+    write_parts(file, at, &parts[..count], out)
 }
 
 /// Makes them the parts that follow one another from a place on, each in a thread of its own.
 fn print_parts<R: Threads + Sync>(
     rt: &R,
     alloc: Global,
-    bytes: &[u8],
+    file: &Pieces,
     at: usize,
     parts: &mut [Part],
 )
-    requires within { at ≤ length bytes.now }
+    requires within { at ≤ length file.now }
     requires some { 0 < length parts.old }
     ensures len { length parts.new ≡ length parts.old }
-    ensures parts { AreParts bytes.now at parts.new }
+    ensures parts { AreParts file.now at parts.new }
 {
     let threads = parts.len();
     thread::for_each_mut(
         rt,
         parts,
         threads,
-        &|number, part| part.print(alloc, bytes, at, number),
+        &|number, part| part.print(alloc, file, at, number),
     );
 }
 
 /// Writes the parts, as far as each begins where the one before it ends.
 fn write_parts<O: Sink>(
-    bytes: &[u8],
+    file: &Pieces,
     at: usize,
     parts: &[Part],
     out: &mut O,
 ) -> Result<Result<Then, Failed>, OutOfMemory>
     requires some { 0 < length parts.now }
-    requires parts { AreParts bytes.now at parts.now }
-    ensures leaves { LeavesRound result bytes.now at (O.sunk out.old) (O.sunk out.new) }
+    requires parts { AreParts file.now at parts.now }
+    ensures leaves { LeavesRound result file.now at (O.sunk out.old) (O.sunk out.new) }
     ensures failed { IfOk result (λ written. OnErr written (Rose (O.faults out.old) (O.faults out.new))) }
     ensures still { IfOk result (λ written. OnOk written (O.faults out.new ≡ O.faults out.old)) }
     ensures later { O.faults out.old ≤ O.faults out.new }

@@ -1,10 +1,13 @@
 // Message files and their text.
+ghost use Rattle.std.specs.Prelude.{◌<◌};
+
 use super::*;
 use std::alloc::Global;
 use std::process::Abort;
 use std::test::Fail;
 use std::thread::Threads;
-use xd_edge::{Indices, MemSink, OutOfMemory, Text};
+use xd_edge::{Blob, Indices, MemSink, OutOfMemory, Text};
+use xd_pieces::Pieces;
 use xd_value::{Value, show_onto};
 
 /// `("runtests", {"indices": [0, 1]})` on channel 1, written by execnet.
@@ -17,6 +20,12 @@ const THREE: &[u8] =
 
 const THREE_TEXT: &str =
     "CHANNEL_CLOSE 3 0\nCHANNEL_CLOSE_ERROR 2 8 \"no\"\nCHANNEL_LAST_MESSAGE 2147483647 0\n";
+
+/// The file in one piece.
+fn whole(alloc: Global, file: &[u8]) -> Result<Pieces, OutOfMemory> {
+    let bytes = Blob::of(alloc, file)?;
+    Pieces::whole(alloc, bytes)
+}
 
 /// A sink with ample room that fails at this call, where there is one.
 fn sink(alloc: Global, fails: &[u32]) -> Result<MemSink, OutOfMemory> {
@@ -33,7 +42,10 @@ fn expect_text(
     end: WireEnd,
 ) -> Result<(), OutOfMemory> {
     let mut out = sink(alloc, &[])?;
-    assert_eq!(rt; print_messages(rt, alloc, file, &mut out)?, end);
+    assert_eq!(rt;
+        print_messages(rt, alloc, &whole(alloc, file)?, &mut out)?,
+        end
+    );
     assert_eq!(rt; out.bytes.as_slice(), text.as_bytes());
     assert_eq!(rt; out.flushed, text.len());
     Ok(())
@@ -149,7 +161,7 @@ fn expect_first_parts(
     for (call, taken) in parts {
         let mut out = sink(alloc, &[*call])?;
         assert_eq!(rt;
-            print_messages(rt, alloc, file, &mut out)?,
+            print_messages(rt, alloc, &whole(alloc, file)?, &mut out)?,
             WireEnd::OutFailed
         );
         assert!(rt; *taken <= text.len());
@@ -168,7 +180,7 @@ fn an_output_that_fails_took_a_first_part(rt: HostRuntime) -> Result<(), Fail> {
     add_closes(&mut file, &mut text, 130_000)?;
     let mut out = sink(alloc, &[])?;
     assert_eq!(rt;
-        print_messages(&rt, alloc, &file, &mut out)?,
+        print_messages(&rt, alloc, &whole(alloc, &file)?, &mut out)?,
         WireEnd::Whole
     );
     assert_eq!(rt; out.bytes.as_slice(), text.as_slice());
@@ -189,7 +201,7 @@ fn an_output_that_fails_took_a_first_part(rt: HostRuntime) -> Result<(), Fail> {
         },
     )?;
     assert_eq!(rt;
-        print_messages(&rt, alloc, THREE, &mut narrow)?,
+        print_messages(&rt, alloc, &whole(alloc, THREE)?, &mut narrow)?,
         WireEnd::OutFailed
     );
     assert_eq!(rt; narrow.bytes.as_slice(), b"CHANN".as_slice());
@@ -214,7 +226,7 @@ fn a_long_line_stands_in_its_place(rt: HostRuntime) -> Result<(), Fail> {
     add_closes(&mut file, &mut text, 1)?;
     let mut out = sink(alloc, &[])?;
     assert_eq!(rt;
-        print_messages(&rt, alloc, &file, &mut out)?,
+        print_messages(&rt, alloc, &whole(alloc, &file)?, &mut out)?,
         WireEnd::Whole
     );
     assert_eq!(rt; out.bytes.as_slice(), text.as_slice());
@@ -241,10 +253,44 @@ fn a_part_that_ends_early_is_followed_by_the_next(rt: HostRuntime) -> Result<(),
     text.extend_from_slice(b"fault Cut at 920015\n")?;
     let mut out = sink(alloc, &[])?;
     assert_eq!(rt;
-        print_messages(&rt, alloc, &file, &mut out)?,
+        print_messages(&rt, alloc, &whole(alloc, &file)?, &mut out)?,
         WireEnd::Faulty
     );
     assert_eq!(rt; out.bytes.as_slice(), text.as_slice());
+    Ok(())
+}
+
+/// The file in pieces of so many bytes.
+fn cut(alloc: Global, file: &[u8], size: usize) -> Result<Vec<Blob>, OutOfMemory>
+    requires { 0 < size }
+{
+    let mut items = Vec::new(alloc);
+    for piece in file.chunks(size) {
+        items.push(Blob::of(alloc, piece)?)?;
+    }
+    Ok(items)
+}
+
+/// Headers and payloads that stand in several pieces of memory are read as in one.
+#[test]
+fn a_file_in_pieces_has_the_same_text(rt: HostRuntime) -> Result<(), Fail> {
+    let alloc = rt.alloc();
+    let mut file = RUN_TESTS.to_vec(alloc)?;
+    file.extend_from_slice(THREE)?;
+    file.extend_from_slice(b"\x05\x00")?;
+    let text =
+        "CHANNEL_DATA 1 60 (\"runtests\", {\"indices\": [0, 1]})\nCHANNEL_CLOSE 3 0\nCHANNEL_CLOSE_ERROR 2 8 \"no\"\nCHANNEL_LAST_MESSAGE 2147483647 0\nfault Cut at 104\n";
+    for size in 1..file.len() {
+        let Some(pieces) = Pieces::of(cut(alloc, &file, size)?) else {
+            return Err(Fail::from("these are few bytes"));
+        };
+        let mut out = sink(alloc, &[])?;
+        assert_eq!(rt;
+            print_messages(&rt, alloc, &pieces, &mut out)?,
+            WireEnd::Faulty
+        );
+        assert_eq!(rt; out.bytes.as_slice(), text.as_bytes());
+    }
     Ok(())
 }
 

@@ -29,9 +29,10 @@ use crate::worker::serve_own;
 use std::alloc::Global;
 use std::sync::Wait;
 use std::thread::Threads;
-use xd_edge::{Children, Clock, Files, OutOfMemory, Sink, Text};
+use xd_edge::{Children, Clock, OutOfMemory, Sink, Text};
 use xd_ledger::Journal;
 use xd_link::{Source, Starter};
+use xd_pieces::FilesInPieces;
 
 /// A link that was served.
 #[derive(Drop)]
@@ -69,7 +70,7 @@ pub struct RunEnd<St: Starter, K: Children> {
 /// The status is 4 where the words or the file are refused.
 pub fn xdrun<
     R: Wait + Threads + Sync,
-    F: Files,
+    F: FilesInPieces,
     St: Starter,
     K: Children,
     T: Clock,

@@ -26,6 +26,7 @@ use std::sync::Wait;
 use std::thread::Threads;
 use xd_edge::{Children, Clock, FileFault, Files, OutOfMemory, Sink, Text};
 use xd_ledger::Journal;
+use xd_pieces::FilesInPieces;
 use xd_report::status_of;
 use xd_suite::{Suite, SuiteFault, SuiteRefusal, SuiteWhat};
 
@@ -46,7 +47,7 @@ pub struct Unlinked<K: Children> {
 }
 
 /// Runs the suite or prints the file that the words name, or refuses them.
-pub fn run_unlinked<R: Wait + Threads + Sync, F: Files, K: Children, T: Clock, O: Sink, E: Sink>(
+pub fn run_unlinked<R: Wait + Threads + Sync, F: FilesInPieces, K: Children, T: Clock, O: Sink, E: Sink>(
     rt: &R,
     alloc: Global,
     words: &[Text],

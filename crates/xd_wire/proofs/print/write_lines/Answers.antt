@@ -14,11 +14,11 @@ returns-in_err-then-clause-leaves g c =
 pub returns-in_default-clause-leaves : goal.returns-in_default-clause-leaves
 returns-in_default-clause-leaves g c =
     took_first_part _ _ _ _ _ c.rounds.invariant.took
-    (subst (λ (w : Result Then Failed). LeavesRound (Ok w) c.args.bytes.now c.rounds.at (g.O.Sink.sunk c.rounds.out) (g.O.Sink.sunk c.print_round.new.out)) c.in_default.is c.in_ok-then.ensures.leaves)
+    (subst (λ (w : Result Then Failed). LeavesRound (Ok w) c.args.file.now c.rounds.at (g.O.Sink.sunk c.rounds.out) (g.O.Sink.sunk c.print_round.new.out)) c.in_default.is c.in_ok-then.ensures.leaves)
 
 pub rounds-preserved : goal.rounds-preserved
 rounds-preserved g c =
-    let leaves = subst (λ (w : Result Then Failed). LeavesRound (Ok w) c.args.bytes.now c.rounds.at (g.O.Sink.sunk c.rounds.out) (g.O.Sink.sunk c.print_round.new.out)) (c.in-Ok.is ∙ ap Ok c.in-At.is) c.in_ok-then.ensures.leaves in
+    let leaves = subst (λ (w : Result Then Failed). LeavesRound (Ok w) c.args.file.now c.rounds.at (g.O.Sink.sunk c.rounds.out) (g.O.Sink.sunk c.print_round.new.out)) (c.in-Ok.is ∙ ap Ok c.in-At.is) c.in_ok-then.ensures.leaves in
     record {
       some = c.rounds.invariant.some;
       within = leaves.1.1;
@@ -28,5 +28,5 @@ rounds-preserved g c =
 
 pub returns-in-End-clause-leaves : goal.returns-in-End-clause-leaves
 returns-in-End-clause-leaves g c =
-    let leaves = subst (λ (w : Result Then Failed). LeavesRound (Ok w) c.args.bytes.now c.rounds.at (g.O.Sink.sunk c.rounds.out) (g.O.Sink.sunk c.print_round.new.out)) (c.in-Ok.is ∙ ap Ok c.in-End.is) c.in_ok-then.ensures.leaves in
+    let leaves = subst (λ (w : Result Then Failed). LeavesRound (Ok w) c.args.file.now c.rounds.at (g.O.Sink.sunk c.rounds.out) (g.O.Sink.sunk c.print_round.new.out)) (c.in-Ok.is ∙ ap Ok c.in-End.is) c.in_ok-then.ensures.leaves in
     took_on _ _ _ _ _ _ c.rounds.invariant.took leaves.0

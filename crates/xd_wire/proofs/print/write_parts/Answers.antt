@@ -19,7 +19,7 @@ returns-in_err-next-clause-leaves g c =
 
 pub returns-then-is_err-clause-leaves : goal.returns-then-is_err-clause-leaves
 returns-then-is_err-clause-leaves g c =
-    let bytes = c.args.bytes.now in
+    let bytes = c.args.file.now in
     let part = c.index-parts-number.result in
     let begins : c.parts.then ≡ At part.start = c.begins.ensures.begins (c.if-not-begins.false) in
     let is : IsPart bytes part = subst (IsPart bytes) (sym c.index-parts-number.is) (c.requires.parts c.parts.number part c.parts-test.true).0 in
@@ -29,7 +29,7 @@ returns-then-is_err-clause-leaves g c =
 
 pub parts-preserved : goal.parts-preserved
 parts-preserved g c =
-    let bytes = c.args.bytes.now in
+    let bytes = c.args.file.now in
     let part = c.index-parts-number.result in
     let begins : c.parts.then ≡ At part.start = c.begins.ensures.begins (c.if-not-begins.false) in
     let is : IsPart bytes part = subst (IsPart bytes) (sym c.index-parts-number.is) (c.requires.parts c.parts.number part c.parts-test.true).0 in

@@ -6,10 +6,10 @@ use Rattle.xd_wire.proofs.part.Part.fill.Given as goal
 abbrev pub invariant-lines : goal.invariant-lines
 invariant-lines l = record {
   behind : l.start ≤ l.at;
-  within : l.at ≤ length l.bytes;
-  made : Continues (texts_at l.bytes l.start) (encode_utf8_all l.self.page) (texts_at l.bytes l.at);
+  within : l.at ≤ length l.file;
+  made : Continues (texts_at l.file l.start) (encode_utf8_all l.self.page) (texts_at l.file l.at);
   kept : l.self.start ≡ l.initial.self.start;
 }
 
 abbrev pub decreases-lines : goal.decreases-lines
-decreases-lines l = length l.bytes - l.at
+decreases-lines l = length l.file - l.at
