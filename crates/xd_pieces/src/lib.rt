@@ -2,6 +2,7 @@
 //! by side.
 #![tactic(auto)]
 
+mod edges;
 mod files;
 mod mem_files;
 mod pieces;

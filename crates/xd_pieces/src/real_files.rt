@@ -1,9 +1,10 @@
 // Real files: a large one is read by several threads side by side, each into a piece of its own.
 ghost use Rattle.std.specs.Prelude.{◌≡◌, ◌<◌, ◌≤◌, length, IfSome};
 
+use crate::edges::cuts_of;
 use crate::{FilesInPieces, Pieces};
 use std::alloc::Global;
-use std::fs::File;
+use std::fs::{File, Metadata};
 use std::os::unix::fs::FileExt;
 use std::thread::Threads;
 use std::{fs, rt, thread};
@@ -45,15 +46,16 @@ fn read_side_by_side<S: rt::Files<File = File>, R: Threads + Sync>(
 ) -> Option<Pieces>
     ensures { IfSome result (λ p. length p ≤ limit) }
 {
+    // A pipe is not opened here: what it gives would be lost.
+    large_size(&fs::metadata(files, path).ok()?, limit)?;
     let file = fs::open(files, path).ok()?;
-    let size = large_size(&file, limit)?;
-    let threads = count_of_threads(rt);
-    let each = size.div_ceil(threads);
+    let size = large_size(&file.metadata().ok()?, limit)?;
+    let cuts = cuts_of(alloc, &file, size, count_of_threads(rt))?;
     let read = thread::map_indices(
         rt,
         alloc,
-        threads,
-        &|number| { read_piece(alloc, &file, number, each, size) },
+        cuts.len(),
+        &|number| { read_piece(alloc, &file, &cuts, size, number) },
     );
     let pieces = Pieces::of(all_of(alloc, read.ok()?)?)?;
     if pieces.len() == size && is_end(&file, size) {
@@ -63,11 +65,10 @@ fn read_side_by_side<S: rt::Files<File = File>, R: Threads + Sync>(
     }
 }
 
-/// How many bytes the file has by the system's word, where it is a large one within the limit.
-fn large_size(file: &File, limit: u64) -> Option<usize>
+/// How many bytes a file has by the system's word, where it is a large one within the limit.
+fn large_size(about: &Metadata, limit: u64) -> Option<usize>
     ensures { IfSome result (λ size. size ≤ limit) }
 {
-    let about = file.metadata().ok()?;
     let size = about.len();
     if about.is_file() && size >= LARGE && size <= limit {
         Some(size as usize)
@@ -85,10 +86,17 @@ fn count_of_threads<R: Threads>(rt: &R) -> usize
     }
 }
 
-/// The piece of this number, of those that have so many bytes each but for the last.
-fn read_piece(alloc: Global, file: &File, number: usize, each: usize, size: usize) -> Option<Blob> {
-    let from = number.checked_mul(each)?.min(size);
-    let count = each.min(size - from);
+/// The bytes from the cut of this number to the next one, or to the end of the file, which has so many bytes.
+fn read_piece(
+    alloc: Global,
+    file: &File,
+    cuts: &[usize],
+    size: usize,
+    number: usize,
+) -> Option<Blob> {
+    let from = *cuts.get(number)?;
+    let to = *cuts.get(number.checked_add(1)?).unwrap_or(&size);
+    let count = to.checked_sub(from)?;
     let mut bytes = Vec::with_capacity(alloc, count).ok()?;
     let mut buffer = [0u8; 65536];
     while bytes.len() < count {
