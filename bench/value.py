@@ -10,11 +10,12 @@ ratio to it says about how much is left to gain.
 
 All sides are measured alike: each run is a process of its own that first reads the payload from a file, and then times one
 call of loads and one call of dumps of what it gave; neither the start of the process, nor the reading of the file, nor the
-end of the value counts. The runs alternate, and the best of each side counts. The mixed values are read again and again in
-one process; the best of those readings behind the first counts, on each side. The times that the program keeps stand on the
-heap behind the first value, so the C library does not give the memory of a value back to the system between two readings; in
-a program where nothing stands there it does, and then each value costs as much as the first, for which the system hands out
-the memory page by page. The rows with large pages tell of processes in which the C library asks the system for them.
+end of the value counts. The runs alternate, and the best of each side counts. The speed of reading is that of a process that
+reads and writes the mixed values again and again and keeps the memory of one for the next, as the C library is asked to do by
+a word of its own; the best of its readings behind the first counts, on each side. Beside it stands the first value of a
+process, for which the system hands out the memory page by page, without and with large pages. Where the C library gives the
+memory back behind each value, which it may do by itself, each costs as much as the first. These rows have no goal: they tell
+of the system, and the program in C, which only fills that memory, is as slow there.
 """
 
 import os
@@ -35,8 +36,8 @@ use xd_value::{dumps, loads};
 
 fn main(rt: HostRuntime) -> io::Result<()> {
     let alloc = rt.alloc();
-    // The microseconds of each reading and writing, which are printed at the end.
-    let mut took = Vec::new(alloc);
+    // The microseconds of each reading and writing, which are printed at the end. Their room is made ahead.
+    let mut took = Vec::with_capacity(alloc, 64)?;
     for path in env::args(&rt)?.skip(1) {
         let bytes = fs::read(&rt, path.as_str())?;
         let begun = Instant::now(&rt)?;
@@ -257,8 +258,9 @@ def nested(depth):
     return (b"K" + number(1) + integer(0)) * (depth - 1) + b"K" + number(0) + b"P" * (depth - 1) + b"Q"
 
 
-# What the C library is asked for, for large pages.
+# What the C library is asked for: large pages; and to keep up to 128 MiB that are free.
 LARGE_PAGES = "glibc.malloc.hugetlb=1"
+KEEPING = f"glibc.malloc.top_pad={128 << 20}"
 
 
 def asking(words):
@@ -278,9 +280,9 @@ def ours(program, paths, words=""):
     return took["loads"], took["dumps"], peaks[0]
 
 
-def theirs(python, paths):
+def theirs(python, paths, words=""):
     """The same by execnet, in a process of its own, without the memory."""
-    done = subprocess.run([python, "-c", THEIRS, *paths], capture_output=True, text=True, check=True)
+    done = subprocess.run([python, "-c", THEIRS, *paths], capture_output=True, text=True, check=True, env=asking(words))
     loads, dumps = zip(*(map(float, line.split()) for line in done.stdout.splitlines()))
     return list(loads), list(dumps)
 
@@ -329,15 +331,15 @@ def measure(_):
                 runs.append((loads[0], dumps[0], peak))
                 if name != MIXED:
                     continue
-                again["loads"] += ours(program, [path] * AGAIN)[0][1:]
+                again["loads"] += ours(program, [path] * AGAIN, KEEPING)[0][1:]
                 large["loads"] += ours(program, [path], LARGE_PAGES)[0]
                 if python is not None:
                     loads, dumps = theirs(python, [path])
                     compared.append((loads[0], dumps[0]))
-                    again["execnet"] += theirs(python, [path] * AGAIN)[0][1:]
+                    again["execnet"] += theirs(python, [path] * AGAIN, KEEPING)[0][1:]
                 if same is not None:
                     bare += in_c(same, [path])
-                    again["c"] += in_c(same, [path] * AGAIN)[1:]
+                    again["c"] += in_c(same, [path] * AGAIN, KEEPING)[1:]
                     large["c"] += in_c(same, [path], LARGE_PAGES)
             loads, dumps, _ = best(runs)
             peak = max(run[2] for run in runs)
@@ -351,19 +353,19 @@ def measure(_):
     else:
         (read, written), (loads, dumps) = best(compared), took[MIXED]
         beside = "execnet's `loads`"
-        rows.append(shared.at_least(f"reading {MIXED}, again and again in one process", beside, min(again["execnet"]) / min(again["loads"]), 20))
-        rows.append(shared.at_least(f"reading {MIXED}, the first value of a process", beside, read / loads, 20))
-        rows.append(shared.at_least(f"reading {MIXED}, the first value of a process, with large pages", beside, read / min(large["loads"]), 20))
+        rows.append(shared.at_least(f"reading {MIXED}, again and again", beside, min(again["execnet"]) / min(again["loads"]), 20))
+        rows.append(shared.Row(f"reading {MIXED}, the first value of a process", beside, read / loads, "times as fast"))
+        rows.append(shared.Row(f"reading {MIXED}, the first value of a process, with large pages", beside, read / min(large["loads"]), "times as fast"))
         rows.append(shared.at_least(f"writing {MIXED}", "execnet's `dumps`", written / dumps, 20))
     what, beside = f"reading {MIXED}", "a program in C that fills the same memory and checks nothing"
     if same is None:
         rows.append(shared.skipped(what, beside, "there is no compiler of C"))
     else:
-        rows.append(shared.Row(f"{what}, again and again in one process", beside, min(again["loads"]) / min(again["c"])))
+        rows.append(shared.Row(f"{what}, again and again", beside, min(again["loads"]) / min(again["c"])))
         rows.append(shared.Row(f"{what}, the first value of a process", beside, took[MIXED][0] / min(bare)))
         if python is not None:
             beside = "execnet's `loads`"
-            rows.append(shared.Row(f"that program in C on {MIXED}, again and again in one process", beside, min(again["execnet"]) / min(again["c"]), "times as fast"))
+            rows.append(shared.Row(f"that program in C on {MIXED}, again and again", beside, min(again["execnet"]) / min(again["c"]), "times as fast"))
             rows.append(shared.Row(f"that program in C on {MIXED}, the first value of a process", beside, read / min(bare), "times as fast"))
             rows.append(shared.Row(f"that program in C on {MIXED}, the first value of a process, with large pages", beside, read / min(large["c"]), "times as fast"))
     rows.append(shared.at_most(f"reading {MANY}", FEW, took[MANY][0] / took[FEW][0], 25))

@@ -3,15 +3,16 @@
 
 Usage: bench/wire.py [PROGRAM]   from any folder; PROGRAM is the one of this repository where none is named.
 
-It writes a file of small messages, and files of large ones: lists of a million integers, collections of 50,000 test ids,
-the mixed values of bench/value.py, texts and bytes; some 60 MiB each. It measures MB a second by the clock and by the
-processor's time (user and system), and peak memory, each the best of some runs with the output thrown away. The ratios are
-of the time by the clock, since `wire` prints in up to three threads; run it on a machine that does nothing else. Of execnet
-there are two loops: one reads each message and decodes its payload, and one prints its line as well, as `wire` does, with the
-value in Python's own notation. A program in C that only reads the file whole stands for what that part takes by itself. xdrun
-and that program run with the word for large pages that the script ./xdrun gives, and without it; and xdrun with it on one
-processor alone. Goals: at least 30 times the speed of the loop that prints, and a peak of at most the file and a few
-messages. Where execnet is not installed (python3-execnet on Debian) its part is skipped with a word.
+It writes a file of small messages, and files of large ones, some 60 MiB each: the mixed values of bench/value.py; and, to
+tell by what a value is made of, lists of a million integers, collections of 50,000 test ids, texts, bytes, and one file of
+all these kinds. It measures MB a second by the clock and by the processor's time (user and system), and peak memory, each the
+best of some runs with the output thrown away. The ratios are of the time by the clock, since `wire` reads and prints in
+several threads; run it on a machine that does nothing else. Of execnet there are two loops: one reads each message and
+decodes its payload, and one prints its line as well, as `wire` does, with the value in Python's own notation. A program in C
+that only reads the file whole, in one thread, stands for what that takes by itself. xdrun and that program run with the word
+for large pages that the script ./xdrun gives, and without it; and xdrun with it on one processor alone. Goals, for small
+messages and for large ones of mixed values: at least 30 times the speed of the loop that prints, and a peak of at most the
+file and a few messages. Where execnet is not installed (python3-execnet on Debian) its part is skipped with a word.
 """
 
 import os
@@ -102,48 +103,59 @@ def small_messages():
     return b"".join(parts)
 
 
-def up_to_size(payload):
+def up_to_size(payload, size=SIZE):
     """Data of this payload on channel 1, again and again."""
-    return message(4, 1, payload) * (SIZE // len(payload))
+    return message(4, 1, payload) * max(1, round(size / len(payload)))
 
 
-def integers():
-    """Lists of a million integers."""
-    items = (value.integer(i) + value.integer(i * 7919 % 2**31) + b"P" for i in range(1_000_000))
-    return up_to_size(b"K" + number(1_000_000) + b"".join(items) + b"Q")
+def integers(count=1_000_000):
+    """A list of integers."""
+    items = (value.integer(i) + value.integer(i * 7919 % 2**31) + b"P" for i in range(count))
+    return b"K" + number(count) + b"".join(items) + b"Q"
 
 
-def mixed_values():
-    """Values of 10 MB, as bench/value.py has them."""
-    return up_to_size(value.mixed(10_000_000))
+def mixed_values(size=10_000_000):
+    """A value as bench/value.py has it."""
+    return value.mixed(size)
 
 
-def collections():
-    """Lists of 50,000 test ids, as a worker sends its collection."""
+def collection():
+    """A list of 50,000 test ids, as a worker sends its collection."""
     ids = (f"tests/unit/test_module_{i % 400:03}.py::TestClass{i % 7}::test_case_{i:05}[param-{i % 3}]" for i in range(50_000))
     items = (b"F" + number(i) + b"N" + number(len(each)) + each.encode() + b"P" for i, each in enumerate(ids))
-    return up_to_size(b"K" + number(50_000) + b"".join(items) + b"Q")
+    return b"K" + number(50_000) + b"".join(items) + b"Q"
 
 
-def large_texts():
-    """Texts of 10 MiB, lines of 80 letters."""
-    text = (b"x" * 79 + b"\n") * (10 * 1024 * 1024 // 80)
-    return up_to_size(b"N" + number(len(text)) + text + b"Q")
+def large_text(size=10 << 20):
+    """A text of lines of 80 letters."""
+    text = (b"x" * 79 + b"\n") * (size // 80)
+    return b"N" + number(len(text)) + text + b"Q"
 
 
-def large_bytes():
-    """Bytes of 10 MiB, each value as often as any other."""
-    data = bytes(range(256)) * (10 * 1024 * 4)
-    return up_to_size(b"A" + number(len(data)) + data + b"Q")
+def large_bytes(size=10 << 20):
+    """Bytes, each value as often as any other."""
+    data = bytes(range(256)) * (size // 256)
+    return b"A" + number(len(data)) + data + b"Q"
 
 
+def each_kind():
+    """A fifth of the size of each kind: one message, or three collections."""
+    part = SIZE // 5
+    payloads = (mixed_values(part), integers(part // 11), collection(), large_text(part), large_bytes(part))
+    return b"".join(up_to_size(payload, part) for payload in payloads)
+
+
+SMALL, MIXED = "small messages", "large messages, mixed values of 10 MB"
+
+# What each file is made of, and how it is made.
 FILES = {
-    "small messages": small_messages,
-    "lists of a million integers": integers,
-    "collections of 50,000 ids": collections,
-    "mixed values of 10 MB": mixed_values,
-    "texts of 10 MiB": large_texts,
-    "bytes of 10 MiB": large_bytes,
+    SMALL: small_messages,
+    MIXED: lambda: up_to_size(mixed_values()),
+    "large messages of each kind below": each_kind,
+    "lists of a million integers": lambda: up_to_size(integers()),
+    "collections of 50,000 ids": lambda: up_to_size(collection()),
+    "texts of 10 MiB": lambda: up_to_size(large_text()),
+    "bytes of 10 MiB": lambda: up_to_size(large_bytes()),
 }
 
 
@@ -218,8 +230,9 @@ def rows_of(name, megabytes, times):
         why = "execnet is not installed" if printed is None else "wire did not run"
         rows.append(shared.skipped(what, beside, why))
     else:
-        rows.append(shared.at_least(what, beside, printed[0] / ours[0], 30))
-        rows.append(shared.at_least(f"{what}, without large pages", beside, printed[0] / small[0], 30))
+        for which, run in ((what, ours), (f"{what}, without large pages", small)):
+            ratio = printed[0] / run[0]
+            rows.append(shared.at_least(which, beside, ratio, 30) if name in (SMALL, MIXED) else shared.Row(which, beside, ratio, "times as fast"))
     single = times[SINGLE_WIRE]
     if single is not None and printed is not None:
         rows.append(shared.Row(f"{what}, on one processor", beside, printed[0] / single[0], "times as fast"))

@@ -1,5 +1,5 @@
 // Bytes in several pieces of memory.
-ghost use Rattle.std.specs.Prelude.{◌≡◌, ◌≤◌, ◌<◌, ◌+◌, IfOk, IfSome, OnOk, length, take, drop};
+ghost use Rattle.std.specs.Prelude.{◌≡◌, ◌≤◌, ◌<◌, ◌+◌, ◌^◌, IfOk, IfSome, IsNone, OnOk, length, take, drop};
 ghost use Rattle.std.specs.List.{concat};
 
 use std::alloc::Global;
@@ -28,7 +28,8 @@ impl Model for Pieces {
 impl Pieces {
     /// The bytes of these pieces; or nothing where they are more than a `usize` counts, which is more than memory holds.
     pub fn of(items: Vec<Blob>) -> Option<Pieces>
-        ensures { IfSome result (λ p. p ≡ concat items.items) }
+        ensures bytes { IfSome result (λ p. p ≡ concat items.items) }
+        ensures too_many { IsNone result → 2 ^ 64 ≤ length (concat items.items) }
     {
         let size = size_of(&items)?;
         Some(Pieces { items, size })
@@ -105,7 +106,8 @@ impl Pieces {
 
 /// How many bytes the pieces have together.
 fn size_of(items: &[Blob]) -> Option<usize>
-    ensures { IfSome result (λ size. size ≡ length (concat items.now)) }
+    ensures size { IfSome result (λ size. size ≡ length (concat items.now)) }
+    ensures too_many { IsNone result → 2 ^ 64 ≤ length (concat items.now) }
 {
     let mut size: usize = 0;
     for piece in items {
