@@ -47,7 +47,14 @@ pub struct Unlinked<K: Children> {
 }
 
 /// Runs the suite or prints the file that the words name, or refuses them.
-pub fn run_unlinked<R: Wait + Threads + Sync, F: FilesInPieces, K: Children, T: Clock, O: Sink, E: Sink>(
+pub fn run_unlinked<
+    R: Wait + Threads + Sync,
+    F: FilesInPieces,
+    K: Children,
+    T: Clock,
+    O: Sink,
+    E: Sink,
+>(
     rt: &R,
     alloc: Global,
     words: &[Text],
