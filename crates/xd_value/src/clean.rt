@@ -1,39 +1,65 @@
 // Texts of which each byte is a character of ASCII, and those that are printed as they are. Most are so, and many bytes are
 // seen at a time.
-ghost use Rattle.std.specs.Prelude.{◌≡◌, ◌<◌, true, false, nat_lt, IfSome};
+ghost use Rattle.std.specs.Prelude.{◌≡◌, ◌<◌, ℕ, Bool, true, false, nat_lt, IfSome};
 ghost use Rattle.std.specs.List.{list_any};
 ghost use Rattle.std.specs.Str.{IsUtf8};
 ghost use Rattle.xd_value.specs.Telling.{special};
 
-/// Whether the byte is anything but a character of ASCII that a text prints as it is.
-fn is_special(byte: u8) -> bool
-    ensures { result ≡ special byte }
-{
-    byte < b' ' || byte == b'"' || byte == b'\\' || byte > b'~'
+/// A kind of byte that is looked for.
+trait Mark {
+    ghost marked: { ℕ → Bool };
+
+    /// Whether the byte is of this kind.
+    fn is_marked(byte: u8) -> bool
+        ensures { result ≡ marked byte };
 }
 
-/// Whether a byte of the piece is special. It has no branch on a byte, so it takes many at a time.
+/// Anything but a character of ASCII that a text prints as it is.
+struct Special;
+
+impl Mark for Special {
+    ghost marked = { special };
+
+    #[inline(always)]
+    fn is_marked(byte: u8) -> bool {
+        byte < b' ' || byte == b'"' || byte == b'\\' || byte > b'~'
+    }
+}
+
+/// Anything but a character of ASCII.
+struct Wide;
+
+impl Mark for Wide {
+    ghost marked = { nat_lt 127 };
+
+    #[inline(always)]
+    fn is_marked(byte: u8) -> bool {
+        byte > 127
+    }
+}
+
+/// Whether a byte of the piece is of this kind. It has no branch on a byte, so it takes many at a time.
 #[inline(always)]
-fn has_special(piece: &[u8]) -> bool
-    ensures { result ≡ list_any special piece.now }
+fn has<M: Mark>(piece: &[u8]) -> bool
+    ensures { result ≡ list_any M.marked piece.now }
 {
     let mut found = false;
     for byte in piece {
-        found |= is_special(*byte);
+        found |= M::is_marked(*byte);
     }
     found
 }
 
-/// What is left behind the pieces of so many bytes at the front that have no special one.
+/// What is left behind the pieces of so many bytes at the front that have none of this kind.
 #[inline(always)]
-fn past_clean(bytes: &[u8], size: usize) -> &[u8]
+fn past<M: Mark>(bytes: &[u8], size: usize) -> &[u8]
     requires { 0 < size }
-    ensures { list_any special result.now ≡ list_any special bytes.now }
+    ensures { list_any M.marked result.now ≡ list_any M.marked bytes.now }
 {
     let mut rest = bytes;
     while rest.len() >= size {
         let (piece, after) = rest.split_at(size);
-        if has_special(piece) {
+        if has::<M>(piece) {
             return rest;
         }
         rest = after;
@@ -41,14 +67,22 @@ fn past_clean(bytes: &[u8], size: usize) -> &[u8]
     rest
 }
 
-/// Whether it is known that no byte is special.
+/// Whether it is known that no byte is of this kind.
+#[inline(always)]
+fn are_free<M: Mark>(bytes: &[u8]) -> bool
+    ensures { result ≡ true → list_any M.marked bytes.now ≡ false }
+{
+    let far = past::<M>(bytes, 32);
+    let near = past::<M>(past::<M>(far, 16), 8);
+    let last = past::<M>(near, 4);
+    last.len() < 4 && !has::<M>(last)
+}
+
+/// Whether it is known that each byte is a character of ASCII that a text prints as it is.
 fn are_clean(bytes: &[u8]) -> bool
     ensures { result ≡ true → list_any special bytes.now ≡ false }
 {
-    let far = past_clean(bytes, 32);
-    let near = past_clean(past_clean(far, 16), 8);
-    let last = past_clean(near, 4);
-    last.len() < 4 && !has_special(last)
+    are_free::<Special>(bytes)
 }
 
 /// The text of these bytes, where none of them is special.
@@ -64,50 +98,11 @@ pub(crate) fn clean_text(bytes: &[u8]) -> Option<&str>
     Some(unsafe { str::from_utf8_unchecked(bytes) })
 }
 
-/// Whether a byte of the piece is beyond ASCII. It has no branch on a byte, so it takes many at a time.
-#[inline(always)]
-fn has_wide(piece: &[u8]) -> bool
-    ensures { result ≡ list_any (nat_lt 127) piece.now }
-{
-    let mut found = false;
-    for byte in piece {
-        found |= *byte > 127;
-    }
-    found
-}
-
-/// What is left behind the pieces of so many bytes at the front that are ASCII.
-#[inline(always)]
-fn past_ascii(bytes: &[u8], size: usize) -> &[u8]
-    requires { 0 < size }
-    ensures { list_any (nat_lt 127) result.now ≡ list_any (nat_lt 127) bytes.now }
-{
-    let mut rest = bytes;
-    while rest.len() >= size {
-        let (piece, after) = rest.split_at(size);
-        if has_wide(piece) {
-            return rest;
-        }
-        rest = after;
-    }
-    rest
-}
-
-/// Whether it is known that all bytes are ASCII.
-#[inline(always)]
-fn are_ascii(bytes: &[u8]) -> bool
-    ensures { result ≡ true → list_any (nat_lt 127) bytes.now ≡ false }
-{
-    let far = past_ascii(bytes, 32);
-    let last = past_ascii(past_ascii(far, 8), 4);
-    last.len() < 4 && !has_wide(last)
-}
-
 /// The text of these bytes, where they are UTF-8.
 pub(crate) fn text_of(bytes: &[u8]) -> Option<&str>
     ensures { IfSome result (λ text. (text.now ≡ bytes.now) × IsUtf8 bytes.now) }
 {
-    if are_ascii(bytes) {
+    if are_free::<Wide>(bytes) {
         // Bytes of ASCII are UTF-8.
         return Some(unsafe { str::from_utf8_unchecked(bytes) });
     }

@@ -9,7 +9,7 @@ ghost use Rattle.xd_value.specs.Telling.{special};
 ghost use Rattle.xd_value.specs.Tree.{count};
 ghost use Rattle.xd_value.specs.View.{view, views, pair_views};
 
-use crate::clean::clean_text;
+use crate::clean::{clean_text, text_of};
 use crate::value::Value;
 use itoa::Buffer;
 use std::alloc::{AllocError, Global};
@@ -386,9 +386,7 @@ pub(crate) fn print_utf8<'a>(out: &mut Text, bytes: &'a [u8]) -> Option<&'a str>
             Err(_) => None,
         };
     }
-    let Ok(text) = str::from_utf8(bytes) else {
-        return None;
-    };
+    let text = text_of(bytes)?;
     match print_str(out, text) {
         Ok(()) => Some(text),
         Err(_) => None,
