@@ -5,23 +5,23 @@ ghost use Rattle.std.specs.List.{list_any};
 ghost use Rattle.std.specs.Str.{IsUtf8};
 ghost use Rattle.xd_value.specs.Telling.{special};
 
-/// A kind of byte that is looked for.
-trait Mark {
-    ghost marked: { ℕ → Bool };
+/// A class of bytes that is looked for.
+trait ByteClass {
+    ghost member: { ℕ → Bool };
 
-    /// Whether the byte is of this kind.
-    fn is_marked(byte: u8) -> bool
-        ensures { result ≡ marked byte };
+    /// Whether the byte is of this class.
+    fn contains(byte: u8) -> bool
+        ensures { result ≡ member byte };
 }
 
 /// Anything but a character of ASCII that a text prints as it is.
 struct Special;
 
-impl Mark for Special {
-    ghost marked = { special };
+impl ByteClass for Special {
+    ghost member = { special };
 
     #[inline(always)]
-    fn is_marked(byte: u8) -> bool {
+    fn contains(byte: u8) -> bool {
         byte < b' ' || byte == b'"' || byte == b'\\' || byte > b'~'
     }
 }
@@ -29,37 +29,37 @@ impl Mark for Special {
 /// Anything but a character of ASCII.
 struct Wide;
 
-impl Mark for Wide {
-    ghost marked = { nat_lt 127 };
+impl ByteClass for Wide {
+    ghost member = { nat_lt 127 };
 
     #[inline(always)]
-    fn is_marked(byte: u8) -> bool {
+    fn contains(byte: u8) -> bool {
         byte > 127
     }
 }
 
-/// Whether a byte of the piece is of this kind. It has no branch on a byte, so it takes many at a time.
+/// Whether a byte of the piece is of this class. It has no branch on a byte, so it takes many at a time.
 #[inline(always)]
-fn has<M: Mark>(piece: &[u8]) -> bool
-    ensures { result ≡ list_any M.marked piece.now }
+fn has<C: ByteClass>(piece: &[u8]) -> bool
+    ensures { result ≡ list_any C.member piece.now }
 {
     let mut found = false;
     for byte in piece {
-        found |= M::is_marked(*byte);
+        found |= C::contains(*byte);
     }
     found
 }
 
-/// What is left behind the pieces of so many bytes at the front that have none of this kind.
+/// What is left behind the pieces of so many bytes at the front that have none of this class.
 #[inline(always)]
-fn past<M: Mark>(bytes: &[u8], size: usize) -> &[u8]
+fn past<C: ByteClass>(bytes: &[u8], size: usize) -> &[u8]
     requires { 0 < size }
-    ensures { list_any M.marked result.now ≡ list_any M.marked bytes.now }
+    ensures { list_any C.member result.now ≡ list_any C.member bytes.now }
 {
     let mut rest = bytes;
     while rest.len() >= size {
         let (piece, after) = rest.split_at(size);
-        if has::<M>(piece) {
+        if has::<C>(piece) {
             return rest;
         }
         rest = after;
@@ -67,15 +67,15 @@ fn past<M: Mark>(bytes: &[u8], size: usize) -> &[u8]
     rest
 }
 
-/// Whether it is known that no byte is of this kind.
+/// Whether it is known that no byte is of this class.
 #[inline(always)]
-fn are_free<M: Mark>(bytes: &[u8]) -> bool
-    ensures { result ≡ true → list_any M.marked bytes.now ≡ false }
+fn are_free<C: ByteClass>(bytes: &[u8]) -> bool
+    ensures { result ≡ true → list_any C.member bytes.now ≡ false }
 {
-    let far = past::<M>(bytes, 32);
-    let near = past::<M>(past::<M>(far, 16), 8);
-    let last = past::<M>(near, 4);
-    last.len() < 4 && !has::<M>(last)
+    let far = past::<C>(bytes, 32);
+    let near = past::<C>(past::<C>(far, 16), 8);
+    let last = past::<C>(near, 4);
+    last.len() < 4 && !has::<C>(last)
 }
 
 /// Whether it is known that each byte is a character of ASCII that a text prints as it is.
