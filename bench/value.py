@@ -308,8 +308,8 @@ CASES = [
 MIXED, FEW, MANY, _, NESTED = (name for name, _ in CASES)
 
 
-# So often the mixed values are read in one process.
-AGAIN = 6
+# So often the mixed values are read in one process. With half as many the ratio swings by a third from run to run.
+AGAIN = 12
 
 
 def measure(_):
