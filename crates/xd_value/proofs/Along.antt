@@ -7,9 +7,10 @@ use Rattle.xd_value.specs.Tree.{Tree, Trees, Pairs, int, bytes, text, list, tupl
 use Rattle.xd_value.specs.Reading.{number_at, length_at, chunk_at, long_value, snoc, snoc_pair}
 use Rattle.xd_value.specs.Spelling.{Spelled, PartsSpelled, IsNewKey, IsSet, chunk}
 use Rattle.xd_value.specs.Payload.{IsPayload}
-use Rattle.xd_value.specs.Walk.{Begins, BeginsLeaf, BeginParts, BeginItems, BeginPairs, BeginsIndex, Closes, Puts}
-use Rattle.xd_value.specs.View.{view}
+use Rattle.xd_value.specs.Walk.{Begins, BeginsLeaf, BeginParts, BeginItems, BeginPairs, BeginsIndex, Closes, Puts, PutsPair}
+use Rattle.xd_value.specs.View.{view, pair_views}
 use Rattle.xd_value.specs.declared.value.Value.{Value}
+use Rattle.xd_value.proofs.Cells.{pair_views_push}
 use Rattle.xd_value.proofs.Numbers.{IsBytes, number_takes, length_takes, chunk_takes}
 use Rattle.xd_value.proofs.SoundLeaf.{spells_int, spells_text}
 use Rattle.xd_value.proofs.SoundList.{items_snoc, parts_snoc, trees_depth-snoc}
@@ -134,6 +135,11 @@ pairs_more limit a b c d e ps k v p i new h last =
       parts = then_more a b e p.spelling (i.spelling ++ (h.spelling ++ (80 ∷ []))) p.parts pair;
       spelled = pairs_snoc no_pairs ps k v p.spelling i.spelling h.spelling new p.spelled i.spelled h.spelled;
     }
+
+pub pairs_put : (limit : ℕ) (a b c : List ℕ) (before after : List (Value × Value)) → BeginPairs limit a b (pair_views before) → PutsPair limit b c before after → BeginPairs limit a c (pair_views after)
+pairs_put limit a b c before after h p =
+    subst (λ (ps : Pairs). BeginPairs limit a c ps) (sym (ap pair_views p.put ∙ pair_views_push before p.key p.value))
+    (pairs_more limit a b p.middle (80 ∷ c) c (pair_views before) (view p.key) (view p.value) h p.begins p.new p.follows refl)
 
 pub dict_value : (limit : ℕ) (a b c : List ℕ) (ps : Pairs) → a ≡ 74 ∷ b → BeginPairs limit b c ps → Begins (suc limit) a c (dict ps)
 dict_value limit a b c ps e p =

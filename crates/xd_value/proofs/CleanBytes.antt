@@ -1,5 +1,5 @@
 -- Bytes of which none is special are ASCII, and stand in a text as they are.
-use Rattle.std.proofs.Common.{◌≡◌, ℕ, ◌∙◌, sym, ap, ap₂, true, false, Bool, refl, List, [], ◌∷◌, ◌++◌, arith}
+use Rattle.std.proofs.Common.{◌≡◌, ◌≤◌, ℕ, zero, suc, take, drop, ◌∙◌, sym, ap, ap₂, true, false, Bool, refl, List, [], ◌∷◌, ◌++◌, arith}
 use Rattle.std.specs.Prelude.{◌||◌, nat_lt}
 use Rattle.std.specs.List.{list_all, list_any}
 use Rattle.std.specs.Char.{is_ascii}
@@ -23,6 +23,18 @@ byte_escaped b h = grind (arith, nat_tests)
 neither : (p q : Bool) → (p || q) ≡ false → (p ≡ false) × (q ≡ false)
 neither true q h = absurd (cc)
 neither false q h = (refl, h)
+
+any_ends_of : (p : ℕ → Bool) (k size : ℕ) (bs : List ℕ) → k ≤ size → list_any p (take size bs) ≡ false → list_any p (drop k bs) ≡ false → list_any p bs ≡ false
+any_ends_of p zero size bs le x y = y
+any_ends_of p (suc k) zero bs le x y = absurd (omega (arith, le))
+any_ends_of p (suc k) (suc size) [] le x y = refl
+any_ends_of p (suc k) (suc size) (b ∷ bs) le x y =
+    let parts = neither (p b) (list_any p (take size bs)) x in
+    rw (parts.0) (any_ends_of p k size bs (omega (arith, le)) parts.1 y)
+
+-- what is at neither end is nowhere, where the ends meet
+pub any_ends : (p : ℕ → Bool) (k size : ℕ) (bs front back : List ℕ) → front ≡ take size bs → back ≡ drop k bs → k ≤ size → list_any p front ≡ false → list_any p back ≡ false → list_any p bs ≡ false
+any_ends p k size bs front back f b le x y = any_ends_of p k size bs le (ap (list_any p) (sym f) ∙ x) (ap (list_any p) (sym b) ∙ y)
 
 pub clean_ascii : (bs : List ℕ) → list_any special bs ≡ false → list_all is_ascii bs ≡ true
 clean_ascii [] h = refl

@@ -1,6 +1,6 @@
 // Texts of which each byte is a character of ASCII, and those that are printed as they are. Most are so, and many bytes are
 // seen at a time.
-ghost use Rattle.std.specs.Prelude.{◌≡◌, ◌<◌, ℕ, Bool, true, false, nat_lt, IfSome};
+ghost use Rattle.std.specs.Prelude.{◌≡◌, ◌<◌, ◌≤◌, ℕ, length, Bool, true, false, nat_lt, IfSome};
 ghost use Rattle.std.specs.List.{list_any};
 ghost use Rattle.std.specs.Str.{IsUtf8};
 ghost use Rattle.xd_value.specs.Telling.{special};
@@ -67,15 +67,32 @@ fn past<C: ByteClass>(bytes: &[u8], size: usize) -> &[u8]
     rest
 }
 
+/// Whether it is known that no byte is of this class, by a look at so many at each end. They overlap, so that what is left of
+/// a text behind the long pieces is seen at two looks, of whatever length it is.
+#[inline(always)]
+#[tactic(auto, using(crate::proofs::CleanBytes::any_ends))]
+fn are_ends_free<C: ByteClass>(bytes: &[u8], size: usize) -> bool
+    requires { size ≤ length bytes.now }
+    ensures { result ≡ true → list_any C.member bytes.now ≡ false }
+{
+    let (front, _) = bytes.split_at(size);
+    let (before, back) = bytes.split_at(bytes.len() - size);
+    before.len() <= size && !has::<C>(front) && !has::<C>(back)
+}
+
 /// Whether it is known that no byte is of this class.
 #[inline(always)]
 fn are_free<C: ByteClass>(bytes: &[u8]) -> bool
     ensures { result ≡ true → list_any C.member bytes.now ≡ false }
 {
-    let far = past::<C>(bytes, 32);
-    let near = past::<C>(past::<C>(far, 16), 8);
-    let last = past::<C>(near, 4);
-    last.len() < 4 && !has::<C>(last)
+    let rest = past::<C>(bytes, 32);
+    match rest.len() {
+        0..4 => !has::<C>(rest),
+        4..8 => are_ends_free::<C>(rest, 4),
+        8..16 => are_ends_free::<C>(rest, 8),
+        16..32 => are_ends_free::<C>(rest, 16),
+        _ => false,
+    }
 }
 
 /// Whether it is known that each byte is a character of ASCII that a text prints as it is.
@@ -99,6 +116,7 @@ pub(crate) fn clean_text(bytes: &[u8]) -> Option<&str>
 }
 
 /// The text of these bytes, where they are UTF-8.
+#[inline(always)]
 pub(crate) fn text_of(bytes: &[u8]) -> Option<&str>
     ensures { IfSome result (λ text. (text.now ≡ bytes.now) × IsUtf8 bytes.now) }
 {
@@ -106,6 +124,14 @@ pub(crate) fn text_of(bytes: &[u8]) -> Option<&str>
         // Bytes of ASCII are UTF-8.
         return Some(unsafe { str::from_utf8_unchecked(bytes) });
     }
+    any_text_of(bytes)
+}
+
+/// The same of bytes that are not known to be of ASCII.
+#[inline(never)]
+fn any_text_of(bytes: &[u8]) -> Option<&str>
+    ensures { IfSome result (λ text. (text.now ≡ bytes.now) × IsUtf8 bytes.now) }
+{
     match str::from_utf8(bytes) {
         Ok(text) => Some(text),
         Err(_) => None,

@@ -1,5 +1,6 @@
 // Reading a payload along its shape.
-ghost use Rattle.std.specs.Prelude.{◌≡◌, [], ◌∷◌, ◌++◌, ◌⊎◌, ◌||◌, ℕ, true, length, IfSome, IsNone};
+ghost use Rattle.std.specs.Prelude.{◌≡◌, List, [], ◌∷◌, ◌++◌, ◌⊎◌, ◌||◌, ℕ, true, length, IfSome, IsNone};
+ghost use Rattle.std.specs.Str.{chars};
 ghost use Rattle.xd_value.specs.Payload.{IsPayload};
 ghost use Rattle.xd_value.specs.Keys.{Knows};
 ghost use Rattle.xd_value.specs.Spelling.{IsNewKey, IsSet};
@@ -10,7 +11,7 @@ ghost use Rattle.xd_value.specs.Walk.{Begins, BeginParts, BeginItems, BeginPairs
 use crate::checks::{are_hashable, is_hashable, is_plain, is_text_key};
 use crate::clean::text_of;
 use crate::distinct::are_distinct;
-use crate::keys::Keys;
+use crate::keys::{FEW, Keys};
 use crate::number::long_value;
 use crate::shape::{NO_NODE, Node, Shape, is_plain_alone};
 use crate::value::Value;
@@ -219,7 +220,7 @@ fn value_at(
 
 /// A tuple, a set or a frozenset.
 #[cycle(descent)]
-#[inline(never)]
+#[inline(always)]
 fn built(
     alloc: Global,
     nodes: &[Node],
@@ -237,6 +238,7 @@ fn built(
 
 /// The parts of a tuple or a set, the first of which has this node.
 #[cycle(descent)]
+#[inline(never)]
 fn parts_of(
     alloc: Global,
     nodes: &[Node],
@@ -258,6 +260,7 @@ fn parts_of(
 }
 
 /// What the opcode behind these parts makes of them.
+#[inline(always)]
 fn closed(alloc: Global, walk: &mut Walk<'_, '_>, items: Vec<Value>) -> Option<Value>
     ensures { IfSome result (λ v. Closes (views items.items) walk.old.rest.now walk.new.rest.now (view v)) }
 {
@@ -280,6 +283,7 @@ fn closed(alloc: Global, walk: &mut Walk<'_, '_>, items: Vec<Value>) -> Option<V
 }
 
 /// Whether these are known to be hashable and to differ.
+#[inline(never)]
 fn can_be_set(alloc: Global, items: &[Value]) -> bool
     ensures { result ≡ true → IsSet (views items.now) }
 {
@@ -350,7 +354,7 @@ fn items_of(
 
 /// The pairs of a dict.
 #[cycle(descent)]
-#[inline(never)]
+#[inline(always)]
 fn pairs_of(
     alloc: Global,
     nodes: &[Node],
@@ -363,9 +367,35 @@ fn pairs_of(
     let Ok(mut pairs) = Vec::with_capacity(alloc, parts as usize) else {
         return None;
     };
+    for index in 0..parts {
+        let node = walk.head();
+        if node != NO_NODE || !matches!(walk.rest, [b'N', ..]) || pairs.len() >= FEW {
+            return with_others(alloc, nodes, walk, pairs, node, parts - index, limit);
+        }
+        put_named(alloc, nodes, walk, &mut pairs, limit)?;
+    }
+    Some(pairs)
+}
+
+/// These pairs, and behind them so many others of any keys. The key of the first of these has this node.
+#[cycle(descent)]
+#[inline(never)]
+fn with_others(
+    alloc: Global,
+    nodes: &[Node],
+    walk: &mut Walk<'_, '_>,
+    pairs: Vec<(Value, Value)>,
+    node: u32,
+    others: u32,
+    limit: u32,
+) -> Option<Vec<(Value, Value)>>
+    ensures { IfSome result (λ all. (start : List ℕ) → BeginPairs limit start walk.old.rest.now (pair_views pairs.items) → BeginPairs limit start walk.new.rest.now (pair_views all.items)) }
+{
+    let mut pairs = pairs;
     let mut keys = Keys::new();
-    for _ in 0..parts {
-        put_pair(alloc, nodes, walk, &mut pairs, &mut keys, limit)?;
+    put_pair_at(alloc, nodes, walk, &mut pairs, &mut keys, node, limit)?;
+    for _ in 1..others {
+        put_next_pair(alloc, nodes, walk, &mut pairs, &mut keys, limit)?;
     }
     Some(pairs)
 }
@@ -373,7 +403,7 @@ fn pairs_of(
 /// Puts the pair that begins here behind these, where they have room.
 #[cycle(descent)]
 #[inline(always)]
-fn put_pair(
+fn put_next_pair(
     alloc: Global,
     nodes: &[Node],
     walk: &mut Walk<'_, '_>,
@@ -386,18 +416,13 @@ fn put_pair(
     ensures known { IfSome result (λ _. Knows keys.new (λ t. has_key t (pair_views pairs.new.items))) }
 {
     let node = walk.head();
-    if node == NO_NODE && matches!(walk.rest, [b'N', ..]) && keys.are_few(pairs.len()) {
-        put_named(alloc, nodes, walk, pairs, limit)?;
-        return Some(());
-    }
-    put_any_pair(alloc, nodes, walk, pairs, keys, node, limit)?;
-    Some(())
+    put_pair_at(alloc, nodes, walk, pairs, keys, node, limit)
 }
 
-/// The same of any key, which has this node.
+/// The same of a pair whose key has this node.
 #[cycle(descent)]
 #[inline(never)]
-fn put_any_pair(
+fn put_pair_at(
     alloc: Global,
     nodes: &[Node],
     walk: &mut Walk<'_, '_>,
@@ -420,7 +445,7 @@ fn put_any_pair(
     Some(())
 }
 
-/// The same of a key that is a text, which is compared with each key that stands.
+/// The same of a pair whose key is a text, which is compared with each key that stands.
 #[cycle(descent)]
 #[inline(always)]
 fn put_named(
@@ -571,6 +596,7 @@ fn put_plain(alloc: Global, walk: &mut Walk<'_, '_>, items: &mut Vec<Value>) -> 
 }
 
 /// Puts the integer whose digits stand behind its opcode behind these, where they have room.
+#[inline(always)]
 fn put_long(walk: &mut Walk<'_, '_>, items: &mut Vec<Value>) -> Option<()>
     ensures puts { IfSome result (λ _. (opcode : ℕ) → (opcode ≡ 72) ⊎ (opcode ≡ 73) → Puts 0 (opcode ∷ walk.old.rest.now) walk.new.rest.now items.old.items items.new.items) }
     ensures kept { IsNone result → items.new.items ≡ items.old.items }
@@ -589,32 +615,53 @@ fn int(walk: &mut Walk<'_, '_>) -> Option<i128>
 }
 
 /// The text behind its opcode.
-#[inline(never)]
+#[inline(always)]
 fn text(alloc: Global, walk: &mut Walk<'_, '_>) -> Option<Text>
     ensures { IfSome result (λ t. (opcode : ℕ) → (opcode ≡ 78) ⊎ (opcode ≡ 83) → BeginsLeaf (opcode ∷ walk.old.rest.now) walk.new.rest.now (text t)) }
 {
     let bytes = walk.chunk()?;
     let words = text_of(bytes)?;
-    match Text::of(alloc, words) {
-        Ok(text) => Some(text),
-        Err(_) => None,
+    let text = text_copy(alloc, words)?;
+    Some(text)
+}
+
+/// A copy of a text, where there is room.
+#[inline(always)]
+fn text_copy(alloc: Global, words: &str) -> Option<Text>
+    ensures { IfSome result (λ t. t ≡ chars words.now) }
+{
+    let bytes = bytes_copy(alloc, words.as_bytes())?;
+    // They are those of a text.
+    let text = unsafe { String::from_utf8_unchecked(bytes) };
+    Some(Text::from_string(text))
+}
+
+/// A copy of bytes, where there is room. What `to_vec` gives goes through memory, and whoever moves it on at once waits for that;
+/// this stays in registers, and most copies are short.
+#[inline(always)]
+fn bytes_copy(alloc: Global, bytes: &[u8]) -> Option<Vec<u8>>
+    ensures { IfSome result (λ copy. copy.items ≡ bytes.now) }
+{
+    let Ok(mut copy) = Vec::with_capacity(alloc, bytes.len()) else {
+        return None;
+    };
+    for byte in bytes {
+        copy.push_reserved(*byte);
     }
+    Some(copy)
 }
 
 /// The bytes behind their opcode.
-#[inline(never)]
+#[inline(always)]
 fn bytes(alloc: Global, walk: &mut Walk<'_, '_>) -> Option<Blob>
     ensures { IfSome result (λ b. BeginsLeaf (65 ∷ walk.old.rest.now) walk.new.rest.now (bytes b)) }
 {
-    let bytes = walk.chunk()?;
-    match Blob::of(alloc, bytes) {
-        Ok(bytes) => Some(bytes),
-        Err(_) => None,
-    }
+    let bytes = bytes_copy(alloc, walk.chunk()?)?;
+    Some(Blob::from_vec(bytes))
 }
 
 /// The integer whose digits stand behind its opcode.
-#[inline(never)]
+#[inline(always)]
 fn long(walk: &mut Walk<'_, '_>) -> Option<i128>
     ensures { IfSome result (λ n. (opcode : ℕ) → (opcode ≡ 72) ⊎ (opcode ≡ 73) → BeginsLeaf (opcode ∷ walk.old.rest.now) walk.new.rest.now (int n)) }
 {

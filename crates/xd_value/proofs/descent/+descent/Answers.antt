@@ -2,8 +2,8 @@ use Rattle.std.proofs.Common.{◌≡◌, [], ◌∷◌, ℕ, suc, List, length, 
 use Rattle.xd_value.specs.Tree.{Tree, Trees, Pairs, text, count, hashable, has_key}
 use Rattle.xd_value.specs.Keys.{Knows}
 use Rattle.xd_value.specs.View.{view, views, pair_views}
-use Rattle.xd_value.specs.Walk.{Begins, BeginParts, BeginItems, BeginPairs}
-use Rattle.xd_value.proofs.Along.{begins_is, deeper, list_value, dict_value, parts_more, items_more, pairs_more}
+use Rattle.xd_value.specs.Walk.{Begins, BeginParts, BeginItems, PutsPair}
+use Rattle.xd_value.proofs.Along.{begins_is, deeper, list_value, dict_value, parts_more, items_more, pairs_put}
 use Rattle.xd_value.proofs.Cells.{views_push, count_views, pair_views_push}
 use Rattle.xd_value.proofs.KeyLemmas.{snoc_known, known_or_along}
 use Rattle.xd_value.proofs.Walks.{view-Text, view-List, view-Dict}
@@ -43,17 +43,28 @@ items_of-loop-index-preserved t c =
       length = omega (arith, ap length p.put, length-append c.loop-index.items.items (p.value ∷ []), c.loop-index.invariant.length);
     }
 
-pub pairs_of-loop-preserved : goal.pairs_of-loop-preserved
-pairs_of-loop-preserved t c =
-    let p = c.in_ok-put_pair.ensures.pair in
-    record {
-      read = subst (λ (ps : Pairs). BeginPairs c.args.limit c.args.walk.now.rest.now c.put_pair.new.walk.rest.now ps) (sym (ap pair_views p.put ∙ pair_views_push c.loop.pairs.items p.key p.value))
-          (pairs_more c.args.limit c.args.walk.now.rest.now c.loop.walk.rest.now p.middle (80 ∷ c.put_pair.new.walk.rest.now) c.put_pair.new.walk.rest.now (pair_views c.loop.pairs.items) (view p.key) (view p.value) c.loop.invariant.read p.begins p.new p.follows refl);
-      known = c.in_ok-put_pair.ensures.known;
-    }
+pub pairs_of-loop-index-preserved : goal.pairs_of-loop-index-preserved
+pairs_of-loop-index-preserved t c =
+    pairs_put c.args.limit c.args.walk.now.rest.now c.loop-index.walk.rest.now c.put_named.new.walk.rest.now c.loop-index.pairs.items c.put_named.new.pairs.items c.loop-index.invariant
+    (subst (λ (b : List ℕ). PutsPair c.args.limit b c.put_named.new.walk.rest.now c.loop-index.pairs.items c.put_named.new.pairs.items) c.head-node.ensures c.in_ok-put_named.ensures)
 
-pub put_any_pair-returns-clause-known : goal.put_any_pair-returns-clause-known
-put_any_pair-returns-clause-known t c =
+pub with_others-put_pair_at-requires : goal.with_others-put_pair_at-requires
+with_others-put_pair_at-requires t c = (omega arith, c.new-keys.ensures _)
+
+pub with_others-loop-init : goal.with_others-loop-init
+with_others-loop-init t c = record {
+  read = λ start h. pairs_put c.args.limit start c.args.walk.now.rest.now c.put_pair_at.new.walk.rest.now c.args.pairs.items c.put_pair_at.new.pairs.items h c.in_ok-put_pair_at.ensures.pair;
+  known = c.in_ok-put_pair_at.ensures.known;
+}
+
+pub with_others-loop-preserved : goal.with_others-loop-preserved
+with_others-loop-preserved t c = record {
+  read = λ start h. pairs_put c.args.limit start c.loop.walk.rest.now c.put_next_pair.new.walk.rest.now c.loop.pairs.items c.put_next_pair.new.pairs.items (c.loop.invariant.read start h) c.in_ok-put_next_pair.ensures.pair;
+  known = c.in_ok-put_next_pair.ensures.known;
+}
+
+pub put_pair_at-returns-clause-known : goal.put_pair_at-returns-clause-known
+put_pair_at-returns-clause-known t c =
     let key = c.in_ok-key.key in
     let value = c.in_ok-value.value in
     subst (λ (ps : Pairs). Knows c.is_new_key.new.keys (λ t. has_key t ps)) (sym (ap pair_views c.in_ok-put_two.ensures ∙ pair_views_push c.args.pairs.now.items key value))
