@@ -1,19 +1,17 @@
 -- What a sink took of the text of a file.
-use Rattle.std.proofs.Common.{◌≡◌, ℕ, ◌⊎◌, inl, inr, arith, Bool, true, false, List, [], ◌++◌, Option, Some, None, Result, Ok, Err, option_map, refl, sym, ap, subst, ◌∙◌, append_assoc}
+use Rattle.std.proofs.Common.{◌≡◌, ℕ, Bool, true, false, List, [], ◌++◌, Option, Some, None, Result, Ok, Err, option_map, refl, sym, ap, subst, ◌∙◌, append_assoc}
 use Rattle.std.specs.Prelude.{OnOk, OnErr, is_err}
 use Rattle.std.proofs.lemmas.List.{append-nil}
 use Rattle.xd_edge.specs.Sink.{Sunk, Took, TookPart, Printed, with_flush}
 use Rattle.xd_edge.proofs.SinkLemmas.{took_nothing, took_more, took_then_part, part_of_more, took_is_part}
-use Rattle.xd_wire.specs.declared.step.Then.{Then}
-use Rattle.xd_wire.specs.declared.step.Then.TheVariants.{At, End}
-use Rattle.xd_wire.specs.Lines.{Texts, Continues, IsAhead, ended, texts_at}
+use Rattle.xd_wire.specs.Lines.{Texts, Continues, ended, texts_at}
 use Rattle.xd_wire.specs.WireText.{IsWireText}
 use Rattle.xd_wire.specs.Printing.{TookUpTo, TookPartOfEach, HasText, Prints, end_with}
 
-pub continues_self : (whole : Texts) → Continues whole [] whole
+continues_self : (whole : Texts) → Continues whole [] whole
 continues_self whole = record { forth = λ more faulty k. k; back = λ all faulty k. (all, refl, k) }
 
-pub continues_more : (whole mid later : Texts) (a b : List ℕ) → Continues whole a mid → Continues mid b later → Continues whole (a ++ b) later
+continues_more : (whole mid later : Texts) (a b : List ℕ) → Continues whole a mid → Continues mid b later → Continues whole (a ++ b) later
 continues_more whole mid later a b first then =
     record {
       forth = λ more faulty k. subst (λ l. whole l faulty) (sym (append_assoc a b more)) (first.forth (b ++ more) faulty (then.forth more faulty k));
@@ -21,33 +19,25 @@ continues_more whole mid later a b first then =
     }
 
 -- nothing was taken yet
-pub took_start : (whole : Texts) (sunk : Option Sunk) → TookUpTo whole whole sunk sunk
-took_start whole sunk = record { text = []; continues = continues_self whole; took = took_nothing sunk }
+pub up_to_start : (whole : Texts) (sunk : Option Sunk) → TookUpTo whole whole sunk sunk
+up_to_start whole sunk = record { text = []; continues = continues_self whole; took = took_nothing sunk }
 
--- more lines were taken
-pub took_lines : (whole mid later : Texts) (lines : List ℕ) (old now new : Option Sunk) → TookUpTo whole mid old now → Continues mid lines later → Took lines now new → TookUpTo whole later old new
-took_lines whole mid later lines old now new k c t =
-    record { text = k.text ++ lines; continues = continues_more whole mid later k.text lines k.continues c; took = took_more k.text lines old now new k.took t }
+-- one more line was taken
+pub up_to_next : (whole mid later : Texts) (line : List ℕ) (old now new : Option Sunk) → TookUpTo whole mid old now → Continues mid line later → Took line now new → TookUpTo whole later old new
+up_to_next whole mid later line old now new k c t =
+    record { text = k.text ++ line; continues = continues_more whole mid later k.text line k.continues c; took = took_more k.text line old now new k.took t }
 
--- and as many as were taken up to some place
-pub took_on : (whole mid later : Texts) (old now new : Option Sunk) → TookUpTo whole mid old now → TookUpTo mid later now new → TookUpTo whole later old new
-took_on whole mid later old now new k more = took_lines whole mid later more.text old now new k more.continues more.took
+-- a part of one more line was taken
+pub up_to_part : (whole mid later : Texts) (line : List ℕ) (old now new : Option Sunk) → TookUpTo whole mid old now → Continues mid line later → TookPart line now new → TookPartOfEach whole old new
+up_to_part whole mid later line old now new k c t all faulty w =
+    let more = (continues_more whole mid later k.text line k.continues c).back all faulty w in
+    subst (λ l. TookPart l old new) (sym more.1) (part_of_more (k.text ++ line) more.0 old new (took_then_part k.text line old now new k.took t))
 
--- a first part of what comes next was taken
-pub took_first_part : (whole mid : Texts) (old now new : Option Sunk) → TookUpTo whole mid old now → TookPartOfEach mid now new → TookPartOfEach whole old new
-took_first_part whole mid old now new k part all faulty w =
+-- no further line was made
+pub up_to_stop : (whole later : Texts) (old new : Option Sunk) → TookUpTo whole later old new → TookPartOfEach whole old new
+up_to_stop whole later old new k all faulty w =
     let more = k.continues.back all faulty w in
-    subst (λ l. TookPart l old new) (sym more.1) (took_then_part k.text more.0 old now new k.took (part more.0 faulty more.2))
-
--- a first part of the lines that come next is one of each text
-pub part_of_lines : (whole later : Texts) (lines : List ℕ) (old new : Option Sunk) → Continues whole lines later → TookPart lines old new → TookPartOfEach whole old new
-part_of_lines whole later lines old new c t all faulty w =
-    let more = c.back all faulty w in
-    subst (λ l. TookPart l old new) (sym more.1) (part_of_more lines more.0 old new t)
-
--- no further line was taken
-pub took_stop : (whole later : Texts) (old new : Option Sunk) → TookUpTo whole later old new → TookPartOfEach whole old new
-took_stop whole later old new k = part_of_lines whole later k.text old new k.continues (took_is_part k.text old new k.took)
+    subst (λ l. TookPart l old new) (sym more.1) (part_of_more k.text more.0 old new (took_is_part k.text old new k.took))
 
 -- the text was taken as a whole
 pub whole_text : (whole : Texts) (fault : Bool) (old new : Option Sunk) → TookUpTo whole (ended fault) old new → (text : List ℕ) × whole text fault
@@ -81,15 +71,3 @@ when_err (Err x) P e p = p
 pub when_ok : {A E : Type 0} (r : Result A E) (P : Type 0) → is_err r ≡ false → OnOk r P → P
 when_ok (Ok x) P e p = p
 when_ok (Err x) P e p = cc
-
-abbrev place_in : Then → ℕ
-place_in (At place) = place
-place_in (End faulty) = 0
-
--- what follows a part that is further on is further on, too
-pub further_on : (at size place : ℕ) (now next : Then) → (now ≡ At at) ⊎ IsAhead at size now → now ≡ At place → IsAhead place size next → IsAhead at size next
-further_on at size place now (End faulty) from is ahead = tt
-further_on at size place now (At next) (inl here) is ahead =
-    let same : at ≡ place = ap place_in (sym here ∙ is) in (omega (arith, same, ahead.0), ahead.1)
-further_on at size place now (At next) (inr there) is ahead =
-    let before = subst (IsAhead at size) is there in (omega (arith, before.0, ahead.0), ahead.1)

@@ -6,7 +6,8 @@ use Rattle.xd_frame.specs.Stream.{AreBytes, messages, behind, rest, Rest, Clean,
 use Rattle.xd_value.specs.declared.fault.LoadWhat.{LoadWhat}
 use Rattle.xd_value.specs.Tree.{Tree}
 use Rattle.xd_value.specs.Payload.{IsPayload, FirstFault}
-use Rattle.xd_value.specs.Show.{shown}
+use Rattle.xd_show.specs.Show.{shown}
+use Rattle.xd_wire.specs.Payloads.{ReadsOne}
 use Rattle.xd_wire.specs.Names.{what_name, frame_fault_name}
 use Rattle.xd_wire.specs.WireText.{has_value, plain_line, value_line, fault_line, LineBy, FaultBy, IsLine, IsPayloadFault, IsEnd, IsTextFrom, IsWireText}
 
@@ -45,21 +46,15 @@ some_from read at (m ∷ ms) end r k =
 pub some_text : ((b : List ℕ) → AreBytes b → Read b) → (bytes : List ℕ) → bytes ≡ frames (messages bytes) ++ behind bytes → AreBytes bytes → (text : List ℕ) × (faulty : Bool) × IsWireText bytes text faulty
 some_text read bytes e k = some_from read 0 (messages bytes) (rest bytes) (behind bytes) (subst AreBytes e k)
 
--- what is read of bytes is one value or one fault
-pub record ReadsOne : Type 0 where
-  pub value : (v w : Tree) (b : List ℕ) → IsPayload v b → IsPayload w b → v ≡ w
-  pub apart : (v : Tree) (b : List ℕ) (at : ℕ) (f : LoadWhat) → IsPayload v b → FirstFault b at f → ⊥
-  pub fault : (b : List ℕ) (p q : ℕ) (f g : LoadWhat) → FirstFault b p f → FirstFault b q g → (p ≡ q) × (f ≡ g)
-
-one_line : (b : Bool) (m : MessageView) (x y : List ℕ) → ReadsOne → LineBy b m x → LineBy b m y → x ≡ y
+pub one_line : (b : Bool) (m : MessageView) (x y : List ℕ) → ReadsOne → LineBy b m x → LineBy b m y → x ≡ y
 one_line false m x y one p q = p ∙ sym q
 one_line true m x y one p q = p.2 ∙ (ap (λ v. value_line m.kind m.channel (length m.payload) (encode_utf8_all (shown v))) (one.value p.0 q.0 m.payload p.1 q.1) ∙ sym q.2)
 
-line_no_fault : (b : Bool) (m : MessageView) (x : List ℕ) (place : ℕ) (what : LoadWhat) → ReadsOne → LineBy b m x → FaultBy b m place what → ⊥
+pub line_no_fault : (b : Bool) (m : MessageView) (x : List ℕ) (place : ℕ) (what : LoadWhat) → ReadsOne → LineBy b m x → FaultBy b m place what → ⊥
 line_no_fault false m x place what one p q = q
 line_no_fault true m x place what one p q = one.apart p.0 m.payload place what p.1 q
 
-one_place : (b : Bool) (m : MessageView) (p q : ℕ) (f g : LoadWhat) → ReadsOne → FaultBy b m p f → FaultBy b m q g → (p ≡ q) × (f ≡ g)
+pub one_place : (b : Bool) (m : MessageView) (p q : ℕ) (f g : LoadWhat) → ReadsOne → FaultBy b m p f → FaultBy b m q g → (p ≡ q) × (f ≡ g)
 one_place false m p q f g one x y = absurd x
 one_place true m p q f g one x y = one.fault m.payload p q f g x y
 

@@ -1,5 +1,5 @@
 pub mod Names
 pub mod WireText
+pub mod Payloads
 pub mod Lines
-pub mod Parts
 pub mod Printing

@@ -1,28 +1,17 @@
 -- One line after another.
-use Rattle.std.specs.Prelude.{◌≡◌, ℕ, ◌<◌, ◌≤◌, List, [], ◌++◌, Bool, Result, Ok, Err, drop}
+use Rattle.std.specs.Prelude.{◌≡◌, ℕ, ◌<◌, ◌≤◌, List, [], ◌++◌, Bool, drop}
 use Rattle.xd_frame.specs.Message.{MessageView}
 use Rattle.xd_frame.specs.Stream.{messages, rest}
-use Rattle.xd_edge.specs.declared.refusals.OutOfMemory.{OutOfMemory}
-use Rattle.xd_value.specs.declared.fault.LoadFault.{LoadFault}
-use Rattle.xd_value.specs.declared.fault.LoadFault.TheVariants as fault
-use Rattle.xd_value.specs.declared.fault.LoadWhat.{LoadWhat}
 use Rattle.xd_wire.specs.declared.line.Line.{Line}
 use Rattle.xd_wire.specs.declared.line.Line.TheVariants.{Made, Fault}
 use Rattle.xd_wire.specs.declared.step.Then.{Then}
 use Rattle.xd_wire.specs.declared.step.Then.TheVariants.{At, End}
 use Rattle.xd_wire.specs.WireText.{IsLine, IsPayloadFault, IsTextFrom}
 
--- what a message is printed as, and nothing else; a line is these bytes
+-- what a message is printed as: a line of these bytes, or the first fault of its payload
 abbrev pub IsLineOf : MessageView → List ℕ → Line → Type 0
-IsLineOf m printed Made =
-    IsLine m printed × ((other : List ℕ) → IsLine m other → other ≡ printed) × ((place : ℕ) (what : LoadWhat) → IsPayloadFault m place what → ⊥)
-IsLineOf m printed (Fault place what) =
-    IsPayloadFault m place what × ((other : List ℕ) → IsLine m other → ⊥) × ((at : ℕ) (found : LoadWhat) → IsPayloadFault m at found → (at ≡ place) × (found ≡ what))
-
--- the refusal of a payload, as what its message is printed as
-abbrev pub gives_fault : LoadFault → Result Line OutOfMemory
-gives_fault (fault.Bad at what) = Ok (Fault at what)
-gives_fault fault.OutOfMemory = Err (record {})
+IsLineOf m printed Made = IsLine m printed
+IsLineOf m printed (Fault place what) = IsPayloadFault m place what
 
 -- a text, and whether a fault ends it
 abbrev pub Texts : Type 1
@@ -46,11 +35,11 @@ abbrev pub texts_of : List ℕ → Then → Texts
 texts_of bytes (At next) = texts_at bytes next
 texts_of bytes (End faulty) = ended faulty
 
--- the texts of a file from a place on begin with these lines, and then comes what follows
+-- the texts of a file from a place on begin with this line, and go on with what follows it
 abbrev pub LeadsTo : List ℕ → ℕ → List ℕ → Then → Type 0
-LeadsTo bytes at lines then = Continues (texts_at bytes at) lines (texts_of bytes then)
+LeadsTo bytes at line then = Continues (texts_at bytes at) line (texts_of bytes then)
 
--- the next line begins behind this place, inside the file or at its end
+-- the next line begins after this place, inside the file or at its end
 abbrev pub IsAhead : ℕ → ℕ → Then → Type 0
 IsAhead at size (At next) = (at < next) × (next ≤ size)
 IsAhead at size (End faulty) = Unit {0}

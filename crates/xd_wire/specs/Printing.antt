@@ -1,13 +1,12 @@
 -- What printing a file of messages leaves.
-use Rattle.std.specs.Prelude.{◌≡◌, ℕ, List, Bool, true, false, Option, Result, Ok, Err, length}
+use Rattle.std.specs.Prelude.{◌≡◌, ℕ, List, Bool, true, false, Option, Result, Ok, Err}
 use Rattle.xd_edge.specs.Sink.{Sunk, Took, TookPart, Printed}
 use Rattle.xd_edge.specs.declared.refusals.Failed.{Failed}
 use Rattle.xd_edge.specs.declared.refusals.OutOfMemory.{OutOfMemory}
 use Rattle.xd_wire.specs.declared.print.WireEnd.{WireEnd}
 use Rattle.xd_wire.specs.declared.print.WireEnd.TheVariants.{Whole, Faulty, OutFailed}
 use Rattle.xd_wire.specs.WireText.{IsWireText}
-use Rattle.xd_wire.specs.declared.step.Then.{Then}
-use Rattle.xd_wire.specs.Lines.{Texts, Continues, IsAhead, ended, texts_at, texts_of}
+use Rattle.xd_wire.specs.Lines.{Texts, Continues, ended}
 
 -- where the printing came to its end, the file has a text, with a fault where the answer says so
 abbrev pub HasText : List ℕ → WireEnd → Type 0
@@ -42,9 +41,3 @@ abbrev pub Leaves : Result (Result Bool Failed) OutOfMemory → Texts → Option
 Leaves (Ok (Ok faulty)) whole old new = TookUpTo whole (ended faulty) old new
 Leaves (Ok (Err e)) whole old new = TookPartOfEach whole old new
 Leaves (Err e) whole old new = TookPartOfEach whole old new
-
--- what one round of parts leaves: what follows it, further on, or a first part
-abbrev pub LeavesRound : Result (Result Then Failed) OutOfMemory → List ℕ → ℕ → Option Sunk → Option Sunk → Type 0
-LeavesRound (Ok (Ok then)) bytes at old new = TookUpTo (texts_at bytes at) (texts_of bytes then) old new × IsAhead at (length bytes) then
-LeavesRound (Ok (Err e)) bytes at old new = TookPartOfEach (texts_at bytes at) old new
-LeavesRound (Err e) bytes at old new = TookPartOfEach (texts_at bytes at) old new

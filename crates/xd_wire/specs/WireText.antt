@@ -9,7 +9,7 @@ use Rattle.xd_frame.specs.Stream.{messages, rest, Rest, Clean, Unfinished, Refus
 use Rattle.xd_value.specs.declared.fault.LoadWhat.{LoadWhat}
 use Rattle.xd_value.specs.Tree.{Tree}
 use Rattle.xd_value.specs.Payload.{IsPayload, FirstFault}
-use Rattle.xd_value.specs.Show.{shown}
+use Rattle.xd_show.specs.Show.{shown}
 use Rattle.xd_wire.specs.Names.{kind_name, frame_fault_name, what_name}
 
 -- the message of a header and this payload
@@ -60,14 +60,14 @@ FaultBy false m place what = ⊥
 abbrev pub IsPayloadFault : MessageView → ℕ → LoadWhat → Type 0
 IsPayloadFault m place what = FaultBy (has_value m.kind) m place what
 
--- the text of what stands behind the last message, which begins at this place, and whether that is a fault
+-- the text of what stands after the last message, which begins at this place, and whether that is a fault
 abbrev pub IsEnd : ℕ → Rest → List ℕ → Bool → Type 0
 IsEnd at Clean text faulty = (text ≡ []) × (faulty ≡ false)
 IsEnd at Unfinished text faulty = (text ≡ fault_line (codes "Cut") at) × (faulty ≡ true)
 IsEnd at (Refused fault) text faulty = (text ≡ fault_line (frame_fault_name fault) at) × (faulty ≡ true)
 
 -- the text of the messages from this place of the file on, and whether a fault ends it: the line of the first and
--- the text of the others, or the fault of its payload, which begins nine bytes behind its header
+-- the text of the others, or the fault of its payload, which begins nine bytes after the message does
 abbrev pub IsTextFrom : ℕ → List MessageView → Rest → List ℕ → Bool → Type 0
 IsTextFrom at [] end text faulty = IsEnd at end text faulty
 IsTextFrom at (m ∷ ms) end text faulty =

@@ -1,6 +1,7 @@
-// A law over message files.
+// Laws over message files.
 ghost use Rattle.std.specs.Prelude.{◌≡◌, ℕ, List, Bool};
 ghost use Rattle.xd_frame.specs.Stream.{AreBytes};
+ghost use Rattle.xd_wire.specs.Payloads.{ReadsOne};
 ghost use Rattle.xd_wire.specs.WireText.{IsWireText};
 
 use xd_frame::messages_are_the_longest;
@@ -12,6 +13,14 @@ pub fn a_file_has_one_text()
     ensures one { (bytes a b : List ℕ) (e f : Bool) → IsWireText bytes a e → IsWireText bytes b f → (a ≡ b) × (e ≡ f) }
 {
     messages_are_the_longest();
+    fault_law();
+    a_payload_reads_one();
+}
+
+/// A payload is read as one value or one fault.
+pub(crate) fn a_payload_reads_one()
+    ensures { ReadsOne }
+{
     fault_law();
     prefix_law();
 }

@@ -4,7 +4,6 @@
 mod law;
 mod line;
 mod names;
-mod part;
 mod print;
 mod step;
 

@@ -1,32 +1,18 @@
 // One message as a line.
-ghost use Rattle.std.specs.Prelude.{◌≡◌, ◌<◌, ◌++◌, ◌∷◌, [], IfOk, OnOk, OnErr, length, string_bytes, encode_utf8_all};
+ghost use Rattle.std.specs.Prelude.{◌≡◌, ◌++◌, ◌∷◌, [], IfOk, OnOk, length, string_bytes, encode_utf8_all};
 ghost use Rattle.std.specs.Fmt.{decimal};
+ghost use Rattle.xd_show.specs.Show.{shown};
+ghost use Rattle.xd_value.specs.View.{view};
 ghost use Rattle.xd_wire.specs.WireText.{has_value, line_start, message_with};
-ghost use Rattle.xd_wire.specs.Lines.{IsLineOf, gives_fault};
+ghost use Rattle.xd_wire.specs.Lines.{IsLineOf};
 
 use crate::names::name_of_kind;
 use itoa::Buffer;
 use std::alloc::Global;
-use xd_edge::{OutOfMemory, Text};
+use xd_edge::OutOfMemory;
 use xd_frame::{Header, Kind};
-use xd_value::{LoadFault, LoadWhat, Reader};
-
-/// What is kept from one line to the next: how payloads are read, and the room for the start of a line.
-#[derive(Drop)]
-pub struct Room {
-    pub reader: Reader,
-    pub ahead: Text,
-}
-
-impl Room {
-    /// There is no room yet.
-    pub fn new(alloc: Global) -> Room {
-        Room {
-            reader: Reader::new(alloc),
-            ahead: Text::from_string(String::new(alloc)),
-        }
-    }
-}
+use xd_show::show;
+use xd_value::{LoadFault, LoadWhat, Value, loads};
 
 /// What a message is printed as: a line, or the first fault of its payload and the place of that there.
 #[derive(Clone, Copy)]
@@ -35,41 +21,29 @@ pub enum Line {
     Fault(usize, LoadWhat),
 }
 
-/// Makes the text the line of a message with this payload; or finds the first fault of the payload, and then nothing is told
-/// of the text.
+/// Makes the string the line of a message with this payload, or finds the first fault of the
+/// payload.
 pub fn line_of(
     alloc: Global,
-    room: &mut Room,
     header: Header,
     payload: &[u8],
-    text: &mut Text,
+    line: &mut String,
 ) -> Result<Line, OutOfMemory>
     requires { length payload.now ≡ header.length }
-    ensures { IfOk result (IsLineOf (message_with header payload.now) (encode_utf8_all text.new)) }
+    ensures { IfOk result (IsLineOf (message_with header payload.now) (string_bytes line.new)) }
 {
+    write_start(line, header)?;
     if !reads_value(header.kind) {
-        plain_line(text, header)?;
+        line.push('\n')?;
         return Ok(Line::Made);
     }
-    start(&mut room.ahead, header)?;
-    push(&mut room.ahead, ' ')?;
-    // So the reader asks for room for this line alone, and not behind the one before.
-    clear(text);
-    match room.reader.show(alloc, payload, &room.ahead, text) {
-        Ok(()) => {
-            push(text, '\n')?;
+    match loads(alloc, payload) {
+        Ok(value) => {
+            push_value(alloc, line, &value)?;
             Ok(Line::Made)
         }
-        Err(fault) => line_fault(fault),
-    }
-}
-
-fn line_fault(fault: LoadFault) -> Result<Line, OutOfMemory>
-    ensures { result ≡ gives_fault fault }
-{
-    match fault {
-        LoadFault::Bad { at, what } => Ok(Line::Fault(at, what)),
-        LoadFault::OutOfMemory => Err(OutOfMemory),
+        Err(LoadFault::Bad { at, what }) => Ok(Line::Fault(at, what)),
+        Err(LoadFault::OutOfMemory) => Err(OutOfMemory),
     }
 }
 
@@ -84,76 +58,35 @@ fn reads_value(kind: Kind) -> bool
     }
 }
 
-/// Makes the text the line of a message whose payload is not read.
-fn plain_line(text: &mut Text, header: Header) -> Result<(), OutOfMemory>
-    ensures { OnOk result (encode_utf8_all text.new ≡ line_start header.kind header.channel header.length ++ (10 ∷ [])) }
+/// Makes the string the name of a message, its channel and the length of its payload.
+fn write_start(line: &mut String, header: Header) -> Result<(), OutOfMemory>
+    ensures { OnOk result (string_bytes line.new ≡ line_start header.kind header.channel header.length) }
 {
-    start(text, header)?;
-    push(text, '\n')?;
-    Ok(())
-}
-
-/// Makes the text empty.
-#[inline(always)]
-pub(crate) fn clear(text: &mut Text)
-    ensures { encode_utf8_all text.new ≡ [] }
-{
-    text.text.clear();
-}
-
-/// Appends a text.
-pub(crate) fn append(text: &mut Text, more: &str) -> Result<(), OutOfMemory>
-    ensures added { OnOk result (encode_utf8_all text.new ≡ encode_utf8_all text.old ++ more.now) }
-    ensures kept { OnErr result (text.new ≡ text.old) }
-{
-    text.text.push_str(more)?;
-    Ok(())
-}
-
-/// Makes the text the name of a message, its channel and the length of its payload.
-#[inline(always)]
-fn start(text: &mut Text, header: Header) -> Result<(), OutOfMemory>
-    ensures { OnOk result (encode_utf8_all text.new ≡ line_start header.kind header.channel header.length) }
-{
-    clear(text);
-    append_start(text, header)?;
-    Ok(())
-}
-
-#[inline(always)]
-fn append_start(text: &mut Text, header: Header) -> Result<(), OutOfMemory>
-    ensures { OnOk result (encode_utf8_all text.new ≡ encode_utf8_all text.old ++ line_start header.kind header.channel header.length) }
-{
-    write_start(&mut text.text, header)?;
-    Ok(())
-}
-
-#[inline(always)]
-fn write_start(text: &mut String, header: Header) -> Result<(), OutOfMemory>
-    ensures { OnOk result (string_bytes text.new ≡ string_bytes text.old ++ line_start header.kind header.channel header.length) }
-{
-    text.push_str(name_of_kind(header.kind))?;
-    push_number(text, header.channel)?;
-    push_number(text, header.length)?;
+    line.clear();
+    line.push_str(name_of_kind(header.kind))?;
+    push_number(line, header.channel)?;
+    push_number(line, header.length)?;
     Ok(())
 }
 
 /// Appends a space and a number.
-#[inline(always)]
-fn push_number(text: &mut String, number: u32) -> Result<(), OutOfMemory>
-    ensures { OnOk result (string_bytes text.new ≡ string_bytes text.old ++ (32 ∷ decimal number)) }
+fn push_number(line: &mut String, number: u32) -> Result<(), OutOfMemory>
+    ensures { OnOk result (string_bytes line.new ≡ string_bytes line.old ++ (32 ∷ decimal number)) }
 {
     let mut buffer = Buffer::new();
-    text.push(' ')?;
-    text.push_str(buffer.format(number))?;
+    line.push(' ')?;
+    line.push_str(buffer.format(number))?;
     Ok(())
 }
 
-/// Appends a character of ASCII.
-fn push(text: &mut Text, c: char) -> Result<(), OutOfMemory>
-    requires { c < 128 }
-    ensures { OnOk result (encode_utf8_all text.new ≡ encode_utf8_all text.old ++ (c ∷ [])) }
+/// Appends a space, the value and the end of the line.
+fn push_value(alloc: Global, line: &mut String, value: &Value) -> Result<(), OutOfMemory>
+    ensures { OnOk result (string_bytes line.new ≡ string_bytes line.old
+        ++ (32 ∷ (encode_utf8_all (shown (view value.now)) ++ (10 ∷ [])))) }
 {
-    text.text.push(c)?;
+    let text = show(alloc, value)?;
+    line.push(' ')?;
+    line.push_str(text.as_str())?;
+    line.push('\n')?;
     Ok(())
 }

@@ -1,5 +1,3 @@
-use Rattle.std.proofs.Common.{[], sym}
-use Rattle.std.proofs.lemmas.List.{append-nil}
 use Rattle.xd_wire.proofs.TextLemmas.{some_text, one_text}
 use Rattle.xd_wire.proofs.law.a_file_has_one_text.Goals as goal
 
@@ -7,9 +5,4 @@ pub returns-clause-some : goal.returns-clause-some
 returns-clause-some c = λ bytes k. some_text c.fault_law.ensures.some bytes (c.messages_are_the_longest.ensures.behind bytes k) k
 
 pub returns-clause-one : goal.returns-clause-one
-returns-clause-one c =
-    one_text (record {
-      value = λ v w b p q. (c.prefix_law.ensures v w b b [] p q (sym (append-nil b))).0;
-      apart = c.fault_law.ensures.payload;
-      fault = c.fault_law.ensures.one;
-    })
+returns-clause-one c = one_text c.a_payload_reads_one.ensures

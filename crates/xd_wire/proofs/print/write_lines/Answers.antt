@@ -1,32 +1,37 @@
-use Rattle.std.proofs.Common.{◌≡◌, Result, Ok, OnOk, subst, ap, ◌∙◌}
+use Rattle.std.proofs.Common.{List, ℕ, length, sym, subst, ◌∙◌}
 use Rattle.std.proofs.lemmas.Result.{err_from_is_err_and}
-use Rattle.xd_edge.specs.declared.refusals.Failed.{Failed}
+use Rattle.xd_edge.specs.Sink.{Took, TookPart}
 use Rattle.xd_wire.specs.declared.step.Then.{Then}
-use Rattle.xd_wire.specs.Printing.{LeavesRound}
-use Rattle.xd_wire.proofs.PrintLemmas.{took_on, took_first_part}
+use Rattle.xd_wire.specs.Lines.{IsAhead, texts_at, texts_of}
+use Rattle.xd_wire.specs.Printing.{TookUpTo}
+use Rattle.xd_wire.proofs.PrintLemmas.{up_to_next, up_to_part, up_to_stop, when_err, when_ok}
 use Rattle.xd_wire.proofs.print.write_lines.Goals as goal
 
 pub returns-in_err-then-clause-leaves : goal.returns-in_err-then-clause-leaves
 returns-in_err-then-clause-leaves g c =
-    let p = err_from_is_err_and c.from_residual-in_err-then.result c.from_residual-in_err-then.ensures.1 in
-    rw p.1 (took_first_part _ _ _ _ _ c.rounds.invariant.took c.in_err-then.ensures.leaves)
+    let p = err_from_is_err_and c.from_residual.result c.from_residual.ensures.1 in rw p.1 (up_to_stop _ _ _ _ c.lines.invariant.took)
 
-pub returns-in_default-clause-leaves : goal.returns-in_default-clause-leaves
-returns-in_default-clause-leaves g c =
-    took_first_part _ _ _ _ _ c.rounds.invariant.took
-    (subst (λ (w : Result Then Failed). LeavesRound (Ok w) c.args.file.now c.rounds.at (g.O.Sink.sunk c.rounds.out) (g.O.Sink.sunk c.print_round.new.out)) c.in_default.is c.in_ok-then.ensures.leaves)
+pub returns-then-is_err-clause-leaves : goal.returns-then-is_err-clause-leaves
+returns-then-is_err-clause-leaves g c =
+    up_to_part _ _ _ _ _ _ _ c.lines.invariant.took c.in_ok-then.ensures.step
+    (subst (λ (l : List ℕ). TookPart l (g.O.Sink.sunk c.lines.out) (g.O.Sink.sunk c.write_all.new.sink)) c.as_bytes.ensures.value
+    (when_err c.write_all.result _ (sym c.is_err.ensures.value ∙ c.if-is_err.true) c.write_all.ensures.part))
 
-pub rounds-preserved : goal.rounds-preserved
-rounds-preserved g c =
-    let leaves = subst (λ (w : Result Then Failed). LeavesRound (Ok w) c.args.file.now c.rounds.at (g.O.Sink.sunk c.rounds.out) (g.O.Sink.sunk c.print_round.new.out)) (c.in-Ok.is ∙ ap Ok c.in-At.is) c.in_ok-then.ensures.leaves in
+pub lines-preserved : goal.lines-preserved
+lines-preserved g c =
+    let ahead = subst (IsAhead c.lines.at (length c.args.bytes.now)) c.in-At.is c.in_ok-then.ensures.ahead in
     record {
-      some = c.rounds.invariant.some;
-      within = leaves.1.1;
-      took = took_on _ _ _ _ _ _ c.rounds.invariant.took leaves.0;
-      still = subst (λ (w : Result Then Failed). OnOk w (g.O.Sink.faults c.print_round.new.out ≡ g.O.Sink.faults c.rounds.out)) c.in-Ok.is c.in_ok-then.ensures.still ∙ c.rounds.invariant.still;
+      within = ahead.1;
+      took = subst (λ (t : Then). TookUpTo (texts_at c.args.bytes.now 0) (texts_of c.args.bytes.now t) (g.O.Sink.sunk c.args.out.now) (g.O.Sink.sunk c.write_all.new.sink)) c.in-At.is
+          (up_to_next _ _ _ _ _ _ _ c.lines.invariant.took c.in_ok-then.ensures.step
+          (subst (λ (l : List ℕ). Took l (g.O.Sink.sunk c.lines.out) (g.O.Sink.sunk c.write_all.new.sink)) c.as_bytes.ensures.value
+          (when_ok c.write_all.result _ (sym c.is_err.ensures.value ∙ c.if-is_err.false) c.write_all.ensures.ok)));
+      still = when_ok c.write_all.result _ (sym c.is_err.ensures.value ∙ c.if-is_err.false) c.write_all.ensures.still ∙ c.lines.invariant.still;
     }
 
 pub returns-in-End-clause-leaves : goal.returns-in-End-clause-leaves
 returns-in-End-clause-leaves g c =
-    let leaves = subst (λ (w : Result Then Failed). LeavesRound (Ok w) c.args.file.now c.rounds.at (g.O.Sink.sunk c.rounds.out) (g.O.Sink.sunk c.print_round.new.out)) (c.in-Ok.is ∙ ap Ok c.in-End.is) c.in_ok-then.ensures.leaves in
-    took_on _ _ _ _ _ _ c.rounds.invariant.took leaves.0
+    subst (λ (t : Then). TookUpTo (texts_at c.args.bytes.now 0) (texts_of c.args.bytes.now t) (g.O.Sink.sunk c.args.out.now) (g.O.Sink.sunk c.write_all.new.sink)) c.in-End.is
+    (up_to_next _ _ _ _ _ _ _ c.lines.invariant.took c.in_ok-then.ensures.step
+    (subst (λ (l : List ℕ). Took l (g.O.Sink.sunk c.lines.out) (g.O.Sink.sunk c.write_all.new.sink)) c.as_bytes.ensures.value
+    (when_ok c.write_all.result _ (sym c.is_err.ensures.value ∙ c.if-is_err.false) c.write_all.ensures.ok)))

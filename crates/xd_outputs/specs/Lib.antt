@@ -1,4 +1,0 @@
-pub mod Changes
-pub mod Marks
-pub mod ModeCalls
-pub mod Steps

@@ -1,0 +1,13 @@
+//! Values as text, in the notation of Python.
+#![tactic(auto)]
+
+mod append;
+mod leaf;
+mod printing;
+
+pub use printing::show;
+
+#[cfg(test)]
+mod tests;
+#[cfg(test)]
+mod vectors;

@@ -1,9 +1,0 @@
-use Rattle.std.proofs.Common.{arith}
-use Rattle.xd_value.proofs.Along.{chunk_parts}
-use Rattle.xd_value.proofs.walk.chunk_in.Goals as goal
-
-pub returns-in-Ok-clause-spelled : goal.returns-in-Ok-clause-spelled
-returns-in-Ok-clause-spelled c = (chunk_parts c.args.bytes.now c.in-Ok.read.0.now c.in-Ok.read.1.now (λ i. omega (arith, c.type_inv.bytes i)) c.in-Ok.ensures).0
-
-pub returns-in-Ok-clause-fits : goal.returns-in-Ok-clause-fits
-returns-in-Ok-clause-fits c = (chunk_parts c.args.bytes.now c.in-Ok.read.0.now c.in-Ok.read.1.now (λ i. omega (arith, c.type_inv.bytes i)) c.in-Ok.ensures).1
