@@ -4,8 +4,8 @@ use Rattle.std.specs.Prelude.{◌==◌, fold, sum, slice_index}
 use Rattle.std.specs.List.{range_with_len}
 use Rattle.std.proofs.lemmas.Bool.{cases_order}
 use Rattle.std.proofs.lemmas.Bool.Decides.{nat_tests}
+use Rattle.xd_journal.specs.declared.entry.Entry.TheVariants.{Run, RunAll, Shutdown}
 use Rattle.xd_ledger.specs.declared.seat.Seat.{Seat}
-use Rattle.xd_ledger.specs.declared.entry.Entry.TheVariants.{Run, RunAll, Shutdown}
 use Rattle.xd_ledger.specs.Numbers.{among, without, all_distinct, all_among, times}
 use Rattle.xd_ledger.specs.Table.{Table, in_rota, seat_shut, workers_of, assigned, shut_down}
 use Rattle.xd_ledger.specs.Plan.{Plan, base, items_named, slot_items, total, is_each, is_scope}
@@ -187,7 +187,7 @@ seats-times w (s ∷ ss) = grind (arith, nat_tests, seats-times w ss)
 pub rota-distinct : (s : State) → Tidy s → all_distinct (workers_of s.books.table) ≡ true
 rota-distinct s d = distinct-of_times (workers_of s.books.table) (λ w. omega (arith, seats-times w s.books.table.rota, d.placed.fits.seats w))
 
-rota-apart : (s : State) → Tidy s → (v u : ℕ) → InRota s v → InRota s u → slot_of v s.books ≡ slot_of u s.books → v ≡ u
+pub rota-apart : (s : State) → Tidy s → (v u : ℕ) → InRota s v → InRota s u → slot_of v s.books ≡ slot_of u s.books → v ≡ u
 rota-apart s d v u a b e =
     let f = d.placed.fits in
     d.crew.apart v u (f.active v (seat-among v s.books.table.rota ∙ a)) (f.active u (seat-among u s.books.table.rota ∙ b)) e

@@ -3,13 +3,13 @@ use Rattle.std.proofs.Common.{◌≡◌, ℕ, ◌+◌, List, [], ◌∷◌, map,
 use Rattle.std.specs.Prelude.{Some, None, Option, is_some, ◌==◌}
 use Rattle.std.specs.List.{range_with_len}
 use Rattle.std.proofs.lemmas.Bool.Decides.{nat_tests}
+use Rattle.xd_journal.specs.declared.entry.Ids.{Ids}
+use Rattle.xd_journal.specs.declared.entry.Outcome.{Outcome}
+use Rattle.xd_journal.specs.declared.entry.RunStop.{RunStop}
+use Rattle.xd_journal.specs.declared.entry.RunStop.TheVariants.{CollectError}
+use Rattle.xd_journal.specs.declared.entry.Entry.{Entry}
+use Rattle.xd_journal.specs.declared.entry.Entry.TheVariants.{Ready, Collected, Done, Back, Finished, Refused, Down, NotStarted, Start, Run, RunAll, Steal, Shutdown, Kill, Over}
 use Rattle.xd_ledger.specs.declared.member.Member.{Member}
-use Rattle.xd_ledger.specs.declared.entry.Ids.{Ids}
-use Rattle.xd_ledger.specs.declared.entry.Outcome.{Outcome}
-use Rattle.xd_ledger.specs.declared.entry.RunStop.{RunStop}
-use Rattle.xd_ledger.specs.declared.entry.RunStop.TheVariants.{CollectError}
-use Rattle.xd_ledger.specs.declared.entry.Entry.{Entry}
-use Rattle.xd_ledger.specs.declared.entry.Entry.TheVariants.{Ready, Collected, Done, Back, Finished, Refused, Down, NotStarted, Start, Run, RunAll, Steal, Shutdown, Kill, Over}
 use Rattle.xd_ledger.specs.Table.{joined}
 use Rattle.xd_ledger.specs.Plan.{items_named, total}
 use Rattle.xd_ledger.specs.Books.{marked}
@@ -26,14 +26,21 @@ use Rattle.xd_laws.proofs.Placed.{placed-input}
 use Rattle.xd_laws.proofs.CrewFits.{CrewFits, crew-ready, crew-collected, crew-gone}
 use Rattle.xd_laws.proofs.Turns.{Tidy, Calm, InRota}
 
+-- a collection comes: its worker is shut, the run stops, or the worker joins, and the last one brings the share
+pub collecting-full : (P : State → Type 0) (s : State) (w : ℕ) (stop : Option RunStop) → P s → P (in_books (stopped_by stop) s)
+    → P (in_books (λ b. record b { table = joined w b.table }) s)
+    → (is_full (in_books (λ b. record b { table = joined w b.table }) s).books ≡ true → P (shared_now (in_books (λ b. record b { table = joined w b.table }) s))) → P (collecting w stop s)
+collecting-full P s w (Some how) a b c d = in_both P (is_shut w s.books) s (in_books (stopped_by (Some how)) s) (λ h. a) (λ h. b)
+collecting-full P s w None a b c d =
+    let j = in_books (λ b. record b { table = joined w b.table }) s in
+    in_both P (is_shut w s.books) s (joining w s) (λ h. a) (λ h. in_both P (is_full j.books) (shared_now j) j d (λ k. c))
+
 -- what the sharing of tests and the joining of a worker leave as it is
 pub collecting-keeps : (P : State → Type 0) (s : State) (w : ℕ) (stop : Option RunStop) → P s → P (in_books (stopped_by stop) s)
     → P (in_books (λ b. record b { table = joined w b.table }) s) → (s.books.shared ≡ false → P (shared_now (in_books (λ b. record b { table = joined w b.table }) s))) → P (collecting w stop s)
-collecting-keeps P s w (Some how) a b c d = in_both P (is_shut w s.books) s (in_books (stopped_by (Some how)) s) (λ h. a) (λ h. b)
-collecting-keeps P s w None a b c d =
+collecting-keeps P s w stop a b c d =
     let j = in_books (λ b. record b { table = joined w b.table }) s in
-    in_both P (is_shut w s.books) s (joining w s) (λ h. a) (λ h. in_both P (is_full j.books) (shared_now j) j
-    (λ k. d (not_true s.books.shared (split-and (not s.books.shared) (length j.books.table.rota == s.books.settings.workers) k).0)) (λ k. c))
+    collecting-full P s w stop a b c (λ k. d (not_true s.books.shared (split-and (not s.books.shared) (length j.books.table.rota == s.books.settings.workers) k).0))
 
 abbrev CrewOk : State → Type 0
 CrewOk s = CrewFits s.books.crew s.books.settings.workers

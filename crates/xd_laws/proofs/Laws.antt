@@ -1,11 +1,16 @@
 -- The laws.
-use Rattle.std.proofs.Common.{◌≡◌, ℕ, Bool, List, true, false, refl, ap, sym, ◌∙◌, arith, ◌≤◌, ◌<◌, [], ◌∷◌, not, ◌||◌, inl, inr}
+use Rattle.std.proofs.Common.{◌≡◌, ℕ, subst, Bool, List, true, false, refl, ap, sym, ◌∙◌, arith, ◌≤◌, ◌<◌, [], ◌∷◌, ◌++◌, not, ◌||◌, inl, inr}
 use Rattle.xd_laws.proofs.Spent.{Spent, And, rule-spent}
 use Rattle.xd_laws.proofs.Told.{items_told, told-all}
 use Rattle.xd_laws.proofs.Places.{times-table}
 use Rattle.xd_laws.proofs.Crew.{has}
 use Rattle.xd_laws.proofs.Rota.{has_seat}
+use Rattle.xd_laws.specs.Collected.{IsShared, collected}
+use Rattle.xd_laws.specs.Early.{has_collection}
+use Rattle.xd_laws.specs.Places.{StandsAt, place_by}
 use Rattle.xd_laws.specs.Reported.{AreOnce}
+use Rattle.xd_journal.specs.declared.settings.Settings.{Settings}
+use Rattle.xd_journal.specs.declared.entry.Entry.{Entry}
 use Rattle.xd_ledger.specs.Reports.{reports}
 use Rattle.xd_ledger.specs.Workers.{some_active}
 use Rattle.xd_ledger.specs.Stops.{is_stopped, is_shutting}
@@ -13,15 +18,14 @@ use Rattle.xd_ledger.specs.declared.member.Member.{Member}
 use Rattle.xd_ledger.specs.declared.seat.Seat.{Seat}
 use Rattle.std.proofs.lemmas.Bool.Decides.{nat_tests}
 use Rattle.std.specs.List.{list_any}
+use Rattle.std.specs.Prelude.{sum}
 use Rattle.xd_edge.specs.declared.mode.ModeKind.{ModeKind}
 use Rattle.xd_edge.specs.declared.mode.ModeKind.TheVariants.{Local, Each, Load, LoadScope, LoadFile, LoadGroup, WorkSteal}
-use Rattle.xd_ledger.specs.declared.settings.Settings.{Settings}
-use Rattle.xd_ledger.specs.declared.entry.Entry.{Entry}
 use Rattle.xd_ledger.specs.Numbers.{times}
 use Rattle.xd_ledger.specs.Table.{all_items, Table, in_rota, held_by_all}
 use Rattle.xd_ledger.specs.Plan.{total, is_scope}
 use Rattle.xd_ledger.specs.Sharing.{State}
-use Rattle.xd_ledger.specs.State.{no_one}
+use Rattle.xd_ledger.specs.State.{all_moved, no_one, state_at}
 use Rattle.xd_ledger.specs.Histories.{begun, stepped_all, is_over, journal_of}
 use Rattle.xd_ledger.specs.Proper.{has_workers, IsProper}
 use Rattle.xd_ledger.specs.Orderly.{is_orderly_run}
@@ -32,6 +36,10 @@ use Rattle.xd_laws.proofs.Placed.{Placed, due_times, at_most_once}
 use Rattle.xd_laws.proofs.Turns.{Tidy}
 use Rattle.xd_laws.proofs.Rule.{Rule}
 use Rattle.xd_laws.proofs.Runs.{begun-holds, all-hold, all-orderly}
+use Rattle.xd_laws.proofs.Shared.{Listing, keeps_listing, listing-none}
+use Rattle.xd_laws.proofs.Walk.{AllCome, Keeps, come-front, come-journal, journal-state, walk}
+use Rattle.xd_laws.proofs.Early.{Early, early-none, keeps_early}
+use Rattle.xd_laws.proofs.Placing.{Standing, keeps_standing, standing-none}
 use Rattle.xd_laws.proofs.InMode.{InMode}
 use Rattle.xd_laws.proofs.LoadRule.{load_rule}
 use Rattle.xd_laws.proofs.StealRule.{steal_rule}
@@ -40,11 +48,12 @@ use Rattle.xd_laws.proofs.ScopeInputs.{Scoped}
 use Rattle.xd_laws.proofs.ScopeRule.{scope_rule, scoped-none}
 
 -- what the laws say of one run
-record Lawful (settings : Settings) (inputs : List Entry) : Type 0 where
-  order : is_orderly_run (begun settings) inputs ≡ true
-  tidy : Tidy (stepped_all (begun settings) inputs)
-  spent : Spent (stepped_all (begun settings) inputs)
-  told : items_told (reports settings (journal_of settings inputs)) ≡ (stepped_all (begun settings) inputs).books.table.reported
+pub record Lawful (settings : Settings) (inputs : List Entry) : Type 0 where
+  pub come : AllCome (no_one settings) (journal_of settings inputs)
+  pub order : is_orderly_run (begun settings) inputs ≡ true
+  pub tidy : Tidy (stepped_all (begun settings) inputs)
+  pub spent : Spent (stepped_all (begun settings) inputs)
+  pub told : items_told (reports settings (journal_of settings inputs)) ≡ (stepped_all (begun settings) inputs).books.table.reported
 
 spent-none : (settings : Settings) → Spent (no_one settings)
 spent-none settings = record { spent = λ h k. absurd (differ h) }
@@ -55,6 +64,7 @@ by_rule X plain settings inputs x p =
     let b = begun-holds (And X) rule settings (record { also = x; spent = spent-none settings }) in
     let all = all-hold (And X) rule (begun settings) inputs p.follow b in
     record {
+      come = come-journal (And X) rule settings inputs (record { also = x; spent = spent-none settings }) p.follow;
       order = all-orderly (And X) rule (begun settings) inputs p.follow b;
       tidy = all.tidy;
       spent = all.also.spent;
@@ -70,6 +80,17 @@ by_mode LoadFile settings inputs m p = by_rule Scoped scope_rule settings inputs
 by_mode LoadGroup settings inputs m p = by_rule Scoped scope_rule settings inputs (scoped-none settings (ap is_scope m)) p
 by_mode WorkSteal settings inputs m p = by_rule (InMode WorkSteal) steal_rule settings inputs m p
 
+pub lawful : (settings : Settings) (inputs : List Entry) → IsProper settings inputs → Lawful settings inputs
+lawful settings inputs p = by_mode settings.mode settings inputs refl p
+
+-- what each entry keeps holds behind a proper journal
+pub journal-keeps : (settings : Settings) (inputs : List Entry) (R : State → List Entry → Type 0) → Keeps settings R → IsProper settings inputs → R (no_one settings) []
+    → R (stepped_all (begun settings) inputs) (journal_of settings inputs)
+journal-keeps settings inputs R k p r =
+    let es = journal_of settings inputs in
+    subst (λ (s : State). R s es) (journal-state settings inputs p.follow)
+    (k.settled (all_moved (no_one settings) es) es (walk settings R k es (lawful settings inputs p).come r))
+
 once-placed : (s : State) → Placed s → IsOnce s
 once-placed s k =
     let whole : (b : Bool) → s.books.shared ≡ b → (x : ℕ) → times x (all_items s.books.table) ≡ due_times x b (total s.plan) =
@@ -81,10 +102,10 @@ once-placed s k =
     }
 
 pub orderly : (settings : Settings) (inputs : List Entry) → IsProper settings inputs → is_orderly_run (begun settings) inputs ≡ true
-orderly settings inputs p = (by_mode settings.mode settings inputs refl p).order
+orderly settings inputs p = (lawful settings inputs p).order
 
 pub in_one_place : (settings : Settings) (inputs : List Entry) → IsProper settings inputs → IsOnce (stepped_all (begun settings) inputs)
-in_one_place settings inputs p = once-placed (stepped_all (begun settings) inputs) (by_mode settings.mode settings inputs refl p).tidy.placed
+in_one_place settings inputs p = once-placed (stepped_all (begun settings) inputs) (lawful settings inputs p).tidy.placed
 
 -- the reports
 
@@ -127,7 +148,7 @@ total_or_none s k x l = elim (cases_of s.books.shared) [
 
 pub reported_once : (settings : Settings) (inputs : List Entry) → IsProper settings inputs → AreOnce (reports settings (journal_of settings inputs)) (stepped_all (begun settings) inputs)
 reported_once settings inputs p =
-    let l = by_mode settings.mode settings inputs refl p in
+    let l = lawful settings inputs p in
     let s = stepped_all (begun settings) inputs in
     let same : (x : ℕ) → times x (items_told (reports settings (journal_of settings inputs))) ≡ times x s.books.table.reported = λ x. ap (λ (xs : List ℕ). times x xs) l.told in
     record {
@@ -135,3 +156,49 @@ reported_once settings inputs p =
       no_other = λ x h. (let none = total_or_none s l.tidy.placed x h in omega (arith, same x, reported-within x s.books.table, none));
       all_told = λ h u x b. same x ∙ all-told s l.tidy l.spent h u x b;
     }
+
+-- a run that is over and was not stopped was shared, and has the tests that were collected
+
+pub over-shared : (s : State) → Tidy s → is_over s.books ≡ true → is_stopped s.books ≡ false → s.books.shared ≡ true
+over-shared s d h u =
+    let a = split-and (is_shutting s.books) (not (some_active s.books)) h in
+    d.calm.late (not_shut_by (is_stopped s.books) s.books.shutting a.0 u)
+
+pub shared_total : (settings : Settings) (inputs : List Entry) → IsProper settings inputs → (stepped_all (begun settings) inputs).books.shared ≡ true
+    → total (stepped_all (begun settings) inputs).plan ≡ collected (stepped_all (begun settings) inputs).books
+shared_total settings inputs p h =
+    let k : Listing (stepped_all (begun settings) inputs) = journal-keeps settings inputs (λ s es. Listing s) (keeps_listing settings) p (listing-none settings) in
+    ap sum (k.sizes h)
+
+pub was_shared : (settings : Settings) (inputs : List Entry) → IsProper settings inputs → is_over (stepped_all (begun settings) inputs).books ≡ true
+    → is_stopped (stepped_all (begun settings) inputs).books ≡ false → IsShared (stepped_all (begun settings) inputs)
+was_shared settings inputs p h u =
+    let shared = over-shared (stepped_all (begun settings) inputs) (lawful settings inputs p).tidy h u in
+    record { shared = shared; tests = shared_total settings inputs p shared }
+
+-- before the share nothing is reported
+pub none-reported : (settings : Settings) (inputs : List Entry) → IsProper settings inputs → (stepped_all (begun settings) inputs).books.shared ≡ false
+    → (x : ℕ) → times x (items_told (reports settings (journal_of settings inputs))) ≡ 0
+none-reported settings inputs p h x =
+    let l = lawful settings inputs p in
+    let s = stepped_all (begun settings) inputs in
+    let none : times x (all_items s.books.table) ≡ 0 = ap (λ (xs : List ℕ). times x xs) ((once-placed s l.tidy.placed).none_before h) in
+    let same : times x (items_told (reports settings (journal_of settings inputs))) ≡ times x s.books.table.reported = ap (λ (xs : List ℕ). times x xs) l.told in
+    omega (arith, same, reported-within x s.books.table, none)
+
+-- what each entry keeps holds behind each part of a proper journal
+pub part-keeps : (settings : Settings) (inputs : List Entry) (R : State → List Entry → Type 0) → Keeps settings R → IsProper settings inputs → R (no_one settings) []
+    → (before after : List Entry) → journal_of settings inputs ≡ before ++ after → R (state_at settings before) before
+part-keeps settings inputs R k p r before after e =
+    let come = come-front (no_one settings) before after (subst (λ (es : List Entry). AllCome (no_one settings) es) e (lawful settings inputs p).come) in
+    k.settled (all_moved (no_one settings) before) before (walk settings R k before come r)
+
+pub no_early : (settings : Settings) (inputs : List Entry) → IsProper settings inputs → (before after : List Entry) → journal_of settings inputs ≡ before ++ after → has_collection before ≡ false
+    → reports settings before ≡ []
+no_early settings inputs p before after e h =
+    let k : Early settings (state_at settings before) before = part-keeps settings inputs (Early settings) (keeps_early settings) p (early-none settings) before after e in
+    (k h).none
+
+pub last_decides : (settings : Settings) (inputs : List Entry) → IsProper settings inputs → (before after : List Entry) → journal_of settings inputs ≡ before ++ after
+    → (x : ℕ) → StandsAt (state_at settings before).books.table x (place_by settings before x)
+last_decides settings inputs p before after e = part-keeps settings inputs (Standing settings) (keeps_standing settings) p (standing-none settings) before after e

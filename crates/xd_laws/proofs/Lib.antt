@@ -25,5 +25,15 @@ pub mod ScopeInputs
 pub mod ScopeRule
 pub mod Told
 pub mod Spent
+pub mod Walk
+pub mod Turned
+pub mod NoOver
+pub mod Pigeons
+pub mod Shared
+pub mod Stopping
+pub mod Early
+pub mod Placing
 pub mod Laws
+pub mod Whole
 mod Rows
+mod WholeRows

@@ -23,12 +23,12 @@ pub held-none : (w : ℕ) (ss : List Seat) → has_seat w ss ≡ false → held_
 held-none w [] h = refl
 held-none w (s ∷ ss) h = grind (arith, nat_tests, held-none w ss)
 
-held-more : (x v w : ℕ) (items : List ℕ) (ss : List Seat) → has_seat v ss ≡ true
+pub held-more : (x v w : ℕ) (items : List ℕ) (ss : List Seat) → has_seat v ss ≡ true
     → times x (held_in v (at_seat w (λ s. record s { held = s.held ++ items }) ss)) ≡ times x (held_in v ss) + (if v == w then times x items else 0)
 held-more x v w items [] h = absurd (differ h)
 held-more x v w items (s ∷ ss) h = grind (arith, nat_tests, held-more x v w items ss, times-append x s.held items)
 
-held-fewer : (x v w : ℕ) (items : List ℕ) (ss : List Seat)
+pub held-fewer : (x v w : ℕ) (items : List ℕ) (ss : List Seat)
     → times x (held_in v (at_seat w (λ s. record s { held = without items s.held }) ss)) ≡ (if (v == w) && among x items then 0 else times x (held_in v ss))
 held-fewer x v w items [] = grind (arith, nat_tests)
 held-fewer x v w items (s ∷ ss) = grind (arith, nat_tests, held-fewer x v w items ss, times-without x items s.held)

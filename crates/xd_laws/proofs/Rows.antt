@@ -3,12 +3,12 @@
 use Rattle.std.specs.Prelude.{◌≡◌, ℕ, List, [], ◌∷◌, true, false, Some, None, map}
 use Rattle.std.proofs.Common.{refl, arith, ◌<◌, ◌≤◌, take}
 use Rattle.xd_edge.specs.declared.mode.ModeKind.TheVariants.{Load}
-use Rattle.xd_ledger.specs.declared.settings.Settings.{Settings}
-use Rattle.xd_ledger.specs.declared.entry.Ids.TheVariants as ids
-use Rattle.xd_ledger.specs.declared.entry.Cause.TheVariants.{Ended}
-use Rattle.xd_ledger.specs.declared.entry.Outcome.TheVariants.{Passed}
-use Rattle.xd_ledger.specs.declared.entry.Entry.{Entry}
-use Rattle.xd_ledger.specs.declared.entry.Entry.TheVariants.{Ready, Collected, Done, Finished, Down, Run, Steal, Shutdown}
+use Rattle.xd_journal.specs.declared.settings.Settings.{Settings}
+use Rattle.xd_journal.specs.declared.entry.Ids.TheVariants as ids
+use Rattle.xd_journal.specs.declared.entry.Cause.TheVariants.{Ended}
+use Rattle.xd_journal.specs.declared.entry.Outcome.TheVariants.{Passed}
+use Rattle.xd_journal.specs.declared.entry.Entry.{Entry}
+use Rattle.xd_journal.specs.declared.entry.Entry.TheVariants.{Ready, Collected, Done, Finished, Down, Run, Steal, Shutdown}
 use Rattle.xd_ledger.specs.Books.{on_table}
 use Rattle.xd_ledger.specs.Sharing.{State, in_books}
 use Rattle.xd_ledger.specs.Orderly.{is_orderly}
@@ -21,11 +21,11 @@ use Rattle.xd_ledger.specs.Proper.{IsProper}
 use Rattle.xd_ledger.specs.Reports.{reports, Result, Crash}
 
 -- mode load with two workers, and three tests
-abbrev three : Settings
+abbrev pub three : Settings
 three = record { mode = Load; workers = 2; maxfail = 0; restarts = 8; chunk = None; reorder = true }
 
 -- worker 0 goes down at its first test, and worker 2 comes in its place
-abbrev a_death : List Entry
+abbrev pub a_death : List Entry
 a_death = Ready 0 ∷ Collected 0 (ids.List ((97 ∷ []) ∷ (98 ∷ []) ∷ (99 ∷ []) ∷ [])) ∷ Ready 1 ∷ Collected 1 ids.Same ∷ Down 0 Ended [] ∷ Ready 2 ∷ Collected 2 ids.Same ∷ Done 1 1 Passed 5 [] ∷ Finished 1 ∷ Done 2 2 Passed 5 [] ∷ Finished 2 ∷ []
 
 pub a_death-proper : IsProper three a_death
@@ -45,7 +45,7 @@ a_death-reports = refl
 
 -- what the laws rule out
 
-abbrev ended : State
+abbrev pub ended : State
 ended = stepped_all (begun three) a_death
 
 -- a test that was reported stands in the pool again

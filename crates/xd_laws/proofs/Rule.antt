@@ -3,10 +3,10 @@ use Rattle.std.proofs.Common.{◌||◌, ap, ◌≡◌, ℕ, ◌<◌, List, [], �
 use Rattle.std.specs.Prelude.{◌==◌}
 use Rattle.std.specs.List.{range_with_len}
 use Rattle.std.proofs.lemmas.Bool.Decides.{nat_tests}
-use Rattle.xd_ledger.specs.declared.settings.Settings.{Settings}
+use Rattle.xd_journal.specs.declared.settings.Settings.{Settings}
+use Rattle.xd_journal.specs.declared.entry.Entry.{Entry}
+use Rattle.xd_journal.specs.declared.entry.Entry.TheVariants.{Start, Shutdown}
 use Rattle.xd_ledger.specs.declared.member.Member.{Member}
-use Rattle.xd_ledger.specs.declared.entry.Entry.{Entry}
-use Rattle.xd_ledger.specs.declared.entry.Entry.TheVariants.{Start, Shutdown}
 use Rattle.xd_ledger.specs.Numbers.{among, all_distinct}
 use Rattle.xd_ledger.specs.Table.{seat_shut}
 use Rattle.xd_ledger.specs.Plan.{total}

@@ -1,9 +1,9 @@
 -- Whole runs, in a mode that keeps its rule.
 use Rattle.std.proofs.Common.{◌≡◌, ℕ, zero, suc, ◌+◌, ◌≤◌, List, [], ◌∷◌, ◌++◌, length, true, refl, ap, sym, ◌∙◌, subst, arith, length-append, not, ◌&&◌, inl, inr}
-use Rattle.xd_ledger.specs.declared.settings.Settings.{Settings}
+use Rattle.xd_journal.specs.declared.settings.Settings.{Settings}
+use Rattle.xd_journal.specs.declared.entry.Entry.{Entry}
+use Rattle.xd_journal.specs.declared.entry.Entry.TheVariants.{Start}
 use Rattle.xd_ledger.specs.declared.member.Member.{Member}
-use Rattle.xd_ledger.specs.declared.entry.Entry.{Entry}
-use Rattle.xd_ledger.specs.declared.entry.Entry.TheVariants.{Start}
 use Rattle.xd_ledger.specs.Workers.{started}
 use Rattle.xd_ledger.specs.Stops.{is_stopped}
 use Rattle.xd_ledger.specs.Sharing.{State}
@@ -42,7 +42,7 @@ holds-settled X rule s d x = record {
 
 -- the first starts
 
-placed-none : (settings : Settings) → Placed (no_one settings)
+pub placed-none : (settings : Settings) → Placed (no_one settings)
 placed-none settings = record {
   fits = record { seats = λ w. omega arith; active = λ w h. absurd (differ h); ready = λ w h. absurd (differ h); collected = λ w h. absurd (differ h); marks = λ w h. refl };
   whole = λ x. refl;

@@ -5,7 +5,7 @@ use Rattle.std.specs.Str.{bytes_eq}
 use Rattle.std.proofs.lemmas.Bool.Decides.{nat_tests}
 use Rattle.std.proofs.lemmas.Slice.Eq.{bytes_eq-Decides}
 use Rattle.std.proofs.lemmas.List.{reverse-append}
-use Rattle.xd_ledger.specs.declared.entry.Entry.TheVariants.{Run, Shutdown}
+use Rattle.xd_journal.specs.declared.entry.Entry.TheVariants.{Run, Shutdown}
 use Rattle.xd_ledger.specs.Numbers.{among, all_distinct, all_among, times}
 use Rattle.xd_ledger.specs.Table.{Table, held, seat_shut, workers_of, assigned, shut_down}
 use Rattle.xd_ledger.specs.Plan.{Plan, is_each, is_scope}

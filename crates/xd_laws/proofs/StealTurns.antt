@@ -2,8 +2,8 @@
 use Rattle.std.proofs.Common.{◌≡◌, ℕ, zero, suc, ◌+◌, ◌-◌, ◌≤◌, ◌<◌, ◌/◌, List, [], ◌∷◌, ◌++◌, take, drop, length, map, Bool, true, false, not, ◌&&◌, refl, ap, sym, ◌∙◌, subst, arith, inl, inr}
 use Rattle.std.specs.Prelude.{if◌then◌else◌, ◌==◌, nat_lt, filter, Option, Some, None, is_none}
 use Rattle.std.proofs.lemmas.Bool.Decides.{nat_tests}
+use Rattle.xd_journal.specs.declared.entry.Entry.TheVariants.{Steal}
 use Rattle.xd_ledger.specs.declared.seat.Seat.{Seat}
-use Rattle.xd_ledger.specs.declared.entry.Entry.TheVariants.{Steal}
 use Rattle.xd_ledger.specs.Numbers.{among, all_distinct, all_among}
 use Rattle.xd_ledger.specs.Table.{Table, held, held_in, in_rota, workers_of}
 use Rattle.xd_ledger.specs.Plan.{Plan, Asked}

@@ -2,10 +2,10 @@
 use Rattle.std.proofs.Common.{◌≡◌, ℕ, zero, suc, ◌+◌, List, [], ◌∷◌, ◌++◌, take, map, Bool, true, false, not, refl, ap, sym, ◌∙◌, append_assoc, inl, inr}
 use Rattle.std.specs.Prelude.{if◌then◌else◌}
 use Rattle.std.proofs.lemmas.List.{append-nil}
-use Rattle.xd_ledger.specs.declared.settings.Settings.{Settings}
-use Rattle.xd_ledger.specs.declared.entry.Outcome.{Outcome}
-use Rattle.xd_ledger.specs.declared.entry.Entry.{Entry}
-use Rattle.xd_ledger.specs.declared.entry.Entry.TheVariants.{Ready, Collected, Done, Back, Finished, Refused, Down, NotStarted, Start, Run, RunAll, Steal, Shutdown, Kill, Over}
+use Rattle.xd_journal.specs.declared.settings.Settings.{Settings}
+use Rattle.xd_journal.specs.declared.entry.Outcome.{Outcome}
+use Rattle.xd_journal.specs.declared.entry.Entry.{Entry}
+use Rattle.xd_journal.specs.declared.entry.Entry.TheVariants.{Ready, Collected, Done, Back, Finished, Refused, Down, NotStarted, Start, Run, RunAll, Steal, Shutdown, Kill, Over}
 use Rattle.xd_ledger.specs.Table.{Table, held, in_rota}
 use Rattle.xd_ledger.specs.Plan.{is_each, base}
 use Rattle.xd_ledger.specs.Books.{marked}
@@ -98,7 +98,7 @@ crash-items w [] = refl
 crash-items w (i ∷ is) = ap (λ (xs : List ℕ). i ∷ xs) (crash-items w is)
 
 -- a worker that could not be started holds nothing
-none-held : (s : State) (w : ℕ) → Placed s → may_follow s (NotStarted w) ≡ true → held w s.books.table ≡ []
+pub none-held : (s : State) (w : ℕ) → Placed s → may_follow s (NotStarted w) ≡ true → held w s.books.table ≡ []
 none-held s w k h =
     let a = not_true (was_ready w s.books) (split-and (is_active w s.books) (not (was_ready w s.books)) h).1 in
     elim (cases_of (in_rota w s.books.table)) [ inl r ↦ absurd (differ (sym a ∙ k.fits.ready w r)) | inr r ↦ held-none w s.books.table.rota r ]

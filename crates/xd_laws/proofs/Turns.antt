@@ -2,8 +2,8 @@
 use Rattle.std.proofs.Common.{◌≡◌, ℕ, List, [], ◌∷◌, ◌++◌, take, Bool, true, false, not, ◌&&◌, refl, ap, sym, ◌∙◌, subst, arith, ◌||◌}
 use Rattle.std.proofs.lemmas.Grind.{fold-append}
 use Rattle.xd_edge.specs.declared.mode.ModeKind.{ModeKind}
-use Rattle.xd_ledger.specs.declared.entry.Entry.{Entry}
-use Rattle.xd_ledger.specs.declared.entry.Entry.TheVariants.{Ready, Collected, Done, Back, Finished, Refused, Down, NotStarted, Start, Run, RunAll, Steal, Shutdown, Kill, Over}
+use Rattle.xd_journal.specs.declared.entry.Entry.{Entry}
+use Rattle.xd_journal.specs.declared.entry.Entry.TheVariants.{Ready, Collected, Done, Back, Finished, Refused, Down, NotStarted, Start, Run, RunAll, Steal, Shutdown, Kill, Over}
 use Rattle.xd_ledger.specs.Numbers.{among, all_distinct, all_among}
 use Rattle.xd_ledger.specs.Table.{Table, in_rota, seat_shut, workers_of, assigned, shut_down}
 use Rattle.xd_ledger.specs.Plan.{Plan, items_named, is_each, is_scope}

@@ -1,15 +1,22 @@
 //! Laws over whole runs, in the words of the definitions of a run.
 #![tactic(auto)]
 
-ghost use Rattle.std.specs.Prelude.{◌≡◌, List, true};
-ghost use Rattle.xd_ledger.specs.declared.settings.Settings.{Settings};
-ghost use Rattle.xd_ledger.specs.declared.entry.Entry.{Entry};
-ghost use Rattle.xd_ledger.specs.Histories.{begun, journal_of, stepped_all};
+ghost use Rattle.std.specs.Prelude.{◌≡◌, ◌++◌, ℕ, List, [], true, false};
+ghost use Rattle.xd_journal.specs.declared.settings.Settings.{Settings};
+ghost use Rattle.xd_journal.specs.declared.entry.Entry.{Entry};
+ghost use Rattle.xd_journal.specs.declared.journal.Journal.{Journal};
+ghost use Rattle.xd_ledger.specs.Histories.{begun, is_over, journal_of, stepped_all};
+ghost use Rattle.xd_ledger.specs.State.{state_at};
+ghost use Rattle.xd_ledger.specs.Stops.{is_stopped};
 ghost use Rattle.xd_ledger.specs.Proper.{IsProper};
 ghost use Rattle.xd_ledger.specs.Orderly.{is_orderly_run};
 ghost use Rattle.xd_ledger.specs.Reports.{reports};
+ghost use Rattle.xd_laws.specs.Collected.{IsShared};
+ghost use Rattle.xd_laws.specs.Early.{has_collection};
+ghost use Rattle.xd_laws.specs.Places.{StandsAt, place_by};
 ghost use Rattle.xd_laws.specs.Once.{IsOnce};
 ghost use Rattle.xd_laws.specs.Reported.{AreOnce};
+ghost use Rattle.xd_laws.specs.Whole.{EndsRightly, IsWhole, NamesEach};
 
 /// In every mode, whatever proper inputs come, what is told behind them is in order: each output asks for what is
 /// possible where it stands.
@@ -27,4 +34,33 @@ pub fn one_place_law()
 /// each once.
 pub fn report_law()
     ensures { (settings : Settings) (inputs : List Entry) → IsProper settings inputs → AreOnce (reports settings (journal_of settings inputs)) (stepped_all (begun settings) inputs) }
+{}
+
+/// In every mode a run that is over and was not stopped was shared, and its tests are those that were collected.
+pub fn shared_law()
+    ensures { (settings : Settings) (inputs : List Entry) → IsProper settings inputs → is_over (stepped_all (begun settings) inputs).books ≡ true → is_stopped (stepped_all (begun settings) inputs).books ≡ false → IsShared (stepped_all (begun settings) inputs) }
+{}
+
+/// In every mode the reports of a whole journal name each collected test at most once and nothing else, and each once
+/// where the run was completed.
+pub fn whole_law()
+    ensures { (j : Journal) → IsWhole j → NamesEach j }
+{}
+
+/// In every mode a whole journal says that the run was completed only where it is over and was not stopped, and each other
+/// stop but that of the output is one that an entry brings: the failures reach the limit, one worker more is lost than
+/// may be replaced, two collections differ, or a worker refuses.
+pub fn end_law()
+    ensures { (j : Journal) → IsWhole j → EndsRightly j }
+{}
+
+/// In every mode no report stands before the first collection.
+pub fn early_law()
+    ensures { (settings : Settings) (inputs : List Entry) → IsProper settings inputs → (before : List Entry) (after : List Entry) → journal_of settings inputs ≡ before ++ after → has_collection before ≡ false → reports settings before ≡ [] }
+{}
+
+/// In every mode, behind each part of a journal, an item stands where the last entry of that part that moves it put it, and
+/// nowhere where none did.
+pub fn place_law()
+    ensures { (settings : Settings) (inputs : List Entry) → IsProper settings inputs → (before : List Entry) (after : List Entry) → journal_of settings inputs ≡ before ++ after → (item : ℕ) → StandsAt (state_at settings before).books.table item (place_by settings before item) }
 {}

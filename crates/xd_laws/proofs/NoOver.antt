@@ -1,0 +1,171 @@
+-- Before its end no entry of a journal is an Over, so its end says how it ended.
+use Rattle.std.proofs.Common.{◌≡◌, ℕ, zero, suc, ◌+◌, List, [], ◌∷◌, ◌++◌, length, map, Bool, true, false, not, ◌&&◌, refl, ◌∙◌}
+use Rattle.std.specs.Prelude.{if◌then◌else◌, filter}
+use Rattle.std.specs.List.{list_all}
+use Rattle.std.proofs.lemmas.List.Folds.{list_all-append}
+use Rattle.xd_journal.specs.declared.settings.Settings.{Settings}
+use Rattle.xd_journal.specs.declared.entry.RunStop.{RunStop}
+use Rattle.xd_journal.specs.declared.entry.RunStop.TheVariants.{OutFault}
+use Rattle.xd_journal.specs.declared.entry.Entry.{Entry}
+use Rattle.xd_journal.specs.declared.entry.Entry.TheVariants.{Ready, Collected, Done, Back, Finished, Refused, Down, NotStarted, Start, Run, RunAll, Steal, Shutdown, Kill, Over}
+use Rattle.xd_ledger.specs.declared.member.Member.{Member}
+use Rattle.xd_ledger.specs.Turn.{Turn}
+use Rattle.xd_ledger.specs.Modes.{Call}
+use Rattle.xd_ledger.specs.Modes.Call.{Share, Joined, TestDone, TestsBack, Died}
+use Rattle.xd_ledger.specs.Books.{Books}
+use Rattle.xd_ledger.specs.Workers.{is_shut, slot_of, waiting}
+use Rattle.xd_ledger.specs.Stops.{is_shutting, is_stopped}
+use Rattle.xd_ledger.specs.Sharing.{State}
+use Rattle.xd_ledger.specs.State.{all_moved, moved, settles}
+use Rattle.xd_ledger.specs.Outputs.{acts_of, after_death, after_joining, closing, outputs, own_outputs, shut_all, slots_of_rota, stepped, turn_of, unless_stopped}
+use Rattle.xd_ledger.specs.Histories.{begun, end_of, first_starts, grown, journal_of, starts_from}
+use Rattle.xd_ledger.specs.Ending.{ending, kills, over_in}
+use Rattle.xd_ledger.specs.Proper.{all_may_follow, may_follow}
+use Rattle.xd_laws.proofs.Logic.{and, differ, in_both, split-and}
+use Rattle.xd_laws.proofs.Turned.{Kept, turned-keeps}
+
+abbrev no_over : Entry → Bool
+no_over (Over how) = false
+no_over _ = true
+
+abbrev pub NoOver : List Entry → Type 0
+NoOver es = list_all no_over es ≡ true
+
+join : (xs ys : List Entry) → NoOver xs → NoOver ys → NoOver (xs ++ ys)
+join xs ys a b = list_all-append no_over xs ys ∙ and a b
+
+-- what a mode says
+
+abbrev Silent : Turn → Type 0
+Silent t = NoOver t.acts
+
+by_queue : (units : List (List ℕ)) (t : Turn) (u : List ℕ → List (List ℕ) → Turn) → Silent t → ((x : List ℕ) (xs : List (List ℕ)) → Silent (u x xs))
+    → Silent (elim units as (λ _. Turn) [ [] ↦ t | x ∷ xs ↦ u x xs ])
+by_queue [] t u a b = a
+by_queue (x ∷ xs) t u a b = b x xs
+
+silent_moves : Kept Silent
+silent_moves = record {
+  gives = λ w i is t a. join t.acts (Run w (i ∷ is) ∷ []) a refl;
+  gives_all = λ w slot t a. join t.acts (RunAll w ∷ []) a refl;
+  gives_of_slot = λ w slot i is t a. join t.acts (Run w _ ∷ []) a refl;
+  gives_unit = λ w t a. by_queue t.plan.queue t _ a (λ u us. join t.acts (Run w u ∷ []) a refl);
+  asks = λ s n t a. join t.acts (Steal s.worker _ ∷ []) a refl;
+  shuts = λ w t a. join t.acts (Shutdown w ∷ []) a refl;
+}
+
+no-over-acts : (c : Call) (s : State) → NoOver (acts_of c s)
+no-over-acts c s = turned-keeps Silent silent_moves s.plan.mode c (turn_of s) refl
+
+-- what follows an input
+
+no-over-shut : (ws : List ℕ) → NoOver (map (λ w. Shutdown w) ws)
+no-over-shut [] = refl
+no-over-shut (w ∷ ws) = no-over-shut ws
+
+no-over-unless : (b n : Books) (es : List Entry) → NoOver es → NoOver (unless_stopped b n es)
+no-over-unless b n es h =
+    in_both NoOver (is_stopped b) [] (if is_stopped n then shut_all n.crew else es) (λ k. refl)
+    (λ k. in_both NoOver (is_stopped n) (shut_all n.crew) es (λ l. no-over-shut (waiting n.crew)) (λ l. h))
+
+no-over-joining : (w : ℕ) (b : Books) (t : State) → NoOver (after_joining w b t)
+no-over-joining w b t =
+    let joined = acts_of (Joined w (slot_of w t.books)) t in
+    let shared = acts_of (Share (slots_of_rota t.books)) t in
+    in_both NoOver b.shared joined (if t.books.shared then shared else []) (λ h. no-over-acts (Joined w (slot_of w t.books)) t)
+    (λ h. in_both NoOver t.books.shared shared [] (λ k. no-over-acts (Share (slots_of_rota t.books)) t) (λ k. refl))
+
+no-over-death : (w : ℕ) (t : State) → NoOver (after_death w t)
+no-over-death w t =
+    join (if t.books.shared then acts_of Died t else []) (Start (length t.books.crew) (slot_of w t.books) ∷ [])
+    (in_both NoOver t.books.shared (acts_of Died t) [] (λ h. no-over-acts Died t) (λ h. refl)) refl
+
+no-over-own : (s : State) (e : Entry) (t : State) → NoOver (own_outputs s e t)
+no-over-own s (Ready w) t = in_both NoOver (is_shutting t.books) (Shutdown w ∷ []) [] (λ k. refl) (λ k. refl)
+no-over-own s (Collected w g) t =
+    in_both NoOver (is_shut w s.books) [] (unless_stopped s.books t.books (after_joining w s.books t)) (λ k. refl) (λ k. no-over-unless s.books t.books (after_joining w s.books t) (no-over-joining w s.books t))
+no-over-own s (Done w i u m o) t = no-over-unless s.books t.books (acts_of (TestDone w m) t) (no-over-acts (TestDone w m) t)
+no-over-own s (Back w is) t = no-over-unless s.books t.books (acts_of TestsBack t) (no-over-acts TestsBack t)
+no-over-own s (Finished w) t = refl
+no-over-own s (Refused w x) t = no-over-unless s.books t.books [] refl
+no-over-own s (Down w c o) t = no-over-unless s.books t.books (after_death w t) (no-over-death w t)
+no-over-own s (NotStarted w) t = no-over-unless s.books t.books (after_death w t) (no-over-death w t)
+no-over-own s (Start w slot) t = refl
+no-over-own s (Run w is) t = refl
+no-over-own s (RunAll w) t = refl
+no-over-own s (Steal w is) t = refl
+no-over-own s (Shutdown w) t = refl
+no-over-own s (Kill w) t = refl
+no-over-own s (Over how) t = refl
+
+no-over-outputs : (s : State) (e : Entry) → NoOver (outputs s e)
+no-over-outputs s e =
+    let t = moved s e in
+    let own = own_outputs s e t in
+    let u = all_moved t own in
+    join own (closing u) (no-over-own s e t) (in_both NoOver (not (is_shutting u.books) && settles u) (shut_all u.books.crew) [] (λ h. no-over-shut (waiting u.books.crew)) (λ h. refl))
+
+-- what a worker may say
+
+no-over-input : (s : State) (e : Entry) → may_follow s e ≡ true → no_over e ≡ true
+no-over-input s (Ready w) h = refl
+no-over-input s (Collected w g) h = refl
+no-over-input s (Done w i u m o) h = refl
+no-over-input s (Back w is) h = refl
+no-over-input s (Finished w) h = refl
+no-over-input s (Refused w t) h = refl
+no-over-input s (Down w c o) h = refl
+no-over-input s (NotStarted w) h = refl
+no-over-input s (Start w slot) h = refl
+no-over-input s (Run w is) h = refl
+no-over-input s (RunAll w) h = refl
+no-over-input s (Steal w is) h = refl
+no-over-input s (Shutdown w) h = refl
+no-over-input s (Kill w) h = refl
+no-over-input s (Over how) h = absurd (differ h)
+
+no-over-starts : (w n : ℕ) → NoOver (starts_from w n)
+no-over-starts w zero = refl
+no-over-starts w (suc n) = no-over-starts (w + 1) n
+
+no-over-grown : (s : State) (es : List Entry) → all_may_follow s es ≡ true → NoOver (grown s es)
+no-over-grown s [] h = refl
+no-over-grown s (e ∷ es) h =
+    let p = split-and (may_follow s e) (all_may_follow (stepped s e) es) h in
+    join (e ∷ outputs s e) (grown (stepped s e) es) (and (no-over-input s e p.0) (no-over-outputs s e)) (no-over-grown (stepped s e) es p.1)
+
+pub no-over-journal : (settings : Settings) (inputs : List Entry) → all_may_follow (begun settings) inputs ≡ true → NoOver (journal_of settings inputs)
+no-over-journal settings inputs h = join (first_starts settings) (grown (begun settings) inputs) (no-over-starts 0 settings.workers) (no-over-grown (begun settings) inputs h)
+
+-- the end says how
+
+over-first : (e : Entry) (es : List Entry) (other : RunStop) → no_over e ≡ true → over_in (e ∷ es) other ≡ over_in es other
+over-first (Run w is) es other h = refl
+over-first (RunAll w) es other h = refl
+over-first (Steal w is) es other h = refl
+over-first (Shutdown w) es other h = refl
+over-first (Start w slot) es other h = refl
+over-first (Kill w) es other h = refl
+over-first (Over how) es other h = absurd (differ h)
+over-first (Ready w) es other h = refl
+over-first (Collected w g) es other h = refl
+over-first (Done w i u m o) es other h = refl
+over-first (Back w is) es other h = refl
+over-first (Finished w) es other h = refl
+over-first (Refused w t) es other h = refl
+over-first (Down w c o) es other h = refl
+over-first (NotStarted w) es other h = refl
+
+over-behind : (es more : List Entry) (other : RunStop) → NoOver es → over_in (es ++ more) other ≡ over_in more other
+over-behind [] more other h = refl
+over-behind (e ∷ es) more other h = (let p = split-and (no_over e) (list_all no_over es) h in over-first e (es ++ more) other p.0 ∙ over-behind es more other p.1)
+
+no-over-kills : (ms : List Member) → NoOver (map (λ (m : Member). Kill m.worker) ms)
+no-over-kills [] = refl
+no-over-kills (m ∷ ms) = no-over-kills ms
+
+pub stop-failed : (b : Books) (es : List Entry) (other : RunStop) → NoOver es → over_in (es ++ ending true b) other ≡ OutFault
+stop-failed b es other h = over-behind es (ending true b) other h ∙ over-behind (kills b.crew) (Over OutFault ∷ []) other (no-over-kills (filter (λ m. m.active) b.crew))
+
+pub stop-over : (b : Books) (es : List Entry) (other : RunStop) → NoOver es → over_in (es ++ ending false b) other ≡ end_of b
+stop-over b es other h = over-behind es (ending false b) other h
