@@ -3,11 +3,11 @@ use Rattle.std.proofs.Common.{◌≡◌, ℕ, ◌-◌, List, [], ◌∷◌, ◌+
 use Rattle.std.proofs.lemmas.List.{append-nil, drop-append-le, take-append-le, take_rest}
 use Rattle.std.proofs.lemmas.List.Elements.{filter-append}
 use Rattle.xd_edge.specs.Sink.{Sunk, PrintedPart}
-use Rattle.xd_ledger.specs.declared.settings.Settings.{Settings}
-use Rattle.xd_ledger.specs.declared.news.News.{News}
-use Rattle.xd_ledger.specs.declared.journal.Journal.{Journal}
-use Rattle.xd_ledger.specs.declared.entry.Entry.{Entry}
-use Rattle.xd_ledger.specs.declared.entry.Entry.TheVariants.{Over}
+use Rattle.xd_journal.specs.declared.settings.Settings.{Settings}
+use Rattle.xd_journal.specs.declared.news.News.{News}
+use Rattle.xd_journal.specs.declared.journal.Journal.{Journal}
+use Rattle.xd_journal.specs.declared.entry.Entry.{Entry}
+use Rattle.xd_journal.specs.declared.entry.Entry.TheVariants.{Over}
 use Rattle.xd_ledger.specs.Books.{Books}
 use Rattle.xd_ledger.specs.Ending.{ending, may_close, stop_of}
 use Rattle.xd_ledger.specs.Histories.{end_of}

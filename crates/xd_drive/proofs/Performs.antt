@@ -4,7 +4,7 @@ use Rattle.std.specs.Prelude.{filter, if◌then◌else◌}
 use Rattle.std.proofs.Math.Path.{fun_ext}
 use Rattle.std.proofs.lemmas.List.{append-nil, take-append-drop, take_more}
 use Rattle.std.proofs.lemmas.List.Elements.{filter-append}
-use Rattle.xd_ledger.specs.declared.entry.Entry.{Entry}
+use Rattle.xd_journal.specs.declared.entry.Entry.{Entry}
 use Rattle.xd_laws.proofs.Logic.{split-and}
 use Rattle.xd_drive.specs.Marks.{Marks}
 use Rattle.xd_drive.specs.Performing.{AddsAll, Performs, after_all, after_entry, all_possible, calls_in, is_call, is_start, possible, starts_in}

@@ -5,11 +5,11 @@ use Rattle.std.proofs.Math.Path.{fun_ext}
 use Rattle.std.proofs.lemmas.Bool.Decides.{nat_tests}
 use Rattle.std.proofs.lemmas.List.{append-nil, take_all, drop_at}
 use Rattle.xd_edge.specs.Sink.{Sunk, TookPart}
-use Rattle.xd_ledger.specs.declared.settings.Settings.{Settings}
-use Rattle.xd_ledger.specs.declared.news.News.{News}
-use Rattle.xd_ledger.specs.declared.entry.Entry.{Entry}
-use Rattle.xd_ledger.specs.declared.entry.Entry.TheVariants.{Start, Kill}
-use Rattle.xd_ledger.specs.declared.journal.Journal.{Journal}
+use Rattle.xd_journal.specs.declared.settings.Settings.{Settings}
+use Rattle.xd_journal.specs.declared.news.News.{News}
+use Rattle.xd_journal.specs.declared.entry.Entry.{Entry}
+use Rattle.xd_journal.specs.declared.entry.Entry.TheVariants.{Start, Kill}
+use Rattle.xd_journal.specs.declared.journal.Journal.{Journal}
 use Rattle.xd_ledger.specs.Books.{Books}
 use Rattle.xd_ledger.specs.Ending.{ending}
 use Rattle.xd_ledger.specs.Workers.{has_member, is_active}

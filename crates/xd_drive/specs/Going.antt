@@ -1,10 +1,10 @@
 -- How far a session was driven.
 use Rattle.std.specs.Prelude.{◌≡◌, ◌≤◌, ℕ, ◌||◌, Bool, true, false, List, [], ◌∷◌, ◌++◌, take, drop, length, Option, Some, None, if◌then◌else◌}
 use Rattle.xd_edge.specs.Sink.{Sunk, TookPart}
-use Rattle.xd_ledger.specs.declared.settings.Settings.{Settings}
-use Rattle.xd_ledger.specs.declared.entry.Entry.{Entry}
-use Rattle.xd_ledger.specs.declared.journal.Journal.{Journal}
-use Rattle.xd_ledger.specs.declared.news.News.{News}
+use Rattle.xd_journal.specs.declared.settings.Settings.{Settings}
+use Rattle.xd_journal.specs.declared.entry.Entry.{Entry}
+use Rattle.xd_journal.specs.declared.journal.Journal.{Journal}
+use Rattle.xd_journal.specs.declared.news.News.{News}
 use Rattle.xd_ledger.specs.Ending.{ending}
 use Rattle.xd_ledger.specs.Histories.{is_over}
 use Rattle.xd_ledger.specs.Outputs.{outputs}

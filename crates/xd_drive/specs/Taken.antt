@@ -1,7 +1,7 @@
 -- Which of the news that a hub gives are taken.
 use Rattle.std.specs.Prelude.{List, [], ◌∷◌, ◌++◌, fold, if◌then◌else◌}
-use Rattle.xd_ledger.specs.declared.settings.Settings.{Settings}
-use Rattle.xd_ledger.specs.declared.news.News.{News}
+use Rattle.xd_journal.specs.declared.settings.Settings.{Settings}
+use Rattle.xd_journal.specs.declared.news.News.{News}
 use Rattle.xd_ledger.specs.Workers.{is_active}
 use Rattle.xd_session.specs.History.{run_of}
 

@@ -4,7 +4,7 @@ ghost use Rattle.xd_drive.specs.Calls.{is_order};
 
 use std::alloc::Global;
 use xd_edge::{Indices, OutOfMemory, Text, Texts};
-use xd_ledger::{Entry, News, What};
+use xd_journal::{Entry, News, What};
 
 fn copy_indices(alloc: Global, indices: &Indices) -> Result<Indices, OutOfMemory>
     ensures { IfOk result (λ copy. copy ≡ indices.now) }

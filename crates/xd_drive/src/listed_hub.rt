@@ -1,9 +1,9 @@
 // A hub over lists.
-ghost use Rattle.std.specs.Prelude.{◌≡◌, ◌<◌, ◌≤◌, ◌+◌, ◌++◌, ◌∷◌, [], ℕ, Some, true, false, option_to_list, vec_len, vec_capacity, IfOk, IsNone, OnOk};
-ghost use Rattle.xd_ledger.specs.declared.entry.Entry.TheVariants.{Start, Kill};
+ghost use Rattle.std.specs.Prelude.{◌≡◌, ◌<◌, ◌≤◌, ◌+◌, ◌++◌, ◌∷◌, [], ℕ, Some, true, false, option_to_list, vec_len, vec_capacity, IfOk, IfSome, IsNone, OnOk};
+ghost use Rattle.xd_journal.specs.declared.entry.Entry.TheVariants.{Start, Kill};
 ghost use Rattle.xd_drive.specs.Calls.{is_order};
-ghost use Rattle.xd_drive.specs.Listed.{GivesListed, from_started, is_among, marks_by, others_of, starts_of, unkilled, was_killed};
-ghost use Rattle.xd_drive.specs.Marks.{may_tell, no_marks};
+ghost use Rattle.xd_drive.specs.Listed.{GivesListed, from_started, is_among, marks_by, may_give, others_of, refusal_of, starts_of, unkilled, was_killed};
+ghost use Rattle.xd_drive.specs.Marks.{is_breach, may_tell, no_marks};
 
 use crate::Hub;
 use crate::copies::{copy_news, copy_order};
@@ -11,10 +11,10 @@ use std::alloc::Global;
 use std::collections::VecDeque;
 use std::sync::Wait;
 use xd_edge::{Indices, OutOfMemory};
-use xd_ledger::{Cause, Entry, News, What};
+use xd_journal::{Cause, Entry, News, What};
 
 /// A hub over lists, with 32 slots: it gives the news of its list in order. A piece of news of a worker that was not
-/// started is dropped when its turn comes. Where its list is empty the workers that were started are gone, in turn, again
+/// started, or that a worker broke the rules, is dropped when its turn comes. Where its list is empty the workers that were started are gone, in turn, again
 /// and again.
 #[derive(Drop)]
 pub struct ListedHub {
@@ -62,13 +62,21 @@ fn is_among(worker: u32, workers: &[u32]) -> bool
     workers.iter().any(|&other| other == worker)
 }
 
-// The next piece of news in the list of a worker that was started; those before it are dropped.
+// The worker broke the rules.
+fn is_breach(what: &What) -> bool
+    ensures { result ≡ is_breach what.now }
+{
+    matches!(what, What::Gone(Cause::Breach))
+}
+
+// The next piece of news in the list that may be given; those before it are dropped.
 fn next_listed(news: &mut VecDeque<News>, started: &[u32]) -> Option<News>
     ensures gives { from_started started.now news.old.items ≡ option_to_list result ++ news.new.items }
+    ensures may { IfSome result (λ n. may_give started.now n ≡ true) }
     ensures spent { IsNone result → news.new.items ≡ [] }
 {
     while let Some(next) = news.pop_front() {
-        if is_among(next.worker, started) {
+        if is_among(next.worker, started) && !is_breach(&next.what) {
             return Some(next);
         }
     }
@@ -89,6 +97,7 @@ fn next_gone(started: &[u32], turn: &mut usize) -> u32
 fn next_news(news: &mut VecDeque<News>, started: &[u32], turn: &mut usize) -> News
     requires { (w : ℕ) × (is_among w started.now ≡ true) }
     ensures started { is_among result.worker started.now ≡ true }
+    ensures no_breach { is_breach result.what ≡ false }
     ensures listed { GivesListed started.now news.old.items result news.new.items }
 {
     if let Some(next) = next_listed(news, started) {
@@ -104,7 +113,8 @@ fn next_news(news: &mut VecDeque<News>, started: &[u32], turn: &mut usize) -> Ne
 impl ListedHub {
     // Where the start of the worker is to be refused, that is the next news.
     fn refuse(&mut self, worker: u32) -> Result<(), OutOfMemory>
-        ensures { (self.new.given ≡ self.old.given) × (self.new.started ≡ self.old.started) × (self.new.calls ≡ self.old.calls) × (self.new.refused ≡ self.old.refused) }
+        ensures news { OnOk result (self.new.news.items ≡ refusal_of worker self.old.refused ++ self.old.news.items) }
+        ensures rest { (self.new.given ≡ self.old.given) × (self.new.started ≡ self.old.started) × (self.new.calls ≡ self.old.calls) × (self.new.refused ≡ self.old.refused) }
     {
         if is_among(worker, &self.refused.items) {
             self.news.push_front(News {
@@ -132,6 +142,7 @@ impl Hub for ListedHub {
         requires slot { slot < 32 }
         ensures started { OnOk result (self.new.started ≡ self.old.started ++ worker ∷ []) }
         ensures called { OnOk result (self.new.calls.items ≡ self.old.calls.items ++ Start worker slot ∷ []) }
+        ensures news { OnOk result (self.new.news.items ≡ refusal_of worker self.old.refused ++ self.old.news.items) }
         ensures given { OnOk result (self.new.given.items ≡ self.old.given.items) }
         ensures refused { self.new.refused ≡ self.old.refused }
     {
@@ -147,6 +158,7 @@ impl Hub for ListedHub {
         requires order { is_order worker order.now ≡ true }
         requires told { may_tell (marks_by self.old.started self.old.calls.items self.old.given.items worker) ≡ true }
         ensures called { OnOk result (self.new.calls.items ≡ self.old.calls.items ++ order.now ∷ []) }
+        ensures news { self.new.news ≡ self.old.news }
         ensures started { OnOk result (self.new.started ≡ self.old.started) }
         ensures given { OnOk result (self.new.given.items ≡ self.old.given.items) }
         ensures refused { self.new.refused ≡ self.old.refused }
@@ -161,6 +173,7 @@ impl Hub for ListedHub {
         requires started { is_among worker self.old.started ≡ true }
         requires once { was_killed worker self.old.calls.items ≡ false }
         ensures called { self.new.calls.items ≡ self.old.calls.items ++ Kill worker ∷ [] }
+        ensures news { self.new.news ≡ self.old.news }
         ensures started { self.new.started ≡ self.old.started }
         ensures given { self.new.given.items ≡ self.old.given.items }
         ensures refused { self.new.refused ≡ self.old.refused }
@@ -171,6 +184,7 @@ impl Hub for ListedHub {
     fn next<R: Wait>(&mut self, _rt: &R, alloc: Global) -> Result<News, OutOfMemory>
         requires someone { (w : ℕ) × (is_among w self.old.started ≡ true) }
         ensures started { IfOk result (λ n. is_among n.worker self.old.started ≡ true) }
+        ensures no_breach { IfOk result (λ n. is_breach n.what ≡ false) }
         ensures given { IfOk result (λ n. self.new.given.items ≡ self.old.given.items ++ n ∷ []) }
         ensures same { OnOk result ((self.new.started ≡ self.old.started) × (self.new.calls ≡ self.old.calls)) }
         ensures refused { self.new.refused ≡ self.old.refused }

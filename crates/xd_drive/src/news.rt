@@ -1,7 +1,7 @@
 // One piece of news.
 ghost use Rattle.std.specs.Prelude.{◌≡◌, ◌≤◌, ℕ, List, [], ◌∷◌, ◌++◌, length, take, true, false, Ok, None, Some, IfOk, IfSome, OnOk};
 ghost use Rattle.xd_edge.specs.Faults.{Rose};
-ghost use Rattle.xd_ledger.specs.declared.news.News.{News};
+ghost use Rattle.xd_journal.specs.declared.news.News.{News};
 ghost use Rattle.xd_ledger.specs.Proper.{IsProper};
 ghost use Rattle.xd_ledger.specs.State.{all_moved, no_one};
 ghost use Rattle.xd_ledger.specs.Workers.{is_active};
@@ -18,7 +18,8 @@ use crate::printing::print_lines;
 use std::alloc::Global;
 use std::sync::Wait;
 use xd_edge::{OutOfMemory, Sink};
-use xd_ledger::{Journal, Mode, News};
+use xd_journal::{Journal, News};
+use xd_ledger::Mode;
 use xd_report::Reporter;
 use xd_session::Session;
 

@@ -5,7 +5,7 @@ ghost use Rattle.xd_drive.specs.Performing.{Performs, after_all, after_entry, al
 use crate::Hub;
 use std::alloc::Global;
 use xd_edge::OutOfMemory;
-use xd_ledger::Entry;
+use xd_journal::Entry;
 
 // Calls the hub for one entry, where it is an output.
 fn perform_one<H: Hub>(alloc: Global, hub: &mut H, entry: &Entry) -> Result<(), OutOfMemory>

@@ -10,7 +10,7 @@ ghost use Rattle.xd_drive.specs.Printing.{ShowsEnd};
 
 use std::alloc::Global;
 use xd_edge::{OutOfMemory, Sink, print};
-use xd_ledger::Journal;
+use xd_journal::Journal;
 use xd_report::{Reporter, tail};
 
 /// A reporter that went over the journal so far.

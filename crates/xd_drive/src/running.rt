@@ -1,7 +1,7 @@
 // The loop that runs a session over a hub.
 ghost use Rattle.std.specs.Prelude.{◌≡◌, ◌≤◌, ℕ, List, [], true, false, Ok, None, IfOk, IfSome, OnOk};
 ghost use Rattle.xd_edge.specs.Faults.{Rose};
-ghost use Rattle.xd_ledger.specs.declared.news.News.{News};
+ghost use Rattle.xd_journal.specs.declared.news.News.{News};
 ghost use Rattle.xd_ledger.specs.Ending.{stop_of};
 ghost use Rattle.xd_ledger.specs.Legal.{IsLegal};
 ghost use Rattle.xd_ledger.specs.Proper.{IsProper};
@@ -18,7 +18,8 @@ use crate::printing::{print_tail, reporter_of};
 use std::alloc::Global;
 use std::sync::Wait;
 use xd_edge::{OutOfMemory, Sink};
-use xd_ledger::{Journal, Mode};
+use xd_journal::Journal;
+use xd_ledger::Mode;
 use xd_session::Session;
 
 // Prints the tail and closes the output. Where it failed, how many entries had been performed.

@@ -22,7 +22,7 @@ use std::collections::VecDeque;
 use std::sync::Wait;
 use std::test::Fail;
 use xd_edge::{Blob, Indices, MemSink, ModeKind, Text, Texts};
-use xd_ledger::{Cause, Entry, Ids, Journal, News, Outcome, RunStop, Settings, What};
+use xd_journal::{Cause, Entry, Ids, Journal, News, Outcome, RunStop, Settings, What};
 use xd_load::Load;
 use xd_report::status_of;
 use xd_session::Session;

@@ -10,7 +10,7 @@ use std::alloc::Global;
 use std::collections::VecDeque;
 use std::test::Fail;
 use xd_edge::Indices;
-use xd_ledger::{Cause, Entry, News, What};
+use xd_journal::{Cause, Entry, News, What};
 
 fn was_started(hub: &ListedHub, worker: u32) -> bool
     ensures { result ≡ is_among worker hub.now.started }

@@ -4,10 +4,10 @@ use Rattle.std.specs.Prelude.{ℕ, ◌<◌, ◌==◌, ◌&&◌, not, nat_lt, ℤ
 use Rattle.std.specs.Str.{bytes_eq}
 use Rattle.xd_value.specs.Tree.{Tree, Pairs, int, text, list, channel, no_pairs, pair}
 use Rattle.xd_value.specs.View.{trees_of}
-use Rattle.xd_ledger.specs.declared.entry.Outcome.{Outcome}
-use Rattle.xd_ledger.specs.declared.entry.Outcome.TheVariants.{Passed, Skipped, Failed}
-use Rattle.xd_ledger.specs.declared.news.What.{What}
-use Rattle.xd_ledger.specs.declared.news.What.TheVariants.{Ready, Collected, LogStart, Done, Back, Finished}
+use Rattle.xd_journal.specs.declared.entry.Outcome.{Outcome}
+use Rattle.xd_journal.specs.declared.entry.Outcome.TheVariants.{Passed, Skipped, Failed}
+use Rattle.xd_journal.specs.declared.news.What.{What}
+use Rattle.xd_journal.specs.declared.news.What.TheVariants.{Ready, Collected, LogStart, Done, Back, Finished}
 use Rattle.xd_gateway.specs.Calls.{Call, called, call_in}
 use Rattle.xd_gateway.specs.Kwargs.{AreIndices, both, value_at, number_below, integer_of, text_of, channel_of, items_of, index_of, each_of, indices_at, indices_kwargs}
 

@@ -2,8 +2,8 @@
 use Rattle.std.specs.Prelude.{Option, Some, None, option_map, option_and_then, codes, if◌then◌else◌}
 use Rattle.std.specs.Str.{bytes_eq}
 use Rattle.xd_value.specs.Tree.{Tree, no_pairs}
-use Rattle.xd_ledger.specs.declared.entry.Entry.{Entry}
-use Rattle.xd_ledger.specs.declared.entry.Entry.TheVariants.{Run, RunAll as RunEach, Steal as StealFrom, Shutdown as ShutDown}
+use Rattle.xd_journal.specs.declared.entry.Entry.{Entry}
+use Rattle.xd_journal.specs.declared.entry.Entry.TheVariants.{Run, RunAll as RunEach, Steal as StealFrom, Shutdown as ShutDown}
 use Rattle.xd_gateway.specs.declared.order.Order.{Order}
 use Rattle.xd_gateway.specs.declared.order.Order.TheVariants.{RunTests, RunAll, Steal, Shutdown}
 use Rattle.xd_gateway.specs.Calls.{Call, called, call_in}

@@ -15,7 +15,7 @@ use crate::outcome::{code_of, outcome_by, word_of};
 use crate::word::{is_word, word_value};
 use std::alloc::Global;
 use xd_edge::{OutOfMemory, Texts};
-use xd_ledger::{Outcome, What};
+use xd_journal::{Outcome, What};
 use xd_value::Value;
 
 /// The value of an event, with the keys that its name has.

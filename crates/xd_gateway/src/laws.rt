@@ -1,7 +1,7 @@
 // What is written is read back. Each law is a call that does nothing, and its contract is the law.
 ghost use Rattle.std.specs.Prelude.{◌≡◌, Some};
 ghost use Rattle.xd_value.specs.Tree.{Tree};
-ghost use Rattle.xd_ledger.specs.declared.news.What.{What};
+ghost use Rattle.xd_journal.specs.declared.news.What.{What};
 ghost use Rattle.xd_gateway.specs.declared.order.Order.{Order};
 ghost use Rattle.xd_gateway.specs.Orders.{order_tree, tree_order, IsOrder};
 ghost use Rattle.xd_gateway.specs.Events.{event_tree, tree_event, IsEvent};

@@ -11,7 +11,7 @@ use crate::order::Order;
 use crate::word::is_word;
 use std::alloc::Global;
 use xd_edge::OutOfMemory;
-use xd_ledger::Entry;
+use xd_journal::Entry;
 use xd_value::Value;
 
 /// The value of an order, with the keys that its name has.

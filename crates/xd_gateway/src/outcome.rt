@@ -5,7 +5,7 @@ ghost use Rattle.xd_gateway.specs.Words.{IsWord};
 
 use crate::word::is_word;
 use xd_edge::Text;
-use xd_ledger::Outcome;
+use xd_journal::Outcome;
 
 /// The outcome with this word and this code.
 pub(crate) fn outcome_by(word: &Text, code: i128) -> Option<Outcome>

@@ -7,7 +7,7 @@ use crate::*;
 use std::alloc::Global;
 use std::test::Fail;
 use xd_edge::{Blob, Text};
-use xd_ledger::{Entry, Outcome, What};
+use xd_journal::{Entry, Outcome, What};
 use xd_value::{Value, dumps, loads};
 
 fn value_of(alloc: Global, payload: &[u8]) -> Result<Value, Fail> {

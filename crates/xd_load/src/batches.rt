@@ -10,7 +10,8 @@ ghost use Rattle.xd_load.specs.Stands.{InChunks};
 
 use std::alloc::Global;
 use xd_edge::OutOfMemory;
-use xd_ledger::{Entry, Ledger};
+use xd_journal::Entry;
+use xd_ledger::Ledger;
 
 // A worker starts a test when another stands behind it, so it needs two.
 const ENOUGH: u32 = 2;

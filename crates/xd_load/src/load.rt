@@ -7,7 +7,8 @@ ghost use Rattle.xd_load.specs.Stands.{StandsFor};
 use crate::batches::{refill_each, refill_one, share_all};
 use std::alloc::Global;
 use xd_edge::{OutOfMemory, Texts};
-use xd_ledger::{Entry, Ledger, Mode};
+use xd_journal::Entry;
+use xd_ledger::{Ledger, Mode};
 
 /// Mode load. It keeps the setting of the chunk and the number of tests.
 #[derive(Drop)]

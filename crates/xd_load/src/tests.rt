@@ -3,7 +3,8 @@ use std::alloc::Global;
 use std::process::Abort;
 use std::test::Fail;
 use xd_edge::{Indices, Text, Texts};
-use xd_ledger::{Entry, Ledger, Mode};
+use xd_journal::Entry;
+use xd_ledger::{Ledger, Mode};
 
 // A run of mode load: its ledger, and what was said so far.
 #[derive(Drop)]

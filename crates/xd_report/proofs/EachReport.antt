@@ -1,16 +1,15 @@
 -- Each report of a run has one line, each failed one has a block, and each is counted once.
 use Rattle.std.proofs.Common.{◌≡◌, ℕ, ◌+◌, Bool, true, false, List, [], ◌∷◌, ◌++◌, length, take, map, filter, Option, Some, None, is_some, if◌then◌else◌, refl, sym, ◌∙◌, ap, subst, arith, add-zero, append_assoc, length-append}
-use Rattle.std.specs.Prelude.{codes}
 use Rattle.std.proofs.lemmas.List.{append-nil}
 use Rattle.std.proofs.lemmas.List.Elements.{filter-append}
 use Rattle.xd_edge.specs.declared.mode.ModeKind.{ModeKind}
-use Rattle.xd_ledger.specs.declared.entry.Entry.{Entry}
-use Rattle.xd_ledger.specs.declared.entry.Entry.TheVariants.{Ready, Collected, Done, Back, Finished, Refused, Down, NotStarted, Start, Run, RunAll, Steal, Shutdown, Kill, Over}
-use Rattle.xd_ledger.specs.declared.entry.Outcome.{Outcome}
-use Rattle.xd_ledger.specs.declared.entry.Outcome.TheVariants.{Passed, Skipped, Failed}
-use Rattle.xd_ledger.specs.declared.entry.Ids.{Ids}
-use Rattle.xd_ledger.specs.declared.entry.RunStop.{RunStop}
-use Rattle.xd_ledger.specs.declared.settings.Settings.{Settings}
+use Rattle.xd_journal.specs.declared.entry.Entry.{Entry}
+use Rattle.xd_journal.specs.declared.entry.Entry.TheVariants.{Ready, Collected, Done, Back, Finished, Refused, Down, NotStarted, Start, Run, RunAll, Steal, Shutdown, Kill, Over}
+use Rattle.xd_journal.specs.declared.entry.Outcome.{Outcome}
+use Rattle.xd_journal.specs.declared.entry.Outcome.TheVariants.{Passed, Skipped, Failed}
+use Rattle.xd_journal.specs.declared.entry.Ids.{Ids}
+use Rattle.xd_journal.specs.declared.entry.RunStop.{RunStop}
+use Rattle.xd_journal.specs.declared.settings.Settings.{Settings}
 use Rattle.xd_ledger.specs.Books.{on_table, marked}
 use Rattle.xd_ledger.specs.Collections.{listed, unequal, with_list}
 use Rattle.xd_ledger.specs.Numbers.{first_of}
@@ -23,9 +22,8 @@ use Rattle.xd_ledger.specs.Table.{held, joined}
 use Rattle.xd_ledger.specs.Workers.{is_shut, made_collected, slot_of}
 use Rattle.xd_report.specs.declared.counts.Counts.{Counts}
 use Rattle.xd_report.specs.Blocks.{block, block_of, blocks_from, crash_reason}
-use Rattle.xd_report.specs.EachReport.{Block, Line, Tests, Of, NodeDown, Replaces, HasBlockEach, HasLineEach, text_of_blocks, text_of_report, reports_told, text_of_line, text_of_lines, is_failure, is_passed, is_skipped}
+use Rattle.xd_report.specs.EachReport.{Block, Line, Tests, Of, NodeDown, Replaces, HasBlockEach, HasLineEach, outputs_from, outputs_of, text_of_blocks, text_of_report, reports_told, text_of_line, text_of_lines, is_failure, is_passed, is_skipped}
 use Rattle.xd_report.specs.Lines.{collected_line, crashed_line, last_of_slot, lines_from, lines_of, replacing}
-use Rattle.xd_report.specs.Names.{cause_text}
 use Rattle.xd_report.specs.Summary.{counted, counted_from}
 use Rattle.xd_report.specs.Tests.{id_of, item_id, mode_of, tests}
 
@@ -240,8 +238,8 @@ entry_lines s (Done w i outcome ms out) =
     let one = done-reports s w i outcome ms out in
     subst (λ (rs : List Report). HasLineEach (mode_of s) (lines_of s (Done w i outcome ms out)) rs) (sym one.1) (report_line (mode_of s) (Result w one.0 outcome) (id_of w i s))
 entry_lines s (Down w cause out) =
-    join (mode_of s) _ _ [] _ (plain_line (mode_of s) (NodeDown w (cause_text cause)) refl) (crash_lines (mode_of s) w (λ item. item_id w item s) (held w s.books.table))
-entry_lines s (NotStarted w) = plain_line (mode_of s) (NodeDown w (codes "not started")) refl
+    join (mode_of s) _ _ [] _ (plain_line (mode_of s) (NodeDown w (Some cause)) refl) (crash_lines (mode_of s) w (λ item. item_id w item s) (held w s.books.table))
+entry_lines s (NotStarted w) = plain_line (mode_of s) (NodeDown w None) refl
 entry_lines s (Start w slot) = replacing_lines (mode_of s) (last_of_slot slot s.books.crew None)
 entry_lines s (Ready w) = nothing (mode_of s)
 entry_lines s (Back w is) = nothing (mode_of s)
@@ -274,29 +272,35 @@ pub named-append : (xs ys : List Block) → map (λ b. b.report) (xs ++ ys) ≡ 
 named-append [] ys = refl
 named-append (x ∷ xs) ys = ap (λ (l : List Report). x.report ∷ l) (named-append xs ys)
 
-abbrev pub join_blocks : (mode : ModeKind) (a b : List ℕ) (rs ss : List Report) → HasBlockEach mode a rs → HasBlockEach mode b ss → HasBlockEach mode (a ++ b) (rs ++ ss)
-join_blocks mode a b rs ss x y = record {
+pub outputs-append : (xs ys : List Block) → map (λ b. b.output) (xs ++ ys) ≡ map (λ b. b.output) xs ++ map (λ b. b.output) ys
+outputs-append [] ys = refl
+outputs-append (x ∷ xs) ys = ap (λ (l : List (List ℕ)). x.output ∷ l) (outputs-append xs ys)
+
+abbrev pub join_blocks : (mode : ModeKind) (a b : List ℕ) (rs ss : List Report) (os ps : List (List ℕ)) → HasBlockEach mode a rs os → HasBlockEach mode b ss ps → HasBlockEach mode (a ++ b) (rs ++ ss) (os ++ ps)
+join_blocks mode a b rs ss os ps x y = record {
   blocks = x.blocks ++ y.blocks;
   text_is = ap (λ (l : List ℕ). l ++ b) x.text_is ∙ ap (λ (l : List ℕ). text_of_blocks mode x.blocks ++ l) y.text_is ∙ sym (blocks-append mode x.blocks y.blocks);
   each_once = named-append x.blocks y.blocks ∙ ap (λ (l : List Report). l ++ map (λ b. b.report) y.blocks) x.each_once ∙ ap (λ (l : List Report). filter is_failure rs ++ l) y.each_once ∙ sym (filter-append is_failure rs ss);
+  outputs_are = outputs-append x.blocks y.blocks ∙ ap (λ (l : List (List ℕ)). l ++ map (λ b. b.output) y.blocks) x.outputs_are ∙ ap (λ (l : List (List ℕ)). os ++ l) y.outputs_are;
 }
 
-no_block : (mode : ModeKind) (rs : List Report) → filter is_failure rs ≡ [] → HasBlockEach mode [] rs
-no_block mode rs none = record { blocks = []; text_is = refl; each_once = sym none }
+no_block : (mode : ModeKind) (rs : List Report) → filter is_failure rs ≡ [] → HasBlockEach mode [] rs []
+no_block mode rs none = record { blocks = []; text_is = refl; each_once = sym none; outputs_are = refl }
 
-one_block : (mode : ModeKind) (report : Report) (id output : List ℕ) → is_failure report ≡ true → HasBlockEach mode (text_of_report mode report id output) (report ∷ [])
+one_block : (mode : ModeKind) (report : Report) (id output : List ℕ) → is_failure report ≡ true → HasBlockEach mode (text_of_report mode report id output) (report ∷ []) (output ∷ [])
 one_block mode report id output fails = record {
   blocks = record { report = report; id = id; output = output } ∷ [];
   text_is = sym (append-nil (text_of_report mode report id output));
   each_once = ap (λ b. if b then (report ∷ []) else []) (sym fails);
+  outputs_are = refl;
 }
 
 crash_blocks : (mode : ModeKind) (w : ℕ) (id : ℕ → List ℕ) (output h : List ℕ)
-    → HasBlockEach mode (elim (first_of h) [ None ↦ [] | Some item ↦ block mode w (id item) (crash_reason mode w (id item)) output ]) (map (λ item. Crash w item) (take 1 h))
+    → HasBlockEach mode (elim (first_of h) [ None ↦ [] | Some item ↦ block mode w (id item) (crash_reason mode w (id item)) output ]) (map (λ item. Crash w item) (take 1 h)) (map (λ _. output) (take 1 h))
 crash_blocks mode w id output [] = no_block mode [] refl
 crash_blocks mode w id output (x ∷ xs) = one_block mode (Crash w x) (id x) output refl
 
-entry_blocks : (s : State) (e : Entry) → HasBlockEach (mode_of s) (block_of s e) (reports_of s e)
+entry_blocks : (s : State) (e : Entry) → HasBlockEach (mode_of s) (block_of s e) (reports_of s e) (outputs_of s e)
 entry_blocks s (Done w i Passed ms out) =
     let one = done-reports s w i Passed ms out in
     no_block (mode_of s) (reports_of s (Done w i Passed ms out)) (ap (filter is_failure) one.1)
@@ -305,7 +309,7 @@ entry_blocks s (Done w i Skipped ms out) =
     no_block (mode_of s) (reports_of s (Done w i Skipped ms out)) (ap (filter is_failure) one.1)
 entry_blocks s (Done w i (Failed code) ms out) =
     let one = done-reports s w i (Failed code) ms out in
-    subst (λ (rs : List Report). HasBlockEach (mode_of s) (block_of s (Done w i (Failed code) ms out)) rs) (sym one.1)
+    subst (λ (rs : List Report). HasBlockEach (mode_of s) (block_of s (Done w i (Failed code) ms out)) rs (out ∷ [])) (sym one.1)
     (one_block (mode_of s) (Result w one.0 (Failed code)) (id_of w i s) out refl)
 entry_blocks s (Down w cause out) = crash_blocks (mode_of s) w (λ item. item_id w item s) out (held w s.books.table)
 entry_blocks s (Collected w given) = no_block (mode_of s) [] refl
@@ -322,10 +326,10 @@ entry_blocks s (Shutdown w) = no_block (mode_of s) [] refl
 entry_blocks s (Kill w) = no_block (mode_of s) [] refl
 entry_blocks s (Over how) = no_block (mode_of s) [] refl
 
-pub all_blocks : (s : State) (es : List Entry) → HasBlockEach (mode_of s) (blocks_from s es) (reports_from s es)
+pub all_blocks : (s : State) (es : List Entry) → HasBlockEach (mode_of s) (blocks_from s es) (reports_from s es) (outputs_from s es)
 all_blocks s [] = no_block (mode_of s) [] refl
 all_blocks s (e ∷ es) =
     let t = reached s e in
-    join_blocks (mode_of s) (block_of t e) (blocks_from (next s e) es) (reports_of t e) (reports_from (next s e) es)
-    (subst (λ (k : Settings). HasBlockEach k.mode (block_of t e) (reports_of t e)) (reached-settings s e) (entry_blocks t e))
-    (subst (λ (k : Settings). HasBlockEach k.mode (blocks_from (next s e) es) (reports_from (next s e) es)) (next-settings s e) (all_blocks (next s e) es))
+    join_blocks (mode_of s) (block_of t e) (blocks_from (next s e) es) (reports_of t e) (reports_from (next s e) es) (outputs_of t e) (outputs_from (next s e) es)
+    (subst (λ (k : Settings). HasBlockEach k.mode (block_of t e) (reports_of t e) (outputs_of t e)) (reached-settings s e) (entry_blocks t e))
+    (subst (λ (k : Settings). HasBlockEach k.mode (blocks_from (next s e) es) (reports_from (next s e) es) (outputs_from (next s e) es)) (next-settings s e) (all_blocks (next s e) es))

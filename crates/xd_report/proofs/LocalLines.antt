@@ -4,10 +4,10 @@ use Rattle.std.specs.Prelude.{slice_index_or}
 use Rattle.std.proofs.lemmas.List.{append-nil, drop_more}
 use Rattle.xd_edge.specs.declared.mode.ModeKind.{ModeKind}
 use Rattle.xd_edge.specs.declared.mode.ModeKind.TheVariants.{Local}
-use Rattle.xd_ledger.specs.declared.entry.Entry.TheVariants.{Run}
-use Rattle.xd_ledger.specs.declared.entry.Ids.TheVariants.{List as Listed}
-use Rattle.xd_ledger.specs.declared.settings.Settings.{Settings}
-use Rattle.xd_ledger.specs.Local.{TestResult, round, rounds, local_entries}
+use Rattle.xd_journal.specs.declared.entry.Entry.TheVariants.{Run}
+use Rattle.xd_journal.specs.declared.entry.Ids.TheVariants.{List as Listed}
+use Rattle.xd_journal.specs.declared.settings.Settings.{Settings}
+use Rattle.xd_journal.specs.Local.{TestResult, round, rounds, local_entries}
 use Rattle.xd_ledger.specs.Books.{marked, on_table}
 use Rattle.xd_ledger.specs.Collections.{with_list}
 use Rattle.xd_ledger.specs.Sharing.{State, ids_at, in_books, is_full, shared_now}

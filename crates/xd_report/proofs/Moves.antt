@@ -1,8 +1,8 @@
 -- What a reporter keeps of a state, it keeps of each state that differs in other parts alone.
 use Rattle.std.proofs.Common.{◌≡◌, ℕ, true, false, Option, Some, None, is_some, refl, ◌∙◌, if◌then◌else◌}
+use Rattle.xd_journal.specs.declared.entry.Entry.{Entry}
+use Rattle.xd_journal.specs.declared.entry.RunStop.{RunStop}
 use Rattle.xd_ledger.specs.declared.member.Member.{Member}
-use Rattle.xd_ledger.specs.declared.entry.Entry.{Entry}
-use Rattle.xd_ledger.specs.declared.entry.RunStop.{RunStop}
 use Rattle.xd_ledger.specs.Books.{marked}
 use Rattle.xd_ledger.specs.Sharing.{State, in_books, joining}
 use Rattle.xd_ledger.specs.State.{collecting, is_input, reached, settled}

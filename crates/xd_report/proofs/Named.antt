@@ -1,15 +1,15 @@
 -- The line of each report, and the block of each failed one, gives the id of its test.
 use Rattle.std.proofs.Common.{◌≡◌, ℕ, ◌+◌, ◌-◌, Bool, true, false, List, [], ◌∷◌, ◌++◌, filter, map, take, Option, Some, None, if◌then◌else◌, refl, sym, ◌∙◌, ap, subst, arith, append-nil, append_assoc}
-use Rattle.std.specs.Prelude.{codes, slice_index_or, sum}
+use Rattle.std.specs.Prelude.{slice_index_or, sum}
 use Rattle.xd_edge.specs.declared.mode.ModeKind.{ModeKind}
-use Rattle.xd_ledger.specs.declared.entry.Entry.{Entry}
-use Rattle.xd_ledger.specs.declared.entry.Entry.TheVariants.{Ready, Collected, Done, Back, Finished, Refused, Down, NotStarted, Start, Run, RunAll, Steal, Shutdown, Kill, Over}
-use Rattle.xd_ledger.specs.declared.entry.Ids.{Ids}
-use Rattle.xd_ledger.specs.declared.entry.Outcome.{Outcome}
-use Rattle.xd_ledger.specs.declared.entry.Outcome.TheVariants.{Passed, Skipped, Failed}
-use Rattle.xd_ledger.specs.declared.entry.RunStop.{RunStop}
+use Rattle.xd_journal.specs.declared.entry.Entry.{Entry}
+use Rattle.xd_journal.specs.declared.entry.Entry.TheVariants.{Ready, Collected, Done, Back, Finished, Refused, Down, NotStarted, Start, Run, RunAll, Steal, Shutdown, Kill, Over}
+use Rattle.xd_journal.specs.declared.entry.Ids.{Ids}
+use Rattle.xd_journal.specs.declared.entry.Outcome.{Outcome}
+use Rattle.xd_journal.specs.declared.entry.Outcome.TheVariants.{Passed, Skipped, Failed}
+use Rattle.xd_journal.specs.declared.entry.RunStop.{RunStop}
+use Rattle.xd_journal.specs.declared.settings.Settings.{Settings}
 use Rattle.xd_ledger.specs.declared.member.Listed.{Listed}
-use Rattle.xd_ledger.specs.declared.settings.Settings.{Settings}
 use Rattle.xd_ledger.specs.Books.{marked, on_table}
 use Rattle.xd_ledger.specs.Collections.{ids_of, key, listed, listed_in, lists_with, unequal, with_list}
 use Rattle.xd_ledger.specs.Numbers.{first_of}
@@ -21,9 +21,8 @@ use Rattle.xd_ledger.specs.Stops.{stopped_by}
 use Rattle.xd_ledger.specs.Table.{held, joined}
 use Rattle.xd_ledger.specs.Workers.{is_shut, made_collected, slot_of}
 use Rattle.xd_report.specs.Blocks.{block, block_of, blocks_from, crash_reason}
-use Rattle.xd_report.specs.EachReport.{Block, Line, Tests, Of, NodeDown, Replaces, HasNamedBlockEach, HasNamedLineEach, Names, NamesBlocks, id_in, is_failure, reports_told, text_of_line, text_of_report}
+use Rattle.xd_report.specs.EachReport.{Block, Line, Tests, Of, NodeDown, Replaces, HasNamedBlockEach, HasNamedLineEach, Names, NamesBlocks, id_in, is_failure, kept_outputs, outputs_from, outputs_of, reports_told, text_of_line, text_of_report}
 use Rattle.xd_report.specs.Lines.{collected_line, crashed_line, last_of_slot, lines_from, lines_of, replacing, run_lines}
-use Rattle.xd_report.specs.Names.{cause_text}
 use Rattle.xd_report.specs.Tests.{id_of, item_id, mode_of, tests}
 use Rattle.xd_report.proofs.EachReport.{all_blocks, all_lines, collected-settings, join, join_blocks, next-settings}
 use Rattle.xd_report.proofs.Texts.{blocks-more, lines-more}
@@ -161,9 +160,9 @@ module _ (settings : Settings) (first : Listed) (one_list : is_each settings.mod
       subst (λ (rs : List Report). HasNamedLineEach name (mode_of s) (lines_of s (Done w i outcome ms out)) rs) (sym (done-one w i outcome ms out s l))
       (one name (mode_of s) (Result w i outcome) (id_of w i s) (id-right w i s l))
   entry_named s (Down w cause out) l =
-      both name (mode_of s) _ _ [] _ (other name (mode_of s) (NodeDown w (cause_text cause)) refl tt)
+      both name (mode_of s) _ _ [] _ (other name (mode_of s) (NodeDown w (Some cause)) refl tt)
       (crash_named name (mode_of s) w (λ item. item_id w item s) (held w s.books.table) (λ item. item-right w item s l))
-  entry_named s (NotStarted w) l = other name (mode_of s) (NodeDown w (codes "not started")) refl tt
+  entry_named s (NotStarted w) l = other name (mode_of s) (NodeDown w None) refl tt
   entry_named s (Start w slot) l = replacing_named name (mode_of s) (last_of_slot slot s.books.crew None)
   entry_named s (Ready w) l = none name (mode_of s)
   entry_named s (Back w is) l = none name (mode_of s)
@@ -191,27 +190,28 @@ blocks-append : (name : Report → List ℕ) (xs ys : List Block) → NamesBlock
 blocks-append name [] ys n m = m
 blocks-append name (x ∷ xs) ys n m = (n.0, blocks-append name xs ys n.1 m)
 
-both_blocks : (name : Report → List ℕ) (mode : ModeKind) (a b : List ℕ) (rs ss : List Report) → HasNamedBlockEach name mode a rs → HasNamedBlockEach name mode b ss → HasNamedBlockEach name mode (a ++ b) (rs ++ ss)
-both_blocks name mode a b rs ss x y = record {
-  each = join_blocks mode a b rs ss x.each y.each;
+both_blocks : (name : Report → List ℕ) (mode : ModeKind) (a b : List ℕ) (rs ss : List Report) (os ps : List (List ℕ)) → HasNamedBlockEach name mode a rs os → HasNamedBlockEach name mode b ss ps → HasNamedBlockEach name mode (a ++ b) (rs ++ ss) (os ++ ps)
+both_blocks name mode a b rs ss os ps x y = record {
+  each = join_blocks mode a b rs ss os ps x.each y.each;
   names = blocks-append name x.each.blocks y.each.blocks x.names y.names;
 }
 
-no_block : (name : Report → List ℕ) (mode : ModeKind) (rs : List Report) → filter is_failure rs ≡ [] → HasNamedBlockEach name mode [] rs
-no_block name mode rs no_failure = record { each = record { blocks = []; text_is = refl; each_once = sym no_failure }; names = tt }
+no_block : (name : Report → List ℕ) (mode : ModeKind) (rs : List Report) → filter is_failure rs ≡ [] → HasNamedBlockEach name mode [] rs []
+no_block name mode rs no_failure = record { each = record { blocks = []; text_is = refl; each_once = sym no_failure; outputs_are = refl }; names = tt }
 
-one_block : (name : Report → List ℕ) (mode : ModeKind) (report : Report) (id output : List ℕ) → is_failure report ≡ true → id ≡ name report → HasNamedBlockEach name mode (text_of_report mode report id output) (report ∷ [])
+one_block : (name : Report → List ℕ) (mode : ModeKind) (report : Report) (id output : List ℕ) → is_failure report ≡ true → id ≡ name report → HasNamedBlockEach name mode (text_of_report mode report id output) (report ∷ []) (output ∷ [])
 one_block name mode report id output fails right = record {
   each = record {
     blocks = record { report = report; id = id; output = output } ∷ [];
     text_is = sym (append-nil (text_of_report mode report id output));
     each_once = ap (λ (b : Bool). if b then (report ∷ []) else []) (sym fails);
+    outputs_are = refl;
   };
   names = (right, tt);
 }
 
 crash_block : (name : Report → List ℕ) (mode : ModeKind) (w : ℕ) (id : ℕ → List ℕ) (output h : List ℕ) → ((item : ℕ) → id item ≡ name (Crash w item))
-    → HasNamedBlockEach name mode (elim (first_of h) [ None ↦ [] | Some item ↦ block mode w (id item) (crash_reason mode w (id item)) output ]) (map (λ item. Crash w item) (take 1 h))
+    → HasNamedBlockEach name mode (elim (first_of h) [ None ↦ [] | Some item ↦ block mode w (id item) (crash_reason mode w (id item)) output ]) (map (λ item. Crash w item) (take 1 h)) (map (λ _. output) (take 1 h))
 crash_block name mode w id output [] right = no_block name mode [] refl
 crash_block name mode w id output (x ∷ xs) right = one_block name mode (Crash w x) (id x) output refl (right x)
 
@@ -219,13 +219,13 @@ module _ (settings : Settings) (first : Listed) (one_list : is_each settings.mod
   abbrev name_in : Report → List ℕ
   name_in = id_in first.ids
 
-  entry_block : (s : State) (e : Entry) → Listing settings first s → HasNamedBlockEach name_in (mode_of s) (block_of s e) (reports_of s e)
+  entry_block : (s : State) (e : Entry) → Listing settings first s → HasNamedBlockEach name_in (mode_of s) (block_of s e) (reports_of s e) (outputs_of s e)
   entry_block s (Done w i Passed ms out) l =
       no_block name_in (mode_of s) (reports_of s (Done w i Passed ms out)) (ap (filter is_failure) (done-one settings first one_list w i Passed ms out s l))
   entry_block s (Done w i Skipped ms out) l =
       no_block name_in (mode_of s) (reports_of s (Done w i Skipped ms out)) (ap (filter is_failure) (done-one settings first one_list w i Skipped ms out s l))
   entry_block s (Done w i (Failed code) ms out) l =
-      subst (λ (rs : List Report). HasNamedBlockEach name_in (mode_of s) (block_of s (Done w i (Failed code) ms out)) rs) (sym (done-one settings first one_list w i (Failed code) ms out s l))
+      subst (λ (rs : List Report). HasNamedBlockEach name_in (mode_of s) (block_of s (Done w i (Failed code) ms out)) rs (out ∷ [])) (sym (done-one settings first one_list w i (Failed code) ms out s l))
       (one_block name_in (mode_of s) (Result w i (Failed code)) (id_of w i s) out refl (id-right settings first one_list w i s l))
   entry_block s (Down w cause out) l =
       crash_block name_in (mode_of s) w (λ item. item_id w item s) out (held w s.books.table) (λ item. item-right settings first one_list w item s l)
@@ -243,13 +243,13 @@ module _ (settings : Settings) (first : Listed) (one_list : is_each settings.mod
   entry_block s (Kill w) l = no_block name_in (mode_of s) [] refl
   entry_block s (Over how) l = no_block name_in (mode_of s) [] refl
 
-  all_blocks_named : (s : State) (es : List Entry) → Listing settings first s → HasNamedBlockEach name_in settings.mode (blocks_from s es) (reports_from s es)
+  all_blocks_named : (s : State) (es : List Entry) → Listing settings first s → HasNamedBlockEach name_in settings.mode (blocks_from s es) (reports_from s es) (outputs_from s es)
   all_blocks_named s [] l = no_block name_in settings.mode [] refl
   all_blocks_named s (e ∷ es) l =
       let t = reached s e in
       let there = settles settings first one_list s e l in
-      both_blocks name_in settings.mode (block_of t e) (blocks_from (next s e) es) (reports_of t e) (reports_from (next s e) es)
-      (subst (λ (k : Settings). HasNamedBlockEach name_in k.mode (block_of t e) (reports_of t e)) there.set (entry_block t e there))
+      both_blocks name_in settings.mode (block_of t e) (blocks_from (next s e) es) (reports_of t e) (reports_from (next s e) es) (outputs_of t e) (outputs_from (next s e) es)
+      (subst (λ (k : Settings). HasNamedBlockEach name_in k.mode (block_of t e) (reports_of t e) (outputs_of t e)) there.set (entry_block t e there))
       (all_blocks_named (next s e) es (moves settings first one_list t e there))
 
 -- where no report is, no block is
@@ -262,6 +262,12 @@ reports-more s [] more = refl
 reports-more s (e ∷ es) more =
     ap (λ (rs : List Report). reports_of (reached s e) e ++ rs) (reports-more (next s e) es more)
     ∙ sym (append_assoc (reports_of (reached s e) e) (reports_from (next s e) es) (reports_from (all_moved (next s e) es) more))
+
+outputs-more : (s : State) (es more : List Entry) → outputs_from s (es ++ more) ≡ outputs_from s es ++ outputs_from (all_moved s es) more
+outputs-more s [] more = refl
+outputs-more s (e ∷ es) more =
+    ap (λ (os : List (List ℕ)). outputs_of (reached s e) e ++ os) (outputs-more (next s e) es more)
+    ∙ sym (append_assoc (outputs_of (reached s e) e) (outputs_from (next s e) es) (outputs_from (all_moved (next s e) es) more))
 
 -- the mode of the plan stays
 
@@ -325,14 +331,15 @@ lines-named settings before more first one_list no_report first_is =
 
 pub blocks-named : (settings : Settings) (before more : List Entry) (first : Listed) → is_each settings.mode ≡ false → reports settings before ≡ []
     → listed_in 0 (all_moved (no_one settings) before).books.lists ≡ Some first
-    → HasNamedBlockEach (id_in first.ids) settings.mode (blocks_from (no_one settings) (before ++ more)) (reports settings (before ++ more))
+    → HasNamedBlockEach (id_in first.ids) settings.mode (blocks_from (no_one settings) (before ++ more)) (reports settings (before ++ more)) (kept_outputs settings (before ++ more))
 blocks-named settings before more first one_list no_report first_is =
     let s = all_moved (no_one settings) before in
     let l = behind settings before first first_is in
     let ahead = all_blocks (no_one settings) before in
-    let x : HasNamedBlockEach (id_in first.ids) settings.mode (blocks_from (no_one settings) before) (reports settings before) =
+    let x : HasNamedBlockEach (id_in first.ids) settings.mode (blocks_from (no_one settings) before) (reports settings before) (kept_outputs settings before) =
     record { each = ahead; names = no-names (id_in first.ids) ahead.blocks (ahead.each_once ∙ ap (filter is_failure) no_report) } in
     let y = all_blocks_named settings first one_list s more l in
-    let joined_up = both_blocks (id_in first.ids) settings.mode (blocks_from (no_one settings) before) (blocks_from s more) (reports settings before) (reports_from s more) x y in
-    subst (λ (text : List ℕ). HasNamedBlockEach (id_in first.ids) settings.mode text (reports settings (before ++ more))) (sym (blocks-more (no_one settings) before more))
-    (subst (λ (rs : List Report). HasNamedBlockEach (id_in first.ids) settings.mode (blocks_from (no_one settings) before ++ blocks_from s more) rs) (sym (reports-more (no_one settings) before more)) joined_up)
+    let joined_up = both_blocks (id_in first.ids) settings.mode (blocks_from (no_one settings) before) (blocks_from s more) (reports settings before) (reports_from s more) (kept_outputs settings before) (outputs_from s more) x y in
+    subst (λ (text : List ℕ). HasNamedBlockEach (id_in first.ids) settings.mode text (reports settings (before ++ more)) (kept_outputs settings (before ++ more))) (sym (blocks-more (no_one settings) before more))
+    (subst (λ (rs : List Report). HasNamedBlockEach (id_in first.ids) settings.mode (blocks_from (no_one settings) before ++ blocks_from s more) rs (kept_outputs settings (before ++ more))) (sym (reports-more (no_one settings) before more))
+    (subst (λ (os : List (List ℕ)). HasNamedBlockEach (id_in first.ids) settings.mode (blocks_from (no_one settings) before ++ blocks_from s more) (reports settings before ++ reports_from s more) os) (sym (outputs-more (no_one settings) before more)) joined_up))

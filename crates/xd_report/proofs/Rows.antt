@@ -2,13 +2,13 @@
 use Rattle.std.specs.Prelude.{◌≡◌, ℕ, List, [], ◌∷◌, ◌++◌, true, None, pos, codes}
 use Rattle.std.proofs.Common.{refl}
 use Rattle.xd_edge.specs.declared.mode.ModeKind.TheVariants.{Load, Local}
-use Rattle.xd_ledger.specs.declared.settings.Settings.{Settings}
-use Rattle.xd_ledger.specs.declared.entry.Ids.TheVariants as ids
-use Rattle.xd_ledger.specs.declared.entry.Cause.TheVariants.{Ended}
-use Rattle.xd_ledger.specs.declared.entry.Outcome.TheVariants.{Passed, Skipped, Failed}
-use Rattle.xd_ledger.specs.declared.entry.RunStop.TheVariants.{OutFault}
-use Rattle.xd_ledger.specs.declared.entry.Entry.{Entry}
-use Rattle.xd_ledger.specs.declared.entry.Entry.TheVariants.{Ready, Collected, Done, Finished, Refused, Down, NotStarted, Start, Run, Shutdown, Kill, Over}
+use Rattle.xd_journal.specs.declared.settings.Settings.{Settings}
+use Rattle.xd_journal.specs.declared.entry.Ids.TheVariants as ids
+use Rattle.xd_journal.specs.declared.entry.Cause.TheVariants.{Ended}
+use Rattle.xd_journal.specs.declared.entry.Outcome.TheVariants.{Passed, Skipped, Failed}
+use Rattle.xd_journal.specs.declared.entry.RunStop.TheVariants.{OutFault}
+use Rattle.xd_journal.specs.declared.entry.Entry.{Entry}
+use Rattle.xd_journal.specs.declared.entry.Entry.TheVariants.{Ready, Collected, Done, Finished, Refused, Down, NotStarted, Start, Run, Shutdown, Kill, Over}
 use Rattle.std.specs.Fmt.{digits}
 use lib.Utf8.{encode}
 use Rattle.xd_report.specs.Blocks.{reason_of, output_text, crash_reason, heading_line}

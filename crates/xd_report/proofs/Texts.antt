@@ -1,13 +1,13 @@
 -- The texts of a longer journal: a journal's lines, blocks and counts begin those of a longer one.
 use Rattle.std.proofs.Common.{◌≡◌, ℕ, ◌+◌, ◌<◌, Bool, List, [], ◌∷◌, ◌++◌, length, take, refl, ap, sym, ◌∙◌, append_assoc, add-zero, get_or, ◌==◌, Option, Some, None, if◌then◌else◌}
 use Rattle.std.proofs.lemmas.List.{append-nil, take_more}
-use Rattle.xd_ledger.specs.declared.entry.Entry.{Entry}
+use Rattle.xd_journal.specs.declared.entry.Entry.{Entry}
 use Rattle.xd_edge.specs.declared.mode.ModeKind.{ModeKind}
-use Rattle.xd_ledger.specs.declared.settings.Settings.{Settings}
-use Rattle.xd_ledger.specs.declared.entry.RunStop.{RunStop}
-use Rattle.xd_ledger.specs.declared.entry.RunStop.TheVariants.{Completed, MaxFail, Restarts, Unequal, CollectError, OutFault}
-use Rattle.xd_ledger.specs.declared.entry.Entry.TheVariants.{Ready, Collected, Done, Back, Finished, Refused, Down, NotStarted, Start, Run, RunAll, Steal, Shutdown, Kill, Over}
-use Rattle.xd_ledger.specs.declared.entry.Ids.{Ids}
+use Rattle.xd_journal.specs.declared.settings.Settings.{Settings}
+use Rattle.xd_journal.specs.declared.entry.RunStop.{RunStop}
+use Rattle.xd_journal.specs.declared.entry.RunStop.TheVariants.{Completed, MaxFail, Restarts, Unequal, CollectError, OutFault}
+use Rattle.xd_journal.specs.declared.entry.Entry.TheVariants.{Ready, Collected, Done, Back, Finished, Refused, Down, NotStarted, Start, Run, RunAll, Steal, Shutdown, Kill, Over}
+use Rattle.xd_journal.specs.declared.entry.Ids.{Ids}
 use Rattle.xd_ledger.specs.Sharing.{State}
 use Rattle.xd_ledger.specs.State.{after_collected, all_moved, next, no_one, reached, settled, state_at}
 use Rattle.xd_report.specs.declared.counts.Counts.{Counts}

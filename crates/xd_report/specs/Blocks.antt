@@ -3,10 +3,10 @@ use Rattle.std.specs.Prelude.{ℕ, ℤ, zero, suc, ◌-◌, ◌≡◌, ◌==◌,
 use Rattle.std.specs.List.{HoldsAt}
 use Rattle.std.specs.Fmt.{decimal, signed_decimal}
 use Rattle.xd_edge.specs.declared.mode.ModeKind.{ModeKind}
-use Rattle.xd_ledger.specs.declared.entry.Entry.{Entry}
-use Rattle.xd_ledger.specs.declared.entry.Entry.TheVariants.{Done, Down}
-use Rattle.xd_ledger.specs.declared.entry.Outcome.TheVariants.{Failed}
-use Rattle.xd_ledger.specs.declared.journal.Journal.{Journal}
+use Rattle.xd_journal.specs.declared.entry.Entry.{Entry}
+use Rattle.xd_journal.specs.declared.entry.Entry.TheVariants.{Done, Down}
+use Rattle.xd_journal.specs.declared.entry.Outcome.TheVariants.{Failed}
+use Rattle.xd_journal.specs.declared.journal.Journal.{Journal}
 use Rattle.xd_ledger.specs.Sharing.{State}
 use Rattle.xd_ledger.specs.State.{reached, next, all_moved, no_one}
 use Rattle.xd_report.specs.Names.{name, tag, plain}

@@ -1,28 +1,40 @@
 -- How the printed text speaks of the reports of a run: each has one line, with the id of its test, each failed one has a
 -- block, and each is counted once.
-use Rattle.std.specs.Prelude.{ℕ, ◌≡◌, ◌+◌, Bool, true, false, List, [], ◌∷◌, ◌++◌, length, map, filter, slice_index_or, Some}
+use Rattle.std.specs.Prelude.{ℕ, ◌≡◌, ◌+◌, Bool, true, false, List, [], ◌∷◌, ◌++◌, length, map, filter, take, slice_index_or, Option, Some, None, codes}
 use Rattle.xd_edge.specs.declared.mode.ModeKind.{ModeKind}
-use Rattle.xd_ledger.specs.declared.entry.Outcome.TheVariants.{Passed, Skipped, Failed}
-use Rattle.xd_ledger.specs.declared.journal.Journal.{Journal}
+use Rattle.xd_journal.specs.declared.entry.Cause.{Cause}
+use Rattle.xd_journal.specs.declared.entry.Entry.{Entry}
+use Rattle.xd_journal.specs.declared.entry.Entry.TheVariants.{Done, Down}
+use Rattle.xd_journal.specs.declared.entry.Outcome.TheVariants.{Passed, Skipped, Failed}
+use Rattle.xd_journal.specs.declared.settings.Settings.{Settings}
+use Rattle.xd_journal.specs.declared.journal.Journal.{Journal}
 use Rattle.xd_ledger.specs.Reports.{Report, Result, Crash, collected_in, item_of, reports_in}
-use Rattle.xd_ledger.specs.State.{no_one}
+use Rattle.xd_ledger.specs.Sharing.{State}
+use Rattle.xd_ledger.specs.State.{next, no_one, reached}
+use Rattle.xd_ledger.specs.Table.{held}
 use Rattle.xd_report.specs.declared.counts.Counts.{Counts}
 use Rattle.xd_report.specs.Blocks.{block, blocks_from, crash_reason, reason_of}
 use Rattle.xd_report.specs.Lines.{tests_line, result_line, crashed_line, down_line, replacing, run_lines}
+use Rattle.xd_report.specs.Names.{cause_text}
 
--- what a line tells: how many tests there are on how many workers, how a test went, that a worker went down, or whom a
--- new worker replaces
+-- what a line tells: how many tests there are on how many workers, how a test went, that a worker went down and of which
+-- cause (none where it was not started), or whom a new worker replaces
 pub data Line : Type 0 where
   Tests : (tests : ℕ) → (workers : ℕ) → Line
   Of : (report : Report) → (id : List ℕ) → Line
-  NodeDown : (worker : ℕ) → (why : List ℕ) → Line
+  NodeDown : (worker : ℕ) → (why : Option Cause) → Line
   Replaces : (old : ℕ) → Line
+
+-- the words for why a worker went down
+abbrev pub why_text : Option Cause → List ℕ
+why_text (Some cause) = cause_text cause
+why_text None = codes "not started"
 
 abbrev pub text_of_line : ModeKind → Line → List ℕ
 text_of_line mode (Tests tests workers) = tests_line mode tests workers
 text_of_line mode (Of (Result worker item outcome) id) = result_line mode worker outcome id
 text_of_line mode (Of (Crash worker item) id) = crashed_line mode worker id
-text_of_line mode (NodeDown worker why) = down_line mode worker why
+text_of_line mode (NodeDown worker why) = down_line mode worker (why_text why)
 text_of_line mode (Replaces old) = replacing mode (Some old)
 
 abbrev pub text_of_lines : ModeKind → List Line → List ℕ
@@ -96,11 +108,26 @@ abbrev pub text_of_blocks : ModeKind → List Block → List ℕ
 text_of_blocks mode [] = []
 text_of_blocks mode (b ∷ bs) = text_of_report mode b.report b.id b.output ++ text_of_blocks mode bs
 
--- The text is a list of blocks, one for each failed report among these, in order.
-pub record HasBlockEach (mode : ModeKind) (text : List ℕ) (rs : List Report) : Type 0 where
+-- what an entry that is a failed report keeps of its test's output
+abbrev pub outputs_of : State → Entry → List (List ℕ)
+outputs_of s (Done worker index (Failed code) ms output) = output ∷ []
+outputs_of s (Down worker cause output) = map (λ _. output) (take 1 (held worker s.books.table))
+outputs_of s _ = []
+
+abbrev pub outputs_from : State → List Entry → List (List ℕ)
+outputs_from s [] = []
+outputs_from s (e ∷ es) = outputs_of (reached s e) e ++ outputs_from (next s e) es
+
+-- the outputs that the failed reports of a run keep, in order
+abbrev pub kept_outputs : Settings → List Entry → List (List ℕ)
+kept_outputs settings entries = outputs_from (no_one settings) entries
+
+-- The text is a list of blocks, one for each failed report among these, in order, each with its output.
+pub record HasBlockEach (mode : ModeKind) (text : List ℕ) (rs : List Report) (outputs : List (List ℕ)) : Type 0 where
   pub blocks : List Block
   pub text_is : text ≡ text_of_blocks mode blocks
   pub each_once : map (λ b. b.report) blocks ≡ filter is_failure rs
+  pub outputs_are : map (λ b. b.output) blocks ≡ outputs
 
 -- each block gives the id that its test has by these names
 abbrev pub NamesBlocks : (Report → List ℕ) → List Block → Type 0
@@ -108,15 +135,15 @@ NamesBlocks name [] = Unit
 NamesBlocks name (b ∷ bs) = (b.id ≡ name b.report) × NamesBlocks name bs
 
 -- The same, and each block gives the id of its test.
-pub record HasNamedBlockEach (name : Report → List ℕ) (mode : ModeKind) (text : List ℕ) (rs : List Report) : Type 0 where
-  pub each : HasBlockEach mode text rs
+pub record HasNamedBlockEach (name : Report → List ℕ) (mode : ModeKind) (text : List ℕ) (rs : List Report) (outputs : List (List ℕ)) : Type 0 where
+  pub each : HasBlockEach mode text rs outputs
   pub names : NamesBlocks name each.blocks
 
 -- In the text of this journal the line of each report, and the block of each failed one, gives the id of its test among
 -- those that were collected.
 pub record NamesTests (j : Journal) : Type 0 where
   pub lines : HasNamedLineEach (id_in (collected_in j)) j.settings.mode (run_lines j.settings j.entries.items) (reports_in j)
-  pub blocks : HasNamedBlockEach (id_in (collected_in j)) j.settings.mode (blocks_from (no_one j.settings) j.entries.items) (reports_in j)
+  pub blocks : HasNamedBlockEach (id_in (collected_in j)) j.settings.mode (blocks_from (no_one j.settings) j.entries.items) (reports_in j) (kept_outputs j.settings j.entries.items)
 
 -- The counts are how many of these reports are of each kind, and each report is of one.
 pub record Counted (n : Counts) (rs : List Report) : Type 0 where

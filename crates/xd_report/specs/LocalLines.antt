@@ -1,7 +1,7 @@
 -- The lines of a run without workers, test by test.
 use Rattle.std.specs.Prelude.{ℕ, List, [], ◌∷◌, ◌++◌}
 use Rattle.xd_edge.specs.declared.mode.ModeKind.TheVariants.{Local}
-use Rattle.xd_ledger.specs.Local.{TestResult}
+use Rattle.xd_journal.specs.Local.{TestResult}
 use Rattle.xd_report.specs.Lines.{result_line}
 
 -- a line for each result, with the id that has the same place among these

@@ -5,11 +5,11 @@ use Rattle.std.specs.Fmt.{decimal}
 use Rattle.std.specs.Str.{encode_utf8_all}
 use Rattle.xd_edge.specs.declared.mode.ModeKind.{ModeKind}
 use Rattle.xd_edge.specs.declared.mode.ModeKind.TheVariants.{Local, Each, Load, LoadScope, LoadFile, LoadGroup, WorkSteal}
-use Rattle.xd_ledger.specs.declared.entry.Cause.{Cause}
-use Rattle.xd_ledger.specs.declared.entry.Cause.TheVariants.{Ended, Cut, Garbled, ReadFault, SendFault, Breach}
-use Rattle.xd_ledger.specs.declared.entry.Outcome.{Outcome}
-use Rattle.xd_ledger.specs.declared.entry.Outcome.TheVariants.{Passed, Skipped, Failed}
-use Rattle.xd_ledger.specs.Local.{is_local_mode}
+use Rattle.xd_journal.specs.declared.entry.Cause.{Cause}
+use Rattle.xd_journal.specs.declared.entry.Cause.TheVariants.{Ended, Cut, Garbled, ReadFault, SendFault, Breach}
+use Rattle.xd_journal.specs.declared.entry.Outcome.{Outcome}
+use Rattle.xd_journal.specs.declared.entry.Outcome.TheVariants.{Passed, Skipped, Failed}
+use Rattle.xd_journal.specs.Local.{is_local_mode}
 
 abbrev pub line : List ℕ → List ℕ
 line text = text ++ 10 ∷ []

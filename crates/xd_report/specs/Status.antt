@@ -2,12 +2,12 @@
 -- of this project.
 use Rattle.std.specs.Prelude.{ℕ, ◌==◌, List, if◌then◌else◌}
 use Rattle.xd_edge.specs.declared.mode.ModeKind.{ModeKind}
-use Rattle.xd_ledger.specs.declared.entry.RunStop.{RunStop}
-use Rattle.xd_ledger.specs.declared.entry.RunStop.TheVariants.{Completed, MaxFail, Restarts, Unequal, CollectError, OutFault}
-use Rattle.xd_ledger.specs.declared.entry.Entry.{Entry}
-use Rattle.xd_ledger.specs.declared.settings.Settings.{Settings}
-use Rattle.xd_ledger.specs.declared.journal.Journal.{Journal}
-use Rattle.xd_ledger.specs.Local.{is_local_mode}
+use Rattle.xd_journal.specs.declared.entry.RunStop.{RunStop}
+use Rattle.xd_journal.specs.declared.entry.RunStop.TheVariants.{Completed, MaxFail, Restarts, Unequal, CollectError, OutFault}
+use Rattle.xd_journal.specs.declared.entry.Entry.{Entry}
+use Rattle.xd_journal.specs.declared.settings.Settings.{Settings}
+use Rattle.xd_journal.specs.declared.journal.Journal.{Journal}
+use Rattle.xd_journal.specs.Local.{is_local_mode}
 use Rattle.xd_ledger.specs.State.{state_at}
 use Rattle.xd_ledger.specs.Ending.{stop_in}
 use Rattle.xd_report.specs.Summary.{counts}

@@ -1,8 +1,8 @@
 -- The tests that an entry speaks of, behind the state in which it stands.
 use Rattle.std.specs.Prelude.{ℕ, ◌-◌, List, [], length, slice_index_or, Option, if◌then◌else◌}
 use Rattle.xd_edge.specs.declared.mode.ModeKind.{ModeKind}
+use Rattle.xd_journal.specs.Local.{is_local_mode}
 use Rattle.xd_ledger.specs.Collections.{key}
-use Rattle.xd_ledger.specs.Local.{is_local_mode}
 use Rattle.xd_ledger.specs.Numbers.{first_of}
 use Rattle.xd_ledger.specs.Plan.{base, total}
 use Rattle.xd_ledger.specs.Sharing.{State, ids_at}

@@ -12,7 +12,7 @@ use crate::reporter::Reporter;
 use crate::writing::{add, add_number, add_text};
 use std::alloc::Global;
 use xd_edge::{Blob, ModeKind, OutOfMemory};
-use xd_ledger::{Entry, Journal, Outcome};
+use xd_journal::{Entry, Journal, Outcome};
 
 /// The block of the entry at a place, which is a failed report: its heading, the reason, and the kept output.
 pub fn failure_block(alloc: Global, journal: &Journal, at: usize) -> Result<Blob, OutOfMemory>

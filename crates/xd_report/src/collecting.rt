@@ -1,5 +1,6 @@
 // Collections, and the share.
 ghost use Rattle.std.specs.Prelude.{◌≡◌, List, IfOk, OnOk, Some};
+ghost use Rattle.xd_journal.specs.declared.entry.RunStop.TheVariants.{Unequal};
 ghost use Rattle.xd_ledger.specs.Collections.{key, unequal, listed, with_list};
 ghost use Rattle.xd_ledger.specs.Books.{on_table};
 ghost use Rattle.xd_ledger.specs.Table.{joined};
@@ -7,7 +8,6 @@ ghost use Rattle.xd_ledger.specs.Plan.{is_each};
 ghost use Rattle.xd_ledger.specs.Sharing.{State, joining, planned, share_where_full, in_books};
 ghost use Rattle.xd_ledger.specs.State.{after_collected};
 ghost use Rattle.xd_ledger.specs.Workers.{is_shut};
-ghost use Rattle.xd_ledger.specs.declared.entry.RunStop.TheVariants.{Unequal};
 ghost use Rattle.xd_report.specs.Follows.{Follows};
 ghost use Rattle.xd_report.specs.Tests.{tests};
 
@@ -15,7 +15,8 @@ use crate::reporter::Reporter;
 use crate::{desk, lists};
 use std::alloc::Global;
 use xd_edge::OutOfMemory;
-use xd_ledger::{Ids, Listed, RunStop};
+use xd_journal::{Ids, RunStop};
+use xd_ledger::Listed;
 
 impl Reporter {
     // A worker collected.

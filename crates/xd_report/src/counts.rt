@@ -9,7 +9,7 @@ use crate::numbers::plus;
 use crate::reporter::Reporter;
 use std::alloc::Global;
 use xd_edge::OutOfMemory;
-use xd_ledger::{Entry, Outcome};
+use xd_journal::{Entry, Outcome};
 
 /// How many reports there are of each kind. A crash is a failure.
 #[derive(Clone, Copy, Debug, PartialEq, Eq)]

@@ -12,7 +12,7 @@ use crate::summary::{counts_of, summary};
 use crate::writing::add;
 use std::alloc::Global;
 use xd_edge::{Blob, OutOfMemory};
-use xd_ledger::{Entry, Journal};
+use xd_journal::{Entry, Journal};
 
 /// The blocks of the failed reports, the line of the stop where the run stopped, and the summary.
 pub fn tail(alloc: Global, journal: &Journal) -> Result<Blob, OutOfMemory>

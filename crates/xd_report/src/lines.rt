@@ -1,12 +1,12 @@
 // The lines of a journal's entries.
 ghost use Rattle.std.specs.Prelude.{◌≡◌, ◌≤◌, ◌++◌, length, None, IfOk, OnOk};
+ghost use Rattle.xd_journal.specs.Local.{is_local_mode};
 ghost use Rattle.xd_ledger.specs.Sharing.{State};
 ghost use Rattle.xd_ledger.specs.State.{all_moved, reached, next};
 ghost use Rattle.xd_report.specs.Follows.{Follows};
 ghost use Rattle.xd_report.specs.Lines.{collected_line, crashed, down_line, last_of_slot, lines_between, lines_from, lines_of, replacing, result_line, tests_line, told};
 ghost use Rattle.xd_report.specs.Names.{cause_text};
 ghost use Rattle.xd_report.specs.Tests.{id_of, mode_of};
-ghost use Rattle.xd_ledger.specs.Local.{is_local_mode};
 
 use crate::crew;
 use crate::names::{add_name, add_plain, add_tag, cause_text, mode_text, outcome_text};
@@ -14,7 +14,7 @@ use crate::reporter::Reporter;
 use crate::writing::{add, add_number, add_text};
 use std::alloc::Global;
 use xd_edge::{Blob, ModeKind, OutOfMemory};
-use xd_ledger::{Cause, Entry, Journal, Outcome};
+use xd_journal::{Cause, Entry, Journal, Outcome};
 
 /// The lines of the entries from one place up to another, each ended by a newline. It goes over the entries ahead too;
 /// whoever prints a journal while it grows keeps a `Reporter`.

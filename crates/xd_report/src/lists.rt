@@ -5,7 +5,8 @@ ghost use Rattle.xd_ledger.specs.Sharing.{ids_at, sizes_from};
 
 use std::alloc::Global;
 use xd_edge::{OutOfMemory, Text, Texts};
-use xd_ledger::{Ids, Listed};
+use xd_journal::Ids;
+use xd_ledger::Listed;
 
 /// The collection of a slot.
 pub fn listed_in(lists: &[Listed], slot: u32) -> Option<&Listed>

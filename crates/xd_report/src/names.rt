@@ -6,7 +6,7 @@ ghost use Rattle.xd_report.specs.Names.{name, tag, plain, printable, outcome_tex
 use crate::writing::{add, add_number, add_text};
 use std::alloc::Global;
 use xd_edge::{ModeKind, OutOfMemory};
-use xd_ledger::{Cause, Outcome};
+use xd_journal::{Cause, Outcome};
 
 /// The name of a worker.
 #[tactic(auto, unfolding(crate::specs::Names::name))]

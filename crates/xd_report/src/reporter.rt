@@ -7,7 +7,8 @@ ghost use Rattle.xd_report.specs.Follows.{Follows};
 use crate::desk::Desk;
 use std::alloc::Global;
 use xd_edge::OutOfMemory;
-use xd_ledger::{Entry, Listed, Member, RunStop, Settings};
+use xd_journal::{Entry, RunStop, Settings};
+use xd_ledger::{Listed, Member};
 
 /// Follows a journal entry by entry, and keeps of it what the report of the next entry needs: the workers, the ids of
 /// each slot, and what each worker holds.

@@ -1,5 +1,6 @@
 // Results, deaths and stops.
 ghost use Rattle.std.specs.Prelude.{◌≡◌, ℕ, ◌+◌, List, [], ◌∷◌, length, take, OnOk, Some};
+ghost use Rattle.xd_journal.specs.declared.entry.Entry.TheVariants.{Done};
 ghost use Rattle.xd_ledger.specs.Books.{on_table};
 ghost use Rattle.xd_ledger.specs.Table.{held, left};
 ghost use Rattle.xd_ledger.specs.Plan.{base, items_named};
@@ -7,7 +8,6 @@ ghost use Rattle.xd_ledger.specs.Sharing.{State, in_books};
 ghost use Rattle.xd_ledger.specs.State.{moved, after_down, completed_first, gone};
 ghost use Rattle.xd_ledger.specs.Stops.{or_stop, stopped_by, at_limit, out_of_restarts};
 ghost use Rattle.xd_ledger.specs.Workers.{slot_of};
-ghost use Rattle.xd_ledger.specs.declared.entry.Entry.TheVariants.{Done};
 ghost use Rattle.xd_report.specs.Follows.{Follows, judged};
 ghost use Rattle.xd_report.specs.Tests.{head};
 
@@ -16,7 +16,7 @@ use crate::numbers::{one_more, plus};
 use crate::reporter::Reporter;
 use std::alloc::Global;
 use xd_edge::OutOfMemory;
-use xd_ledger::{Outcome, RunStop};
+use xd_journal::{Outcome, RunStop};
 
 impl Reporter {
     // The first stop counts.

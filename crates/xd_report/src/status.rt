@@ -1,6 +1,6 @@
 // How a run ended, and its exit status.
 ghost use Rattle.std.specs.Prelude.{◌≡◌, IfOk, if◌then◌else◌};
-ghost use Rattle.xd_ledger.specs.Local.{is_local_mode};
+ghost use Rattle.xd_journal.specs.Local.{is_local_mode};
 ghost use Rattle.xd_ledger.specs.Ending.{over_in};
 ghost use Rattle.xd_report.specs.Status.{completed_status, status_of, stop_status};
 
@@ -8,7 +8,7 @@ use crate::counts::Counts;
 use crate::reporter::Reporter;
 use std::alloc::Global;
 use xd_edge::{ModeKind, OutOfMemory};
-use xd_ledger::{Entry, Journal, RunStop};
+use xd_journal::{Entry, Journal, RunStop};
 
 /// The exit status: 0 where all went well, 1 where a test failed or the run stopped, 2 where a run with workers reached
 /// the limit on failures or a worker could not collect, 3 where the report could not be written, 5 where there was no

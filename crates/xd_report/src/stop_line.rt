@@ -7,7 +7,7 @@ use crate::names::{add_name, add_plain};
 use crate::writing::{add, add_text};
 use std::alloc::Global;
 use xd_edge::{ModeKind, OutOfMemory};
-use xd_ledger::{Entry, RunStop};
+use xd_journal::{Entry, RunStop};
 
 /// The line of the first stop among these entries, where there is one.
 pub fn add_line_of_stop(

@@ -7,7 +7,7 @@ use crate::counts::Counts;
 use crate::reporter::Reporter;
 use std::alloc::Global;
 use xd_edge::{OutOfMemory, Text};
-use xd_ledger::Journal;
+use xd_journal::Journal;
 
 /// The counts of the reports that are over 0, without a newline.
 pub fn summary_line(alloc: Global, journal: &Journal) -> Result<Text, OutOfMemory>

@@ -2,7 +2,7 @@ use super::*;
 use std::alloc::Global;
 use std::test::Fail;
 use xd_edge::{Blob, Indices, ModeKind, Text, Texts};
-use xd_ledger::{Cause, Entry, Ids, Journal, Outcome, Settings};
+use xd_journal::{Cause, Entry, Ids, Journal, Outcome, Settings};
 
 fn settings(mode: ModeKind, workers: u32, maxfail: u32, restarts: u32) -> Settings {
     Settings {

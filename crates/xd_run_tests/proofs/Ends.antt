@@ -3,8 +3,8 @@ use Rattle.std.proofs.Common.{◌≡◌, ℕ, ◌+◌, ◌<◌, List, [], ◌∷
 use Rattle.std.specs.Prelude.{option_to_list, slice_index_or, replicate, is_some}
 use Rattle.std.proofs.Math.ListN.{get_or-replicate}
 use Rattle.std.proofs.lemmas.Grind.{common_steps}
-use Rattle.xd_ledger.specs.declared.entry.Outcome.{Outcome}
-use Rattle.xd_ledger.specs.declared.news.What.TheVariants.{Done}
+use Rattle.xd_journal.specs.declared.entry.Outcome.{Outcome}
+use Rattle.xd_journal.specs.declared.news.What.TheVariants.{Done}
 use Rattle.xd_run_tests.specs.declared.place.Place.{Place}
 use Rattle.xd_run_tests.specs.declared.place.Place.TheVariants.{Test}
 use Rattle.xd_run_tests.specs.declared.place.Standing.{Standing}

@@ -10,7 +10,7 @@ use Rattle.xd_run_tests.specs.declared.run_tests.Running.{Running}
 use Rattle.xd_run_tests.specs.declared.run_tests.RunTests.{RunTests}
 use Rattle.xd_run_tests.specs.declared.ask.Acts.{Acts}
 use Rattle.std.proofs.lemmas.Bool.{le-leb}
-use Rattle.xd_ledger.specs.declared.news.What.TheVariants.{LogStart}
+use Rattle.xd_journal.specs.declared.news.What.TheVariants.{LogStart}
 use Rattle.xd_run_tests.specs.declared.ask.Ask.{Ask}
 use Rattle.xd_run_tests.specs.declared.ask.Ask.TheVariants.{Tell}
 use Rattle.xd_run_tests.specs.Line.{Call, has_test, left, log_of, head_test, can_give}

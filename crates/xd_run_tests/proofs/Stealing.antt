@@ -11,7 +11,7 @@ use Rattle.xd_run_tests.specs.declared.run_tests.RunTests.{RunTests}
 use Rattle.xd_run_tests.specs.declared.phase.Phase.TheVariants.{Serving}
 use Rattle.std.specs.Prelude.{Result, Ok, Err, OnOk}
 use Rattle.xd_edge.specs.declared.refusals.OutOfMemory.{OutOfMemory}
-use Rattle.xd_ledger.specs.declared.news.What.TheVariants.{Back}
+use Rattle.xd_journal.specs.declared.news.What.TheVariants.{Back}
 use Rattle.xd_run_tests.specs.declared.ask.Ask.{Ask}
 use Rattle.xd_run_tests.specs.declared.ask.Ask.TheVariants.{Tell}
 use Rattle.xd_run_tests.specs.declared.run_tests.steal.Asked.{Asked}

@@ -1,7 +1,7 @@
 -- Rows that are worked by hand.
 use Rattle.std.specs.Prelude.{◌≡◌, ℕ, List, [], ◌∷◌, true, Some, codes}
 use Rattle.xd_gateway.specs.declared.order.Order.TheVariants.{RunTests, Steal}
-use Rattle.xd_ledger.specs.declared.news.What.TheVariants.{Collected, LogStart, Back}
+use Rattle.xd_journal.specs.declared.news.What.TheVariants.{Collected, LogStart, Back}
 use Rattle.xd_run_tests.specs.declared.ask.Ask.TheVariants.{Tell}
 use Rattle.xd_run_tests.specs.declared.input.Input.{Input}
 use Rattle.xd_run_tests.specs.declared.input.Input.TheVariants as input

@@ -2,7 +2,7 @@
 ghost use Rattle.std.specs.Prelude.{◌≡◌, ◌++◌, ◌∷◌, [], OnOk};
 
 use xd_edge::{Blob, OutOfMemory, Text};
-use xd_ledger::What;
+use xd_journal::What;
 
 /// What the function asks its worker to say.
 #[derive(Drop)]

@@ -1,6 +1,6 @@
 use xd_edge::{Blob, Text, Texts};
 use xd_gateway::Order;
-use xd_ledger::Outcome;
+use xd_journal::Outcome;
 
 /// What comes to the function.
 #[derive(Drop)]

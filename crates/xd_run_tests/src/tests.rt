@@ -7,7 +7,7 @@ use std::alloc::Global;
 use std::test::Fail;
 use xd_edge::{Blob, Indices, Text, Texts};
 use xd_gateway::Order;
-use xd_ledger::{Outcome, What};
+use xd_journal::{Outcome, What};
 
 fn number(words: &str) -> Result<u32, Fail> {
     Ok(words.parse::<u32>().ok().ok_or("a number")?)

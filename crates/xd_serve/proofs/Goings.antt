@@ -7,7 +7,7 @@ use Rattle.xd_edge.specs.Faults.{Rose}
 use Rattle.xd_edge.specs.Files.{Held}
 use Rattle.xd_edge.specs.Sink.{Sunk}
 use Rattle.xd_frame.specs.Message.{MessageView, frames}
-use Rattle.xd_ledger.specs.declared.entry.Outcome.{Outcome}
+use Rattle.xd_journal.specs.declared.entry.Outcome.{Outcome}
 use Rattle.xd_run_tests.specs.Line.{Call, running_test, head_test, left}
 use Rattle.xd_suite.specs.declared.test.Test.{Test}
 use Rattle.xd_suite.specs.Tests.{run_at}

@@ -15,7 +15,7 @@ use Rattle.xd_factory.specs.Said as said
 use Rattle.xd_factory.specs.Slot.{Slot, Unseen, Here, Gone}
 use Rattle.xd_factory.specs.Table.{arrived_answer, ended_answer, end_answer, handed_answer}
 use Rattle.xd_gateway.specs.Orders.{tree_order}
-use Rattle.xd_ledger.specs.declared.entry.Outcome.{Outcome}
+use Rattle.xd_journal.specs.declared.entry.Outcome.{Outcome}
 use Rattle.xd_run_tests.specs.declared.ask.Ask.{Ask}
 use Rattle.xd_run_tests.specs.declared.ask.Ask.TheVariants.{Tell, Piece, CloseLog, End as EndAsk}
 use Rattle.xd_run_tests.specs.declared.input.Input.{Input}

@@ -9,7 +9,7 @@ use Rattle.xd_edge.specs.Files.{Held}
 use Rattle.xd_edge.specs.Sink.{Sunk, PrintedPart}
 use Rattle.xd_edge.proofs.SinkLemmas.{printed_more, printed_then_part, printed_part_of_more}
 use Rattle.xd_frame.specs.Message.{MessageView, frame, frames}
-use Rattle.xd_ledger.specs.declared.entry.Outcome.{Outcome}
+use Rattle.xd_journal.specs.declared.entry.Outcome.{Outcome}
 use Rattle.xd_worker.specs.declared.input.WorkerInput.{WorkerInput}
 use Rattle.xd_worker.specs.declared.input.WorkerInput.TheVariants.{Message, SuiteBytes, SuiteTooLarge, SuiteUnread, Output, ChildDone, LinkEnd}
 use Rattle.xd_worker.specs.declared.input.WorkerActions.{WorkerActions}

@@ -5,8 +5,8 @@ use Rattle.xd_edge.specs.declared.children.ChildEnd.{ChildEnd}
 use Rattle.xd_edge.specs.declared.children.Fate.TheVariants.{Ended, NotWaited}
 use Rattle.xd_edge.specs.Children.{ChildRun, ChangesRun, with_end, with_wait_fault}
 use Rattle.xd_edge.specs.Faults.{Rose, RoseBy}
-use Rattle.xd_ledger.specs.declared.entry.Outcome.{Outcome}
-use Rattle.xd_ledger.specs.declared.entry.Outcome.TheVariants.{Passed, Skipped, Failed}
+use Rattle.xd_journal.specs.declared.entry.Outcome.{Outcome}
+use Rattle.xd_journal.specs.declared.entry.Outcome.TheVariants.{Passed, Skipped, Failed}
 use Rattle.xd_serve.specs.Child.{Waited, fault_count, outcome_of_end}
 use lib.IntN.{negsuc}
 

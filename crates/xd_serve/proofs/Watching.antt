@@ -7,8 +7,8 @@ use Rattle.xd_edge.specs.Faults.{Rose, RoseBy}
 use Rattle.xd_edge.specs.Files.{Held}
 use Rattle.xd_edge.proofs.ChildLemmas.{change_at_end, change_at_not, change_at_twice}
 use Rattle.xd_frame.specs.Message.{MessageView}
-use Rattle.xd_ledger.specs.declared.entry.Outcome.{Outcome}
-use Rattle.xd_ledger.specs.declared.entry.Outcome.TheVariants.{Failed}
+use Rattle.xd_journal.specs.declared.entry.Outcome.{Outcome}
+use Rattle.xd_journal.specs.declared.entry.Outcome.TheVariants.{Failed}
 use Rattle.xd_suite.specs.Tests.{run_at}
 use Rattle.xd_worker.specs.declared.worker.WorkerCore.{WorkerCore}
 use Rattle.xd_worker.specs.History.{Heard, worker_after}

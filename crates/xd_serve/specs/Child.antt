@@ -5,8 +5,8 @@ use Rattle.xd_edge.specs.declared.children.ChildEnd.{ChildEnd}
 use Rattle.xd_edge.specs.declared.children.ChildEnd.TheVariants.{Status, Killed}
 use Rattle.xd_edge.specs.declared.children.Fate.{Fate}
 use Rattle.xd_edge.specs.declared.children.Fate.TheVariants.{Running, Ended, NotStarted, NotRead, NotWaited}
-use Rattle.xd_ledger.specs.declared.entry.Outcome.{Outcome}
-use Rattle.xd_ledger.specs.declared.entry.Outcome.TheVariants.{Passed, Skipped, Failed}
+use Rattle.xd_journal.specs.declared.entry.Outcome.{Outcome}
+use Rattle.xd_journal.specs.declared.entry.Outcome.TheVariants.{Passed, Skipped, Failed}
 
 -- of a child that was waited for
 abbrev pub outcome_of_end : ChildEnd → Outcome

@@ -5,7 +5,7 @@ use Rattle.xd_edge.specs.Faults.{Rose, RoseBy}
 use Rattle.xd_edge.specs.Files.{Held}
 use Rattle.xd_edge.specs.Sink.{Sunk}
 use Rattle.xd_frame.specs.Message.{MessageView}
-use Rattle.xd_ledger.specs.declared.entry.Outcome.{Outcome}
+use Rattle.xd_journal.specs.declared.entry.Outcome.{Outcome}
 use Rattle.xd_run_tests.specs.declared.phase.Phase.{Phase}
 use Rattle.xd_run_tests.specs.declared.phase.Phase.TheVariants.{Awaiting, Serving, Stopped, Over}
 use Rattle.xd_run_tests.specs.declared.phase.Phase.TheVariants as phase

@@ -5,7 +5,7 @@ ghost use Rattle.xd_serve.specs.Child.{Waited, fault_count, outcome_of_end};
 
 use std::sync::Wait;
 use xd_edge::{ChildEnd, Children};
-use xd_ledger::Outcome;
+use xd_journal::Outcome;
 
 /// Waits for a program whose output was read to its end, or else could not be read. Says how its test went.
 #[tactic(auto, using(crate::proofs::Waiting::by_end, crate::proofs::Waiting::by_end_unread))]

@@ -11,7 +11,7 @@ use crate::speaker::Speaker;
 use std::alloc::Global;
 use std::sync::Wait;
 use xd_edge::{Blob, ChildFault, Children, Clock, OutOfMemory, Sink};
-use xd_ledger::Outcome;
+use xd_journal::Outcome;
 use xd_worker::WorkerInput;
 
 /// Runs the program of a test that the worker asked for to its end, and tells the worker what it prints and how it

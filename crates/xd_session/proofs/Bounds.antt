@@ -5,19 +5,19 @@ use Rattle.std.specs.List.{list_all}
 use Rattle.std.proofs.lemmas.Bool.Decides.{nat_tests}
 use Rattle.std.proofs.lemmas.List.{length-take}
 use Rattle.xd_edge.specs.declared.mode.ModeKind.TheVariants.{Load}
-use Rattle.xd_ledger.specs.declared.settings.Settings.{Settings}
-use Rattle.xd_ledger.specs.declared.entry.Cause.{Cause}
-use Rattle.xd_ledger.specs.declared.entry.Cause.TheVariants.{Breach}
-use Rattle.xd_ledger.specs.declared.entry.Entry.{Entry}
-use Rattle.xd_ledger.specs.declared.entry.Entry.TheVariants.{Ready, Collected, Done, Back, Finished, Refused, Down, NotStarted, Start, Run, RunAll, Steal, Shutdown, Kill, Over}
-use Rattle.xd_ledger.specs.declared.entry.Outcome.{Outcome}
-use Rattle.xd_ledger.specs.declared.entry.Outcome.TheVariants.{Failed, Passed, Skipped}
-use Rattle.xd_ledger.specs.declared.news.News.{News}
-use Rattle.xd_ledger.specs.declared.news.What.{What}
-use Rattle.xd_ledger.specs.declared.news.What.TheVariants as what
+use Rattle.xd_journal.specs.declared.settings.Settings.{Settings}
+use Rattle.xd_journal.specs.declared.entry.Cause.{Cause}
+use Rattle.xd_journal.specs.declared.entry.Cause.TheVariants.{Breach}
+use Rattle.xd_journal.specs.declared.entry.Entry.{Entry}
+use Rattle.xd_journal.specs.declared.entry.Entry.TheVariants.{Ready, Collected, Done, Back, Finished, Refused, Down, NotStarted, Start, Run, RunAll, Steal, Shutdown, Kill, Over}
+use Rattle.xd_journal.specs.declared.entry.Outcome.{Outcome}
+use Rattle.xd_journal.specs.declared.entry.Outcome.TheVariants.{Failed, Passed, Skipped}
+use Rattle.xd_journal.specs.declared.news.News.{News}
+use Rattle.xd_journal.specs.declared.news.What.{What}
+use Rattle.xd_journal.specs.declared.news.What.TheVariants as what
+use Rattle.xd_journal.specs.Kept.{most_of_all, most_of_one}
 use Rattle.xd_ledger.specs.Collections.{listed}
 use Rattle.xd_ledger.specs.Histories.{starts_from}
-use Rattle.xd_ledger.specs.Kept.{most_of_all, most_of_one}
 use Rattle.xd_ledger.specs.Meaning.{Log, any_open, given_ids, head_bytes, is_of, is_open_log, kept, log_of, may_start_log, meaning_of, output_of, spent_by}
 use Rattle.xd_ledger.specs.Orderly.{all_orderly, is_orderly}
 use Rattle.xd_ledger.specs.Outputs.{outputs}

@@ -4,10 +4,10 @@ use Rattle.std.proofs.lemmas.List.{take_more}
 use Rattle.std.proofs.lemmas.Grind.{common_steps}
 use Rattle.std.proofs.lemmas.Bool.Decides.{nat_tests}
 use Rattle.std.specs.Prelude.{filter, if◌then◌else◌}
-use Rattle.xd_ledger.specs.declared.entry.Entry.{Entry}
+use Rattle.xd_journal.specs.declared.entry.Entry.{Entry}
+use Rattle.xd_journal.specs.declared.entry.Entry.TheVariants.{Kill}
 use Rattle.xd_ledger.specs.Books.{Books}
 use Rattle.xd_ledger.specs.declared.member.Member.{Member}
-use Rattle.xd_ledger.specs.declared.entry.Entry.TheVariants.{Kill}
 use Rattle.xd_ledger.specs.Workers.{waiting, is_waiting, slot_in}
 use Rattle.xd_ledger.specs.Ending.{kills}
 use Rattle.xd_session.specs.Rules.{told, told_all, shutdowns}

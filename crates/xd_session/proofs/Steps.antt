@@ -5,17 +5,17 @@ use Rattle.std.proofs.lemmas.Grind.{fold-append}
 use Rattle.std.proofs.lemmas.List.{append-nil}
 use Rattle.std.proofs.lemmas.Bool.Decides.{nat_tests}
 use Rattle.xd_edge.specs.declared.mode.ModeKind.TheVariants.{Load}
-use Rattle.xd_ledger.specs.declared.settings.Settings.{Settings}
-use Rattle.xd_ledger.specs.declared.entry.Entry.{Entry}
-use Rattle.xd_ledger.specs.declared.entry.Entry.TheVariants.{Ready, Collected, Done, Back, Finished, Refused, Down, NotStarted, Start, Run, RunAll, Steal, Shutdown, Kill, Over}
-use Rattle.xd_ledger.specs.declared.entry.Cause.TheVariants.{Breach}
-use Rattle.xd_ledger.specs.declared.entry.Outcome.{Outcome}
-use Rattle.xd_ledger.specs.declared.entry.Outcome.TheVariants.{Failed, Passed, Skipped}
-use Rattle.xd_ledger.specs.declared.news.News.{News}
-use Rattle.xd_ledger.specs.declared.news.What.{What}
-use Rattle.xd_ledger.specs.declared.news.What.TheVariants as what
+use Rattle.xd_journal.specs.declared.settings.Settings.{Settings}
+use Rattle.xd_journal.specs.declared.entry.Entry.{Entry}
+use Rattle.xd_journal.specs.declared.entry.Entry.TheVariants.{Ready, Collected, Done, Back, Finished, Refused, Down, NotStarted, Start, Run, RunAll, Steal, Shutdown, Kill, Over}
+use Rattle.xd_journal.specs.declared.entry.Cause.TheVariants.{Breach}
+use Rattle.xd_journal.specs.declared.entry.Outcome.{Outcome}
+use Rattle.xd_journal.specs.declared.entry.Outcome.TheVariants.{Failed, Passed, Skipped}
+use Rattle.xd_journal.specs.declared.news.News.{News}
+use Rattle.xd_journal.specs.declared.news.What.{What}
+use Rattle.xd_journal.specs.declared.news.What.TheVariants as what
+use Rattle.xd_journal.specs.Kept.{most_of_all, most_of_one}
 use Rattle.xd_ledger.specs.Histories.{begun, first_starts, grown, journal_of, stepped_all}
-use Rattle.xd_ledger.specs.Kept.{most_of_all, most_of_one}
 use Rattle.xd_ledger.specs.Meaning.{Log, given_ids, is_of, any_open, kept, log_of, may_start_log, meaning_of, output_of, is_open_log, spent_by, with_news}
 use Rattle.xd_ledger.specs.Orderly.{all_orderly, is_orderly}
 use Rattle.xd_ledger.specs.Outputs.{outputs, stepped}

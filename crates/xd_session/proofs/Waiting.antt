@@ -4,12 +4,12 @@ use Rattle.std.specs.Prelude.{if◌then◌else◌, ◌==◌, filter, Option, Som
 use Rattle.std.specs.List.{list_any}
 use Rattle.std.proofs.lemmas.Bool.Decides.{nat_tests}
 use Rattle.xd_edge.specs.declared.mode.ModeKind.TheVariants.{Load}
-use Rattle.xd_ledger.specs.declared.settings.Settings.{Settings}
+use Rattle.xd_journal.specs.declared.settings.Settings.{Settings}
+use Rattle.xd_journal.specs.declared.entry.RunStop.{RunStop}
+use Rattle.xd_journal.specs.declared.entry.Ids.{Ids}
+use Rattle.xd_journal.specs.declared.entry.Entry.{Entry}
+use Rattle.xd_journal.specs.declared.entry.Entry.TheVariants.{Ready, Collected, Done, Back, Finished, Refused, Down, NotStarted, Start, Run, RunAll, Steal, Shutdown, Kill, Over}
 use Rattle.xd_ledger.specs.declared.member.Member.{Member}
-use Rattle.xd_ledger.specs.declared.entry.RunStop.{RunStop}
-use Rattle.xd_ledger.specs.declared.entry.Ids.{Ids}
-use Rattle.xd_ledger.specs.declared.entry.Entry.{Entry}
-use Rattle.xd_ledger.specs.declared.entry.Entry.TheVariants.{Ready, Collected, Done, Back, Finished, Refused, Down, NotStarted, Start, Run, RunAll, Steal, Shutdown, Kill, Over}
 use Rattle.xd_ledger.specs.Books.{Books, marked}
 use Rattle.xd_ledger.specs.Collections.{listed, unequal, with_list}
 use Rattle.xd_ledger.specs.Histories.{begun, starts_from, stepped_all}

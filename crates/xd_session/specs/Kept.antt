@@ -1,6 +1,6 @@
 -- What is asked of the log that a worker started last.
 use Rattle.std.specs.Prelude.{ℕ, zero, suc, ◌==◌, List, [], ◌∷◌, take, Option, Some, None, if◌then◌else◌}
-use Rattle.xd_ledger.specs.Kept.{most_of_one}
+use Rattle.xd_journal.specs.Kept.{most_of_one}
 use Rattle.xd_ledger.specs.Meaning.{Log}
 use Rattle.xd_session.specs.declared.logs.WorkerLog.{WorkerLog}
 

@@ -1,9 +1,10 @@
 -- What a rule of the session leaves, in mode load.
 use Rattle.std.specs.Prelude.{◌≡◌, ℕ, ◌≤◌, false, List, [], ◌∷◌, ◌++◌, fold, map, None}
 use Rattle.xd_edge.specs.declared.mode.ModeKind.TheVariants.{Load}
-use Rattle.xd_ledger.specs.declared.settings.Settings.{Settings}
-use Rattle.xd_ledger.specs.declared.entry.Entry.{Entry}
-use Rattle.xd_ledger.specs.declared.entry.Entry.TheVariants.{Shutdown}
+use Rattle.xd_journal.specs.declared.settings.Settings.{Settings}
+use Rattle.xd_journal.specs.declared.entry.Entry.{Entry}
+use Rattle.xd_journal.specs.declared.entry.Entry.TheVariants.{Shutdown}
+use Rattle.xd_journal.specs.Kept.{most_of_all}
 use Rattle.xd_ledger.specs.declared.member.Member.{Member}
 use Rattle.xd_ledger.specs.Table.{shut_down}
 use Rattle.xd_ledger.specs.Plan.{Plan}
@@ -15,7 +16,6 @@ use Rattle.xd_ledger.specs.State.{settled, all_moved, state_at}
 use Rattle.xd_ledger.specs.Outputs.{closing, outputs, stepped}
 use Rattle.xd_ledger.specs.Histories.{journal_of}
 use Rattle.xd_ledger.specs.Proper.{IsProper}
-use Rattle.xd_ledger.specs.Kept.{most_of_all}
 use Rattle.xd_ledger.specs.Meaning.{spent_by}
 use Rattle.xd_session.specs.declared.logs.WorkerLog.{WorkerLog}
 use Rattle.xd_session.specs.Kept.{log_in, shortened}

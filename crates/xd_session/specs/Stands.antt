@@ -1,9 +1,9 @@
 -- A session as its callers see it, and the news that it stands for.
 use Rattle.std.specs.Prelude.{◌≡◌, ℕ, Bool, true, nat_le, List}
 use Rattle.xd_edge.specs.declared.mode.ModeKind.TheVariants.{Load}
-use Rattle.xd_ledger.specs.declared.settings.Settings.{Settings}
-use Rattle.xd_ledger.specs.declared.entry.Entry.{Entry}
-use Rattle.xd_ledger.specs.declared.news.News.{News}
+use Rattle.xd_journal.specs.declared.settings.Settings.{Settings}
+use Rattle.xd_journal.specs.declared.entry.Entry.{Entry}
+use Rattle.xd_journal.specs.declared.news.News.{News}
 use Rattle.xd_ledger.specs.Sharing.{State}
 use Rattle.xd_ledger.specs.State.{state_at}
 use Rattle.xd_ledger.specs.Proper.{most_workers, most_restarts}

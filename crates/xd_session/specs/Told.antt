@@ -1,9 +1,9 @@
 -- What a piece of news leaves.
 use Rattle.std.specs.Prelude.{◌≡◌, ℕ, ◌+◌, ◌≤◌, ◌==◌, List, [], ◌∷◌, Option, Some, None, if◌then◌else◌}
-use Rattle.xd_ledger.specs.declared.entry.Entry.{Entry}
-use Rattle.xd_ledger.specs.declared.news.What.{What}
+use Rattle.xd_journal.specs.declared.entry.Entry.{Entry}
+use Rattle.xd_journal.specs.declared.news.What.{What}
+use Rattle.xd_journal.specs.Kept.{most_of_all}
 use Rattle.xd_ledger.specs.Books.{Books}
-use Rattle.xd_ledger.specs.Kept.{most_of_all}
 use Rattle.xd_ledger.specs.Meaning.{meaning_of, spent_by, with_news}
 use Rattle.xd_ledger.specs.Plan.{Plan}
 use Rattle.xd_ledger.specs.Sharing.{State}

@@ -3,7 +3,8 @@ ghost use Rattle.std.specs.Prelude.{◌≡◌, ◌&&◌, true, nat_le, length};
 ghost use Rattle.std.specs.List.{list_all};
 ghost use Rattle.xd_ledger.specs.Proper.{is_id, most_tests, no_text_twice};
 
-use xd_ledger::{Ledger, Listed, Member, RunStop, Settings};
+use xd_journal::{RunStop, Settings};
+use xd_ledger::{Ledger, Listed, Member};
 
 // Whoever was started, the collections that others are compared with, where the tests stand, the counts of failures and
 // deaths, the first stop, and the marks that the tests were shared and that nothing is left to hand out.

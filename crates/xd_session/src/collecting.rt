@@ -23,7 +23,8 @@ use crate::rules::finish;
 use std::alloc::Global;
 use std::slice;
 use xd_edge::{Indices, OutOfMemory, Texts};
-use xd_ledger::{Entry, Listed, Mode, RunStop};
+use xd_journal::{Entry, RunStop};
+use xd_ledger::{Listed, Mode};
 
 // The ids that stand for slot 0.
 fn first_ids<'a>(lists: &'a [Listed], none: &'a Texts) -> &'a Texts

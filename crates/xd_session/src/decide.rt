@@ -1,9 +1,9 @@
 // What the session decides on each piece of news: the rule of its input, or a breach.
 ghost use Rattle.std.specs.Prelude.{◌≡◌, ◌≤◌, ◌+◌, ℕ, length, take, not, ◌&&◌, true, false, IfOk, OnOk, Some};
-ghost use Rattle.xd_ledger.specs.declared.news.What.TheVariants as what;
-ghost use Rattle.xd_ledger.specs.declared.entry.Entry.TheVariants as entry;
+ghost use Rattle.xd_journal.specs.declared.news.What.TheVariants as what;
+ghost use Rattle.xd_journal.specs.declared.entry.Entry.TheVariants as entry;
 ghost use Rattle.xd_edge.specs.declared.mode.ModeKind.TheVariants.{Load};
-ghost use Rattle.xd_ledger.specs.Kept.{most_of_all};
+ghost use Rattle.xd_journal.specs.Kept.{most_of_all};
 ghost use Rattle.xd_ledger.specs.Meaning.{any_open, is_of, kept, may_start_log, meaning_of, output_of};
 ghost use Rattle.xd_ledger.specs.Numbers.{first_of};
 ghost use Rattle.xd_ledger.specs.Proper.{names_head};
@@ -24,7 +24,8 @@ use crate::logs::Logs;
 use crate::rules;
 use std::alloc::Global;
 use xd_edge::{Blob, OutOfMemory, Text, Texts};
-use xd_ledger::{Cause, Entry, Mode, Outcome};
+use xd_journal::{Cause, Entry, Outcome};
+use xd_ledger::Mode;
 
 // Of the output of one test so many bytes are kept, and so many of all tests of a run together.
 const MOST_OF_ONE: u32 = 8192;

@@ -1,14 +1,15 @@
 // How the journal of a session ends.
 ghost use Rattle.std.specs.Prelude.{◌≡◌, ◌++◌, ◌∷◌, [], OnOk, true, false, unwrap_or, Some, if◌then◌else◌};
-ghost use Rattle.xd_ledger.specs.declared.entry.Entry.TheVariants as entry;
-ghost use Rattle.xd_ledger.specs.declared.entry.RunStop.TheVariants as run_stop;
+ghost use Rattle.xd_journal.specs.declared.entry.Entry.TheVariants as entry;
+ghost use Rattle.xd_journal.specs.declared.entry.RunStop.TheVariants as run_stop;
 ghost use Rattle.xd_session.specs.Crew.{books_of};
 ghost use Rattle.xd_ledger.specs.Ending.{ending, kills};
 
 use crate::books::RunBooks;
 use crate::outputs::note;
 use xd_edge::OutOfMemory;
-use xd_ledger::{Entry, Member, RunStop};
+use xd_journal::{Entry, RunStop};
+use xd_ledger::Member;
 
 // A Kill of the member, where it is active.
 fn kill_where_active(m: Member, entries: &mut Vec<Entry>) -> Result<(), OutOfMemory>

@@ -1,7 +1,7 @@
 // The laws of the sessions.
 ghost use Rattle.std.specs.Prelude.{List};
-ghost use Rattle.xd_ledger.specs.declared.news.News.{News};
-ghost use Rattle.xd_ledger.specs.declared.settings.Settings.{Settings};
+ghost use Rattle.xd_journal.specs.declared.news.News.{News};
+ghost use Rattle.xd_journal.specs.declared.settings.Settings.{Settings};
 ghost use Rattle.xd_session.specs.Bounded.{IsBounded};
 ghost use Rattle.xd_session.specs.History.{IsProperRun, run_of};
 ghost use Rattle.xd_session.specs.Stands.{CanBegin};

@@ -13,7 +13,8 @@ use crate::books::RunBooks;
 use std::alloc::Global;
 use std::collections::BTreeSet;
 use xd_edge::{ModeKind, OutOfMemory, Text, Texts};
-use xd_ledger::{Ids, Listed};
+use xd_journal::Ids;
+use xd_ledger::Listed;
 
 // How a collection compares with the one that it is compared with: there is none, they are equal, or they differ at a
 // place.

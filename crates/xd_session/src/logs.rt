@@ -1,7 +1,7 @@
 // The logs of the workers.
 ghost use Rattle.std.specs.Prelude.{◌≡◌, ℕ, ◌==◌, ◌&&◌, [], ◌++◌, take, Some, OnOk, true, if◌then◌else◌};
-ghost use Rattle.xd_ledger.specs.declared.news.What.TheVariants as what;
-ghost use Rattle.xd_ledger.specs.Kept.{most_of_one};
+ghost use Rattle.xd_journal.specs.declared.news.What.TheVariants as what;
+ghost use Rattle.xd_journal.specs.Kept.{most_of_one};
 ghost use Rattle.xd_ledger.specs.Meaning.{with_news, number_of, is_of, is_open_log, any_open};
 ghost use Rattle.xd_session.specs.Kept.{log_in, shortened, log_of_item, place_of, index_of, bytes_of};
 

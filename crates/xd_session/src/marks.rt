@@ -13,7 +13,8 @@ ghost use Rattle.xd_session.specs.Rules.{begun_at, told};
 use crate::books::RunBooks;
 use std::alloc::Global;
 use xd_edge::{Indices, OutOfMemory};
-use xd_ledger::{Ledger, Member, Settings};
+use xd_journal::Settings;
+use xd_ledger::{Ledger, Member};
 
 // What is noted of a worker.
 #[derive(Clone, Copy)]

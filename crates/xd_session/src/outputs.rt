@@ -1,6 +1,6 @@
 // What is said behind an input.
 ghost use Rattle.std.specs.Prelude.{◌≡◌, [], ◌∷◌, ◌++◌, OnOk, if◌then◌else◌};
-ghost use Rattle.xd_ledger.specs.declared.entry.Entry.TheVariants as entry;
+ghost use Rattle.xd_journal.specs.declared.entry.Entry.TheVariants as entry;
 ghost use Rattle.xd_ledger.specs.Outputs.{shut_all};
 ghost use Rattle.xd_ledger.specs.Stops.{is_shutting};
 ghost use Rattle.xd_ledger.specs.Workers.{waiting};
@@ -11,7 +11,8 @@ use crate::books::RunBooks;
 use crate::marks::{Mark, remake};
 use std::alloc::Global;
 use xd_edge::OutOfMemory;
-use xd_ledger::{Entry, Member};
+use xd_journal::Entry;
+use xd_ledger::Member;
 
 // One more entry.
 pub(crate) fn note(entry: Entry, entries: &mut Vec<Entry>) -> Result<(), OutOfMemory>

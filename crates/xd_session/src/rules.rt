@@ -1,6 +1,6 @@
 // The rules of the session: what each input changes, and what is said behind it.
 ghost use Rattle.std.specs.Prelude.{◌≡◌, length, drop, not, ◌&&◌, true, [], OnOk, if◌then◌else◌, Some};
-ghost use Rattle.xd_ledger.specs.declared.entry.Entry.TheVariants as entry;
+ghost use Rattle.xd_journal.specs.declared.entry.Entry.TheVariants as entry;
 ghost use Rattle.xd_ledger.specs.Calls.{last_of};
 ghost use Rattle.xd_ledger.specs.Modes.Call.{Died, TestDone};
 ghost use Rattle.xd_ledger.specs.Numbers.{first_of};
@@ -17,7 +17,8 @@ use crate::marks::Mark;
 use crate::outputs::{follow, note, note_all, shut_everyone, tell_where_shutting};
 use std::alloc::Global;
 use xd_edge::{Blob, OutOfMemory, Text};
-use xd_ledger::{Cause, Entry, Mode, Outcome, RunStop};
+use xd_journal::{Cause, Entry, Outcome, RunStop};
+use xd_ledger::Mode;
 
 fn all_handed_out(stopped: bool, shared: bool, finished: bool) -> bool
     ensures { result ≡ (not stopped && shared && finished) }

@@ -10,7 +10,8 @@ use crate::books::RunBooks;
 use crate::marks::Mark;
 use std::alloc::Global;
 use xd_edge::OutOfMemory;
-use xd_ledger::{Death, Ledger, Outcome};
+use xd_journal::Outcome;
+use xd_ledger::{Death, Ledger};
 
 // The worker leaves the rota, where it is there. It holds nothing.
 fn leave_seat(ledger: &mut Ledger, worker: u32)

@@ -1,6 +1,6 @@
 // The session.
 ghost use Rattle.std.specs.Prelude.{◌≡◌, List, ◌++◌, ◌∷◌, [], length, true, false, OnOk, OnErr, IfOk};
-ghost use Rattle.xd_ledger.specs.declared.news.News.{News};
+ghost use Rattle.xd_journal.specs.declared.news.News.{News};
 ghost use Rattle.xd_ledger.specs.Histories.{is_over, starts_from};
 ghost use Rattle.xd_ledger.specs.Plan.{Plan};
 ghost use Rattle.xd_ledger.specs.State.{no_one, all_moved};
@@ -20,7 +20,8 @@ use crate::take::take;
 use std::alloc::Global;
 use std::marker::Model;
 use xd_edge::OutOfMemory;
-use xd_ledger::{Entry, Journal, Mode, News, Settings};
+use xd_journal::{Entry, Journal, News, Settings};
+use xd_ledger::Mode;
 
 /// The part of the controller that decides. It stands for the news that it took: its journal is the one that they make.
 /// Behind want of memory it is given up.

@@ -5,7 +5,7 @@ ghost use Rattle.xd_session.specs.Crew.{books_of};
 
 use crate::books::RunBooks;
 use xd_edge::OutOfMemory;
-use xd_ledger::RunStop;
+use xd_journal::RunStop;
 
 // One more. A journal with so many entries would have found no room before.
 fn one_more(count: u32) -> Result<u32, OutOfMemory>

@@ -1,7 +1,7 @@
 // One piece of news: what it means, and what is kept of its logs.
 ghost use Rattle.std.specs.Prelude.{◌≡◌, ◌≤◌, ℕ, false, true, OnOk};
-ghost use Rattle.xd_ledger.specs.declared.news.What.TheVariants as what;
-ghost use Rattle.xd_ledger.specs.Kept.{most_of_all};
+ghost use Rattle.xd_journal.specs.declared.news.What.TheVariants as what;
+ghost use Rattle.xd_journal.specs.Kept.{most_of_all};
 ghost use Rattle.xd_ledger.specs.Sharing.{State};
 ghost use Rattle.xd_ledger.specs.Stops.{is_stopped};
 ghost use Rattle.xd_ledger.specs.Table.{has_joined};
@@ -15,7 +15,8 @@ ghost use Rattle.xd_session.specs.Told.{Took};
 use crate::decide::{self, Core};
 use std::alloc::Global;
 use xd_edge::{Blob, OutOfMemory};
-use xd_ledger::{Entry, Mode, What};
+use xd_journal::{Entry, What};
+use xd_ledger::Mode;
 
 // A log starts, or what claims to.
 fn start_log<M: Mode>(

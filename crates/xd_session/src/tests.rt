@@ -6,7 +6,7 @@ use std::alloc::Global;
 use std::process::Abort;
 use std::test::Fail;
 use xd_edge::{Blob, ModeKind, Text, Texts};
-use xd_ledger::{Cause, Entry, Ids, News, Outcome, RunStop, Settings, What};
+use xd_journal::{Cause, Entry, Ids, News, Outcome, RunStop, Settings, What};
 use xd_load::Load;
 
 // What the tests ask of an entry: of a collection and an output the length, of a batch its first test and its length.

@@ -18,8 +18,8 @@ use Rattle.xd_factory.specs.Numbers.{is_mine}
 use Rattle.xd_factory.specs.Said.{Said, Status, Exec, Data, Close, Last, Terminate}
 use Rattle.xd_factory.specs.Slot.{Slot, Unseen, Here, Gone, is_here, is_new, named_slot, item_gives, function_ended_slot, hooked_slot}
 use Rattle.xd_factory.specs.Table.{arrived_answer, ended_answer, handed_answer, end_answer}
-use Rattle.xd_ledger.specs.declared.news.What.{What}
-use Rattle.xd_ledger.specs.declared.news.What.TheVariants as what
+use Rattle.xd_journal.specs.declared.news.What.{What}
+use Rattle.xd_journal.specs.declared.news.What.TheVariants as what
 use Rattle.xd_gateway.specs.Orders.{tree_order}
 use Rattle.xd_gateway.specs.Events.{event_tree}
 use Rattle.xd_run_tests.specs.declared.ask.Ask.{Ask}

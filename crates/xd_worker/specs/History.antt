@@ -11,8 +11,8 @@ use Rattle.xd_suite.specs.declared.fault.SuiteFault.{SuiteFault}
 use Rattle.xd_suite.specs.declared.test.Test.{Test}
 use Rattle.xd_suite.specs.Suite.{IsSuiteOf, IsFaulty}
 use Rattle.xd_suite.specs.FaultText.{fault_text}
-use Rattle.xd_ledger.specs.declared.news.What.{What}
-use Rattle.xd_ledger.specs.declared.news.What.TheVariants.{Collected}
+use Rattle.xd_journal.specs.declared.news.What.{What}
+use Rattle.xd_journal.specs.declared.news.What.TheVariants.{Collected}
 use Rattle.xd_worker.specs.declared.input.WorkerInput.{WorkerInput}
 use Rattle.xd_worker.specs.declared.input.WorkerInput.TheVariants.{Message, SuiteBytes, SuiteTooLarge, SuiteUnread, Output, ChildDone, LinkEnd}
 use Rattle.xd_worker.specs.Table.{Table, Counts, heard, lost}

@@ -9,8 +9,8 @@ use Rattle.xd_factory.specs.declared.faults.SendFault.{SendFault}
 use Rattle.xd_factory.specs.declared.faults.SendFault.TheVariants.{Unknown, SendClosed, Dump, OutOfMemory}
 use Rattle.xd_factory.specs.Slot.{is_seen, function_ended_slot, hooked_slot}
 use Rattle.xd_factory.specs.Table.{sent_gives, send_refusal, closing_message, close_says, is_long}
-use Rattle.xd_ledger.specs.declared.news.What.{What}
-use Rattle.xd_ledger.specs.declared.news.What.TheVariants.{LogStart}
+use Rattle.xd_journal.specs.declared.news.What.{What}
+use Rattle.xd_journal.specs.declared.news.What.TheVariants.{LogStart}
 use Rattle.xd_gateway.specs.Events.{event_tree}
 use Rattle.xd_worker.specs.declared.talk.Sent.{Sent}
 use Rattle.xd_worker.specs.declared.talk.Sent.TheVariants.{Said, LeftOut, Unwritten}

@@ -9,8 +9,8 @@ use Rattle.xd_factory.specs.declared.taken.Taken.TheVariants.{Kept, Handed, EndK
 use Rattle.xd_factory.specs.Said.{Said}
 use Rattle.xd_suite.specs.declared.test.Test.{Test}
 use Rattle.xd_suite.specs.Tests.{ids_in}
-use Rattle.xd_ledger.specs.declared.entry.Outcome.{Outcome}
-use Rattle.xd_ledger.specs.declared.news.What.TheVariants.{Ready, Collected}
+use Rattle.xd_journal.specs.declared.entry.Outcome.{Outcome}
+use Rattle.xd_journal.specs.declared.news.What.TheVariants.{Ready, Collected}
 use Rattle.xd_gateway.specs.Orders.{tree_order}
 use Rattle.xd_gateway.specs.Events.{event_tree}
 use Rattle.xd_run_tests.specs.declared.ask.Ask.{Ask}

@@ -2,8 +2,8 @@
 use Rattle.std.specs.Prelude.{ℕ, ◌+◌, List, [], ◌∷◌, length, Bool, false, Option, Some, None, if◌then◌else◌}
 use Rattle.xd_edge.specs.declared.mode.ModeKind.{ModeKind}
 use Rattle.xd_suite.specs.declared.test.Test.{Test}
-use Rattle.xd_ledger.specs.declared.news.What.{What}
-use Rattle.xd_ledger.specs.declared.news.What.TheVariants.{LogStart}
+use Rattle.xd_journal.specs.declared.news.What.{What}
+use Rattle.xd_journal.specs.declared.news.What.TheVariants.{LogStart}
 use Rattle.xd_run_tests.specs.Line.{running_test}
 use Rattle.xd_run_tests.specs.History.{Given, call_after}
 use Rattle.xd_worker.specs.Table.{Table, empty}

@@ -5,7 +5,7 @@ ghost use Rattle.std.specs.Prelude.{◌≡◌};
 use xd_edge::{Blob, OutOfMemory, Text};
 use xd_factory::SideFault;
 use xd_frame::{Message, Messages};
-use xd_ledger::Outcome;
+use xd_journal::Outcome;
 
 /// What comes to a worker.
 #[derive(Drop)]

@@ -7,7 +7,7 @@ use xd_edge::{Blob, Indices};
 use xd_factory::SideFault;
 use xd_frame::{Kind, Message};
 use xd_gateway::{order_value, value_event};
-use xd_ledger::{Entry, Outcome, What};
+use xd_journal::{Entry, Outcome, What};
 use xd_value::{Value, dumps, loads};
 
 fn number(words: &str) -> Result<u32, Fail> {

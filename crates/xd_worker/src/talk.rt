@@ -17,7 +17,7 @@ use xd_edge::{Blob, OutOfMemory, Text};
 use xd_factory::{CloseFault, OpenFault, SendFault, Side};
 use xd_frame::{Kind, Message, Messages};
 use xd_gateway::event_value;
-use xd_ledger::What;
+use xd_journal::What;
 use xd_value::{DumpFault, Value, dumps};
 
 /// What became of a value that was to be sent.

@@ -5,16 +5,16 @@ use Rattle.std.specs.List.{range_with_len}
 use Rattle.std.specs.Prelude.{fold}
 use Rattle.xd_edge.specs.declared.mode.ModeKind.{ModeKind}
 use Rattle.xd_edge.specs.declared.mode.ModeKind.TheVariants.{Local}
-use Rattle.xd_ledger.specs.declared.entry.Entry.TheVariants.{Run, Over}
-use Rattle.xd_ledger.specs.declared.entry.Outcome.{Outcome}
-use Rattle.xd_ledger.specs.declared.entry.Outcome.TheVariants.{Passed, Skipped, Failed}
-use Rattle.xd_ledger.specs.declared.entry.RunStop.{RunStop}
-use Rattle.xd_ledger.specs.declared.entry.RunStop.TheVariants.{MaxFail}
+use Rattle.xd_journal.specs.declared.entry.Entry.TheVariants.{Run, Over}
+use Rattle.xd_journal.specs.declared.entry.Outcome.{Outcome}
+use Rattle.xd_journal.specs.declared.entry.Outcome.TheVariants.{Passed, Skipped, Failed}
+use Rattle.xd_journal.specs.declared.entry.RunStop.{RunStop}
+use Rattle.xd_journal.specs.declared.entry.RunStop.TheVariants.{MaxFail}
+use Rattle.xd_journal.specs.Stop.{reaches}
+use Rattle.xd_journal.specs.Local.{TestResult, round, rounds}
 use Rattle.xd_ledger.specs.Books.{Books}
-use Rattle.xd_ledger.specs.Stop.{reaches}
 use Rattle.xd_ledger.specs.Stops.{at_limit, or_stop}
 use Rattle.xd_ledger.specs.Plan.{Plan, base, is_each, items_named}
-use Rattle.xd_ledger.specs.Local.{TestResult, round, rounds}
 use Rattle.xd_ledger.specs.Reports.{Report, item_of, reports_from}
 use Rattle.xd_ledger.specs.Reports.Report.{Result}
 use Rattle.xd_ledger.specs.Sharing.{State}

@@ -9,9 +9,9 @@ use Rattle.xd_edge.specs.Children.{ChildRun, AddsRun, ChangesRun, IsNext, change
 use Rattle.xd_edge.proofs.ChildLemmas.{change_at_end, change_at_not, change_at_twice}
 use Rattle.xd_serve.specs.Child.{Waited}
 use Rattle.xdrun.specs.Child.{CameTo, Drained, DrainedPart, RanChild}
-use Rattle.xd_ledger.specs.declared.entry.Outcome.{Outcome}
-use Rattle.xd_ledger.specs.declared.entry.Outcome.TheVariants.{Passed, Skipped, Failed}
-use Rattle.xd_ledger.specs.Kept.{kept_of}
+use Rattle.xd_journal.specs.declared.entry.Outcome.{Outcome}
+use Rattle.xd_journal.specs.declared.entry.Outcome.TheVariants.{Passed, Skipped, Failed}
+use Rattle.xd_journal.specs.Kept.{kept_of}
 use lib.IntN.{negsuc}
 
 module _ (k : ℕ) (f : ChildRun → ChildRun) (run : ChildRun) where

@@ -6,9 +6,9 @@ use Rattle.xd_edge.specs.Sink.{Sunk, PrintedPart}
 use Rattle.xd_edge.proofs.PrintLemmas.{broken-part}
 use Rattle.xd_edge.proofs.SinkLemmas.{printed_more, printed_part_of_more}
 use Rattle.xd_suite.specs.declared.test.Test.{Test}
-use Rattle.xd_ledger.specs.declared.entry.Entry.{Entry}
-use Rattle.xd_ledger.specs.declared.journal.Journal.{Journal}
-use Rattle.xd_ledger.specs.declared.settings.Settings.{Settings}
+use Rattle.xd_journal.specs.declared.entry.Entry.{Entry}
+use Rattle.xd_journal.specs.declared.journal.Journal.{Journal}
+use Rattle.xd_journal.specs.declared.settings.Settings.{Settings}
 use Rattle.xd_ledger.specs.State.{all_moved, no_one}
 use Rattle.xd_report.specs.Lines.{lines_from, run_lines}
 use Rattle.xd_report.specs.Text.{run_tail, run_text, tail_text}

@@ -13,13 +13,13 @@ use Rattle.xd_edge.specs.Sink.{Sunk, Printed, TookPart}
 use Rattle.xd_edge.proofs.SinkLemmas.{printed_more}
 use Rattle.xd_suite.specs.declared.test.Test.{Test}
 use Rattle.xd_suite.specs.Tests.{run_at}
-use Rattle.xd_ledger.specs.declared.entry.Entry.{Entry}
-use Rattle.xd_ledger.specs.declared.entry.Outcome.{Outcome}
-use Rattle.xd_ledger.specs.declared.entry.Outcome.TheVariants.{Passed, Skipped, Failed}
-use Rattle.xd_ledger.specs.declared.journal.Journal.{Journal}
-use Rattle.xd_ledger.specs.declared.settings.Settings.{Settings}
-use Rattle.xd_ledger.specs.Kept.{most_of_one, room_behind, kept_of}
-use Rattle.xd_ledger.specs.Local.{TestResult, round, rounds, local_entries}
+use Rattle.xd_journal.specs.declared.entry.Entry.{Entry}
+use Rattle.xd_journal.specs.declared.entry.Outcome.{Outcome}
+use Rattle.xd_journal.specs.declared.entry.Outcome.TheVariants.{Passed, Skipped, Failed}
+use Rattle.xd_journal.specs.declared.journal.Journal.{Journal}
+use Rattle.xd_journal.specs.declared.settings.Settings.{Settings}
+use Rattle.xd_journal.specs.Kept.{most_of_one, room_behind, kept_of}
+use Rattle.xd_journal.specs.Local.{TestResult, round, rounds, local_entries}
 use Rattle.xd_ledger.specs.State.{all_moved, no_one}
 use Rattle.xd_report.specs.Lines.{lines_from, run_lines}
 use Rattle.xd_report.proofs.Texts.{lines-more}

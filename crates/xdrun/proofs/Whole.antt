@@ -5,17 +5,17 @@ use Rattle.xd_edge.specs.Children.{ChildRun}
 use Rattle.xd_edge.specs.Faults.{Rose, RoseBy, StoodStill}
 use Rattle.xd_edge.specs.Sink.{Sunk, Printed, PrintedPart}
 use Rattle.xd_suite.specs.declared.test.Test.{Test}
-use Rattle.xd_ledger.specs.declared.settings.Settings.{Settings}
-use Rattle.xd_ledger.specs.declared.entry.Entry.{Entry}
-use Rattle.xd_ledger.specs.declared.entry.Entry.TheVariants.{Collected, Over}
-use Rattle.xd_ledger.specs.declared.entry.Ids.TheVariants.{List as Listed}
-use Rattle.xd_ledger.specs.declared.entry.RunStop.{RunStop}
-use Rattle.xd_ledger.specs.declared.entry.RunStop.TheVariants.{Completed, OutFault}
-use Rattle.xd_ledger.specs.declared.journal.Journal.{Journal}
+use Rattle.xd_journal.specs.declared.settings.Settings.{Settings}
+use Rattle.xd_journal.specs.declared.entry.Entry.{Entry}
+use Rattle.xd_journal.specs.declared.entry.Entry.TheVariants.{Collected, Over}
+use Rattle.xd_journal.specs.declared.entry.Ids.TheVariants.{List as Listed}
+use Rattle.xd_journal.specs.declared.entry.RunStop.{RunStop}
+use Rattle.xd_journal.specs.declared.entry.RunStop.TheVariants.{Completed, OutFault}
+use Rattle.xd_journal.specs.declared.journal.Journal.{Journal}
 use Rattle.std.specs.List.{range_with_len}
 use Rattle.std.specs.Prelude.{◌≢◌, ◌==◌, ◌||◌, ◌≤◌, ◌⊎◌, is_some, unwrap_or}
+use Rattle.xd_journal.specs.Local.{TestResult, local_entries, rounds}
 use Rattle.xd_ledger.specs.Legal.{IsLegal, books_behind}
-use Rattle.xd_ledger.specs.Local.{TestResult, local_entries, rounds}
 use Rattle.xd_ledger.specs.Reports.{NamesInOrder, collected_in, item_of, reports, reports_in}
 use Rattle.xd_ledger.specs.Sharing.{State, ids_at}
 use Rattle.xd_ledger.specs.Stops.{is_stopped}
@@ -23,7 +23,7 @@ use Rattle.xd_ledger.specs.Ending.{over_in, stop_of}
 use Rattle.xd_ledger.specs.Histories.{end_of}
 use Rattle.xd_ledger.specs.State.{next, no_one, state_at}
 use Rattle.xd_report.specs.Blocks.{blocks_from}
-use Rattle.xd_report.specs.EachReport.{HasNamedBlockEach, HasNamedLineEach, NamesTests, id_in}
+use Rattle.xd_report.specs.EachReport.{HasNamedBlockEach, HasNamedLineEach, NamesTests, id_in, kept_outputs}
 use Rattle.xd_report.specs.Lines.{run_lines}
 use Rattle.xd_report.specs.Text.{run_text, text_of}
 use Rattle.xd_report.proofs.Named.{blocks-named, lines-named}
@@ -145,7 +145,7 @@ module _ (tests : List Test) (j0 j1 : Journal) (shown : Bool) (runs0 runs1 : Opt
       Lines st es collected = HasNamedLineEach (id_in collected) st.mode (run_lines st es) (reports st es)
 
       Blocks : Settings → List Entry → List (List ℕ) → Type 0
-      Blocks st es collected = HasNamedBlockEach (id_in collected) st.mode (blocks_from (no_one st) es) (reports st es)
+      Blocks st es collected = HasNamedBlockEach (id_in collected) st.mode (blocks_from (no_one st) es) (reports st es) (kept_outputs st es)
 
       stands : (T : Settings → List Entry → List (List ℕ) → Type 0) → T local_settings (first ∷ rest) ids → T j1.settings j1.entries.items (collected_in j1)
       stands T x =

@@ -1,8 +1,8 @@
 -- What a child that was started and waited for leaves of its output.
 use Rattle.std.specs.Prelude.{ℕ, ◌≡◌, List, take, Option, Some, sum_by}
 use Rattle.xd_edge.specs.Children.{ChildRun, AddsRun, ChangesRun, with_output, with_read_fault}
-use Rattle.xd_ledger.specs.declared.entry.Outcome.{Outcome}
-use Rattle.xd_ledger.specs.Kept.{kept_of}
+use Rattle.xd_journal.specs.declared.entry.Outcome.{Outcome}
+use Rattle.xd_journal.specs.Kept.{kept_of}
 use Rattle.xd_ledger.specs.Reports.{Report}
 use Rattle.xd_ledger.specs.Reports.Report.{Result, Crash}
 use Rattle.xd_serve.specs.Child.{fault_count, outcome_of}

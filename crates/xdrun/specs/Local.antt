@@ -7,16 +7,16 @@ use Rattle.xd_edge.specs.Faults.{RoseBy}
 use Rattle.xd_edge.specs.Printing.{Shows}
 use Rattle.xd_edge.specs.Sink.{Sunk, Printed}
 use Rattle.xd_suite.specs.declared.test.Test.{Test}
-use Rattle.xd_ledger.specs.declared.settings.Settings.{Settings}
-use Rattle.xd_ledger.specs.declared.entry.Entry.{Entry}
-use Rattle.xd_ledger.specs.declared.entry.Outcome.{Outcome}
-use Rattle.xd_ledger.specs.declared.entry.Entry.TheVariants.{Over}
-use Rattle.xd_ledger.specs.declared.entry.RunStop.{RunStop}
-use Rattle.xd_ledger.specs.declared.entry.RunStop.TheVariants.{Completed, OutFault}
-use Rattle.xd_ledger.specs.declared.journal.Journal.{Journal}
-use Rattle.xd_ledger.specs.Kept.{most_of_one, most_of_all, room_behind, kept_of}
+use Rattle.xd_journal.specs.declared.settings.Settings.{Settings}
+use Rattle.xd_journal.specs.declared.entry.Entry.{Entry}
+use Rattle.xd_journal.specs.declared.entry.Outcome.{Outcome}
+use Rattle.xd_journal.specs.declared.entry.Entry.TheVariants.{Over}
+use Rattle.xd_journal.specs.declared.entry.RunStop.{RunStop}
+use Rattle.xd_journal.specs.declared.entry.RunStop.TheVariants.{Completed, OutFault}
+use Rattle.xd_journal.specs.declared.journal.Journal.{Journal}
+use Rattle.xd_journal.specs.Kept.{most_of_one, most_of_all, room_behind, kept_of}
+use Rattle.xd_journal.specs.Local.{TestResult, round, local_entries}
 use Rattle.xd_ledger.specs.Ending.{stop_of}
-use Rattle.xd_ledger.specs.Local.{TestResult, round, local_entries}
 use Rattle.xd_ledger.specs.State.{all_moved, no_one}
 use Rattle.xd_report.specs.declared.reporter.Reporter.{Reporter}
 use Rattle.xd_report.specs.Follows.{Follows}

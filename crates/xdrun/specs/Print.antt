@@ -2,14 +2,14 @@
 use Rattle.std.specs.Prelude.{ℕ, ◌≡◌, ◌⊎◌, List, [], ◌∷◌, ◌++◌, length, Option}
 use Rattle.xd_edge.specs.Printing.{BreaksOff}
 use Rattle.xd_edge.specs.Sink.{Sunk, Printed, PrintedPart}
-use Rattle.xd_ledger.specs.declared.entry.Entry.{Entry}
-use Rattle.xd_ledger.specs.declared.entry.Entry.TheVariants.{Collected, Over}
-use Rattle.xd_ledger.specs.declared.entry.Ids.TheVariants.{List as Listed}
-use Rattle.xd_ledger.specs.declared.entry.RunStop.{RunStop}
-use Rattle.xd_ledger.specs.declared.entry.RunStop.TheVariants.{OutFault}
-use Rattle.xd_ledger.specs.declared.journal.Journal.{Journal}
-use Rattle.xd_ledger.specs.declared.settings.Settings.{Settings}
-use Rattle.xd_ledger.specs.Local.{TestResult, round}
+use Rattle.xd_journal.specs.declared.entry.Entry.{Entry}
+use Rattle.xd_journal.specs.declared.entry.Entry.TheVariants.{Collected, Over}
+use Rattle.xd_journal.specs.declared.entry.Ids.TheVariants.{List as Listed}
+use Rattle.xd_journal.specs.declared.entry.RunStop.{RunStop}
+use Rattle.xd_journal.specs.declared.entry.RunStop.TheVariants.{OutFault}
+use Rattle.xd_journal.specs.declared.journal.Journal.{Journal}
+use Rattle.xd_journal.specs.declared.settings.Settings.{Settings}
+use Rattle.xd_journal.specs.Local.{TestResult, round}
 use Rattle.xd_ledger.specs.Reports.{collected_in, reports_in}
 use Rattle.xd_ledger.specs.State.{all_moved, no_one}
 use Rattle.xd_report.specs.Lines.{lines_from, run_lines}

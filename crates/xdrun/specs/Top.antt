@@ -3,7 +3,7 @@ use Rattle.std.specs.Prelude.{ℕ, List, Option}
 use Rattle.xd_edge.specs.Files.{Held}
 use Rattle.xd_edge.specs.Children.{ChildRun}
 use Rattle.xd_suite.specs.declared.test.Test.{Test}
-use Rattle.xd_ledger.specs.declared.journal.Journal.{Journal}
+use Rattle.xd_journal.specs.declared.journal.Journal.{Journal}
 use Rattle.xdrun.specs.Local.{RunsSuite}
 use Rattle.xdrun.specs.Refusal.{NamesSuite}
 

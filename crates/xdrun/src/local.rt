@@ -3,10 +3,10 @@ ghost use Rattle.std.specs.Prelude.{◌≡◌, ◌≢◌, ◌<◌, ◌≤◌, []
 ghost use Rattle.xd_edge.specs.Faults.{Rose, RoseBy, StoodStill};
 ghost use Rattle.xd_edge.specs.Printing.{Shows};
 ghost use Rattle.xd_suite.specs.Tests.{run_at};
-ghost use Rattle.xd_ledger.specs.declared.entry.RunStop.TheVariants.{Completed, OutFault};
-ghost use Rattle.xd_ledger.specs.Kept.{most_of_all, room_behind};
+ghost use Rattle.xd_journal.specs.declared.entry.RunStop.TheVariants.{Completed, OutFault};
+ghost use Rattle.xd_journal.specs.Kept.{most_of_all, room_behind};
+ghost use Rattle.xd_journal.specs.Local.{local_entries};
 ghost use Rattle.xd_ledger.specs.Legal.{IsLegal};
-ghost use Rattle.xd_ledger.specs.Local.{local_entries};
 ghost use Rattle.xd_ledger.specs.Reports.{NamesInOrder, reports_in};
 ghost use Rattle.xd_ledger.specs.Ending.{stop_of};
 ghost use Rattle.xd_ledger.specs.Sharing.{State};
@@ -23,7 +23,7 @@ use crate::child::run_child;
 use std::alloc::Global;
 use std::sync::Wait;
 use xd_edge::{Blob, Children, Clock, Indices, ModeKind, OutOfMemory, Sink, print};
-use xd_ledger::{Entry, Ids, Journal, Outcome, RunStop, Settings};
+use xd_journal::{Entry, Ids, Journal, Outcome, RunStop, Settings};
 use xd_report::{Reporter, tail};
 use xd_suite::Suite;
 

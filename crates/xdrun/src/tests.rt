@@ -3,7 +3,6 @@ use super::*;
 use std::collections::VecDeque;
 use std::sync::Wait;
 use std::test::Fail;
-use std::thread::Threads;
 use xd_edge::{Blob, Blobs, ChildEnd, Indices, MemChildren, MemClock, MemFiles, MemSink};
 use xd_link::MemStarter;
 
@@ -60,7 +59,7 @@ struct Seen {
 }
 
 // What the program did with these words, where the file s.toml holds this suite.
-fn run<R: Wait + Threads + Sync + AllocGlobal>(
+fn run<R: Wait + AllocGlobal>(
     rt: &R,
     suite: &str,
     given: &[&str],

@@ -4,7 +4,7 @@ ghost use Rattle.xd_edge.specs.Faults.{Rose, RoseBy, StoodStill};
 ghost use Rattle.xd_link.specs.Starter.{with_failure, with_start};
 ghost use Rattle.xd_link.specs.declared.place.Place.TheVariants.{Own};
 ghost use Rattle.xd_suite.specs.declared.test.Test.{Test};
-ghost use Rattle.xd_ledger.specs.declared.entry.RunStop.TheVariants.{Completed, OutFault};
+ghost use Rattle.xd_journal.specs.declared.entry.RunStop.TheVariants.{Completed, OutFault};
 ghost use Rattle.xd_ledger.specs.Legal.{IsLegal};
 ghost use Rattle.xd_ledger.specs.Reports.{NamesInOrder, reports_in};
 ghost use Rattle.xd_ledger.specs.Ending.{stop_of};
@@ -28,11 +28,9 @@ use crate::words::names_worker;
 use crate::worker::serve_own;
 use std::alloc::Global;
 use std::sync::Wait;
-use std::thread::Threads;
-use xd_edge::{Children, Clock, OutOfMemory, Sink, Text};
-use xd_ledger::Journal;
+use xd_edge::{Children, Clock, Files, OutOfMemory, Sink, Text};
+use xd_journal::Journal;
 use xd_link::{Source, Starter};
-use xd_pieces::FilesInPieces;
 
 /// A link that was served.
 #[derive(Drop)]
@@ -68,15 +66,7 @@ pub struct RunEnd<St: Starter, K: Children> {
 /// text could not be written.
 ///
 /// The status is 4 where the words or the file are refused.
-pub fn xdrun<
-    R: Wait + Threads + Sync,
-    F: FilesInPieces,
-    St: Starter,
-    K: Children,
-    T: Clock,
-    O: Sink,
-    E: Sink,
->(
+pub fn xdrun<R: Wait, F: Files, St: Starter, K: Children, T: Clock, O: Sink, E: Sink>(
     rt: &R,
     alloc: Global,
     words: &[Text],

@@ -3,7 +3,7 @@ ghost use Rattle.std.specs.Prelude.{◌≡◌, ◌≢◌, ◌≤◌, ℕ, Bool, 
 ghost use Rattle.xd_edge.specs.Faults.{Rose, RoseBy, StoodStill};
 ghost use Rattle.xd_edge.specs.Printing.{Shows};
 ghost use Rattle.xd_suite.specs.declared.test.Test.{Test};
-ghost use Rattle.xd_ledger.specs.declared.entry.RunStop.TheVariants.{Completed, OutFault};
+ghost use Rattle.xd_journal.specs.declared.entry.RunStop.TheVariants.{Completed, OutFault};
 ghost use Rattle.xd_ledger.specs.Legal.{IsLegal};
 ghost use Rattle.xd_ledger.specs.Reports.{NamesInOrder, reports_in};
 ghost use Rattle.xd_ledger.specs.Ending.{stop_of};
@@ -23,10 +23,8 @@ use crate::wire::{print_file, wire_status};
 use crate::words::{messages_named, suite_named};
 use std::alloc::Global;
 use std::sync::Wait;
-use std::thread::Threads;
 use xd_edge::{Children, Clock, FileFault, Files, OutOfMemory, Sink, Text};
-use xd_ledger::Journal;
-use xd_pieces::FilesInPieces;
+use xd_journal::Journal;
 use xd_report::status_of;
 use xd_suite::{Suite, SuiteFault, SuiteRefusal, SuiteWhat};
 
@@ -47,14 +45,7 @@ pub struct Unlinked<K: Children> {
 }
 
 /// Runs the suite or prints the file that the words name, or refuses them.
-pub fn run_unlinked<
-    R: Wait + Threads + Sync,
-    F: FilesInPieces,
-    K: Children,
-    T: Clock,
-    O: Sink,
-    E: Sink,
->(
+pub fn run_unlinked<R: Wait, F: Files, K: Children, T: Clock, O: Sink, E: Sink>(
     rt: &R,
     alloc: Global,
     words: &[Text],
@@ -94,7 +85,7 @@ pub fn run_unlinked<
 {
     let mut children = children;
     if let Some(path) = messages_named(words) {
-        return match print_file(rt, alloc, path, files, out)? {
+        return match print_file(alloc, path, files, out)? {
             Ok(how) => Ok(without_run(wire_status(how), children)),
             Err(why) => refused(alloc, err, why, children),
         };

@@ -7,16 +7,13 @@ ghost use Rattle.xdrun.specs.Wire.{IsFileRefused, PrintsFile, wire_status};
 
 use crate::refusal::Refusal;
 use std::alloc::Global;
-use std::thread::Threads;
-use xd_edge::{FileFault, OutOfMemory, Sink, Text};
-use xd_pieces::FilesInPieces;
+use xd_edge::{FileFault, Files, OutOfMemory, Sink, Text};
 use xd_wire::{WireEnd, print_messages};
 
 const MAX_FILE_BYTES: u64 = 67_108_864;
 
 /// Prints the messages of a file, or says why it is refused.
-pub fn print_file<R: Threads + Sync, F: FilesInPieces, O: Sink>(
-    rt: &R,
+pub fn print_file<F: Files, O: Sink>(
     alloc: Global,
     path: &Text,
     files: &mut F,
@@ -27,13 +24,13 @@ pub fn print_file<R: Threads + Sync, F: FilesInPieces, O: Sink>(
     ensures later { F.faults files.old ≤ F.faults files.new }
     ensures files_count { IfOk result (λ r. MatchResult r (λ _. F.faults files.new ≡ F.faults files.old) (λ why. FilesCount why (F.faults files.old) (F.faults files.new))) }
 {
-    let bytes = match files.read_pieces(rt, alloc, path, MAX_FILE_BYTES) {
+    let bytes = match files.read_file(alloc, path, MAX_FILE_BYTES) {
         Ok(bytes) => bytes,
         Err(FileFault::Failed) => return Ok(Err(Refusal::FileUnread)),
         Err(FileFault::TooLarge) => return Ok(Err(Refusal::FileTooLarge)),
         Err(FileFault::OutOfMemory) => return Err(OutOfMemory),
     };
-    let how = print_messages(rt, alloc, &bytes, out)?;
+    let how = print_messages(alloc, bytes.as_slice(), out)?;
     Ok(Ok(how))
 }
 

@@ -7,7 +7,6 @@ use crate::tests::{THREE, numbers, shell, words};
 use std::collections::VecDeque;
 use std::sync::Wait;
 use std::test::Fail;
-use std::thread::Threads;
 use xd_edge::{Blob, ChildEnd, Indices, MemChildren, MemClock, MemFiles, MemSink};
 use xd_link::{MemSource, MemStarter};
 
@@ -101,11 +100,7 @@ struct Worked {
 }
 
 // What the program did as a worker that was told this.
-fn work<R: Wait + Threads + Sync + AllocGlobal>(
-    rt: &R,
-    told: &[u8],
-    fails: Indices,
-) -> Result<Worked, Fail> {
+fn work<R: Wait + AllocGlobal>(rt: &R, told: &[u8], fails: Indices) -> Result<Worked, Fail> {
     let alloc = rt.alloc();
     let suite = vec![in alloc;
         (

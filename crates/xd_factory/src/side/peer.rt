@@ -3,7 +3,7 @@ ghost use Rattle.std.specs.Prelude.{List, ◌∷◌, Bool, ◌≡◌, ◌≤◌,
 ghost use Rattle.xd_value.specs.View.{view};
 ghost use Rattle.xd_channel.specs.State.{end_of};
 ghost use Rattle.xd_factory.specs.Numbers.{is_mine, is_in};
-ghost use Rattle.xd_factory.specs.Said.{Said, Exec, Data, Means, said_of, names_of, mentions, names_in, IsFault};
+ghost use Rattle.xd_factory.specs.Said.{Said, Exec, Data, Means, Misread, said_of, names_of, mentions, names_in, IsFault};
 ghost use Rattle.xd_factory.specs.Slot.{Unseen, is_here, named_slot, item_slot, item_gives, shut_slot, peer_closed_slot, peer_last_slot};
 ghost use Rattle.xd_factory.specs.Trees.{arrived_tree, taken_tree};
 ghost use Rattle.xd_factory.specs.Table.{heard_slot, opened_count, answer_of, end_answer, ended_answer, named_in, OpensAtMost, Refused, IsRefused, IsNameFault, IsHearFault, IsNoMemory};
@@ -24,8 +24,8 @@ impl Side {
 
     /// Takes the next message of the peer. The channels that a value names open before the value is handed on.
     ///
-    /// Behind a refusal the side has failed: it refuses each later message for the same reason. Numbers that the
-    /// refused message names may have been opened.
+    /// After a refusal the side has failed: it refuses each later message for the same reason. A message that means
+    /// nothing opens no number; another one that is refused may have opened numbers that it names.
     pub fn take_message(&mut self, message: Message) -> Result<Taken, SideFault>
         ensures failed { (fault : SideFault) → fault_of self.old ≡ Some fault → (result ≡ Err fault) × (self.new ≡ self.old) }
         ensures fails { IfErr result (λ fault. fault_of self.new ≡ Some fault) }
@@ -42,6 +42,7 @@ impl Side {
         ensures refuses { (fault : SideFault) → fault_of self.old ≡ None → Refused (entry_count self.old) (new_at self.old) message fault → IsFault fault result }
         ensures err { OnErr result ((c : ℕ) → OpensAtMost (is_mine (parity_of self.old) c) (slot_of self.old c) (slot_of self.new c)) }
         ensures others { (said : Said) → Means message said → OnErr result ((c : ℕ) → is_in c (names_of said) ≡ false → slot_of self.new c ≡ slot_of self.old c) }
+        ensures unread { (fault : SideFault) → Misread message fault → (c : ℕ) → slot_of self.new c ≡ slot_of self.old c }
         ensures failed_history { (h : List Act) → SideStands self.old h → OnErr result ((which : ℕ → Bool) × SideStands self.new (Failed which ∷ h)) }
     {
         if let Some(fault) = self.fault {
@@ -65,6 +66,7 @@ impl Side {
         ensures refuses { (fault : SideFault) → Refused (entry_count self.old) (new_at self.old) message fault → IsFault fault result }
         ensures err { OnErr result ((c : ℕ) → OpensAtMost (is_mine (parity_of self.old) c) (slot_of self.old c) (slot_of self.new c)) }
         ensures others { (said : Said) → Means message said → OnErr result ((c : ℕ) → is_in c (names_of said) ≡ false → slot_of self.new c ≡ slot_of self.old c) }
+        ensures unread { (fault : SideFault) → Misread message fault → (c : ℕ) → slot_of self.new c ≡ slot_of self.old c }
         ensures rest { KeepsRest self.old self.new }
     {
         match read_message(self.alloc, &message) {

@@ -6,7 +6,7 @@ use crate::ask::{Acts, Ask, request};
 use crate::phase::{Ending, Phase};
 use crate::place::{Place, Standing};
 use xd_edge::{OutOfMemory, Text};
-use xd_ledger::What;
+use xd_journal::What;
 
 impl RunTests {
     ghost use Rattle.xd_run_tests.specs.declared.place.Place.{Place};

@@ -5,7 +5,7 @@ use super::{RunTests, Running};
 use crate::ask::{Acts, Ask, request};
 use crate::phase::Phase;
 use xd_edge::{Blob, OutOfMemory};
-use xd_ledger::{Outcome, What};
+use xd_journal::{Outcome, What};
 
 impl RunTests {
     ghost use Rattle.xd_run_tests.specs.Turns.{Turn, done_of, told_done, put_out, output_of};

@@ -8,7 +8,7 @@ use crate::phase::Ending;
 use crate::place::{Place, Standing};
 use std::collections::VecDeque;
 use xd_edge::{Indices, OutOfMemory};
-use xd_ledger::What;
+use xd_journal::What;
 
 /// What becomes of a steal.
 #[derive(Drop)]

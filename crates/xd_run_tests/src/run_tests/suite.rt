@@ -8,7 +8,7 @@ use crate::place::Standing;
 use std::collections::VecDeque;
 use xd_edge::{OutOfMemory, Text, Texts};
 use xd_gateway::Order;
-use xd_ledger::What;
+use xd_journal::What;
 
 impl RunTests {
     ghost use Rattle.xd_run_tests.specs.Line.{Call};

@@ -9,7 +9,7 @@ use crate::runner::Runner;
 use crate::talk::{Sent, begin_function, end_function, send, tell};
 use crate::words::{fail_word, long_item_word};
 use xd_edge::{ModeKind, OutOfMemory, Text};
-use xd_ledger::What;
+use xd_journal::What;
 use xd_run_tests::RunTests;
 use xd_value::Value;
 

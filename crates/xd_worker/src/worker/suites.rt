@@ -7,7 +7,7 @@ use crate::words::{large_suite_word, unread_suite_word};
 use std::alloc::Global;
 use xd_edge::{Blob, OutOfMemory, Text, Texts};
 use xd_gateway::event_value;
-use xd_ledger::{Outcome, What};
+use xd_journal::{Outcome, What};
 use xd_run_tests::Input;
 use xd_suite::{Suite, SuiteRefusal};
 use xd_value::{DumpFault, dumps};
@@ -165,7 +165,7 @@ impl WorkerCore {
 
 ghost use Rattle.xd_run_tests.specs.Turns.{CanTake};
 ghost use Rattle.xd_worker.specs.Turns.{suite_input, is_written};
-ghost use Rattle.xd_ledger.specs.declared.news.What.TheVariants.{Collected};
+ghost use Rattle.xd_journal.specs.declared.news.What.TheVariants.{Collected};
 ghost use Rattle.xd_worker.specs.History.{IsRead, IsCollected};
 ghost use Rattle.xd_gateway.specs.Events.{event_tree};
 

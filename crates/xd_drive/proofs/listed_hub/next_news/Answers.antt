@@ -1,9 +1,12 @@
 use Rattle.std.proofs.Common.{refl}
-use Rattle.xd_drive.proofs.NextListed.{first-started, gives-first, gives-gone}
+use Rattle.xd_drive.proofs.NextListed.{given-no-breach, given-started, gives-first, gives-gone}
 use Rattle.xd_drive.proofs.listed_hub.next_news.Goals as goal
 
 pub returns-in-Some-clause-started : goal.returns-in-Some-clause-started
-returns-in-Some-clause-started c = first-started _ _ _ _ c.in-Some.ensures.gives
+returns-in-Some-clause-started c = given-started c.args.started.now c.in-Some.next c.in-Some.ensures.may
+
+pub returns-in-Some-clause-no_breach : goal.returns-in-Some-clause-no_breach
+returns-in-Some-clause-no_breach c = given-no-breach c.args.started.now c.in-Some.next c.in-Some.ensures.may
 
 pub returns-in-Some-clause-listed : goal.returns-in-Some-clause-listed
 returns-in-Some-clause-listed c = gives-first c.args.started.now c.args.news.now.items _ _ c.in-Some.ensures.gives

@@ -1,5 +1,5 @@
 use Rattle.std.proofs.Common.{◌++◌, ◌∷◌, [], refl, sym, ◌∙◌, ap, subst, Ok}
-use Rattle.xd_ledger.specs.declared.settings.Settings.{Settings}
+use Rattle.xd_journal.specs.declared.settings.Settings.{Settings}
 use Rattle.xd_ledger.specs.Proper.{IsProper}
 use Rattle.xd_drive.proofs.Follow.{follows-same}
 use Rattle.xd_drive.proofs.Loop.{begins, first-possible, going-next, none-of, over-ends, someone-first, someone-still, stop-by, takes-none}

@@ -1,5 +1,5 @@
 use Rattle.std.proofs.Common.{◌≡◌, ℕ, List, true}
-use Rattle.xd_ledger.specs.declared.news.News.{News}
+use Rattle.xd_journal.specs.declared.news.News.{News}
 use Rattle.xd_ledger.specs.State.{all_moved, no_one}
 use Rattle.xd_report.specs.Follows.{Follows}
 use Rattle.xd_drive.specs.Going.{Going}

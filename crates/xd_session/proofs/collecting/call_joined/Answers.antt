@@ -1,5 +1,5 @@
 use Rattle.std.proofs.Common.{◌≡◌, ap, subst, ◌∙◌, List, ℕ}
-use Rattle.xd_ledger.specs.declared.entry.Entry.{Entry}
+use Rattle.xd_journal.specs.declared.entry.Entry.{Entry}
 use Rattle.xd_ledger.specs.Books.{Books}
 use Rattle.xd_ledger.specs.Calls.{Turned}
 use Rattle.xd_ledger.specs.Modes.Call.{Joined}

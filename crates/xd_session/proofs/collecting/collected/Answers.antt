@@ -1,12 +1,12 @@
 use Rattle.std.proofs.Common.{◌≡◌, ◌++◌, ◌∷◌, [], ap, sym, subst, ◌∙◌, List, ℕ}
-use Rattle.xd_ledger.specs.declared.entry.Entry.{Entry}
-use Rattle.xd_ledger.specs.declared.entry.Entry.TheVariants.{Collected}
+use Rattle.xd_journal.specs.declared.entry.Entry.{Entry}
+use Rattle.xd_journal.specs.declared.entry.Entry.TheVariants.{Collected}
+use Rattle.xd_journal.specs.declared.entry.Ids.{Ids}
 use Rattle.xd_ledger.specs.Books.{Books}
 use Rattle.xd_ledger.specs.Collections.{listed}
 use Rattle.xd_ledger.specs.Workers.{is_shut}
 use Rattle.xd_session.specs.Crew.{books_of}
 use Rattle.xd_session.specs.declared.lists.Comparison.{Comparison}
-use Rattle.xd_ledger.specs.declared.entry.Ids.{Ids}
 use Rattle.xd_session.specs.Rules.{Ruled}
 use Rattle.xd_session.specs.Compared.{comparison, given}
 use Rattle.xd_session.proofs.Acts.{finish}

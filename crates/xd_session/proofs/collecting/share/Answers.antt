@@ -1,5 +1,5 @@
 use Rattle.std.proofs.Common.{◌≡◌, ◌∷◌, [], ap, ◌∙◌, List, ℕ, length}
-use Rattle.xd_ledger.specs.declared.entry.Entry.{Entry}
+use Rattle.xd_journal.specs.declared.entry.Entry.{Entry}
 use Rattle.xd_ledger.specs.declared.member.Listed.{Listed}
 use Rattle.xd_ledger.specs.Books.{Books}
 use Rattle.xd_ledger.specs.Outputs.{slots_of_rota}

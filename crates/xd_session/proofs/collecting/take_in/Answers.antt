@@ -1,5 +1,6 @@
 use Rattle.std.proofs.Common.{◌≡◌, [], ap, sym, subst, ◌∙◌, false}
 use Rattle.std.specs.Prelude.{Some}
+use Rattle.xd_journal.specs.declared.entry.RunStop.TheVariants.{Unequal}
 use Rattle.xd_ledger.specs.Books.{Books}
 use Rattle.xd_ledger.specs.Outputs.{after_joining, shut_all, unless_stopped}
 use Rattle.xd_ledger.specs.Sharing.{State}
@@ -8,7 +9,6 @@ use Rattle.xd_session.specs.Crew.{books_of}
 use Rattle.xd_session.specs.declared.lists.Comparison.{Comparison}
 use Rattle.xd_session.specs.Compared.{stop_of}
 use Rattle.xd_session.specs.Rules.{Acted, At}
-use Rattle.xd_ledger.specs.declared.entry.RunStop.TheVariants.{Unequal}
 use Rattle.xd_session.specs.Joining.{taken_in}
 use Rattle.xd_session.proofs.Acts.{acted-by, acted-shut, choose-second, is_stopped-by}
 use Rattle.xd_session.proofs.collecting.take_in.Goals as goal

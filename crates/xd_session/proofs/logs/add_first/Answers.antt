@@ -1,6 +1,6 @@
 use Rattle.std.proofs.Common.{◌++◌, ◌∙◌, List, ℕ, ap, take, arith}
 use Rattle.std.proofs.lemmas.Grind.{common_steps}
-use Rattle.xd_ledger.specs.Kept.{most_of_one}
+use Rattle.xd_journal.specs.Kept.{most_of_one}
 use Rattle.xd_session.proofs.Places.{first-added}
 use Rattle.xd_session.proofs.logs.add_first.Goals as goal
 

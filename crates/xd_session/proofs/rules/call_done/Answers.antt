@@ -1,5 +1,5 @@
 use Rattle.std.proofs.Common.{ap, ◌∙◌, List}
-use Rattle.xd_ledger.specs.declared.entry.Entry.{Entry}
+use Rattle.xd_journal.specs.declared.entry.Entry.{Entry}
 use Rattle.xd_ledger.specs.Modes.Call.{TestDone}
 use Rattle.xd_session.specs.Crew.{books_of}
 use Rattle.xd_session.specs.Rules.{crew_told}

@@ -1,7 +1,7 @@
 use Rattle.std.proofs.Common.{◌≡◌, [], ap, ◌∙◌, List, Bool}
 use Rattle.std.specs.Prelude.{if◌then◌else◌}
-use Rattle.xd_ledger.specs.declared.entry.Entry.{Entry}
-use Rattle.xd_ledger.specs.declared.entry.Entry.TheVariants.{Done}
+use Rattle.xd_journal.specs.declared.entry.Entry.{Entry}
+use Rattle.xd_journal.specs.declared.entry.Entry.TheVariants.{Done}
 use Rattle.xd_ledger.specs.Modes.Call.{TestDone}
 use Rattle.xd_ledger.specs.Outputs.{acts_of, shut_all}
 use Rattle.xd_ledger.specs.Sharing.{State}

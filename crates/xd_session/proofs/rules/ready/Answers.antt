@@ -1,7 +1,7 @@
 use Rattle.std.proofs.Common.{◌≡◌, ◌++◌, ◌∷◌, [], ap, ◌∙◌, List, ℕ, append_assoc}
 use Rattle.std.specs.Prelude.{if◌then◌else◌}
-use Rattle.xd_ledger.specs.declared.entry.Entry.{Entry}
-use Rattle.xd_ledger.specs.declared.entry.Entry.TheVariants.{Ready, Shutdown}
+use Rattle.xd_journal.specs.declared.entry.Entry.{Entry}
+use Rattle.xd_journal.specs.declared.entry.Entry.TheVariants.{Ready, Shutdown}
 use Rattle.xd_ledger.specs.Books.{Books, marked}
 use Rattle.xd_ledger.specs.Stops.{is_shutting}
 use Rattle.xd_ledger.specs.Workers.{made_ready}

@@ -1,13 +1,13 @@
 use Rattle.std.proofs.Common.{◌≡◌, ap, ◌∙◌, ℕ}
-use Rattle.xd_ledger.specs.declared.entry.Entry.{Entry}
-use Rattle.xd_ledger.specs.declared.entry.Entry.TheVariants.{Refused}
+use Rattle.xd_journal.specs.declared.entry.Entry.{Entry}
+use Rattle.xd_journal.specs.declared.entry.Entry.TheVariants.{Refused}
+use Rattle.xd_journal.specs.declared.entry.RunStop.TheVariants.{CollectError}
 use Rattle.xd_ledger.specs.Books.{Books}
 use Rattle.xd_ledger.specs.Sharing.{State}
 use Rattle.xd_ledger.specs.State.{moved}
 use Rattle.xd_ledger.specs.Stops.{is_stopped}
 use Rattle.xd_session.specs.Crew.{books_of}
 use Rattle.std.specs.Prelude.{Some}
-use Rattle.xd_ledger.specs.declared.entry.RunStop.TheVariants.{CollectError}
 use Rattle.xd_ledger.specs.Stops.{stopped_by}
 use Rattle.xd_session.proofs.Acts.{finish, refused-at, refused-outs, acted-by}
 use Rattle.xd_session.proofs.rules.refused.Goals as goal

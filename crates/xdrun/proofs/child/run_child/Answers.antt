@@ -1,5 +1,5 @@
 use Rattle.std.proofs.Common.{◌≡◌, ◌≤◌, List, ℕ, length, subst}
-use Rattle.xd_ledger.specs.Kept.{kept_of}
+use Rattle.xd_journal.specs.Kept.{kept_of}
 use Rattle.xdrun.proofs.Ran.{kept}
 use Rattle.xdrun.proofs.child.run_child.Goals as goal
 

@@ -1,6 +1,6 @@
 use Rattle.std.proofs.Common.{◌≡◌, ◌++◌, ◌∷◌, [], ap, ◌∙◌, Bool, true, false, Ok}
-use Rattle.xd_ledger.specs.declared.entry.Entry.TheVariants.{Over}
-use Rattle.xd_ledger.specs.declared.entry.RunStop.{RunStop}
+use Rattle.xd_journal.specs.declared.entry.Entry.TheVariants.{Over}
+use Rattle.xd_journal.specs.declared.entry.RunStop.{RunStop}
 use Rattle.xdrun.proofs.Whole.{Ended, legal, suite, once, names, printed, out_fault, still, completed, child_faults, child_still}
 use Rattle.xdrun.proofs.local.run_suite.Goals as goal
 use Rattle.xdrun.proofs.local.run_suite.Goals.{In_ok-push-2}

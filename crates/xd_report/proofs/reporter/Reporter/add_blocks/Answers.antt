@@ -1,5 +1,5 @@
 use Rattle.std.proofs.Common.{◌++◌, List, ℕ, take, subst, sym, ◌∙◌, ap, arith, append_assoc}
-use Rattle.xd_ledger.specs.declared.entry.Entry.{Entry}
+use Rattle.xd_journal.specs.declared.entry.Entry.{Entry}
 use Rattle.xd_ledger.specs.State.{all_moved, reached}
 use Rattle.xd_report.specs.Blocks.{block_of}
 use Rattle.xd_report.specs.Follows.{Follows}

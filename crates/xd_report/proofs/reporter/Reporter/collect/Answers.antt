@@ -1,5 +1,5 @@
 use Rattle.std.proofs.Common.{Option, refl, sym, ◌∙◌, subst, OnOk}
-use Rattle.xd_ledger.specs.declared.entry.RunStop.{RunStop}
+use Rattle.xd_journal.specs.declared.entry.RunStop.{RunStop}
 use Rattle.xd_ledger.specs.Books.{marked}
 use Rattle.xd_ledger.specs.Collections.{with_list}
 use Rattle.xd_ledger.specs.Sharing.{State, in_books}

@@ -1,5 +1,5 @@
 use Rattle.std.proofs.Common.{List, take, subst, sym, ◌∙◌, ap, arith}
-use Rattle.xd_ledger.specs.declared.entry.Entry.{Entry}
+use Rattle.xd_journal.specs.declared.entry.Entry.{Entry}
 use Rattle.xd_ledger.specs.State.{all_moved, reached}
 use Rattle.xd_report.specs.Follows.{Follows}
 use Rattle.xd_report.specs.Summary.{counted}

@@ -1,8 +1,8 @@
 use Rattle.std.proofs.Common.{◌≡◌, ℕ, refl, ap, sym, ◌∙◌, arith, List}
 use Rattle.std.specs.Prelude.{Some}
 use Rattle.std.proofs.lemmas.Grind.{common_steps}
+use Rattle.xd_journal.specs.declared.news.What.TheVariants as what
 use Rattle.xd_ledger.specs.Meaning.{with_news}
-use Rattle.xd_ledger.specs.declared.news.What.TheVariants as what
 use Rattle.xd_session.specs.Kept.{place_of, shortened}
 use Rattle.xd_session.proofs.Places.{log-changed, log-kept}
 use Rattle.xd_session.proofs.logs.Logs.add.Goals as goal

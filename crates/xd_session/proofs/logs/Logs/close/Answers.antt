@@ -1,7 +1,7 @@
 use Rattle.std.proofs.Common.{◌≡◌, refl, ap, ◌∙◌, arith}
 use Rattle.std.proofs.lemmas.Grind.{common_steps}
+use Rattle.xd_journal.specs.declared.news.What.TheVariants as what
 use Rattle.xd_ledger.specs.Meaning.{with_news}
-use Rattle.xd_ledger.specs.declared.news.What.TheVariants as what
 use Rattle.xd_session.specs.Kept.{place_of}
 use Rattle.xd_session.proofs.Places.{log-changed, log-kept}
 use Rattle.xd_session.proofs.logs.Logs.close.Goals as goal

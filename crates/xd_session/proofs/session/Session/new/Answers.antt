@@ -1,5 +1,5 @@
 use Rattle.std.proofs.Common.{◌≡◌, ap, sym, subst, ◌∙◌, List}
-use Rattle.xd_ledger.specs.declared.settings.Settings.{Settings}
+use Rattle.xd_journal.specs.declared.settings.Settings.{Settings}
 use Rattle.xd_ledger.specs.Books.{Books}
 use Rattle.xd_ledger.specs.State.{all_moved, no_one}
 use Rattle.xd_ledger.specs.Histories.{starts_from}
