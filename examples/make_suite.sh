@@ -1,81 +1,111 @@
 #!/bin/sh
-# Makes a suite file of a list of tests: reads ids, one a line, and prints a test for each, whose command is the words
-# behind this script's name. In a word, {} stands for the id, {1} for what is ahead of its last '::', {2} for what is
-# behind it.
+# Makes a suite file of a list of tests.
 #
-#     pytest --collect-only -q | grep '::' | sh make_suite.sh pytest -q {} > suite.toml
+#     sh make_suite.sh [-o FILE] [-g GROUP] COMMAND [WORD]... < IDS
 #
-# Empty lines are left out. Where no id is left, it says so, and its status is 1. The result is refused by xdrun where
-# two ids are the same.
-exec awk '
+# It reads ids, one a line, and prints a test for each, whose command is COMMAND with its words. In
+# COMMAND, in a word and in GROUP, {} stands for the id, {1} for what is before its first '::', {2}
+# for what is after it; where the id has no '::', all three are the same. Empty lines are left out.
+#
+# With -o the suite is written to FILE, whole or not at all: where no id is left, or two are the
+# same, FILE stays as it was; this script says so, and its status is 1. With -g each test has that
+# group.
+set -u
+
+give_up() {
+    echo "make_suite.sh: $1" >&2
+    exit 1
+}
+
+output=
+group=
+while getopts o:g: option; do
+    case $option in
+    o) output=$OPTARG ;;
+    g) group=$OPTARG ;;
+    *) give_up "its options are -o FILE and -g GROUP" ;;
+    esac
+done
+shift $((OPTIND - 1))
+[ $# -gt 0 ] || give_up "no command is named; write that of one test, with {} for its id"
+
+print_suite() {
+    LC_ALL=C awk '
 BEGIN {
-    for (i = 1; i < ARGC; i++) {
-        words[i] = ARGV[i]
-        ARGV[i] = ""
-    }
-    count = ARGC - 1
-    if (count == 0) {
-        print "make_suite.sh: no command is named; write the command of one test behind make_suite.sh, with {} for its id" > "/dev/stderr"
-        is_refused = 1
-        exit 1
-    }
+    for (i = 1; i < 32; i++) escape[sprintf("%c", i)] = sprintf("\\u%04X", i)
+    escape["\t"] = "\\t"
+    escape["\n"] = "\\n"
+    escape["\177"] = "\\u007F"
+    escape["\\"] = "\\\\"
+    escape["\""] = "\\\""
+    group = ARGV[1]
+    for (i = 2; i < ARGC; i++) words[i - 1] = ARGV[i]
+    count = ARGC - 2
+    ARGC = 1
 }
 
-function replaced(text, old, new,    at, done) {
+# The text as a string of TOML.
+function quoted(text,    at, done) {
     done = ""
-    while ((at = index(text, old)) > 0) {
-        done = done substr(text, 1, at - 1) new
-        text = substr(text, at + length(old))
+    while ((at = match(text, /[\001-\037\177"\\]/)) > 0) {
+        done = done substr(text, 1, at - 1) escape[substr(text, at, 1)]
+        text = substr(text, at + 1)
     }
-    return done text
+    return "\"" done text "\""
 }
 
-function quoted(text) {
-    text = replaced(text, "\\", "\\\\")
-    text = replaced(text, "\"", "\\\"")
-    return "\"" replaced(text, "\t", "\\t") "\""
-}
-
-function filled(word, id, ahead, behind,    done) {
+# The word with the id and its parts in their places.
+function filled(word,    done, place) {
     done = ""
     while (match(word, /\{[12]?\}/)) {
+        place = substr(word, RSTART, RLENGTH)
         done = done substr(word, 1, RSTART - 1)
-        if (RLENGTH == 2) done = done id
-        else done = done (substr(word, RSTART + 1, 1) == "1" ? ahead : behind)
+        done = done (place == "{}" ? $0 : place == "{1}" ? before : after)
         word = substr(word, RSTART + RLENGTH)
     }
     return done word
 }
 
-# The place of the last "::", or 0.
-function split_at(id,    at, from, place) {
-    place = 0
-    from = 1
-    while ((at = index(substr(id, from), "::")) > 0) {
-        place = from + at - 1
-        from = place + 2
-    }
-    return place
+function refuse(why) {
+    print "make_suite.sh: " why > "/dev/stderr"
+    is_refused = 1
+    exit 1
 }
 
-/^[ \t\r]*$/ { next }
+{ sub(/\r$/, "") }
+
+/^[ \t]*$/ { next }
+
+$0 in line_of {
+    refuse("lines " line_of[$0] " and " NR " have the same id, " $0 "; put what tells them apart" \
+        " before it, as in folder::" $0 ", and write {1} and {2} for the two parts in the command")
+}
 
 {
-    sub(/\r$/, "")
-    place = split_at($0)
-    ahead = place > 0 ? substr($0, 1, place - 1) : $0
-    behind = place > 0 ? substr($0, place + 2) : $0
+    line_of[$0] = NR
+    at = index($0, "::")
+    before = at > 0 ? substr($0, 1, at - 1) : $0
+    after = at > 0 ? substr($0, at + 2) : $0
+    printf "%s[[test]]\nid = %s\n", (told++ ? "\n" : ""), quoted($0)
+    if (group != "") printf "group = %s\n", quoted(filled(group))
     run = ""
-    for (i = 1; i <= count; i++)
-        run = run (i > 1 ? ", " : "") quoted(filled(words[i], $0, ahead, behind))
-    printf "%s[[test]]\nid = %s\nrun = [%s]\n", (told++ ? "\n" : ""), quoted($0), run
+    for (i = 1; i <= count; i++) run = run (i > 1 ? ", " : "") quoted(filled(words[i]))
+    printf "run = [%s]\n", run
 }
 
 END {
     if (is_refused) exit 1
-    if (told == 0) {
-        print "make_suite.sh: no test id was read; look at what the command that lists the tests prints" > "/dev/stderr"
-        exit 1
-    }
+    if (told == 0) refuse("no id of a test was read; look at what the list of tests has")
 }
-' "$@"
+' "$group" "$@"
+}
+
+if [ -z "$output" ]; then
+    print_suite "$@"
+    exit
+fi
+if print_suite "$@" >"$output.new" && mv -f "$output.new" "$output"; then
+    exit 0
+fi
+rm -f "$output.new"
+give_up "$output is as it was"

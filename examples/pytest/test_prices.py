@@ -16,3 +16,7 @@ def test_discount(discount, expected):
 
 def test_negative():
     assert total([1], 2) == 0
+
+
+def test_exchange_rate():
+    pytest.skip("needs a network")
