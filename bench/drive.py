@@ -31,7 +31,7 @@ use std::time::Instant;
 use std::{env, fs, io};
 use xd_drive::{ListedHub, drive};
 use xd_edge::{Failed, Indices, ModeKind, OutOfMemory, Sink, Text, Texts};
-use xd_ledger::{News, Outcome, Settings, What};
+use xd_journal::{News, Outcome, Settings, What};
 use xd_load::Load;
 use xd_session::Session;
 
@@ -206,7 +206,7 @@ def measure(_):
     few, many = SIZES
     rows = []
     with tempfile.TemporaryDirectory() as folder:
-        crates = " may_wait=1: xd_drive xd_session xd_laws xd_report xd_load xd_ledger xd_edge"
+        crates = " may_wait=1: xd_drive xd_session xd_laws xd_report xd_load xd_ledger xd_journal xd_edge"
         source = PROGRAM.replace("WORKERS", str(WORKERS))
         program = shared.build(folder, "drive_bench", source, crates, {"begun": ANSWERS})
         best = {}

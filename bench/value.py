@@ -6,16 +6,11 @@ builds it, and prints times, ratios and peak memory. Where execnet is not instal
 with a word.
 
 Beside it stands a plain program in C that makes the same value in memory, by the system's allocator, and checks nothing: the
-ratio to it says about how much is left to gain.
+ratio to it says about how much is left to gain. It has no goal.
 
 All sides are measured alike: each run is a process of its own that first reads the payload from a file, and then times one
 call of loads and one call of dumps of what it gave; neither the start of the process, nor the reading of the file, nor the
-end of the value counts. The runs alternate, and the best of each side counts. The speed of reading is that of a process that
-reads and writes the mixed values again and again and keeps the memory of one for the next, as the C library is asked to do by
-a word of its own; the best of its readings behind the first counts, on each side. Beside it stands the first value of a
-process, for which the system hands out the memory page by page, without and with large pages. Where the C library gives the
-memory back behind each value, which it may do by itself, each costs as much as the first. These rows have no goal: they tell
-of the system, and the program in C, which only fills that memory, is as slow there.
+end of the value counts. The runs alternate, and the best of each side counts.
 """
 
 import os
@@ -258,39 +253,27 @@ def nested(depth):
     return (b"K" + number(1) + integer(0)) * (depth - 1) + b"K" + number(0) + b"P" * (depth - 1) + b"Q"
 
 
-# What the C library is asked for: large pages; and to keep up to 128 MiB that are free.
-LARGE_PAGES = "glibc.malloc.hugetlb=1"
-KEEPING = f"glibc.malloc.top_pad={128 << 20}"
-
-
-def asking(words):
-    """The environment in which the C library is asked for this, or for nothing."""
-    return {**os.environ, "GLIBC_TUNABLES": words} if words else None
-
-
-def ours(program, paths, words=""):
-    """Reads and writes each in turn, in one process of its own: the microseconds of each reading, of each writing, None for
-    one that was refused, and peak memory in bytes."""
-    done = subprocess.run([program, *paths], capture_output=True, text=True, env=asking(words))
+def ours(program, path):
+    """The microseconds of reading and of writing, None where it was refused, and the peak memory in bytes."""
+    done = subprocess.run([program, path], capture_output=True, text=True)
     words = [line.split() for line in done.stdout.splitlines() if line.strip()]
-    took = {which: [int(n) if n.isdigit() else None for name, n, *_ in words if name == which] for which in ("loads", "dumps")}
+    took = {name: int(n) if n.isdigit() else None for name, n, *_ in words if name in ("loads", "dumps")}
     peaks = [int(n) * 1024 for name, n, *_ in words if name == "VmHWM:"]
-    if len(took["loads"]) != len(paths) or len(took["dumps"]) != len(paths) or None in took["loads"] or not peaks:
+    if took.get("loads") is None or "dumps" not in took or not peaks:
         sys.exit(f"the program did not run:\n{done.stdout}{done.stderr}")
     return took["loads"], took["dumps"], peaks[0]
 
 
-def theirs(python, paths, words=""):
-    """The same by execnet, in a process of its own, without the memory."""
-    done = subprocess.run([python, "-c", THEIRS, *paths], capture_output=True, text=True, check=True, env=asking(words))
-    loads, dumps = zip(*(map(float, line.split()) for line in done.stdout.splitlines()))
-    return list(loads), list(dumps)
+def theirs(python, path):
+    """The same by execnet, without the memory."""
+    done = subprocess.run([python, "-c", THEIRS, path], capture_output=True, text=True, check=True)
+    return tuple(map(float, done.stdout.split()))
 
 
-def in_c(program, paths, words=""):
-    """The microseconds in which the program in C makes the same values."""
-    done = subprocess.run([program, *paths], capture_output=True, text=True, check=True, env=asking(words))
-    return [float(n) for n in done.stdout.split()]
+def in_c(program, path):
+    """The microseconds in which the program in C makes the same value."""
+    done = subprocess.run([program, path], capture_output=True, text=True, check=True)
+    return float(done.stdout)
 
 
 def best(runs):
@@ -308,14 +291,12 @@ CASES = [
 MIXED, FEW, MANY, _, NESTED = (name for name, _ in CASES)
 
 
-# So often the mixed values are read in one process. With half as many the ratio swings by a third from run to run.
-AGAIN = 12
+# What the floors are set for: bytes of memory a byte of payload, and how often as fast as execnet.
+MOST_MEMORY, LEAST_READING, LEAST_WRITING = 38, 8, 20
 
 
 def measure(_):
     took, peaks, sizes, compared, bare = {}, {}, {}, [], []
-    again = {"loads": [], "execnet": [], "c": []}
-    large = {"loads": [], "c": []}
     python = shared.python_with("execnet")
     with tempfile.TemporaryDirectory() as folder:
         program = shared.build(folder, "value_bench", PROGRAM, ": xd_value xd_edge")
@@ -327,51 +308,36 @@ def measure(_):
                 f.write(payload)
             runs = []
             for _ in range(shared.RUNS):
-                loads, dumps, peak = ours(program, [path])
-                runs.append((loads[0], dumps[0], peak))
-                if name != MIXED:
-                    continue
-                again["loads"] += ours(program, [path] * AGAIN, KEEPING)[0][1:]
-                large["loads"] += ours(program, [path], LARGE_PAGES)[0]
-                if python is not None:
-                    loads, dumps = theirs(python, [path])
-                    compared.append((loads[0], dumps[0]))
-                    again["execnet"] += theirs(python, [path] * AGAIN, KEEPING)[0][1:]
-                if same is not None:
-                    bare += in_c(same, [path])
-                    again["c"] += in_c(same, [path] * AGAIN, KEEPING)[1:]
-                    large["c"] += in_c(same, [path], LARGE_PAGES)
+                runs.append(ours(program, path))
+                if name == MIXED and python is not None:
+                    compared.append(theirs(python, path))
+                if name == MIXED and same is not None:
+                    bare.append(in_c(same, path))
             loads, dumps, _ = best(runs)
             peak = max(run[2] for run in runs)
             took[name], peaks[name], sizes[name] = (loads, dumps), peak, len(payload)
             wrote = f"dumps {dumps / 1e6:.3f} s" if dumps is not None else "dumps refused"
             shared.note(f"{name}, {len(payload)} bytes: loads {loads / 1e6:.3f} s, {wrote}, peak {peak >> 20} MiB")
-    rows = []
-    if python is None:
-        for what in ("reading", "writing"):
-            rows.append(shared.skipped(f"{what} {MIXED}", "execnet", "execnet is not installed"))
+    return rows_of(took, peaks, sizes, compared, bare)
+
+
+def rows_of(took, peaks, sizes, compared, bare):
+    rows, (loads, dumps) = [], took[MIXED]
+    if compared:
+        read, written = best(compared)
+        rows.append(shared.at_least(f"reading {MIXED}", "execnet's `loads`", read / loads, LEAST_READING))
+        rows.append(shared.at_least(f"writing {MIXED}", "execnet's `dumps`", written / dumps, LEAST_WRITING))
     else:
-        (read, written), (loads, dumps) = best(compared), took[MIXED]
-        beside = "execnet's `loads`"
-        rows.append(shared.at_least(f"reading {MIXED}, again and again", beside, min(again["execnet"]) / min(again["loads"]), 20))
-        rows.append(shared.Row(f"reading {MIXED}, the first value of a process", beside, read / loads, "times as fast"))
-        rows.append(shared.Row(f"reading {MIXED}, the first value of a process, with large pages", beside, read / min(large["loads"]), "times as fast"))
-        rows.append(shared.at_least(f"writing {MIXED}", "execnet's `dumps`", written / dumps, 20))
-    what, beside = f"reading {MIXED}", "a program in C that fills the same memory and checks nothing"
-    if same is None:
-        rows.append(shared.skipped(what, beside, "there is no compiler of C"))
+        rows += [shared.skipped(f"{what} {MIXED}", "execnet", "execnet is not installed") for what in ("reading", "writing")]
+    beside = "a program in C that fills the same memory and checks nothing"
+    if bare:
+        rows.append(shared.Row(f"reading {MIXED}", beside, loads / min(bare)))
     else:
-        rows.append(shared.Row(f"{what}, again and again", beside, min(again["loads"]) / min(again["c"])))
-        rows.append(shared.Row(f"{what}, the first value of a process", beside, took[MIXED][0] / min(bare)))
-        if python is not None:
-            beside = "execnet's `loads`"
-            rows.append(shared.Row(f"that program in C on {MIXED}, again and again", beside, min(again["execnet"]) / min(again["c"]), "times as fast"))
-            rows.append(shared.Row(f"that program in C on {MIXED}, the first value of a process", beside, read / min(bare), "times as fast"))
-            rows.append(shared.Row(f"that program in C on {MIXED}, the first value of a process, with large pages", beside, read / min(large["c"]), "times as fast"))
+        rows.append(shared.skipped(f"reading {MIXED}", beside, "there is no compiler of C"))
     rows.append(shared.at_most(f"reading {MANY}", FEW, took[MANY][0] / took[FEW][0], 25))
     # What the program takes anyhow is what it takes for the smallest payload.
     peak = max((peaks[name] - peaks[NESTED]) / sizes[name] for name in peaks if name != NESTED)
-    rows.append(shared.at_most("peak memory of reading, without the program's own", "the payload", peak, 40, "bytes a byte"))
+    rows.append(shared.at_most("peak memory of reading, without the program's own", "the payload", peak, MOST_MEMORY, "bytes a byte"))
     return rows
 
 
