@@ -1,0 +1,44 @@
+-- What contracts see of desks.
+use Rattle.std.specs.Prelude.{◌≡◌, ℕ, ◌<◌, ◌≤◌, ◌⊎◌, List, [], ◌∷◌, ◌++◌, Option, Some, None, map, slice_get, slice_index_or, slice_set}
+use Rattle.xd_post.specs.Post.{Ring, known, taken, ring_of_inbox}
+use Rattle.xd_post.specs.declared.ends.Inbox.{Inbox}
+use Rattle.xd_post.specs.declared.desk.Desk.{Desk}
+
+module _ {T : Type 0} where
+  -- an inbox: its ring, and what was taken of it
+  abbrev pub mail_of : Option (Inbox T) → Option (Ring × List T)
+  mail_of None = None
+  mail_of (Some inbox) = Some (ring_of_inbox inbox, taken inbox)
+
+  -- the inboxes of a desk by their numbers; a closed one is None
+  abbrev pub mails : Desk T → List (Option (Ring × List T))
+  mails desk = map mail_of desk.inboxes.items
+
+  -- the items that an inbox is known to hold; a closed one holds none
+  abbrev pub known_of : Option (Inbox T) → List T
+  known_of None = []
+  known_of (Some inbox) = known inbox
+
+  -- the items that each inbox of a desk is known to hold, by their numbers
+  abbrev pub knows : Desk T → List (List T)
+  knows desk = map known_of desk.inboxes.items
+
+  -- the items that the inbox of this number is known to hold; none where no inbox has the number
+  abbrev pub known_at : Desk T → ℕ → List T
+  known_at desk number = slice_index_or (knows desk) number []
+
+  -- the number of the inbox that the next take looks at first
+  abbrev pub turn : Desk T → ℕ
+  turn desk = desk.turn
+
+  -- the item was taken of the inbox of this number, and no other changed
+  pub record TakesAt (old new : List (Option (Ring × List T))) (number : ℕ) (item : T) : Type 0 where
+    pub ring : Ring
+    pub got : List T
+    pub was : slice_get old number ≡ Some (Some (ring, got))
+    pub is : new ≡ slice_set old number (Some (ring, got ++ item ∷ []))
+
+-- where numbers are gone through upwards from the first one, and behind the last from 0 on, k comes before this number
+abbrev pub IsAhead : ℕ → ℕ → ℕ → Type 0
+IsAhead first number k =
+    ((first ≤ k) × (k < number)) ⊎ ((number < first) × ((first ≤ k) ⊎ (k < number)))
