@@ -1,5 +1,5 @@
 // A desk of several inboxes.
-ghost use Rattle.std.specs.Prelude.{◌≡◌, ◌<◌, ◌≤◌, ◌+◌, [], ◌∷◌, ◌++◌, ℕ, List, Some, None, length, vec_len, IfOk, OnErr, IfSome, IfNone, slice_get, slice_set};
+ghost use Rattle.std.specs.Prelude.{◌≡◌, ◌<◌, ◌≤◌, ◌+◌, [], ◌∷◌, ◌++◌, List, Some, None, length, vec_len, IfOk, OnOk, OnErr, IfSome, IfNone, slice_set};
 
 use crate::{Bell, Emptied, Inbox, Sender};
 use std::alloc::Global;
@@ -19,8 +19,8 @@ pub struct Desk<T: Drop> {
 }
 
 impl<T: Drop> Desk<T> {
-    ghost use Rattle.xd_post.specs.Post.{put, taken, ring_of_sender, ring_of_inbox, Empties};
-    ghost use Rattle.xd_post.specs.Mails.{mails, known_at, knows, turn, IsAhead, TakesAt};
+    ghost use Rattle.xd_post.specs.Post.{put, ring_of_sender, Empties};
+    ghost use Rattle.xd_post.specs.Mails.{mails, knows, turn, mail_of, HasMail, TakesAt, NoneKnown, NoneFrom, NoneAhead};
 
     /// A desk without inboxes, woken by this bell.
     pub fn new(alloc: Global, bell: Bell) -> Desk<T>
@@ -39,11 +39,11 @@ impl<T: Drop> Desk<T> {
         &self.bell
     }
 
-    /// Adds an inbox, and gives its number: how many were added before it.
+    /// Adds an inbox, whose sender is to ring the bell of this desk. Gives its number: how many were added before it.
     pub fn add(&mut self, inbox: Inbox<T>) -> Result<u32, OutOfMemory>
         requires { length (mails self.old) < 4294967295 }
         ensures number { IfOk result (λ number. number ≡ length (mails self.old)) }
-        ensures added { IfOk result (λ _. mails self.new ≡ mails self.old ++ Some (ring_of_inbox inbox, taken inbox) ∷ []) }
+        ensures added { OnOk result (mails self.new ≡ mails self.old ++ mail_of (Some inbox) ∷ []) }
         ensures err { OnErr result (mails self.new ≡ mails self.old) }
         ensures turn { turn self.new ≡ turn self.old }
     {
@@ -55,8 +55,9 @@ impl<T: Drop> Desk<T> {
     // Takes an item of the inbox.
     fn take_at(&mut self, at: usize) -> Option<T>
         requires { at < length (mails self.old) }
-        ensures none { IfNone result ((mails self.new ≡ mails self.old) × (knows self.new ≡ knows self.old)) }
-        ensures knew { IfNone result (known_at self.old at ≡ []) }
+        ensures none { IfNone result (mails self.new ≡ mails self.old) }
+        ensures kept { IfNone result (knows self.new ≡ knows self.old) }
+        ensures knew { IfNone result (NoneFrom (knows self.old) at (at + 1)) }
         ensures some { IfSome result (λ item. TakesAt (mails self.old) (mails self.new) at item) }
         ensures turn { turn self.new ≡ turn self.old }
     {
@@ -69,11 +70,12 @@ impl<T: Drop> Desk<T> {
     // Takes an item of the first inbox, from one number up to another, that knows one.
     fn take_between(&mut self, from: usize, to: usize) -> Option<(usize, T)>
         requires { to ≤ length (mails self.old) }
-        ensures none { IfNone result ((mails self.new ≡ mails self.old) × (knows self.new ≡ knows self.old)) }
-        ensures knew { IfNone result ((k : ℕ) → from ≤ k → k < to → known_at self.old k ≡ []) }
+        ensures none { IfNone result (mails self.new ≡ mails self.old) }
+        ensures kept { IfNone result (knows self.new ≡ knows self.old) }
+        ensures knew { IfNone result (NoneFrom (knows self.old) from to) }
         ensures some { IfSome result (λ r. TakesAt (mails self.old) (mails self.new) r.0 r.1) }
         ensures place { IfSome result (λ r. (from ≤ r.0) × (r.0 < to)) }
-        ensures passed { IfSome result (λ r. (k : ℕ) → from ≤ k → k < r.0 → known_at self.old k ≡ []) }
+        ensures passed { IfSome result (λ r. NoneFrom (knows self.old) from r.0) }
         ensures turn { turn self.new ≡ turn self.old }
     {
         for at in from..to {
@@ -87,10 +89,10 @@ impl<T: Drop> Desk<T> {
     // Takes an item of the first inbox in turn that knows one.
     fn take_in_turn(&mut self) -> Option<(usize, T)>
         ensures none { IfNone result (mails self.new ≡ mails self.old) }
-        ensures knew { IfNone result ((k : ℕ) → (known_at self.old k ≡ []) × (known_at self.new k ≡ [])) }
+        ensures knew { IfNone result (NoneKnown (knows self.old) × NoneKnown (knows self.new)) }
         ensures some { IfSome result (λ r. TakesAt (mails self.old) (mails self.new) r.0 r.1) }
         ensures place { IfSome result (λ r. r.0 < length (mails self.old)) }
-        ensures passed { IfSome result (λ r. (k : ℕ) → IsAhead (turn self.old) r.0 k → known_at self.old k ≡ []) }
+        ensures passed { IfSome result (λ r. NoneAhead (knows self.old) (turn self.old) r.0) }
         ensures turn { turn self.new ≡ turn self.old }
     {
         let first = self.turn;
@@ -103,11 +105,12 @@ impl<T: Drop> Desk<T> {
 
     /// Takes an item of the first inbox in turn that knows one. `None` only where this step knew no item of any inbox.
     pub fn take(&mut self) -> Option<(u32, T)>
-        ensures none { IfNone result ((mails self.new ≡ mails self.old) × (turn self.new ≡ turn self.old)) }
-        ensures knew { IfNone result ((k : ℕ) → (known_at self.old k ≡ []) × (known_at self.new k ≡ [])) }
+        ensures none { IfNone result (mails self.new ≡ mails self.old) }
+        ensures same_turn { IfNone result (turn self.new ≡ turn self.old) }
+        ensures knew { IfNone result (NoneKnown (knows self.old) × NoneKnown (knows self.new)) }
         ensures some { IfSome result (λ r. TakesAt (mails self.old) (mails self.new) r.0 r.1) }
         ensures turn { IfSome result (λ r. turn self.new ≡ r.0 + 1) }
-        ensures passed { IfSome result (λ r. (k : ℕ) → IsAhead (turn self.old) r.0 k → known_at self.old k ≡ []) }
+        ensures passed { IfSome result (λ r. NoneAhead (knows self.old) (turn self.old) r.0) }
     {
         let (at, item) = self.take_in_turn()?;
         self.turn = at + 1;
@@ -131,8 +134,11 @@ impl<T: Drop> Desk<T> {
 
     /// Closes an inbox by its sender, which this thread holds. The others keep their numbers.
     pub fn close_with(&mut self, inbox: u32, sender: Sender<T>) -> Emptied<T>
-        requires { (got : List T) × (slice_get (mails self.old) inbox ≡ Some (Some (ring_of_sender sender, got))) }
-        ensures emptied { (got : List T) → slice_get (mails self.old) inbox ≡ Some (Some (ring_of_sender sender, got)) → Empties result.rest got (put sender) }
+        requires { (got : List T) × HasMail (mails self.old) inbox (ring_of_sender sender) got }
+        ensures emptied {
+            (got : List T) → HasMail (mails self.old) inbox (ring_of_sender sender) got
+            → Empties result.rest got (put sender)
+        }
         ensures closed { mails self.new ≡ slice_set (mails self.old) inbox None }
         ensures turn { turn self.new ≡ turn self.old }
     {

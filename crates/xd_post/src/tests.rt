@@ -12,7 +12,8 @@ use std::thread::{Promise, Threads};
 use std::time::{Clock, Duration};
 use xd_edge::OutOfMemory;
 
-const MOMENT: Duration = Duration::from_millis(2);
+// Milliseconds of a sleep.
+const MOMENT: u64 = 2;
 
 /// The thread gives back the sender that it got.
 #[derive(Drop)]
@@ -35,7 +36,7 @@ fn put_numbers<R: Wait + Clock>(
     let mut sender = sender;
     for number in 0..count {
         if number % pause == 0 {
-            thread::sleep(rt, MOMENT);
+            thread::sleep(rt, Duration::from_millis(MOMENT));
         }
         sender.put(rt, number);
     }
@@ -80,7 +81,7 @@ fn carry<R: Threads + Wait + Clock + Copy + Send + 'static>(
     let mut in_place: u32 = 0;
     for number in 0..count {
         if number % pause == 0 {
-            thread::sleep(&rt, MOMENT);
+            thread::sleep(&rt, Duration::from_millis(MOMENT));
         }
         if next_number(&rt, &bell, &mut inbox) == number {
             in_place = in_place.saturating_add(1);
@@ -96,9 +97,9 @@ fn carry<R: Threads + Wait + Clock + Copy + Send + 'static>(
 #[test]
 fn ten_thousand_messages_come_whole_and_in_order(rt: HostRuntime) -> Result<(), Fail> {
     let alloc = rt.alloc();
-    for room in [1_usize, 2, 8] {
-        assert_eq!(rt; carry(rt, alloc, room.max(1), 10_000, 3000)?, Some(10_000));
-    }
+    assert_eq!(rt; carry(rt, alloc, 1, 10_000, 3000)?, Some(10_000));
+    assert_eq!(rt; carry(rt, alloc, 2, 10_000, 3000)?, Some(10_000));
+    assert_eq!(rt; carry(rt, alloc, 8, 10_000, 3000)?, Some(10_000));
     Ok(())
 }
 
@@ -122,7 +123,9 @@ fn a_closed_mailbox_gives_the_next_item(rt: HostRuntime) -> Result<(), Fail> {
 }
 
 #[test]
-fn a_desk_takes_in_turn_and_sleeps_until_its_bell_rings(rt: HostRuntime) -> Result<(), Fail> {
+fn a_desk_takes_in_turn_and_sleeps_until_its_bell_rings(
+    rt: HostRuntime,
+) -> Result<(), OutOfMemory> {
     let alloc = rt.alloc();
     let mut desk = Desk::new(alloc, Bell::new(alloc)?);
     let (mut first, inbox) = mailbox(alloc, 8, desk.bell())?;
@@ -131,20 +134,19 @@ fn a_desk_takes_in_turn_and_sleeps_until_its_bell_rings(rt: HostRuntime) -> Resu
     assert_eq!(rt; desk.add(inbox)?, 1);
     second.put(&rt, 20);
     assert_eq!(rt; desk.close_with(1, second).rest, Some(20));
-    let (third, inbox) = mailbox(alloc, 8, desk.bell())?;
+    let (mut third, inbox) = mailbox(alloc, 8, desk.bell())?;
     assert_eq!(rt; desk.add(inbox)?, 2);
-    assert_eq!(rt; desk.take(), None);
     first.put(&rt, 10);
     first.put(&rt, 11);
-    let putting = thread::spawn(&rt, move || put_numbers(&rt, third, 2, 1))?;
-    let third = putting.join(&rt);
+    third.put(&rt, 30);
     assert_eq!(rt; desk.take(), Some((0, 10)));
-    assert_eq!(rt; desk.take(), Some((2, 0)));
+    assert_eq!(rt; desk.take(), Some((2, 30)));
     assert_eq!(rt; desk.take(), Some((0, 11)));
-    assert_eq!(rt; desk.wait(&rt), (2, 1));
-    let putting = thread::spawn(&rt, move || put_numbers(&rt, third, 1, 1))?;
+    assert_eq!(rt; desk.take(), None);
+    let Ok(putting) = thread::spawn(&rt, move || put_numbers(&rt, third, 1, 1)) else {
+        return Err(OutOfMemory);
+    };
     assert_eq!(rt; desk.wait(&rt), (2, 0));
     let _third = putting.join(&rt);
-    assert_eq!(rt; desk.take(), None);
     Ok(())
 }
