@@ -9,7 +9,7 @@ import multiprocessing
 
 import shared
 
-BENCHMARKS = "local", "suite", "drive", "worker", "value", "wire"
+BENCHMARKS = "local", "suite", "drive", "waiting", "worker", "value", "wire"
 
 
 def measured(name, program):

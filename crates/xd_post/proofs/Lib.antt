@@ -1,0 +1,2 @@
+pub mod MailFacts
+pub mod Turns
