@@ -8,7 +8,7 @@ use Rattle.rtrb.specs.declared.end.End.{End}
 use Rattle.xd_post.specs.declared.ends.Sender.{Sender}
 use Rattle.xd_post.specs.declared.ends.Inbox.{Inbox}
 
--- which ring an end belongs to: the two ends of one mailbox have the same, and those of two have not
+-- which ring an end is of; the two ends of one mailbox have the same
 abbrev pub Ring : Type 0
 Ring = Ptr × Ptr × Names × Global
 
