@@ -24,7 +24,7 @@ pub struct RunsNext<J>(Snapshot<Consumer<J>>);
 impl<J: Job> Promise<Ran<J, J::Out>> for RunsNext<J> {
     ghost kept_by = { λ promise ran. SameConsumer promise.0.value ran.from
         × ((job : J) × (received ran.from ≡ received promise.0.value ++ job ∷ [])
-            × J.gives job ran.out) };
+        × J.gives job ran.out) };
 }
 
 /// A thread without a job.
@@ -69,9 +69,7 @@ fn take_job<J: Job, R: Wait>(rt: &R, call: &Parker, from: &mut Consumer<J>) -> J
 // Takes the next job and runs it.
 fn run_next<J: Job, R: Wait>(rt: &R, call: Arc<Parker>, from: Consumer<J>) -> Ran<J, J::Out>
     ensures same { SameConsumer from result.from }
-    ensures ran {
-        (job : J) × (received result.from ≡ received from ++ job ∷ []) × J.gives job result.out
-    }
+    ensures ran { (job : J) × (received result.from ≡ received from ++ job ∷ []) × J.gives job result.out }
 {
     let mut from = from;
     let next = take_job(rt, &call, &mut from);

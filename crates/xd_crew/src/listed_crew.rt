@@ -41,12 +41,8 @@ impl<J: Job, R: Threads + Drop> Crew<J> for ListedCrew<J, R> {
         ensures later { self.old.plan.faults ≤ self.new.plan.faults }
         ensures still { OnOk result (self.new.plan.faults ≡ self.old.plan.faults) }
         ensures rose { OnErr result (Rose self.old.plan.faults self.new.plan.faults) }
-        ensures listed {
-            list_any (λ n. n == self.old.plan.calls) self.old.plan.fails ≡ true → IsErr result
-        }
-        ensures next {
-            self.old.plan.calls < 2 ^ 64 - 1 → self.new.plan.calls ≡ self.old.plan.calls + 1
-        }
+        ensures listed { list_any (λ n. n == self.old.plan.calls) self.old.plan.fails ≡ true → IsErr result }
+        ensures next { self.old.plan.calls < 2 ^ 64 - 1 → self.new.plan.calls ≡ self.old.plan.calls + 1 }
         ensures fails { self.new.plan.fails ≡ self.old.plan.fails }
     {
         if self.plan.step().is_err() {

@@ -41,7 +41,8 @@ pub fn start_into<J: Job + Send + 'static, R: Threads + Wait + Copy + Send + 'st
     rt: R,
     alloc: Global,
     slot: &Slot<J>,
-) where
+)
+where
     J::Out: Send + 'static,
 {
     slot.lay(start_idle(rt, alloc));

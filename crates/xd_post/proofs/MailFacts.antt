@@ -5,7 +5,7 @@ use Rattle.std.specs.Option.{option_map, IfNone, IfSome}
 use Rattle.std.proofs.lemmas.List.{map-set, length-map, get_or-map}
 use Rattle.std.proofs.lemmas.Option.{slice_get_read, slice_get-map}
 use Rattle.std.proofs.Math.Seq.{map-set_same}
-use Rattle.xd_post.specs.Post.{Ring, taken, known, ring_of_inbox}
+use Rattle.xd_post.specs.Post.{taken, known, ring_of_inbox}
 use Rattle.xd_post.specs.Mails.{mail_of, known_of, NoneFrom, TakesAt}
 use Rattle.xd_post.specs.declared.ends.Inbox.{Inbox}
 

@@ -1,14 +1,14 @@
 -- What contracts see of a mailbox's two ends.
-use Rattle.std.specs.Prelude.{◌≡◌, List, ◌∷◌, ◌++◌, Option, Some, None}
+use Rattle.std.specs.Prelude.{◌≡◌, ℕ, List, ◌∷◌, ◌++◌, Option, Some, None}
 use Rattle.std.specs.declared.alloc.Global.{Global}
 use denote.RawPtr.{Ptr}
-use Rattle.rtrb.specs.Ring.{sent, received, known_items}
+use Rattle.rtrb.specs.Ring.{sent, received, known_items, producer_capacity}
 use Rattle.rtrb.specs.Shared.{Names}
 use Rattle.rtrb.specs.declared.end.End.{End}
 use Rattle.xd_post.specs.declared.ends.Sender.{Sender}
 use Rattle.xd_post.specs.declared.ends.Inbox.{Inbox}
 
--- which ring an end belongs to: the two ends of one mailbox have the same, and those of two have not
+-- which ring an end is of; the two ends of one mailbox have the same
 abbrev pub Ring : Type 0
 Ring = Ptr × Ptr × Names × Global
 
@@ -22,6 +22,10 @@ module _ {T : Type 0} where
 
   abbrev pub ring_of_sender : Sender T → Ring
   ring_of_sender sender = ring_of_end sender.to.end
+
+  -- how many items may be put ahead of the takes
+  abbrev pub room_of : Sender T → ℕ
+  room_of sender = producer_capacity sender.to
 
   -- every item that was taken, in order
   abbrev pub taken : Inbox T → List T

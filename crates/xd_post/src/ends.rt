@@ -1,6 +1,6 @@
 // A mailbox from one thread to one other.
 ghost use Rattle.std.specs.Prelude.{◌≡◌, ◌≤◌, [], ◌∷◌, ◌++◌, IfOk, IfSome, IfNone};
-ghost use Rattle.xd_post.specs.Post.{put, taken, known, ring_of_sender, ring_of_inbox, Empties};
+ghost use Rattle.xd_post.specs.Post.{put, taken, known, ring_of_sender, ring_of_inbox, room_of, Empties};
 
 use crate::Bell;
 use rtrb::{Consumer, Producer, PushError, RingBuffer};
@@ -41,6 +41,7 @@ pub fn mailbox<T: Drop>(
     requires { 1 ≤ room }
     ensures pair { IfOk result (λ r. ring_of_sender r.0 ≡ ring_of_inbox r.1) }
     ensures fresh { IfOk result (λ r. (put r.0 ≡ []) × (taken r.1 ≡ []) × (known r.1 ≡ [])) }
+    ensures room { IfOk result (λ r. room_of r.0 ≡ room) }
 {
     let bell = bell.another()?;
     let space = Arc::new(alloc, Parker::new())?;
@@ -57,6 +58,7 @@ impl<T: Drop> Sender<T> {
     /// Puts the item and rings. While the mailbox is full it sleeps: for ever, where nobody takes any more.
     pub fn put<R: Wait>(&mut self, rt: &R, item: T)
         ensures ring { ring_of_sender self.new ≡ ring_of_sender self.old }
+        ensures room { room_of self.new ≡ room_of self.old }
         ensures put { put self.new ≡ put self.old ++ item ∷ [] }
     {
         let mut item = item;

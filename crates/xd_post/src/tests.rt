@@ -1,5 +1,6 @@
 // Mailboxes between two threads, and a desk. What comes out is compared with the numbers that were put in.
-ghost use Rattle.std.specs.Prelude.{◌≡◌, ◌≤◌};
+ghost use Rattle.std.specs.Prelude.{◌≡◌, ◌<◌, ◌≤◌, length};
+ghost use Rattle.xd_post.specs.Mails.{mails};
 ghost use Rattle.xd_post.specs.Post.{ring_of_sender, ring_of_inbox};
 
 use super::*;
@@ -24,12 +25,7 @@ impl Promise<Sender<u32>> for SameRing {
 }
 
 // Puts the numbers below `count`, and sleeps a moment ahead of every `pause` of them.
-fn put_numbers<R: Wait + Clock>(
-    rt: &R,
-    sender: Sender<u32>,
-    count: u32,
-    pause: u32,
-) -> Sender<u32>
+fn put_numbers<R: Wait + Clock>(rt: &R, sender: Sender<u32>, count: u32, pause: u32) -> Sender<u32>
     requires { 1 ≤ pause }
     ensures { ring_of_sender result ≡ ring_of_sender sender }
 {
@@ -72,8 +68,7 @@ fn carry<R: Threads + Wait + Clock + Copy + Send + 'static>(
     let bell = Bell::new(alloc)?;
     let (sender, inbox) = mailbox(alloc, room, &bell)?;
     let promise = SameRing(Snapshot::of(&sender));
-    let putting =
-        thread::spawn_with(&rt, promise, move || put_numbers(&rt, sender, count, 2500));
+    let putting = thread::spawn_with(&rt, promise, move || put_numbers(&rt, sender, count, 2500));
     let Ok(putting) = putting else {
         return Err(OutOfMemory);
     };
@@ -113,13 +108,29 @@ fn a_sender_sleeps_on_a_full_mailbox_until_each_take(rt: HostRuntime) -> Result<
 fn a_closed_mailbox_gives_the_next_item(rt: HostRuntime) -> Result<(), Fail> {
     let bell = Bell::new(rt.alloc())?;
     let (mut sender, mut inbox) = mailbox(rt.alloc(), 4, &bell)?;
-    for number in [7_u32, 8, 9] {
-        sender.put(&rt, number);
-    }
+    sender.put(&rt, 7);
+    sender.put(&rt, 8);
+    sender.put(&rt, 9);
     assert_eq!(rt; bell.count(&rt), 3);
     assert_eq!(rt; inbox.take(), Some(7));
     assert_eq!(rt; inbox.close_with(sender).rest, Some(8));
     Ok(())
+}
+
+// Adds an inbox with one number in it, and closes it again. Gives its number and the next item.
+fn add_and_close<R: Wait>(
+    rt: &R,
+    alloc: Global,
+    desk: &mut Desk<u32>,
+    item: u32,
+) -> Result<(u32, Option<u32>), OutOfMemory>
+    requires { length (mails desk.old) < 4294967295 }
+{
+    let (mut sender, inbox) = mailbox(alloc, 1, desk.bell())?;
+    let number = desk.add(inbox)?;
+    sender.put(rt, item);
+    let emptied = desk.close_with(number, sender);
+    Ok((number, emptied.rest))
 }
 
 #[test]
@@ -132,21 +143,18 @@ fn a_desk_takes_in_turn_and_sleeps_until_its_bell_rings(
     assert_eq!(rt; desk.add(inbox)?, 0);
     let (mut second, inbox) = mailbox(alloc, 8, desk.bell())?;
     assert_eq!(rt; desk.add(inbox)?, 1);
-    second.put(&rt, 20);
-    assert_eq!(rt; desk.close_with(1, second).rest, Some(20));
-    let (mut third, inbox) = mailbox(alloc, 8, desk.bell())?;
-    assert_eq!(rt; desk.add(inbox)?, 2);
+    assert_eq!(rt; add_and_close(&rt, alloc, &mut desk, 20)?, (2, Some(20)));
     first.put(&rt, 10);
     first.put(&rt, 11);
-    third.put(&rt, 30);
+    second.put(&rt, 30);
     assert_eq!(rt; desk.take(), Some((0, 10)));
-    assert_eq!(rt; desk.take(), Some((2, 30)));
+    assert_eq!(rt; desk.take(), Some((1, 30)));
     assert_eq!(rt; desk.take(), Some((0, 11)));
     assert_eq!(rt; desk.take(), None);
-    let Ok(putting) = thread::spawn(&rt, move || put_numbers(&rt, third, 1, 1)) else {
+    let Ok(putting) = thread::spawn(&rt, move || put_numbers(&rt, second, 1, 1)) else {
         return Err(OutOfMemory);
     };
-    assert_eq!(rt; desk.wait(&rt), (2, 0));
-    let _third = putting.join(&rt);
+    assert_eq!(rt; desk.wait(&rt), (1, 0));
+    let _second = putting.join(&rt);
     Ok(())
 }
