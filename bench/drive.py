@@ -206,7 +206,7 @@ def measure(_):
     few, many = SIZES
     rows = []
     with tempfile.TemporaryDirectory() as folder:
-        crates = " may_wait=1: xd_drive xd_session xd_laws xd_report xd_load xd_ledger xd_journal xd_edge"
+        crates = " may_wait=1: xd_drive xd_session xd_report_laws xd_laws xd_report xd_load xd_ledger xd_journal xd_edge"
         source = PROGRAM.replace("WORKERS", str(WORKERS))
         program = shared.build(folder, "drive_bench", source, crates, {"begun": ANSWERS})
         best = {}

@@ -10,14 +10,20 @@ use Rattle.xd_journal.specs.declared.entry.Entry.{Entry}
 use Rattle.xd_journal.specs.declared.entry.Entry.TheVariants.{Over}
 use Rattle.xd_ledger.specs.Books.{Books}
 use Rattle.xd_ledger.specs.Ending.{ending, may_close, stop_of}
-use Rattle.xd_ledger.specs.Histories.{end_of}
+use Rattle.xd_ledger.specs.Histories.{begun, end_of, journal_of, stepped_all}
+use Rattle.xd_ledger.specs.Legal.{IsLegal}
 use Rattle.xd_ledger.specs.Proper.{IsProper}
 use Rattle.xd_ledger.specs.Sharing.{State}
+use Rattle.xd_laws.specs.Whole.{IsWhole}
+use Rattle.xd_laws.proofs.Whole.{names-whole}
 use Rattle.xd_report.specs.Text.{run_text, text_of}
+use Rattle.xd_report_laws.proofs.Named.{names-items}
 use Rattle.xd_session.specs.Bounded.{IsBounded}
 use Rattle.xd_session.specs.Ends.{last_stop}
+use Rattle.xd_session.specs.History.{run_of}
 use Rattle.xd_session.specs.Stands.{Seen, StandsFor, state_of}
-use Rattle.xd_drive.specs.Driven.{Broken, Ended, Whole, run_given}
+use Rattle.xd_session.proofs.Steps.{sound-run}
+use Rattle.xd_drive.specs.Driven.{Broken, Ended, IsJournalOf, Whole, run_given}
 use Rattle.xd_drive.specs.Failing.{FailedAt}
 use Rattle.xd_drive.specs.Going.{EndsRun, Scene}
 use Rattle.xd_drive.specs.Performing.{AddsAll, Performs, all_possible, is_call, is_start, kills_of_started}
@@ -91,12 +97,33 @@ broken count s j old mid new p same is stop e kills given sunk =
       },
     )
 
-ends-stand : (stopped : Option ℕ) (s : Seen) (old new : Scene) → EndsRun stopped s old new → (taken : List News) × StandsFor taken s
-ends-stand None s old new e = (taken_of s.settings (e.0), e.1.stands)
-ends-stand (Some count) s old new e = (taken_of s.settings (e.0), e.1.stands)
+-- the journal is a whole one
+whole-by : (failed : Bool) (s : Seen) (j : Journal) (taken : List News) → IsProper s.settings [] → j.settings ≡ s.settings → j.entries.items ≡ s.entries ++ ending failed (state_of s).books
+    → may_close failed (state_of s).books ≡ true → StandsFor taken s → IsWhole j
+whole-by failed s j taken p same is may st =
+    let k = sound-run s.settings taken p in
+    let ins = (run_of s.settings taken).inputs in
+    let behind : state_of s ≡ stepped_all (begun s.settings) ins = state-is s taken p st ∙ k.state in
+    record {
+      inputs = ins;
+      proper = subst (λ (x : Settings). IsProper x ins) (sym same) k.proper;
+      out_failed = failed;
+      may = ap (λ (x : Settings). may_close failed (stepped_all (begun x) ins).books) same ∙ ap (λ (x : State). may_close failed x.books) (sym behind) ∙ may;
+      entries = is ∙ ap (λ (es : List Entry). es ++ ending failed (state_of s).books) (st.entries ∙ k.journal) ∙ ap (λ (x : State). journal_of s.settings ins ++ ending failed x.books) behind
+          ∙ ap (λ (x : Settings). journal_of x ins ++ ending failed (stepped_all (begun x) ins).books) (sym same);
+    }
 
-pub drive-kept : (failed : Bool) (stopped : Option ℕ) (s : Seen) (j : Journal) (old new : Scene) → EndsRun stopped s old new → j.entries.items ≡ s.entries ++ ending failed (state_of s).books → IsBounded j.entries.items
-drive-kept failed stopped s j old new e is = (let st = ends-stand stopped s old new e in subst IsBounded (sym is) (kept-ended failed (st.0) s (st.1)))
+journal-by : (failed : Bool) (s : Seen) (j : Journal) (taken : List News) → IsProper s.settings [] → j.settings ≡ s.settings → j.entries.items ≡ s.entries ++ ending failed (state_of s).books
+    → may_close failed (state_of s).books ≡ true → IsLegal j → StandsFor taken s → IsJournalOf s.settings j
+journal-by failed s j taken p same is may legal st =
+    let w = whole-by failed s j taken p same is may st in
+    record {
+      settings = same;
+      legal = legal;
+      kept = subst IsBounded (sym is) (kept-ended failed taken s st);
+      each = names-whole j w;
+      ids = names-items j w;
+    }
 
 -- in the words of the call
 
@@ -108,6 +135,16 @@ slices n a b es p q =
 module _ (settings : Settings) (s : Seen) (j : Journal) (proper : IsProper settings []) (kept : s.settings ≡ settings) (same : j.settings ≡ s.settings) (stopped : Option ℕ) where
   still : IsProper s.settings []
   still = subst (λ (x : Settings). IsProper x []) (sym kept) proper
+
+  pub drive-journal : (old new : Scene) → ((x : ℕ) → stopped ≡ Some x → ⊥) → j.entries.items ≡ s.entries ++ ending false (state_of s).books → IsLegal j → EndsRun stopped s old new → IsJournalOf settings j
+  drive-journal old new none is legal e =
+      let f = subst (λ (o : Option ℕ). EndsRun o s old new) (none-of stopped none) e in
+      subst (λ (x : Settings). IsJournalOf x j) kept (journal-by false s j (taken_of s.settings (f.0)) still same is f.1.over legal f.1.stands)
+
+  pub drive-journal-broken : (count : ℕ) → stopped ≡ Some count → (old new : Scene) → j.entries.items ≡ s.entries ++ ending true (state_of s).books → IsLegal j → EndsRun stopped s old new → IsJournalOf settings j
+  drive-journal-broken count some old new is legal e =
+      let f = subst (λ (o : Option ℕ). EndsRun o s old new) some e in
+      subst (λ (x : Settings). IsJournalOf x j) kept (journal-by true s j (taken_of s.settings (f.0)) still same is refl legal f.1.stands)
 
   pub drive-whole : (old new : Scene) → ((x : ℕ) → stopped ≡ Some x → ⊥) → j.entries.items ≡ s.entries ++ ending false (state_of s).books → stop_of j ≡ last_stop false (state_of s).books → EndsRun stopped s old new
       → (given : List News) × Whole given j old new

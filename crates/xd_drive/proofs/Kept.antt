@@ -10,6 +10,7 @@ use Rattle.xd_ledger.specs.Meaning.{spent_by}
 use Rattle.xd_session.specs.Bounded.{IsBounded, keeps_few}
 use Rattle.xd_session.specs.Stands.{Seen, StandsFor, state_of}
 use Rattle.xd_session.proofs.Bounds.{bounded-run}
+use Rattle.xd_session.proofs.Lawful.{stands-proper}
 use Rattle.xd_session.proofs.Steps.{spent-append}
 use Rattle.xd_laws.proofs.Logic.{and, differ}
 use Rattle.xd_drive.proofs.Texts.{silent, silent-ending}
@@ -45,4 +46,4 @@ bounded-behind es ys h b =
 pub kept-ended : (failed : Bool) (taken : List News) (s : Seen) → StandsFor taken s → IsBounded (s.entries ++ ending failed (state_of s).books)
 kept-ended failed taken s st =
     bounded-behind s.entries (ending failed (state_of s).books) (silent-ending failed (state_of s).books)
-    (subst IsBounded (sym st.entries) (bounded-run s.settings taken st.can_begin))
+    (subst IsBounded (sym st.entries) (bounded-run s.settings taken (stands-proper taken s st)))

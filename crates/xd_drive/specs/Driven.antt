@@ -5,7 +5,11 @@ use Rattle.xd_journal.specs.declared.settings.Settings.{Settings}
 use Rattle.xd_journal.specs.declared.journal.Journal.{Journal}
 use Rattle.xd_journal.specs.declared.news.News.{News}
 use Rattle.xd_ledger.specs.Ending.{ending, may_close, stop_of}
+use Rattle.xd_ledger.specs.Legal.{IsLegal}
+use Rattle.xd_laws.specs.Whole.{NamesEach}
 use Rattle.xd_report.specs.Text.{text_of}
+use Rattle.xd_report_laws.specs.ItemIds.{NamesItems}
+use Rattle.xd_session.specs.Bounded.{IsBounded}
 use Rattle.xd_session.specs.Ends.{last_stop}
 use Rattle.xd_session.specs.History.{Run, run_of}
 use Rattle.xd_drive.specs.Failing.{FailedAt}
@@ -40,3 +44,13 @@ pub record Broken (count : ℕ) (given : List News) (j : Journal) (old new : Sce
   pub performed : Performs (take count j.entries.items ++ kills_of_started (take count j.entries.items) (drop count j.entries.items)) old.starts new.starts old.calls new.calls
   pub failed : FailedAt j.settings (taken_of j.settings given) count j.entries.items old.sunk new.sunk
   pub shows : PrintedPart (text_of j) old.sunk new.sunk
+
+-- The journal of a run with these settings: it is legal and keeps no more output than it may, its reports name each test that
+-- was collected at most once and nothing else, and each once where the run was completed, and the line of each report and the
+-- block of each failed one give the id of its test.
+pub record IsJournalOf (run : Settings) (j : Journal) : Type 0 where
+  pub settings : j.settings ≡ run
+  pub legal : IsLegal j
+  pub kept : IsBounded j.entries.items
+  pub each : NamesEach j
+  pub ids : NamesItems j

@@ -3,12 +3,10 @@ ghost use Rattle.std.specs.Prelude.{◌≡◌, ◌≤◌, ℕ, List, [], true, f
 ghost use Rattle.xd_edge.specs.Faults.{Rose};
 ghost use Rattle.xd_journal.specs.declared.news.News.{News};
 ghost use Rattle.xd_ledger.specs.Ending.{stop_of};
-ghost use Rattle.xd_ledger.specs.Legal.{IsLegal};
 ghost use Rattle.xd_ledger.specs.Proper.{IsProper};
-ghost use Rattle.xd_session.specs.Bounded.{IsBounded};
 ghost use Rattle.xd_session.specs.Ends.{is_out_fault};
 ghost use Rattle.xd_session.specs.Stands.{StandsFor};
-ghost use Rattle.xd_drive.specs.Driven.{Broken, Whole};
+ghost use Rattle.xd_drive.specs.Driven.{Broken, IsJournalOf, Whole};
 ghost use Rattle.xd_drive.specs.Going.{EndsRun, EndsTail, IsFresh};
 
 use crate::Hub;
@@ -78,14 +76,16 @@ fn run<R: Wait, M: Mode, H: Hub, O: Sink>(
 }
 
 /// Runs a session to its end: starts its workers, steps it with the news of active workers, performs what its journal asks
-/// for, and prints the lines of each entry before the entry is performed, then the tail. Gives the journal with its end.
+/// for, and prints the lines of each entry before the entry is performed, then the tail. Gives the journal.
 ///
 /// The journal ends with `OutFault` exactly where not all of the report could be printed, handed on and closed. The count
 /// of faults of the output rose in this call then, and is as before else. The lines of all that was performed were handed
 /// on by then, and nothing more was performed but the kills of the workers that were started. Else the journal ends with
 /// the first stop of the run, or with `Completed` where there was none.
 ///
-/// The journal keeps at most 8,192 bytes of the output of a test, and at most 67,108,864 bytes of all output.
+/// The journal is a legal one of the session's settings, with its end. It keeps at most 8,192 bytes of the output of a test, and
+/// at most 67,108,864 bytes of all output. Its reports name each collected test at most once and nothing else, and each once
+/// where the run was completed; the line of each report and the block of each failed one give the id of its test.
 ///
 /// Where memory is refused it returns as it stands: the workers that the hub started are left to the hub's owner to end.
 pub fn drive<R: Wait, M: Mode, H: Hub, O: Sink>(
@@ -98,8 +98,7 @@ pub fn drive<R: Wait, M: Mode, H: Hub, O: Sink>(
     requires begins { StandsFor [] session }
     requires slots { session.settings.workers ≤ H.slots hub.old }
     requires fresh { IsFresh (H.marks hub.old) }
-    ensures settings { IfOk result (λ j. j.settings ≡ session.settings) }
-    ensures legal { IfOk result IsLegal }
+    ensures journal { IfOk result (IsJournalOf session.settings) }
     ensures whole { IfOk result (λ j. is_out_fault (stop_of j) ≡ false → (given : List News) × Whole given j
         (record { marks = H.marks hub.old; starts = H.starts hub.old; calls = H.calls hub.old; given = H.given hub.old; sunk = O.sunk out.old })
         (record { marks = H.marks hub.new; starts = H.starts hub.new; calls = H.calls hub.new; given = H.given hub.new; sunk = O.sunk out.new })) }
@@ -109,7 +108,6 @@ pub fn drive<R: Wait, M: Mode, H: Hub, O: Sink>(
     ensures out_fault { IfOk result (λ j. is_out_fault (stop_of j) ≡ true → Rose (O.faults out.old) (O.faults out.new)) }
     ensures still { IfOk result (λ j. is_out_fault (stop_of j) ≡ false → O.faults out.new ≡ O.faults out.old) }
     ensures later { O.faults out.old ≤ O.faults out.new }
-    ensures kept { IfOk result (λ j. IsBounded j.entries.items) }
 {
     let stopped = run(rt, alloc, &mut session, hub, out)?;
     let Some(done) = stopped else {

@@ -34,7 +34,7 @@ fold-plus a (x ∷ xs) =
     let q : fold ◌+◌ (0 + x) xs ≡ (0 + x) + fold ◌+◌ 0 xs = fold-plus (0 + x) xs in
     p ∙ omega (arith, q)
 
-sum-more : (x : ℕ) (xs : List ℕ) → sum (x ∷ xs) ≡ x + sum xs
+pub sum-more : (x : ℕ) (xs : List ℕ) → sum (x ∷ xs) ≡ x + sum xs
 sum-more x xs = fold-plus (0 + x) xs ∙ omega arith
 
 none-of_none : (n : ℕ) → sum (take n []) ≡ 0

@@ -2,6 +2,7 @@ pub mod Logic
 pub mod Counts
 pub mod Rota
 pub mod Places
+pub mod Crashes
 pub mod Crew
 pub mod Fits
 pub mod Placed

@@ -46,7 +46,7 @@ listed-new : (k : ℕ) (l : Listed) (ls : List Listed) → (l.slot == k) ≡ tru
 listed-new k l [] h = rw h
 listed-new k l (x ∷ ls) h = elim (x.slot == k) as (λ b. is_some (if b then Some x else listed_in k (ls ++ l ∷ [])) ≡ true) [ true ↦ refl | false ↦ listed-new k l ls h ]
 
-listed-kept : (k : ℕ) (o : Option Listed) (l : Listed) (ls : List Listed) → is_some (listed_in k ls) ≡ true → listed_in k (lists_with o l ls) ≡ listed_in k ls
+pub listed-kept : (k : ℕ) (o : Option Listed) (l : Listed) (ls : List Listed) → is_some (listed_in k ls) ≡ true → listed_in k (lists_with o l ls) ≡ listed_in k ls
 listed-kept k None l ls h = listed-more k l ls h
 listed-kept k (Some first) l ls h = refl
 

@@ -48,7 +48,7 @@ end-reports s true b = kills-report s (filter (λ m. m.active) b.crew) (Over Out
 end-reports s false b = refl
 
 module _ (j : Journal) (w : IsWhole j) where
-  state-whole : state_at j.settings j.entries.items ≡ stepped_all (begun j.settings) w.inputs
+  pub state-whole : state_at j.settings j.entries.items ≡ stepped_all (begun j.settings) w.inputs
   state-whole =
       let es = journal_of j.settings w.inputs in
       let b = (stepped_all (begun j.settings) w.inputs).books in

@@ -1,15 +1,19 @@
 -- Small journals that the laws of whole journals speak of, and others that they rule out.
 use Rattle.std.specs.Prelude.{◌≡◌, ℕ, List, [], ◌∷◌, ◌++◌, true, false, Some, None, map, pos}
 use Rattle.std.proofs.Common.{refl, arith, length, ap, sym, ◌∙◌, ◌<◌, subst, take}
+use Rattle.std.specs.List.{list_any}
 use Rattle.xd_journal.specs.declared.settings.Settings.{Settings}
 use Rattle.xd_journal.specs.declared.journal.Journal.{Journal}
+use Rattle.xd_journal.specs.declared.entry.Cause.{Cause}
+use Rattle.xd_journal.specs.declared.entry.Cause.TheVariants.{Ended}
 use Rattle.xd_journal.specs.declared.entry.Ids.TheVariants as ids
 use Rattle.xd_journal.specs.declared.entry.Outcome.TheVariants.{Failed, Passed}
 use Rattle.xd_journal.specs.declared.entry.RunStop.{RunStop}
 use Rattle.xd_journal.specs.declared.entry.RunStop.TheVariants.{Completed, MaxFail, OutFault}
 use Rattle.xd_journal.specs.declared.entry.Entry.{Entry}
-use Rattle.xd_journal.specs.declared.entry.Entry.TheVariants.{Ready, Collected, Done, Start, Over}
-use Rattle.xd_ledger.specs.Numbers.{times}
+use Rattle.xd_journal.specs.declared.entry.Entry.TheVariants.{Ready, Collected, Done, Down, Start, Run, Kill, Over}
+use Rattle.xd_ledger.specs.Numbers.{first_of, times}
+use Rattle.xd_ledger.specs.Table.{held}
 use Rattle.xd_ledger.specs.Sharing.{State, in_books}
 use Rattle.xd_ledger.specs.Histories.{begun, is_over, journal_of, stepped_all}
 use Rattle.xd_ledger.specs.Ending.{ending, stop_in, stop_of}
@@ -18,10 +22,11 @@ use Rattle.xd_ledger.specs.Plan.{total}
 use Rattle.xd_ledger.specs.Proper.{IsProper}
 use Rattle.xd_ledger.specs.Reports.{Report, Result, item_of, reports, reports_in}
 use Rattle.xd_laws.specs.Collected.{IsShared, collected}
+use Rattle.xd_laws.specs.Crashes.{IsDeath}
 use Rattle.xd_laws.specs.Places.{HeldBy, InPool, Reported, StandsAt, place_by}
-use Rattle.xd_laws.specs.Stopped.{Brings, StopsBy}
+use Rattle.xd_laws.specs.Stopped.{Brings, StopsBy, is_death}
 use Rattle.xd_laws.specs.Whole.{EndsRightly, IsWhole, NamesEach, tests_in}
-use Rattle.xd_laws.proofs.Logic.{differ}
+use Rattle.xd_laws.proofs.Logic.{differ, or-right}
 use Rattle.xd_laws.proofs.Laws.{no_early}
 use Rattle.xd_laws.proofs.Rows.{a_death, a_death-proper, ended, three}
 
@@ -128,3 +133,27 @@ a_share-pool = refl
 -- the head of a worker that died is in the pool again
 crashed_in_pool : StandsAt ended.books.table 0 (Some InPool) → ⊥
 crashed_in_pool h = differ h
+
+-- a crash names the test at whose head its worker went down
+
+-- both workers have collected, and worker 0 has tests 0 and 2
+abbrev dealt : List Entry
+dealt = Start 0 0 ∷ Start 1 1 ∷ Ready 0 ∷ Collected 0 (ids.List ((97 ∷ []) ∷ (98 ∷ []) ∷ (99 ∷ []) ∷ [])) ∷ Ready 1 ∷ Collected 1 ids.Same ∷ Run 0 (0 ∷ []) ∷ Run 1 (1 ∷ []) ∷ Run 0 (2 ∷ []) ∷ []
+
+abbrev crashed : List Entry
+crashed = dealt ++ Down 0 Ended [] ∷ Kill 0 ∷ []
+
+crashed-head : IsDeath three crashed [] 0 0
+crashed-head = record { before = dealt; cause = Ended; output = []; after = Kill 0 ∷ []; are = refl; head = refl; reported = refl }
+
+-- it stands for the test behind the head
+crash_behind_head : first_of (held 0 (state_at three dealt).books.table) ≡ Some 2 → ⊥
+crash_behind_head h = absurd cc
+
+dies-told : (before after : List Entry) (w : ℕ) (c : Cause) (o : List ℕ) → list_any is_death (before ++ Down w c o ∷ after) ≡ true
+dies-told [] after w c o = refl
+dies-told (e ∷ before) after w c o = or-right (is_death e) (list_any is_death (before ++ Down w c o ∷ after)) (dies-told before after w c o)
+
+-- a crash is reported of a worker, and none went down
+crash_without_death : IsDeath three dealt [] 0 0 → ⊥
+crash_without_death d = differ (ap (list_any is_death) d.are ∙ dies-told d.before d.after 0 d.cause d.output)

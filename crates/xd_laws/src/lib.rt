@@ -1,7 +1,7 @@
 //! Laws over whole runs, in the words of the definitions of a run.
 #![tactic(auto)]
 
-ghost use Rattle.std.specs.Prelude.{◌≡◌, ◌++◌, ℕ, List, [], true, false};
+ghost use Rattle.std.specs.Prelude.{◌≡◌, ◌++◌, ◌∷◌, ℕ, List, [], true, false};
 ghost use Rattle.xd_journal.specs.declared.settings.Settings.{Settings};
 ghost use Rattle.xd_journal.specs.declared.entry.Entry.{Entry};
 ghost use Rattle.xd_journal.specs.declared.journal.Journal.{Journal};
@@ -10,8 +10,9 @@ ghost use Rattle.xd_ledger.specs.State.{state_at};
 ghost use Rattle.xd_ledger.specs.Stops.{is_stopped};
 ghost use Rattle.xd_ledger.specs.Proper.{IsProper};
 ghost use Rattle.xd_ledger.specs.Orderly.{is_orderly_run};
-ghost use Rattle.xd_ledger.specs.Reports.{reports};
+ghost use Rattle.xd_ledger.specs.Reports.{Report, Crash, reports};
 ghost use Rattle.xd_laws.specs.Collected.{IsShared};
+ghost use Rattle.xd_laws.specs.Crashes.{IsDeath};
 ghost use Rattle.xd_laws.specs.Early.{has_collection};
 ghost use Rattle.xd_laws.specs.Places.{StandsAt, place_by};
 ghost use Rattle.xd_laws.specs.Once.{IsOnce};
@@ -63,4 +64,10 @@ pub fn early_law()
 /// nowhere where none did.
 pub fn place_law()
     ensures { (settings : Settings) (inputs : List Entry) → IsProper settings inputs → (before : List Entry) (after : List Entry) → journal_of settings inputs ≡ before ++ after → (item : ℕ) → StandsAt (state_at settings before).books.table item (place_by settings before item) }
+{}
+
+/// In every journal each crash among the reports is the entry by which its worker went down, behind the entries of the reports
+/// ahead of it, and its test was the first that the worker held there.
+pub fn crash_law()
+    ensures { (settings : Settings) (es : List Entry) (earlier : List Report) (later : List Report) (worker : ℕ) (item : ℕ) → reports settings es ≡ earlier ++ Crash worker item ∷ later → IsDeath settings es earlier worker item }
 {}

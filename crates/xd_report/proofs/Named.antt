@@ -1,6 +1,6 @@
 -- The line of each report, and the block of each failed one, gives the id of its test.
 use Rattle.std.proofs.Common.{◌≡◌, ℕ, ◌+◌, ◌-◌, Bool, true, false, List, [], ◌∷◌, ◌++◌, filter, map, take, Option, Some, None, if◌then◌else◌, refl, sym, ◌∙◌, ap, subst, arith, append-nil, append_assoc}
-use Rattle.std.specs.Prelude.{slice_index_or, sum}
+use Rattle.std.specs.Prelude.{ℤ, slice_index_or, sum}
 use Rattle.xd_edge.specs.declared.mode.ModeKind.{ModeKind}
 use Rattle.xd_journal.specs.declared.entry.Entry.{Entry}
 use Rattle.xd_journal.specs.declared.entry.Entry.TheVariants.{Ready, Collected, Done, Back, Finished, Refused, Down, NotStarted, Start, Run, RunAll, Steal, Shutdown, Kill, Over}
@@ -13,7 +13,7 @@ use Rattle.xd_ledger.specs.declared.member.Listed.{Listed}
 use Rattle.xd_ledger.specs.Books.{marked, on_table}
 use Rattle.xd_ledger.specs.Collections.{ids_of, key, listed, listed_in, lists_with, unequal, with_list}
 use Rattle.xd_ledger.specs.Numbers.{first_of}
-use Rattle.xd_ledger.specs.Plan.{base, is_each}
+use Rattle.xd_ledger.specs.Plan.{Plan, base, is_each, items_named}
 use Rattle.xd_ledger.specs.Reports.{Report, Result, Crash, reports, reports_from, reports_of}
 use Rattle.xd_ledger.specs.Sharing.{State, ids_at, in_books, is_full, shared_now}
 use Rattle.xd_ledger.specs.State.{after_collected, all_moved, collecting, is_input, moved, next, no_one, reached, settled}
@@ -63,10 +63,10 @@ replacing_named : (name : Report → List ℕ) (mode : ModeKind) (old : Option �
 replacing_named name mode None = none name mode
 replacing_named name mode (Some old) = other name mode (Replaces old) refl tt
 
-crash_named : (name : Report → List ℕ) (mode : ModeKind) (w : ℕ) (id : ℕ → List ℕ) (h : List ℕ) → ((item : ℕ) → id item ≡ name (Crash w item))
+crash_named : (name : Report → List ℕ) (mode : ModeKind) (w : ℕ) (id : ℕ → List ℕ) (h : List ℕ) → ((item : ℕ) → first_of h ≡ Some item → id item ≡ name (Crash w item))
     → HasNamedLineEach name mode (elim (first_of h) [ None ↦ [] | Some item ↦ crashed_line mode w (id item) ]) (map (λ item. Crash w item) (take 1 h))
 crash_named name mode w id [] right = none name mode
-crash_named name mode w id (x ∷ xs) right = one name mode (Crash w x) (id x) (right x)
+crash_named name mode w id (x ∷ xs) right = one name mode (Crash w x) (id x) (right x refl)
 
 -- lines that are of no report
 unnamed : (name : Report → List ℕ) (ls : List Line) → reports_told ls ≡ [] → Names name ls
@@ -75,6 +75,65 @@ unnamed name (Of report id ∷ ls) e = absurd (cc)
 unnamed name (Tests k workers ∷ ls) e = unnamed name ls e
 unnamed name (NodeDown w why ∷ ls) e = unnamed name ls e
 unnamed name (Replaces old ∷ ls) e = unnamed name ls e
+
+-- an entry that is reached here gives its test the id that it has by these names
+abbrev pub Right : (Report → List ℕ) → State → Entry → Type 0
+Right name s (Done w i outcome ms out) = (item : ℕ) → items_named (slot_of w s.books) (i ∷ []) s.plan ≡ item ∷ [] → id_of w i s ≡ name (Result w item outcome)
+Right name s (Down w cause out) = (item : ℕ) → first_of (held w s.books.table) ≡ Some item → item_id w item s ≡ name (Crash w item)
+Right name s _ = Unit {0}
+
+-- each of these entries does
+abbrev pub AllRight : (Report → List ℕ) → State → List Entry → Type 0
+AllRight name s [] = Unit {0}
+AllRight name s (e ∷ es) = Right name (reached s e) e × AllRight name (next s e) es
+
+one-item : (slot i : ℕ) (p : Plan) → (item : ℕ) × (items_named slot (i ∷ []) p ≡ item ∷ [])
+one-item slot i p = by (is_each p.mode)
+  where
+    by : (b : Bool) → (item : ℕ) × ((if b then map (λ x. base slot p + x) (i ∷ []) else (i ∷ [])) ≡ item ∷ [])
+    by true = (base slot p + i, refl)
+    by false = (i, refl)
+
+reached-settings : (b : Bool) (s : State) → (if b then settled s else s).books.settings ≡ s.books.settings
+reached-settings true s = refl
+reached-settings false s = refl
+
+module _ (name : Report → List ℕ) where
+  done-named : (s : State) (w i : ℕ) (outcome : Outcome) (ms : ℕ) (out : List ℕ) → Right name s (Done w i outcome ms out)
+      → HasNamedLineEach name (mode_of s) (lines_of s (Done w i outcome ms out)) (reports_of s (Done w i outcome ms out))
+  done-named s w i outcome ms out right =
+      let item = one-item (slot_of w s.books) i s.plan in
+      subst (λ (items : List ℕ). HasNamedLineEach name (mode_of s) (lines_of s (Done w i outcome ms out)) (map (λ x. Result w x outcome) items)) (sym item.1)
+      (one name (mode_of s) (Result w (item.0) outcome) (id_of w i s) (right (item.0) item.1))
+
+  entry_named : (s : State) (e : Entry) → Right name s e → HasNamedLineEach name (mode_of s) (lines_of s e) (reports_of s e)
+  entry_named s (Collected w given) right =
+      let t = after_collected w given s in
+      subst (λ (k : Settings). HasNamedLineEach name k.mode (collected_line s.books.shared t) []) (collected-settings w given s) (perhaps name (mode_of t) _ (tests t) t.books.settings.workers)
+  entry_named s (Done w i outcome ms out) right = done-named s w i outcome ms out right
+  entry_named s (Down w cause out) right =
+      both name (mode_of s) _ _ [] _ (other name (mode_of s) (NodeDown w (Some cause)) refl tt) (crash_named name (mode_of s) w (λ item. item_id w item s) (held w s.books.table) right)
+  entry_named s (NotStarted w) right = other name (mode_of s) (NodeDown w None) refl tt
+  entry_named s (Start w slot) right = replacing_named name (mode_of s) (last_of_slot slot s.books.crew None)
+  entry_named s (Ready w) right = none name (mode_of s)
+  entry_named s (Back w is) right = none name (mode_of s)
+  entry_named s (Finished w) right = none name (mode_of s)
+  entry_named s (Refused w text) right = none name (mode_of s)
+  entry_named s (Run w is) right = none name (mode_of s)
+  entry_named s (RunAll w) right = none name (mode_of s)
+  entry_named s (Steal w is) right = none name (mode_of s)
+  entry_named s (Shutdown w) right = none name (mode_of s)
+  entry_named s (Kill w) right = none name (mode_of s)
+  entry_named s (Over how) right = none name (mode_of s)
+
+  -- entries that all do have their lines, each with the id
+  pub lines-by : (settings : Settings) (s : State) (es : List Entry) → s.books.settings ≡ settings → AllRight name s es → HasNamedLineEach name settings.mode (lines_from s es) (reports_from s es)
+  lines-by settings s [] set right = none name settings.mode
+  lines-by settings s (e ∷ es) set right =
+      let t = reached s e in
+      both name settings.mode (lines_of t e) (lines_from (next s e) es) (reports_of t e) (reports_from (next s e) es)
+      (subst (λ (k : Settings). HasNamedLineEach name k.mode (lines_of t e) (reports_of t e)) (reached-settings (is_input e) s ∙ set) (entry_named t e right.0))
+      (lines-by settings (next s e) es (next-settings s e ∙ set) right.1)
 
 -- a run whose first collection this is, in no mode each
 record Listing (settings : Settings) (first : Listed) (s : State) : Type 0 where
@@ -145,44 +204,32 @@ module _ (settings : Settings) (first : Listed) (one_list : is_each settings.mod
       ap (λ (b : Bool). item - (if b then sum (take (slot_of w s.books) s.plan.sizes) else 0)) (no-base s l) ∙ omega arith in
       ap (λ (i : ℕ). id_of w i s) at ∙ id-right w item s l
 
-  done-one : (w i : ℕ) (outcome : Outcome) (ms : ℕ) (out : List ℕ) (s : State) → Listing settings first s → reports_of s (Done w i outcome ms out) ≡ Result w i outcome ∷ []
-  done-one w i outcome ms out s l =
-      ap (λ (b : Bool). map (λ item. Result w item outcome) (if b then map (λ x. base (slot_of w s.books) s.plan + x) (i ∷ []) else (i ∷ []))) (no-base s l)
+  abbrev in_first : Report → List ℕ
+  in_first = id_in first.ids
 
-  abbrev name : Report → List ℕ
-  name = id_in first.ids
+  entry-right : (s : State) (e : Entry) → Listing settings first s → Right in_first s e
+  entry-right s (Done w i outcome ms out) l = λ item is.
+      (let same : i ∷ [] ≡ item ∷ [] = sym (ap (λ (b : Bool). if b then map (λ x. base (slot_of w s.books) s.plan + x) (i ∷ []) else (i ∷ [])) (no-base s l)) ∙ is in
+      let at : i ≡ item = cc in
+      id-right w i s l ∙ ap (λ (k : ℕ). slice_index_or first.ids k []) at)
+  entry-right s (Down w cause out) l = λ item is. item-right w item s l
+  entry-right s (Collected w given) l = tt
+  entry-right s (NotStarted w) l = tt
+  entry-right s (Start w slot) l = tt
+  entry-right s (Ready w) l = tt
+  entry-right s (Back w is) l = tt
+  entry-right s (Finished w) l = tt
+  entry-right s (Refused w text) l = tt
+  entry-right s (Run w is) l = tt
+  entry-right s (RunAll w) l = tt
+  entry-right s (Steal w is) l = tt
+  entry-right s (Shutdown w) l = tt
+  entry-right s (Kill w) l = tt
+  entry-right s (Over how) l = tt
 
-  entry_named : (s : State) (e : Entry) → Listing settings first s → HasNamedLineEach name (mode_of s) (lines_of s e) (reports_of s e)
-  entry_named s (Collected w given) l =
-      let t = after_collected w given s in
-      subst (λ (k : Settings). HasNamedLineEach name k.mode (collected_line s.books.shared t) []) (collected-settings w given s) (perhaps name (mode_of t) _ (tests t) t.books.settings.workers)
-  entry_named s (Done w i outcome ms out) l =
-      subst (λ (rs : List Report). HasNamedLineEach name (mode_of s) (lines_of s (Done w i outcome ms out)) rs) (sym (done-one w i outcome ms out s l))
-      (one name (mode_of s) (Result w i outcome) (id_of w i s) (id-right w i s l))
-  entry_named s (Down w cause out) l =
-      both name (mode_of s) _ _ [] _ (other name (mode_of s) (NodeDown w (Some cause)) refl tt)
-      (crash_named name (mode_of s) w (λ item. item_id w item s) (held w s.books.table) (λ item. item-right w item s l))
-  entry_named s (NotStarted w) l = other name (mode_of s) (NodeDown w None) refl tt
-  entry_named s (Start w slot) l = replacing_named name (mode_of s) (last_of_slot slot s.books.crew None)
-  entry_named s (Ready w) l = none name (mode_of s)
-  entry_named s (Back w is) l = none name (mode_of s)
-  entry_named s (Finished w) l = none name (mode_of s)
-  entry_named s (Refused w text) l = none name (mode_of s)
-  entry_named s (Run w is) l = none name (mode_of s)
-  entry_named s (RunAll w) l = none name (mode_of s)
-  entry_named s (Steal w is) l = none name (mode_of s)
-  entry_named s (Shutdown w) l = none name (mode_of s)
-  entry_named s (Kill w) l = none name (mode_of s)
-  entry_named s (Over how) l = none name (mode_of s)
-
-  all_named : (s : State) (es : List Entry) → Listing settings first s → HasNamedLineEach name settings.mode (lines_from s es) (reports_from s es)
-  all_named s [] l = none name settings.mode
-  all_named s (e ∷ es) l =
-      let t = reached s e in
-      let there = settles s e l in
-      both name settings.mode (lines_of t e) (lines_from (next s e) es) (reports_of t e) (reports_from (next s e) es)
-      (subst (λ (k : Settings). HasNamedLineEach name k.mode (lines_of t e) (reports_of t e)) there.set (entry_named t e there))
-      (all_named (next s e) es (moves t e there))
+  all-right : (s : State) (es : List Entry) → Listing settings first s → AllRight in_first s es
+  all-right s [] l = tt
+  all-right s (e ∷ es) l = (let there = settles s e l in (entry-right (reached s e) e there, all-right (next s e) es (moves (reached s e) e there)))
 
 -- blocks
 
@@ -210,47 +257,52 @@ one_block name mode report id output fails right = record {
   names = (right, tt);
 }
 
-crash_block : (name : Report → List ℕ) (mode : ModeKind) (w : ℕ) (id : ℕ → List ℕ) (output h : List ℕ) → ((item : ℕ) → id item ≡ name (Crash w item))
+crash_block : (name : Report → List ℕ) (mode : ModeKind) (w : ℕ) (id : ℕ → List ℕ) (output h : List ℕ) → ((item : ℕ) → first_of h ≡ Some item → id item ≡ name (Crash w item))
     → HasNamedBlockEach name mode (elim (first_of h) [ None ↦ [] | Some item ↦ block mode w (id item) (crash_reason mode w (id item)) output ]) (map (λ item. Crash w item) (take 1 h)) (map (λ _. output) (take 1 h))
 crash_block name mode w id output [] right = no_block name mode [] refl
-crash_block name mode w id output (x ∷ xs) right = one_block name mode (Crash w x) (id x) output refl (right x)
+crash_block name mode w id output (x ∷ xs) right = one_block name mode (Crash w x) (id x) output refl (right x refl)
 
-module _ (settings : Settings) (first : Listed) (one_list : is_each settings.mode ≡ false) where
-  abbrev name_in : Report → List ℕ
-  name_in = id_in first.ids
+module _ (name : Report → List ℕ) where
+  quiet-block : (s : State) (w i : ℕ) (outcome : Outcome) → ((item : ℕ) → is_failure (Result w item outcome) ≡ false)
+      → HasNamedBlockEach name (mode_of s) [] (map (λ x. Result w x outcome) (items_named (slot_of w s.books) (i ∷ []) s.plan)) []
+  quiet-block s w i outcome passes =
+      let item = one-item (slot_of w s.books) i s.plan in
+      no_block name (mode_of s) _ (ap (λ (items : List ℕ). filter is_failure (map (λ x. Result w x outcome) items)) item.1 ∙ ap (λ (b : Bool). if b then Result w (item.0) outcome ∷ [] else []) (passes (item.0)))
 
-  entry_block : (s : State) (e : Entry) → Listing settings first s → HasNamedBlockEach name_in (mode_of s) (block_of s e) (reports_of s e) (outputs_of s e)
-  entry_block s (Done w i Passed ms out) l =
-      no_block name_in (mode_of s) (reports_of s (Done w i Passed ms out)) (ap (filter is_failure) (done-one settings first one_list w i Passed ms out s l))
-  entry_block s (Done w i Skipped ms out) l =
-      no_block name_in (mode_of s) (reports_of s (Done w i Skipped ms out)) (ap (filter is_failure) (done-one settings first one_list w i Skipped ms out s l))
-  entry_block s (Done w i (Failed code) ms out) l =
-      subst (λ (rs : List Report). HasNamedBlockEach name_in (mode_of s) (block_of s (Done w i (Failed code) ms out)) rs (out ∷ [])) (sym (done-one settings first one_list w i (Failed code) ms out s l))
-      (one_block name_in (mode_of s) (Result w i (Failed code)) (id_of w i s) out refl (id-right settings first one_list w i s l))
-  entry_block s (Down w cause out) l =
-      crash_block name_in (mode_of s) w (λ item. item_id w item s) out (held w s.books.table) (λ item. item-right settings first one_list w item s l)
-  entry_block s (Collected w given) l = no_block name_in (mode_of s) [] refl
-  entry_block s (NotStarted w) l = no_block name_in (mode_of s) [] refl
-  entry_block s (Start w slot) l = no_block name_in (mode_of s) [] refl
-  entry_block s (Ready w) l = no_block name_in (mode_of s) [] refl
-  entry_block s (Back w is) l = no_block name_in (mode_of s) [] refl
-  entry_block s (Finished w) l = no_block name_in (mode_of s) [] refl
-  entry_block s (Refused w text) l = no_block name_in (mode_of s) [] refl
-  entry_block s (Run w is) l = no_block name_in (mode_of s) [] refl
-  entry_block s (RunAll w) l = no_block name_in (mode_of s) [] refl
-  entry_block s (Steal w is) l = no_block name_in (mode_of s) [] refl
-  entry_block s (Shutdown w) l = no_block name_in (mode_of s) [] refl
-  entry_block s (Kill w) l = no_block name_in (mode_of s) [] refl
-  entry_block s (Over how) l = no_block name_in (mode_of s) [] refl
+  failed-block : (s : State) (w i : ℕ) (code : ℤ) (ms : ℕ) (out : List ℕ) → Right name s (Done w i (Failed code) ms out)
+      → HasNamedBlockEach name (mode_of s) (block_of s (Done w i (Failed code) ms out)) (reports_of s (Done w i (Failed code) ms out)) (out ∷ [])
+  failed-block s w i code ms out right =
+      let item = one-item (slot_of w s.books) i s.plan in
+      subst (λ (items : List ℕ). HasNamedBlockEach name (mode_of s) (block_of s (Done w i (Failed code) ms out)) (map (λ x. Result w x (Failed code)) items) (out ∷ [])) (sym item.1)
+      (one_block name (mode_of s) (Result w (item.0) (Failed code)) (id_of w i s) out refl (right (item.0) item.1))
 
-  all_blocks_named : (s : State) (es : List Entry) → Listing settings first s → HasNamedBlockEach name_in settings.mode (blocks_from s es) (reports_from s es) (outputs_from s es)
-  all_blocks_named s [] l = no_block name_in settings.mode [] refl
-  all_blocks_named s (e ∷ es) l =
+  entry_block : (s : State) (e : Entry) → Right name s e → HasNamedBlockEach name (mode_of s) (block_of s e) (reports_of s e) (outputs_of s e)
+  entry_block s (Done w i Passed ms out) right = quiet-block s w i Passed (λ item. refl)
+  entry_block s (Done w i Skipped ms out) right = quiet-block s w i Skipped (λ item. refl)
+  entry_block s (Done w i (Failed code) ms out) right = failed-block s w i code ms out right
+  entry_block s (Down w cause out) right = crash_block name (mode_of s) w (λ item. item_id w item s) out (held w s.books.table) right
+  entry_block s (Collected w given) right = no_block name (mode_of s) [] refl
+  entry_block s (NotStarted w) right = no_block name (mode_of s) [] refl
+  entry_block s (Start w slot) right = no_block name (mode_of s) [] refl
+  entry_block s (Ready w) right = no_block name (mode_of s) [] refl
+  entry_block s (Back w is) right = no_block name (mode_of s) [] refl
+  entry_block s (Finished w) right = no_block name (mode_of s) [] refl
+  entry_block s (Refused w text) right = no_block name (mode_of s) [] refl
+  entry_block s (Run w is) right = no_block name (mode_of s) [] refl
+  entry_block s (RunAll w) right = no_block name (mode_of s) [] refl
+  entry_block s (Steal w is) right = no_block name (mode_of s) [] refl
+  entry_block s (Shutdown w) right = no_block name (mode_of s) [] refl
+  entry_block s (Kill w) right = no_block name (mode_of s) [] refl
+  entry_block s (Over how) right = no_block name (mode_of s) [] refl
+
+  -- entries that all give the ids have their blocks, each with the id
+  pub blocks-by : (settings : Settings) (s : State) (es : List Entry) → s.books.settings ≡ settings → AllRight name s es → HasNamedBlockEach name settings.mode (blocks_from s es) (reports_from s es) (outputs_from s es)
+  blocks-by settings s [] set right = no_block name settings.mode [] refl
+  blocks-by settings s (e ∷ es) set right =
       let t = reached s e in
-      let there = settles settings first one_list s e l in
-      both_blocks name_in settings.mode (block_of t e) (blocks_from (next s e) es) (reports_of t e) (reports_from (next s e) es) (outputs_of t e) (outputs_from (next s e) es)
-      (subst (λ (k : Settings). HasNamedBlockEach name_in k.mode (block_of t e) (reports_of t e) (outputs_of t e)) there.set (entry_block t e there))
-      (all_blocks_named (next s e) es (moves settings first one_list t e there))
+      both_blocks name settings.mode (block_of t e) (blocks_from (next s e) es) (reports_of t e) (reports_from (next s e) es) (outputs_of t e) (outputs_from (next s e) es)
+      (subst (λ (k : Settings). HasNamedBlockEach name k.mode (block_of t e) (reports_of t e) (outputs_of t e)) (reached-settings (is_input e) s ∙ set) (entry_block t e right.0))
+      (blocks-by settings (next s e) es (next-settings s e ∙ set) right.1)
 
 -- where no report is, no block is
 no-names : (name : Report → List ℕ) (bs : List Block) → map (λ b. b.report) bs ≡ [] → NamesBlocks name bs
@@ -324,7 +376,7 @@ lines-named settings before more first one_list no_report first_is =
     let ahead = all_lines (no_one settings) before in
     let x : HasNamedLineEach (id_in first.ids) settings.mode (run_lines settings before) (reports settings before) =
     record { each = ahead; names = unnamed (id_in first.ids) ahead.lines (ahead.each_once ∙ no_report) } in
-    let y = all_named settings first one_list s more l in
+    let y = lines-by (id_in first.ids) settings s more l.set (all-right settings first one_list s more l) in
     let joined_up = both (id_in first.ids) settings.mode (run_lines settings before) (lines_from s more) (reports settings before) (reports_from s more) x y in
     subst (λ (text : List ℕ). HasNamedLineEach (id_in first.ids) settings.mode text (reports settings (before ++ more))) (sym (lines-more (no_one settings) before more))
     (subst (λ (rs : List Report). HasNamedLineEach (id_in first.ids) settings.mode (run_lines settings before ++ lines_from s more) rs) (sym (reports-more (no_one settings) before more)) joined_up)
@@ -338,7 +390,7 @@ blocks-named settings before more first one_list no_report first_is =
     let ahead = all_blocks (no_one settings) before in
     let x : HasNamedBlockEach (id_in first.ids) settings.mode (blocks_from (no_one settings) before) (reports settings before) (kept_outputs settings before) =
     record { each = ahead; names = no-names (id_in first.ids) ahead.blocks (ahead.each_once ∙ ap (filter is_failure) no_report) } in
-    let y = all_blocks_named settings first one_list s more l in
+    let y = blocks-by (id_in first.ids) settings s more l.set (all-right settings first one_list s more l) in
     let joined_up = both_blocks (id_in first.ids) settings.mode (blocks_from (no_one settings) before) (blocks_from s more) (reports settings before) (reports_from s more) (kept_outputs settings before) (outputs_from s more) x y in
     subst (λ (text : List ℕ). HasNamedBlockEach (id_in first.ids) settings.mode text (reports settings (before ++ more)) (kept_outputs settings (before ++ more))) (sym (blocks-more (no_one settings) before more))
     (subst (λ (rs : List Report). HasNamedBlockEach (id_in first.ids) settings.mode (blocks_from (no_one settings) before ++ blocks_from s more) rs (kept_outputs settings (before ++ more))) (sym (reports-more (no_one settings) before more))

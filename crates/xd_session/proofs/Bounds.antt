@@ -4,7 +4,6 @@ use Rattle.std.specs.Prelude.{if◌then◌else◌, fold, nat_le, Option, Some, N
 use Rattle.std.specs.List.{list_all}
 use Rattle.std.proofs.lemmas.Bool.Decides.{nat_tests}
 use Rattle.std.proofs.lemmas.List.{length-take}
-use Rattle.xd_edge.specs.declared.mode.ModeKind.TheVariants.{Load}
 use Rattle.xd_journal.specs.declared.settings.Settings.{Settings}
 use Rattle.xd_journal.specs.declared.entry.Cause.{Cause}
 use Rattle.xd_journal.specs.declared.entry.Cause.TheVariants.{Breach}
@@ -21,22 +20,17 @@ use Rattle.xd_ledger.specs.Histories.{starts_from}
 use Rattle.xd_ledger.specs.Meaning.{Log, any_open, given_ids, head_bytes, is_of, is_open_log, kept, log_of, may_start_log, meaning_of, output_of, spent_by}
 use Rattle.xd_ledger.specs.Orderly.{all_orderly, is_orderly}
 use Rattle.xd_ledger.specs.Outputs.{outputs}
-use Rattle.xd_ledger.specs.Proper.{may_follow, names_head}
+use Rattle.xd_ledger.specs.Proper.{IsProper, may_follow, names_head}
 use Rattle.xd_ledger.specs.Sharing.{State}
 use Rattle.xd_ledger.specs.State.{moved}
 use Rattle.xd_ledger.specs.Workers.{is_active}
-use Rattle.xd_laws.proofs.InMode.{InMode}
-use Rattle.xd_laws.proofs.LoadRule.{load_rule}
 use Rattle.xd_laws.proofs.Logic.{and, differ, split-and}
-use Rattle.xd_laws.proofs.Outputs.{outputs-fit}
-use Rattle.xd_laws.proofs.Runs.{Holds}
 use Rattle.xd_session.specs.Bounded.{IsBounded, keeps_few}
 use Rattle.xd_session.specs.Compared.{comparison, given}
 use Rattle.xd_session.specs.History.{IsProperRun, Run as SoFar, after_news, begun_run, entries_with, input_of, run_of, said_by}
-use Rattle.xd_session.specs.Stands.{CanBegin}
-use Rattle.xd_session.proofs.Begin.{begun-proper, starts-spend}
+use Rattle.xd_session.proofs.Begin.{starts-spend}
 use Rattle.xd_session.proofs.Shares.{given-is}
-use Rattle.xd_session.proofs.Steps.{holds-behind, meaning-follows, none-some, same-entry, sound-next, sound-run, spent-more}
+use Rattle.xd_session.proofs.Steps.{none-some, outputs-orderly, same-entry, sound-next, sound-run, spent-more}
 
 -- the input keeps few bytes, and where so many are kept there is room for them
 record Fits (spent : ℕ) (e : Entry) : Type 0 where
@@ -126,18 +120,17 @@ all-append (e ∷ es) fs h k = (let p = split-and (keeps_few e) (list_all keeps_
 within-room : (now before more all : ℕ) → now ≡ before + more → more ≤ all - before → before ≤ all → now ≤ all
 within-room now before more all e h k = omega arith
 
-bounded-input : (r : SoFar) (o : Option Entry) → ((e : Entry) → o ≡ Some e → Fits (spent_by r.entries) e) → ((e : Entry) → o ≡ Some e → may_follow r.state e ≡ true) → Holds (InMode Load) r.state → IsBounded r.entries
+bounded-input : (r : SoFar) (o : Option Entry) → ((e : Entry) → o ≡ Some e → Fits (spent_by r.entries) e) → ((e : Entry) → o ≡ Some e → all_orderly (moved r.state e) (outputs r.state e) ≡ true) → IsBounded r.entries
     → IsBounded (entries_with o r.entries r.state)
-bounded-input r None f m k b = b
-bounded-input r (Some e) f m k b =
+bounded-input r None f m b = b
+bounded-input r (Some e) f m b =
     let fits = f e refl in
-    let follows = m e refl in
-    let out = outputs-fit (InMode Load) load_rule r.state e follows k.tidy k.also in
-    let spends = spent-more r.state r.entries e follows k in
+    let ordered = m e refl in
+    let spends = spent-more r.state r.entries e ordered in
     let room = fits.room in
     let low = b.together in
     record {
-      each = all-append r.entries (e ∷ outputs r.state e) b.each (and fits.few (all-quiet (moved r.state e) (outputs r.state e) out.orderly));
+      each = all-append r.entries (e ∷ outputs r.state e) b.each (and fits.few (all-quiet (moved r.state e) (outputs r.state e) ordered));
       together = within-room (spent_by (r.entries ++ (e ∷ outputs r.state e))) (spent_by r.entries) (spent_by (e ∷ [])) most_of_all spends room low;
     }
 
@@ -145,28 +138,22 @@ meant-by : (b : Bool) (o : Option Entry) (e : Entry) → (if b then o else None)
 meant-by true o e h = h
 meant-by false o e h = none-some e (o ≡ Some e) h
 
-active-by : (b : Bool) (o : Option Entry) (e : Entry) → (if b then o else None) ≡ Some e → b ≡ true
-active-by true o e h = refl
-active-by false o e h = none-some e (false ≡ true) h
-
-bounded-next : (settings : Settings) (r : SoFar) (n : News) → settings.mode ≡ Load → IsProperRun settings r → IsBounded r.entries → IsBounded (after_news r n).entries
-bounded-next settings r n m k b =
+bounded-next : (settings : Settings) (r : SoFar) (n : News) → IsProperRun settings r → IsBounded r.entries → IsBounded (after_news r n).entries
+bounded-next settings r n k b =
     let w = n.worker in
     let log = log_of (said_by w r.taken) in
     let o = meaning_of w log (spent_by r.entries) r.state n.what in
-    let holds = subst (λ (u : State). Holds (InMode Load) u) (sym k.state) (holds-behind settings r.inputs m k.proper.follow) in
-    bounded-input r (input_of r n) (λ e h. meaning-fits w log (spent_by r.entries) r.state n.what e (meant-by (is_active w r.state.books) o e h))
-    (λ e h. meaning-follows w log (spent_by r.entries) r.state n.what e (active-by (is_active w r.state.books) o e h) (meant-by (is_active w r.state.books) o e h)) holds b
+    bounded-input r (input_of r n) (λ e h. meaning-fits w log (spent_by r.entries) r.state n.what e (meant-by (is_active w r.state.books) o e h)) (λ e h. outputs-orderly settings r n e k h) b
 
-bounded-fold : (settings : Settings) (r : SoFar) (taken : List News) → settings.mode ≡ Load → IsProperRun settings r → IsBounded r.entries → IsBounded (fold after_news r taken).entries
-bounded-fold settings r [] m k b = b
-bounded-fold settings r (n ∷ taken) m k b = bounded-fold settings (after_news r n) taken m (sound-next settings r n k) (bounded-next settings r n m k b)
+bounded-fold : (settings : Settings) (r : SoFar) (taken : List News) → IsProperRun settings r → IsBounded r.entries → IsBounded (fold after_news r taken).entries
+bounded-fold settings r [] k b = b
+bounded-fold settings r (n ∷ taken) k b = bounded-fold settings (after_news r n) taken (sound-next settings r n k) (bounded-next settings r n k b)
 
 starts-few : (w n : ℕ) → list_all keeps_few (starts_from w n) ≡ true
 starts-few w zero = refl
 starts-few w (suc n) = starts-few (w + 1) n
 
-pub bounded-run : (settings : Settings) (taken : List News) → CanBegin settings → IsBounded (run_of settings taken).entries
-bounded-run settings taken c =
-    bounded-fold settings (begun_run settings) taken c.mode (sound-run settings [] (begun-proper settings c))
+pub bounded-run : (settings : Settings) (taken : List News) → IsProper settings [] → IsBounded (run_of settings taken).entries
+bounded-run settings taken p =
+    bounded-fold settings (begun_run settings) taken (sound-run settings [] p)
     (record { each = starts-few 0 settings.workers; together = (let e = starts-spend 0 settings.workers in omega (arith, e)) })

@@ -1,3 +1,4 @@
+pub mod Activity
 pub mod Acts
 pub mod Bare
 pub mod Begin
@@ -12,7 +13,9 @@ pub mod Joins
 pub mod Lawful
 pub mod Loops
 pub mod Orders
+pub mod Part
 pub mod Places
+mod Rows
 pub mod Shares
 pub mod Steady
 pub mod Steps

@@ -32,7 +32,7 @@ use Rattle.xd_session.specs.Rules.{At, InStep}
 use Rattle.xd_session.specs.Stands.{Seen, StandsFor}
 use Rattle.xd_session.specs.Told.{Told, Took}
 use Rattle.xd_session.proofs.Joins.{AllCollected, joins-behind}
-use Rattle.xd_session.proofs.Steps.{holds-behind, journal-more, journal-state, logs-more, meaning-follows, meaning-short, proper-more, run-more, run-taken, short-twice, sound-run, spent-more, state-next}
+use Rattle.xd_session.proofs.Steps.{holds-behind, journal-more, journal-state, logs-more, meaning-follows, meaning-short, orderly-next, proper-more, run-more, run-taken, short-twice, sound-run, spent-more, state-next}
 use Rattle.xd_session.proofs.Waiting.{AllTold, shut-where, told-behind}
 
 module _ (settings : Settings) (entries : List Entry) (logs : List WorkerLog) (spent : ℕ) (b : Books) (st : Plan → Type 0) (k : InStep settings entries logs spent b st) where
@@ -101,7 +101,7 @@ next-by settings entries now logs logs_now spent spent_now b c st st_now (Some e
       proper = proper-more settings k.inputs e k.proper (ap (λ u. may_follow u e) (sym after) ∙ m);
       journal = t.entries_are ∙ ap (λ es. es ++ (e ∷ outputs s0 e)) k.journal ∙ ap (λ u. journal_of settings k.inputs ++ (e ∷ outputs u e)) after ∙ sym (journal-more settings k.inputs e);
       at = subst (λ u. At u c st_now) (sym (ap (state_at settings) t.entries_are ∙ state-next settings entries e m)) t.at;
-      spent_is = t.spent_is ∙ ap (λ n. n + spent_by (e ∷ [])) k.spent_is ∙ sym (spent-more s0 entries e m (holds settings entries logs spent b st k)) ∙ ap spent_by (sym t.entries_are);
+      spent_is = t.spent_is ∙ ap (λ n. n + spent_by (e ∷ [])) k.spent_is ∙ sym (spent-more s0 entries e (orderly-next settings k.inputs s0 e k.proper after m)) ∙ ap spent_by (sym t.entries_are);
       spent_low = t.spent_low;
       short = short;
     }

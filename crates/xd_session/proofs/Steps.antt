@@ -1,5 +1,5 @@
 -- A session that took news, and takes one more.
-use Rattle.std.proofs.Common.{◌≡◌, ℕ, zero, suc, ◌+◌, ◌-◌, ◌≤◌, List, [], ◌∷◌, ◌++◌, take, map, min, refl, ap, sym, ◌∙◌, arith, Bool, true, false, not, ◌&&◌, append_assoc}
+use Rattle.std.proofs.Common.{◌≡◌, ℕ, zero, suc, ◌+◌, ◌-◌, ◌≤◌, List, [], ◌∷◌, ◌++◌, take, map, min, refl, ap, sym, subst, ◌∙◌, arith, Bool, true, false, not, ◌&&◌, append_assoc}
 use Rattle.std.specs.Prelude.{if◌then◌else◌, ◌==◌, filter, fold, Option, Some, None}
 use Rattle.std.proofs.lemmas.Grind.{fold-append}
 use Rattle.std.proofs.lemmas.List.{append-nil}
@@ -17,7 +17,7 @@ use Rattle.xd_journal.specs.declared.news.What.TheVariants as what
 use Rattle.xd_journal.specs.Kept.{most_of_all, most_of_one}
 use Rattle.xd_ledger.specs.Histories.{begun, first_starts, grown, journal_of, stepped_all}
 use Rattle.xd_ledger.specs.Meaning.{Log, given_ids, is_of, any_open, kept, log_of, may_start_log, meaning_of, output_of, is_open_log, spent_by, with_news}
-use Rattle.xd_ledger.specs.Orderly.{all_orderly, is_orderly}
+use Rattle.xd_ledger.specs.Orderly.{all_orderly, is_orderly, is_orderly_run}
 use Rattle.xd_ledger.specs.Outputs.{outputs, stepped}
 use Rattle.xd_ledger.specs.Proper.{IsProper, all_may_follow, may_follow, names_head}
 use Rattle.xd_ledger.specs.Sharing.{State}
@@ -25,8 +25,8 @@ use Rattle.xd_ledger.specs.State.{all_moved, is_input, moved, no_one, settled, s
 use Rattle.xd_ledger.specs.Workers.{is_active}
 use Rattle.xd_laws.proofs.InMode.{InMode}
 use Rattle.xd_laws.proofs.LoadRule.{load_rule}
+use Rattle.xd_laws.proofs.Laws.{orderly}
 use Rattle.xd_laws.proofs.Logic.{and, differ, split-and}
-use Rattle.xd_laws.proofs.Outputs.{outputs-fit}
 use Rattle.xd_laws.proofs.Runs.{Holds, all-hold, begun-holds}
 use Rattle.xd_session.specs.declared.logs.WorkerLog.{WorkerLog}
 use Rattle.xd_session.specs.History.{IsProperRun, Run as SoFar, after_news, begun_run, entries_with, input_of, inputs_with, run_of, said_by, state_with}
@@ -93,6 +93,18 @@ follow-more s (i ∷ ins) e h k =
 pub proper-more : (settings : Settings) (ins : List Entry) (e : Entry) → IsProper settings ins → may_follow (stepped_all (begun settings) ins) e ≡ true → IsProper settings (ins ++ e ∷ [])
 proper-more settings ins e p h = record { mode = p.mode; some_worker = p.some_worker; few_workers = p.few_workers; few_restarts = p.few_restarts; follow = follow-more (begun settings) ins e p.follow h }
 
+-- what follows an input is in order, in every mode
+
+orderly-last : (s : State) (ins : List Entry) (e : Entry) → is_orderly_run s (ins ++ e ∷ []) ≡ true → all_orderly (moved (stepped_all s ins) e) (outputs (stepped_all s ins) e) ≡ true
+orderly-last s [] e h = (split-and (all_orderly (moved s e) (outputs s e)) true h).0
+orderly-last s (i ∷ ins) e h = orderly-last (stepped s i) ins e (split-and (all_orderly (moved s i) (outputs s i)) (is_orderly_run (stepped s i) (ins ++ e ∷ [])) h).1
+
+pub orderly-next : (settings : Settings) (ins : List Entry) (s : State) (e : Entry) → IsProper settings ins → s ≡ stepped_all (begun settings) ins → may_follow s e ≡ true → all_orderly (moved s e) (outputs s e) ≡ true
+orderly-next settings ins s e p same h =
+    let follows : may_follow (stepped_all (begun settings) ins) e ≡ true = ap (λ (u : State). may_follow u e) (sym same) ∙ h in
+    let Ordered : State → Type 0 = λ u. all_orderly (moved u e) (outputs u e) ≡ true in
+    subst Ordered (sym same) (orderly-last (begun settings) ins e (orderly settings (ins ++ e ∷ []) (proper-more settings ins e p follows)))
+
 -- what holds of the states of a run in mode load
 pub holds-behind : (settings : Settings) (ins : List Entry) → settings.mode ≡ Load → all_may_follow (begun settings) ins ≡ true → Holds (InMode Load) (stepped_all (begun settings) ins)
 holds-behind settings ins m h = all-hold (InMode Load) load_rule (begun settings) ins h (begun-holds (InMode Load) load_rule settings m)
@@ -143,10 +155,9 @@ pub spent-append : (es fs : List Entry) → spent_by (es ++ fs) ≡ spent_by es 
 spent-append [] fs = omega arith
 spent-append (e ∷ es) fs = (let a = spent-first e (es ++ fs) in let b = spent-first e es in let k = spent-append es fs in omega arith)
 
-pub spent-more : (s : State) (es : List Entry) (e : Entry) → may_follow s e ≡ true → Holds (InMode Load) s → spent_by (es ++ e ∷ outputs s e) ≡ spent_by es + spent_by (e ∷ [])
-spent-more s es e h k =
-    let f = outputs-fit (InMode Load) load_rule s e h k.tidy k.also in
-    let none = quiet-spends (moved s e) (outputs s e) f.orderly in
+pub spent-more : (s : State) (es : List Entry) (e : Entry) → all_orderly (moved s e) (outputs s e) ≡ true → spent_by (es ++ e ∷ outputs s e) ≡ spent_by es + spent_by (e ∷ [])
+spent-more s es e h =
+    let none = quiet-spends (moved s e) (outputs s e) h in
     let a = spent-append es (e ∷ outputs s e) in
     let b = spent-first e (outputs s e) in
     omega arith
@@ -304,11 +315,18 @@ meant : (w : ℕ) (b : Bool) (o : Option Entry) (s : State) (e : Entry) → (b �
 meant w true o s e h k = h refl k
 meant w false o s e h k = none-some e (may_follow s e ≡ true) k
 
-pub sound-next : (settings : Settings) (r : SoFar) (n : News) → IsProperRun settings r → IsProperRun settings (after_news r n)
-sound-next settings r n k =
+-- the input that a piece of news means may follow, and what follows it is in order
+pub input-follows : (r : SoFar) (n : News) (e : Entry) → input_of r n ≡ Some e → may_follow r.state e ≡ true
+input-follows r n e h =
     let w = n.worker in
-    sound-input settings r n (input_of r n) (λ e h. meant w (is_active w r.state.books) (meaning_of w (log_of (said_by w r.taken)) (spent_by r.entries) r.state n.what) r.state e
-    (λ a m. meaning-follows w (log_of (said_by w r.taken)) (spent_by r.entries) r.state n.what e a m) h) k
+    let log = log_of (said_by w r.taken) in
+    meant w (is_active w r.state.books) (meaning_of w log (spent_by r.entries) r.state n.what) r.state e (λ a m. meaning-follows w log (spent_by r.entries) r.state n.what e a m) h
+
+pub outputs-orderly : (settings : Settings) (r : SoFar) (n : News) (e : Entry) → IsProperRun settings r → input_of r n ≡ Some e → all_orderly (moved r.state e) (outputs r.state e) ≡ true
+outputs-orderly settings r n e k h = orderly-next settings r.inputs r.state e k.proper k.state (input-follows r n e h)
+
+pub sound-next : (settings : Settings) (r : SoFar) (n : News) → IsProperRun settings r → IsProperRun settings (after_news r n)
+sound-next settings r n k = sound-input settings r n (input_of r n) (input-follows r n) k
 
 sound-fold : (settings : Settings) (r : SoFar) (taken : List News) → IsProperRun settings r → IsProperRun settings (fold after_news r taken)
 sound-fold settings r [] k = k

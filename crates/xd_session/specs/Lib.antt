@@ -5,6 +5,7 @@ pub mod Ends
 pub mod History
 pub mod Joining
 pub mod Kept
+pub mod Part
 pub mod Rules
 pub mod Stands
 pub mod Told

@@ -18,7 +18,7 @@ mod step;
 mod stops;
 mod take;
 
-pub use laws::{kept_law, session_law};
+pub use laws::{kept_law, part_law, session_law};
 pub use session::Session;
 pub use step::Step;
 

@@ -1,7 +1,7 @@
 use Rattle.std.proofs.Common.{[], true, false, refl, sym, ◌∙◌}
 use Rattle.xd_laws.proofs.Logic.{differ}
 use Rattle.xd_session.proofs.Lawful.{stands-proper}
-use Rattle.xd_drive.proofs.Driven.{drive-broken, drive-kept, drive-kills, drive-whole}
+use Rattle.xd_drive.proofs.Driven.{drive-broken, drive-journal, drive-journal-broken, drive-kills, drive-whole}
 use Rattle.xd_drive.proofs.running.drive.Goals as goal
 
 pub run-requires-clause-proper : goal.run-requires-clause-proper
@@ -38,8 +38,12 @@ returns-clause-broken g c = λ h.
     (record { marks = g.H.Hub.marks c.kill_started.new.hub; starts = g.H.Hub.starts c.kill_started.new.hub; calls = g.H.Hub.calls c.kill_started.new.hub; given = g.H.Hub.given c.kill_started.new.hub; sunk = g.O.Sink.sunk c.run.new.out })
     c.in_ok-journal-2.ensures.stop c.in_ok-stopped.ensures.ends c.in_ok-kill_started.ensures.performs c.in_ok-kill_started.ensures.given refl
 
-pub returns-in_default-clause-kept : goal.returns-in_default-clause-kept
-returns-in_default-clause-kept g c = drive-kept false c.in_ok-stopped.stopped c.run.new.session c.in_ok-journal.journal _ _ c.in_ok-stopped.ensures.ends c.in_ok-journal.ensures.entries
+pub returns-in_default-clause-journal : goal.returns-in_default-clause-journal
+returns-in_default-clause-journal g c =
+    drive-journal c.args.session.settings c.run.new.session c.in_ok-journal.journal (stands-proper [] c.args.session c.requires.begins) c.in_ok-stopped.ensures.settings c.in_ok-journal.ensures.settings c.in_ok-stopped.stopped
+    _ _ c.in_default.not-Some c.in_ok-journal.ensures.entries c.in_ok-journal.ensures.legal c.in_ok-stopped.ensures.ends
 
-pub returns-clause-kept : goal.returns-clause-kept
-returns-clause-kept g c = drive-kept true c.in_ok-stopped.stopped c.run.new.session c.in_ok-journal-2.journal _ _ c.in_ok-stopped.ensures.ends c.in_ok-journal-2.ensures.entries
+pub returns-clause-journal : goal.returns-clause-journal
+returns-clause-journal g c =
+    drive-journal-broken c.args.session.settings c.run.new.session c.in_ok-journal-2.journal (stands-proper [] c.args.session c.requires.begins) c.in_ok-stopped.ensures.settings c.in_ok-journal-2.ensures.settings c.in_ok-stopped.stopped
+    c.in-Some.done c.in-Some.is _ _ c.in_ok-journal-2.ensures.entries c.in_ok-journal-2.ensures.legal c.in_ok-stopped.ensures.ends

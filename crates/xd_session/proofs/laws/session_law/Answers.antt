@@ -1,6 +1,5 @@
-use Rattle.xd_session.proofs.Begin.{begun-proper}
 use Rattle.xd_session.proofs.Steps.{sound-run}
 use Rattle.xd_session.proofs.laws.session_law.Goals as goal
 
 pub returns : goal.returns
-returns c = λ settings taken b. sound-run settings taken (begun-proper settings b)
+returns c = sound-run

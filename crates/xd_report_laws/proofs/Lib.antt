@@ -1,0 +1,4 @@
+pub mod Slots
+pub mod Ids
+pub mod Named
+mod Rows

@@ -1,0 +1,40 @@
+-- A small journal that the laws speak of, and lines that they rule out.
+use Rattle.std.specs.Prelude.{◌≡◌, ℕ, List, [], ◌∷◌, true, None}
+use Rattle.std.proofs.Common.{refl}
+use Rattle.xd_edge.specs.declared.mode.ModeKind.TheVariants.{Each}
+use Rattle.xd_journal.specs.declared.settings.Settings.{Settings}
+use Rattle.xd_journal.specs.declared.entry.Ids.TheVariants as ids
+use Rattle.xd_journal.specs.declared.entry.Outcome.TheVariants.{Passed}
+use Rattle.xd_journal.specs.declared.entry.Entry.{Entry}
+use Rattle.xd_journal.specs.declared.entry.Entry.TheVariants.{Ready, Collected, Done}
+use Rattle.xd_ledger.specs.Histories.{begun, journal_of, stepped_all}
+use Rattle.xd_ledger.specs.Proper.{IsProper}
+use Rattle.xd_ledger.specs.Reports.{Result, reports}
+use Rattle.xd_report.specs.EachReport.{Names, Of, id_in}
+use Rattle.xd_report_laws.specs.ItemIds.{item_ids}
+
+-- mode each with two slots
+abbrev two_slots : Settings
+two_slots = record { mode = Each; workers = 2; maxfail = 0; restarts = 8; chunk = None; reorder = true }
+
+-- slot 0 has the tests a and b, and slot 1 has c, which passes
+abbrev a_run : List Entry
+a_run = Ready 0 ∷ Collected 0 (ids.List ((97 ∷ []) ∷ (98 ∷ []) ∷ [])) ∷ Ready 1 ∷ Collected 1 (ids.List ((99 ∷ []) ∷ [])) ∷ Done 1 0 Passed 5 [] ∷ []
+
+a_run-proper : IsProper two_slots a_run
+a_run-proper = record { mode = refl; some_worker = refl; few_workers = refl; few_restarts = refl; follow = refl }
+
+-- so it is item 2, behind the two of slot 0
+a_run-reports : reports two_slots (journal_of two_slots a_run) ≡ Result 1 2 Passed ∷ []
+a_run-reports = refl
+
+a_run-ids : item_ids (stepped_all (begun two_slots) a_run).books ≡ (97 ∷ []) ∷ (98 ∷ []) ∷ (99 ∷ []) ∷ []
+a_run-ids = refl
+
+-- its line gives c
+a_run-named : Names (id_in (item_ids (stepped_all (begun two_slots) a_run).books)) (Of (Result 1 2 Passed) (99 ∷ []) ∷ [])
+a_run-named = (refl, tt)
+
+-- its line gives a, which is the first test of the other slot
+of_the_other_slot : Names (id_in (item_ids (stepped_all (begun two_slots) a_run).books)) (Of (Result 1 2 Passed) (97 ∷ []) ∷ []) → ⊥
+of_the_other_slot h = (let same : 97 ∷ [] ≡ 99 ∷ [] = h.0 in absurd cc)

@@ -1,0 +1,45 @@
+-- Small runs that the laws of sessions speak of, and a journal that they rule out.
+use Rattle.std.specs.Prelude.{◌≡◌, ℕ, List, [], ◌∷◌, ◌++◌, true, None}
+use Rattle.std.proofs.Common.{refl, sym, ◌∙◌, ap}
+use Rattle.xd_edge.specs.declared.mode.ModeKind.TheVariants.{Load}
+use Rattle.xd_journal.specs.declared.settings.Settings.{Settings}
+use Rattle.xd_journal.specs.declared.entry.Cause.TheVariants.{Ended}
+use Rattle.xd_journal.specs.declared.entry.Ids.TheVariants as ids
+use Rattle.xd_journal.specs.declared.entry.Entry.{Entry}
+use Rattle.xd_journal.specs.declared.entry.Entry.TheVariants.{Ready, Collected, Down, Start, Kill}
+use Rattle.xd_journal.specs.declared.news.News.{News}
+use Rattle.xd_journal.specs.declared.news.What.TheVariants as what
+use Rattle.xd_ledger.specs.Proper.{IsProper}
+use Rattle.xd_session.specs.History.{run_of}
+use Rattle.xd_session.specs.Part.{inputs_by, meant_by}
+use Rattle.xd_session.proofs.Part.{part-of}
+
+-- mode load with one worker
+abbrev pub alone : Settings
+alone = record { mode = Load; workers = 1; maxfail = 0; restarts = 8; chunk = None; reorder = true }
+
+alone-proper : IsProper alone []
+alone-proper = record { mode = refl; some_worker = refl; few_workers = refl; few_restarts = refl; follow = refl }
+
+-- the worker collects one test and starts its log, then its link is gone; what comes then is not heard
+abbrev a_loss : List News
+a_loss =
+    record { worker = 0; what = what.Ready } ∷ record { worker = 0; what = what.Collected ((97 ∷ []) ∷ []) } ∷ record { worker = 0; what = what.LogStart 0 2 }
+    ∷ record { worker = 0; what = what.Gone Ended } ∷ record { worker = 0; what = what.Ready } ∷ []
+
+a_loss-inputs : inputs_by 0 (run_of alone a_loss).entries ≡ Ready 0 ∷ Collected 0 (ids.List ((97 ∷ []) ∷ [])) ∷ Down 0 Ended [] ∷ []
+a_loss-inputs = refl
+
+a_loss-meant : meant_by alone 0 a_loss ≡ Ready 0 ∷ Collected 0 (ids.List ((97 ∷ []) ∷ [])) ∷ Down 0 Ended [] ∷ []
+a_loss-meant = refl
+
+-- a worker collects behind its end
+abbrev collects_late : List Entry
+collects_late = Start 0 0 ∷ Ready 0 ∷ Down 0 Ended [] ∷ Kill 0 ∷ Start 1 0 ∷ Collected 0 (ids.List ((97 ∷ []) ∷ [])) ∷ []
+
+not_behind_the_end : (taken : List News) → (run_of alone taken).entries ≡ collects_late → ⊥
+not_behind_the_end taken h =
+    let late : List Entry = Collected 0 (ids.List ((97 ∷ []) ∷ [])) ∷ [] in
+    let part = part-of alone taken 0 alone-proper in
+    let none : late ≡ [] = part.none_behind (Ready 0 ∷ []) late (Down 0 Ended []) (ap (inputs_by 0) h) refl in
+    absurd cc
