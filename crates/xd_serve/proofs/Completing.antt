@@ -19,7 +19,8 @@ use Rattle.xd_serve.specs.declared.stop.Stop.{Stop}
 use Rattle.xd_serve.specs.declared.stop.Stop.TheVariants as stop
 use Rattle.xd_serve.specs.Inputs.{has_last, messages_in}
 use Rattle.xd_serve.specs.Going.{Scene, Told}
-use Rattle.xd_serve.specs.Served.{Ends, Served, Spring, TookAll, TookToRefused, status_of}
+use Rattle.xd_link.specs.Spring.{Spring}
+use Rattle.xd_serve.specs.Served.{Ends, Served, TookAll, TookToRefused, status_of}
 use Rattle.xd_serve.specs.Complete.{AreGood, GoesWrong, IsWrong}
 
 -- ---- more bytes

@@ -1,11 +1,12 @@
 -- How a link was served to its end.
-use Rattle.std.specs.Prelude.{◌≡◌, ℕ, Bool, true, false, List, [], ◌∷◌, ◌++◌, Option, IfSome}
+use Rattle.std.specs.Prelude.{◌≡◌, ℕ, Bool, true, false, List, [], ◌∷◌, ◌++◌, Option}
 use Rattle.xd_edge.specs.Files.{Held}
 use Rattle.xd_edge.specs.Faults.{Rose}
 use Rattle.xd_frame.specs.Message.{MessageView}
 use Rattle.xd_frame.specs.Framer.{IsFirstOf}
 use Rattle.xd_frame.specs.Stream.{messages, rest, Clean, Unfinished, Refused}
-use Rattle.xd_link.specs.Source.{Supply, Gave}
+use Rattle.xd_link.specs.Source.{Gave}
+use Rattle.xd_link.specs.Spring.{ReadToEnd, Spring}
 use Rattle.xd_worker.specs.declared.input.WorkerInput.{WorkerInput}
 use Rattle.xd_worker.specs.declared.input.WorkerInput.TheVariants.{Message}
 use Rattle.xd_factory.specs.declared.faults.SideFault.{SideFault}
@@ -26,20 +27,6 @@ status_of (stop.Header fault) = 3
 status_of (stop.Message fault) = 3
 status_of stop.ReadFault = 3
 status_of stop.WriteFault = 3
-
--- what is seen of the link's source: what it tells, whether a read met its end, and its count of faults
-pub record Spring : Type 0 where
-  pub supply : Option Supply
-  pub ended : Bool
-  pub faults : ℕ
-
-abbrev pub spring : Option Supply → Bool → ℕ → Spring
-spring supply ended faults = record { supply = supply; ended = ended; faults = faults }
-
--- The source was asked until it met its end.
-pub record ReadToEnd (s : Spring) : Type 0 where
-  pub ended : s.ended ≡ true
-  pub none_left : IfSome s.supply (λ s. s.left ≡ [])
 
 -- the link could be read
 abbrev pub is_read : Stop → Bool

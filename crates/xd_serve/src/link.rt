@@ -5,7 +5,8 @@ ghost use Rattle.xd_edge.specs.Files.{Held};
 ghost use Rattle.xd_frame.specs.Framer.{StandsFor};
 ghost use Rattle.xd_frame.specs.Message.{MessageView};
 ghost use Rattle.xd_serve.specs.Going.{Carried, Free, Goes, Going, Reading, Scene, scene, to_do, to_start};
-ghost use Rattle.xd_serve.specs.Served.{Ends, Spring, spring};
+ghost use Rattle.xd_link.specs.Spring.{spring};
+ghost use Rattle.xd_serve.specs.Served.{Ends};
 ghost use Rattle.xd_serve.specs.Taking.{EndTold, EndsAt, Fed, Hears, Listens, Takes, TakesAll, TakesBytes, end_by};
 
 use crate::program::run_program;

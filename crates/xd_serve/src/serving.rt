@@ -3,7 +3,8 @@ ghost use Rattle.std.specs.Prelude.{◌≡◌, ◌≢◌, IfOk, IfSome};
 ghost use Rattle.xd_edge.specs.Faults.{StoodStill};
 ghost use Rattle.xd_serve.specs.Complete.{AreGood, GoesWrong};
 ghost use Rattle.xd_serve.specs.Going.{scene};
-ghost use Rattle.xd_serve.specs.Served.{Served, spring};
+ghost use Rattle.xd_link.specs.Spring.{spring};
+ghost use Rattle.xd_serve.specs.Served.{Served};
 
 use crate::link::listen;
 use crate::speaker::Speaker;

@@ -6,7 +6,8 @@ use Rattle.xd_edge.specs.Sink.{Sunk}
 use Rattle.xd_link.specs.FreshLink.{unused}
 use Rattle.xd_link.specs.Source.{Supply}
 use Rattle.xd_serve.specs.Going.{Scene, scene}
-use Rattle.xd_serve.specs.Served.{Served, Spring}
+use Rattle.xd_link.specs.Spring.{Spring}
+use Rattle.xd_serve.specs.Served.{Served}
 
 -- all the bytes of a link that had given none before
 abbrev pub all_bytes : Supply → List ℕ

@@ -12,7 +12,7 @@ ghost use Rattle.xd_report.specs.EachReport.{NamesTests};
 ghost use Rattle.xd_report.specs.Status.{status_of};
 ghost use Rattle.xd_serve.specs.Complete.{AreGood, GoesWrong};
 ghost use Rattle.xd_serve.specs.Going.{scene};
-ghost use Rattle.xd_serve.specs.Served.{spring};
+ghost use Rattle.xd_link.specs.Spring.{spring};
 ghost use Rattle.xdrun.specs.Child.{faults_of};
 ghost use Rattle.xdrun.specs.Local.{local_settings};
 ghost use Rattle.xdrun.specs.Print.{PrintsReport};

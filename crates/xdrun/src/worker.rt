@@ -5,7 +5,7 @@ ghost use Rattle.xd_link.specs.Starter.{with_failure, with_start};
 ghost use Rattle.xd_link.specs.declared.place.Place.TheVariants.{Own};
 ghost use Rattle.xd_serve.specs.Complete.{AreGood, GoesWrong};
 ghost use Rattle.xd_serve.specs.Going.{scene};
-ghost use Rattle.xd_serve.specs.Served.{spring};
+ghost use Rattle.xd_link.specs.Spring.{spring};
 ghost use Rattle.xdrun.specs.Worker.{ServedOwn, all_bytes, unwritten};
 
 use crate::top::{LinkEnd, RunEnd};

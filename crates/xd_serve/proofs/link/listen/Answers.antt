@@ -4,9 +4,10 @@ use Rattle.xd_edge.specs.Faults.{Rose}
 use Rattle.xd_link.specs.Source.{Gave, Supply}
 use Rattle.xd_serve.specs.declared.stop.Stop.{Stop}
 use Rattle.xd_serve.specs.Going.{scene}
-use Rattle.xd_serve.specs.Served.{spring}
+use Rattle.xd_link.specs.Spring.{spring}
 use Rattle.xd_serve.specs.Taking.{TakesBytes}
-use Rattle.xd_serve.proofs.Listening.{ends_at, ends_broken, ends_taken, ends_unread, gave_end, gave_more, gave_none, listens_first, met_end, takes_on}
+use Rattle.xd_link.proofs.SpringLemmas.{gave_end, gave_more, gave_none, met_end}
+use Rattle.xd_serve.proofs.Listening.{ends_at, ends_broken, ends_taken, ends_unread, listens_first, takes_on}
 use Rattle.xd_serve.proofs.link.listen.Goals as goal
 
 pub returns-then-speaker : goal.returns-then-speaker

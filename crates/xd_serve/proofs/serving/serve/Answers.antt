@@ -1,6 +1,7 @@
 use Rattle.std.proofs.Common.{refl}
 use Rattle.xd_serve.specs.Going.{scene}
-use Rattle.xd_serve.specs.Served.{Served, spring}
+use Rattle.xd_link.specs.Spring.{spring}
+use Rattle.xd_serve.specs.Served.{Served}
 use Rattle.xd_serve.proofs.Beginning.{begun}
 use Rattle.xd_serve.proofs.Completing.{calm, complete, goes_wrong}
 use Rattle.xd_serve.proofs.serving.serve.Goals as goal

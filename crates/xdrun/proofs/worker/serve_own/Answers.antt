@@ -1,5 +1,5 @@
 use Rattle.xd_serve.specs.Going.{scene}
-use Rattle.xd_serve.specs.Served.{spring}
+use Rattle.xd_link.specs.Spring.{spring}
 use Rattle.xdrun.proofs.Workers.{own_complete, own_wrong, served_own}
 use Rattle.xdrun.proofs.worker.serve_own.Goals as goal
 
