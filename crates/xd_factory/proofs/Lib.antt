@@ -9,3 +9,5 @@ pub mod Refusals
 pub mod Losing
 pub mod Tracing
 pub mod Keeping
+pub mod SideTables
+pub mod Meanings

@@ -8,3 +8,4 @@ pub mod Trees
 pub mod Table
 pub mod View
 pub mod History
+pub mod SideTable

@@ -1,0 +1,25 @@
+-- What was written to a sink by calls that went well or failed, and what became of its count of faults.
+use Rattle.std.specs.Prelude.{◌≡◌, ℕ, Bool, true, false, not, List, Option}
+use Rattle.xd_edge.specs.Faults.{Rose}
+use Rattle.xd_edge.specs.Sink.{Sunk, Printed, PrintedPart}
+
+-- These bytes, of one print or of several, were written and handed on; or, where the sink failed, a first part of them was
+-- written, and some of it was handed on.
+abbrev pub Writes : Bool → List ℕ → Option Sunk → Option Sunk → Type 0
+Writes true bytes old new = Printed bytes old new
+Writes false bytes old new = PrintedPart bytes old new
+
+-- Behind a fault of the sink nothing more is written.
+abbrev pub WritesMore : Bool → Bool → List ℕ → Option Sunk → Option Sunk → Type 0
+WritesMore true broken bytes old new = (broken ≡ true) × (new ≡ old)
+WritesMore false broken bytes old new = Writes (not broken) bytes old new
+
+-- Where all calls went well the count is the one before them; where one failed it rose.
+abbrev pub CountAfter : Bool → ℕ → ℕ → Type 0
+CountAfter true before now = now ≡ before
+CountAfter false before now = Rose before now
+
+-- Behind a fault of the sink it is asked no more, and the count stays.
+abbrev pub CountBehind : Bool → Bool → ℕ → ℕ → Type 0
+CountBehind true broken before now = (broken ≡ true) × (now ≡ before)
+CountBehind false broken before now = CountAfter (not broken) before now
