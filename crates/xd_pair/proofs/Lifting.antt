@@ -94,41 +94,49 @@ same_carried a old new wire e h o = subst (λ (ws : List Said). AllMean new.said
 pub odd_takes : (odd new even rest : LinkedSide) (steps : List Step) (items : ℕ → List Tree) (end : ℕ → Option End) → IsTake odd new even rest items end → PairStands odd even steps
     → PairStands new rest (steps ++ Odd Take ∷ []) × Hands (run steps start).odd (run (steps ++ Odd Take ∷ []) start).odd items end
 odd_takes odd new even rest steps items end t h =
-    let k = t.takes true (run steps start).odd (run steps start).to_odd h.odd_stands h.to_odd in
-    (subst (StandFor new rest) (sym (run-append steps (Odd Take) start)) (record {
-      odd_stands = k.stands;
-      even_stands = subst (λ (s : Side). StandsFor false s (run steps start).even) (sym t.quiet.peer_side) h.even_stands;
-      to_odd = k.carries;
-      to_even = same_carried (run steps start).even odd new (run steps start).to_even t.quiet.said h.to_even;
-    }), subst (λ (b : Actor). Hands (run steps start).odd b items end) (sym (next_odd steps Take)) k.hands)
+    let k = t.takes true (run steps start).odd (run steps start).to_odd h.odd_stands h.to_odd in (
+      subst (StandFor new rest) (sym (run-append steps (Odd Take) start)) (record {
+        odd_stands = k.stands;
+        even_stands = subst (λ (s : Side). StandsFor false s (run steps start).even) (sym t.quiet.peer_side) h.even_stands;
+        to_odd = k.carries;
+        to_even = same_carried (run steps start).even odd new (run steps start).to_even t.quiet.said h.to_even;
+      }),
+      subst (λ (b : Actor). Hands (run steps start).odd b items end) (sym (next_odd steps Take)) k.hands,
+    )
 
 pub even_takes : (odd even new rest : LinkedSide) (steps : List Step) (items : ℕ → List Tree) (end : ℕ → Option End) → IsTake even new odd rest items end → PairStands odd even steps
     → PairStands rest new (steps ++ Even Take ∷ []) × Hands (run steps start).even (run (steps ++ Even Take ∷ []) start).even items end
 even_takes odd even new rest steps items end t h =
-    let k = t.takes false (run steps start).even (run steps start).to_even h.even_stands h.to_even in
-    (subst (StandFor rest new) (sym (run-append steps (Even Take) start)) (record {
-      odd_stands = subst (λ (s : Side). StandsFor true s (run steps start).odd) (sym t.quiet.peer_side) h.odd_stands;
-      even_stands = k.stands;
-      to_odd = same_carried (run steps start).odd even new (run steps start).to_odd t.quiet.said h.to_odd;
-      to_even = k.carries;
-    }), subst (λ (b : Actor). Hands (run steps start).even b items end) (sym (next_even steps Take)) k.hands)
+    let k = t.takes false (run steps start).even (run steps start).to_even h.even_stands h.to_even in (
+      subst (StandFor rest new) (sym (run-append steps (Even Take) start)) (record {
+        odd_stands = subst (λ (s : Side). StandsFor true s (run steps start).odd) (sym t.quiet.peer_side) h.odd_stands;
+        even_stands = k.stands;
+        to_odd = same_carried (run steps start).odd even new (run steps start).to_odd t.quiet.said h.to_odd;
+        to_even = k.carries;
+      }),
+      subst (λ (b : Actor). Hands (run steps start).even b items end) (sym (next_even steps Take)) k.hands,
+    )
 
 pub odd_refuses : (odd new even rest : LinkedSide) (steps : List Step) → IsRefusal odd new even rest → PairStands odd even steps → (names : List ℕ) × PairStands new rest (steps ++ Odd (Refuse names) ∷ [])
 odd_refuses odd new even rest steps t h =
-    let k = t.refuses true (run steps start).odd (run steps start).to_odd h.odd_stands h.to_odd in
-    (k.names, subst (StandFor new rest) (sym (run-append steps (Odd (Refuse k.names)) start)) (record {
-      odd_stands = k.stands;
-      even_stands = subst (λ (s : Side). StandsFor false s (run steps start).even) (sym t.quiet.peer_side) h.even_stands;
-      to_odd = λ o. absurd (let z = o in cc);
-      to_even = same_carried (run steps start).even odd new (run steps start).to_even t.quiet.said h.to_even;
-    }))
+    let k = t.refuses true (run steps start).odd (run steps start).to_odd h.odd_stands h.to_odd in (
+      k.names,
+      subst (StandFor new rest) (sym (run-append steps (Odd (Refuse k.names)) start)) (record {
+        odd_stands = k.stands;
+        even_stands = subst (λ (s : Side). StandsFor false s (run steps start).even) (sym t.quiet.peer_side) h.even_stands;
+        to_odd = λ o. absurd (let z = o in cc);
+        to_even = same_carried (run steps start).even odd new (run steps start).to_even t.quiet.said h.to_even;
+      }),
+    )
 
 pub even_refuses : (odd even new rest : LinkedSide) (steps : List Step) → IsRefusal even new odd rest → PairStands odd even steps → (names : List ℕ) × PairStands rest new (steps ++ Even (Refuse names) ∷ [])
 even_refuses odd even new rest steps t h =
-    let k = t.refuses false (run steps start).even (run steps start).to_even h.even_stands h.to_even in
-    (k.names, subst (StandFor rest new) (sym (run-append steps (Even (Refuse k.names)) start)) (record {
-      odd_stands = subst (λ (s : Side). StandsFor true s (run steps start).odd) (sym t.quiet.peer_side) h.odd_stands;
-      even_stands = k.stands;
-      to_odd = same_carried (run steps start).odd even new (run steps start).to_odd t.quiet.said h.to_odd;
-      to_even = λ o. absurd (let z = o in cc);
-    }))
+    let k = t.refuses false (run steps start).even (run steps start).to_even h.even_stands h.to_even in (
+      k.names,
+      subst (StandFor rest new) (sym (run-append steps (Even (Refuse k.names)) start)) (record {
+        odd_stands = subst (λ (s : Side). StandsFor true s (run steps start).odd) (sym t.quiet.peer_side) h.odd_stands;
+        even_stands = k.stands;
+        to_odd = same_carried (run steps start).odd even new (run steps start).to_odd t.quiet.said h.to_odd;
+        to_even = λ o. absurd (let z = o in cc);
+      }),
+    )

@@ -1,30 +1,27 @@
--- Each call of a side, by what its contract says, is a move of every actor that the side stands for.
-use Rattle.std.proofs.Common.{◌≡◌, ℕ, ◌+◌, List, [], ◌∷◌, ◌++◌, Bool, true, false, Option, Some, None, Result, Ok, Err, refl, sym, ap, subst, ◌∙◌, append_assoc}
-use Rattle.std.specs.Prelude.{◌==◌, ◌||◌, ◌&&◌, not, is_some, if◌then◌else◌}
+-- Calls of a side, by what their contracts say, are moves of every actor that the side stands for.
+use Rattle.std.proofs.Common.{◌≡◌, ℕ, List, [], ◌∷◌, ◌++◌, Bool, true, false, Option, None, Ok, refl, sym, ap, subst, ◌∙◌, append_assoc}
+use Rattle.std.specs.Prelude.{◌==◌, ◌&&◌, if◌then◌else◌}
 use Rattle.std.specs.Option.{option_to_list}
 use Rattle.std.proofs.lemmas.Bool.{and_parts}
-use Rattle.std.proofs.lemmas.List.{append-nil}
 use Rattle.xd_value.specs.Tree.{Tree}
 use Rattle.xd_value.specs.Channels.{channels}
 use Rattle.xd_value.specs.Canonical.{dumped}
-use Rattle.xd_channel.specs.State.{fresh}
 use Rattle.xd_frame.specs.declared.kind.Kind.TheVariants as kind
 use Rattle.xd_frame.specs.Message.{MessageView}
-use Rattle.xd_factory.specs.Slot.{Slot, Unseen, Here, is_seen, is_here, closed_slot, function_ended_slot, given_up_slot, received_slot, hooked_slot, give_up_says, lost_slot}
-use Rattle.xd_factory.specs.Said.{Said, Status, Exec, Data, Close, Terminate, Means}
-use Rattle.xd_factory.specs.Table.{is_long, close_refusal, closing_message, close_says, giving_says, send_refusal, sent_gives, fault_or}
-use Rattle.xd_factory.specs.View.{slot_of, parity_of, next_of, fault_of, is_finished, KeepsRest}
+use Rattle.xd_factory.specs.Slot.{Slot, is_seen, is_here, closed_slot, function_ended_slot, given_up_slot, give_up_says}
+use Rattle.xd_factory.specs.Said.{Said, Exec, Data, Close, Means}
+use Rattle.xd_factory.specs.Table.{is_long, close_refusal, closing_message, close_says, giving_says, send_refusal, sent_gives}
+use Rattle.xd_factory.specs.View.{slot_of, KeepsRest}
 use Rattle.xd_factory.specs.declared.side.Side.{Side}
-use Rattle.xd_factory.specs.declared.faults.SideFault.TheVariants.{Finished}
 use Rattle.xd_pair.specs.Part as part
-use Rattle.xd_pair.specs.Pair.{Actor, Open, Send, Call, Ask, Answer, Stop, Close_own, End_function, Give_up, Receive, Set_callback, Finish, adds, knows, can_send, can_call, can_answer, after}
+use Rattle.xd_pair.specs.Pair.{Actor, Send, Call, Answer, Close_own, End_function, Give_up, knows, can_send, can_call, can_answer}
 use Rattle.xd_pair.specs.Messages.{AllMean, Adds, HasPayload, HasErrorPayload}
 use Rattle.xd_pair.specs.Stands.{StandsFor, IsMove, IsMoveIf}
 use Rattle.xd_pair.specs.declared.linked.LinkedSide.{LinkedSide}
 use Rattle.xd_pair.proofs.Says.{differ, unasked, here_seen, may_seen}
 use Rattle.xd_pair.proofs.Payloads.{close_means}
-use Rattle.xd_pair.proofs.Sending.{adds_option, adds_none, end_said, close_said, give_up_said, item_said, call_said, sent_parts}
-use Rattle.xd_pair.proofs.Standing.{at_stands, same_stands, adds_stands, opened_stands, finished_stands}
+use Rattle.xd_pair.proofs.Sending.{adds_option, end_said, close_said, give_up_said, item_said, call_said, sent_parts}
+use Rattle.xd_pair.proofs.Standing.{at_stands, same_stands, adds_stands}
 
 pub record ChangesAt (old new : Side) (n : ℕ) (f : Slot Tree → Slot Tree) : Type 0 where
   pub slots : (c : ℕ) → slot_of new c ≡ (if n == c then f (slot_of old c) else slot_of old c)
@@ -33,40 +30,6 @@ pub record ChangesAt (old new : Side) (n : ℕ) (f : Slot Tree → Slot Tree) : 
 -- a number at which something stands is a channel's
 numbered : (a : Actor) (s : Side) (n : ℕ) → ((c : ℕ) → slot_of s c ≡ (a.part c).slot) → is_seen (a.part 0).slot ≡ false → is_seen (slot_of s n) ≡ true → n == 0 ≡ false
 numbered a s n slots zero h = differ a.part n 0 zero (ap is_seen (sym (slots n)) ∙ h)
-
--- the calls that say nothing
-pub open_moves : (old new : LinkedSide) → is_finished old.side ≡ false → slot_of old.side (next_of old.side) ≡ Unseen
-    → ((c : ℕ) → slot_of new.side c ≡ (if next_of old.side == c then Here fresh else slot_of old.side c)) → next_of new.side ≡ next_of old.side + 2
-    → parity_of new.side ≡ parity_of old.side → fault_of new.side ≡ fault_of old.side → is_finished new.side ≡ is_finished old.side
-    → new.said.items ≡ old.said.items → IsMove old new Open
-open_moves old new open unseen slots next p f d same odd a wire num u k = record {
-  stands = opened_stands odd old.side new.side a wire num.own open unseen slots next p f d k;
-  says = adds_none old.said.items new.said.items same;
-  way = refl;
-}
-
-pub receive_moves : (old new : LinkedSide) (n : ℕ) → ChangesAt old.side new.side n received_slot → new.said.items ≡ old.said.items → IsMove old new (Receive n)
-receive_moves old new n change same odd a wire num u k = record {
-  stands = at_stands odd old.side new.side a n received_slot (λ p. part.received_in p p.slot) (λ p. refl) change.rest change.slots k;
-  says = adds_none old.said.items new.said.items same;
-  way = refl;
-}
-
-pub callback_moves : (old new : LinkedSide) (n : ℕ) → ChangesAt old.side new.side n hooked_slot → new.said.items ≡ old.said.items → IsMove old new (Set_callback n)
-callback_moves old new n change same odd a wire num u k = record {
-  stands = at_stands odd old.side new.side a n hooked_slot (λ p. part.hooked_in p p.slot) (λ p. refl) change.rest change.slots k;
-  says = adds_none old.said.items new.said.items same;
-  way = refl;
-}
-
-pub finish_moves : (old new : LinkedSide) → ((c : ℕ) → slot_of new.side c ≡ lost_slot (slot_of old.side c)) → is_finished new.side ≡ true
-    → fault_of new.side ≡ fault_or (fault_of old.side) Finished → parity_of new.side ≡ parity_of old.side → next_of new.side ≡ next_of old.side
-    → new.said.items ≡ old.said.items → IsMove old new Finish
-finish_moves old new slots done f p n same odd a wire num u k = record {
-  stands = finished_stands odd old.side new.side a wire slots done f p n k;
-  says = adds_none old.said.items new.said.items same;
-  way = refl;
-}
 
 -- the calls that end a channel
 pub close_moves : (old new : LinkedSide) (n : ℕ) (e : Option (List ℕ)) (m : Option MessageView) → HasErrorPayload e → m ≡ close_says n e (slot_of old.side n)
@@ -130,56 +93,39 @@ send_moves old new n v b m p sent is side more odd a wire num known k =
       way = refl;
     }
 
-pub call_moves : (old new : LinkedSide) (n : ℕ) (v : Tree) (b : List ℕ) → HasPayload v → dumped v ≡ Ok b → new.side ≡ old.side
-    → new.said.items ≡ old.said.items ++ record { kind = kind.Exec; channel = n; payload = b } ∷ [] → IsMoveIf (λ a. can_call true a n v) old new (Call n v)
-call_moves old new n v b p d side more odd a wire num can k =
+pub call_moves : (old new : LinkedSide) (n : ℕ) (v : Tree) (b : List ℕ) (m : MessageView) → HasPayload v → dumped v ≡ Ok b → m ≡ record { kind = kind.Exec; channel = n; payload = b }
+    → new.side ≡ old.side → new.said.items ≡ old.said.items ++ m ∷ [] → IsMoveIf (λ a. can_call true a n v) old new (Call n v)
+call_moves old new n v b m p d is side more odd a wire num can k =
     let parts = and_parts (is_here (a.part n).slot) (knows a.part (channels v)) can in
     let n_is : n == 0 ≡ false = differ a.part n 0 num.unseen (here_seen (a.part n).slot parts.0) in
     record {
       stands = same_stands odd old.side new.side a side k;
       says = if_adds old.said.items new.said.items (can_call odd a n v) (Exec n v ∷ []) can
-          (record { more = record { kind = kind.Exec; channel = n; payload = b } ∷ []; behind = more; mean = (call_said n v b n_is p d, tt) });
+          (record { more = m ∷ []; behind = more; mean = (subst (λ (x : MessageView). Means x (Exec n v)) (sym is) (call_said n v b n_is p d), tt) });
       way = refl;
     }
 
-numbered_message : (n : ℕ) → n == 0 ≡ false → (n == 0) && true ≡ false
-numbered_message n h = ap (λ b. b && true) h
+abbrev closing : ℕ → List ℕ → MessageView
+closing n b = record { kind = kind.Close; channel = n; payload = b }
 
-pub ask_moves : (old new : LinkedSide) (n : ℕ) → new.side ≡ old.side
-    → new.said.items ≡ old.said.items ++ record { kind = kind.Status; channel = n; payload = [] } ∷ [] → IsMoveIf (λ a. is_here (a.part n).slot) old new (Ask n)
-ask_moves old new n side more odd a wire num can k =
-    let n_is : n == 0 ≡ false = differ a.part n 0 num.unseen (here_seen (a.part n).slot can) in
-    record {
-      stands = same_stands odd old.side new.side a side k;
-      says = if_adds old.said.items new.said.items (is_here (a.part n).slot) (Status n ∷ []) can
-          (record { more = record { kind = kind.Status; channel = n; payload = [] } ∷ []; behind = more; mean = (record { numbered = numbered_message n n_is; says = refl }, tt) });
-      way = refl;
-    }
-
-asked_number : (a : Actor) (n : ℕ) → (a.part 0).asked ≡ false → (a.part n).asked ≡ true → n == 0 ≡ false
-asked_number a n zero h = unasked a.part n 0 zero h
-
-pub answer_moves : (old new : LinkedSide) (n : ℕ) (v : Tree) (b : List ℕ) → HasPayload v → dumped v ≡ Ok b → new.side ≡ old.side
-    → new.said.items ≡ old.said.items ++ record { kind = kind.Item; channel = n; payload = b } ∷ [] ++ record { kind = kind.Close; channel = n; payload = [] } ∷ []
-    → IsMoveIf (λ a. can_answer a n v) old new (Answer n v)
-answer_moves old new n v b p d side more odd a wire num can k =
+pub answer_moves : (old new : LinkedSide) (n : ℕ) (v : Tree) (b none : List ℕ) (m end : MessageView) → HasPayload v → dumped v ≡ Ok b → none ≡ []
+    → m ≡ record { kind = kind.Item; channel = n; payload = b } → end ≡ record { kind = kind.Close; channel = n; payload = none }
+    → new.side ≡ old.side → new.said.items ≡ old.said.items ++ m ∷ [] ++ end ∷ [] → IsMoveIf (λ a. can_answer a n v) old new (Answer n v)
+answer_moves old new n v b none m end p d empty is end_is side more odd a wire num can k =
     let parts = and_parts (a.part n).asked (knows a.part (channels v)) can in
-    let n_is : n == 0 ≡ false = asked_number a n num.unasked parts.0 in
+    let n_is : n == 0 ≡ false = unasked a.part n 0 num.unasked parts.0 in
+    let closes : end ≡ record { kind = kind.Close; channel = n; payload = [] } = end_is ∙ ap (λ (x : List ℕ). closing n x) empty in
     record {
       stands = adds_stands odd new.side a (can_answer a n v) n v (same_stands odd old.side new.side a side k);
       says = if_adds old.said.items new.said.items (can_answer a n v) (Data n v ∷ Close n None ∷ []) can
           (record {
-            more = record { kind = kind.Item; channel = n; payload = b } ∷ record { kind = kind.Close; channel = n; payload = [] } ∷ [];
-            behind = more ∙ append_assoc old.said.items (record { kind = kind.Item; channel = n; payload = b } ∷ []) (record { kind = kind.Close; channel = n; payload = [] } ∷ []);
-            mean = (item_said n v b n_is p d, (close_means n n_is, tt));
+            more = m ∷ end ∷ [];
+            behind = more ∙ append_assoc old.said.items (m ∷ []) (end ∷ []);
+            mean = (subst (λ (x : MessageView). Means x (Data n v)) (sym is) (item_said n v b n_is p d), (subst (λ (x : MessageView). Means x (Close n None)) (sym closes) (close_means n n_is), tt));
           });
       way = refl;
     }
 
-pub stop_moves : (old new : LinkedSide) → new.side ≡ old.side
-    → new.said.items ≡ old.said.items ++ record { kind = kind.Terminate; channel = 0; payload = [] } ∷ [] → IsMove old new Stop
-stop_moves old new side more odd a wire num u k = record {
-  stands = same_stands odd old.side new.side a side k;
-  says = record { more = record { kind = kind.Terminate; channel = 0; payload = [] } ∷ []; behind = more; mean = (record { numbered = refl; says = refl }, tt) };
-  way = refl;
-}
+-- the room for a message changes nothing that is on the way
+pub behind : (old room new more : List MessageView) → room ≡ old → new ≡ room ++ more → new ≡ old ++ more
+behind old room new more e h = h ∙ ap (λ (ms : List MessageView). ms ++ more) e

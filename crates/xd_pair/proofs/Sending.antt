@@ -5,7 +5,6 @@ use Rattle.std.specs.Option.{option_to_list}
 use Rattle.std.proofs.lemmas.Bool.{and_parts}
 use Rattle.std.proofs.lemmas.Bool.Decides.{nat_tests}
 use Rattle.std.proofs.lemmas.Grind.{common_steps}
-use Rattle.std.proofs.lemmas.List.{append-nil}
 use Rattle.xd_value.specs.Tree.{Tree, text}
 use Rattle.xd_value.specs.Channels.{channels}
 use Rattle.xd_value.specs.Canonical.{canonical, dumped}
@@ -29,9 +28,6 @@ use Rattle.xd_pair.proofs.Payloads.{item_means, call_means, close_means, error_m
 
 pub adds_option : (old new : List MessageView) (m : Option MessageView) (words : List Said) → new ≡ old ++ option_to_list m → AllMean (option_to_list m) words → Adds old new words
 adds_option old new m words e k = record { more = option_to_list m; behind = e; mean = k }
-
-pub adds_none : (old new : List MessageView) → new ≡ old → Adds old new []
-adds_none old new e = record { more = []; behind = e ∙ sym (append-nil old); mean = tt }
 
 pub all_mean-append : (ms ns : List MessageView) (ws vs : List Said) → AllMean ms ws → AllMean ns vs → AllMean (ms ++ ns) (ws ++ vs)
 all_mean-append [] ns [] vs h k = k

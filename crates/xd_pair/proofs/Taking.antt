@@ -172,18 +172,18 @@ pub took : (odd : Bool) (s t : Side) (a : Actor) (wire : List Said) (m : Message
     → StandsFor odd s a → AllMean (m ∷ ms) wire → Took odd t a wire ms answer
 took odd s t a [] m ms answer f keeps answers slots k means = absurd means
 took odd s t a (w ∷ ws) m ms answer f keeps answers slots k means =
-    let open : a.failed || a.finished ≡ false = open_actor odd s a k f in
+    let is_open : a.failed || a.finished ≡ false = open_actor odd s a k f in
     let same : answer ≡ answer_of (side_parity odd) (λ n. (a.part n).slot) w = answers w means.0 ∙ answer_same (parity_of s) (slot_of s) (λ n. (a.part n).slot) w k.slots ∙ ap (λ (p : Parity). answer_of p (λ n. (a.part n).slot) w) k.parity in
     record {
-      stands = subst (λ b. StandsFor odd t (if b then a else takes odd a (w ∷ ws))) (sym open) (record {
+      stands = subst (λ b. StandsFor odd t (if b then a else takes odd a (w ∷ ws))) (sym is_open) (record {
         parity = keeps.parity ∙ k.parity;
         slots = λ c. slots w means.0 c ∙ ap (λ (p : Parity). heard_slot p w c (slot_of s c)) k.parity ∙ ap (heard_slot (side_parity odd) w c) (k.slots c) ∙ sym (message_heard odd (a.part c) c w);
         next = keeps.next ∙ k.next;
         finished = keeps.finished ∙ k.finished;
         refuses = ap is_some keeps.fault ∙ k.refuses;
       });
-      carries = subst (λ b. AllMean ms (if b then w ∷ ws else rest (w ∷ ws))) (sym open) means.1;
-      hands = subst (λ b. Hands a (if b then a else takes odd a (w ∷ ws)) (taken_items answer) (taken_end answer)) (sym open)
+      carries = subst (λ b. AllMean ms (if b then w ∷ ws else rest (w ∷ ws))) (sym is_open) means.1;
+      hands = subst (λ b. Hands a (if b then a else takes odd a (w ∷ ws)) (taken_items answer) (taken_end answer)) (sym is_open)
           (subst (λ (x : Taken Tree). Hands a (takes odd a (w ∷ ws)) (taken_items x) (taken_end x)) (sym same) (record {
             got = λ c. (message_handing odd a.part c w).got;
             ended = λ c. (message_handing odd a.part c w).ended;
@@ -208,16 +208,17 @@ and_false : (b : Bool) → b && false ≡ false
 and_false true = refl
 and_false false = refl
 
+kept_next : (p : ℕ → Bool) (c n : ℕ) (ns : List ℕ) (b d : Bool) → n == c ≡ b → (b ≡ true → d ≡ p c) → is_in c (kept p ns) ≡ is_in c ns && p c
+    → is_in c (if d then n ∷ kept p ns else kept p ns) ≡ (b || is_in c ns) && p c
+kept_next p c n ns true true q h k = ap (λ x. x || is_in c (kept p ns)) q ∙ h refl
+kept_next p c n ns true false q h k = k ∙ ap (λ x. is_in c ns && x) (sym (h refl)) ∙ and_false (is_in c ns) ∙ h refl
+kept_next p c n ns false true q h k = ap (λ x. x || is_in c (kept p ns)) q ∙ k
+kept_next p c n ns false false q h k = k
+
 is_in-kept : (p : ℕ → Bool) (c : ℕ) (ns : List ℕ) → is_in c (kept p ns) ≡ is_in c ns && p c
 unfolding kept
 is_in-kept p c [] = refl
-is_in-kept p c (n ∷ ns) = by_tests (n == c) (p n) refl (λ q. ap p (eqb-true n c q))
-  where
-    by_tests : (b d : Bool) → n == c ≡ b → (b ≡ true → d ≡ p c) → is_in c (if d then n ∷ kept p ns else kept p ns) ≡ (b || is_in c ns) && p c
-    by_tests true true q h = ap (λ x. x || is_in c (kept p ns)) q ∙ h refl
-    by_tests true false q h = is_in-kept p c ns ∙ ap (λ x. is_in c ns && x) (sym (h refl)) ∙ and_false (is_in c ns) ∙ h refl
-    by_tests false true q h = ap (λ x. x || is_in c (kept p ns)) q ∙ is_in-kept p c ns
-    by_tests false false q h = is_in-kept p c ns
+is_in-kept p c (n ∷ ns) = kept_next p c n ns (n == c) (p n) refl (λ q. ap p (eqb-true n c q)) (is_in-kept p c ns)
 
 told_by : (a b : Bool) (x y : Note) → a || b ≡ true → has_notes ((if a then x ∷ [] else []) ++ (if b then y ∷ [] else [])) ≡ true
 told_by true b x y h = refl
@@ -251,23 +252,28 @@ refused odd s t a wire m ms failed fails p n d err others k means = by_fault (fa
   where
     first_words : (wire : List Said) → AllMean (m ∷ ms) wire → (names : List ℕ) × StandsFor odd t (after odd a wire (Refuse names))
     first_words [] h = absurd h
-    first_words (w ∷ ws) h =
-        (kept (λ c. has_opened (err c)) (names_of w), record {
-          parity = p ∙ k.parity;
-          slots = λ c. refused_slot (is_mine (parity_of s) c) (a.part c) (slot_of s c) (slot_of t c) (err c) (is_in c (names_of w)) (is_told c (w ∷ ws)) (k.slots c) (others w h.0 c) (told c w ws)
-              ∙ ap (λ b. (if b && is_told c (w ∷ ws) then named_part (is_mine (parity_of s) c) (a.part c) (a.part c).slot else a.part c).slot) (sym (is_in-kept (λ c. has_opened (err c)) c (names_of w)))
-              ∙ ap (λ (x : Parity). (if is_in c (kept (λ c. has_opened (err c)) (names_of w)) && is_told c (w ∷ ws) then named_part (is_mine x c) (a.part c) (a.part c).slot else a.part c).slot) k.parity;
-          next = n ∙ k.next;
-          finished = d ∙ k.finished;
-          refuses = fails;
-        })
+    first_words (w ∷ ws) h = (
+      kept (λ c. has_opened (err c)) (names_of w),
+      record {
+        parity = p ∙ k.parity;
+        slots = λ c. refused_slot (is_mine (parity_of s) c) (a.part c) (slot_of s c) (slot_of t c) (err c) (is_in c (names_of w)) (is_told c (w ∷ ws)) (k.slots c) (others w h.0 c) (told c w ws)
+            ∙ ap (λ b. (if b && is_told c (w ∷ ws) then named_part (is_mine (parity_of s) c) (a.part c) (a.part c).slot else a.part c).slot) (sym (is_in-kept (λ c. has_opened (err c)) c (names_of w)))
+            ∙ ap (λ (x : Parity). (if is_in c (kept (λ c. has_opened (err c)) (names_of w)) && is_told c (w ∷ ws) then named_part (is_mine x c) (a.part c) (a.part c).slot else a.part c).slot) k.parity;
+        next = n ∙ k.next;
+        finished = d ∙ k.finished;
+        refuses = fails;
+      },
+    )
 
     by_fault : (o : Option SideFault) → fault_of s ≡ o → (names : List ℕ) × StandsFor odd t (after odd a wire (Refuse names))
     by_fault None h = first_words wire (means (open_actor odd s a k h))
-    by_fault (Some f) h = ([], record {
-      parity = p ∙ k.parity;
-      slots = λ c. ap (λ (x : Side). slot_of x c) (failed f h) ∙ k.slots c;
-      next = n ∙ k.next;
-      finished = d ∙ k.finished;
-      refuses = fails;
-    })
+    by_fault (Some f) h = (
+      [],
+      record {
+        parity = p ∙ k.parity;
+        slots = λ c. ap (λ (x : Side). slot_of x c) (failed f h) ∙ k.slots c;
+        next = n ∙ k.next;
+        finished = d ∙ k.finished;
+        refuses = fails;
+      },
+    )

@@ -66,9 +66,9 @@ abbrev pub Carries : Actor → LinkedSide → List Said → Type 0
 Carries a peer wire = IsOpen a → AllMean peer.said.items wire
 
 -- the next message of the peer is taken, and this is handed out
-pub record Takes (odd : Bool) (new rest : LinkedSide) (a : Actor) (wire : List Said) (items : ℕ → List Tree) (end : ℕ → Option End) : Type 0 where
+pub record Takes (odd : Bool) (new left : LinkedSide) (a : Actor) (wire : List Said) (items : ℕ → List Tree) (end : ℕ → Option End) : Type 0 where
   pub stands : StandsFor odd new.side (after odd a wire Take)
-  pub carries : Carries (after odd a wire Take) rest (wire_after a wire Take)
+  pub carries : Carries (after odd a wire Take) left (wire_after a wire Take)
   pub hands : Hands a (after odd a wire Take) items end
 
 -- the next message is refused
@@ -76,16 +76,16 @@ pub record Refuses (odd : Bool) (new : LinkedSide) (a : Actor) (wire : List Said
   pub names : List ℕ
   pub stands : StandsFor odd new.side (after odd a wire (Refuse names))
 
--- a side says nothing by taking a message, and its peer only has a message less on the way
-pub record SaysNothing (old new peer rest : LinkedSide) : Type 0 where
+-- nothing is said, and the table of the peer stays
+pub record SaysNothing (old new peer left : LinkedSide) : Type 0 where
   pub said : new.said.items ≡ old.said.items
-  pub peer_side : rest.side ≡ peer.side
+  pub peer_side : left.side ≡ peer.side
 
--- from old to new a side took the next message of its peer, which is the rest then
-pub record IsTake (old new peer rest : LinkedSide) (items : ℕ → List Tree) (end : ℕ → Option End) : Type 0 where
-  pub quiet : SaysNothing old new peer rest
-  pub takes : (odd : Bool) (a : Actor) (wire : List Said) → StandsFor odd old.side a → Carries a peer wire → Takes odd new rest a wire items end
+-- from old to new a side took the next message of its peer, and left is the peer then
+pub record IsTake (old new peer left : LinkedSide) (items : ℕ → List Tree) (end : ℕ → Option End) : Type 0 where
+  pub quiet : SaysNothing old new peer left
+  pub takes : (odd : Bool) (a : Actor) (wire : List Said) → StandsFor odd old.side a → Carries a peer wire → Takes odd new left a wire items end
 
-pub record IsRefusal (old new peer rest : LinkedSide) : Type 0 where
-  pub quiet : SaysNothing old new peer rest
+pub record IsRefusal (old new peer left : LinkedSide) : Type 0 where
+  pub quiet : SaysNothing old new peer left
   pub refuses : (odd : Bool) (a : Actor) (wire : List Said) → StandsFor odd old.side a → Carries a peer wire → Refuses odd new a wire

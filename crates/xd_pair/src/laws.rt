@@ -17,48 +17,58 @@ pub fn pair_law()
 
 /// Two new sides, and nothing on the way between them, are as no step leaves them.
 pub fn start_law()
-    ensures { (odd even : LinkedSide) → StandsFor true odd.side (beginning 1) → StandsFor false even.side (beginning 2)
+    ensures { (odd even : LinkedSide)
+        → StandsFor true odd.side (beginning 1) → StandsFor false even.side (beginning 2)
         → odd.said.items ≡ [] → even.said.items ≡ [] → PairStands odd even [] }
 {}
 
 /// A call of one of two sides that is a move is a step of their history.
 pub fn step_law()
-    ensures odd { (odd new even : LinkedSide) (steps : List Step) (test : Actor → Bool) (move : Move)
-        → IsMoveIf test odd new move → test (run steps start).odd ≡ true → PairStands odd even steps
+    ensures odd { (odd new even : LinkedSide) (steps : List Step)
+        → (test : Actor → Bool) → (move : Move)
+        → IsMoveIf test odd new move → test (run steps start).odd ≡ true
+        → PairStands odd even steps
         → PairStands new even (steps ++ Odd move ∷ []) }
-    ensures even { (odd even new : LinkedSide) (steps : List Step) (test : Actor → Bool) (move : Move)
-        → IsMoveIf test even new move → test (run steps start).even ≡ true → PairStands odd even steps
+    ensures even { (odd even new : LinkedSide) (steps : List Step)
+        → (test : Actor → Bool) → (move : Move)
+        → IsMoveIf test even new move → test (run steps start).even ≡ true
+        → PairStands odd even steps
         → PairStands odd new (steps ++ Even move ∷ []) }
 {}
 
 /// What a call of one of two sides hands out is what its step hands out.
 pub fn hand_law()
-    ensures odd { (odd even : LinkedSide) (steps : List Step) (move : Move) (items : ℕ → List Tree) (end : ℕ → Option End)
+    ensures odd { (odd even : LinkedSide) (steps : List Step) (move : Move)
+        → (items : ℕ → List Tree) → (end : ℕ → Option End)
         → HandsOut odd move items end → PairStands odd even steps
         → Hands (run steps start).odd (run (steps ++ Odd move ∷ []) start).odd items end }
-    ensures even { (odd even : LinkedSide) (steps : List Step) (move : Move) (items : ℕ → List Tree) (end : ℕ → Option End)
+    ensures even { (odd even : LinkedSide) (steps : List Step) (move : Move)
+        → (items : ℕ → List Tree) → (end : ℕ → Option End)
         → HandsOut even move items end → PairStands odd even steps
         → Hands (run steps start).even (run (steps ++ Even move ∷ []) start).even items end }
 {}
 
-/// A message that one of two sides takes from the other is a step of their history, and hands out what the step does.
+/// A message that one of two sides takes from the other is a step of their history, and hands out what the step
+/// hands out.
 pub fn take_law()
-    ensures odd { (odd new even rest : LinkedSide) (steps : List Step) (items : ℕ → List Tree) (end : ℕ → Option End)
-        → IsTake odd new even rest items end → PairStands odd even steps
-        → PairStands new rest (steps ++ Odd Take ∷ [])
-            × Hands (run steps start).odd (run (steps ++ Odd Take ∷ []) start).odd items end }
-    ensures even { (odd even new rest : LinkedSide) (steps : List Step) (items : ℕ → List Tree) (end : ℕ → Option End)
-        → IsTake even new odd rest items end → PairStands odd even steps
-        → PairStands rest new (steps ++ Even Take ∷ [])
-            × Hands (run steps start).even (run (steps ++ Even Take ∷ []) start).even items end }
+    ensures odd { (odd new even left : LinkedSide) (steps : List Step)
+        → (items : ℕ → List Tree) → (end : ℕ → Option End)
+        → IsTake odd new even left items end → PairStands odd even steps
+        → PairStands new left (steps ++ Odd Take ∷ [])
+        × Hands (run steps start).odd (run (steps ++ Odd Take ∷ []) start).odd items end }
+    ensures even { (odd even new left : LinkedSide) (steps : List Step)
+        → (items : ℕ → List Tree) → (end : ℕ → Option End)
+        → IsTake even new odd left items end → PairStands odd even steps
+        → PairStands left new (steps ++ Even Take ∷ [])
+        × Hands (run steps start).even (run (steps ++ Even Take ∷ []) start).even items end }
 {}
 
 /// A message that one of two sides refuses is a step of their history.
 pub fn refuse_law()
-    ensures odd { (odd new even rest : LinkedSide) (steps : List Step)
-        → IsRefusal odd new even rest → PairStands odd even steps
-        → (names : List ℕ) × PairStands new rest (steps ++ Odd (Refuse names) ∷ []) }
-    ensures even { (odd even new rest : LinkedSide) (steps : List Step)
-        → IsRefusal even new odd rest → PairStands odd even steps
-        → (names : List ℕ) × PairStands rest new (steps ++ Even (Refuse names) ∷ []) }
+    ensures odd { (odd new even left : LinkedSide) (steps : List Step)
+        → IsRefusal odd new even left → PairStands odd even steps
+        → (names : List ℕ) × PairStands new left (steps ++ Odd (Refuse names) ∷ []) }
+    ensures even { (odd even new left : LinkedSide) (steps : List Step)
+        → IsRefusal even new odd left → PairStands odd even steps
+        → (names : List ℕ) × PairStands left new (steps ++ Even (Refuse names) ∷ []) }
 {}

@@ -1,5 +1,6 @@
 // A side and the way from it to its peer.
-ghost use Rattle.std.specs.Prelude.{◌≡◌, ◌<◌, ◌++◌, ◌∷◌, [], Bool};
+ghost use Rattle.std.specs.Prelude.{◌≡◌, ◌<◌, ◌≤◌, ◌+◌, ◌++◌, ◌∷◌, [], Bool};
+ghost use Rattle.std.specs.Option.{option_to_list};
 ghost use Rattle.std.specs.VecDeque.{deque_len, deque_capacity};
 
 mod calls;
@@ -52,10 +53,23 @@ impl LinkedSide {
 // The message is on the way, behind those that were said before.
 fn say(said: &mut VecDeque<Message>, message: Message)
     requires { deque_len said.old < deque_capacity said.old }
-    ensures { said.new.items ≡ said.old.items ++ message ∷ [] }
+    ensures items { said.new.items ≡ said.old.items ++ message ∷ [] }
+    ensures count { deque_len said.new ≡ deque_len said.old + 1 }
+    ensures room { deque_capacity said.old ≤ deque_capacity said.new }
 {
     match said.push_back(message) {
         Ok(()) => (),
         Err(_) => unreachable!(),
+    }
+}
+
+// So is the message that there is, if any.
+fn say_any(said: &mut VecDeque<Message>, message: Option<Message>)
+    requires { deque_len said.old < deque_capacity said.old }
+    ensures { said.new.items ≡ said.old.items ++ option_to_list message }
+{
+    match message {
+        Some(message) => say(said, message),
+        None => (),
     }
 }

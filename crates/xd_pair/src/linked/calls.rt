@@ -33,7 +33,8 @@ impl LinkedSide {
         ensures step { IsMove self.old self.new (Receive number) }
         ensures answer { IsGot result (receive_answer (slot_of self.old.side number)) }
         ensures hands { let r = received_tree result in
-            HandsOut self.old (Receive number) (items_at number (item_in r)) (end_at number (end_in r)) }
+            HandsOut self.old (Receive number)
+            (items_at number (item_in r)) (end_at number (end_in r)) }
     {
         match self.side.receive(number) {
             Ok(got) => Ok(got),

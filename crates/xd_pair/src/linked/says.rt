@@ -6,7 +6,7 @@ ghost use Rattle.xd_value.specs.Canonical.{dumped, IsDump};
 ghost use Rattle.xd_factory.specs.Slot.{is_here, is_seen};
 ghost use Rattle.xd_factory.specs.Table.{is_long, close_refusal, send_refusal, sent_gives, IsRefusal, IsSent};
 
-use super::{GiveUpFault, LinkedSide, say};
+use super::{GiveUpFault, LinkedSide, say, say_any};
 use std::alloc::Global;
 use xd_edge::{Blob, OutOfMemory, Text};
 use xd_factory::{CloseFault, SendFault};
@@ -23,8 +23,9 @@ impl LinkedSide {
     pub fn send(&mut self, number: u32, value: &Value) -> Result<(), SendFault>
         ensures step { let v = view value.now in HasPayload v
             → OnOk result (IsMoveIf (names_known v) self.old self.new (Send number v)) }
-        ensures refused { let wanted = sent_gives (send_refusal (slot_of self.old.side number)) (dumped (view value.now))
-            in IfErr result (λ fault. IsSent number (Err fault) wanted) }
+        ensures refused { let refusal = send_refusal (slot_of self.old.side number) in
+            let wanted = sent_gives refusal (dumped (view value.now)) in
+            IfErr result (λ fault. IsSent number (Err fault) wanted) }
         ensures err { OnErr result (Stays self.old self.new) }
     {
         if self.said.reserve(1).is_err() {
@@ -43,7 +44,8 @@ impl LinkedSide {
     pub fn call(&mut self, number: u32, value: &Value) -> Result<(), DumpFault>
         requires { number ≤ max_channel }
         ensures step { let v = view value.now in HasPayload v
-            → OnOk result (IsMoveIf (λ a. can_call true a number v) self.old self.new (Call number v)) }
+            → OnOk result
+            (IsMoveIf (λ a. can_call true a number v) self.old self.new (Call number v)) }
         ensures refused { IfErr result (λ fault. IsDump (Err fault) (dumped (view value.now))) }
         ensures err { OnErr result (Stays self.old self.new) }
     {
@@ -65,7 +67,10 @@ impl LinkedSide {
         if self.said.reserve(1).is_err() {
             return Err(OutOfMemory);
         }
-        say(&mut self.said, Message::of(Kind::Status, number, empty(self.alloc)));
+        say(
+            &mut self.said,
+            Message::of(Kind::Status, number, empty(self.alloc)),
+        );
         Ok(())
     }
 
@@ -73,7 +78,8 @@ impl LinkedSide {
     pub fn answer(&mut self, number: u32, value: &Value) -> Result<(), DumpFault>
         requires { number ≤ max_channel }
         ensures step { let v = view value.now in HasPayload v
-            → OnOk result (IsMoveIf (λ a. can_answer a number v) self.old self.new (Answer number v)) }
+            → OnOk result
+            (IsMoveIf (λ a. can_answer a number v) self.old self.new (Answer number v)) }
         ensures refused { IfErr result (λ fault. IsDump (Err fault) (dumped (view value.now))) }
         ensures err { OnErr result (Stays self.old self.new) }
     {
@@ -82,7 +88,10 @@ impl LinkedSide {
         }
         let payload = dumps(self.alloc, value)?;
         say(&mut self.said, Message::of(Kind::Item, number, payload));
-        say(&mut self.said, Message::of(Kind::Close, number, empty(self.alloc)));
+        say(
+            &mut self.said,
+            Message::of(Kind::Close, number, empty(self.alloc)),
+        );
         Ok(())
     }
 
@@ -94,7 +103,10 @@ impl LinkedSide {
         if self.said.reserve(1).is_err() {
             return Err(OutOfMemory);
         }
-        say(&mut self.said, Message::of(Kind::Terminate, 0, empty(self.alloc)));
+        say(
+            &mut self.said,
+            Message::of(Kind::Terminate, 0, empty(self.alloc)),
+        );
         Ok(())
     }
 
@@ -110,11 +122,10 @@ impl LinkedSide {
             return Err(CloseFault::OutOfMemory);
         }
         match self.side.close(number, error) {
-            Ok(Some(message)) => {
-                say(&mut self.said, message);
+            Ok(message) => {
+                say_any(&mut self.said, message);
                 Ok(())
             }
-            Ok(None) => Ok(()),
             Err(fault) => Err(fault),
         }
     }
@@ -149,11 +160,10 @@ impl LinkedSide {
             return Err(GiveUpFault::OutOfMemory);
         }
         match self.side.give_up(number) {
-            Ok(Some(message)) => {
-                say(&mut self.said, message);
+            Ok(message) => {
+                say_any(&mut self.said, message);
                 Ok(())
             }
-            Ok(None) => Ok(()),
             Err(_) => Err(GiveUpFault::Unknown),
         }
     }
