@@ -19,11 +19,12 @@ use Rattle.xd_worker.specs.declared.input.WorkerActions.{WorkerActions}
 use Rattle.xd_worker.specs.declared.input.WorkerFault.{WorkerFault}
 use Rattle.xd_worker.specs.declared.input.WorkerFault.TheVariants.{Link, OutOfMemory}
 use Rattle.xd_worker.specs.declared.worker.WorkerCore.{WorkerCore}
-use Rattle.xd_worker.specs.Table.{Table, Counts, table_of, heard, answer}
+use Rattle.xd_factory.specs.SideTable.{Table, Counts, table_of, heard, answer}
 use Rattle.xd_worker.specs.Talk.{talk_of}
 use Rattle.xd_worker.specs.Worker.{Service, Duties, Worker, Turn, behind}
 use Rattle.xd_worker.specs.Turns.{given_in}
-use Rattle.xd_worker.specs.History.{Heard, Is, table_behind, turn_by, worker_after, is_over, Refuses, RefusedBy, MustRefuse}
+use Rattle.xd_factory.specs.SideTable.{RefusedBy, MustRefuse}
+use Rattle.xd_worker.specs.History.{Heard, Is, table_behind, turn_by, worker_after, is_over, Refuses}
 
 pub record IsService (r : Runner) (s : Service) : Type 0 where
   pub channel_is : r.channel ≡ s.channel

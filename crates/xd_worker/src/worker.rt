@@ -35,7 +35,7 @@ impl WorkerCore {
     ghost use Rattle.xd_factory.specs.declared.faults.SideFault.{SideFault};
     ghost use Rattle.xd_suite.specs.Tests.{run_at};
     ghost use Rattle.xd_worker.specs.declared.input.WorkerFault.{WorkerFault};
-    ghost use Rattle.xd_worker.specs.Table.{Counts};
+    ghost use Rattle.xd_factory.specs.SideTable.{Counts};
     ghost use Rattle.xd_worker.specs.Worker.{Service, Duties, Worker, Turn, turn_of, running_in};
     ghost use Rattle.xd_worker.specs.Turns.{asked, all_asked, ended_service, fed, stopped};
     ghost use Rattle.xd_worker.specs.History.{Heard, worker_after, IsToRefuse};
