@@ -7,8 +7,9 @@ use Rattle.xd_edge.specs.Files.{Held}
 use Rattle.xd_edge.specs.Sink.{Sunk}
 use Rattle.xd_worker.specs.declared.worker.WorkerCore.{WorkerCore}
 use Rattle.xd_worker.specs.Stands.{StandsFor}
-use Rattle.xd_serve.specs.Counts.{CountAfter}
-use Rattle.xd_serve.specs.Speaking.{Writes, greeting}
+use Rattle.xd_frame.specs.Writing.{CountAfter}
+use Rattle.xd_frame.specs.Writing.{Writes}
+use Rattle.xd_serve.specs.Speaking.{greeting}
 use Rattle.xd_serve.specs.Going.{Free, Going, scene}
 
 none_added : (runs : Option (List ChildRun)) → runs ≡ option_map (λ l. l ++ []) runs

@@ -23,8 +23,8 @@ use Rattle.xd_serve.specs.declared.stop.Stop.TheVariants as stop
 use Rattle.xd_serve.specs.Inputs.{IsDue, has_end, has_last, is_last, is_link_end, is_of_link, message_in, messages_in}
 use Rattle.xd_serve.specs.Suites.{FilesGave, Follows}
 use Rattle.xd_serve.specs.Programs.{commands_of, output_in}
-use Rattle.xd_serve.specs.Counts.{CountBehind}
-use Rattle.xd_serve.specs.Speaking.{WritesMore}
+use Rattle.xd_frame.specs.Writing.{CountBehind}
+use Rattle.xd_frame.specs.Writing.{WritesMore}
 use Rattle.xd_serve.specs.Going.{Free, Going, Later, Next, Programs, Reading, Running, Scene, Told, Watched, call_in, IsNext, left_of, output_of, path_of, rests, scene, to_do, to_start}
 use Rattle.xd_serve.specs.Taking.{AreLeft, Halted, Halts, end_by, is_whole}
 use Rattle.xd_serve.proofs.Steps.{Does, Plain, Prints, Ready, Step, Waits, end_does, message_does, no_suite_does, output_does, running_is, suite_does}

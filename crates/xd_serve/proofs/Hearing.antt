@@ -15,8 +15,8 @@ use Rattle.xd_worker.specs.Stands.{Answers, StandsFor}
 use Rattle.xd_serve.specs.declared.stop.Stop.{Stop}
 use Rattle.xd_serve.specs.Inputs.{has_last, messages_in}
 use Rattle.xd_serve.specs.Suites.{Follows}
-use Rattle.xd_serve.specs.Counts.{CountBehind}
-use Rattle.xd_serve.specs.Speaking.{WritesMore}
+use Rattle.xd_frame.specs.Writing.{CountBehind}
+use Rattle.xd_frame.specs.Writing.{WritesMore}
 use Rattle.xd_serve.specs.Going.{Free, Going, Programs, Scene, to_do}
 use Rattle.xd_serve.specs.Taking.{EndTold, Halted, Hears, end_by}
 use Rattle.xd_serve.proofs.Steps.{Does, link_end_does}

@@ -10,4 +10,3 @@ pub mod Taking
 pub mod Tellings
 pub mod Waiting
 pub mod Watching
-pub mod Writing

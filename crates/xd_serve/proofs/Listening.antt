@@ -21,7 +21,7 @@ use Rattle.xd_serve.specs.declared.stop.Stop.TheVariants as stop
 use Rattle.xd_serve.specs.Inputs.{has_last, messages_in}
 use Rattle.xd_serve.specs.Going.{Free, Going, Scene, Told}
 use Rattle.xd_serve.specs.Taking.{AreLeft, EndMeans, EndTold, EndsAt, HaltedIn, Listens, RefusedIn, TakesAll, TakesBytes, is_whole}
-use Rattle.xd_serve.specs.Counts.{CountAfter}
+use Rattle.xd_frame.specs.Writing.{CountAfter}
 use Rattle.xd_serve.specs.Served.{Ends, IsCause, is_read, TookAll}
 
 -- ---- the messages of the bytes

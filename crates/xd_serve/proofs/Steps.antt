@@ -30,7 +30,7 @@ use Rattle.xd_worker.specs.declared.function.Function.TheVariants as function
 use Rattle.xd_worker.specs.declared.talk.Sent.{Sent}
 use Rattle.xd_worker.specs.declared.talk.Sent.TheVariants as how
 use Rattle.xd_worker.specs.Functions.{called_in}
-use Rattle.xd_worker.specs.Table.{Table, answer, heard, lost}
+use Rattle.xd_factory.specs.SideTable.{Table, answer, heard, lost}
 use Rattle.xd_worker.specs.Talk.{sent_how, payload_on}
 use Rattle.xd_worker.specs.Worker.{Service, Duties, Worker, Turn, turn_of, running_in}
 use Rattle.xd_worker.specs.Turns.{Told, SuiteRead, NoSuite, Printed, ChildEnded, LinkEnded, at_talk, asked, all_asked, ended_call, given_in, fed, fed_to, called, is_called, is_service, echoed, echoed_how, echo_ended, stopped, did, did_unless, took, suite_read, suite_refused, suite_input, ids_of, turned}

@@ -20,8 +20,9 @@ use Rattle.xd_serve.specs.Child.{fault_count, outcome_of}
 use Rattle.xd_serve.specs.Inputs.{IsDue, has_end, is_of_link}
 use Rattle.xd_serve.specs.Suites.{AreAnswered, Follows, asked_path}
 use Rattle.xd_serve.specs.Programs.{AreRun, Ran, commands_of, faults_of, output_in, ran_in}
-use Rattle.xd_serve.specs.Counts.{CountAfter, CountBehind}
-use Rattle.xd_serve.specs.Speaking.{Writes, WritesMore, written}
+use Rattle.xd_frame.specs.Writing.{CountAfter, CountBehind}
+use Rattle.xd_frame.specs.Writing.{Writes, WritesMore}
+use Rattle.xd_serve.specs.Speaking.{written}
 use Rattle.xd_serve.specs.Going.{CameTo, Later, Programs, Scene, Told}
 
 -- ---- counts

@@ -21,8 +21,9 @@ use Rattle.xd_serve.specs.Inputs.{AreHeard, EndsOnce, has_end, has_last, message
 use Rattle.xd_serve.specs.Suites.{AreAnswered, asked_path}
 use Rattle.xd_serve.specs.Programs.{AreRun, commands_in, faults_of, output_in, ran_in}
 use Rattle.xd_serve.specs.Child.{fault_count, outcome_of}
-use Rattle.xd_serve.specs.Speaking.{Writes, written}
-use Rattle.xd_serve.specs.Counts.{CountAfter}
+use Rattle.xd_frame.specs.Writing.{Writes}
+use Rattle.xd_serve.specs.Speaking.{written}
+use Rattle.xd_frame.specs.Writing.{CountAfter}
 
 -- what is seen of the outside, the link's source apart
 pub record Scene : Type 0 where

@@ -1,5 +1,4 @@
 pub mod Child
-pub mod Counts
 pub mod Inputs
 pub mod Suites
 pub mod Programs

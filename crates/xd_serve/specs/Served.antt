@@ -14,7 +14,7 @@ use Rattle.xd_worker.specs.History.{Heard, Refuses, is_over, worker_after}
 use Rattle.xd_serve.specs.declared.stop.Stop.{Stop}
 use Rattle.xd_serve.specs.declared.stop.Stop.TheVariants as stop
 use Rattle.xd_serve.specs.Going.{Scene, Told}
-use Rattle.xd_serve.specs.Counts.{CountAfter}
+use Rattle.xd_frame.specs.Writing.{CountAfter}
 use Rattle.xd_serve.specs.Taking.{AreLeft, is_whole}
 use Rattle.xd_serve.specs.Inputs.{has_end, has_last, is_last, messages_in}
 

@@ -1,14 +1,12 @@
 // A worker whose messages are written to its link.
 ghost use Rattle.std.specs.Prelude.{◌≡◌, ◌≤◌, not, List, ℕ, IfOk, IfErr, OnOk, OnErr};
-ghost use Rattle.xd_edge.specs.Faults.{Rose};
-ghost use Rattle.xd_edge.specs.Sink.{Took, TookPart, Printed};
-ghost use Rattle.xd_frame.specs.Message.{frame, frames};
-ghost use Rattle.xd_serve.specs.Counts.{CountAfter, CountBehind};
-ghost use Rattle.xd_serve.specs.Speaking.{Writes, WritesMore, greeting};
+ghost use Rattle.xd_frame.specs.Message.{frames};
+ghost use Rattle.xd_frame.specs.Writing.{Writes, WritesMore, CountAfter, CountBehind};
+ghost use Rattle.xd_serve.specs.Speaking.{greeting};
 
 use std::alloc::Global;
-use xd_edge::{Failed, OutOfMemory, Sink, print, write_all};
-use xd_frame::{Message, header_of};
+use xd_edge::{OutOfMemory, Sink, print};
+use xd_frame::{Message, print_frames};
 use xd_worker::{WorkerActions, WorkerCore, WorkerFault, WorkerInput};
 
 // The byte by which a worker is known to the other side.
@@ -87,42 +85,4 @@ impl<N: Sink> Speaker<N> {
             self.is_broken = print_frames(&mut self.sink, messages).is_err();
         }
     }
-}
-
-// Writes the messages and hands them on; or takes a first part of them, and hands on nothing, where the sink failed.
-fn print_frames<N: Sink>(sink: &mut N, messages: &[Message]) -> Result<(), Failed>
-    ensures ok { OnOk result (Printed (frames messages.now) (N.sunk sink.old) (N.sunk sink.new)) }
-    ensures part { OnErr result (TookPart (frames messages.now) (N.sunk sink.old) (N.sunk sink.new)) }
-    ensures later { N.faults sink.old ≤ N.faults sink.new }
-    ensures still { OnOk result (N.faults sink.new ≡ N.faults sink.old) }
-    ensures rose { OnErr result (Rose (N.faults sink.old) (N.faults sink.new)) }
-{
-    write_frames(sink, messages)?;
-    sink.flush()?;
-    Ok(())
-}
-
-fn write_frames<N: Sink>(sink: &mut N, messages: &[Message]) -> Result<(), Failed>
-    ensures ok { OnOk result (Took (frames messages.now) (N.sunk sink.old) (N.sunk sink.new)) }
-    ensures part { OnErr result (TookPart (frames messages.now) (N.sunk sink.old) (N.sunk sink.new)) }
-    ensures later { N.faults sink.old ≤ N.faults sink.new }
-    ensures still { OnOk result (N.faults sink.new ≡ N.faults sink.old) }
-    ensures rose { OnErr result (Rose (N.faults sink.old) (N.faults sink.new)) }
-{
-    for message in messages {
-        write_frame(sink, message)?;
-    }
-    Ok(())
-}
-
-fn write_frame<N: Sink>(sink: &mut N, message: &Message) -> Result<(), Failed>
-    ensures ok { OnOk result (Took (frame message.now) (N.sunk sink.old) (N.sunk sink.new)) }
-    ensures part { OnErr result (TookPart (frame message.now) (N.sunk sink.old) (N.sunk sink.new)) }
-    ensures later { N.faults sink.old ≤ N.faults sink.new }
-    ensures still { OnOk result (N.faults sink.new ≡ N.faults sink.old) }
-    ensures rose { OnErr result (Rose (N.faults sink.old) (N.faults sink.new)) }
-{
-    write_all(sink, &header_of(message))?;
-    write_all(sink, message.payload.as_slice())?;
-    Ok(())
 }

@@ -20,15 +20,10 @@ use Rattle.xd_factory.specs.Said.{Said, Status, Exec, Data, Close, Last, Termina
 use Rattle.xd_factory.specs.Slot.{Slot, Unseen, Here, Gone, is_new, named_slot, item_gives}
 use Rattle.xd_factory.specs.Table.{heard_slot, arrived_answer, ended_answer, end_answer, Refused, IsRefused}
 use Rattle.xd_factory.specs.View.{slot_of, parity_of, next_of, fault_of, is_finished, KeepsRest}
-use Rattle.xd_worker.specs.Table.{Table, Counts, table_of, heard, answer}
-use Rattle.xd_worker.specs.History.{RefusedBy, MustRefuse}
+use Rattle.xd_factory.specs.SideTable.{Table, Counts, table_of, heard, answer}
+use Rattle.xd_factory.specs.SideTable.{RefusedBy, MustRefuse}
+use Rattle.xd_factory.proofs.SideTables.{new_in, reason}
 use Rattle.xd_worker.specs.Stands.{IsSmall, IsFaultAt, IsRefusal, worker_fault}
-use Rattle.xd_worker.proofs.Tables.{tables}
-
-pub heard_table : (old new : Side) (said : Said) → ((c : ℕ) → slot_of new c ≡ heard_slot (parity_of old) said c (slot_of old c)) → KeepsRest old new → table_of new ≡ heard said (table_of old)
-heard_table old new said s k =
-    tables (slot_of new) (λ c. heard_slot (parity_of old) said c (slot_of old c)) (parity_of new) (parity_of old) (next_of new) (next_of old) (fault_of new) (fault_of old) (is_finished new) (is_finished old)
-    (fun_ext s) k.parity k.next k.fault k.finished
 
 -- ---- the number of a STATUS is that of its message
 
@@ -71,13 +66,6 @@ small_answer m Terminate t h k = tt
 
 -- ---- refusals
 
-abbrev new_in : Table → ℕ → Bool
-new_in t c = is_new (is_mine t.parity c) (t.slot c)
-
-reason : (o : Option SideFault) (t : Table) (m : MessageView) (f : SideFault) (n : ℕ) → ((b : SideFault) → o ≡ Some b → f ≡ b) → (o ≡ None → Refused n (new_in t) m f) → Counts t.slot n → RefusedBy o t m f
-reason None t m f n g h k = (n, k, h refl)
-reason (Some b) t m f n g h k = g b refl
-
 pub fault_at : (t : Table) (m : MessageView) (f : SideFault) (n : ℕ) → ((b : SideFault) → t.fault ≡ Some b → f ≡ b) → (t.fault ≡ None → IsRefused n (new_in t) m f) → Counts t.slot n → IsFaultAt t m (worker_fault f)
 fault_at t m fault.OutOfMemory n g h k = tt
 fault_at t m fault.Finished n g h k = reason t.fault t m fault.Finished n g h k
@@ -86,11 +74,6 @@ fault_at t m fault.Unsupported n g h k = reason t.fault t m fault.Unsupported n 
 fault_at t m (fault.BadPayload what) n g h k = reason t.fault t m (fault.BadPayload what) n g h k
 fault_at t m fault.NotText n g h k = reason t.fault t m fault.NotText n g h k
 fault_at t m fault.TooManyOpen n g h k = reason t.fault t m fault.TooManyOpen n g h k
-
--- a side that must refuse a message does not take it
-pub not_taken : (o : Option SideFault) (t : Table) (m : MessageView) (f : SideFault) (n : ℕ) → o ≡ None → MustRefuse o t m f → Counts t.slot n → (Refused n (new_in t) m f → ⊥) → ⊥
-not_taken None t m f n e h k g = g (h n k)
-not_taken (Some b) t m f n e h k g = absurd (let z = e in cc)
 
 -- which fault a side answers that must refuse
 fault_refusal : (X Y : Type 0) (f g : SideFault) → IsFault {X = X} f (Err g) → IsRefusal {X = Y} f (Err (worker_fault g))

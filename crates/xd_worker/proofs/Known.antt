@@ -25,7 +25,7 @@ use Rattle.xd_worker.specs.declared.function.Function.TheVariants as function
 use Rattle.xd_worker.specs.declared.talk.Sent.{Sent}
 use Rattle.xd_worker.specs.declared.talk.Sent.TheVariants as how
 use Rattle.xd_worker.specs.Functions.{called_in}
-use Rattle.xd_worker.specs.Table.{heard, answer, lost}
+use Rattle.xd_factory.specs.SideTable.{heard, answer, lost}
 use Rattle.xd_worker.specs.Talk.{sent_how, payload_on}
 use Rattle.xd_worker.specs.Worker.{Service, Turn, turn_of, running_in}
 use Rattle.xd_worker.specs.Turns.{Came, Told, SuiteRead, NoSuite, Printed, ChildEnded, LinkEnded, at_talk, ended_call, asked, all_asked, given_in, fed_to, fed, called, is_called, echo_ended, echoed, echoed_how, is_service, stopped, did, did_unless, is_written, ids_of, suite_read, suite_refused, turned}

@@ -18,7 +18,7 @@ use Rattle.xd_factory.specs.Slot.{Slot, Unseen, Here, Gone, is_here, item_slot, 
 use Rattle.xd_factory.specs.Table.{named_in, told_slot}
 use Rattle.xd_run_tests.specs.Line.{log_of}
 use Rattle.xd_run_tests.proofs.Once.{and_last}
-use Rattle.xd_worker.specs.Table.{Table, Counts, changed_at, opened, heard, lost}
+use Rattle.xd_factory.specs.SideTable.{Table, Counts, changed_at, opened, heard, lost}
 
 -- ---- numbers that are in a list once
 

@@ -41,7 +41,8 @@ use Rattle.xd_worker.specs.declared.function.CallFault.TheVariants.{BadCall, Sou
 use Rattle.xd_worker.specs.declared.function.Name.{Name}
 use Rattle.xd_worker.specs.declared.function.Name.TheVariants as name
 use Rattle.xd_worker.specs.Functions.{called_in, call_of, is_plain, named, name_of, with_value, with_kwargs, function_of}
-use Rattle.xd_worker.specs.Table.{Table, Counts, empty, changed_at, opened, heard, answer, lost}
+use Rattle.xd_factory.specs.SideTable.{Table, Counts, changed_at, opened, heard, answer, lost}
+use Rattle.xd_worker.specs.Table.{empty}
 use Rattle.xd_worker.specs.Talk.{Talk, told_tree, sent_how, payload_on, function_begun}
 use Rattle.xd_worker.specs.Worker.{Service, Duties, Turn, Opening, turn_of, behind, running_in}
 use Rattle.xd_worker.specs.Turns.{Came, Told, SuiteRead, NoSuite, Printed, ChildEnded, LinkEnded, at_talk, ended_call, asked, all_asked, others, given_in, fed_to, fed, tests_begun, called, is_called, echo_ended, echoed, echoed_how, is_service, stopped, did, did_unless, suite_input, ids_of, suite_read, suite_refused, turned}

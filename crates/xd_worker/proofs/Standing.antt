@@ -6,7 +6,7 @@ use Rattle.xd_value.specs.Tree.{Tree}
 use Rattle.xd_factory.specs.declared.faults.SendFault.{SendFault}
 use Rattle.xd_worker.specs.declared.talk.Sent.{Sent}
 use Rattle.xd_worker.specs.declared.talk.Sent.TheVariants as how
-use Rattle.xd_worker.specs.Table.{Table, Counts, table_of, heard, answer, lost}
+use Rattle.xd_factory.specs.SideTable.{Table, Counts, table_of, heard, answer, lost}
 use Rattle.xd_frame.specs.Message.{MessageView}
 use Rattle.xd_factory.specs.declared.side.Side.{Side}
 use Rattle.xd_run_tests.specs.declared.ask.Acts.{Acts}
@@ -32,7 +32,8 @@ use Rattle.xd_factory.specs.View.{slot_of}
 use Rattle.xd_worker.specs.declared.input.WorkerFault.{WorkerFault}
 use Rattle.xd_worker.specs.declared.input.WorkerFault.TheVariants.{Link, OutOfMemory}
 use Rattle.xd_worker.specs.declared.input.WorkerInput.TheVariants.{Message}
-use Rattle.xd_worker.specs.History.{Heard, RefusedBy, MustRefuse, IsToRefuse}
+use Rattle.xd_factory.specs.SideTable.{RefusedBy, MustRefuse}
+use Rattle.xd_worker.specs.History.{Heard, IsToRefuse}
 use Rattle.xd_worker.specs.Logs.{AllOpen, LogsOpen}
 use Rattle.xd_worker.specs.Worker.{Service, Duties, Turn, Opening, Worker, turn_of, opened_by}
 use Rattle.xd_worker.specs.Turns.{at_talk, asked, all_asked, given_in, fed_to, ended_call, failed, echo_ended, echoed, echoed_how, is_called, is_written, suite_input, Told, did_unless}

@@ -17,19 +17,10 @@ use Rattle.xd_factory.specs.declared.side.Side.{Side}
 use Rattle.xd_factory.specs.Slot.{Slot, Unseen, Here, Gone, is_seen, closed_slot, function_ended_slot}
 use Rattle.xd_factory.specs.Table.{close_refusal, closing_message, IsRefusal}
 use Rattle.xd_factory.specs.View.{slot_of, parity_of, next_of, fault_of, is_finished, entry_count, KeepsRest}
-use Rattle.xd_worker.specs.Table.{Table, Counts, table_of, changed_at}
+use Rattle.xd_factory.specs.SideTable.{Table, Counts, table_of, changed_at}
+use Rattle.xd_factory.proofs.SideTables.{tables, same_table}
 use Rattle.xd_worker.specs.Logs.{CanOpen}
 use Rattle.xd_worker.specs.Talk.{Talk}
-
-pub tables : (s s' : ℕ → Slot Tree) (p p' : Parity) (n n' : ℕ) (f f' : Option SideFault) (l l' : Bool) → s ≡ s' → p ≡ p' → n ≡ n' → f ≡ f' → l ≡ l'
-    → ◌≡◌ {A = Table} (record { slot = s; parity = p; next = n; fault = f; finished = l }) (record { slot = s'; parity = p'; next = n'; fault = f'; finished = l' })
-tables s s' p p' n n' f f' l l' a b c d e = rw (a, b, c, d, e) refl
-
-pub same_table : (old new : Side) (n : ℕ) (f : Slot Tree → Slot Tree) → ((c : ℕ) → slot_of new c ≡ (if n == c then f (slot_of old c) else slot_of old c)) → KeepsRest old new
-    → table_of new ≡ changed_at n f (table_of old)
-same_table old new n f e k =
-    tables (slot_of new) (λ c. if n == c then f (slot_of old c) else slot_of old c) (parity_of new) (parity_of old) (next_of new) (next_of old) (fault_of new) (fault_of old) (is_finished new) (is_finished old)
-    (fun_ext e) k.parity k.next k.fault k.finished
 
 -- a change that keeps what stands at the number changes nothing
 unchanged : (n c : ℕ) (slot : ℕ → Slot Tree) (f : Slot Tree → Slot Tree) → f (slot n) ≡ slot n → slot c ≡ (if n == c then f (slot c) else slot c)
@@ -101,11 +92,6 @@ pub ended_long : (n : ℕ) (text other : Option (List ℕ)) (seen long : Bool) (
 ended_long n text other true true old new says says' e f k h = h ∙ ap (λ (x : Table). says ++ (if is_seen (x.slot n) then closing_message n other ∷ [] else [])) e
 ended_long n text other true false old new says says' e f k h = absurd (let z = k in cc)
 ended_long n text other false long old new says says' e f k h = absurd (let z = k in cc)
-
-pub kept_all : (old new : Side) → ((c : ℕ) → slot_of new c ≡ slot_of old c) → KeepsRest old new → table_of new ≡ table_of old
-kept_all old new s k =
-    tables (slot_of new) (slot_of old) (parity_of new) (parity_of old) (next_of new) (next_of old) (fault_of new) (fault_of old) (is_finished new) (is_finished old)
-    (fun_ext s) k.parity k.next k.fault k.finished
 
 -- why a log does not open, where it can
 pub only_memory : (s : Side) (number : ℕ) (f : OpenFault) → CanOpen number (table_of s) → Counts (slot_of s) (entry_count s) → (f ≡ openfault.Finished → is_finished s ≡ true) → (is_finished s ≡ false → f ≡ openfault.TooManyOpen → entry_count s ≡ 4096)

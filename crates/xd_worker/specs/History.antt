@@ -3,10 +3,7 @@ use Rattle.std.specs.Prelude.{◌≡◌, ◌<◌, ℕ, List, [], ◌∷◌, ◌+
 use Rattle.std.specs.Str.{encode_utf8_all}
 use Rattle.xd_frame.specs.Message.{MessageView}
 use Rattle.xd_factory.specs.declared.faults.SideFault.{SideFault}
-use Rattle.xd_factory.specs.Numbers.{is_mine}
 use Rattle.xd_factory.specs.Said.{Means}
-use Rattle.xd_factory.specs.Slot.{is_new}
-use Rattle.xd_factory.specs.Table.{Refused}
 use Rattle.xd_suite.specs.declared.fault.SuiteFault.{SuiteFault}
 use Rattle.xd_suite.specs.declared.test.Test.{Test}
 use Rattle.xd_suite.specs.Suite.{IsSuiteOf, IsFaulty}
@@ -15,7 +12,7 @@ use Rattle.xd_journal.specs.declared.news.What.{What}
 use Rattle.xd_journal.specs.declared.news.What.TheVariants.{Collected}
 use Rattle.xd_worker.specs.declared.input.WorkerInput.{WorkerInput}
 use Rattle.xd_worker.specs.declared.input.WorkerInput.TheVariants.{Message, SuiteBytes, SuiteTooLarge, SuiteUnread, Output, ChildDone, LinkEnd}
-use Rattle.xd_worker.specs.Table.{Table, Counts, heard, lost}
+use Rattle.xd_factory.specs.SideTable.{Table, RefusedBy, MustRefuse, heard, lost}
 use Rattle.xd_worker.specs.Worker.{Worker, Turn, new_worker, turn_of, behind, running_in}
 use Rattle.xd_worker.specs.Turns.{Came, Told, SuiteRead, NoSuite, Printed, ChildEnded, LinkEnded, turned}
 
@@ -85,16 +82,6 @@ table_behind (NoSuite text) t = t
 table_behind (Printed b) t = t
 table_behind (ChildEnded outcome ms) t = t
 table_behind LinkEnded t = lost t
-
--- why the side refuses a message: it did so before, or for what the message is
-abbrev pub RefusedBy : Option SideFault → Table → MessageView → SideFault → Type 0
-RefusedBy (Some before) t m fault = fault ≡ before
-RefusedBy None t m fault = (n : ℕ) × Counts t.slot n × Refused n (λ c. is_new (is_mine t.parity c) (t.slot c)) m fault
-
--- the same, for each count: there is just one
-abbrev pub MustRefuse : Option SideFault → Table → MessageView → SideFault → Type 0
-MustRefuse (Some before) t m fault = fault ≡ before
-MustRefuse None t m fault = (n : ℕ) → Counts t.slot n → Refused n (λ c. is_new (is_mine t.parity c) (t.slot c)) m fault
 
 -- a refusal has its reason
 abbrev pub Refuses : Worker → WorkerInput → SideFault → Type 0

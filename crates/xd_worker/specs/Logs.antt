@@ -3,7 +3,7 @@ use Rattle.std.specs.Prelude.{◌≡◌, ◌≤◌, ◌<◌, ℕ, ◌+◌, true,
 use Rattle.xd_factory.specs.declared.parity.Parity.TheVariants.{Even}
 use Rattle.xd_factory.specs.Numbers.{is_mine}
 use Rattle.xd_factory.specs.Slot.{is_here}
-use Rattle.xd_worker.specs.Table.{Table, Counts}
+use Rattle.xd_factory.specs.SideTable.{Table, Counts}
 use Rattle.xd_worker.specs.Worker.{Worker, Opening}
 use Rattle.xd_worker.specs.History.{Heard, table_behind, turn_by, worker_after}
 

@@ -26,7 +26,7 @@ use Rattle.xd_worker.specs.declared.function.Function.TheVariants as function
 use Rattle.xd_worker.specs.declared.talk.Sent.{Sent}
 use Rattle.xd_worker.specs.declared.talk.Sent.TheVariants as how
 use Rattle.xd_worker.specs.Functions.{called_in, fault_text}
-use Rattle.xd_worker.specs.Table.{heard, answer, lost}
+use Rattle.xd_factory.specs.SideTable.{heard, answer, lost}
 use Rattle.xd_worker.specs.Talk.{Talk, sent, sent_how, payload_on, told, opening, log_closed, function_ended, function_begun, status_told}
 use Rattle.xd_worker.specs.Worker.{Service, Turn, running_in, executing, opened_by}
 

@@ -6,7 +6,8 @@ use Rattle.xd_journal.specs.declared.news.What.{What}
 use Rattle.xd_journal.specs.declared.news.What.TheVariants.{LogStart}
 use Rattle.xd_run_tests.specs.Line.{running_test}
 use Rattle.xd_run_tests.specs.History.{Given, call_after}
-use Rattle.xd_worker.specs.Table.{Table, empty}
+use Rattle.xd_factory.specs.SideTable.{Table}
+use Rattle.xd_worker.specs.Table.{empty}
 use Rattle.xd_worker.specs.Talk.{Talk}
 
 -- the call of `run_tests`: its channel and its mode, what came to the function, and whether it has ended

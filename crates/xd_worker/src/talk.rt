@@ -6,7 +6,7 @@ ghost use Rattle.xd_frame.specs.Message.{MessageView};
 ghost use Rattle.xd_factory.specs.declared.side.Side.{Side};
 ghost use Rattle.xd_factory.specs.Slot.{closed_slot, function_ended_slot, hooked_slot, is_seen};
 ghost use Rattle.xd_factory.specs.Table.{close_says, closing_message, is_long};
-ghost use Rattle.xd_worker.specs.Table.{table_of, changed_at, opened};
+ghost use Rattle.xd_factory.specs.SideTable.{table_of, changed_at, opened};
 ghost use Rattle.xd_worker.specs.Worker.{opened_by};
 ghost use Rattle.xd_worker.specs.Logs.{CanOpen, AllOpen};
 ghost use Rattle.xd_worker.specs.Talk.{talk_of, sent, sent_how, payload_on, told, opening, log_closed, function_ended, function_begun, status_told};

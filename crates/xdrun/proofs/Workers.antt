@@ -12,7 +12,7 @@ use Rattle.xd_serve.specs.Complete.{AreGood, GoesWrong}
 use Rattle.xd_serve.specs.Going.{Scene, scene}
 use Rattle.xd_link.specs.Spring.{Spring}
 use Rattle.xd_serve.specs.Served.{Served}
-use Rattle.xd_serve.specs.Speaking.{Writes}
+use Rattle.xd_frame.specs.Writing.{Writes}
 use Rattle.xd_serve.specs.Taking.{is_whole}
 use Rattle.xd_serve.proofs.Completing.{calm, complete, goes_wrong}
 use Rattle.xdrun.specs.Worker.{ServedOwn, all_bytes, unwritten}

@@ -4,7 +4,7 @@ ghost use Rattle.xd_value.specs.View.{view};
 ghost use Rattle.xd_factory.specs.Said.{Said, Means};
 ghost use Rattle.xd_factory.specs.Trees.{taken_tree};
 ghost use Rattle.xd_factory.specs.declared.faults.SideFault.{SideFault};
-ghost use Rattle.xd_worker.specs.Table.{table_of, lost, Counts};
+ghost use Rattle.xd_factory.specs.SideTable.{table_of, lost, Counts};
 
 use super::WorkerCore;
 use crate::input::{WorkerActions, WorkerFault};

@@ -1,5 +1,5 @@
 use Rattle.xd_factory.specs.Slot.{hooked_slot}
-use Rattle.xd_worker.proofs.Tables.{same_table}
+use Rattle.xd_factory.proofs.SideTables.{same_table}
 use Rattle.xd_worker.proofs.talk.begin_function.Goals as goal
 
 pub returns : goal.returns

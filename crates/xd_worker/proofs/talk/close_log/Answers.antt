@@ -1,6 +1,6 @@
 use Rattle.std.proofs.Common.{ap, ◌∙◌}
 use Rattle.xd_factory.specs.Slot.{function_ended_slot}
-use Rattle.xd_worker.specs.Table.{table_of, changed_at}
+use Rattle.xd_factory.specs.SideTable.{table_of, changed_at}
 use Rattle.xd_worker.proofs.Tables.{talks, closed_dropped}
 use Rattle.xd_worker.proofs.talk.close_log.Goals as goal
 

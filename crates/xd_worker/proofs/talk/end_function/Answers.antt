@@ -2,9 +2,10 @@ use Rattle.std.proofs.Common.{ap, refl, ◌∙◌}
 use Rattle.xd_factory.specs.Slot.{function_ended_slot, is_seen}
 use Rattle.xd_factory.specs.Table.{is_long}
 use Rattle.xd_factory.specs.View.{slot_of}
-use Rattle.xd_worker.specs.Table.{table_of, changed_at}
+use Rattle.xd_factory.specs.SideTable.{table_of, changed_at}
 use Rattle.xd_factory.specs.declared.faults.CloseFault.TheVariants.{Unknown, TooLong}
-use Rattle.xd_worker.proofs.Tables.{refusal_is, talks, same_table, kept_table, kept_all, unknown_ended, ended_ok, ended_unknown, ended_long}
+use Rattle.xd_factory.proofs.SideTables.{same_table, kept_all}
+use Rattle.xd_worker.proofs.Tables.{refusal_is, talks, kept_table, unknown_ended, ended_ok, ended_unknown, ended_long}
 use Rattle.xd_worker.proofs.talk.end_function.Goals as goal
 
 pub returns-in_ok-put-in-Ok : goal.returns-in_ok-put-in-Ok

@@ -1,7 +1,7 @@
 use Rattle.std.proofs.Common.{◌≡◌, Err, ap, sym, ◌∙◌}
 use Rattle.xd_factory.specs.View.{slot_of, entry_count, numbers_of}
 use Rattle.xd_factory.specs.declared.faults.OpenFault.TheVariants as fault
-use Rattle.xd_worker.specs.Table.{Counts}
+use Rattle.xd_factory.specs.SideTable.{Counts}
 use Rattle.xd_worker.proofs.Tables.{only_memory}
 use Rattle.xd_worker.proofs.talk.open_log.Goals as goal
 

@@ -1,5 +1,5 @@
 use Rattle.xd_serve.specs.Speaking.{greeting}
-use Rattle.xd_serve.proofs.Writing.{one_print}
+use Rattle.xd_frame.proofs.Written.{one_print}
 use Rattle.xd_serve.proofs.speaker.Speaker.begin.Goals as goal
 
 pub returns-clause-writes : goal.returns-clause-writes

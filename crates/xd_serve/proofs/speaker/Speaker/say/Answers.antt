@@ -1,4 +1,4 @@
-use Rattle.xd_serve.proofs.Writing.{next_print}
+use Rattle.xd_frame.proofs.Written.{next_print}
 use Rattle.xd_serve.proofs.speaker.Speaker.say.Goals as goal
 
 pub returns-then-not-self-clause-writes : goal.returns-then-not-self-clause-writes

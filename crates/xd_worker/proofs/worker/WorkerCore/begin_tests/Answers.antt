@@ -1,6 +1,6 @@
 use Rattle.std.proofs.Common.{ap, refl, ◌∙◌}
 use Rattle.xd_journal.specs.declared.news.What.TheVariants.{Ready}
-use Rattle.xd_worker.specs.Table.{Table}
+use Rattle.xd_factory.specs.SideTable.{Table}
 use Rattle.xd_worker.specs.Talk.{Talk, told, function_begun}
 use Rattle.xd_worker.proofs.worker.WorkerCore.begin_tests.Goals as goal
 

@@ -2,7 +2,7 @@ use Rattle.std.proofs.Common.{◌≡◌, sym, subst, ◌∙◌}
 use Rattle.xd_value.specs.View.{view}
 use Rattle.xd_worker.specs.Worker.{Turn}
 use Rattle.xd_worker.specs.Stands.{Stands}
-use Rattle.xd_worker.specs.Table.{table_of}
+use Rattle.xd_factory.specs.SideTable.{table_of}
 use Rattle.xd_worker.specs.Talk.{sent_how, payload_on}
 use Rattle.xd_worker.specs.declared.talk.Sent.TheVariants.{Unwritten}
 use Rattle.xd_worker.proofs.Standing.{left_out, echoed_long}

@@ -1,5 +1,5 @@
 use Rattle.std.proofs.Common.{refl, ap}
-use Rattle.xd_worker.specs.Table.{Table, lost}
+use Rattle.xd_factory.specs.SideTable.{Table, lost}
 use Rattle.xd_worker.specs.Talk.{Talk}
 use Rattle.xd_worker.specs.Worker.{turn_of}
 use Rattle.xd_worker.specs.History.{Heard}

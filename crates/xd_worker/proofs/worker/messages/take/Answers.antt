@@ -5,9 +5,10 @@ use Rattle.xd_value.specs.declared.value.Value.{Value}
 use Rattle.std.proofs.Common.{Err}
 use Rattle.xd_factory.specs.View.{fault_of, entry_count, numbers_of}
 use Rattle.xd_worker.specs.declared.input.WorkerFault.{WorkerFault}
-use Rattle.xd_worker.specs.Table.{table_of}
+use Rattle.xd_factory.specs.SideTable.{table_of}
 use Rattle.xd_worker.specs.Stands.{IsSmall, IsRefusal}
-use Rattle.xd_worker.proofs.Hearing.{heard_table, small_answer, not_taken, refusal_at}
+use Rattle.xd_factory.proofs.SideTables.{heard_table, not_taken}
+use Rattle.xd_worker.proofs.Hearing.{small_answer, refusal_at}
 use Rattle.xd_worker.proofs.worker.messages.take.Goals as goal
 
 pub returns-in-Ok-clause-heard : goal.returns-in-Ok-clause-heard
