@@ -1,6 +1,6 @@
 -- A small journal that the laws speak of, and lines that they rule out.
-use Rattle.std.specs.Prelude.{◌≡◌, ℕ, List, [], ◌∷◌, true, None}
-use Rattle.std.proofs.Common.{refl}
+use Rattle.std.specs.Prelude.{◌≡◌, ℕ, List, [], ◌∷◌, true, None, slice_index}
+use Rattle.std.proofs.Common.{ap, arith, refl}
 use Rattle.xd_edge.specs.declared.mode.ModeKind.TheVariants.{Each}
 use Rattle.xd_journal.specs.declared.settings.Settings.{Settings}
 use Rattle.xd_journal.specs.declared.entry.Ids.TheVariants as ids
@@ -28,13 +28,18 @@ a_run-proper = record { mode = refl; some_worker = refl; few_workers = refl; few
 a_run-reports : reports two_slots (journal_of two_slots a_run) ≡ Result 1 2 Passed ∷ []
 a_run-reports = refl
 
-a_run-ids : item_ids (stepped_all (begun two_slots) a_run).books ≡ (97 ∷ []) ∷ (98 ∷ []) ∷ (99 ∷ []) ∷ []
+abbrev the_ids : List (List ℕ)
+the_ids = (97 ∷ []) ∷ (98 ∷ []) ∷ (99 ∷ []) ∷ []
+
+a_run-ids : item_ids (stepped_all (begun two_slots) a_run).books ≡ the_ids
 a_run-ids = refl
 
 -- its line gives c
-a_run-named : Names (id_in (item_ids (stepped_all (begun two_slots) a_run).books)) (Of (Result 1 2 Passed) (99 ∷ []) ∷ [])
+a_run-named : Names (id_in the_ids) (Of (Result 1 2 Passed) (99 ∷ []) ∷ [])
 a_run-named = (refl, tt)
 
 -- its line gives a, which is the first test of the other slot
-of_the_other_slot : Names (id_in (item_ids (stepped_all (begun two_slots) a_run).books)) (Of (Result 1 2 Passed) (97 ∷ []) ∷ []) → ⊥
-of_the_other_slot h = (let same : 97 ∷ [] ≡ 99 ∷ [] = h.0 in absurd cc)
+of_the_other_slot : Names (id_in the_ids) (Of (Result 1 2 Passed) (97 ∷ []) ∷ []) → ⊥
+of_the_other_slot h =
+    let one : 97 ≡ 99 = ap (λ (id : List ℕ). slice_index id 0) h.0 in
+    omega (one, arith)
