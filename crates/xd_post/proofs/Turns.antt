@@ -3,7 +3,7 @@ use Rattle.std.proofs.Common.{◌≡◌, ℕ, ◌<◌, ◌≤◌, List, [], Opti
 use Rattle.std.specs.Option.{IfNone, IfSome}
 use Rattle.std.proofs.lemmas.Bool.{cases_lt}
 use Rattle.std.proofs.lemmas.List.{get_or_past}
-use Rattle.xd_post.specs.Mails.{IsAhead, NoneKnown, NoneFrom, NoneAhead}
+use Rattle.xd_post.specs.Mails.{NoneKnown, NoneFrom, NoneAhead}
 
 module _ {T : Type 0} where
   -- where those up to the last know nothing, none behind does either
