@@ -1,10 +1,6 @@
 -- What a call that says something answers, step by step.
-use Rattle.std.proofs.Common.{◌≡◌, ℕ, List, [], ◌∷◌, Bool, true, false, Option, Some, None, Result, Ok, Err, refl, sym, ap, subst, ◌∙◌}
-use Rattle.std.specs.Prelude.{is_some, map}
-use Rattle.xd_value.specs.Tree.{text, dict, pair}
-use Rattle.xd_value.specs.View.{view, pair_views}
-use Rattle.xd_value.specs.declared.value.Value.{Value}
-use Rattle.xd_value.specs.declared.value.Value.TheVariants as value
+use Rattle.std.proofs.Common.{◌≡◌, ℕ, List, [], Bool, true, false, Option, Some, None, Result, Ok, Err, refl, sym, ap, subst, ◌∙◌}
+use Rattle.std.specs.Prelude.{is_some}
 use Rattle.xd_value.specs.declared.writing.DumpFault.{DumpFault}
 use Rattle.xd_frame.specs.Message.{MessageView, frame}
 use Rattle.xd_factory.specs.declared.faults.OpenFault.{OpenFault}
@@ -15,7 +11,7 @@ use Rattle.xd_factory.specs.View.{fault_of, next_of}
 use Rattle.xd_remote.specs.declared.fault.GatewayFault.{GatewayFault}
 use Rattle.xd_remote.specs.declared.fault.GatewayFault.TheVariants.{SendFault, Channel, Opening, OutOfMemory}
 use Rattle.xd_remote.specs.declared.gateway.Gateway.{Gateway}
-use Rattle.xd_remote.specs.Calls.{Wanted, exec_by, exec_message, exec_opened, kwargs_of, open_refusal, opened_by, opening_wanted, status_message, status_wanted}
+use Rattle.xd_remote.specs.Calls.{Wanted, exec_by, exec_message, exec_opened, open_refusal, opened_by, opening_wanted, status_message, status_wanted}
 use Rattle.xd_remote.specs.Line.{Line, Prints, Says, written}
 use Rattle.xd_remote.specs.News.{Heard}
 use Rattle.xd_remote.specs.Opening.{IsMessage, IsPayloadOf, IsUnopened}
@@ -77,15 +73,6 @@ call_wanted d s p n q k e =
 
 pub asked_wanted : (s : Side) (n : ℕ) → open_refusal s ≡ None → n ≡ next_of s → status_wanted s ≡ Ok (status_message n)
 asked_wanted s n k e = ap (λ (o : Option OpenFault). opening_wanted o (status_message (next_of s))) k ∙ ap (λ (i : ℕ). Ok (status_message i)) (sym e)
-
--- ---- keyword arguments
-
-named_views : (xs : List (List ℕ × Value)) → pair_views (map (λ p. (value.Text p.0, p.1)) xs) ≡ kwargs_of xs
-named_views [] = refl
-named_views (x ∷ xs) = ap (pair (text x.0) (view x.1)) (named_views xs)
-
-pub dict_views : (ps : List (Value × Value)) (xs : List (List ℕ × Value)) → ps ≡ map (λ p. (value.Text p.0, p.1)) xs → dict (pair_views ps) ≡ dict (kwargs_of xs)
-dict_views ps xs e = ap (λ (l : List (Value × Value)). dict (pair_views l)) e ∙ ap dict (named_views xs)
 
 -- ---- the channels
 
