@@ -9,7 +9,7 @@ use Rattle.xd_channel.specs.History.{handed}
 use Rattle.xd_value.specs.Tree.{Tree}
 use Rattle.xd_factory.specs.Slot.{Slot, Unseen, Here, Gone, settled, receive_answer, named_slot}
 use Rattle.xd_pair.specs.Notes.{Note, Named, Item, Ends, Lasts, Asked, before_end, has_end}
-use Rattle.xd_pair.specs.Side.{Part, is_orderly, is_lost, heard_in, heard, heard_all, opened_in, received_in, hooked_in, closed_in, ended_in, given_up_in, lost_in, end_in, item_in}
+use Rattle.xd_pair.specs.Part.{Part, is_orderly, is_lost, heard_in, heard, heard_all, opened_in, received_in, hooked_in, closed_in, ended_in, given_up_in, lost_in, end_in, item_in}
 use Rattle.xd_factory.specs.Slot.{is_seen}
 use Rattle.xd_pair.proofs.NotesLemmas.{open_append, ended_append, has_end-append, still_ended, open_or_ended, grows, longer}
 

@@ -22,6 +22,11 @@ pub item_means : (n : ℕ) (v : Tree) (b : List ℕ) → (n == 0) ≡ false → 
     → Means (record { kind = kind.Item; channel = n; payload = canonical v }) (Data n v)
 item_means n v b h p s = record { numbered = numbered n true h; says = (v, (canonical_is v b p s).0, refl) }
 
+-- a call of a function, likewise
+pub call_means : (n : ℕ) (v : Tree) (b : List ℕ) → (n == 0) ≡ false → IsPayload v b → length (canonical v) ≤ 16777216
+    → Means (record { kind = kind.Exec; channel = n; payload = canonical v }) (Exec n v)
+call_means n v b h p s = record { numbered = numbered n true h; says = (v, (canonical_is v b p s).0, refl) }
+
 -- the message that `close` and `end_function` give is an end of the law
 pub close_means : (n : ℕ) → (n == 0) ≡ false → Means (closing_message n None) (Close n None)
 close_means n h = record { numbered = numbered n true h; says = refl }

@@ -4,7 +4,7 @@ use Rattle.std.specs.Prelude.{pos}
 use Rattle.xd_value.specs.Tree.{int, channel}
 use Rattle.xd_factory.specs.Slot.{Gone}
 use Rattle.xd_pair.specs.Notes.{all_notes, Lasts, Item, Ends}
-use Rattle.xd_pair.specs.Pair.{Law, untouched, Open, Send, Ask, Answer, Close_own, Give_up, Receive, Set_callback, Take, Step, Odd, Even, run, start}
+use Rattle.xd_pair.specs.Pair.{Law, untouched, Open, Send, Ask, Answer, Close_own, Give_up, Receive, Set_callback, Take, Finish, Step, Odd, Even, run, start}
 
 abbrev two_channels : List Step
 two_channels = Odd Open ∷ Odd Open ∷ Odd (Send 1 (channel 3)) ∷ Odd (Send 3 (int (pos 7))) ∷ Even Take ∷ Even Take ∷ Even (Receive 1) ∷ Even (Receive 3) ∷ Even (Receive 3) ∷ []
@@ -47,6 +47,35 @@ not_let_go = refl
 -- the items ahead of the CHANNEL_CLOSE, which stands last
 all_said : all_notes 1 (run late_answer start).odd.taken ≡ Lasts ∷ Item (int (pos 9)) ∷ Ends None ∷ []
 all_said = refl
+
+-- two items and a close, and a callback that is set twice
+abbrev set_twice : List Step
+set_twice = Odd Open ∷ Odd (Send 1 (int (pos 1))) ∷ Odd (Send 1 (int (pos 2))) ∷ Odd (Close_own 1 None) ∷ Even Take ∷ Even Take ∷ Even Take ∷ Even (Set_callback 1) ∷ Even (Set_callback 1) ∷ []
+
+both_come : ((run set_twice start).even.part 1).got ≡ int (pos 1) ∷ int (pos 2) ∷ []
+both_come = refl
+
+close_comes : ((run set_twice start).even.part 1).ended ≡ true
+close_comes = refl
+
+has_left : ((run set_twice start).even.part 1).slot ≡ Gone
+has_left = refl
+
+-- the link is lost at two channels, one with a callback
+abbrev link_lost : List Step
+link_lost = Odd Open ∷ Odd Open ∷ Odd (Set_callback 1) ∷ Odd Finish ∷ []
+
+callback_told : ((run link_lost start).odd.part 1).lost ≡ true
+callback_told = refl
+
+not_told_yet : ((run link_lost start).odd.part 3).lost ≡ false
+not_told_yet = refl
+
+told_then : ((run (link_lost ++ Odd (Receive 3) ∷ []) start).odd.part 3).lost ≡ true
+told_then = refl
+
+none_opens : (run (link_lost ++ Odd Open ∷ []) start).odd.next ≡ 5
+none_opens = refl
 
 -- what the law rules out
 

@@ -9,17 +9,17 @@ use Rattle.xd_factory.specs.Said.{Said, Status, Exec, Data, Close, Last, Termina
 use Rattle.xd_factory.specs.Slot.{Slot, Unseen, Here, Gone, named_slot, item_slot, peer_closed_slot, peer_last_slot}
 use Rattle.xd_factory.specs.Table.{heard_slot, named_in}
 use Rattle.xd_factory.proofs.Bounds.{is_in-append}
-use Rattle.xd_pair.specs.Notes.{parity_of, owns, notes, Named, Item, Ends, Lasts}
-use Rattle.xd_pair.specs.Side.{Part, heard_all}
+use Rattle.xd_pair.specs.Notes.{side_parity, owns, notes, Named, Item, Ends, Lasts}
+use Rattle.xd_pair.specs.Part.{Part, heard_all}
 
 or_false : (a : Bool) → a || false ≡ a
 or_false true = refl
 or_false false = refl
 
-named_own : (c n : ℕ) (v : Tree) → is_in c (channels v ++ n ∷ []) ≡ is_in c (channels v) || (n == c)
+pub named_own : (c n : ℕ) (v : Tree) → is_in c (channels v ++ n ∷ []) ≡ is_in c (channels v) || (n == c)
 named_own c n v = is_in-append c (channels v) (n ∷ []) ∙ ap (λ b. is_in c (channels v) || b) (or_false (n == c))
 
-twice : (mine : Bool) (s : Slot Tree) → named_slot mine (named_slot mine s) ≡ named_slot mine s
+pub twice : (mine : Bool) (s : Slot Tree) → named_slot mine (named_slot mine s) ≡ named_slot mine s
 twice true Unseen = refl
 twice false Unseen = refl
 twice mine (Here s) = refl
@@ -50,7 +50,7 @@ asked_by : (mine : Bool) (p : Part) (n c : ℕ) (b : Bool) → n == c ≡ b → 
 asked_by mine p n c true h = rw h refl
 asked_by mine p n c false h = rw h refl
 
-pub message_heard : (odd : Bool) (p : Part) (c : ℕ) (said : Said) → (heard_all (owns odd c) p (notes c said)).slot ≡ heard_slot (parity_of odd) said c p.slot
+pub message_heard : (odd : Bool) (p : Part) (c : ℕ) (said : Said) → (heard_all (owns odd c) p (notes c said)).slot ≡ heard_slot (side_parity odd) said c p.slot
 message_heard odd p c (Status n) = asked_by (owns odd c) p n c (n == c) refl
 message_heard odd p c (Exec n v) = call_by (owns odd c) p (is_in c (channels v)) (n == c) ∙ ap (λ b. named_in (owns odd c) b p.slot) (sym (named_own c n v))
 message_heard odd p c (Data n v) =

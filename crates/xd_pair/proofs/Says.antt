@@ -16,17 +16,17 @@ use Rattle.xd_factory.specs.Numbers.{is_in}
 use Rattle.xd_pair.specs.Notes.{owns}
 use Rattle.xd_factory.specs.Said.{Said, Status, Exec, Data, Close}
 use Rattle.xd_pair.specs.Notes.{Note, Named, Item, Ends, Lasts, Asked, named, notes, all_notes, items}
-use Rattle.xd_pair.specs.Side.{Part, heard, heard_all, opened_in, received_in, hooked_in, closed_in, ended_in, given_up_in, closing_says, close_says, end_says, giving_says, give_up_says, may_send}
+use Rattle.xd_pair.specs.Part.{Part, heard, heard_all, opened_in, received_in, hooked_in, closed_in, ended_in, given_up_in, closing_words, close_words, end_words, giving_words, give_up_words, may_send}
 use Rattle.xd_factory.specs.Slot.{is_seen, is_here}
-use Rattle.xd_pair.specs.Pair.{Actor, Move, Open, Send, Call, Ask, Answer, Stop, Close_own, End_function, Give_up, Receive, Set_callback, Take, Refuse, Finish, is_told, has_notes, named_in, knows, at, adds, can_send, can_call, can_answer, can_open, takes, says, after}
+use Rattle.xd_pair.specs.Pair.{Actor, Move, Open, Send, Call, Ask, Answer, Stop, Close_own, End_function, Give_up, Receive, Set_callback, Take, Refuse, Finish, is_told, has_notes, named_part, knows, at, adds, can_send, can_call, can_answer, can_open, takes, says, after}
 use Rattle.xd_pair.proofs.NotesLemmas.{open_or_ended}
 use Rattle.xd_pair.proofs.Local.{settled_seen, seen_in}
 
 -- a number that is not seen differs from one that is
-differ : (part : ℕ → Part) (n c : ℕ) → is_seen (part c).slot ≡ false → is_seen (part n).slot ≡ true → (n == c) ≡ false
+pub differ : (part : ℕ → Part) (n c : ℕ) → is_seen (part c).slot ≡ false → is_seen (part n).slot ≡ true → (n == c) ≡ false
 differ part n c u k = open_or_ended (n == c) ((n == c) ≡ false) (λ h. let e = ap (λ (x : ℕ). is_seen (part x).slot) (eqb-true n c h) in cc) (λ h. h)
 
-unasked : (part : ℕ → Part) (n c : ℕ) → (part c).asked ≡ false → (part n).asked ≡ true → (n == c) ≡ false
+pub unasked : (part : ℕ → Part) (n c : ℕ) → (part c).asked ≡ false → (part n).asked ≡ true → (n == c) ≡ false
 unasked part n c u k = open_or_ended (n == c) ((n == c) ≡ false) (λ h. let e = ap (λ (x : ℕ). (part x).asked) (eqb-true n c h) in cc) (λ h. h)
 
 unnamed : (part : ℕ → Part) (c : ℕ) (cs : List ℕ) → is_seen (part c).slot ≡ false → knows part cs ≡ true → is_in c cs ≡ false
@@ -34,12 +34,12 @@ unnamed part c [] u k = refl
 unnamed part c (n ∷ cs) u k = let h = and_parts (is_seen (part n).slot) (knows part cs) k in
     ap (λ b. b || is_in c cs) (differ part n c u h.0) ∙ unnamed part c cs u h.1
 
-may_seen : (s : Slot Tree) → may_send s ≡ true → is_seen s ≡ true
+pub may_seen : (s : Slot Tree) → may_send s ≡ true → is_seen s ≡ true
 may_seen Unseen h = cc
 may_seen (Here s) h = refl
 may_seen Gone h = refl
 
-here_seen : (s : Slot Tree) → is_here s ≡ true → is_seen s ≡ true
+pub here_seen : (s : Slot Tree) → is_here s ≡ true → is_seen s ≡ true
 here_seen Unseen h = cc
 here_seen (Here s) h = refl
 here_seen Gone h = refl
@@ -48,26 +48,26 @@ if_says : (c : ℕ) (b : Bool) (ms : List Said) → (b ≡ true → all_notes c 
 if_says c true ms h = h refl
 if_says c false ms h = refl
 
-close_quiet : (n c : ℕ) (e : Option (List ℕ)) (s : Slot Tree) → (n == c ≡ true → is_seen s ≡ false) → all_notes c (close_says n e s) ≡ []
+close_quiet : (n c : ℕ) (e : Option (List ℕ)) (s : Slot Tree) → (n == c ≡ true → is_seen s ≡ false) → all_notes c (close_words n e s) ≡ []
 close_quiet n c e Unseen h = refl
 close_quiet n c e Gone h = refl
-close_quiet n c e (Here s) h = open_or_ended (n == c) (all_notes c (close_says n e (Here s)) ≡ []) (λ q. absurd (let z = h q in cc)) (λ q. by_gives q (close_gives s))
+close_quiet n c e (Here s) h = open_or_ended (n == c) (all_notes c (close_words n e (Here s)) ≡ []) (λ q. absurd (let z = h q in cc)) (λ q. by_gives q (close_gives s))
   where
-    by_gives : n == c ≡ false → (x : Closing) → all_notes c (closing_says n e x) ≡ []
+    by_gives : n == c ≡ false → (x : Closing) → all_notes c (closing_words n e x) ≡ []
     by_gives q closing.Say = rw q refl
     by_gives q closing.Nothing = refl
 
-end_quiet : (n c : ℕ) (e : Option (List ℕ)) (s : Slot Tree) → (n == c ≡ true → is_seen s ≡ false) → all_notes c (end_says n e s) ≡ []
+end_quiet : (n c : ℕ) (e : Option (List ℕ)) (s : Slot Tree) → (n == c ≡ true → is_seen s ≡ false) → all_notes c (end_words n e s) ≡ []
 end_quiet n c e Unseen h = refl
-end_quiet n c e Gone h = open_or_ended (n == c) (all_notes c (end_says n e Gone) ≡ []) (λ q. absurd (let z = h q in cc)) (λ q. rw q refl)
-end_quiet n c e (Here s) h = open_or_ended (n == c) (all_notes c (end_says n e (Here s)) ≡ []) (λ q. absurd (let z = h q in cc)) (λ q. rw q refl)
+end_quiet n c e Gone h = open_or_ended (n == c) (all_notes c (end_words n e Gone) ≡ []) (λ q. absurd (let z = h q in cc)) (λ q. rw q refl)
+end_quiet n c e (Here s) h = open_or_ended (n == c) (all_notes c (end_words n e (Here s)) ≡ []) (λ q. absurd (let z = h q in cc)) (λ q. rw q refl)
 
-give_up_quiet : (n c : ℕ) (s : Slot Tree) → (n == c ≡ true → is_seen s ≡ false) → all_notes c (give_up_says n s) ≡ []
+give_up_quiet : (n c : ℕ) (s : Slot Tree) → (n == c ≡ true → is_seen s ≡ false) → all_notes c (give_up_words n s) ≡ []
 give_up_quiet n c Unseen h = refl
 give_up_quiet n c Gone h = refl
-give_up_quiet n c (Here s) h = open_or_ended (n == c) (all_notes c (give_up_says n (Here s)) ≡ []) (λ q. absurd (let z = h q in cc)) (λ q. by_gives q (give_up_gives s))
+give_up_quiet n c (Here s) h = open_or_ended (n == c) (all_notes c (give_up_words n (Here s)) ≡ []) (λ q. absurd (let z = h q in cc)) (λ q. by_gives q (give_up_gives s))
   where
-    by_gives : n == c ≡ false → (x : GivenUp) → all_notes c (giving_says n x) ≡ []
+    by_gives : n == c ≡ false → (x : GivenUp) → all_notes c (giving_words n x) ≡ []
     by_gives q given_up.SayClose = rw q refl
     by_gives q given_up.SayLast = rw q refl
     by_gives q given_up.Nothing = refl
@@ -108,26 +108,26 @@ same_tests : (b : Bool) (x : Note) → items (x ∷ []) ≡ [] → items ((if b 
 same_tests true x h = h
 same_tests false x h = refl
 
-close_items : (n c : ℕ) (e : Option (List ℕ)) (s : Slot Tree) → items (all_notes c (close_says n e s)) ≡ []
+close_items : (n c : ℕ) (e : Option (List ℕ)) (s : Slot Tree) → items (all_notes c (close_words n e s)) ≡ []
 close_items n c e Unseen = refl
 close_items n c e Gone = refl
 close_items n c e (Here s) = by_gives (close_gives s)
   where
-    by_gives : (x : Closing) → items (all_notes c (closing_says n e x)) ≡ []
+    by_gives : (x : Closing) → items (all_notes c (closing_words n e x)) ≡ []
     by_gives closing.Nothing = refl
     by_gives closing.Say = same_tests (n == c) (Ends e) refl
 
-end_items : (n c : ℕ) (e : Option (List ℕ)) (s : Slot Tree) → items (all_notes c (end_says n e s)) ≡ []
+end_items : (n c : ℕ) (e : Option (List ℕ)) (s : Slot Tree) → items (all_notes c (end_words n e s)) ≡ []
 end_items n c e Unseen = refl
 end_items n c e Gone = same_tests (n == c) (Ends e) refl
 end_items n c e (Here s) = same_tests (n == c) (Ends e) refl
 
-give_up_items : (n c : ℕ) (s : Slot Tree) → items (all_notes c (give_up_says n s)) ≡ []
+give_up_items : (n c : ℕ) (s : Slot Tree) → items (all_notes c (give_up_words n s)) ≡ []
 give_up_items n c Unseen = refl
 give_up_items n c Gone = refl
 give_up_items n c (Here s) = by_gives (give_up_gives s)
   where
-    by_gives : (x : GivenUp) → items (all_notes c (giving_says n x)) ≡ []
+    by_gives : (x : GivenUp) → items (all_notes c (giving_words n x)) ≡ []
     by_gives given_up.Nothing = refl
     by_gives given_up.SayClose = same_tests (n == c) (Ends None) refl
     by_gives given_up.SayLast = same_tests (n == c) Lasts refl
@@ -251,39 +251,39 @@ seen_stays odd a wire (Receive n) c h = at_seen n c (λ p. received_in p p.slot)
 seen_stays odd a wire (Set_callback n) c h = at_seen n c (λ p. hooked_in p p.slot) a h (hooked_seen (a.part c).slot h)
 seen_stays odd a [] Take c h = if_actor (λ t. is_seen (t.part c).slot ≡ true) (a.failed || a.finished) a a h h
 seen_stays odd a (m ∷ ms) Take c h = if_actor (λ t. is_seen (t.part c).slot ≡ true) (a.failed || a.finished) a (takes odd a (m ∷ ms)) h (heards_seen (owns odd c) (a.part c) (notes c m) h)
-seen_stays odd a wire (Refuse names) c h = if_part (λ t. is_seen t.slot ≡ true) (is_in c names && is_told c wire) (named_in (owns odd c) (a.part c) (a.part c).slot) (a.part c) (named_seen (owns odd c) (a.part c).slot h) h
+seen_stays odd a wire (Refuse names) c h = if_part (λ t. is_seen t.slot ≡ true) (is_in c names && is_told c wire) (named_part (owns odd c) (a.part c) (a.part c).slot) (a.part c) (named_seen (owns odd c) (a.part c).slot h) h
 seen_stays odd a wire Finish c h = lost_seen (a.part c).slot h
 
 pub seen_back : (odd : Bool) (a : Actor) (wire : List Said) (m : Move) (c : ℕ) → is_seen ((after odd a wire m).part c).slot ≡ false → is_seen (a.part c).slot ≡ false
 seen_back odd a wire m c u = open_or_ended (is_seen (a.part c).slot) (is_seen (a.part c).slot ≡ false) (λ h. let z = seen_stays odd a wire m c h in cc) (λ h. h)
 
 -- a number that was not seen and of which nothing comes stays so
-received_not : (s : Slot Tree) → is_seen s ≡ false → is_seen (received_slot s) ≡ false
+pub received_not : (s : Slot Tree) → is_seen s ≡ false → is_seen (received_slot s) ≡ false
 received_not Unseen u = refl
 received_not (Here s) u = absurd (let z = u in cc)
 received_not Gone u = absurd (let z = u in cc)
 
-hooked_not : (s : Slot Tree) → is_seen s ≡ false → is_seen (hooked_slot s) ≡ false
+pub hooked_not : (s : Slot Tree) → is_seen s ≡ false → is_seen (hooked_slot s) ≡ false
 hooked_not Unseen u = refl
 hooked_not (Here s) u = absurd (let z = u in cc)
 hooked_not Gone u = absurd (let z = u in cc)
 
-closed_not : (s : Slot Tree) → is_seen s ≡ false → is_seen (closed_slot s) ≡ false
+pub closed_not : (s : Slot Tree) → is_seen s ≡ false → is_seen (closed_slot s) ≡ false
 closed_not Unseen u = refl
 closed_not (Here s) u = absurd (let z = u in cc)
 closed_not Gone u = absurd (let z = u in cc)
 
-ended_not : (s : Slot Tree) → is_seen s ≡ false → is_seen (function_ended_slot s) ≡ false
+pub ended_not : (s : Slot Tree) → is_seen s ≡ false → is_seen (function_ended_slot s) ≡ false
 ended_not Unseen u = refl
 ended_not (Here s) u = absurd (let z = u in cc)
 ended_not Gone u = absurd (let z = u in cc)
 
-given_up_not : (s : Slot Tree) → is_seen s ≡ false → is_seen (given_up_slot s) ≡ false
+pub given_up_not : (s : Slot Tree) → is_seen s ≡ false → is_seen (given_up_slot s) ≡ false
 given_up_not Unseen u = refl
 given_up_not (Here s) u = absurd (let z = u in cc)
 given_up_not Gone u = absurd (let z = u in cc)
 
-lost_not : (s : Slot Tree) → is_seen s ≡ false → is_seen (lost_slot s) ≡ false
+pub lost_not : (s : Slot Tree) → is_seen s ≡ false → is_seen (lost_slot s) ≡ false
 lost_not Unseen u = refl
 lost_not (Here s) u = absurd (let z = u in cc)
 lost_not Gone u = absurd (let z = u in cc)
@@ -324,5 +324,5 @@ stays_away odd a wire (Set_callback n) c u w k = away_at odd n c (λ p. hooked_i
 stays_away odd a [] Take c u w k = if_actor (λ t. StaysAway odd c (t.part c)) (a.failed || a.finished) a a (λ i. u, w) (λ i. u, w)
 stays_away odd a (m ∷ ms) Take c u w k = if_actor (λ t. StaysAway odd c (t.part c)) (a.failed || a.finished) a (takes odd a (m ∷ ms)) (λ i. u, w)
     (subst (λ (ns : List Note). StaysAway odd c (heard_all (owns odd c) (a.part c) ns)) (sym (append_empty (notes c m) (all_notes c ms) k).0) (λ i. u, w))
-stays_away odd a wire (Refuse names) c u w k = subst (λ b. StaysAway odd c (if b then named_in (owns odd c) (a.part c) (a.part c).slot else a.part c)) (sym (and_right (is_in c names) (is_told c wire) (untold c wire k))) (λ i. u, w)
+stays_away odd a wire (Refuse names) c u w k = subst (λ b. StaysAway odd c (if b then named_part (owns odd c) (a.part c) (a.part c).slot else a.part c)) (sym (and_right (is_in c names) (is_told c wire) (untold c wire k))) (λ i. u, w)
 stays_away odd a wire Finish c u w k = (λ i. lost_not (a.part c).slot u, w)

@@ -8,9 +8,9 @@ use Rattle.xd_factory.specs.Numbers.{is_in, is_odd}
 use Rattle.xd_pair.specs.Notes.{owns}
 use Rattle.xd_factory.specs.Said.{Said}
 use Rattle.xd_pair.specs.Notes.{Note, notes, all_notes, items, before_end, has_end}
-use Rattle.xd_pair.specs.Side.{Part, heard_all, opened_in, received_in, hooked_in, closed_in, ended_in, given_up_in}
+use Rattle.xd_pair.specs.Part.{Part, heard_all, opened_in, received_in, hooked_in, closed_in, ended_in, given_up_in}
 use Rattle.xd_factory.specs.Slot.{is_seen}
-use Rattle.xd_pair.specs.Pair.{Actor, World, Move, Open, Send, Call, Ask, Answer, Stop, Close_own, End_function, Give_up, Receive, Set_callback, Take, Refuse, Finish, is_told, named_in, at, adds, can_send, can_answer, can_open, takes, rest, says, after, wire_after, Step, Odd, Even, happens, run, start, untouched, IsPrefixOf, Law, PairLaw}
+use Rattle.xd_pair.specs.Pair.{Actor, World, Move, Open, Send, Call, Ask, Answer, Stop, Close_own, End_function, Give_up, Receive, Set_callback, Take, Refuse, Finish, is_told, named_part, at, adds, can_send, can_answer, can_open, takes, rest, says, after, wire_after, Step, Odd, Even, happens, run, start, untouched, IsPrefixOf, Law, PairLaw}
 use Rattle.xd_pair.proofs.NotesLemmas.{all_notes-append, items-append, open_or_ended, ended_append, still_ended, before_items, longer}
 use Rattle.xd_pair.proofs.Local.{named-ok, SlotOk, PartOk, opened-ok, received-ok, hooked-ok, closed-ok, ended-ok, given_up-ok, lost-ok, heard_all-ok}
 use Rattle.xd_pair.proofs.Says.{quiet_says, sent_says, seen_back, stays_away, append_empty, if_actor}
@@ -85,7 +85,7 @@ moves-ok odd a wire Take c q k = open_or_ended (a.failed || a.finished) (ActorOk
     (λ h. subst (λ b. ActorOk c (if b then a else takes odd a wire)) (sym h) (takes-ok odd a wire c (or_parts a.failed a.finished h).1 q k))
 moves-ok odd a wire (Refuse names) c q k = by_test (is_in c names && is_told c wire)
   where
-    by_test : (b : Bool) → PartOk a.finished (all_notes c a.taken) (if b then named_in (owns odd c) (a.part c) (a.part c).slot else a.part c)
+    by_test : (b : Bool) → PartOk a.finished (all_notes c a.taken) (if b then named_part (owns odd c) (a.part c) (a.part c).slot else a.part c)
     by_test true = named-ok a.finished (all_notes c a.taken) (a.part c) (owns odd c) (a.part c).slot refl k
     by_test false = k
 moves-ok odd a wire Finish c q k = lost-ok a.finished (all_notes c a.taken) (a.part c) (a.part c).slot refl k

@@ -8,12 +8,12 @@ use Rattle.xd_factory.specs.declared.parity.Parity.{Parity}
 use Rattle.xd_factory.specs.declared.parity.Parity.TheVariants as parity
 
 -- the parity of a side, and the numbers that it opens
-abbrev pub parity_of : Bool → Parity
-parity_of true = parity.Odd
-parity_of false = parity.Even
+abbrev pub side_parity : Bool → Parity
+side_parity true = parity.Odd
+side_parity false = parity.Even
 
 abbrev pub owns : Bool → ℕ → Bool
-owns odd c = is_mine (parity_of odd) c
+owns odd c = is_mine (side_parity odd) c
 
 -- one thing that a message says about a number
 pub data Note : Type 0 where

@@ -8,7 +8,7 @@ use Rattle.xd_factory.specs.Numbers.{is_in}
 use Rattle.xd_pair.specs.Notes.{owns}
 use Rattle.xd_factory.specs.Said.{Said, Status, Exec, Data, Close, Terminate}
 use Rattle.xd_pair.specs.Notes.{Note, notes, all_notes, before_end, has_end}
-use Rattle.xd_pair.specs.Side.{Part, heard_all, opened_in, received_in, hooked_in, closed_in, ended_in, given_up_in, lost_in, close_says, end_says, give_up_says, may_send}
+use Rattle.xd_pair.specs.Part.{Part, heard_all, opened_in, received_in, hooked_in, closed_in, ended_in, given_up_in, lost_in, close_words, end_words, give_up_words, may_send}
 use Rattle.xd_factory.specs.Slot.{is_seen, is_here}
 
 -- a side: what stands at each number, what it sent there, its next number, whether it ended or failed, and what it took
@@ -94,8 +94,8 @@ is_told c [] = false
 is_told c (m ∷ ms) = has_notes (notes c m)
 
 -- a number opens behind which a message was refused
-abbrev pub named_in : Bool → Part → Slot Tree → Part
-named_in mine p s = record p { slot = named_slot mine s }
+abbrev pub named_part : Bool → Part → Slot Tree → Part
+named_part mine p s = record p { slot = named_slot mine s }
 
 -- what a move sends to the peer
 abbrev pub says : Bool → Actor → Move → List Said
@@ -105,9 +105,9 @@ says odd a (Call n v) = if can_call odd a n v then Exec n v ∷ [] else []
 says odd a (Ask n) = if is_here (a.part n).slot then Status n ∷ [] else []
 says odd a (Answer n v) = if can_answer a n v then Data n v ∷ Close n None ∷ [] else []
 says odd a Stop = Terminate ∷ []
-says odd a (Close_own n e) = close_says n e (a.part n).slot
-says odd a (End_function n e) = end_says n e (a.part n).slot
-says odd a (Give_up n) = give_up_says n (a.part n).slot
+says odd a (Close_own n e) = close_words n e (a.part n).slot
+says odd a (End_function n e) = end_words n e (a.part n).slot
+says odd a (Give_up n) = give_up_words n (a.part n).slot
 says odd a (Receive n) = []
 says odd a (Set_callback n) = []
 says odd a Take = []
@@ -128,7 +128,7 @@ after odd a wire (Give_up n) = at n (λ p. given_up_in p p.slot) a
 after odd a wire (Receive n) = at n (λ p. received_in p p.slot) a
 after odd a wire (Set_callback n) = at n (λ p. hooked_in p p.slot) a
 after odd a wire Take = if a.failed || a.finished then a else takes odd a wire
-after odd a wire (Refuse names) = record a { failed = true; part = λ c. if is_in c names && is_told c wire then named_in (owns odd c) (a.part c) (a.part c).slot else a.part c }
+after odd a wire (Refuse names) = record a { failed = true; part = λ c. if is_in c names && is_told c wire then named_part (owns odd c) (a.part c) (a.part c).slot else a.part c }
 after odd a wire Finish = record a { part = λ c. lost_in (a.part c) (a.part c).slot; finished = true }
 
 -- what is on the way to the side behind its move

@@ -112,32 +112,32 @@ abbrev pub lost_in : Part → Slot Tree → Part
 lost_in p s = gives p (lost_slot s) [] (lost_gives s)
 
 -- what a close says to the peer
-abbrev pub closing_says : ℕ → Option (List ℕ) → Closing → List Said
-closing_says n e closing.Say = Close n e ∷ []
-closing_says n e closing.Nothing = []
+abbrev pub closing_words : ℕ → Option (List ℕ) → Closing → List Said
+closing_words n e closing.Say = Close n e ∷ []
+closing_words n e closing.Nothing = []
 
 -- a close says its end to the peer where the end's own close does
-abbrev pub close_says : ℕ → Option (List ℕ) → Slot Tree → List Said
-close_says n e (Here s) = closing_says n e (close_gives s)
-close_says n e Unseen = []
-close_says n e Gone = []
+abbrev pub close_words : ℕ → Option (List ℕ) → Slot Tree → List Said
+close_words n e (Here s) = closing_words n e (close_gives s)
+close_words n e Unseen = []
+close_words n e Gone = []
 
 -- the end of a function is always said, where the number was opened here
-abbrev pub end_says : ℕ → Option (List ℕ) → Slot Tree → List Said
-end_says n e Unseen = []
-end_says n e (Here s) = Close n e ∷ []
-end_says n e Gone = Close n e ∷ []
+abbrev pub end_words : ℕ → Option (List ℕ) → Slot Tree → List Said
+end_words n e Unseen = []
+end_words n e (Here s) = Close n e ∷ []
+end_words n e Gone = Close n e ∷ []
 
-abbrev pub giving_says : ℕ → GivenUp → List Said
-giving_says n given_up.Nothing = []
-giving_says n given_up.SayClose = Close n (None) ∷ []
-giving_says n given_up.SayLast = Last n ∷ []
+abbrev pub giving_words : ℕ → GivenUp → List Said
+giving_words n given_up.Nothing = []
+giving_words n given_up.SayClose = Close n (None) ∷ []
+giving_words n given_up.SayLast = Last n ∷ []
 
 -- letting go says what the end says
-abbrev pub give_up_says : ℕ → Slot Tree → List Said
-give_up_says n (Here s) = giving_says n (give_up_gives s)
-give_up_says n Unseen = []
-give_up_says n Gone = []
+abbrev pub give_up_words : ℕ → Slot Tree → List Said
+give_up_words n (Here s) = giving_words n (give_up_gives s)
+give_up_words n Unseen = []
+give_up_words n Gone = []
 
 -- sending is open on an entry
 abbrev pub may_send : Slot Tree → Bool

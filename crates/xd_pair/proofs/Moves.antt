@@ -1,0 +1,131 @@
+-- Calls of a side, by what their contracts say, are moves of every actor that the side stands for.
+use Rattle.std.proofs.Common.{◌≡◌, ℕ, List, [], ◌∷◌, ◌++◌, Bool, true, false, Option, None, Ok, refl, sym, ap, subst, ◌∙◌, append_assoc}
+use Rattle.std.specs.Prelude.{◌==◌, ◌&&◌, if◌then◌else◌}
+use Rattle.std.specs.Option.{option_to_list}
+use Rattle.std.proofs.lemmas.Bool.{and_parts}
+use Rattle.xd_value.specs.Tree.{Tree}
+use Rattle.xd_value.specs.Channels.{channels}
+use Rattle.xd_value.specs.Canonical.{dumped}
+use Rattle.xd_frame.specs.declared.kind.Kind.TheVariants as kind
+use Rattle.xd_frame.specs.Message.{MessageView}
+use Rattle.xd_factory.specs.Slot.{Slot, is_seen, is_here, closed_slot, function_ended_slot, given_up_slot, give_up_says}
+use Rattle.xd_factory.specs.Said.{Said, Exec, Data, Close, Means}
+use Rattle.xd_factory.specs.Table.{is_long, close_refusal, closing_message, close_says, giving_says, send_refusal, sent_gives}
+use Rattle.xd_factory.specs.View.{slot_of, KeepsRest}
+use Rattle.xd_factory.specs.declared.side.Side.{Side}
+use Rattle.xd_pair.specs.Part as part
+use Rattle.xd_pair.specs.Pair.{Actor, Send, Call, Answer, Close_own, End_function, Give_up, knows, can_send, can_call, can_answer}
+use Rattle.xd_pair.specs.Messages.{AllMean, Adds, HasPayload, HasErrorPayload}
+use Rattle.xd_pair.specs.Stands.{StandsFor, IsMove, IsMoveIf}
+use Rattle.xd_pair.specs.declared.linked.LinkedSide.{LinkedSide}
+use Rattle.xd_pair.proofs.Says.{differ, unasked, here_seen, may_seen}
+use Rattle.xd_pair.proofs.Payloads.{close_means}
+use Rattle.xd_pair.proofs.Sending.{adds_option, end_said, close_said, give_up_said, item_said, call_said, sent_parts}
+use Rattle.xd_pair.proofs.Standing.{at_stands, same_stands, adds_stands}
+
+pub record ChangesAt (old new : Side) (n : ℕ) (f : Slot Tree → Slot Tree) : Type 0 where
+  pub slots : (c : ℕ) → slot_of new c ≡ (if n == c then f (slot_of old c) else slot_of old c)
+  pub rest : KeepsRest old new
+
+-- a number at which something stands is a channel's
+numbered : (a : Actor) (s : Side) (n : ℕ) → ((c : ℕ) → slot_of s c ≡ (a.part c).slot) → is_seen (a.part 0).slot ≡ false → is_seen (slot_of s n) ≡ true → n == 0 ≡ false
+numbered a s n slots zero h = differ a.part n 0 zero (ap is_seen (sym (slots n)) ∙ h)
+
+-- the calls that end a channel
+pub close_moves : (old new : LinkedSide) (n : ℕ) (e : Option (List ℕ)) (m : Option MessageView) → HasErrorPayload e → m ≡ close_says n e (slot_of old.side n)
+    → close_refusal (is_seen (slot_of old.side n)) (is_long e) ≡ None → ChangesAt old.side new.side n closed_slot → new.said.items ≡ old.said.items ++ option_to_list m
+    → IsMove old new (Close_own n e)
+close_moves old new n e m p says accepted change more odd a wire num u k = record {
+  stands = at_stands odd old.side new.side a n closed_slot (λ q. part.closed_in q q.slot) (λ q. refl) change.rest change.slots k;
+  says = subst (λ (s : Slot Tree). Adds old.said.items new.said.items (part.close_words n e s)) (k.slots n)
+      (adds_option old.said.items new.said.items m (part.close_words n e (slot_of old.side n)) more
+      (subst (λ (x : Option MessageView). AllMean (option_to_list x) (part.close_words n e (slot_of old.side n))) (sym says)
+      (close_said n e (slot_of old.side n) (numbered a old.side n k.slots num.unseen) accepted p)));
+  way = refl;
+}
+
+pub end_moves : (old new : LinkedSide) (n : ℕ) (e : Option (List ℕ)) (m : MessageView) → HasErrorPayload e → m ≡ closing_message n e
+    → close_refusal (is_seen (slot_of old.side n)) (is_long e) ≡ None → ChangesAt old.side new.side n function_ended_slot → new.said.items ≡ old.said.items ++ m ∷ []
+    → IsMove old new (End_function n e)
+end_moves old new n e m p says accepted change more odd a wire num u k = record {
+  stands = at_stands odd old.side new.side a n function_ended_slot (λ q. part.ended_in q q.slot) (λ q. refl) change.rest change.slots k;
+  says = subst (λ (s : Slot Tree). Adds old.said.items new.said.items (part.end_words n e s)) (k.slots n)
+      (record {
+        more = m ∷ [];
+        behind = more;
+        mean = subst (λ (x : MessageView). AllMean (x ∷ []) (part.end_words n e (slot_of old.side n))) (sym says)
+            (end_said n e (slot_of old.side n) (numbered a old.side n k.slots num.unseen) accepted p);
+      });
+  way = refl;
+}
+
+pub give_up_moves : (old new : LinkedSide) (n : ℕ) (m : Option MessageView) → m ≡ giving_says n (give_up_says (slot_of old.side n))
+    → ChangesAt old.side new.side n given_up_slot → new.said.items ≡ old.said.items ++ option_to_list m → IsMove old new (Give_up n)
+give_up_moves old new n m says change more odd a wire num u k = record {
+  stands = at_stands odd old.side new.side a n given_up_slot (λ q. part.given_up_in q q.slot) (λ q. refl) change.rest change.slots k;
+  says = subst (λ (s : Slot Tree). Adds old.said.items new.said.items (part.give_up_words n s)) (k.slots n)
+      (adds_option old.said.items new.said.items m (part.give_up_words n (slot_of old.side n)) more
+      (subst (λ (x : Option MessageView). AllMean (option_to_list x) (part.give_up_words n (slot_of old.side n))) (sym says)
+      (give_up_said n (slot_of old.side n) (numbered a old.side n k.slots num.unseen))));
+  way = refl;
+}
+
+-- the calls that send
+if_adds : (old new : List MessageView) (b : Bool) (words : List Said) → b ≡ true → Adds old new words → Adds old new (if b then words else [])
+if_adds old new true words h k = k
+if_adds old new false words h k = absurd (let z = h in cc)
+
+both : (x y : Bool) → x ≡ true → y ≡ true → x && y ≡ true
+both true y h k = k
+both false y h k = h
+
+pub send_moves : (old new : LinkedSide) (n : ℕ) (v : Tree) (b : List ℕ) (m : MessageView) → HasPayload v → sent_gives (send_refusal (slot_of old.side n)) (dumped v) ≡ Ok b
+    → m ≡ record { kind = kind.Item; channel = n; payload = b } → new.side ≡ old.side → new.said.items ≡ old.said.items ++ m ∷ []
+    → IsMoveIf (λ a. knows a.part (channels v)) old new (Send n v)
+send_moves old new n v b m p sent is side more odd a wire num known k =
+    let parts = sent_parts (slot_of old.side n) v b sent in
+    let may : part.may_send (a.part n).slot ≡ true = ap part.may_send (sym (k.slots n)) ∙ parts.0 in
+    let n_is : n == 0 ≡ false = differ a.part n 0 num.unseen (may_seen (a.part n).slot may) in
+    record {
+      stands = adds_stands odd new.side a (can_send a n v) n v (same_stands odd old.side new.side a side k);
+      says = if_adds old.said.items new.said.items (can_send a n v) (Data n v ∷ []) (both (part.may_send (a.part n).slot) (knows a.part (channels v)) may known)
+          (record { more = m ∷ []; behind = more; mean = (subst (λ (x : MessageView). Means x (Data n v)) (sym is) (item_said n v b n_is p parts.1), tt) });
+      way = refl;
+    }
+
+pub call_moves : (old new : LinkedSide) (n : ℕ) (v : Tree) (b : List ℕ) (m : MessageView) → HasPayload v → dumped v ≡ Ok b → m ≡ record { kind = kind.Exec; channel = n; payload = b }
+    → new.side ≡ old.side → new.said.items ≡ old.said.items ++ m ∷ [] → IsMoveIf (λ a. can_call true a n v) old new (Call n v)
+call_moves old new n v b m p d is side more odd a wire num can k =
+    let parts = and_parts (is_here (a.part n).slot) (knows a.part (channels v)) can in
+    let n_is : n == 0 ≡ false = differ a.part n 0 num.unseen (here_seen (a.part n).slot parts.0) in
+    record {
+      stands = same_stands odd old.side new.side a side k;
+      says = if_adds old.said.items new.said.items (can_call odd a n v) (Exec n v ∷ []) can
+          (record { more = m ∷ []; behind = more; mean = (subst (λ (x : MessageView). Means x (Exec n v)) (sym is) (call_said n v b n_is p d), tt) });
+      way = refl;
+    }
+
+abbrev closing : ℕ → List ℕ → MessageView
+closing n b = record { kind = kind.Close; channel = n; payload = b }
+
+pub answer_moves : (old new : LinkedSide) (n : ℕ) (v : Tree) (b none : List ℕ) (m end : MessageView) → HasPayload v → dumped v ≡ Ok b → none ≡ []
+    → m ≡ record { kind = kind.Item; channel = n; payload = b } → end ≡ record { kind = kind.Close; channel = n; payload = none }
+    → new.side ≡ old.side → new.said.items ≡ old.said.items ++ m ∷ [] ++ end ∷ [] → IsMoveIf (λ a. can_answer a n v) old new (Answer n v)
+answer_moves old new n v b none m end p d empty is end_is side more odd a wire num can k =
+    let parts = and_parts (a.part n).asked (knows a.part (channels v)) can in
+    let n_is : n == 0 ≡ false = unasked a.part n 0 num.unasked parts.0 in
+    let closes : end ≡ record { kind = kind.Close; channel = n; payload = [] } = end_is ∙ ap (λ (x : List ℕ). closing n x) empty in
+    record {
+      stands = adds_stands odd new.side a (can_answer a n v) n v (same_stands odd old.side new.side a side k);
+      says = if_adds old.said.items new.said.items (can_answer a n v) (Data n v ∷ Close n None ∷ []) can
+          (record {
+            more = m ∷ end ∷ [];
+            behind = more ∙ append_assoc old.said.items (m ∷ []) (end ∷ []);
+            mean = (subst (λ (x : MessageView). Means x (Data n v)) (sym is) (item_said n v b n_is p d), (subst (λ (x : MessageView). Means x (Close n None)) (sym closes) (close_means n n_is), tt));
+          });
+      way = refl;
+    }
+
+-- the room for a message changes nothing that is on the way
+pub behind : (old room new more : List MessageView) → room ≡ old → new ≡ room ++ more → new ≡ old ++ more
+behind old room new more e h = h ∙ ap (λ (ms : List MessageView). ms ++ more) e
