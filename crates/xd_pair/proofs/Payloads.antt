@@ -6,7 +6,7 @@ use Rattle.xd_value.specs.Canonical.{canonical}
 use Rattle.xd_value.specs.Payload.{IsPayload}
 use Rattle.xd_value.proofs.CanonicalSpelling.{canonical_is}
 use Rattle.xd_frame.specs.declared.kind.Kind.TheVariants as kind
-use Rattle.xd_factory.specs.Said.{Data, Close, Last, Means}
+use Rattle.xd_factory.specs.Said.{Exec, Data, Close, Last, Means}
 use Rattle.xd_factory.specs.Table.{closing_message, last_message}
 
 numbered : (n : ℕ) (b : Bool) → (n == 0) ≡ false → ((n == 0) && b) ≡ false
