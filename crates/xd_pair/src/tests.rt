@@ -85,7 +85,10 @@ fn is_closed(side: &mut LinkedSide, number: u32) -> bool {
 // How many items a callback was handed when it was set, and whether the end was Closed.
 fn hooked(side: &mut LinkedSide, number: u32) -> Option<(usize, bool)> {
     match side.set_callback(number) {
-        Ok(waiting) => Some((waiting.items.len(), matches!(waiting.end, Some(End::Closed)))),
+        Ok(waiting) => Some((
+            waiting.items.len(),
+            matches!(waiting.end, Some(End::Closed)),
+        )),
         Err(_) => None,
     }
 }

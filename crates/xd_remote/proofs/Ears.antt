@@ -61,7 +61,7 @@ all_heard (x ∷ g) (y ∷ h) p q e =
     let s = last_is (all_messages g) (all_messages h) x.message y.message e in
     let r : g ≡ h = all_heard g h p.0 q.0 s.0 in
     let k : IsCame (ear_after g) x.message y.came =
-      subst (λ (l : List Heard). IsCame (ear_after l) x.message y.came) (sym r) (subst (λ (m : MessageView). IsCame (ear_after h) m y.came) (sym s.1) q.1) in
+    subst (λ (l : List Heard). IsCame (ear_after l) x.message y.came) (sym r) (subst (λ (m : MessageView). IsCame (ear_after h) m y.came) (sym s.1) q.1) in
     one_heard x y g h s.1 (one_came (ear_after g) x.message x.came y.came p.1 k) r
 
 pub one_news : (messages : List MessageView) (a b : List What) → IsNewsOf messages a → IsNewsOf messages b → a ≡ b

@@ -67,7 +67,7 @@ module _ {K : Type 0} where
       → has_finished new ≡ has_finished old → HearsMore new h m (Some what.Stray)
   hears_refused old new h m f s r n q e =
       let came : IsRefused (ear_after h).failed (ear_after h).table m =
-        refused_came (channels_of old) (ear_after h).table (ear_after h).failed m f s.failed s.channels (refused_for (channels_of old) m f r n) in
+      refused_came (channels_of old) (ear_after h).table (ear_after h).failed m f s.failed s.channels (refused_for (channels_of old) m f r n) in
       record {
         came = Refused;
         is = came;
@@ -92,11 +92,11 @@ module _ {K : Type 0} where
       let here : channels_of old ≡ (ear_after h).table = s.channels t.good in
       let good : (ear_after h).failed ≡ false = sym s.failed ∙ ap is_some t.good in
       let news_are : news ≡ news_by (ear_after h).finished (answer t.said (ear_after h).table) =
-        n ∙ (ap (λ (b : Bool). news_by b (taken_tree taken)) finished
-        ∙ ap (λ (x : Taken Tree). news_by (ear_after h).finished x) (t.answer_is ∙ ap (answer t.said) here)) in
+      n ∙ (ap (λ (b : Bool). news_by b (taken_tree taken)) finished
+      ∙ ap (λ (x : Taken Tree). news_by (ear_after h).finished x) (t.answer_is ∙ ap (answer t.said) here)) in
       let table : channels_of new ≡ log_hooked news (heard t.said (ear_after h).table) = c ∙ ap (log_hooked news) (t.table_is ∙ ap (heard t.said) here) in
       let fault_is : fault_of (side_of new) ≡ None =
-        ap (λ (x : Table). x.fault) table ∙ (hooked_fault news (heard t.said (ear_after h).table) ∙ (ap (λ (x : Table). x.fault) (sym here) ∙ t.good)) in
+      ap (λ (x : Table). x.fault) table ∙ (hooked_fault news (heard t.said (ear_after h).table) ∙ (ap (λ (x : Table). x.fault) (sym here) ∙ t.good)) in
       record {
         came = Said t.said;
         is = record { good = good; means = t.means; room = subst (λ (x : Table). HasRoom x t.said) here t.room };

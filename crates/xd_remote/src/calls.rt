@@ -22,7 +22,11 @@ impl<K: Sink> Gateway<K> {
 
     /// Calls a function of the other side by its name, on a channel that opens, and gives the number of the channel. What
     /// comes on it is handed out by `take`, and heard by `hear`.
-    pub fn remote_exec(&mut self, name: &Text, kwargs: Vec<(Text, Value)>) -> Result<u32, GatewayFault>
+    pub fn remote_exec(
+        &mut self,
+        name: &Text,
+        kwargs: Vec<(Text, Value)>,
+    ) -> Result<u32, GatewayFault>
         ensures broken { is_broken self.old ≡ true → IsLost self.old self.new result }
         ensures says { SaysOn K.sunk K.faults self.old self.new (exec_wanted name.now (kwargs_of kwargs.items)) result }
         ensures number { IfOk result (λ n. n ≡ next_of (side_of self.old)) }
@@ -105,11 +109,7 @@ fn call_payload(
 }
 
 // The value of a call: no source text, no file name, the name and its keyword arguments.
-fn call_value(
-    alloc: Global,
-    name: &Text,
-    kwargs: Vec<(Text, Value)>,
-) -> Result<Value, OutOfMemory>
+fn call_value(alloc: Global, name: &Text, kwargs: Vec<(Text, Value)>) -> Result<Value, OutOfMemory>
     ensures { IfOk result (λ v. view v ≡ call_tree name.now (kwargs_of kwargs.items)) }
 {
     let source = Text::of(alloc, "")?;

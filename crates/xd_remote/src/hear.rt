@@ -67,11 +67,7 @@ fn refused_news(fault: SideFault) -> Result<Option<What>, OutOfMemory>
 }
 
 // The news of a message that was taken.
-fn news_of(
-    alloc: Global,
-    has_finished: bool,
-    taken: Taken,
-) -> Result<Option<What>, OutOfMemory>
+fn news_of(alloc: Global, has_finished: bool, taken: Taken) -> Result<Option<What>, OutOfMemory>
     ensures news { IfOk result (λ news. news ≡ news_by has_finished (taken_tree taken)) }
     ensures kind { IfOk result IsOfMessage }
 {

@@ -4,8 +4,14 @@
 /// a dash.
 pub const ROWS: [(&[u8], &str); 200] = [
     (b"", ""),
-    (b"\x04\0\0\0\x01\0\0\0\x17N\0\0\0\x0bworkerreadyJ@\0\0\0\x02Q", "Ready;"),
-    (b"\x04\0\0\0\x01\0\0\0\x1aN\0\0\0\x0eworkerfinishedJ@\0\0\0\x02Q", "Finished;"),
+    (
+        b"\x04\0\0\0\x01\0\0\0\x17N\0\0\0\x0bworkerreadyJ@\0\0\0\x02Q",
+        "Ready;",
+    ),
+    (
+        b"\x04\0\0\0\x01\0\0\0\x1aN\0\0\0\x0eworkerfinishedJ@\0\0\0\x02Q",
+        "Finished;",
+    ),
     (
         b"\x04\0\0\0\x01\0\0\0*N\0\0\0\x10collectionfinishJN\0\0\0\x03idsK\0\0\0\0P@\0\0\0\x02Q",
         "Collected [];",
@@ -38,16 +44,31 @@ pub const ROWS: [(&[u8], &str); 200] = [
         b"\x04\0\0\0\x01\0\0\0AN\0\0\0\x10collectionfinishJN\0\0\0\x03idsK\0\0\0\x02F\0\0\0\0N\0\0\0\x01aPF\0\0\0\x01F\0\0\0\x01PP@\0\0\0\x02Q",
         "Stray;",
     ),
-    (b"\x04\0\0\0\x01\0\0\0\x1cN\0\0\0\x10collectionfinishJ@\0\0\0\x02Q", "Stray;"),
+    (
+        b"\x04\0\0\0\x01\0\0\0\x1cN\0\0\0\x10collectionfinishJ@\0\0\0\x02Q",
+        "Stray;",
+    ),
     (
         b"\x04\0\0\0\x01\0\0\0&N\0\0\0\x0bworkerreadyJN\0\0\0\x04moreF\0\0\0\x07P@\0\0\0\x02Q",
         "Ready;",
     ),
-    (b"\x04\0\0\0\x01\0\0\0\"N\0\0\0\x0bworkerreadyJF\0\0\0\x01F\0\0\0\x02P@\0\0\0\x02Q", "Stray;"),
-    (b"\x04\0\0\0\x01\0\0\0\x16N\0\0\0\x0bworkerready@\0\0\0\x01Q", "Stray;"),
-    (b"\x04\0\0\0\x01\0\0\0#K\0\0\0\x02F\0\0\0\0N\0\0\0\x0bworkerreadyPF\0\0\0\x01JPQ", "Stray;"),
+    (
+        b"\x04\0\0\0\x01\0\0\0\"N\0\0\0\x0bworkerreadyJF\0\0\0\x01F\0\0\0\x02P@\0\0\0\x02Q",
+        "Stray;",
+    ),
+    (
+        b"\x04\0\0\0\x01\0\0\0\x16N\0\0\0\x0bworkerready@\0\0\0\x01Q",
+        "Stray;",
+    ),
+    (
+        b"\x04\0\0\0\x01\0\0\0#K\0\0\0\x02F\0\0\0\0N\0\0\0\x0bworkerreadyPF\0\0\0\x01JPQ",
+        "Stray;",
+    ),
     (b"\x04\0\0\0\x01\0\0\0\x11N\0\0\0\x0bworkerreadyQ", "Stray;"),
-    (b"\x04\0\0\0\x01\0\0\0\x18N\0\0\0\x0cworkerreadyyJ@\0\0\0\x02Q", "Stray;"),
+    (
+        b"\x04\0\0\0\x01\0\0\0\x18N\0\0\0\x0cworkerreadyyJ@\0\0\0\x02Q",
+        "Stray;",
+    ),
     (
         b"\x04\0\0\0\x01\0\0\0\x17N\0\0\0\x0bworkerreadyJ@\0\0\0\x02Q\x04\0\0\0\x01\0\0\0BN\0\0\0\x10collectionfinishJN\0\0\0\x03idsK\0\0\0\x02F\0\0\0\0N\0\0\0\x01aPF\0\0\0\x01N\0\0\0\x01bPP@\0\0\0\x02Q\x04\0\0\0\x01\0\0\07N\0\0\0\x08logstartJN\0\0\0\x0aitem_indexF\0\0\0\0PN\0\0\0\x03logB\0\0\0\x02P@\0\0\0\x02Q\x04\0\0\0\x02\0\0\0\x07A\0\0\0\x01xQ\x05\0\0\0\x02\0\0\0\0\x04\0\0\0\x01\0\0\0tN\0\0\0\x19runtest_protocol_completeJN\0\0\0\x0aitem_indexF\0\0\0\0PN\0\0\0\x07outcomeN\0\0\0\x06passedPN\0\0\0\x04codeF\0\0\0\0PN\0\0\0\x08durationF\0\0\0\x05P@\0\0\0\x02Q",
         "Ready;Collected [a, b];LogStart 0 2;Piece 2 78;LogClosed 2;Done 0 passed 5;",
@@ -73,7 +94,10 @@ pub const ROWS: [(&[u8], &str); 200] = [
         "Finished;Stray;Stray;",
     ),
     (b"\x05\0\0\0\x01\0\0\0\0", "Closed;"),
-    (b"\x05\0\0\0\x01\0\0\0\0\x05\0\0\0\x01\0\0\0\0", "Closed;Stray;"),
+    (
+        b"\x05\0\0\0\x01\0\0\0\0\x05\0\0\0\x01\0\0\0\0",
+        "Closed;Stray;",
+    ),
     (
         b"\x05\0\0\0\x01\0\0\0\0\x04\0\0\0\x01\0\0\0\x17N\0\0\0\x0bworkerreadyJ@\0\0\0\x02Q",
         "Closed;Stray;",
@@ -82,7 +106,10 @@ pub const ROWS: [(&[u8], &str); 200] = [
         b"\x05\0\0\0\x01\0\0\0\0\x04\0\0\0\x01\0\0\0\x1aN\0\0\0\x0eworkerfinishedJ@\0\0\0\x02Q\x05\0\0\0\x01\0\0\0\0",
         "Closed;Stray;Stray;",
     ),
-    (b"\x06\0\0\0\x01\0\0\0\x1aN\0\0\0\x14suite cannot be readQ", "Closed 'suite cannot be read';"),
+    (
+        b"\x06\0\0\0\x01\0\0\0\x1aN\0\0\0\x14suite cannot be readQ",
+        "Closed 'suite cannot be read';",
+    ),
     (b"\x06\0\0\0\x01\0\0\0\x06N\0\0\0\0Q", "Closed '';"),
     (
         b"\x06\0\0\0\x01\0\0\0\x07N\0\0\0\x01aQ\x06\0\0\0\x01\0\0\0\x07N\0\0\0\x01bQ",
@@ -93,8 +120,14 @@ pub const ROWS: [(&[u8], &str); 200] = [
         b"\x07\0\0\0\x01\0\0\0\0\x04\0\0\0\x01\0\0\0\x17N\0\0\0\x0bworkerreadyJ@\0\0\0\x02Q",
         "Stray;Stray;",
     ),
-    (b"\x07\0\0\0\x01\0\0\0\0\x05\0\0\0\x01\0\0\0\0", "Stray;Stray;"),
-    (b"\x07\0\0\0\x01\0\0\0\0\x07\0\0\0\x01\0\0\0\0", "Stray;Stray;"),
+    (
+        b"\x07\0\0\0\x01\0\0\0\0\x05\0\0\0\x01\0\0\0\0",
+        "Stray;Stray;",
+    ),
+    (
+        b"\x07\0\0\0\x01\0\0\0\0\x07\0\0\0\x01\0\0\0\0",
+        "Stray;Stray;",
+    ),
     (b"\x06\0\0\0\x01\0\0\0\x06F\0\0\0\x07Q", "Stray;"),
     (
         b"\x06\0\0\0\x01\0\0\0\x02LQ\x04\0\0\0\x01\0\0\0\x17N\0\0\0\x0bworkerreadyJ@\0\0\0\x02Q",
@@ -409,8 +442,14 @@ pub const ROWS: [(&[u8], &str); 200] = [
         b"\x04\0\0\0\x01\0\0\0\x08LLO\0\0\0\x02Q\x04\0\0\0\x01\0\0\0\x17N\0\0\0\x0bworkerreadyJ@\0\0\0\x02Q",
         "Stray;Stray;",
     ),
-    (b"\x04\0\0\0\x01\0\0\0\x17S\0\0\0\x0bworkerreadyJ@\0\0\0\x02Q", "Ready;"),
-    (b"\x04\0\0\0\x01\0\0\0\x17M\0\0\0\x0bworkerreadyJ@\0\0\0\x02Q", "Ready;"),
+    (
+        b"\x04\0\0\0\x01\0\0\0\x17S\0\0\0\x0bworkerreadyJ@\0\0\0\x02Q",
+        "Ready;",
+    ),
+    (
+        b"\x04\0\0\0\x01\0\0\0\x17M\0\0\0\x0bworkerreadyJ@\0\0\0\x02Q",
+        "Ready;",
+    ),
     (
         b"\x04\0\0\0\x01\0\0\06N\0\0\0\x0bunscheduledJN\0\0\0\x07indicesK\0\0\0\x01G\0\0\0\0H\0\0\0\x0207PP@\0\0\0\x02Q",
         "Back [7];",

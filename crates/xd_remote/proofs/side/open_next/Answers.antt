@@ -18,7 +18,7 @@ returns-in-Ok-clause-small c =
     let s = c.args.side.now in
     let e = c.in-Ok.ensures in
     let small : next_of s ≤ 2147483647 =
-      (accepted (is_finished s) (entry_count s) (next_of s) (λ x. (let z = e.finished.1 x in cc)) (λ q x. (let z = (e.full q).1 x in cc)) (λ q r x. (let z = (e.spent q r).1 x in cc))).1 in
+    (accepted (is_finished s) (entry_count s) (next_of s) (λ x. (let z = e.finished.1 x in cc)) (λ q x. (let z = (e.full q).1 x in cc)) (λ q r x. (let z = (e.spent q r).1 x in cc))).1 in
     let number : c.in-Ok.number ≡ next_of s = e.number in
     omega arith
 
