@@ -1,0 +1,96 @@
+-- What the calls of a gateway say, why one says nothing, and what they make of the channels. The messages are those of
+-- execnet's gateway.py.
+use Rattle.std.specs.Prelude.{ℕ, ◌==◌, nat_lt, List, [], ◌∷◌, Option, Some, None, Result, Ok, Err, if◌then◌else◌}
+use Rattle.xd_value.specs.Tree.{Tree, Pairs, none, text, dict, tuple, tree, no_trees, pair, no_pairs}
+use Rattle.xd_value.specs.View.{view}
+use Rattle.xd_value.specs.Canonical.{dumped}
+use Rattle.xd_value.specs.declared.value.Value.{Value}
+use Rattle.xd_value.specs.declared.writing.DumpFault.{DumpFault}
+use Rattle.xd_frame.specs.Message.{MessageView}
+use Rattle.xd_frame.specs.declared.kind.Kind.TheVariants as kind
+use Rattle.xd_factory.specs.declared.faults.OpenFault.{OpenFault}
+use Rattle.xd_factory.specs.declared.faults.OpenFault.TheVariants as open_fault
+use Rattle.xd_factory.specs.declared.faults.SendFault.{SendFault}
+use Rattle.xd_factory.specs.declared.faults.SendFault.TheVariants as send_fault
+use Rattle.xd_factory.specs.declared.side.Side.{Side}
+use Rattle.xd_factory.specs.Slot.{hooked_slot}
+use Rattle.xd_factory.specs.Table.{send_refusal, sent_gives}
+use Rattle.xd_factory.specs.SideTable.{Table, changed_at, opened}
+use Rattle.xd_factory.specs.View.{slot_of, next_of, is_finished, entry_count}
+use Rattle.xd_remote.specs.declared.fault.GatewayFault.{GatewayFault}
+use Rattle.xd_remote.specs.declared.fault.GatewayFault.TheVariants.{SendFault as NotSent, Channel, Opening, OutOfMemory}
+
+-- a message is said, or a call is refused
+abbrev pub Wanted : Type 0
+Wanted = Result MessageView GatewayFault
+
+-- ---- the messages
+
+abbrev pub item_message : ℕ → List ℕ → MessageView
+item_message n b = record { kind = kind.Item; channel = n; payload = b }
+
+abbrev pub status_message : ℕ → MessageView
+status_message n = record { kind = kind.Status; channel = n; payload = [] }
+
+abbrev pub exec_message : ℕ → List ℕ → MessageView
+exec_message n b = record { kind = kind.Exec; channel = n; payload = b }
+
+abbrev pub terminate_message : MessageView
+terminate_message = record { kind = kind.Terminate; channel = 0; payload = [] }
+
+-- keyword arguments, in their order
+abbrev pub kwargs_of : List (List ℕ × Value) → Pairs
+kwargs_of [] = no_pairs
+kwargs_of (p ∷ ps) = pair (text p.0) (view p.1) (kwargs_of ps)
+
+-- the call of a function by its name: no source text, no file name, the name and its keyword arguments
+abbrev pub call_tree : List ℕ → Pairs → Tree
+call_tree name kwargs = tuple (tree (text []) (tree none (tree (text name) (tree (dict kwargs) no_trees))))
+
+-- ---- what is said, or why nothing is
+
+abbrev pub item_wanted : ℕ → Result (List ℕ) SendFault → Wanted
+item_wanted n (Ok b) = Ok (item_message n b)
+item_wanted n (Err f) = Err (Channel f)
+
+-- a value is said on a channel
+abbrev pub say_wanted : ℕ → Tree → Side → Wanted
+say_wanted n v s = item_wanted n (sent_gives (send_refusal (slot_of s n)) (dumped v))
+
+-- why no channel opens, while memory lasts
+abbrev pub open_refusal : Side → Option OpenFault
+open_refusal s =
+    if is_finished s then Some open_fault.Finished
+    else (if entry_count s == 4096 then Some open_fault.TooManyOpen
+    else (if nat_lt 2147483647 (next_of s) then Some open_fault.NumbersSpent else None))
+
+abbrev pub opening_wanted : Option OpenFault → MessageView → Wanted
+opening_wanted None m = Ok m
+opening_wanted (Some f) m = Err (Opening f)
+
+-- a channel opens, and the other side is asked on it how it is
+abbrev pub status_wanted : Side → Wanted
+status_wanted s = opening_wanted (open_refusal s) (status_message (next_of s))
+
+-- a call is written, or has no payload, which is tried first
+abbrev pub exec_by : Result (List ℕ) DumpFault → Side → Wanted
+exec_by (Ok b) s = opening_wanted (open_refusal s) (exec_message (next_of s) b)
+exec_by (Err f) s = Err (Channel (send_fault.Dump f))
+
+-- a function is called on a channel that opens
+abbrev pub exec_wanted : List ℕ → Pairs → Side → Wanted
+exec_wanted name kwargs s = exec_by (dumped (call_tree name kwargs)) s
+
+-- ---- the channels
+
+-- the next own number opens with a callback: what comes on the channel of a call is handed out as it comes
+abbrev pub exec_opened : Table → Table
+exec_opened t = changed_at t.next hooked_slot (opened t)
+
+-- the channel of a call opens where its message is written, or begun; else the channels stay
+abbrev pub opened_by : {T : Type 0} → (Table → Table) → Result T GatewayFault → Table → Table
+opened_by f (Ok x) t = f t
+opened_by f (Err NotSent) t = f t
+opened_by f (Err (Channel g)) t = t
+opened_by f (Err (Opening g)) t = t
+opened_by f (Err OutOfMemory) t = t

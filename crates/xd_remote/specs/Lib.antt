@@ -1,0 +1,10 @@
+pub mod Line
+pub mod Calls
+pub mod Opening
+pub mod News
+pub mod Taking
+pub mod View
+pub mod Stands
+pub mod Told
+pub mod Rows
+pub mod Lending
