@@ -6,3 +6,4 @@ pub mod EventNews
 pub mod Sides
 pub mod Hearing
 pub mod Saying
+pub mod Kwargs

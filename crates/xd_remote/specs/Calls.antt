@@ -43,9 +43,13 @@ abbrev pub kwargs_of : List (List ℕ × Value) → Pairs
 kwargs_of [] = no_pairs
 kwargs_of (p ∷ ps) = pair (text p.0) (view p.1) (kwargs_of ps)
 
--- the call of a function by its name: no source text, no file name, the name and its keyword arguments
+-- a call: its source text, no file name, its name and its keyword arguments
+abbrev pub parts_tree : Tree → Tree → Tree → Tree
+parts_tree source name kwargs = tuple (tree source (tree none (tree name (tree kwargs no_trees))))
+
+-- the call of a function by its name: no source text, the name and its keyword arguments
 abbrev pub call_tree : List ℕ → Pairs → Tree
-call_tree name kwargs = tuple (tree (text []) (tree none (tree (text name) (tree (dict kwargs) no_trees))))
+call_tree name kwargs = parts_tree (text []) (text name) (dict kwargs)
 
 -- ---- what is said, or why nothing is
 

@@ -1,18 +1,21 @@
 // The calls that say something on a channel.
-ghost use Rattle.std.specs.Prelude.{◌≡◌, ◌≤◌, List, [], true, IfOk, length, map};
+ghost use Rattle.std.specs.Prelude.{◌≡◌, ◌≤◌, List, [], true, IfOk, OnOk, length};
+ghost use Rattle.xd_value.specs.Tree.{dict, text};
 ghost use Rattle.xd_value.specs.View.{view, pair_views};
+ghost use Rattle.xd_value.specs.Reading.{snoc_pair};
 ghost use Rattle.xd_value.specs.Canonical.{dumped};
 ghost use Rattle.xd_factory.specs.SideTable.{opened};
 ghost use Rattle.xd_factory.specs.View.{next_of};
-ghost use Rattle.xd_remote.specs.Calls.{call_tree, exec_opened, exec_wanted, kwargs_of, say_wanted, status_wanted};
+ghost use Rattle.xd_remote.specs.Calls.{call_tree, exec_opened, exec_wanted, kwargs_of, parts_tree, say_wanted, status_wanted};
 ghost use Rattle.xd_remote.specs.Opening.{IsMessage, IsPayloadOf};
 
 use crate::side::{empty, open_call, open_next};
 use crate::{Gateway, GatewayFault};
-use std::alloc::{AllocError, Global};
+use std::alloc::Global;
 use xd_edge::{Blob, OutOfMemory, Sink, Text};
 use xd_factory::{SendFault, Side};
 use xd_frame::{Kind, Message};
+use xd_gateway::word_value;
 use xd_value::{DumpFault, Value, dumps};
 
 impl<K: Sink> Gateway<K> {
@@ -112,16 +115,28 @@ fn call_payload(
 fn call_value(alloc: Global, name: &Text, kwargs: Vec<(Text, Value)>) -> Result<Value, OutOfMemory>
     ensures { IfOk result (λ v. view v ≡ call_tree name.now (kwargs_of kwargs.items)) }
 {
-    let source = Text::of(alloc, "")?;
-    let name = name.copy()?;
+    let source = word_value(alloc, "")?;
+    let name = text_value(name.copy()?);
     let kwargs = kwargs_value(alloc, kwargs)?;
-    let parts = vec![in alloc; Value::Text(source), Value::None, Value::Text(name), kwargs]?;
+    let call = call_of(alloc, source, name, kwargs)?;
+    Ok(call)
+}
+
+fn text_value(words: Text) -> Value
+    ensures { view result ≡ text words }
+{
+    Value::Text(words)
+}
+
+// The four parts of a call.
+fn call_of(alloc: Global, source: Value, name: Value, kwargs: Value) -> Result<Value, OutOfMemory>
+    ensures { IfOk result (λ v. view v ≡ parts_tree (view source) (view name) (view kwargs)) }
+{
+    let parts = vec![in alloc; source, Value::None, name, kwargs]?;
     Ok(Value::Tuple(parts))
 }
 
-ghost use Rattle.xd_value.specs.Tree.{dict};
-
-// Keyword arguments as a dict.
+// Keyword arguments as a dict, in their order.
 fn kwargs_value(alloc: Global, kwargs: Vec<(Text, Value)>) -> Result<Value, OutOfMemory>
     ensures { IfOk result (λ v. view v ≡ dict (kwargs_of kwargs.items)) }
 {
@@ -130,11 +145,23 @@ fn kwargs_value(alloc: Global, kwargs: Vec<(Text, Value)>) -> Result<Value, OutO
 }
 
 // Keyword arguments with their keys as values.
-fn pairs_of(alloc: Global, kwargs: Vec<(Text, Value)>) -> Result<Vec<(Value, Value)>, AllocError>
-    ensures { IfOk result (λ ps. ps.items ≡ map (λ p. (Value.Text p.0, p.1)) kwargs.items) }
+fn pairs_of(alloc: Global, kwargs: Vec<(Text, Value)>) -> Result<Vec<(Value, Value)>, OutOfMemory>
+    ensures { IfOk result (λ ps. pair_views ps.items ≡ kwargs_of kwargs.items) }
 {
-    kwargs
-        .into_iter()
-        .map(|(name, value)| (Value::Text(name), value))
-        .collect(alloc)
+    let mut pairs = Vec::new(alloc);
+    for item in kwargs {
+        add_pair(&mut pairs, item)?;
+    }
+    Ok(pairs)
+}
+
+// One more keyword argument, behind the others.
+fn add_pair(pairs: &mut Vec<(Value, Value)>, item: (Text, Value)) -> Result<(), OutOfMemory>
+    ensures { OnOk result (pair_views pairs.new.items
+        ≡ snoc_pair (pair_views pairs.old.items) (text item.0) (view item.1)) }
+{
+    let (name, value) = item;
+    let key = text_value(name);
+    pairs.push((key, value))?;
+    Ok(())
 }
