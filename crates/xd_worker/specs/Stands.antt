@@ -1,5 +1,5 @@
 -- How the parts of the code stand for the worker of the definitions.
-use Rattle.std.specs.Prelude.{◌≡◌, ◌≤◌, ◌<◌, ℕ, List, [], ◌∷◌, length, Option, Some, None, IsSome, Result, Ok, Err}
+use Rattle.std.specs.Prelude.{◌≡◌, ◌≤◌, ◌<◌, ℕ, List, [], ◌∷◌, length, Option, Some, None, Result, Ok, Err}
 use Rattle.xd_factory.specs.declared.faults.SideFault.{SideFault}
 use Rattle.xd_factory.specs.declared.faults.SideFault.TheVariants as side
 use Rattle.xd_suite.specs.declared.test.Test.{Test}
@@ -21,7 +21,7 @@ use Rattle.xd_worker.specs.declared.input.WorkerFault.TheVariants.{Link, OutOfMe
 use Rattle.xd_worker.specs.declared.worker.WorkerCore.{WorkerCore}
 use Rattle.xd_factory.specs.SideTable.{Table, Counts, table_of, heard, answer}
 use Rattle.xd_worker.specs.Talk.{talk_of}
-use Rattle.xd_worker.specs.Worker.{Service, Duties, Worker, Turn, behind, running_in}
+use Rattle.xd_worker.specs.Worker.{Service, Duties, Worker, Turn, behind}
 use Rattle.xd_worker.specs.Turns.{given_in}
 use Rattle.xd_factory.specs.SideTable.{RefusedBy, MustRefuse}
 use Rattle.xd_worker.specs.History.{Heard, Is, table_behind, turn_by, worker_after, is_over, Refuses}
@@ -65,12 +65,6 @@ pub record IsWorker (c : WorkerCore) (w : Worker) : Type 0 where
 -- this worker is behind these inputs
 abbrev pub StandsFor : WorkerCore → List Heard → Type 0
 StandsFor c h = IsWorker c (worker_after h)
-
--- a fault came after these inputs, and what they asked for is known still
-pub record FailedAfter (c : WorkerCore) (h : List Heard) : Type 0 where
-  pub failed : IsSome c.fault
-  pub runs : c.before.runs ≡ running_in (worker_after h).duties.service
-  pub owed : c.before.owed ≡ (worker_after h).duties.owed
 
 -- it is behind some inputs
 abbrev pub Stood : WorkerCore → Type 0

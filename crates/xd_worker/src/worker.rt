@@ -27,16 +27,6 @@ pub struct WorkerCore {
     echoes: Vec<u32>,
     owed: bool,
     suite: Option<Suite>,
-    before: Asked,
-}
-
-/// What a core had asked for when a fault ended it.
-#[derive(Clone, Copy, Drop)]
-pub struct Asked {
-    /// The test that ran.
-    pub runs: Option<u32>,
-    /// A suite file was owed.
-    pub owed: bool,
 }
 
 impl WorkerCore {
@@ -50,7 +40,7 @@ impl WorkerCore {
     ghost use Rattle.xd_worker.specs.Turns.{asked, all_asked, ended_service, fed, stopped};
     ghost use Rattle.xd_worker.specs.History.{Heard, worker_after, IsToRefuse};
     ghost use Rattle.xd_worker.specs.Logs.{AllOpen, LogsOpen};
-    ghost use Rattle.xd_worker.specs.Stands.{AreServices, AreDuties, HasTest, Stands, StandsFor, Stood, IsWorker, Does, Answers, IsFault, IsRefusal, FailedAfter, fault_in};
+    ghost use Rattle.xd_worker.specs.Stands.{AreServices, AreDuties, HasTest, Stands, StandsFor, Stood, IsWorker, Does, Answers, IsFault, IsRefusal, fault_in};
 
     /// A worker to which nothing has come yet.
     pub fn new(alloc: Global) -> WorkerCore
@@ -66,10 +56,6 @@ impl WorkerCore {
             echoes: Vec::new(alloc),
             owed: false,
             suite: None,
-            before: Asked {
-                runs: None,
-                owed: false,
-            },
         }
     }
 
@@ -80,31 +66,18 @@ impl WorkerCore {
         ensures refuses { (h : List Heard) (fault : SideFault) → StandsFor self.old h → IsToRefuse (worker_after h) input fault → IsRefusal fault result }
         ensures failed { (fault : WorkerFault) → fault_in self.old ≡ Some fault → (result ≡ Err fault) × (self.new ≡ self.old) }
         ensures fails { IfErr result (λ fault. fault_in self.new ≡ Some fault) }
-        ensures asked { (h : List Heard) → StandsFor self.old h → IfErr result (λ fault. FailedAfter self.new h) }
         ensures stood { Stood self.old → OnOk result (Stood self.new) }
         ensures command { Stood self.old → IfOk result (λ acts. (test : ℕ) → acts.run ≡ Some test → HasTest self.new test) }
     {
         if let Some(fault) = self.fault {
             return Err(fault);
         }
-        let before = self.asked();
         match self.answer(input) {
             Ok(acts) => Ok(acts),
             Err(fault) => {
                 self.fault = Some(fault);
-                self.before = before;
                 Err(fault)
             }
-        }
-    }
-
-    // What was asked for, and did not come yet.
-    fn asked(&self) -> Asked
-        ensures { (d : Duties) → AreDuties self.now d → (result.runs ≡ running_in d.service) × (result.owed ≡ d.owed) }
-    {
-        Asked {
-            runs: self.running(),
-            owed: self.owed,
         }
     }
 
@@ -163,27 +136,19 @@ impl WorkerCore {
         }
     }
 
-    /// A suite file was asked for, and neither its bytes nor a refusal came yet. After a fault, as before it.
+    /// A suite file was asked for, and neither its bytes nor a refusal came yet.
     pub fn awaits_suite(&self) -> bool
-        ensures owed { (h : List Heard) → StandsFor self.now h → result ≡ (worker_after h).duties.owed }
-        ensures failed { (h : List Heard) → FailedAfter self.now h → result ≡ (worker_after h).duties.owed }
+        ensures { (h : List Heard) → StandsFor self.now h → result ≡ (worker_after h).duties.owed }
     {
-        match self.fault {
-            None => self.owed,
-            Some(_) => self.before.owed,
-        }
+        self.owed
     }
 
-    /// The test that runs. After a fault, the one that ran before it.
+    /// The test that runs.
     pub fn runs(&self) -> Option<u32>
         ensures running { (h : List Heard) → StandsFor self.now h → result ≡ running_in (worker_after h).duties.service }
-        ensures failed { (h : List Heard) → FailedAfter self.now h → result ≡ running_in (worker_after h).duties.service }
         ensures command { (h : List Heard) (test : ℕ) → StandsFor self.now h → result ≡ Some test → HasTest self.now test }
     {
-        match self.fault {
-            None => self.running(),
-            Some(_) => self.before.runs,
-        }
+        self.running()
     }
 
     // The worker is to end, and no test runs.
