@@ -503,24 +503,19 @@ def literal(data):
 
 def main():
     rng = random.Random(1)
-    rows = list(fixed())
+    rows = [messages for messages in fixed() if messages]
     while len(rows) < HOW_MANY:
         rows.append(chance(rng))
     print("// Message lists of a worker's link, with the news that they mean. Written by tools/news.py.")
     print("")
-    print("/// The bytes of the messages, and the news in words, each followed by a semicolon. A message that makes no news has")
-    print("/// a dash.")
-    print("pub const ROWS: [(&[u8], &str); %d] = [" % len(rows))
+    print("/// A line for each list: its messages, as hexadecimal bytes with spaces between them, and behind ` ~ ` their news in")
+    print("/// words, each followed by a semicolon. A message that makes no news has a dash.")
+    print('pub const ROWS: &str = "\\')
     for messages in rows:
         ear = Ear()
         news = "".join("%s;" % (w if w is not None else "-") for w in map(ear.hear, messages))
-        left, right = literal(b"".join(m.frame() for m in messages)), '"%s"' % news
-        line = "    (%s, %s)," % (left, right)
-        if len(line) <= 100:
-            print(line)
-        else:
-            print("    (\n        %s,\n        %s,\n    )," % (left, right))
-    print("];")
+        print("     %s ~ %s\\n\\" % (" ".join(m.frame().hex() for m in messages), news))
+    print('";')
 
 
 main()

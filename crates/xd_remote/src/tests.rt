@@ -200,12 +200,41 @@ fn news_of(alloc: Global, bytes: &[u8]) -> Result<String, Fail> {
     Ok(out)
 }
 
+// A hexadecimal digit.
+fn digit(c: u8) -> Result<u8, Fail> {
+    match c {
+        b'0'..=b'9' => Ok(c.wrapping_sub(b'0')),
+        b'a'..=b'f' => Ok(c.wrapping_sub(b'a').wrapping_add(10)),
+        _ => Err(Fail::from("a hexadecimal digit")),
+    }
+}
+
+// The bytes of messages that stand in hexadecimal digits.
+fn bytes_of(alloc: Global, words: &str) -> Result<Vec<u8>, Fail> {
+    let mut bytes = Vec::new(alloc);
+    let mut high: Option<u8> = None;
+    for c in words.bytes() {
+        if c != b' ' {
+            let low = digit(c)?;
+            if let Some(first) = high {
+                bytes.push(first.wrapping_mul(16).wrapping_add(low))?;
+                high = None;
+            } else {
+                high = Some(low);
+            }
+        }
+    }
+    Ok(bytes)
+}
+
 #[test]
 fn messages_mean_the_news_that_another_reading_gives(rt: HostRuntime) -> Result<(), Fail> {
     let alloc = rt.alloc();
-    for (bytes, news) in &rows::ROWS {
-        let heard = news_of(alloc, bytes)?;
-        assert_eq!(rt; heard.as_str(), *news);
+    for line in rows::ROWS.lines() {
+        let (words, news) = line.split_once(" ~ ").ok_or("a list and its news")?;
+        let bytes = bytes_of(alloc, words)?;
+        let heard = news_of(alloc, bytes.as_slice())?;
+        assert_eq!(rt; heard.as_str(), news);
     }
     Ok(())
 }

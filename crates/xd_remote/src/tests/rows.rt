@@ -1,785 +1,206 @@
 // Message lists of a worker's link, with the news that they mean. Written by tools/news.py.
 
-/// The bytes of the messages, and the news in words, each followed by a semicolon. A message that makes no news has
-/// a dash.
-pub const ROWS: [(&[u8], &str); 200] = [
-    (b"", ""),
-    (
-        b"\x04\0\0\0\x01\0\0\0\x17N\0\0\0\x0bworkerreadyJ@\0\0\0\x02Q",
-        "Ready;",
-    ),
-    (
-        b"\x04\0\0\0\x01\0\0\0\x1aN\0\0\0\x0eworkerfinishedJ@\0\0\0\x02Q",
-        "Finished;",
-    ),
-    (
-        b"\x04\0\0\0\x01\0\0\0*N\0\0\0\x10collectionfinishJN\0\0\0\x03idsK\0\0\0\0P@\0\0\0\x02Q",
-        "Collected [];",
-    ),
-    (
-        b"\x04\0\0\0\x01\0\0\06N\0\0\0\x10collectionfinishJN\0\0\0\x03idsK\0\0\0\x01F\0\0\0\0N\0\0\0\x01aPP@\0\0\0\x02Q",
-        "Collected [a];",
-    ),
-    (
-        b"\x04\0\0\0\x01\0\0\0)N\0\0\0\x0bunscheduledJN\0\0\0\x07indicesK\0\0\0\0P@\0\0\0\x02Q",
-        "Back [];",
-    ),
-    (
-        b"\x04\0\0\0\x01\0\0\0IN\0\0\0\x0bunscheduledJN\0\0\0\x07indicesK\0\0\0\x02F\0\0\0\0F\0\0\0\0PF\0\0\0\x01H\0\0\0\x0a4294967295PP@\0\0\0\x02Q",
-        "Back [0, 4294967295];",
-    ),
-    (
-        b"\x04\0\0\0\x01\0\0\0>N\0\0\0\x0bunscheduledJN\0\0\0\x07indicesK\0\0\0\x01F\0\0\0\0H\0\0\0\x0a4294967296PP@\0\0\0\x02Q",
-        "Stray;",
-    ),
-    (
-        b"\x04\0\0\0\x01\0\0\04N\0\0\0\x0bunscheduledJN\0\0\0\x07indicesK\0\0\0\x01F\0\0\0\0F\xff\xff\xff\xffPP@\0\0\0\x02Q",
-        "Stray;",
-    ),
-    (
-        b"\x04\0\0\0\x01\0\0\03N\0\0\0\x0bunscheduledJN\0\0\0\x07indicesF\0\0\0\x01F\0\0\0\x02@\0\0\0\x02P@\0\0\0\x02Q",
-        "Stray;",
-    ),
-    (
-        b"\x04\0\0\0\x01\0\0\0AN\0\0\0\x10collectionfinishJN\0\0\0\x03idsK\0\0\0\x02F\0\0\0\0N\0\0\0\x01aPF\0\0\0\x01F\0\0\0\x01PP@\0\0\0\x02Q",
-        "Stray;",
-    ),
-    (
-        b"\x04\0\0\0\x01\0\0\0\x1cN\0\0\0\x10collectionfinishJ@\0\0\0\x02Q",
-        "Stray;",
-    ),
-    (
-        b"\x04\0\0\0\x01\0\0\0&N\0\0\0\x0bworkerreadyJN\0\0\0\x04moreF\0\0\0\x07P@\0\0\0\x02Q",
-        "Ready;",
-    ),
-    (
-        b"\x04\0\0\0\x01\0\0\0\"N\0\0\0\x0bworkerreadyJF\0\0\0\x01F\0\0\0\x02P@\0\0\0\x02Q",
-        "Stray;",
-    ),
-    (
-        b"\x04\0\0\0\x01\0\0\0\x16N\0\0\0\x0bworkerready@\0\0\0\x01Q",
-        "Stray;",
-    ),
-    (
-        b"\x04\0\0\0\x01\0\0\0#K\0\0\0\x02F\0\0\0\0N\0\0\0\x0bworkerreadyPF\0\0\0\x01JPQ",
-        "Stray;",
-    ),
-    (b"\x04\0\0\0\x01\0\0\0\x11N\0\0\0\x0bworkerreadyQ", "Stray;"),
-    (
-        b"\x04\0\0\0\x01\0\0\0\x18N\0\0\0\x0cworkerreadyyJ@\0\0\0\x02Q",
-        "Stray;",
-    ),
-    (
-        b"\x04\0\0\0\x01\0\0\0\x17N\0\0\0\x0bworkerreadyJ@\0\0\0\x02Q\x04\0\0\0\x01\0\0\0BN\0\0\0\x10collectionfinishJN\0\0\0\x03idsK\0\0\0\x02F\0\0\0\0N\0\0\0\x01aPF\0\0\0\x01N\0\0\0\x01bPP@\0\0\0\x02Q\x04\0\0\0\x01\0\0\07N\0\0\0\x08logstartJN\0\0\0\x0aitem_indexF\0\0\0\0PN\0\0\0\x03logB\0\0\0\x02P@\0\0\0\x02Q\x04\0\0\0\x02\0\0\0\x07A\0\0\0\x01xQ\x05\0\0\0\x02\0\0\0\0\x04\0\0\0\x01\0\0\0tN\0\0\0\x19runtest_protocol_completeJN\0\0\0\x0aitem_indexF\0\0\0\0PN\0\0\0\x07outcomeN\0\0\0\x06passedPN\0\0\0\x04codeF\0\0\0\0PN\0\0\0\x08durationF\0\0\0\x05P@\0\0\0\x02Q",
-        "Ready;Collected [a, b];LogStart 0 2;Piece 2 78;LogClosed 2;Done 0 passed 5;",
-    ),
-    (
-        b"\x04\0\0\0\x01\0\0\0\x17N\0\0\0\x0bworkerreadyJ@\0\0\0\x02Q\x04\0\0\0\x01\0\0\0BN\0\0\0\x10collectionfinishJN\0\0\0\x03idsK\0\0\0\x02F\0\0\0\0N\0\0\0\x01aPF\0\0\0\x01N\0\0\0\x01bPP@\0\0\0\x02Q\x04\0\0\0\x01\0\0\07N\0\0\0\x08logstartJN\0\0\0\x0aitem_indexF\0\0\0\0PN\0\0\0\x03logB\0\0\0\x02P@\0\0\0\x02Q\x04\0\0\0\x02\0\0\0\x07A\0\0\0\x01xQ\x05\0\0\0\x02\0\0\0\0\x04\0\0\0\x01\0\0\0tN\0\0\0\x19runtest_protocol_completeJN\0\0\0\x0aitem_indexF\0\0\0\0PN\0\0\0\x07outcomeN\0\0\0\x06passedPN\0\0\0\x04codeF\0\0\0\0PN\0\0\0\x08durationF\0\0\0\x05P@\0\0\0\x02Q\x04\0\0\0\x01\0\0\0\x1aN\0\0\0\x0eworkerfinishedJ@\0\0\0\x02Q\x05\0\0\0\x01\0\0\0\0",
-        "Ready;Collected [a, b];LogStart 0 2;Piece 2 78;LogClosed 2;Done 0 passed 5;Finished;-;",
-    ),
-    (
-        b"\x04\0\0\0\x01\0\0\0\x17N\0\0\0\x0bworkerreadyJ@\0\0\0\x02Q\x04\0\0\0\x01\0\0\0\x1aN\0\0\0\x0eworkerfinishedJ@\0\0\0\x02Q\x05\0\0\0\x01\0\0\0\0\x04\0\0\0\x01\0\0\0\x17N\0\0\0\x0bworkerreadyJ@\0\0\0\x02Q",
-        "Ready;Finished;-;Stray;",
-    ),
-    (
-        b"\x04\0\0\0\x01\0\0\0\x1aN\0\0\0\x0eworkerfinishedJ@\0\0\0\x02Q\x06\0\0\0\x01\0\0\0\x0aN\0\0\0\x04lateQ",
-        "Finished;-;",
-    ),
-    (
-        b"\x04\0\0\0\x01\0\0\0\x1aN\0\0\0\x0eworkerfinishedJ@\0\0\0\x02Q\x07\0\0\0\x01\0\0\0\0",
-        "Finished;Stray;",
-    ),
-    (
-        b"\x04\0\0\0\x01\0\0\0\x1aN\0\0\0\x0eworkerfinishedJ@\0\0\0\x02Q\x07\0\0\0\x01\0\0\0\0\x05\0\0\0\x01\0\0\0\0",
-        "Finished;Stray;Stray;",
-    ),
-    (b"\x05\0\0\0\x01\0\0\0\0", "Closed;"),
-    (
-        b"\x05\0\0\0\x01\0\0\0\0\x05\0\0\0\x01\0\0\0\0",
-        "Closed;Stray;",
-    ),
-    (
-        b"\x05\0\0\0\x01\0\0\0\0\x04\0\0\0\x01\0\0\0\x17N\0\0\0\x0bworkerreadyJ@\0\0\0\x02Q",
-        "Closed;Stray;",
-    ),
-    (
-        b"\x05\0\0\0\x01\0\0\0\0\x04\0\0\0\x01\0\0\0\x1aN\0\0\0\x0eworkerfinishedJ@\0\0\0\x02Q\x05\0\0\0\x01\0\0\0\0",
-        "Closed;Stray;Stray;",
-    ),
-    (
-        b"\x06\0\0\0\x01\0\0\0\x1aN\0\0\0\x14suite cannot be readQ",
-        "Closed 'suite cannot be read';",
-    ),
-    (b"\x06\0\0\0\x01\0\0\0\x06N\0\0\0\0Q", "Closed '';"),
-    (
-        b"\x06\0\0\0\x01\0\0\0\x07N\0\0\0\x01aQ\x06\0\0\0\x01\0\0\0\x07N\0\0\0\x01bQ",
-        "Closed 'a';Stray;",
-    ),
-    (b"\x07\0\0\0\x01\0\0\0\0", "Stray;"),
-    (
-        b"\x07\0\0\0\x01\0\0\0\0\x04\0\0\0\x01\0\0\0\x17N\0\0\0\x0bworkerreadyJ@\0\0\0\x02Q",
-        "Stray;Stray;",
-    ),
-    (
-        b"\x07\0\0\0\x01\0\0\0\0\x05\0\0\0\x01\0\0\0\0",
-        "Stray;Stray;",
-    ),
-    (
-        b"\x07\0\0\0\x01\0\0\0\0\x07\0\0\0\x01\0\0\0\0",
-        "Stray;Stray;",
-    ),
-    (b"\x06\0\0\0\x01\0\0\0\x06F\0\0\0\x07Q", "Stray;"),
-    (
-        b"\x06\0\0\0\x01\0\0\0\x02LQ\x04\0\0\0\x01\0\0\0\x17N\0\0\0\x0bworkerreadyJ@\0\0\0\x02Q",
-        "Stray;Stray;",
-    ),
-    (
-        b"\x06\0\0\0\x02\0\0\0\x07A\0\0\0\x01xQ\x04\0\0\0\x01\0\0\0\x17N\0\0\0\x0bworkerreadyJ@\0\0\0\x02Q",
-        "Stray;Stray;",
-    ),
-    (
-        b"\x04\0\0\0\x01\0\0\07N\0\0\0\x08logstartJN\0\0\0\x0aitem_indexF\0\0\0\0PN\0\0\0\x03logB\0\0\0\x02P@\0\0\0\x02Q\x04\0\0\0\x02\0\0\0\x06A\0\0\0\0Q",
-        "LogStart 0 2;Piece 2 ;",
-    ),
-    (
-        b"\x04\0\0\0\x01\0\0\07N\0\0\0\x08logstartJN\0\0\0\x0aitem_indexF\0\0\0\0PN\0\0\0\x03logB\0\0\0\x02P@\0\0\0\x02Q\x04\0\0\0\x02\0\0\0\x07A\0\0\0\x01xQ\x04\0\0\0\x02\0\0\0\x07N\0\0\0\x01xQ\x04\0\0\0\x02\0\0\0\x07A\0\0\0\x01yQ",
-        "LogStart 0 2;Piece 2 78;Stray;Piece 2 79;",
-    ),
-    (
-        b"\x04\0\0\0\x01\0\0\07N\0\0\0\x08logstartJN\0\0\0\x0aitem_indexF\0\0\0\0PN\0\0\0\x03logB\0\0\0\x02P@\0\0\0\x02Q\x04\0\0\0\x04\0\0\0\x07A\0\0\0\x01xQ",
-        "LogStart 0 2;Stray;",
-    ),
-    (
-        b"\x04\0\0\0\x02\0\0\0\x07A\0\0\0\x01xQ\x04\0\0\0\x01\0\0\07N\0\0\0\x08logstartJN\0\0\0\x0aitem_indexF\0\0\0\0PN\0\0\0\x03logB\0\0\0\x02P@\0\0\0\x02Q\x04\0\0\0\x02\0\0\0\x07A\0\0\0\x01yQ",
-        "Stray;LogStart 0 2;Piece 2 79;",
-    ),
-    (
-        b"\x04\0\0\0\x01\0\0\07N\0\0\0\x08logstartJN\0\0\0\x0aitem_indexF\0\0\0\0PN\0\0\0\x03logB\0\0\0\x02P@\0\0\0\x02Q\x05\0\0\0\x02\0\0\0\0\x04\0\0\0\x02\0\0\0\x07A\0\0\0\x01xQ\x05\0\0\0\x02\0\0\0\0",
-        "LogStart 0 2;LogClosed 2;Stray;Stray;",
-    ),
-    (
-        b"\x04\0\0\0\x01\0\0\07N\0\0\0\x08logstartJN\0\0\0\x0aitem_indexF\0\0\0\0PN\0\0\0\x03logB\0\0\0\x02P@\0\0\0\x02Q\x07\0\0\0\x02\0\0\0\0\x04\0\0\0\x02\0\0\0\x07A\0\0\0\x01xQ\x05\0\0\0\x02\0\0\0\0",
-        "LogStart 0 2;LogClosed 2;Stray;Stray;",
-    ),
-    (
-        b"\x04\0\0\0\x01\0\0\07N\0\0\0\x08logstartJN\0\0\0\x0aitem_indexF\0\0\0\0PN\0\0\0\x03logB\0\0\0\x02P@\0\0\0\x02Q\x06\0\0\0\x02\0\0\0\x07N\0\0\0\x01eQ\x07\0\0\0\x02\0\0\0\0",
-        "LogStart 0 2;LogClosed 2;Stray;",
-    ),
-    (
-        b"\x05\0\0\0\x02\0\0\0\0\x04\0\0\0\x01\0\0\07N\0\0\0\x08logstartJN\0\0\0\x0aitem_indexF\0\0\0\0PN\0\0\0\x03logB\0\0\0\x02P@\0\0\0\x02Q\x04\0\0\0\x02\0\0\0\x07A\0\0\0\x01xQ\x05\0\0\0\x02\0\0\0\0",
-        "Stray;LogStart 0 2;Stray;Stray;",
-    ),
-    (
-        b"\x07\0\0\0\x02\0\0\0\0\x04\0\0\0\x01\0\0\07N\0\0\0\x08logstartJN\0\0\0\x0aitem_indexF\0\0\0\0PN\0\0\0\x03logB\0\0\0\x02P@\0\0\0\x02Q\x04\0\0\0\x02\0\0\0\x07A\0\0\0\x01xQ\x05\0\0\0\x02\0\0\0\0",
-        "Stray;LogStart 0 2;Stray;Stray;",
-    ),
-    (
-        b"\x04\0\0\0\x02\0\0\0\x06F\0\0\0\x01Q\x05\0\0\0\x02\0\0\0\0\x04\0\0\0\x01\0\0\07N\0\0\0\x08logstartJN\0\0\0\x0aitem_indexF\0\0\0\0PN\0\0\0\x03logB\0\0\0\x02P@\0\0\0\x02Q\x04\0\0\0\x02\0\0\0\x07A\0\0\0\x01xQ",
-        "Stray;Stray;LogStart 0 2;Stray;",
-    ),
-    (
-        b"\x04\0\0\0\x02\0\0\0\x06F\0\0\0\x01Q\x07\0\0\0\x02\0\0\0\0\x04\0\0\0\x01\0\0\07N\0\0\0\x08logstartJN\0\0\0\x0aitem_indexF\0\0\0\0PN\0\0\0\x03logB\0\0\0\x02P@\0\0\0\x02Q\x04\0\0\0\x02\0\0\0\x07A\0\0\0\x01xQ\x05\0\0\0\x02\0\0\0\0",
-        "Stray;Stray;LogStart 0 2;Stray;Stray;",
-    ),
-    (
-        b"\x04\0\0\0\x01\0\0\07N\0\0\0\x08logstartJN\0\0\0\x0aitem_indexF\0\0\0\0PN\0\0\0\x03logB\0\0\0\x03P@\0\0\0\x02Q\x04\0\0\0\x03\0\0\0\x07A\0\0\0\x01xQ\x05\0\0\0\x03\0\0\0\0",
-        "LogStart 0 3;Stray;Stray;",
-    ),
-    (
-        b"\x04\0\0\0\x01\0\0\07N\0\0\0\x08logstartJN\0\0\0\x0aitem_indexF\0\0\0\0PN\0\0\0\x03logB\0\0\0\x01P@\0\0\0\x02Q\x04\0\0\0\x01\0\0\0\x07A\0\0\0\x01xQ\x04\0\0\0\x01\0\0\0\x17N\0\0\0\x0bworkerreadyJ@\0\0\0\x02Q",
-        "LogStart 0 1;Stray;Ready;",
-    ),
-    (
-        b"\x04\0\0\0\x01\0\0\07N\0\0\0\x08logstartJN\0\0\0\x0aitem_indexF\0\0\0\0PN\0\0\0\x03logB\0\0\0\x02P@\0\0\0\x02Q\x04\0\0\0\x01\0\0\07N\0\0\0\x08logstartJN\0\0\0\x0aitem_indexF\0\0\0\x01PN\0\0\0\x03logB\0\0\0\x02P@\0\0\0\x02Q\x04\0\0\0\x02\0\0\0\x07A\0\0\0\x01xQ\x05\0\0\0\x02\0\0\0\0",
-        "LogStart 0 2;LogStart 1 2;Piece 2 78;LogClosed 2;",
-    ),
-    (
-        b"\x04\0\0\0\x01\0\0\07N\0\0\0\x08logstartJN\0\0\0\x0aitem_indexF\0\0\0\0PN\0\0\0\x03logB\0\0\0\x02P@\0\0\0\x02Q\x05\0\0\0\x02\0\0\0\0\x04\0\0\0\x01\0\0\07N\0\0\0\x08logstartJN\0\0\0\x0aitem_indexF\0\0\0\x01PN\0\0\0\x03logB\0\0\0\x02P@\0\0\0\x02Q\x04\0\0\0\x02\0\0\0\x07A\0\0\0\x01xQ",
-        "LogStart 0 2;LogClosed 2;LogStart 1 2;Stray;",
-    ),
-    (
-        b"\x04\0\0\0\x01\0\0\07N\0\0\0\x08logstartJN\0\0\0\x0aitem_indexF\0\0\0\0PN\0\0\0\x03logB\0\0\0\x02P@\0\0\0\x02Q\x04\0\0\0\x01\0\0\07N\0\0\0\x08logstartJN\0\0\0\x0aitem_indexF\0\0\0\x01PN\0\0\0\x03logB\0\0\0\x04P@\0\0\0\x02Q\x04\0\0\0\x04\0\0\0\x07A\0\0\0\x014Q\x04\0\0\0\x02\0\0\0\x07A\0\0\0\x012Q\x05\0\0\0\x04\0\0\0\0\x05\0\0\0\x02\0\0\0\0",
-        "LogStart 0 2;LogStart 1 4;Piece 4 34;Piece 2 32;LogClosed 4;LogClosed 2;",
-    ),
-    (
-        b"\x04\0\0\0\x01\0\0\07N\0\0\0\x08logstartJN\0\0\0\x0aitem_indexF\0\0\0\0PN\0\0\0\x03logB\x7f\xff\xff\xfeP@\0\0\0\x02Q\x04\x7f\xff\xff\xfe\0\0\0\x07A\0\0\0\x01xQ\x05\x7f\xff\xff\xfe\0\0\0\0",
-        "LogStart 0 2147483646;Piece 2147483646 78;LogClosed 2147483646;",
-    ),
-    (
-        b"\x04\0\0\0\x01\0\0\0AN\0\0\0\x08logstartJN\0\0\0\x0aitem_indexH\0\0\0\x0a4294967295PN\0\0\0\x03logB\0\0\0\x02P@\0\0\0\x02Q",
-        "LogStart 4294967295 2;",
-    ),
-    (
-        b"\x04\0\0\0\x01\0\0\0AN\0\0\0\x08logstartJN\0\0\0\x0aitem_indexH\0\0\0\x0a4294967296PN\0\0\0\x03logB\0\0\0\x02P@\0\0\0\x02Q\x04\0\0\0\x02\0\0\0\x07A\0\0\0\x01xQ",
-        "Stray;Stray;",
-    ),
-    (
-        b"\x04\0\0\0\x01\0\0\07N\0\0\0\x08logstartJN\0\0\0\x0aitem_indexF\0\0\0\0PN\0\0\0\x03logB\0\0\0\0P@\0\0\0\x02Q",
-        "Stray;",
-    ),
-    (
-        b"\x04\0\0\0\x01\0\0\07N\0\0\0\x08logstartJN\0\0\0\x03logB\0\0\0\x02PN\0\0\0\x0aitem_indexF\0\0\0\x03P@\0\0\0\x02Q",
-        "LogStart 3 2;",
-    ),
-    (
-        b"\x04\0\0\0\x01\0\0\07N\0\0\0\x08logstartJN\0\0\0\x0aitem_indexF\0\0\0\0PN\0\0\0\x03logF\0\0\0\x02P@\0\0\0\x02Q\x04\0\0\0\x02\0\0\0\x07A\0\0\0\x01xQ",
-        "Stray;Stray;",
-    ),
-    (
-        b"\x04\0\0\0\x01\0\0\0)N\0\0\0\x08logstartJN\0\0\0\x0aitem_indexF\0\0\0\0P@\0\0\0\x02Q\x04\0\0\0\x02\0\0\0\x07A\0\0\0\x01xQ",
-        "Stray;Stray;",
-    ),
-    (
-        b"\x04\0\0\0\x01\0\0\0\x06B\0\0\0\x02Q\x04\0\0\0\x02\0\0\0\x07A\0\0\0\x01xQ\x05\0\0\0\x02\0\0\0\0",
-        "Stray;Stray;Stray;",
-    ),
-    (
-        b"\x03\0\0\0\x02\0\0\0\x16N\0\0\0\0LN\0\0\0\x04echoJ@\0\0\0\x04Q\x04\0\0\0\x02\0\0\0\x07A\0\0\0\x01xQ\x05\0\0\0\x02\0\0\0\0",
-        "Stray;Stray;Stray;",
-    ),
-    (
-        b"\x03\0\0\0\x01\0\0\0\x16N\0\0\0\0LN\0\0\0\x04echoJ@\0\0\0\x04Q\x04\0\0\0\x01\0\0\0\x17N\0\0\0\x0bworkerreadyJ@\0\0\0\x02Q",
-        "Stray;Ready;",
-    ),
-    (
-        b"\0\0\0\0\x02\0\0\0\0\x04\0\0\0\x01\0\0\07N\0\0\0\x08logstartJN\0\0\0\x0aitem_indexF\0\0\0\0PN\0\0\0\x03logB\0\0\0\x02P@\0\0\0\x02Q\x04\0\0\0\x02\0\0\0\x07A\0\0\0\x01xQ",
-        "Stray;LogStart 0 2;Piece 2 78;",
-    ),
-    (
-        b"\0\0\0\0\x01\0\0\0\0\x04\0\0\0\x01\0\0\0\x17N\0\0\0\x0bworkerreadyJ@\0\0\0\x02Q",
-        "Stray;Ready;",
-    ),
-    (
-        b"\x02\0\0\0\0\0\0\0\0\x04\0\0\0\x01\0\0\0\x17N\0\0\0\x0bworkerreadyJ@\0\0\0\x02Q",
-        "Stray;Ready;",
-    ),
-    (
-        b"\x02\0\0\0\x01\0\0\0\x01?\x04\0\0\0\x01\0\0\0\x17N\0\0\0\x0bworkerreadyJ@\0\0\0\x02Q",
-        "Stray;Ready;",
-    ),
-    (
-        b"\x01\0\0\0\0\0\0\0\0\x04\0\0\0\x01\0\0\0\x17N\0\0\0\x0bworkerreadyJ@\0\0\0\x02Q",
-        "Stray;Stray;",
-    ),
-    (
-        b"\x01\0\0\0\x01\0\0\0\0\x04\0\0\0\x01\0\0\0\x17N\0\0\0\x0bworkerreadyJ@\0\0\0\x02Q",
-        "Stray;Stray;",
-    ),
-    (
-        b"\0\0\0\0\0\0\0\0\0\x04\0\0\0\x01\0\0\0\x17N\0\0\0\x0bworkerreadyJ@\0\0\0\x02Q",
-        "Stray;Stray;",
-    ),
-    (
-        b"\x04\0\0\0\0\0\0\0\x06F\0\0\0\x01Q\x04\0\0\0\x01\0\0\0\x17N\0\0\0\x0bworkerreadyJ@\0\0\0\x02Q",
-        "Stray;Stray;",
-    ),
-    (
-        b"\x05\0\0\0\0\0\0\0\0\x04\0\0\0\x01\0\0\0\x17N\0\0\0\x0bworkerreadyJ@\0\0\0\x02Q",
-        "Stray;Stray;",
-    ),
-    (b"\x05\0\0\0\x01\0\0\0\x01?", "Closed;"),
-    (
-        b"\x07\0\0\0\x02\0\0\0\x01?\x04\0\0\0\x01\0\0\0\x17N\0\0\0\x0bworkerreadyJ@\0\0\0\x02Q",
-        "Stray;Ready;",
-    ),
-    (
-        b"\x05\0\0\0\x03\0\0\0\0\x04\0\0\0\x03\0\0\0\x06F\0\0\0\x01Q\x04\0\0\0\x01\0\0\0\x17N\0\0\0\x0bworkerreadyJ@\0\0\0\x02Q",
-        "Stray;Stray;Ready;",
-    ),
-    (
-        b"\x04\0\0\0\x05\0\0\0\x07A\0\0\0\x01xQ\x04\0\0\0\x01\0\0\0\x17N\0\0\0\x0bworkerreadyJ@\0\0\0\x02Q",
-        "Stray;Ready;",
-    ),
-    (
-        b"\x07\0\0\0\x04\0\0\0\0\x04\0\0\0\x04\0\0\0\x07A\0\0\0\x01xQ\x04\0\0\0\x01\0\0\07N\0\0\0\x08logstartJN\0\0\0\x0aitem_indexF\0\0\0\0PN\0\0\0\x03logB\0\0\0\x04P@\0\0\0\x02Q\x04\0\0\0\x04\0\0\0\x07A\0\0\0\x01xQ",
-        "Stray;Stray;LogStart 0 4;Stray;",
-    ),
-    (
-        b"\x04\0\0\0\x01\0\0\0tN\0\0\0\x19runtest_protocol_completeJN\0\0\0\x0aitem_indexF\0\0\0\0PN\0\0\0\x07outcomeN\0\0\0\x06failedPN\0\0\0\x04codeF\0\0\0\0PN\0\0\0\x08durationF\0\0\0\x05P@\0\0\0\x02Q",
-        "Stray;",
-    ),
-    (
-        b"\x04\0\0\0\x01\0\0\0tN\0\0\0\x19runtest_protocol_completeJN\0\0\0\x0aitem_indexF\0\0\0\0PN\0\0\0\x07outcomeN\0\0\0\x06failedPN\0\0\0\x04codeF\0\0\0\x01PN\0\0\0\x08durationF\0\0\0\x05P@\0\0\0\x02Q",
-        "Done 0 failed 1 5;",
-    ),
-    (
-        b"\x04\0\0\0\x01\0\0\0tN\0\0\0\x19runtest_protocol_completeJN\0\0\0\x0aitem_indexF\0\0\0\0PN\0\0\0\x07outcomeN\0\0\0\x06failedPN\0\0\0\x04codeF\0\0\0LPN\0\0\0\x08durationF\0\0\0\x05P@\0\0\0\x02Q",
-        "Done 0 failed 76 5;",
-    ),
-    (
-        b"\x04\0\0\0\x01\0\0\0tN\0\0\0\x19runtest_protocol_completeJN\0\0\0\x0aitem_indexF\0\0\0\0PN\0\0\0\x07outcomeN\0\0\0\x06failedPN\0\0\0\x04codeF\0\0\0MPN\0\0\0\x08durationF\0\0\0\x05P@\0\0\0\x02Q",
-        "Stray;",
-    ),
-    (
-        b"\x04\0\0\0\x01\0\0\0tN\0\0\0\x19runtest_protocol_completeJN\0\0\0\x0aitem_indexF\0\0\0\0PN\0\0\0\x07outcomeN\0\0\0\x06failedPN\0\0\0\x04codeF\0\0\0NPN\0\0\0\x08durationF\0\0\0\x05P@\0\0\0\x02Q",
-        "Done 0 failed 78 5;",
-    ),
-    (
-        b"\x04\0\0\0\x01\0\0\0tN\0\0\0\x19runtest_protocol_completeJN\0\0\0\x0aitem_indexF\0\0\0\0PN\0\0\0\x07outcomeN\0\0\0\x06failedPN\0\0\0\x04codeF\0\0\0\xffPN\0\0\0\x08durationF\0\0\0\x05P@\0\0\0\x02Q",
-        "Done 0 failed 255 5;",
-    ),
-    (
-        b"\x04\0\0\0\x01\0\0\0tN\0\0\0\x19runtest_protocol_completeJN\0\0\0\x0aitem_indexF\0\0\0\0PN\0\0\0\x07outcomeN\0\0\0\x06failedPN\0\0\0\x04codeF\0\0\x01\0PN\0\0\0\x08durationF\0\0\0\x05P@\0\0\0\x02Q",
-        "Stray;",
-    ),
-    (
-        b"\x04\0\0\0\x01\0\0\0tN\0\0\0\x19runtest_protocol_completeJN\0\0\0\x0aitem_indexF\0\0\0\0PN\0\0\0\x07outcomeN\0\0\0\x06failedPN\0\0\0\x04codeF\xff\xff\xff\xffPN\0\0\0\x08durationF\0\0\0\x05P@\0\0\0\x02Q",
-        "Done 0 failed -1 5;",
-    ),
-    (
-        b"\x04\0\0\0\x01\0\0\0tN\0\0\0\x19runtest_protocol_completeJN\0\0\0\x0aitem_indexF\0\0\0\0PN\0\0\0\x07outcomeN\0\0\0\x06failedPN\0\0\0\x04codeF\xff\xff\xff\xfePN\0\0\0\x08durationF\0\0\0\x05P@\0\0\0\x02Q",
-        "Done 0 failed -2 5;",
-    ),
-    (
-        b"\x04\0\0\0\x01\0\0\0tN\0\0\0\x19runtest_protocol_completeJN\0\0\0\x0aitem_indexF\0\0\0\0PN\0\0\0\x07outcomeN\0\0\0\x06failedPN\0\0\0\x04codeF\xff\xff\xff\xfdPN\0\0\0\x08durationF\0\0\0\x05P@\0\0\0\x02Q",
-        "Done 0 failed -3 5;",
-    ),
-    (
-        b"\x04\0\0\0\x01\0\0\0tN\0\0\0\x19runtest_protocol_completeJN\0\0\0\x0aitem_indexF\0\0\0\0PN\0\0\0\x07outcomeN\0\0\0\x06failedPN\0\0\0\x04codeF\xff\xff\xff\xfcPN\0\0\0\x08durationF\0\0\0\x05P@\0\0\0\x02Q",
-        "Stray;",
-    ),
-    (
-        b"\x04\0\0\0\x01\0\0\0tN\0\0\0\x19runtest_protocol_completeJN\0\0\0\x0aitem_indexF\0\0\0\0PN\0\0\0\x07outcomeN\0\0\0\x06passedPN\0\0\0\x04codeF\0\0\0\x01PN\0\0\0\x08durationF\0\0\0\x05P@\0\0\0\x02Q",
-        "Stray;",
-    ),
-    (
-        b"\x04\0\0\0\x01\0\0\0uN\0\0\0\x19runtest_protocol_completeJN\0\0\0\x0aitem_indexF\0\0\0\0PN\0\0\0\x07outcomeN\0\0\0\x07skippedPN\0\0\0\x04codeF\0\0\0\0PN\0\0\0\x08durationF\0\0\0\x05P@\0\0\0\x02Q",
-        "Done 0 skipped 5;",
-    ),
-    (
-        b"\x04\0\0\0\x01\0\0\0uN\0\0\0\x19runtest_protocol_completeJN\0\0\0\x0aitem_indexF\0\0\0\0PN\0\0\0\x07outcomeN\0\0\0\x07skippedPN\0\0\0\x04codeF\0\0\0MPN\0\0\0\x08durationF\0\0\0\x05P@\0\0\0\x02Q",
-        "Stray;",
-    ),
-    (
-        b"\x04\0\0\0\x01\0\0\0uN\0\0\0\x19runtest_protocol_completeJN\0\0\0\x0aitem_indexF\0\0\0\0PN\0\0\0\x07outcomeN\0\0\0\x07crashedPN\0\0\0\x04codeF\0\0\0\0PN\0\0\0\x08durationF\0\0\0\x05P@\0\0\0\x02Q",
-        "Stray;",
-    ),
-    (
-        b"\x04\0\0\0\x01\0\0\0\x88N\0\0\0\x19runtest_protocol_completeJN\0\0\0\x0aitem_indexF\0\0\0\0PN\0\0\0\x07outcomeN\0\0\0\x06passedPN\0\0\0\x04codeF\0\0\0\0PN\0\0\0\x08durationH\0\0\0\x1418446744073709551615P@\0\0\0\x02Q",
-        "Done 0 passed 18446744073709551615;",
-    ),
-    (
-        b"\x04\0\0\0\x01\0\0\0\x88N\0\0\0\x19runtest_protocol_completeJN\0\0\0\x0aitem_indexF\0\0\0\0PN\0\0\0\x07outcomeN\0\0\0\x06passedPN\0\0\0\x04codeF\0\0\0\0PN\0\0\0\x08durationH\0\0\0\x1418446744073709551616P@\0\0\0\x02Q",
-        "Stray;",
-    ),
-    (
-        b"\x04\0\0\0\x01\0\0\0tN\0\0\0\x19runtest_protocol_completeJN\0\0\0\x0aitem_indexF\0\0\0\0PN\0\0\0\x07outcomeN\0\0\0\x06passedPN\0\0\0\x04codeF\0\0\0\0PN\0\0\0\x08durationF\xff\xff\xff\xffP@\0\0\0\x02Q",
-        "Stray;",
-    ),
-    (
-        b"\x04\0\0\0\x01\0\0\0~N\0\0\0\x19runtest_protocol_completeJN\0\0\0\x0aitem_indexH\0\0\0\x0a4294967296PN\0\0\0\x07outcomeN\0\0\0\x06passedPN\0\0\0\x04codeF\0\0\0\0PN\0\0\0\x08durationF\0\0\0\x05P@\0\0\0\x02Q",
-        "Stray;",
-    ),
-    (
-        b"\x04\0\0\0\x01\0\0\0pN\0\0\0\x19runtest_protocol_completeJN\0\0\0\x0aitem_indexRPN\0\0\0\x07outcomeN\0\0\0\x06passedPN\0\0\0\x04codeF\0\0\0\0PN\0\0\0\x08durationF\0\0\0\x05P@\0\0\0\x02Q",
-        "Stray;",
-    ),
-    (
-        b"\x04\0\0\0\x01\0\0\0\0\x04\0\0\0\x01\0\0\0\x17N\0\0\0\x0bworkerreadyJ@\0\0\0\x02Q",
-        "Stray;Stray;",
-    ),
-    (
-        b"\x04\0\0\0\x01\0\0\0\x01L\x04\0\0\0\x01\0\0\0\x17N\0\0\0\x0bworkerreadyJ@\0\0\0\x02Q",
-        "Stray;Stray;",
-    ),
-    (
-        b"\x04\0\0\0\x01\0\0\0\x03LQL\x04\0\0\0\x01\0\0\0\x17N\0\0\0\x0bworkerreadyJ@\0\0\0\x02Q",
-        "Stray;Stray;",
-    ),
-    (
-        b"\x04\0\0\0\x01\0\0\0\x03LLQ\x04\0\0\0\x01\0\0\0\x17N\0\0\0\x0bworkerreadyJ@\0\0\0\x02Q",
-        "Stray;Stray;",
-    ),
-    (
-        b"\x04\0\0\0\x01\0\0\0\x02?Q\x04\0\0\0\x01\0\0\0\x17N\0\0\0\x0bworkerreadyJ@\0\0\0\x02Q",
-        "Stray;Stray;",
-    ),
-    (
-        b"\x04\0\0\0\x01\0\0\0\x02DQ\x04\0\0\0\x01\0\0\0\x17N\0\0\0\x0bworkerreadyJ@\0\0\0\x02Q",
-        "Stray;Stray;",
-    ),
-    (
-        b"\x04\0\0\0\x01\0\0\0\x04F\0\0Q\x04\0\0\0\x01\0\0\0\x17N\0\0\0\x0bworkerreadyJ@\0\0\0\x02Q",
-        "Stray;Stray;",
-    ),
-    (
-        b"\x04\0\0\0\x01\0\0\0\x07N\0\0\0\x01\xffQ\x04\0\0\0\x01\0\0\0\x17N\0\0\0\x0bworkerreadyJ@\0\0\0\x02Q",
-        "Stray;Stray;",
-    ),
-    (
-        b"\x04\0\0\0\x01\0\0\0\x06B\0\0\0\0Q\x04\0\0\0\x01\0\0\0\x17N\0\0\0\x0bworkerreadyJ@\0\0\0\x02Q",
-        "Stray;Stray;",
-    ),
-    (
-        b"\x04\0\0\0\x01\0\0\0\x06K\0\0\0\x01Q\x04\0\0\0\x01\0\0\0\x17N\0\0\0\x0bworkerreadyJ@\0\0\0\x02Q",
-        "Stray;Stray;",
-    ),
-    (
-        b"\x04\0\0\0\x01\0\0\0\x03JKP\x04\0\0\0\x01\0\0\0\x17N\0\0\0\x0bworkerreadyJ@\0\0\0\x02Q",
-        "Stray;Stray;",
-    ),
-    (
-        b"\x04\0\0\0\x01\0\0\0\x08JLLPLLPQ\x04\0\0\0\x01\0\0\0\x17N\0\0\0\x0bworkerreadyJ@\0\0\0\x02Q",
-        "Stray;Stray;",
-    ),
-    (
-        b"\x04\0\0\0\x01\0\0\0\x06@\0\0\0\x01Q\x04\0\0\0\x01\0\0\0\x17N\0\0\0\x0bworkerreadyJ@\0\0\0\x02Q",
-        "Stray;Stray;",
-    ),
-    (
-        b"\x04\0\0\0\x01\0\0\0\x07H\0\0\0\x01-Q\x04\0\0\0\x01\0\0\0\x17N\0\0\0\x0bworkerreadyJ@\0\0\0\x02Q",
-        "Stray;Stray;",
-    ),
-    (
-        b"\x04\0\0\0\x01\0\0\0\x07A\0\0\0\x05xQ\x04\0\0\0\x01\0\0\0\x17N\0\0\0\x0bworkerreadyJ@\0\0\0\x02Q",
-        "Stray;Stray;",
-    ),
-    (
-        b"\x04\0\0\0\x01\0\0\0\x09JK\0\0\0\0LPQ\x04\0\0\0\x01\0\0\0\x17N\0\0\0\x0bworkerreadyJ@\0\0\0\x02Q",
-        "Stray;Stray;",
-    ),
-    (
-        b"\x04\0\0\0\x01\0\0\0\x08LLO\0\0\0\x02Q\x04\0\0\0\x01\0\0\0\x17N\0\0\0\x0bworkerreadyJ@\0\0\0\x02Q",
-        "Stray;Stray;",
-    ),
-    (
-        b"\x04\0\0\0\x01\0\0\0\x17S\0\0\0\x0bworkerreadyJ@\0\0\0\x02Q",
-        "Ready;",
-    ),
-    (
-        b"\x04\0\0\0\x01\0\0\0\x17M\0\0\0\x0bworkerreadyJ@\0\0\0\x02Q",
-        "Ready;",
-    ),
-    (
-        b"\x04\0\0\0\x01\0\0\06N\0\0\0\x0bunscheduledJN\0\0\0\x07indicesK\0\0\0\x01G\0\0\0\0H\0\0\0\x0207PP@\0\0\0\x02Q",
-        "Back [7];",
-    ),
-    (
-        b"\x04\0\0\0\x01\0\0\0\x17N\0\0\0\x0bworkerreadyJ@\0\0\0\x02Q\0\0\0\0\x02\0\0\0\0\x05\0\0\0\x02\0\0\0\0",
-        "Ready;Stray;Stray;",
-    ),
-    (
-        b"\x04\0\0\0\x01\0\0\0\x17N\0\0\0\x0bworkerreadyJ@\0\0\0\x02Q\x04\0\0\0\x01\0\0\0\x1aN\0\0\0\x0eworkerfinishedJ@\0\0\0\x02Q\x07\0\0\0\x01\0\0\0\0\x04\0\0\0\x01\0\0\0uN\0\0\0\x19runtest_protocol_completeJN\0\0\0\x0aitem_indexF\0\0\0\0PN\0\0\0\x07outcomeN\0\0\0\x07skippedPN\0\0\0\x04codeF\0\0\0\0PN\0\0\0\x08durationF\0\0\0`P@\0\0\0\x02Q\x05\0\0\0\x01\0\0\0\0",
-        "Ready;Finished;Stray;Stray;Stray;",
-    ),
-    (
-        b"\x04\0\0\0\x01\0\0\0\x17N\0\0\0\x0bworkerreadyJ@\0\0\0\x02Q\x04\0\0\0\x01\0\0\0?N\0\0\0\x0bunscheduledJN\0\0\0\x07indicesK\0\0\0\x02F\0\0\0\0F\0\0\0\0PF\0\0\0\x01F\0\0\0\x07PP@\0\0\0\x02Q\x05\0\0\0\x02\0\0\0\0\0\0\0\0\x02\0\0\0\0\x05\0\0\0\x02\0\0\0\0",
-        "Ready;Back [0, 7];Stray;Stray;Stray;",
-    ),
-    (
-        b"\x04\0\0\0\x01\0\0\0\x17N\0\0\0\x0bworkerreadyJ@\0\0\0\x02Q\x04\0\0\0\x01\0\0\07N\0\0\0\x08logstartJN\0\0\0\x0aitem_indexF\0\0\0\x08PN\0\0\0\x03logB\0\0\0\x02P@\0\0\0\x02Q",
-        "Ready;LogStart 8 2;",
-    ),
-    (
-        b"\x04\0\0\0\x01\0\0\0\x17N\0\0\0\x0bworkerreadyJ@\0\0\0\x02Q\x04\0\0\0\x01\0\0\0uN\0\0\0\x19runtest_protocol_completeJN\0\0\0\x0aitem_indexF\0\0\0\0PN\0\0\0\x07outcomeN\0\0\0\x07skippedPN\0\0\0\x04codeF\0\0\0\0PN\0\0\0\x08durationF\0\0\x03\xe0P@\0\0\0\x02Q",
-        "Ready;Done 0 skipped 992;",
-    ),
-    (
-        b"\x04\0\0\0\x01\0\0\0\x17N\0\0\0\x0bworkerreadyJ@\0\0\0\x02Q\x04\0\0\0\x01\0\0\07N\0\0\0\x08logstartJN\0\0\0\x0aitem_indexF\0\0\0\x08PN\0\0\0\x03logB\0\0\0\x02P@\0\0\0\x02Q\x04\0\0\0\x02\0\0\0\x09A\0\0\0\x03prhQ\x04\0\0\0\x01\0\0\0uN\0\0\0\x19runtest_protocol_completeJN\0\0\0\x0aitem_indexF\0\0\0\x08PN\0\0\0\x07outcomeN\0\0\0\x07skippedPN\0\0\0\x04codeF\0\0\0\0PN\0\0\0\x08durationF\0\0\x02\xb5P@\0\0\0\x02Q\x04\0\0\0\x02\0\0\0\x09A\0\0\0\x03janQ",
-        "Ready;LogStart 8 2;Piece 2 707268;Done 8 skipped 693;Piece 2 6a616e;",
-    ),
-    (
-        b"\x04\0\0\0\x01\0\0\0\x17N\0\0\0\x0bworkerreadyJ@\0\0\0\x02Q\x04\0\0\0\x01\0\0\07N\0\0\0\x08logstartJN\0\0\0\x0aitem_indexF\0\0\0\x02PN\0\0\0\x03logB\0\0\0\x02P@\0\0\0\x02Q\x05\0\0\0\x02\0\0\0\0\x07\0\0\0\x02\0\0\0\0\x07\0\0\0\x01\0\0\0\0\x04\0\0\0\x02\0\0\0\x08A\0\0\0\x02jsQ",
-        "Ready;LogStart 2 2;LogClosed 2;Stray;Stray;Stray;",
-    ),
-    (
-        b"\x04\0\0\0\x01\0\0\0\x17N\0\0\0\x0bworkerreadyJ@\0\0\0\x02Q\x06\0\0\0\x01\0\0\0\x11N\0\0\0\x0bbad commandQ\0\0\0\0\x02\0\0\0\0\x05\0\0\0\x01\0\0\0\0\x04\0\0\0\x01\0\0\0tN\0\0\0\x19runtest_protocol_completeJN\0\0\0\x0aitem_indexF\0\0\0\0PN\0\0\0\x07outcomeN\0\0\0\x06failedPN\0\0\0\x04codeF\xff\xff\xff\xffPN\0\0\0\x08durationF\0\0\x02\xa8P@\0\0\0\x02Q",
-        "Ready;Closed 'bad command';Stray;Stray;Stray;",
-    ),
-    (
-        b"\x04\0\0\0\x01\0\0\0\x17N\0\0\0\x0bworkerreadyJ@\0\0\0\x02Q\x04\0\0\0\x01\0\0\0tN\0\0\0\x19runtest_protocol_completeJN\0\0\0\x0aitem_indexF\0\0\0\0PN\0\0\0\x07outcomeN\0\0\0\x06passedPN\0\0\0\x04codeF\0\0\0\x03PN\0\0\0\x08durationF\0\0\x03\x87P@\0\0\0\x02Q\x04\0\0\0\x01\0\0\0tN\0\0\0\x19runtest_protocol_completeJN\0\0\0\x0aitem_indexF\0\0\0\0PN\0\0\0\x07outcomeN\0\0\0\x06passedPN\0\0\0\x04codeF\0\0\0\0PN\0\0\0\x08durationF\0\0\x01\xc1P@\0\0\0\x02Q",
-        "Ready;Stray;Done 0 passed 449;",
-    ),
-    (
-        b"\x04\0\0\0\x01\0\0\0\x17N\0\0\0\x0bworkerreadyJ@\0\0\0\x02Q\x05\0\0\0\x01\0\0\0\0\x04\0\0\0\x02\0\0\0\x09A\0\0\0\x03lpxQ\x04\0\0\0\x01\0\0\07N\0\0\0\x08logstartJN\0\0\0\x0aitem_indexF\0\0\0\x07PN\0\0\0\x03logB\0\0\0\x02P@\0\0\0\x02Q\x04\0\0\0\x01\0\0\07N\0\0\0\x08logstartJN\0\0\0\x0aitem_indexF\0\0\0\x04PN\0\0\0\x03logB\0\0\0\x04P@\0\0\0\x02Q\x06\0\0\0\x01\0\0\0\x06F\0\0\0\x05Q\x04\0\0\0\x04\0\0\0\x07A\0\0\0\x01qQ",
-        "Ready;Closed;Stray;Stray;Stray;Stray;Stray;",
-    ),
-    (
-        b"\x04\0\0\0\x01\0\0\0\x17N\0\0\0\x0bworkerreadyJ@\0\0\0\x02Q\x04\0\0\0\x01\0\0\07N\0\0\0\x08logstartJN\0\0\0\x0aitem_indexF\0\0\0\x03PN\0\0\0\x03logB\0\0\0\x02P@\0\0\0\x02Q\x04\0\0\0\x06\0\0\0\x06F\0\0\0\x07Q",
-        "Ready;LogStart 3 2;Stray;",
-    ),
-    (
-        b"\x04\0\0\0\x01\0\0\0\x17N\0\0\0\x0bworkerreadyJ@\0\0\0\x02Q\x06\0\0\0\x01\0\0\0\x11N\0\0\0\x0bbad commandQ\x03\0\0\0\x04\0\0\0\x02LQ\x04\0\0\0\x01\0\0\0\x1aN\0\0\0\x0eworkerfinishedJ@\0\0\0\x02Q\x05\0\0\0\x02\0\0\0\0",
-        "Ready;Closed 'bad command';Stray;Stray;Stray;",
-    ),
-    (
-        b"\x04\0\0\0\x01\0\0\0\x17N\0\0\0\x0bworkerreadyJ@\0\0\0\x02Q\x05\0\0\0\x01\0\0\0\0\x07\0\0\0\x01\0\0\0\0\x04\0\0\0\x02\0\0\0\x09A\0\0\0\x03bplQ\x07\0\0\0\x06\0\0\0\0",
-        "Ready;Closed;Stray;Stray;Stray;",
-    ),
-    (
-        b"\x04\0\0\0\x01\0\0\0\x17N\0\0\0\x0bworkerreadyJ@\0\0\0\x02Q\x06\0\0\0\x01\0\0\0\x11N\0\0\0\x0bbad commandQ\x06\0\0\0\x01\0\0\0\x11N\0\0\0\x0bbad commandQ",
-        "Ready;Closed 'bad command';Stray;",
-    ),
-    (
-        b"\x04\0\0\0\x01\0\0\0\x17N\0\0\0\x0bworkerreadyJ@\0\0\0\x02Q\x04\0\0\0\x01\0\0\0tN\0\0\0\x19runtest_protocol_completeJN\0\0\0\x0aitem_indexF\0\0\0\0PN\0\0\0\x07outcomeN\0\0\0\x06passedPN\0\0\0\x04codeF\0\0\0\0PN\0\0\0\x08durationF\0\0\x02'P@\0\0\0\x02Q\x04\0\0\0\x06\0\0\0\x06K\0\0\0\0Q\x07\0\0\0\x02\0\0\0\0\x01\0\0\0\0\0\0\0\0",
-        "Ready;Done 0 passed 551;Stray;Stray;Stray;",
-    ),
-    (
-        b"\x04\0\0\0\x01\0\0\0\x17N\0\0\0\x0bworkerreadyJ@\0\0\0\x02Q\x04\0\0\0\x02\0\0\0\x07A\0\0\0\x01cQ\x04\0\0\0\x03\0\0\0\x02LQ",
-        "Ready;Stray;Stray;",
-    ),
-    (
-        b"\x04\0\0\0\x01\0\0\0\x17N\0\0\0\x0bworkerreadyJ@\0\0\0\x02Q\x04\0\0\0\x01\0\0\07N\0\0\0\x08logstartJN\0\0\0\x0aitem_indexF\0\0\0\x01PN\0\0\0\x03logB\0\0\0\x02P@\0\0\0\x02Q\x04\0\0\0\x01\0\0\07N\0\0\0\x08logstartJN\0\0\0\x0aitem_indexF\0\0\0\x07PN\0\0\0\x03logB\0\0\0\x04P@\0\0\0\x02Q\x04\0\0\0\x01\0\0\07N\0\0\0\x08logstartJN\0\0\0\x0aitem_indexF\0\0\0\x04PN\0\0\0\x03logB\0\0\0\x06P@\0\0\0\x02Q\x04\0\0\0\x06\0\0\0\x08A\0\0\0\x02dzQ\x05\0\0\0\0\0\0\0\0\x04\0\0\0\x01\0\0\0tN\0\0\0\x19runtest_protocol_completeJN\0\0\0\x0aitem_indexF\0\0\0\x04PN\0\0\0\x07outcomeN\0\0\0\x06failedPN\0\0\0\x04codeF\0\0\0\x01PN\0\0\0\x08durationF\0\0\0GP@\0\0\0\x02Q",
-        "Ready;LogStart 1 2;LogStart 7 4;LogStart 4 6;Piece 6 647a;Stray;Stray;",
-    ),
-    (
-        b"\x04\0\0\0\x01\0\0\0\x17N\0\0\0\x0bworkerreadyJ@\0\0\0\x02Q\x04\0\0\0\x02\0\0\0\x08A\0\0\0\x02qfQ\x07\0\0\0\x02\0\0\0\0",
-        "Ready;Stray;Stray;",
-    ),
-    (
-        b"\x04\0\0\0\x01\0\0\0\x17N\0\0\0\x0bworkerreadyJ@\0\0\0\x02Q\x07\0\0\0\x02\0\0\0\0\x05\0\0\0\x01\0\0\0\0\x04\0\0\0\x01\0\0\07N\0\0\0\x08logstartJN\0\0\0\x0aitem_indexF\0\0\0\x04PN\0\0\0\x03logB\0\0\0\x02P@\0\0\0\x02Q\x04\0\0\0\x01\0\0\0tN\0\0\0\x19runtest_protocol_completeJN\0\0\0\x0aitem_indexF\0\0\0\x04PN\0\0\0\x07outcomeN\0\0\0\x06failedPN\0\0\0\x04codeF\0\0\0\x01PN\0\0\0\x08durationF\0\0\x01\xafP@\0\0\0\x02Q",
-        "Ready;Stray;Closed;Stray;Stray;",
-    ),
-    (
-        b"\x04\0\0\0\x01\0\0\0\x17N\0\0\0\x0bworkerreadyJ@\0\0\0\x02Q\x05\0\0\0\x02\0\0\0\0\x05\0\0\0\x02\0\0\0\0",
-        "Ready;Stray;Stray;",
-    ),
-    (
-        b"\x04\0\0\0\x01\0\0\0\x17N\0\0\0\x0bworkerreadyJ@\0\0\0\x02Q\x04\0\0\0\x01\0\0\0)N\0\0\0\x0bunscheduledJN\0\0\0\x07indicesK\0\0\0\0P@\0\0\0\x02Q\x04\0\0\0\x02\0\0\0\x06A\0\0\0\0Q\x04\0\0\0\x01\0\0\0uN\0\0\0\x19runtest_protocol_completeJN\0\0\0\x0aitem_indexF\0\0\0\0PN\0\0\0\x07outcomeN\0\0\0\x07skippedPN\0\0\0\x04codeF\0\0\0\0PN\0\0\0\x08durationF\0\0\0$P@\0\0\0\x02Q\x04\0\0\0\x02\0\0\0\x09A\0\0\0\x03wqvQ\x04\0\0\0\x01\0\0\0?N\0\0\0\x0bunscheduledJN\0\0\0\x07indicesK\0\0\0\x02F\0\0\0\0F\0\0\0\x03PF\0\0\0\x01F\0\0\0\x08PP@\0\0\0\x02Q",
-        "Ready;Back [];Stray;Done 0 skipped 36;Stray;Back [3, 8];",
-    ),
-    (
-        b"\x04\0\0\0\x01\0\0\0\x17N\0\0\0\x0bworkerreadyJ@\0\0\0\x02Q\x04\0\0\0\x02\0\0\0\x06A\0\0\0\0Q\x04\0\0\0\x01\0\0\0tN\0\0\0\x19runtest_protocol_completeJN\0\0\0\x0aitem_indexF\0\0\0\0PN\0\0\0\x07outcomeN\0\0\0\x06passedPN\0\0\0\x04codeF\0\0\0\x03PN\0\0\0\x08durationF\0\0\x036P@\0\0\0\x02Q\x07\0\0\0\x02\0\0\0\0\x04\0\0\0\x01\0\0\07N\0\0\0\x08logstartJN\0\0\0\x0aitem_indexF\0\0\0\x04PN\0\0\0\x03logB\0\0\0\x02P@\0\0\0\x02Q",
-        "Ready;Stray;Stray;Stray;LogStart 4 2;",
-    ),
-    (
-        b"\x04\0\0\0\x01\0\0\0\x17N\0\0\0\x0bworkerreadyJ@\0\0\0\x02Q\x04\0\0\0\x02\0\0\0\x06A\0\0\0\0Q\x05\0\0\0\x02\0\0\0\0",
-        "Ready;Stray;Stray;",
-    ),
-    (
-        b"\x04\0\0\0\x01\0\0\0\x17N\0\0\0\x0bworkerreadyJ@\0\0\0\x02Q\x07\0\0\0\x02\0\0\0\0",
-        "Ready;Stray;",
-    ),
-    (
-        b"\x04\0\0\0\x01\0\0\0\x17N\0\0\0\x0bworkerreadyJ@\0\0\0\x02Q\x04\0\0\0\x02\0\0\0\x09A\0\0\0\x03sieQ\x04\0\0\0\x01\0\0\07N\0\0\0\x08logstartJN\0\0\0\x0aitem_indexF\0\0\0\x08PN\0\0\0\x03logB\0\0\0\x02P@\0\0\0\x02Q\x04\0\0\0\x01\0\0\07N\0\0\0\x08logstartJN\0\0\0\x0aitem_indexF\0\0\0\x03PN\0\0\0\x03logB\0\0\0\x04P@\0\0\0\x02Q\x05\0\0\0\x08\0\0\0\0\x04\0\0\0\x04\0\0\0\x06A\0\0\0\0Q\x04\0\0\0\x01\0\0\0uN\0\0\0\x19runtest_protocol_completeJN\0\0\0\x0aitem_indexF\0\0\0\x03PN\0\0\0\x07outcomeN\0\0\0\x07skippedPN\0\0\0\x04codeF\0\0\0\0PN\0\0\0\x08durationF\0\0\x01cP@\0\0\0\x02Q",
-        "Ready;Stray;LogStart 8 2;LogStart 3 4;Stray;Piece 4 ;Done 3 skipped 355;",
-    ),
-    (
-        b"\x04\0\0\0\x01\0\0\0\x17N\0\0\0\x0bworkerreadyJ@\0\0\0\x02Q\x04\0\0\0\x02\0\0\0\x09A\0\0\0\x03sgpQ",
-        "Ready;Stray;",
-    ),
-    (
-        b"\x04\0\0\0\x01\0\0\0\x17N\0\0\0\x0bworkerreadyJ@\0\0\0\x02Q\x04\0\0\0\x01\0\0\0tN\0\0\0\x19runtest_protocol_completeJN\0\0\0\x0aitem_indexF\0\0\0\0PN\0\0\0\x07outcomeN\0\0\0\x06failedPN\0\0\0\x04codeF\0\0\0\x01PN\0\0\0\x08durationF\0\0\x02\x04P@\0\0\0\x02Q",
-        "Ready;Done 0 failed 1 516;",
-    ),
-    (
-        b"\x04\0\0\0\x01\0\0\0\x17N\0\0\0\x0bworkerreadyJ@\0\0\0\x02Q\x04\0\0\0\x01\0\0\07N\0\0\0\x08logstartJN\0\0\0\x0aitem_indexF\0\0\0\x05PN\0\0\0\x03logB\0\0\0\x02P@\0\0\0\x02Q\x06\0\0\0\x01\0\0\0\x06F\0\0\0\x05Q\x05\0\0\0\x02\0\0\0\0\x04\0\0\0\x02\0\0\0\x07A\0\0\0\x01kQ",
-        "Ready;LogStart 5 2;Stray;Stray;Stray;",
-    ),
-    (
-        b"\x04\0\0\0\x01\0\0\0\x17N\0\0\0\x0bworkerreadyJ@\0\0\0\x02Q\x04\0\0\0\x02\0\0\0\x08A\0\0\0\x02ngQ\x05\0\0\0\x02\0\0\0\0\x04\0\0\0\x01\0\0\0tN\0\0\0\x19runtest_protocol_completeJN\0\0\0\x0aitem_indexF\0\0\0\0PN\0\0\0\x07outcomeN\0\0\0\x06passedPN\0\0\0\x04codeF\0\0\0\x03PN\0\0\0\x08durationF\0\0\x01`P@\0\0\0\x02Q\x04\0\0\0\x04\0\0\0\x06K\0\0\0\0Q\x04\0\0\0\x02\0\0\0\x06A\0\0\0\0Q",
-        "Ready;Stray;Stray;Stray;Stray;Stray;",
-    ),
-    (
-        b"\x04\0\0\0\x01\0\0\0\x17N\0\0\0\x0bworkerreadyJ@\0\0\0\x02Q\x04\0\0\0\x01\0\0\07N\0\0\0\x08logstartJN\0\0\0\x0aitem_indexF\0\0\0\x01PN\0\0\0\x03logB\0\0\0\x02P@\0\0\0\x02Q\x04\0\0\0\x02\0\0\0\x07A\0\0\0\x01fQ\x04\0\0\0\x02\0\0\0\x07A\0\0\0\x01qQ\x07\0\0\0\x02\0\0\0\0\x04\0\0\0\x01\0\0\0tN\0\0\0\x19runtest_protocol_completeJN\0\0\0\x0aitem_indexF\0\0\0\x01PN\0\0\0\x07outcomeN\0\0\0\x06failedPN\0\0\0\x04codeF\0\0\0\x01PN\0\0\0\x08durationF\0\0\x01\\P@\0\0\0\x02Q\x04\0\0\0\x01\0\0\07N\0\0\0\x08logstartJN\0\0\0\x0aitem_indexF\0\0\0\x04PN\0\0\0\x03logB\0\0\0\x04P@\0\0\0\x02Q",
-        "Ready;LogStart 1 2;Piece 2 66;Piece 2 71;LogClosed 2;Done 1 failed 1 348;LogStart 4 4;",
-    ),
-    (
-        b"\x04\0\0\0\x01\0\0\0\x17N\0\0\0\x0bworkerreadyJ@\0\0\0\x02Q\x06\0\0\0\x01\0\0\0\x06F\0\0\0\x05Q\x04\0\0\0\x02\0\0\0\x06A\0\0\0\0Q",
-        "Ready;Stray;Stray;",
-    ),
-    (
-        b"\x04\0\0\0\x01\0\0\0\x17N\0\0\0\x0bworkerreadyJ@\0\0\0\x02Q\x04\0\0\0\x01\0\0\07N\0\0\0\x08logstartJN\0\0\0\x0aitem_indexF\0\0\0\x06PN\0\0\0\x03logB\0\0\0\x02P@\0\0\0\x02Q\x04\0\0\0\x01\0\0\07N\0\0\0\x08logstartJN\0\0\0\x0aitem_indexF\0\0\0\x06PN\0\0\0\x03logB\0\0\0\x04P@\0\0\0\x02Q\x04\0\0\0\x04\0\0\0\x07A\0\0\0\x01kQ",
-        "Ready;LogStart 6 2;LogStart 6 4;Piece 4 6b;",
-    ),
-    (
-        b"\x04\0\0\0\x01\0\0\0\x17N\0\0\0\x0bworkerreadyJ@\0\0\0\x02Q\x06\0\0\0\x01\0\0\0\x06F\0\0\0\x05Q",
-        "Ready;Stray;",
-    ),
-    (
-        b"\x04\0\0\0\x01\0\0\0\x17N\0\0\0\x0bworkerreadyJ@\0\0\0\x02Q\x07\0\0\0\x06\0\0\0\0",
-        "Ready;Stray;",
-    ),
-    (
-        b"\x04\0\0\0\x01\0\0\0\x17N\0\0\0\x0bworkerreadyJ@\0\0\0\x02Q\0\0\0\0\x02\0\0\0\0\x07\0\0\0\x02\0\0\0\0",
-        "Ready;Stray;Stray;",
-    ),
-    (
-        b"\x04\0\0\0\x01\0\0\0\x17N\0\0\0\x0bworkerreadyJ@\0\0\0\x02Q\x07\0\0\0\x06\0\0\0\0\x04\0\0\0\x01\0\0\07N\0\0\0\x08logstartJN\0\0\0\x0aitem_indexF\0\0\0\x07PN\0\0\0\x03logB\0\0\0\x02P@\0\0\0\x02Q\x05\0\0\0\x02\0\0\0\0",
-        "Ready;Stray;LogStart 7 2;LogClosed 2;",
-    ),
-    (
-        b"\x04\0\0\0\x01\0\0\0\x17N\0\0\0\x0bworkerreadyJ@\0\0\0\x02Q\x05\0\0\0\x02\0\0\0\0",
-        "Ready;Stray;",
-    ),
-    (
-        b"\x04\0\0\0\x01\0\0\0\x17N\0\0\0\x0bworkerreadyJ@\0\0\0\x02Q\x04\0\0\0\x01\0\0\07N\0\0\0\x08logstartJN\0\0\0\x0aitem_indexF\0\0\0\x01PN\0\0\0\x03logB\0\0\0\x02P@\0\0\0\x02Q\x04\0\0\0\x01\0\0\0)N\0\0\0\x0bunscheduledJN\0\0\0\x07indicesK\0\0\0\0P@\0\0\0\x02Q\x04\0\0\0\x01\0\0\07N\0\0\0\x08logstartJN\0\0\0\x0aitem_indexF\0\0\0\x03PN\0\0\0\x03logB\0\0\0\x04P@\0\0\0\x02Q\x04\0\0\0\x04\0\0\0\x09A\0\0\0\x03fdoQ\x04\0\0\0\x04\0\0\0\x07A\0\0\0\x01fQ",
-        "Ready;LogStart 1 2;Back [];LogStart 3 4;Piece 4 66646f;Piece 4 66;",
-    ),
-    (
-        b"\x04\0\0\0\x01\0\0\0\x17N\0\0\0\x0bworkerreadyJ@\0\0\0\x02Q\x04\0\0\0\x01\0\0\07N\0\0\0\x08logstartJN\0\0\0\x0aitem_indexF\0\0\0\x06PN\0\0\0\x03logB\0\0\0\x02P@\0\0\0\x02Q\x04\0\0\0\x01\0\0\0tN\0\0\0\x19runtest_protocol_completeJN\0\0\0\x0aitem_indexF\0\0\0\x06PN\0\0\0\x07outcomeN\0\0\0\x06passedPN\0\0\0\x04codeF\0\0\0\x03PN\0\0\0\x08durationF\0\0\x03\xa3P@\0\0\0\x02Q\x07\0\0\0\x02\0\0\0\0\x06\0\0\0\x01\0\0\0\x11N\0\0\0\x0bbad commandQ\x04\0\0\0\x01\0\0\07N\0\0\0\x08logstartJN\0\0\0\x0aitem_indexF\0\0\0\x03PN\0\0\0\x03logB\0\0\0\x04P@\0\0\0\x02Q\x05\0\0\0\x04\0\0\0\0",
-        "Ready;LogStart 6 2;Stray;LogClosed 2;Closed 'bad command';Stray;Stray;",
-    ),
-    (
-        b"\x04\0\0\0\x01\0\0\0\x17N\0\0\0\x0bworkerreadyJ@\0\0\0\x02Q\x04\0\0\0\x01\0\0\07N\0\0\0\x08logstartJN\0\0\0\x0aitem_indexF\0\0\0\x04PN\0\0\0\x03logB\0\0\0\x02P@\0\0\0\x02Q",
-        "Ready;LogStart 4 2;",
-    ),
-    (
-        b"\x04\0\0\0\x01\0\0\0\x17N\0\0\0\x0bworkerreadyJ@\0\0\0\x02Q\x04\0\0\0\x02\0\0\0\x02?Q\x04\0\0\0\x01\0\0\0\x1aN\0\0\0\x0eworkerfinishedJ@\0\0\0\x02Q\x04\0\0\0\x01\0\0\0tN\0\0\0\x19runtest_protocol_completeJN\0\0\0\x0aitem_indexF\0\0\0\0PN\0\0\0\x07outcomeN\0\0\0\x06failedPN\0\0\0\x04codeF\0\0\0\x01PN\0\0\0\x08durationF\0\0\x01\x98P@\0\0\0\x02Q\x04\0\0\0\x01\0\0\07N\0\0\0\x08logstartJN\0\0\0\x0aitem_indexF\0\0\0\x01PN\0\0\0\x03logB\0\0\0\x02P@\0\0\0\x02Q\x07\0\0\0\x02\0\0\0\0\x04\0\0\0\x01\0\0\07N\0\0\0\x08logstartJN\0\0\0\x0aitem_indexF\0\0\0\x04PN\0\0\0\x03logB\0\0\0\x04P@\0\0\0\x02Q",
-        "Ready;Stray;Stray;Stray;Stray;Stray;Stray;",
-    ),
-    (
-        b"\x04\0\0\0\x01\0\0\0\x17N\0\0\0\x0bworkerreadyJ@\0\0\0\x02Q\x06\0\0\0\x01\0\0\0\x06F\0\0\0\x05Q\x04\0\0\0\x01\0\0\0tN\0\0\0\x19runtest_protocol_completeJN\0\0\0\x0aitem_indexF\0\0\0\0PN\0\0\0\x07outcomeN\0\0\0\x06failedPN\0\0\0\x04codeF\0\0\0\x01PN\0\0\0\x08durationF\0\0\0\xbbP@\0\0\0\x02Q",
-        "Ready;Stray;Stray;",
-    ),
-    (
-        b"\x04\0\0\0\x01\0\0\0\x17N\0\0\0\x0bworkerreadyJ@\0\0\0\x02Q\x04\0\0\0\x02\0\0\0\x08A\0\0\0\x02ghQ\x04\0\0\0\x01\0\0\0tN\0\0\0\x19runtest_protocol_completeJN\0\0\0\x0aitem_indexF\0\0\0\0PN\0\0\0\x07outcomeN\0\0\0\x06passedPN\0\0\0\x04codeF\0\0\0\0PN\0\0\0\x08durationF\0\0\x03GP@\0\0\0\x02Q\x05\0\0\0\x02\0\0\0\0\x04\0\0\0\x01\0\0\0\x1aN\0\0\0\x0eworkerfinishedJ@\0\0\0\x02Q\x04\0\0\0\x01\0\0\07N\0\0\0\x08logstartJN\0\0\0\x0aitem_indexF\0\0\0\x05PN\0\0\0\x03logB\0\0\0\x02P@\0\0\0\x02Q",
-        "Ready;Stray;Done 0 passed 839;Stray;Finished;LogStart 5 2;",
-    ),
-    (
-        b"\x04\0\0\0\x01\0\0\0\x17N\0\0\0\x0bworkerreadyJ@\0\0\0\x02Q\x04\0\0\0\x01\0\0\0tN\0\0\0\x19runtest_protocol_completeJN\0\0\0\x0aitem_indexF\0\0\0\0PN\0\0\0\x07outcomeN\0\0\0\x06failedPN\0\0\0\x04codeF\0\0\0\x01PN\0\0\0\x08durationF\0\0\0*P@\0\0\0\x02Q\x05\0\0\0\x02\0\0\0\0",
-        "Ready;Done 0 failed 1 42;Stray;",
-    ),
-    (
-        b"\x04\0\0\0\x01\0\0\0\x17N\0\0\0\x0bworkerreadyJ@\0\0\0\x02Q\x03\0\0\0\x04\0\0\0\x02LQ\x04\0\0\0\x02\0\0\0\x08A\0\0\0\x02drQ\x01\0\0\0\0\0\0\0\0",
-        "Ready;Stray;Stray;Stray;",
-    ),
-    (
-        b"\x04\0\0\0\x01\0\0\0\x17N\0\0\0\x0bworkerreadyJ@\0\0\0\x02Q\x04\0\0\0\x02\0\0\0\x06A\0\0\0\0Q\x04\0\0\0\x02\0\0\0\x09A\0\0\0\x03cirQ",
-        "Ready;Stray;Stray;",
-    ),
-    (
-        b"\x04\0\0\0\x01\0\0\0\x17N\0\0\0\x0bworkerreadyJ@\0\0\0\x02Q\x04\0\0\0\x01\0\0\07N\0\0\0\x08logstartJN\0\0\0\x0aitem_indexF\0\0\0\0PN\0\0\0\x03logB\0\0\0\x02P@\0\0\0\x02Q",
-        "Ready;LogStart 0 2;",
-    ),
-    (
-        b"\x04\0\0\0\x01\0\0\0\x17N\0\0\0\x0bworkerreadyJ@\0\0\0\x02Q\x04\0\0\0\x01\0\0\07N\0\0\0\x08logstartJN\0\0\0\x0aitem_indexF\0\0\0\x04PN\0\0\0\x03logB\0\0\0\x02P@\0\0\0\x02Q\x04\0\0\0\x01\0\0\0tN\0\0\0\x19runtest_protocol_completeJN\0\0\0\x0aitem_indexF\0\0\0\x04PN\0\0\0\x07outcomeN\0\0\0\x06failedPN\0\0\0\x04codeF\xff\xff\xff\xffPN\0\0\0\x08durationF\0\0\x01\xe0P@\0\0\0\x02Q\x04\0\0\0\x02\0\0\0\x06A\0\0\0\0Q\x06\0\0\0\x01\0\0\0\x11N\0\0\0\x0bbad commandQ\x04\0\0\0\x01\0\0\07N\0\0\0\x08logstartJN\0\0\0\x0aitem_indexF\0\0\0\x08PN\0\0\0\x03logB\0\0\0\x04P@\0\0\0\x02Q\x04\0\0\0\x04\0\0\0\x07A\0\0\0\x01yQ",
-        "Ready;LogStart 4 2;Done 4 failed -1 480;Piece 2 ;Closed 'bad command';Stray;Stray;",
-    ),
-    (
-        b"\x04\0\0\0\x01\0\0\0\x17N\0\0\0\x0bworkerreadyJ@\0\0\0\x02Q\x04\0\0\0\x02\0\0\0\x08A\0\0\0\x02jdQ\x07\0\0\0\x01\0\0\0\0",
-        "Ready;Stray;Stray;",
-    ),
-    (
-        b"\x04\0\0\0\x01\0\0\0\x17N\0\0\0\x0bworkerreadyJ@\0\0\0\x02Q\x04\0\0\0\x02\0\0\0\x07A\0\0\0\x01eQ\x04\0\0\0\x01\0\0\0\x07A\0\0\0\x01qQ\x05\0\0\0\0\0\0\0\0",
-        "Ready;Stray;Stray;Stray;",
-    ),
-    (
-        b"\x04\0\0\0\x01\0\0\0\x17N\0\0\0\x0bworkerreadyJ@\0\0\0\x02Q\x07\0\0\0\x02\0\0\0\0\x04\0\0\0\x02\0\0\0\x02LQ",
-        "Ready;Stray;Stray;",
-    ),
-    (
-        b"\x04\0\0\0\x01\0\0\0\x17N\0\0\0\x0bworkerreadyJ@\0\0\0\x02Q\x04\0\0\0\x02\0\0\0\x08A\0\0\0\x02ycQ\x04\0\0\0\x01\0\0\0\x1aN\0\0\0\x0eworkerfinishedJ@\0\0\0\x02Q\x04\0\0\0\x01\0\0\0?N\0\0\0\x0bunscheduledJN\0\0\0\x07indicesK\0\0\0\x02F\0\0\0\0F\0\0\0\x04PF\0\0\0\x01F\0\0\0\x08PP@\0\0\0\x02Q\x04\0\0\0\x01\0\0\0\x1aN\0\0\0\x0eworkerfinishedJ@\0\0\0\x02Q\x04\0\0\0\x04\0\0\0\x02LQ\x04\0\0\0\x01\0\0\0tN\0\0\0\x19runtest_protocol_completeJN\0\0\0\x0aitem_indexF\0\0\0\0PN\0\0\0\x07outcomeN\0\0\0\x06failedPN\0\0\0\x04codeF\0\0\0\x01PN\0\0\0\x08durationF\0\0\0\xafP@\0\0\0\x02Q",
-        "Ready;Stray;Finished;Back [4, 8];Finished;Stray;Done 0 failed 1 175;",
-    ),
-    (
-        b"\x04\0\0\0\x01\0\0\0\x17N\0\0\0\x0bworkerreadyJ@\0\0\0\x02Q\x05\0\0\0\x01\0\0\0\0\x04\0\0\0\x01\0\0\0?N\0\0\0\x0bunscheduledJN\0\0\0\x07indicesK\0\0\0\x02F\0\0\0\0F\0\0\0\0PF\0\0\0\x01F\0\0\0\0PP@\0\0\0\x02Q\x04\0\0\0\x01\0\0\0tN\0\0\0\x19runtest_protocol_completeJN\0\0\0\x0aitem_indexF\0\0\0\0PN\0\0\0\x07outcomeN\0\0\0\x06passedPN\0\0\0\x04codeF\0\0\0\x03PN\0\0\0\x08durationF\0\0\0\x8dP@\0\0\0\x02Q",
-        "Ready;Closed;Stray;Stray;",
-    ),
-    (
-        b"\x04\0\0\0\x01\0\0\0\x17N\0\0\0\x0bworkerreadyJ@\0\0\0\x02Q\x04\0\0\0\x02\0\0\0\x07A\0\0\0\x01iQ\x07\0\0\0\x02\0\0\0\0\x05\0\0\0\x08\0\0\0\0\x04\0\0\0\x02\0\0\0\x06A\0\0\0\0Q\x04\0\0\0\x02\0\0\0\x09A\0\0\0\x03afqQ",
-        "Ready;Stray;Stray;Stray;Stray;Stray;",
-    ),
-    (
-        b"\x04\0\0\0\x01\0\0\0\x17N\0\0\0\x0bworkerreadyJ@\0\0\0\x02Q\x07\0\0\0\x01\0\0\0\0\x04\0\0\0\x01\0\0\0\x1aN\0\0\0\x0eworkerfinishedJ@\0\0\0\x02Q\x04\0\0\0\x02\0\0\0\x07A\0\0\0\x01kQ",
-        "Ready;Stray;Stray;Stray;",
-    ),
-    (
-        b"\x04\0\0\0\x01\0\0\0\x17N\0\0\0\x0bworkerreadyJ@\0\0\0\x02Q\x05\0\0\0\x01\0\0\0\0\x04\0\0\0\x01\0\0\04N\0\0\0\x0bunscheduledJN\0\0\0\x07indicesK\0\0\0\x01F\0\0\0\0F\0\0\0\x08PP@\0\0\0\x02Q\x04\0\0\0\x02\0\0\0\x02?Q\x04\0\0\0\x02\0\0\0\x06A\0\0\0\0Q",
-        "Ready;Closed;Stray;Stray;Stray;",
-    ),
-    (
-        b"\x04\0\0\0\x01\0\0\0\x17N\0\0\0\x0bworkerreadyJ@\0\0\0\x02Q\x07\0\0\0\x01\0\0\0\0",
-        "Ready;Stray;",
-    ),
-    (
-        b"\x04\0\0\0\x01\0\0\0\x17N\0\0\0\x0bworkerreadyJ@\0\0\0\x02Q\x04\0\0\0\x02\0\0\0\x07A\0\0\0\x01jQ\x07\0\0\0\x02\0\0\0\0\x04\0\0\0\x03\0\0\0\x06F\0\0\0\x07Q",
-        "Ready;Stray;Stray;Stray;",
-    ),
-    (
-        b"\x04\0\0\0\x01\0\0\0\x17N\0\0\0\x0bworkerreadyJ@\0\0\0\x02Q\x04\0\0\0\x01\0\0\0\x1aN\0\0\0\x0eworkerfinishedJ@\0\0\0\x02Q\x01\0\0\0\0\0\0\0\0\x04\0\0\0\x01\0\0\07N\0\0\0\x08logstartJN\0\0\0\x0aitem_indexF\0\0\0\x08PN\0\0\0\x03logB\0\0\0\x02P@\0\0\0\x02Q\x05\0\0\0\x08\0\0\0\0\x04\0\0\0\x02\0\0\0\x07A\0\0\0\x01iQ\x04\0\0\0\x01\0\0\0)N\0\0\0\x0bunscheduledJN\0\0\0\x07indicesK\0\0\0\0P@\0\0\0\x02Q",
-        "Ready;Finished;Stray;Stray;Stray;Stray;Stray;",
-    ),
-    (
-        b"\x04\0\0\0\x01\0\0\0\x17N\0\0\0\x0bworkerreadyJ@\0\0\0\x02Q\x04\0\0\0\x01\0\0\07N\0\0\0\x08logstartJN\0\0\0\x0aitem_indexF\0\0\0\x07PN\0\0\0\x03logB\0\0\0\x02P@\0\0\0\x02Q\x04\0\0\0\x01\0\0\0tN\0\0\0\x19runtest_protocol_completeJN\0\0\0\x0aitem_indexF\0\0\0\x07PN\0\0\0\x07outcomeN\0\0\0\x06failedPN\0\0\0\x04codeF\0\0\0\x01PN\0\0\0\x08durationF\0\0\x01\x89P@\0\0\0\x02Q\x05\0\0\0\x01\0\0\0\0\x04\0\0\0\x01\0\0\0\x06K\0\0\0\0Q\x04\0\0\0\x01\0\0\07N\0\0\0\x08logstartJN\0\0\0\x0aitem_indexF\0\0\0\x04PN\0\0\0\x03logB\0\0\0\x04P@\0\0\0\x02Q",
-        "Ready;LogStart 7 2;Done 7 failed 1 393;Closed;Stray;Stray;",
-    ),
-    (
-        b"\x04\0\0\0\x01\0\0\0\x17N\0\0\0\x0bworkerreadyJ@\0\0\0\x02Q\x04\0\0\0\x01\0\0\07N\0\0\0\x08logstartJN\0\0\0\x0aitem_indexF\0\0\0\x04PN\0\0\0\x03logB\0\0\0\x02P@\0\0\0\x02Q\x04\0\0\0\x01\0\0\07N\0\0\0\x08logstartJN\0\0\0\x0aitem_indexF\0\0\0\x02PN\0\0\0\x03logB\0\0\0\x04P@\0\0\0\x02Q\x01\0\0\0\0\0\0\0\0\x04\0\0\0\x01\0\0\0\x1aN\0\0\0\x0eworkerfinishedJ@\0\0\0\x02Q\x04\0\0\0\x04\0\0\0\x09A\0\0\0\x03znmQ\x04\0\0\0\x04\0\0\0\x08A\0\0\0\x02oeQ",
-        "Ready;LogStart 4 2;LogStart 2 4;Stray;Stray;Stray;Stray;",
-    ),
-    (
-        b"\x04\0\0\0\x01\0\0\0\x17N\0\0\0\x0bworkerreadyJ@\0\0\0\x02Q\x05\0\0\0\x01\0\0\0\0\x04\0\0\0\x01\0\0\07N\0\0\0\x08logstartJN\0\0\0\x0aitem_indexF\0\0\0\x06PN\0\0\0\x03logB\0\0\0\x02P@\0\0\0\x02Q\x06\0\0\0\x01\0\0\0\x06F\0\0\0\x05Q\x04\0\0\0\x01\0\0\07N\0\0\0\x08logstartJN\0\0\0\x0aitem_indexF\0\0\0\x04PN\0\0\0\x03logB\0\0\0\x04P@\0\0\0\x02Q\x05\0\0\0\x04\0\0\0\0",
-        "Ready;Closed;Stray;Stray;Stray;Stray;",
-    ),
-    (
-        b"\x04\0\0\0\x01\0\0\0\x17N\0\0\0\x0bworkerreadyJ@\0\0\0\x02Q\x04\0\0\0\x01\0\0\0\x06F\0\0\0\x07Q\x06\0\0\0\x01\0\0\0\x11N\0\0\0\x0bbad commandQ\0\0\0\0\x02\0\0\0\0\x04\0\0\0\x01\0\0\07N\0\0\0\x08logstartJN\0\0\0\x0aitem_indexF\0\0\0\x03PN\0\0\0\x03logB\0\0\0\x02P@\0\0\0\x02Q",
-        "Ready;Stray;Closed 'bad command';Stray;Stray;",
-    ),
-    (
-        b"\x04\0\0\0\x01\0\0\0\x17N\0\0\0\x0bworkerreadyJ@\0\0\0\x02Q\x04\0\0\0\x02\0\0\0\x07A\0\0\0\x01jQ\x04\0\0\0\x02\0\0\0\x07A\0\0\0\x01iQ\x07\0\0\0\x02\0\0\0\0",
-        "Ready;Stray;Stray;Stray;",
-    ),
-    (
-        b"\x04\0\0\0\x01\0\0\0\x17N\0\0\0\x0bworkerreadyJ@\0\0\0\x02Q\x04\0\0\0\x01\0\0\0\x1aN\0\0\0\x0eworkerfinishedJ@\0\0\0\x02Q\x04\0\0\0\x02\0\0\0\x08A\0\0\0\x02pnQ\x04\0\0\0\x01\0\0\07N\0\0\0\x08logstartJN\0\0\0\x0aitem_indexF\0\0\0\x03PN\0\0\0\x03logB\0\0\0\x02P@\0\0\0\x02Q\x05\0\0\0\x08\0\0\0\0\x04\0\0\0\x02\0\0\0\x08A\0\0\0\x02zdQ\x04\0\0\0\x01\0\0\07N\0\0\0\x08logstartJN\0\0\0\x0aitem_indexF\0\0\0\x01PN\0\0\0\x03logB\0\0\0\x04P@\0\0\0\x02Q",
-        "Ready;Finished;Stray;LogStart 3 2;Stray;Piece 2 7a64;LogStart 1 4;",
-    ),
-    (
-        b"\x04\0\0\0\x01\0\0\0\x17N\0\0\0\x0bworkerreadyJ@\0\0\0\x02Q\x04\0\0\0\x01\0\0\07N\0\0\0\x08logstartJN\0\0\0\x0aitem_indexF\0\0\0\x08PN\0\0\0\x03logB\0\0\0\x02P@\0\0\0\x02Q\x05\0\0\0\x02\0\0\0\0\x04\0\0\0\x01\0\0\07N\0\0\0\x08logstartJN\0\0\0\x0aitem_indexF\0\0\0\x08PN\0\0\0\x03logB\0\0\0\x04P@\0\0\0\x02Q\x04\0\0\0\x01\0\0\0tN\0\0\0\x19runtest_protocol_completeJN\0\0\0\x0aitem_indexF\0\0\0\x08PN\0\0\0\x07outcomeN\0\0\0\x06passedPN\0\0\0\x04codeF\0\0\0\x03PN\0\0\0\x08durationF\0\0\x038P@\0\0\0\x02Q\x07\0\0\0\x04\0\0\0\0",
-        "Ready;LogStart 8 2;LogClosed 2;LogStart 8 4;Stray;LogClosed 4;",
-    ),
-    (
-        b"\x04\0\0\0\x01\0\0\0\x17N\0\0\0\x0bworkerreadyJ@\0\0\0\x02Q\x04\0\0\0\x01\0\0\0tN\0\0\0\x19runtest_protocol_completeJN\0\0\0\x0aitem_indexF\0\0\0\0PN\0\0\0\x07outcomeN\0\0\0\x06passedPN\0\0\0\x04codeF\0\0\0\x03PN\0\0\0\x08durationF\0\0\x01KP@\0\0\0\x02Q\x04\0\0\0\x01\0\0\07N\0\0\0\x08logstartJN\0\0\0\x0aitem_indexF\0\0\0\x01PN\0\0\0\x03logB\0\0\0\x02P@\0\0\0\x02Q\x04\0\0\0\x01\0\0\0\x1aN\0\0\0\x0eworkerfinishedJ@\0\0\0\x02Q\x04\0\0\0\x01\0\0\0\x1aN\0\0\0\x0eworkerfinishedJ@\0\0\0\x02Q\x04\0\0\0\x01\0\0\0tN\0\0\0\x19runtest_protocol_completeJN\0\0\0\x0aitem_indexF\0\0\0\x01PN\0\0\0\x07outcomeN\0\0\0\x06failedPN\0\0\0\x04codeF\0\0\0\x01PN\0\0\0\x08durationF\0\0\x02(P@\0\0\0\x02Q",
-        "Ready;Stray;LogStart 1 2;Finished;Finished;Done 1 failed 1 552;",
-    ),
-    (
-        b"\x04\0\0\0\x01\0\0\0\x17N\0\0\0\x0bworkerreadyJ@\0\0\0\x02Q\x07\0\0\0\x02\0\0\0\0\x04\0\0\0\x01\0\0\07N\0\0\0\x08logstartJN\0\0\0\x0aitem_indexF\0\0\0\x06PN\0\0\0\x03logB\0\0\0\x02P@\0\0\0\x02Q\x04\0\0\0\x01\0\0\0uN\0\0\0\x19runtest_protocol_completeJN\0\0\0\x0aitem_indexF\0\0\0\x06PN\0\0\0\x07outcomeN\0\0\0\x07skippedPN\0\0\0\x04codeF\0\0\0\0PN\0\0\0\x08durationF\0\0\x02:P@\0\0\0\x02Q\x04\0\0\0\x01\0\0\07N\0\0\0\x08logstartJN\0\0\0\x0aitem_indexF\0\0\0\x04PN\0\0\0\x03logB\0\0\0\x04P@\0\0\0\x02Q",
-        "Ready;Stray;LogStart 6 2;Done 6 skipped 570;LogStart 4 4;",
-    ),
-    (
-        b"\x04\0\0\0\x01\0\0\0\x17N\0\0\0\x0bworkerreadyJ@\0\0\0\x02Q\x05\0\0\0\0\0\0\0\0\x04\0\0\0\x01\0\0\0\x1aN\0\0\0\x0eworkerfinishedJ@\0\0\0\x02Q\x06\0\0\0\x01\0\0\0\x06F\0\0\0\x05Q\x05\0\0\0\x02\0\0\0\0\x04\0\0\0\x01\0\0\0\x1aN\0\0\0\x0eworkerfinishedJ@\0\0\0\x02Q\x05\0\0\0\0\0\0\0\0",
-        "Ready;Stray;Stray;Stray;Stray;Stray;Stray;",
-    ),
-    (
-        b"\x04\0\0\0\x01\0\0\0\x17N\0\0\0\x0bworkerreadyJ@\0\0\0\x02Q\x05\0\0\0\x01\0\0\0\0\x04\0\0\0\x01\0\0\0tN\0\0\0\x19runtest_protocol_completeJN\0\0\0\x0aitem_indexF\0\0\0\0PN\0\0\0\x07outcomeN\0\0\0\x06passedPN\0\0\0\x04codeF\0\0\0\x03PN\0\0\0\x08durationF\0\0\x01\xb4P@\0\0\0\x02Q\x04\0\0\0\x01\0\0\0tN\0\0\0\x19runtest_protocol_completeJN\0\0\0\x0aitem_indexF\0\0\0\0PN\0\0\0\x07outcomeN\0\0\0\x06failedPN\0\0\0\x04codeF\0\0\0\x01PN\0\0\0\x08durationF\0\0\x03qP@\0\0\0\x02Q",
-        "Ready;Closed;Stray;Stray;",
-    ),
-    (
-        b"\x04\0\0\0\x01\0\0\0\x17N\0\0\0\x0bworkerreadyJ@\0\0\0\x02Q\0\0\0\0\x02\0\0\0\0\x07\0\0\0\x01\0\0\0\0\x04\0\0\0\x02\0\0\0\x08A\0\0\0\x02uaQ\x04\0\0\0\x01\0\0\0?N\0\0\0\x0bunscheduledJN\0\0\0\x07indicesK\0\0\0\x02F\0\0\0\0F\0\0\0\x02PF\0\0\0\x01F\0\0\0\x06PP@\0\0\0\x02Q\x05\0\0\0\x02\0\0\0\0",
-        "Ready;Stray;Stray;Stray;Stray;Stray;",
-    ),
-    (
-        b"\x04\0\0\0\x01\0\0\0\x17N\0\0\0\x0bworkerreadyJ@\0\0\0\x02Q\x01\0\0\0\0\0\0\0\0",
-        "Ready;Stray;",
-    ),
-    (
-        b"\x04\0\0\0\x01\0\0\0\x17N\0\0\0\x0bworkerreadyJ@\0\0\0\x02Q\x07\0\0\0\x02\0\0\0\0\x04\0\0\0\x03\0\0\0\x06F\0\0\0\x07Q\x04\0\0\0\x01\0\0\0\x1aN\0\0\0\x0eworkerfinishedJ@\0\0\0\x02Q",
-        "Ready;Stray;Stray;Finished;",
-    ),
-    (
-        b"\x04\0\0\0\x01\0\0\0\x17N\0\0\0\x0bworkerreadyJ@\0\0\0\x02Q\x05\0\0\0\x01\0\0\0\0\x04\0\0\0\x01\0\0\0\x1aN\0\0\0\x0eworkerfinishedJ@\0\0\0\x02Q\x05\0\0\0\x01\0\0\0\0",
-        "Ready;Closed;Stray;Stray;",
-    ),
-    (
-        b"\x04\0\0\0\x01\0\0\0\x17N\0\0\0\x0bworkerreadyJ@\0\0\0\x02Q\x05\0\0\0\x01\0\0\0\0\x05\0\0\0\x08\0\0\0\0\x04\0\0\0\x01\0\0\07N\0\0\0\x08logstartJN\0\0\0\x0aitem_indexF\0\0\0\x05PN\0\0\0\x03logB\0\0\0\x02P@\0\0\0\x02Q",
-        "Ready;Closed;Stray;Stray;",
-    ),
-    (
-        b"\x04\0\0\0\x01\0\0\0\x17N\0\0\0\x0bworkerreadyJ@\0\0\0\x02Q\x04\0\0\0\x01\0\0\0\x1aN\0\0\0\x0eworkerfinishedJ@\0\0\0\x02Q",
-        "Ready;Finished;",
-    ),
-    (
-        b"\x04\0\0\0\x01\0\0\0\x17N\0\0\0\x0bworkerreadyJ@\0\0\0\x02Q\x04\0\0\0\x02\0\0\0\x07A\0\0\0\x01wQ",
-        "Ready;Stray;",
-    ),
-    (
-        b"\x04\0\0\0\x01\0\0\0\x17N\0\0\0\x0bworkerreadyJ@\0\0\0\x02Q\x04\0\0\0\x01\0\0\0tN\0\0\0\x19runtest_protocol_completeJN\0\0\0\x0aitem_indexF\0\0\0\0PN\0\0\0\x07outcomeN\0\0\0\x06failedPN\0\0\0\x04codeF\0\0\0\x01PN\0\0\0\x08durationF\0\0\x02kP@\0\0\0\x02Q",
-        "Ready;Done 0 failed 1 619;",
-    ),
-    (
-        b"\x04\0\0\0\x01\0\0\0\x17N\0\0\0\x0bworkerreadyJ@\0\0\0\x02Q\x04\0\0\0\x02\0\0\0\x07A\0\0\0\x01hQ\x07\0\0\0\x02\0\0\0\0\x04\0\0\0\x01\0\0\07N\0\0\0\x08logstartJN\0\0\0\x0aitem_indexF\0\0\0\x01PN\0\0\0\x03logB\0\0\0\x02P@\0\0\0\x02Q",
-        "Ready;Stray;Stray;LogStart 1 2;",
-    ),
-    (
-        b"\x04\0\0\0\x01\0\0\0\x17N\0\0\0\x0bworkerreadyJ@\0\0\0\x02Q\x07\0\0\0\x01\0\0\0\0\x04\0\0\0\x01\0\0\0tN\0\0\0\x19runtest_protocol_completeJN\0\0\0\x0aitem_indexF\0\0\0\0PN\0\0\0\x07outcomeN\0\0\0\x06failedPN\0\0\0\x04codeF\xff\xff\xff\xffPN\0\0\0\x08durationF\0\0\x02\x0bP@\0\0\0\x02Q\x04\0\0\0\x01\0\0\0\x06F\0\0\0\x07Q\x07\0\0\0\x02\0\0\0\0\x04\0\0\0\x01\0\0\0tN\0\0\0\x19runtest_protocol_completeJN\0\0\0\x0aitem_indexF\0\0\0\0PN\0\0\0\x07outcomeN\0\0\0\x06passedPN\0\0\0\x04codeF\0\0\0\x03PN\0\0\0\x08durationF\0\0\x02\xf5P@\0\0\0\x02Q\x04\0\0\0\x02\0\0\0\x09A\0\0\0\x03rmfQ",
-        "Ready;Stray;Stray;Stray;Stray;Stray;Stray;",
-    ),
-    (
-        b"\x04\0\0\0\x01\0\0\0\x17N\0\0\0\x0bworkerreadyJ@\0\0\0\x02Q\x07\0\0\0\x02\0\0\0\0\x04\0\0\0\x02\0\0\0\x08A\0\0\0\x02twQ\x04\0\0\0\x02\0\0\0\x06A\0\0\0\0Q\x06\0\0\0\x01\0\0\0\x06F\0\0\0\x05Q",
-        "Ready;Stray;Stray;Stray;Stray;",
-    ),
-    (
-        b"\x04\0\0\0\x01\0\0\0\x17N\0\0\0\x0bworkerreadyJ@\0\0\0\x02Q\x04\0\0\0\x01\0\0\0)N\0\0\0\x0bunscheduledJN\0\0\0\x07indicesK\0\0\0\0P@\0\0\0\x02Q\x05\0\0\0\x02\0\0\0\0\x04\0\0\0\x01\0\0\07N\0\0\0\x08logstartJN\0\0\0\x0aitem_indexF\0\0\0\x02PN\0\0\0\x03logB\0\0\0\x02P@\0\0\0\x02Q",
-        "Ready;Back [];Stray;LogStart 2 2;",
-    ),
-];
+/// A line for each list: its messages, as hexadecimal bytes with spaces between them, and behind ` ~ ` their news in
+/// words, each followed by a semicolon. A message that makes no news has a dash.
+pub const ROWS: &str = "\
+     0400000001000000174e0000000b776f726b657272656164794a400000000251 ~ Ready;\n\
+     04000000010000001a4e0000000e776f726b657266696e69736865644a400000000251 ~ Finished;\n\
+     04000000010000002a4e00000010636f6c6c656374696f6e66696e6973684a4e000000036964734b0000000050400000000251 ~ Collected [];\n\
+     0400000001000000364e00000010636f6c6c656374696f6e66696e6973684a4e000000036964734b0000000146000000004e00000001615050400000000251 ~ Collected [a];\n\
+     0400000001000000294e0000000b756e7363686564756c65644a4e00000007696e64696365734b0000000050400000000251 ~ Back [];\n\
+     0400000001000000494e0000000b756e7363686564756c65644a4e00000007696e64696365734b0000000246000000004600000000504600000001480000000a343239343936373239355050400000000251 ~ Back [0, 4294967295];\n\
+     04000000010000003e4e0000000b756e7363686564756c65644a4e00000007696e64696365734b000000014600000000480000000a343239343936373239365050400000000251 ~ Stray;\n\
+     0400000001000000344e0000000b756e7363686564756c65644a4e00000007696e64696365734b00000001460000000046ffffffff5050400000000251 ~ Stray;\n\
+     0400000001000000334e0000000b756e7363686564756c65644a4e00000007696e646963657346000000014600000002400000000250400000000251 ~ Stray;\n\
+     0400000001000000414e00000010636f6c6c656374696f6e66696e6973684a4e000000036964734b0000000246000000004e000000016150460000000146000000015050400000000251 ~ Stray;\n\
+     04000000010000001c4e00000010636f6c6c656374696f6e66696e6973684a400000000251 ~ Stray;\n\
+     0400000001000000264e0000000b776f726b657272656164794a4e000000046d6f7265460000000750400000000251 ~ Ready;\n\
+     0400000001000000224e0000000b776f726b657272656164794a4600000001460000000250400000000251 ~ Stray;\n\
+     0400000001000000164e0000000b776f726b65727265616479400000000151 ~ Stray;\n\
+     0400000001000000234b0000000246000000004e0000000b776f726b657272656164795046000000014a5051 ~ Stray;\n\
+     0400000001000000114e0000000b776f726b6572726561647951 ~ Stray;\n\
+     0400000001000000184e0000000c776f726b65727265616479794a400000000251 ~ Stray;\n\
+     0400000001000000174e0000000b776f726b657272656164794a400000000251 0400000001000000424e00000010636f6c6c656374696f6e66696e6973684a4e000000036964734b0000000246000000004e00000001615046000000014e00000001625050400000000251 0400000001000000374e000000086c6f6773746172744a4e0000000a6974656d5f696e6465784600000000504e000000036c6f67420000000250400000000251 04000000020000000741000000017851 050000000200000000 0400000001000000744e0000001972756e746573745f70726f746f636f6c5f636f6d706c6574654a4e0000000a6974656d5f696e6465784600000000504e000000076f7574636f6d654e00000006706173736564504e00000004636f64654600000000504e000000086475726174696f6e460000000550400000000251 ~ Ready;Collected [a, b];LogStart 0 2;Piece 2 78;LogClosed 2;Done 0 passed 5;\n\
+     0400000001000000174e0000000b776f726b657272656164794a400000000251 0400000001000000424e00000010636f6c6c656374696f6e66696e6973684a4e000000036964734b0000000246000000004e00000001615046000000014e00000001625050400000000251 0400000001000000374e000000086c6f6773746172744a4e0000000a6974656d5f696e6465784600000000504e000000036c6f67420000000250400000000251 04000000020000000741000000017851 050000000200000000 0400000001000000744e0000001972756e746573745f70726f746f636f6c5f636f6d706c6574654a4e0000000a6974656d5f696e6465784600000000504e000000076f7574636f6d654e00000006706173736564504e00000004636f64654600000000504e000000086475726174696f6e460000000550400000000251 04000000010000001a4e0000000e776f726b657266696e69736865644a400000000251 050000000100000000 ~ Ready;Collected [a, b];LogStart 0 2;Piece 2 78;LogClosed 2;Done 0 passed 5;Finished;-;\n\
+     0400000001000000174e0000000b776f726b657272656164794a400000000251 04000000010000001a4e0000000e776f726b657266696e69736865644a400000000251 050000000100000000 0400000001000000174e0000000b776f726b657272656164794a400000000251 ~ Ready;Finished;-;Stray;\n\
+     04000000010000001a4e0000000e776f726b657266696e69736865644a400000000251 06000000010000000a4e000000046c61746551 ~ Finished;-;\n\
+     04000000010000001a4e0000000e776f726b657266696e69736865644a400000000251 070000000100000000 ~ Finished;Stray;\n\
+     04000000010000001a4e0000000e776f726b657266696e69736865644a400000000251 070000000100000000 050000000100000000 ~ Finished;Stray;Stray;\n\
+     050000000100000000 ~ Closed;\n\
+     050000000100000000 050000000100000000 ~ Closed;Stray;\n\
+     050000000100000000 0400000001000000174e0000000b776f726b657272656164794a400000000251 ~ Closed;Stray;\n\
+     050000000100000000 04000000010000001a4e0000000e776f726b657266696e69736865644a400000000251 050000000100000000 ~ Closed;Stray;Stray;\n\
+     06000000010000001a4e0000001473756974652063616e6e6f74206265207265616451 ~ Closed 'suite cannot be read';\n\
+     0600000001000000064e0000000051 ~ Closed '';\n\
+     0600000001000000074e000000016151 0600000001000000074e000000016251 ~ Closed 'a';Stray;\n\
+     070000000100000000 ~ Stray;\n\
+     070000000100000000 0400000001000000174e0000000b776f726b657272656164794a400000000251 ~ Stray;Stray;\n\
+     070000000100000000 050000000100000000 ~ Stray;Stray;\n\
+     070000000100000000 070000000100000000 ~ Stray;Stray;\n\
+     060000000100000006460000000751 ~ Stray;\n\
+     0600000001000000024c51 0400000001000000174e0000000b776f726b657272656164794a400000000251 ~ Stray;Stray;\n\
+     06000000020000000741000000017851 0400000001000000174e0000000b776f726b657272656164794a400000000251 ~ Stray;Stray;\n\
+     0400000001000000374e000000086c6f6773746172744a4e0000000a6974656d5f696e6465784600000000504e000000036c6f67420000000250400000000251 040000000200000006410000000051 ~ LogStart 0 2;Piece 2 ;\n\
+     0400000001000000374e000000086c6f6773746172744a4e0000000a6974656d5f696e6465784600000000504e000000036c6f67420000000250400000000251 04000000020000000741000000017851 0400000002000000074e000000017851 04000000020000000741000000017951 ~ LogStart 0 2;Piece 2 78;Stray;Piece 2 79;\n\
+     0400000001000000374e000000086c6f6773746172744a4e0000000a6974656d5f696e6465784600000000504e000000036c6f67420000000250400000000251 04000000040000000741000000017851 ~ LogStart 0 2;Stray;\n\
+     04000000020000000741000000017851 0400000001000000374e000000086c6f6773746172744a4e0000000a6974656d5f696e6465784600000000504e000000036c6f67420000000250400000000251 04000000020000000741000000017951 ~ Stray;LogStart 0 2;Piece 2 79;\n\
+     0400000001000000374e000000086c6f6773746172744a4e0000000a6974656d5f696e6465784600000000504e000000036c6f67420000000250400000000251 050000000200000000 04000000020000000741000000017851 050000000200000000 ~ LogStart 0 2;LogClosed 2;Stray;Stray;\n\
+     0400000001000000374e000000086c6f6773746172744a4e0000000a6974656d5f696e6465784600000000504e000000036c6f67420000000250400000000251 070000000200000000 04000000020000000741000000017851 050000000200000000 ~ LogStart 0 2;LogClosed 2;Stray;Stray;\n\
+     0400000001000000374e000000086c6f6773746172744a4e0000000a6974656d5f696e6465784600000000504e000000036c6f67420000000250400000000251 0600000002000000074e000000016551 070000000200000000 ~ LogStart 0 2;LogClosed 2;Stray;\n\
+     050000000200000000 0400000001000000374e000000086c6f6773746172744a4e0000000a6974656d5f696e6465784600000000504e000000036c6f67420000000250400000000251 04000000020000000741000000017851 050000000200000000 ~ Stray;LogStart 0 2;Stray;Stray;\n\
+     070000000200000000 0400000001000000374e000000086c6f6773746172744a4e0000000a6974656d5f696e6465784600000000504e000000036c6f67420000000250400000000251 04000000020000000741000000017851 050000000200000000 ~ Stray;LogStart 0 2;Stray;Stray;\n\
+     040000000200000006460000000151 050000000200000000 0400000001000000374e000000086c6f6773746172744a4e0000000a6974656d5f696e6465784600000000504e000000036c6f67420000000250400000000251 04000000020000000741000000017851 ~ Stray;Stray;LogStart 0 2;Stray;\n\
+     040000000200000006460000000151 070000000200000000 0400000001000000374e000000086c6f6773746172744a4e0000000a6974656d5f696e6465784600000000504e000000036c6f67420000000250400000000251 04000000020000000741000000017851 050000000200000000 ~ Stray;Stray;LogStart 0 2;Stray;Stray;\n\
+     0400000001000000374e000000086c6f6773746172744a4e0000000a6974656d5f696e6465784600000000504e000000036c6f67420000000350400000000251 04000000030000000741000000017851 050000000300000000 ~ LogStart 0 3;Stray;Stray;\n\
+     0400000001000000374e000000086c6f6773746172744a4e0000000a6974656d5f696e6465784600000000504e000000036c6f67420000000150400000000251 04000000010000000741000000017851 0400000001000000174e0000000b776f726b657272656164794a400000000251 ~ LogStart 0 1;Stray;Ready;\n\
+     0400000001000000374e000000086c6f6773746172744a4e0000000a6974656d5f696e6465784600000000504e000000036c6f67420000000250400000000251 0400000001000000374e000000086c6f6773746172744a4e0000000a6974656d5f696e6465784600000001504e000000036c6f67420000000250400000000251 04000000020000000741000000017851 050000000200000000 ~ LogStart 0 2;LogStart 1 2;Piece 2 78;LogClosed 2;\n\
+     0400000001000000374e000000086c6f6773746172744a4e0000000a6974656d5f696e6465784600000000504e000000036c6f67420000000250400000000251 050000000200000000 0400000001000000374e000000086c6f6773746172744a4e0000000a6974656d5f696e6465784600000001504e000000036c6f67420000000250400000000251 04000000020000000741000000017851 ~ LogStart 0 2;LogClosed 2;LogStart 1 2;Stray;\n\
+     0400000001000000374e000000086c6f6773746172744a4e0000000a6974656d5f696e6465784600000000504e000000036c6f67420000000250400000000251 0400000001000000374e000000086c6f6773746172744a4e0000000a6974656d5f696e6465784600000001504e000000036c6f67420000000450400000000251 04000000040000000741000000013451 04000000020000000741000000013251 050000000400000000 050000000200000000 ~ LogStart 0 2;LogStart 1 4;Piece 4 34;Piece 2 32;LogClosed 4;LogClosed 2;\n\
+     0400000001000000374e000000086c6f6773746172744a4e0000000a6974656d5f696e6465784600000000504e000000036c6f67427ffffffe50400000000251 047ffffffe0000000741000000017851 057ffffffe00000000 ~ LogStart 0 2147483646;Piece 2147483646 78;LogClosed 2147483646;\n\
+     0400000001000000414e000000086c6f6773746172744a4e0000000a6974656d5f696e646578480000000a34323934393637323935504e000000036c6f67420000000250400000000251 ~ LogStart 4294967295 2;\n\
+     0400000001000000414e000000086c6f6773746172744a4e0000000a6974656d5f696e646578480000000a34323934393637323936504e000000036c6f67420000000250400000000251 04000000020000000741000000017851 ~ Stray;Stray;\n\
+     0400000001000000374e000000086c6f6773746172744a4e0000000a6974656d5f696e6465784600000000504e000000036c6f67420000000050400000000251 ~ Stray;\n\
+     0400000001000000374e000000086c6f6773746172744a4e000000036c6f674200000002504e0000000a6974656d5f696e646578460000000350400000000251 ~ LogStart 3 2;\n\
+     0400000001000000374e000000086c6f6773746172744a4e0000000a6974656d5f696e6465784600000000504e000000036c6f67460000000250400000000251 04000000020000000741000000017851 ~ Stray;Stray;\n\
+     0400000001000000294e000000086c6f6773746172744a4e0000000a6974656d5f696e646578460000000050400000000251 04000000020000000741000000017851 ~ Stray;Stray;\n\
+     040000000100000006420000000251 04000000020000000741000000017851 050000000200000000 ~ Stray;Stray;Stray;\n\
+     0300000002000000164e000000004c4e000000046563686f4a400000000451 04000000020000000741000000017851 050000000200000000 ~ Stray;Stray;Stray;\n\
+     0300000001000000164e000000004c4e000000046563686f4a400000000451 0400000001000000174e0000000b776f726b657272656164794a400000000251 ~ Stray;Ready;\n\
+     000000000200000000 0400000001000000374e000000086c6f6773746172744a4e0000000a6974656d5f696e6465784600000000504e000000036c6f67420000000250400000000251 04000000020000000741000000017851 ~ Stray;LogStart 0 2;Piece 2 78;\n\
+     000000000100000000 0400000001000000174e0000000b776f726b657272656164794a400000000251 ~ Stray;Ready;\n\
+     020000000000000000 0400000001000000174e0000000b776f726b657272656164794a400000000251 ~ Stray;Ready;\n\
+     0200000001000000013f 0400000001000000174e0000000b776f726b657272656164794a400000000251 ~ Stray;Ready;\n\
+     010000000000000000 0400000001000000174e0000000b776f726b657272656164794a400000000251 ~ Stray;Stray;\n\
+     010000000100000000 0400000001000000174e0000000b776f726b657272656164794a400000000251 ~ Stray;Stray;\n\
+     000000000000000000 0400000001000000174e0000000b776f726b657272656164794a400000000251 ~ Stray;Stray;\n\
+     040000000000000006460000000151 0400000001000000174e0000000b776f726b657272656164794a400000000251 ~ Stray;Stray;\n\
+     050000000000000000 0400000001000000174e0000000b776f726b657272656164794a400000000251 ~ Stray;Stray;\n\
+     0500000001000000013f ~ Closed;\n\
+     0700000002000000013f 0400000001000000174e0000000b776f726b657272656164794a400000000251 ~ Stray;Ready;\n\
+     050000000300000000 040000000300000006460000000151 0400000001000000174e0000000b776f726b657272656164794a400000000251 ~ Stray;Stray;Ready;\n\
+     04000000050000000741000000017851 0400000001000000174e0000000b776f726b657272656164794a400000000251 ~ Stray;Ready;\n\
+     070000000400000000 04000000040000000741000000017851 0400000001000000374e000000086c6f6773746172744a4e0000000a6974656d5f696e6465784600000000504e000000036c6f67420000000450400000000251 04000000040000000741000000017851 ~ Stray;Stray;LogStart 0 4;Stray;\n\
+     0400000001000000744e0000001972756e746573745f70726f746f636f6c5f636f6d706c6574654a4e0000000a6974656d5f696e6465784600000000504e000000076f7574636f6d654e000000066661696c6564504e00000004636f64654600000000504e000000086475726174696f6e460000000550400000000251 ~ Stray;\n\
+     0400000001000000744e0000001972756e746573745f70726f746f636f6c5f636f6d706c6574654a4e0000000a6974656d5f696e6465784600000000504e000000076f7574636f6d654e000000066661696c6564504e00000004636f64654600000001504e000000086475726174696f6e460000000550400000000251 ~ Done 0 failed 1 5;\n\
+     0400000001000000744e0000001972756e746573745f70726f746f636f6c5f636f6d706c6574654a4e0000000a6974656d5f696e6465784600000000504e000000076f7574636f6d654e000000066661696c6564504e00000004636f6465460000004c504e000000086475726174696f6e460000000550400000000251 ~ Done 0 failed 76 5;\n\
+     0400000001000000744e0000001972756e746573745f70726f746f636f6c5f636f6d706c6574654a4e0000000a6974656d5f696e6465784600000000504e000000076f7574636f6d654e000000066661696c6564504e00000004636f6465460000004d504e000000086475726174696f6e460000000550400000000251 ~ Stray;\n\
+     0400000001000000744e0000001972756e746573745f70726f746f636f6c5f636f6d706c6574654a4e0000000a6974656d5f696e6465784600000000504e000000076f7574636f6d654e000000066661696c6564504e00000004636f6465460000004e504e000000086475726174696f6e460000000550400000000251 ~ Done 0 failed 78 5;\n\
+     0400000001000000744e0000001972756e746573745f70726f746f636f6c5f636f6d706c6574654a4e0000000a6974656d5f696e6465784600000000504e000000076f7574636f6d654e000000066661696c6564504e00000004636f646546000000ff504e000000086475726174696f6e460000000550400000000251 ~ Done 0 failed 255 5;\n\
+     0400000001000000744e0000001972756e746573745f70726f746f636f6c5f636f6d706c6574654a4e0000000a6974656d5f696e6465784600000000504e000000076f7574636f6d654e000000066661696c6564504e00000004636f64654600000100504e000000086475726174696f6e460000000550400000000251 ~ Stray;\n\
+     0400000001000000744e0000001972756e746573745f70726f746f636f6c5f636f6d706c6574654a4e0000000a6974656d5f696e6465784600000000504e000000076f7574636f6d654e000000066661696c6564504e00000004636f646546ffffffff504e000000086475726174696f6e460000000550400000000251 ~ Done 0 failed -1 5;\n\
+     0400000001000000744e0000001972756e746573745f70726f746f636f6c5f636f6d706c6574654a4e0000000a6974656d5f696e6465784600000000504e000000076f7574636f6d654e000000066661696c6564504e00000004636f646546fffffffe504e000000086475726174696f6e460000000550400000000251 ~ Done 0 failed -2 5;\n\
+     0400000001000000744e0000001972756e746573745f70726f746f636f6c5f636f6d706c6574654a4e0000000a6974656d5f696e6465784600000000504e000000076f7574636f6d654e000000066661696c6564504e00000004636f646546fffffffd504e000000086475726174696f6e460000000550400000000251 ~ Done 0 failed -3 5;\n\
+     0400000001000000744e0000001972756e746573745f70726f746f636f6c5f636f6d706c6574654a4e0000000a6974656d5f696e6465784600000000504e000000076f7574636f6d654e000000066661696c6564504e00000004636f646546fffffffc504e000000086475726174696f6e460000000550400000000251 ~ Stray;\n\
+     0400000001000000744e0000001972756e746573745f70726f746f636f6c5f636f6d706c6574654a4e0000000a6974656d5f696e6465784600000000504e000000076f7574636f6d654e00000006706173736564504e00000004636f64654600000001504e000000086475726174696f6e460000000550400000000251 ~ Stray;\n\
+     0400000001000000754e0000001972756e746573745f70726f746f636f6c5f636f6d706c6574654a4e0000000a6974656d5f696e6465784600000000504e000000076f7574636f6d654e00000007736b6970706564504e00000004636f64654600000000504e000000086475726174696f6e460000000550400000000251 ~ Done 0 skipped 5;\n\
+     0400000001000000754e0000001972756e746573745f70726f746f636f6c5f636f6d706c6574654a4e0000000a6974656d5f696e6465784600000000504e000000076f7574636f6d654e00000007736b6970706564504e00000004636f6465460000004d504e000000086475726174696f6e460000000550400000000251 ~ Stray;\n\
+     0400000001000000754e0000001972756e746573745f70726f746f636f6c5f636f6d706c6574654a4e0000000a6974656d5f696e6465784600000000504e000000076f7574636f6d654e0000000763726173686564504e00000004636f64654600000000504e000000086475726174696f6e460000000550400000000251 ~ Stray;\n\
+     0400000001000000884e0000001972756e746573745f70726f746f636f6c5f636f6d706c6574654a4e0000000a6974656d5f696e6465784600000000504e000000076f7574636f6d654e00000006706173736564504e00000004636f64654600000000504e000000086475726174696f6e4800000014313834343637343430373337303935353136313550400000000251 ~ Done 0 passed 18446744073709551615;\n\
+     0400000001000000884e0000001972756e746573745f70726f746f636f6c5f636f6d706c6574654a4e0000000a6974656d5f696e6465784600000000504e000000076f7574636f6d654e00000006706173736564504e00000004636f64654600000000504e000000086475726174696f6e4800000014313834343637343430373337303935353136313650400000000251 ~ Stray;\n\
+     0400000001000000744e0000001972756e746573745f70726f746f636f6c5f636f6d706c6574654a4e0000000a6974656d5f696e6465784600000000504e000000076f7574636f6d654e00000006706173736564504e00000004636f64654600000000504e000000086475726174696f6e46ffffffff50400000000251 ~ Stray;\n\
+     04000000010000007e4e0000001972756e746573745f70726f746f636f6c5f636f6d706c6574654a4e0000000a6974656d5f696e646578480000000a34323934393637323936504e000000076f7574636f6d654e00000006706173736564504e00000004636f64654600000000504e000000086475726174696f6e460000000550400000000251 ~ Stray;\n\
+     0400000001000000704e0000001972756e746573745f70726f746f636f6c5f636f6d706c6574654a4e0000000a6974656d5f696e64657852504e000000076f7574636f6d654e00000006706173736564504e00000004636f64654600000000504e000000086475726174696f6e460000000550400000000251 ~ Stray;\n\
+     040000000100000000 0400000001000000174e0000000b776f726b657272656164794a400000000251 ~ Stray;Stray;\n\
+     0400000001000000014c 0400000001000000174e0000000b776f726b657272656164794a400000000251 ~ Stray;Stray;\n\
+     0400000001000000034c514c 0400000001000000174e0000000b776f726b657272656164794a400000000251 ~ Stray;Stray;\n\
+     0400000001000000034c4c51 0400000001000000174e0000000b776f726b657272656164794a400000000251 ~ Stray;Stray;\n\
+     0400000001000000023f51 0400000001000000174e0000000b776f726b657272656164794a400000000251 ~ Stray;Stray;\n\
+     0400000001000000024451 0400000001000000174e0000000b776f726b657272656164794a400000000251 ~ Stray;Stray;\n\
+     04000000010000000446000051 0400000001000000174e0000000b776f726b657272656164794a400000000251 ~ Stray;Stray;\n\
+     0400000001000000074e00000001ff51 0400000001000000174e0000000b776f726b657272656164794a400000000251 ~ Stray;Stray;\n\
+     040000000100000006420000000051 0400000001000000174e0000000b776f726b657272656164794a400000000251 ~ Stray;Stray;\n\
+     0400000001000000064b0000000151 0400000001000000174e0000000b776f726b657272656164794a400000000251 ~ Stray;Stray;\n\
+     0400000001000000034a4b50 0400000001000000174e0000000b776f726b657272656164794a400000000251 ~ Stray;Stray;\n\
+     0400000001000000084a4c4c504c4c5051 0400000001000000174e0000000b776f726b657272656164794a400000000251 ~ Stray;Stray;\n\
+     040000000100000006400000000151 0400000001000000174e0000000b776f726b657272656164794a400000000251 ~ Stray;Stray;\n\
+     04000000010000000748000000012d51 0400000001000000174e0000000b776f726b657272656164794a400000000251 ~ Stray;Stray;\n\
+     04000000010000000741000000057851 0400000001000000174e0000000b776f726b657272656164794a400000000251 ~ Stray;Stray;\n\
+     0400000001000000094a4b000000004c5051 0400000001000000174e0000000b776f726b657272656164794a400000000251 ~ Stray;Stray;\n\
+     0400000001000000084c4c4f0000000251 0400000001000000174e0000000b776f726b657272656164794a400000000251 ~ Stray;Stray;\n\
+     040000000100000017530000000b776f726b657272656164794a400000000251 ~ Ready;\n\
+     0400000001000000174d0000000b776f726b657272656164794a400000000251 ~ Ready;\n\
+     0400000001000000364e0000000b756e7363686564756c65644a4e00000007696e64696365734b000000014700000000480000000230375050400000000251 ~ Back [7];\n\
+     0400000001000000174e0000000b776f726b657272656164794a400000000251 000000000200000000 050000000200000000 ~ Ready;Stray;Stray;\n\
+     0400000001000000174e0000000b776f726b657272656164794a400000000251 04000000010000001a4e0000000e776f726b657266696e69736865644a400000000251 070000000100000000 0400000001000000754e0000001972756e746573745f70726f746f636f6c5f636f6d706c6574654a4e0000000a6974656d5f696e6465784600000000504e000000076f7574636f6d654e00000007736b6970706564504e00000004636f64654600000000504e000000086475726174696f6e460000006050400000000251 050000000100000000 ~ Ready;Finished;Stray;Stray;Stray;\n\
+     0400000001000000174e0000000b776f726b657272656164794a400000000251 04000000010000003f4e0000000b756e7363686564756c65644a4e00000007696e64696365734b000000024600000000460000000050460000000146000000075050400000000251 050000000200000000 000000000200000000 050000000200000000 ~ Ready;Back [0, 7];Stray;Stray;Stray;\n\
+     0400000001000000174e0000000b776f726b657272656164794a400000000251 0400000001000000374e000000086c6f6773746172744a4e0000000a6974656d5f696e6465784600000008504e000000036c6f67420000000250400000000251 ~ Ready;LogStart 8 2;\n\
+     0400000001000000174e0000000b776f726b657272656164794a400000000251 0400000001000000754e0000001972756e746573745f70726f746f636f6c5f636f6d706c6574654a4e0000000a6974656d5f696e6465784600000000504e000000076f7574636f6d654e00000007736b6970706564504e00000004636f64654600000000504e000000086475726174696f6e46000003e050400000000251 ~ Ready;Done 0 skipped 992;\n\
+     0400000001000000174e0000000b776f726b657272656164794a400000000251 0400000001000000374e000000086c6f6773746172744a4e0000000a6974656d5f696e6465784600000008504e000000036c6f67420000000250400000000251 040000000200000009410000000370726851 0400000001000000754e0000001972756e746573745f70726f746f636f6c5f636f6d706c6574654a4e0000000a6974656d5f696e6465784600000008504e000000076f7574636f6d654e00000007736b6970706564504e00000004636f64654600000000504e000000086475726174696f6e46000002b550400000000251 04000000020000000941000000036a616e51 ~ Ready;LogStart 8 2;Piece 2 707268;Done 8 skipped 693;Piece 2 6a616e;\n\
+     0400000001000000174e0000000b776f726b657272656164794a400000000251 0400000001000000374e000000086c6f6773746172744a4e0000000a6974656d5f696e6465784600000002504e000000036c6f67420000000250400000000251 050000000200000000 070000000200000000 070000000100000000 04000000020000000841000000026a7351 ~ Ready;LogStart 2 2;LogClosed 2;Stray;Stray;Stray;\n\
+     0400000001000000174e0000000b776f726b657272656164794a400000000251 0600000001000000114e0000000b62616420636f6d6d616e6451 000000000200000000 050000000100000000 0400000001000000744e0000001972756e746573745f70726f746f636f6c5f636f6d706c6574654a4e0000000a6974656d5f696e6465784600000000504e000000076f7574636f6d654e000000066661696c6564504e00000004636f646546ffffffff504e000000086475726174696f6e46000002a850400000000251 ~ Ready;Closed 'bad command';Stray;Stray;Stray;\n\
+     0400000001000000174e0000000b776f726b657272656164794a400000000251 0400000001000000744e0000001972756e746573745f70726f746f636f6c5f636f6d706c6574654a4e0000000a6974656d5f696e6465784600000000504e000000076f7574636f6d654e00000006706173736564504e00000004636f64654600000003504e000000086475726174696f6e460000038750400000000251 0400000001000000744e0000001972756e746573745f70726f746f636f6c5f636f6d706c6574654a4e0000000a6974656d5f696e6465784600000000504e000000076f7574636f6d654e00000006706173736564504e00000004636f64654600000000504e000000086475726174696f6e46000001c150400000000251 ~ Ready;Stray;Done 0 passed 449;\n\
+     0400000001000000174e0000000b776f726b657272656164794a400000000251 050000000100000000 04000000020000000941000000036c707851 0400000001000000374e000000086c6f6773746172744a4e0000000a6974656d5f696e6465784600000007504e000000036c6f67420000000250400000000251 0400000001000000374e000000086c6f6773746172744a4e0000000a6974656d5f696e6465784600000004504e000000036c6f67420000000450400000000251 060000000100000006460000000551 04000000040000000741000000017151 ~ Ready;Closed;Stray;Stray;Stray;Stray;Stray;\n\
+     0400000001000000174e0000000b776f726b657272656164794a400000000251 0400000001000000374e000000086c6f6773746172744a4e0000000a6974656d5f696e6465784600000003504e000000036c6f67420000000250400000000251 040000000600000006460000000751 ~ Ready;LogStart 3 2;Stray;\n\
+     0400000001000000174e0000000b776f726b657272656164794a400000000251 0600000001000000114e0000000b62616420636f6d6d616e6451 0300000004000000024c51 04000000010000001a4e0000000e776f726b657266696e69736865644a400000000251 050000000200000000 ~ Ready;Closed 'bad command';Stray;Stray;Stray;\n\
+     0400000001000000174e0000000b776f726b657272656164794a400000000251 050000000100000000 070000000100000000 040000000200000009410000000362706c51 070000000600000000 ~ Ready;Closed;Stray;Stray;Stray;\n\
+     0400000001000000174e0000000b776f726b657272656164794a400000000251 0600000001000000114e0000000b62616420636f6d6d616e6451 0600000001000000114e0000000b62616420636f6d6d616e6451 ~ Ready;Closed 'bad command';Stray;\n\
+     0400000001000000174e0000000b776f726b657272656164794a400000000251 0400000001000000744e0000001972756e746573745f70726f746f636f6c5f636f6d706c6574654a4e0000000a6974656d5f696e6465784600000000504e000000076f7574636f6d654e00000006706173736564504e00000004636f64654600000000504e000000086475726174696f6e460000022750400000000251 0400000006000000064b0000000051 070000000200000000 010000000000000000 ~ Ready;Done 0 passed 551;Stray;Stray;Stray;\n\
+     0400000001000000174e0000000b776f726b657272656164794a400000000251 04000000020000000741000000016351 0400000003000000024c51 ~ Ready;Stray;Stray;\n\
+     0400000001000000174e0000000b776f726b657272656164794a400000000251 0400000001000000374e000000086c6f6773746172744a4e0000000a6974656d5f696e6465784600000001504e000000036c6f67420000000250400000000251 0400000001000000374e000000086c6f6773746172744a4e0000000a6974656d5f696e6465784600000007504e000000036c6f67420000000450400000000251 0400000001000000374e000000086c6f6773746172744a4e0000000a6974656d5f696e6465784600000004504e000000036c6f67420000000650400000000251 0400000006000000084100000002647a51 050000000000000000 0400000001000000744e0000001972756e746573745f70726f746f636f6c5f636f6d706c6574654a4e0000000a6974656d5f696e6465784600000004504e000000076f7574636f6d654e000000066661696c6564504e00000004636f64654600000001504e000000086475726174696f6e460000004750400000000251 ~ Ready;LogStart 1 2;LogStart 7 4;LogStart 4 6;Piece 6 647a;Stray;Stray;\n\
+     0400000001000000174e0000000b776f726b657272656164794a400000000251 0400000002000000084100000002716651 070000000200000000 ~ Ready;Stray;Stray;\n\
+     0400000001000000174e0000000b776f726b657272656164794a400000000251 070000000200000000 050000000100000000 0400000001000000374e000000086c6f6773746172744a4e0000000a6974656d5f696e6465784600000004504e000000036c6f67420000000250400000000251 0400000001000000744e0000001972756e746573745f70726f746f636f6c5f636f6d706c6574654a4e0000000a6974656d5f696e6465784600000004504e000000076f7574636f6d654e000000066661696c6564504e00000004636f64654600000001504e000000086475726174696f6e46000001af50400000000251 ~ Ready;Stray;Closed;Stray;Stray;\n\
+     0400000001000000174e0000000b776f726b657272656164794a400000000251 050000000200000000 050000000200000000 ~ Ready;Stray;Stray;\n\
+     0400000001000000174e0000000b776f726b657272656164794a400000000251 0400000001000000294e0000000b756e7363686564756c65644a4e00000007696e64696365734b0000000050400000000251 040000000200000006410000000051 0400000001000000754e0000001972756e746573745f70726f746f636f6c5f636f6d706c6574654a4e0000000a6974656d5f696e6465784600000000504e000000076f7574636f6d654e00000007736b6970706564504e00000004636f64654600000000504e000000086475726174696f6e460000002450400000000251 040000000200000009410000000377717651 04000000010000003f4e0000000b756e7363686564756c65644a4e00000007696e64696365734b000000024600000000460000000350460000000146000000085050400000000251 ~ Ready;Back [];Stray;Done 0 skipped 36;Stray;Back [3, 8];\n\
+     0400000001000000174e0000000b776f726b657272656164794a400000000251 040000000200000006410000000051 0400000001000000744e0000001972756e746573745f70726f746f636f6c5f636f6d706c6574654a4e0000000a6974656d5f696e6465784600000000504e000000076f7574636f6d654e00000006706173736564504e00000004636f64654600000003504e000000086475726174696f6e460000033650400000000251 070000000200000000 0400000001000000374e000000086c6f6773746172744a4e0000000a6974656d5f696e6465784600000004504e000000036c6f67420000000250400000000251 ~ Ready;Stray;Stray;Stray;LogStart 4 2;\n\
+     0400000001000000174e0000000b776f726b657272656164794a400000000251 040000000200000006410000000051 050000000200000000 ~ Ready;Stray;Stray;\n\
+     0400000001000000174e0000000b776f726b657272656164794a400000000251 070000000200000000 ~ Ready;Stray;\n\
+     0400000001000000174e0000000b776f726b657272656164794a400000000251 040000000200000009410000000373696551 0400000001000000374e000000086c6f6773746172744a4e0000000a6974656d5f696e6465784600000008504e000000036c6f67420000000250400000000251 0400000001000000374e000000086c6f6773746172744a4e0000000a6974656d5f696e6465784600000003504e000000036c6f67420000000450400000000251 050000000800000000 040000000400000006410000000051 0400000001000000754e0000001972756e746573745f70726f746f636f6c5f636f6d706c6574654a4e0000000a6974656d5f696e6465784600000003504e000000076f7574636f6d654e00000007736b6970706564504e00000004636f64654600000000504e000000086475726174696f6e460000016350400000000251 ~ Ready;Stray;LogStart 8 2;LogStart 3 4;Stray;Piece 4 ;Done 3 skipped 355;\n\
+     0400000001000000174e0000000b776f726b657272656164794a400000000251 040000000200000009410000000373677051 ~ Ready;Stray;\n\
+     0400000001000000174e0000000b776f726b657272656164794a400000000251 0400000001000000744e0000001972756e746573745f70726f746f636f6c5f636f6d706c6574654a4e0000000a6974656d5f696e6465784600000000504e000000076f7574636f6d654e000000066661696c6564504e00000004636f64654600000001504e000000086475726174696f6e460000020450400000000251 ~ Ready;Done 0 failed 1 516;\n\
+     0400000001000000174e0000000b776f726b657272656164794a400000000251 0400000001000000374e000000086c6f6773746172744a4e0000000a6974656d5f696e6465784600000005504e000000036c6f67420000000250400000000251 060000000100000006460000000551 050000000200000000 04000000020000000741000000016b51 ~ Ready;LogStart 5 2;Stray;Stray;Stray;\n\
+     0400000001000000174e0000000b776f726b657272656164794a400000000251 04000000020000000841000000026e6751 050000000200000000 0400000001000000744e0000001972756e746573745f70726f746f636f6c5f636f6d706c6574654a4e0000000a6974656d5f696e6465784600000000504e000000076f7574636f6d654e00000006706173736564504e00000004636f64654600000003504e000000086475726174696f6e460000016050400000000251 0400000004000000064b0000000051 040000000200000006410000000051 ~ Ready;Stray;Stray;Stray;Stray;Stray;\n\
+     0400000001000000174e0000000b776f726b657272656164794a400000000251 0400000001000000374e000000086c6f6773746172744a4e0000000a6974656d5f696e6465784600000001504e000000036c6f67420000000250400000000251 04000000020000000741000000016651 04000000020000000741000000017151 070000000200000000 0400000001000000744e0000001972756e746573745f70726f746f636f6c5f636f6d706c6574654a4e0000000a6974656d5f696e6465784600000001504e000000076f7574636f6d654e000000066661696c6564504e00000004636f64654600000001504e000000086475726174696f6e460000015c50400000000251 0400000001000000374e000000086c6f6773746172744a4e0000000a6974656d5f696e6465784600000004504e000000036c6f67420000000450400000000251 ~ Ready;LogStart 1 2;Piece 2 66;Piece 2 71;LogClosed 2;Done 1 failed 1 348;LogStart 4 4;\n\
+     0400000001000000174e0000000b776f726b657272656164794a400000000251 060000000100000006460000000551 040000000200000006410000000051 ~ Ready;Stray;Stray;\n\
+     0400000001000000174e0000000b776f726b657272656164794a400000000251 0400000001000000374e000000086c6f6773746172744a4e0000000a6974656d5f696e6465784600000006504e000000036c6f67420000000250400000000251 0400000001000000374e000000086c6f6773746172744a4e0000000a6974656d5f696e6465784600000006504e000000036c6f67420000000450400000000251 04000000040000000741000000016b51 ~ Ready;LogStart 6 2;LogStart 6 4;Piece 4 6b;\n\
+     0400000001000000174e0000000b776f726b657272656164794a400000000251 060000000100000006460000000551 ~ Ready;Stray;\n\
+     0400000001000000174e0000000b776f726b657272656164794a400000000251 070000000600000000 ~ Ready;Stray;\n\
+     0400000001000000174e0000000b776f726b657272656164794a400000000251 000000000200000000 070000000200000000 ~ Ready;Stray;Stray;\n\
+     0400000001000000174e0000000b776f726b657272656164794a400000000251 070000000600000000 0400000001000000374e000000086c6f6773746172744a4e0000000a6974656d5f696e6465784600000007504e000000036c6f67420000000250400000000251 050000000200000000 ~ Ready;Stray;LogStart 7 2;LogClosed 2;\n\
+     0400000001000000174e0000000b776f726b657272656164794a400000000251 050000000200000000 ~ Ready;Stray;\n\
+     0400000001000000174e0000000b776f726b657272656164794a400000000251 0400000001000000374e000000086c6f6773746172744a4e0000000a6974656d5f696e6465784600000001504e000000036c6f67420000000250400000000251 0400000001000000294e0000000b756e7363686564756c65644a4e00000007696e64696365734b0000000050400000000251 0400000001000000374e000000086c6f6773746172744a4e0000000a6974656d5f696e6465784600000003504e000000036c6f67420000000450400000000251 040000000400000009410000000366646f51 04000000040000000741000000016651 ~ Ready;LogStart 1 2;Back [];LogStart 3 4;Piece 4 66646f;Piece 4 66;\n\
+     0400000001000000174e0000000b776f726b657272656164794a400000000251 0400000001000000374e000000086c6f6773746172744a4e0000000a6974656d5f696e6465784600000006504e000000036c6f67420000000250400000000251 0400000001000000744e0000001972756e746573745f70726f746f636f6c5f636f6d706c6574654a4e0000000a6974656d5f696e6465784600000006504e000000076f7574636f6d654e00000006706173736564504e00000004636f64654600000003504e000000086475726174696f6e46000003a350400000000251 070000000200000000 0600000001000000114e0000000b62616420636f6d6d616e6451 0400000001000000374e000000086c6f6773746172744a4e0000000a6974656d5f696e6465784600000003504e000000036c6f67420000000450400000000251 050000000400000000 ~ Ready;LogStart 6 2;Stray;LogClosed 2;Closed 'bad command';Stray;Stray;\n\
+     0400000001000000174e0000000b776f726b657272656164794a400000000251 0400000001000000374e000000086c6f6773746172744a4e0000000a6974656d5f696e6465784600000004504e000000036c6f67420000000250400000000251 ~ Ready;LogStart 4 2;\n\
+     0400000001000000174e0000000b776f726b657272656164794a400000000251 0400000002000000023f51 04000000010000001a4e0000000e776f726b657266696e69736865644a400000000251 0400000001000000744e0000001972756e746573745f70726f746f636f6c5f636f6d706c6574654a4e0000000a6974656d5f696e6465784600000000504e000000076f7574636f6d654e000000066661696c6564504e00000004636f64654600000001504e000000086475726174696f6e460000019850400000000251 0400000001000000374e000000086c6f6773746172744a4e0000000a6974656d5f696e6465784600000001504e000000036c6f67420000000250400000000251 070000000200000000 0400000001000000374e000000086c6f6773746172744a4e0000000a6974656d5f696e6465784600000004504e000000036c6f67420000000450400000000251 ~ Ready;Stray;Stray;Stray;Stray;Stray;Stray;\n\
+     0400000001000000174e0000000b776f726b657272656164794a400000000251 060000000100000006460000000551 0400000001000000744e0000001972756e746573745f70726f746f636f6c5f636f6d706c6574654a4e0000000a6974656d5f696e6465784600000000504e000000076f7574636f6d654e000000066661696c6564504e00000004636f64654600000001504e000000086475726174696f6e46000000bb50400000000251 ~ Ready;Stray;Stray;\n\
+     0400000001000000174e0000000b776f726b657272656164794a400000000251 0400000002000000084100000002676851 0400000001000000744e0000001972756e746573745f70726f746f636f6c5f636f6d706c6574654a4e0000000a6974656d5f696e6465784600000000504e000000076f7574636f6d654e00000006706173736564504e00000004636f64654600000000504e000000086475726174696f6e460000034750400000000251 050000000200000000 04000000010000001a4e0000000e776f726b657266696e69736865644a400000000251 0400000001000000374e000000086c6f6773746172744a4e0000000a6974656d5f696e6465784600000005504e000000036c6f67420000000250400000000251 ~ Ready;Stray;Done 0 passed 839;Stray;Finished;LogStart 5 2;\n\
+     0400000001000000174e0000000b776f726b657272656164794a400000000251 0400000001000000744e0000001972756e746573745f70726f746f636f6c5f636f6d706c6574654a4e0000000a6974656d5f696e6465784600000000504e000000076f7574636f6d654e000000066661696c6564504e00000004636f64654600000001504e000000086475726174696f6e460000002a50400000000251 050000000200000000 ~ Ready;Done 0 failed 1 42;Stray;\n\
+     0400000001000000174e0000000b776f726b657272656164794a400000000251 0300000004000000024c51 0400000002000000084100000002647251 010000000000000000 ~ Ready;Stray;Stray;Stray;\n\
+     0400000001000000174e0000000b776f726b657272656164794a400000000251 040000000200000006410000000051 040000000200000009410000000363697251 ~ Ready;Stray;Stray;\n\
+     0400000001000000174e0000000b776f726b657272656164794a400000000251 0400000001000000374e000000086c6f6773746172744a4e0000000a6974656d5f696e6465784600000000504e000000036c6f67420000000250400000000251 ~ Ready;LogStart 0 2;\n\
+     0400000001000000174e0000000b776f726b657272656164794a400000000251 0400000001000000374e000000086c6f6773746172744a4e0000000a6974656d5f696e6465784600000004504e000000036c6f67420000000250400000000251 0400000001000000744e0000001972756e746573745f70726f746f636f6c5f636f6d706c6574654a4e0000000a6974656d5f696e6465784600000004504e000000076f7574636f6d654e000000066661696c6564504e00000004636f646546ffffffff504e000000086475726174696f6e46000001e050400000000251 040000000200000006410000000051 0600000001000000114e0000000b62616420636f6d6d616e6451 0400000001000000374e000000086c6f6773746172744a4e0000000a6974656d5f696e6465784600000008504e000000036c6f67420000000450400000000251 04000000040000000741000000017951 ~ Ready;LogStart 4 2;Done 4 failed -1 480;Piece 2 ;Closed 'bad command';Stray;Stray;\n\
+     0400000001000000174e0000000b776f726b657272656164794a400000000251 04000000020000000841000000026a6451 070000000100000000 ~ Ready;Stray;Stray;\n\
+     0400000001000000174e0000000b776f726b657272656164794a400000000251 04000000020000000741000000016551 04000000010000000741000000017151 050000000000000000 ~ Ready;Stray;Stray;Stray;\n\
+     0400000001000000174e0000000b776f726b657272656164794a400000000251 070000000200000000 0400000002000000024c51 ~ Ready;Stray;Stray;\n\
+     0400000001000000174e0000000b776f726b657272656164794a400000000251 0400000002000000084100000002796351 04000000010000001a4e0000000e776f726b657266696e69736865644a400000000251 04000000010000003f4e0000000b756e7363686564756c65644a4e00000007696e64696365734b000000024600000000460000000450460000000146000000085050400000000251 04000000010000001a4e0000000e776f726b657266696e69736865644a400000000251 0400000004000000024c51 0400000001000000744e0000001972756e746573745f70726f746f636f6c5f636f6d706c6574654a4e0000000a6974656d5f696e6465784600000000504e000000076f7574636f6d654e000000066661696c6564504e00000004636f64654600000001504e000000086475726174696f6e46000000af50400000000251 ~ Ready;Stray;Finished;Back [4, 8];Finished;Stray;Done 0 failed 1 175;\n\
+     0400000001000000174e0000000b776f726b657272656164794a400000000251 050000000100000000 04000000010000003f4e0000000b756e7363686564756c65644a4e00000007696e64696365734b000000024600000000460000000050460000000146000000005050400000000251 0400000001000000744e0000001972756e746573745f70726f746f636f6c5f636f6d706c6574654a4e0000000a6974656d5f696e6465784600000000504e000000076f7574636f6d654e00000006706173736564504e00000004636f64654600000003504e000000086475726174696f6e460000008d50400000000251 ~ Ready;Closed;Stray;Stray;\n\
+     0400000001000000174e0000000b776f726b657272656164794a400000000251 04000000020000000741000000016951 070000000200000000 050000000800000000 040000000200000006410000000051 040000000200000009410000000361667151 ~ Ready;Stray;Stray;Stray;Stray;Stray;\n\
+     0400000001000000174e0000000b776f726b657272656164794a400000000251 070000000100000000 04000000010000001a4e0000000e776f726b657266696e69736865644a400000000251 04000000020000000741000000016b51 ~ Ready;Stray;Stray;Stray;\n\
+     0400000001000000174e0000000b776f726b657272656164794a400000000251 050000000100000000 0400000001000000344e0000000b756e7363686564756c65644a4e00000007696e64696365734b00000001460000000046000000085050400000000251 0400000002000000023f51 040000000200000006410000000051 ~ Ready;Closed;Stray;Stray;Stray;\n\
+     0400000001000000174e0000000b776f726b657272656164794a400000000251 070000000100000000 ~ Ready;Stray;\n\
+     0400000001000000174e0000000b776f726b657272656164794a400000000251 04000000020000000741000000016a51 070000000200000000 040000000300000006460000000751 ~ Ready;Stray;Stray;Stray;\n\
+     0400000001000000174e0000000b776f726b657272656164794a400000000251 04000000010000001a4e0000000e776f726b657266696e69736865644a400000000251 010000000000000000 0400000001000000374e000000086c6f6773746172744a4e0000000a6974656d5f696e6465784600000008504e000000036c6f67420000000250400000000251 050000000800000000 04000000020000000741000000016951 0400000001000000294e0000000b756e7363686564756c65644a4e00000007696e64696365734b0000000050400000000251 ~ Ready;Finished;Stray;Stray;Stray;Stray;Stray;\n\
+     0400000001000000174e0000000b776f726b657272656164794a400000000251 0400000001000000374e000000086c6f6773746172744a4e0000000a6974656d5f696e6465784600000007504e000000036c6f67420000000250400000000251 0400000001000000744e0000001972756e746573745f70726f746f636f6c5f636f6d706c6574654a4e0000000a6974656d5f696e6465784600000007504e000000076f7574636f6d654e000000066661696c6564504e00000004636f64654600000001504e000000086475726174696f6e460000018950400000000251 050000000100000000 0400000001000000064b0000000051 0400000001000000374e000000086c6f6773746172744a4e0000000a6974656d5f696e6465784600000004504e000000036c6f67420000000450400000000251 ~ Ready;LogStart 7 2;Done 7 failed 1 393;Closed;Stray;Stray;\n\
+     0400000001000000174e0000000b776f726b657272656164794a400000000251 0400000001000000374e000000086c6f6773746172744a4e0000000a6974656d5f696e6465784600000004504e000000036c6f67420000000250400000000251 0400000001000000374e000000086c6f6773746172744a4e0000000a6974656d5f696e6465784600000002504e000000036c6f67420000000450400000000251 010000000000000000 04000000010000001a4e0000000e776f726b657266696e69736865644a400000000251 04000000040000000941000000037a6e6d51 04000000040000000841000000026f6551 ~ Ready;LogStart 4 2;LogStart 2 4;Stray;Stray;Stray;Stray;\n\
+     0400000001000000174e0000000b776f726b657272656164794a400000000251 050000000100000000 0400000001000000374e000000086c6f6773746172744a4e0000000a6974656d5f696e6465784600000006504e000000036c6f67420000000250400000000251 060000000100000006460000000551 0400000001000000374e000000086c6f6773746172744a4e0000000a6974656d5f696e6465784600000004504e000000036c6f67420000000450400000000251 050000000400000000 ~ Ready;Closed;Stray;Stray;Stray;Stray;\n\
+     0400000001000000174e0000000b776f726b657272656164794a400000000251 040000000100000006460000000751 0600000001000000114e0000000b62616420636f6d6d616e6451 000000000200000000 0400000001000000374e000000086c6f6773746172744a4e0000000a6974656d5f696e6465784600000003504e000000036c6f67420000000250400000000251 ~ Ready;Stray;Closed 'bad command';Stray;Stray;\n\
+     0400000001000000174e0000000b776f726b657272656164794a400000000251 04000000020000000741000000016a51 04000000020000000741000000016951 070000000200000000 ~ Ready;Stray;Stray;Stray;\n\
+     0400000001000000174e0000000b776f726b657272656164794a400000000251 04000000010000001a4e0000000e776f726b657266696e69736865644a400000000251 0400000002000000084100000002706e51 0400000001000000374e000000086c6f6773746172744a4e0000000a6974656d5f696e6465784600000003504e000000036c6f67420000000250400000000251 050000000800000000 04000000020000000841000000027a6451 0400000001000000374e000000086c6f6773746172744a4e0000000a6974656d5f696e6465784600000001504e000000036c6f67420000000450400000000251 ~ Ready;Finished;Stray;LogStart 3 2;Stray;Piece 2 7a64;LogStart 1 4;\n\
+     0400000001000000174e0000000b776f726b657272656164794a400000000251 0400000001000000374e000000086c6f6773746172744a4e0000000a6974656d5f696e6465784600000008504e000000036c6f67420000000250400000000251 050000000200000000 0400000001000000374e000000086c6f6773746172744a4e0000000a6974656d5f696e6465784600000008504e000000036c6f67420000000450400000000251 0400000001000000744e0000001972756e746573745f70726f746f636f6c5f636f6d706c6574654a4e0000000a6974656d5f696e6465784600000008504e000000076f7574636f6d654e00000006706173736564504e00000004636f64654600000003504e000000086475726174696f6e460000033850400000000251 070000000400000000 ~ Ready;LogStart 8 2;LogClosed 2;LogStart 8 4;Stray;LogClosed 4;\n\
+     0400000001000000174e0000000b776f726b657272656164794a400000000251 0400000001000000744e0000001972756e746573745f70726f746f636f6c5f636f6d706c6574654a4e0000000a6974656d5f696e6465784600000000504e000000076f7574636f6d654e00000006706173736564504e00000004636f64654600000003504e000000086475726174696f6e460000014b50400000000251 0400000001000000374e000000086c6f6773746172744a4e0000000a6974656d5f696e6465784600000001504e000000036c6f67420000000250400000000251 04000000010000001a4e0000000e776f726b657266696e69736865644a400000000251 04000000010000001a4e0000000e776f726b657266696e69736865644a400000000251 0400000001000000744e0000001972756e746573745f70726f746f636f6c5f636f6d706c6574654a4e0000000a6974656d5f696e6465784600000001504e000000076f7574636f6d654e000000066661696c6564504e00000004636f64654600000001504e000000086475726174696f6e460000022850400000000251 ~ Ready;Stray;LogStart 1 2;Finished;Finished;Done 1 failed 1 552;\n\
+     0400000001000000174e0000000b776f726b657272656164794a400000000251 070000000200000000 0400000001000000374e000000086c6f6773746172744a4e0000000a6974656d5f696e6465784600000006504e000000036c6f67420000000250400000000251 0400000001000000754e0000001972756e746573745f70726f746f636f6c5f636f6d706c6574654a4e0000000a6974656d5f696e6465784600000006504e000000076f7574636f6d654e00000007736b6970706564504e00000004636f64654600000000504e000000086475726174696f6e460000023a50400000000251 0400000001000000374e000000086c6f6773746172744a4e0000000a6974656d5f696e6465784600000004504e000000036c6f67420000000450400000000251 ~ Ready;Stray;LogStart 6 2;Done 6 skipped 570;LogStart 4 4;\n\
+     0400000001000000174e0000000b776f726b657272656164794a400000000251 050000000000000000 04000000010000001a4e0000000e776f726b657266696e69736865644a400000000251 060000000100000006460000000551 050000000200000000 04000000010000001a4e0000000e776f726b657266696e69736865644a400000000251 050000000000000000 ~ Ready;Stray;Stray;Stray;Stray;Stray;Stray;\n\
+     0400000001000000174e0000000b776f726b657272656164794a400000000251 050000000100000000 0400000001000000744e0000001972756e746573745f70726f746f636f6c5f636f6d706c6574654a4e0000000a6974656d5f696e6465784600000000504e000000076f7574636f6d654e00000006706173736564504e00000004636f64654600000003504e000000086475726174696f6e46000001b450400000000251 0400000001000000744e0000001972756e746573745f70726f746f636f6c5f636f6d706c6574654a4e0000000a6974656d5f696e6465784600000000504e000000076f7574636f6d654e000000066661696c6564504e00000004636f64654600000001504e000000086475726174696f6e460000037150400000000251 ~ Ready;Closed;Stray;Stray;\n\
+     0400000001000000174e0000000b776f726b657272656164794a400000000251 000000000200000000 070000000100000000 0400000002000000084100000002756151 04000000010000003f4e0000000b756e7363686564756c65644a4e00000007696e64696365734b000000024600000000460000000250460000000146000000065050400000000251 050000000200000000 ~ Ready;Stray;Stray;Stray;Stray;Stray;\n\
+     0400000001000000174e0000000b776f726b657272656164794a400000000251 010000000000000000 ~ Ready;Stray;\n\
+     0400000001000000174e0000000b776f726b657272656164794a400000000251 070000000200000000 040000000300000006460000000751 04000000010000001a4e0000000e776f726b657266696e69736865644a400000000251 ~ Ready;Stray;Stray;Finished;\n\
+     0400000001000000174e0000000b776f726b657272656164794a400000000251 050000000100000000 04000000010000001a4e0000000e776f726b657266696e69736865644a400000000251 050000000100000000 ~ Ready;Closed;Stray;Stray;\n\
+     0400000001000000174e0000000b776f726b657272656164794a400000000251 050000000100000000 050000000800000000 0400000001000000374e000000086c6f6773746172744a4e0000000a6974656d5f696e6465784600000005504e000000036c6f67420000000250400000000251 ~ Ready;Closed;Stray;Stray;\n\
+     0400000001000000174e0000000b776f726b657272656164794a400000000251 04000000010000001a4e0000000e776f726b657266696e69736865644a400000000251 ~ Ready;Finished;\n\
+     0400000001000000174e0000000b776f726b657272656164794a400000000251 04000000020000000741000000017751 ~ Ready;Stray;\n\
+     0400000001000000174e0000000b776f726b657272656164794a400000000251 0400000001000000744e0000001972756e746573745f70726f746f636f6c5f636f6d706c6574654a4e0000000a6974656d5f696e6465784600000000504e000000076f7574636f6d654e000000066661696c6564504e00000004636f64654600000001504e000000086475726174696f6e460000026b50400000000251 ~ Ready;Done 0 failed 1 619;\n\
+     0400000001000000174e0000000b776f726b657272656164794a400000000251 04000000020000000741000000016851 070000000200000000 0400000001000000374e000000086c6f6773746172744a4e0000000a6974656d5f696e6465784600000001504e000000036c6f67420000000250400000000251 ~ Ready;Stray;Stray;LogStart 1 2;\n\
+     0400000001000000174e0000000b776f726b657272656164794a400000000251 070000000100000000 0400000001000000744e0000001972756e746573745f70726f746f636f6c5f636f6d706c6574654a4e0000000a6974656d5f696e6465784600000000504e000000076f7574636f6d654e000000066661696c6564504e00000004636f646546ffffffff504e000000086475726174696f6e460000020b50400000000251 040000000100000006460000000751 070000000200000000 0400000001000000744e0000001972756e746573745f70726f746f636f6c5f636f6d706c6574654a4e0000000a6974656d5f696e6465784600000000504e000000076f7574636f6d654e00000006706173736564504e00000004636f64654600000003504e000000086475726174696f6e46000002f550400000000251 0400000002000000094100000003726d6651 ~ Ready;Stray;Stray;Stray;Stray;Stray;Stray;\n\
+     0400000001000000174e0000000b776f726b657272656164794a400000000251 070000000200000000 0400000002000000084100000002747751 040000000200000006410000000051 060000000100000006460000000551 ~ Ready;Stray;Stray;Stray;Stray;\n\
+     0400000001000000174e0000000b776f726b657272656164794a400000000251 0400000001000000294e0000000b756e7363686564756c65644a4e00000007696e64696365734b0000000050400000000251 050000000200000000 0400000001000000374e000000086c6f6773746172744a4e0000000a6974656d5f696e6465784600000002504e000000036c6f67420000000250400000000251 ~ Ready;Back [];Stray;LogStart 2 2;\n\
+     0400000001000000174e0000000b776f726b657272656164794a400000000251 04000000010000001a4e0000000e776f726b657266696e69736865644a400000000251 020000000000000000 0400000002000000023f51 04000000010000001a4e0000000e776f726b657266696e69736865644a400000000251 050000000100000000 ~ Ready;Finished;Stray;Stray;Stray;Stray;\n\
+";
