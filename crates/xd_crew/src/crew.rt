@@ -1,6 +1,6 @@
 // What runs jobs.
-ghost use Rattle.std.specs.Prelude.{◌≡◌, ◌≤◌, ℕ, IfOk, IfErr, OnOk, OnErr};
-ghost use Rattle.xd_edge.specs.Faults.{Rose};
+ghost use Rattle.std.specs.Prelude.{◌≡◌, ℕ, IfOk, IfErr, is_ok};
+ghost use Rattle.xd_edge.specs.Faults.{Counted};
 
 use crate::Job;
 
@@ -19,9 +19,7 @@ pub trait Crew<J: Job>: Drop {
     fn start(&mut self, job: J) -> Result<Self::Handle, J>
         ensures started { IfOk result (λ handle. job_of handle ≡ job) }
         ensures back { IfErr result (λ back. back ≡ job) }
-        ensures later { faults self.old ≤ faults self.new }
-        ensures still { OnOk result (faults self.new ≡ faults self.old) }
-        ensures rose { OnErr result (Rose (faults self.old) (faults self.new)) };
+        ensures counted { Counted (is_ok result) (faults self.old) (faults self.new) };
 
     /// Waits for the job's end, and gives what its run gave.
     fn join(&mut self, handle: Self::Handle) -> J::Out

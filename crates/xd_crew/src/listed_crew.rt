@@ -1,7 +1,7 @@
 // A crew of threads that refuses what it is told to refuse.
-ghost use Rattle.std.specs.Prelude.{◌≡◌, ◌≤◌, ◌<◌, ◌+◌, ◌-◌, ◌^◌, ◌==◌, true, IfOk, IfErr, IsErr, OnOk, OnErr};
+ghost use Rattle.std.specs.Prelude.{◌≡◌, ◌<◌, ◌+◌, ◌-◌, ◌^◌, ◌==◌, true, IfOk, IfErr, IsErr, is_ok};
 ghost use Rattle.std.specs.List.{list_any};
-ghost use Rattle.xd_edge.specs.Faults.{Rose};
+ghost use Rattle.xd_edge.specs.Faults.{Counted};
 
 use crate::{Crew, Job, RunningJob, ThreadCrew};
 use std::thread::Threads;
@@ -38,9 +38,7 @@ impl<J: Job, R: Threads + Drop> Crew<J> for ListedCrew<J, R> {
     fn start(&mut self, job: J) -> Result<RunningJob<J>, J>
         ensures started { IfOk result (λ handle. handle.job.value ≡ job) }
         ensures back { IfErr result (λ back. back ≡ job) }
-        ensures later { self.old.plan.faults ≤ self.new.plan.faults }
-        ensures still { OnOk result (self.new.plan.faults ≡ self.old.plan.faults) }
-        ensures rose { OnErr result (Rose self.old.plan.faults self.new.plan.faults) }
+        ensures counted { Counted (is_ok result) self.old.plan.faults self.new.plan.faults }
         ensures listed { list_any (λ n. n == self.old.plan.calls) self.old.plan.fails ≡ true → IsErr result }
         ensures next { self.old.plan.calls < 2 ^ 64 - 1 → self.new.plan.calls ≡ self.old.plan.calls + 1 }
         ensures fails { self.new.plan.fails ≡ self.old.plan.fails }

@@ -1,6 +1,6 @@
 // Messages that are written to a sink.
-ghost use Rattle.std.specs.Prelude.{◌≡◌, ◌≤◌, OnOk, OnErr};
-ghost use Rattle.xd_edge.specs.Faults.{Rose};
+ghost use Rattle.std.specs.Prelude.{◌≡◌, OnOk, OnErr, is_ok};
+ghost use Rattle.xd_edge.specs.Faults.{Counted};
 ghost use Rattle.xd_edge.specs.Sink.{Took, TookPart, Printed};
 ghost use Rattle.xd_frame.specs.Message.{frame, frames};
 
@@ -11,9 +11,7 @@ use xd_edge::{Failed, Sink, write_all};
 pub fn print_frame<N: Sink>(sink: &mut N, message: &Message) -> Result<(), Failed>
     ensures ok { OnOk result (Printed (frame message.now) (N.sunk sink.old) (N.sunk sink.new)) }
     ensures part { OnErr result (TookPart (frame message.now) (N.sunk sink.old) (N.sunk sink.new)) }
-    ensures later { N.faults sink.old ≤ N.faults sink.new }
-    ensures still { OnOk result (N.faults sink.new ≡ N.faults sink.old) }
-    ensures rose { OnErr result (Rose (N.faults sink.old) (N.faults sink.new)) }
+    ensures counted { Counted (is_ok result) (N.faults sink.old) (N.faults sink.new) }
 {
     write_frame(sink, message)?;
     sink.flush()?;
@@ -24,9 +22,7 @@ pub fn print_frame<N: Sink>(sink: &mut N, message: &Message) -> Result<(), Faile
 pub fn print_frames<N: Sink>(sink: &mut N, messages: &[Message]) -> Result<(), Failed>
     ensures ok { OnOk result (Printed (frames messages.now) (N.sunk sink.old) (N.sunk sink.new)) }
     ensures part { OnErr result (TookPart (frames messages.now) (N.sunk sink.old) (N.sunk sink.new)) }
-    ensures later { N.faults sink.old ≤ N.faults sink.new }
-    ensures still { OnOk result (N.faults sink.new ≡ N.faults sink.old) }
-    ensures rose { OnErr result (Rose (N.faults sink.old) (N.faults sink.new)) }
+    ensures counted { Counted (is_ok result) (N.faults sink.old) (N.faults sink.new) }
 {
     write_frames(sink, messages)?;
     sink.flush()?;
@@ -37,9 +33,7 @@ pub fn print_frames<N: Sink>(sink: &mut N, messages: &[Message]) -> Result<(), F
 pub fn write_frames<N: Sink>(sink: &mut N, messages: &[Message]) -> Result<(), Failed>
     ensures ok { OnOk result (Took (frames messages.now) (N.sunk sink.old) (N.sunk sink.new)) }
     ensures part { OnErr result (TookPart (frames messages.now) (N.sunk sink.old) (N.sunk sink.new)) }
-    ensures later { N.faults sink.old ≤ N.faults sink.new }
-    ensures still { OnOk result (N.faults sink.new ≡ N.faults sink.old) }
-    ensures rose { OnErr result (Rose (N.faults sink.old) (N.faults sink.new)) }
+    ensures counted { Counted (is_ok result) (N.faults sink.old) (N.faults sink.new) }
 {
     for message in messages {
         write_frame(sink, message)?;
@@ -50,9 +44,7 @@ pub fn write_frames<N: Sink>(sink: &mut N, messages: &[Message]) -> Result<(), F
 fn write_frame<N: Sink>(sink: &mut N, message: &Message) -> Result<(), Failed>
     ensures ok { OnOk result (Took (frame message.now) (N.sunk sink.old) (N.sunk sink.new)) }
     ensures part { OnErr result (TookPart (frame message.now) (N.sunk sink.old) (N.sunk sink.new)) }
-    ensures later { N.faults sink.old ≤ N.faults sink.new }
-    ensures still { OnOk result (N.faults sink.new ≡ N.faults sink.old) }
-    ensures rose { OnErr result (Rose (N.faults sink.old) (N.faults sink.new)) }
+    ensures counted { Counted (is_ok result) (N.faults sink.old) (N.faults sink.new) }
 {
     write_all(sink, &header_of(message))?;
     write_all(sink, message.payload.as_slice())?;

@@ -1,0 +1,7 @@
+-- Moments of a clock that never falls.
+use Rattle.std.specs.Prelude.{ℕ, List, [], ◌∷◌, max}
+
+-- the moment that is given next: the first that is listed, where it is not below the last one, else that one again
+abbrev pub next_moment : ℕ → List ℕ → ℕ
+next_moment last [] = last
+next_moment last (m ∷ ms) = max last m
