@@ -1,4 +1,4 @@
-use Rattle.std.proofs.Common.{◌≡◌, ◌≤◌, ◌+◌, ◌-◌, ◌∙◌, not, true, ap, arith, drop, length, sym, take}
+use Rattle.std.proofs.Common.{refl, ◌≡◌, ◌≤◌, ◌+◌, ◌-◌, ◌∙◌, not, true, ap, arith, drop, length, sym, take}
 use Rattle.std.specs.Prelude.{is_ok}
 use Rattle.std.proofs.lemmas.List.{length-take-le}
 use borrow.Rule.Slice.PartMut.{post_of}
@@ -26,6 +26,6 @@ returns-in-Ok-clause-read g c =
       length_is = length-take-le c.in-Ok.n into (omega arith);
       asked = within;
       bytes = small_all c.truncate.new.self.items c.type_inv.held;
-      count = c.in-Ok.ensures.still;
+      count = c.in-Ok.ensures.counted.still refl;
       end = λ z some. met_end c.in-Ok.n (length (take (length lent - begun) (drop begun lent))) into (g.S.Source.supply c.args.source.now) (g.S.Source.supply c.read.new.self) (g.S.Source.is_ended c.args.source.now) (g.S.Source.is_ended c.read.new.self) (g.S.Source.faults c.read.new.self) z (omega arith) c.in-Ok.ensures.gave c.in-Ok.ensures.none_left c.in-Ok.ensures.end;
     }
