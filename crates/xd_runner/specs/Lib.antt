@@ -1,0 +1,4 @@
+pub mod Child
+pub mod Programs
+pub mod Orders
+pub mod Running
