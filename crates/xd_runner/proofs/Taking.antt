@@ -1,8 +1,9 @@
 -- Orders that are taken and run one after another.
-use Rattle.std.proofs.Common.{◌≡◌, ℕ, zero, suc, ◌+◌, ◌<◌, ◌≤◌, List, [], ◌∷◌, ◌++◌, length, Option, Some, None, map, refl, sym, ap, ◌∙◌, subst, append_assoc, arith, inl, inr}
-use Rattle.std.specs.Prelude.{option_map, All, slice_get, slice_set, sum_by}
+use Rattle.std.proofs.Common.{◌≡◌, ℕ, zero, suc, ◌+◌, ◌<◌, ◌≤◌, ◌-◌, ◌^◌, List, [], ◌∷◌, ◌++◌, length, Option, Some, None, map, refl, sym, ap, ◌∙◌, subst, append_assoc, arith, inl, inr, Result, Ok, Err, true, false}
+use Rattle.std.specs.Prelude.{option_map, All, slice_get, slice_set, sum_by, OnErr, OnOk, is_err}
 use Rattle.std.proofs.lemmas.List.{append-nil, map-append}
 use Rattle.std.proofs.lemmas.List.Elements.{All-nil, All-push}
+use Rattle.std.proofs.lemmas.List.Sums.{sum_by-append}
 use Rattle.xd_edge.specs.Children.{ChildRun, AddsRun}
 use Rattle.xd_edge.specs.Faults.{RoseBy}
 use Rattle.xd_edge.specs.MemChildren.{whole_output}
@@ -19,19 +20,32 @@ use Rattle.xd_runner.specs.Running.{RunsOne, RunsPart}
 
 -- ---- orders that are taken of a desk with one inbox
 
+abbrev mail : Ring → List Order → Option (Ring × List Order)
+mail ring got = Some (ring, got)
+
+abbrev one : Ring → List Order → Mails
+one ring got = mail ring got ∷ []
+
+inside : (p q : Ring × List Order) → Some (Some p) ≡ Some (Some q) → p ≡ q
+inside p q e = cc
+
 -- an item was taken of the one inbox, since there is no other
-of_the_one : (ring r : Ring) (got g : List Order) (number : ℕ) (order : Order) → slice_get (Some (ring, got) ∷ []) number ≡ Some (Some (r, g)) → slice_set (Some (ring, got) ∷ []) number (Some (r, g ++ order ∷ [])) ≡ Some (ring, got ++ order ∷ []) ∷ []
-of_the_one ring r got g zero order e = cc
+of_the_one : (ring r : Ring) (got g : List Order) (number : ℕ) (order : Order) → slice_get (one ring got) number ≡ Some (mail r g) → slice_set (one ring got) number (mail r (g ++ order ∷ [])) ≡ one ring (got ++ order ∷ [])
+of_the_one ring r got g zero order e =
+    let p : Ring × List Order = (ring, got) in
+    let q : Ring × List Order = (r, g) in
+    let same : p ≡ q = inside p q e in
+    ap (λ (x : Ring × List Order). one x.0 (x.1 ++ order ∷ [])) (sym same)
 of_the_one ring r got g (suc n) order e = cc
 
 pub takes_none : (mails : Mails) → TakesOf [] mails mails
-takes_none mails ring got e = e ∙ ap (λ (l : List Order). Some (ring, l) ∷ []) (sym (append-nil got))
+takes_none mails ring got e = e ∙ ap (one ring) (sym (append-nil got))
 
 pub takes_next : (orders : List Order) (old mid new : Mails) (number : ℕ) (order : Order) → TakesOf orders old mid → TakesAt mid new number order → TakesOf (orders ++ order ∷ []) old new
 takes_next orders old mid new number order t a ring got e =
     let m = t ring got e in
-    let was = subst (λ (l : Mails). slice_get l number ≡ Some (Some (a.ring, a.got))) m a.was in
-    a.is ∙ (ap (λ (l : Mails). slice_set l number (Some (a.ring, a.got ++ order ∷ []))) m ∙ (of_the_one ring a.ring (got ++ orders) a.got number order was ∙ ap (λ (l : List Order). Some (ring, l) ∷ []) (append_assoc got orders (order ∷ []))))
+    let was = subst (λ (l : Mails). slice_get l number ≡ Some (mail a.ring a.got)) m a.was in
+    a.is ∙ (ap (λ (l : Mails). slice_set l number (mail a.ring (a.got ++ order ∷ []))) m ∙ (of_the_one ring a.ring (got ++ orders) a.got number order was ∙ ap (one ring) (append_assoc got orders (order ∷ []))))
 
 -- ---- programs that ran one after another
 
@@ -55,8 +69,7 @@ run_more started ran args output outcome first mid new a c =
     }
 
 faults_more : (ran : List Ran) (r : Ran) → faults_of (ran ++ r ∷ []) ≡ faults_of ran + fault_count r.outcome
-faults_more [] r = omega arith
-faults_more (x ∷ xs) r = let e = faults_more xs r in omega (arith, e)
+faults_more ran r = let e = sum_by-append (λ (x : Ran). fault_count x.outcome) ran (r ∷ []) in omega (arith, e)
 
 news_more : (told : List Told) (t : Told) → all_news (told ++ t ∷ []) ≡ all_news told ++ told_news t
 news_more [] t = append-nil (told_news t)
@@ -97,8 +110,9 @@ module _ (old mid new : Mails) (s0 s1 s2 : Seen) (before between after : List Li
   took : TakesOf (f.orders ++ order ∷ []) old new
   took = takes_next f.orders old mid new number order f.took take
 
-  pub goes_on : 0 < length order → RunsOne order s1 s2 between after → SoFar old new s0 s2 before after
-  goes_on some r =
+  pub goes_on : (own : Order) → own ≡ order → 0 < length order → RunsOne own s1 s2 between after → SoFar old new s0 s2 before after
+  goes_on own is some one_run =
+      let r = subst (λ (o : Order). RunsOne o s1 s2 between after) is one_run in
       let ran = map ran_of f.told in
       let last = ran_of r.told in
       let all : map ran_of (f.told ++ r.told ∷ []) ≡ ran ++ last ∷ [] = map-append ran_of f.told (r.told ∷ []) in
@@ -132,8 +146,8 @@ module _ (old mid new : Mails) (s0 s1 s2 : Seen) (before between after : List Li
       nil_of [] e = refl
       nil_of (x ∷ l) e = absurd (omega arith)
 
-  pub ends_cut : (last : List LinkNews) → 0 < length order → RunsPart order s1 s2 between after → last ≡ after ++ End OutOfMemory ∷ [] → RunsOrders old new s0 s2 before last
-  ends_cut last some r put = record {
+  pub ends_cut : (last : List LinkNews) (own : Order) → own ≡ order → 0 < length order → RunsPart own s1 s2 between after → last ≡ after ++ End OutOfMemory ∷ [] → RunsOrders old new s0 s2 before last
+  ends_cut last own is some part put = let r = subst (λ (o : Order). RunsPart o s1 s2 between after) is part in record {
     orders = f.orders;
     told = f.told;
     mid = s1;
@@ -150,3 +164,11 @@ module _ (old mid new : Mails) (s0 s1 s2 : Seen) (before between after : List Li
       later = r.later;
     });
   }
+
+pub when_err : {A E : Type 0} (r : Result A E) (P : Type 0) → is_err r ≡ true → OnErr r P → P
+when_err (Ok x) P e p = cc
+when_err (Err x) P e p = p
+
+pub when_ok : {A E : Type 0} (r : Result A E) (P : Type 0) → is_err r ≡ false → OnOk r P → P
+when_ok (Ok x) P e p = p
+when_ok (Err x) P e p = cc

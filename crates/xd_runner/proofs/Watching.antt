@@ -1,6 +1,6 @@
 -- A program, from its start to its end.
-use Rattle.std.proofs.Common.{◌≡◌, ℕ, ◌≤◌, List, [], ◌∷◌, ◌++◌, Bool, true, false, Option, Some, None, map, refl, sym, ap, ◌∙◌, subst, append_assoc, arith, inl, inr}
-use Rattle.std.specs.Prelude.{option_map, All}
+use Rattle.std.proofs.Common.{◌≡◌, ℕ, ◌≤◌, List, [], ◌∷◌, ◌++◌, Bool, true, false, Option, Some, None, map, refl, sym, ap, ◌∙◌, subst, append_assoc, arith, inl, inr, Result, Ok, Err}
+use Rattle.std.specs.Prelude.{option_map, All, IfOk, OnErr}
 use Rattle.std.proofs.lemmas.List.{append-nil, map-append}
 use Rattle.std.proofs.lemmas.List.Elements.{All-nil, All-push}
 use Rattle.xd_edge.specs.Children.{ChildRun, AddsRun, ChangesRun, IsNext, change_at, not_started, running, with_last, with_output, with_read_fault}
@@ -155,15 +155,15 @@ runs_to place outcome args old mid new f0 f1 f2 before after next added still w 
   later = subst (λ (n : ℕ). n ≤ f2) still w.later;
 }
 
-pub runs_none : (args : List (List ℕ)) (old new : Option (List ChildRun)) (f0 f1 : ℕ) (before : List LinkNews) → AddsRun (not_started args) old new → Counted false f0 f1 → RunsTo (Failed (negsuc 1)) args (seen old f0) (seen new f1) before before
-runs_none args old new f0 f1 before added count = record {
+pub runs_none : (args : List (List ℕ)) (old new : Option (List ChildRun)) (f0 f1 : ℕ) (before : List LinkNews) → AddsRun (not_started args) old new → Rose f0 f1 → f0 ≤ f1 → RunsTo (Failed (negsuc 1)) args (seen old f0) (seen new f1) before before
+runs_none args old new f0 f1 before added rose later = record {
   pieces = [];
   puts = sym (append-nil before);
   sizes = All-nil IsPiece;
   came = record { run = not_started args; args_are = refl; output_is = refl; outcome_is = refl; added = added };
-  rose = count.rose refl;
+  rose = rose;
   still = λ e. cc;
-  later = count.later;
+  later = later;
 }
 
 pub runs_part : (place : ℕ) (args : List (List ℕ)) (old mid new : Option (List ChildRun)) (f0 f1 f2 : ℕ) (before after : List LinkNews) → IsNext place old → AddsRun (running args) old mid → f1 ≡ f0 → WatchesPart place (seen mid f1) (seen new f2) before after → RunsPart args (seen old f0) (seen new f2) before after
@@ -194,3 +194,15 @@ runs_one outcome args s0 s1 before mid after r put = record {
   still = r.still;
   later = r.later;
 }
+
+pub on_err : {A E : Type 0} (r : Result A E) (P : Type 0) → P → OnErr r P
+on_err (Ok x) P p = tt
+on_err (Err e) P p = p
+
+pub on_err_so : {A E : Type 0} (r : Result A E) (P Q : Type 0) → (P → Q) → OnErr r P → OnErr r Q
+on_err_so (Ok x) P Q f p = tt
+on_err_so (Err e) P Q f p = f p
+
+pub if_ok_so : {A E : Type 0} (r : Result A E) (P Q : A → Type 0) → ((x : A) → P x → Q x) → IfOk r P → IfOk r Q
+if_ok_so (Ok x) P Q f p = f x p
+if_ok_so (Err e) P Q f p = tt
