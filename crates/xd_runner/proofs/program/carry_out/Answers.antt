@@ -20,7 +20,7 @@ returns-then-is_err-clause-runs g c =
     let some : 0 < length c.wait-order.result.1 = search rules in
     let own : c.as_slice.result.now ≡ c.wait-order.result.1 = search rules in
     let err : is_err c.run_order.result ≡ true = search rules in
-    ends_cut (mails c.args.orders.now) (mails c.loop.orders) (mails c.wait-order.new.self) _ _ _ (put c.args.sender.now) (put c.loop.sender) (put c.run_order.new.sender) c.wait-order.result.0 c.wait-order.result.1 c.loop.invariant.so_far c.wait-order.ensures.takes (put c.put.new.self) c.as_slice.result.now own some (when_err c.run_order.result _ err c.run_order.ensures.part) c.put.ensures.put
+    ends_cut (mails c.args.orders.now) (mails c.loop.orders) (mails c.wait-order.new.self) (seen (g.K.Children.runs c.args.children.now) (g.K.Children.faults c.args.children.now)) (seen (g.K.Children.runs c.loop.children) (g.K.Children.faults c.loop.children)) (seen (g.K.Children.runs c.run_order.new.children) (g.K.Children.faults c.run_order.new.children)) (put c.args.sender.now) (put c.loop.sender) (put c.run_order.new.sender) c.wait-order.result.0 c.wait-order.result.1 c.loop.invariant.so_far c.wait-order.ensures.takes (put c.put.new.self) c.as_slice.result.now own some (when_err c.run_order.result _ err c.run_order.ensures.part) c.put.ensures.put
 
 pub loop-preserved : goal.loop-preserved
 loop-preserved g c =
@@ -28,6 +28,6 @@ loop-preserved g c =
     let own : c.as_slice.result.now ≡ c.wait-order.result.1 = search rules in
     let ok : is_err c.run_order.result ≡ false = search rules in
     record {
-      so_far = goes_on (mails c.args.orders.now) (mails c.loop.orders) (mails c.wait-order.new.self) _ _ _ (put c.args.sender.now) (put c.loop.sender) (put c.run_order.new.sender) c.wait-order.result.0 c.wait-order.result.1 c.loop.invariant.so_far c.wait-order.ensures.takes c.as_slice.result.now own some (when_ok c.run_order.result _ ok c.run_order.ensures.ran);
+      so_far = goes_on (mails c.args.orders.now) (mails c.loop.orders) (mails c.wait-order.new.self) (seen (g.K.Children.runs c.args.children.now) (g.K.Children.faults c.args.children.now)) (seen (g.K.Children.runs c.loop.children) (g.K.Children.faults c.loop.children)) (seen (g.K.Children.runs c.run_order.new.children) (g.K.Children.faults c.run_order.new.children)) (put c.args.sender.now) (put c.loop.sender) (put c.run_order.new.sender) c.wait-order.result.0 c.wait-order.result.1 c.loop.invariant.so_far c.wait-order.ensures.takes c.as_slice.result.now own some (when_ok c.run_order.result _ ok c.run_order.ensures.ran);
       ring = c.run_order.ensures.ring ∙ c.loop.invariant.ring;
     }
