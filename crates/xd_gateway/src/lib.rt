@@ -15,7 +15,7 @@ mod word;
 pub use call::have_text_keys;
 pub use events::{event_value, value_event};
 pub use kwargs::{text_at, value_at};
-pub use laws::{event_law, order_law};
+pub use laws::{call_payload_law, event_law, order_law, order_payload_law};
 pub use order::Order;
 pub use orders::{order_value, value_order};
 pub use word::{is_word, word_value};

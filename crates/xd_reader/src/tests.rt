@@ -54,6 +54,15 @@ fn source_of(alloc: Global, bytes: &[u8]) -> Result<MemSource, OutOfMemory> {
     Ok(MemSource::new(bytes, none(alloc), none(alloc)))
 }
 
+fn note(told: &mut Told, news: &LinkNews) -> Result<(), OutOfMemory> {
+    match news {
+        LinkNews::Message(message) => told.messages.push((message.kind, message.channel))?,
+        LinkNews::End(stop) => told.stops.push(*stop)?,
+        _ => {}
+    }
+    Ok(())
+}
+
 /// What a greeted reader of this source puts.
 fn read_here<R: Wait>(rt: &R, alloc: Global, source: MemSource) -> Result<Told, OutOfMemory> {
     let bell = Bell::new(alloc)?;
@@ -64,12 +73,8 @@ fn read_here<R: Wait>(rt: &R, alloc: Global, source: MemSource) -> Result<Told, 
         stops: Vec::new(alloc),
     };
     for _ in 0..8 {
-        match inbox.take() {
-            Some(LinkNews::Message(message)) => {
-                told.messages.push((message.kind, message.channel))?;
-            }
-            Some(LinkNews::End(stop)) => told.stops.push(stop)?,
-            _ => {}
+        if let Some(news) = inbox.take() {
+            note(&mut told, &news)?;
         }
     }
     Ok(told)
