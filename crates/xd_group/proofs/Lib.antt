@@ -1,0 +1,6 @@
+pub mod Keeping
+pub mod Known
+pub mod PageFacts
+pub mod PostFacts
+pub mod Running
+pub mod Sending
