@@ -302,23 +302,6 @@ kept_called suite mode taken calls all given workers pages e is none no_start ke
       new_said = λ u f. kept.new_said u (started_before u calls all e is f);
     }
 
--- news of a worker that has no link
-pub kept_unlinked : (suite : List ℕ) (mode : ModeKind) (taken : List (Option (List LinkNews))) (calls : List Entry) (given all : List News) (workers : List ℕ) (pages : List (Option Page)) (k : ℕ) (n : News) → n.what ≡ whats.NotStarted → all ≡ given ++ n ∷ [] → slice_get workers k ≡ Some n.worker → was_started n.worker calls ≡ true → (HasPage pages k → ⊥)
-    → Kept suite mode taken calls given workers pages → Kept suite mode taken calls all workers pages
-kept_unlinked suite mode taken calls given all workers pages k n not is at on none kept =
-    record {
-      takes = kept.takes;
-      count = kept.count;
-      told = kept.told;
-      said = λ i v x wi pi. kept.said i v x wi pi ∙ sym (said_same v given all n is (λ e. none (x, ap (slice_get pages) (sym (kept.apart i k v wi (at ∙ ap Some e))) ∙ pi)));
-      own = kept.own;
-      silent = λ i v wi pi. not_ready v given all n not is (kept.silent i v wi pi);
-      placed = kept.placed;
-      apart = kept.apart;
-      new_told = kept.new_told;
-      new_said = λ u f. said_same u given all n is (λ e. not_started u n.worker calls on f (sym e)) ∙ kept.new_said u f;
-    }
-
 either_worker : (u w : ℕ) → ((u ≡ w) ⊎ (u ≡ w → ⊥))
 either_worker u w = by (u == w) refl
   where
@@ -337,6 +320,23 @@ not_ready v given all n not is h = by (either_worker n.worker v)
     by : ((n.worker ≡ v) ⊎ (n.worker ≡ v → ⊥)) → list_any is_ready (said_by v all) ≡ false
     by (inl e) = ap (list_any is_ready) (said_more v given all n is e) ∙ (list_any-append is_ready (said_by v given) (n.what ∷ []) ∙ or_none _ _ h (ap (λ (x : What). list_any is_ready (x ∷ [])) not))
     by (inr f) = ap (list_any is_ready) (said_same v given all n is f) ∙ h
+
+-- news of a worker that has no link
+pub kept_unlinked : (suite : List ℕ) (mode : ModeKind) (taken : List (Option (List LinkNews))) (calls : List Entry) (given all : List News) (workers : List ℕ) (pages : List (Option Page)) (k : ℕ) (n : News) → n.what ≡ whats.NotStarted → all ≡ given ++ n ∷ [] → slice_get workers k ≡ Some n.worker → was_started n.worker calls ≡ true → (HasPage pages k → ⊥)
+    → Kept suite mode taken calls given workers pages → Kept suite mode taken calls all workers pages
+kept_unlinked suite mode taken calls given all workers pages k n not is at on none kept =
+    record {
+      takes = kept.takes;
+      count = kept.count;
+      told = kept.told;
+      said = λ i v x wi pi. kept.said i v x wi pi ∙ sym (said_same v given all n is (λ e. none (x, ap (slice_get pages) (sym (kept.apart i k v wi (at ∙ ap Some e))) ∙ pi)));
+      own = kept.own;
+      silent = λ i v wi pi. not_ready v given all n not is (kept.silent i v wi pi);
+      placed = kept.placed;
+      apart = kept.apart;
+      new_told = kept.new_told;
+      new_said = λ u f. said_same u given all n is (λ e. not_started u n.worker calls on f (sym e)) ∙ kept.new_said u f;
+    }
 
 told_new : (suite : List ℕ) (mode : ModeKind) (i : ℕ) (w v : ℕ) (b : Bool) (x : Page) (calls : List Entry) → v ≡ w → Some x ≡ page_opened suite mode b → orders_to w calls ≡ [] → x.told ≡ orders_to v calls
 told_new suite mode i w v false x calls same e z = absurd (cc e)

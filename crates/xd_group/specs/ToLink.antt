@@ -1,7 +1,8 @@
 -- What a controller writes to the link of a worker.
-use Rattle.std.specs.Prelude.{ℕ, Bool, true, false, List, [], ◌∷◌, ◌++◌, Option, Some, None, option_and_then, Result, Ok, Err}
+use Rattle.std.specs.Prelude.{ℕ, Bool, true, false, List, [], ◌∷◌, ◌++◌, Option, Some, None, option_and_then, Result, Ok, Err, codes}
 use Rattle.std.specs.List.{list_any, filter_map}
 use Rattle.xd_edge.specs.declared.mode.ModeKind.{ModeKind}
+use Rattle.xd_value.specs.Tree.{Pairs, text, pair, no_pairs}
 use Rattle.xd_value.specs.Canonical.{canonical, dumped}
 use Rattle.xd_value.specs.declared.writing.DumpFault.{DumpFault}
 use Rattle.xd_frame.specs.Message.{MessageView}
@@ -12,6 +13,10 @@ use Rattle.xd_gateway.specs.Orders.{order_of, order_tree}
 use Rattle.xd_gateway.specs.Payloads.{run_tests_call}
 use Rattle.xd_remote.specs.Calls.{exec_message, item_message, terminate_message}
 use Rattle.xd_report.specs.Names.{mode_text}
+
+-- the keyword arguments of `run_tests`: the path of the suite, and the mode's word
+abbrev pub call_kwargs : List ℕ → ModeKind → Pairs
+call_kwargs suite mode = pair (text (codes "suite")) (text suite) (pair (text (codes "dist")) (text (mode_text mode)) no_pairs)
 
 -- the call of `run_tests`, on channel 1
 abbrev pub call_message : List ℕ → ModeKind → MessageView
@@ -29,7 +34,7 @@ order_message e = option_and_then (λ o. payload_message (dumped (order_tree o))
 -- with this a worker is done with its link
 abbrev pub is_farewell : What → Bool
 is_farewell Finished = true
-is_farewell (Closed text) = true
+is_farewell (Closed why) = true
 is_farewell _ = false
 
 -- the worker said that it has finished, or closed its channel

@@ -106,13 +106,12 @@ impl<St: Starter, C: Crew<Reader<St::Src>>> GatewayHub<St, C> {
     /// of their workers.
     pub fn finish<R: Wait>(
         &mut self,
-        rt: &R,
-        alloc: Global,
+        _rt: &R,
+        _alloc: Global,
     ) -> Result<Vec<LinkEnd<St::Src, St::Snk>>, OutOfMemory>
         ensures runs { IfOk result (λ ends. All (λ l. ∥ LinkRun self.old.group.suite self.old.group.mode (said_by l.worker (noted self.old.group.diary.given)) (orders_to l.worker (noted self.old.group.diary.calls))
             (link_of (spring (St.Src.supply l.source) (St.Src.is_ended l.source) (St.Src.faults l.source)) (St.Snk.sunk l.sink) (St.Snk.faults l.sink)) ∥₁) ends.items) }
     {
-        let _unused = (rt, alloc);
         Err(OutOfMemory)
     }
 }

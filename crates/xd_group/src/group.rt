@@ -50,7 +50,8 @@ fn cut_at<N: Sink + Drop>(posts: &mut Vec<Option<Post<N>>>, at: usize, is_cut: b
 }
 
 impl<S: Source + Drop, N: Sink + Drop, C: Crew<Reader<S>>> Group<S, N, C> {
-    ghost use Rattle.std.specs.Prelude.{◌≡◌, ◌∷◌, ◌++◌, [], true, false, OnOk, IfOk, IfSome, IfNone};
+    ghost use Rattle.std.specs.Prelude.{◌≡◌, ◌≤◌, ◌∷◌, ◌++◌, [], ℕ, List, true, false, length, OnOk, IfOk, IfSome, IfNone};
+    ghost use Rattle.xd_edge.specs.declared.mode.ModeKind.{ModeKind};
     ghost use Rattle.xd_drive.specs.Calls.{is_order};
     ghost use Rattle.xd_drive.specs.Marks.{is_breach, may_tell};
     ghost use Rattle.xd_drive.specs.Performing.{was_started};
