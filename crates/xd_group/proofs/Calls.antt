@@ -1,5 +1,5 @@
 -- What is written to a worker: its call and its orders.
-use Rattle.std.proofs.Common.{◌≡◌, ◌≤◌, ℕ, zero, suc, List, [], ◌∷◌, Bool, true, false, ◌||◌, Option, Some, None, option_map, Result, Ok, Err, length, refl, sym, ◌∙◌, ap, subst, arith}
+use Rattle.std.proofs.Common.{◌≡◌, ◌≤◌, ℕ, List, [], ◌∷◌, Bool, true, false, ◌||◌, Option, Some, None, option_map, Result, Ok, Err, length, refl, sym, ◌∙◌, ap, subst, arith}
 use Rattle.std.specs.Prelude.{◌==◌, option_and_then, codes, if◌then◌else◌}
 use Rattle.std.specs.Str.{chars, encode_utf8_all}
 use Rattle.std.proofs.lemmas.Bool.{eq-eqb}
@@ -107,8 +107,8 @@ quiet_order None a h = refl
 quiet_order (Some m) a h = record { writes = quiet_writes a.broken (frame m) a.sunk h; count = quiet_count a.broken a.faults h; later = omega arith }
 
 says_order : (d : Result (List ℕ) DumpFault) (wanted : Wanted) (r : Result (Unit {0}) GatewayFault) (a b : Line) → wanted ≡ item_wanted 1 (sent_gives None d) → (r ≡ Err OutOfMemory → ⊥) → Says wanted a b r → WritesOrder (payload_message d) a b
-says_order (Ok p) wanted (Ok x) a b e n s = as_wanted wanted (item_message 1 p) s.0 a b e s.1 s.2.1
-says_order (Ok p) wanted (Err SendFault) a b e n s = as_wanted wanted (item_message 1 p) s.0 a b e s.1 s.2.1
+says_order (Ok p) wanted (Ok x) a b e n s = as_wanted wanted (item_message 1 p) s.0 a b e s.1 s.3
+says_order (Ok p) wanted (Err SendFault) a b e n s = as_wanted wanted (item_message 1 p) s.0 a b e s.1 s.3
 says_order (Ok p) wanted (Err (Channel f)) a b e n s = absurd (not_refused wanted (item_message 1 p) (Channel f) e s.0)
 says_order (Ok p) wanted (Err (Opening f)) a b e n s = absurd (not_refused wanted (item_message 1 p) (Opening f) e s.0)
 says_order (Ok p) wanted (Err OutOfMemory) a b e n s = absurd (n refl)
@@ -129,35 +129,6 @@ module _ {K : Type 0} where
           subst (λ (o : Option MessageView). WritesOrder o (line_of sunk faults g) (line_of sunk faults k)) (sym (order_is e v is))
             (says_order (dumped v) (say_wanted 1 v (side_of g)) r (line_of sunk faults g) (line_of sunk faults k) (ap (λ (x : _). item_wanted 1 (sent_gives x (dumped v))) can) not (says h))
 
-  -- whether a write failed is what the answer says
-  pub lost_ok : (sunk : K → Option Sunk) (faults : K → ℕ) (T : Type 0) (g k : Gateway K) (wanted : Side → Wanted) (x : T) → (is_broken g ≡ true → IsLost g k (Ok x)) → SaysOn sunk faults g k wanted (Ok x) → false ≡ is_broken k
-  lost_ok sunk faults T g k wanted x lost says = by (is_broken g) refl
-    where
-      by : (b : Bool) → is_broken g ≡ b → false ≡ is_broken k
-      by true h = absurd (let z = (lost h).0 in cc z)
-      by false h = sym (says h).2.0
-
-  pub lost_err : (sunk : K → Option Sunk) (faults : K → ℕ) (T : Type 0) (g k : Gateway K) (wanted : Side → Wanted) → (is_broken g ≡ true → IsLost {T = T} g k (Err SendFault)) → SaysOn {T = T} sunk faults g k wanted (Err SendFault) → true ≡ is_broken k
-  lost_err sunk faults T g k wanted lost says = by (is_broken g) refl
-    where
-      by : (b : Bool) → is_broken g ≡ b → true ≡ is_broken k
-      by true h = sym (ap (λ (x : Gateway K). is_broken x) (lost h).1 ∙ h)
-      by false h = sym (says h).2.0
-
-  pub lost_channel : (sunk : K → Option Sunk) (faults : K → ℕ) (T : Type 0) (g k : Gateway K) (wanted : Side → Wanted) (f : _) → (is_broken g ≡ true → IsLost {T = T} g k (Err (Channel f))) → SaysOn {T = T} sunk faults g k wanted (Err (Channel f)) → false ≡ is_broken k
-  lost_channel sunk faults T g k wanted f lost says = by (is_broken g) refl
-    where
-      by : (b : Bool) → is_broken g ≡ b → false ≡ is_broken k
-      by true h = absurd (let z = (lost h).0 in cc z)
-      by false h = sym (ap (λ (l : Line). l.broken) (says h).1 ∙ h)
-
-  pub lost_opening : (sunk : K → Option Sunk) (faults : K → ℕ) (T : Type 0) (g k : Gateway K) (wanted : Side → Wanted) (f : _) → (is_broken g ≡ true → IsLost {T = T} g k (Err (Opening f))) → SaysOn {T = T} sunk faults g k wanted (Err (Opening f)) → false ≡ is_broken k
-  lost_opening sunk faults T g k wanted f lost says = by (is_broken g) refl
-    where
-      by : (b : Bool) → is_broken g ≡ b → false ≡ is_broken k
-      by true h = absurd (let z = (lost h).0 in cc z)
-      by false h = sym (ap (λ (l : Line). l.broken) (says h).1 ∙ h)
-
 -- ---- keyword arguments
 
 pub kwargs_are : (items : List (List ℕ × Value)) (k l : List ℕ) (v w : Value) (suite : List ℕ) (m : ModeKind) → items ≡ (k, v) ∷ (l, w) ∷ [] → k ≡ chars (codes "suite") → view v ≡ text suite → l ≡ chars (codes "dist") → view w ≡ text (mode_text m) → kwargs_of items ≡ call_kwargs suite m
@@ -168,3 +139,10 @@ kwargs_are items k l v w suite m is a b c d =
       ∙ (ap (λ (x : Tree). pair (text (codes "suite")) x (pair (text l) (view w) no_pairs)) b
       ∙ (ap (λ (x : List ℕ). pair (text (codes "suite")) (text suite) (pair (text x) (view w) no_pairs)) second
       ∙ ap (λ (x : Tree). pair (text (codes "suite")) (text suite) (pair (text (codes "dist")) x no_pairs)) d)))
+
+-- a write that failed is no want of memory
+pub not_memory : (f : GatewayFault) (r : Result (Unit {0}) GatewayFault) → f ≡ SendFault → r ≡ Err f → r ≡ Err OutOfMemory → ⊥
+not_memory SendFault r e q z = let h = sym q ∙ z in cc h
+not_memory (Channel g) r e q z = absurd (cc e)
+not_memory (Opening g) r e q z = absurd (cc e)
+not_memory OutOfMemory r e q z = absurd (cc e)
