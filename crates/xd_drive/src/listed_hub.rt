@@ -127,6 +127,10 @@ impl ListedHub {
 }
 
 impl Hub for ListedHub {
+    type Made = ();
+
+    ghost made = { λ h. tt };
+
     ghost slots = { λ h. 32 };
 
     ghost marks = { λ h w. marks_by h.started h.calls.items h.given.items w };

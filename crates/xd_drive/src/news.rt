@@ -43,6 +43,7 @@ fn tell_entries<H: Hub, O: Sink>(
         (record { marks = H.marks hub.new; starts = H.starts hub.new; calls = H.calls hub.new; given = H.given hub.new; sunk = O.sunk out.new })) }
     ensures follows { OnOk result (Follows reporter.new (all_moved (no_one journal.now.settings) (take to journal.now.entries.items))) }
     ensures slots { H.slots hub.new ≡ H.slots hub.old }
+    ensures made { H.made hub.new ≡ H.made hub.old }
     ensures later { O.faults out.old ≤ O.faults out.new }
     ensures counted { IfOk result (λ shown. Counted shown (O.faults out.old) (O.faults out.new)) }
 {
@@ -82,6 +83,7 @@ fn tell_news<M: Mode, H: Hub, O: Sink>(
         (record { marks = H.marks hub.new; starts = H.starts hub.new; calls = H.calls hub.new; given = H.given hub.new; sunk = O.sunk out.new })) }
     ensures follows { OnOk result (Follows reporter.new (all_moved (no_one session.new.settings) session.new.entries)) }
     ensures slots { H.slots hub.new ≡ H.slots hub.old }
+    ensures made { H.made hub.new ≡ H.made hub.old }
     ensures later { O.faults out.old ≤ O.faults out.new }
     ensures counted { IfOk result (λ shown. Counted shown (O.faults out.old) (O.faults out.new)) }
 {
@@ -119,6 +121,7 @@ pub(crate) fn take_news<R: Wait, M: Mode, H: Hub, O: Sink>(
         (record { marks = H.marks hub.new; starts = H.starts hub.new; calls = H.calls hub.new; given = H.given hub.new; sunk = O.sunk out.new })) }
     ensures follows { OnOk result (Follows reporter.new (all_moved (no_one session.new.settings) session.new.entries)) }
     ensures slots { H.slots hub.new ≡ H.slots hub.old }
+    ensures made { H.made hub.new ≡ H.made hub.old }
     ensures later { O.faults out.old ≤ O.faults out.new }
     ensures counted { IfOk result (λ stopped. Counted (is_none stopped) (O.faults out.old) (O.faults out.new)) }
 {

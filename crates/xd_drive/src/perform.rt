@@ -14,6 +14,7 @@ fn perform_one<H: Hub>(alloc: Global, hub: &mut H, entry: &Entry) -> Result<(), 
     ensures marks { OnOk result ((w : ℕ) → H.marks hub.new w ≡ after_entry entry.now (H.marks hub.old) w) }
     ensures given { OnOk result (H.given hub.new ≡ H.given hub.old) }
     ensures slots { H.slots hub.new ≡ H.slots hub.old }
+    ensures made { H.made hub.new ≡ H.made hub.old }
 {
     match entry {
         Entry::Start { worker, slot } => hub.start(alloc, *worker, *slot),
@@ -40,6 +41,7 @@ pub(crate) fn perform<H: Hub>(
     ensures marks { OnOk result ((w : ℕ) → H.marks hub.new w ≡ after_all entries.now (H.marks hub.old) w) }
     ensures given { OnOk result (H.given hub.new ≡ H.given hub.old) }
     ensures slots { H.slots hub.new ≡ H.slots hub.old }
+    ensures made { H.made hub.new ≡ H.made hub.old }
 {
     for entry in entries {
         perform_one(alloc, hub, entry)?;
@@ -83,6 +85,7 @@ fn kill_one<H: Hub>(
     ensures marks { OnOk result ((w : ℕ) → H.marks hub.new w ≡ after_all (kills_of_started done.now (entry.now ∷ [])) (H.marks hub.old) w) }
     ensures given { OnOk result (H.given hub.new ≡ H.given hub.old) }
     ensures slots { H.slots hub.new ≡ H.slots hub.old }
+    ensures made { H.made hub.new ≡ H.made hub.old }
 {
     if is_kill_of_started(done, entry) {
         perform_one(alloc, hub, entry)
@@ -101,6 +104,7 @@ pub(crate) fn kill_started<H: Hub>(
     requires { all_possible (H.slots hub.old) (H.marks hub.old) (kills_of_started done.now entries.now) ≡ true }
     ensures performs { OnOk result (Performs (kills_of_started done.now entries.now) (H.starts hub.old) (H.starts hub.new) (H.calls hub.old) (H.calls hub.new)) }
     ensures given { OnOk result (H.given hub.new ≡ H.given hub.old) }
+    ensures made { H.made hub.new ≡ H.made hub.old }
 {
     for entry in entries {
         kill_one(alloc, hub, done, entry)?;

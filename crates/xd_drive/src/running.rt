@@ -55,6 +55,7 @@ fn run<R: Wait, M: Mode, H: Hub, O: Sink>(
         (record { marks = H.marks hub.old; starts = H.starts hub.old; calls = H.calls hub.old; given = H.given hub.old; sunk = O.sunk out.old })
         (record { marks = H.marks hub.new; starts = H.starts hub.new; calls = H.calls hub.new; given = H.given hub.new; sunk = O.sunk out.new })) }
     ensures settings { OnOk result (session.new.settings ≡ session.old.settings) }
+    ensures made { H.made hub.new ≡ H.made hub.old }
     ensures later { O.faults out.old ≤ O.faults out.new }
     ensures counted { IfOk result (λ stopped. Counted (is_none stopped) (O.faults out.old) (O.faults out.new)) }
 {
@@ -85,6 +86,8 @@ fn run<R: Wait, M: Mode, H: Hub, O: Sink>(
 /// at most 67,108,864 bytes of all output. Its reports name each collected test at most once and nothing else, and each once
 /// where the run was completed; the line of each report and the block of each failed one give the id of its test.
 ///
+/// The hub is made of what it was made of before.
+///
 /// Where memory is refused it returns as it stands: the workers that the hub started are left to the hub's owner to end.
 pub fn drive<R: Wait, M: Mode, H: Hub, O: Sink>(
     rt: &R,
@@ -106,6 +109,7 @@ pub fn drive<R: Wait, M: Mode, H: Hub, O: Sink>(
     ensures out_fault { IfOk result (λ j. is_out_fault (stop_of j) ≡ true → Rose (O.faults out.old) (O.faults out.new)) }
     ensures still { IfOk result (λ j. is_out_fault (stop_of j) ≡ false → O.faults out.new ≡ O.faults out.old) }
     ensures later { O.faults out.old ≤ O.faults out.new }
+    ensures made { H.made hub.new ≡ H.made hub.old }
 {
     let stopped = run(rt, alloc, &mut session, hub, out)?;
     let Some(done) = stopped else {

@@ -2,6 +2,7 @@
 use Rattle.std.proofs.Common.{◌≡◌, ℕ, ◌≤◌, ◌++◌, List, length, take, Bool, true, false, not, Option, Some, None, option_map, Result, Ok, Err, refl, sym, ap, subst, ◌∙◌, arith}
 use Rattle.std.specs.Prelude.{OnErr, OnOk, is_err, is_ok}
 use Rattle.std.proofs.lemmas.List.{take_all}
+use Rattle.xd_edge.specs.Faults.{Rose}
 use Rattle.xd_edge.specs.Faults.{Counted}
 use Rattle.xd_edge.specs.Sink.{Sunk, Printed, PrintedPart, TookPart, with_bytes, with_close, with_flush}
 use Rattle.xd_frame.specs.Writing.{CountBehind, WritesMore}

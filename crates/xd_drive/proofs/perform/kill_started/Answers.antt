@@ -15,4 +15,5 @@ loop-entry-preserved g c = record {
   performs = kept-performs (is_kill_of_started c.args.done.now) c.args.entries.now c.loop-entry.entry-index c.entry-item.result c.loop-entry-test.true c.entry-item.is _ _ _ _ _ _ c.loop-entry.invariant.performs c.in_ok-kill_one.ensures.performs;
   given = c.in_ok-kill_one.ensures.given ∙ c.loop-entry.invariant.given;
   slots = c.kill_one.ensures.slots ∙ c.loop-entry.invariant.slots;
+  made = c.kill_one.ensures.made ∙ c.loop-entry.invariant.made;
 }

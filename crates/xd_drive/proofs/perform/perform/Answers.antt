@@ -15,4 +15,5 @@ loop-entry-preserved g c = record {
   performs = performs-next c.args.entries.now c.loop-entry.entry-index c.entry-item.result c.loop-entry-test.true c.entry-item.is _ _ _ _ _ _ c.loop-entry.invariant.performs c.in_ok-perform_one.ensures.performs;
   given = c.in_ok-perform_one.ensures.given ∙ c.loop-entry.invariant.given;
   slots = c.perform_one.ensures.slots ∙ c.loop-entry.invariant.slots;
+  made = c.perform_one.ensures.made ∙ c.loop-entry.invariant.made;
 }

@@ -8,4 +8,5 @@ invariant-loop-entry g l = record {
   performs : Performs (take l.entry-index l.entries) (g.H.Hub.starts l.initial.hub) (g.H.Hub.starts l.hub) (g.H.Hub.calls l.initial.hub) (g.H.Hub.calls l.hub);
   given : g.H.Hub.given l.hub ≡ g.H.Hub.given l.initial.hub;
   slots : g.H.Hub.slots l.hub ≡ g.H.Hub.slots l.initial.hub;
+  made : g.H.Hub.made l.hub ≡ g.H.Hub.made l.initial.hub;
 }

@@ -20,6 +20,7 @@ loop-init g c =
       settings = refl;
       reports = follows-same _ _ _ _ _ c.journal-2.ensures.settings c.journal-2.ensures.entries c.in_ok-reporter.ensures;
       slots = c.perform.ensures.slots;
+      made = c.perform.ensures.made;
       someone = someone-first c.args.session.now _ _ c.requires.proper c.requires.begins first;
       still = refl;
     }
@@ -44,6 +45,7 @@ loop-preserved g c =
       reports = c.in_ok-stopped-2.ensures.follows;
       settings = none.settings ∙ c.loop.invariant.settings;
       slots = c.take_news.ensures.slots ∙ c.loop.invariant.slots;
+      made = c.take_news.ensures.made ∙ c.loop.invariant.made;
       someone = someone-still t.0 c.loop.session _ _ _ none c.loop.invariant.someone;
       still = c.in_ok-stopped-2.ensures.counted.still (ap is_none (none-of c.in_ok-stopped-2.stopped c.in_default.not-Some)) ∙ c.loop.invariant.still;
     }

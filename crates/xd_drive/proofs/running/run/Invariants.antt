@@ -13,6 +13,7 @@ invariant-loop g l = record {
   reports : Follows l.reporter (all_moved (no_one l.session.settings) l.session.entries);
   settings : l.session.settings ≡ l.fn.session.settings;
   slots : g.H.Hub.slots l.hub ≡ g.H.Hub.slots l.fn.hub;
+  made : g.H.Hub.made l.hub ≡ g.H.Hub.made l.fn.hub;
   someone : (w : ℕ) × ((g.H.Hub.marks l.hub w).started ≡ true);
   still : g.O.Sink.faults l.out ≡ g.O.Sink.faults l.fn.out;
 }

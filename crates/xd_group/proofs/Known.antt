@@ -1,0 +1,30 @@
+-- Workers that were started stay so.
+use Rattle.std.proofs.Common.{◌≡◌, ℕ, List, [], ◌∷◌, ◌++◌, Bool, true, false, ◌||◌, All, refl, ap, sym, ◌∙◌, arith}
+use Rattle.std.specs.Prelude.{◌==◌}
+use Rattle.std.proofs.lemmas.Bool.Decides.{nat_tests}
+use Rattle.std.proofs.lemmas.List.Elements.{All-push, All-same, All-weaker}
+use Rattle.std.proofs.lemmas.List.Folds.{list_any-append}
+use Rattle.std.specs.List.{list_any}
+use Rattle.xd_journal.specs.declared.entry.Entry.{Entry}
+use Rattle.xd_journal.specs.declared.entry.Entry.TheVariants.{Start}
+use Rattle.xd_drive.specs.Performing.{is_start_of, was_started}
+use Rattle.xd_group.specs.Tells.{IsStarted}
+
+pub started_more : (w : ℕ) (calls after : List Entry) (e : Entry) → after ≡ calls ++ e ∷ [] → was_started w calls ≡ true → was_started w after ≡ true
+started_more w calls after e is h = ap (was_started w) is ∙ (list_any-append (is_start_of w) calls (e ∷ []) ∙ ap (λ (b : Bool). b || list_any (is_start_of w) (e ∷ [])) h)
+
+pub started_here : (w slot : ℕ) (calls after : List Entry) → after ≡ calls ++ Start w slot ∷ [] → was_started w after ≡ true
+started_here w slot calls after is = ap (was_started w) is ∙ (list_any-append (is_start_of w) calls (Start w slot ∷ []) ∙ (ap (λ (b : Bool). was_started w calls || b) (same w) ∙ or_true (was_started w calls)))
+  where
+    same : (v : ℕ) → ((v == v) || false) ≡ true
+    same v = grind (arith, nat_tests)
+
+    or_true : (b : Bool) → (b || true) ≡ true
+    or_true true = refl
+    or_true false = refl
+
+pub known_more : (calls after : List Entry) (e : Entry) (ws : List ℕ) → after ≡ calls ++ e ∷ [] → All (λ w. IsStarted calls w) ws → All (λ w. IsStarted after w) ws
+known_more calls after e ws is h = All-weaker (λ w. IsStarted calls w) (λ w. IsStarted after w) (λ w p. started_more w calls after e is p) ws h
+
+pub known_push : (calls : List Entry) (ws all : List ℕ) (w : ℕ) → all ≡ ws ++ w ∷ [] → All (λ v. IsStarted calls v) ws → was_started w calls ≡ true → All (λ v. IsStarted calls v) all
+known_push calls ws all w is h p = All-same (λ v. IsStarted calls v) all (ws ++ w ∷ []) is (All-push (λ v. IsStarted calls v) ws w h p)

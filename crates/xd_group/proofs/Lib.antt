@@ -1,0 +1,7 @@
+pub mod Calls
+pub mod Keeping
+pub mod Known
+pub mod PageFacts
+pub mod PostFacts
+pub mod Running
+pub mod Sending

@@ -1,0 +1,303 @@
+-- One link, where something was taken of it, told to it or said of it.
+use Rattle.std.proofs.Common.{◌≡◌, ℕ, List, [], ◌∷◌, ◌++◌, Bool, true, false, ◌||◌, Option, Some, None, map, option_to_list, refl, sym, ◌∙◌, ap, subst, append_assoc, append-nil, inl, inr}
+use Rattle.std.specs.Prelude.{◌⊎◌, IfSome, filter}
+use Rattle.std.specs.List.{list_any, filter_map}
+use Rattle.std.proofs.lemmas.List.{map-append}
+use Rattle.std.proofs.lemmas.List.Elements.{filter-append, filter_map-append}
+use Rattle.std.proofs.lemmas.List.Folds.{list_any-append}
+use Rattle.xd_edge.specs.declared.mode.ModeKind.{ModeKind}
+use Rattle.xd_edge.specs.Sink.{Sunk}
+use Rattle.xd_frame.specs.Message.{MessageView, frame}
+use Rattle.xd_frame.specs.Writing.{CountBehind}
+use Rattle.xd_journal.specs.declared.entry.Cause.{Cause}
+use Rattle.xd_journal.specs.declared.entry.Entry.{Entry}
+use Rattle.xd_journal.specs.declared.news.What.{What}
+use Rattle.xd_journal.specs.declared.news.What.TheVariants as what
+use Rattle.xd_link.specs.FreshLink.{unused}
+use Rattle.xd_reader.specs.declared.news.LinkNews.{LinkNews}
+use Rattle.xd_reader.specs.declared.news.LinkNews.TheVariants.{Message, End}
+use Rattle.xd_reader.specs.declared.news.LinkStop.{LinkStop}
+use Rattle.xd_reader.specs.declared.news.LinkStop.TheVariants as stop
+use Rattle.xd_drive.specs.Marks.{is_breach, is_end}
+use Rattle.xd_factory.specs.Table.{send_refusal}
+use Rattle.xd_factory.specs.View.{slot_of}
+use Rattle.xd_remote.specs.Calls.{terminate_message}
+use Rattle.xd_remote.specs.Line.{Closes, Line, Prints}
+use Rattle.xd_remote.specs.News.{Heard, all_messages, all_news}
+use Rattle.xd_remote.specs.Stands.{HearsMore, IsOfMessage, StandsFor, heard_as}
+use Rattle.xd_remote.specs.Told.{has_last, is_last}
+use Rattle.xd_remote.specs.View.{side_of}
+use Rattle.xd_remote.specs.declared.gateway.Gateway.{Gateway}
+use Rattle.xd_remote.proofs.Telling.{can_be_told}
+use Rattle.xd_group.specs.Heard.{HeardSo, IsCause, Tells, is_of_link, of_link}
+use Rattle.xd_group.specs.Orders.{WritesOrder}
+use Rattle.xd_group.specs.Pages.{is_nothing}
+use Rattle.xd_group.specs.Sent.{SentAs}
+use Rattle.xd_group.specs.ToLink.{call_message, ending, has_left, is_farewell, order_message, to_link}
+use Rattle.xd_group.proofs.Sending.{sent_last, sent_more, sent_none}
+
+-- ---- what was told
+
+open_link : (suite : List ℕ) (mode : ModeKind) (told : List Entry) (said : List What) → has_left said ≡ false → to_link suite mode told said ≡ call_message suite mode ∷ filter_map order_message told
+open_link suite mode told said e =
+    ap (λ (b : Bool). call_message suite mode ∷ (filter_map order_message told ++ ending b)) e ∙ ap (λ (l : List MessageView). call_message suite mode ∷ l) (append-nil (filter_map order_message told))
+
+told_open : (suite : List ℕ) (mode : ModeKind) (told all : List Entry) (e : Entry) → all ≡ told ++ e ∷ [] → call_message suite mode ∷ filter_map order_message all ≡ call_message suite mode ∷ (filter_map order_message told ++ filter_map order_message (e ∷ []))
+told_open suite mode told all e is = ap (λ (l : List Entry). call_message suite mode ∷ filter_map order_message l) is ∙ ap (λ (l : List MessageView). call_message suite mode ∷ l) (filter_map-append order_message told (e ∷ []))
+
+one_order : (e : Entry) (m : MessageView) → order_message e ≡ Some m → filter_map order_message (e ∷ []) ≡ m ∷ []
+one_order e m h = rw h refl
+
+no_order : (e : Entry) → order_message e ≡ None → filter_map order_message (e ∷ []) ≡ []
+no_order e h = rw h refl
+
+told_more : (suite : List ℕ) (mode : ModeKind) (told all : List Entry) (e : Entry) (said : List What) (m : MessageView) → all ≡ told ++ e ∷ [] → has_left said ≡ false → order_message e ≡ Some m → to_link suite mode all said ≡ to_link suite mode told said ++ m ∷ []
+told_more suite mode told all e said m is runs has =
+    open_link suite mode all said runs
+    ∙ (told_open suite mode told all e is
+    ∙ (ap (λ (l : List MessageView). call_message suite mode ∷ (filter_map order_message told ++ l)) (one_order e m has)
+    ∙ ap (λ (l : List MessageView). l ++ m ∷ []) (sym (open_link suite mode told said runs))))
+
+told_same : (suite : List ℕ) (mode : ModeKind) (told all : List Entry) (e : Entry) (said : List What) → all ≡ told ++ e ∷ [] → has_left said ≡ false → order_message e ≡ None → to_link suite mode all said ≡ to_link suite mode told said
+told_same suite mode told all e said is runs has =
+    open_link suite mode all said runs
+    ∙ (told_open suite mode told all e is
+    ∙ (ap (λ (l : List MessageView). call_message suite mode ∷ (filter_map order_message told ++ l)) (no_order e has)
+    ∙ (ap (λ (l : List MessageView). call_message suite mode ∷ l) (append-nil (filter_map order_message told))
+    ∙ sym (open_link suite mode told said runs))))
+
+sent_by_order : (o : Option MessageView) (a b : Line) (closed : Bool) (suite : List ℕ) (mode : ModeKind) (told all : List Entry) (e : Entry) (said : List What) → all ≡ told ++ e ∷ [] → has_left said ≡ false → order_message e ≡ o
+    → SentAs a.broken closed a.sunk a.faults (to_link suite mode told said) → WritesOrder o a b → SentAs b.broken closed b.sunk b.faults (to_link suite mode all said)
+sent_by_order None a b closed suite mode told all e said is runs has sent w =
+    subst (λ (l : List MessageView). SentAs b.broken closed b.sunk b.faults l) (sym (told_same suite mode told all e said is runs has)) (subst (λ (x : Line). SentAs x.broken closed x.sunk x.faults (to_link suite mode told said)) (sym w) sent)
+sent_by_order (Some m) a b closed suite mode told all e said is runs has sent w =
+    sent_more a.broken b.broken closed a.sunk b.sunk a.faults b.faults (to_link suite mode told said) (to_link suite mode all said) m (told_more suite mode told all e said m is runs has) sent w.writes w.count w.later
+
+pub sent_order : (l0 l1 closed : Bool) (a b : Line) (suite : List ℕ) (mode : ModeKind) (told all : List Entry) (e : Entry) (said : List What) → l0 ≡ a.broken → l1 ≡ b.broken → all ≡ told ++ e ∷ [] → has_left said ≡ false
+    → SentAs l0 closed a.sunk a.faults (to_link suite mode told said) → WritesOrder (order_message e) a b → SentAs l1 closed b.sunk b.faults (to_link suite mode all said)
+sent_order l0 l1 closed a b suite mode told all e said x y is runs sent w =
+    subst (λ (l : Bool). SentAs l closed b.sunk b.faults (to_link suite mode all said)) (sym y)
+      (sent_by_order (order_message e) a b closed suite mode told all e said is runs refl (subst (λ (l : Bool). SentAs l closed a.sunk a.faults (to_link suite mode told said)) x sent) w)
+
+-- the call of the worker
+pub sent_call : (l1 : Bool) (a b : Line) (suite : List ℕ) (mode : ModeKind) (told : List Entry) (said : List What) → l1 ≡ b.broken → a.broken ≡ false → IfSome a.sunk (λ s. s ≡ unused) → told ≡ [] → said ≡ [] → Prints (frame (call_message suite mode)) a b
+    → SentAs l1 false b.sunk b.faults (to_link suite mode told said)
+sent_call l1 a b suite mode told said y z fresh nothing none w =
+    let m = call_message suite mode in
+    let all : to_link suite mode told said ≡ [] ++ m ∷ [] = ap (λ (l : List Entry). to_link suite mode l said) nothing ∙ ap (λ (l : List What). to_link suite mode [] l) none in
+    subst (λ (l : Bool). SentAs l false b.sunk b.faults (to_link suite mode told said)) (sym y)
+      (sent_more a.broken b.broken false a.sunk b.sunk a.faults b.faults [] (to_link suite mode told said) m all (subst (λ (l : Bool). SentAs l false a.sunk a.faults []) (sym z) (sent_none a.sunk a.faults fresh)) w.writes w.count w.later)
+
+-- ---- the last news
+
+or_false : (b : Bool) → (b || false) ≡ b
+or_false true = refl
+or_false false = refl
+
+or_true : (b : Bool) → (b || true) ≡ true
+or_true true = refl
+or_true false = refl
+
+pub left_kept : (said more : List What) (closed : Bool) → closed ≡ has_left said → (closed ≡ true) ⊎ (has_left more ≡ false) → closed ≡ has_left (said ++ more)
+left_kept said more closed e (inl t) = t ∙ sym (list_any-append is_farewell said more ∙ ap (λ (b : Bool). b || has_left more) (sym e ∙ t))
+left_kept said more closed e (inr f) = e ∙ sym (list_any-append is_farewell said more ∙ (ap (λ (b : Bool). has_left said || b) f ∙ or_false (has_left said)))
+
+pub left_now : (said more : List What) → has_left more ≡ true → true ≡ has_left (said ++ more)
+left_now said more t = sym (list_any-append is_farewell said more ∙ (ap (λ (b : Bool). has_left said || b) t ∙ or_true (has_left said)))
+
+pub same_link : (suite : List ℕ) (mode : ModeKind) (told : List Entry) (said more : List What) (closed : Bool) → closed ≡ has_left said → (closed ≡ true) ⊎ (has_left more ≡ false) → to_link suite mode told said ≡ to_link suite mode told (said ++ more)
+same_link suite mode told said more closed e why = ap (λ (b : Bool). call_message suite mode ∷ (filter_map order_message told ++ ending b)) (sym e ∙ left_kept said more closed e why)
+
+link_ended : (suite : List ℕ) (mode : ModeKind) (told : List Entry) (said more : List What) → has_left said ≡ false → has_left more ≡ true → to_link suite mode told (said ++ more) ≡ to_link suite mode told said ++ terminate_message ∷ []
+link_ended suite mode told said more runs t =
+    ap (λ (b : Bool). call_message suite mode ∷ (filter_map order_message told ++ ending b)) (sym (left_now said more t)) ∙ ap (λ (l : List MessageView). l ++ terminate_message ∷ []) (sym (open_link suite mode told said runs))
+
+pub sent_ended : (l0 l1 closed : Bool) (a b : Line) (suite : List ℕ) (mode : ModeKind) (told : List Entry) (said more : List What) → l0 ≡ a.broken → l1 ≡ b.broken → closed ≡ has_left said → closed ≡ false → has_left more ≡ true
+    → SentAs l0 closed a.sunk a.faults (to_link suite mode told said) → Closes (frame terminate_message) a b → SentAs l1 true b.sunk b.faults (to_link suite mode told (said ++ more))
+sent_ended l0 l1 closed a b suite mode told said more x y e runs t sent w =
+    subst (λ (l : Bool). SentAs l true b.sunk b.faults (to_link suite mode told (said ++ more))) (sym y)
+      (sent_last a.broken b.broken closed a.sunk b.sunk a.faults b.faults (to_link suite mode told said) (to_link suite mode told (said ++ more)) terminate_message (link_ended suite mode told said more (sym e ∙ runs) t)
+        (subst (λ (l : Bool). SentAs l closed a.sunk a.faults (to_link suite mode told said)) x sent) w.closes w.count w.later)
+
+pub sent_same : (l0 closed : Bool) (sunk : Option Sunk) (faults : ℕ) (suite : List ℕ) (mode : ModeKind) (told : List Entry) (said more : List What) → closed ≡ has_left said → (closed ≡ true) ⊎ (has_left more ≡ false)
+    → SentAs l0 closed sunk faults (to_link suite mode told said) → SentAs l0 closed sunk faults (to_link suite mode told (said ++ more))
+sent_same l0 closed sunk faults suite mode told said more e why sent = subst (λ (l : List MessageView). SentAs l0 closed sunk faults l) (same_link suite mode told said more closed e why) sent
+
+-- ---- a write that failed stays so
+
+pub order_keeps : (o : Option MessageView) (l0 l1 : Bool) (a b : Line) → l0 ≡ a.broken → l1 ≡ b.broken → WritesOrder o a b → l0 ≡ true → l1 ≡ true
+order_keeps None l0 l1 a b x y w e = y ∙ ap (λ (l : Line). l.broken) w ∙ sym x ∙ e
+order_keeps (Some m) l0 l1 a b x y w e = y ∙ by a.broken b.broken (sym x ∙ e) w.count
+  where
+    by : (p q : Bool) → p ≡ true → CountBehind p q a.faults b.faults → q ≡ true
+    by true q t c = c.0
+    by false q t c = absurd (cc t)
+
+pub close_keeps : (bytes : List ℕ) (l0 l1 : Bool) (a b : Line) → l0 ≡ a.broken → l1 ≡ b.broken → Closes bytes a b → l0 ≡ true → l1 ≡ true
+close_keeps bytes l0 l1 a b x y w e = y ∙ by a.broken b.broken (sym x ∙ e) w.count
+  where
+    by : (p q : Bool) → p ≡ true → CountBehind p q a.faults b.faults → q ≡ true
+    by true q t c = c.0
+    by false q t c = absurd (cc t)
+
+-- ---- what was said
+
+cause_kept : (why : LinkStop) (b0 b1 : Bool) (c : Cause) → (b0 ≡ true → b1 ≡ true) → IsCause why b0 c → IsCause why b1 c
+cause_kept why b0 b1 c more (inl e) = inl e
+cause_kept why b0 b1 c more (inr p) = inr (p.0, more p.1)
+
+tells_kept : (ended : Bool) (h : List Heard) (b0 b1 : Bool) (taken : List LinkNews) (said : List What) → (b0 ≡ true → b1 ≡ true) → Tells ended h b0 taken said → Tells ended h b1 taken said
+tells_kept false h b0 b1 taken said more t = t
+tells_kept true h b0 b1 taken said more t = record { why = t.why; cause = t.cause; later = t.later; is_cause = cause_kept t.why b0 b1 t.cause more t.is_cause; no_want = t.no_want; taken_are = t.taken_are; said_are = t.said_are }
+
+of_more : (taken : List LinkNews) (item : LinkNews) → is_of_link item ≡ true → of_link (taken ++ item ∷ []) ≡ of_link taken ++ item ∷ []
+of_more taken item h = filter-append is_of_link taken (item ∷ []) ∙ ap (λ (l : List LinkNews). of_link taken ++ l) (rw h refl)
+
+of_same : (taken : List LinkNews) (item : LinkNews) → is_of_link item ≡ false → of_link (taken ++ item ∷ []) ≡ of_link taken
+of_same taken item h = filter-append is_of_link taken (item ∷ []) ∙ (ap (λ (l : List LinkNews). of_link taken ++ l) (rw h refl) ∙ append-nil (of_link taken))
+
+past_end : (taken : List LinkNews) (item : LinkNews) (ms : List LinkNews) (later : List LinkNews) (why : LinkStop) → of_link taken ≡ ms ++ End why ∷ later → (more : List LinkNews) × (of_link (taken ++ item ∷ []) ≡ ms ++ End why ∷ more)
+past_end taken item ms later why e =
+    (later ++ of_link (item ∷ []), filter-append is_of_link taken (item ∷ []) ∙ (ap (λ (l : List LinkNews). l ++ of_link (item ∷ [])) e ∙ append_assoc ms (End why ∷ later) (of_link (item ∷ []))))
+
+-- what waits for nothing stands in either order
+pub on_time : (said late more : List What) → is_nothing late ≡ true → (said ++ late) ++ more ≡ (said ++ more) ++ late
+on_time said [] more h = ap (λ (l : List What). l ++ more) (append-nil said) ∙ sym (append-nil (said ++ more))
+on_time said (x ∷ late) more h = absurd (cc h)
+
+not_last : (x : What) → is_end x ≡ false → is_last x ≡ false
+not_last what.Ready h = refl
+not_last (what.Collected ids) h = refl
+not_last (what.LogStart n log) h = refl
+not_last (what.Piece log b) h = refl
+not_last (what.LogClosed log) h = refl
+not_last (what.Done n outcome ms) h = refl
+not_last (what.Back ns) h = refl
+not_last what.Finished h = absurd (cc h)
+not_last (what.Closed text) h = absurd (cc h)
+not_last what.Stray h = absurd (cc h)
+not_last (what.Gone cause) h = absurd (cc h)
+not_last what.NotStarted h = absurd (cc h)
+
+not_farewell : (x : What) → is_end x ≡ false → is_farewell x ≡ false
+not_farewell what.Ready h = refl
+not_farewell (what.Collected ids) h = refl
+not_farewell (what.LogStart n log) h = refl
+not_farewell (what.Piece log b) h = refl
+not_farewell (what.LogClosed log) h = refl
+not_farewell (what.Done n outcome ms) h = refl
+not_farewell (what.Back ns) h = refl
+not_farewell what.Finished h = absurd (cc h)
+not_farewell (what.Closed text) h = absurd (cc h)
+not_farewell what.Stray h = absurd (cc h)
+not_farewell (what.Gone cause) h = absurd (cc h)
+not_farewell what.NotStarted h = absurd (cc h)
+
+or_first : (a b : Bool) → (a || b) ≡ false → a ≡ false
+or_first true b h = absurd (cc h)
+or_first false b h = refl
+
+or_second : (a b : Bool) → (a || b) ≡ false → b ≡ false
+or_second true b h = absurd (cc h)
+or_second false b h = h
+
+none_of : (p q : What → Bool) → ((x : What) → p x ≡ false → q x ≡ false) → (xs : List What) → list_any p xs ≡ false → list_any q xs ≡ false
+none_of p q f [] h = refl
+none_of p q f (x ∷ xs) h = rw (f x (or_first (p x) (list_any p xs) h)) (none_of p q f xs (or_second (p x) (list_any p xs) h))
+
+pub not_left : (said : List What) → list_any is_end said ≡ false → has_left said ≡ false
+not_left said h = none_of is_end is_farewell not_farewell said h
+
+said_alone : (said late : List What) → is_nothing late ≡ true → said ++ late ≡ said
+said_alone said [] h = append-nil said
+said_alone said (x ∷ late) h = absurd (cc h)
+
+ends_here : (news : List What) (c : Cause) → list_any is_end (news ++ what.Gone c ∷ []) ≡ true
+ends_here news c = list_any-append is_end news (what.Gone c ∷ []) ∙ or_true (list_any is_end news)
+
+pub of_message : (o : Option What) → IsOfMessage o → IfSome o (λ x. is_breach x ≡ false)
+of_message None k = tt
+of_message (Some what.Ready) k = refl
+of_message (Some (what.Collected ids)) k = refl
+of_message (Some (what.LogStart n log)) k = refl
+of_message (Some (what.Piece log b)) k = refl
+of_message (Some (what.LogClosed log)) k = refl
+of_message (Some (what.Done n outcome ms)) k = refl
+of_message (Some (what.Back ns)) k = refl
+of_message (Some what.Finished) k = refl
+of_message (Some (what.Closed text)) k = refl
+of_message (Some what.Stray) k = refl
+of_message (Some (what.Gone cause)) k = absurd k
+of_message (Some what.NotStarted) k = absurd k
+
+module _ {K : Type 0} where
+  pub heard_kept : (g k : Gateway K) (ended b0 b1 : Bool) (taken : List LinkNews) (said : List What) → ((h : List Heard) → StandsFor g h → StandsFor k h) → (b0 ≡ true → b1 ≡ true) → HeardSo g ended b0 taken said → HeardSo k ended b1 taken said
+  heard_kept g k ended b0 b1 taken said f more s = record { heard = s.heard; stands = f s.heard s.stands; tells = tells_kept ended s.heard b0 b1 taken said more s.tells }
+
+  pub heard_none : (g : Gateway K) (b : Bool) (taken : List LinkNews) (said late : List What) → StandsFor g [] → taken ≡ [] → said ≡ [] → late ≡ [] → HeardSo g false b taken (said ++ late)
+  heard_none g b taken said late f nothing none no_late = record { heard = []; stands = f; tells = record { taken_are = ap of_link nothing; said_are = ap (λ (l : List What). l ++ late) none ∙ no_late } }
+
+  -- after its end nothing is said of a link
+  pub heard_past : (g : Gateway K) (ended b : Bool) (taken : List LinkNews) (item : LinkNews) (said : List What) → ended ≡ true → HeardSo g ended b taken said → HeardSo g true b (taken ++ item ∷ []) (said ++ [])
+  heard_past g true b taken item said e s =
+      let t = s.tells in
+      let more = past_end taken item (map Message (all_messages s.heard)) t.later t.why t.taken_are in
+      record {
+        heard = s.heard;
+        stands = s.stands;
+        tells = record { why = t.why; cause = t.cause; later = more.0; is_cause = t.is_cause; no_want = t.no_want; taken_are = more.1; said_are = append-nil said ∙ t.said_are };
+      }
+  heard_past g false b taken item said e s = absurd (cc e)
+
+  pub heard_message : (g k : Gateway K) (ended b : Bool) (taken : List LinkNews) (m : MessageView) (item : LinkNews) (said : List What) (news : Option What) → ended ≡ false → item ≡ Message m → ((h : List Heard) → StandsFor g h → HearsMore k h m news)
+      → HeardSo g ended b taken said → HeardSo k false b (taken ++ item ∷ []) (said ++ option_to_list news)
+  heard_message g k true b taken m item said news e is hears s = absurd (cc e)
+  heard_message g k false b taken m item said news e is hears s =
+      let t = s.tells in
+      let more = hears s.heard s.stands in
+      record {
+        heard = heard_as m more.came ∷ s.heard;
+        stands = more.stands;
+        tells =
+          record {
+            taken_are = ap (λ (x : LinkNews). of_link (taken ++ x ∷ [])) is ∙ (of_more taken (Message m) refl ∙ (ap (λ (l : List LinkNews). l ++ Message m ∷ []) t.taken_are ∙ sym (map-append Message (all_messages s.heard) (m ∷ []))));
+            said_are = ap (λ (l : List What). l ++ option_to_list news) t.said_are ∙ ap (λ (o : Option What). all_news s.heard ++ option_to_list o) more.news_are;
+          };
+      }
+
+  pub heard_end : (g : Gateway K) (ended b : Bool) (taken : List LinkNews) (why : LinkStop) (item : LinkNews) (said : List What) (c : Cause) → ended ≡ false → item ≡ End why → (why ≡ stop.OutOfMemory → ⊥) → IsCause why b c
+      → HeardSo g ended b taken said → HeardSo g true b (taken ++ item ∷ []) (said ++ what.Gone c ∷ [])
+  heard_end g true b taken why item said c e is other cause s = absurd (cc e)
+  heard_end g false b taken why item said c e is other cause s =
+      let t = s.tells in
+      record {
+        heard = s.heard;
+        stands = s.stands;
+        tells =
+          record {
+            why = why;
+            cause = c;
+            later = [];
+            is_cause = cause;
+            no_want = other;
+            taken_are = ap (λ (x : LinkNews). of_link (taken ++ x ∷ [])) is ∙ (of_more taken (End why) refl ∙ ap (λ (l : List LinkNews). l ++ End why ∷ []) t.taken_are);
+            said_are = ap (λ (l : List What). l ++ what.Gone c ∷ []) t.said_are;
+          };
+      }
+
+  -- what is no item of the link is no news
+  pub heard_other : (g : Gateway K) (ended b : Bool) (taken : List LinkNews) (item : LinkNews) (said : List What) → ended ≡ false → is_of_link item ≡ false → HeardSo g ended b taken said → HeardSo g false b (taken ++ item ∷ []) (said ++ [])
+  heard_other g true b taken item said e no s = absurd (cc e)
+  heard_other g false b taken item said e no s =
+      let t = s.tells in
+      record { heard = s.heard; stands = s.stands; tells = record { taken_are = of_same taken item no ∙ t.taken_are; said_are = append-nil said ∙ t.said_are } }
+
+  -- until a worker is heard to have ended, channel 1 can be sent on
+  pub can_tell : (g : Gateway K) (ended b : Bool) (taken : List LinkNews) (said late : List What) → is_nothing late ≡ true → list_any is_end said ≡ false → HeardSo g ended b taken (said ++ late) → send_refusal (slot_of (side_of g) 1) ≡ None
+  can_tell g false b taken said late z going s =
+      let all : said ≡ all_news s.heard = sym (said_alone said late z) ∙ s.tells.said_are in
+        can_be_told g s.heard s.stands (none_of is_end is_last not_last (all_news s.heard) (sym (ap (list_any is_end) all) ∙ going))
+  can_tell g true b taken said late z going s =
+      let all : said ≡ all_news s.heard ++ what.Gone s.tells.cause ∷ [] = sym (said_alone said late z) ∙ s.tells.said_are in
+      let both : true ≡ false = sym (ends_here (all_news s.heard) s.tells.cause) ∙ (sym (ap (list_any is_end) all) ∙ going) in
+        absurd (cc both)

@@ -1,0 +1,122 @@
+-- The run of a link that ended, from what its reader put and what its post kept.
+use Rattle.std.proofs.Common.{◌≡◌, ◌≤◌, ◌<◌, ℕ, zero, suc, List, [], ◌∷◌, ◌++◌, length, take, map, Bool, true, false, Option, Some, None, refl, sym, ◌∙◌, ap, subst, arith, inl, inr, append-nil, append_assoc}
+use Rattle.std.specs.Prelude.{◌⊎◌, IfSome}
+use Rattle.std.proofs.Math.Seq.{take-length}
+use Rattle.xd_edge.specs.Sink.{Sunk}
+use Rattle.xd_edge.specs.Faults.{Rose}
+use Rattle.xd_frame.specs.Message.{MessageView, frames}
+use Rattle.xd_link.specs.Source.{Supply, Gave, with_given}
+use Rattle.xd_journal.specs.declared.entry.Cause.{Cause}
+use Rattle.xd_journal.specs.declared.entry.Cause.TheVariants as cause
+use Rattle.xd_journal.specs.declared.entry.Entry.{Entry}
+use Rattle.xd_journal.specs.declared.news.What.{What}
+use Rattle.xd_journal.specs.declared.news.What.TheVariants.{Gone}
+use Rattle.xd_links.specs.Runs.{LinkRead}
+use Rattle.xd_reader.specs.declared.news.LinkNews.{LinkNews}
+use Rattle.xd_reader.specs.declared.news.LinkNews.TheVariants.{Message, End}
+use Rattle.xd_reader.specs.declared.news.LinkStop.{LinkStop}
+use Rattle.xd_reader.specs.declared.news.LinkStop.TheVariants as stop
+use Rattle.xd_reader.specs.Judged.{link_messages, link_stop}
+use Rattle.xd_link.specs.Spring.{ReadToEnd, Spring}
+use Rattle.xd_reader.specs.Reads.{StopsAt}
+use Rattle.xd_remote.specs.News.{AreHeard, Heard, IsNewsOf, all_messages, all_news}
+use Rattle.xd_group.specs.ToLink.{has_left, to_link}
+use Rattle.xd_group.specs.Sent.{SentAs}
+use Rattle.xd_edge.specs.declared.mode.ModeKind.{ModeKind}
+use Rattle.xd_group.specs.Heard.{is_of_link, of_link}
+use Rattle.std.proofs.lemmas.List.Elements.{filter-append}
+use Rattle.xd_group.specs.Ends.{EndsSo}
+use Rattle.xd_group.specs.Heard.{HeardSo, IsCause, TellsEnded, plain_cause}
+use Rattle.xd_group.specs.LinkRun.{HeardAll, IsGone, LinkRun, link_of, ReadToStop, SentSo, is_garbled}
+use Rattle.xd_group.specs.Pages.{Page, taken_of}
+use Rattle.xd_group.specs.Kept.{Kept, said_by, orders_to}
+use Rattle.xd_journal.specs.declared.news.News.{News}
+use Rattle.xd_remote.specs.declared.gateway.Gateway.{Gateway}
+use Rattle.std.specs.Prelude.{slice_get}
+
+-- messages and then an end come apart in one way
+apart : (put ms : List MessageView) (why done : LinkStop) (rest : List LinkNews) → map Message put ++ End done ∷ [] ≡ map Message ms ++ End why ∷ rest → (put ≡ ms) × (done ≡ why)
+apart [] [] why done rest e = (refl, cc e)
+apart [] (m ∷ ms) why done rest e = absurd (cc e)
+apart (p ∷ put) [] why done rest e = absurd (cc e)
+apart (p ∷ put) (m ∷ ms) why done rest e =
+    let tail : map Message put ++ End done ∷ [] ≡ map Message ms ++ End why ∷ rest = cc e in
+    let head : p ≡ m = cc e in
+    let more = apart put ms why done rest tail in
+      (ap (λ (x : MessageView). x ∷ put) head ∙ ap (λ (l : List MessageView). m ∷ l) more.0, more.1)
+
+over_zero : (f0 f1 : ℕ) → Rose f0 f1 → 0 < f1
+over_zero f0 zero r = absurd (omega (arith, r (omega arith)))
+over_zero f0 (suc n) r = omega arith
+
+to_stop : (why : LinkStop) (bytes : List ℕ) (s0 s1 : Spring) → (why ≡ stop.OutOfMemory → ⊥) → StopsAt why true bytes s0 s1 → ReadToStop bytes s1
+to_stop stop.Ended bytes s0 s1 other c = inl c.1
+to_stop stop.Cut bytes s0 s1 other c = inl c.1
+to_stop (stop.Garbled fault) bytes s0 s1 other c = inr (inl (ap is_garbled c.0))
+to_stop (stop.BadGreeting b) bytes s0 s1 other c = inr (inl (ap is_garbled c.0))
+to_stop stop.ReadFault bytes s0 s1 other c = inr (inr (over_zero s0.faults s1.faults c))
+to_stop stop.OutOfMemory bytes s0 s1 other c = absurd (other refl)
+
+plainly_gone : (why : LinkStop) (bytes : List ℕ) (s0 s1 : Spring) (writes : ℕ) → (why ≡ stop.OutOfMemory → ⊥) → StopsAt why true bytes s0 s1 → IsGone (plain_cause why) bytes s1 writes
+plainly_gone stop.Ended bytes s0 s1 writes other c = (c.0, c.1)
+plainly_gone stop.Cut bytes s0 s1 writes other c = (c.0, c.1)
+plainly_gone (stop.Garbled fault) bytes s0 s1 writes other c = ap is_garbled c.0
+plainly_gone (stop.BadGreeting b) bytes s0 s1 writes other c = ap is_garbled c.0
+plainly_gone stop.ReadFault bytes s0 s1 writes other c = over_zero s0.faults s1.faults c
+plainly_gone stop.OutOfMemory bytes s0 s1 writes other c = absurd (other refl)
+
+is_gone : (why : LinkStop) (broken : Bool) (c : Cause) (bytes : List ℕ) (s0 s1 : Spring) (writes : ℕ) → (why ≡ stop.OutOfMemory → ⊥) → StopsAt why true bytes s0 s1 → (broken ≡ true → 0 < writes) → IsCause why broken c → IsGone c bytes s1 writes
+is_gone why broken c bytes s0 s1 writes other at w (inl e) = subst (λ (x : Cause). IsGone x bytes s1 writes) (sym e) (plainly_gone why bytes s0 s1 writes other at)
+is_gone why broken c bytes s0 s1 writes other at w (inr p) = subst (λ (x : Cause). IsGone x bytes s1 writes) (sym p.0) (w p.1)
+
+all_is_part : (sunk : Option Sunk) (ms : List MessageView) (closed : Bool) → IfSome sunk (λ s. s ≡ record { bytes = frames ms; flushed = length (frames ms); closed = closed }) → IfSome sunk (λ s. s.bytes ≡ take (length s.bytes) (frames ms))
+all_is_part None ms closed e = tt
+all_is_part (Some s) ms closed e = let is : s.bytes ≡ frames ms = ap (λ (t : Sunk). t.bytes) e in is ∙ (sym (take-length (frames ms)) ∙ ap (λ (l : List ℕ). take (length l) (frames ms)) (sym is))
+
+sent_so : (broken closed : Bool) (sunk : Option Sunk) (writes : ℕ) (ms : List MessageView) → SentAs broken closed sunk writes ms → SentSo ms closed writes sunk
+sent_so true closed sunk writes ms s = inr (s.part refl)
+sent_so false closed sunk zero ms s = inl (refl, s.whole refl)
+sent_so false closed sunk (suc n) ms s = inr (omega arith, all_is_part sunk ms closed (s.whole refl))
+
+given_so : (bytes : List ℕ) (old new : Option Supply) → IfSome old (λ s. s.given ≡ []) → Gave bytes old new → IfSome new (λ s. s.given ≡ bytes)
+given_so bytes None new fresh g = subst (λ (o : Option Supply). IfSome o (λ s. s.given ≡ bytes)) (sym g.0) tt
+given_so bytes (Some s) new fresh g = subst (λ (o : Option Supply). IfSome o (λ t. t.given ≡ bytes)) (sym g.0) (ap (λ (l : List ℕ). l ++ take (length bytes) s.left) fresh ∙ g.1)
+
+all_of_link : (ms : List MessageView) (why : LinkStop) → of_link (map Message ms ++ End why ∷ []) ≡ map Message ms ++ End why ∷ []
+all_of_link [] why = refl
+all_of_link (m ∷ ms) why = ap (λ (l : List LinkNews). Message m ∷ l) (all_of_link ms why)
+
+pub link_run : (now : Spring) (sunk : Option Sunk) (writes : ℕ) (p : Page) → LinkRead now p.taken → EndsSo p sunk writes → LinkRun p.suite p.mode p.said p.told (link_of now sunk writes)
+link_run now sunk writes p read ends =
+    let t = ends.tells in
+    let all = read.puts in
+    let ms = all_messages ends.heard in
+    let taken : of_link (p.taken ++ read.later) ≡ map Message ms ++ End t.why ∷ (t.later ++ of_link read.later) =
+      filter-append is_of_link p.taken read.later ∙ (ap (λ (l : List LinkNews). l ++ of_link read.later) t.taken_are ∙ append_assoc (map Message ms) (End t.why ∷ t.later) (of_link read.later)) in
+    let same = apart all.put ms t.why all.stop (t.later ++ of_link read.later) (sym (all_of_link all.put all.stop) ∙ (ap of_link (sym all.comes ∙ read.begins) ∙ taken)) in
+    let other = λ (e : all.stop ≡ stop.OutOfMemory). t.no_want (sym same.1 ∙ e) in
+    let at = all.reads.cause in
+    let bytes = all.reads.bytes in
+    record {
+      bytes = bytes;
+      given = given_so bytes read.first.supply now.supply read.fresh all.reads.gave;
+      heard =
+        record {
+          all = all_news ends.heard;
+          why = t.cause;
+          are = record { heard = ends.heard; are = ends.are; messages_are = sym same.0 ∙ all.reads.all; news_are = refl };
+          gone = is_gone t.why ends.broken t.cause bytes read.first now writes t.no_want (subst (λ (w : LinkStop). StopsAt w true bytes read.first now) same.1 at) (λ b. (ends.sent.part b).0) t.is_cause;
+          later = p.late;
+          first = sym t.said_are;
+        };
+      read = to_stop all.stop bytes read.first now other at;
+      sent = sent_so ends.broken (has_left p.said) sunk writes (to_link p.suite p.mode p.told p.said) ends.sent;
+    }
+
+module _ {K : Type 0} where
+  -- a post that is known to have ended
+  pub ends_so : (g : Gateway K) (p : Page) (ended lost closed : Bool) (sunk : Option Sunk) (writes : ℕ) → ended ≡ true → closed ≡ has_left p.said → HeardSo g ended lost p.taken (p.said ++ p.late) → SentAs lost closed sunk writes (to_link p.suite p.mode p.told p.said)
+      → EndsSo p sunk writes
+  ends_so g p false lost closed sunk writes e c h s = absurd (cc e)
+  ends_so g p true lost closed sunk writes e c h s =
+      record { broken = lost; heard = h.heard; are = h.stands.are; tells = h.tells; sent = subst (λ (b : Bool). SentAs lost b sunk writes (to_link p.suite p.mode p.told p.said)) c s }

@@ -1,0 +1,24 @@
+use Rattle.std.proofs.Common.{sym, ◌∙◌, ap, subst, List}
+use Rattle.std.specs.Prelude.{◌++◌, ◌∷◌, [], option_to_list}
+use Rattle.std.proofs.Math.Logic.{∥∥₁_map}
+use Rattle.xd_journal.specs.declared.news.What.{What}
+use Rattle.xd_note.specs.Noted.{noted}
+use Rattle.xd_group.specs.Heard.{HeardSo}
+use Rattle.xd_group.proofs.PostFacts.{on_time}
+use Rattle.xd_group.proofs.post.Post.hear.Goals as goal
+
+pub invariant_of-self-2 : goal.invariant_of-self-2
+invariant_of-self-2 g c =
+    let was = c.args.self.now in
+    let said = noted was.said in
+    let known = c.requires.known in
+    let still = was.lost known ∙ sym c.in_ok-news.ensures.broken in
+    record {
+      lost = λ e. c.end_behind-is_closed.ensures.lost still;
+      closed = λ e. rw (c.note_heard.ensures) (c.end_behind-is_closed.ensures.closed said (was.closed known));
+      heard = λ e. ∥∥₁_map (was.heard known)
+        (λ h. rw (c.note.ensures, c.note_heard.ensures)
+          (subst (λ (l : List What). HeardSo c.end_behind-is_closed.new.gateway c.in_ok-news.is_ended c.end_behind-is_closed.result.is_lost (noted was.taken ++ c.args.item ∷ []) l) (on_time said (noted was.late) (option_to_list c.in_ok-news.news) c.requires.on_time)
+            (c.end_behind-is_closed.ensures.heard _ _ _ still (c.in_ok-news.ensures.hears (noted was.taken) (said ++ noted was.late) h))));
+      sent = λ e. ∥∥₁_map (was.sent known) (λ s. rw (c.note_heard.ensures) (c.end_behind-is_closed.ensures.sent _ _ (noted was.told) said still (was.closed known) (rw (c.in_ok-news.ensures.sink) s)));
+    }

@@ -1,0 +1,10 @@
+pub mod Ends
+pub mod Heard
+pub mod Kept
+pub mod LinkRun
+pub mod Orders
+pub mod Pages
+pub mod PostView
+pub mod Sent
+pub mod Tells
+pub mod ToLink

@@ -1,0 +1,72 @@
+-- The run of one link of a worker, from its start to its end.
+use Rattle.std.specs.Prelude.{◌≡◌, ◌<◌, ◌⊎◌, ℕ, Bool, true, false, List, [], ◌∷◌, ◌++◌, take, length, Option, IfSome}
+use Rattle.xd_edge.specs.declared.mode.ModeKind.{ModeKind}
+use Rattle.xd_edge.specs.Sink.{Sunk}
+use Rattle.xd_frame.specs.Message.{MessageView, frames}
+use Rattle.xd_link.specs.Spring.{ReadToEnd, Spring}
+use Rattle.xd_journal.specs.declared.entry.Cause.{Cause}
+use Rattle.xd_journal.specs.declared.entry.Cause.TheVariants as cause
+use Rattle.xd_journal.specs.declared.entry.Entry.{Entry}
+use Rattle.xd_journal.specs.declared.news.What.{What}
+use Rattle.xd_journal.specs.declared.news.What.TheVariants.{Gone}
+use Rattle.xd_reader.specs.declared.news.LinkStop.{LinkStop}
+use Rattle.xd_reader.specs.declared.news.LinkStop.TheVariants as stop
+use Rattle.xd_reader.specs.Judged.{link_messages, link_stop}
+use Rattle.xd_remote.specs.News.{IsNewsOf}
+use Rattle.xd_group.specs.ToLink.{has_left, to_link}
+
+-- the bytes have a header that is refused, or another first byte than the greeting
+abbrev pub is_garbled : LinkStop → Bool
+is_garbled (stop.Garbled fault) = true
+is_garbled (stop.BadGreeting b) = true
+is_garbled _ = false
+
+-- why a link is said to be gone: its bytes end so and no more were to come, or they are refused, or a count rose
+abbrev pub IsGone : Cause → List ℕ → Spring → ℕ → Type 0
+IsGone cause.Ended bytes s writes = (link_stop true bytes ≡ stop.Ended) × ReadToEnd s
+IsGone cause.Cut bytes s writes = (link_stop true bytes ≡ stop.Cut) × ReadToEnd s
+IsGone cause.Garbled bytes s writes = is_garbled (link_stop true bytes) ≡ true
+IsGone cause.ReadFault bytes s writes = 0 < s.faults
+IsGone cause.SendFault bytes s writes = 0 < writes
+IsGone cause.Breach bytes s writes = ⊥
+
+-- The news are first ones of those of the link's messages, with the link's end behind them.
+pub record HeardAll (news : List What) (bytes : List ℕ) (s : Spring) (writes : ℕ) : Type 0 where
+  pub all : List What
+  pub why : Cause
+  pub are : IsNewsOf (link_messages true bytes) all
+  pub gone : IsGone why bytes s writes
+  pub later : List What
+  pub first : all ++ Gone why ∷ [] ≡ news ++ later
+
+-- The source was read to its stop: to its end, to bytes that are refused, or until it failed.
+abbrev pub ReadToStop : List ℕ → Spring → Type 0
+ReadToStop bytes s = ReadToEnd s ⊎ ((is_garbled (link_stop true bytes) ≡ true) ⊎ (0 < s.faults))
+
+-- What the sink took: all messages to the worker, handed on, and closed where it was told to end; or a first part of them,
+-- where it failed.
+abbrev pub SentAll : List MessageView → Bool → Option Sunk → Type 0
+SentAll messages closed sunk = IfSome sunk (λ s. s ≡ record { bytes = frames messages; flushed = length (frames messages); closed = closed })
+
+abbrev pub SentPart : List MessageView → Option Sunk → Type 0
+SentPart messages sunk = IfSome sunk (λ s. s.bytes ≡ take (length s.bytes) (frames messages))
+
+abbrev pub SentSo : List MessageView → Bool → ℕ → Option Sunk → Type 0
+SentSo messages closed writes sunk = ((writes ≡ 0) × SentAll messages closed sunk) ⊎ ((0 < writes) × SentPart messages sunk)
+
+-- What is seen of a returned link: its source, its sink and their counts.
+pub record Link : Type 0 where
+  pub spring : Spring
+  pub sunk : Option Sunk
+  pub writes : ℕ
+
+abbrev pub link_of : Spring → Option Sunk → ℕ → Link
+link_of s sunk writes = record { spring = s; sunk = sunk; writes = writes }
+
+-- A link of a worker that gave these news and took these orders.
+pub record LinkRun (suite : List ℕ) (mode : ModeKind) (news : List What) (orders : List Entry) (l : Link) : Type 0 where
+  pub bytes : List ℕ
+  pub given : IfSome l.spring.supply (λ s. s.given ≡ bytes)
+  pub heard : HeardAll news bytes l.spring l.writes
+  pub read : ReadToStop bytes l.spring
+  pub sent : SentSo (to_link suite mode orders news) (has_left news) l.writes l.sunk

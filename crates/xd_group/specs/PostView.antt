@@ -1,0 +1,16 @@
+-- The page of a post.
+use Rattle.std.specs.Prelude.{List, Option, Some, None, map}
+use Rattle.xd_note.specs.Noted.{noted}
+use Rattle.xd_group.specs.Pages.{Page}
+use Rattle.xd_group.specs.declared.post.Post.{Post}
+
+module _ {N : Type 0} {g : _} where
+  abbrev pub page_by : Post N g → Page
+  page_by p = record { suite = p.suite.value; mode = p.mode; taken = noted p.taken; told = noted p.told; said = noted p.said; late = noted p.late; known = p.is_known }
+
+  abbrev pub page_of : Option (Post N g) → Option Page
+  page_of None = None
+  page_of (Some p) = Some (page_by p)
+
+  abbrev pub pages_of : List (Option (Post N g)) → List (Option Page)
+  pages_of posts = map page_of posts

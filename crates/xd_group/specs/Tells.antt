@@ -1,0 +1,21 @@
+-- What a hub over links tells: the calls and the news that were noted.
+use Rattle.std.specs.Prelude.{◌≡◌, ℕ, ◌==◌, ◌&&◌, Bool, true, List}
+use Rattle.std.specs.List.{list_any}
+use Rattle.xd_journal.specs.declared.entry.Entry.{Entry}
+use Rattle.xd_journal.specs.declared.news.News.{News}
+use Rattle.xd_drive.specs.Listed.{was_killed}
+use Rattle.xd_drive.specs.Marks.{Marks, is_ready, is_end}
+use Rattle.xd_drive.specs.Performing.{was_started}
+
+-- the marks of the worker, by the calls, the starts among them, and the news that were given
+abbrev pub marks_told : List Entry → List News → ℕ → Marks
+marks_told calls given w = record {
+  started = was_started w calls;
+  killed = was_killed w calls;
+  ready = list_any (λ n. n.worker == w && is_ready n.what) given;
+  ended = list_any (λ n. n.worker == w && is_end n.what) given;
+}
+
+-- the worker was started
+abbrev pub IsStarted : List Entry → ℕ → Type 0
+IsStarted calls w = was_started w calls ≡ true

@@ -1,0 +1,2 @@
+pub mod HubFacts
+pub mod Places

@@ -1,0 +1,144 @@
+//! Several links over one desk.
+ghost use Rattle.std.specs.Prelude.{◌≡◌, ℕ, [], Some, map, slice_get};
+ghost use Rattle.xd_link.specs.Source.{Supply};
+ghost use Rattle.xd_links.specs.Links.{ring_of_mail, ring_of_link, sources_of};
+ghost use Rattle.xd_post.specs.Mails.{mails};
+
+use std::alloc::Global;
+use std::sync::Wait;
+use xd_crew::Crew;
+use xd_edge::OutOfMemory;
+use xd_link::Source;
+use xd_reader::{LinkNews, Reader, ReaderEnd};
+use xd_post::{Bell, Desk, Emptied, mailbox};
+
+/// Several links, each read by a job of the crew.
+pub struct Links<S: Source + Drop, C: Crew<Reader<S>>> {
+    pub alloc: Global,
+    pub crew: C,
+    pub desk: Desk<LinkNews>,
+    pub handles: Vec<Option<C::Handle>>,
+    ghost rings: { map ring_of_mail (mails desk) ≡ map (ring_of_link C.job_of) handles.items },
+    ghost fresh: { (k : ℕ) (source : S) (s : Supply) → slice_get (sources_of C.job_of handles.items) k ≡ Some (Some source) → S.supply source ≡ Some s → s.given ≡ [] },
+}
+
+/// What a closed link left.
+#[derive(Drop)]
+pub struct Closed<S: Source + Drop> {
+    pub source: S,
+    pub rest: Option<LinkNews>,
+}
+
+impl<S: Source + Drop, C: Crew<Reader<S>>> Links<S, C> {
+    ghost use Rattle.std.specs.Prelude.{◌≡◌, ◌<◌, ◌≤◌, ◌∷◌, ◌++◌, [], Some, None, List, map, length, IfOk, IfErr, IfSome, OnOk, IsTrue, slice_get, slice_set};
+    ghost use Rattle.xd_edge.specs.Faults.{Rose};
+    ghost use Rattle.xd_links.specs.Links.{sources_of};
+    ghost use Rattle.xd_links.specs.Runs.{news_of, LinkRead};
+    ghost use Rattle.xd_link.specs.Spring.{spring};
+    ghost use Rattle.xd_reader.specs.declared.news.LinkNews.{LinkNews};
+
+    pub fn new(alloc: Global, crew: C) -> Result<Links<S, C>, OutOfMemory>
+        ensures { IfOk result (λ r. (news_of (mails r.desk) ≡ []) × (sources_of C.job_of r.handles.items ≡ [])) }
+    {
+        let bell = Bell::new(alloc)?;
+        Ok(Links {
+            alloc,
+            crew,
+            desk: Desk::new(alloc, bell),
+            handles: Vec::new(alloc),
+        })
+    }
+
+    /// Waits for the next news of a link.
+    pub fn next<R: Wait>(&mut self, rt: &R) -> (u32, LinkNews)
+        ensures sources { self.new.handles ≡ self.old.handles }
+        ensures crew { self.new.crew ≡ self.old.crew }
+        ensures news { (got : List LinkNews) × (slice_get (news_of (mails self.old.desk)) result.0 ≡ Some (Some got))
+            × (news_of (mails self.new.desk) ≡ slice_set (news_of (mails self.old.desk)) result.0 (Some (got ++ result.1 ∷ []))) }
+    {
+        self.desk.wait(rt)
+    }
+
+    /// Starts a reader for the source. The source comes back where the crew refused it.
+    pub fn open(&mut self, source: S) -> Result<Result<u32, S>, OutOfMemory>
+        requires room { length (news_of (mails self.old.desk)) < 4294967295 }
+        requires nothing_given { IfSome (S.supply source) (λ s. s.given ≡ []) }
+        ensures later { C.faults self.old.crew ≤ C.faults self.new.crew }
+        ensures still { IfOk result (λ r. OnOk r (C.faults self.new.crew ≡ C.faults self.old.crew)) }
+        ensures opened { IfOk result (λ r. IfOk r (λ number. (number ≡ length (news_of (mails self.old.desk)))
+            × (sources_of C.job_of self.new.handles.items ≡ sources_of C.job_of self.old.handles.items ++ Some source ∷ [])
+            × (news_of (mails self.new.desk) ≡ news_of (mails self.old.desk) ++ Some [] ∷ []))) }
+        ensures back { IfOk result (λ r. IfErr r (λ back. back ≡ source)) }
+        ensures rose { IfOk result (λ r. IfErr r (λ back. Rose (C.faults self.old.crew) (C.faults self.new.crew))) }
+        ensures shut { IfOk result (λ r. IfErr r (λ back. sources_of C.job_of self.new.handles.items ≡ sources_of C.job_of self.old.handles.items ++ None ∷ [])) }
+        ensures silent { IfOk result (λ r. IfErr r (λ back. news_of (mails self.new.desk) ≡ news_of (mails self.old.desk) ++ None ∷ [])) }
+    {
+        self.handles.reserve(1)?;
+        let (sender, inbox) = mailbox(self.alloc, 8, self.desk.bell())?;
+        let number = self.desk.add(inbox)?;
+        match self.crew.start(Reader::new(self.alloc, source, sender, true)) {
+            Ok(handle) => {
+                self.handles.push_reserved(Some(handle));
+                Ok(Ok(number))
+            }
+            Err(job) => {
+                let ReaderEnd { source, sender } = job.into_end();
+                self.desk.close_with(number, sender);
+                self.handles.push_reserved(None);
+                Ok(Err(source))
+            }
+        }
+    }
+
+    /// Whether a further link may be opened.
+    pub fn has_room(&self) -> bool
+        ensures { IsTrue result → length (news_of (mails self.now.desk)) < 4294967295 }
+    {
+        self.handles.len() < 4294967295
+    }
+
+    /// Takes up a number that has no link.
+    pub fn skip(&mut self) -> Result<(), OutOfMemory>
+        requires { length (news_of (mails self.old.desk)) < 4294967295 }
+        ensures crew { self.new.crew ≡ self.old.crew }
+        ensures news { OnOk result (news_of (mails self.new.desk) ≡ news_of (mails self.old.desk) ++ None ∷ []) }
+        ensures sources { OnOk result (sources_of C.job_of self.new.handles.items ≡ sources_of C.job_of self.old.handles.items ++ None ∷ []) }
+    {
+        self.handles.reserve(1)?;
+        let (sender, inbox) = mailbox(self.alloc, 1, self.desk.bell())?;
+        let number = self.desk.add(inbox)?;
+        self.desk.close_with(number, sender);
+        self.handles.push_reserved(None);
+        Ok(())
+    }
+
+    /// Whether the number has a link.
+    pub fn has_link(&self, number: u32) -> bool
+        ensures { IsTrue result → (source : S) × (slice_get (sources_of C.job_of self.now.handles.items) number ≡ Some (Some source)) }
+    {
+        let at = number as usize;
+        if at >= self.handles.len() {
+            return false;
+        }
+        self.handles[at].is_some()
+    }
+
+    /// Joins the link's reader and closes the link.
+    pub fn close(&mut self, number: u32) -> Closed<S>
+        requires { (source : S) × (slice_get (sources_of C.job_of self.old.handles.items) number ≡ Some (Some source)) }
+        ensures crew { C.faults self.new.crew ≡ C.faults self.old.crew }
+        ensures run { (got : List LinkNews) → slice_get (news_of (mails self.old.desk)) number ≡ Some (Some got)
+            → LinkRead (spring (S.supply result.source) (S.is_ended result.source) (S.faults result.source)) got }
+        ensures news { news_of (mails self.new.desk) ≡ slice_set (news_of (mails self.old.desk)) number None }
+        ensures sources { sources_of C.job_of self.new.handles.items ≡ slice_set (sources_of C.job_of self.old.handles.items) number None }
+    {
+        match self.handles[number as usize].take() {
+            Some(handle) => {
+                let ReaderEnd { source, sender } = self.crew.join(handle);
+                let Emptied { rest } = self.desk.close_with(number, sender);
+                Closed { source, rest }
+            }
+            None => unreachable!(),
+        }
+    }
+}
