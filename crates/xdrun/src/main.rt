@@ -3,9 +3,9 @@
 
 mod child;
 mod local;
+mod named;
 mod refusal;
 mod top;
-mod unlinked;
 mod wire;
 mod words;
 mod worker;
@@ -27,7 +27,7 @@ fn words_of(rt: &(impl Env + AllocGlobal), alloc: Global) -> io::Result<(Text, T
     let mut args = env::args(rt)?;
     let program = match args.next() {
         Some(word) => Text::from_string(word),
-        None => Text::of(alloc, "")?,
+        None => Text::from_string(String::new(alloc)),
     };
     let mut items = Vec::new(alloc);
     for word in args {
@@ -37,14 +37,14 @@ fn words_of(rt: &(impl Env + AllocGlobal), alloc: Global) -> io::Result<(Text, T
 }
 
 // Where a word is no UTF-8: a faulty command line, as no word at all is.
-fn no_words(alloc: Global) -> io::Result<(Text, Texts)> {
+fn no_words(alloc: Global) -> (Text, Texts) {
     let items = Vec::new(alloc);
-    Ok((Text::of(alloc, "")?, Texts { items }))
+    (Text::from_string(String::new(alloc)), Texts { items })
 }
 
 fn main(rt: HostRuntime) -> io::Result<ExitCode> {
     let alloc = rt.alloc();
-    let (program, words) = words_of(&rt, alloc).or_else(|_| no_words(alloc))?;
+    let (program, words) = words_of(&rt, alloc).unwrap_or_else(|_| no_words(alloc));
     let Ok(writer) = BufWriter::new(alloc, rt.stdout()) else {
         return out_of_memory(&rt);
     };
