@@ -6,3 +6,4 @@ pub mod Report
 pub mod Steps
 pub mod Whole
 pub mod Workers
+pub mod Wired

@@ -16,7 +16,7 @@ ghost use Rattle.xd_report.specs.Follows.{Follows};
 ghost use Rattle.xd_report.specs.Lines.{lines_from};
 ghost use Rattle.xd_report.specs.Text.{tail_text};
 ghost use Rattle.xdrun.specs.Child.{faults_of};
-ghost use Rattle.xdrun.specs.Local.{AddsRound, RanAll, RanPrinted, RanTest, RunsSuite, Told, local_settings, stop_after};
+ghost use Rattle.xdrun.specs.Local.{AddsRound, RanAll, RanPrinted, RanTest, RunsTests, Told, local_settings, stop_after};
 ghost use Rattle.xdrun.specs.Print.{PrintsReport};
 
 use crate::child::run_child;
@@ -43,17 +43,11 @@ pub fn run_suite<R: Wait, K: Children, T: Clock, O: Sink>(
     clock: &mut T,
     out: &mut O,
 ) -> Result<Journal, OutOfMemory>
-    ensures legal { IfOk result IsLegal }
-    ensures settings { IfOk result (λ j. j.settings ≡ local_settings) }
-    ensures suite { IfOk result (λ j. RunsSuite suite.now j (K.runs children.old) (K.runs children.new)) }
-    ensures once { IfOk result NamesInOrder }
-    ensures names { IfOk result NamesTests }
-    ensures printed { IfOk result (λ j. PrintsReport (stop_of j) j (O.sunk out.old) (O.sunk out.new)) }
-    ensures out_fault { IfOk result (λ j. stop_of j ≡ OutFault → Rose (O.faults out.old) (O.faults out.new)) }
-    ensures still { IfOk result (λ j. stop_of j ≢ OutFault → O.faults out.new ≡ O.faults out.old) }
-    ensures completed { IfOk result (λ j. StoodStill (O.faults out.old) (O.faults out.new) → stop_of j ≡ Completed) }
-    ensures child_faults { IfOk result (λ j. RoseBy (faults_of (reports_in j)) (K.faults children.old) (K.faults children.new)) }
-    ensures child_still { IfOk result (λ j. faults_of (reports_in j) ≡ 0 → K.faults children.new ≡ K.faults children.old) }
+    ensures ran { IfOk result (λ j. RunsTests suite.now j
+        (record { sunk = O.sunk out.old; faults = O.faults out.old })
+        (record { sunk = O.sunk out.new; faults = O.faults out.new })
+        (record { runs = K.runs children.old; faults = K.faults children.old })
+        (record { runs = K.runs children.new; faults = K.faults children.new })) }
 {
     let mut journal = Journal::new(alloc, local_settings());
     let ids = suite.ids(alloc, ModeKind::Local)?;
