@@ -6,4 +6,3 @@ pub mod Report
 pub mod Steps
 pub mod Whole
 pub mod Workers
-pub mod Wired
