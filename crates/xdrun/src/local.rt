@@ -1,6 +1,6 @@
 // The tests of a suite, one after another in this program.
 ghost use Rattle.std.specs.Prelude.{◌≡◌, ◌≢◌, ◌<◌, ◌≤◌, [], map, true, false, Ok, drop, length, IfOk, OnOk};
-ghost use Rattle.xd_edge.specs.Faults.{Rose, RoseBy, StoodStill};
+ghost use Rattle.xd_edge.specs.Faults.{Counted};
 ghost use Rattle.xd_edge.specs.Printing.{Shows};
 ghost use Rattle.xd_suite.specs.Tests.{run_at};
 ghost use Rattle.xd_journal.specs.declared.entry.RunStop.TheVariants.{Completed, OutFault};
@@ -97,9 +97,7 @@ fn run_and_print<R: Wait, K: Children, T: Clock, O: Sink>(
     requires { journal.old.entries.items ≡ local_entries (map (λ t. t.id) suite.now) [] }
     ensures ran { IfOk result (λ shown. RanPrinted shown suite.now (map (λ t. t.id) suite.now) journal.new (K.runs children.old) (K.runs children.new) (K.faults children.old) (K.faults children.new) (O.sunk out.old) (O.sunk out.new)) }
     ensures settings { journal.new.settings ≡ journal.old.settings }
-    ensures later { O.faults out.old ≤ O.faults out.new }
-    ensures still { result ≡ Ok true → O.faults out.new ≡ O.faults out.old }
-    ensures rose { result ≡ Ok false → Rose (O.faults out.old) (O.faults out.new) }
+    ensures counted { IfOk result (λ shown. Counted shown (O.faults out.old) (O.faults out.new)) }
 {
     let ran = run_tests(rt, alloc, suite, journal, children, clock, out)?;
     if !ran {
@@ -122,9 +120,7 @@ fn run_tests<R: Wait, K: Children, T: Clock, O: Sink>(
     requires { journal.old.entries.items ≡ local_entries (map (λ t. t.id) suite.now) [] }
     ensures ran { IfOk result (λ shown. RanAll shown suite.now (map (λ t. t.id) suite.now) journal.new (K.runs children.old) (K.runs children.new) (K.faults children.old) (K.faults children.new) (O.sunk out.old) (O.sunk out.new)) }
     ensures settings { journal.new.settings ≡ journal.old.settings }
-    ensures later { O.faults out.old ≤ O.faults out.new }
-    ensures still { result ≡ Ok true → O.faults out.new ≡ O.faults out.old }
-    ensures rose { result ≡ Ok false → Rose (O.faults out.old) (O.faults out.new) }
+    ensures counted { IfOk result (λ shown. Counted shown (O.faults out.old) (O.faults out.new)) }
 {
     let mut reporter = Reporter::new(alloc, journal.settings);
     let collected = print_lines(alloc, &mut reporter, journal, 0, out)?;
@@ -181,9 +177,7 @@ fn run_test<R: Wait, K: Children, T: Clock, O: Sink>(
     ensures told { OnOk result (Told reporter.new journal.new) }
     ensures settings { journal.new.settings ≡ journal.old.settings }
     ensures children_later { K.faults children.old ≤ K.faults children.new }
-    ensures later { O.faults out.old ≤ O.faults out.new }
-    ensures still { result ≡ Ok true → O.faults out.new ≡ O.faults out.old }
-    ensures rose { result ≡ Ok false → Rose (O.faults out.old) (O.faults out.new) }
+    ensures counted { IfOk result (λ shown. Counted shown (O.faults out.old) (O.faults out.new)) }
 {
     let start = clock.now();
     let room = room_behind(*spent);
@@ -235,9 +229,7 @@ fn print_lines<O: Sink>(
     requires { from ≤ length journal.now.entries.items }
     ensures shows { (s : State) → Follows reporter.old s → IfOk result (λ shown. Shows shown (lines_from s (drop from journal.now.entries.items)) (O.sunk out.old) (O.sunk out.new)) }
     ensures follows { (s : State) → Follows reporter.old s → OnOk result (Follows reporter.new (all_moved s (drop from journal.now.entries.items))) }
-    ensures later { O.faults out.old ≤ O.faults out.new }
-    ensures still { result ≡ Ok true → O.faults out.new ≡ O.faults out.old }
-    ensures rose { result ≡ Ok false → Rose (O.faults out.old) (O.faults out.new) }
+    ensures counted { IfOk result (λ shown. Counted shown (O.faults out.old) (O.faults out.new)) }
 {
     let lines = reporter.lines(alloc, &journal.entries[from..])?;
     match print(out, lines.as_slice()) {
@@ -249,9 +241,7 @@ fn print_lines<O: Sink>(
 // Prints the tail; false where the output failed, and then nothing was handed on.
 fn print_tail<O: Sink>(alloc: Global, journal: &Journal, out: &mut O) -> Result<bool, OutOfMemory>
     ensures shows { IfOk result (λ shown. Shows shown (tail_text journal.now) (O.sunk out.old) (O.sunk out.new)) }
-    ensures later { O.faults out.old ≤ O.faults out.new }
-    ensures still { result ≡ Ok true → O.faults out.new ≡ O.faults out.old }
-    ensures rose { result ≡ Ok false → Rose (O.faults out.old) (O.faults out.new) }
+    ensures counted { IfOk result (λ shown. Counted shown (O.faults out.old) (O.faults out.new)) }
 {
     let tail = tail(alloc, journal)?;
     match print(out, tail.as_slice()) {

@@ -1,4 +1,4 @@
-use Rattle.std.proofs.Common.{◌≡◌, ◌++◌, ◌∷◌, [], ap, ◌∙◌, Bool, true, false, Ok}
+use Rattle.std.proofs.Common.{◌++◌, ◌∷◌, [], ap, ◌∙◌}
 use Rattle.xd_journal.specs.declared.entry.Entry.TheVariants.{Over}
 use Rattle.xd_journal.specs.declared.entry.RunStop.{RunStop}
 use Rattle.xdrun.proofs.Whole.{Ended, runs_tests}
@@ -18,5 +18,4 @@ ended g c = record {
 pub returns-clause-ran : goal.returns-clause-ran
 returns-clause-ran g c =
     runs_tests _ _ _ _ _ _ _ _ _ _ (ended g c) _ _
-    (λ (is : c.in_ok-shown.shown ≡ false). c.in_ok-shown.ensures.rose (ap (λ (b : Bool). Ok b) is))
-    (λ (is : c.in_ok-shown.shown ≡ true). c.in_ok-shown.ensures.still (ap (λ (b : Bool). Ok b) is))
+    c.in_ok-shown.ensures.counted.rose c.in_ok-shown.ensures.counted.still
