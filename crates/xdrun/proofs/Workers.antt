@@ -18,7 +18,7 @@ use Rattle.xd_frame.specs.Writing.{Writes}
 use Rattle.xd_serve.specs.Taking.{is_whole}
 use Rattle.xd_serve.proofs.Completing.{calm, complete, goes_wrong}
 use Rattle.xdrun.specs.Outside.{LinkSeen, Workplace}
-use Rattle.xdrun.specs.Worker.{DidWorker, ServedOwn, ServesOwn, StartsNone, all_bytes, scene_at, unwritten}
+use Rattle.xdrun.specs.Worker.{DidWorker, ServedOwn, ServesOwn, all_bytes, scene_at, unwritten}
 
 -- a sink that was not written to, by what it tells later
 unwritten_by : (old new : Option Sunk) (f : Sunk → Sunk) → IfSome old (λ s. s ≡ unused) → new ≡ option_map f old → old ≡ unwritten new
@@ -102,8 +102,7 @@ serves_own l status old new number killed served started still =
       complete = own_complete status old.files.held l.spring old.programs.runs old.programs.faults old.files.faults seen served;
     }
 
-pub links_none : {A : Type 0} (seen : A → LinkSeen) (links : List A) (status : ℕ) (old new : Workplace) → links ≡ [] → StartsNone status old new → DidWorker (map seen links) status old new
-links_none {A} seen links status old new none s = subst (λ (ls : List A). DidWorker (map seen ls) status old new) (sym none) s
-
-pub links_one : {A : Type 0} (seen : A → LinkSeen) (links : List A) (l : A) (status : ℕ) (old new : Workplace) → links ≡ l ∷ [] → ServesOwn (seen l) status old new → DidWorker (map seen links) status old new
-links_one {A} seen links l status old new one s = subst (λ (ls : List A). DidWorker (map seen ls) status old new) (sym one) s
+pub links_one : {A : Type 0} (seen : A → LinkSeen) (first links : List A) (l : A) (status : ℕ) (old new : Workplace) → first ≡ [] → links ≡ first ++ l ∷ []
+    → ServesOwn (seen l) status old new → DidWorker (map seen links) status old new
+links_one {A} seen first links l status old new none one s =
+    subst (λ (ls : List A). DidWorker (map seen ls) status old new) (sym (one ∙ ap (λ (ls : List A). ls ++ l ∷ []) none)) s

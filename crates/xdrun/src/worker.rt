@@ -45,7 +45,7 @@ pub fn serve_own<R: Wait, F: Files, St: Starter, K: Children, T: Clock>(
     links.reserve(1)?;
     let link = match starter.start(alloc, &Place::Own) {
         Ok(link) => link,
-        Err(StartFault::Failed) => return Ok(ended(3, links, starter, children)),
+        Err(StartFault::Failed) => return Ok(not_started(links, starter, children)),
         Err(StartFault::OutOfMemory) => return Err(OutOfMemory),
     };
     let end = serve(rt, alloc, link, files, children, clock)?;
@@ -55,23 +55,28 @@ pub fn serve_own<R: Wait, F: Files, St: Starter, K: Children, T: Clock>(
         sink: end.sink,
         killed: false,
     });
-    Ok(ended(end.status, links, starter, end.children))
+    Ok(RunEnd {
+        status: end.status,
+        journal: None,
+        links,
+        starter,
+        children: end.children,
+    })
 }
 
-fn ended<St: Starter, K: Children>(
-    status: u8,
+fn not_started<St: Starter, K: Children>(
     links: Vec<LinkEnd<St::Src, St::Snk>>,
     starter: St,
     children: K,
 ) -> RunEnd<St, K>
-    ensures status { result.status ≡ status }
+    ensures status { result.status ≡ 3 }
     ensures journal { result.journal ≡ None }
     ensures links { result.links ≡ links }
     ensures starter { result.starter ≡ starter }
     ensures children { result.children ≡ children }
 {
     RunEnd {
-        status,
+        status: 3,
         journal: None,
         links,
         starter,

@@ -15,7 +15,7 @@ ended g c = record {
   ended = c.in_ok-push-2.ensures.ok ∙ ap (λ (how : RunStop). c.run_and_print.new.journal.entries.items ++ Over how ∷ []) c.stop_after-how.ensures;
 }
 
-pub returns-clause-ran : goal.returns-clause-ran
-returns-clause-ran g c =
+pub returns : goal.returns
+returns g c =
     runs_tests _ _ _ _ _ _ _ _ _ _ (ended g c) _ _
     c.in_ok-shown.ensures.counted.rose c.in_ok-shown.ensures.counted.still
