@@ -16,6 +16,6 @@ ended g c = record {
 }
 
 pub returns : goal.returns
-returns g c =
-    runs_tests _ _ _ _ _ _ _ _ _ _ (ended g c) _ _
-    c.in_ok-shown.ensures.counted.rose c.in_ok-shown.ensures.counted.still
+returns g c = record {
+  ran = runs_tests _ _ _ _ _ _ _ _ _ _ (ended g c) _ _ c.in_ok-shown.ensures.counted.rose c.in_ok-shown.ensures.counted.still;
+}
