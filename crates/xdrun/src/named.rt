@@ -83,8 +83,12 @@ fn read_suite<F: Files>(
     suite: &Text,
     files: &mut F,
 ) -> Result<Result<Suite, Refusal>, OutOfMemory>
-    ensures read { IfOk result (λ r. MatchResult r (HasSuite (F.held files.old) suite.now) (WhySuiteRefused (F.held files.old) suite.now (Rose (F.faults files.old) (F.faults files.new)))) }
-    ensures count { IfOk result (λ r. MatchResult r (λ _. F.faults files.new ≡ F.faults files.old) (λ why. FilesCount why (F.faults files.old) (F.faults files.new))) }
+    ensures read { IfOk result (λ r. MatchResult r
+        (HasSuite (F.held files.old) suite.now)
+        (WhySuiteRefused (F.held files.old) suite.now (Rose (F.faults files.old) (F.faults files.new)))) }
+    ensures count { IfOk result (λ r. MatchResult r
+        (λ _. F.faults files.new ≡ F.faults files.old)
+        (λ why. FilesCount why (F.faults files.old) (F.faults files.new))) }
 {
     let bytes = match files.read_file(alloc, suite, MAX_SUITE_BYTES) {
         Ok(bytes) => bytes,

@@ -55,7 +55,9 @@ fn suite_line(alloc: Global, fault: SuiteFault) -> Result<String, OutOfMemory>
 /// Prints the line, or nothing of it is handed on where standard error failed. Gives the exit status of a refusal.
 pub fn refuse<E: Sink>(alloc: Global, err: &mut E, why: Refusal) -> Result<u8, OutOfMemory>
     ensures four { IfOk result (λ status. status ≡ 4) }
-    ensures line { OnOk result ((shown : Bool) × Shows shown (refusal_line why) (E.sunk err.old) (E.sunk err.new) × (shown ≡ false → Rose (E.faults err.old) (E.faults err.new))) }
+    ensures line { OnOk result ((shown : Bool)
+        × Shows shown (refusal_line why) (E.sunk err.old) (E.sunk err.new)
+        × (shown ≡ false → Rose (E.faults err.old) (E.faults err.new))) }
 {
     let line = refusal_line(alloc, why)?;
     let _shown = print(err, line.as_bytes()).is_ok();

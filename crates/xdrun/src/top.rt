@@ -94,8 +94,10 @@ pub fn xdrun<R: Wait, F: Files, St: Starter, K: Children, T: Clock, O: Sink, E: 
           programs = record { runs = K.runs e.children; faults = K.faults e.children };
           starter = record { begun = St.begun e.starter; faults = St.faults e.starter };
         })) }
-    ensures no_link { IfOk result (λ e. serves_link (plan_of words.now) ≡ false → (e.links.items ≡ []) × (e.starter ≡ starter)) }
-    ensures no_child { IfOk result (λ e. serves_link (plan_of words.now) ≡ false → IfNone e.journal (e.children ≡ children)) }
+    ensures no_link { IfOk result (λ e. serves_link (plan_of words.now) ≡ false →
+        (e.links.items ≡ []) × (e.starter ≡ starter)) }
+    ensures no_child { IfOk result (λ e. serves_link (plan_of words.now) ≡ false →
+        IfNone e.journal (e.children ≡ children)) }
 {
     let end = match plan_of(words)? {
         Plan::Local { suite } => { run_named(rt, alloc, &suite, files, children, clock, out, err)? }

@@ -49,9 +49,16 @@ fn print_file<F: Files, O: Sink>(
     files: &mut F,
     out: &mut O,
 ) -> Result<Result<WireEnd, Refusal>, OutOfMemory>
-    ensures printed { IfOk result (λ r. MatchResult r (λ how. PrintsFile path.now (F.held files.old) (Rose (O.faults out.old) (O.faults out.new)) how (O.sunk out.old) (O.sunk out.new)) (WhyFileRefused path.now (F.held files.old) (Rose (F.faults files.old) (F.faults files.new)))) }
-    ensures still { IfOk result (λ r. MatchResult r (λ how. how ≢ OutFailed → O.faults out.new ≡ O.faults out.old) (λ _. (O.sunk out.new ≡ O.sunk out.old) × (O.faults out.new ≡ O.faults out.old))) }
-    ensures files_count { IfOk result (λ r. MatchResult r (λ _. F.faults files.new ≡ F.faults files.old) (λ why. FilesCount why (F.faults files.old) (F.faults files.new))) }
+    ensures printed { IfOk result (λ r. MatchResult r
+        (λ how. PrintsFile path.now (F.held files.old) (Rose (O.faults out.old) (O.faults out.new))
+        how (O.sunk out.old) (O.sunk out.new))
+        (WhyFileRefused path.now (F.held files.old) (Rose (F.faults files.old) (F.faults files.new)))) }
+    ensures still { IfOk result (λ r. MatchResult r
+        (λ how. how ≢ OutFailed → O.faults out.new ≡ O.faults out.old)
+        (λ _. (O.sunk out.new ≡ O.sunk out.old) × (O.faults out.new ≡ O.faults out.old))) }
+    ensures files_count { IfOk result (λ r. MatchResult r
+        (λ _. F.faults files.new ≡ F.faults files.old)
+        (λ why. FilesCount why (F.faults files.old) (F.faults files.new))) }
 {
     let bytes = match files.read_file(alloc, path, MAX_FILE_BYTES) {
         Ok(bytes) => bytes,

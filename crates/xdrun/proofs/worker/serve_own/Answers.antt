@@ -14,7 +14,7 @@ returns-clause-did g c =
       starter = record { begun = g.St.Starter.begun c.start.new.self; faults = g.St.Starter.faults c.start.new.self };
     }) in
     let own = served_own c.in_ok-end.end.status (g.F.Files.held c.args.files.now) start end (g.St.Snk.Sink.sunk c.in-Ok.link.sink) (g.St.Snk.Sink.faults c.in-Ok.link.sink)
-        (g.K.Children.runs c.args.children) (g.K.Children.faults c.args.children) (g.F.Files.faults c.args.files.now) new
-        c.in-Ok.ensures.nothing_given c.in-Ok.ensures.not_ended c.in-Ok.ensures.no_reads c.in-Ok.ensures.nothing_taken c.in-Ok.ensures.no_writes c.in_ok-end.ensures.served in
+    (g.K.Children.runs c.args.children) (g.K.Children.faults c.args.children) (g.F.Files.faults c.args.files.now) new
+    c.in-Ok.ensures.nothing_given c.in-Ok.ensures.not_ended c.in-Ok.ensures.no_reads c.in-Ok.ensures.nothing_taken c.in-Ok.ensures.no_writes c.in_ok-end.ensures.served in
     links_one _ _ _ _ _ _ _ (c.in_ok-reserve.ensures.items ∙ c.new-links.ensures.items) c.push_reserved.ensures.items
     (serves_own _ _ _ _ refl refl own c.in-Ok.ensures.started (c.in-Ok.ensures.counted.still refl))
