@@ -30,7 +30,7 @@ use Rattle.xd_report.proofs.Named.{blocks-named, lines-named}
 use Rattle.xd_report.proofs.Texts.{over-same}
 use Rattle.xdrun.specs.Child.{faults_of}
 use Rattle.xdrun.proofs.Alone.{eq_same, faults-alone, items-alone, length-alone, lists-rounds, reports-rounds, reports_alone, unstopped-rounds}
-use Rattle.xdrun.specs.Local.{RanPrinted, RunsSuite, ShowsReport, local_settings, stop_after}
+use Rattle.xdrun.specs.Local.{RanPrinted, RunsSuite, RunsTests, ShowsReport, local_settings, stop_after}
 use Rattle.xdrun.specs.Print.{AtStep, AtTail, FailedAt, PrintsReport}
 use Rattle.xdrun.proofs.Report.{failed_part}
 
@@ -97,7 +97,7 @@ module _ (tests : List Test) (j0 j1 : Journal) (shown : Bool) (runs0 runs1 : Opt
             ∙ ap (λ n. n == length ids) (e.ran.all is_shown ∙ sym (length-map tests (λ (t : Test). t.id))) ∙ eq_same (length ids),
       )
 
-  pub legal : IsLegal j1
+  legal : IsLegal j1
   legal = inl (record {
     mode = ap (λ (s : Settings). s.mode) settings_are;
     ids = ids;
@@ -108,7 +108,7 @@ module _ (tests : List Test) (j0 j1 : Journal) (shown : Bool) (runs0 runs1 : Opt
     ends = ends;
   })
 
-  pub suite : RunsSuite tests j1 runs0 runs1
+  suite : RunsSuite tests j1 runs0 runs1
   suite = record {
     results = e.ran.results;
     entries = entries_are ∙ ap (λ (s : RunStop). local_entries ids e.ran.results ++ Over s ∷ []) (sym stop_is);
@@ -117,7 +117,7 @@ module _ (tests : List Test) (j0 j1 : Journal) (shown : Bool) (runs0 runs1 : Opt
     few_in_all = e.ran.so_far.few_in_all;
   }
 
-  pub once : NamesInOrder j1
+  once : NamesInOrder j1
   once = record {
     in_order = ap (map item_of) reports_are ∙ items-alone 0 e.ran.results ∙ ap (range_with_len 0) (sym reports_count);
     within = omega (arith, e.ran.within, reports_count, ap length collected_are, length-map tests (λ (t : Test). t.id));
@@ -135,7 +135,7 @@ module _ (tests : List Test) (j0 j1 : Journal) (shown : Bool) (runs0 runs1 : Opt
   abbrev rest : List Entry
   rest = rounds 0 e.ran.results ++ Over how ∷ []
 
-  pub names : NamesTests j1
+  names : NamesTests j1
   names = record {
     lines = stands Lines (lines-named local_settings (first ∷ []) rest (record { slot = 0; worker = 0; ids = ids }) refl refl refl);
     blocks = stands Blocks (blocks-named local_settings (first ∷ []) rest (record { slot = 0; worker = 0; ids = ids }) refl refl refl);
@@ -153,27 +153,27 @@ module _ (tests : List Test) (j0 j1 : Journal) (shown : Bool) (runs0 runs1 : Opt
           (subst (λ (es : List Entry). T j1.settings es ids) (sym entries_are)
           (subst (λ (st : Settings). T st (first ∷ rest) ids) (sym settings_are) x))
 
-  pub child_faults : RoseBy (faults_of (reports_in j1)) faults0 faults1
+  child_faults : RoseBy (faults_of (reports_in j1)) faults0 faults1
   child_faults = subst (λ n. RoseBy n faults0 faults1) (sym (ap faults_of reports_are ∙ faults-alone 0 e.ran.results)) e.ran.so_far.faults
 
-  pub child_still : faults_of (reports_in j1) ≡ 0 → faults1 ≡ faults0
+  child_still : faults_of (reports_in j1) ≡ 0 → faults1 ≡ faults0
   child_still none = e.ran.so_far.still (sym (ap faults_of reports_are ∙ faults-alone 0 e.ran.results) ∙ none)
 
-  pub out_fault : (before now : ℕ) → (shown ≡ false → Rose before now) → stop_of j1 ≡ OutFault → Rose before now
+  out_fault : (before now : ℕ) → (shown ≡ false → Rose before now) → stop_of j1 ≡ OutFault → Rose before now
   out_fault before now rose stopped = by_end shown refl
     where
       by_end : (b : Bool) → shown ≡ b → Rose before now
       by_end true is_shown = let no : Completed ≡ OutFault = sym (stop_is ∙ ap stop_after is_shown) ∙ stopped in absurd (cc)
       by_end false is_shown = rose is_shown
 
-  pub still : (before now : ℕ) → (shown ≡ true → now ≡ before) → stop_of j1 ≢ OutFault → now ≡ before
+  still : (before now : ℕ) → (shown ≡ true → now ≡ before) → stop_of j1 ≢ OutFault → now ≡ before
   still before now same stopped = by_end shown refl
     where
       by_end : (b : Bool) → shown ≡ b → now ≡ before
       by_end true is_shown = same is_shown
       by_end false is_shown = absurd (stopped (stop_is ∙ ap stop_after is_shown))
 
-  pub completed : (before now : ℕ) → (shown ≡ false → Rose before now) → StoodStill before now → stop_of j1 ≡ Completed
+  completed : (before now : ℕ) → (shown ≡ false → Rose before now) → StoodStill before now → stop_of j1 ≡ Completed
   completed before now rose still = by_end shown refl
     where
       by_end : (b : Bool) → shown ≡ b → stop_of j1 ≡ Completed
@@ -190,7 +190,7 @@ module _ (tests : List Test) (j0 j1 : Journal) (shown : Bool) (runs0 runs1 : Opt
   failed_at (inl s) = inl (subst (λ (st : Settings). AtStep st j0.entries.items out0 out1) (sym e.same_settings) s)
   failed_at (inr t) = inr (subst (λ (st : Settings). AtTail (length (reports_in j1) ≡ length (collected_in j1)) st j0.entries.items out0 out1) (sym e.same_settings) (record { all = all_reported t.all; shows = t.shows }))
 
-  pub printed : PrintsReport (stop_of j1) j1 out0 out1
+  printed : PrintsReport (stop_of j1) j1 out0 out1
   printed = subst (λ (s : RunStop). PrintsReport s j1 out0 out1) (sym stop_is) (by_end shown refl e.ran.shows)
     where
       by_end : (b : Bool) → shown ≡ b → ShowsReport b (length e.ran.results ≡ length tests) j0 out0 out1 → PrintsReport (stop_after b) j1 out0 out1
@@ -201,3 +201,20 @@ module _ (tests : List Test) (j0 j1 : Journal) (shown : Bool) (runs0 runs1 : Opt
         failed = failed_at failed;
         shows = subst (λ (t : List ℕ). PrintedPart t out0 out1) (sym text_same) (failed_part j0.settings j0.entries.items out0 out1 _ failed);
       }
+
+  -- the run, by how the output's count of faults went with it
+  pub runs_tests : (before now : ℕ) → (shown ≡ false → Rose before now) → (shown ≡ true → now ≡ before)
+      → RunsTests tests j1 (record { sunk = out0; faults = before }) (record { sunk = out1; faults = now }) (record { runs = runs0; faults = faults0 }) (record { runs = runs1; faults = faults1 })
+  runs_tests before now rose same = record {
+    legal = legal;
+    settings = settings_are;
+    suite = suite;
+    once = once;
+    names = names;
+    printed = printed;
+    out_fault = out_fault before now rose;
+    still = still before now same;
+    completed = completed before now rose;
+    child_faults = child_faults;
+    child_still = child_still;
+  }

@@ -1,5 +1,5 @@
 -- What all the bytes of the own streams say of how they were served.
-use Rattle.std.proofs.Common.{◌≡◌, ℕ, List, [], ◌++◌, length, take, drop, Option, Some, None, ap, sym, ◌∙◌, subst, arith}
+use Rattle.std.proofs.Common.{◌≡◌, ℕ, List, [], ◌∷◌, ◌++◌, length, map, take, drop, Option, Some, None, ap, sym, ◌∙◌, subst, arith}
 use Rattle.std.specs.Prelude.{◌≢◌, Bool, true, false, option_map, IfSome}
 use Rattle.std.proofs.lemmas.Grind.{common_steps}
 use Rattle.xd_edge.specs.Children.{ChildRun}
@@ -8,6 +8,8 @@ use Rattle.xd_edge.specs.Files.{Held}
 use Rattle.xd_edge.specs.Sink.{Sunk}
 use Rattle.xd_link.specs.FreshLink.{unused}
 use Rattle.xd_link.specs.Source.{Gave, Supply, with_given}
+use Rattle.xd_link.specs.Starter.{with_start}
+use Rattle.xd_link.specs.declared.place.Place.TheVariants.{Own}
 use Rattle.xd_serve.specs.Complete.{AreGood, GoesWrong}
 use Rattle.xd_serve.specs.Going.{Scene, scene}
 use Rattle.xd_link.specs.Spring.{Spring}
@@ -15,7 +17,8 @@ use Rattle.xd_serve.specs.Served.{Served}
 use Rattle.xd_frame.specs.Writing.{Writes}
 use Rattle.xd_serve.specs.Taking.{is_whole}
 use Rattle.xd_serve.proofs.Completing.{calm, complete, goes_wrong}
-use Rattle.xdrun.specs.Worker.{ServedOwn, all_bytes, unwritten}
+use Rattle.xdrun.specs.Outside.{LinkSeen, Workplace}
+use Rattle.xdrun.specs.Worker.{DidWorker, ServedOwn, ServesOwn, all_bytes, scene_at, unwritten}
 
 -- a sink that was not written to, by what it tells later
 unwritten_by : (old new : Option Sunk) (f : Sunk → Sunk) → IfSome old (λ s. s ≡ unused) → new ≡ option_map f old → old ≡ unwritten new
@@ -82,3 +85,24 @@ module _ (status : ℕ) (held : Option Held) (end : Spring) (runs : Option (List
       each : (o : Option Supply) → IfSome o (λ t. AreGood held t.left before new → StoodStill s.start.faults end.faults → StoodStill 0 new.sink_faults → status ≡ 0) → IfSome o (λ t. AreGood held t.left before new → end.faults ≡ 0 → new.sink_faults ≡ 0 → status ≡ 0)
       each None w = tt
       each (Some t) w = λ good source sink. w good (subst (λ (n : ℕ). StoodStill n end.faults) (sym s.no_reads) (still_none end.faults source)) (still_none new.sink_faults sink)
+
+-- the link to the own streams, by how it was served
+pub serves_own : (l : LinkSeen) (status : ℕ) (old new : Workplace) → l.worker ≡ 0 → l.killed ≡ false
+    → ServedOwn status old.files.held l.spring old.programs.runs old.programs.faults old.files.faults (scene_at l.sunk l.writes new)
+    → new.starter.begun ≡ option_map (with_start Own) old.starter.begun → new.starter.faults ≡ old.starter.faults → ServesOwn l status old new
+serves_own l status old new number killed served started still =
+    let seen = scene_at l.sunk l.writes new in
+    record {
+      number = number;
+      not_killed = killed;
+      served = served;
+      started = started;
+      calm = λ zero. let c = own_calm status old.files.held l.spring old.programs.runs old.programs.faults old.files.faults seen served zero in (still, c.0, c.1);
+      wrong = own_wrong status old.files.held l.spring old.programs.runs old.programs.faults old.files.faults seen served;
+      complete = own_complete status old.files.held l.spring old.programs.runs old.programs.faults old.files.faults seen served;
+    }
+
+pub links_one : {A : Type 0} (seen : A → LinkSeen) (first links : List A) (l : A) (status : ℕ) (old new : Workplace) → first ≡ [] → links ≡ first ++ l ∷ []
+    → ServesOwn (seen l) status old new → DidWorker (map seen links) status old new
+links_one {A} seen first links l status old new none one s =
+    subst (λ (ls : List A). DidWorker (map seen ls) status old new) (sym (one ∙ ap (λ (ls : List A). ls ++ l ∷ []) none)) s

@@ -6,3 +6,4 @@ pub mod Top
 pub mod Wire
 pub mod Words
 pub mod Worker
+pub mod Outside

@@ -1,9 +1,9 @@
 -- A run in the program itself, as far as it came.
-use Rattle.std.specs.Prelude.{ℕ, ◌≡◌, ◌+◌, ◌≤◌, nat_le, Bool, true, false, List, [], ◌∷◌, ◌++◌, map, take, length, sum_by, Option, Some, None, option_map, unwrap_or}
+use Rattle.std.specs.Prelude.{ℕ, ◌≡◌, ◌≢◌, ◌+◌, ◌≤◌, nat_le, Bool, true, false, List, [], ◌∷◌, ◌++◌, map, take, length, sum_by, Option, Some, None, option_map, unwrap_or}
 use Rattle.std.specs.List.{list_all}
 use Rattle.xd_edge.specs.declared.mode.ModeKind.TheVariants.{Local}
 use Rattle.xd_edge.specs.Children.{ChildRun}
-use Rattle.xd_edge.specs.Faults.{RoseBy}
+use Rattle.xd_edge.specs.Faults.{Rose, RoseBy, StoodStill}
 use Rattle.xd_edge.specs.Printing.{Shows}
 use Rattle.xd_edge.specs.Sink.{Sunk, Printed}
 use Rattle.xd_suite.specs.declared.test.Test.{Test}
@@ -17,14 +17,20 @@ use Rattle.xd_journal.specs.declared.journal.Journal.{Journal}
 use Rattle.xd_journal.specs.Kept.{most_of_one, most_of_all, room_behind, kept_of}
 use Rattle.xd_journal.specs.Local.{TestResult, round, local_entries}
 use Rattle.xd_ledger.specs.Ending.{stop_of}
+use Rattle.xd_ledger.specs.Legal.{IsLegal}
+use Rattle.xd_ledger.specs.Reports.{NamesInOrder, reports_in}
 use Rattle.xd_ledger.specs.State.{all_moved, no_one}
 use Rattle.xd_report.specs.declared.reporter.Reporter.{Reporter}
+use Rattle.xd_report.specs.EachReport.{NamesTests}
 use Rattle.xd_report.specs.Follows.{Follows}
 use Rattle.xd_report.specs.Lines.{lines_from, run_lines}
+use Rattle.xd_report.specs.Status.{status_of}
 use Rattle.xd_report.specs.Text.{text_of}
 use Rattle.xd_serve.specs.Child.{fault_count, outcome_of}
-use Rattle.xdrun.specs.Child.{RanChild}
-use Rattle.xdrun.specs.Print.{AtStep, FailedAt}
+use Rattle.xdrun.specs.Child.{RanChild, faults_of}
+use Rattle.xdrun.specs.Outside.{Output, Programs, Streams}
+use Rattle.xdrun.specs.Print.{AtStep, FailedAt, PrintsReport}
+use Rattle.xdrun.specs.Refusal.{HasSuite, RefusesSuite}
 
 -- without workers, and without a limit on failures
 abbrev pub local_settings : Settings
@@ -129,3 +135,31 @@ pub record RanPrinted (shown : Bool) (tests : List Test) (ids : List (List ℕ))
 abbrev pub stop_after : Bool → RunStop
 stop_after true = Completed
 stop_after false = OutFault
+
+-- A run of these tests, its journal, its report and its programs.
+pub record RunsTests (tests : List Test) (j : Journal) (out_old out_new : Output) (old new : Programs) : Type 0 where
+  pub legal : IsLegal j
+  pub settings : j.settings ≡ local_settings
+  pub suite : RunsSuite tests j old.runs new.runs
+  pub once : NamesInOrder j
+  pub names : NamesTests j
+  pub printed : PrintsReport (stop_of j) j out_old.sunk out_new.sunk
+  pub out_fault : stop_of j ≡ OutFault → Rose out_old.faults out_new.faults
+  pub still : stop_of j ≢ OutFault → out_new.faults ≡ out_old.faults
+  pub completed : StoodStill out_old.faults out_new.faults → stop_of j ≡ Completed
+  pub child_faults : RoseBy (faults_of (reports_in j)) old.faults new.faults
+  pub child_still : faults_of (reports_in j) ≡ 0 → new.faults ≡ old.faults
+
+-- The suite file of this name was run: its tests, with their journal, and the status of the journal.
+pub record RunsNamed (suite : List ℕ) (j : Journal) (code : ℕ) (old new : Streams) (programs_old programs_new : Programs) : Type 0 where
+  pub tests : List Test
+  pub named : HasSuite old.files.held suite tests
+  pub run : RunsTests tests j old.out new.out programs_old programs_new
+  pub status : code ≡ status_of j
+  pub files_still : new.files.faults ≡ old.files.faults
+  pub quiet : new.err ≡ old.err
+
+-- What SUITE -n 0 came to: a run with a journal, or a refusal of the suite file.
+abbrev pub DidLocal : List ℕ → Option Journal → ℕ → Streams → Streams → Programs → Programs → Type 0
+DidLocal suite (Some j) status old new programs_old programs_new = RunsNamed suite j status old new programs_old programs_new
+DidLocal suite None status old new programs_old programs_new = RefusesSuite suite status old new

@@ -1,14 +1,41 @@
--- A run of the suite that the words name.
-use Rattle.std.specs.Prelude.{ℕ, List, Option}
-use Rattle.xd_edge.specs.Files.{Held}
-use Rattle.xd_edge.specs.Children.{ChildRun}
-use Rattle.xd_suite.specs.declared.test.Test.{Test}
+-- What the top call came to, by what the words ask for.
+use Rattle.std.specs.Prelude.{ℕ, ◌≡◌, List, Option, None}
 use Rattle.xd_journal.specs.declared.journal.Journal.{Journal}
-use Rattle.xdrun.specs.Local.{RunsSuite}
-use Rattle.xdrun.specs.Refusal.{NamesSuite}
+use Rattle.xdrun.specs.declared.refusal.Refusal.TheVariants as refusal
+use Rattle.xdrun.specs.declared.words.Plan.{Plan}
+use Rattle.xdrun.specs.declared.words.Plan.TheVariants.{Local, Wire, Worker, BadWords}
+use Rattle.xdrun.specs.Local.{DidLocal}
+use Rattle.xdrun.specs.Outside.{LinkSeen, Outside, workplace}
+use Rattle.xdrun.specs.Refusal.{Refuses}
+use Rattle.xdrun.specs.Wire.{DidWire}
+use Rattle.xdrun.specs.Worker.{DidWorker}
 
--- The journal is that of the suite which the words name: its ids, and the results of its programs.
-pub record RunsNamed (words : List (List ℕ)) (held : Option Held) (j : Journal) (old new : Option (List ChildRun)) : Type 0 where
-  pub tests : List Test
-  pub named : NamesSuite words held tests
-  pub run : RunsSuite tests j old new
+-- what the call hands back: the exit status, the journal of the run, where one was begun, and the links that were started
+pub record End : Type 0 where
+  pub status : ℕ
+  pub journal : Option Journal
+  pub links : List LinkSeen
+
+-- wire: no run
+pub record Messages (file : List ℕ) (end : End) (old new : Outside) : Type 0 where
+  pub no_run : end.journal ≡ None
+  pub did : DidWire file end.status old.streams new.streams
+
+-- worker: no run, and no report
+pub record Serves (end : End) (old new : Outside) : Type 0 where
+  pub no_run : end.journal ≡ None
+  pub no_report : new.streams.out ≡ old.streams.out
+  pub quiet : new.streams.err ≡ old.streams.err
+  pub did : DidWorker end.links end.status (workplace old) (workplace new)
+
+-- bad words: no run
+pub record RefusesWords (end : End) (old new : Outside) : Type 0 where
+  pub no_run : end.journal ≡ None
+  pub did : Refuses refusal.BadWords end.status old.streams new.streams
+
+-- The call did what the words ask for.
+abbrev pub Did : Plan → End → Outside → Outside → Type 0
+Did (Local suite) end old new = DidLocal suite end.journal end.status old.streams new.streams old.programs new.programs
+Did (Wire file) end old new = Messages file end old new
+Did Worker end old new = Serves end old new
+Did BadWords end old new = RefusesWords end old new

@@ -1,6 +1,8 @@
 -- What the words behind the program's name ask for. The options are pytest-xdist's; the rest is a choice of this project.
-use Rattle.std.specs.Prelude.{ℕ, ◌==◌, nat_le, Bool, false, ◌&&◌, ◌||◌, not, List, [], ◌∷◌, length, Option, Some, None, if◌then◌else◌, codes}
+use Rattle.std.specs.Prelude.{ℕ, ◌==◌, nat_le, Bool, true, false, ◌&&◌, ◌||◌, not, List, [], ◌∷◌, length, if◌then◌else◌, codes}
 use Rattle.std.specs.Str.{bytes_eq, encode_utf8_all}
+use Rattle.xdrun.specs.declared.words.Plan.{Plan}
+use Rattle.xdrun.specs.declared.words.Plan.TheVariants.{Local, Wire, Worker, BadWords}
 
 -- a word, by its UTF-8
 abbrev pub is_word : List ℕ → List ℕ → Bool
@@ -21,17 +23,14 @@ is_command word = is_word word (codes "worker") || is_word word (codes "socketse
 abbrev pub is_suite : List ℕ → Bool
 is_suite word = is_path word && not (is_command word)
 
--- the suite file of SUITE -n 0
-abbrev pub suite_named : List (List ℕ) → Option (List ℕ)
-suite_named (suite ∷ option ∷ count ∷ []) = if is_suite suite && (is_word option (codes "-n") && is_word count (codes "0")) then Some suite else None
-suite_named _ = None
+-- what the words ask for
+abbrev pub plan_of : List (List ℕ) → Plan
+plan_of (command ∷ []) = if is_word command (codes "worker") then Worker else BadWords
+plan_of (command ∷ file ∷ []) = if is_word command (codes "wire") && is_path file then Wire file else BadWords
+plan_of (suite ∷ option ∷ count ∷ []) = if is_suite suite && (is_word option (codes "-n") && is_word count (codes "0")) then Local suite else BadWords
+plan_of _ = BadWords
 
--- the file of messages of wire FILE
-abbrev pub messages_named : List (List ℕ) → Option (List ℕ)
-messages_named (command ∷ file ∷ []) = if is_word command (codes "wire") && is_path file then Some file else None
-messages_named _ = None
-
--- worker, alone
-abbrev pub names_worker : List (List ℕ) → Bool
-names_worker (command ∷ []) = is_word command (codes "worker")
-names_worker _ = false
+-- the plan serves a link
+abbrev pub serves_link : Plan → Bool
+serves_link Worker = true
+serves_link _ = false

@@ -1,13 +1,18 @@
 -- What the command worker does. A choice of this project; the worker's side is execnet's `serve_popen`.
-use Rattle.std.specs.Prelude.{ℕ, ◌≡◌, ◌++◌, false, List, [], Option, IfSome, option_map}
+use Rattle.std.specs.Prelude.{ℕ, ◌≡◌, ◌≢◌, ◌++◌, false, List, [], ◌∷◌, Option, IfSome, option_map}
 use Rattle.xd_edge.specs.Children.{ChildRun}
+use Rattle.xd_edge.specs.Faults.{Rose}
 use Rattle.xd_edge.specs.Files.{Held}
 use Rattle.xd_edge.specs.Sink.{Sunk}
 use Rattle.xd_link.specs.FreshLink.{unused}
 use Rattle.xd_link.specs.Source.{Supply}
+use Rattle.xd_link.specs.Starter.{with_failure, with_start}
+use Rattle.xd_link.specs.declared.place.Place.TheVariants.{Own}
+use Rattle.xd_serve.specs.Complete.{AreGood, GoesWrong}
 use Rattle.xd_serve.specs.Going.{Scene, scene}
 use Rattle.xd_link.specs.Spring.{Spring}
 use Rattle.xd_serve.specs.Served.{Served}
+use Rattle.xdrun.specs.Outside.{LinkSeen, Workplace}
 
 -- all the bytes of a link that had given none before
 abbrev pub all_bytes : Supply → List ℕ
@@ -27,3 +32,33 @@ pub record ServedOwn (status : ℕ) (held : Option Held) (end : Spring) (runs : 
   pub no_reads : start.faults ≡ 0
   pub none_taken : IfSome sunk (λ s. s ≡ unused)
   pub served : Served status held start end (scene sunk 0 runs child_faults file_faults) new
+
+-- what is seen of the worker's link and of what it works on, as the loop that serves a link sees it
+abbrev pub scene_at : Option Sunk → ℕ → Workplace → Scene
+scene_at sunk writes place = scene sunk writes place.programs.runs place.programs.faults place.files.faults
+
+-- The link to the own streams was started and served to its end. The status is 0 only where no count of the starter and
+-- the link rose, and another one only where something is wrong with the link; where the link tells its bytes, nothing is
+-- wrong with all of them and no count rises, it is 0.
+pub record ServesOwn (l : LinkSeen) (status : ℕ) (old new : Workplace) : Type 0 where
+  pub number : l.worker ≡ 0
+  pub not_killed : l.killed ≡ false
+  pub served : ServedOwn status old.files.held l.spring old.programs.runs old.programs.faults old.files.faults (scene_at l.sunk l.writes new)
+  pub started : new.starter.begun ≡ option_map (with_start Own) old.starter.begun
+  pub calm : status ≡ 0 → (new.starter.faults ≡ old.starter.faults) × (l.spring.faults ≡ 0) × (l.writes ≡ 0)
+  pub wrong : status ≢ 0 → IfSome l.spring.supply (λ s. GoesWrong old.files.held (all_bytes s) 0 l.spring.faults (scene_at (unwritten l.sunk) 0 old) (scene_at l.sunk l.writes new))
+  pub complete : IfSome l.spring.supply (λ s. AreGood old.files.held (all_bytes s) (scene_at (unwritten l.sunk) 0 old) (scene_at l.sunk l.writes new)
+      → l.spring.faults ≡ 0 → l.writes ≡ 0 → status ≡ 0)
+
+-- The link to the own streams could not be started.
+pub record StartsNone (status : ℕ) (old new : Workplace) : Type 0 where
+  pub three : status ≡ 3
+  pub fault : Rose old.starter.faults new.starter.faults
+  pub asked : new.starter.begun ≡ option_map (with_failure Own) old.starter.begun
+  pub no_child : new.programs.runs ≡ old.programs.runs
+
+-- What worker came to, by its link.
+abbrev pub DidWorker : List LinkSeen → ℕ → Workplace → Workplace → Type 0
+DidWorker [] status old new = StartsNone status old new
+DidWorker (l ∷ []) status old new = ServesOwn l status old new
+DidWorker (l ∷ m ∷ ls) status old new = ⊥

@@ -1,7 +1,7 @@
 // A test's program, from its start to its end.
 ghost use Rattle.std.specs.Prelude.{◌≡◌, ◌<◌, ◌≤◌, ℕ, [], ◌++◌, length, take, vec_capacity, IsTrue, IfOk};
 ghost use Rattle.std.specs.Bool.{OnTrue, OnFalse};
-ghost use Rattle.xd_edge.specs.Faults.{Rose, RoseBy};
+ghost use Rattle.xd_edge.specs.Faults.{Counted, RoseBy};
 ghost use Rattle.xd_journal.specs.Kept.{kept_of};
 ghost use Rattle.xd_serve.specs.Child.{fault_count};
 ghost use Rattle.xdrun.specs.Child.{CameTo, Drained, DrainedPart, RanChild};
@@ -86,9 +86,7 @@ fn drain<R: Wait, K: Children>(
     ensures is_read { IsTrue (K.is_read child.new) }
     ensures whole { OnTrue result (Drained room (K.place child.old) output.new.items (K.runs children.old) (K.runs children.new)) }
     ensures part { OnFalse result (DrainedPart room (K.place child.old) output.new.items (K.runs children.old) (K.runs children.new)) }
-    ensures later { K.faults children.old ≤ K.faults children.new }
-    ensures still { OnTrue result (K.faults children.new ≡ K.faults children.old) }
-    ensures rose { OnFalse result (Rose (K.faults children.old) (K.faults children.new)) }
+    ensures counted { Counted result (K.faults children.old) (K.faults children.new) }
 {
     let mut buffer = [0u8; 4096];
     for _ in rt.forever() {

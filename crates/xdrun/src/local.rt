@@ -1,6 +1,6 @@
 // The tests of a suite, one after another in this program.
 ghost use Rattle.std.specs.Prelude.{◌≡◌, ◌≢◌, ◌<◌, ◌≤◌, [], map, true, false, Ok, drop, length, IfOk, OnOk};
-ghost use Rattle.xd_edge.specs.Faults.{Rose, RoseBy, StoodStill};
+ghost use Rattle.xd_edge.specs.Faults.{Counted};
 ghost use Rattle.xd_edge.specs.Printing.{Shows};
 ghost use Rattle.xd_suite.specs.Tests.{run_at};
 ghost use Rattle.xd_journal.specs.declared.entry.RunStop.TheVariants.{Completed, OutFault};
@@ -16,7 +16,7 @@ ghost use Rattle.xd_report.specs.Follows.{Follows};
 ghost use Rattle.xd_report.specs.Lines.{lines_from};
 ghost use Rattle.xd_report.specs.Text.{tail_text};
 ghost use Rattle.xdrun.specs.Child.{faults_of};
-ghost use Rattle.xdrun.specs.Local.{AddsRound, RanAll, RanPrinted, RanTest, RunsSuite, Told, local_settings, stop_after};
+ghost use Rattle.xdrun.specs.Local.{AddsRound, RanAll, RanPrinted, RanTest, RunsTests, Told, local_settings, stop_after};
 ghost use Rattle.xdrun.specs.Print.{PrintsReport};
 
 use crate::child::run_child;
@@ -43,17 +43,11 @@ pub fn run_suite<R: Wait, K: Children, T: Clock, O: Sink>(
     clock: &mut T,
     out: &mut O,
 ) -> Result<Journal, OutOfMemory>
-    ensures legal { IfOk result IsLegal }
-    ensures settings { IfOk result (λ j. j.settings ≡ local_settings) }
-    ensures suite { IfOk result (λ j. RunsSuite suite.now j (K.runs children.old) (K.runs children.new)) }
-    ensures once { IfOk result NamesInOrder }
-    ensures names { IfOk result NamesTests }
-    ensures printed { IfOk result (λ j. PrintsReport (stop_of j) j (O.sunk out.old) (O.sunk out.new)) }
-    ensures out_fault { IfOk result (λ j. stop_of j ≡ OutFault → Rose (O.faults out.old) (O.faults out.new)) }
-    ensures still { IfOk result (λ j. stop_of j ≢ OutFault → O.faults out.new ≡ O.faults out.old) }
-    ensures completed { IfOk result (λ j. StoodStill (O.faults out.old) (O.faults out.new) → stop_of j ≡ Completed) }
-    ensures child_faults { IfOk result (λ j. RoseBy (faults_of (reports_in j)) (K.faults children.old) (K.faults children.new)) }
-    ensures child_still { IfOk result (λ j. faults_of (reports_in j) ≡ 0 → K.faults children.new ≡ K.faults children.old) }
+    ensures ran { IfOk result (λ j. RunsTests suite.now j
+        (record { sunk = O.sunk out.old; faults = O.faults out.old })
+        (record { sunk = O.sunk out.new; faults = O.faults out.new })
+        (record { runs = K.runs children.old; faults = K.faults children.old })
+        (record { runs = K.runs children.new; faults = K.faults children.new })) }
 {
     let mut journal = Journal::new(alloc, local_settings());
     let ids = suite.ids(alloc, ModeKind::Local)?;
@@ -103,9 +97,7 @@ fn run_and_print<R: Wait, K: Children, T: Clock, O: Sink>(
     requires { journal.old.entries.items ≡ local_entries (map (λ t. t.id) suite.now) [] }
     ensures ran { IfOk result (λ shown. RanPrinted shown suite.now (map (λ t. t.id) suite.now) journal.new (K.runs children.old) (K.runs children.new) (K.faults children.old) (K.faults children.new) (O.sunk out.old) (O.sunk out.new)) }
     ensures settings { journal.new.settings ≡ journal.old.settings }
-    ensures later { O.faults out.old ≤ O.faults out.new }
-    ensures still { result ≡ Ok true → O.faults out.new ≡ O.faults out.old }
-    ensures rose { result ≡ Ok false → Rose (O.faults out.old) (O.faults out.new) }
+    ensures counted { IfOk result (λ shown. Counted shown (O.faults out.old) (O.faults out.new)) }
 {
     let ran = run_tests(rt, alloc, suite, journal, children, clock, out)?;
     if !ran {
@@ -128,9 +120,7 @@ fn run_tests<R: Wait, K: Children, T: Clock, O: Sink>(
     requires { journal.old.entries.items ≡ local_entries (map (λ t. t.id) suite.now) [] }
     ensures ran { IfOk result (λ shown. RanAll shown suite.now (map (λ t. t.id) suite.now) journal.new (K.runs children.old) (K.runs children.new) (K.faults children.old) (K.faults children.new) (O.sunk out.old) (O.sunk out.new)) }
     ensures settings { journal.new.settings ≡ journal.old.settings }
-    ensures later { O.faults out.old ≤ O.faults out.new }
-    ensures still { result ≡ Ok true → O.faults out.new ≡ O.faults out.old }
-    ensures rose { result ≡ Ok false → Rose (O.faults out.old) (O.faults out.new) }
+    ensures counted { IfOk result (λ shown. Counted shown (O.faults out.old) (O.faults out.new)) }
 {
     let mut reporter = Reporter::new(alloc, journal.settings);
     let collected = print_lines(alloc, &mut reporter, journal, 0, out)?;
@@ -187,9 +177,7 @@ fn run_test<R: Wait, K: Children, T: Clock, O: Sink>(
     ensures told { OnOk result (Told reporter.new journal.new) }
     ensures settings { journal.new.settings ≡ journal.old.settings }
     ensures children_later { K.faults children.old ≤ K.faults children.new }
-    ensures later { O.faults out.old ≤ O.faults out.new }
-    ensures still { result ≡ Ok true → O.faults out.new ≡ O.faults out.old }
-    ensures rose { result ≡ Ok false → Rose (O.faults out.old) (O.faults out.new) }
+    ensures counted { IfOk result (λ shown. Counted shown (O.faults out.old) (O.faults out.new)) }
 {
     let start = clock.now();
     let room = room_behind(*spent);
@@ -241,9 +229,7 @@ fn print_lines<O: Sink>(
     requires { from ≤ length journal.now.entries.items }
     ensures shows { (s : State) → Follows reporter.old s → IfOk result (λ shown. Shows shown (lines_from s (drop from journal.now.entries.items)) (O.sunk out.old) (O.sunk out.new)) }
     ensures follows { (s : State) → Follows reporter.old s → OnOk result (Follows reporter.new (all_moved s (drop from journal.now.entries.items))) }
-    ensures later { O.faults out.old ≤ O.faults out.new }
-    ensures still { result ≡ Ok true → O.faults out.new ≡ O.faults out.old }
-    ensures rose { result ≡ Ok false → Rose (O.faults out.old) (O.faults out.new) }
+    ensures counted { IfOk result (λ shown. Counted shown (O.faults out.old) (O.faults out.new)) }
 {
     let lines = reporter.lines(alloc, &journal.entries[from..])?;
     match print(out, lines.as_slice()) {
@@ -255,9 +241,7 @@ fn print_lines<O: Sink>(
 // Prints the tail; false where the output failed, and then nothing was handed on.
 fn print_tail<O: Sink>(alloc: Global, journal: &Journal, out: &mut O) -> Result<bool, OutOfMemory>
     ensures shows { IfOk result (λ shown. Shows shown (tail_text journal.now) (O.sunk out.old) (O.sunk out.new)) }
-    ensures later { O.faults out.old ≤ O.faults out.new }
-    ensures still { result ≡ Ok true → O.faults out.new ≡ O.faults out.old }
-    ensures rose { result ≡ Ok false → Rose (O.faults out.old) (O.faults out.new) }
+    ensures counted { IfOk result (λ shown. Counted shown (O.faults out.old) (O.faults out.new)) }
 {
     let tail = tail(alloc, journal)?;
     match print(out, tail.as_slice()) {

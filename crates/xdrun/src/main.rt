@@ -3,9 +3,9 @@
 
 mod child;
 mod local;
+mod named;
 mod refusal;
 mod top;
-mod unlinked;
 mod wire;
 mod words;
 mod worker;

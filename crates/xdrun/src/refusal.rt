@@ -1,5 +1,5 @@
 // Why nothing is run.
-ghost use Rattle.std.specs.Prelude.{◌≡◌, ◌≤◌, false, IfOk, string_bytes};
+ghost use Rattle.std.specs.Prelude.{◌≡◌, Bool, false, IfOk, OnOk, string_bytes};
 ghost use Rattle.xd_edge.specs.Faults.{Rose};
 ghost use Rattle.xd_edge.specs.Printing.{Shows};
 ghost use Rattle.xd_suite.specs.FaultText.{fault_text};
@@ -52,13 +52,14 @@ fn suite_line(alloc: Global, fault: SuiteFault) -> Result<String, OutOfMemory>
     Ok(line)
 }
 
-/// Prints the line; false where standard error failed, and then nothing of it was handed on.
-pub fn refuse<E: Sink>(alloc: Global, err: &mut E, why: Refusal) -> Result<bool, OutOfMemory>
-    ensures line { IfOk result (λ shown. Shows shown (refusal_line why) (E.sunk err.old) (E.sunk err.new)) }
-    ensures later { E.faults err.old ≤ E.faults err.new }
-    ensures rose { IfOk result (λ shown. shown ≡ false → Rose (E.faults err.old) (E.faults err.new)) }
+/// Prints the line, or nothing of it is handed on where standard error failed. Gives the exit status of a refusal.
+pub fn refuse<E: Sink>(alloc: Global, err: &mut E, why: Refusal) -> Result<u8, OutOfMemory>
+    ensures four { IfOk result (λ status. status ≡ 4) }
+    ensures line { OnOk result ((shown : Bool)
+        × Shows shown (refusal_line why) (E.sunk err.old) (E.sunk err.new)
+        × (shown ≡ false → Rose (E.faults err.old) (E.faults err.new))) }
 {
     let line = refusal_line(alloc, why)?;
-    let shown = print(err, line.as_bytes()).is_ok();
-    Ok(shown)
+    let _shown = print(err, line.as_bytes()).is_ok();
+    Ok(4)
 }

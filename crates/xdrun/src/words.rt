@@ -1,48 +1,38 @@
 // What the words behind the program's name ask for.
-ghost use Rattle.std.specs.Prelude.{◌≡◌, option_copied};
-ghost use Rattle.xdrun.specs.Words.{begins_with_dash, is_command, is_path, is_suite, is_word, messages_named, names_worker, suite_named};
+ghost use Rattle.std.specs.Prelude.{◌≡◌, IfOk};
+ghost use Rattle.xdrun.specs.Words.{begins_with_dash, is_command, is_path, is_suite, is_word, plan_of};
 
-use xd_edge::Text;
+use xd_edge::{OutOfMemory, Text};
 
-/// The suite file of `SUITE -n 0`.
-pub fn suite_named(words: &[Text]) -> Option<&Text>
-    ensures { option_copied result ≡ suite_named words.now }
-{
-    match words {
-        [suite, option, count] => {
-            if is_suite(suite) && (is_word(option, "-n") && is_word(count, "0")) {
-                Some(suite)
-            } else {
-                None
-            }
-        }
-        _ => None,
-    }
+/// What the words ask for.
+#[derive(Drop)]
+pub enum Plan {
+    /// `SUITE -n 0`: the tests of a suite file are run in this program, one after another.
+    Local { suite: Text },
+    /// `wire FILE`: a file of messages is printed as text.
+    Wire { file: Text },
+    /// `worker`: the program's own streams are served as a worker.
+    Worker,
+    /// The words are of no form that is known.
+    BadWords,
 }
 
-/// The file of messages of `wire FILE`.
-pub fn messages_named(words: &[Text]) -> Option<&Text>
-    ensures { option_copied result ≡ messages_named words.now }
+/// The plan of the words.
+pub fn plan_of(words: &[Text]) -> Result<Plan, OutOfMemory>
+    ensures { IfOk result (λ plan. plan ≡ plan_of words.now) }
 {
     match words {
-        [command, file] => {
-            if is_word(command, "wire") && is_path(file) {
-                Some(file)
-            } else {
-                None
-            }
+        [command] if is_word(command, "worker") => Ok(Plan::Worker),
+        [command, file] if is_word(command, "wire") && is_path(file) => {
+            let file = file.copy()?;
+            Ok(Plan::Wire { file })
         }
-        _ => None,
-    }
-}
-
-/// The words are `worker`, alone.
-pub fn names_worker(words: &[Text]) -> bool
-    ensures { result ≡ names_worker words.now }
-{
-    match words {
-        [command] => is_word(command, "worker"),
-        _ => false,
+        [suite, option, count]
+            if is_suite(suite) && (is_word(option, "-n") && is_word(count, "0")) => {
+            let suite = suite.copy()?;
+            Ok(Plan::Local { suite })
+        }
+        _ => Ok(Plan::BadWords),
     }
 }
 

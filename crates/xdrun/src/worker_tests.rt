@@ -79,9 +79,9 @@ fn starter_of(alloc: Global, told: &[u8], fails: Indices) -> Result<MemStarter, 
     Ok(MemStarter::new(alloc, links, fails))
 }
 
-// What the link's sink took.
-fn said_on(link: Option<LinkEnd<MemSource, MemSink>>) -> Option<Vec<u8>> {
-    match link {
+// What the sink of the one link took.
+fn said_on(mut links: Vec<LinkEnd<MemSource, MemSink>>) -> Option<Vec<u8>> {
+    match links.pop() {
         None => None,
         Some(link) => {
             let sink = link.sink;
@@ -135,7 +135,7 @@ fn work<R: Wait + AllocGlobal>(rt: &R, told: &[u8], fails: Indices) -> Result<Wo
     let status = end.status;
     Ok(Worked {
         status,
-        said: said_on(end.link),
+        said: said_on(end.links),
         starts,
         out: out.bytes,
         err: err.bytes,

@@ -28,8 +28,8 @@ loop-preserved g c = record {
       c.keep.ensures.kept;
   within = kept_short c.args.room _ _ c.keep.ensures.kept;
   room = c.keep.ensures.room;
-  still = c.in-Ok.ensures.still ∙ c.loop.invariant.still;
-  later = omega arith;
+  still = c.in-Ok.ensures.counted.still refl ∙ c.loop.invariant.still;
+  later = omega (arith, c.in-Ok.ensures.counted.later, c.loop.invariant.later);
 }
 
 pub returns-in-Err-clause-part : goal.returns-in-Err-clause-part

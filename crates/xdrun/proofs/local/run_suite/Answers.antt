@@ -1,7 +1,7 @@
-use Rattle.std.proofs.Common.{◌≡◌, ◌++◌, ◌∷◌, [], ap, ◌∙◌, Bool, true, false, Ok}
+use Rattle.std.proofs.Common.{◌++◌, ◌∷◌, [], ap, ◌∙◌}
 use Rattle.xd_journal.specs.declared.entry.Entry.TheVariants.{Over}
 use Rattle.xd_journal.specs.declared.entry.RunStop.{RunStop}
-use Rattle.xdrun.proofs.Whole.{Ended, legal, suite, once, names, printed, out_fault, still, completed, child_faults, child_still}
+use Rattle.xdrun.proofs.Whole.{Ended, runs_tests}
 use Rattle.xdrun.proofs.local.run_suite.Goals as goal
 use Rattle.xdrun.proofs.local.run_suite.Goals.{In_ok-push-2}
 use Rattle.xdrun.proofs.local.run_suite.Given.{Over as Outer}
@@ -15,35 +15,7 @@ ended g c = record {
   ended = c.in_ok-push-2.ensures.ok ∙ ap (λ (how : RunStop). c.run_and_print.new.journal.entries.items ++ Over how ∷ []) c.stop_after-how.ensures;
 }
 
-pub returns-clause-legal : goal.returns-clause-legal
-returns-clause-legal g c = legal _ _ _ _ _ _ _ _ _ _ (ended g c)
-
-pub returns-clause-suite : goal.returns-clause-suite
-returns-clause-suite g c = suite _ _ _ _ _ _ _ _ _ _ (ended g c)
-
-pub returns-clause-once : goal.returns-clause-once
-returns-clause-once g c = once _ _ _ _ _ _ _ _ _ _ (ended g c)
-
-pub returns-clause-names : goal.returns-clause-names
-returns-clause-names g c = names _ _ _ _ _ _ _ _ _ _ (ended g c)
-
-pub returns-clause-printed : goal.returns-clause-printed
-returns-clause-printed g c = printed _ _ _ _ _ _ _ _ _ _ (ended g c)
-
-pub returns-clause-out_fault : goal.returns-clause-out_fault
-returns-clause-out_fault g c =
-    out_fault _ _ _ _ _ _ _ _ _ _ (ended g c) _ _ (λ (is : c.in_ok-shown.shown ≡ false). c.in_ok-shown.ensures.rose (ap (λ (b : Bool). Ok b) is))
-
-pub returns-clause-still : goal.returns-clause-still
-returns-clause-still g c =
-    still _ _ _ _ _ _ _ _ _ _ (ended g c) _ _ (λ (is : c.in_ok-shown.shown ≡ true). c.in_ok-shown.ensures.still (ap (λ (b : Bool). Ok b) is))
-
-pub returns-clause-child_faults : goal.returns-clause-child_faults
-returns-clause-child_faults g c = child_faults _ _ _ _ _ _ _ _ _ _ (ended g c)
-
-pub returns-clause-completed : goal.returns-clause-completed
-returns-clause-completed g c =
-    completed _ _ _ _ _ _ _ _ _ _ (ended g c) _ _ (λ (is : c.in_ok-shown.shown ≡ false). c.in_ok-shown.ensures.rose (ap (λ (b : Bool). Ok b) is))
-
-pub returns-clause-child_still : goal.returns-clause-child_still
-returns-clause-child_still g c = child_still _ _ _ _ _ _ _ _ _ _ (ended g c)
+pub returns : goal.returns
+returns g c = record {
+  ran = runs_tests _ _ _ _ _ _ _ _ _ _ (ended g c) _ _ c.in_ok-shown.ensures.counted.rose c.in_ok-shown.ensures.counted.still;
+}

@@ -1,24 +1,20 @@
-use Rattle.xd_serve.specs.Going.{scene}
+use Rattle.std.proofs.Common.{◌∙◌, refl}
 use Rattle.xd_link.specs.Spring.{spring}
-use Rattle.xdrun.proofs.Workers.{own_complete, own_wrong, served_own}
+use Rattle.xdrun.specs.Worker.{scene_at}
+use Rattle.xdrun.proofs.Workers.{links_one, served_own, serves_own}
 use Rattle.xdrun.proofs.worker.serve_own.Goals as goal
 
-pub returns-clause-wrong : goal.returns-clause-wrong
-returns-clause-wrong g c =
-    let held = g.F.Files.held c.args.files.now in
+pub returns-clause-did : goal.returns-clause-did
+returns-clause-did g c =
     let start = spring (g.St.Src.Source.supply c.in-Ok.link.source) (g.St.Src.Source.is_ended c.in-Ok.link.source) (g.St.Src.Source.faults c.in-Ok.link.source) in
     let end = spring (g.St.Src.Source.supply c.in_ok-end.end.source) (g.St.Src.Source.is_ended c.in_ok-end.end.source) (g.St.Src.Source.faults c.in_ok-end.end.source) in
-    let new = scene (g.St.Snk.Sink.sunk c.in_ok-end.end.sink) (g.St.Snk.Sink.faults c.in_ok-end.end.sink) (g.K.Children.runs c.in_ok-end.end.children) (g.K.Children.faults c.in_ok-end.end.children) (g.F.Files.faults c.serve.new.files) in
-    let own = served_own c.in_ok-end.end.status held start end (g.St.Snk.Sink.sunk c.in-Ok.link.sink) (g.St.Snk.Sink.faults c.in-Ok.link.sink) (g.K.Children.runs c.args.children) (g.K.Children.faults c.args.children) (g.F.Files.faults c.args.files.now) new
+    let new = scene_at (g.St.Snk.Sink.sunk c.in_ok-end.end.sink) (g.St.Snk.Sink.faults c.in_ok-end.end.sink) (record {
+      files = record { held = g.F.Files.held c.serve.new.files; faults = g.F.Files.faults c.serve.new.files };
+      programs = record { runs = g.K.Children.runs c.in_ok-end.end.children; faults = g.K.Children.faults c.in_ok-end.end.children };
+      starter = record { begun = g.St.Starter.begun c.start.new.self; faults = g.St.Starter.faults c.start.new.self };
+    }) in
+    let own = served_own c.in_ok-end.end.status (g.F.Files.held c.args.files.now) start end (g.St.Snk.Sink.sunk c.in-Ok.link.sink) (g.St.Snk.Sink.faults c.in-Ok.link.sink)
+    (g.K.Children.runs c.args.children) (g.K.Children.faults c.args.children) (g.F.Files.faults c.args.files.now) new
     c.in-Ok.ensures.nothing_given c.in-Ok.ensures.not_ended c.in-Ok.ensures.no_reads c.in-Ok.ensures.nothing_taken c.in-Ok.ensures.no_writes c.in_ok-end.ensures.served in
-    own_wrong c.in_ok-end.end.status held end (g.K.Children.runs c.args.children) (g.K.Children.faults c.args.children) (g.F.Files.faults c.args.files.now) new own
-
-pub returns-clause-complete : goal.returns-clause-complete
-returns-clause-complete g c =
-    let held = g.F.Files.held c.args.files.now in
-    let start = spring (g.St.Src.Source.supply c.in-Ok.link.source) (g.St.Src.Source.is_ended c.in-Ok.link.source) (g.St.Src.Source.faults c.in-Ok.link.source) in
-    let end = spring (g.St.Src.Source.supply c.in_ok-end.end.source) (g.St.Src.Source.is_ended c.in_ok-end.end.source) (g.St.Src.Source.faults c.in_ok-end.end.source) in
-    let new = scene (g.St.Snk.Sink.sunk c.in_ok-end.end.sink) (g.St.Snk.Sink.faults c.in_ok-end.end.sink) (g.K.Children.runs c.in_ok-end.end.children) (g.K.Children.faults c.in_ok-end.end.children) (g.F.Files.faults c.serve.new.files) in
-    let own = served_own c.in_ok-end.end.status held start end (g.St.Snk.Sink.sunk c.in-Ok.link.sink) (g.St.Snk.Sink.faults c.in-Ok.link.sink) (g.K.Children.runs c.args.children) (g.K.Children.faults c.args.children) (g.F.Files.faults c.args.files.now) new
-    c.in-Ok.ensures.nothing_given c.in-Ok.ensures.not_ended c.in-Ok.ensures.no_reads c.in-Ok.ensures.nothing_taken c.in-Ok.ensures.no_writes c.in_ok-end.ensures.served in
-    own_complete c.in_ok-end.end.status held end (g.K.Children.runs c.args.children) (g.K.Children.faults c.args.children) (g.F.Files.faults c.args.files.now) new own
+    links_one _ _ _ _ _ _ _ (c.in_ok-reserve.ensures.items ∙ c.new-links.ensures.items) c.push_reserved.ensures.items
+    (serves_own _ _ _ _ refl refl own c.in-Ok.ensures.started (c.in-Ok.ensures.counted.still refl))
