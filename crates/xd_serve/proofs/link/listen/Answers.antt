@@ -34,7 +34,7 @@ returns-in-Ok-eq0 g c = record {
       ends_at held v.listens.0 (spring (g.S.Source.supply c.args.source.now) (g.S.Source.is_ended c.args.source.now) (g.S.Source.faults c.args.source.now)) (spring (g.S.Source.supply c.read.new.self) (g.S.Source.is_ended c.read.new.self) (g.S.Source.faults c.read.new.self)) first (scene (g.N.Sink.sunk c.end_link.new.speaker.sink) (g.N.Sink.faults c.end_link.new.speaker.sink) (g.K.Children.runs c.loop.children) (g.K.Children.faults c.loop.children) (g.F.Files.faults c.loop.files)) (gave_end c.in-Ok-eq0.field-0 v.listens.0 c.read.new.into (g.S.Source.supply c.args.source.now) (g.S.Source.supply c.loop.source) (g.S.Source.supply c.read.new.self) c.in-Ok-eq0.field-0-test v.listens.1 c.in-Ok-eq0.ensures.gave)
       c.in_ok-stop-in-Ok-eq0.stop x.0 (c.in_ok-stop-in-Ok-eq0.ensures.ends held v.listens.0 x.0 first (scene (g.N.Sink.sunk c.loop.speaker.sink) (g.N.Sink.faults c.loop.speaker.sink) (g.K.Children.runs c.loop.children) (g.K.Children.faults c.loop.children) (g.F.Files.faults c.loop.files)) x.1)
       (met_end c.in-Ok-eq0.field-0 _ c.read.new.into (g.S.Source.supply c.loop.source) (g.S.Source.supply c.read.new.self) (g.S.Source.is_ended c.loop.source) (g.S.Source.is_ended c.read.new.self) (g.S.Source.faults c.read.new.self) c.in-Ok-eq0.field-0-test (search rules) c.in-Ok-eq0.ensures.gave c.in-Ok-eq0.ensures.none_left c.in-Ok-eq0.ensures.end)
-      (c.in-Ok-eq0.ensures.still ∙ v.still);
+      (c.in-Ok-eq0.ensures.counted.still refl ∙ v.still);
 }
 
 pub take_bytes-requires : goal.take_bytes-requires
@@ -51,7 +51,7 @@ returns-in-Some-stop g c = record {
       ends_taken held bytes (spring (g.S.Source.supply c.args.source.now) (g.S.Source.is_ended c.args.source.now) (g.S.Source.faults c.args.source.now)) (spring (g.S.Source.supply c.read.new.self) (g.S.Source.is_ended c.read.new.self) (g.S.Source.faults c.read.new.self)) first (scene (g.N.Sink.sunk c.take_bytes.new.speaker.sink) (g.N.Sink.faults c.take_bytes.new.speaker.sink) (g.K.Children.runs c.take_bytes.new.children) (g.K.Children.faults c.take_bytes.new.children) (g.F.Files.faults c.take_bytes.new.files)) (gave_more v.listens.0 (take c.in-Ok.n c.read.new.into) (g.S.Source.supply c.args.source.now) (g.S.Source.supply c.loop.source) (g.S.Source.supply c.read.new.self) v.listens.1 c.in-Ok.ensures.gave)
       c.in-Some-stop.stop c.take_bytes.new.framer c.take_bytes.new.speaker.core c.take_bytes.new.speaker.is_broken
       (subst (λ (r : Option Stop). TakesBytes r held bytes c.take_bytes.new.framer c.take_bytes.new.speaker.core c.take_bytes.new.speaker.is_broken first (scene (g.N.Sink.sunk c.take_bytes.new.speaker.sink) (g.N.Sink.faults c.take_bytes.new.speaker.sink) (g.K.Children.runs c.take_bytes.new.children) (g.K.Children.faults c.take_bytes.new.children) (g.F.Files.faults c.take_bytes.new.files))) c.in-Some-stop.is (c.in_ok-stop-in-Ok.ensures.takes held v.listens.0 x.0 first (v.kept ∙ e) x.1))
-      (c.in-Ok.ensures.still ∙ v.still);
+      (c.in-Ok.ensures.counted.still refl ∙ v.still);
 }
 
 pub loop-preserved : goal.loop-preserved
@@ -71,7 +71,7 @@ loop-preserved g c =
       goes = (r.0, c.take_bytes.ensures.kept ∙ r.1, r.2 ++ piece, mine.0, r.4, mine.1);
       whole = mine.1.whole;
       kept = c.take_bytes.ensures.kept ∙ v.kept;
-      still = c.in-Ok.ensures.still ∙ v.still;
+      still = c.in-Ok.ensures.counted.still refl ∙ v.still;
     }
 
 pub returns-in-Err : goal.returns-in-Err
@@ -82,5 +82,5 @@ returns-in-Err g c = record {
       ends_unread held v.listens.0 (spring (g.S.Source.supply c.args.source.now) (g.S.Source.is_ended c.args.source.now) (g.S.Source.faults c.args.source.now)) (spring (g.S.Source.supply c.read.new.self) (g.S.Source.is_ended c.read.new.self) (g.S.Source.faults c.read.new.self)) first (scene (g.N.Sink.sunk c.loop.speaker.sink) (g.N.Sink.faults c.loop.speaker.sink) (g.K.Children.runs c.loop.children) (g.K.Children.faults c.loop.children) (g.F.Files.faults c.loop.files))
       (subst (λ (o : Option Supply). Gave v.listens.0 (g.S.Source.supply c.args.source.now) o) (sym c.in-Err.ensures.kept) v.listens.1)
       x.0 c.loop.framer c.loop.speaker.core c.loop.speaker.is_broken x.1
-      (subst (λ (n : ℕ). Rose n (g.S.Source.faults c.read.new.self)) v.still c.in-Err.ensures.rose);
+      (subst (λ (n : ℕ). Rose n (g.S.Source.faults c.read.new.self)) v.still (c.in-Err.ensures.counted.rose refl));
 }

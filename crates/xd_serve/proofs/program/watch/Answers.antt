@@ -24,9 +24,9 @@ returns-clause-watched g c = λ held taken args first files going.
     (g.K.Children.place c.hear_output-heard.new.child) (g.K.Children.place c.in-Ok.child) h.0 (g.K.Children.runs c.start.new.self) (g.K.Children.runs c.hear_output-heard.new.children)
     (h.2 held taken c.args.test args first before going) c.in-Ok.ensures.next
     (subst (λ (l : List (List ℕ)). AddsRun (running l) (g.K.Children.runs c.args.children.now) (g.K.Children.runs c.start.new.self)) (args_are held taken c.args.test args c.command.result.now c.args.speaker.now.core c.args.speaker.now.is_broken first _ going c.command.ensures.run) c.in-Ok.ensures.started)
-    c.in_ok-heard.ensures.same_child (omega (arith, c.start.ensures.later, c.hear_output-heard.ensures.later, c.wait_for-outcome.ensures.later)) whole c.wait_for-outcome.result h.1 waited
+    c.in_ok-heard.ensures.same_child (omega (arith, c.start.ensures.counted.later, c.hear_output-heard.ensures.later, c.wait_for-outcome.ensures.later)) whole c.wait_for-outcome.result h.1 waited
     (faults_to_end whole (g.K.Children.place c.hear_output-heard.new.child) c.wait_for-outcome.result (g.K.Children.runs c.hear_output-heard.new.children) (g.K.Children.runs c.wait_for-outcome.new.children)
     (g.K.Children.faults c.args.children.now) (g.K.Children.faults c.hear_output-heard.new.children) (g.K.Children.faults c.wait_for-outcome.new.children) waited
-    (omega (arith, c.start.ensures.later, c.hear_output-heard.ensures.later)) c.wait_for-outcome.ensures.later
-    (λ e. rose_earlier (g.K.Children.faults c.args.children.now) (g.K.Children.faults c.start.new.self) (g.K.Children.faults c.hear_output-heard.new.children) c.start.ensures.later (c.in_ok-heard.ensures.rose (ap Ok e)))
+    (omega (arith, c.start.ensures.counted.later, c.hear_output-heard.ensures.later)) c.wait_for-outcome.ensures.later
+    (λ e. rose_earlier (g.K.Children.faults c.args.children.now) (g.K.Children.faults c.start.new.self) (g.K.Children.faults c.hear_output-heard.new.children) c.start.ensures.counted.later (c.in_ok-heard.ensures.rose (ap Ok e)))
     (λ e. c.wait_for-outcome.ensures.faults (is ∙ e)))

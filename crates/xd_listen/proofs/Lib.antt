@@ -1,0 +1,5 @@
+pub mod Busy
+pub mod Hearing
+pub mod Puts
+pub mod Rans
+pub mod Settling
