@@ -1,6 +1,6 @@
 // One piece of news.
-ghost use Rattle.std.specs.Prelude.{◌≡◌, ◌≤◌, ℕ, List, [], ◌∷◌, ◌++◌, length, take, true, false, Ok, None, Some, IfOk, IfSome, OnOk};
-ghost use Rattle.xd_edge.specs.Faults.{Rose};
+ghost use Rattle.std.specs.Prelude.{◌≡◌, ◌≤◌, ℕ, List, [], ◌∷◌, ◌++◌, length, take, true, false, Ok, None, Some, IfOk, IfSome, OnOk, is_none};
+ghost use Rattle.xd_edge.specs.Faults.{Counted};
 ghost use Rattle.xd_journal.specs.declared.news.News.{News};
 ghost use Rattle.xd_ledger.specs.Proper.{IsProper};
 ghost use Rattle.xd_ledger.specs.State.{all_moved, no_one};
@@ -44,8 +44,7 @@ fn tell_entries<H: Hub, O: Sink>(
     ensures follows { OnOk result (Follows reporter.new (all_moved (no_one journal.now.settings) (take to journal.now.entries.items))) }
     ensures slots { H.slots hub.new ≡ H.slots hub.old }
     ensures later { O.faults out.old ≤ O.faults out.new }
-    ensures still { result ≡ Ok true → O.faults out.new ≡ O.faults out.old }
-    ensures rose { result ≡ Ok false → Rose (O.faults out.old) (O.faults out.new) }
+    ensures counted { IfOk result (λ shown. Counted shown (O.faults out.old) (O.faults out.new)) }
 {
     let shown = print_lines(alloc, reporter, journal, from, to, out)?;
     if !shown {
@@ -84,8 +83,7 @@ fn tell_news<M: Mode, H: Hub, O: Sink>(
     ensures follows { OnOk result (Follows reporter.new (all_moved (no_one session.new.settings) session.new.entries)) }
     ensures slots { H.slots hub.new ≡ H.slots hub.old }
     ensures later { O.faults out.old ≤ O.faults out.new }
-    ensures still { result ≡ Ok true → O.faults out.new ≡ O.faults out.old }
-    ensures rose { result ≡ Ok false → Rose (O.faults out.old) (O.faults out.new) }
+    ensures counted { IfOk result (λ shown. Counted shown (O.faults out.old) (O.faults out.new)) }
 {
     let step = session.step(alloc, news)?;
     let shown = tell_entries(
@@ -122,8 +120,7 @@ pub(crate) fn take_news<R: Wait, M: Mode, H: Hub, O: Sink>(
     ensures follows { OnOk result (Follows reporter.new (all_moved (no_one session.new.settings) session.new.entries)) }
     ensures slots { H.slots hub.new ≡ H.slots hub.old }
     ensures later { O.faults out.old ≤ O.faults out.new }
-    ensures still { result ≡ Ok None → O.faults out.new ≡ O.faults out.old }
-    ensures rose { IfOk result (λ stopped. IfSome stopped (λ count. Rose (O.faults out.old) (O.faults out.new))) }
+    ensures counted { IfOk result (λ stopped. Counted (is_none stopped) (O.faults out.old) (O.faults out.new)) }
 {
     let news = hub.next(rt, alloc)?;
     if !session.is_active(news.worker) {

@@ -1,6 +1,6 @@
 // What is printed of a run.
 ghost use Rattle.std.specs.Prelude.{◌≡◌, ◌≤◌, length, take, true, false, Ok, IfOk, OnOk};
-ghost use Rattle.xd_edge.specs.Faults.{Rose};
+ghost use Rattle.xd_edge.specs.Faults.{Counted};
 ghost use Rattle.xd_ledger.specs.State.{all_moved, no_one};
 ghost use Rattle.xd_report.specs.Follows.{Follows};
 ghost use Rattle.xd_report.specs.Lines.{lines_between};
@@ -38,8 +38,7 @@ pub(crate) fn print_lines<O: Sink>(
     ensures shows { IfOk result (λ shown. Shows shown (lines_between journal.now from to) (O.sunk out.old) (O.sunk out.new)) }
     ensures follows { OnOk result (Follows reporter.new (all_moved (no_one journal.now.settings) (take to journal.now.entries.items))) }
     ensures later { O.faults out.old ≤ O.faults out.new }
-    ensures still { result ≡ Ok true → O.faults out.new ≡ O.faults out.old }
-    ensures rose { result ≡ Ok false → Rose (O.faults out.old) (O.faults out.new) }
+    ensures counted { IfOk result (λ shown. Counted shown (O.faults out.old) (O.faults out.new)) }
 {
     let lines = reporter.lines(alloc, &journal.entries[from..to])?;
     Ok(print(out, lines.as_slice()).is_ok())
@@ -53,8 +52,7 @@ pub(crate) fn print_tail<O: Sink>(
 ) -> Result<bool, OutOfMemory>
     ensures shows { IfOk result (λ shown. ShowsEnd shown (tail_text journal.now) (O.sunk out.old) (O.sunk out.new)) }
     ensures later { O.faults out.old ≤ O.faults out.new }
-    ensures still { result ≡ Ok true → O.faults out.new ≡ O.faults out.old }
-    ensures rose { result ≡ Ok false → Rose (O.faults out.old) (O.faults out.new) }
+    ensures counted { IfOk result (λ shown. Counted shown (O.faults out.old) (O.faults out.new)) }
 {
     let tail = tail(alloc, journal)?;
     Ok(print_and_close(out, tail.as_slice()))
@@ -63,9 +61,7 @@ pub(crate) fn print_tail<O: Sink>(
 // Prints the bytes and closes the output; false where it failed.
 fn print_and_close<O: Sink>(out: &mut O, bytes: &[u8]) -> bool
     ensures shows { ShowsEnd result bytes.now (O.sunk out.old) (O.sunk out.new) }
-    ensures later { O.faults out.old ≤ O.faults out.new }
-    ensures still { result ≡ true → O.faults out.new ≡ O.faults out.old }
-    ensures rose { result ≡ false → Rose (O.faults out.old) (O.faults out.new) }
+    ensures counted { Counted result (O.faults out.old) (O.faults out.new) }
 {
     if print(out, bytes).is_err() {
         return false;

@@ -1,6 +1,6 @@
 // The loop that runs a session over a hub.
-ghost use Rattle.std.specs.Prelude.{◌≡◌, ◌≤◌, ℕ, List, [], true, false, Ok, None, IfOk, IfSome, OnOk};
-ghost use Rattle.xd_edge.specs.Faults.{Rose};
+ghost use Rattle.std.specs.Prelude.{◌≡◌, ◌≤◌, ℕ, List, [], true, false, Ok, None, IfOk, IfSome, OnOk, is_none};
+ghost use Rattle.xd_edge.specs.Faults.{Counted, Rose};
 ghost use Rattle.xd_journal.specs.declared.news.News.{News};
 ghost use Rattle.xd_ledger.specs.Ending.{stop_of};
 ghost use Rattle.xd_ledger.specs.Proper.{IsProper};
@@ -28,8 +28,7 @@ fn finish<O: Sink>(
 ) -> Result<Option<usize>, OutOfMemory>
     ensures ends { IfOk result (λ stopped. EndsTail stopped journal.now (O.sunk out.old) (O.sunk out.new)) }
     ensures later { O.faults out.old ≤ O.faults out.new }
-    ensures still { result ≡ Ok None → O.faults out.new ≡ O.faults out.old }
-    ensures rose { IfOk result (λ stopped. IfSome stopped (λ count. Rose (O.faults out.old) (O.faults out.new))) }
+    ensures counted { IfOk result (λ stopped. Counted (is_none stopped) (O.faults out.old) (O.faults out.new)) }
 {
     let shown = print_tail(alloc, journal, out)?;
     if shown {
@@ -57,8 +56,7 @@ fn run<R: Wait, M: Mode, H: Hub, O: Sink>(
         (record { marks = H.marks hub.new; starts = H.starts hub.new; calls = H.calls hub.new; given = H.given hub.new; sunk = O.sunk out.new })) }
     ensures settings { OnOk result (session.new.settings ≡ session.old.settings) }
     ensures later { O.faults out.old ≤ O.faults out.new }
-    ensures still { result ≡ Ok None → O.faults out.new ≡ O.faults out.old }
-    ensures rose { IfOk result (λ stopped. IfSome stopped (λ count. Rose (O.faults out.old) (O.faults out.new))) }
+    ensures counted { IfOk result (λ stopped. Counted (is_none stopped) (O.faults out.old) (O.faults out.new)) }
 {
     perform(alloc, hub, &session.journal().entries)?;
     let mut reporter = reporter_of(alloc, session.journal())?;

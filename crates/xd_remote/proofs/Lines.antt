@@ -1,8 +1,8 @@
 -- What is written, one step after another.
 use Rattle.std.proofs.Common.{◌≡◌, ℕ, ◌≤◌, ◌++◌, List, length, take, Bool, true, false, not, Option, Some, None, option_map, Result, Ok, Err, refl, sym, ap, subst, ◌∙◌, arith}
-use Rattle.std.specs.Prelude.{OnErr, OnOk, is_err}
+use Rattle.std.specs.Prelude.{OnErr, OnOk, is_err, is_ok}
 use Rattle.std.proofs.lemmas.List.{take_all}
-use Rattle.xd_edge.specs.Faults.{Rose}
+use Rattle.xd_edge.specs.Faults.{Counted}
 use Rattle.xd_edge.specs.Sink.{Sunk, Printed, PrintedPart, TookPart, with_bytes, with_close, with_flush}
 use Rattle.xd_frame.specs.Writing.{CountBehind, WritesMore}
 use Rattle.xd_frame.proofs.Written.{next_print}
@@ -13,16 +13,16 @@ use Rattle.xd_remote.specs.Line.{ClosedBy, Closes, ClosesNow, Line, Prints}
 abbrev pub line : Option Sunk → ℕ → Bool → Line
 line s f b = record { sunk = s; faults = f; broken = b }
 
-counted : {T E : Type 0} (r : Result T E) (b0 b1 : Bool) (f0 f1 : ℕ) → b0 ≡ false → b1 ≡ is_err r → OnOk r (f1 ≡ f0) → OnErr r (Rose f0 f1) → CountBehind b0 b1 f0 f1
-counted (Ok x) false b1 f0 f1 h k still rose = subst (λ (b : Bool). CountBehind false b f0 f1) (sym k) still
-counted (Err e) false b1 f0 f1 h k still rose = subst (λ (b : Bool). CountBehind false b f0 f1) (sym k) rose
-counted r true b1 f0 f1 h k still rose = cc
+count_behind : {T E : Type 0} (r : Result T E) (b0 b1 : Bool) (f0 f1 : ℕ) → b0 ≡ false → b1 ≡ is_err r → Counted (is_ok r) f0 f1 → CountBehind b0 b1 f0 f1
+count_behind (Ok x) false b1 f0 f1 h k c = subst (λ (b : Bool). CountBehind false b f0 f1) (sym k) (c.still refl)
+count_behind (Err e) false b1 f0 f1 h k c = subst (λ (b : Bool). CountBehind false b f0 f1) (sym k) (c.rose refl)
+count_behind r true b1 f0 f1 h k c = cc
 
 -- a print, where no write had failed
 pub printed : {T E : Type 0} (r : Result T E) (bytes : List ℕ) (s0 s1 : Option Sunk) (f0 f1 : ℕ) (b0 b1 : Bool) → b0 ≡ false → b1 ≡ is_err r → OnOk r (Printed bytes s0 s1) → OnErr r (TookPart bytes s0 s1)
-    → f0 ≤ f1 → OnOk r (f1 ≡ f0) → OnErr r (Rose f0 f1) → Prints bytes (line s0 f0 b0) (line s1 f1 b1)
-printed r bytes s0 s1 f0 f1 b0 b1 h k ok part later still rose =
-    record { writes = next_print r b0 b1 bytes s0 s1 h k ok part; count = counted r b0 b1 f0 f1 h k still rose; later = later }
+    → Counted (is_ok r) f0 f1 → Prints bytes (line s0 f0 b0) (line s1 f1 b1)
+printed r bytes s0 s1 f0 f1 b0 b1 h k ok part c =
+    record { writes = next_print r b0 b1 bytes s0 s1 h k ok part; count = count_behind r b0 b1 f0 f1 h k c; later = c.later }
 
 pub printed_nothing : (bytes : List ℕ) (s : Option Sunk) (f : ℕ) (b : Bool) → b ≡ true → Prints bytes (line s f b) (line s f b)
 printed_nothing bytes s f true h = record { writes = (refl, refl); count = (refl, refl); later = omega arith }
@@ -35,9 +35,9 @@ closed_by r true b1 s0 s1 h k ok kept = absurd (let z = h in cc)
 
 -- a close, where no write had failed
 pub closed : {T E : Type 0} (r : Result T E) (s0 s1 : Option Sunk) (f0 f1 : ℕ) (b0 b1 : Bool) → b0 ≡ false → b1 ≡ is_err r → OnOk r (s1 ≡ option_map with_close s0) → OnErr r (s1 ≡ s0)
-    → f0 ≤ f1 → OnOk r (f1 ≡ f0) → OnErr r (Rose f0 f1) → ClosesNow (line s0 f0 b0) (line s1 f1 b1)
-closed r s0 s1 f0 f1 b0 b1 h k ok kept later still rose =
-    record { closed = closed_by r b0 b1 s0 s1 h k ok kept; count = counted r b0 b1 f0 f1 h k still rose; later = later }
+    → Counted (is_ok r) f0 f1 → ClosesNow (line s0 f0 b0) (line s1 f1 b1)
+closed r s0 s1 f0 f1 b0 b1 h k ok kept c =
+    record { closed = closed_by r b0 b1 s0 s1 h k ok kept; count = count_behind r b0 b1 f0 f1 h k c; later = c.later }
 
 pub closed_nothing : (s : Option Sunk) (f : ℕ) (b : Bool) → b ≡ true → ClosesNow (line s f b) (line s f b)
 closed_nothing s f true h = record { closed = (refl, refl); count = (refl, refl); later = omega arith }

@@ -1,6 +1,6 @@
 -- What a sink took of the text of a file.
 use Rattle.std.proofs.Common.{◌≡◌, ℕ, Bool, true, false, List, [], ◌++◌, Option, Some, None, Result, Ok, Err, option_map, refl, sym, ap, subst, ◌∙◌, append_assoc}
-use Rattle.std.specs.Prelude.{OnOk, OnErr, is_err}
+use Rattle.std.specs.Prelude.{OnOk, OnErr, is_err, is_ok}
 use Rattle.std.proofs.lemmas.List.{append-nil}
 use Rattle.xd_edge.specs.Sink.{Sunk, Took, TookPart, Printed, with_flush}
 use Rattle.xd_edge.proofs.SinkLemmas.{took_nothing, took_more, took_then_part, part_of_more, took_is_part}
@@ -67,6 +67,10 @@ prints bytes false old now new k e text faulty w = let o = only_text (texts_at b
 pub when_err : {A E : Type 0} (r : Result A E) (P : Type 0) → is_err r ≡ true → OnErr r P → P
 when_err (Ok x) P e p = cc
 when_err (Err x) P e p = p
+
+pub was_ok : {A E : Type 0} (r : Result A E) → is_err r ≡ false → is_ok r ≡ true
+was_ok (Ok x) e = refl
+was_ok (Err x) e = cc
 
 pub when_ok : {A E : Type 0} (r : Result A E) (P : Type 0) → is_err r ≡ false → OnOk r P → P
 when_ok (Ok x) P e p = p

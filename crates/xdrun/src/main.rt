@@ -20,31 +20,36 @@ use std::rt::Env;
 use std::{env, io};
 pub use top::{LinkEnd, RunEnd, xdrun};
 use xd_edge::{OutSink, RealChildren, RealClock, RealFiles, Text, Texts};
-use xd_link::RealStarter;
+use xd_real::RealStarter;
 
-// The words behind the program's name.
-fn words_of(rt: &(impl Env + AllocGlobal), alloc: Global) -> io::Result<Texts> {
+// The name that the program was started by, and the words behind it.
+fn words_of(rt: &(impl Env + AllocGlobal), alloc: Global) -> io::Result<(Text, Texts)> {
+    let mut args = env::args(rt)?;
+    let program = match args.next() {
+        Some(word) => Text::from_string(word),
+        None => Text::of(alloc, "")?,
+    };
     let mut items = Vec::new(alloc);
-    for word in env::args(rt)?.skip(1) {
+    for word in args {
         items.push(Text::from_string(word))?;
     }
-    Ok(Texts { items })
+    Ok((program, Texts { items }))
 }
 
-// A word that is no UTF-8 makes a faulty command line, as no word at all does.
+// Where a word is no UTF-8: a faulty command line, as no word at all is.
+fn no_words(alloc: Global) -> io::Result<(Text, Texts)> {
+    let items = Vec::new(alloc);
+    Ok((Text::of(alloc, "")?, Texts { items }))
+}
+
 fn main(rt: HostRuntime) -> io::Result<ExitCode> {
     let alloc = rt.alloc();
-    let words = match words_of(&rt, alloc) {
-        Ok(words) => words,
-        Err(_) => Texts {
-            items: Vec::new(alloc),
-        },
-    };
+    let (program, words) = words_of(&rt, alloc).or_else(|_| no_words(alloc))?;
     let Ok(writer) = BufWriter::new(alloc, rt.stdout()) else {
         return out_of_memory(&rt);
     };
     let mut files = RealFiles::new(&rt);
-    let starter = RealStarter::new(&rt);
+    let starter = RealStarter::new(&rt, alloc, program, rt.stdin());
     let children = RealChildren::new(&rt);
     let mut clock = RealClock::new(&rt);
     let mut out = OutSink::new(writer);

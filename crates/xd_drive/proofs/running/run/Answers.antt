@@ -1,4 +1,5 @@
-use Rattle.std.proofs.Common.{◌++◌, ◌∷◌, [], refl, sym, ◌∙◌, ap, subst, Ok}
+use Rattle.std.proofs.Common.{◌++◌, ◌∷◌, [], refl, sym, ◌∙◌, ap, subst}
+use Rattle.std.specs.Prelude.{is_none}
 use Rattle.xd_journal.specs.declared.settings.Settings.{Settings}
 use Rattle.xd_ledger.specs.Proper.{IsProper}
 use Rattle.xd_drive.proofs.Follow.{follows-same}
@@ -44,5 +45,5 @@ loop-preserved g c =
       settings = none.settings ∙ c.loop.invariant.settings;
       slots = c.take_news.ensures.slots ∙ c.loop.invariant.slots;
       someone = someone-still t.0 c.loop.session _ _ _ none c.loop.invariant.someone;
-      still = c.in_ok-stopped-2.ensures.still (ap Ok (none-of c.in_ok-stopped-2.stopped c.in_default.not-Some)) ∙ c.loop.invariant.still;
+      still = c.in_ok-stopped-2.ensures.counted.still (ap is_none (none-of c.in_ok-stopped-2.stopped c.in_default.not-Some)) ∙ c.loop.invariant.still;
     }

@@ -4,7 +4,7 @@ use Rattle.xd_edge.specs.Sink.{Took, TookPart}
 use Rattle.xd_wire.specs.declared.step.Then.{Then}
 use Rattle.xd_wire.specs.Lines.{IsAhead, texts_at, texts_of}
 use Rattle.xd_wire.specs.Printing.{TookUpTo}
-use Rattle.xd_wire.proofs.PrintLemmas.{up_to_next, up_to_part, up_to_stop, when_err, when_ok}
+use Rattle.xd_wire.proofs.PrintLemmas.{up_to_next, up_to_part, up_to_stop, was_ok, when_err, when_ok}
 use Rattle.xd_wire.proofs.print.write_lines.Goals as goal
 
 pub returns-in_err-then-clause-leaves : goal.returns-in_err-then-clause-leaves
@@ -26,7 +26,7 @@ lines-preserved g c =
           (up_to_next _ _ _ _ _ _ _ c.lines.invariant.took c.in_ok-then.ensures.step
           (subst (λ (l : List ℕ). Took l (g.O.Sink.sunk c.lines.out) (g.O.Sink.sunk c.write_all.new.sink)) c.as_bytes.ensures.value
           (when_ok c.write_all.result _ (sym c.is_err.ensures.value ∙ c.if-is_err.false) c.write_all.ensures.ok)));
-      still = when_ok c.write_all.result _ (sym c.is_err.ensures.value ∙ c.if-is_err.false) c.write_all.ensures.still ∙ c.lines.invariant.still;
+      still = c.write_all.ensures.counted.still (was_ok c.write_all.result (sym c.is_err.ensures.value ∙ c.if-is_err.false)) ∙ c.lines.invariant.still;
     }
 
 pub returns-in-End-clause-leaves : goal.returns-in-End-clause-leaves

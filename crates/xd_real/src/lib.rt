@@ -1,0 +1,13 @@
+//! Real links: children of the program, and the program's own standard input and output.
+#![tactic(auto)]
+
+mod inlet;
+mod real_sink;
+mod real_starter;
+
+pub use inlet::{Inlet, Stoppable};
+pub use real_sink::{Outlet, OwnOutput, RealSink};
+pub use real_starter::RealStarter;
+
+#[cfg(test)]
+mod tests;

@@ -1,0 +1,185 @@
+// Real links.
+ghost use Rattle.std.specs.Prelude.{◌≡◌, ◌<◌, None, false, IfOk, IfSome, vec_len, vec_capacity};
+
+use crate::{Inlet, Outlet, OwnOutput, RealSink, Stoppable};
+use os::FromRawFd;
+use std::alloc::{AllocError, Global};
+use std::fs::Files;
+use std::io::{self, Stdin};
+use std::os::fd::OwnedFd;
+use std::process::{Child, ChildStdin, Command, OpenProcess, Processes, Stdio};
+use std::sync::Wait;
+use xd_edge::{Env, Failed, Text, raise};
+use xd_link::{InSource, Place, StartFault, Started, Starter};
+
+/// What a real link is read from.
+pub type RealSource<O> = InSource<Inlet<Stoppable<Stdin>, O>>;
+
+/// The links of the system, which tell nothing: children of the program, and its own standard input and output. A socket
+/// fails for now.
+#[derive(Drop)]
+pub struct RealStarter<'a, H: Files + Processes> {
+    rt: &'a H,
+    program: Text,
+    input: Stdin,
+    // By the numbers of the links; None where there is no child.
+    children: Vec<Option<Child<H::Started>>>,
+    pub faults: u64,
+}
+
+impl<'a, H: Files + Processes> RealStarter<'a, H> {
+    /// It has started nothing, and has not failed yet. A child runs this program with the one word `worker`. A name
+    /// without a slash is looked for in the child's PATH; a relative path is read from the child's folder.
+    pub fn new(rt: &'a H, alloc: Global, program: Text, input: Stdin) -> RealStarter<'a, H>
+        ensures { result.faults ≡ 0 }
+    {
+        RealStarter {
+            rt,
+            program,
+            input,
+            children: Vec::new(alloc),
+            faults: 0,
+        }
+    }
+
+    fn start_child(
+        &mut self,
+        command: Command,
+        link: u32,
+    ) -> Option<Started<RealSource<<H::Started as OpenProcess>::Stdout>, RealSink<'a, H>>>
+        requires { vec_len self.old.children < vec_capacity self.old.children }
+        ensures faults { self.new.faults ≡ self.old.faults }
+        ensures no_writes { IfSome result (λ l. l.sink.faults ≡ 0) }
+        ensures not_ended { IfSome result (λ l. l.source.is_ended ≡ false) }
+        ensures no_reads { IfSome result (λ l. l.source.faults ≡ 0) }
+    {
+        let mut command = command;
+        let mut child = command.spawn(self.rt).ok()?;
+        let input = child.stdin.take()?;
+        let output = child.stdout.take()?;
+        self.children.push_reserved(Some(child));
+        Some(Started {
+            link,
+            source: InSource::new(Inlet::Child(output)),
+            sink: RealSink::new(self.rt, Outlet::Child(input)),
+        })
+    }
+
+    fn start_own(
+        &mut self,
+        alloc: Global,
+        link: u32,
+    ) -> Result<
+        Option<Started<RealSource<<H::Started as OpenProcess>::Stdout>, RealSink<'a, H>>>,
+        AllocError,
+    >
+        requires { vec_len self.old.children < vec_capacity self.old.children }
+        ensures faults { self.new.faults ≡ self.old.faults }
+        ensures no_writes { IfOk result (λ r. IfSome r (λ l. l.sink.faults ≡ 0)) }
+        ensures not_ended { IfOk result (λ r. IfSome r (λ l. l.source.is_ended ≡ false)) }
+        ensures no_reads { IfOk result (λ r. IfSome r (λ l. l.source.faults ≡ 0)) }
+    {
+        let Ok((stop, go)) = io::pipe(self.rt) else {
+            return Ok(None);
+        };
+        let own = OwnOutput::new(alloc, own_output(), go)?;
+        self.children.push_reserved(None);
+        let input = Stoppable {
+            input: self.input,
+            stop,
+        };
+        Ok(Some(Started {
+            link,
+            source: InSource::new(Inlet::Own(input)),
+            sink: RealSink::new(self.rt, Outlet::Own(own)),
+        }))
+    }
+}
+
+// The standard output, which nothing else writes to or closes.
+fn own_output() -> ChildStdin {
+    ChildStdin::from(unsafe { OwnedFd::from_raw_fd(1) })
+}
+
+// This program as a worker, in a folder of its own where one is named. Its standard error is the program's own.
+fn worker_of(
+    alloc: Global,
+    program: &Text,
+    chdir: &Option<Text>,
+    env: &Env,
+) -> Result<Command, AllocError> {
+    let mut command = Command::new(alloc, program.as_str())?;
+    command.arg("worker")?;
+    command.stdin(Stdio::piped());
+    command.stdout(Stdio::piped());
+    if let Some(folder) = chdir {
+        command.current_dir(folder.as_str())?;
+    }
+    for (name, value) in &env.items {
+        command.env(name.as_str(), value.as_str())?;
+    }
+    Ok(command)
+}
+
+impl<'a, H: Files + Processes> Starter for RealStarter<'a, H> {
+    type Src = RealSource<<H::Started as OpenProcess>::Stdout>;
+
+    type Snk = RealSink<'a, H>;
+
+    ghost faults = { λ s. s.faults };
+
+    ghost begun = { λ _. None };
+
+    fn start(
+        &mut self,
+        alloc: Global,
+        place: &Place,
+    ) -> Result<
+        Started<RealSource<<H::Started as OpenProcess>::Stdout>, RealSink<'a, H>>,
+        StartFault,
+    > {
+        self.children.reserve(1)?;
+        let started = match (place, u32::try_from(self.children.len())) {
+            (Place::Popen { chdir, env }, Ok(link)) => {
+                let command = worker_of(alloc, &self.program, chdir, env)?;
+                self.start_child(command, link)
+            }
+            (Place::Own, Ok(link)) => self.start_own(alloc, link)?,
+            _ => None,
+        };
+        match started {
+            Some(link) => Ok(link),
+            None => {
+                raise(&mut self.faults);
+                Err(StartFault::Failed)
+            }
+        }
+    }
+
+    /// The own streams have no child: they are ended by the close of their sink.
+    fn kill(&mut self, link: u32) -> Result<(), Failed> {
+        let link = link as usize;
+        if link < self.children.len() {
+            if let Some(child) = &mut self.children[link] {
+                if child.kill().is_err() {
+                    raise(&mut self.faults);
+                    return Err(Failed);
+                }
+            }
+        }
+        Ok(())
+    }
+
+    fn reap<R: Wait>(&mut self, _rt: &R, link: u32) -> Result<(), Failed> {
+        let link = link as usize;
+        if link < self.children.len() {
+            if let Some(child) = &mut self.children[link] {
+                if child.wait().is_err() {
+                    raise(&mut self.faults);
+                    return Err(Failed);
+                }
+            }
+        }
+        Ok(())
+    }
+}
