@@ -41,10 +41,10 @@ use Rattle.xd_worker.specs.Functions.{called_in, call_of, is_plain, named, name_
 use Rattle.xd_worker.specs.Talk.{sent_how, payload_on}
 use Rattle.xd_worker.specs.Worker.{Service, Duties, Worker, Turn, turn_of, running_in}
 use Rattle.xd_worker.specs.Turns.{Told, LinkEnded, at_talk, all_asked, given_in, fed, fed_to, called, is_called, is_service, echoed, echoed_how, echo_ended, stopped, did, did_unless, took, turned}
-use Rattle.xd_serve.specs.Going.{call_in, rests}
-use Rattle.xd_serve.specs.Inputs.{is_last}
-use Rattle.xd_serve.proofs.Goings.{running_some}
-use Rattle.xd_serve.proofs.Steps.{Same, all_same, acted_turn, answer_last, kind_last, says_last, is_terminate}
+use Rattle.xd_listen.specs.Running.{call_in, rests}
+use Rattle.xd_listen.specs.Inputs.{is_last}
+use Rattle.xd_listen.proofs.Facts.{running_some}
+use Rattle.xd_listen.proofs.Steps.{Same, all_same, acted_turn, answer_last, kind_last, says_last, is_terminate}
 
 -- ---- a call of `run_tests`
 

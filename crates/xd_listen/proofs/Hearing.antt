@@ -15,7 +15,6 @@ use Rattle.xd_reader.specs.declared.news.LinkStop.TheVariants as link
 use Rattle.xd_run_tests.specs.Line.{Call, running_test, head_test, left}
 use Rattle.xd_suite.specs.declared.test.Test.{Test}
 use Rattle.xd_suite.specs.Tests.{run_at}
-use Rattle.xd_runner.specs.Orders.{NoneEmpty}
 use Rattle.xd_worker.specs.declared.input.WorkerInput.{WorkerInput}
 use Rattle.xd_worker.specs.declared.input.WorkerInput.TheVariants.{Message, SuiteBytes, SuiteTooLarge, SuiteUnread, Output, ChildDone, LinkEnd}
 use Rattle.xd_worker.specs.declared.input.WorkerActions.{WorkerActions}
@@ -26,23 +25,24 @@ use Rattle.xd_worker.specs.Worker.{Worker, Turn, turn_of, behind, running_in}
 use Rattle.xd_worker.specs.Turns.{Came, Told as Says, SuiteRead, NoSuite, Printed, ChildEnded, LinkEnded, turned}
 use Rattle.xd_worker.specs.History.{Heard, Is, IsMessage, all_said, turn_by, worker_after}
 use Rattle.xd_worker.specs.Stands.{Answers, IsFault, StandsFor}
-use Rattle.xd_serve.specs.Going.{call_in, rests}
-use Rattle.xd_serve.specs.Inputs.{IsDue, has_end, has_last, is_last, is_link_end, is_of_link, message_in, messages_in}
-use Rattle.xd_serve.specs.Programs.{commands_in, commands_of}
-use Rattle.xd_serve.specs.Served.{TookToLast}
-use Rattle.xd_serve.specs.Speaking.{written}
-use Rattle.xd_serve.specs.Suites.{FilesGave, Follows, asked_path}
-use Rattle.xd_serve.proofs.Goings.{Aside, aside, message_came, no_commands, none_more, running_some}
-use Rattle.xd_serve.proofs.Steps.{Does, Plain, Prints, Ready, Step, Waits, end_does, link_end_does, output_does, running_is}
-use Rattle.xd_serve.proofs.Tellings.{answered_later, count_more, rose_later, writes_more, written_more}
+use Rattle.xd_listen.specs.Running.{call_in, rests}
+use Rattle.xd_listen.specs.Inputs.{IsDue, has_end, has_last, is_last, is_link_end, is_of_link, message_in, messages_in}
+use Rattle.xd_listen.specs.Programs.{commands_in, commands_of}
+use Rattle.xd_listen.specs.Took.{TookToLast}
+use Rattle.xd_listen.specs.Speaking.{written}
+use Rattle.xd_listen.specs.Suites.{FilesGave, Follows, asked_path}
+use Rattle.xd_listen.proofs.Facts.{Aside, aside, message_came, no_commands, none_more, running_some}
+use Rattle.xd_listen.proofs.Steps.{Does, Plain, Prints, Ready, Step, Waits, end_does, link_end_does, output_does, running_is}
+use Rattle.xd_listen.proofs.Tellings.{answered_later, count_more, rose_later, writes_more, written_more}
 use Rattle.xd_listen.specs.declared.server.Door.{Door}
 use Rattle.xd_listen.specs.declared.server.Door.TheVariants as door
 use Rattle.xd_listen.specs.declared.stop.Stop.TheVariants as stop
 use Rattle.xd_listen.specs.Halts.{Ceased, CeasesBy}
 use Rattle.xd_listen.specs.News.{dones, news_by, news_in}
 use Rattle.xd_listen.specs.Seen.{Seen, is_shut}
-use Rattle.xd_listen.specs.Serves.{FromLink, HeardEnd, HeardLast, IsBusy, IsListening, IsNoted, Owed, ReadsSo, RunsSo, Serves, Setting, nothing, of_link, of_program, one_if, to_start, two, with_item}
+use Rattle.xd_listen.specs.Serves.{NoneEmpty, FromLink, HeardEnd, HeardLast, IsBusy, IsListening, IsNoted, Owed, ReadsSo, RunsSo, Serves, Setting, nothing, of_link, of_program, one_if, to_start, two, with_item}
 use Rattle.xd_listen.specs.Spoke.{Spoke, Voice, voice}
+use Rattle.xd_listen.proofs.Counting.{dones-append, dones_done, dones_piece}
 use Rattle.xd_listen.proofs.Busy.{Keeps, link_end_keeps, message_keeps}
 
 -- a server whose worker took an input, and whose sink was written to
@@ -64,21 +64,6 @@ spoke_more held inputs h b0 b1 first v0 v1 core i acts t a due follows once writ
   sink_later = (let x = t.sink_later in omega (arith, x, later));
   files_later = (let x = t.files_later in omega (arith, x, files));
 }
-
--- ---- how many programs ended
-
-pub dones-append : (a b : List LinkNews) → dones (a ++ b) ≡ dones a + dones b
-dones-append [] b = omega arith
-dones-append (news.Message m ∷ a) b = dones-append a b
-dones-append (news.End why ∷ a) b = dones-append a b
-dones-append (news.Output x ∷ a) b = dones-append a b
-dones-append (news.ChildDone o ∷ a) b = let e = dones-append a b in omega (arith, e)
-
-dones_piece : (a : List LinkNews) (piece : List ℕ) → dones (a ++ news.Output piece ∷ []) ≡ dones a
-dones_piece a piece = let e = dones-append a (news.Output piece ∷ []) in omega (arith, e)
-
-dones_done : (a : List LinkNews) (o : Outcome) → dones (a ++ news.ChildDone o ∷ []) ≡ dones a + 1
-dones_done a o = let e = dones-append a (news.ChildDone o ∷ []) in omega (arith, e)
 
 -- ---- which test runs
 

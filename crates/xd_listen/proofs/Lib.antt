@@ -1,5 +1,12 @@
 pub mod Busy
+pub mod Calls
+pub mod Counting
+pub mod Dropping
+pub mod Endings
+pub mod Facts
 pub mod Hearing
 pub mod Puts
 pub mod Rans
 pub mod Settling
+pub mod Steps
+pub mod Tellings

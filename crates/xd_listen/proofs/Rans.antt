@@ -1,18 +1,19 @@
 -- What a runner put against what the worker heard of it.
 use Rattle.std.proofs.Common.{◌≡◌, ℕ, zero, suc, ◌+◌, ◌≤◌, List, [], ◌∷◌, ◌++◌, length, map, Bool, true, false, Option, Some, None, refl, ap, sym, ◌∙◌, subst, arith, append_assoc}
-use Rattle.std.specs.List.{concat}
 use Rattle.std.proofs.lemmas.List.{append-nil, length-append}
 use Rattle.xd_journal.specs.declared.entry.Outcome.{Outcome}
 use Rattle.xd_reader.specs.declared.news.LinkNews.{LinkNews}
 use Rattle.xd_reader.specs.declared.news.LinkNews.TheVariants as news
 use Rattle.xd_reader.specs.declared.news.LinkStop.{LinkStop}
-use Rattle.xd_runner.specs.Orders.{Pieces, news_of, whole}
+use Rattle.xd_edge.specs.MemChildren.{whole_output}
+use Rattle.xd_runner.specs.Orders.{Told, all_news, ran_of, told_news}
+use Rattle.xd_runner.specs.Programs.{Ran}
 use Rattle.xd_worker.specs.declared.input.WorkerInput.{WorkerInput}
 use Rattle.xd_worker.specs.declared.input.WorkerInput.TheVariants.{Message, SuiteBytes, SuiteTooLarge, SuiteUnread, Output, ChildDone, LinkEnd}
-use Rattle.xd_serve.specs.Programs.{Ran, output_in, ran_in}
+use Rattle.xd_listen.specs.Programs.{output_in, ran_in}
 use Rattle.xd_listen.specs.Ends.{IsUnheard}
 use Rattle.xd_listen.specs.News.{dones, news_by, news_in}
-use Rattle.xd_listen.proofs.Hearing.{dones-append}
+use Rattle.xd_listen.proofs.Counting.{dones-append}
 
 abbrev ran : List ℕ → Outcome → Ran
 ran output outcome = record { output = output; outcome = outcome }
@@ -71,13 +72,13 @@ count_rans out (news.ChildDone o ∷ ns) = let e = count_rans [] ns in omega (ar
 
 -- ---- what a runner put
 
-rans_pieces : (out : List ℕ) (pieces : List (List ℕ)) (o : Outcome) (ns : List LinkNews) → rans out (map news.Output pieces ++ news.ChildDone o ∷ ns) ≡ ran (out ++ concat pieces) o ∷ rans [] ns
+rans_pieces : (out : List ℕ) (pieces : List (List ℕ)) (o : Outcome) (ns : List LinkNews) → rans out (map news.Output pieces ++ news.ChildDone o ∷ ns) ≡ ran (out ++ whole_output pieces) o ∷ rans [] ns
 rans_pieces out [] o ns = ap (λ (l : List ℕ). ran l o ∷ rans [] ns) (sym (append-nil out))
-rans_pieces out (p ∷ pieces) o ns = rans_pieces (out ++ p) pieces o ns ∙ ap (λ (l : List ℕ). ran l o ∷ rans [] ns) (append_assoc out p (concat pieces))
+rans_pieces out (p ∷ pieces) o ns = rans_pieces (out ++ p) pieces o ns ∙ ap (λ (l : List ℕ). ran l o ∷ rans [] ns) (append_assoc out p (whole_output pieces))
 
-pub rans_of : (ps : List Pieces) → rans [] (news_of ps) ≡ map whole ps
+pub rans_of : (ps : List Told) → rans [] (all_news ps) ≡ map ran_of ps
 rans_of [] = refl
-rans_of (p ∷ ps) = rans_pieces [] p.pieces p.outcome (news_of ps) ∙ ap (λ (l : List Ran). whole p ∷ l) (rans_of ps)
+rans_of (p ∷ ps) = ap (rans []) (append_assoc (map news.Output p.pieces) (news.ChildDone p.outcome ∷ []) (all_news ps)) ∙ rans_pieces [] p.pieces p.outcome (all_news ps) ∙ ap (λ (l : List Ran). ran_of p ∷ l) (rans_of ps)
 
 -- what the worker did not hear is at most one, which begins with what it heard
 pub unheard_is : (out : List ℕ) (ns : List LinkNews) → length (rans out ns) ≤ 1 → IsUnheard out (rans out ns)
@@ -113,9 +114,9 @@ more_ends [] o ns d = done_ends o ns d
 more_ends (p ∷ []) o ns d = done_ends o ns d
 more_ends (p ∷ (q ∷ pieces)) o ns d = more_ends (q ∷ pieces) o ns d
 
-ends : (ps : List Pieces) → EndsDone (news_of ps)
+ends : (ps : List Told) → EndsDone (all_news ps)
 ends [] = tt
-ends (p ∷ ps) = more_ends p.pieces p.outcome (news_of ps) (ends ps)
+ends (p ∷ ps) = subst EndsDone (sym (append_assoc (map news.Output p.pieces) (news.ChildDone p.outcome ∷ []) (all_news ps))) (more_ends p.pieces p.outcome (all_news ps) (ends ps))
 
 some_done : (x : LinkNews) (more : List LinkNews) → EndsDone (x ∷ more) → 1 ≤ dones (x ∷ more)
 some_done x [] d = omega (arith, d)
@@ -127,5 +128,5 @@ behind (n ∷ []) x more d = d
 behind (n ∷ (m ∷ ns)) x more d = behind (m ∷ ns) x more d
 
 -- the last of what a runner put is the end of a program
-pub last_done : (ps : List Pieces) (ns : List LinkNews) (x : LinkNews) (more : List LinkNews) → news_of ps ≡ ns ++ x ∷ more → 1 ≤ dones (x ∷ more)
+pub last_done : (ps : List Told) (ns : List LinkNews) (x : LinkNews) (more : List LinkNews) → all_news ps ≡ ns ++ x ∷ more → 1 ≤ dones (x ∷ more)
 last_done ps ns x more e = some_done x more (behind ns x more (subst EndsDone e (ends ps)))

@@ -9,7 +9,6 @@ use Rattle.xd_reader.specs.declared.news.LinkStop.{LinkStop}
 use Rattle.xd_reader.specs.declared.news.LinkStop.TheVariants as link
 use Rattle.xd_run_tests.specs.Line.{Call, running_test}
 use Rattle.xd_suite.specs.Tests.{run_at}
-use Rattle.xd_runner.specs.Orders.{NoneEmpty}
 use Rattle.xd_worker.specs.declared.input.WorkerInput.{WorkerInput}
 use Rattle.xd_worker.specs.declared.input.WorkerInput.TheVariants.{Message}
 use Rattle.xd_worker.specs.declared.input.WorkerFault.{WorkerFault}
@@ -18,13 +17,12 @@ use Rattle.xd_worker.specs.declared.worker.WorkerCore.{WorkerCore}
 use Rattle.xd_worker.specs.Worker.{Worker, running_in}
 use Rattle.xd_worker.specs.History.{Heard, is_over, worker_after}
 use Rattle.xd_worker.specs.Stands.{IsFault, StandsFor}
-use Rattle.xd_serve.specs.Going.{call_in, rests}
-use Rattle.xd_serve.specs.Inputs.{has_end, has_last, messages_in}
-use Rattle.xd_serve.specs.Programs.{commands_in}
-use Rattle.xd_serve.specs.Suites.{asked_path}
-use Rattle.xd_serve.specs.Taking.{AreLeft}
-use Rattle.xd_serve.proofs.Goings.{none_is, none_runs}
-use Rattle.xd_serve.proofs.Steps.{running_is}
+use Rattle.xd_listen.specs.Running.{call_in, rests}
+use Rattle.xd_listen.specs.Inputs.{has_end, has_last, messages_in}
+use Rattle.xd_listen.specs.Suites.{asked_path}
+use Rattle.xd_listen.specs.Programs.{AreLeft, commands_in}
+use Rattle.xd_listen.proofs.Facts.{none_is, none_runs}
+use Rattle.xd_listen.proofs.Steps.{running_is}
 use Rattle.xd_listen.specs.declared.server.Door.{Door}
 use Rattle.xd_listen.specs.declared.server.Door.TheVariants as door
 use Rattle.xd_listen.specs.declared.server.Halt.{Halt}
@@ -33,9 +31,9 @@ use Rattle.xd_listen.specs.declared.stop.Stop.TheVariants as stop
 use Rattle.xd_listen.specs.Halts.{Ceased, Ceases, CeasesBy, Goes, IsStrange, IsUncalled, Strayed, is_whole, over_by, status_of}
 use Rattle.xd_listen.specs.News.{dones, news_in}
 use Rattle.xd_listen.specs.Seen.{Seen, is_shut}
-use Rattle.xd_listen.specs.Serves.{FromLink, HeardEnd, HeardLast, IsBusy, IsListening, IsNoted, Owed, ReadsSo, Runs, RunsSo, Serves, Setting, nothing, of_link, of_program, one_if, to_start, two, with_item}
+use Rattle.xd_listen.specs.Serves.{NoneEmpty, FromLink, HeardEnd, HeardLast, IsBusy, IsListening, IsNoted, Owed, ReadsSo, Runs, RunsSo, Serves, Setting, nothing, of_link, of_program, one_if, to_start, two, with_item}
 use Rattle.xd_listen.specs.Spoke.{Spoke, Voice, voice}
-use Rattle.xd_listen.proofs.Hearing.{dones-append}
+use Rattle.xd_listen.proofs.Counting.{dones-append}
 
 -- ---- a test is ordered
 
@@ -311,13 +309,12 @@ module _ (a : Setting) (files : ℕ) (s : Seen) where
         messages = messages_in g.inputs;
         heard = g.of_runner;
         item = item;
-        later = [];
         running = one_if s.started;
         mails_are = g.mails_are;
         count = g.count;
         some = g.some;
         drained = λ z. (let c = g.count in omega (arith, c));
-        strays = inl (ap (λ (l : List LinkNews). l ++ item ∷ []) x.got_is, odd);
+        strays = inl ([], ap (λ (l : List LinkNews). l ++ item ∷ []) x.got_is, odd);
       }
 
   pub uncalled : (item : LinkNews) → IsUncalled (one_if s.started) item → Serves a files (of_program item) s → Strayed a s
@@ -327,11 +324,10 @@ module _ (a : Setting) (files : ℕ) (s : Seen) where
     messages = messages_in g.inputs;
     heard = g.of_runner;
     item = item;
-    later = [];
     running = one_if s.started;
     mails_are = g.mails_are;
     count = g.count;
     some = g.some;
     drained = λ z. (let c = g.count in let d = dones-append g.of_runner (item ∷ []) in omega (arith, c, d));
-    strays = inr (refl, odd);
+    strays = inr ([], refl, odd);
   }

@@ -9,13 +9,15 @@ use Rattle.xd_frame.specs.Message.{MessageView}
 use Rattle.xd_frame.specs.Stream.{messages, rest, Clean, Unfinished, Refused}
 use Rattle.xd_link.specs.Source.{Gave}
 use Rattle.xd_link.specs.Spring.{ReadToEnd, Spring}
+use Rattle.xd_reader.specs.declared.news.LinkStop.{LinkStop}
+use Rattle.xd_reader.specs.declared.news.LinkStop.TheVariants as link
 use Rattle.xd_worker.specs.declared.input.WorkerInput.{WorkerInput}
 use Rattle.xd_worker.specs.History.{Heard, is_over, worker_after}
-use Rattle.xd_serve.specs.Inputs.{has_end, has_last, messages_in}
-use Rattle.xd_serve.specs.Programs.{AreRun, Ran, commands_in, faults_of, output_in, ran_in}
-use Rattle.xd_serve.specs.Served.{TookAll, TookToLast, TookToRefused}
-use Rattle.xd_serve.specs.Suites.{asked_path}
-use Rattle.xd_serve.specs.Taking.{AreLeft}
+use Rattle.xd_listen.specs.Inputs.{has_end, has_last, messages_in}
+use Rattle.xd_runner.specs.Programs.{AreRun, Ran, faults_of}
+use Rattle.xd_listen.specs.Programs.{AreLeft, commands_in, output_in, ran_in}
+use Rattle.xd_listen.specs.Took.{TookAll, TookToLast, TookToRefused}
+use Rattle.xd_listen.specs.Suites.{asked_path}
 use Rattle.xd_listen.specs.declared.stop.Stop.{Stop}
 use Rattle.xd_listen.specs.declared.stop.Stop.TheVariants as stop
 use Rattle.xd_listen.specs.Halts.{is_whole, status_of}
@@ -86,10 +88,39 @@ abbrev pub IsShut : Bool → Option Sunk → Option Sunk → Type 0
 IsShut true before now = now ≡ option_map with_close before
 IsShut false before now = (now ≡ before) ⊎ (now ≡ option_map with_close before)
 
+-- A sink was closed, or could not be, and then its count rose.
+pub record Closes (closed : Bool) (sunk new : Option Sunk) (faults now : ℕ) : Type 0 where
+  pub shut : closed ≡ true → new ≡ option_map with_close sunk
+  pub kept : closed ≡ false → new ≡ sunk
+  pub still : closed ≡ true → now ≡ faults
+  pub rose : closed ≡ false → Rose faults now
+  pub later : faults ≤ now
+
 -- A count is the one before, or rose; where a link ends well it is the one before.
 pub record IsStill (why : Stop) (before now : ℕ) : Type 0 where
   pub still_or_rose : (now ≡ before) ⊎ Rose before now
   pub still : status_of why ≡ 0 → now ≡ before
+
+-- GATEWAY_TERMINATE was taken, and the reader stopped so
+abbrev pub terminated_by : LinkStop → Stop
+terminated_by link.Ended = stop.Terminated
+terminated_by link.Cut = stop.Terminated
+terminated_by (link.Garbled fault) = stop.Terminated
+terminated_by (link.BadGreeting b) = stop.Terminated
+terminated_by link.ReadFault = stop.ReadFault
+terminated_by link.OutOfMemory = stop.Terminated
+
+-- why the link is served no more, where the worker ceased so, the reader stopped so, and the sink was closed or not
+abbrev pub last_stop : Bool → Stop → LinkStop → Stop
+last_stop false why l = stop.WriteFault
+last_stop true stop.NotRun l = stop.NotRun
+last_stop true stop.Terminated l = terminated_by l
+last_stop true stop.Ended l = stop.Ended
+last_stop true stop.Cut l = stop.Cut
+last_stop true (stop.Header fault) l = stop.Header fault
+last_stop true (stop.Message fault) l = stop.Message fault
+last_stop true stop.ReadFault l = stop.ReadFault
+last_stop true stop.WriteFault l = stop.WriteFault
 
 -- A link was read until this: the bytes that it gave, what came to the worker and its history, the program of which it did
 -- not hear to the end, and the one that was left. What was spoken ends at the sink's close.

@@ -1,21 +1,21 @@
 -- Why a worker listens no more.
-use Rattle.std.specs.Prelude.{◌≡◌, ◌⊎◌, ◌<◌, ◌≤◌, ℕ, ◌+◌, Bool, true, false, List, [], ◌∷◌, ◌++◌, length, map, Option, Some, None}
+use Rattle.std.specs.Prelude.{◌≡◌, ◌⊎◌, ◌<◌, ◌≤◌, ℕ, zero, suc, ◌+◌, Bool, true, false, List, [], ◌∷◌, ◌++◌, length, map, Option, Some, None}
+use Rattle.xd_edge.specs.Sink.{Sunk}
+use Rattle.xd_post.specs.Post.{Ring}
 use Rattle.xd_reader.specs.declared.news.LinkNews.{LinkNews}
 use Rattle.xd_reader.specs.declared.news.LinkNews.TheVariants as news
 use Rattle.xd_reader.specs.declared.news.LinkStop.{LinkStop}
 use Rattle.xd_reader.specs.declared.news.LinkStop.TheVariants as link
 use Rattle.xd_frame.specs.Message.{MessageView}
-use Rattle.xd_runner.specs.Orders.{NoneEmpty}
 use Rattle.xd_worker.specs.declared.input.WorkerInput.{WorkerInput}
 use Rattle.xd_worker.specs.declared.input.WorkerInput.TheVariants.{Message}
 use Rattle.xd_worker.specs.History.{Heard, Refuses, is_over, worker_after}
 use Rattle.xd_worker.specs.declared.input.WorkerFault.{WorkerFault}
 use Rattle.xd_worker.specs.declared.input.WorkerFault.TheVariants as fault
-use Rattle.xd_serve.specs.Inputs.{has_end, has_last, messages_in}
-use Rattle.xd_serve.specs.Programs.{commands_in}
-use Rattle.xd_serve.specs.Served.{TookToLast}
-use Rattle.xd_serve.specs.Suites.{asked_path}
-use Rattle.xd_serve.specs.Taking.{AreLeft}
+use Rattle.xd_listen.specs.Inputs.{has_end, has_last, messages_in}
+use Rattle.xd_listen.specs.Took.{TookToLast}
+use Rattle.xd_listen.specs.Suites.{asked_path}
+use Rattle.xd_listen.specs.Programs.{AreLeft, commands_in}
 use Rattle.xd_listen.specs.declared.stop.Stop.{Stop}
 use Rattle.xd_listen.specs.declared.stop.Stop.TheVariants as stop
 use Rattle.xd_listen.specs.declared.server.Door.{Door}
@@ -24,7 +24,7 @@ use Rattle.xd_listen.specs.declared.server.Halt.{Halt}
 use Rattle.xd_listen.specs.declared.server.Halt.TheVariants as halt
 use Rattle.xd_listen.specs.News.{dones, news_in}
 use Rattle.xd_listen.specs.Seen.{Seen}
-use Rattle.xd_listen.specs.Serves.{Serves, Setting, IsNoted, nothing, one_if, two}
+use Rattle.xd_listen.specs.Serves.{NoneEmpty, Serves, Setting, IsNoted, nothing, one_if, two}
 use Rattle.xd_listen.specs.Spoke.{Spoke, Voice, voice}
 
 -- the exit status: 0 where GATEWAY_TERMINATE came or the link ended at a message's edge
@@ -119,13 +119,12 @@ pub record Strayed (a : Setting) (s : Seen) : Type 0 where
   pub messages : List MessageView
   pub heard : List LinkNews
   pub item : LinkNews
-  pub later : List LinkNews
   pub running : ℕ
   pub mails_are : s.mails ≡ two a of_reader of_runner
   pub count : length s.orders ≡ dones heard + running
   pub some : NoneEmpty s.orders
   pub drained : s.short ≡ false → length s.orders ≤ dones of_runner + one_if s.started
-  pub strays : ((of_reader ≡ map news.Message messages ++ item ∷ later) × IsStrange item) ⊎ ((of_runner ≡ heard ++ item ∷ later) × IsUncalled running item)
+  pub strays : ((later : List LinkNews) × (of_reader ≡ map news.Message messages ++ item ∷ later) × IsStrange item) ⊎ ((later : List LinkNews) × (of_runner ≡ heard ++ item ∷ later) × IsUncalled running item)
 
 -- a message was refused, or memory was
 abbrev pub CeasesBy : WorkerFault → Setting → ℕ → Seen → Type 0
@@ -146,6 +145,37 @@ halt_by (link.Garbled fault) = Some (halt.At (stop.Header fault))
 halt_by (link.BadGreeting b) = Some halt.Astray
 halt_by link.ReadFault = Some (halt.At stop.ReadFault)
 halt_by link.OutOfMemory = Some (halt.At stop.ReadFault)
+
+-- ---- items that are dropped behind that
+
+-- the reader's end, where this item of this inbox is one
+abbrev pub noted_end : ℕ → LinkNews → Option LinkStop → Option LinkStop
+noted_end zero (news.End why) old = Some why
+noted_end n item old = old
+
+-- a program runs no more where its end comes, or the runner's
+abbrev pub still_started : ℕ → LinkNews → Option ℕ → Option ℕ
+still_started (suc k) (news.End why) old = None
+still_started (suc k) (news.ChildDone outcome) old = None
+still_started n item old = old
+
+-- the runner's end comes, or that of a reader for want of memory
+abbrev pub is_short_by : ℕ → LinkNews → Bool → Bool
+is_short_by (suc k) (news.End why) old = true
+is_short_by zero (news.End link.OutOfMemory) old = true
+is_short_by n item old = old
+
+abbrev pub without : ℕ → LinkNews → List (Option (Ring × List LinkNews)) → Seen → Seen
+without n item mails s = record s {
+  mails = mails;
+  link_stop = noted_end n item s.link_stop;
+  started = still_started n item s.started;
+  short = is_short_by n item s.short;
+}
+
+-- a sink that took this, with this count of faults
+abbrev pub at_sink : Option Sunk → ℕ → Seen → Seen
+at_sink sunk faults s = record s { sunk = sunk; sink_faults = faults }
 
 -- The worker goes on, or listens no more.
 abbrev pub Goes : Option Halt → Setting → ℕ → Seen → Type 0

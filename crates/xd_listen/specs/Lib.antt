@@ -1,3 +1,9 @@
+pub mod Inputs
+pub mod Suites
+pub mod Programs
+pub mod Running
+pub mod Speaking
+pub mod Took
 pub mod Spoke
 pub mod News
 pub mod Seen

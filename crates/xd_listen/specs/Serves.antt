@@ -1,6 +1,7 @@
 -- How far a worker has come that listens to its link and to its programs.
 use Rattle.std.specs.Prelude.{◌≡◌, ℕ, zero, suc, ◌+◌, Bool, true, false, not, List, [], ◌∷◌, ◌++◌, length, map, Option, Some, None}
 use Rattle.xd_edge.specs.Files.{Held}
+use Rattle.xd_edge.specs.Sink.{Sunk}
 use Rattle.xd_frame.specs.Message.{MessageView}
 use Rattle.xd_post.specs.Post.{Ring}
 use Rattle.xd_reader.specs.declared.news.LinkNews.{LinkNews}
@@ -8,18 +9,17 @@ use Rattle.xd_reader.specs.declared.news.LinkNews.TheVariants.{Message, End}
 use Rattle.xd_reader.specs.declared.news.LinkStop.{LinkStop}
 use Rattle.xd_reader.specs.declared.news.LinkStop.TheVariants as link
 use Rattle.xd_run_tests.specs.Line.{running_test}
-use Rattle.xd_runner.specs.Orders.{NoneEmpty}
 use Rattle.xd_suite.specs.Tests.{run_at}
 use Rattle.xd_worker.specs.declared.input.WorkerInput.{WorkerInput}
 use Rattle.xd_worker.specs.declared.worker.WorkerCore.{WorkerCore}
 use Rattle.xd_worker.specs.Worker.{Worker, running_in}
 use Rattle.xd_worker.specs.History.{Heard, worker_after}
 use Rattle.xd_worker.specs.Stands.{StandsFor}
-use Rattle.xd_serve.specs.Going.{call_in, rests}
-use Rattle.xd_serve.specs.Inputs.{has_end, has_last, messages_in}
-use Rattle.xd_serve.specs.Programs.{commands_in}
-use Rattle.xd_serve.specs.Served.{TookToLast}
-use Rattle.xd_serve.specs.Suites.{asked_path}
+use Rattle.xd_listen.specs.Running.{call_in, rests}
+use Rattle.xd_listen.specs.Inputs.{has_end, has_last, messages_in}
+use Rattle.xd_listen.specs.Programs.{commands_in}
+use Rattle.xd_listen.specs.Took.{TookToLast}
+use Rattle.xd_listen.specs.Suites.{asked_path}
 use Rattle.xd_listen.specs.declared.server.Door.{Door}
 use Rattle.xd_listen.specs.declared.server.Door.TheVariants as door
 use Rattle.xd_listen.specs.News.{dones, news_in}
@@ -33,6 +33,9 @@ pub record Setting : Type 0 where
   pub first : Voice
   pub reader : Ring
   pub runner : Ring
+
+abbrev pub setting : Option Held → Option Sunk → ℕ → ℕ → Ring → Ring → Setting
+setting held sunk sink_faults file_faults reader runner = record { held = held; first = voice sunk sink_faults file_faults; reader = reader; runner = runner }
 
 -- what is to be done next: a suite to be read, an item that was taken of the reader or of the runner, and whether a test
 -- may have to be started
@@ -119,6 +122,11 @@ ReadsSo (Some path) started left d w = (w.duties.owed ≡ true) × (started ≡ 
 abbrev pub one_if : Option ℕ → ℕ
 one_if None = 0
 one_if (Some moment) = 1
+
+-- no command is empty
+abbrev pub NoneEmpty : List (List (List ℕ)) → Type 0
+NoneEmpty [] = Unit {0}
+NoneEmpty (command ∷ more) = (command ≡ [] → ⊥) × NoneEmpty more
 
 -- this test runs in a worker, whatever it took
 abbrev pub Runs : ℕ → WorkerCore → Type 0

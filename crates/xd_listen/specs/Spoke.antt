@@ -6,9 +6,9 @@ use Rattle.xd_edge.specs.Sink.{Sunk}
 use Rattle.xd_frame.specs.Writing.{CountAfter, Writes}
 use Rattle.xd_worker.specs.declared.input.WorkerInput.{WorkerInput}
 use Rattle.xd_worker.specs.History.{Heard, all_said}
-use Rattle.xd_serve.specs.Inputs.{AreHeard, EndsOnce}
-use Rattle.xd_serve.specs.Suites.{AreAnswered}
-use Rattle.xd_serve.specs.Speaking.{written}
+use Rattle.xd_listen.specs.Inputs.{AreHeard, EndsOnce}
+use Rattle.xd_listen.specs.Suites.{AreAnswered}
+use Rattle.xd_listen.specs.Speaking.{written}
 
 -- what is seen of the sink and the files
 pub record Voice : Type 0 where

@@ -1,52 +1,84 @@
-// How a server ends.
-ghost use Rattle.std.specs.Prelude.{◌≡◌, ℕ, Some, IfSome, IsSome};
-ghost use Rattle.xd_listen.specs.Halts.{Goes};
+// How a server ends: what still comes is taken and dropped.
+ghost use Rattle.std.specs.Prelude.{◌≡◌, ℕ, Option, Some, None};
+ghost use Rattle.xd_edge.specs.Sink.{Sunk};
+ghost use Rattle.xd_listen.specs.Halts.{Goes, at_sink, is_short_by, noted_end, still_started};
 ghost use Rattle.xd_listen.specs.Seen.{seen};
 ghost use Rattle.xd_listen.specs.Serves.{Setting};
+ghost use Rattle.xd_listen.specs.declared.server.Halt.{Halt};
 
-use crate::server::{Halt, Server};
+use crate::server::Server;
 use std::sync::Wait;
 use xd_edge::Sink;
 use xd_reader::{LinkNews, LinkStop};
 
 impl<N: Sink> Server<N> {
-    /// Takes and drops what comes, until the reader's end and the end of the running test were taken. So neither job waits
-    /// for room.
+    /// Takes and drops what comes, until the reader's end and the end of the running test were taken, so that neither job
+    /// waits for room. Gives the reader's end.
     pub fn drain<R: Wait>(&mut self, rt: &R) -> LinkStop
-        ensures goes { (a : Setting) (files : ℕ) (halt : Halt) → Goes (Some halt) a files (seen N.sunk N.faults self.old) → Goes (Some halt) a files (seen N.sunk N.faults self.new) }
+        ensures goes { (a : Setting) (files : ℕ) (halt : Halt) (sunk : Option Sunk) (faults : ℕ) → Goes (Some halt) a files (at_sink sunk faults (seen N.sunk N.faults self.old)) → Goes (Some halt) a files (at_sink sunk faults (seen N.sunk N.faults self.new)) }
         ensures ended { self.new.link_stop ≡ Some result }
+        ensures idle { self.new.started ≡ None }
         ensures speaker { self.new.speaker ≡ self.old.speaker }
         ensures orders { self.new.orders ≡ self.old.orders }
     {
         for _ in rt.forever() {
-            if let Some(stop) = self.link_stop {
-                if self.started.is_none() {
+            if self.started.is_none() {
+                if let Some(stop) = self.link_stop {
                     return stop;
                 }
             }
-            let (inbox, news) = self.desk.wait(rt);
-            self.drop_item(inbox, news);
+            self.drop_next(rt);
         }
         unreachable!()
     }
 
-    fn drop_item(&mut self, inbox: u32, news: LinkNews)
+    // Takes the next item, and drops it.
+    fn drop_next<R: Wait>(&mut self, rt: &R)
+        ensures goes { (a : Setting) (files : ℕ) (halt : Halt) (sunk : Option Sunk) (faults : ℕ) → Goes (Some halt) a files (at_sink sunk faults (seen N.sunk N.faults self.old)) → Goes (Some halt) a files (at_sink sunk faults (seen N.sunk N.faults self.new)) }
         ensures speaker { self.new.speaker ≡ self.old.speaker }
         ensures orders { self.new.orders ≡ self.old.orders }
-        ensures desk { self.new.desk ≡ self.old.desk }
-        ensures link_stop { NotesEnd inbox news self.old.link_stop self.new.link_stop }
     {
-        match news {
-            LinkNews::End(stop) => {
-                self.is_short = self.is_short || stop == LinkStop::OutOfMemory;
-                if inbox == 0 {
-                    self.link_stop = Some(stop);
-                } else {
-                    self.started = None;
-                }
-            }
-            LinkNews::ChildDone(_) => self.started = None,
-            LinkNews::Message(_) | LinkNews::Output(_) => (),
-        }
+        let (inbox, news) = self.desk.wait(rt);
+        self.link_stop = noted_end(inbox, &news, self.link_stop);
+        self.started = still_started(inbox, &news, self.started);
+        self.is_short = is_short_by(inbox, &news, self.is_short);
+    }
+}
+
+// The reader's end, where this item is one.
+fn noted_end(inbox: u32, news: &LinkNews, old: Option<LinkStop>) -> Option<LinkStop>
+    ensures { result ≡ noted_end inbox news.now old }
+{
+    if inbox > 0 {
+        return old;
+    }
+    match news {
+        LinkNews::End(stop) => Some(*stop),
+        LinkNews::Message(_) | LinkNews::Output(_) | LinkNews::ChildDone(_) => old,
+    }
+}
+
+// The moment at which the running test was started, if this item is not its end.
+fn still_started(inbox: u32, news: &LinkNews, old: Option<u64>) -> Option<u64>
+    ensures { result ≡ still_started inbox news.now old }
+{
+    if inbox == 0 {
+        return old;
+    }
+    match news {
+        LinkNews::End(_) | LinkNews::ChildDone(_) => None,
+        LinkNews::Message(_) | LinkNews::Output(_) => old,
+    }
+}
+
+// Whether a job met want of memory.
+fn is_short_by(inbox: u32, news: &LinkNews, old: bool) -> bool
+    ensures { result ≡ is_short_by inbox news.now old }
+{
+    match news {
+        LinkNews::End(LinkStop::OutOfMemory) => true,
+        LinkNews::End(_) if inbox > 0 => true,
+        LinkNews::End(_) => old,
+        LinkNews::Message(_) | LinkNews::Output(_) | LinkNews::ChildDone(_) => old,
     }
 }

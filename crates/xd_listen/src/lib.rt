@@ -3,6 +3,7 @@
 #![tactic(auto)]
 
 mod ending;
+mod finishing;
 mod hearing;
 mod server;
 mod serving;

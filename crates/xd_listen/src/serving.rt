@@ -1,9 +1,21 @@
 // A link that is served to its end.
-ghost use Rattle.std.specs.Prelude.{◌≡◌, ◌≤◌, [], ℕ, Some, None, IfOk, IfSome};
+ghost use Rattle.std.specs.Prelude.{◌≡◌, ◌≢◌, ◌×◌, ℕ, [], ◌∷◌, Option, Some, None, true, false, IfOk, IfSome};
+ghost use Rattle.xd_edge.specs.Faults.{StoodStill};
+ghost use Rattle.xd_edge.specs.Files.{Held};
 ghost use Rattle.xd_link.specs.Spring.{spring};
+ghost use Rattle.xd_post.specs.Mails.{mails};
+ghost use Rattle.xd_post.specs.Post.{put, ring_of_sender};
+ghost use Rattle.xd_runner.specs.Orders.{seen as programs};
+ghost use Rattle.xd_listen.specs.declared.server.Door.TheVariants.{Open};
+ghost use Rattle.xd_listen.specs.declared.stop.Stop.TheVariants.{NotRun, WriteFault};
+ghost use Rattle.xd_listen.specs.Complete.{AreGood, GoesWrong};
 ghost use Rattle.xd_listen.specs.Ends.{Served, scene};
+ghost use Rattle.xd_listen.specs.Seen.{seen};
+ghost use Rattle.xd_listen.specs.Serves.{Serves, Setting, nothing, setting, to_start};
+ghost use Rattle.xd_worker.specs.Stands.{Stood};
 
-use crate::server::{Door, Halt, Server};
+use crate::finishing::{finish, unserved};
+use crate::server::{Door, Server};
 use crate::speaker::Speaker;
 use crate::stop::Stop;
 use std::alloc::Global;
@@ -12,8 +24,8 @@ use xd_crew::Crew;
 use xd_edge::{Children, Clock, Files, OutOfMemory, Sink, Texts};
 use xd_link::{Source, Started};
 use xd_post::{Bell, Desk, Sender, mailbox};
-use xd_reader::{LinkNews, LinkStop, Reader, ReaderEnd};
-use xd_runner::{Runner, RunnerEnd};
+use xd_reader::{LinkNews, Reader};
+use xd_runner::Runner;
 
 /// How many items a mailbox holds.
 const ROOM: usize = 8;
@@ -31,7 +43,7 @@ pub struct ServeEnd<S: Source + Drop, N: Sink + Drop, K: Children> {
     pub children: K,
 }
 
-// A server, and the ends of its mailboxes that its jobs take.
+// A server that has greeted, and the ends of its mailboxes that its jobs take.
 #[derive(Drop)]
 struct Opened<N: Sink + Drop> {
     server: Server<N>,
@@ -40,7 +52,12 @@ struct Opened<N: Sink + Drop> {
     orders: Desk<Texts>,
 }
 
-fn open<N: Sink + Drop>(alloc: Global, sink: N) -> Result<Opened<N>, OutOfMemory> {
+fn open<N: Sink + Drop>(alloc: Global, sink: N) -> Result<Opened<N>, OutOfMemory>
+    ensures serves { (held : Option Held) (files : ℕ) → IfOk result (λ o. Serves (setting held (N.sunk sink) (N.faults sink) files (ring_of_sender o.from_link) (ring_of_sender o.from_programs)) files (to_start None) (seen N.sunk N.faults o.server)) }
+    ensures fresh { IfOk result (λ o. (put o.from_link ≡ []) × (put o.from_programs ≡ []) × (put o.server.orders ≡ []) × (mails o.orders ≡ Some (ring_of_sender o.server.orders, []) ∷ [])) }
+    ensures stood { IfOk result (λ o. Stood o.server.speaker.core) }
+    ensures is_open { IfOk result (λ o. o.server.door ≡ Open) }
+{
     let mut desk = Desk::new(alloc, Bell::new(alloc)?);
     let (from_link, inbox) = mailbox(alloc, ROOM, desk.bell())?;
     desk.add(inbox)?;
@@ -88,38 +105,74 @@ pub fn serve<
     children: K,
     runner: &mut D,
     clock: &mut T,
-) -> Result<ServeEnd<S, N, K>, OutOfMemory> {
+) -> Result<ServeEnd<S, N, K>, OutOfMemory>
+    ensures served { IfOk result (λ e. Served e.status (F.held files.old)
+        (spring (S.supply link.source) (S.is_ended link.source) (S.faults link.source))
+        (spring (S.supply e.source) (S.is_ended e.source) (S.faults e.source))
+        (scene (N.sunk link.sink) (N.faults link.sink) (K.runs children) (K.faults children) (F.faults files.old) (C.faults crew.old) (D.faults runner.old))
+        (scene (N.sunk e.sink) (N.faults e.sink) (K.runs e.children) (K.faults e.children) (F.faults files.new) (C.faults crew.new) (D.faults runner.new))) }
+{
     let Started {
         link: _,
         source,
         sink,
     } = link;
+    let opened = open(alloc, sink)?;
+    if opened.server.speaker.is_broken {
+        return Ok(unserved(
+            Stop::WriteFault,
+            opened.server,
+            source,
+            children,
+        ));
+    }
+    serve_open(rt, alloc, opened, source, files, crew, children, runner, clock)
+}
+
+// Starts both jobs, and listens.
+fn serve_open<
+    R: Wait,
+    S: Source + Drop,
+    N: Sink + Drop,
+    F: Files,
+    C: Crew<Reader<S>>,
+    K: Children,
+    D: Crew<Runner<K>>,
+    T: Clock,
+>(
+    rt: &R,
+    alloc: Global,
+    opened: Opened<N>,
+    source: S,
+    files: &mut F,
+    crew: &mut C,
+    children: K,
+    runner: &mut D,
+    clock: &mut T,
+) -> Result<ServeEnd<S, N, K>, OutOfMemory> {
     let Opened {
         server,
         from_link,
         from_programs,
         orders,
-    } = open(alloc, sink)?;
-    if server.speaker.is_broken {
-        return Ok(unserved(Stop::WriteFault, server, source, children));
-    }
-    let job = Runner::new(alloc, children, orders, from_programs);
-    let running = match runner.start(job) {
+    } = opened;
+    let running = match runner.start(Runner::new(alloc, children, orders, from_programs)) {
         Ok(running) => running,
         Err(back) => {
             let children = back.into_end().children;
             return Ok(unserved(Stop::NotRun, server, source, children));
         }
     };
-    let job = Reader::new(alloc, source, from_link, false);
-    let reading = match crew.start(job) {
+    let mut server = server;
+    let reading = match crew.start(Reader::new(alloc, source, from_link, false)) {
         Ok(reading) => reading,
         Err(back) => {
+            server.orders.put(rt, no_order(alloc));
+            let children = runner.join(running).children;
             let source = back.into_end().source;
-            return Ok(unread(rt, server, source, runner, running));
+            return Ok(unserved(Stop::NotRun, server, source, children));
         }
     };
-    let mut server = server;
     let heard = server.listen(rt, files, clock);
     let is_closed = server.speaker.sink.close().is_ok();
     let stop = server.drain(rt);
@@ -130,7 +183,7 @@ pub fn serve<
     if server.is_short {
         return Err(OutOfMemory);
     }
-    finish(halt, stop, is_closed, server, read, ran)
+    Ok(finish(halt, stop, is_closed, server, read, ran))
 }
 
 // The order that ends a runner.
@@ -139,71 +192,5 @@ fn no_order(alloc: Global) -> Texts
 {
     Texts {
         items: Vec::new(alloc),
-    }
-}
-
-// Nothing was read and nothing was run.
-fn unserved<S: Source + Drop, N: Sink + Drop, K: Children>(
-    stop: Stop,
-    server: Server<N>,
-    source: S,
-    children: K,
-) -> ServeEnd<S, N, K> {
-    let Speaker { sink, .. } = server.speaker;
-    let mut sink = sink;
-    let _closed = sink.close();
-    ServeEnd {
-        status: stop.status(),
-        source,
-        sink,
-        children,
-    }
-}
-
-// The reader was refused: the runner gets no order.
-fn unread<R: Wait, S: Source + Drop, N: Sink + Drop, K: Children, D: Crew<Runner<K>>>(
-    rt: &R,
-    server: Server<N>,
-    source: S,
-    runner: &mut D,
-    running: D::Handle,
-) -> ServeEnd<S, N, K> {
-    let mut server = server;
-    let order = no_order(server.alloc);
-    server.orders.put(rt, order);
-    let ran = runner.join(running);
-    unserved(Stop::NotRun, server, source, ran.children)
-}
-
-// Both jobs were joined: closes the mailboxes, and says how the link was served.
-fn finish<S: Source + Drop, N: Sink + Drop, K: Children>(
-    halt: Halt,
-    stop: LinkStop,
-    is_closed: bool,
-    server: Server<N>,
-    read: ReaderEnd<S>,
-    ran: RunnerEnd<K>,
-) -> Result<ServeEnd<S, N, K>, OutOfMemory> {
-    let Halt::At(why) = halt else {
-        return Err(OutOfMemory);
-    };
-    let why = last_stop(why, stop, is_closed);
-    let sink = server.speaker.sink;
-    Ok(ServeEnd {
-        status: why.status(),
-        source: read.source,
-        sink,
-        children: ran.children,
-    })
-}
-
-// Why the link is served no more, where the reader stopped so and the sink was closed or not.
-fn last_stop(why: Stop, stop: LinkStop, is_closed: bool) -> Stop {
-    if !is_closed {
-        return Stop::WriteFault;
-    }
-    match (why, stop) {
-        (Stop::Terminated, LinkStop::ReadFault) => Stop::ReadFault,
-        (why, _) => why,
     }
 }

@@ -2,7 +2,7 @@
 ghost use Rattle.std.specs.Prelude.{◌≡◌, ◌≤◌, not, List, ℕ, IfOk, IfErr, OnOk, OnErr};
 ghost use Rattle.xd_frame.specs.Message.{frames};
 ghost use Rattle.xd_frame.specs.Writing.{Writes, WritesMore, CountAfter, CountBehind};
-ghost use Rattle.xd_serve.specs.Speaking.{greeting};
+ghost use Rattle.xd_listen.specs.Speaking.{greeting};
 
 use std::alloc::Global;
 use xd_edge::{OutOfMemory, Sink, print};

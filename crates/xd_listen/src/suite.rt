@@ -1,7 +1,7 @@
 // The suite file that a worker asks for.
 ghost use Rattle.std.specs.Prelude.{◌≡◌, ◌≤◌, IfOk};
 ghost use Rattle.xd_edge.specs.Faults.{Rose};
-ghost use Rattle.xd_serve.specs.Suites.{FilesGave};
+ghost use Rattle.xd_listen.specs.Suites.{FilesGave};
 
 use std::alloc::Global;
 use xd_edge::{FileFault, Files, OutOfMemory, Text};

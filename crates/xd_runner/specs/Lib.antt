@@ -1,1 +1,3 @@
+pub mod Child
+pub mod Programs
 pub mod Orders

@@ -1,62 +1,100 @@
--- What a runner does for its orders.
-use Rattle.std.specs.Prelude.{◌≡◌, ◌≤◌, ◌<◌, ℕ, ◌+◌, Bool, true, false, List, [], ◌∷◌, ◌++◌, length, map, All, Option}
-use Rattle.std.specs.List.{concat}
+-- Orders that a runner takes, and what it puts.
+use Rattle.std.specs.Prelude.{◌≡◌, ℕ, ◌<◌, ◌≤◌, ◌⊎◌, List, [], ◌∷◌, ◌++◌, Option, Some, map, length, All}
 use Rattle.xd_edge.specs.Children.{ChildRun}
 use Rattle.xd_edge.specs.Faults.{RoseBy}
+use Rattle.xd_edge.specs.MemChildren.{whole_output}
 use Rattle.xd_journal.specs.declared.entry.Outcome.{Outcome}
 use Rattle.xd_post.specs.Post.{Ring}
-use Rattle.xd_post.specs.Mails.{HasMail}
 use Rattle.xd_reader.specs.declared.news.LinkNews.{LinkNews}
-use Rattle.xd_reader.specs.declared.news.LinkNews.TheVariants.{End, Output, ChildDone}
+use Rattle.xd_reader.specs.declared.news.LinkNews.TheVariants.{Output, ChildDone, End}
 use Rattle.xd_reader.specs.declared.news.LinkStop.TheVariants.{OutOfMemory}
-use Rattle.xd_serve.specs.Programs.{AreRun, Ran, faults_of}
+use Rattle.xd_runner.specs.Programs.{AreRun, CameTo, Ran, faults_of}
 
--- what a child gave: the pieces of its output, and how its test went
-pub record Pieces : Type 0 where
+-- an order: the program and its arguments; the empty list is the end of the orders
+abbrev pub Order : Type 0
+Order = List (List ℕ)
+
+-- the inboxes of a desk of orders, by their numbers
+abbrev pub Mails : Type 0
+Mails = List (Option (Ring × List Order))
+
+-- Of a desk with one inbox these were taken, in order.
+abbrev pub TakesOf : List Order → Mails → Mails → Type 0
+TakesOf orders old new = (ring : Ring) (got : List Order) → old ≡ Some (ring, got) ∷ [] → new ≡ Some (ring, got ++ orders) ∷ []
+
+-- what was put of a program: what it printed, in pieces, and how its test went
+pub record Told : Type 0 where
   pub pieces : List (List ℕ)
   pub outcome : Outcome
 
-abbrev pub whole : Pieces → Ran
-whole p = record { output = concat p.pieces; outcome = p.outcome }
+-- what came of the test
+abbrev pub ran_of : Told → Ran
+ran_of t = record { output = whole_output t.pieces; outcome = t.outcome }
 
-abbrev pub news_of : List Pieces → List LinkNews
-news_of [] = []
-news_of (p ∷ ps) = map Output p.pieces ++ ChildDone p.outcome ∷ news_of ps
+-- the news of one program
+abbrev pub told_news : Told → List LinkNews
+told_news t = map Output t.pieces ++ ChildDone t.outcome ∷ []
 
--- no command is empty
-abbrev pub NoneEmpty : List (List (List ℕ)) → Type 0
-NoneEmpty [] = Unit {0}
-NoneEmpty (command ∷ more) = (command ≡ [] → ⊥) × NoneEmpty more
+-- the news of programs that ran one after another
+abbrev pub all_news : List Told → List LinkNews
+all_news [] = []
+all_news (t ∷ ts) = told_news t ++ all_news ts
 
--- Each order was run and what came of it was put, to the empty order.
-pub record RanAll (orders : List (List (List ℕ))) (ran : List Pieces) (mails0 mails1 : List (Option (Ring × List (List (List ℕ))))) (put0 put1 : List LinkNews) : Type 0 where
-  pub took : (ring : Ring) → HasMail mails0 0 ring [] → HasMail mails1 0 ring (orders ++ [] ∷ [])
-  pub puts : put1 ≡ put0 ++ news_of ran
-
--- Memory was refused at the last order: what was put ends there.
-pub record RanShort (orders : List (List (List ℕ))) (ran : List Pieces) (mails0 mails1 : List (Option (Ring × List (List (List ℕ))))) (put0 put1 : List LinkNews) : Type 0 where
-  pub earlier : List Pieces
-  pub pieces : List (List ℕ)
-  pub took : (ring : Ring) → HasMail mails0 0 ring [] → HasMail mails1 0 ring orders
-  pub some : NoneEmpty orders
-  pub count : length orders ≡ length earlier + 1
-  pub puts : put1 ≡ put0 ++ (news_of earlier ++ (map Output pieces ++ End OutOfMemory ∷ []))
-
-abbrev pub EndsSo : Bool → List (List (List ℕ)) → List Pieces → List (Option (Ring × List (List (List ℕ)))) → List (Option (Ring × List (List (List ℕ)))) → List LinkNews → List LinkNews → Type 0
-EndsSo false orders ran mails0 mails1 put0 put1 = RanAll orders ran mails0 mails1 put0 put1
-EndsSo true orders ran mails0 mails1 put0 put1 = RanShort orders ran mails0 mails1 put0 put1
-
--- a piece of output is not empty, and no larger than a read
+-- a piece of output: a choice of this project
 abbrev pub IsPiece : List ℕ → Type 0
-IsPiece piece = (0 < length piece) × (length piece ≤ 4096)
+IsPiece bytes = (1 ≤ length bytes) × (length bytes ≤ 4096)
 
--- Each order was run, and what came of it was put.
-pub record RunsOrders (runs0 : Option (List ChildRun)) (faults0 : ℕ) (mails0 : List (Option (Ring × List (List (List ℕ))))) (put0 : List LinkNews) (runs1 : Option (List ChildRun)) (faults1 : ℕ) (mails1 : List (Option (Ring × List (List (List ℕ))))) (put1 : List LinkNews) : Type 0 where
-  pub orders : List (List (List ℕ))
-  pub ran : List Pieces
-  pub short : Bool
-  pub ends : EndsSo short orders ran mails0 mails1 put0 put1
-  pub sizes : All (λ p. All IsPiece p.pieces) ran
-  pub run : AreRun orders (map whole ran) runs0 runs1
-  pub faults : RoseBy (faults_of (map whole ran)) faults0 faults1
-  pub later : faults0 ≤ faults1
+abbrev pub ArePieces : Told → Type 0
+ArePieces t = All IsPiece t.pieces
+
+abbrev pub IsCommand : Order → Type 0
+IsCommand order = 0 < length order
+
+-- what is seen of programs at one moment: the starts that were asked for, where they are told, and the count of faults
+pub record Seen : Type 0 where
+  pub runs : Option (List ChildRun)
+  pub faults : ℕ
+
+abbrev pub seen : Option (List ChildRun) → ℕ → Seen
+seen runs faults = record { runs = runs; faults = faults }
+
+-- These orders were run one after another, one child for each, and this was put of them.
+pub record Runs (orders : List Order) (told : List Told) (s0 s1 : Seen) (before after : List LinkNews) : Type 0 where
+  pub commands : All IsCommand orders
+  pub puts : after ≡ before ++ all_news told
+  pub pieces : All ArePieces told
+  pub run : AreRun orders (map ran_of told) s0.runs s1.runs
+  pub rose : RoseBy (faults_of (map ran_of told)) s0.faults s1.faults
+  pub still : faults_of (map ran_of told) ≡ 0 → s1.faults ≡ s0.faults
+  pub later : s0.faults ≤ s1.faults
+
+-- The empty list ended the orders.
+pub record EndsWell (orders : List Order) (old new : Mails) (s0 s1 : Seen) (before after : List LinkNews) : Type 0 where
+  pub took : TakesOf (orders ++ [] ∷ []) old new
+  pub same : s1 ≡ s0
+  pub puts : after ≡ before
+
+-- A program was read to its end, or could not be read, and was waited for; these are the first pieces of what it printed.
+abbrev pub IsLeft : Order → List (List ℕ) → Option (List ChildRun) → Option (List ChildRun) → Type 0
+IsLeft order pieces old new = (later : List ℕ) × (outcome : Outcome) × CameTo order (whole_output pieces ++ later) outcome old new
+
+-- Memory ran out at one order more: its program was not started, or first pieces of what it printed were put, and it was
+-- waited for all the same. Then came one end.
+pub record EndsCut (orders : List Order) (old new : Mails) (s0 s1 : Seen) (before after : List LinkNews) : Type 0 where
+  pub order : Order
+  pub pieces : List (List ℕ)
+  pub took : TakesOf (orders ++ order ∷ []) old new
+  pub command : IsCommand order
+  pub puts : after ≡ before ++ (map Output pieces ++ End OutOfMemory ∷ [])
+  pub sizes : All IsPiece pieces
+  pub left : ((pieces ≡ []) × (s1 ≡ s0)) ⊎ IsLeft order pieces s0.runs s1.runs
+  pub later : s0.faults ≤ s1.faults
+
+-- Orders were taken and run, to the empty one or to want of memory.
+pub record RunsOrders (old new : Mails) (s0 s1 : Seen) (before after : List LinkNews) : Type 0 where
+  pub orders : List Order
+  pub told : List Told
+  pub mid : Seen
+  pub sent : List LinkNews
+  pub runs : Runs orders told s0 mid before sent
+  pub ends : EndsWell orders old new mid s1 sent after ⊎ EndsCut orders old new mid s1 sent after

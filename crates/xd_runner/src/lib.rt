@@ -1,4 +1,4 @@
-//! The job that runs child programs, one for each order.
+//! The job that runs programs, one for each order.
 #![tactic(auto)]
 
 mod runner;

@@ -1,8 +1,8 @@
-// The job that runs child programs.
+// The job that runs programs.
 ghost use Rattle.std.specs.Prelude.{◌≡◌};
 ghost use Rattle.xd_post.specs.Mails.{mails};
 ghost use Rattle.xd_post.specs.Post.{put, ring_of_sender};
-ghost use Rattle.xd_runner.specs.Orders.{RunsOrders};
+ghost use Rattle.xd_runner.specs.Orders.{RunsOrders, seen};
 
 use std::alloc::Global;
 use std::sync::Wait;
@@ -11,7 +11,9 @@ use xd_edge::{Children, Texts};
 use xd_post::{Desk, Sender};
 use xd_reader::LinkNews;
 
-/// A job that runs a child for each order, until the empty order comes.
+/// A job that runs programs one after another, as it is ordered: an order is a program's name and its arguments, and the
+/// empty list ends it. It puts what each prints, in pieces of 1 to 4,096 bytes, and then how its test went. Where memory
+/// runs out it reads the running program to its end, waits for it, puts one end and takes no more orders.
 #[derive(Drop)]
 pub struct Runner<K: Children> {
     alloc: Global,
@@ -29,7 +31,7 @@ pub struct RunnerEnd<K: Children> {
 }
 
 impl<K: Children> Runner<K> {
-    /// A job that takes orders from this desk and puts what comes of them.
+    /// It has taken no order and put nothing.
     pub fn new(
         alloc: Global,
         children: K,
@@ -48,7 +50,7 @@ impl<K: Children> Runner<K> {
         }
     }
 
-    /// Takes a job apart that was handed back, with no order taken.
+    /// Takes a job apart that was handed back, with no order taken and nothing put.
     pub fn into_end(self) -> RunnerEnd<K>
         ensures children { result.children ≡ self.children }
         ensures orders { result.orders ≡ self.orders }
@@ -71,12 +73,12 @@ impl<K: Children> Runner<K> {
 impl<K: Children> Job for Runner<K> {
     type Out = RunnerEnd<K>;
 
-    ghost gives = { λ job out. (ring_of_sender out.sender ≡ ring_of_sender job.sender)
-        × RunsOrders (K.runs job.children) (K.faults job.children) (mails job.orders) (put job.sender) (K.runs out.children) (K.faults out.children) (mails out.orders) (put out.sender) };
+    ghost gives = { λ job out. RunsOrders (mails job.orders) (mails out.orders) (seen (K.runs job.children) (K.faults job.children)) (seen (K.runs out.children) (K.faults out.children)) (put job.sender) (put out.sender)
+        × (ring_of_sender out.sender ≡ ring_of_sender job.sender) };
 
     fn run<R: Wait>(self, rt: &R) -> RunnerEnd<K>
-        ensures {(ring_of_sender result.sender ≡ ring_of_sender self.sender)
-            × RunsOrders (K.runs self.children) (K.faults self.children) (mails self.orders) (put self.sender) (K.runs result.children) (K.faults result.children) (mails result.orders) (put result.sender) }
+        ensures runs { RunsOrders (mails self.orders) (mails result.orders) (seen (K.runs self.children) (K.faults self.children)) (seen (K.runs result.children) (K.faults result.children)) (put self.sender) (put result.sender) }
+        ensures ring { ring_of_sender result.sender ≡ ring_of_sender self.sender }
     {
         let job = self;
         for _ in rt.forever() {}

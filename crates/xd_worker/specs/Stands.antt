@@ -18,10 +18,11 @@ use Rattle.xd_worker.specs.declared.input.WorkerInput.{WorkerInput}
 use Rattle.xd_worker.specs.declared.input.WorkerActions.{WorkerActions}
 use Rattle.xd_worker.specs.declared.input.WorkerFault.{WorkerFault}
 use Rattle.xd_worker.specs.declared.input.WorkerFault.TheVariants.{Link, OutOfMemory}
+use Rattle.xd_worker.specs.declared.worker.Asked.{Asked}
 use Rattle.xd_worker.specs.declared.worker.WorkerCore.{WorkerCore}
 use Rattle.xd_factory.specs.SideTable.{Table, Counts, table_of, heard, answer}
 use Rattle.xd_worker.specs.Talk.{talk_of}
-use Rattle.xd_worker.specs.Worker.{Service, Duties, Worker, Turn, behind}
+use Rattle.xd_worker.specs.Worker.{Service, Duties, Worker, Turn, behind, running_in}
 use Rattle.xd_worker.specs.Turns.{given_in}
 use Rattle.xd_factory.specs.SideTable.{RefusedBy, MustRefuse}
 use Rattle.xd_worker.specs.History.{Heard, Is, table_behind, turn_by, worker_after, is_over, Refuses}
@@ -106,6 +107,16 @@ IsRefusal fault (Err OutOfMemory) = Unit {0}
 -- why each input is refused, if there is a reason
 abbrev pub fault_in : WorkerCore → Option WorkerFault
 fault_in c = c.fault
+
+-- what a worker asked for that did not come yet
+abbrev pub asked_of : Worker → Asked
+asked_of w = record { test = running_in w.duties.service; suite = w.duties.owed }
+
+-- a fault came, behind what this worker asked for
+pub record AskedAtFault (c : WorkerCore) (w : Worker) : Type 0 where
+  pub fault : WorkerFault
+  pub fault_is : c.fault ≡ Some fault
+  pub asked_is : c.before ≡ Some (asked_of w)
 
 -- what `run_tests` asks for behind one more input
 pub record FedBy (r : Option Runner) (s : Service) (g : Given) (f : Fed) : Type 0 where

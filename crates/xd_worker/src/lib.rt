@@ -17,7 +17,7 @@ pub use laws::{a_test_is_of_the_suite, each_log_opens};
 pub use runner::{Fed, Runner};
 pub use status::status_value;
 pub use talk::Sent;
-pub use worker::WorkerCore;
+pub use worker::{Asked, WorkerCore};
 
 #[cfg(test)]
 mod histories;

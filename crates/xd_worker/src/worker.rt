@@ -15,6 +15,13 @@ use xd_frame::Messages;
 use xd_run_tests::{Ask, Input};
 use xd_suite::Suite;
 
+/// What a worker asked for, and what did not come yet: the end of the running test, and a suite.
+#[derive(Clone, Copy, Debug, PartialEq, Eq)]
+pub struct Asked {
+    pub test: Option<u32>,
+    pub suite: bool,
+}
+
 /// The worker of one link. It takes what comes, and answers what is to be said, read and started; it reads, writes and
 /// starts nothing by itself. Contracts see the inputs that came to it.
 #[derive(Drop)]
@@ -22,6 +29,8 @@ pub struct WorkerCore {
     alloc: Global,
     side: Side,
     fault: Option<WorkerFault>,
+    // What was asked for when the fault came.
+    before: Option<Asked>,
     stopped: bool,
     runner: Option<Runner>,
     echoes: Vec<u32>,
@@ -40,7 +49,7 @@ impl WorkerCore {
     ghost use Rattle.xd_worker.specs.Turns.{asked, all_asked, ended_service, fed, stopped};
     ghost use Rattle.xd_worker.specs.History.{Heard, worker_after, IsToRefuse};
     ghost use Rattle.xd_worker.specs.Logs.{AllOpen, LogsOpen};
-    ghost use Rattle.xd_worker.specs.Stands.{AreServices, AreDuties, HasTest, Stands, StandsFor, Stood, IsWorker, Does, Answers, IsFault, IsRefusal, fault_in};
+    ghost use Rattle.xd_worker.specs.Stands.{AreServices, AreDuties, HasTest, Stands, StandsFor, Stood, IsWorker, Does, Answers, AskedAtFault, IsFault, IsRefusal, asked_of, fault_in};
 
     /// A worker to which nothing has come yet.
     pub fn new(alloc: Global) -> WorkerCore
@@ -51,6 +60,7 @@ impl WorkerCore {
             alloc,
             side: Side::new(alloc, Parity::Even),
             fault: None,
+            before: None,
             stopped: false,
             runner: None,
             echoes: Vec::new(alloc),
@@ -66,18 +76,30 @@ impl WorkerCore {
         ensures refuses { (h : List Heard) (fault : SideFault) → StandsFor self.old h → IsToRefuse (worker_after h) input fault → IsRefusal fault result }
         ensures failed { (fault : WorkerFault) → fault_in self.old ≡ Some fault → (result ≡ Err fault) × (self.new ≡ self.old) }
         ensures fails { IfErr result (λ fault. fault_in self.new ≡ Some fault) }
+        ensures asked { (h : List Heard) → StandsFor self.old h → IfErr result (λ fault. AskedAtFault self.new (worker_after h)) }
         ensures stood { Stood self.old → OnOk result (Stood self.new) }
         ensures command { Stood self.old → IfOk result (λ acts. (test : ℕ) → acts.run ≡ Some test → HasTest self.new test) }
     {
         if let Some(fault) = self.fault {
             return Err(fault);
         }
+        let asked = self.asked();
         match self.answer(input) {
             Ok(acts) => Ok(acts),
             Err(fault) => {
+                self.before = Some(asked);
                 self.fault = Some(fault);
                 Err(fault)
             }
+        }
+    }
+
+    fn asked(&self) -> Asked
+        ensures { (w : Worker) → IsWorker self.now w → result ≡ asked_of w }
+    {
+        Asked {
+            test: self.running(),
+            suite: self.owed,
         }
     }
 
@@ -136,19 +158,38 @@ impl WorkerCore {
         }
     }
 
-    /// A suite file was asked for, and neither its bytes nor a refusal came yet.
+    /// A suite file was asked for, and neither its bytes nor a refusal came yet. Behind a fault it says what it said before.
     pub fn awaits_suite(&self) -> bool
-        ensures { (h : List Heard) → StandsFor self.now h → result ≡ (worker_after h).duties.owed }
+        ensures owed { (h : List Heard) → StandsFor self.now h → result ≡ (worker_after h).duties.owed }
+        ensures at_fault { (w : Worker) → AskedAtFault self.now w → result ≡ w.duties.owed }
     {
-        self.owed
+        match self.fault_asked() {
+            Some(asked) => asked.suite,
+            None => self.owed,
+        }
     }
 
-    /// The test that runs.
+    /// The test that runs. Behind a fault it says what it said before.
     pub fn runs(&self) -> Option<u32>
         ensures running { (h : List Heard) → StandsFor self.now h → result ≡ running_in (worker_after h).duties.service }
         ensures command { (h : List Heard) (test : ℕ) → StandsFor self.now h → result ≡ Some test → HasTest self.now test }
+        ensures at_fault { (w : Worker) → AskedAtFault self.now w → result ≡ running_in w.duties.service }
     {
-        self.running()
+        match self.fault_asked() {
+            Some(asked) => asked.test,
+            None => self.running(),
+        }
+    }
+
+    // What was asked for when the fault came, if one did.
+    fn fault_asked(&self) -> Option<Asked>
+        ensures none { self.now.fault ≡ None → result ≡ None }
+        ensures some { (w : Worker) → AskedAtFault self.now w → result ≡ Some (asked_of w) }
+    {
+        match self.fault {
+            Some(_) => self.before,
+            None => None,
+        }
     }
 
     // The worker is to end, and no test runs.

@@ -1,4 +1,4 @@
-use Rattle.xd_serve.specs.Speaking.{greeting}
+use Rattle.xd_listen.specs.Speaking.{greeting}
 use Rattle.xd_frame.proofs.Written.{one_print}
 use Rattle.xd_listen.proofs.speaker.Speaker.begin.Goals as goal
 
