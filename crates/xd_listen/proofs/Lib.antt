@@ -4,7 +4,8 @@ pub mod Counting
 pub mod Dropping
 pub mod Endings
 pub mod Facts
-pub mod Hearing
+pub mod Finals
+pub mod Hears
 pub mod Puts
 pub mod Rans
 pub mod Settling

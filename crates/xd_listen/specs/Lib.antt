@@ -11,3 +11,4 @@ pub mod Serves
 pub mod Halts
 pub mod Ends
 pub mod Joined
+pub mod Complete

@@ -30,8 +30,8 @@ is_shut Open = false
 is_shut Terminated = true
 is_shut Ended = true
 
-module _ {N : Type 0} {g : _} where
-  abbrev pub seen : (N → Option Sunk) → (N → ℕ) → Server N g → Seen
+module _ {N : Type 0} where
+  abbrev pub seen : (N → Option Sunk) → (N → ℕ) → Server N → Seen
   seen sunk faults s = record {
     core = s.speaker.core;
     broken = s.speaker.is_broken;

@@ -19,12 +19,9 @@ use xd_journal::Outcome;
 use xd_reader::{LinkNews, LinkStop};
 use xd_worker::{WorkerFault, WorkerInput};
 
-/// How many bytes a piece of output has at most.
-const MAX_PIECE: usize = 4096;
-
 impl<N: Sink> Server<N> {
-    // Steps the worker with a message. Gives the path of a suite that is to be read.
-    fn hear_message(&mut self, message: Message) -> Result<Option<Text>, WorkerFault>
+    /// Steps the worker with a message. Gives the path of a suite that is to be read.
+    pub fn hear_message(&mut self, message: Message) -> Result<Option<Text>, WorkerFault>
         requires is_open { self.old.door ≡ Open }
         ensures heard { (a : Setting) (files : ℕ) → Serves a files (of_link (news.Message message)) (seen N.sunk N.faults self.old) →
             IfOk result (λ path. Serves a files (to_start path) (seen N.sunk N.faults self.new)) }
@@ -44,8 +41,8 @@ impl<N: Sink> Server<N> {
         }
     }
 
-    // Steps the worker with the link's end.
-    fn hear_end(&mut self) -> Result<(), OutOfMemory>
+    /// Steps the worker with the link's end.
+    pub fn hear_end(&mut self) -> Result<(), OutOfMemory>
         requires is_open { self.old.door ≡ Open }
         ensures heard { (a : Setting) (files : ℕ) → Serves a files (of_link (news.End link.Ended)) (seen N.sunk N.faults self.old) →
             OnOk result (Serves a files (to_start None) (seen N.sunk N.faults self.new)) }
@@ -56,8 +53,8 @@ impl<N: Sink> Server<N> {
         Ok(())
     }
 
-    // Steps the worker with a piece of the running test's output.
-    fn hear_output(&mut self, piece: Blob) -> Result<(), OutOfMemory>
+    /// Steps the worker with a piece of the running test's output.
+    pub fn hear_output(&mut self, piece: Blob) -> Result<(), OutOfMemory>
         requires runs { IsSome self.old.started }
         requires few { length piece ≤ 4096 }
         ensures heard { (a : Setting) (files : ℕ) → Serves a files (of_program (news.Output piece)) (seen N.sunk N.faults self.old) →
@@ -68,8 +65,8 @@ impl<N: Sink> Server<N> {
         Ok(())
     }
 
-    // Steps the worker with the end of the running test.
-    fn hear_done(&mut self, outcome: Outcome, ms: u64) -> Result<(), OutOfMemory>
+    /// Steps the worker with the end of the running test.
+    pub fn hear_done(&mut self, outcome: Outcome, ms: u64) -> Result<(), OutOfMemory>
         requires runs { IsSome self.old.started }
         ensures heard { (a : Setting) (files : ℕ) → Serves a files (of_program (news.ChildDone outcome)) (seen N.sunk N.faults self.old) →
             OnOk result (Serves a files (to_start None) (seen N.sunk N.faults self.new)) }
@@ -80,8 +77,8 @@ impl<N: Sink> Server<N> {
         Ok(())
     }
 
-    // Reads the suite file of a path, if there is one, and tells the worker.
-    fn read<F: Files>(&mut self, files: &mut F, path: Option<Text>) -> Result<(), OutOfMemory>
+    /// Reads the suite file of a path, if there is one, and tells the worker.
+    pub fn read<F: Files>(&mut self, files: &mut F, path: Option<Text>) -> Result<(), OutOfMemory>
         ensures read { (a : Setting) → F.held files.old ≡ a.held → Serves a (F.faults files.old) (to_start path) (seen N.sunk N.faults self.old) →
             OnOk result (Serves a (F.faults files.new) (to_start None) (seen N.sunk N.faults self.new)) }
         ensures stood { Stood self.old.speaker.core → OnOk result (Stood self.new.speaker.core) }
@@ -127,9 +124,9 @@ impl<N: Sink> Server<N> {
         Ok(())
     }
 
-    // Behind an input: orders the program of a test that is to be started, or says why no more is taken. Behind a fault of
-    // the sink no test is started.
-    fn settle<R: Wait, T: Clock>(
+    /// Behind an input: orders the program of a test that is to be started, or says why no more is taken. Behind a fault of
+    /// the sink no test is started.
+    pub fn settle<R: Wait, T: Clock>(
         &mut self,
         rt: &R,
         clock: &mut T,

@@ -1,5 +1,5 @@
 // A link that is served to its end.
-ghost use Rattle.std.specs.Prelude.{◌≡◌, ◌≢◌, ◌×◌, ℕ, [], ◌∷◌, Option, Some, None, true, false, IfOk, IfSome};
+ghost use Rattle.std.specs.Prelude.{◌≡◌, ℕ, [], ◌∷◌, Option, Some, None, true, false, IfOk, IfSome};
 ghost use Rattle.xd_edge.specs.Faults.{StoodStill};
 ghost use Rattle.xd_edge.specs.Files.{Held};
 ghost use Rattle.xd_link.specs.Spring.{spring};
