@@ -37,7 +37,7 @@ use Rattle.xd_listen.proofs.Tellings.{answered_later, count_more, rose_later, wr
 use Rattle.xd_listen.specs.declared.server.Door.{Door}
 use Rattle.xd_listen.specs.declared.server.Door.TheVariants as door
 use Rattle.xd_listen.specs.declared.stop.Stop.TheVariants as stop
-use Rattle.xd_listen.specs.Halts.{Ceased, CeasesBy}
+use Rattle.xd_listen.specs.Halts.{door_behind}
 use Rattle.xd_listen.specs.News.{dones, news_by, news_in}
 use Rattle.xd_listen.specs.Seen.{Seen, is_shut}
 use Rattle.xd_listen.specs.Serves.{NoneEmpty, FromLink, HeardEnd, HeardLast, IsBusy, IsListening, IsNoted, Owed, ReadsSo, RunsSo, Serves, Setting, nothing, of_link, of_program, one_if, to_start, two, with_item}
@@ -89,10 +89,6 @@ runs_now : (started : Option ℕ) (left : List (List (List ℕ))) (w : Worker) �
 runs_now started left w e r = subst (λ (l : List (List (List ℕ))). RunsSo started l w) e r
 
 -- ---- messages
-
-abbrev pub door_behind : Bool → Door → Door
-door_behind true d = door.Terminated
-door_behind false d = d
 
 shut_behind : (b : Bool) (d : Door) → d ≡ door.Open → b ≡ is_shut (door_behind b d)
 shut_behind true d e = refl
@@ -240,11 +236,11 @@ module _ (a : Setting) (files : ℕ) (s : Seen) (core : WorkerCore) (broken : Bo
   -- ---- the programs
 
   busy_of : (started : Option ℕ) (w : Worker) → IsSome started → RunsSo started [] w → IsBusy w
-  busy_of None w e r = absurd e
+  busy_of None w e r = cc
   busy_of (Some moment) w e r = r
 
   still_runs : (started : Option ℕ) (u : Turn) → IsSome started → (test : ℕ) → running_test (call_in u.duties.service) ≡ Some test → rests (call_in u.duties.service).phase ≡ false → u.run ≡ None → RunsSo started (commands_of u) (behind u)
-  still_runs None u e test r b n = absurd e
+  still_runs None u e test r b n = cc
   still_runs (Some moment) u e test r b n = kept_runs moment u test r b n
 
   link_same : (d : Door) (i : WorkerInput) (inputs : List WorkerInput) (got : List LinkNews) → message_in i ≡ [] → is_link_end i ≡ false → FromLink d inputs got → FromLink d (i ∷ inputs) got
@@ -332,7 +328,7 @@ module _ (a : Setting) (files : ℕ) (s : Seen) (core : WorkerCore) (broken : Bo
       }
     where
       one_less : (started : Option ℕ) → IsSome started → (n : ℕ) (ns : List LinkNews) (o : Outcome) → n ≡ dones ns + one_if started → n ≡ dones (ns ++ news.ChildDone o ∷ []) + 0
-      one_less None e n ns o c = absurd e
+      one_less None e n ns o c = cc
       one_less (Some moment) e n ns o c = let d = dones_done ns o in omega (arith, c, d)
 
   -- ---- a suite

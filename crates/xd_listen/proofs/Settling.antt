@@ -2,6 +2,7 @@
 use Rattle.std.proofs.Common.{◌≡◌, ℕ, ◌+◌, ◌≤◌, ◌<◌, List, [], ◌∷◌, ◌++◌, length, map, Bool, true, false, not, ◌&&◌, Option, Some, None, refl, ap, sym, ◌∙◌, subst, arith, append_assoc, inl, inr}
 use Rattle.std.specs.Prelude.{is_none, IsSome}
 use Rattle.std.proofs.lemmas.List.{append-nil, length-append}
+use Rattle.xd_edge.specs.Sink.{Sunk}
 use Rattle.xd_frame.specs.Message.{MessageView}
 use Rattle.xd_reader.specs.declared.news.LinkNews.{LinkNews}
 use Rattle.xd_reader.specs.declared.news.LinkNews.TheVariants as news
@@ -116,7 +117,7 @@ module _ (a : Setting) (files : ℕ) (s : Seen) where
   runs_on whole some g = settled_as [] whole refl g (none_left s.started g.left some g.runs)
     where
       none_left : (started : Option ℕ) (left : List (List (List ℕ))) → IsSome started → RunsSo started left (worker_after g.history) → left ≡ []
-      none_left None left e r = absurd e
+      none_left None left e r = cc
       none_left (Some m) [] e r = refl
       none_left (Some m) (c ∷ left) e r = absurd r
 
@@ -268,6 +269,36 @@ module _ (a : Setting) (files : ℕ) (s : Seen) where
       let x : IsListening g.inputs g.of_reader = subst (λ (d : Door). FromLink d g.inputs g.of_reader) o g.from_link in
       ceased_ahead (stop.Message f) (news.Message m) refl refl o g (m, refl, x.none_last, x.no_end, refused g.history g.stands)
   message_ceases m fault.OutOfMemory o refused g = tt
+
+  -- the core is at fault, and the rest as it was
+  pub still_ceases : (core : WorkerCore) (broken : Bool) (sunk : Option Sunk) (faults : ℕ) (f : WorkerFault) → broken ≡ s.broken → sunk ≡ s.sunk → faults ≡ s.sink_faults → CeasesBy f a files s
+      → CeasesBy f a files (record s { core = core; broken = broken; sunk = sunk; sink_faults = faults })
+  still_ceases core broken sunk faults fault.OutOfMemory b k n g = tt
+  still_ceases core broken sunk faults (fault.Link f) b k n g = record {
+    inputs = g.inputs;
+    history = g.history;
+    of_reader = g.of_reader;
+    of_runner = g.of_runner;
+    left = g.left;
+    ahead = g.ahead;
+    later = g.later;
+    unheard = g.unheard;
+    running = g.running;
+    spoke = subst (λ (o : Option Sunk). Spoke a.held g.inputs g.history true a.first (voice o faults files)) (sym k) (subst (λ (m : ℕ). Spoke a.held g.inputs g.history true a.first (voice s.sunk m files)) (sym n) g.spoke);
+    path_is = g.path_is;
+    mails_are = g.mails_are;
+    from_link = g.from_link;
+    cause = g.cause;
+    noted = g.noted;
+    from_programs = g.from_programs;
+    commands = g.commands;
+    left_is = g.left_is;
+    count = g.count;
+    one = g.one;
+    idle = g.idle;
+    some = g.some;
+    drained = g.drained;
+  }
 
   -- ---- items
 

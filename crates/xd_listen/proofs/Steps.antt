@@ -184,7 +184,7 @@ talked t u d r s c = record {
   unstopped = ap (λ (x : Duties). x.stopped) d ∙ c.unstopped;
 }
 
-pub called_does : (k : ℕ) (c : Called) (t : Turn) → Calm t → Does false (called k c t)
+called_does : (k : ℕ) (c : Called) (t : Turn) → Calm t → Does false (called k c t)
 called_does k (Runs function.Echo) t m = calm_does (called k (Runs function.Echo) t) (record { idle = m.idle; run = m.run; suite = m.suite; unstopped = m.unstopped })
 called_does k (Runs (function.Fail text)) t m = calm_does (called k (Runs (function.Fail text)) t) (record { idle = m.idle; run = m.run; suite = m.suite; unstopped = m.unstopped })
 called_does k (Runs (function.RunTests path mode)) t m = record {

@@ -131,6 +131,11 @@ abbrev pub CeasesBy : WorkerFault → Setting → ℕ → Seen → Type 0
 CeasesBy (fault.Link f) a file_faults s = Ceased a file_faults (stop.Message f) s
 CeasesBy fault.OutOfMemory a file_faults s = Unit {0}
 
+-- behind a message that is GATEWAY_TERMINATE, or is not
+abbrev pub door_behind : Bool → Door → Door
+door_behind true d = door.Terminated
+door_behind false d = d
+
 -- behind GATEWAY_TERMINATE and the link's end
 abbrev pub over_by : Door → Option Halt
 over_by door.Open = None

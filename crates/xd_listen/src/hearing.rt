@@ -1,6 +1,7 @@
 // What a server takes, one item after another.
 ghost use Rattle.std.specs.Prelude.{◌≡◌, ◌≤◌, ℕ, Some, None, length, IfOk, IfErr, OnOk, IsSome};
-ghost use Rattle.xd_listen.specs.Halts.{CeasesBy, Goes, over_by};
+ghost use Rattle.xd_listen.specs.Halts.{CeasesBy, Goes, door_behind, over_by};
+ghost use Rattle.xd_listen.specs.Inputs.{is_last};
 ghost use Rattle.xd_listen.specs.Seen.{seen};
 ghost use Rattle.xd_listen.specs.Serves.{Runs, Serves, Setting, nothing, of_link, of_program, to_start};
 ghost use Rattle.xd_listen.specs.declared.server.Door.TheVariants.{Open};
@@ -29,12 +30,10 @@ impl<N: Sink> Server<N> {
             IfErr result (λ fault. CeasesBy fault a files (seen N.sunk N.faults self.new)) }
         ensures stood { Stood self.old.speaker.core → OnOk result (Stood self.new.speaker.core) }
     {
-        let is_last = message.kind == Kind::Terminate;
+        let door = door_behind(message.kind, self.door);
         match self.speaker.hear(WorkerInput::Message(message)) {
             Ok(acts) => {
-                if is_last {
-                    self.door = Door::Terminated;
-                }
+                self.door = door;
                 Ok(acts.suite)
             }
             Err(fault) => Err(fault),
@@ -159,6 +158,22 @@ impl<N: Sink> Server<N> {
             Door::Terminated => Some(Halt::At(Stop::Terminated)),
             Door::Ended => Some(Halt::At(Stop::Ended)),
         }
+    }
+}
+
+// Behind GATEWAY_TERMINATE no message is taken.
+fn door_behind(kind: Kind, door: Door) -> Door
+    ensures { result ≡ door_behind (is_last kind) door }
+{
+    match kind {
+        Kind::Terminate => Door::Terminated,
+        Kind::Status
+        | Kind::Reconfigure
+        | Kind::Exec
+        | Kind::Item
+        | Kind::Close
+        | Kind::CloseError
+        | Kind::LastMessage => door,
     }
 }
 

@@ -5,3 +5,4 @@ pub mod Hearing
 pub mod Known
 pub mod Logs
 pub mod Opens
+pub mod CalledOnce
