@@ -1,6 +1,6 @@
 -- What a worker that listens does behind an input, and why it ceases.
 use Rattle.std.proofs.Common.{◌≡◌, ℕ, ◌+◌, ◌≤◌, ◌<◌, List, [], ◌∷◌, ◌++◌, length, map, Bool, true, false, not, ◌&&◌, Option, Some, None, refl, ap, sym, ◌∙◌, subst, arith, append_assoc, inl, inr}
-use Rattle.std.specs.Prelude.{is_none, IsSome}
+use Rattle.std.specs.Prelude.{is_none, is_some, IsSome}
 use Rattle.std.proofs.lemmas.List.{append-nil, length-append}
 use Rattle.xd_edge.specs.Sink.{Sunk}
 use Rattle.xd_frame.specs.Message.{MessageView}
@@ -35,6 +35,9 @@ use Rattle.xd_listen.specs.Seen.{Seen, is_shut}
 use Rattle.xd_listen.specs.Serves.{NoneEmpty, FromLink, HeardEnd, HeardLast, IsBusy, IsListening, IsNoted, Owed, ReadsSo, Runs, RunsSo, Serves, Setting, nothing, of_link, of_program, one_if, to_start, two, with_item}
 use Rattle.xd_listen.specs.Spoke.{Spoke, Voice, voice}
 use Rattle.xd_listen.proofs.Counting.{dones-append}
+
+pub not_none : (o : Option ℕ) (b : Bool) → is_some o ≡ not b → b ≡ false → IsSome o
+not_none o b e f = e ∙ ap not f
 
 -- ---- a test is ordered
 

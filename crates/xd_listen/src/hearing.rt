@@ -1,5 +1,5 @@
 // What a server takes, one item after another.
-ghost use Rattle.std.specs.Prelude.{◌≡◌, ◌≤◌, ℕ, Some, None, length, IfOk, IfErr, OnOk, IsSome};
+ghost use Rattle.std.specs.Prelude.{◌≡◌, ◌≤◌, ℕ, false, Some, None, length, IfOk, IfErr, OnOk, IsSome};
 ghost use Rattle.xd_listen.specs.Halts.{CeasesBy, Goes, door_behind, over_by};
 ghost use Rattle.xd_listen.specs.Inputs.{is_last};
 ghost use Rattle.xd_listen.specs.Seen.{seen};
@@ -30,7 +30,7 @@ impl<N: Sink> Server<N> {
             IfErr result (λ fault. CeasesBy fault a files (seen N.sunk N.faults self.new)) }
         ensures stood { Stood self.old.speaker.core → OnOk result (Stood self.new.speaker.core) }
     {
-        let door = door_behind(message.kind, self.door);
+        let door = door_behind(&message, self.door);
         match self.speaker.hear(WorkerInput::Message(message)) {
             Ok(acts) => {
                 self.door = door;
@@ -112,6 +112,7 @@ impl<N: Sink> Server<N> {
     ) -> Result<(), OutOfMemory>
         requires has_test { HasTest self.old.speaker.core test }
         requires rests { self.old.started ≡ None }
+        requires whole { self.old.speaker.is_broken ≡ false }
         requires runs { Runs test self.old.speaker.core }
         ensures ordered { (a : Setting) (files : ℕ) → Serves a files (to_start None) (seen N.sunk N.faults self.old) →
             OnOk result (Serves a files nothing (seen N.sunk N.faults self.new)) }
@@ -162,10 +163,10 @@ impl<N: Sink> Server<N> {
 }
 
 // Behind GATEWAY_TERMINATE no message is taken.
-fn door_behind(kind: Kind, door: Door) -> Door
-    ensures { result ≡ door_behind (is_last kind) door }
+fn door_behind(message: &Message, door: Door) -> Door
+    ensures { result ≡ door_behind (is_last message.now.kind) door }
 {
-    match kind {
+    match message.kind {
         Kind::Terminate => Door::Terminated,
         Kind::Status
         | Kind::Reconfigure
@@ -180,7 +181,7 @@ fn door_behind(kind: Kind, door: Door) -> Door
 fn copy_texts(alloc: Global, texts: &[Text]) -> Result<Texts, OutOfMemory>
     ensures { IfOk result (λ copy. copy ≡ texts.now) }
 {
-    let mut items = Vec::new(alloc);
+    let mut items = Vec::with_capacity(alloc, texts.len())?;
     for text in texts {
         items.push(text.copy()?)?;
     }

@@ -1,3 +1,4 @@
 pub mod Child
 pub mod Programs
 pub mod Orders
+pub mod Running

@@ -1,6 +1,13 @@
-//! The job that runs programs, one for each order.
+//! The job that runs programs: it takes one order after another, puts what each program prints into a mailbox, piece by
+//! piece, and then how its test went.
 #![tactic(auto)]
 
+mod child;
+mod program;
 mod runner;
 
+pub use child::{outcome_of_end, wait_for};
 pub use runner::{Runner, RunnerEnd};
+
+#[cfg(test)]
+mod tests;

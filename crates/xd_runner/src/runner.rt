@@ -4,6 +4,7 @@ ghost use Rattle.xd_post.specs.Mails.{mails};
 ghost use Rattle.xd_post.specs.Post.{put, ring_of_sender};
 ghost use Rattle.xd_runner.specs.Orders.{RunsOrders, seen};
 
+use crate::program::carry_out;
 use std::alloc::Global;
 use std::sync::Wait;
 use xd_crew::Job;
@@ -80,8 +81,17 @@ impl<K: Children> Job for Runner<K> {
         ensures runs { RunsOrders (mails self.orders) (mails result.orders) (seen (K.runs self.children) (K.faults self.children)) (seen (K.runs result.children) (K.faults result.children)) (put self.sender) (put result.sender) }
         ensures ring { ring_of_sender result.sender ≡ ring_of_sender self.sender }
     {
-        let job = self;
-        for _ in rt.forever() {}
-        job.into_end()
+        let Runner {
+            alloc,
+            mut children,
+            mut orders,
+            mut sender,
+        } = self;
+        carry_out(rt, alloc, &mut children, &mut orders, &mut sender);
+        RunnerEnd {
+            children,
+            orders,
+            sender,
+        }
     }
 }
