@@ -143,7 +143,6 @@ module _ (a : Setting) (files : ℕ) (s : Seen) (item : LinkNews) (mails : List 
     some = c.some;
     drained = still_drained item s.short s.started (length s.orders) c.of_runner c.drained;
   }
-
   ceased_more why (suc (suc n)) c t = elim t [ ]
 
   strayed_more : (n : ℕ) (x : Strayed a s) → TakesTwo a x.of_reader x.of_runner item mails n → Strayed a (without n item mails s)
@@ -183,7 +182,6 @@ module _ (a : Setting) (files : ℕ) (s : Seen) (item : LinkNews) (mails : List 
           → ((later : List LinkNews) × (x.of_reader ≡ map news.Message x.messages ++ x.item ∷ later) × IsStrange x.item) ⊎ ((later : List LinkNews) × (x.of_runner ++ item ∷ [] ≡ x.heard ++ x.item ∷ later) × IsUncalled x.running x.item)
       by (inl h) = inl h
       by (inr h) = inr (h.0 ++ item ∷ [], ap (λ (l : List LinkNews). l ++ item ∷ []) h.1 ∙ append_assoc x.heard (x.item ∷ h.0) (item ∷ []), h.2)
-
   strayed_more (suc (suc n)) x t = elim t [ ]
 
   pub dropped_more : (h : Halt) (n : ℕ) → TakesAt s.mails mails n item → Goes (Some h) a files s → Goes (Some h) a files (without n item mails s)
@@ -238,7 +236,6 @@ module _ (a : Setting) (files : ℕ) (s : Seen) (item : LinkNews) (mails : List 
     reads = g.reads;
     stopped = g.stopped;
   }
-
   taken_two (suc (suc n)) g t = elim t [ ]
 
   pub taken_item : (n : ℕ) → TakesAt s.mails mails n item → Serves a files nothing s → Serves a files (of_inbox n item) (record s { mails = mails })

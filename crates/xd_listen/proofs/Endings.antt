@@ -189,16 +189,15 @@ programs_ended a files why s c more put old new e r =
     let heard = rans_in c.inputs in
     let unheard = rans (output_in c.inputs) later in
     let all : map ran_of r.ran ≡ ran_in c.inputs ++ unheard =
-        sym (rans_of r.ran) ∙ (ap (rans []) (sym r.put_is ∙ in_put) ∙ (rans-append [] (news_in c.inputs) later ∙ two_parts (rans [] (news_in c.inputs)) (ran_in c.inputs) _ (output_in c.inputs) later heard.0 heard.1)) in
+    sym (rans_of r.ran) ∙ (ap (rans []) (sym r.put_is ∙ in_put) ∙ (rans-append [] (news_in c.inputs) later ∙ two_parts (rans [] (news_in c.inputs)) (ran_in c.inputs) _ (output_in c.inputs) later heard.0 heard.1)) in
     let few : length unheard ≡ c.running = (
-        let x = ran_as_many s.orders (map ran_of r.ran) old.runs new.runs r.run in
-        let y = ap (λ (l : List Ran). length l) all in
-        let z = length-append (ran_in c.inputs) unheard in
-        let v = ap (λ (l : List Ran). length l) heard.0 in
-        let w = count_rans [] (news_in c.inputs) in
-        let u = c.count in
-        omega (arith, x, y, z, v, w, u)) in
-    (
+    let x = ran_as_many s.orders (map ran_of r.ran) old.runs new.runs r.run in
+    let y = ap (λ (l : List Ran). length l) all in
+    let z = length-append (ran_in c.inputs) unheard in
+    let v = ap (λ (l : List Ran). length l) heard.0 in
+    let w = count_rans [] (news_in c.inputs) in
+    let u = c.count in
+    omega (arith, x, y, z, v, w, u)) in (
       unheard,
       record {
         started = s.orders;

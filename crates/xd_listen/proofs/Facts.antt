@@ -88,4 +88,3 @@ message_came w m LinkEnded n s i = absurd s
 pub none_is : (o : Option ℕ) → o ≡ None → is_none o ≡ true
 none_is None e = refl
 none_is (Some n) e = cc
-

@@ -73,9 +73,11 @@ module _ (a : Setting) (files : ℕ) (before : Sources) (s : Seen) (stop : LinkS
         let old = scene a.first.sunk a.first.sink_faults before.programs.runs before.programs.faults a.first.file_faults crew0 run0 in
         let new = scene sunk faults b.programs.runs b.programs.faults files crew1 run1 in
         let ran = all_ran_of c.of_runner p1.0 c.some p1.1 (few_of c.of_runner (c.drained j.memory)) in
-        let stopped : stop ≡ j.reads.stop = stop_is (subst (λ (o : Option LinkStop). IsNoted o c.of_reader) j.noted c.noted) p0.0 p0.1 in
-        (last_stop closed why stop, refl,
-        ended a files s before old new why c before.source b.source b.reader_put p0.0 p1.0 b.runner_put j.reads p0.1 (j.noted ∙ ap Some stopped) p1.1 ran closed closes refl refl stop stopped)
+        let stopped : stop ≡ j.reads.stop = stop_is (subst (λ (o : Option LinkStop). IsNoted o c.of_reader) j.noted c.noted) p0.0 p0.1 in (
+          last_stop closed why stop,
+          refl,
+          ended a files s before old new why c before.source b.source b.reader_put p0.0 p1.0 b.runner_put j.reads p0.1 (j.noted ∙ ap Some stopped) p1.1 ran closed closes refl refl stop stopped,
+        )
       where
         stop_is : IsNoted (Some stop) c.of_reader → (more : List LinkNews) → b.reader_put ≡ c.of_reader ++ more → stop ≡ j.reads.stop
         stop_is n more e = end_among j.reads.put n.0 (n.1 ++ more) stop j.reads.stop (sym j.reads.comes ∙ (e ∙ (ap (λ (l : List LinkNews). l ++ more) n.2 ∙ append_assoc n.0 (news.End stop ∷ n.1) more)))

@@ -44,21 +44,21 @@ has_last-append (x ∷ a) m = ap (λ (b : Bool). is_last x.kind || b) (has_last-
     or_assoc true b c = refl
     or_assoc false b c = refl
 
-pub none_more : (a : List MessageView) (m : MessageView) → has_last a ≡ false → is_last m.kind ≡ false → has_last (a ++ m ∷ []) ≡ false
+none_more : (a : List MessageView) (m : MessageView) → has_last a ≡ false → is_last m.kind ≡ false → has_last (a ++ m ∷ []) ≡ false
 none_more a m e f = has_last-append a m ∙ (ap (λ (b : Bool). b || is_last m.kind) e ∙ f)
 
 runs_if : (b : Bool) (x : Option ℕ) (n : ℕ) → (if b then x else None) ≡ Some n → b ≡ true
 runs_if true x n e = refl
 runs_if false x n e = cc
 
-pub running_some : (c : Call) (n : ℕ) → running_test c ≡ Some n → c.running ≡ true
+running_some : (c : Call) (n : ℕ) → running_test c ≡ Some n → c.running ≡ true
 running_some c n e = runs_if c.running (head_test (left c)) n e
 
 none_runs_if : (b : Bool) (x : Option ℕ) → b ≡ false → (if b then x else None) ≡ None
 none_runs_if true x e = cc
 none_runs_if false x e = refl
 
-pub none_runs : (c : Call) → c.running ≡ false → running_test c ≡ None
+none_runs : (c : Call) → c.running ≡ false → running_test c ≡ None
 none_runs c e = none_runs_if c.running (head_test (left c)) e
 
 -- ---- what is to be done next
@@ -168,14 +168,14 @@ going_end held taken test args outcome ms core0 core1 b0 b1 first s runs child_f
 -- ---- a suite
 
 -- an input that is of the files
-pub record Aside (i : WorkerInput) : Type 0 where
-  pub end : is_end i ≡ false
-  pub link : is_of_link i ≡ false
-  pub last : is_link_end i ≡ false
-  pub message : message_in i ≡ []
-  pub output : (is : List WorkerInput) → output_in (i ∷ is) ≡ output_in is
-  pub due : (w : Worker) → w.duties.owed ≡ true → IsDue w i
-  pub does : (w : Worker) (g : Heard) → Is i g.came → Waits w → Plain (turn_by w g)
+record Aside (i : WorkerInput) : Type 0 where
+  end : is_end i ≡ false
+  link : is_of_link i ≡ false
+  last : is_link_end i ≡ false
+  message : message_in i ≡ []
+  output : (is : List WorkerInput) → output_in (i ∷ is) ≡ output_in is
+  due : (w : Worker) → w.duties.owed ≡ true → IsDue w i
+  does : (w : Worker) (g : Heard) → Is i g.came → Waits w → Plain (turn_by w g)
 
 refused_does : (w : Worker) (g : Heard) (text : List ℕ) → g.came ≡ NoSuite text → Waits w → Plain (turn_by w g)
 refused_does w g text e i = subst (λ (c : Came). Plain (turned c g.channels (turn_of w))) (sym e) (no_suite_does w text g.channels i)
@@ -188,7 +188,7 @@ read_does w b (Printed x) n s i = absurd s
 read_does w b (ChildEnded outcome ms) n s i = absurd s
 read_does w b LinkEnded n s i = absurd s
 
-pub aside : (held : Option Held) (rose : Type 0) (path : List ℕ) (i : WorkerInput) → FilesGave held rose path i → Aside i
+aside : (held : Option Held) (rose : Type 0) (path : List ℕ) (i : WorkerInput) → FilesGave held rose path i → Aside i
 aside held rose path (Message m) f = absurd f
 aside held rose path (SuiteBytes b) f = record { end = refl; link = refl; last = refl; message = refl; output = λ is. refl; due = λ w o. o; does = λ w g s i. read_does w b g.came g.channels s i }
 aside held rose path SuiteTooLarge f = record { end = refl; link = refl; last = refl; message = refl; output = λ is. refl; due = λ w o. o; does = λ w g s i. refused_does w g _ s i }
@@ -244,7 +244,7 @@ going_suite held taken path i core0 core1 b0 b1 first runs child_faults sunk0 su
 
 -- ---- a message
 
-pub message_came : (w : Worker) (m : MessageView) (c : Came) (n : ℕ) → IsMessage m c → Waits w → Does (is_last m.kind) (turned c n (turn_of w))
+message_came : (w : Worker) (m : MessageView) (c : Came) (n : ℕ) → IsMessage m c → Waits w → Does (is_last m.kind) (turned c n (turn_of w))
 message_came w m (Says said) n s i = message_does w m said n s i
 message_came w m (SuiteRead tests) n s i = absurd s
 message_came w m (NoSuite text) n s i = absurd s
@@ -256,7 +256,7 @@ and_is : (a b : Bool) → (a && b) ≡ true → a ≡ true
 and_is true b e = refl
 and_is false b e = e
 
-pub none_is : (o : Option ℕ) → o ≡ None → is_none o ≡ true
+none_is : (o : Option ℕ) → o ≡ None → is_none o ≡ true
 none_is None e = refl
 none_is (Some n) e = cc
 

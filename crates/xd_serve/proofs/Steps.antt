@@ -40,13 +40,13 @@ use Rattle.xd_serve.proofs.Calls.{Fresh, idle, answered_idle, answered_end, answ
 
 -- ---- what is asked of the side leaves the work as it is
 
-pub record Same (t u : Turn) : Type 0 where
-  pub call : call_in u.duties.service ≡ call_in t.duties.service
-  pub stopped : u.duties.stopped ≡ t.duties.stopped
-  pub owed : u.duties.owed ≡ t.duties.owed
-  pub tests : u.duties.tests ≡ t.duties.tests
-  pub suite : u.suite ≡ t.suite
-  pub run : u.run ≡ t.run
+record Same (t u : Turn) : Type 0 where
+  call : call_in u.duties.service ≡ call_in t.duties.service
+  stopped : u.duties.stopped ≡ t.duties.stopped
+  owed : u.duties.owed ≡ t.duties.owed
+  tests : u.duties.tests ≡ t.duties.tests
+  suite : u.suite ≡ t.suite
+  run : u.run ≡ t.run
 
 ended_same : (s : Option Service) → call_in (ended_call s) ≡ call_in s
 ended_same None = refl
@@ -58,7 +58,7 @@ asked_same c (Piece log b) t = record { call = refl; stopped = refl; owed = refl
 asked_same c (CloseLog log) t = record { call = refl; stopped = refl; owed = refl; tests = refl; suite = refl; run = refl }
 asked_same c (EndAsk text) t = record { call = ended_same t.duties.service; stopped = refl; owed = refl; tests = refl; suite = refl; run = refl }
 
-pub all_same : (c : ℕ) (asks : List Ask) (t : Turn) → Same t (all_asked c asks t)
+all_same : (c : ℕ) (asks : List Ask) (t : Turn) → Same t (all_asked c asks t)
 all_same c [] t = record { call = refl; stopped = refl; owed = refl; tests = refl; suite = refl; run = refl }
 all_same c (a ∷ asks) t =
     let one = asked_same c a t in
@@ -85,7 +85,7 @@ pub record Step (t u : Turn) : Type 0 where
   pub rest : Rest t u
 
 -- a turn that did this to the call
-abbrev pub acted_turn : Service → Given → Turn → Turn
+abbrev acted_turn : Service → Given → Turn → Turn
 acted_turn s g t = record t { duties = record (t.duties) { service = Some (record s { given = g ∷ s.given }) }; run = (turn_after s.given g).run }
 
 fresh_step : (s : Service) (g : Given) (t : Turn) → Fresh (turn_after s.given g) → Step t (all_asked s.channel (turn_after s.given g).asks (acted_turn s g t))
@@ -211,7 +211,7 @@ stopped_does n t e r s =
     quiet None u h = h
     quiet (Some s) u h = refl
 
-abbrev pub is_terminate : Taken Tree → Bool
+abbrev is_terminate : Taken Tree → Bool
 is_terminate (Status k) = false
 is_terminate (Exec k v) = false
 is_terminate (Handed k v) = false
@@ -240,7 +240,7 @@ did_does (EndKept k) n t c = calm_does t c
 did_does Dropped n t c = calm_does t c
 
 -- a message says that the link ends where it is GATEWAY_TERMINATE
-abbrev pub says_last : Said → Bool
+abbrev says_last : Said → Bool
 says_last (said.Status c) = false
 says_last (said.Exec c v) = false
 says_last (said.Data c v) = false
@@ -270,7 +270,7 @@ call_last : (b : Bool) (k : ℕ) (v : Tree) → is_terminate (if b then Exec k v
 call_last true k v = refl
 call_last false k v = refl
 
-pub answer_last : (s : Said) (t : Table) → is_terminate (answer s t) ≡ says_last s
+answer_last : (s : Said) (t : Table) → is_terminate (answer s t) ≡ says_last s
 answer_last (said.Status c) t = refl
 answer_last (said.Exec c v) t = call_last _ c v
 answer_last (said.Data c v) t = arrived_last c _
@@ -278,7 +278,7 @@ answer_last (said.Close c e) t = end_last c (t.slot c) _
 answer_last (said.Last c) t = end_last c (t.slot c) _
 answer_last said.Terminate t = refl
 
-pub kind_last : (k : Kind) (c : ℕ) (b : List ℕ) (s : Said) → SaysBy k c b s → says_last s ≡ is_last k
+kind_last : (k : Kind) (c : ℕ) (b : List ℕ) (s : Said) → SaysBy k c b s → says_last s ≡ is_last k
 kind_last kind.Status c b s h = ap says_last h
 kind_last kind.Reconfigure c b s h = absurd h
 kind_last kind.Terminate c b s h = ap says_last h
