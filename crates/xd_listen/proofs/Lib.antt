@@ -1,0 +1,13 @@
+pub mod Busy
+pub mod Calls
+pub mod Counting
+pub mod Dropping
+pub mod Endings
+pub mod Facts
+pub mod Finals
+pub mod Hears
+pub mod Puts
+pub mod Rans
+pub mod Settling
+pub mod Steps
+pub mod Tellings

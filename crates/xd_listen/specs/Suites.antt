@@ -1,0 +1,45 @@
+-- The suite that a worker asks for, and what the files give.
+use Rattle.std.specs.Prelude.{◌≡◌, ◌≤◌, ℕ, List, [], ◌∷◌, length, Bool, true, false, Option, Some, None}
+use Rattle.xd_edge.specs.Files.{Held, HasFile, HasLarger}
+use Rattle.xd_worker.specs.declared.input.WorkerInput.{WorkerInput}
+use Rattle.xd_worker.specs.declared.input.WorkerInput.TheVariants.{Message, SuiteBytes, SuiteTooLarge, SuiteUnread, Output, ChildDone, LinkEnd}
+use Rattle.xd_worker.specs.History.{Heard, turn_by, worker_after}
+
+-- how many bytes a suite file has at most
+abbrev pub max_suite : ℕ
+max_suite = 4194304
+
+-- the path that the last input asked for
+abbrev pub asked_path : List Heard → Option (List ℕ)
+asked_path [] = None
+asked_path (g ∷ h) = (turn_by (worker_after h) g).suite
+
+-- What the files gave for a path, as far as they tell; `rose` says that their count of faults rose.
+abbrev pub FilesGave : Option Held → Type 0 → List ℕ → WorkerInput → Type 0
+FilesGave held rose path (Message m) = ⊥
+FilesGave held rose path (SuiteBytes b) = HasFile held path b × (length b ≤ max_suite)
+FilesGave held rose path SuiteTooLarge = HasLarger held path max_suite
+FilesGave held rose path SuiteUnread = rose
+FilesGave held rose path (Output b) = ⊥
+FilesGave held rose path (ChildDone outcome ms) = ⊥
+FilesGave held rose path LinkEnd = ⊥
+
+abbrev pub is_of_files : WorkerInput → Bool
+is_of_files (Message m) = false
+is_of_files (SuiteBytes b) = true
+is_of_files SuiteTooLarge = true
+is_of_files SuiteUnread = true
+is_of_files (Output b) = false
+is_of_files (ChildDone outcome ms) = false
+is_of_files LinkEnd = false
+
+-- An input that comes where this path was asked for is what the files gave for it; where none was, it is nothing of theirs.
+abbrev pub Follows : Option Held → Type 0 → Option (List ℕ) → WorkerInput → Type 0
+Follows held rose None i = is_of_files i ≡ false
+Follows held rose (Some path) i = FilesGave held rose path i
+
+-- Directly behind each input that asked for a path stands what the files gave for it, and nowhere else.
+abbrev pub AreAnswered : Option Held → Type 0 → List WorkerInput → List Heard → Type 0
+AreAnswered held rose [] h = Unit {0}
+AreAnswered held rose (i ∷ is) [] = ⊥
+AreAnswered held rose (i ∷ is) (g ∷ h) = Follows held rose (asked_path h) i × AreAnswered held rose is h
