@@ -18,6 +18,8 @@ use Rattle.xd_reader.specs.declared.news.LinkNews.{LinkNews}
 use Rattle.xd_drive.specs.Calls.{is_order}
 use Rattle.xd_drive.specs.Performing.{is_start_of, was_started}
 use Rattle.xd_edge.specs.declared.mode.ModeKind.{ModeKind}
+use Rattle.std.specs.Prelude.{IsSome}
+use Rattle.xd_gateway.specs.Orders.{order_of}
 use Rattle.xd_drive.specs.Marks.{Marks, is_breach, is_end, is_ready, may_tell}
 use Rattle.xd_links.proofs.Places.{push_read, set_read}
 use Rattle.xd_group.specs.Pages.{Page, HasPage, HeardAt, IsHeardAt, IsToldAt, ToldAt, heard_page, told_page, taken_of, page_opened, first_page}
@@ -430,11 +432,11 @@ given_none given all (Some n) e = tt
 
 any_said : (f : What → Bool) (w : ℕ) (given : List News) → list_any (λ n. n.worker == w && f n.what) given ≡ list_any f (said_by w given)
 any_said f w [] = refl
-any_said f w (n ∷ ns) = by (n.worker == w) refl
+any_said f w (n ∷ ns) = by (n.worker == w) refl (any_said f w ns)
   where
-    by : (b : Bool) → (n.worker == w) ≡ b → list_any (λ n. n.worker == w && f n.what) (n ∷ ns) ≡ list_any f (said_by w (n ∷ ns))
-    by true h = rw h (ap (λ (b : Bool). f n.what || b) (any_said f w ns))
-    by false h = rw h (any_said f w ns)
+    by : (b : Bool) → (n.worker == w) ≡ b → list_any (λ n. n.worker == w && f n.what) ns ≡ list_any f (said_by w ns) → list_any (λ n. n.worker == w && f n.what) (n ∷ ns) ≡ list_any f (said_by w (n ∷ ns))
+    by true h more = rw h (ap (λ (b : Bool). f n.what || b) more)
+    by false h more = rw h more
 
 and_right : (a b : Bool) → (a && b) ≡ true → b ≡ true
 and_right true b h = h
@@ -523,3 +525,21 @@ kept_told_at suite mode taken calls all given workers pages next k w e is at may
 pub breach_news : (w : ℕ) (what : Option What) (news : Option News) → news ≡ news_of_worker w what → IfSome what (λ x. is_breach x ≡ false) → IfSome news (λ n. is_breach n.what ≡ false)
 breach_news w None news is h = subst (λ (o : Option News). IfSome o (λ n. is_breach n.what ≡ false)) (sym is) tt
 breach_news w (Some x) news is h = subst (λ (o : Option News). IfSome o (λ n. is_breach n.what ≡ false)) (sym is) h
+
+-- an order has its form
+pub order_there : (w : ℕ) (e : Entry) → is_order w e ≡ true → IsSome (order_of e)
+order_there w (entry.Ready a0) h = absurd (cc h)
+order_there w (entry.Collected a0 a1) h = absurd (cc h)
+order_there w (entry.Done a0 a1 a2 a3 a4) h = absurd (cc h)
+order_there w (entry.Back a0 a1) h = absurd (cc h)
+order_there w (entry.Finished a0) h = absurd (cc h)
+order_there w (entry.Refused a0 a1) h = absurd (cc h)
+order_there w (entry.Down a0 a1 a2) h = absurd (cc h)
+order_there w (entry.NotStarted a0) h = absurd (cc h)
+order_there w (entry.Start a0 a1) h = absurd (cc h)
+order_there w (entry.Run a0 a1) h = refl
+order_there w (entry.RunAll a0) h = refl
+order_there w (entry.Steal a0 a1) h = refl
+order_there w (entry.Shutdown a0) h = refl
+order_there w (entry.Kill a0) h = absurd (cc h)
+order_there w (entry.Over a0) h = absurd (cc h)

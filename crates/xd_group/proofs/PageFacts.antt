@@ -108,3 +108,7 @@ module _ {N : Type 0} {g : _} where
       yes a.is_known (λ f. ∥∥₁_elim t never (λ x. no_way a.is_known (sym (ap (λ (q : Page). q.known) (its_page xs k was a x.page at is x.at)) ∙ x.known) f)),
       yes (is_nothing (noted a.late)) (λ f. ∥∥₁_elim t never (λ x. no_way (is_nothing (noted a.late)) (sym (ap (λ (q : Page). is_nothing q.late) (its_page xs k was a x.page at is x.at)) ∙ x.on_time) f)),
     )
+
+pub none_of : {X : Type 0} (o : Option X) → ((x : X) → o ≡ Some x → ⊥) → o ≡ None
+none_of None h = refl
+none_of (Some x) h = absurd (h x refl)

@@ -287,10 +287,10 @@ module _ {K : Type 0} where
 
   -- what is no item of the link is no news
   pub heard_other : (g : Gateway K) (ended b : Bool) (taken : List LinkNews) (item : LinkNews) (said : List What) → ended ≡ false → is_of_link item ≡ false → HeardSo g ended b taken said → HeardSo g false b (taken ++ item ∷ []) (said ++ [])
-  heard_other g true b taken item said e no s = absurd (cc e)
-  heard_other g false b taken item said e no s =
+  heard_other g true b taken item said e other s = absurd (cc e)
+  heard_other g false b taken item said e other s =
       let t = s.tells in
-      record { heard = s.heard; stands = s.stands; tells = record { taken_are = of_same taken item no ∙ t.taken_are; said_are = append-nil said ∙ t.said_are } }
+      record { heard = s.heard; stands = s.stands; tells = record { taken_are = of_same taken item other ∙ t.taken_are; said_are = append-nil said ∙ t.said_are } }
 
   -- until a worker is heard to have ended, channel 1 can be sent on
   pub can_tell : (g : Gateway K) (ended b : Bool) (taken : List LinkNews) (said late : List What) → is_nothing late ≡ true → list_any is_end said ≡ false → HeardSo g ended b taken (said ++ late) → send_refusal (slot_of (side_of g) 1) ≡ None
