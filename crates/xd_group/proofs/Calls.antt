@@ -146,3 +146,9 @@ not_memory SendFault r e q z = let h = sym q ∙ z in cc h
 not_memory (Channel g) r e q z = absurd (cc e)
 not_memory (Opening g) r e q z = absurd (cc e)
 not_memory OutOfMemory r e q z = absurd (cc e)
+
+pub said_call : (T : Type 0) (f : GatewayFault) (wanted : Wanted) (m : MessageView) (a b : Line) → f ≡ SendFault → Says {T = T} wanted a b (Err f) → wanted ≡ Ok m → Prints (frame m) a b
+said_call T SendFault wanted m a b e s w = as_wanted wanted m s.0 a b w s.1 s.3
+said_call T (Channel g) wanted m a b e s w = absurd (cc e)
+said_call T (Opening g) wanted m a b e s w = absurd (cc e)
+said_call T OutOfMemory wanted m a b e s w = absurd (cc e)

@@ -2,7 +2,7 @@ use Rattle.std.proofs.Common.{◌∙◌, refl, sym, ap, subst}
 use Rattle.std.specs.Prelude.{codes}
 use Rattle.xd_gateway.proofs.WordBytes.{chars_word}
 use Rattle.xd_remote.specs.Calls.{kwargs_of}
-use Rattle.xd_group.proofs.Calls.{as_wanted, call_wanted, not_refused}
+use Rattle.xd_group.proofs.Calls.{as_wanted, call_wanted, said_call}
 use Rattle.xd_group.proofs.calling.call_worker.Goals as goal
 
 pub returns-in-Ok-clause-prints : goal.returns-in-Ok-clause-prints
@@ -11,3 +11,9 @@ returns-in-Ok-clause-prints g c =
     let wanted = call_wanted c.args.gateway.now c.in_ok-name.name (kwargs_of c.in_ok-kwargs.kwargs.items) c.args.suite.now c.args.mode c.requires.new c.requires.short name c.in_ok-kwargs.ensures in
     let s = c.in-Ok.ensures.says c.requires.new.whole in
       as_wanted _ _ s.0 _ _ wanted s.1 s.3
+
+pub returns-in-Err-SendFault-clause-prints : goal.returns-in-Err-SendFault-clause-prints
+returns-in-Err-SendFault-clause-prints g c =
+    let name = c.in_ok-name.ensures ∙ chars_word (codes "run_tests") refl in
+    let wanted = call_wanted c.args.gateway.now c.in_ok-name.name (kwargs_of c.in_ok-kwargs.kwargs.items) c.args.suite.now c.args.mode c.requires.new c.requires.short name c.in_ok-kwargs.ensures in
+      said_call _ c.in-Err-SendFault.field-0 _ _ _ _ c.in-Err-SendFault.is (c.in-Err-SendFault.ensures.says c.requires.new.whole) wanted
