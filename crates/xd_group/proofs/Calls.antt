@@ -152,3 +152,15 @@ said_call T SendFault wanted m a b e s w = as_wanted wanted m s.0 a b w s.1 s.3
 said_call T (Channel g) wanted m a b e s w = absurd (cc e)
 said_call T (Opening g) wanted m a b e s w = absurd (cc e)
 said_call T OutOfMemory wanted m a b e s w = absurd (cc e)
+
+pub channel_called : (T : Type 0) (f : GatewayFault) (x : _) (wanted : Wanted) (m : MessageView) (a b : Line) → f ≡ Channel x → Says {T = T} wanted a b (Err f) → wanted ≡ Ok m → ⊥
+channel_called T SendFault x wanted m a b e s w = absurd (cc e)
+channel_called T (Channel g) x wanted m a b e s w = not_refused wanted m (Channel g) w s.0
+channel_called T (Opening g) x wanted m a b e s w = absurd (cc e)
+channel_called T OutOfMemory x wanted m a b e s w = absurd (cc e)
+
+pub opening_called : (T : Type 0) (f : GatewayFault) (x : _) (wanted : Wanted) (m : MessageView) (a b : Line) → f ≡ Opening x → Says {T = T} wanted a b (Err f) → wanted ≡ Ok m → ⊥
+opening_called T SendFault x wanted m a b e s w = absurd (cc e)
+opening_called T (Channel g) x wanted m a b e s w = absurd (cc e)
+opening_called T (Opening g) x wanted m a b e s w = not_refused wanted m (Opening g) w s.0
+opening_called T OutOfMemory x wanted m a b e s w = absurd (cc e)
