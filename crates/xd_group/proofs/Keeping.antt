@@ -61,7 +61,7 @@ filter_same p xs all x is h = ap (filter p) is ∙ (filter-append p xs (x ∷ []
 pub said_more : (w : ℕ) (given all : List News) (n : News) → all ≡ given ++ n ∷ [] → n.worker ≡ w → said_by w all ≡ said_by w given ++ n.what ∷ []
 said_more w given all n is e =
     let here : (n.worker == w) ≡ true = ap (λ (k : ℕ). k == w) e ∙ equal_self w in
-      ap (map (λ (m : News). m.what)) (filter_more (λ m. m.worker == w) given all n is here) ∙ map-append (λ (m : News). m.what) (filter (λ m. m.worker == w) given) (n ∷ [])
+    ap (map (λ (m : News). m.what)) (filter_more (λ m. m.worker == w) given all n is here) ∙ map-append (λ (m : News). m.what) (filter (λ m. m.worker == w) given) (n ∷ [])
 
 pub said_same : (w : ℕ) (given all : List News) (n : News) → all ≡ given ++ n ∷ [] → (n.worker ≡ w → ⊥) → said_by w all ≡ said_by w given
 said_same w given all n is h = ap (map (λ (m : News). m.what)) (filter_same (λ m. m.worker == w) given all n is (other_test n.worker w h))
@@ -183,7 +183,7 @@ told_by calls all workers pages k w i v e p x is order at there told apart wi (i
     let same : v ≡ w = same_some (slice_get workers k) v w (ap (slice_get workers) (sym a.0) ∙ wi) at in
     let page : x ≡ told_page e p = let both = a.1 in cc in
     let more : orders_to w all ≡ orders_to w calls ++ e ∷ [] = filter_more (is_order w) calls all e is order in
-      ap (λ (y : Page). y.told) page ∙ (ap (λ (l : List Entry). l ++ e ∷ []) (told k w p at there) ∙ (sym more ∙ ap (λ (u : ℕ). orders_to u all) (sym same)))
+    ap (λ (y : Page). y.told) page ∙ (ap (λ (l : List Entry). l ++ e ∷ []) (told k w p at there) ∙ (sym more ∙ ap (λ (u : ℕ). orders_to u all) (sym same)))
 told_by calls all workers pages k w i v e p x is order at there told apart wi (inr b) =
     told i v x wi b.1 ∙ sym (others v w calls all e is order (λ same. b.0 (apart i k v wi (at ∙ ap Some (sym same)))))
 
@@ -192,7 +192,7 @@ said_so : (given : List News) (workers : List ℕ) (pages : List (Option Page)) 
     → ((i ≡ k) × (Some x ≡ Some (told_page e p))) ⊎ ((i ≡ k → ⊥) × (slice_get pages i ≡ Some (Some x))) → x.said ≡ said_by v given
 said_so given workers pages k i v e p x there said wi (inl a) =
     let page : x ≡ told_page e p = let both = a.1 in cc in
-      ap (λ (y : Page). y.said) page ∙ said i v p wi (ap (slice_get pages) a.0 ∙ there)
+    ap (λ (y : Page). y.said) page ∙ said i v p wi (ap (slice_get pages) a.0 ∙ there)
 said_so given workers pages k i v e p x there said wi (inr b) = said i v x wi b.1
 
 pub kept_told : (suite : List ℕ) (mode : ModeKind) (taken : List (Option (List LinkNews))) (calls all : List Entry) (given : List News) (workers : List ℕ) (pages next : List (Option Page)) (k w : ℕ) (e : Entry)
@@ -232,7 +232,7 @@ heard_told : (calls : List Entry) (workers : List ℕ) (pages : List (Option Pag
     → ((i ≡ k) × (Some x ≡ Some (heard_page item what p))) ⊎ ((i ≡ k → ⊥) × (slice_get pages i ≡ Some (Some x))) → x.told ≡ orders_to v calls
 heard_told calls workers pages k i v item what p x there told wi (inl a) =
     let page : x ≡ heard_page item what p = let both = a.1 in cc in
-      ap (λ (y : Page). y.told) page ∙ told i v p wi (ap (slice_get pages) a.0 ∙ there)
+    ap (λ (y : Page). y.told) page ∙ told i v p wi (ap (slice_get pages) a.0 ∙ there)
 heard_told calls workers pages k i v item what p x there told wi (inr b) = told i v x wi b.1
 
 heard_said : (given all : List News) (workers : List ℕ) (pages : List (Option Page)) (k w i v : ℕ) (item : LinkNews) (what : Option What) (p x : Page) → all ≡ given ++ option_to_list (news_of_worker w what) → slice_get workers k ≡ Some w → slice_get pages k ≡ Some (Some p)
@@ -241,7 +241,7 @@ heard_said : (given all : List News) (workers : List ℕ) (pages : List (Option 
 heard_said given all workers pages k w i v item what p x is at there said apart wi (inl a) =
     let same : v ≡ w = same_some (slice_get workers k) v w (ap (slice_get workers) (sym a.0) ∙ wi) at in
     let page : x ≡ heard_page item what p = let both = a.1 in cc in
-      ap (λ (y : Page). y.said) page ∙ (ap (λ (l : List What). l ++ option_to_list what) (said k w p at there) ∙ (sym (said_self w given all what is) ∙ ap (λ (u : ℕ). said_by u all) (sym same)))
+    ap (λ (y : Page). y.said) page ∙ (ap (λ (l : List What). l ++ option_to_list what) (said k w p at there) ∙ (sym (said_self w given all what is) ∙ ap (λ (u : ℕ). said_by u all) (sym same)))
 heard_said given all workers pages k w i v item what p x is at there said apart wi (inr b) =
     said i v x wi b.1 ∙ sym (said_other v w given all what is (λ same. b.0 (apart i k v wi (at ∙ ap Some (sym same)))))
 

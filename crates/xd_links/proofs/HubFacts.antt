@@ -24,15 +24,14 @@ pub rings_taken : {T : Type 0} (old new : List (Option (Ring × List T))) (k : �
 rings_taken {T = T} old new k item t =
     let next : Option (Ring × List T) = Some (t.ring, t.got ++ item ∷ []) in
     let was : Option (Ring × List T) = Some (t.ring, t.got) in
-      ap (map ring_of_mail) t.is ∙ map-set_same ring_of_mail old k next was (ap ring_of_mail (sym (get_or_from_slice_get old k was was t.was)))
+    ap (map ring_of_mail) t.is ∙ map-set_same ring_of_mail old k next was (ap ring_of_mail (sym (get_or_from_slice_get old k was was t.was)))
 
 pub news_taken : (old new : List (Option (Ring × List LinkNews))) (k : ℕ) (item : LinkNews) → TakesAt old new k item → (got : List LinkNews) × (slice_get (map news_of_mail old) k ≡ Some (Some got)) × (map news_of_mail new ≡ set (map news_of_mail old) k (Some (got ++ item ∷ [])))
-news_taken old new k item t =
-    (
-      t.got,
-      slice_get-map news_of_mail old k ∙ ap (option_map news_of_mail) t.was,
-      ap (map news_of_mail) t.is ∙ map-set news_of_mail old k (Some (t.ring, t.got ++ item ∷ []))
-    )
+news_taken old new k item t = (
+  t.got,
+  slice_get-map news_of_mail old k ∙ ap (option_map news_of_mail) t.was,
+  ap (map news_of_mail) t.is ∙ map-set news_of_mail old k (Some (t.ring, t.got ++ item ∷ [])),
+)
 
 -- the inbox with the ring
 pub mail_behind : {T : Type 0} (mails : List (Option (Ring × List T))) (k : ℕ) (ring : Ring) (before : List LinkNews) (greeted : Bool) → slice_get (map ring_of_mail mails) k ≡ Some (Some (ring, before, greeted)) → (before ≡ []) × (greeted ≡ true) × ((got : List T) × (slice_get mails k ≡ Some (Some (ring, got))))
@@ -46,7 +45,7 @@ mail_behind (Some m ∷ ms) zero ring before greeted e =
     let f : m.0 ≡ ring = ap (λ (q : Fresh). q.0) p in
     let z : before ≡ [] = sym (ap (λ (q : Fresh). q.1) p) in
     let b : greeted ≡ true = sym (ap (λ (q : Fresh). q.2) p) in
-      (z, b, (m.1, ap (λ (r : Ring). Some (Some (r, m.1))) f))
+    (z, b, (m.1, ap (λ (r : Ring). Some (Some (r, m.1))) f))
 mail_behind (m ∷ ms) (suc k) ring before greeted e = mail_behind ms k ring before greeted e
 
 set_last : {X : Type 0} (xs : List X) (x y : X) → set (xs ++ x ∷ []) (length xs) y ≡ xs ++ y ∷ []
@@ -58,9 +57,9 @@ pub rings_refused : {S H T : Type 0} (f : H → Reader S) (old added closed : Li
 rings_refused {H = H} {T = T} f old added closed k x links after a n z r l =
     let none : Option (Ring × List T) = None in
     let is : closed ≡ old ++ none ∷ [] =
-      z ∙ ap (λ (m : List (Option (Ring × List T))). set m k none) a ∙ ap (λ (i : ℕ). set (old ++ x ∷ []) i none) n ∙ set_last old x none in
-      ap (map ring_of_mail) is ∙ map-append ring_of_mail old (none ∷ []) ∙ ap (λ (t : List (Option Fresh)). t ++ None ∷ []) r
-        ∙ sym (ap (map (ring_of_link f)) l ∙ map-append (ring_of_link f) links (None ∷ []))
+    z ∙ ap (λ (m : List (Option (Ring × List T))). set m k none) a ∙ ap (λ (i : ℕ). set (old ++ x ∷ []) i none) n ∙ set_last old x none in
+    ap (map ring_of_mail) is ∙ map-append ring_of_mail old (none ∷ []) ∙ ap (λ (t : List (Option Fresh)). t ++ None ∷ []) r
+    ∙ sym (ap (map (ring_of_link f)) l ∙ map-append (ring_of_link f) links (None ∷ []))
 
 -- what was read at a place that a map of the list has
 pub here : {X Y : Type 0} (f : X → Y) (xs : List X) (k : ℕ) (was : X) (y : Y) → slice_get (map f xs) k ≡ Some y → was ≡ get_or xs k was → slice_get xs k ≡ Some was
@@ -70,13 +69,13 @@ here f xs k was y e at = slice_get_read xs (length xs) k was refl (rw length-map
 pub rings_closed : {S H T : Type 0} (f : H → Reader S) (old closed : List (Option (Ring × List T))) (k : ℕ) (links : List (Option H)) (gone : Option H) → closed ≡ set old k None → gone ≡ None → map ring_of_mail old ≡ map (ring_of_link f) links → map ring_of_mail closed ≡ map (ring_of_link f) (set links k gone)
 rings_closed {H = H} {T = T} f old closed k links gone z n r =
     ap (map ring_of_mail) z ∙ map-set ring_of_mail old k None ∙ ap (λ (t : List (Option Fresh)). set t k None) r
-      ∙ sym (map-set (ring_of_link f) links k gone ∙ ap (λ (o : Option H). set (map (ring_of_link f) links) k (ring_of_link f o)) n)
+    ∙ sym (map-set (ring_of_link f) links k gone ∙ ap (λ (o : Option H). set (map (ring_of_link f) links) k (ring_of_link f o)) n)
 
 pub mail_of_link : {S H T : Type 0} (f : H → Reader S) (mails : List (Option (Ring × List T))) (links : List (Option H)) (k : ℕ) (link : H) (ring : Ring) → map ring_of_mail mails ≡ map (ring_of_link f) links → slice_get links k ≡ Some (Some link) → ring ≡ ring_of_sender (f link).sender → (put (f link).sender ≡ []) × ((f link).greeted ≡ true) × ((got : List T) × (slice_get mails k ≡ Some (Some (ring, got))))
 mail_of_link f mails links k link ring r at same =
     mail_behind mails k ring (put (f link).sender) (f link).greeted
-      (ap (λ (t : List (Option Fresh)). slice_get t k) r ∙ slice_get-map (ring_of_link f) links k ∙ ap (option_map (ring_of_link f)) at
-        ∙ ap (λ (x : Ring). Some (Some (x, put (f link).sender, (f link).greeted))) (sym same))
+    (ap (λ (t : List (Option Fresh)). slice_get t k) r ∙ slice_get-map (ring_of_link f) links k ∙ ap (option_map (ring_of_link f)) at
+    ∙ ap (λ (x : Ring). Some (Some (x, put (f link).sender, (f link).greeted))) (sym same))
 
 pub no_source : {S H : Type 0} (f : H → Reader S) (links : List (Option H)) (k : ℕ) (was : Option H) (source : S) → slice_get (map (source_of_link f) links) k ≡ Some (Some source) → slice_get links k ≡ Some was → was ≡ None → ⊥
 no_source f links k was source e at none =
@@ -98,7 +97,7 @@ begins (Some next) got sent e = (next ∷ e.0, e.1)
 pub link_read : (s0 s1 : Spring) (rest : Option LinkNews) (taken sent : List LinkNews) (got : List LinkNews) → IfSome s0.supply (λ s. s.given ≡ []) → PutsAll true s0 s1 [] sent → Empties rest taken sent → taken ≡ got → LinkRead s1 got
 link_read s0 s1 rest taken sent got f r e same =
     let b = begins rest taken sent e in
-      record { first = s0; fresh = f; sent = sent; later = b.0; puts = r; begins = b.1 ∙ ap (λ (t : List LinkNews). t ++ b.0) same }
+    record { first = s0; fresh = f; sent = sent; later = b.0; puts = r; begins = b.1 ∙ ap (λ (t : List LinkNews). t ++ b.0) same }
 
 pub news_closed : (old closed : List (Option (Ring × List LinkNews))) (k : ℕ) → closed ≡ set old k None → map news_of_mail closed ≡ set (map news_of_mail old) k None
 news_closed old closed k z = ap (map news_of_mail) z ∙ map-set news_of_mail old k None
@@ -111,8 +110,8 @@ pub news_refused : (old added closed : List (Option (Ring × List LinkNews))) (k
 news_refused old added closed k x a n z =
     let none : Option (Ring × List LinkNews) = None in
     let is : closed ≡ old ++ none ∷ [] =
-      z ∙ ap (λ (m : List (Option (Ring × List LinkNews))). set m k none) a ∙ ap (λ (i : ℕ). set (old ++ x ∷ []) i none) n ∙ set_last old x none in
-      ap (map news_of_mail) is ∙ map-append news_of_mail old (none ∷ [])
+    z ∙ ap (λ (m : List (Option (Ring × List LinkNews))). set m k none) a ∙ ap (λ (i : ℕ). set (old ++ x ∷ []) i none) n ∙ set_last old x none in
+    ap (map news_of_mail) is ∙ map-append news_of_mail old (none ∷ [])
 
 -- a link stands at the place
 pub link_there : {S H : Type 0} (f : H → Reader S) (links : List (Option H)) (k : ℕ) (was : Option H) → slice_get links k ≡ Some was → IsTrue (is_some was) → (x : S) × (slice_get (map (source_of_link f) links) k ≡ Some (Some x))
@@ -151,7 +150,7 @@ module _ {S H : Type 0} where
       → (k : ℕ) (source : S) (s : Supply) → slice_get (sources_of f after) k ≡ Some (Some source) → supply source ≡ Some s → s.given ≡ []
   fresh_more f supply links after o is one all k source t e h =
       fresh_pushed supply k (length (sources_of f links)) source t (source_of_link f o) (sources_of f links) one all
-        (push_read (sources_of f links) k (source_of_link f o) (Some source) (ap (λ (l : List (Option S)). slice_get l k) (sym (ap (sources_of f) is ∙ map-append (source_of_link f) links (o ∷ []))) ∙ e)) h
+      (push_read (sources_of f links) k (source_of_link f o) (Some source) (ap (λ (l : List (Option S)). slice_get l k) (sym (ap (sources_of f) is ∙ map-append (source_of_link f) links (o ∷ []))) ∙ e)) h
 
   -- a link was closed
   pub fresh_less : (f : H → Reader S) (supply : S → Option Supply) (links : List (Option H)) (n : ℕ) (gone : Option H) → gone ≡ None
@@ -159,7 +158,7 @@ module _ {S H : Type 0} where
       → (k : ℕ) (source : S) (s : Supply) → slice_get (sources_of f (set links n gone)) k ≡ Some (Some source) → supply source ≡ Some s → s.given ≡ []
   fresh_less f supply links n gone is all k source t e h =
       fresh_set supply k n source t (sources_of f links) all
-        (set_read (sources_of f links) n k None (Some source) (ap (λ (l : List (Option S)). slice_get l k) (sym (sources_closed f links n gone is)) ∙ e)) h
+      (set_read (sources_of f links) n k None (Some source) (ap (λ (l : List (Option S)). slice_get l k) (sym (sources_closed f links n gone is)) ∙ e)) h
 
 -- the inbox that was added last
 pub mail_last : {T : Type 0} (old added : List (Option (Ring × List T))) (k : ℕ) (ring other : Ring) (got : List T) → added ≡ old ++ Some (ring, got) ∷ [] → k ≡ length old → other ≡ ring → (more : List T) × (slice_get added k ≡ Some (Some (other, more)))
@@ -177,14 +176,14 @@ module _ {S H T : Type 0} where
   rings_opened f old added ring got links after h job sender a l j s g p r e =
       let its : (f h).sender ≡ sender = ap (λ (x : Reader S). x.sender) j ∙ s in
       let one : Some (ring_of_sender (f h).sender, put (f h).sender, (f h).greeted) ≡ Some (ring, [], true) =
-        ap (λ (x : Sender LinkNews). Some (ring_of_sender x, put x, (f h).greeted)) its
-        ∙ (ap (λ (x : Ring). Some (x, put sender, (f h).greeted)) r
-        ∙ (ap (λ (x : List LinkNews). Some (ring, x, (f h).greeted)) p
-        ∙ ap (λ (x : Bool). Some (ring, [], x)) (ap (λ (x : Reader S). x.greeted) j ∙ g))) in
-        ap (map ring_of_mail) a ∙ (map-append ring_of_mail old (Some (ring, got) ∷ [])
-        ∙ (ap (λ (t : List (Option Fresh)). t ++ Some (ring, [], true) ∷ []) e
-        ∙ (ap (λ (o : Option Fresh). map (ring_of_link f) links ++ o ∷ []) (sym one)
-        ∙ sym (ap (map (ring_of_link f)) l ∙ map-append (ring_of_link f) links (Some h ∷ [])))))
+      ap (λ (x : Sender LinkNews). Some (ring_of_sender x, put x, (f h).greeted)) its
+      ∙ (ap (λ (x : Ring). Some (x, put sender, (f h).greeted)) r
+      ∙ (ap (λ (x : List LinkNews). Some (ring, x, (f h).greeted)) p
+      ∙ ap (λ (x : Bool). Some (ring, [], x)) (ap (λ (x : Reader S). x.greeted) j ∙ g))) in
+      ap (map ring_of_mail) a ∙ (map-append ring_of_mail old (Some (ring, got) ∷ [])
+      ∙ (ap (λ (t : List (Option Fresh)). t ++ Some (ring, [], true) ∷ []) e
+      ∙ (ap (λ (o : Option Fresh). map (ring_of_link f) links ++ o ∷ []) (sym one)
+      ∙ sym (ap (map (ring_of_link f)) l ∙ map-append (ring_of_link f) links (Some h ∷ [])))))
 
 module _ {S H : Type 0} where
   pub fresh_job : (f : H → Reader S) (supply : S → Option Supply) (h : H) (job : Reader S) (source : S) → f h ≡ job → job.source ≡ source → IfSome (supply source) (λ s. s.given ≡ []) → IfSome (supply (f h).source) (λ s. s.given ≡ [])

@@ -9,8 +9,8 @@ use std::sync::Wait;
 use xd_crew::Crew;
 use xd_edge::OutOfMemory;
 use xd_link::Source;
-use xd_reader::{LinkNews, Reader, ReaderEnd};
 use xd_post::{Bell, Desk, Emptied, mailbox};
+use xd_reader::{LinkNews, Reader, ReaderEnd};
 
 /// Several links, each read by a job of the crew.
 pub struct Links<S: Source + Drop, C: Crew<Reader<S>>> {
@@ -77,7 +77,10 @@ impl<S: Source + Drop, C: Crew<Reader<S>>> Links<S, C> {
         self.handles.reserve(1)?;
         let (sender, inbox) = mailbox(self.alloc, 8, self.desk.bell())?;
         let number = self.desk.add(inbox)?;
-        match self.crew.start(Reader::new(self.alloc, source, sender, true)) {
+        match self
+            .crew
+            .start(Reader::new(self.alloc, source, sender, true))
+        {
             Ok(handle) => {
                 self.handles.push_reserved(Some(handle));
                 Ok(Ok(number))

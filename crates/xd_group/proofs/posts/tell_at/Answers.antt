@@ -10,7 +10,7 @@ pub unreachable-requires : goal.unreachable-requires
 unreachable-requires g c =
     let xs = c.args.posts.now.items in
     let past : length xs ≤ c.args.at = search rules in
-      past_told xs c.args.at past c.requires.told
+    past_told xs c.args.at past c.requires.told
 
 pub unreachable-requires-in_default : goal.unreachable-requires-in_default
 unreachable-requires-in_default g c = none_told c.args.posts.now.items c.args.at c.index_mut.result.now c.index_mut.ensures.value (none_of c.index_mut.result.now c.in_default.not-Some) c.requires.told

@@ -13,7 +13,7 @@ unreachable-requires g c =
     let k = c.args.number in
     let was = c.index_mut.result.now in
     let source = c.requires.0 in
-      no_source f links k was source c.requires.1 (here (source_of_link f) links k was (Some source) c.requires.1 c.index_mut.ensures.value) (sym c.take.ensures.value ∙ c.in-None.is)
+    no_source f links k was source c.requires.1 (here (source_of_link f) links k was (Some source) c.requires.1 c.index_mut.ensures.value) (sym c.take.ensures.value ∙ c.in-None.is)
 
 pub close_with-rest-requires : goal.close_with-rest-requires
 close_with-rest-requires g c =
@@ -22,13 +22,13 @@ close_with-rest-requires g c =
     let k = c.args.number in
     let was = c.index_mut.result.now in
     let at = here (source_of_link f) links k was (Some c.requires.0) c.requires.1 c.index_mut.ensures.value ∙ ap Some (sym c.take.ensures.value ∙ c.in-Some.is) in
-      (mail_of_link f (mails c.args.self.now.desk) links k c.in-Some.handle (ring_of_sender c.join-source.result.sender) c.args.self.now.rings at c.join-source.ensures.gives.1).2
+    (mail_of_link f (mails c.args.self.now.desk) links k c.in-Some.handle (ring_of_sender c.join-source.result.sender) c.args.self.now.rings at c.join-source.ensures.gives.1).2
 
 pub invariant_of-self : goal.invariant_of-self
 invariant_of-self g c =
     record {
       rings =
-        rings_closed g.C.Crew.job_of (mails c.args.self.now.desk) (mails c.close_with-rest.new.self) c.args.number c.args.self.now.handles.items c.take.new.self
+          rings_closed g.C.Crew.job_of (mails c.args.self.now.desk) (mails c.close_with-rest.new.self) c.args.number c.args.self.now.handles.items c.take.new.self
           c.close_with-rest.ensures.closed c.take.ensures.after c.args.self.now.rings;
       fresh = fresh_less g.C.Crew.job_of g.S.Source.supply c.args.self.now.handles.items c.args.number c.take.new.self c.take.ensures.after c.args.self.now.fresh;
     }
@@ -47,8 +47,8 @@ returns-clause-run g c got n =
     let mail = mail_of_link f desk links k c.in-Some.handle ring c.args.self.now.rings at c.join-source.ensures.gives.1 in
     let from = its_source f links k c.in-Some.handle source e at in
     let reads = rw (mail.0, mail.1, from) at c.join-source.ensures.gives.0 in
-      link_read (spring (g.S.Source.supply source) (g.S.Source.is_ended source) (g.S.Source.faults source)) (spring (g.S.Source.supply c.join-source.result.source) (g.S.Source.is_ended c.join-source.result.source) (g.S.Source.faults c.join-source.result.source)) c.close_with-rest.result.rest mail.2.0 (put c.join-source.result.sender) got
-        (told_fresh (g.S.Source.supply source) (λ s. c.args.self.now.fresh k source s e)) reads (c.close_with-rest.ensures.emptied mail.2.0 mail.2.1) (its_news desk k ring mail.2.0 got n mail.2.1)
+    link_read (spring (g.S.Source.supply source) (g.S.Source.is_ended source) (g.S.Source.faults source)) (spring (g.S.Source.supply c.join-source.result.source) (g.S.Source.is_ended c.join-source.result.source) (g.S.Source.faults c.join-source.result.source)) c.close_with-rest.result.rest mail.2.0 (put c.join-source.result.sender) got
+    (told_fresh (g.S.Source.supply source) (λ s. c.args.self.now.fresh k source s e)) reads (c.close_with-rest.ensures.emptied mail.2.0 mail.2.1) (its_news desk k ring mail.2.0 got n mail.2.1)
 
 pub returns-clause-news : goal.returns-clause-news
 returns-clause-news g c = news_closed (mails c.args.self.now.desk) (mails c.close_with-rest.new.self) c.args.number c.close_with-rest.ensures.closed

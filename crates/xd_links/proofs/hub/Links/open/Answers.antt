@@ -10,7 +10,7 @@ use Rattle.xd_links.proofs.hub.Links.open.Goals as goal
 pub invariant_of-self-in-Err : goal.invariant_of-self-in-Err
 invariant_of-self-in-Err g c =
     let after : c.push_reserved-in-Err.new.self.items ≡ c.args.self.now.handles.items ++ None ∷ [] = search rules in
-      record { rings = rings_refused g.C.Crew.job_of _ _ _ _ _ _ _ c.in_ok-number.ensures.added c.in_ok-number.ensures.number c.close_with.ensures.closed c.args.self.now.rings after; fresh = fresh_more g.C.Crew.job_of g.S.Source.supply c.args.self.now.handles.items c.push_reserved-in-Err.new.self.items None after tt c.args.self.now.fresh }
+    record { rings = rings_refused g.C.Crew.job_of _ _ _ _ _ _ _ c.in_ok-number.ensures.added c.in_ok-number.ensures.number c.close_with.ensures.closed c.args.self.now.rings after; fresh = fresh_more g.C.Crew.job_of g.S.Source.supply c.args.self.now.handles.items c.push_reserved-in-Err.new.self.items None after tt c.args.self.now.fresh }
 
 pub returns-in-Err-clause-silent : goal.returns-in-Err-clause-silent
 returns-in-Err-clause-silent g c = news_refused _ _ _ _ _ c.in_ok-number.ensures.added c.in_ok-number.ensures.number c.close_with.ensures.closed
@@ -22,7 +22,7 @@ invariant_of-self-in-Ok g c =
     let after : c.push_reserved.new.self.items ≡ links ++ Some c.in-Ok.handle ∷ [] = search rules in
     record {
       rings =
-        rings_opened f (mails c.args.self.now.desk) (mails c.add.new.self) (ring_of_inbox c.in_ok-sender.inbox) (taken c.in_ok-sender.inbox) links c.push_reserved.new.self.items c.in-Ok.handle c.new.result c.in_ok-sender.sender
+          rings_opened f (mails c.args.self.now.desk) (mails c.add.new.self) (ring_of_inbox c.in_ok-sender.inbox) (taken c.in_ok-sender.inbox) links c.push_reserved.new.self.items c.in-Ok.handle c.new.result c.in_ok-sender.sender
           c.in_ok-number.ensures.added after c.in-Ok.ensures.started c.new.ensures.sender c.new.ensures.greeted c.in_ok-sender.ensures.fresh.0 c.in_ok-sender.ensures.pair c.args.self.now.rings;
       fresh = fresh_more f g.S.Source.supply links c.push_reserved.new.self.items (Some c.in-Ok.handle) after (fresh_job f g.S.Source.supply c.in-Ok.handle c.new.result c.args.source c.in-Ok.ensures.started c.new.ensures.source c.requires.nothing_given) c.args.self.now.fresh;
     }
@@ -30,5 +30,5 @@ invariant_of-self-in-Ok g c =
 pub close_with-requires : goal.close_with-requires
 close_with-requires g c =
     let sender = c.into_end-source.ensures.sender ∙ (ap (λ (j : Reader g.row.S.Denot). j.sender) c.in-Err.ensures.back ∙ c.new.ensures.sender) in
-      mail_last (mails c.args.self.now.desk) (mails c.add.new.self) c.in_ok-number.number (ring_of_inbox c.in_ok-sender.inbox) (ring_of_sender c.into_end-source.result.sender) (taken c.in_ok-sender.inbox)
-        c.in_ok-number.ensures.added c.in_ok-number.ensures.number (ap (λ (s : Sender LinkNews). ring_of_sender s) sender ∙ c.in_ok-sender.ensures.pair)
+    mail_last (mails c.args.self.now.desk) (mails c.add.new.self) c.in_ok-number.number (ring_of_inbox c.in_ok-sender.inbox) (ring_of_sender c.into_end-source.result.sender) (taken c.in_ok-sender.inbox)
+    c.in_ok-number.ensures.added c.in_ok-number.ensures.number (ap (λ (s : Sender LinkNews). ring_of_sender s) sender ∙ c.in_ok-sender.ensures.pair)
