@@ -76,8 +76,8 @@ module _ {K : Type 0} where
       let next : next_of s ≡ 1 = ap (λ (x : Table). x.next) t in
       let none = open_none s (ap (λ (x : Table). x.finished) t) (no_entries s (λ c. ap (λ (x : Table). x.slot c) t)) next in
       let all : dumped (call_tree name kwargs) ≡ Ok (canonical (run_tests_call suite (mode_text m))) =
-        ap (λ (x : List ℕ). dumped (call_tree x kwargs)) n ∙ (ap (λ (x : Pairs). dumped (call_tree (codes "run_tests") x)) k ∙ call_dumped suite (mode_text m) short (mode_short m)) in
-        call_by s (dumped (call_tree name kwargs)) (canonical (run_tests_call suite (mode_text m))) all none next
+      ap (λ (x : List ℕ). dumped (call_tree x kwargs)) n ∙ (ap (λ (x : Pairs). dumped (call_tree (codes "run_tests") x)) k ∙ call_dumped suite (mode_text m) short (mode_short m)) in
+      call_by s (dumped (call_tree name kwargs)) (canonical (run_tests_call suite (mode_text m))) all none next
 
 pub as_wanted : (wanted : Wanted) (m n : MessageView) (a b : Line) → wanted ≡ Ok m → wanted ≡ Ok n → Prints (frame n) a b → Prints (frame m) a b
 as_wanted wanted m n a b e f p = let same : Ok n ≡ Ok m = sym f ∙ e in let is : n ≡ m = cc same in subst (λ (x : MessageView). Prints (frame x) a b) is p
@@ -127,7 +127,7 @@ module _ {K : Type 0} where
       by true h = subst (λ (x : Gateway K). WritesOrder (order_message e) (line_of sunk faults g) (line_of sunk faults x)) (sym (lost h).1) (quiet_order (order_message e) (line_of sunk faults g) h)
       by false h =
           subst (λ (o : Option MessageView). WritesOrder o (line_of sunk faults g) (line_of sunk faults k)) (sym (order_is e v is))
-            (says_order (dumped v) (say_wanted 1 v (side_of g)) r (line_of sunk faults g) (line_of sunk faults k) (ap (λ (x : _). item_wanted 1 (sent_gives x (dumped v))) can) not (says h))
+          (says_order (dumped v) (say_wanted 1 v (side_of g)) r (line_of sunk faults g) (line_of sunk faults k) (ap (λ (x : _). item_wanted 1 (sent_gives x (dumped v))) can) not (says h))
 
 -- ---- keyword arguments
 
@@ -135,10 +135,10 @@ pub kwargs_are : (items : List (List ℕ × Value)) (k l : List ℕ) (v w : Valu
 kwargs_are items k l v w suite m is a b c d =
     let first : k ≡ codes "suite" = a ∙ chars_word (codes "suite") refl in
     let second : l ≡ codes "dist" = c ∙ chars_word (codes "dist") refl in
-      ap kwargs_of is ∙ (ap (λ (x : List ℕ). pair (text x) (view v) (pair (text l) (view w) no_pairs)) first
-      ∙ (ap (λ (x : Tree). pair (text (codes "suite")) x (pair (text l) (view w) no_pairs)) b
-      ∙ (ap (λ (x : List ℕ). pair (text (codes "suite")) (text suite) (pair (text x) (view w) no_pairs)) second
-      ∙ ap (λ (x : Tree). pair (text (codes "suite")) (text suite) (pair (text (codes "dist")) x no_pairs)) d)))
+    ap kwargs_of is ∙ (ap (λ (x : List ℕ). pair (text x) (view v) (pair (text l) (view w) no_pairs)) first
+    ∙ (ap (λ (x : Tree). pair (text (codes "suite")) x (pair (text l) (view w) no_pairs)) b
+    ∙ (ap (λ (x : List ℕ). pair (text (codes "suite")) (text suite) (pair (text x) (view w) no_pairs)) second
+    ∙ ap (λ (x : Tree). pair (text (codes "suite")) (text suite) (pair (text (codes "dist")) x no_pairs)) d)))
 
 -- a write that failed is no want of memory
 pub not_memory : (f : GatewayFault) (r : Result (Unit {0}) GatewayFault) → f ≡ SendFault → r ≡ Err f → r ≡ Err OutOfMemory → ⊥
@@ -146,3 +146,21 @@ not_memory SendFault r e q z = let h = sym q ∙ z in cc h
 not_memory (Channel g) r e q z = absurd (cc e)
 not_memory (Opening g) r e q z = absurd (cc e)
 not_memory OutOfMemory r e q z = absurd (cc e)
+
+pub said_call : (T : Type 0) (f : GatewayFault) (wanted : Wanted) (m : MessageView) (a b : Line) → f ≡ SendFault → Says {T = T} wanted a b (Err f) → wanted ≡ Ok m → Prints (frame m) a b
+said_call T SendFault wanted m a b e s w = as_wanted wanted m s.0 a b w s.1 s.3
+said_call T (Channel g) wanted m a b e s w = absurd (cc e)
+said_call T (Opening g) wanted m a b e s w = absurd (cc e)
+said_call T OutOfMemory wanted m a b e s w = absurd (cc e)
+
+pub channel_called : (T : Type 0) (f : GatewayFault) (x : _) (wanted : Wanted) (m : MessageView) (a b : Line) → f ≡ Channel x → Says {T = T} wanted a b (Err f) → wanted ≡ Ok m → ⊥
+channel_called T SendFault x wanted m a b e s w = absurd (cc e)
+channel_called T (Channel g) x wanted m a b e s w = not_refused wanted m (Channel g) w s.0
+channel_called T (Opening g) x wanted m a b e s w = absurd (cc e)
+channel_called T OutOfMemory x wanted m a b e s w = absurd (cc e)
+
+pub opening_called : (T : Type 0) (f : GatewayFault) (x : _) (wanted : Wanted) (m : MessageView) (a b : Line) → f ≡ Opening x → Says {T = T} wanted a b (Err f) → wanted ≡ Ok m → ⊥
+opening_called T SendFault x wanted m a b e s w = absurd (cc e)
+opening_called T (Channel g) x wanted m a b e s w = absurd (cc e)
+opening_called T (Opening g) x wanted m a b e s w = not_refused wanted m (Opening g) w s.0
+opening_called T OutOfMemory x wanted m a b e s w = absurd (cc e)

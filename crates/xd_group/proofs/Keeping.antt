@@ -18,6 +18,8 @@ use Rattle.xd_reader.specs.declared.news.LinkNews.{LinkNews}
 use Rattle.xd_drive.specs.Calls.{is_order}
 use Rattle.xd_drive.specs.Performing.{is_start_of, was_started}
 use Rattle.xd_edge.specs.declared.mode.ModeKind.{ModeKind}
+use Rattle.std.specs.Prelude.{IsSome}
+use Rattle.xd_gateway.specs.Orders.{order_of}
 use Rattle.xd_drive.specs.Marks.{Marks, is_breach, is_end, is_ready, may_tell}
 use Rattle.xd_links.proofs.Places.{push_read, set_read}
 use Rattle.xd_group.specs.Pages.{Page, HasPage, HeardAt, IsHeardAt, IsToldAt, ToldAt, heard_page, told_page, taken_of, page_opened, first_page}
@@ -59,7 +61,7 @@ filter_same p xs all x is h = ap (filter p) is ∙ (filter-append p xs (x ∷ []
 pub said_more : (w : ℕ) (given all : List News) (n : News) → all ≡ given ++ n ∷ [] → n.worker ≡ w → said_by w all ≡ said_by w given ++ n.what ∷ []
 said_more w given all n is e =
     let here : (n.worker == w) ≡ true = ap (λ (k : ℕ). k == w) e ∙ equal_self w in
-      ap (map (λ (m : News). m.what)) (filter_more (λ m. m.worker == w) given all n is here) ∙ map-append (λ (m : News). m.what) (filter (λ m. m.worker == w) given) (n ∷ [])
+    ap (map (λ (m : News). m.what)) (filter_more (λ m. m.worker == w) given all n is here) ∙ map-append (λ (m : News). m.what) (filter (λ m. m.worker == w) given) (n ∷ [])
 
 pub said_same : (w : ℕ) (given all : List News) (n : News) → all ≡ given ++ n ∷ [] → (n.worker ≡ w → ⊥) → said_by w all ≡ said_by w given
 said_same w given all n is h = ap (map (λ (m : News). m.what)) (filter_same (λ m. m.worker == w) given all n is (other_test n.worker w h))
@@ -181,7 +183,7 @@ told_by calls all workers pages k w i v e p x is order at there told apart wi (i
     let same : v ≡ w = same_some (slice_get workers k) v w (ap (slice_get workers) (sym a.0) ∙ wi) at in
     let page : x ≡ told_page e p = let both = a.1 in cc in
     let more : orders_to w all ≡ orders_to w calls ++ e ∷ [] = filter_more (is_order w) calls all e is order in
-      ap (λ (y : Page). y.told) page ∙ (ap (λ (l : List Entry). l ++ e ∷ []) (told k w p at there) ∙ (sym more ∙ ap (λ (u : ℕ). orders_to u all) (sym same)))
+    ap (λ (y : Page). y.told) page ∙ (ap (λ (l : List Entry). l ++ e ∷ []) (told k w p at there) ∙ (sym more ∙ ap (λ (u : ℕ). orders_to u all) (sym same)))
 told_by calls all workers pages k w i v e p x is order at there told apart wi (inr b) =
     told i v x wi b.1 ∙ sym (others v w calls all e is order (λ same. b.0 (apart i k v wi (at ∙ ap Some (sym same)))))
 
@@ -190,7 +192,7 @@ said_so : (given : List News) (workers : List ℕ) (pages : List (Option Page)) 
     → ((i ≡ k) × (Some x ≡ Some (told_page e p))) ⊎ ((i ≡ k → ⊥) × (slice_get pages i ≡ Some (Some x))) → x.said ≡ said_by v given
 said_so given workers pages k i v e p x there said wi (inl a) =
     let page : x ≡ told_page e p = let both = a.1 in cc in
-      ap (λ (y : Page). y.said) page ∙ said i v p wi (ap (slice_get pages) a.0 ∙ there)
+    ap (λ (y : Page). y.said) page ∙ said i v p wi (ap (slice_get pages) a.0 ∙ there)
 said_so given workers pages k i v e p x there said wi (inr b) = said i v x wi b.1
 
 pub kept_told : (suite : List ℕ) (mode : ModeKind) (taken : List (Option (List LinkNews))) (calls all : List Entry) (given : List News) (workers : List ℕ) (pages next : List (Option Page)) (k w : ℕ) (e : Entry)
@@ -230,7 +232,7 @@ heard_told : (calls : List Entry) (workers : List ℕ) (pages : List (Option Pag
     → ((i ≡ k) × (Some x ≡ Some (heard_page item what p))) ⊎ ((i ≡ k → ⊥) × (slice_get pages i ≡ Some (Some x))) → x.told ≡ orders_to v calls
 heard_told calls workers pages k i v item what p x there told wi (inl a) =
     let page : x ≡ heard_page item what p = let both = a.1 in cc in
-      ap (λ (y : Page). y.told) page ∙ told i v p wi (ap (slice_get pages) a.0 ∙ there)
+    ap (λ (y : Page). y.told) page ∙ told i v p wi (ap (slice_get pages) a.0 ∙ there)
 heard_told calls workers pages k i v item what p x there told wi (inr b) = told i v x wi b.1
 
 heard_said : (given all : List News) (workers : List ℕ) (pages : List (Option Page)) (k w i v : ℕ) (item : LinkNews) (what : Option What) (p x : Page) → all ≡ given ++ option_to_list (news_of_worker w what) → slice_get workers k ≡ Some w → slice_get pages k ≡ Some (Some p)
@@ -239,7 +241,7 @@ heard_said : (given all : List News) (workers : List ℕ) (pages : List (Option 
 heard_said given all workers pages k w i v item what p x is at there said apart wi (inl a) =
     let same : v ≡ w = same_some (slice_get workers k) v w (ap (slice_get workers) (sym a.0) ∙ wi) at in
     let page : x ≡ heard_page item what p = let both = a.1 in cc in
-      ap (λ (y : Page). y.said) page ∙ (ap (λ (l : List What). l ++ option_to_list what) (said k w p at there) ∙ (sym (said_self w given all what is) ∙ ap (λ (u : ℕ). said_by u all) (sym same)))
+    ap (λ (y : Page). y.said) page ∙ (ap (λ (l : List What). l ++ option_to_list what) (said k w p at there) ∙ (sym (said_self w given all what is) ∙ ap (λ (u : ℕ). said_by u all) (sym same)))
 heard_said given all workers pages k w i v item what p x is at there said apart wi (inr b) =
     said i v x wi b.1 ∙ sym (said_other v w given all what is (λ same. b.0 (apart i k v wi (at ∙ ap Some (sym same)))))
 
@@ -430,11 +432,11 @@ given_none given all (Some n) e = tt
 
 any_said : (f : What → Bool) (w : ℕ) (given : List News) → list_any (λ n. n.worker == w && f n.what) given ≡ list_any f (said_by w given)
 any_said f w [] = refl
-any_said f w (n ∷ ns) = by (n.worker == w) refl
+any_said f w (n ∷ ns) = by (n.worker == w) refl (any_said f w ns)
   where
-    by : (b : Bool) → (n.worker == w) ≡ b → list_any (λ n. n.worker == w && f n.what) (n ∷ ns) ≡ list_any f (said_by w (n ∷ ns))
-    by true h = rw h (ap (λ (b : Bool). f n.what || b) (any_said f w ns))
-    by false h = rw h (any_said f w ns)
+    by : (b : Bool) → (n.worker == w) ≡ b → list_any (λ n. n.worker == w && f n.what) ns ≡ list_any f (said_by w ns) → list_any (λ n. n.worker == w && f n.what) (n ∷ ns) ≡ list_any f (said_by w (n ∷ ns))
+    by true h more = rw h (ap (λ (b : Bool). f n.what || b) more)
+    by false h more = rw h more
 
 and_right : (a b : Bool) → (a && b) ≡ true → b ≡ true
 and_right true b h = h
@@ -523,3 +525,21 @@ kept_told_at suite mode taken calls all given workers pages next k w e is at may
 pub breach_news : (w : ℕ) (what : Option What) (news : Option News) → news ≡ news_of_worker w what → IfSome what (λ x. is_breach x ≡ false) → IfSome news (λ n. is_breach n.what ≡ false)
 breach_news w None news is h = subst (λ (o : Option News). IfSome o (λ n. is_breach n.what ≡ false)) (sym is) tt
 breach_news w (Some x) news is h = subst (λ (o : Option News). IfSome o (λ n. is_breach n.what ≡ false)) (sym is) h
+
+-- an order has its form
+pub order_there : (w : ℕ) (e : Entry) → is_order w e ≡ true → IsSome (order_of e)
+order_there w (entry.Ready a0) h = absurd (cc h)
+order_there w (entry.Collected a0 a1) h = absurd (cc h)
+order_there w (entry.Done a0 a1 a2 a3 a4) h = absurd (cc h)
+order_there w (entry.Back a0 a1) h = absurd (cc h)
+order_there w (entry.Finished a0) h = absurd (cc h)
+order_there w (entry.Refused a0 a1) h = absurd (cc h)
+order_there w (entry.Down a0 a1 a2) h = absurd (cc h)
+order_there w (entry.NotStarted a0) h = absurd (cc h)
+order_there w (entry.Start a0 a1) h = absurd (cc h)
+order_there w (entry.Run a0 a1) h = refl
+order_there w (entry.RunAll a0) h = refl
+order_there w (entry.Steal a0 a1) h = refl
+order_there w (entry.Shutdown a0) h = refl
+order_there w (entry.Kill a0) h = absurd (cc h)
+order_there w (entry.Over a0) h = absurd (cc h)

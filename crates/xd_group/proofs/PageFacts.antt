@@ -98,13 +98,17 @@ module _ {N : Type 0} {g : _} where
 
   pub told_post : (xs : List (Option (Post N g))) (k : ℕ) (was : Option (Post N g)) (a : Post N g) → was ≡ get_or xs k was → was ≡ Some a → ∥ IsToldAt (pages_of xs) k ∥₁ → (a.is_known ≡ true) × (is_nothing (noted a.late) ≡ true) × (list_any is_end (noted a.said) ≡ false)
   told_post xs k was a at is t = (
-      yes a.is_known (λ f. ∥∥₁_elim t never (λ x. no_way a.is_known (sym (ap (λ (q : Page). q.known) (its_page xs k was a x.page at is x.at)) ∙ x.known) f)),
-      yes (is_nothing (noted a.late)) (λ f. ∥∥₁_elim t never (λ x. no_way (is_nothing (noted a.late)) (sym (ap (λ (q : Page). is_nothing q.late) (its_page xs k was a x.page at is x.at)) ∙ x.on_time) f)),
-      not_so (list_any is_end (noted a.said)) (λ f. ∥∥₁_elim t never (λ x. no_way (list_any is_end (noted a.said)) f (sym (ap (λ (q : Page). list_any is_end q.said) (its_page xs k was a x.page at is x.at)) ∙ x.going))),
-    )
+    yes a.is_known (λ f. ∥∥₁_elim t never (λ x. no_way a.is_known (sym (ap (λ (q : Page). q.known) (its_page xs k was a x.page at is x.at)) ∙ x.known) f)),
+    yes (is_nothing (noted a.late)) (λ f. ∥∥₁_elim t never (λ x. no_way (is_nothing (noted a.late)) (sym (ap (λ (q : Page). is_nothing q.late) (its_page xs k was a x.page at is x.at)) ∙ x.on_time) f)),
+    not_so (list_any is_end (noted a.said)) (λ f. ∥∥₁_elim t never (λ x. no_way (list_any is_end (noted a.said)) f (sym (ap (λ (q : Page). list_any is_end q.said) (its_page xs k was a x.page at is x.at)) ∙ x.going))),
+  )
 
   pub heard_post : (xs : List (Option (Post N g))) (k : ℕ) (was : Option (Post N g)) (a : Post N g) → was ≡ get_or xs k was → was ≡ Some a → ∥ IsHeardAt (pages_of xs) k ∥₁ → (a.is_known ≡ true) × (is_nothing (noted a.late) ≡ true)
   heard_post xs k was a at is t = (
-      yes a.is_known (λ f. ∥∥₁_elim t never (λ x. no_way a.is_known (sym (ap (λ (q : Page). q.known) (its_page xs k was a x.page at is x.at)) ∙ x.known) f)),
-      yes (is_nothing (noted a.late)) (λ f. ∥∥₁_elim t never (λ x. no_way (is_nothing (noted a.late)) (sym (ap (λ (q : Page). is_nothing q.late) (its_page xs k was a x.page at is x.at)) ∙ x.on_time) f)),
-    )
+    yes a.is_known (λ f. ∥∥₁_elim t never (λ x. no_way a.is_known (sym (ap (λ (q : Page). q.known) (its_page xs k was a x.page at is x.at)) ∙ x.known) f)),
+    yes (is_nothing (noted a.late)) (λ f. ∥∥₁_elim t never (λ x. no_way (is_nothing (noted a.late)) (sym (ap (λ (q : Page). is_nothing q.late) (its_page xs k was a x.page at is x.at)) ∙ x.on_time) f)),
+  )
+
+pub none_of : {X : Type 0} (o : Option X) → ((x : X) → o ≡ Some x → ⊥) → o ≡ None
+none_of None h = refl
+none_of (Some x) h = absurd (h x refl)

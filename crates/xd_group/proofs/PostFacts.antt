@@ -77,7 +77,7 @@ pub sent_order : (l0 l1 closed : Bool) (a b : Line) (suite : List ℕ) (mode : M
     → SentAs l0 closed a.sunk a.faults (to_link suite mode told said) → WritesOrder (order_message e) a b → SentAs l1 closed b.sunk b.faults (to_link suite mode all said)
 sent_order l0 l1 closed a b suite mode told all e said x y is runs sent w =
     subst (λ (l : Bool). SentAs l closed b.sunk b.faults (to_link suite mode all said)) (sym y)
-      (sent_by_order (order_message e) a b closed suite mode told all e said is runs refl (subst (λ (l : Bool). SentAs l closed a.sunk a.faults (to_link suite mode told said)) x sent) w)
+    (sent_by_order (order_message e) a b closed suite mode told all e said is runs refl (subst (λ (l : Bool). SentAs l closed a.sunk a.faults (to_link suite mode told said)) x sent) w)
 
 -- the call of the worker
 pub sent_call : (l1 : Bool) (a b : Line) (suite : List ℕ) (mode : ModeKind) (told : List Entry) (said : List What) → l1 ≡ b.broken → a.broken ≡ false → IfSome a.sunk (λ s. s ≡ unused) → told ≡ [] → said ≡ [] → Prints (frame (call_message suite mode)) a b
@@ -86,7 +86,7 @@ sent_call l1 a b suite mode told said y z fresh nothing none w =
     let m = call_message suite mode in
     let all : to_link suite mode told said ≡ [] ++ m ∷ [] = ap (λ (l : List Entry). to_link suite mode l said) nothing ∙ ap (λ (l : List What). to_link suite mode [] l) none in
     subst (λ (l : Bool). SentAs l false b.sunk b.faults (to_link suite mode told said)) (sym y)
-      (sent_more a.broken b.broken false a.sunk b.sunk a.faults b.faults [] (to_link suite mode told said) m all (subst (λ (l : Bool). SentAs l false a.sunk a.faults []) (sym z) (sent_none a.sunk a.faults fresh)) w.writes w.count w.later)
+    (sent_more a.broken b.broken false a.sunk b.sunk a.faults b.faults [] (to_link suite mode told said) m all (subst (λ (l : Bool). SentAs l false a.sunk a.faults []) (sym z) (sent_none a.sunk a.faults fresh)) w.writes w.count w.later)
 
 -- ---- the last news
 
@@ -116,8 +116,8 @@ pub sent_ended : (l0 l1 closed : Bool) (a b : Line) (suite : List ℕ) (mode : M
     → SentAs l0 closed a.sunk a.faults (to_link suite mode told said) → Closes (frame terminate_message) a b → SentAs l1 true b.sunk b.faults (to_link suite mode told (said ++ more))
 sent_ended l0 l1 closed a b suite mode told said more x y e runs t sent w =
     subst (λ (l : Bool). SentAs l true b.sunk b.faults (to_link suite mode told (said ++ more))) (sym y)
-      (sent_last a.broken b.broken closed a.sunk b.sunk a.faults b.faults (to_link suite mode told said) (to_link suite mode told (said ++ more)) terminate_message (link_ended suite mode told said more (sym e ∙ runs) t)
-        (subst (λ (l : Bool). SentAs l closed a.sunk a.faults (to_link suite mode told said)) x sent) w.closes w.count w.later)
+    (sent_last a.broken b.broken closed a.sunk b.sunk a.faults b.faults (to_link suite mode told said) (to_link suite mode told (said ++ more)) terminate_message (link_ended suite mode told said more (sym e ∙ runs) t)
+    (subst (λ (l : Bool). SentAs l closed a.sunk a.faults (to_link suite mode told said)) x sent) w.closes w.count w.later)
 
 pub sent_same : (l0 closed : Bool) (sunk : Option Sunk) (faults : ℕ) (suite : List ℕ) (mode : ModeKind) (told : List Entry) (said more : List What) → closed ≡ has_left said → (closed ≡ true) ⊎ (has_left more ≡ false)
     → SentAs l0 closed sunk faults (to_link suite mode told said) → SentAs l0 closed sunk faults (to_link suite mode told (said ++ more))
@@ -259,10 +259,10 @@ module _ {K : Type 0} where
         heard = heard_as m more.came ∷ s.heard;
         stands = more.stands;
         tells =
-          record {
-            taken_are = ap (λ (x : LinkNews). of_link (taken ++ x ∷ [])) is ∙ (of_more taken (Message m) refl ∙ (ap (λ (l : List LinkNews). l ++ Message m ∷ []) t.taken_are ∙ sym (map-append Message (all_messages s.heard) (m ∷ []))));
-            said_are = ap (λ (l : List What). l ++ option_to_list news) t.said_are ∙ ap (λ (o : Option What). all_news s.heard ++ option_to_list o) more.news_are;
-          };
+            record {
+              taken_are = ap (λ (x : LinkNews). of_link (taken ++ x ∷ [])) is ∙ (of_more taken (Message m) refl ∙ (ap (λ (l : List LinkNews). l ++ Message m ∷ []) t.taken_are ∙ sym (map-append Message (all_messages s.heard) (m ∷ []))));
+              said_are = ap (λ (l : List What). l ++ option_to_list news) t.said_are ∙ ap (λ (o : Option What). all_news s.heard ++ option_to_list o) more.news_are;
+            };
       }
 
   pub heard_end : (g : Gateway K) (ended b : Bool) (taken : List LinkNews) (why : LinkStop) (item : LinkNews) (said : List What) (c : Cause) → ended ≡ false → item ≡ End why → (why ≡ stop.OutOfMemory → ⊥) → IsCause why b c
@@ -274,30 +274,30 @@ module _ {K : Type 0} where
         heard = s.heard;
         stands = s.stands;
         tells =
-          record {
-            why = why;
-            cause = c;
-            later = [];
-            is_cause = cause;
-            no_want = other;
-            taken_are = ap (λ (x : LinkNews). of_link (taken ++ x ∷ [])) is ∙ (of_more taken (End why) refl ∙ ap (λ (l : List LinkNews). l ++ End why ∷ []) t.taken_are);
-            said_are = ap (λ (l : List What). l ++ what.Gone c ∷ []) t.said_are;
-          };
+            record {
+              why = why;
+              cause = c;
+              later = [];
+              is_cause = cause;
+              no_want = other;
+              taken_are = ap (λ (x : LinkNews). of_link (taken ++ x ∷ [])) is ∙ (of_more taken (End why) refl ∙ ap (λ (l : List LinkNews). l ++ End why ∷ []) t.taken_are);
+              said_are = ap (λ (l : List What). l ++ what.Gone c ∷ []) t.said_are;
+            };
       }
 
   -- what is no item of the link is no news
   pub heard_other : (g : Gateway K) (ended b : Bool) (taken : List LinkNews) (item : LinkNews) (said : List What) → ended ≡ false → is_of_link item ≡ false → HeardSo g ended b taken said → HeardSo g false b (taken ++ item ∷ []) (said ++ [])
-  heard_other g true b taken item said e no s = absurd (cc e)
-  heard_other g false b taken item said e no s =
+  heard_other g true b taken item said e other s = absurd (cc e)
+  heard_other g false b taken item said e other s =
       let t = s.tells in
-      record { heard = s.heard; stands = s.stands; tells = record { taken_are = of_same taken item no ∙ t.taken_are; said_are = append-nil said ∙ t.said_are } }
+      record { heard = s.heard; stands = s.stands; tells = record { taken_are = of_same taken item other ∙ t.taken_are; said_are = append-nil said ∙ t.said_are } }
 
   -- until a worker is heard to have ended, channel 1 can be sent on
   pub can_tell : (g : Gateway K) (ended b : Bool) (taken : List LinkNews) (said late : List What) → is_nothing late ≡ true → list_any is_end said ≡ false → HeardSo g ended b taken (said ++ late) → send_refusal (slot_of (side_of g) 1) ≡ None
   can_tell g false b taken said late z going s =
       let all : said ≡ all_news s.heard = sym (said_alone said late z) ∙ s.tells.said_are in
-        can_be_told g s.heard s.stands (none_of is_end is_last not_last (all_news s.heard) (sym (ap (list_any is_end) all) ∙ going))
+      can_be_told g s.heard s.stands (none_of is_end is_last not_last (all_news s.heard) (sym (ap (list_any is_end) all) ∙ going))
   can_tell g true b taken said late z going s =
       let all : said ≡ all_news s.heard ++ what.Gone s.tells.cause ∷ [] = sym (said_alone said late z) ∙ s.tells.said_are in
       let both : true ≡ false = sym (ends_here (all_news s.heard) s.tells.cause) ∙ (sym (ap (list_any is_end) all) ∙ going) in
-        absurd (cc both)
+      absurd (cc both)

@@ -43,7 +43,7 @@ apart (p ∷ put) (m ∷ ms) why done rest e =
     let tail : map Message put ++ End done ∷ [] ≡ map Message ms ++ End why ∷ rest = cc e in
     let head : p ≡ m = cc e in
     let more = apart put ms why done rest tail in
-      (ap (λ (x : MessageView). x ∷ put) head ∙ ap (λ (l : List MessageView). m ∷ l) more.0, more.1)
+    (ap (λ (x : MessageView). x ∷ put) head ∙ ap (λ (l : List MessageView). m ∷ l) more.0, more.1)
 
 over_zero : (f0 f1 : ℕ) → Rose f0 f1 → 0 < f1
 over_zero f0 zero r = absurd (omega (arith, r (omega arith)))
@@ -92,7 +92,7 @@ link_run now sunk writes p read ends =
     let all = read.puts in
     let ms = all_messages ends.heard in
     let taken : of_link (p.taken ++ read.later) ≡ map Message ms ++ End t.why ∷ (t.later ++ of_link read.later) =
-      filter-append is_of_link p.taken read.later ∙ (ap (λ (l : List LinkNews). l ++ of_link read.later) t.taken_are ∙ append_assoc (map Message ms) (End t.why ∷ t.later) (of_link read.later)) in
+    filter-append is_of_link p.taken read.later ∙ (ap (λ (l : List LinkNews). l ++ of_link read.later) t.taken_are ∙ append_assoc (map Message ms) (End t.why ∷ t.later) (of_link read.later)) in
     let same = apart all.put ms t.why all.stop (t.later ++ of_link read.later) (sym (all_of_link all.put all.stop) ∙ (ap of_link (sym all.comes ∙ read.begins) ∙ taken)) in
     let other = λ (e : all.stop ≡ stop.OutOfMemory). t.no_want (sym same.1 ∙ e) in
     let at = all.reads.cause in
@@ -101,14 +101,14 @@ link_run now sunk writes p read ends =
       bytes = bytes;
       given = given_so bytes read.first.supply now.supply read.fresh all.reads.gave;
       heard =
-        record {
-          all = all_news ends.heard;
-          why = t.cause;
-          are = record { heard = ends.heard; are = ends.are; messages_are = sym same.0 ∙ all.reads.all; news_are = refl };
-          gone = is_gone t.why ends.broken t.cause bytes read.first now writes t.no_want (subst (λ (w : LinkStop). StopsAt w true bytes read.first now) same.1 at) (λ b. (ends.sent.part b).0) t.is_cause;
-          later = p.late;
-          first = sym t.said_are;
-        };
+          record {
+            all = all_news ends.heard;
+            why = t.cause;
+            are = record { heard = ends.heard; are = ends.are; messages_are = sym same.0 ∙ all.reads.all; news_are = refl };
+            gone = is_gone t.why ends.broken t.cause bytes read.first now writes t.no_want (subst (λ (w : LinkStop). StopsAt w true bytes read.first now) same.1 at) (λ b. (ends.sent.part b).0) t.is_cause;
+            later = p.late;
+            first = sym t.said_are;
+          };
       read = to_stop all.stop bytes read.first now other at;
       sent = sent_so ends.broken (has_left p.said) sunk writes (to_link p.suite p.mode p.told p.said) ends.sent;
     }

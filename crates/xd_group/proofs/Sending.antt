@@ -44,14 +44,14 @@ still_part (Some s) s1 all more e p = subst (λ (o : Option Sunk). IfSome o (λ 
 first_part : (l all more : List ℕ) (n : ℕ) → n ≤ length more → l ≡ all ++ take n more → l ≡ take (length l) (all ++ more)
 first_part l all more n h e =
     let size : length l ≡ length all + n = ap length e ∙ length-append all (take n more) ∙ ap (λ (k : ℕ). length all + k) (length-take-le n more h) in
-      e ∙ sym (take-append-add all more n) ∙ ap (λ (k : ℕ). take k (all ++ more)) (sym size)
+    e ∙ sym (take-append-add all more n) ∙ ap (λ (k : ℕ). take k (all ++ more)) (sym size)
 
 now_part : (s0 s1 : Option Sunk) (all more : List ℕ) (closed : Bool) → IfSome s0 (λ s. s ≡ record { bytes = all; flushed = length all; closed = closed }) → PrintedPart more s0 s1
     → IfSome s1 (λ s. s.bytes ≡ take (length s.bytes) (all ++ more))
 now_part None s1 all more closed w p = subst (λ (o : Option Sunk). IfSome o (λ s. s.bytes ≡ take (length s.bytes) (all ++ more))) (sym p.2.1) tt
 now_part (Some s) s1 all more closed w p =
     subst (λ (o : Option Sunk). IfSome o (λ s. s.bytes ≡ take (length s.bytes) (all ++ more))) (sym p.2.1)
-      (first_part (s.bytes ++ take p.0 more) all more p.0 p.1 (ap (λ (t : Sunk). t.bytes ++ take p.0 more) w))
+    (first_part (s.bytes ++ take p.0 more) all more p.0 p.1 (ap (λ (t : Sunk). t.bytes ++ take p.0 more) w))
 
 pub sent_more : (b0 b1 closed : Bool) (s0 s1 : Option Sunk) (f0 f1 : ℕ) (ms all : List MessageView) (m : MessageView) → all ≡ ms ++ m ∷ [] → SentAs b0 closed s0 f0 ms
     → WritesMore b0 b1 (frame m) s0 s1 → CountBehind b0 b1 f0 f1 → f0 ≤ f1 → SentAs b1 closed s1 f1 all

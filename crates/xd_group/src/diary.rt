@@ -25,6 +25,7 @@ impl Diary {
     pub fn new(alloc: Global) -> Result<Diary, OutOfMemory>
         ensures calls { IfOk result (λ d. noted d.calls ≡ []) }
         ensures given { IfOk result (λ d. noted d.given ≡ []) }
+        ensures workers { IfOk result (λ d. d.workers.items ≡ []) }
     {
         let calls = Log::new(alloc)?;
         let given = Log::new(alloc)?;

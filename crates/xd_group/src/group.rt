@@ -42,11 +42,7 @@ pub struct Step {
 fn cut_at<N: Sink + Drop>(posts: &mut Vec<Option<Post<N>>>, at: usize, is_cut: bool) -> Option<u32>
     ensures { pages_of posts.new.items ≡ pages_of posts.old.items }
 {
-    if is_cut {
-        kill_at(posts, at)
-    } else {
-        None
-    }
+    if is_cut { kill_at(posts, at) } else { None }
 }
 
 impl<S: Source + Drop, N: Sink + Drop, C: Crew<Reader<S>>> Group<S, N, C> {
@@ -61,7 +57,12 @@ impl<S: Source + Drop, N: Sink + Drop, C: Crew<Reader<S>>> Group<S, N, C> {
     ghost use Rattle.xd_group.specs.Pages.{taken_of, page_opened};
 
     /// Tells a worker. Gives the number of its link, where a write failed and it is to be killed.
-    pub fn say(&mut self, alloc: Global, worker: u32, order: &Entry) -> Result<Option<u32>, OutOfMemory>
+    pub fn say(
+        &mut self,
+        alloc: Global,
+        worker: u32,
+        order: &Entry,
+    ) -> Result<Option<u32>, OutOfMemory>
         requires order { is_order worker order.now ≡ true }
         requires told { may_tell (marks_told (noted self.old.diary.calls) (noted self.old.diary.given) worker) ≡ true }
         ensures called { OnOk result (noted self.new.diary.calls ≡ noted self.old.diary.calls ++ order.now ∷ []) }
@@ -123,7 +124,15 @@ impl<S: Source + Drop, N: Sink + Drop, C: Crew<Reader<S>>> Group<S, N, C> {
     }
 
     // Calls the worker, where its link is read.
-    fn call(posts: &mut Vec<Option<Post<N>>>, alloc: Global, is_read: bool, link: u32, sink: N, suite: &Text, mode: ModeKind) -> Result<(), OutOfMemory>
+    fn call(
+        posts: &mut Vec<Option<Post<N>>>,
+        alloc: Global,
+        is_read: bool,
+        link: u32,
+        sink: N,
+        suite: &Text,
+        mode: ModeKind,
+    ) -> Result<(), OutOfMemory>
         requires nothing_taken { IfSome (N.sunk sink) (λ s. s ≡ unused) }
         requires short { length (encode_utf8_all suite.now) ≤ 65536 }
         ensures { OnOk result (pages_of posts.new.items ≡ pages_of posts.old.items ++ page_opened suite.now mode is_read ∷ []) }
@@ -136,7 +145,15 @@ impl<S: Source + Drop, N: Sink + Drop, C: Crew<Reader<S>>> Group<S, N, C> {
     }
 
     /// Starts a worker at a link that was started. Says whether the link is read.
-    pub fn open(&mut self, alloc: Global, worker: u32, slot: u32, link: u32, source: S, sink: N) -> Result<bool, OutOfMemory>
+    pub fn open(
+        &mut self,
+        alloc: Global,
+        worker: u32,
+        slot: u32,
+        link: u32,
+        source: S,
+        sink: N,
+    ) -> Result<bool, OutOfMemory>
         requires new { was_started worker (noted self.old.diary.calls) ≡ false }
         requires nothing_given { IfSome (S.supply source) (λ s. s.given ≡ []) }
         requires nothing_taken { IfSome (N.sunk sink) (λ s. s ≡ unused) }
@@ -151,7 +168,15 @@ impl<S: Source + Drop, N: Sink + Drop, C: Crew<Reader<S>>> Group<S, N, C> {
             return Err(OutOfMemory);
         };
         let is_read = Self::read(&mut self.links, source)?;
-        Self::call(&mut self.posts, alloc, is_read, link, sink, &self.suite, self.mode)?;
+        Self::call(
+            &mut self.posts,
+            alloc,
+            is_read,
+            link,
+            sink,
+            &self.suite,
+            self.mode,
+        )?;
         self.diary.note_start(worker, slot)?;
         self.diary.refuse(number, is_read)?;
         self.is_whole = was_whole;

@@ -253,10 +253,20 @@ impl<N: Sink + Drop> Post<N> {
     {
         self.is_known = false;
         self.taken.note(&item);
-        let Judged { news, is_ended } = judge(&mut self.gateway, self.is_ended, self.is_lost, item)?;
+        let Judged { news, is_ended } = judge(
+            &mut self.gateway,
+            self.is_ended,
+            self.is_lost,
+            item,
+        )?;
         self.is_ended = is_ended;
         note_heard(&mut self.said, &news);
-        let Ended { is_closed, is_lost } = end_behind(&mut self.gateway, self.is_closed, self.is_lost, &news);
+        let Ended { is_closed, is_lost } = end_behind(
+            &mut self.gateway,
+            self.is_closed,
+            self.is_lost,
+            &news,
+        );
         self.is_closed = is_closed;
         self.is_lost = is_lost;
         self.is_known = true;
@@ -276,7 +286,12 @@ impl<N: Sink + Drop> Post<N> {
     {
         self.is_known = false;
         self.taken.note(&item);
-        let Judged { news, is_ended } = judge(&mut self.gateway, self.is_ended, self.is_lost, item)?;
+        let Judged { news, is_ended } = judge(
+            &mut self.gateway,
+            self.is_ended,
+            self.is_lost,
+            item,
+        )?;
         self.is_ended = is_ended;
         note_heard(&mut self.late, &news);
         self.is_known = true;

@@ -25,7 +25,12 @@ pub fn has_post<N: Sink + Drop>(posts: &[Option<Post<N>>], at: usize) -> bool
 }
 
 /// Tells an order to the link at the place. Says whether a write failed, now or before.
-pub fn tell_at<N: Sink + Drop>(posts: &mut Vec<Option<Post<N>>>, alloc: Global, at: usize, order: &Entry) -> Result<bool, OutOfMemory>
+pub fn tell_at<N: Sink + Drop>(
+    posts: &mut Vec<Option<Post<N>>>,
+    alloc: Global,
+    at: usize,
+    order: &Entry,
+) -> Result<bool, OutOfMemory>
     requires order { IsSome (order_of order.now) }
     requires told { ∥ IsToldAt (pages_of posts.old.items) at ∥₁ }
     ensures { OnOk result (ToldAt order.now at (pages_of posts.old.items) (pages_of posts.new.items)) }
@@ -41,7 +46,11 @@ pub fn tell_at<N: Sink + Drop>(posts: &mut Vec<Option<Post<N>>>, alloc: Global, 
 }
 
 /// Takes an item of the link at the place.
-pub fn hear_at<N: Sink + Drop>(posts: &mut Vec<Option<Post<N>>>, at: usize, item: LinkNews) -> Result<HeardNews, OutOfMemory>
+pub fn hear_at<N: Sink + Drop>(
+    posts: &mut Vec<Option<Post<N>>>,
+    at: usize,
+    item: LinkNews,
+) -> Result<HeardNews, OutOfMemory>
     requires heard { ∥ IsHeardAt (pages_of posts.old.items) at ∥₁ }
     ensures heard { IfOk result (λ r. HeardAt item r.what at (pages_of posts.old.items) (pages_of posts.new.items)) }
     ensures no_breach { IfOk result (λ r. IfSome r.what (λ x. is_breach x ≡ false)) }
@@ -57,7 +66,14 @@ pub fn hear_at<N: Sink + Drop>(posts: &mut Vec<Option<Post<N>>>, at: usize, item
 }
 
 /// Adds a link that was called.
-pub fn push_post<N: Sink + Drop>(posts: &mut Vec<Option<Post<N>>>, alloc: Global, link: u32, sink: N, suite: &Text, mode: ModeKind) -> Result<(), OutOfMemory>
+pub fn push_post<N: Sink + Drop>(
+    posts: &mut Vec<Option<Post<N>>>,
+    alloc: Global,
+    link: u32,
+    sink: N,
+    suite: &Text,
+    mode: ModeKind,
+) -> Result<(), OutOfMemory>
     requires nothing_taken { IfSome (N.sunk sink) (λ s. s ≡ unused) }
     requires short { length (encode_utf8_all suite.now) ≤ 65536 }
     ensures { OnOk result (pages_of posts.new.items ≡ pages_of posts.old.items ++ page_opened suite.now mode true ∷ []) }
@@ -104,9 +120,18 @@ fn leave<N: Sink + Drop>(post: Post<N>) -> Option<Left<N>>
     if !post.is_ended {
         return None;
     }
-    let Post { link, gateway, is_killed, .. } = post;
+    let Post {
+        link,
+        gateway,
+        is_killed,
+        ..
+    } = post;
     let sink = gateway.into_sink();
-    Some(Left { link, sink, is_killed })
+    Some(Left {
+        link,
+        sink,
+        is_killed,
+    })
 }
 
 /// Takes the link at the place, where it is known to have ended.

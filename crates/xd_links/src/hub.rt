@@ -38,7 +38,8 @@ impl<S: Source + Drop, C: Crew<Reader<S>>> Links<S, C> {
     ghost use Rattle.xd_reader.specs.declared.news.LinkNews.{LinkNews};
 
     pub fn new(alloc: Global, crew: C) -> Result<Links<S, C>, OutOfMemory>
-        ensures { IfOk result (λ r. (news_of (mails r.desk) ≡ []) × (sources_of C.job_of r.handles.items ≡ [])) }
+        ensures none { IfOk result (λ r. (news_of (mails r.desk) ≡ []) × (sources_of C.job_of r.handles.items ≡ [])) }
+        ensures crew { IfOk result (λ r. r.crew ≡ crew) }
     {
         let bell = Bell::new(alloc)?;
         Ok(Links {

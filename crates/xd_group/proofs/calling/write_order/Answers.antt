@@ -9,4 +9,4 @@ returns-in-Ok-clause-writes g c e is can =
 
 pub returns-in-Err-SendFault-clause-writes : goal.returns-in-Err-SendFault-clause-writes
 returns-in-Err-SendFault-clause-writes g c e is can =
-    order_written g.N.Sink.sunk g.N.Sink.faults c.args.gateway.now c.say.new.self (Err c.in-Err-SendFault.field-0) (view c.args.value.now) e c.in-Err-SendFault.ensures.broken c.in-Err-SendFault.ensures.says is can (λ z. not_memory c.in-Err-SendFault.field-0 (Err c.in-Err-SendFault.field-0) c.in-Err-SendFault.is refl z)
+    order_written g.N.Sink.sunk g.N.Sink.faults c.args.gateway.now c.say.new.self (Err c.in-Err-SendFault.field-0) (view c.args.value.now) e c.in-Err-SendFault.ensures.broken c.in-Err-SendFault.ensures.says is can (λ z. not_memory c.in-Err-SendFault.field-0 (Err c.in-Err-SendFault.field-0) c.in-Err-SendFault.field-0-is refl z)

@@ -1,6 +1,22 @@
-use Rattle.xd_group.proofs.PageFacts.{post_heard, heard_post, past_heard, none_heard}
+use Rattle.std.proofs.Common.{◌≤◌, length, rules}
+use Rattle.xd_group.proofs.PageFacts.{post_heard, heard_post, past_heard, none_heard, none_of}
 use Rattle.xd_group.proofs.posts.hear_at.Goals as goal
 
 pub returns-clause-heard : goal.returns-clause-heard
 returns-clause-heard g c p there =
     post_heard c.args.posts.now.items c.args.at c.index_mut.result.now c.in-Some.post c.hear.new.self c.args.item c.in_ok-heard.heard.what p c.index_mut.ensures.value c.in-Some.is c.in_ok-heard.ensures.same c.in_ok-heard.ensures.taken c.in_ok-heard.ensures.said c.in_ok-heard.ensures.late c.in_ok-heard.ensures.known there
+
+pub unreachable-requires : goal.unreachable-requires
+unreachable-requires g c =
+    let xs = c.args.posts.now.items in
+    let past : length xs ≤ c.args.at = search rules in
+    past_heard xs c.args.at past c.requires.heard
+
+pub unreachable-requires-in_default : goal.unreachable-requires-in_default
+unreachable-requires-in_default g c = none_heard c.args.posts.now.items c.args.at c.index_mut.result.now c.index_mut.ensures.value (none_of c.index_mut.result.now c.in_default.not-Some) c.requires.heard
+
+pub hear-requires-clause-known : goal.hear-requires-clause-known
+hear-requires-clause-known g c = (heard_post c.args.posts.now.items c.args.at c.index_mut.result.now c.in-Some.post c.index_mut.ensures.value c.in-Some.is c.requires.heard).0
+
+pub hear-requires-clause-on_time : goal.hear-requires-clause-on_time
+hear-requires-clause-on_time g c = (heard_post c.args.posts.now.items c.args.at c.index_mut.result.now c.in-Some.post c.index_mut.ensures.value c.in-Some.is c.requires.heard).1

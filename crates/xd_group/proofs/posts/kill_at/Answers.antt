@@ -7,4 +7,4 @@ pub returns-in-Some : goal.returns-in-Some
 returns-in-Some g c =
     let xs = c.args.posts.now.items in
     let within : c.args.at < length xs = search rules in
-      post_same xs c.args.at c.index_mut.result.now c.in-Some.post c.kill.new.self c.index_mut.ensures.value c.in-Some.is (slice_get_read xs (length xs) c.args.at c.index_mut.result.now refl within c.index_mut.ensures.value) c.kill.ensures.same c.kill.ensures.told c.kill.ensures.said c.kill.ensures.known
+    post_same xs c.args.at c.index_mut.result.now c.in-Some.post c.kill.new.self c.index_mut.ensures.value c.in-Some.is (slice_get_read xs (length xs) c.args.at c.index_mut.result.now refl within c.index_mut.ensures.value) c.kill.ensures.same c.kill.ensures.told c.kill.ensures.said c.kill.ensures.known

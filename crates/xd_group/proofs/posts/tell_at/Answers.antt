@@ -1,6 +1,25 @@
-use Rattle.xd_group.proofs.PageFacts.{post_told, told_post, past_told, none_told}
+use Rattle.std.proofs.Common.{◌≤◌, length, rules}
+use Rattle.xd_group.proofs.PageFacts.{post_told, told_post, past_told, none_told, none_of}
 use Rattle.xd_group.proofs.posts.tell_at.Goals as goal
 
 pub returns : goal.returns
 returns g c p there =
     post_told c.args.posts.now.items c.args.at c.index_mut.result.now c.in-Some.post c.tell.new.self c.args.order.now p c.index_mut.ensures.value c.in-Some.is c.in_ok-is_lost.ensures.same c.in_ok-is_lost.ensures.told c.in_ok-is_lost.ensures.said c.in_ok-is_lost.ensures.known there
+
+pub unreachable-requires : goal.unreachable-requires
+unreachable-requires g c =
+    let xs = c.args.posts.now.items in
+    let past : length xs ≤ c.args.at = search rules in
+    past_told xs c.args.at past c.requires.told
+
+pub unreachable-requires-in_default : goal.unreachable-requires-in_default
+unreachable-requires-in_default g c = none_told c.args.posts.now.items c.args.at c.index_mut.result.now c.index_mut.ensures.value (none_of c.index_mut.result.now c.in_default.not-Some) c.requires.told
+
+pub tell-requires-clause-known : goal.tell-requires-clause-known
+tell-requires-clause-known g c = (told_post c.args.posts.now.items c.args.at c.index_mut.result.now c.in-Some.post c.index_mut.ensures.value c.in-Some.is c.requires.told).0
+
+pub tell-requires-clause-on_time : goal.tell-requires-clause-on_time
+tell-requires-clause-on_time g c = (told_post c.args.posts.now.items c.args.at c.index_mut.result.now c.in-Some.post c.index_mut.ensures.value c.in-Some.is c.requires.told).1
+
+pub tell-requires-clause-going : goal.tell-requires-clause-going
+tell-requires-clause-going g c = (told_post c.args.posts.now.items c.args.at c.index_mut.result.now c.in-Some.post c.index_mut.ensures.value c.in-Some.is c.requires.told).2

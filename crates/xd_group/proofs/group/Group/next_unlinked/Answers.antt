@@ -17,8 +17,8 @@ invariant_of-self-2 g c =
     record {
       short = was.short;
       kept = λ e. ∥∥₁_map (was.kept e)
-        (λ k. rw (c.note_news.ensures.calls, c.note_news.ensures.workers, c.in-Some.ensures.calls, c.in-Some.ensures.workers)
+          (λ k. rw (c.note_news.ensures.calls, c.note_news.ensures.workers, c.in-Some.ensures.calls, c.in-Some.ensures.workers)
           (kept_unlinked was.suite was.mode (news_of (mails was.links.desk)) (noted was.diary.calls) (noted was.diary.given) _ was.diary.workers.items (pages_of was.posts.items) c.in-Some.number n refl
-            (c.note_news.ensures.given ∙ ap (λ (l : List News). l ++ n ∷ []) c.in-Some.ensures.given)
-            (rw (← c.in-Some.ensures.workers) c.in-Some-worker_at.ensures.at) (rw (← c.in-Some.ensures.calls) c.in-Some-worker_at.ensures.started) (rw (← c.deref.ensures.value) (c.is_without.ensures c.if-not-is_without.false)) k));
+          (c.note_news.ensures.given ∙ ap (λ (l : List News). l ++ n ∷ []) c.in-Some.ensures.given)
+          (rw (← c.in-Some.ensures.workers) c.in-Some-worker_at.ensures.at) (rw (← c.in-Some.ensures.calls) c.in-Some-worker_at.ensures.started) (rw (← c.deref.ensures.value) (c.is_without.ensures c.if-not-is_without.false)) k));
     }

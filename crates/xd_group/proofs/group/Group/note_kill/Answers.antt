@@ -14,6 +14,6 @@ invariant_of-self g c =
     record {
       short = was.short;
       kept = λ e. ∥∥₁_map (was.kept e)
-        (λ k. rw (c.note_call.ensures.given, c.note_call.ensures.workers)
+          (λ k. rw (c.note_call.ensures.given, c.note_call.ensures.workers)
           (kept_called was.suite was.mode (news_of (mails was.links.desk)) (noted was.diary.calls) _ (noted was.diary.given) was.diary.workers.items (pages_of was.posts.items) (Kill c.args.worker) c.note_call.ensures.calls (λ v. refl) (λ v. refl) k));
     }

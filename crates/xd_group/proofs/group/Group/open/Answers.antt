@@ -12,7 +12,7 @@ invariant_of-self-2 g c =
     record {
       short = was.short;
       kept = λ e. ∥∥₁_map (was.kept e)
-        (λ k. rw (c.in_ok-refuse.ensures.calls, c.in_ok-refuse.ensures.given, c.in_ok-refuse.ensures.workers, c.in_ok-note_start.ensures.given)
+          (λ k. rw (c.in_ok-refuse.ensures.calls, c.in_ok-refuse.ensures.given, c.in_ok-refuse.ensures.workers, c.in_ok-note_start.ensures.given)
           (kept_started was.suite was.mode (news_of (mails was.links.desk)) _ (noted was.diary.calls) _ (noted was.diary.given) was.diary.workers.items _ (pages_of was.posts.items) _ c.args.worker c.args.slot c.in_ok-is_read.is_read
-            c.in_ok-note_start.ensures.calls c.requires.new was.diary.known c.in_ok-note_start.ensures.workers (c.in_ok-is_read.ensures was.suite was.mode) c.in_ok-call.ensures k));
+          c.in_ok-note_start.ensures.calls c.requires.new was.diary.known c.in_ok-note_start.ensures.workers (c.in_ok-is_read.ensures was.suite was.mode) c.in_ok-call.ensures k));
     }

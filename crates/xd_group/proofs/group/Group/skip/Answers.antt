@@ -13,7 +13,7 @@ invariant_of-self-2 g c =
     record {
       short = was.short;
       kept = λ e. ∥∥₁_map (was.kept e)
-        (λ k. rw (c.in_ok-refuse.ensures.calls, c.in_ok-refuse.ensures.given, c.in_ok-refuse.ensures.workers, c.in_ok-note_start.ensures.given)
+          (λ k. rw (c.in_ok-refuse.ensures.calls, c.in_ok-refuse.ensures.given, c.in_ok-refuse.ensures.workers, c.in_ok-note_start.ensures.given)
           (kept_started was.suite was.mode (news_of (mails was.links.desk)) _ (noted was.diary.calls) _ (noted was.diary.given) was.diary.workers.items _ (pages_of was.posts.items) _ c.args.worker c.args.slot false
-            c.in_ok-note_start.ensures.calls c.requires.new was.diary.known c.in_ok-note_start.ensures.workers c.in_ok-skip.ensures.news c.in_ok-push_none.ensures k));
+          c.in_ok-note_start.ensures.calls c.requires.new was.diary.known c.in_ok-note_start.ensures.workers c.in_ok-skip.ensures.news c.in_ok-push_none.ensures k));
     }

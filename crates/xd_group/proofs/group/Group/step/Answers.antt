@@ -3,15 +3,25 @@ use Rattle.xd_links.specs.Runs.{news_of}
 use Rattle.xd_note.specs.Noted.{noted}
 use Rattle.xd_post.specs.Mails.{mails}
 use Rattle.xd_group.specs.PostView.{pages_of}
-use Rattle.xd_group.proofs.Keeping.{heard_at, kept_heard, news_started, given_some, given_none, breach_news}
+use Rattle.xd_group.proofs.Keeping.{heard_at, kept_heard, news_started, given_some, given_none, breach_news, worker_there}
+use Rattle.xd_group.proofs.PageFacts.{never}
 use Rattle.xd_group.proofs.group.Group.step.Goals as goal
 
 pub hear_at-requires : goal.hear_at-requires
 hear_at-requires g c =
     let was = c.args.self.now in
     let took = c.next-number.ensures.news in
-      ∥∥₁_map (was.kept c.if-not-self.false)
-        (λ k. heard_at was.suite was.mode (news_of (mails was.links.desk)) (noted was.diary.calls) (noted was.diary.given) was.diary.workers.items (pages_of was.posts.items) c.next-number.result.0 took.0 took.1 k)
+    record {
+      heard = ∥∥₁_map (was.kept c.if-not-self.false)
+          (λ k. heard_at was.suite was.mode (news_of (mails was.links.desk)) (noted was.diary.calls) (noted was.diary.given) was.diary.workers.items (pages_of was.posts.items) c.next-number.result.0 took.0 took.1 k);
+    }
+
+pub unreachable-requires : goal.unreachable-requires
+unreachable-requires g c =
+    let was = c.args.self.now in
+    let took = c.next-number.ensures.news in
+    ∥∥₁_elim (was.kept c.if-not-self.false) never
+    (λ k. worker_there was.suite was.mode (news_of (mails was.links.desk)) (noted was.diary.calls) (noted was.diary.given) was.diary.workers.items (pages_of was.posts.items) c.next-number.result.0 took.0 took.1 c.in_default.ensures.none k)
 
 pub invariant_of-self-2 : goal.invariant_of-self-2
 invariant_of-self-2 g c =
@@ -20,9 +30,9 @@ invariant_of-self-2 g c =
     record {
       short = was.short;
       kept = λ e. ∥∥₁_map (was.kept c.if-not-self.false)
-        (λ k. rw (c.note_what-news.ensures.calls, c.note_what-news.ensures.workers, c.cut_at.ensures)
+          (λ k. rw (c.note_what-news.ensures.calls, c.note_what-news.ensures.workers, c.cut_at-cut.ensures)
           (kept_heard was.suite was.mode (news_of (mails was.links.desk)) _ (noted was.diary.calls) (noted was.diary.given) _ was.diary.workers.items (pages_of was.posts.items) _ c.next-number.result.0 c.in-Some.worker c.next-number.result.1 c.in_ok-heard.heard.what c.note_what-news.result took.0
-            took.1 took.2 c.in-Some.ensures.at c.in-Some.ensures.started c.in_ok-heard.ensures.heard c.note_what-news.ensures.is c.note_what-news.ensures.given k));
+          took.1 took.2 c.in-Some.ensures.at c.in-Some.ensures.started c.in_ok-heard.ensures.heard c.note_what-news.ensures.is c.note_what-news.ensures.given k));
     }
 
 pub returns-clause-started : goal.returns-clause-started

@@ -15,8 +15,8 @@ invariant_of-self-2 g c =
       lost = λ e. was.lost known ∙ sym c.in_ok-news.ensures.broken;
       closed = λ e. was.closed known;
       heard = λ e. ∥∥₁_map (was.heard known)
-        (λ h. rw (c.note.ensures, c.note_heard.ensures)
-          (subst (λ (l : List What). HeardSo c.judge.new.gateway c.in_ok-news.is_ended was.is_lost (noted was.taken ++ c.args.item ∷ []) l) (append_assoc said (noted was.late) (option_to_list c.in_ok-news.news))
-            (c.in_ok-news.ensures.hears (noted was.taken) (said ++ noted was.late) h)));
+          (λ h. rw (c.note.ensures, c.note_heard.ensures)
+          (subst (λ (l : List What). HeardSo c.judge.new.gateway c.in_ok-news.field-0.is_ended was.is_lost (noted was.taken ++ c.args.item ∷ []) l) (append_assoc said (noted was.late) (option_to_list c.in_ok-news.field-0.news))
+          (c.in_ok-news.ensures.hears (noted was.taken) (said ++ noted was.late) h)));
       sent = λ e. ∥∥₁_map (was.sent known) (λ s. rw (c.in_ok-news.ensures.sink) s);
     }

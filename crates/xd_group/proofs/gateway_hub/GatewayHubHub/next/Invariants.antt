@@ -1,0 +1,13 @@
+use Rattle.std.proofs.Common.{◌≡◌}
+use Rattle.xd_note.specs.Noted.{noted}
+use Rattle.xd_group.proofs.gateway_hub.GatewayHubHub.next.Given as goal
+
+abbrev pub invariant-loop : goal.invariant-loop
+invariant-loop g l = record {
+  calls : noted l.self.group.diary.calls ≡ noted l.fn.self.group.diary.calls;
+  given : noted l.self.group.diary.given ≡ noted l.fn.self.group.diary.given;
+  places : l.self.places ≡ l.fn.self.places;
+  suite : l.self.group.suite ≡ l.fn.self.group.suite;
+  mode : l.self.group.mode ≡ l.fn.self.group.mode;
+  whole : l.self.group.is_whole ≡ l.fn.self.group.is_whole;
+}
