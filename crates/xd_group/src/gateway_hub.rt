@@ -17,20 +17,11 @@ use std::alloc::Global;
 use std::sync::Wait;
 use xd_crew::Crew;
 use xd_drive::Hub;
-use xd_edge::{ModeKind, OutOfMemory, Sink, Text};
+use xd_edge::{ModeKind, OutOfMemory, Text};
 use xd_journal::{Entry, News};
-use xd_link::{Place, Source, StartFault, Started, Starter};
+use xd_link::{Place, StartFault, Started, Starter};
 use xd_links::Links;
 use xd_reader::Reader;
-
-/// What a link left: its worker, its two directions, and whether its kill was asked for.
-#[derive(Drop)]
-pub struct LinkEnd<A: Source + Drop, B: Sink + Drop> {
-    pub worker: u32,
-    pub source: A,
-    pub sink: B,
-    pub killed: bool,
-}
 
 /// A hub whose workers are at the end of links. A worker of slot s is started at the place of number s, and called to run
 /// the tests of the suite by the mode. It owns the starter and the crew; who is done with it takes it apart.
@@ -100,19 +91,6 @@ impl<St: Starter, C: Crew<Reader<St::Src>>> GatewayHub<St, C> {
         let Step { news, cut } = self.group.step(rt)?;
         self.kill_cut(cut);
         Ok(news)
-    }
-
-    /// Reads each link to its end, joins its reader, reaps its child, and gives what the links left, in order of the starts
-    /// of their workers.
-    pub fn finish<R: Wait>(
-        &mut self,
-        _rt: &R,
-        _alloc: Global,
-    ) -> Result<Vec<LinkEnd<St::Src, St::Snk>>, OutOfMemory>
-        ensures runs { IfOk result (λ ends. All (λ l. ∥ LinkRun self.old.group.suite self.old.group.mode (said_by l.worker (noted self.old.group.diary.given)) (orders_to l.worker (noted self.old.group.diary.calls))
-            (link_of (spring (St.Src.supply l.source) (St.Src.is_ended l.source) (St.Src.faults l.source)) (St.Snk.sunk l.sink) (St.Snk.faults l.sink)) ∥₁) ends.items) }
-    {
-        Err(OutOfMemory)
     }
 }
 

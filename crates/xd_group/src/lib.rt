@@ -10,5 +10,5 @@ mod post;
 mod posts;
 
 pub use diary::Diary;
-pub use gateway_hub::{GatewayHub, LinkEnd};
+pub use gateway_hub::GatewayHub;
 pub use group::Group;
