@@ -1,5 +1,5 @@
 -- What the words behind the program's name ask for. The options are pytest-xdist's; the rest is a choice of this project.
-use Rattle.std.specs.Prelude.{ℕ, ◌==◌, nat_le, Bool, true, false, ◌&&◌, ◌||◌, not, List, [], ◌∷◌, length, if◌then◌else◌, codes}
+use Rattle.std.specs.Prelude.{ℕ, ◌+◌, ◌-◌, ◌*◌, ◌==◌, nat_le, nat_lt, Bool, true, false, ◌&&◌, ◌||◌, not, List, [], ◌∷◌, length, Option, Some, None, if◌then◌else◌, codes}
 use Rattle.std.specs.Str.{bytes_eq, encode_utf8_all}
 use Rattle.xdrun.specs.declared.words.Plan.{Plan}
 use Rattle.xdrun.specs.declared.words.Plan.TheVariants.{Local, Wire, Worker, BadWords}
@@ -22,6 +22,29 @@ is_command word = is_word word (codes "worker") || is_word word (codes "socketse
 
 abbrev pub is_suite : List ℕ → Bool
 is_suite word = is_path word && not (is_command word)
+
+-- a decimal digit, by its byte
+abbrev pub digit_of : ℕ → Option ℕ
+digit_of b = if nat_le 48 b && nat_le b 57 then Some (b - 48) else None
+
+-- two digits without a leading zero, up to the 32 workers that a run may have
+abbrev pub two_digits : Option ℕ → Option ℕ → Option ℕ
+two_digits (Some tens) (Some ones) = if nat_lt 0 tens && nat_le (10 * tens + ones) 32 then Some (10 * tens + ones) else None
+two_digits _ _ = None
+
+abbrev pub count_in : List ℕ → Option ℕ
+count_in (ones ∷ []) = digit_of ones
+count_in (tens ∷ ones ∷ []) = two_digits (digit_of tens) (digit_of ones)
+count_in _ = None
+
+-- the number of workers that a word gives
+abbrev pub count_of : List ℕ → Option ℕ
+count_of word = count_in (encode_utf8_all word)
+
+-- the number of workers of SUITE -n K
+abbrev pub workers_named : List (List ℕ) → Option ℕ
+workers_named (suite ∷ option ∷ count ∷ []) = if is_suite suite && is_word option (codes "-n") then count_of count else None
+workers_named _ = None
 
 -- what the words ask for
 abbrev pub plan_of : List (List ℕ) → Plan

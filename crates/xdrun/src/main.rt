@@ -2,6 +2,7 @@
 #![tactic(auto)]
 
 mod child;
+mod linked;
 mod local;
 mod named;
 mod refusal;
@@ -11,6 +12,7 @@ mod words;
 mod worker;
 
 pub use child::run_child;
+pub use linked::run_over;
 pub use local::run_suite;
 pub use refusal::Refusal;
 use std::alloc::Global;

@@ -1,6 +1,6 @@
 // What the words behind the program's name ask for.
-ghost use Rattle.std.specs.Prelude.{◌≡◌, IfOk};
-ghost use Rattle.xdrun.specs.Words.{begins_with_dash, is_command, is_path, is_suite, is_word, plan_of};
+ghost use Rattle.std.specs.Prelude.{◌≡◌, ◌<◌, IfOk, IfSome};
+ghost use Rattle.xdrun.specs.Words.{begins_with_dash, count_of, digit_of, is_command, is_path, is_suite, is_word, plan_of, two_digits, workers_named};
 
 use xd_edge::{OutOfMemory, Text};
 
@@ -33,6 +33,49 @@ pub fn plan_of(words: &[Text]) -> Result<Plan, OutOfMemory>
             Ok(Plan::Local { suite })
         }
         _ => Ok(Plan::BadWords),
+    }
+}
+
+/// The number of workers that `SUITE -n K` names, 0 to 32.
+pub fn workers_named(words: &[Text]) -> Option<u32>
+    ensures { result ≡ workers_named words.now }
+{
+    match words {
+        [suite, option, count] if is_suite(suite) && is_word(option, "-n") => count_of(count),
+        _ => None,
+    }
+}
+
+// A number from 0 to 32, in decimal digits without a leading zero.
+fn count_of(word: &Text) -> Option<u32>
+    ensures { result ≡ count_of word.now }
+{
+    match word.as_str().as_bytes() {
+        [ones] => digit_of(*ones),
+        [tens, ones] => two_digits(digit_of(*tens), digit_of(*ones)),
+        _ => None,
+    }
+}
+
+fn two_digits(tens: Option<u32>, ones: Option<u32>) -> Option<u32>
+    requires tens { IfSome tens (λ n. n < 10) }
+    requires ones { IfSome ones (λ n. n < 10) }
+    ensures { result ≡ two_digits tens ones }
+{
+    match (tens, ones) {
+        (Some(tens), Some(ones)) if tens > 0 && 10 * tens + ones <= 32 => Some(10 * tens + ones),
+        _ => None,
+    }
+}
+
+fn digit_of(byte: u8) -> Option<u32>
+    ensures digit { result ≡ digit_of byte }
+    ensures small { IfSome result (λ n. n < 10) }
+{
+    if byte >= b'0' && byte <= b'9' {
+        Some(u32::from(byte - b'0'))
+    } else {
+        None
     }
 }
 
