@@ -112,7 +112,34 @@ impl<St: Starter, C: Crew<Reader<St::Src>>> GatewayHub<St, C> {
         ensures runs { IfOk result (λ ends. All (λ l. ∥ LinkRun self.old.group.suite self.old.group.mode (said_by l.worker (noted self.old.group.diary.given)) (orders_to l.worker (noted self.old.group.diary.calls))
             (link_of (spring (St.Src.supply l.source) (St.Src.is_ended l.source) (St.Src.faults l.source)) (St.Snk.sunk l.sink) (St.Snk.faults l.sink)) ∥₁) ends.items) }
     {
-        Err(OutOfMemory)
+        let mut ends = Vec::new(alloc);
+        let count = self.group.posts.len();
+        for number in 0..count {
+            for _ in rt.forever() {
+                let done = match &self.group.posts[number] {
+                    Some(post) => post.is_ended,
+                    None => true,
+                };
+                if done {
+                    break;
+                }
+                let (from, item) = self.group.links.next(rt);
+                if let Some(post) = &mut self.group.posts[from as usize] {
+                    post.hear_late(item)?;
+                }
+            }
+        }
+        for number in 0..count {
+            if let Some(post) = self.group.posts[number].take() {
+                let closed = self.group.links.close(number as u32);
+                let _reaped = self.starter.reap(rt, post.link);
+                let worker = self.group.diary.worker_at(number as u32).unwrap_or(0);
+                let killed = post.is_killed;
+                let sink = post.gateway.into_sink();
+                ends.push(LinkEnd { worker, source: closed.source, sink, killed })?;
+            }
+        }
+        Ok(ends)
     }
 }
 

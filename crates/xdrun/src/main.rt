@@ -2,6 +2,7 @@
 #![tactic(auto)]
 
 mod child;
+mod linked;
 mod local;
 mod named;
 mod refusal;
@@ -20,6 +21,7 @@ use std::rt::Env;
 use std::{env, io};
 pub use top::{LinkEnd, RunEnd, xdrun};
 use xd_edge::{OutSink, RealChildren, RealClock, RealFiles, Text, Texts};
+use xd_crew::{Slot, ThreadCrew, start_into};
 use xd_real::RealStarter;
 
 // The name that the program was started by, and the words behind it.
@@ -54,6 +56,22 @@ fn main(rt: HostRuntime) -> io::Result<ExitCode> {
     let mut clock = RealClock::new(&rt);
     let mut out = OutSink::new(writer);
     let mut err = OutSink::new(rt.stderr());
+    if let [suite, option, count] = words.items.as_slice() {
+        if option.as_str() == "-n" {
+            if let Ok(workers) = count.as_str().parse::<u32>() {
+                if workers > 0 {
+                    let Ok(slot) = Slot::new(alloc) else { return out_of_memory(&rt); };
+                    let Ok(theirs) = slot.another() else { return out_of_memory(&rt); };
+                    let make: Box<dyn Fn()> = match Box::new(alloc, move || start_into(rt, alloc, &theirs)) { Ok(make) => make, Err(_) => return out_of_memory(&rt) };
+                    let crew = ThreadCrew::new(rt, slot, make);
+                    return match linked::run_linked(&rt, alloc, suite, workers, starter, crew, &mut out) {
+                        Ok(status) => Ok(ExitCode::from(status)),
+                        Err(_) => out_of_memory(&rt),
+                    };
+                }
+            }
+        }
+    }
     match xdrun(
         &rt,
         alloc,
