@@ -1,6 +1,6 @@
 -- What is written to a worker: its call and its orders.
-use Rattle.std.proofs.Common.{◌≡◌, ◌≤◌, ℕ, List, [], ◌∷◌, Bool, true, false, ◌||◌, Option, Some, None, option_map, Result, Ok, Err, length, refl, sym, ◌∙◌, ap, subst, arith}
-use Rattle.std.specs.Prelude.{◌==◌, option_and_then, codes, if◌then◌else◌}
+use Rattle.std.proofs.Common.{◌≡◌, ◌≤◌, ℕ, List, [], ◌∷◌, Bool, true, false, Option, Some, None, option_map, Result, Ok, Err, length, refl, sym, ◌∙◌, ap, subst, arith}
+use Rattle.std.specs.Prelude.{option_and_then, codes}
 use Rattle.std.specs.Str.{chars, encode_utf8_all}
 use Rattle.std.proofs.lemmas.Bool.{eq-eqb}
 use Rattle.std.proofs.lemmas.Map.Entries.{length-keys_of}
@@ -33,7 +33,7 @@ use Rattle.xd_remote.specs.declared.gateway.Gateway.{Gateway}
 use Rattle.xd_remote.specs.Calls.{Wanted, call_tree, exec_by, exec_message, exec_wanted, item_message, item_wanted, kwargs_of, open_refusal, opening_wanted, say_wanted}
 use Rattle.xd_remote.specs.Line.{Line, Prints, Says}
 use Rattle.xd_remote.specs.Stands.{IsNew}
-use Rattle.xd_remote.specs.View.{IsLost, PrintsOn, SaysOn, channels_of, is_broken, line_of, side_of}
+use Rattle.xd_remote.specs.View.{IsLost, SaysOn, is_broken, line_of, side_of}
 use Rattle.xd_report.specs.Names.{mode_text}
 use Rattle.xd_group.specs.Orders.{WritesOrder}
 use Rattle.xd_group.specs.ToLink.{call_kwargs, call_message, order_message, payload_message}

@@ -1,6 +1,6 @@
 -- One link, where something was taken of it, told to it or said of it.
 use Rattle.std.proofs.Common.{◌≡◌, ℕ, List, [], ◌∷◌, ◌++◌, Bool, true, false, ◌||◌, Option, Some, None, map, option_to_list, refl, sym, ◌∙◌, ap, subst, append_assoc, append-nil, inl, inr}
-use Rattle.std.specs.Prelude.{◌⊎◌, IfSome, filter}
+use Rattle.std.specs.Prelude.{◌⊎◌, IfSome}
 use Rattle.std.specs.List.{list_any, filter_map}
 use Rattle.std.proofs.lemmas.List.{map-append}
 use Rattle.std.proofs.lemmas.List.Elements.{filter-append, filter_map-append}
@@ -25,7 +25,7 @@ use Rattle.xd_remote.specs.Calls.{terminate_message}
 use Rattle.xd_remote.specs.Line.{Closes, Line, Prints}
 use Rattle.xd_remote.specs.News.{Heard, all_messages, all_news}
 use Rattle.xd_remote.specs.Stands.{HearsMore, IsOfMessage, StandsFor, heard_as}
-use Rattle.xd_remote.specs.Told.{has_last, is_last}
+use Rattle.xd_remote.specs.Told.{is_last}
 use Rattle.xd_remote.specs.View.{side_of}
 use Rattle.xd_remote.specs.declared.gateway.Gateway.{Gateway}
 use Rattle.xd_remote.proofs.Telling.{can_be_told}

@@ -1,38 +1,29 @@
 -- The run of a link that ended, from what its reader put and what its post kept.
-use Rattle.std.proofs.Common.{◌≡◌, ◌≤◌, ◌<◌, ℕ, zero, suc, List, [], ◌∷◌, ◌++◌, length, take, map, Bool, true, false, Option, Some, None, refl, sym, ◌∙◌, ap, subst, arith, inl, inr, append-nil, append_assoc}
-use Rattle.std.specs.Prelude.{◌⊎◌, IfSome}
+use Rattle.std.proofs.Common.{◌≡◌, ◌<◌, ℕ, zero, suc, List, [], ◌∷◌, ◌++◌, length, take, map, Bool, true, false, Option, Some, None, refl, sym, ◌∙◌, ap, subst, arith, inl, inr, append_assoc}
+use Rattle.std.specs.Prelude.{IfSome}
 use Rattle.std.proofs.Math.Seq.{take-length}
 use Rattle.xd_edge.specs.Sink.{Sunk}
 use Rattle.xd_edge.specs.Faults.{Rose}
 use Rattle.xd_frame.specs.Message.{MessageView, frames}
-use Rattle.xd_link.specs.Source.{Supply, Gave, with_given}
+use Rattle.xd_link.specs.Source.{Supply, Gave}
 use Rattle.xd_journal.specs.declared.entry.Cause.{Cause}
-use Rattle.xd_journal.specs.declared.entry.Cause.TheVariants as cause
-use Rattle.xd_journal.specs.declared.entry.Entry.{Entry}
-use Rattle.xd_journal.specs.declared.news.What.{What}
-use Rattle.xd_journal.specs.declared.news.What.TheVariants.{Gone}
 use Rattle.xd_links.specs.Runs.{LinkRead}
 use Rattle.xd_reader.specs.declared.news.LinkNews.{LinkNews}
 use Rattle.xd_reader.specs.declared.news.LinkNews.TheVariants.{Message, End}
 use Rattle.xd_reader.specs.declared.news.LinkStop.{LinkStop}
 use Rattle.xd_reader.specs.declared.news.LinkStop.TheVariants as stop
-use Rattle.xd_reader.specs.Judged.{link_messages, link_stop}
-use Rattle.xd_link.specs.Spring.{ReadToEnd, Spring}
+use Rattle.xd_link.specs.Spring.{Spring}
 use Rattle.xd_reader.specs.Reads.{StopsAt}
-use Rattle.xd_remote.specs.News.{AreHeard, Heard, IsNewsOf, all_messages, all_news}
+use Rattle.xd_remote.specs.News.{all_messages, all_news}
 use Rattle.xd_group.specs.ToLink.{has_left, to_link}
 use Rattle.xd_group.specs.Sent.{SentAs}
-use Rattle.xd_edge.specs.declared.mode.ModeKind.{ModeKind}
 use Rattle.xd_group.specs.Heard.{is_of_link, of_link}
 use Rattle.std.proofs.lemmas.List.Elements.{filter-append}
 use Rattle.xd_group.specs.Ends.{EndsSo}
-use Rattle.xd_group.specs.Heard.{HeardSo, IsCause, TellsEnded, plain_cause}
-use Rattle.xd_group.specs.LinkRun.{HeardAll, IsGone, LinkRun, link_of, ReadToStop, SentSo, is_garbled}
-use Rattle.xd_group.specs.Pages.{Page, taken_of}
-use Rattle.xd_group.specs.Kept.{Kept, said_by, orders_to}
-use Rattle.xd_journal.specs.declared.news.News.{News}
+use Rattle.xd_group.specs.Heard.{HeardSo, IsCause, plain_cause}
+use Rattle.xd_group.specs.LinkRun.{IsGone, LinkRun, link_of, ReadToStop, SentSo, is_garbled}
+use Rattle.xd_group.specs.Pages.{Page}
 use Rattle.xd_remote.specs.declared.gateway.Gateway.{Gateway}
-use Rattle.std.specs.Prelude.{slice_get}
 
 -- messages and then an end come apart in one way
 apart : (put ms : List MessageView) (why done : LinkStop) (rest : List LinkNews) → map Message put ++ End done ∷ [] ≡ map Message ms ++ End why ∷ rest → (put ≡ ms) × (done ≡ why)

@@ -5,7 +5,7 @@ use Rattle.std.proofs.Math.Seq.{take-append-add}
 use Rattle.std.proofs.lemmas.List.{append-nil, take-append-le, length-take, length-take-le}
 use Rattle.std.proofs.lemmas.Grind.{flat_map-append}
 use Rattle.xd_edge.specs.Faults.{Rose}
-use Rattle.xd_edge.specs.Sink.{Sunk, with_bytes, with_flush, with_close, with_flushed, Printed, PrintedPart}
+use Rattle.xd_edge.specs.Sink.{Sunk, with_bytes, with_flush, with_close, Printed, PrintedPart}
 use Rattle.xd_frame.specs.Message.{MessageView, frame, frames}
 use Rattle.xd_frame.specs.Writing.{CountBehind, WritesMore}
 use Rattle.xd_remote.specs.Line.{ClosesMore}

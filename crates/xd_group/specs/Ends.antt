@@ -1,5 +1,5 @@
 -- What is known of a link that ended.
-use Rattle.std.specs.Prelude.{◌≡◌, ◌++◌, ℕ, Bool, List, Option}
+use Rattle.std.specs.Prelude.{◌++◌, ℕ, Bool, List, Option}
 use Rattle.xd_edge.specs.Sink.{Sunk}
 use Rattle.xd_remote.specs.News.{AreHeard, Heard}
 use Rattle.xd_group.specs.Heard.{TellsEnded}

@@ -1,4 +1,3 @@
-use Rattle.std.proofs.Common.{sym}
 use Rattle.xd_group.proofs.group.Group.kill_link.Goals as goal
 
 pub invariant_of-self : goal.invariant_of-self

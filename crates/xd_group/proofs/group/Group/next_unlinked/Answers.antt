@@ -1,4 +1,4 @@
-use Rattle.std.proofs.Common.{sym, ◌∙◌, ap, List, refl}
+use Rattle.std.proofs.Common.{◌∙◌, ap, List, refl}
 use Rattle.std.specs.Prelude.{◌++◌, ◌∷◌, []}
 use Rattle.std.proofs.Math.Logic.{∥∥₁_map}
 use Rattle.xd_links.specs.Runs.{news_of}

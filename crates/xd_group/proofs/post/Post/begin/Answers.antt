@@ -1,4 +1,4 @@
-use Rattle.std.proofs.Common.{sym, ◌∙◌, ap, List}
+use Rattle.std.proofs.Common.{sym, ap, List}
 use Rattle.xd_journal.specs.declared.news.What.{What}
 use Rattle.xd_remote.specs.View.{line_of}
 use Rattle.xd_group.specs.ToLink.{has_left}

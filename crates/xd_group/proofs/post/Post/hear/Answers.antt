@@ -1,4 +1,4 @@
-use Rattle.std.proofs.Common.{sym, ◌∙◌, ap, subst, List}
+use Rattle.std.proofs.Common.{sym, ◌∙◌, subst, List}
 use Rattle.std.specs.Prelude.{◌++◌, ◌∷◌, [], option_to_list}
 use Rattle.std.proofs.Math.Logic.{∥∥₁_map}
 use Rattle.xd_journal.specs.declared.news.What.{What}
