@@ -1,4 +1,5 @@
 pub mod Calls
+pub mod Ending
 pub mod Keeping
 pub mod Known
 pub mod PageFacts

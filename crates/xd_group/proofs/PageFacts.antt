@@ -13,6 +13,7 @@ use Rattle.xd_edge.specs.declared.mode.ModeKind.{ModeKind}
 use Rattle.xd_drive.specs.Marks.{is_end}
 use Rattle.xd_note.specs.Noted.{noted}
 use Rattle.xd_reader.specs.declared.news.LinkNews.{LinkNews}
+use Rattle.xd_group.specs.Late.{IsLateAt, late_page}
 use Rattle.xd_group.specs.Pages.{Page, HasPage, IsHeardAt, IsToldAt, is_nothing, told_page, heard_page}
 use Rattle.xd_group.specs.PostView.{page_by, page_of, pages_of}
 use Rattle.xd_group.specs.declared.post.Post.{Post}
@@ -108,6 +109,21 @@ module _ {N : Type 0} {g : _} where
     yes a.is_known (λ f. ∥∥₁_elim t never (λ x. no_way a.is_known (sym (ap (λ (q : Page). q.known) (its_page xs k was a x.page at is x.at)) ∙ x.known) f)),
     yes (is_nothing (noted a.late)) (λ f. ∥∥₁_elim t never (λ x. no_way (is_nothing (noted a.late)) (sym (ap (λ (q : Page). is_nothing q.late) (its_page xs k was a x.page at is x.at)) ∙ x.on_time) f)),
   )
+
+  pub post_late : (xs : List (Option (Post N g))) (k : ℕ) (was : Option (Post N g)) (a b : Post N g) (item : LinkNews) (p : Page) → was ≡ get_or xs k was → was ≡ Some a
+      → (b.suite ≡ a.suite) × (b.mode ≡ a.mode) × (noted b.told ≡ noted a.told) → noted b.taken ≡ noted a.taken ++ item ∷ [] → noted b.said ≡ noted a.said → b.is_known ≡ true → slice_get (pages_of xs) k ≡ Some (Some p)
+      → pages_of (slice_set xs k (Some b)) ≡ slice_set (pages_of xs) k (Some (late_page item (noted b.late) p))
+  post_late xs k was a b item p at is m t s h there =
+      map-set page_of xs k (Some b) ∙ ap (λ (q : Page). slice_set (pages_of xs) k (Some q)) (same_page _ _ _ _ _ _ _ _ _ _ _ _ _ _ (ap (λ (x : _). x.value) m.0) m.1 t m.2 s refl h ∙ ap (late_page item (noted b.late)) (sym (its_page xs k was a p at is there)))
+
+  pub past_late : (xs : List (Option (Post N g))) (k : ℕ) → length xs ≤ k → ∥ IsLateAt (pages_of xs) k ∥₁ → ⊥
+  past_late xs k l t = ∥∥₁_elim t never (λ x. past_page xs k x.page l x.at)
+
+  pub none_late : (xs : List (Option (Post N g))) (k : ℕ) (was : Option (Post N g)) → was ≡ get_or xs k was → was ≡ None → ∥ IsLateAt (pages_of xs) k ∥₁ → ⊥
+  none_late xs k was at is t = ∥∥₁_elim t never (λ x. no_page xs k was x.page at is x.at)
+
+  pub late_post : (xs : List (Option (Post N g))) (k : ℕ) (was : Option (Post N g)) (a : Post N g) → was ≡ get_or xs k was → was ≡ Some a → ∥ IsLateAt (pages_of xs) k ∥₁ → a.is_known ≡ true
+  late_post xs k was a at is t = yes a.is_known (λ f. ∥∥₁_elim t never (λ x. no_way a.is_known (sym (ap (λ (q : Page). q.known) (its_page xs k was a x.page at is x.at)) ∙ x.known) f))
 
 pub none_of : {X : Type 0} (o : Option X) → ((x : X) → o ≡ Some x → ⊥) → o ≡ None
 none_of None h = refl

@@ -1,6 +1,7 @@
 pub mod Ends
 pub mod Heard
 pub mod Kept
+pub mod Late
 pub mod LinkRun
 pub mod Orders
 pub mod Pages

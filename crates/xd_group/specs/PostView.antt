@@ -1,5 +1,5 @@
 -- The page of a post.
-use Rattle.std.specs.Prelude.{List, Option, Some, None, map}
+use Rattle.std.specs.Prelude.{Bool, true, List, Option, Some, None, map}
 use Rattle.xd_note.specs.Noted.{noted}
 use Rattle.xd_group.specs.Pages.{Page}
 use Rattle.xd_group.specs.declared.post.Post.{Post}
@@ -14,3 +14,8 @@ module _ {N : Type 0} {g : _} where
 
   abbrev pub pages_of : List (Option (Post N g)) → List (Option Page)
   pages_of posts = map page_of posts
+
+  -- nothing more is to come of a link, or there is none
+  abbrev pub has_ended : Option (Post N g) → Bool
+  has_ended None = true
+  has_ended (Some p) = p.is_ended

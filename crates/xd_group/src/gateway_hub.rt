@@ -1,5 +1,5 @@
 // The hub over the links that a starter starts and a crew reads.
-ghost use Rattle.std.specs.Prelude.{◌≡◌, ◌≤◌, ◌<◌, ◌∷◌, ◌++◌, [], ℕ, Some, All, true, false, length, vec_len, IfOk, IfSome, IfNone, OnOk};
+ghost use Rattle.std.specs.Prelude.{◌≡◌, ◌≤◌, ◌<◌, ◌∷◌, ◌++◌, [], ℕ, Some, All, true, false, length, vec_len, IfOk, IfSome, IfNone, OnOk, List, Option, map};
 ghost use Rattle.std.specs.Str.{encode_utf8_all};
 ghost use Rattle.xd_journal.specs.declared.entry.Entry.TheVariants.{Start, Kill};
 ghost use Rattle.xd_link.specs.Spring.{spring};
@@ -7,12 +7,21 @@ ghost use Rattle.xd_drive.specs.Calls.{is_order};
 ghost use Rattle.xd_drive.specs.Listed.{starts_of, others_of};
 ghost use Rattle.xd_drive.specs.Marks.{is_breach, may_tell};
 ghost use Rattle.xd_note.specs.Noted.{noted};
-ghost use Rattle.xd_group.specs.Kept.{orders_to, said_by};
+ghost use Rattle.xd_journal.specs.declared.entry.Entry.{Entry};
+ghost use Rattle.xd_journal.specs.declared.news.News.{News};
+ghost use Rattle.xd_reader.specs.declared.news.LinkNews.{LinkNews};
+ghost use Rattle.xd_edge.specs.declared.mode.ModeKind.{ModeKind};
+ghost use Rattle.xd_post.specs.Mails.{mails};
+ghost use Rattle.xd_links.specs.Runs.{news_of};
+ghost use Rattle.xd_group.specs.Kept.{Kept, orders_to, said_by};
+ghost use Rattle.xd_group.specs.Late.{Late, Settled, settled_at};
 ghost use Rattle.xd_group.specs.LinkRun.{LinkRun, link_of};
+ghost use Rattle.xd_group.specs.Pages.{Page};
+ghost use Rattle.xd_group.specs.PostView.{pages_of};
 ghost use Rattle.xd_group.specs.Tells.{IsStarted, marks_told};
 
 use crate::diary::Diary;
-use crate::group::{Group, Step};
+use crate::group::{Ended, Group, LinkEnd, Step};
 use std::alloc::Global;
 use std::sync::Wait;
 use xd_crew::Crew;
@@ -91,6 +100,52 @@ impl<St: Starter, C: Crew<Reader<St::Src>>> GatewayHub<St, C> {
         let Step { news, cut } = self.group.step(rt)?;
         self.kill_cut(cut);
         Ok(news)
+    }
+
+    // Ends the link of this number, where it has one: its child is reaped.
+    fn end_next<R: Wait>(
+        &mut self,
+        rt: &R,
+        number: u32,
+        ends: &mut Vec<LinkEnd<St::Src, St::Snk>>,
+    ) -> Result<(), OutOfMemory>
+        requires over { self.old.group.is_whole ≡ false }
+        ensures runs { (suite : List ℕ) (mode : ModeKind) (taken : List (Option (List LinkNews))) (calls : List Entry) (given : List News) (pages : List (Option Page))
+            → ∥ Kept suite mode taken calls given self.old.group.diary.workers.items pages ∥₁
+            → ∥ Late (map settled_at pages) (news_of (mails self.old.group.links.desk)) (pages_of self.old.group.posts.items) ∥₁
+            → All (λ l. ∥ LinkRun suite mode (said_by l.worker given) (orders_to l.worker calls) (link_of (spring (St.Src.supply l.source) (St.Src.is_ended l.source) (St.Src.faults l.source)) (St.Snk.sunk l.sink) (St.Snk.faults l.sink)) ∥₁) ends.old.items
+            → OnOk result (All (λ l. ∥ LinkRun suite mode (said_by l.worker given) (orders_to l.worker calls) (link_of (spring (St.Src.supply l.source) (St.Src.is_ended l.source) (St.Src.faults l.source)) (St.Snk.sunk l.sink) (St.Snk.faults l.sink)) ∥₁) ends.new.items) }
+        ensures late { (first : List (Option Settled)) → ∥ Late first (news_of (mails self.old.group.links.desk)) (pages_of self.old.group.posts.items) ∥₁
+            → OnOk result (∥ Late first (news_of (mails self.new.group.links.desk)) (pages_of self.new.group.posts.items) ∥₁) }
+        ensures over { self.new.group.is_whole ≡ false }
+        ensures diary { self.new.group.diary ≡ self.old.group.diary }
+    {
+        if let Some(Ended { link, end }) = self.group.end_link(number)? {
+            let _reaped = self.starter.reap(rt, link);
+            ends.push(end)?;
+        }
+        Ok(())
+    }
+
+    /// Reads each link to its stop, joins its reader, reaps its child, and gives what the links left, in order of the starts
+    /// of their workers. From then on the hub is only to be taken apart.
+    pub fn finish<R: Wait>(
+        &mut self,
+        rt: &R,
+        alloc: Global,
+    ) -> Result<Vec<LinkEnd<St::Src, St::Snk>>, OutOfMemory>
+        ensures runs { IfOk result (λ ends. All (λ l. ∥ LinkRun self.old.group.suite self.old.group.mode (said_by l.worker (noted self.old.group.diary.given)) (orders_to l.worker (noted self.old.group.diary.calls))
+            (link_of (spring (St.Src.supply l.source) (St.Src.is_ended l.source) (St.Src.faults l.source)) (St.Snk.sunk l.sink) (St.Snk.faults l.sink)) ∥₁) ends.items) }
+    {
+        let Ok(count) = u32::try_from(self.group.posts.len()) else {
+            return Err(OutOfMemory);
+        };
+        self.group.settle(rt)?;
+        let mut ends = Vec::new(alloc);
+        for number in 0..count {
+            self.end_next(rt, number, &mut ends)?;
+        }
+        Ok(ends)
     }
 }
 

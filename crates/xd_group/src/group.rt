@@ -9,14 +9,17 @@ ghost use Rattle.xd_group.specs.PostView.{pages_of};
 
 use crate::diary::Diary;
 use crate::post::Post;
-use crate::posts::{hear_at, is_without, kill_at, push_none, push_post, tell_at};
+use crate::posts::{
+    Left, have_ended, hear_at, hear_late_at, is_without, kill_at, leave_at, push_none, push_post,
+    tell_at,
+};
 use std::alloc::Global;
 use std::sync::Wait;
 use xd_crew::Crew;
 use xd_edge::{ModeKind, OutOfMemory, Sink, Text};
 use xd_journal::{Entry, News, What};
 use xd_link::Source;
-use xd_links::Links;
+use xd_links::{Closed, Links};
 use xd_reader::Reader;
 
 /// All links of a hub. It is not whole behind want of memory.
@@ -29,6 +32,22 @@ pub struct Group<S: Source + Drop, N: Sink + Drop, C: Crew<Reader<S>>> {
     pub is_whole: bool,
     ghost short: { length (encode_utf8_all suite) ≤ 65536 },
     ghost kept: { is_whole ≡ true → ∥ Kept suite mode (news_of (mails links.desk)) (noted diary.calls) (noted diary.given) diary.workers.items (pages_of posts.items) ∥₁ },
+}
+
+/// What a link left: its worker, its two directions, and whether its kill was asked for.
+#[derive(Drop)]
+pub struct LinkEnd<A: Source + Drop, B: Sink + Drop> {
+    pub worker: u32,
+    pub source: A,
+    pub sink: B,
+    pub killed: bool,
+}
+
+/// What a link left, and its number at the starter.
+#[derive(Drop)]
+pub struct Ended<A: Source + Drop, B: Sink + Drop> {
+    pub link: u32,
+    pub end: LinkEnd<A, B>,
 }
 
 /// A piece of news, where there is one, and the number of a link that is to be killed, since a write failed.
@@ -46,7 +65,7 @@ fn cut_at<N: Sink + Drop>(posts: &mut Vec<Option<Post<N>>>, at: usize, is_cut: b
 }
 
 impl<S: Source + Drop, N: Sink + Drop, C: Crew<Reader<S>>> Group<S, N, C> {
-    ghost use Rattle.std.specs.Prelude.{◌≡◌, ◌≤◌, ◌∷◌, ◌++◌, [], ℕ, List, true, false, length, OnOk, IfOk, IfSome, IfNone};
+    ghost use Rattle.std.specs.Prelude.{◌≡◌, ◌≤◌, ◌∷◌, ◌++◌, [], ℕ, List, Option, Some, true, false, map, length, slice_get, OnOk, IfOk, IfSome, IfNone, IsSome};
     ghost use Rattle.xd_edge.specs.declared.mode.ModeKind.{ModeKind};
     ghost use Rattle.xd_drive.specs.Calls.{is_order};
     ghost use Rattle.xd_drive.specs.Marks.{is_breach, may_tell};
@@ -55,6 +74,9 @@ impl<S: Source + Drop, N: Sink + Drop, C: Crew<Reader<S>>> Group<S, N, C> {
     ghost use Rattle.xd_link.specs.FreshLink.{unused};
     ghost use Rattle.xd_journal.specs.declared.entry.Entry.TheVariants.{Start, Kill};
     ghost use Rattle.xd_group.specs.Pages.{taken_of, page_opened};
+    ghost use Rattle.xd_group.specs.Late.{Late, RanAt, Settled, settled_at};
+    ghost use Rattle.xd_group.specs.LinkRun.{link_of};
+    ghost use Rattle.xd_link.specs.Spring.{spring};
 
     /// Tells a worker. Gives the number of its link, where a write failed and it is to be killed.
     pub fn say(
@@ -263,5 +285,115 @@ impl<S: Source + Drop, N: Sink + Drop, C: Crew<Reader<S>>> Group<S, N, C> {
         };
         self.diary.note_news(&news);
         Some(news)
+    }
+
+    // Takes an item of a link when nothing is told and nothing said any more.
+    fn take_late<R: Wait>(
+        rt: &R,
+        links: &mut Links<S, C>,
+        posts: &mut Vec<Option<Post<N>>>,
+    ) -> Result<(), OutOfMemory>
+        requires late { (first : List (Option Settled)) × ∥ Late first (news_of (mails links.old.desk)) (pages_of posts.old.items) ∥₁ }
+        ensures late { (first : List (Option Settled)) → ∥ Late first (news_of (mails links.old.desk)) (pages_of posts.old.items) ∥₁
+            → OnOk result (∥ Late first (news_of (mails links.new.desk)) (pages_of posts.new.items) ∥₁) }
+    {
+        let (number, item) = links.next(rt);
+        hear_late_at(posts, number as usize, item)?;
+        Ok(())
+    }
+
+    // Takes from the links until nothing more is to come of any.
+    fn drain<R: Wait>(
+        rt: &R,
+        links: &mut Links<S, C>,
+        posts: &mut Vec<Option<Post<N>>>,
+    ) -> Result<(), OutOfMemory>
+        requires late { (first : List (Option Settled)) × ∥ Late first (news_of (mails links.old.desk)) (pages_of posts.old.items) ∥₁ }
+        ensures late { (first : List (Option Settled)) → ∥ Late first (news_of (mails links.old.desk)) (pages_of posts.old.items) ∥₁
+            → OnOk result (∥ Late first (news_of (mails links.new.desk)) (pages_of posts.new.items) ∥₁) }
+    {
+        for _ in rt.forever() {
+            if have_ended(posts) {
+                return Ok(());
+            }
+            Self::take_late(rt, links, posts)?;
+        }
+        unreachable!()
+    }
+
+    /// Takes from the links until nothing more is to come of any. From now on nothing is told and nothing said.
+    pub fn settle<R: Wait>(&mut self, rt: &R) -> Result<(), OutOfMemory>
+        ensures late { OnOk result (∥ Late (map settled_at (pages_of self.old.posts.items)) (news_of (mails self.new.links.desk)) (pages_of self.new.posts.items) ∥₁) }
+        ensures whole { OnOk result (self.old.is_whole ≡ true) }
+        ensures over { OnOk result (self.new.is_whole ≡ false) }
+        ensures diary { self.new.diary ≡ self.old.diary }
+    {
+        if !self.is_whole {
+            return Err(OutOfMemory);
+        }
+        self.is_whole = false;
+        Self::drain(rt, &mut self.links, &mut self.posts)?;
+        Ok(())
+    }
+
+    // Closes a link of which nothing more is to come.
+    fn close(
+        links: &mut Links<S, C>,
+        posts: &mut Vec<Option<Post<N>>>,
+        number: u32,
+        worker: u32,
+    ) -> Option<Ended<S, N>>
+        ensures ran { (first : List (Option Settled)) → ∥ Late first (news_of (mails links.old.desk)) (pages_of posts.old.items) ∥₁
+            → IfSome result (λ e. ∥ RanAt first number (link_of (spring (S.supply e.end.source) (S.is_ended e.end.source) (S.faults e.end.source)) (N.sunk e.end.sink) (N.faults e.end.sink)) ∥₁) }
+        ensures late { (first : List (Option Settled)) → ∥ Late first (news_of (mails links.old.desk)) (pages_of posts.old.items) ∥₁
+            → IsSome result → ∥ Late first (news_of (mails links.new.desk)) (pages_of posts.new.items) ∥₁ }
+        ensures worker { IfSome result (λ e. e.end.worker ≡ worker) }
+    {
+        if !links.has_link(number) {
+            return None;
+        }
+        let Some(
+            Left {
+                link,
+                sink,
+                is_killed,
+            },
+        ) = leave_at(posts, number as usize)
+        else {
+            return None;
+        };
+        let Closed { source, rest: _ } = links.close(number);
+        Some(Ended {
+            link,
+            end: LinkEnd {
+                worker,
+                source,
+                sink,
+                killed: is_killed,
+            },
+        })
+    }
+
+    /// Closes the link of this number, and gives what it left; `None` where the number has none.
+    pub fn end_link(&mut self, number: u32) -> Result<Option<Ended<S, N>>, OutOfMemory>
+        requires over { self.old.is_whole ≡ false }
+        ensures ran { (first : List (Option Settled)) → ∥ Late first (news_of (mails self.old.links.desk)) (pages_of self.old.posts.items) ∥₁
+            → IfOk result (λ r. IfSome r (λ e. ∥ RanAt first number (link_of (spring (S.supply e.end.source) (S.is_ended e.end.source) (S.faults e.end.source)) (N.sunk e.end.sink) (N.faults e.end.sink)) ∥₁)) }
+        ensures late { (first : List (Option Settled)) → ∥ Late first (news_of (mails self.old.links.desk)) (pages_of self.old.posts.items) ∥₁
+            → OnOk result (∥ Late first (news_of (mails self.new.links.desk)) (pages_of self.new.posts.items) ∥₁) }
+        ensures worker { IfOk result (λ r. IfSome r (λ e. slice_get self.old.diary.workers.items number ≡ Some e.end.worker)) }
+        ensures over { self.new.is_whole ≡ false }
+        ensures diary { self.new.diary ≡ self.old.diary }
+    {
+        if is_without(&self.posts, number as usize) {
+            return Ok(None);
+        }
+        let Some(worker) = self.diary.worker_at(number) else {
+            return Err(OutOfMemory);
+        };
+        match Self::close(&mut self.links, &mut self.posts, number, worker) {
+            Some(ended) => Ok(Some(ended)),
+            None => Err(OutOfMemory),
+        }
     }
 }

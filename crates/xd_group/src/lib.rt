@@ -11,4 +11,4 @@ mod posts;
 
 pub use diary::Diary;
 pub use gateway_hub::GatewayHub;
-pub use group::Group;
+pub use group::{Group, LinkEnd};

@@ -6,7 +6,9 @@ ghost use Rattle.xd_gateway.specs.Orders.{order_of};
 ghost use Rattle.xd_group.specs.Ends.{EndsSo};
 ghost use Rattle.xd_group.specs.Pages.{HasPage, HeardAt, IsHeardAt, IsToldAt, Page, ToldAt, page_opened};
 ghost use Rattle.xd_link.specs.FreshLink.{unused};
-ghost use Rattle.xd_group.specs.PostView.{page_by, pages_of};
+ghost use Rattle.xd_group.specs.Late.{IsLateAt, LateAt};
+ghost use Rattle.xd_group.specs.PostView.{has_ended, page_by, pages_of};
+ghost use Rattle.std.specs.List.{list_all};
 
 use crate::post::{HeardNews, Post};
 use std::alloc::Global;
@@ -63,6 +65,42 @@ pub fn hear_at<N: Sink + Drop>(
     };
     let heard = post.hear(item)?;
     Ok(heard)
+}
+
+/// Takes an item of the link at the place when nothing is told and nothing said any more.
+pub fn hear_late_at<N: Sink + Drop>(
+    posts: &mut Vec<Option<Post<N>>>,
+    at: usize,
+    item: LinkNews,
+) -> Result<(), OutOfMemory>
+    requires late { ∥ IsLateAt (pages_of posts.old.items) at ∥₁ }
+    ensures { OnOk result (LateAt item at (pages_of posts.old.items) (pages_of posts.new.items)) }
+{
+    if at >= posts.len() {
+        unreachable!()
+    }
+    let Some(post) = &mut posts[at] else {
+        unreachable!()
+    };
+    post.hear_late(item)?;
+    Ok(())
+}
+
+// Whether nothing more is to come of a link, or there is none.
+fn has_ended<N: Sink + Drop>(post: &Option<Post<N>>) -> bool
+    ensures { result ≡ has_ended post.now }
+{
+    match post {
+        Some(post) => post.is_ended,
+        None => true,
+    }
+}
+
+/// Whether nothing more is to come of any link.
+pub fn have_ended<N: Sink + Drop>(posts: &[Option<Post<N>>]) -> bool
+    ensures { result ≡ list_all has_ended posts.now }
+{
+    posts.iter().all(|post| has_ended(post))
 }
 
 /// Adds a link that was called.

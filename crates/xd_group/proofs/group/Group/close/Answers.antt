@@ -1,0 +1,18 @@
+use Rattle.std.proofs.Math.Logic.{∥∥₁_map, ∥∥₁_map₂}
+use Rattle.xd_link.specs.Spring.{spring}
+use Rattle.xd_links.specs.Runs.{news_of}
+use Rattle.xd_post.specs.Mails.{mails}
+use Rattle.xd_group.specs.PostView.{pages_of}
+use Rattle.xd_group.proofs.Ending.{late_closed, ran_at}
+use Rattle.xd_group.proofs.group.Group.close.Goals as goal
+
+pub returns-clause-ran : goal.returns-clause-ran
+returns-clause-ran g c first late =
+    let there = c.in-Some.ensures.ends in
+    let source = c.close-source.result.source in
+    ∥∥₁_map₂ late there.2
+    (λ l e. ran_at first (news_of (mails c.args.links.now.desk)) (pages_of c.args.posts.now.items) c.args.number there.0 (spring (g.S.Source.supply source) (g.S.Source.is_ended source) (g.S.Source.faults source)) _ _ there.1 c.close-source.ensures.run e l)
+
+pub returns-clause-late : goal.returns-clause-late
+returns-clause-late g c first late some =
+    ∥∥₁_map late (λ l. late_closed first (news_of (mails c.args.links.now.desk)) _ (pages_of c.args.posts.now.items) _ c.args.number c.close-source.ensures.news c.in-Some.ensures.gone l)

@@ -1,0 +1,21 @@
+use Rattle.std.proofs.Common.{◌≤◌, length, rules}
+use Rattle.xd_group.proofs.PageFacts.{late_post, none_late, none_of, past_late, post_late}
+use Rattle.xd_group.proofs.posts.hear_late_at.Goals as goal
+
+pub returns : goal.returns
+returns g c p there = (
+  _,
+  post_late c.args.posts.now.items c.args.at c.index_mut.result.now c.in-Some.post c.hear_late.new.self c.args.item p c.index_mut.ensures.value c.in-Some.is c.in_ok-hear_late.ensures.same c.in_ok-hear_late.ensures.taken c.in_ok-hear_late.ensures.said c.in_ok-hear_late.ensures.known there,
+)
+
+pub unreachable-requires : goal.unreachable-requires
+unreachable-requires g c =
+    let xs = c.args.posts.now.items in
+    let past : length xs ≤ c.args.at = search rules in
+    past_late xs c.args.at past c.requires.late
+
+pub unreachable-requires-in_default : goal.unreachable-requires-in_default
+unreachable-requires-in_default g c = none_late c.args.posts.now.items c.args.at c.index_mut.result.now c.index_mut.ensures.value (none_of c.index_mut.result.now c.in_default.not-Some) c.requires.late
+
+pub hear_late-requires : goal.hear_late-requires
+hear_late-requires g c = record { known = late_post c.args.posts.now.items c.args.at c.index_mut.result.now c.in-Some.post c.index_mut.ensures.value c.in-Some.is c.requires.late }
