@@ -1,4 +1,4 @@
 pub mod ReadBack
 pub mod Tuples
 pub mod WordBytes
-pub mod Payloads
+pub mod Fitting

@@ -3,4 +3,4 @@ pub mod Calls
 pub mod Kwargs
 pub mod Orders
 pub mod Events
-pub mod Payloads
+pub mod Limits

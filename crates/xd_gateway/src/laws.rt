@@ -6,7 +6,7 @@ ghost use Rattle.xd_value.specs.Canonical.{canonical, dumped};
 ghost use Rattle.xd_journal.specs.declared.news.What.{What};
 ghost use Rattle.xd_gateway.specs.declared.order.Order.{Order};
 ghost use Rattle.xd_gateway.specs.Orders.{order_tree, tree_order, IsOrder};
-ghost use Rattle.xd_gateway.specs.Payloads.{IsFew, run_tests_call};
+ghost use Rattle.xd_gateway.specs.Limits.{IsFew, run_tests_call};
 ghost use Rattle.xd_gateway.specs.Events.{event_tree, tree_event, IsEvent};
 
 /// The value of an order whose numbers are in their ranges is that order, and no other.

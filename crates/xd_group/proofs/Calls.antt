@@ -24,9 +24,9 @@ use Rattle.xd_factory.proofs.Entries.{here_entries}
 use Rattle.xd_journal.specs.declared.entry.Entry.{Entry}
 use Rattle.xd_gateway.specs.declared.order.Order.{Order}
 use Rattle.xd_gateway.specs.Orders.{order_of, order_tree}
-use Rattle.xd_gateway.specs.Payloads.{run_tests_call}
+use Rattle.xd_gateway.specs.Limits.{run_tests_call}
 use Rattle.xd_gateway.proofs.WordBytes.{chars_word}
-use Rattle.xd_gateway.proofs.Payloads.{call_dumped}
+use Rattle.xd_gateway.proofs.Fitting.{call_dumped}
 use Rattle.xd_remote.specs.declared.fault.GatewayFault.{GatewayFault}
 use Rattle.xd_remote.specs.declared.fault.GatewayFault.TheVariants.{SendFault, Channel, Opening, OutOfMemory}
 use Rattle.xd_remote.specs.declared.gateway.Gateway.{Gateway}

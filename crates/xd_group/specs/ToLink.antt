@@ -10,7 +10,7 @@ use Rattle.xd_journal.specs.declared.entry.Entry.{Entry}
 use Rattle.xd_journal.specs.declared.news.What.{What}
 use Rattle.xd_journal.specs.declared.news.What.TheVariants.{Finished, Closed}
 use Rattle.xd_gateway.specs.Orders.{order_of, order_tree}
-use Rattle.xd_gateway.specs.Payloads.{run_tests_call}
+use Rattle.xd_gateway.specs.Limits.{run_tests_call}
 use Rattle.xd_remote.specs.Calls.{exec_message, item_message, terminate_message}
 use Rattle.xd_report.specs.Names.{mode_text}
 

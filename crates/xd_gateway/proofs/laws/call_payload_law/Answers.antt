@@ -1,4 +1,4 @@
-use Rattle.xd_gateway.proofs.Payloads.{call_dumped}
+use Rattle.xd_gateway.proofs.Fitting.{call_dumped}
 use Rattle.xd_gateway.proofs.laws.call_payload_law.Goals as goal
 
 pub returns : goal.returns

@@ -15,7 +15,7 @@ use Rattle.xd_gateway.specs.declared.order.Order.TheVariants.{RunTests, RunAll, 
 use Rattle.xd_gateway.specs.Kwargs.{AreIndices, indices_kwargs}
 use Rattle.xd_gateway.specs.Calls.{called}
 use Rattle.xd_gateway.specs.Orders.{order_tree, IsOrder}
-use Rattle.xd_gateway.specs.Payloads.{IsFew, run_tests_call}
+use Rattle.xd_gateway.specs.Limits.{IsFew, run_tests_call}
 
 -- the numbers of tests, as a list of integers
 abbrev ints : List ℕ → Trees
