@@ -17,7 +17,8 @@ use Rattle.xd_serve.specs.Served.{Served}
 use Rattle.xd_frame.specs.Writing.{Writes}
 use Rattle.xd_serve.specs.Taking.{is_whole}
 use Rattle.xd_serve.proofs.Completing.{calm, complete, goes_wrong}
-use Rattle.xdrun.specs.Outside.{LinkSeen, Workplace}
+use Rattle.xd_linked.specs.Linked.{EndedLink}
+use Rattle.xdrun.specs.Outside.{Workplace}
 use Rattle.xdrun.specs.Worker.{DidWorker, ServedOwn, ServesOwn, all_bytes, scene_at, unwritten}
 
 -- a sink that was not written to, by what it tells later
@@ -87,22 +88,22 @@ module _ (status : ℕ) (held : Option Held) (end : Spring) (runs : Option (List
       each (Some t) w = λ good source sink. w good (subst (λ (n : ℕ). StoodStill n end.faults) (sym s.no_reads) (still_none end.faults source)) (still_none new.sink_faults sink)
 
 -- the link to the own streams, by how it was served
-pub serves_own : (l : LinkSeen) (status : ℕ) (old new : Workplace) → l.worker ≡ 0 → l.killed ≡ false
-    → ServedOwn status old.files.held l.spring old.programs.runs old.programs.faults old.files.faults (scene_at l.sunk l.writes new)
+pub serves_own : (l : EndedLink) (status : ℕ) (old new : Workplace) → l.worker ≡ 0 → l.killed ≡ false
+    → ServedOwn status old.files.held l.link.spring old.programs.runs old.programs.faults old.files.faults (scene_at l.link.sunk l.link.writes new)
     → new.starter.begun ≡ option_map (with_start Own) old.starter.begun → new.starter.faults ≡ old.starter.faults → ServesOwn l status old new
 serves_own l status old new number killed served started still =
-    let seen = scene_at l.sunk l.writes new in
+    let seen = scene_at l.link.sunk l.link.writes new in
     record {
       number = number;
       not_killed = killed;
       served = served;
       started = started;
-      calm = λ zero. let c = own_calm status old.files.held l.spring old.programs.runs old.programs.faults old.files.faults seen served zero in (still, c.0, c.1);
-      wrong = own_wrong status old.files.held l.spring old.programs.runs old.programs.faults old.files.faults seen served;
-      complete = own_complete status old.files.held l.spring old.programs.runs old.programs.faults old.files.faults seen served;
+      calm = λ zero. let c = own_calm status old.files.held l.link.spring old.programs.runs old.programs.faults old.files.faults seen served zero in (still, c.0, c.1);
+      wrong = own_wrong status old.files.held l.link.spring old.programs.runs old.programs.faults old.files.faults seen served;
+      complete = own_complete status old.files.held l.link.spring old.programs.runs old.programs.faults old.files.faults seen served;
     }
 
-pub links_one : {A : Type 0} (seen : A → LinkSeen) (first links : List A) (l : A) (status : ℕ) (old new : Workplace) → first ≡ [] → links ≡ first ++ l ∷ []
+pub links_one : {A : Type 0} (seen : A → EndedLink) (first links : List A) (l : A) (status : ℕ) (old new : Workplace) → first ≡ [] → links ≡ first ++ l ∷ []
     → ServesOwn (seen l) status old new → DidWorker (map seen links) status old new
 links_one {A} seen first links l status old new none one s =
     subst (λ (ls : List A). DidWorker (map seen ls) status old new) (sym (one ∙ ap (λ (ls : List A). ls ++ l ∷ []) none)) s

@@ -7,3 +7,4 @@ pub mod Wire
 pub mod Words
 pub mod Worker
 pub mod Outside
+pub mod Linked

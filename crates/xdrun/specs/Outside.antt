@@ -1,9 +1,8 @@
 -- What is seen of the outside at one moment, as far as it tells.
-use Rattle.std.specs.Prelude.{ℕ, Bool, List, Option}
+use Rattle.std.specs.Prelude.{ℕ, List, Option}
 use Rattle.xd_edge.specs.Children.{ChildRun}
 use Rattle.xd_edge.specs.Files.{Held}
 use Rattle.xd_edge.specs.Sink.{Sunk}
-use Rattle.xd_link.specs.Spring.{Spring}
 use Rattle.xd_link.specs.Starter.{Begun}
 
 -- an output: what it took, and its count of faults
@@ -26,14 +25,6 @@ pub record Starting : Type 0 where
   pub begun : Option Begun
   pub faults : ℕ
 
--- a link that was handed back: its worker, what its two directions tell, their counts of faults, and whether it was killed
-pub record LinkSeen : Type 0 where
-  pub worker : ℕ
-  pub spring : Spring
-  pub sunk : Option Sunk
-  pub writes : ℕ
-  pub killed : Bool
-
 -- what a report, a text or a refusal comes from and goes to: the files, standard output and standard error
 pub record Streams : Type 0 where
   pub files : Files
@@ -46,11 +37,12 @@ pub record Workplace : Type 0 where
   pub programs : Programs
   pub starter : Starting
 
--- all of it
+-- all of it; of the crew that runs the readers of links, its count of faults
 pub record Outside : Type 0 where
   pub streams : Streams
   pub programs : Programs
   pub starter : Starting
+  pub crew_faults : ℕ
 
 abbrev pub workplace : Outside → Workplace
 workplace o = record { files = o.streams.files; programs = o.programs; starter = o.starter }

@@ -3,9 +3,11 @@ use Rattle.std.specs.Prelude.{ℕ, ◌≡◌, List, Option, None}
 use Rattle.xd_journal.specs.declared.journal.Journal.{Journal}
 use Rattle.xdrun.specs.declared.refusal.Refusal.TheVariants as refusal
 use Rattle.xdrun.specs.declared.words.Plan.{Plan}
-use Rattle.xdrun.specs.declared.words.Plan.TheVariants.{Local, Wire, Worker, BadWords}
+use Rattle.xdrun.specs.declared.words.Plan.TheVariants.{Local, Linked, Wire, Worker, BadWords}
+use Rattle.xdrun.specs.Linked.{DidLinked}
 use Rattle.xdrun.specs.Local.{DidLocal}
-use Rattle.xdrun.specs.Outside.{LinkSeen, Outside, workplace}
+use Rattle.xd_linked.specs.Linked.{EndedLink}
+use Rattle.xdrun.specs.Outside.{Outside, workplace}
 use Rattle.xdrun.specs.Refusal.{Refuses}
 use Rattle.xdrun.specs.Wire.{DidWire}
 use Rattle.xdrun.specs.Worker.{DidWorker}
@@ -14,7 +16,7 @@ use Rattle.xdrun.specs.Worker.{DidWorker}
 pub record End : Type 0 where
   pub status : ℕ
   pub journal : Option Journal
-  pub links : List LinkSeen
+  pub links : List EndedLink
 
 -- wire: no run
 pub record Messages (file : List ℕ) (end : End) (old new : Outside) : Type 0 where
@@ -36,6 +38,7 @@ pub record RefusesWords (end : End) (old new : Outside) : Type 0 where
 -- The call did what the words ask for.
 abbrev pub Did : Plan → End → Outside → Outside → Type 0
 Did (Local suite) end old new = DidLocal suite end.journal end.status old.streams new.streams old.programs new.programs
+Did (Linked suite workers) end old new = DidLinked suite workers end.journal end.status end.links old new
 Did (Wire file) end old new = Messages file end old new
 Did Worker end old new = Serves end old new
 Did BadWords end old new = RefusesWords end old new

@@ -12,7 +12,8 @@ use Rattle.xd_serve.specs.Complete.{AreGood, GoesWrong}
 use Rattle.xd_serve.specs.Going.{Scene, scene}
 use Rattle.xd_link.specs.Spring.{Spring}
 use Rattle.xd_serve.specs.Served.{Served}
-use Rattle.xdrun.specs.Outside.{LinkSeen, Workplace}
+use Rattle.xd_linked.specs.Linked.{EndedLink}
+use Rattle.xdrun.specs.Outside.{Workplace}
 
 -- all the bytes of a link that had given none before
 abbrev pub all_bytes : Supply → List ℕ
@@ -40,15 +41,15 @@ scene_at sunk writes place = scene sunk writes place.programs.runs place.program
 -- The link to the own streams was started and served to its end. The status is 0 only where no count of the starter and
 -- the link rose, and another one only where something is wrong with the link; where the link tells its bytes, nothing is
 -- wrong with all of them and no count rises, it is 0.
-pub record ServesOwn (l : LinkSeen) (status : ℕ) (old new : Workplace) : Type 0 where
+pub record ServesOwn (l : EndedLink) (status : ℕ) (old new : Workplace) : Type 0 where
   pub number : l.worker ≡ 0
   pub not_killed : l.killed ≡ false
-  pub served : ServedOwn status old.files.held l.spring old.programs.runs old.programs.faults old.files.faults (scene_at l.sunk l.writes new)
+  pub served : ServedOwn status old.files.held l.link.spring old.programs.runs old.programs.faults old.files.faults (scene_at l.link.sunk l.link.writes new)
   pub started : new.starter.begun ≡ option_map (with_start Own) old.starter.begun
-  pub calm : status ≡ 0 → (new.starter.faults ≡ old.starter.faults) × (l.spring.faults ≡ 0) × (l.writes ≡ 0)
-  pub wrong : status ≢ 0 → IfSome l.spring.supply (λ s. GoesWrong old.files.held (all_bytes s) 0 l.spring.faults (scene_at (unwritten l.sunk) 0 old) (scene_at l.sunk l.writes new))
-  pub complete : IfSome l.spring.supply (λ s. AreGood old.files.held (all_bytes s) (scene_at (unwritten l.sunk) 0 old) (scene_at l.sunk l.writes new)
-      → l.spring.faults ≡ 0 → l.writes ≡ 0 → status ≡ 0)
+  pub calm : status ≡ 0 → (new.starter.faults ≡ old.starter.faults) × (l.link.spring.faults ≡ 0) × (l.link.writes ≡ 0)
+  pub wrong : status ≢ 0 → IfSome l.link.spring.supply (λ s. GoesWrong old.files.held (all_bytes s) 0 l.link.spring.faults (scene_at (unwritten l.link.sunk) 0 old) (scene_at l.link.sunk l.link.writes new))
+  pub complete : IfSome l.link.spring.supply (λ s. AreGood old.files.held (all_bytes s) (scene_at (unwritten l.link.sunk) 0 old) (scene_at l.link.sunk l.link.writes new)
+      → l.link.spring.faults ≡ 0 → l.link.writes ≡ 0 → status ≡ 0)
 
 -- The link to the own streams could not be started.
 pub record StartsNone (status : ℕ) (old new : Workplace) : Type 0 where
@@ -58,7 +59,7 @@ pub record StartsNone (status : ℕ) (old new : Workplace) : Type 0 where
   pub no_child : new.programs.runs ≡ old.programs.runs
 
 -- What worker came to, by its link.
-abbrev pub DidWorker : List LinkSeen → ℕ → Workplace → Workplace → Type 0
+abbrev pub DidWorker : List EndedLink → ℕ → Workplace → Workplace → Type 0
 DidWorker [] status old new = StartsNone status old new
 DidWorker (l ∷ []) status old new = ServesOwn l status old new
 DidWorker (l ∷ m ∷ ls) status old new = ⊥

@@ -18,7 +18,8 @@ use std::io::BufWriter;
 use std::process::ExitCode;
 use std::rt::Env;
 use std::{env, io};
-pub use top::{LinkEnd, RunEnd, xdrun};
+pub use top::{RunEnd, xdrun};
+use xd_crew::{Slot, ThreadCrew, start_into};
 use xd_edge::{OutSink, RealChildren, RealClock, RealFiles, Text, Texts};
 use xd_real::RealStarter;
 
@@ -50,6 +51,17 @@ fn main(rt: HostRuntime) -> io::Result<ExitCode> {
     };
     let mut files = RealFiles::new(&rt);
     let starter = RealStarter::new(&rt, alloc, program, rt.stdin());
+    let Ok(slot) = Slot::new(alloc) else {
+        return out_of_memory(&rt);
+    };
+    let Ok(theirs) = slot.another() else {
+        return out_of_memory(&rt);
+    };
+    let make: Box<dyn Fn()> = match Box::new(alloc, move || start_into(rt, alloc, &theirs)) {
+        Ok(make) => make,
+        Err(_) => return out_of_memory(&rt),
+    };
+    let crew = ThreadCrew::new(rt, slot, make);
     let children = RealChildren::new(&rt);
     let mut clock = RealClock::new(&rt);
     let mut out = OutSink::new(writer);
@@ -60,6 +72,7 @@ fn main(rt: HostRuntime) -> io::Result<ExitCode> {
         &words.items,
         &mut files,
         starter,
+        crew,
         children,
         &mut clock,
         &mut out,

@@ -1,8 +1,9 @@
 // The top call.
 ghost use Rattle.std.specs.Prelude.{◌≡◌, [], map, false, IfNone, IfOk};
 ghost use Rattle.xd_link.specs.Spring.{spring};
+ghost use Rattle.xd_linked.specs.Linked.{ended_link};
 ghost use Rattle.xdrun.specs.Top.{Did};
-ghost use Rattle.xdrun.specs.Words.{plan_of, serves_link};
+ghost use Rattle.xdrun.specs.Words.{has_links, plan_of};
 
 use crate::named::{LocalEnd, run_named};
 use crate::refusal::{Refusal, refuse};
@@ -11,24 +12,17 @@ use crate::words::{Plan, plan_of};
 use crate::worker::serve_own;
 use std::alloc::Global;
 use std::sync::Wait;
+use xd_crew::Crew;
 use xd_edge::{Children, Clock, Files, OutOfMemory, Sink, Text};
+use xd_group::LinkEnd;
 use xd_journal::Journal;
-use xd_link::{Source, Starter};
-
-/// A link that was started.
-#[derive(Drop)]
-pub struct LinkEnd<A: Source, B: Sink> {
-    /// The number of its worker; 0 where the program itself is the worker.
-    pub worker: u32,
-    pub source: A,
-    pub sink: B,
-    /// Its child was to be killed.
-    pub killed: bool,
-}
+use xd_link::Starter;
+use xd_linked::run_linked;
+use xd_reader::Reader;
 
 /// What a call came to.
 #[derive(Drop)]
-pub struct RunEnd<St: Starter, K: Children> {
+pub struct RunEnd<St: Starter, C: Crew<Reader<St::Src>>, K: Children> {
     /// The exit status.
     pub status: u8,
     /// The journal of the run, where one was begun.
@@ -37,6 +31,8 @@ pub struct RunEnd<St: Starter, K: Children> {
     pub links: Vec<LinkEnd<St::Src, St::Snk>>,
     /// The starter that was handed in.
     pub starter: St,
+    /// The crew that was handed in.
+    pub crew: C,
     /// The programs that were handed in.
     pub children: K,
 }
@@ -46,6 +42,10 @@ pub struct RunEnd<St: Starter, K: Children> {
 /// `SUITE -n 0` runs the tests of a suite file in this program, one after another. Its status is 0 where all is well, 1
 /// where a test failed, 3 where the report could not be written, 5 where there is no test.
 ///
+/// `SUITE -n K`, K from 1 to 32, runs them on K workers, which the starter starts and the crew's jobs read, and prints the
+/// report as the results come. Its status is that of `-n 0`, and 2 where the workers' lists of tests differ or could not
+/// be had.
+///
 /// `worker` serves the program's own standard input and output as a worker of execnet's messages. Its status is 0 where
 /// it was told to end or its input ended behind a whole message, else 3.
 ///
@@ -53,28 +53,34 @@ pub struct RunEnd<St: Starter, K: Children> {
 /// text could not be written.
 ///
 /// The status is 4 where the words or the file are refused.
-pub fn xdrun<R: Wait, F: Files, St: Starter, K: Children, T: Clock, O: Sink, E: Sink>(
+pub fn xdrun<
+    R: Wait,
+    F: Files,
+    St: Starter,
+    C: Crew<Reader<St::Src>>,
+    K: Children,
+    T: Clock,
+    O: Sink,
+    E: Sink,
+>(
     rt: &R,
     alloc: Global,
     words: &[Text],
     files: &mut F,
     starter: St,
+    crew: C,
     children: K,
     clock: &mut T,
     out: &mut O,
     err: &mut E,
-) -> Result<RunEnd<St, K>, OutOfMemory>
+) -> Result<RunEnd<St, C, K>, OutOfMemory>
     ensures did { IfOk result (λ e. Did (plan_of words.now)
         (record {
           status = e.status;
           journal = e.journal;
-          links = map (λ l. record {
-            worker = l.worker;
-            spring = spring (St.Src.supply l.source) (St.Src.is_ended l.source) (St.Src.faults l.source);
-            sunk = St.Snk.sunk l.sink;
-            writes = St.Snk.faults l.sink;
-            killed = l.killed;
-          }) e.links.items;
+          links = map (λ l. ended_link l.worker l.killed
+            (spring (St.Src.supply l.source) (St.Src.is_ended l.source) (St.Src.faults l.source))
+            (St.Snk.sunk l.sink) (St.Snk.faults l.sink)) e.links.items;
         })
         (record {
           streams = record {
@@ -84,6 +90,7 @@ pub fn xdrun<R: Wait, F: Files, St: Starter, K: Children, T: Clock, O: Sink, E: 
           };
           programs = record { runs = K.runs children; faults = K.faults children };
           starter = record { begun = St.begun starter; faults = St.faults starter };
+          crew_faults = C.faults crew;
         })
         (record {
           streams = record {
@@ -93,20 +100,32 @@ pub fn xdrun<R: Wait, F: Files, St: Starter, K: Children, T: Clock, O: Sink, E: 
           };
           programs = record { runs = K.runs e.children; faults = K.faults e.children };
           starter = record { begun = St.begun e.starter; faults = St.faults e.starter };
+          crew_faults = C.faults e.crew;
         })) }
-    ensures no_link { IfOk result (λ e. serves_link (plan_of words.now) ≡ false →
-        (e.links.items ≡ []) × (e.starter ≡ starter)) }
-    ensures no_child { IfOk result (λ e. serves_link (plan_of words.now) ≡ false →
+    ensures no_link { IfOk result (λ e. has_links (plan_of words.now) ≡ false →
+        (e.links.items ≡ []) × (e.starter ≡ starter) × (e.crew ≡ crew)) }
+    ensures no_child { IfOk result (λ e. has_links (plan_of words.now) ≡ false →
         IfNone e.journal (e.children ≡ children)) }
 {
     let end = match plan_of(words)? {
         Plan::Local { suite } => { run_named(rt, alloc, &suite, files, children, clock, out, err)? }
+        Plan::Linked { suite, workers } => {
+            let end = run_linked(rt, alloc, &suite, workers, starter, crew, out)?;
+            return Ok(RunEnd {
+                status: end.status,
+                journal: Some(end.journal),
+                links: end.links,
+                starter: end.starter,
+                crew: end.crew,
+                children,
+            });
+        }
         Plan::Wire { file } => {
             let status = print_named(alloc, &file, files, out, err)?;
             without_run(status, children)
         }
         Plan::Worker => {
-            let end = serve_own(rt, alloc, files, starter, children, clock)?;
+            let end = serve_own(rt, alloc, files, starter, crew, children, clock)?;
             return Ok(end);
         }
         Plan::BadWords => {
@@ -119,6 +138,7 @@ pub fn xdrun<R: Wait, F: Files, St: Starter, K: Children, T: Clock, O: Sink, E: 
         journal: end.journal,
         links: Vec::new(alloc),
         starter,
+        crew,
         children: end.children,
     })
 }

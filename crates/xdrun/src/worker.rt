@@ -1,33 +1,42 @@
 // `worker`: the program's own streams are served as a worker.
 ghost use Rattle.std.specs.Prelude.{◌≡◌, None, map, IfOk};
 ghost use Rattle.xd_link.specs.Spring.{spring};
+ghost use Rattle.xd_linked.specs.Linked.{ended_link};
 ghost use Rattle.xdrun.specs.Worker.{DidWorker};
 
-use crate::top::{LinkEnd, RunEnd};
+use crate::top::RunEnd;
 use std::alloc::Global;
 use std::sync::Wait;
+use xd_crew::Crew;
 use xd_edge::{Children, Clock, Files, OutOfMemory};
+use xd_group::LinkEnd;
 use xd_link::{Place, StartFault, Starter};
+use xd_reader::Reader;
 use xd_serve::serve;
 
 /// Starts a link to the program's own streams and serves it. Where it cannot be started the status is 3.
-pub fn serve_own<R: Wait, F: Files, St: Starter, K: Children, T: Clock>(
+pub fn serve_own<
+    R: Wait,
+    F: Files,
+    St: Starter,
+    C: Crew<Reader<St::Src>>,
+    K: Children,
+    T: Clock,
+>(
     rt: &R,
     alloc: Global,
     files: &mut F,
     starter: St,
+    crew: C,
     children: K,
     clock: &mut T,
-) -> Result<RunEnd<St, K>, OutOfMemory>
+) -> Result<RunEnd<St, C, K>, OutOfMemory>
     ensures journal { IfOk result (λ e. e.journal ≡ None) }
+    ensures crew { IfOk result (λ e. e.crew ≡ crew) }
     ensures did { IfOk result (λ e. DidWorker
-        (map (λ l. record {
-          worker = l.worker;
-          spring = spring (St.Src.supply l.source) (St.Src.is_ended l.source) (St.Src.faults l.source);
-          sunk = St.Snk.sunk l.sink;
-          writes = St.Snk.faults l.sink;
-          killed = l.killed;
-        }) e.links.items)
+        (map (λ l. ended_link l.worker l.killed
+          (spring (St.Src.supply l.source) (St.Src.is_ended l.source) (St.Src.faults l.source))
+          (St.Snk.sunk l.sink) (St.Snk.faults l.sink)) e.links.items)
         e.status
         (record {
           files = record { held = F.held files.old; faults = F.faults files.old };
@@ -45,7 +54,7 @@ pub fn serve_own<R: Wait, F: Files, St: Starter, K: Children, T: Clock>(
     links.reserve(1)?;
     let link = match starter.start(alloc, &Place::Own) {
         Ok(link) => link,
-        Err(StartFault::Failed) => return Ok(not_started(links, starter, children)),
+        Err(StartFault::Failed) => return Ok(not_started(links, starter, crew, children)),
         Err(StartFault::OutOfMemory) => return Err(OutOfMemory),
     };
     let end = serve(rt, alloc, link, files, children, clock)?;
@@ -60,19 +69,22 @@ pub fn serve_own<R: Wait, F: Files, St: Starter, K: Children, T: Clock>(
         journal: None,
         links,
         starter,
+        crew,
         children: end.children,
     })
 }
 
-fn not_started<St: Starter, K: Children>(
+fn not_started<St: Starter, C: Crew<Reader<St::Src>>, K: Children>(
     links: Vec<LinkEnd<St::Src, St::Snk>>,
     starter: St,
+    crew: C,
     children: K,
-) -> RunEnd<St, K>
+) -> RunEnd<St, C, K>
     ensures status { result.status ≡ 3 }
     ensures journal { result.journal ≡ None }
     ensures links { result.links ≡ links }
     ensures starter { result.starter ≡ starter }
+    ensures crew { result.crew ≡ crew }
     ensures children { result.children ≡ children }
 {
     RunEnd {
@@ -80,6 +92,7 @@ fn not_started<St: Starter, K: Children>(
         journal: None,
         links,
         starter,
+        crew,
         children,
     }
 }

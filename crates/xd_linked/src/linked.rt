@@ -1,0 +1,168 @@
+// A suite is run on workers.
+ghost use Rattle.std.specs.Prelude.{◌≡◌, ◌≤◌, [], true, false, map, length, vec_len, Ok, IfOk};
+ghost use Rattle.std.specs.Str.{encode_utf8_all};
+ghost use Rattle.xd_edge.specs.Faults.{Rose};
+ghost use Rattle.xd_link.specs.Spring.{spring};
+ghost use Rattle.xd_session.specs.Ends.{is_out_fault};
+ghost use Rattle.xd_ledger.specs.Ending.{stop_of};
+ghost use Rattle.xd_report.specs.Status.{status_of};
+ghost use Rattle.xd_drive.specs.Driven.{IsJournalOf};
+ghost use Rattle.xd_note.specs.Noted.{noted};
+ghost use Rattle.xd_session.specs.Stands.{StandsFor};
+ghost use Rattle.xd_edge.specs.declared.mode.ModeKind.TheVariants.{Load as InModeLoad};
+ghost use Rattle.xd_linked.specs.Linked.{LinkedRun, RunsLinked, ended_link, linked_settings};
+
+use std::alloc::Global;
+use std::sync::Wait;
+use xd_crew::Crew;
+use xd_drive::drive;
+use xd_edge::{Env, ModeKind, OutOfMemory, Sink, Text};
+use xd_group::{GatewayHub, Group, LinkEnd};
+use xd_journal::{Journal, Settings};
+use xd_link::{Place, Starter};
+use xd_links::Links;
+use xd_load::Load;
+use xd_reader::Reader;
+use xd_report::status_of;
+use xd_session::Session;
+
+/// What a run with workers came to.
+#[derive(Drop)]
+pub struct Linked<St: Starter, C: Crew<Reader<St::Src>>> {
+    /// The exit status.
+    pub status: u8,
+    pub journal: Journal,
+    /// What the links left that were read, in order of the starts of their workers.
+    pub links: Vec<LinkEnd<St::Src, St::Snk>>,
+    pub starter: St,
+    pub crew: C,
+}
+
+// How a run with so many workers goes: in mode load, without a limit of failures, with four new workers for each.
+fn settings_of(workers: u32) -> Settings
+    requires { workers ≤ 32 }
+    ensures { result ≡ linked_settings workers }
+{
+    Settings {
+        mode: ModeKind::Load,
+        workers,
+        maxfail: 0,
+        restarts: 4 * workers,
+        chunk: None,
+        reorder: true,
+    }
+}
+
+// A child of the program for each worker.
+fn places_of(alloc: Global, workers: u32) -> Result<Vec<Place>, OutOfMemory>
+    ensures { IfOk result (λ places. vec_len places ≡ workers) }
+{
+    let mut places = Vec::with_capacity(alloc, workers as usize)?;
+    for _ in 0..workers {
+        places.push(Place::Popen {
+            chdir: None,
+            env: Env {
+                items: Vec::new(alloc),
+            },
+        })?;
+    }
+    Ok(places)
+}
+
+// Drives the session over the hub, and ends its links. Where memory runs out its workers are killed.
+fn run_over<R: Wait, St: Starter, C: Crew<Reader<St::Src>>, O: Sink>(
+    rt: &R,
+    alloc: Global,
+    session: Session<Load>,
+    hub: &mut GatewayHub<St, C>,
+    out: &mut O,
+) -> Result<(Journal, Vec<LinkEnd<St::Src, St::Snk>>), OutOfMemory>
+    requires begins { StandsFor [] session }
+    requires slots { session.settings.workers ≤ vec_len hub.old.places }
+    requires no_calls { noted hub.old.group.diary.calls ≡ [] }
+    requires no_news { noted hub.old.group.diary.given ≡ [] }
+    requires mode { hub.old.group.mode ≡ InModeLoad }
+    ensures journal { IfOk result (λ r. IsJournalOf session.settings r.0) }
+    ensures runs { IfOk result (λ r. RunsLinked hub.old.group.suite r.0
+        (map (λ l. ended_link l.worker l.killed (spring (St.Src.supply l.source) (St.Src.is_ended l.source) (St.Src.faults l.source)) (St.Snk.sunk l.sink) (St.Snk.faults l.sink)) r.1.items)
+        (O.sunk out.old) (O.sunk out.new)) }
+    ensures out_fault { IfOk result (λ r. is_out_fault (stop_of r.0) ≡ true → Rose (O.faults out.old) (O.faults out.new)) }
+    ensures still { IfOk result (λ r. is_out_fault (stop_of r.0) ≡ false → O.faults out.new ≡ O.faults out.old) }
+    ensures later { O.faults out.old ≤ O.faults out.new }
+{
+    match drive(rt, alloc, session, hub, out) {
+        Ok(journal) => {
+            let links = hub.finish(rt, alloc)?;
+            Ok((journal, links))
+        }
+        Err(_) => Err(OutOfMemory),
+    }
+}
+
+// What the run came to, with the starter and the crew.
+fn end_of<St: Starter, C: Crew<Reader<St::Src>>>(
+    alloc: Global,
+    ended: Result<(Journal, Vec<LinkEnd<St::Src, St::Snk>>), OutOfMemory>,
+    starter: St,
+    crew: C,
+) -> Result<Linked<St, C>, OutOfMemory>
+    ensures ended { IfOk result (λ e. ended ≡ Ok (e.journal, e.links)) }
+    ensures status { IfOk result (λ e. e.status ≡ status_of e.journal) }
+    ensures starter { IfOk result (λ e. e.starter ≡ starter) }
+    ensures crew { IfOk result (λ e. e.crew ≡ crew) }
+{
+    let (journal, links) = ended?;
+    let status = status_of(alloc, &journal)?;
+    Ok(Linked {
+        status,
+        journal,
+        links,
+        starter,
+        crew,
+    })
+}
+
+/// Runs a suite on so many workers, and prints its report as the results come.
+pub fn run_linked<R: Wait, St: Starter, C: Crew<Reader<St::Src>>, O: Sink>(
+    rt: &R,
+    alloc: Global,
+    suite: &Text,
+    workers: u32,
+    starter: St,
+    crew: C,
+    out: &mut O,
+) -> Result<Linked<St, C>, OutOfMemory>
+    requires some { 1 ≤ workers }
+    requires few { workers ≤ 32 }
+    requires short { length (encode_utf8_all suite.now) ≤ 65536 }
+    ensures ran { IfOk result (λ e. LinkedRun suite.now workers e.journal e.status
+        (map (λ l. ended_link l.worker l.killed (spring (St.Src.supply l.source) (St.Src.is_ended l.source) (St.Src.faults l.source)) (St.Snk.sunk l.sink) (St.Snk.faults l.sink)) e.links.items)
+        (O.sunk out.old) (O.sunk out.new) (O.faults out.old) (O.faults out.new)) }
+    ensures later { O.faults out.old ≤ O.faults out.new }
+{
+    let places = places_of(alloc, workers)?;
+    let session = Session::new(alloc, settings_of(workers), Load::new(None))?;
+    let path = suite.copy()?;
+    let mut hub = GatewayHub::new(alloc, places, path, ModeKind::Load, starter, crew)?;
+    let ended = run_over(rt, alloc, session, &mut hub, out);
+    let GatewayHub {
+        places: _,
+        starter,
+        group,
+    } = hub;
+    let Group {
+        links,
+        posts: _,
+        diary: _,
+        suite: _,
+        mode: _,
+        is_whole: _,
+    } = group;
+    let Links {
+        alloc: _,
+        crew,
+        desk: _,
+        handles: _,
+    } = links;
+    end_of(alloc, ended, starter, crew)
+}
