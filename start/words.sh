@@ -22,7 +22,14 @@ have_a_form() {
         -* | socketserver) return 1 ;;
         worker) [ $# -eq 1 ] ;;
         wire) [ $# -eq 2 ] && [ "${2#-}" = "$2" ] ;;
-        *) [ $# -eq 3 ] && [ "$2" = -n ] && [ "$3" = 0 ] ;;
+        *) [ $# -eq 3 ] && [ "$2" = -n ] && is_count "$3" ;;
+    esac
+}
+
+is_count() {
+    case "$1" in
+        [0-9] | [12][0-9] | 3[0-2]) ;;
+        *) return 1 ;;
     esac
 }
 

@@ -89,6 +89,8 @@ fn out_of_memory(rt: &impl Eprint) -> io::Result<ExitCode> {
 }
 
 #[cfg(test)]
+mod linked_tests;
+#[cfg(test)]
 mod tests;
 #[cfg(test)]
 mod worker_tests;

@@ -3,8 +3,10 @@ use super::*;
 use std::collections::VecDeque;
 use std::sync::Wait;
 use std::test::Fail;
+use xd_crew::{Crew, Slot, ThreadCrew, start_into};
 use xd_edge::{Blob, Blobs, ChildEnd, Indices, MemChildren, MemClock, MemFiles, MemSink};
-use xd_link::MemStarter;
+use xd_link::{MemSource, MemStarter};
+use xd_reader::Reader;
 
 pub(crate) fn words(alloc: Global, all: &[&str]) -> Result<Texts, Fail> {
     let mut items = Vec::new(alloc);
@@ -19,6 +21,18 @@ pub(crate) fn numbers(alloc: Global, all: &[u32]) -> Result<Indices, Fail> {
         items: all.to_vec(alloc)?,
     })
 }
+
+// A crew of threads that read links in memory, as a test that has the runtime makes it.
+macro_rules! crew {
+    ($rt:ident) => {{
+        let alloc = $rt.alloc();
+        let slot = Slot::new(alloc)?;
+        let theirs = slot.another()?;
+        let make: Box<dyn Fn()> = Box::new(alloc, move || start_into($rt, alloc, &theirs))?;
+        ThreadCrew::new($rt, slot, make)
+    }};
+}
+pub(crate) use crew;
 
 // `sh -c SCRIPT` writes this output, the first byte by itself, and ends so.
 pub(crate) fn shell(
@@ -59,8 +73,9 @@ struct Seen {
 }
 
 // What the program did with these words, where the file s.toml holds this suite.
-fn run<R: Wait + AllocGlobal>(
+fn run<R: Wait + AllocGlobal, C: Crew<Reader<MemSource>>>(
     rt: &R,
+    crew: C,
     suite: &str,
     given: &[&str],
     faults: &Faults,
@@ -92,6 +107,7 @@ fn run<R: Wait + AllocGlobal>(
         &words.items,
         &mut files,
         starter,
+        crew,
         children,
         &mut clock,
         &mut out,
@@ -137,7 +153,7 @@ fn the_report_of_a_suite(rt: HostRuntime) -> Result<(), Fail> {
         ),
     ];
     for (suite, status, report) in rows {
-        let seen = run(&rt, suite, &SUITE_0, &CALM)?;
+        let seen = run(&rt, crew!(rt), suite, &SUITE_0, &CALM)?;
         assert_eq!(rt; seen.status, status);
         assert_eq!(rt; seen.out.as_slice(), report.as_bytes());
         assert!(rt; seen.err.is_empty());
@@ -181,7 +197,7 @@ fn what_is_refused(rt: HostRuntime) -> Result<(), Fail> {
     ];
     for (suite, given, files, line) in rows {
         let faults = Faults { files, ..CALM };
-        let seen = run(&rt, suite, given, &faults)?;
+        let seen = run(&rt, crew!(rt), suite, given, &faults)?;
         assert_eq!(rt; seen.status, 4);
         assert_eq!(rt; seen.err.as_slice(), line.as_bytes());
         assert!(rt; seen.out.is_empty());
@@ -204,7 +220,7 @@ fn an_output_that_fails_ends_the_run(rt: HostRuntime) -> Result<(), Fail> {
     for (call, taken, starts) in rows {
         let out = [call];
         let faults = Faults { out: &out, ..CALM };
-        let seen = run(&rt, THREE, &SUITE_0, &faults)?;
+        let seen = run(&rt, crew!(rt), THREE, &SUITE_0, &faults)?;
         assert_eq!(rt; seen.status, 3);
         assert_eq!(rt; seen.out.as_slice(), taken.as_bytes());
         assert_eq!(rt; seen.starts, starts);
@@ -225,7 +241,7 @@ fn a_program_that_fails_outside(rt: HostRuntime) -> Result<(), Fail> {
             children: &children,
             ..CALM
         };
-        let seen = run(&rt, KILLED, &SUITE_0, &faults)?;
+        let seen = run(&rt, crew!(rt), KILLED, &SUITE_0, &faults)?;
         let report = format!(in rt.alloc();
             "1 tests\n[main] FAILED k\n==== [main] k ====\n{reason}\n1 failed\n"
         )?;

@@ -3,16 +3,19 @@ ghost use Rattle.std.specs.Prelude.{◌<◌, All, IfOk};
 ghost use Rattle.xd_link.specs.FreshLink.{IsFresh};
 
 use super::*;
-use crate::tests::{THREE, numbers, shell, words};
+use crate::tests::{THREE, crew, numbers, shell, words};
 use std::collections::VecDeque;
 use std::sync::Wait;
 use std::test::Fail;
+use xd_crew::{Crew, Slot, ThreadCrew, start_into};
 use xd_edge::{Blob, ChildEnd, Indices, MemChildren, MemClock, MemFiles, MemSink};
+use xd_group::LinkEnd;
 use xd_link::{MemSource, MemStarter};
+use xd_reader::Reader;
 
 // What a controller sends: the call of `run_tests` with the suite `s.toml` in mode load, `runtests` of its three tests,
 // `shutdown`, GATEWAY_TERMINATE. Payloads are as the real execnet writes them.
-const TOLD: [&[u8]; 4] = [
+pub(crate) const TOLD: [&[u8]; 4] = [
     b"\x03\0\0\0\x01\0\0\0DN\0\0\0\0LN\0\0\0\x09run_testsJN\0\0\0\x05suiteN\0\0\0\x06s.tomlPN\0\0\0\x04distN\0\0\0\x04loadP@\0\0\0\x04Q",
     b"\x04\0\0\0\x01\0\0\0GN\0\0\0\x08runtestsJN\0\0\0\x07indicesK\0\0\0\x03F\0\0\0\0F\0\0\0\0PF\0\0\0\x01F\0\0\0\x01PF\0\0\0\x02F\0\0\0\x02PP@\0\0\0\x02Q",
     b"\x04\0\0\0\x01\0\0\0\x14N\0\0\0\x08shutdownJ@\0\0\0\x02Q",
@@ -21,7 +24,7 @@ const TOLD: [&[u8]; 4] = [
 
 // What the worker of those three tests says to it: the greeting; ready, and the ids; each test's start with its log, its
 // output, the log's close, and its end; finished, and the close of the call. Payloads are as the real execnet writes them.
-const SAID: [&[u8]; 18] = [
+pub(crate) const SAID: [&[u8]; 18] = [
     b"1",
     b"\x04\0\0\0\x01\0\0\0\x17N\0\0\0\x0bworkerreadyJ@\0\0\0\x02Q",
     b"\x04\0\0\0\x01\0\0\0NN\0\0\0\x10collectionfinishJN\0\0\0\x03idsK\0\0\0\x03F\0\0\0\0N\0\0\0\x01aPF\0\0\0\x01N\0\0\0\x01bPF\0\0\0\x02N\0\0\0\x01cPP@\0\0\0\x02Q",
@@ -42,7 +45,7 @@ const SAID: [&[u8]; 18] = [
     b"\x05\0\0\0\x01\0\0\0\0",
 ];
 
-fn joined(alloc: Global, parts: &[&[u8]]) -> Result<Vec<u8>, Fail> {
+pub(crate) fn joined(alloc: Global, parts: &[&[u8]]) -> Result<Vec<u8>, Fail> {
     let mut all = Vec::new(alloc);
     for part in parts {
         all.extend_from_slice(part)?;
@@ -50,7 +53,7 @@ fn joined(alloc: Global, parts: &[&[u8]]) -> Result<Vec<u8>, Fail> {
     Ok(all)
 }
 
-fn none(alloc: Global) -> Indices
+pub(crate) fn none(alloc: Global) -> Indices
     ensures { All (λ n. 0 < n) result }
 {
     Indices {
@@ -100,7 +103,12 @@ struct Worked {
 }
 
 // What the program did as a worker that was told this.
-fn work<R: Wait + AllocGlobal>(rt: &R, told: &[u8], fails: Indices) -> Result<Worked, Fail> {
+fn work<R: Wait + AllocGlobal, C: Crew<Reader<MemSource>>>(
+    rt: &R,
+    crew: C,
+    told: &[u8],
+    fails: Indices,
+) -> Result<Worked, Fail> {
     let alloc = rt.alloc();
     let suite = vec![in alloc;
         (
@@ -126,6 +134,7 @@ fn work<R: Wait + AllocGlobal>(rt: &R, told: &[u8], fails: Indices) -> Result<Wo
         &words.items,
         &mut files,
         starter,
+        crew,
         children,
         &mut clock,
         &mut out,
@@ -146,7 +155,7 @@ fn work<R: Wait + AllocGlobal>(rt: &R, told: &[u8], fails: Indices) -> Result<Wo
 fn a_worker_runs_the_tests_that_it_is_given(rt: HostRuntime) -> Result<(), Fail> {
     let alloc = rt.alloc();
     let told = joined(alloc, &TOLD)?;
-    let worked = work(&rt, &told, none(alloc))?;
+    let worked = work(&rt, crew!(rt), &told, none(alloc))?;
     let said = joined(alloc, &SAID)?;
     assert_eq!(rt; worked.status, 0);
     assert!(rt; matches!(&worked.said, Some(bytes) if bytes.as_slice() == said.as_slice()));
@@ -158,7 +167,7 @@ fn a_worker_runs_the_tests_that_it_is_given(rt: HostRuntime) -> Result<(), Fail>
 #[test]
 fn a_worker_whose_link_cannot_be_started(rt: HostRuntime) -> Result<(), Fail> {
     let alloc = rt.alloc();
-    let worked = work(&rt, &[], numbers(alloc, &[0])?)?;
+    let worked = work(&rt, crew!(rt), &[], numbers(alloc, &[0])?)?;
     assert_eq!(rt; worked.status, 3);
     assert!(rt; worked.said.is_none());
     assert_eq!(rt; worked.starts, 0);

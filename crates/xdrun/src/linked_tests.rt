@@ -1,0 +1,104 @@
+// Runs with workers, over links in memory that threads read.
+ghost use Rattle.std.specs.Prelude.{All, IfOk};
+ghost use Rattle.xd_link.specs.FreshLink.{IsFresh};
+
+use super::*;
+use crate::tests::{crew, numbers, words};
+use crate::worker_tests::{SAID, TOLD, joined, none};
+use std::collections::VecDeque;
+use std::sync::Wait;
+use std::test::Fail;
+use xd_crew::{Crew, ListedCrew, Slot, ThreadCrew, start_into};
+use xd_edge::{Blob, MemChildren, MemClock, MemFiles, MemSink};
+use xd_group::LinkEnd;
+use xd_link::{MemSource, MemStarter};
+use xd_reader::Reader;
+
+// What the worker of three tests says on each of two links.
+fn two_links(alloc: Global) -> Result<VecDeque<(MemSource, MemSink)>, Fail>
+    ensures { IfOk result (λ l. All (λ x. IsFresh x.0 x.1) l.items) }
+{
+    let mut links = VecDeque::new(alloc);
+    for _ in 0..2 {
+        let said = joined(alloc, &SAID)?;
+        let source = MemSource::new(Blob { bytes: said }, none(alloc), none(alloc));
+        let sink = MemSink::new(alloc, 2000, none(alloc))?;
+        links.push_back((source, sink))?;
+    }
+    Ok(links)
+}
+
+#[derive(Drop)]
+struct Seen {
+    status: u8,
+    out: Vec<u8>,
+    links: Vec<LinkEnd<MemSource, MemSink>>,
+}
+
+// A run on one worker, where these starts of a link and these calls of the output fail.
+fn run<R: Wait + AllocGlobal, C: Crew<Reader<MemSource>>>(
+    rt: &R,
+    crew: C,
+    starts: &[u32],
+    writes: &[u32],
+) -> Result<Seen, Fail> {
+    let alloc = rt.alloc();
+    let mut files = MemFiles::new(Vec::new(alloc), none(alloc));
+    let starter = MemStarter::new(alloc, two_links(alloc)?, numbers(alloc, starts)?);
+    let children = MemChildren::new(alloc, Vec::new(alloc), none(alloc));
+    let mut clock = MemClock::new(Vec::new(alloc));
+    let mut out = MemSink::new(alloc, 1000, numbers(alloc, writes)?)?;
+    let mut err = MemSink::new(alloc, 100, none(alloc))?;
+    let words = words(alloc, &["s.toml", "-n", "1"])?;
+    let end = xdrun(
+        rt,
+        alloc,
+        &words.items,
+        &mut files,
+        starter,
+        crew,
+        children,
+        &mut clock,
+        &mut out,
+        &mut err,
+    )?;
+    Ok(Seen {
+        status: end.status,
+        out: out.bytes,
+        links: end.links,
+    })
+}
+
+#[test]
+fn a_suite_on_one_worker(rt: HostRuntime) -> Result<(), Fail> {
+    let seen = run(&rt, crew!(rt), &[], &[])?;
+    assert_eq!(rt; seen.status, 1);
+    assert_eq!(rt; seen.out.as_slice(), b"3 tests on 1 workers, load\n[gw0] PASSED a\n[gw0] FAILED b\n[gw0] SKIPPED c\n==== [gw0] b ====\nstatus 3\n1 failed, 1 passed, 1 skipped\n".as_slice());
+    assert_eq!(rt; seen.links.len(), 1);
+    let call = TOLD[0];
+    assert!(rt; seen.links[0].sink.bytes.as_slice().starts_with(call));
+    Ok(())
+}
+
+#[test]
+fn a_worker_that_is_not_started_is_replaced(rt: HostRuntime) -> Result<(), Fail> {
+    let rows: [(&[u32], &[u32]); 2] = [(&[0], &[]), (&[], &[0])];
+    for (starts, readers) in rows {
+        let crew = ListedCrew::new(crew!(rt), numbers(rt.alloc(), readers)?);
+        let seen = run(&rt, crew, starts, &[])?;
+        assert_eq!(rt; seen.status, 1);
+        assert_eq!(rt; seen.out.as_slice(), b"[gw0] node down: not started\nreplacing crashed worker gw0\n3 tests on 1 workers, load\n[gw1] PASSED a\n[gw1] FAILED b\n[gw1] SKIPPED c\n==== [gw1] b ====\nstatus 3\n1 failed, 1 passed, 1 skipped\n".as_slice());
+    }
+    Ok(())
+}
+
+#[test]
+fn an_output_that_fails_ends_a_run_on_workers(rt: HostRuntime) -> Result<(), Fail> {
+    let rows: [(u32, &[u8]); 2] = [(0, b""), (2, b"3 tests on 1 workers, load\n")];
+    for (call, taken) in rows {
+        let seen = run(&rt, crew!(rt), &[], &[call])?;
+        assert_eq!(rt; seen.status, 3);
+        assert_eq!(rt; seen.out.as_slice(), taken);
+    }
+    Ok(())
+}
