@@ -1,4 +1,6 @@
 -- A run over a hub of links, from its first start to its last link.
+use Rattle.std.specs.Result.{Result, Ok, Err, IfOk}
+use Rattle.std.proofs.lemmas.Result.{IfOk-at_ok}
 use Rattle.std.proofs.Common.{◌≡◌, ℕ, List, [], ◌∷◌, map, Bool, true, false, Option, Some, None, refl, sym, ◌∙◌, ap, subst, All}
 use Rattle.xd_edge.specs.Sink.{Sunk}
 use Rattle.xd_edge.specs.declared.mode.ModeKind.{ModeKind}
@@ -11,7 +13,13 @@ use Rattle.xd_edge.specs.declared.mode.ModeKind.TheVariants.{Load}
 use Rattle.xd_group.specs.Kept.{orders_to, said_by}
 use Rattle.xd_group.specs.LinkRun.{Link, LinkRun}
 use Rattle.xd_group.specs.Tells.{marks_told}
-use Rattle.xd_linked.specs.Linked.{scene_told}
+use Rattle.xd_edge.specs.Faults.{Rose}
+use Rattle.xd_journal.specs.declared.settings.Settings.{Settings}
+use Rattle.xd_ledger.specs.Ending.{stop_of}
+use Rattle.xd_report.specs.Status.{status_of}
+use Rattle.xd_session.specs.Ends.{is_out_fault}
+use Rattle.xd_drive.specs.Driven.{IsJournalOf}
+use Rattle.xd_linked.specs.Linked.{EndedLink, LinkedRun, RunsLinked, linked_settings, scene_told}
 
 -- a hub that was called for nothing and gave nothing has marked no worker
 pub unmarked : (calls : List Entry) (given : List News) → calls ≡ [] → given ≡ [] → (w : ℕ) → marks_told calls given w ≡ no_marks
@@ -35,3 +43,22 @@ pub each_of : {A : Type 0} (worker : A → ℕ) (link : A → Link) (suite now :
 each_of worker link suite now mode given calls ends s m all =
     subst (λ (x : List ℕ). All (λ l. ∥ LinkRun x Load (said_by (worker l) given) (orders_to (worker l) calls) (link l) ∥₁) ends) s
     (subst (λ (k : ModeKind). All (λ l. ∥ LinkRun now k (said_by (worker l) given) (orders_to (worker l) calls) (link l) ∥₁) ends) m all)
+
+-- what holds of a value by two facts of it holds where there is one
+pub both_of : {A E : Type 0} (r : Result A E) (P Q R : A → Type 0) → ((a : A) → P a → Q a → R a) → IfOk r P → IfOk r Q → IfOk r R
+both_of (Ok a) P Q R f p q = f a p q
+both_of (Err e) P Q R f p q = tt
+
+-- a run by what was driven and what its links left
+pub linked_run : {Ends E : Type 0} (seen : Ends → List EndedLink) (now suite : List ℕ) (workers : ℕ) (settings : Settings) (old new : Option Sunk) (before later : ℕ) (ended : Result (Journal × Ends) E) (j : Journal) (ends : Ends) (code : ℕ)
+    → now ≡ suite → settings ≡ linked_settings workers → ended ≡ Ok (j, ends) → code ≡ status_of j
+    → IfOk ended (λ r. IsJournalOf settings r.0) → IfOk ended (λ r. RunsLinked now r.0 (seen r.1) old new)
+    → IfOk ended (λ r. is_out_fault (stop_of r.0) ≡ true → Rose before later) → IfOk ended (λ r. is_out_fault (stop_of r.0) ≡ false → later ≡ before)
+    → LinkedRun suite workers j code (seen ends) old new before later
+linked_run {Ends} {E} seen now suite workers settings old new before later ended j ends code same set e status journal runs rose still = record {
+  journal = subst (λ (s : Settings). IsJournalOf s j) set (IfOk-at_ok (λ (r : Journal × Ends). IsJournalOf settings r.0) e journal);
+  status = status;
+  runs = subst (λ (l : List ℕ). RunsLinked l j (seen ends) old new) same (IfOk-at_ok (λ (r : Journal × Ends). RunsLinked now r.0 (seen r.1) old new) e runs);
+  out_fault = IfOk-at_ok (λ (r : Journal × Ends). is_out_fault (stop_of r.0) ≡ true → Rose before later) e rose;
+  still = IfOk-at_ok (λ (r : Journal × Ends). is_out_fault (stop_of r.0) ≡ false → later ≡ before) e still;
+}
