@@ -2,6 +2,7 @@
 use Rattle.std.specs.Prelude.{◌≡◌, ℕ, suc, ◌+◌, ◌<◌, ◌==◌, ◌&&◌, not, ◌⊎◌, List, [], ◌∷◌, ◌++◌, length, nat_lt, Bool, true, false, Option, Some, None, Result, Ok, Err, if◌then◌else◌}
 use Rattle.xd_value.specs.Tree.{Tree, text}
 use Rattle.xd_value.specs.Canonical.{canonical}
+use Rattle.xd_value.specs.Payload.{IsPayload}
 use Rattle.xd_value.specs.declared.writing.DumpFault.{DumpFault}
 use Rattle.xd_value.specs.declared.writing.DumpFault.TheVariants as dump
 use Rattle.xd_channel.specs.State.{end_of, put_gives, close_gives}
@@ -101,6 +102,11 @@ abbrev pub close_gives_at : Slot Tree → Closing
 close_gives_at Unseen = closing.Nothing
 close_gives_at (Here s) = close_gives s
 close_gives_at Gone = closing.Nothing
+
+-- the text of the error, where there is one, has the payload that is said
+abbrev pub HasErrorPayload : Option (List ℕ) → Type 0
+HasErrorPayload None = Unit {0}
+HasErrorPayload (Some cs) = IsPayload (text cs) (canonical (text cs))
 
 -- what a close has to say, and why it is refused
 abbrev pub close_says : ℕ → Option (List ℕ) → Slot Tree → Option MessageView

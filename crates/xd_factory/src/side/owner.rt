@@ -3,10 +3,11 @@ ghost use Rattle.std.specs.Prelude.{◌≡◌, ◌≢◌, ◌≤◌, ◌<◌, �
 ghost use Rattle.xd_value.specs.Tree.{text};
 ghost use Rattle.xd_value.specs.View.{view};
 ghost use Rattle.xd_value.specs.Canonical.{dumped};
+ghost use Rattle.xd_value.specs.Payload.{IsPayload};
 ghost use Rattle.xd_channel.specs.State.{fresh};
 ghost use Rattle.xd_factory.specs.Slot.{Unseen, Here, is_seen, closed_slot, given_up_slot, give_up_says, function_ended_slot, received_slot, receive_answer, hooked_slot, hook_fault, hook_items, hook_end};
 ghost use Rattle.xd_factory.specs.Trees.{IsGot, received_trees, hooked_trees};
-ghost use Rattle.xd_factory.specs.Table.{closing_message, last_message, is_long, close_gives_at, close_says, close_refusal, close_fault_of, IsRefusal, giving_says, send_refusal, sent_gives, IsSent};
+ghost use Rattle.xd_factory.specs.Table.{closing_message, last_message, is_long, close_gives_at, close_says, close_refusal, close_fault_of, HasErrorPayload, IsRefusal, giving_says, send_refusal, sent_gives, IsSent};
 
 use super::{MAX_ENTRIES, MAX_NUMBER, Side};
 use crate::{CloseFault, HookFault, OpenFault, SendFault, Unknown};
@@ -58,6 +59,7 @@ impl Side {
     /// The message that sends a value on a channel.
     pub fn send(&mut self, number: u32, value: &Value) -> Result<Message, SendFault>
         ensures answer { IsSent number result (sent_gives (send_refusal (slot_of self.old number)) (dumped (view value.now))) }
+        ensures payload { IfOk result (λ message. IsPayload (view value.now) message.payload) }
         ensures same { self.new ≡ self.old }
     {
         match self.ends.get(&number) {
@@ -84,6 +86,7 @@ impl Side {
     pub fn close(&mut self, number: u32, error: Option<Text>) -> Result<Option<Message>, CloseFault>
         ensures answer { IfOk result (λ says. says ≡ close_says number error (slot_of self.old number)) }
         ensures accepted { OnOk result (close_refusal (is_seen (slot_of self.old number)) (is_long error) ≡ None) }
+        ensures payload { OnOk result (HasErrorPayload error) }
         ensures refused { IfErr result (IsRefusal (close_refusal (is_seen (slot_of self.old number)) (is_long error))) }
         ensures slots { OnOk result ((c : ℕ) → slot_of self.new c ≡ (if number == c then closed_slot (slot_of self.old c) else slot_of self.old c)) }
         ensures history { (h : List Act) → SideStands self.old h → OnOk result (SideStands self.new (Closed number ∷ h)) }
@@ -104,6 +107,7 @@ impl Side {
     pub fn end_function(&mut self, number: u32, error: Option<Text>) -> Result<Message, CloseFault>
         ensures answer { IfOk result (λ message. message ≡ closing_message number error) }
         ensures accepted { OnOk result (close_refusal (is_seen (slot_of self.old number)) (is_long error) ≡ None) }
+        ensures payload { OnOk result (HasErrorPayload error) }
         ensures refused { IfErr result (IsRefusal (close_refusal (is_seen (slot_of self.old number)) (is_long error))) }
         ensures slots { OnOk result ((c : ℕ) → slot_of self.new c ≡ (if number == c then function_ended_slot (slot_of self.old c) else slot_of self.old c)) }
         ensures history { (h : List Act) → SideStands self.old h → OnOk result (SideStands self.new (Function_ended number ∷ h)) }
@@ -262,6 +266,7 @@ fn closing_of(alloc: Global, number: u32, error: Option<Text>) -> Result<Message
     requires { number ≤ 2147483647 }
     ensures message { IfOk result (λ m. m ≡ closing_message number error) }
     ensures short { OnOk result (is_long error ≡ false) }
+    ensures payload { OnOk result (HasErrorPayload error) }
     ensures refused { IfErr result (IsRefusal (close_refusal true (is_long error))) }
 {
     match error {
