@@ -5,18 +5,19 @@ use Rattle.std.specs.Option.{option_to_list}
 use Rattle.std.proofs.lemmas.Bool.{and_parts}
 use Rattle.xd_value.specs.Tree.{Tree}
 use Rattle.xd_value.specs.Channels.{channels}
+use Rattle.xd_value.specs.Payload.{IsPayload}
 use Rattle.xd_value.specs.Canonical.{dumped}
 use Rattle.xd_frame.specs.declared.kind.Kind.TheVariants as kind
 use Rattle.xd_frame.specs.Message.{MessageView}
 use Rattle.xd_factory.specs.Slot.{Slot, is_seen, is_here, closed_slot, function_ended_slot, given_up_slot, give_up_says}
 use Rattle.xd_factory.specs.Said.{Said, Exec, Data, Close, Means}
-use Rattle.xd_factory.specs.Table.{is_long, close_refusal, closing_message, close_says, giving_says, send_refusal, sent_gives}
+use Rattle.xd_factory.specs.Table.{is_long, HasErrorPayload, close_refusal, closing_message, close_says, giving_says, send_refusal, sent_gives}
 use Rattle.xd_factory.specs.View.{slot_of, KeepsRest}
 use Rattle.xd_factory.specs.declared.side.Side.{Side}
 use Rattle.xd_pair.specs.Part as part
 use Rattle.xd_pair.specs.Pair.{Actor, Send, Call, Answer, Close_own, End_function, Give_up, knows, can_send, can_call, can_answer}
-use Rattle.xd_pair.specs.Messages.{AllMean, Adds, HasPayload, HasErrorPayload}
-use Rattle.xd_pair.specs.Stands.{StandsFor, IsMove, IsMoveIf}
+use Rattle.xd_pair.specs.Messages.{AllMean, Adds}
+use Rattle.xd_pair.specs.Stands.{IsMove, IsMoveIf}
 use Rattle.xd_pair.specs.declared.linked.LinkedSide.{LinkedSide}
 use Rattle.xd_pair.proofs.Says.{differ, unasked, here_seen, may_seen}
 use Rattle.xd_pair.proofs.Payloads.{close_means}
@@ -79,7 +80,7 @@ both : (x y : Bool) → x ≡ true → y ≡ true → x && y ≡ true
 both true y h k = k
 both false y h k = h
 
-pub send_moves : (old new : LinkedSide) (n : ℕ) (v : Tree) (b : List ℕ) (m : MessageView) → HasPayload v → sent_gives (send_refusal (slot_of old.side n)) (dumped v) ≡ Ok b
+pub send_moves : (old new : LinkedSide) (n : ℕ) (v : Tree) (b : List ℕ) (m : MessageView) → IsPayload v b → sent_gives (send_refusal (slot_of old.side n)) (dumped v) ≡ Ok b
     → m ≡ record { kind = kind.Item; channel = n; payload = b } → new.side ≡ old.side → new.said.items ≡ old.said.items ++ m ∷ []
     → IsMoveIf (λ a. knows a.part (channels v)) old new (Send n v)
 send_moves old new n v b m p sent is side more odd a wire num known k =
@@ -93,7 +94,7 @@ send_moves old new n v b m p sent is side more odd a wire num known k =
       way = refl;
     }
 
-pub call_moves : (old new : LinkedSide) (n : ℕ) (v : Tree) (b : List ℕ) (m : MessageView) → HasPayload v → dumped v ≡ Ok b → m ≡ record { kind = kind.Exec; channel = n; payload = b }
+pub call_moves : (old new : LinkedSide) (n : ℕ) (v : Tree) (b : List ℕ) (m : MessageView) → IsPayload v b → dumped v ≡ Ok b → m ≡ record { kind = kind.Exec; channel = n; payload = b }
     → new.side ≡ old.side → new.said.items ≡ old.said.items ++ m ∷ [] → IsMoveIf (λ a. can_call true a n v) old new (Call n v)
 call_moves old new n v b m p d is side more odd a wire num can k =
     let parts = and_parts (is_here (a.part n).slot) (knows a.part (channels v)) can in
@@ -108,7 +109,7 @@ call_moves old new n v b m p d is side more odd a wire num can k =
 abbrev closing : ℕ → List ℕ → MessageView
 closing n b = record { kind = kind.Close; channel = n; payload = b }
 
-pub answer_moves : (old new : LinkedSide) (n : ℕ) (v : Tree) (b none : List ℕ) (m end : MessageView) → HasPayload v → dumped v ≡ Ok b → none ≡ []
+pub answer_moves : (old new : LinkedSide) (n : ℕ) (v : Tree) (b none : List ℕ) (m end : MessageView) → IsPayload v b → dumped v ≡ Ok b → none ≡ []
     → m ≡ record { kind = kind.Item; channel = n; payload = b } → end ≡ record { kind = kind.Close; channel = n; payload = none }
     → new.side ≡ old.side → new.said.items ≡ old.said.items ++ m ∷ [] ++ end ∷ [] → IsMoveIf (λ a. can_answer a n v) old new (Answer n v)
 answer_moves old new n v b none m end p d empty is end_is side more odd a wire num can k =

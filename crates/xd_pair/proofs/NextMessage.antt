@@ -1,14 +1,12 @@
 -- Taking the next message of the peer, by what the contract of `take_message` says, is a move of every actor.
-use Rattle.std.proofs.Common.{◌≡◌, ℕ, List, [], ◌∷◌, ◌++◌, Bool, true, false, Option, Some, None, refl, sym, ap, subst, ◌∙◌}
+use Rattle.std.proofs.Common.{◌≡◌, ℕ, List, [], ◌∷◌, Bool, true, false, Some, None, refl, sym, subst}
 use Rattle.std.specs.Prelude.{◌||◌, is_some, if◌then◌else◌}
 use Rattle.xd_value.specs.Tree.{Tree}
-use Rattle.xd_channel.specs.declared.end.End.{End}
 use Rattle.xd_frame.specs.Message.{MessageView}
 use Rattle.xd_factory.specs.Numbers.{is_in, is_mine}
 use Rattle.xd_factory.specs.Said.{Said, Means, names_of}
 use Rattle.xd_factory.specs.Table.{heard_slot, answer_of, OpensAtMost}
 use Rattle.xd_factory.specs.View.{slot_of, parity_of, next_of, fault_of, is_finished, KeepsRest}
-use Rattle.xd_factory.specs.declared.side.Side.{Side}
 use Rattle.xd_factory.specs.declared.taken.Taken.{Taken}
 use Rattle.xd_factory.specs.declared.faults.SideFault.{SideFault}
 use Rattle.xd_pair.specs.Pair.{Actor, Take, takes, rest, after, wire_after}

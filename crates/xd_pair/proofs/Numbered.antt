@@ -1,10 +1,10 @@
 -- In every history each side opens its own numbers, and nothing stands at 0.
-use Rattle.std.proofs.Common.{◌≡◌, ℕ, ◌+◌, List, [], ◌∷◌, ◌++◌, Bool, true, false, refl, sym, ap, subst, ◌∙◌, arith}
-use Rattle.std.specs.Prelude.{◌==◌, ◌||◌, ◌&&◌, ◌%◌, not, if◌then◌else◌}
+use Rattle.std.proofs.Common.{◌≡◌, ℕ, ◌+◌, List, [], ◌∷◌, Bool, true, false, refl, sym, ap, subst, ◌∙◌, arith}
+use Rattle.std.specs.Prelude.{◌==◌, ◌||◌, ◌&&◌, not, if◌then◌else◌}
 use Rattle.std.proofs.lemmas.Bool.Decides.{nat_tests}
 use Rattle.xd_value.specs.Tree.{Tree}
 use Rattle.xd_factory.specs.Numbers.{is_in, is_odd}
-use Rattle.xd_factory.specs.Slot.{Slot, Unseen, Here, Gone, is_seen, named_slot, opened_slot}
+use Rattle.xd_factory.specs.Slot.{Slot, Unseen, Here, Gone, is_seen, named_slot}
 use Rattle.xd_factory.specs.Said.{Said}
 use Rattle.xd_pair.specs.Notes.{Note, Named, Item, Ends, Lasts, Asked, owns, notes}
 use Rattle.xd_pair.specs.Part.{Part, heard, heard_in, heard_all, opened_in, received_in, hooked_in, closed_in, ended_in, given_up_in}

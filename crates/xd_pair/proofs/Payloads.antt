@@ -1,5 +1,5 @@
 -- Where the messages of the law and those of the link meet: what a call answers means the word that the law says.
-use Rattle.std.proofs.Common.{◌≡◌, ℕ, ◌≤◌, List, [], length, Bool, true, false, Some, None, refl, sym, ap, ◌∙◌}
+use Rattle.std.proofs.Common.{◌≡◌, ℕ, ◌≤◌, List, length, Bool, true, false, Some, None, refl}
 use Rattle.std.specs.Prelude.{◌==◌, ◌&&◌}
 use Rattle.xd_value.specs.Tree.{Tree, text}
 use Rattle.xd_value.specs.Canonical.{canonical}

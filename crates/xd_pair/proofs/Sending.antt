@@ -1,15 +1,14 @@
 -- The messages that a side says are the words that the move says.
-use Rattle.std.proofs.Common.{◌≡◌, ℕ, ◌≤◌, List, [], ◌∷◌, ◌++◌, length, Bool, true, false, Option, Some, None, Result, Ok, Err, refl, sym, ap, subst, ◌∙◌, append_assoc, arith}
-use Rattle.std.specs.Prelude.{◌==◌, ◌&&◌, not, nat_lt, if◌then◌else◌}
+use Rattle.std.proofs.Common.{◌≡◌, ℕ, ◌≤◌, List, [], ◌∷◌, ◌++◌, length, Bool, true, false, Option, Some, None, Result, Ok, Err, refl, sym, ap, subst, arith}
+use Rattle.std.specs.Prelude.{◌==◌, nat_lt, if◌then◌else◌}
 use Rattle.std.specs.Option.{option_to_list}
-use Rattle.std.proofs.lemmas.Bool.{and_parts}
 use Rattle.std.proofs.lemmas.Bool.Decides.{nat_tests}
 use Rattle.std.proofs.lemmas.Grind.{common_steps}
 use Rattle.xd_value.specs.Tree.{Tree, text}
-use Rattle.xd_value.specs.Channels.{channels}
+use Rattle.xd_value.specs.Payload.{IsPayload}
 use Rattle.xd_value.specs.Canonical.{canonical, dumped}
 use Rattle.xd_value.specs.declared.writing.DumpFault.{DumpFault}
-use Rattle.xd_channel.specs.State.{EndState, close_gives, give_up_gives}
+use Rattle.xd_channel.specs.State.{close_gives, give_up_gives}
 use Rattle.xd_channel.specs.declared.answers.Closing.{Closing}
 use Rattle.xd_channel.specs.declared.answers.Closing.TheVariants as closing
 use Rattle.xd_channel.specs.declared.answers.GivenUp.{GivenUp}
@@ -17,13 +16,12 @@ use Rattle.xd_channel.specs.declared.answers.GivenUp.TheVariants as given_up
 use Rattle.xd_frame.specs.declared.kind.Kind.TheVariants as kind
 use Rattle.xd_frame.specs.Message.{MessageView}
 use Rattle.xd_factory.specs.Slot.{Slot, Unseen, Here, Gone, is_seen, give_up_says}
-use Rattle.xd_factory.specs.Said.{Said, Exec, Data, Close, Last, Means}
-use Rattle.xd_factory.specs.Table.{is_long, close_refusal, closing_message, closing_says, close_says, giving_says, send_refusal, sent_gives, IsSent}
-use Rattle.xd_factory.specs.declared.faults.CloseFault.{CloseFault}
+use Rattle.xd_factory.specs.Said.{Said, Exec, Data, Close, Means}
+use Rattle.xd_factory.specs.Table.{is_long, HasErrorPayload, close_refusal, closing_message, closing_says, close_says, giving_says, send_refusal, sent_gives}
 use Rattle.xd_factory.specs.declared.faults.SendFault.{SendFault}
 use Rattle.xd_factory.specs.declared.faults.SendFault.TheVariants as send
 use Rattle.xd_pair.specs.Part as part
-use Rattle.xd_pair.specs.Messages.{AllMean, Adds, HasPayload, HasErrorPayload}
+use Rattle.xd_pair.specs.Messages.{AllMean, Adds}
 use Rattle.xd_pair.proofs.Payloads.{item_means, call_means, close_means, error_means, last_means}
 
 pub adds_option : (old new : List MessageView) (m : Option MessageView) (words : List Said) → new ≡ old ++ option_to_list m → AllMean (option_to_list m) words → Adds old new words
@@ -46,7 +44,7 @@ short_text n h = grind (arith, nat_tests)
 
 end_means : (n : ℕ) (e : Option (List ℕ)) → n == 0 ≡ false → is_long e ≡ false → HasErrorPayload e → Means (closing_message n e) (Close n e)
 end_means n None h l p = close_means n h
-end_means n (Some cs) h l p = error_means n cs p.bytes h p.payload (short_text (length (canonical (text cs))) l)
+end_means n (Some cs) h l p = error_means n cs (canonical (text cs)) h p (short_text (length (canonical (text cs))) l)
 
 pub end_said : (n : ℕ) (e : Option (List ℕ)) (s : Slot Tree) → (is_seen s ≡ true → n == 0 ≡ false) → close_refusal (is_seen s) (is_long e) ≡ None → HasErrorPayload e → AllMean (closing_message n e ∷ []) (part.end_words n e s)
 end_said n e Unseen h l p = absurd (let z = l in cc)
@@ -78,15 +76,15 @@ pub dumped_is : (t : Tree) (b : List ℕ) → dumped t ≡ Ok b → (b ≡ canon
 unfolding dumped
 dumped_is t b h = (grind (arith, nat_tests, common_steps), grind (arith, nat_tests, common_steps))
 
-pub item_said : (n : ℕ) (v : Tree) (b : List ℕ) → n == 0 ≡ false → HasPayload v → dumped v ≡ Ok b → Means (record { kind = kind.Item; channel = n; payload = b }) (Data n v)
+pub item_said : (n : ℕ) (v : Tree) (b : List ℕ) → n == 0 ≡ false → IsPayload v b → dumped v ≡ Ok b → Means (record { kind = kind.Item; channel = n; payload = b }) (Data n v)
 item_said n v b h p d = let e = dumped_is v b d in
     subst (λ (x : List ℕ). Means (record { kind = kind.Item; channel = n; payload = x }) (Data n v)) (sym e.0)
-    (item_means n v p.bytes h p.payload (subst (λ (x : List ℕ). length x ≤ 16777216) e.0 e.1))
+    (item_means n v b h p (subst (λ (x : List ℕ). length x ≤ 16777216) e.0 e.1))
 
-pub call_said : (n : ℕ) (v : Tree) (b : List ℕ) → n == 0 ≡ false → HasPayload v → dumped v ≡ Ok b → Means (record { kind = kind.Exec; channel = n; payload = b }) (Exec n v)
+pub call_said : (n : ℕ) (v : Tree) (b : List ℕ) → n == 0 ≡ false → IsPayload v b → dumped v ≡ Ok b → Means (record { kind = kind.Exec; channel = n; payload = b }) (Exec n v)
 call_said n v b h p d = let e = dumped_is v b d in
     subst (λ (x : List ℕ). Means (record { kind = kind.Exec; channel = n; payload = x }) (Exec n v)) (sym e.0)
-    (call_means n v p.bytes h p.payload (subst (λ (x : List ℕ). length x ≤ 16777216) e.0 e.1))
+    (call_means n v b h p (subst (λ (x : List ℕ). length x ≤ 16777216) e.0 e.1))
 
 -- what the answer of a send says of the slot and the payload
 gives_parts : (f : Option SendFault) (r : Result (List ℕ) DumpFault) (b : List ℕ) → sent_gives f r ≡ Ok b → (f ≡ None) × (r ≡ Ok b)

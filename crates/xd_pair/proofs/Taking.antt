@@ -5,7 +5,7 @@ use Rattle.std.proofs.lemmas.Bool.{eqb-true}
 use Rattle.std.proofs.lemmas.List.{append-nil}
 use Rattle.xd_value.specs.Tree.{Tree}
 use Rattle.xd_value.specs.Channels.{channels}
-use Rattle.xd_channel.specs.State.{EndState, end_of, put_gives}
+use Rattle.xd_channel.specs.State.{end_of, put_gives}
 use Rattle.xd_channel.specs.History.{handed}
 use Rattle.xd_channel.specs.declared.end.End.{End}
 use Rattle.xd_channel.specs.declared.end.End.TheVariants.{LastMessage}
@@ -14,7 +14,7 @@ use Rattle.xd_channel.specs.declared.answers.Arrived.TheVariants as arrived
 use Rattle.xd_frame.specs.Message.{MessageView}
 use Rattle.xd_factory.specs.Numbers.{is_in, is_mine}
 use Rattle.xd_factory.specs.Said.{Said, Status, Exec, Data, Close, Last, Terminate, Means, names_of}
-use Rattle.xd_factory.specs.Slot.{Slot, Unseen, Here, Gone, is_new, named_slot, item_slot, item_gives, end_gives}
+use Rattle.xd_factory.specs.Slot.{Slot, Unseen, Here, Gone, is_new, named_slot, item_gives, end_gives}
 use Rattle.xd_factory.specs.Table.{heard_slot, answer_of, arrived_answer, end_answer, ended_answer, handed_answer, OpensAtMost}
 use Rattle.xd_factory.specs.View.{slot_of, parity_of, next_of, fault_of, is_finished, KeepsRest}
 use Rattle.xd_factory.specs.declared.parity.Parity.{Parity}
@@ -22,10 +22,10 @@ use Rattle.xd_factory.specs.declared.side.Side.{Side}
 use Rattle.xd_factory.specs.declared.taken.Taken.{Taken}
 use Rattle.xd_factory.specs.declared.taken.Taken.TheVariants as taken
 use Rattle.xd_factory.specs.declared.faults.SideFault.{SideFault}
-use Rattle.xd_pair.specs.Notes.{Note, Named, Item, Ends, Lasts, Asked, side_parity, owns, named, notes}
+use Rattle.xd_pair.specs.Notes.{Note, Named, Item, Ends, Lasts, Asked, side_parity, owns, notes}
 use Rattle.xd_pair.specs.Part.{Part, heard_all, is_orderly, is_lost}
 use Rattle.xd_pair.specs.Pair.{Actor, Take, Refuse, takes, rest, has_notes, is_told, named_part, after, wire_after}
-use Rattle.xd_pair.specs.Handed.{Hands, items_at, end_at, taken_items, taken_end, next_items, next_end}
+use Rattle.xd_pair.specs.Handed.{Hands, taken_items, taken_end}
 use Rattle.xd_pair.specs.Messages.{AllMean}
 use Rattle.xd_pair.specs.Stands.{StandsFor, IsOpen}
 use Rattle.xd_pair.proofs.SameWords.{message_heard, named_own, twice}

@@ -1,7 +1,5 @@
 -- Where the words of the law are the messages of the program: what a list of messages means.
-use Rattle.std.specs.Prelude.{◌≡◌, ℕ, List, [], ◌∷◌, ◌++◌, Option, Some, None}
-use Rattle.xd_value.specs.Tree.{Tree, text}
-use Rattle.xd_value.specs.Payload.{IsPayload}
+use Rattle.std.specs.Prelude.{◌≡◌, List, [], ◌∷◌, ◌++◌}
 use Rattle.xd_frame.specs.Message.{MessageView}
 use Rattle.xd_factory.specs.Said.{Said, Means}
 
@@ -17,13 +15,3 @@ pub record Adds (old new : List MessageView) (words : List Said) : Type 0 where
   pub more : List MessageView
   pub behind : new ≡ old ++ more
   pub mean : AllMean more words
-
--- some bytes are a payload of the value
-pub record HasPayload (v : Tree) : Type 0 where
-  pub bytes : List ℕ
-  pub payload : IsPayload v bytes
-
--- the text of an error has a payload, where there is one
-abbrev pub HasErrorPayload : Option (List ℕ) → Type 0
-HasErrorPayload None = Unit {0}
-HasErrorPayload (Some cs) = HasPayload (text cs)

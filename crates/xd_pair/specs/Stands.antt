@@ -1,5 +1,5 @@
 -- When a side of the program stands for an actor of the law, and when a call of it is a move of the law.
-use Rattle.std.specs.Prelude.{◌≡◌, ℕ, ◌||◌, is_some, List, [], Bool, true, false, Option, None}
+use Rattle.std.specs.Prelude.{◌≡◌, ℕ, ◌||◌, is_some, List, Bool, true, false, Option}
 use Rattle.xd_value.specs.Tree.{Tree}
 use Rattle.xd_value.specs.Channels.{channels}
 use Rattle.xd_channel.specs.declared.end.End.{End}
@@ -7,7 +7,6 @@ use Rattle.xd_factory.specs.Slot.{is_seen}
 use Rattle.xd_factory.specs.Said.{Said}
 use Rattle.xd_factory.specs.View.{slot_of, parity_of, next_of, fault_of, is_finished, KeepsRest}
 use Rattle.xd_factory.specs.declared.side.Side.{Side}
-use Rattle.xd_factory.specs.declared.taken.Taken.{Taken}
 use Rattle.xd_pair.specs.Notes.{owns, side_parity}
 use Rattle.xd_pair.specs.Pair.{Actor, Move, Take, Refuse, knows, says, after, wire_after}
 use Rattle.xd_pair.specs.Messages.{AllMean, Adds}

@@ -15,14 +15,13 @@ use xd_value::{DumpFault, Value, dumps};
 
 impl LinkedSide {
     ghost use Rattle.xd_pair.specs.Pair.{Send, Call, Ask, Answer, Stop, Close_own, End_function, Give_up, can_call, can_answer};
-    ghost use Rattle.xd_pair.specs.Messages.{HasPayload, HasErrorPayload};
     ghost use Rattle.xd_pair.specs.Stands.{IsMove, IsMoveIf, Stays, names_known};
     ghost use Rattle.xd_factory.specs.View.{slot_of};
 
     /// Sends a value, which names only channels that this side has opened or seen.
     pub fn send(&mut self, number: u32, value: &Value) -> Result<(), SendFault>
-        ensures step { let v = view value.now in HasPayload v
-            → OnOk result (IsMoveIf (names_known v) self.old self.new (Send number v)) }
+        ensures step { let v = view value.now in
+            OnOk result (IsMoveIf (names_known v) self.old self.new (Send number v)) }
         ensures refused { let refusal = send_refusal (slot_of self.old.side number) in
             let wanted = sent_gives refusal (dumped (view value.now)) in
             IfErr result (λ fault. IsSent number (Err fault) wanted) }
@@ -43,8 +42,7 @@ impl LinkedSide {
     /// Calls a function on a channel that is open here, with a value of known channels: CHANNEL_EXEC.
     pub fn call(&mut self, number: u32, value: &Value) -> Result<(), DumpFault>
         requires { number ≤ max_channel }
-        ensures step { let v = view value.now in HasPayload v
-            → OnOk result
+        ensures step { let v = view value.now in OnOk result
             (IsMoveIf (λ a. can_call true a number v) self.old self.new (Call number v)) }
         ensures refused { IfErr result (λ fault. IsDump (Err fault) (dumped (view value.now))) }
         ensures err { OnErr result (Stays self.old self.new) }
@@ -77,8 +75,7 @@ impl LinkedSide {
     /// Answers a STATUS that was taken on this number: an item, and the end.
     pub fn answer(&mut self, number: u32, value: &Value) -> Result<(), DumpFault>
         requires { number ≤ max_channel }
-        ensures step { let v = view value.now in HasPayload v
-            → OnOk result
+        ensures step { let v = view value.now in OnOk result
             (IsMoveIf (λ a. can_answer a number v) self.old self.new (Answer number v)) }
         ensures refused { IfErr result (λ fault. IsDump (Err fault) (dumped (view value.now))) }
         ensures err { OnErr result (Stays self.old self.new) }
@@ -112,8 +109,7 @@ impl LinkedSide {
 
     /// Closes a channel, with the text of an error where there is one.
     pub fn close(&mut self, number: u32, error: Option<Text>) -> Result<(), CloseFault>
-        ensures step { HasErrorPayload error
-            → OnOk result (IsMove self.old self.new (Close_own number error)) }
+        ensures step { OnOk result (IsMove self.old self.new (Close_own number error)) }
         ensures refused { IfErr result
             (IsRefusal (close_refusal (is_seen (slot_of self.old.side number)) (is_long error))) }
         ensures err { OnErr result (Stays self.old self.new) }
@@ -132,8 +128,7 @@ impl LinkedSide {
 
     /// Ends the channel of a function: the peer is always told.
     pub fn end_function(&mut self, number: u32, error: Option<Text>) -> Result<(), CloseFault>
-        ensures step { HasErrorPayload error
-            → OnOk result (IsMove self.old self.new (End_function number error)) }
+        ensures step { OnOk result (IsMove self.old self.new (End_function number error)) }
         ensures refused { IfErr result
             (IsRefusal (close_refusal (is_seen (slot_of self.old.side number)) (is_long error))) }
         ensures err { OnErr result (Stays self.old self.new) }

@@ -5,10 +5,10 @@ use Rattle.xd_pair.proofs.Moves.{call_moves, behind}
 use Rattle.xd_pair.proofs.linked.LinkedSide.call.Goals as goal
 
 pub of-requires-clause-payload : goal.of-requires-clause-payload
-of-requires-clause-payload c = (dumped_is (view c.args.value.now) c.in_ok-payload.payload c.in_ok-payload.ensures).1
+of-requires-clause-payload c = (dumped_is (view c.args.value.now) c.in_ok-payload.payload c.in_ok-payload.ensures.dumped).1
 
 pub returns-clause-step : goal.returns-clause-step
-returns-clause-step c = λ p.
+returns-clause-step c =
     let s = c.args.self.now in
-    call_moves s (record s { said = c.say.new.said }) c.args.number (view c.args.value.now) c.in_ok-payload.payload c.of.result p c.in_ok-payload.ensures c.of.ensures refl
+    call_moves s (record s { said = c.say.new.said }) c.args.number (view c.args.value.now) c.in_ok-payload.payload c.of.result c.in_ok-payload.ensures.payload c.in_ok-payload.ensures.dumped c.of.ensures refl
     (behind s.said.items c.reserve.new.self.items c.say.new.said.items (c.of.result ∷ []) c.reserve.ensures.items c.say.ensures.items)
