@@ -1,5 +1,5 @@
 -- A run over a hub of links, from its first start to its last link.
-use Rattle.std.specs.Result.{Result, Ok, Err, IfOk}
+use Rattle.std.specs.Prelude.{Result, Ok, Err, IfOk}
 use Rattle.std.proofs.lemmas.Result.{IfOk-at_ok}
 use Rattle.std.proofs.Common.{◌≡◌, ℕ, List, [], ◌∷◌, map, Bool, true, false, Option, Some, None, refl, sym, ◌∙◌, ap, subst, All}
 use Rattle.xd_edge.specs.Sink.{Sunk}
@@ -50,12 +50,12 @@ both_of (Ok a) P Q R f p q = f a p q
 both_of (Err e) P Q R f p q = tt
 
 -- a run by what was driven and what its links left
-pub linked_run : {Ends E : Type 0} (seen : Ends → List EndedLink) (now suite : List ℕ) (workers : ℕ) (settings : Settings) (old new : Option Sunk) (before later : ℕ) (ended : Result (Journal × Ends) E) (j : Journal) (ends : Ends) (code : ℕ)
+pub linked_run : {Ends E : Type 0} (ended : Result (Journal × Ends) E) (seen : Ends → List EndedLink) (now suite : List ℕ) (workers : ℕ) (settings : Settings) (old new : Option Sunk) (before later : ℕ) (j : Journal) (ends : Ends) (code : ℕ)
     → now ≡ suite → settings ≡ linked_settings workers → ended ≡ Ok (j, ends) → code ≡ status_of j
     → IfOk ended (λ r. IsJournalOf settings r.0) → IfOk ended (λ r. RunsLinked now r.0 (seen r.1) old new)
     → IfOk ended (λ r. is_out_fault (stop_of r.0) ≡ true → Rose before later) → IfOk ended (λ r. is_out_fault (stop_of r.0) ≡ false → later ≡ before)
     → LinkedRun suite workers j code (seen ends) old new before later
-linked_run {Ends} {E} seen now suite workers settings old new before later ended j ends code same set e status journal runs rose still = record {
+linked_run {Ends} {E} ended seen now suite workers settings old new before later j ends code same set e status journal runs rose still = record {
   journal = subst (λ (s : Settings). IsJournalOf s j) set (IfOk-at_ok (λ (r : Journal × Ends). IsJournalOf settings r.0) e journal);
   status = status;
   runs = subst (λ (l : List ℕ). RunsLinked l j (seen ends) old new) same (IfOk-at_ok (λ (r : Journal × Ends). RunsLinked now r.0 (seen r.1) old new) e runs);
