@@ -73,7 +73,10 @@ fn run<R: Wait + AllocGlobal, C: Crew<Reader<MemSource>>>(
 fn a_suite_on_one_worker(rt: HostRuntime) -> Result<(), Fail> {
     let seen = run(&rt, crew!(rt), &[], &[])?;
     assert_eq!(rt; seen.status, 1);
-    assert_eq!(rt; seen.out.as_slice(), b"3 tests on 1 workers, load\n[gw0] PASSED a\n[gw0] FAILED b\n[gw0] SKIPPED c\n==== [gw0] b ====\nstatus 3\n1 failed, 1 passed, 1 skipped\n".as_slice());
+    assert_eq!(rt;
+        seen.out.as_slice(),
+        b"3 tests on 1 workers, load\n[gw0] PASSED a\n[gw0] FAILED b\n[gw0] SKIPPED c\n==== [gw0] b ====\nstatus 3\n1 failed, 1 passed, 1 skipped\n".as_slice()
+    );
     assert_eq!(rt; seen.links.len(), 1);
     let call = TOLD[0];
     assert!(rt; seen.links[0].sink.bytes.as_slice().starts_with(call));
@@ -87,7 +90,10 @@ fn a_worker_that_is_not_started_is_replaced(rt: HostRuntime) -> Result<(), Fail>
         let crew = ListedCrew::new(crew!(rt), numbers(rt.alloc(), readers)?);
         let seen = run(&rt, crew, starts, &[])?;
         assert_eq!(rt; seen.status, 1);
-        assert_eq!(rt; seen.out.as_slice(), b"[gw0] node down: not started\nreplacing crashed worker gw0\n3 tests on 1 workers, load\n[gw1] PASSED a\n[gw1] FAILED b\n[gw1] SKIPPED c\n==== [gw1] b ====\nstatus 3\n1 failed, 1 passed, 1 skipped\n".as_slice());
+        assert_eq!(rt;
+            seen.out.as_slice(),
+            b"[gw0] node down: not started\nreplacing crashed worker gw0\n3 tests on 1 workers, load\n[gw1] PASSED a\n[gw1] FAILED b\n[gw1] SKIPPED c\n==== [gw1] b ====\nstatus 3\n1 failed, 1 passed, 1 skipped\n".as_slice()
+        );
     }
     Ok(())
 }

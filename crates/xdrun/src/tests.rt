@@ -32,6 +32,7 @@ macro_rules! crew {
         ThreadCrew::new($rt, slot, make)
     }};
 }
+
 pub(crate) use crew;
 
 // `sh -c SCRIPT` writes this output, the first byte by itself, and ends so.

@@ -79,8 +79,8 @@ pub fn xdrun<
           status = e.status;
           journal = e.journal;
           links = map (λ l. ended_link l.worker l.killed
-            (spring (St.Src.supply l.source) (St.Src.is_ended l.source) (St.Src.faults l.source))
-            (St.Snk.sunk l.sink) (St.Snk.faults l.sink)) e.links.items;
+              (spring (St.Src.supply l.source) (St.Src.is_ended l.source) (St.Src.faults l.source))
+              (St.Snk.sunk l.sink) (St.Snk.faults l.sink)) e.links.items;
         })
         (record {
           streams = record {

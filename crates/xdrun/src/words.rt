@@ -1,10 +1,9 @@
 // What the words behind the program's name ask for.
 ghost use Rattle.std.specs.Prelude.{◌≡◌, ◌<◌, ◌≤◌, IfOk, IfSome, IsTrue, length};
 ghost use Rattle.std.specs.Str.{encode_utf8_all};
-ghost use Rattle.xdrun.specs.Words.{
-    Fits, begins_with_dash, digit_of, is_command, is_path, is_suite, is_word, plan_of, run_on,
-    two_digits, workers_in,
-};
+ghost use Rattle.xdrun.specs.Words.{Fits, is_command, plan_of, run_on};
+ghost use Rattle.xdrun.specs.Words.{begins_with_dash, is_path, is_suite, is_word};
+ghost use Rattle.xdrun.specs.Words.{digit_of, two_digits, workers_in};
 
 use xd_edge::{OutOfMemory, Text};
 

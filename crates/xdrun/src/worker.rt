@@ -15,14 +15,7 @@ use xd_reader::Reader;
 use xd_serve::serve;
 
 /// Starts a link to the program's own streams and serves it. Where it cannot be started the status is 3.
-pub fn serve_own<
-    R: Wait,
-    F: Files,
-    St: Starter,
-    C: Crew<Reader<St::Src>>,
-    K: Children,
-    T: Clock,
->(
+pub fn serve_own<R: Wait, F: Files, St: Starter, C: Crew<Reader<St::Src>>, K: Children, T: Clock>(
     rt: &R,
     alloc: Global,
     files: &mut F,
@@ -35,8 +28,8 @@ pub fn serve_own<
     ensures crew { IfOk result (λ e. e.crew ≡ crew) }
     ensures did { IfOk result (λ e. DidWorker
         (map (λ l. ended_link l.worker l.killed
-          (spring (St.Src.supply l.source) (St.Src.is_ended l.source) (St.Src.faults l.source))
-          (St.Snk.sunk l.sink) (St.Snk.faults l.sink)) e.links.items)
+        (spring (St.Src.supply l.source) (St.Src.is_ended l.source) (St.Src.faults l.source))
+        (St.Snk.sunk l.sink) (St.Snk.faults l.sink)) e.links.items)
         e.status
         (record {
           files = record { held = F.held files.old; faults = F.faults files.old };
