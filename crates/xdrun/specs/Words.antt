@@ -1,5 +1,5 @@
 -- What the words behind the program's name ask for. The options are pytest-xdist's; the rest is a choice of this project.
-use Rattle.std.specs.Prelude.{ℕ, ◌+◌, ◌-◌, ◌*◌, ◌==◌, ◌≤◌, nat_le, nat_lt, Bool, true, false, ◌&&◌, ◌||◌, not, List, [], ◌∷◌, length, Option, Some, None, if◌then◌else◌, codes, Unit, ◌×◌}
+use Rattle.std.specs.Prelude.{ℕ, ◌+◌, ◌-◌, ◌*◌, ◌==◌, ◌≤◌, nat_le, nat_lt, Bool, true, false, ◌&&◌, ◌||◌, not, List, [], ◌∷◌, length, Option, Some, None, if◌then◌else◌, codes}
 use Rattle.std.specs.Str.{bytes_eq, encode_utf8_all}
 use Rattle.xdrun.specs.declared.words.Plan.{Plan}
 use Rattle.xdrun.specs.declared.words.Plan.TheVariants.{Local, Linked, Wire, Worker, BadWords}
