@@ -1,6 +1,7 @@
 -- Links that are ended: nothing is told and nothing said any more.
 use Rattle.std.proofs.Common.{◌≡◌, ℕ, zero, suc, List, [], ◌∷◌, ◌++◌, map, Bool, true, false, Option, Some, None, refl, sym, ◌∙◌, ap, subst, inl, inr}
-use Rattle.std.specs.Prelude.{◌⊎◌, IfSome, slice_get, slice_set}
+use Rattle.std.specs.Prelude.{◌⊎◌, IfSome, MatchBool, slice_get, slice_set}
+use Rattle.std.proofs.Math.Logic.{∥∥₁_map₂}
 use Rattle.std.proofs.Math.ListN.{set}
 use Rattle.std.proofs.lemmas.List.{map-set}
 use Rattle.xd_edge.specs.declared.mode.ModeKind.{ModeKind}
@@ -13,10 +14,17 @@ use Rattle.xd_reader.specs.declared.news.LinkNews.{LinkNews}
 use Rattle.xd_links.specs.Runs.{LinkRead}
 use Rattle.xd_links.proofs.Places.{set_read}
 use Rattle.xd_group.specs.Ends.{EndsSo}
+use Rattle.xd_drive.specs.Listed.{is_among}
+use Rattle.xd_group.specs.Fates.{has_link, is_refused, workers_with}
+use Rattle.xd_group.specs.Returned.{RanSo}
+use Rattle.xd_group.specs.Unused.{Unused}
+use Rattle.xd_group.specs.declared.fate.Fate.{Fate}
+use Rattle.xd_group.specs.declared.fate.Fate.TheVariants as fate
 use Rattle.xd_group.specs.Kept.{Kept, orders_to, said_by}
 use Rattle.xd_group.specs.Late.{IsLateAt, Late, LateAt, RanAt, Settled, late_page, settled_at, settled_of}
 use Rattle.xd_group.specs.LinkRun.{Link, LinkRun, link_of}
 use Rattle.xd_group.specs.Pages.{Page, taken_of}
+use Rattle.xd_group.proofs.FateFacts.{among_with, not_with}
 use Rattle.xd_group.proofs.Keeping.{map_read, page_taken}
 use Rattle.xd_group.proofs.Running.{link_run}
 
@@ -94,3 +102,19 @@ run_by suite mode taken calls given workers pages k w l at kept ran =
 
 pub some_of : {X : Type 0} (P : X → Type 0) (o : Option X) (x : X) → o ≡ Some x → IfSome o P → P x
 some_of P o x e h = let there : IfSome (Some x) P = subst (λ (y : Option _). IfSome y P) e h in there
+
+by_yes : (b : Bool) (P Q : Type 0) → b ≡ true → P → MatchBool b P Q
+by_yes true P Q e p = p
+by_yes false P Q e p = absurd (cc e)
+
+by_no : (b : Bool) (P Q : Type 0) → b ≡ false → Q → MatchBool b P Q
+by_no true P Q e q = absurd (cc e)
+by_no false P Q e q = q
+
+-- a link that is given back ran so, or was not used
+pub ran_so : (suite : List ℕ) (mode : ModeKind) (taken : List (Option (List LinkNews))) (calls : List Entry) (given : List News) (workers : List ℕ) (pages : List (Option Page)) (fates : List Fate) (k w : ℕ) (l : Link) (f : Fate) → slice_get workers k ≡ Some w → slice_get fates k ≡ Some f → has_link f ≡ true
+    → (slice_get fates k ≡ Some fate.Linked → ∥ RanAt (map settled_at pages) k l ∥₁) → (slice_get fates k ≡ Some fate.Refused → Unused l) → ∥ Kept suite mode taken calls given workers pages ∥₁ → ∥ RanSo suite mode given calls (workers_with is_refused workers fates) w l ∥₁
+ran_so suite mode taken calls given workers pages fates k w l fate.Unlinked at is h ran un kept = absurd (cc h)
+ran_so suite mode taken calls given workers pages fates k w l fate.Refused at is h ran un kept = ∣ by_yes (is_among w (workers_with is_refused workers fates)) (Unused l) (LinkRun suite mode (said_by w given) (orders_to w calls) l) (among_with is_refused workers fates k w fate.Refused at is refl) (un is) ∣₁
+ran_so suite mode taken calls given workers pages fates k w l fate.Linked at is h ran un kept =
+    ∥∥₁_map₂ kept (ran is) (λ kp r. by_no (is_among w (workers_with is_refused workers fates)) (Unused l) (LinkRun suite mode (said_by w given) (orders_to w calls) l) (not_with is_refused workers fates k w fate.Linked kp.apart at is refl) (run_by suite mode taken calls given workers pages k w l at kp r))

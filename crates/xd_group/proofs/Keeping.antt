@@ -28,7 +28,7 @@ use Rattle.xd_group.specs.Tells.{marks_told}
 
 -- ---- places of a list
 
-same_some : {X : Type 0} (o : Option X) (x y : X) → o ≡ Some x → o ≡ Some y → x ≡ y
+pub same_some : {X : Type 0} (o : Option X) (x y : X) → o ≡ Some x → o ≡ Some y → x ≡ y
 same_some o x y e f = let both : Some x ≡ Some y = sym e ∙ f in cc
 
 -- the page of a link from which something was taken
@@ -167,7 +167,7 @@ or_end true b h f = refl
 or_end false b h f = absurd (let z : true ≡ false = sym h ∙ f in cc z)
 
 -- who was started behind a call that is no start was started before
-started_same : (u : ℕ) (calls all : List Entry) (e : Entry) → all ≡ calls ++ e ∷ [] → is_start_of u e ≡ false → was_started u all ≡ true → was_started u calls ≡ true
+pub started_same : (u : ℕ) (calls all : List Entry) (e : Entry) → all ≡ calls ++ e ∷ [] → is_start_of u e ≡ false → was_started u all ≡ true → was_started u calls ≡ true
 started_same u calls all e is h t =
     or_end (was_started u calls) (list_any (is_start_of u) (e ∷ [])) (sym (list_any-append (is_start_of u) calls (e ∷ [])) ∙ (sym (ap (was_started u) is) ∙ t)) (rw h refl)
 
@@ -223,7 +223,7 @@ said_self : (w : ℕ) (given all : List News) (what : Option What) → all ≡ g
 said_self w given all None is = ap (said_by w) (is ∙ append-nil given) ∙ sym (append-nil (said_by w given))
 said_self w given all (Some x) is = said_more w given all (record { worker = w; what = x }) is refl
 
-said_other : (v w : ℕ) (given all : List News) (what : Option What) → all ≡ given ++ option_to_list (news_of_worker w what) → (v ≡ w → ⊥) → said_by v all ≡ said_by v given
+pub said_other : (v w : ℕ) (given all : List News) (what : Option What) → all ≡ given ++ option_to_list (news_of_worker w what) → (v ≡ w → ⊥) → said_by v all ≡ said_by v given
 said_other v w given all None is h = ap (said_by v) (is ∙ append-nil given)
 said_other v w given all (Some x) is h = said_same v given all (record { worker = w; what = x }) is (λ e. h (sym e))
 
@@ -304,7 +304,7 @@ kept_called suite mode taken calls all given workers pages e is none no_start ke
       new_said = λ u f. kept.new_said u (started_before u calls all e is f);
     }
 
-either_worker : (u w : ℕ) → ((u ≡ w) ⊎ (u ≡ w → ⊥))
+pub either_worker : (u w : ℕ) → ((u ≡ w) ⊎ (u ≡ w → ⊥))
 either_worker u w = by (u == w) refl
   where
     by : (b : Bool) → (u == w) ≡ b → ((u ≡ w) ⊎ (u ≡ w → ⊥))

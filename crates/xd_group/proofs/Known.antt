@@ -1,5 +1,5 @@
 -- Workers that were started stay so.
-use Rattle.std.proofs.Common.{◌≡◌, ℕ, List, [], ◌∷◌, ◌++◌, Bool, true, false, ◌||◌, All, refl, ap, ◌∙◌, arith}
+use Rattle.std.proofs.Common.{◌≡◌, ℕ, List, [], ◌∷◌, ◌++◌, Bool, true, false, ◌||◌, All, refl, ap, ◌∙◌, arith, length, length-append}
 use Rattle.std.specs.Prelude.{◌==◌}
 use Rattle.std.proofs.lemmas.Bool.Decides.{nat_tests}
 use Rattle.std.proofs.lemmas.List.Elements.{All-push, All-same, All-weaker}
@@ -28,3 +28,7 @@ known_more calls after e ws is h = All-weaker (λ w. IsStarted calls w) (λ w. I
 
 pub known_push : (calls : List Entry) (ws all : List ℕ) (w : ℕ) → all ≡ ws ++ w ∷ [] → All (λ v. IsStarted calls v) ws → was_started w calls ≡ true → All (λ v. IsStarted calls v) all
 known_push calls ws all w is h p = All-same (λ v. IsStarted calls v) all (ws ++ w ∷ []) is (All-push (λ v. IsStarted calls v) ws w h p)
+
+-- two lists of one length with one more each
+pub same_more : {X Y : Type 0} (xs xs_all : List X) (ys ys_all : List Y) (x : X) (y : Y) → xs_all ≡ xs ++ x ∷ [] → ys_all ≡ ys ++ y ∷ [] → length ys ≡ length xs → length ys_all ≡ length xs_all
+same_more xs xs_all ys ys_all x y a b e = omega (arith, ap length a, ap length b, length-append xs (x ∷ []), length-append ys (y ∷ []), e)

@@ -1,8 +1,15 @@
+pub mod Asking
 pub mod Calls
+pub mod Counting
 pub mod Ending
+pub mod FateFacts
 pub mod Keeping
+pub mod Killing
 pub mod Known
+pub mod LossFacts
 pub mod PageFacts
 pub mod PostFacts
 pub mod Running
+pub mod Saying
 pub mod Sending
+pub mod Stepping

@@ -28,7 +28,7 @@ yes : (b : Bool) → (b ≡ false → ⊥) → b ≡ true
 yes true h = refl
 yes false h = absurd (h refl)
 
-no_way : (b : Bool) → b ≡ true → b ≡ false → ⊥
+pub no_way : (b : Bool) → b ≡ true → b ≡ false → ⊥
 no_way true t f = cc f
 no_way false t f = cc t
 

@@ -1,5 +1,5 @@
 -- The page of a post.
-use Rattle.std.specs.Prelude.{Bool, true, List, Option, Some, None, map}
+use Rattle.std.specs.Prelude.{Bool, true, false, List, Option, Some, None, map}
 use Rattle.xd_note.specs.Noted.{noted}
 use Rattle.xd_group.specs.Pages.{Page}
 use Rattle.xd_group.specs.declared.post.Post.{Post}
@@ -19,3 +19,11 @@ module _ {N : Type 0} {g : _} where
   abbrev pub has_ended : Option (Post N g) → Bool
   has_ended None = true
   has_ended (Some p) = p.is_ended
+
+  -- a write to the link failed
+  abbrev pub is_lost_at : Option (Post N g) → Bool
+  is_lost_at None = false
+  is_lost_at (Some p) = p.is_lost
+
+  abbrev pub losses_of : List (Option (Post N g)) → List Bool
+  losses_of posts = map is_lost_at posts

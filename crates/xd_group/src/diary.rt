@@ -1,9 +1,12 @@
 // What a hub was called for and what it gave, and who its workers are.
-ghost use Rattle.std.specs.Prelude.{◌≡◌, ◌∷◌, ◌++◌, [], ℕ, All, IfOk, OnOk, IfSome, IfNone, Some, None, true, slice_get, option_map, option_to_list};
+ghost use Rattle.std.specs.Prelude.{◌≡◌, ◌∷◌, ◌++◌, [], ℕ, All, IfOk, OnOk, IfSome, IfNone, Some, None, true, length, slice_get, option_map, option_to_list};
 ghost use Rattle.xd_journal.specs.declared.entry.Entry.TheVariants.{Start};
 ghost use Rattle.xd_note.specs.Noted.{noted};
+ghost use Rattle.xd_group.specs.Fates.{is_linked};
 ghost use Rattle.xd_group.specs.Tells.{IsStarted};
+ghost use Rattle.xd_group.specs.Unsaid.{wait_one};
 
+use crate::fate::Fate;
 use std::alloc::Global;
 use xd_edge::OutOfMemory;
 use xd_journal::{Entry, News, What};
@@ -16,9 +19,12 @@ pub struct Diary {
     pub given: Log<News>,
     /// By the numbers of their links.
     pub workers: Vec<u32>,
+    /// What became of their starts.
+    pub fates: Vec<Fate>,
     /// The numbers whose workers' next news is that they were not started.
-    pub refused: Vec<u32>,
+    pub waiting: Vec<u32>,
     ghost known: { All (λ w. IsStarted (noted calls) w) workers.items },
+    ghost matched: { length fates.items ≡ length workers.items },
 }
 
 impl Diary {
@@ -26,6 +32,8 @@ impl Diary {
         ensures calls { IfOk result (λ d. noted d.calls ≡ []) }
         ensures given { IfOk result (λ d. noted d.given ≡ []) }
         ensures workers { IfOk result (λ d. d.workers.items ≡ []) }
+        ensures fates { IfOk result (λ d. d.fates.items ≡ []) }
+        ensures waiting { IfOk result (λ d. d.waiting.items ≡ []) }
     {
         let calls = Log::new(alloc)?;
         let given = Log::new(alloc)?;
@@ -33,42 +41,53 @@ impl Diary {
             calls,
             given,
             workers: Vec::new(alloc),
-            refused: Vec::new(alloc),
+            fates: Vec::new(alloc),
+            waiting: Vec::new(alloc),
         })
     }
 
     /// An order or a kill.
     pub fn note_call(&mut self, call: &Entry)
         ensures workers { self.new.workers ≡ self.old.workers }
+        ensures fates { self.new.fates ≡ self.old.fates }
         ensures calls { noted self.new.calls ≡ noted self.old.calls ++ call.now ∷ [] }
         ensures given { noted self.new.given ≡ noted self.old.given }
+        ensures waiting { self.new.waiting ≡ self.old.waiting }
     {
         self.calls.note(call);
     }
 
-    /// The start of a worker.
-    pub fn note_start(&mut self, worker: u32, slot: u32) -> Result<(), OutOfMemory>
+    /// The start of a worker, and what became of it.
+    pub fn note_start(&mut self, worker: u32, slot: u32, fate: Fate) -> Result<(), OutOfMemory>
         ensures calls { OnOk result (noted self.new.calls ≡ noted self.old.calls ++ Start worker slot ∷ []) }
         ensures workers { OnOk result (self.new.workers.items ≡ self.old.workers.items ++ worker ∷ []) }
+        ensures fates { OnOk result (self.new.fates.items ≡ self.old.fates.items ++ fate ∷ []) }
         ensures given { noted self.new.given ≡ noted self.old.given }
+        ensures waiting { self.new.waiting ≡ self.old.waiting }
     {
         self.workers.reserve(1)?;
+        self.fates.reserve(1)?;
         self.calls.note(&Entry::Start { worker, slot });
         self.workers.push_reserved(worker);
+        self.fates.push_reserved(fate);
         Ok(())
     }
 
-    /// The number has no link: its worker's next news is that it was not started.
-    pub fn refuse(&mut self, number: u32, is_read: bool) -> Result<(), OutOfMemory>
+    /// Where the link of the number is not read, its worker's next news is that it was not started.
+    pub fn note_unlinked(&mut self, number: u32, fate: Fate) -> Result<(), OutOfMemory>
+        ensures waiting { OnOk result (self.new.waiting.items ≡ self.old.waiting.items ++ wait_one (is_linked fate) number) }
         ensures calls { noted self.new.calls ≡ noted self.old.calls }
         ensures given { noted self.new.given ≡ noted self.old.given }
         ensures workers { self.new.workers ≡ self.old.workers }
+        ensures fates { self.new.fates ≡ self.old.fates }
     {
-        if is_read {
-            return Ok(());
+        match fate {
+            Fate::Linked => Ok(()),
+            Fate::Unlinked | Fate::Refused => {
+                self.waiting.push(number)?;
+                Ok(())
+            }
         }
-        self.refused.push(number)?;
-        Ok(())
     }
 
     /// A piece of news.
@@ -76,17 +95,21 @@ impl Diary {
         ensures calls { noted self.new.calls ≡ noted self.old.calls }
         ensures given { noted self.new.given ≡ noted self.old.given ++ news.now ∷ [] }
         ensures workers { self.new.workers ≡ self.old.workers }
+        ensures fates { self.new.fates ≡ self.old.fates }
+        ensures waiting { self.new.waiting ≡ self.old.waiting }
     {
         self.given.note(news);
     }
 
     /// A number whose worker's next news is that it was not started.
-    pub fn next_refused(&mut self) -> Option<u32>
+    pub fn next_waiting(&mut self) -> Option<u32>
+        ensures waiting { self.old.waiting.items ≡ self.new.waiting.items ++ option_to_list result }
         ensures calls { noted self.new.calls ≡ noted self.old.calls }
         ensures given { noted self.new.given ≡ noted self.old.given }
         ensures workers { self.new.workers ≡ self.old.workers }
+        ensures fates { self.new.fates ≡ self.old.fates }
     {
-        self.refused.pop()
+        self.waiting.pop()
     }
 
     /// News of a worker, where there are some.
@@ -95,6 +118,8 @@ impl Diary {
         ensures given { noted self.new.given ≡ noted self.old.given ++ option_to_list result }
         ensures calls { noted self.new.calls ≡ noted self.old.calls }
         ensures workers { self.new.workers ≡ self.old.workers }
+        ensures fates { self.new.fates ≡ self.old.fates }
+        ensures waiting { self.new.waiting ≡ self.old.waiting }
     {
         let Some(what) = what else {
             return None;
@@ -113,6 +138,19 @@ impl Diary {
         let at = number as usize;
         if at < self.workers.len() {
             Some(self.workers[at])
+        } else {
+            None
+        }
+    }
+
+    /// What became of the start of this number.
+    pub fn fate_at(&self, number: u32) -> Option<Fate>
+        ensures none { IfNone result (slice_get self.now.fates.items number ≡ None) }
+        ensures at { IfSome result (λ f. slice_get self.now.fates.items number ≡ Some f) }
+    {
+        let at = number as usize;
+        if at < self.fates.len() {
+            Some(self.fates[at])
         } else {
             None
         }

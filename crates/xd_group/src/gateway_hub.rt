@@ -1,10 +1,11 @@
 // The hub over the links that a starter starts and a crew reads.
-ghost use Rattle.std.specs.Prelude.{◌≡◌, ◌≤◌, ◌<◌, ◌∷◌, ◌++◌, [], ℕ, Some, All, true, false, length, vec_len, IfOk, IfSome, IfNone, OnOk, List, Option, map};
+ghost use Rattle.std.specs.Prelude.{◌≡◌, ◌≤◌, ◌<◌, ◌+◌, ◌∷◌, ◌++◌, [], ℕ, Some, All, true, false, take, length, is_some, vec_len, IfOk, IfSome, IfNone, OnOk, OnErr, List, Option, map, option_map};
 ghost use Rattle.std.specs.Str.{encode_utf8_all};
+ghost use Rattle.std.specs.Bool.{then_some};
 ghost use Rattle.xd_journal.specs.declared.entry.Entry.TheVariants.{Start, Kill};
 ghost use Rattle.xd_link.specs.Spring.{spring};
 ghost use Rattle.xd_drive.specs.Calls.{is_order};
-ghost use Rattle.xd_drive.specs.Listed.{starts_of, others_of};
+ghost use Rattle.xd_drive.specs.Listed.{is_among, starts_of, others_of};
 ghost use Rattle.xd_drive.specs.Marks.{is_breach, may_tell};
 ghost use Rattle.xd_note.specs.Noted.{noted};
 ghost use Rattle.xd_journal.specs.declared.entry.Entry.{Entry};
@@ -15,20 +16,30 @@ ghost use Rattle.xd_post.specs.Mails.{mails};
 ghost use Rattle.xd_links.specs.Runs.{news_of};
 ghost use Rattle.xd_group.specs.Kept.{Kept, orders_to, said_by};
 ghost use Rattle.xd_group.specs.Late.{Late, Settled, settled_at};
-ghost use Rattle.xd_group.specs.LinkRun.{LinkRun, link_of};
+ghost use Rattle.xd_group.specs.LinkRun.{link_of};
+ghost use Rattle.xd_group.specs.Children.{all_asked, asked_of, starts_told, told_of};
+ghost use Rattle.xd_group.specs.Fates.{has_link, is_linked, is_refused, is_unlinked, workers_with};
+ghost use Rattle.xd_edge.specs.Faults.{RoseBy};
+ghost use Rattle.xd_group.specs.Few.{RoseFor, count_with};
+ghost use Rattle.xd_group.specs.Unsaid.{SaidUnlinked};
+ghost use Rattle.xd_group.specs.InStep.{InStep, all_started};
+ghost use Rattle.xd_group.specs.Returned.{RanSo, end_told};
 ghost use Rattle.xd_group.specs.Pages.{Page};
 ghost use Rattle.xd_group.specs.PostView.{pages_of};
 ghost use Rattle.xd_group.specs.Tells.{IsStarted, marks_told};
 
+use crate::children::{Children, Opened};
 use crate::diary::Diary;
+use crate::fate::Fate;
 use crate::group::{Ended, Group, LinkEnd, Step};
 use std::alloc::Global;
+use std::snapshot::Snapshot;
 use std::sync::Wait;
 use xd_crew::Crew;
 use xd_drive::Hub;
 use xd_edge::{ModeKind, OutOfMemory, Text};
 use xd_journal::{Entry, News};
-use xd_link::{Place, StartFault, Started, Starter};
+use xd_link::{Place, Starter};
 use xd_links::Links;
 use xd_reader::Reader;
 
@@ -36,8 +47,19 @@ use xd_reader::Reader;
 /// the tests of the suite by the mode. It owns the starter and the crew; who is done with it takes it apart.
 pub struct GatewayHub<St: Starter, C: Crew<Reader<St::Src>>> {
     pub places: Vec<Place>,
-    pub starter: St,
+    pub children: Children<St>,
     pub group: Group<St::Src, St::Snk, C>,
+    ghost in_step: { group.is_whole ≡ true → ∥ InStep places.items (starts_told (St.begun children.first.value)) (starts_told (St.begun children.starter)) children.children.items (noted group.diary.calls) group.diary.fates.items ∥₁ },
+}
+
+// The number, where the start of it was refused.
+fn refused_at(fate: Fate, number: usize) -> Option<usize>
+    ensures { result ≡ then_some (is_refused fate) number }
+{
+    match fate {
+        Fate::Refused => Some(number),
+        Fate::Unlinked | Fate::Linked => None,
+    }
 }
 
 impl<St: Starter, C: Crew<Reader<St::Src>>> GatewayHub<St, C> {
@@ -53,37 +75,31 @@ impl<St: Starter, C: Crew<Reader<St::Src>>> GatewayHub<St, C> {
     ) -> Result<GatewayHub<St, C>, OutOfMemory>
         requires short { length (encode_utf8_all suite) ≤ 65536 }
         ensures places { IfOk result (λ h. h.places ≡ places) }
-        ensures starter { IfOk result (λ h. h.starter ≡ starter) }
-        ensures crew { IfOk result (λ h. h.group.links.crew ≡ crew) }
+        ensures starter { IfOk result (λ h. (h.children.starter ≡ starter) × (h.children.first.value ≡ starter)) }
+        ensures crew { IfOk result (λ h. (h.group.links.crew ≡ crew) × (h.group.first.value ≡ crew)) }
         ensures suite { IfOk result (λ h. h.group.suite ≡ suite) }
         ensures mode { IfOk result (λ h. h.group.mode ≡ mode) }
         ensures calls { IfOk result (λ h. noted h.group.diary.calls ≡ []) }
         ensures given { IfOk result (λ h. noted h.group.diary.given ≡ []) }
         ensures whole { IfOk result (λ h. h.group.is_whole ≡ true) }
     {
+        let first = Snapshot::of(&crew);
         let diary = Diary::new(alloc)?;
         let links = Links::new(alloc, crew)?;
         Ok(GatewayHub {
             places,
-            starter,
+            children: Children::new(alloc, starter),
             group: Group {
                 links,
+                first,
                 posts: Vec::new(alloc),
+                spares: Vec::new(alloc),
                 diary,
                 suite,
                 mode,
                 is_whole: true,
             },
         })
-    }
-
-    // Kills the child of a link, where there is one to be killed.
-    fn kill_cut(&mut self, cut: Option<u32>)
-        ensures { (self.new.places ≡ self.old.places) × (self.new.group ≡ self.old.group) }
-    {
-        if let Some(link) = cut {
-            let _killed = self.starter.kill(link);
-        }
     }
 
     // Takes an item of a link.
@@ -95,10 +111,10 @@ impl<St: Starter, C: Crew<Reader<St::Src>>> GatewayHub<St, C> {
         ensures calls { noted self.new.group.diary.calls ≡ noted self.old.group.diary.calls }
         ensures whole { OnOk result (self.new.group.is_whole ≡ self.old.group.is_whole) }
         ensures made { (self.new.group.suite ≡ self.old.group.suite) × (self.new.group.mode ≡ self.old.group.mode) }
-        ensures places { self.new.places ≡ self.old.places }
+        ensures first { (self.new.places ≡ self.old.places) × (self.new.children.first ≡ self.old.children.first) × (self.new.group.first ≡ self.old.group.first) }
     {
         let Step { news, cut } = self.group.step(rt)?;
-        self.kill_cut(cut);
+        self.children.cut(cut);
         Ok(news)
     }
 
@@ -113,16 +129,30 @@ impl<St: Starter, C: Crew<Reader<St::Src>>> GatewayHub<St, C> {
         ensures runs { (suite : List ℕ) (mode : ModeKind) (taken : List (Option (List LinkNews))) (calls : List Entry) (given : List News) (pages : List (Option Page))
             → ∥ Kept suite mode taken calls given self.old.group.diary.workers.items pages ∥₁
             → ∥ Late (map settled_at pages) (news_of (mails self.old.group.links.desk)) (pages_of self.old.group.posts.items) ∥₁
-            → All (λ l. ∥ LinkRun suite mode (said_by l.worker given) (orders_to l.worker calls) (link_of (spring (St.Src.supply l.source) (St.Src.is_ended l.source) (St.Src.faults l.source)) (St.Snk.sunk l.sink) (St.Snk.faults l.sink)) ∥₁) ends.old.items
-            → OnOk result (All (λ l. ∥ LinkRun suite mode (said_by l.worker given) (orders_to l.worker calls) (link_of (spring (St.Src.supply l.source) (St.Src.is_ended l.source) (St.Src.faults l.source)) (St.Snk.sunk l.sink) (St.Snk.faults l.sink)) ∥₁) ends.new.items) }
+            → All (λ l. ∥ RanSo suite mode given calls (workers_with is_refused self.old.group.diary.workers.items self.old.group.diary.fates.items) l.worker (link_of (spring (St.Src.supply l.source) (St.Src.is_ended l.source) (St.Src.faults l.source)) (St.Snk.sunk l.sink) (St.Snk.faults l.sink)) ∥₁) ends.old.items
+            → OnOk result (All (λ l. ∥ RanSo suite mode given calls (workers_with is_refused self.old.group.diary.workers.items self.old.group.diary.fates.items) l.worker (link_of (spring (St.Src.supply l.source) (St.Src.is_ended l.source) (St.Src.faults l.source)) (St.Snk.sunk l.sink) (St.Snk.faults l.sink)) ∥₁) ends.new.items) }
         ensures late { (first : List (Option Settled)) → ∥ Late first (news_of (mails self.old.group.links.desk)) (pages_of self.old.group.posts.items) ∥₁
             → OnOk result (∥ Late first (news_of (mails self.new.group.links.desk)) (pages_of self.new.group.posts.items) ∥₁) }
+        ensures workers { map (λ l. l.worker) ends.old.items ≡ workers_with has_link (take number self.old.group.diary.workers.items) (take number self.old.group.diary.fates.items)
+            → OnOk result (map (λ l. l.worker) ends.new.items ≡ workers_with has_link (take (number + 1) self.old.group.diary.workers.items) (take (number + 1) self.old.group.diary.fates.items)) }
+        ensures asked { map is_some self.old.children.children.items ≡ map has_link self.old.group.diary.fates.items → all_asked (take number self.old.children.children.items) ≡ map (λ l. end_told l.killed) ends.old.items
+            → OnOk result (all_asked (take (number + 1) self.new.children.children.items) ≡ map (λ l. end_told l.killed) ends.new.items) }
+        ensures crew { (C.faults self.new.group.links.crew ≡ C.faults self.old.group.links.crew) × (self.new.group.first ≡ self.old.group.first) }
+        ensures linked { map is_some self.new.children.children.items ≡ map is_some self.old.children.children.items }
+        ensures starts { starts_told (St.begun self.new.children.starter) ≡ starts_told (St.begun self.old.children.starter) }
+        ensures first { self.new.children.first ≡ self.old.children.first }
         ensures over { self.new.group.is_whole ≡ false }
         ensures diary { self.new.group.diary ≡ self.old.group.diary }
     {
-        if let Some(Ended { link, end }) = self.group.end_link(number)? {
-            let _reaped = self.starter.reap(rt, link);
-            ends.push(end)?;
+        if let Some(ended) = self.group.end_link(number)? {
+            let Ended { worker, source, sink } = ended;
+            let killed = self.children.reap(rt, number as usize);
+            ends.push(LinkEnd {
+                worker,
+                source,
+                sink,
+                killed,
+            })?;
         }
         Ok(())
     }
@@ -134,10 +164,16 @@ impl<St: Starter, C: Crew<Reader<St::Src>>> GatewayHub<St, C> {
         rt: &R,
         alloc: Global,
     ) -> Result<Vec<LinkEnd<St::Src, St::Snk>>, OutOfMemory>
-        ensures runs { IfOk result (λ ends. All (λ l. ∥ LinkRun self.old.group.suite self.old.group.mode (said_by l.worker (noted self.old.group.diary.given)) (orders_to l.worker (noted self.old.group.diary.calls))
+        ensures runs { IfOk result (λ ends. All (λ l. ∥ RanSo self.old.group.suite self.old.group.mode (noted self.old.group.diary.given) (noted self.old.group.diary.calls) (workers_with is_refused self.old.group.diary.workers.items self.old.group.diary.fates.items) l.worker
             (link_of (spring (St.Src.supply l.source) (St.Src.is_ended l.source) (St.Src.faults l.source)) (St.Snk.sunk l.sink) (St.Snk.faults l.sink)) ∥₁) ends.items) }
+        ensures workers { IfOk result (λ ends. map (λ l. l.worker) ends.items ≡ workers_with has_link self.old.group.diary.workers.items self.old.group.diary.fates.items) }
+        ensures begun { IfOk result (λ ends. option_map told_of (St.begun self.new.children.starter) ≡ option_map (λ b. record { starts = b.starts ++ all_started self.old.places.items (starts_of (noted self.old.group.diary.calls)) self.old.group.diary.fates.items;
+            links = map asked_of b.links ++ map (λ l. end_told l.killed) ends.items }) (St.begun self.old.children.first.value)) }
+        ensures unlinked { OnOk result ((w : ℕ) → is_among w (workers_with is_linked self.old.group.diary.workers.items self.old.group.diary.fates.items) ≡ false → ∥ SaidUnlinked (noted self.old.group.diary.given) w ∥₁) }
+        ensures few_refused { OnOk result (RoseFor (count_with is_refused self.old.group.diary.fates.items) (C.faults self.old.group.first.value) (C.faults self.new.group.links.crew)) }
+        ensures few_unlinked { OnOk result (RoseBy (count_with is_unlinked self.old.group.diary.fates.items) (St.faults self.old.children.first.value) (St.faults self.new.children.starter)) }
     {
-        let Ok(count) = u32::try_from(self.group.posts.len()) else {
+        let Ok(count) = u32::try_from(self.group.diary.workers.len()) else {
             return Err(OutOfMemory);
         };
         self.group.settle(rt)?;
@@ -150,9 +186,9 @@ impl<St: Starter, C: Crew<Reader<St::Src>>> GatewayHub<St, C> {
 }
 
 impl<St: Starter, C: Crew<Reader<St::Src>>> Hub for GatewayHub<St, C> {
-    type Made = (Text, ModeKind);
+    type Made = (Text, ModeKind, Vec<Place>, Snapshot<St>, Snapshot<C>);
 
-    ghost made = { λ h. (h.group.suite, h.group.mode) };
+    ghost made = { λ h. (h.group.suite, h.group.mode, h.places, h.children.first, h.group.first) };
 
     ghost slots = { λ h. vec_len h.places };
 
@@ -169,21 +205,19 @@ impl<St: Starter, C: Crew<Reader<St::Src>>> Hub for GatewayHub<St, C> {
         requires slot { slot < vec_len self.old.places }
         ensures called { OnOk result (noted self.new.group.diary.calls ≡ noted self.old.group.diary.calls ++ Start worker slot ∷ []) }
         ensures given { OnOk result (noted self.new.group.diary.given ≡ noted self.old.group.diary.given) }
-        ensures slots { self.new.places ≡ self.old.places }
+        ensures first { (self.new.places ≡ self.old.places) × (self.new.children.first ≡ self.old.children.first) × (self.new.group.first ≡ self.old.group.first) }
         ensures whole { OnOk result (self.new.group.is_whole ≡ self.old.group.is_whole) }
         ensures made { (self.new.group.suite ≡ self.old.group.suite) × (self.new.group.mode ≡ self.old.group.mode) }
     {
-        match self.starter.start(alloc, &self.places[slot as usize]) {
-            Ok(started) => {
-                let Started { link, source, sink } = started;
-                let is_read = self.group.open(alloc, worker, slot, link, source, sink)?;
-                if !is_read {
-                    let _killed = self.starter.kill(link);
-                }
+        let number = self.children.children.len();
+        match self.children.start(alloc, &self.places[slot as usize])? {
+            Some(opened) => {
+                let Opened { source, sink } = opened;
+                let fate = self.group.open(alloc, worker, slot, source, sink)?;
+                self.children.cut(refused_at(fate, number));
                 Ok(())
             }
-            Err(StartFault::OutOfMemory) => Err(OutOfMemory),
-            Err(StartFault::Failed) => {
+            None => {
                 self.group.skip(worker, slot)?;
                 Ok(())
             }
@@ -195,12 +229,12 @@ impl<St: Starter, C: Crew<Reader<St::Src>>> Hub for GatewayHub<St, C> {
         requires told { may_tell (marks_told (noted self.old.group.diary.calls) (noted self.old.group.diary.given) worker) ≡ true }
         ensures called { OnOk result (noted self.new.group.diary.calls ≡ noted self.old.group.diary.calls ++ order.now ∷ []) }
         ensures given { OnOk result (noted self.new.group.diary.given ≡ noted self.old.group.diary.given) }
-        ensures slots { self.new.places ≡ self.old.places }
+        ensures first { (self.new.places ≡ self.old.places) × (self.new.children.first ≡ self.old.children.first) × (self.new.group.first ≡ self.old.group.first) }
         ensures whole { OnOk result (self.new.group.is_whole ≡ self.old.group.is_whole) }
         ensures made { (self.new.group.suite ≡ self.old.group.suite) × (self.new.group.mode ≡ self.old.group.mode) }
     {
         let cut = self.group.say(alloc, worker, order)?;
-        self.kill_cut(cut);
+        self.children.cut(cut);
         Ok(())
     }
 
@@ -209,12 +243,12 @@ impl<St: Starter, C: Crew<Reader<St::Src>>> Hub for GatewayHub<St, C> {
         requires once { (marks_told (noted self.old.group.diary.calls) (noted self.old.group.diary.given) worker).killed ≡ false }
         ensures called { noted self.new.group.diary.calls ≡ noted self.old.group.diary.calls ++ Kill worker ∷ [] }
         ensures given { noted self.new.group.diary.given ≡ noted self.old.group.diary.given }
-        ensures slots { self.new.places ≡ self.old.places }
+        ensures first { (self.new.places ≡ self.old.places) × (self.new.children.first ≡ self.old.children.first) × (self.new.group.first ≡ self.old.group.first) }
         ensures whole { self.new.group.is_whole ≡ self.old.group.is_whole }
         ensures made { (self.new.group.suite ≡ self.old.group.suite) × (self.new.group.mode ≡ self.old.group.mode) }
     {
         let cut = self.group.kill(worker);
-        self.kill_cut(cut);
+        self.children.cut(cut);
     }
 
     fn next<R: Wait>(&mut self, rt: &R, _alloc: Global) -> Result<News, OutOfMemory>
@@ -223,7 +257,7 @@ impl<St: Starter, C: Crew<Reader<St::Src>>> Hub for GatewayHub<St, C> {
         ensures no_breach { IfOk result (λ n. is_breach n.what ≡ false) }
         ensures given { IfOk result (λ n. noted self.new.group.diary.given ≡ noted self.old.group.diary.given ++ n ∷ []) }
         ensures calls { OnOk result (noted self.new.group.diary.calls ≡ noted self.old.group.diary.calls) }
-        ensures slots { self.new.places ≡ self.old.places }
+        ensures first { (self.new.places ≡ self.old.places) × (self.new.children.first ≡ self.old.children.first) × (self.new.group.first ≡ self.old.group.first) }
         ensures whole { OnOk result (self.new.group.is_whole ≡ self.old.group.is_whole) }
         ensures made { (self.new.group.suite ≡ self.old.group.suite) × (self.new.group.mode ≡ self.old.group.mode) }
     {

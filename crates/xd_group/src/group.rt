@@ -1,19 +1,25 @@
 // All links of a hub, with what they were told and what was said of them.
-ghost use Rattle.std.specs.Prelude.{◌≡◌, ◌≤◌, true, length};
+ghost use Rattle.std.specs.Prelude.{◌≡◌, ◌≤◌, true, length, map, is_some};
+ghost use Rattle.std.specs.Bool.{then_some};
 ghost use Rattle.std.specs.Str.{encode_utf8_all};
 ghost use Rattle.xd_links.specs.Runs.{news_of};
 ghost use Rattle.xd_note.specs.Noted.{noted};
 ghost use Rattle.xd_post.specs.Mails.{mails};
+ghost use Rattle.xd_group.specs.Fates.{is_linked, is_refused};
+ghost use Rattle.xd_group.specs.Few.{RoseFor, count_with};
 ghost use Rattle.xd_group.specs.Kept.{Kept};
 ghost use Rattle.xd_group.specs.PostView.{pages_of};
+ghost use Rattle.xd_group.specs.Unsaid.{Unsaid};
 
 use crate::diary::Diary;
+use crate::fate::Fate;
 use crate::post::Post;
 use crate::posts::{
-    Left, have_ended, hear_at, hear_late_at, is_without, kill_at, leave_at, push_none, push_post,
-    tell_at,
+    have_ended, hear_at, hear_late_at, is_without, leave_at, push_none, push_post, tell_at,
 };
+use crate::spare::Spare;
 use std::alloc::Global;
+use std::snapshot::Snapshot;
 use std::sync::Wait;
 use xd_crew::Crew;
 use xd_edge::{ModeKind, OutOfMemory, Sink, Text};
@@ -25,13 +31,20 @@ use xd_reader::Reader;
 /// All links of a hub. It is not whole behind want of memory.
 pub struct Group<S: Source + Drop, N: Sink + Drop, C: Crew<Reader<S>>> {
     pub links: Links<S, C>,
+    /// The crew as it was at first.
+    pub first: Snapshot<C>,
     pub posts: Vec<Option<Post<N>>>,
+    /// The links whose readers the crew refused.
+    pub spares: Vec<Option<Spare<S, N>>>,
     pub diary: Diary,
     pub suite: Text,
     pub mode: ModeKind,
     pub is_whole: bool,
     ghost short: { length (encode_utf8_all suite) ≤ 65536 },
     ghost kept: { is_whole ≡ true → ∥ Kept suite mode (news_of (mails links.desk)) (noted diary.calls) (noted diary.given) diary.workers.items (pages_of posts.items) ∥₁ },
+    ghost few: { is_whole ≡ true → RoseFor (count_with is_refused diary.fates.items) (C.faults first.value) (C.faults links.crew) },
+    ghost seats: { is_whole ≡ true → map is_some (pages_of posts.items) ≡ map is_linked diary.fates.items },
+    ghost unsaid: { is_whole ≡ true → ∥ Unsaid (noted diary.given) diary.workers.items (pages_of posts.items) diary.waiting.items ∥₁ },
 }
 
 /// What a link left: its worker, its two directions, and whether its kill was asked for.
@@ -43,39 +56,47 @@ pub struct LinkEnd<A: Source + Drop, B: Sink + Drop> {
     pub killed: bool,
 }
 
-/// What a link left, and its number at the starter.
+/// A link that was closed.
 #[derive(Drop)]
 pub struct Ended<A: Source + Drop, B: Sink + Drop> {
-    pub link: u32,
-    pub end: LinkEnd<A, B>,
+    pub worker: u32,
+    pub source: A,
+    pub sink: B,
 }
 
 /// A piece of news, where there is one, and the number of a link that is to be killed, since a write failed.
 #[derive(Drop)]
 pub struct Step {
     pub news: Option<News>,
-    pub cut: Option<u32>,
+    pub cut: Option<usize>,
 }
 
-// Marks the link as killed, where a write failed.
-fn cut_at<N: Sink + Drop>(posts: &mut Vec<Option<Post<N>>>, at: usize, is_cut: bool) -> Option<u32>
-    ensures { pages_of posts.new.items ≡ pages_of posts.old.items }
+// The number of the link, where it is to be killed.
+fn cut_of(is_cut: bool, number: usize) -> Option<usize>
+    ensures { result ≡ then_some is_cut number }
 {
-    if is_cut { kill_at(posts, at) } else { None }
+    if is_cut { Some(number) } else { None }
 }
 
 impl<S: Source + Drop, N: Sink + Drop, C: Crew<Reader<S>>> Group<S, N, C> {
-    ghost use Rattle.std.specs.Prelude.{◌≡◌, ◌≤◌, ◌∷◌, ◌++◌, [], ℕ, List, Option, Some, true, false, map, length, slice_get, OnOk, IfOk, IfSome, IfNone, IsSome};
+    ghost use Rattle.std.specs.Prelude.{◌≡◌, ◌≤◌, ◌<◌, ◌∷◌, ◌++◌, [], ℕ, List, Option, Some, true, false, map, length, is_none, is_some, slice_get, OnOk, OnErr, IfOk, IfSome, IfNone, IsSome};
     ghost use Rattle.xd_edge.specs.declared.mode.ModeKind.{ModeKind};
+    ghost use Rattle.xd_edge.specs.Faults.{Counted};
     ghost use Rattle.xd_drive.specs.Calls.{is_order};
     ghost use Rattle.xd_drive.specs.Marks.{is_breach, may_tell};
     ghost use Rattle.xd_drive.specs.Performing.{was_started};
     ghost use Rattle.xd_group.specs.Tells.{IsStarted, marks_told};
     ghost use Rattle.xd_link.specs.FreshLink.{unused};
     ghost use Rattle.xd_journal.specs.declared.entry.Entry.TheVariants.{Start, Kill};
+    ghost use Rattle.xd_group.specs.declared.fate.Fate.{Fate};
+    ghost use Rattle.xd_group.specs.declared.fate.Fate.TheVariants.{Linked, Refused, Unlinked};
+    ghost use Rattle.xd_group.specs.Fates.{has_link, is_linked};
     ghost use Rattle.xd_group.specs.Pages.{taken_of, page_opened};
+    ghost use Rattle.xd_group.specs.Unused.{Unused};
     ghost use Rattle.xd_group.specs.Late.{Late, RanAt, Settled, settled_at};
+    ghost use Rattle.xd_group.specs.Kills.{KeepsLost, LostAt};
     ghost use Rattle.xd_group.specs.LinkRun.{link_of};
+    ghost use Rattle.xd_group.specs.PostView.{losses_of};
     ghost use Rattle.xd_link.specs.Spring.{spring};
 
     /// Tells a worker. Gives the number of its link, where a write failed and it is to be killed.
@@ -84,26 +105,29 @@ impl<S: Source + Drop, N: Sink + Drop, C: Crew<Reader<S>>> Group<S, N, C> {
         alloc: Global,
         worker: u32,
         order: &Entry,
-    ) -> Result<Option<u32>, OutOfMemory>
+    ) -> Result<Option<usize>, OutOfMemory>
         requires order { is_order worker order.now ≡ true }
         requires told { may_tell (marks_told (noted self.old.diary.calls) (noted self.old.diary.given) worker) ≡ true }
         ensures called { OnOk result (noted self.new.diary.calls ≡ noted self.old.diary.calls ++ order.now ∷ []) }
         ensures given { noted self.new.diary.given ≡ noted self.old.diary.given }
+        ensures starts { (self.new.diary.workers ≡ self.old.diary.workers) × (self.new.diary.fates ≡ self.old.diary.fates) }
         ensures whole { OnOk result (self.new.is_whole ≡ self.old.is_whole) }
-        ensures made { (self.new.suite ≡ self.old.suite) × (self.new.mode ≡ self.old.mode) }
+        ensures over { OnErr result (self.new.is_whole ≡ false) }
+        ensures keeps { OnOk result (KeepsLost (losses_of self.old.posts.items) (losses_of self.new.posts.items)) }
+        ensures cut { IfOk result (λ cut. LostAt cut (losses_of self.new.posts.items)) }
+        ensures made { (self.new.suite ≡ self.old.suite) × (self.new.mode ≡ self.old.mode) × (self.new.first ≡ self.old.first) }
     {
         if !self.is_whole {
             return Err(OutOfMemory);
         }
-        let Some(at) = self.diary.place_of(worker) else {
+        let Some(number) = self.diary.place_of(worker) else {
             unreachable!()
         };
         self.is_whole = false;
-        let is_cut = tell_at(&mut self.posts, alloc, at, order)?;
+        let is_cut = tell_at(&mut self.posts, alloc, number, order)?;
         self.diary.note_call(order);
-        let cut = cut_at(&mut self.posts, at, is_cut);
         self.is_whole = true;
-        Ok(cut)
+        Ok(cut_of(is_cut, number))
     }
 
     /// Takes an item of a link, and gives its news.
@@ -113,8 +137,12 @@ impl<S: Source + Drop, N: Sink + Drop, C: Crew<Reader<S>>> Group<S, N, C> {
         ensures silent { IfOk result (λ r. IfNone r.news (noted self.new.diary.given ≡ noted self.old.diary.given)) }
         ensures no_breach { IfOk result (λ r. IfSome r.news (λ n. is_breach n.what ≡ false)) }
         ensures calls { noted self.new.diary.calls ≡ noted self.old.diary.calls }
+        ensures starts { (self.new.diary.workers ≡ self.old.diary.workers) × (self.new.diary.fates ≡ self.old.diary.fates) }
         ensures whole { OnOk result (self.new.is_whole ≡ self.old.is_whole) }
-        ensures made { (self.new.suite ≡ self.old.suite) × (self.new.mode ≡ self.old.mode) }
+        ensures over { OnErr result (self.new.is_whole ≡ false) }
+        ensures keeps { OnOk result (KeepsLost (losses_of self.old.posts.items) (losses_of self.new.posts.items)) }
+        ensures cut { IfOk result (λ r. LostAt r.cut (losses_of self.new.posts.items)) }
+        ensures made { (self.new.suite ≡ self.old.suite) × (self.new.mode ≡ self.old.mode) × (self.new.first ≡ self.old.first) }
     {
         if !self.is_whole {
             return Err(OutOfMemory);
@@ -125,84 +153,107 @@ impl<S: Source + Drop, N: Sink + Drop, C: Crew<Reader<S>>> Group<S, N, C> {
             unreachable!()
         };
         let heard = hear_at(&mut self.posts, number as usize, item)?;
-        let cut = cut_at(&mut self.posts, number as usize, heard.is_cut);
         let news = self.diary.note_what(worker, heard.what);
         self.is_whole = true;
-        Ok(Step { news, cut })
+        Ok(Step {
+            news,
+            cut: cut_of(heard.is_cut, number as usize),
+        })
     }
 
-    // Starts a reader; says whether the crew took it.
-    fn read(links: &mut Links<S, C>, source: S) -> Result<bool, OutOfMemory>
+    // Starts a reader. The source comes back where the crew refused it.
+    fn read(links: &mut Links<S, C>, source: S) -> Result<Option<S>, OutOfMemory>
         requires nothing_given { IfSome (S.supply source) (λ s. s.given ≡ []) }
-        ensures { (suite : List ℕ) (mode : ModeKind) → IfOk result (λ b. news_of (mails links.new.desk) ≡ news_of (mails links.old.desk) ++ taken_of (page_opened suite mode b) ∷ []) }
+        ensures news { (suite : List ℕ) (mode : ModeKind) → IfOk result (λ r. news_of (mails links.new.desk) ≡ news_of (mails links.old.desk) ++ taken_of (page_opened suite mode (is_none r)) ∷ []) }
+        ensures back { IfOk result (λ r. IfSome r (λ back. back ≡ source)) }
+        ensures crew { IfOk result (λ r. Counted (is_none r) (C.faults links.old.crew) (C.faults links.new.crew)) }
     {
         if !links.has_room() {
             return Err(OutOfMemory);
         }
         match links.open(source)? {
-            Ok(_number) => Ok(true),
-            Err(_source) => Ok(false),
+            Ok(_number) => Ok(None),
+            Err(source) => Ok(Some(source)),
         }
     }
 
-    // Calls the worker, where its link is read.
-    fn call(
+    // Calls the worker where its link is read, and keeps the link where its source came back.
+    fn seat(
         posts: &mut Vec<Option<Post<N>>>,
+        spares: &mut Vec<Option<Spare<S, N>>>,
         alloc: Global,
-        is_read: bool,
-        link: u32,
+        back: Option<S>,
         sink: N,
         suite: &Text,
         mode: ModeKind,
-    ) -> Result<(), OutOfMemory>
+    ) -> Result<Fate, OutOfMemory>
+        requires nothing_given { IfSome back (λ source. IfSome (S.supply source) (λ s. s.given ≡ [])) }
+        requires no_reads { IfSome back (λ source. S.faults source ≡ 0) }
         requires nothing_taken { IfSome (N.sunk sink) (λ s. s ≡ unused) }
+        requires no_writes { N.faults sink ≡ 0 }
         requires short { length (encode_utf8_all suite.now) ≤ 65536 }
-        ensures { OnOk result (pages_of posts.new.items ≡ pages_of posts.old.items ++ page_opened suite.now mode is_read ∷ []) }
+        ensures linked { IfOk result (λ fate. is_linked fate ≡ is_none back) }
+        ensures started { IfOk result (λ fate. has_link fate ≡ true) }
+        ensures pages { OnOk result (pages_of posts.new.items ≡ pages_of posts.old.items ++ page_opened suite.now mode (is_none back) ∷ []) }
+        ensures keeps { OnOk result (KeepsLost (losses_of posts.old.items) (losses_of posts.new.items)) }
     {
-        if is_read {
-            push_post(posts, alloc, link, sink, suite, mode)
-        } else {
-            push_none(posts)
+        match back {
+            None => {
+                spares.push(None)?;
+                push_post(posts, alloc, sink, suite, mode)?;
+                Ok(Fate::Linked)
+            }
+            Some(source) => {
+                spares.push(Some(Spare { source, sink }))?;
+                push_none(posts)?;
+                Ok(Fate::Refused)
+            }
         }
     }
 
-    /// Starts a worker at a link that was started. Says whether the link is read.
-    pub fn open(
+    /// Starts a worker at a link that was started and not used. Says whether the link is read.
+    pub(crate) fn open(
         &mut self,
         alloc: Global,
         worker: u32,
         slot: u32,
-        link: u32,
         source: S,
         sink: N,
-    ) -> Result<bool, OutOfMemory>
+    ) -> Result<Fate, OutOfMemory>
         requires new { was_started worker (noted self.old.diary.calls) ≡ false }
         requires nothing_given { IfSome (S.supply source) (λ s. s.given ≡ []) }
+        requires no_reads { S.faults source ≡ 0 }
         requires nothing_taken { IfSome (N.sunk sink) (λ s. s ≡ unused) }
+        requires no_writes { N.faults sink ≡ 0 }
         ensures called { OnOk result (noted self.new.diary.calls ≡ noted self.old.diary.calls ++ Start worker slot ∷ []) }
         ensures given { OnOk result (noted self.new.diary.given ≡ noted self.old.diary.given) }
+        ensures workers { OnOk result (self.new.diary.workers.items ≡ self.old.diary.workers.items ++ worker ∷ []) }
+        ensures fates { IfOk result (λ fate. self.new.diary.fates.items ≡ self.old.diary.fates.items ++ fate ∷ []) }
+        ensures started { IfOk result (λ fate. has_link fate ≡ true) }
         ensures whole { OnOk result (self.new.is_whole ≡ self.old.is_whole) }
-        ensures made { (self.new.suite ≡ self.old.suite) × (self.new.mode ≡ self.old.mode) }
+        ensures over { OnErr result (self.new.is_whole ≡ false) }
+        ensures keeps { OnOk result (KeepsLost (losses_of self.old.posts.items) (losses_of self.new.posts.items)) }
+        ensures made { (self.new.suite ≡ self.old.suite) × (self.new.mode ≡ self.old.mode) × (self.new.first ≡ self.old.first) }
     {
         let was_whole = self.is_whole;
         self.is_whole = false;
         let Ok(number) = u32::try_from(self.posts.len()) else {
             return Err(OutOfMemory);
         };
-        let is_read = Self::read(&mut self.links, source)?;
-        Self::call(
+        let back = Self::read(&mut self.links, source)?;
+        let fate = Self::seat(
             &mut self.posts,
+            &mut self.spares,
             alloc,
-            is_read,
-            link,
+            back,
             sink,
             &self.suite,
             self.mode,
         )?;
-        self.diary.note_start(worker, slot)?;
-        self.diary.refuse(number, is_read)?;
+        self.diary.note_start(worker, slot, fate)?;
+        self.diary.note_unlinked(number, fate)?;
         self.is_whole = was_whole;
-        Ok(is_read)
+        Ok(fate)
     }
 
     /// Starts a worker whose link was not started.
@@ -210,8 +261,12 @@ impl<S: Source + Drop, N: Sink + Drop, C: Crew<Reader<S>>> Group<S, N, C> {
         requires new { was_started worker (noted self.old.diary.calls) ≡ false }
         ensures called { OnOk result (noted self.new.diary.calls ≡ noted self.old.diary.calls ++ Start worker slot ∷ []) }
         ensures given { OnOk result (noted self.new.diary.given ≡ noted self.old.diary.given) }
+        ensures workers { OnOk result (self.new.diary.workers.items ≡ self.old.diary.workers.items ++ worker ∷ []) }
+        ensures fates { OnOk result (self.new.diary.fates.items ≡ self.old.diary.fates.items ++ Unlinked ∷ []) }
         ensures whole { OnOk result (self.new.is_whole ≡ self.old.is_whole) }
-        ensures made { (self.new.suite ≡ self.old.suite) × (self.new.mode ≡ self.old.mode) }
+        ensures over { OnErr result (self.new.is_whole ≡ false) }
+        ensures keeps { OnOk result (KeepsLost (losses_of self.old.posts.items) (losses_of self.new.posts.items)) }
+        ensures made { (self.new.suite ≡ self.old.suite) × (self.new.mode ≡ self.old.mode) × (self.new.first ≡ self.old.first) }
     {
         let was_whole = self.is_whole;
         self.is_whole = false;
@@ -223,41 +278,26 @@ impl<S: Source + Drop, N: Sink + Drop, C: Crew<Reader<S>>> Group<S, N, C> {
         }
         self.links.skip()?;
         push_none(&mut self.posts)?;
-        self.diary.note_start(worker, slot)?;
-        self.diary.refuse(number, false)?;
+        self.spares.push(None)?;
+        self.diary.note_start(worker, slot, Fate::Unlinked)?;
+        self.diary.note_unlinked(number, Fate::Unlinked)?;
         self.is_whole = was_whole;
         Ok(())
     }
 
-    /// Kills a worker. Gives the number of its link, where it has one that was not killed before.
-    pub fn kill(&mut self, worker: u32) -> Option<u32>
+    /// Notes that a worker is killed. Gives the number of its link.
+    pub fn kill(&mut self, worker: u32) -> Option<usize>
         ensures called { noted self.new.diary.calls ≡ noted self.old.diary.calls ++ Kill worker ∷ [] }
         ensures given { noted self.new.diary.given ≡ noted self.old.diary.given }
+        ensures some { IfSome result (λ at. slice_get self.old.diary.workers.items at ≡ Some worker) }
+        ensures none { IfNone result ((k : ℕ) → slice_get self.old.diary.workers.items k ≡ Some worker → ⊥) }
         ensures whole { self.new.is_whole ≡ self.old.is_whole }
-        ensures made { (self.new.suite ≡ self.old.suite) × (self.new.mode ≡ self.old.mode) }
-    {
-        self.note_kill(worker);
-        match self.diary.place_of(worker) {
-            Some(at) => self.kill_link(at),
-            None => None,
-        }
-    }
-
-    fn note_kill(&mut self, worker: u32)
-        ensures called { noted self.new.diary.calls ≡ noted self.old.diary.calls ++ Kill worker ∷ [] }
-        ensures given { noted self.new.diary.given ≡ noted self.old.diary.given }
-        ensures whole { self.new.is_whole ≡ self.old.is_whole }
-        ensures made { (self.new.suite ≡ self.old.suite) × (self.new.mode ≡ self.old.mode) }
+        ensures posts { self.new.posts ≡ self.old.posts }
+        ensures made { (self.new.suite ≡ self.old.suite) × (self.new.mode ≡ self.old.mode) × (self.new.first ≡ self.old.first) }
+        ensures starts { (self.new.diary.workers ≡ self.old.diary.workers) × (self.new.diary.fates ≡ self.old.diary.fates) }
     {
         self.diary.note_call(&Entry::Kill { worker });
-    }
-
-    fn kill_link(&mut self, at: usize) -> Option<u32>
-        ensures same { (noted self.new.diary.calls ≡ noted self.old.diary.calls) × (noted self.new.diary.given ≡ noted self.old.diary.given) }
-        ensures whole { self.new.is_whole ≡ self.old.is_whole }
-        ensures made { (self.new.suite ≡ self.old.suite) × (self.new.mode ≡ self.old.mode) }
-    {
-        kill_at(&mut self.posts, at)
+        self.diary.place_of(worker)
     }
 
     /// News of a worker that has no link.
@@ -267,10 +307,12 @@ impl<S: Source + Drop, N: Sink + Drop, C: Crew<Reader<S>>> Group<S, N, C> {
         ensures given { IfSome result (λ n. noted self.new.diary.given ≡ noted self.old.diary.given ++ n ∷ []) }
         ensures silent { IfNone result (noted self.new.diary.given ≡ noted self.old.diary.given) }
         ensures calls { noted self.new.diary.calls ≡ noted self.old.diary.calls }
+        ensures starts { (self.new.diary.workers ≡ self.old.diary.workers) × (self.new.diary.fates ≡ self.old.diary.fates) }
         ensures whole { self.new.is_whole ≡ self.old.is_whole }
-        ensures made { (self.new.suite ≡ self.old.suite) × (self.new.mode ≡ self.old.mode) }
+        ensures posts { self.new.posts ≡ self.old.posts }
+        ensures made { (self.new.suite ≡ self.old.suite) × (self.new.mode ≡ self.old.mode) × (self.new.first ≡ self.old.first) }
     {
-        let Some(number) = self.diary.next_refused() else {
+        let Some(number) = self.diary.next_waiting() else {
             return None;
         };
         let Some(worker) = self.diary.worker_at(number) else {
@@ -296,6 +338,8 @@ impl<S: Source + Drop, N: Sink + Drop, C: Crew<Reader<S>>> Group<S, N, C> {
         requires late { (first : List (Option Settled)) × ∥ Late first (news_of (mails links.old.desk)) (pages_of posts.old.items) ∥₁ }
         ensures late { (first : List (Option Settled)) → ∥ Late first (news_of (mails links.old.desk)) (pages_of posts.old.items) ∥₁
             → OnOk result (∥ Late first (news_of (mails links.new.desk)) (pages_of posts.new.items) ∥₁) }
+        ensures lost { OnOk result (losses_of posts.new.items ≡ losses_of posts.old.items) }
+        ensures crew { links.new.crew ≡ links.old.crew }
     {
         let (number, item) = links.next(rt);
         hear_late_at(posts, number as usize, item)?;
@@ -311,6 +355,8 @@ impl<S: Source + Drop, N: Sink + Drop, C: Crew<Reader<S>>> Group<S, N, C> {
         requires late { (first : List (Option Settled)) × ∥ Late first (news_of (mails links.old.desk)) (pages_of posts.old.items) ∥₁ }
         ensures late { (first : List (Option Settled)) → ∥ Late first (news_of (mails links.old.desk)) (pages_of posts.old.items) ∥₁
             → OnOk result (∥ Late first (news_of (mails links.new.desk)) (pages_of posts.new.items) ∥₁) }
+        ensures lost { OnOk result (losses_of posts.new.items ≡ losses_of posts.old.items) }
+        ensures crew { links.new.crew ≡ links.old.crew }
     {
         for _ in rt.forever() {
             if have_ended(posts) {
@@ -324,8 +370,10 @@ impl<S: Source + Drop, N: Sink + Drop, C: Crew<Reader<S>>> Group<S, N, C> {
     /// Takes from the links until nothing more is to come of any. From now on nothing is told and nothing said.
     pub fn settle<R: Wait>(&mut self, rt: &R) -> Result<(), OutOfMemory>
         ensures late { OnOk result (∥ Late (map settled_at (pages_of self.old.posts.items)) (news_of (mails self.new.links.desk)) (pages_of self.new.posts.items) ∥₁) }
+        ensures lost { OnOk result (losses_of self.new.posts.items ≡ losses_of self.old.posts.items) }
+        ensures crew { (self.new.links.crew ≡ self.old.links.crew) × (self.new.first ≡ self.old.first) }
         ensures whole { OnOk result (self.old.is_whole ≡ true) }
-        ensures over { OnOk result (self.new.is_whole ≡ false) }
+        ensures over { self.new.is_whole ≡ false }
         ensures diary { self.new.diary ≡ self.old.diary }
     {
         if !self.is_whole {
@@ -344,56 +392,85 @@ impl<S: Source + Drop, N: Sink + Drop, C: Crew<Reader<S>>> Group<S, N, C> {
         worker: u32,
     ) -> Option<Ended<S, N>>
         ensures ran { (first : List (Option Settled)) → ∥ Late first (news_of (mails links.old.desk)) (pages_of posts.old.items) ∥₁
-            → IfSome result (λ e. ∥ RanAt first number (link_of (spring (S.supply e.end.source) (S.is_ended e.end.source) (S.faults e.end.source)) (N.sunk e.end.sink) (N.faults e.end.sink)) ∥₁) }
+            → IfSome result (λ e. ∥ RanAt first number (link_of (spring (S.supply e.source) (S.is_ended e.source) (S.faults e.source)) (N.sunk e.sink) (N.faults e.sink)) ∥₁) }
         ensures late { (first : List (Option Settled)) → ∥ Late first (news_of (mails links.old.desk)) (pages_of posts.old.items) ∥₁
             → IsSome result → ∥ Late first (news_of (mails links.new.desk)) (pages_of posts.new.items) ∥₁ }
-        ensures worker { IfSome result (λ e. e.end.worker ≡ worker) }
+        ensures lost { IfSome result (λ e. slice_get (losses_of posts.old.items) number ≡ Some true → 0 < N.faults e.sink) }
+        ensures others { IfSome result (λ e. (k : ℕ) → number < k → slice_get (losses_of posts.old.items) k ≡ Some true → slice_get (losses_of posts.new.items) k ≡ Some true) }
+        ensures crew { C.faults links.new.crew ≡ C.faults links.old.crew }
+        ensures worker { IfSome result (λ e. e.worker ≡ worker) }
     {
         if !links.has_link(number) {
             return None;
         }
-        let Some(
-            Left {
-                link,
-                sink,
-                is_killed,
-            },
-        ) = leave_at(posts, number as usize)
-        else {
+        let Some(sink) = leave_at(posts, number as usize) else {
             return None;
         };
         let Closed { source, rest: _ } = links.close(number);
         Some(Ended {
-            link,
-            end: LinkEnd {
-                worker,
-                source,
-                sink,
-                killed: is_killed,
-            },
+            worker,
+            source,
+            sink,
         })
+    }
+
+    // Takes the link of this number that was kept and not read.
+    fn take_spare(spares: &mut Vec<Option<Spare<S, N>>>, number: u32, worker: u32) -> Option<Ended<S, N>>
+        ensures unused { IfSome result (λ e. Unused (link_of (spring (S.supply e.source) (S.is_ended e.source) (S.faults e.source)) (N.sunk e.sink) (N.faults e.sink))) }
+        ensures worker { IfSome result (λ e. e.worker ≡ worker) }
+    {
+        let at = number as usize;
+        if at >= spares.len() {
+            return None;
+        }
+        match spares[at].take() {
+            Some(Spare { source, sink }) => Some(Ended { worker, source, sink }),
+            None => None,
+        }
     }
 
     /// Closes the link of this number, and gives what it left; `None` where the number has none.
     pub fn end_link(&mut self, number: u32) -> Result<Option<Ended<S, N>>, OutOfMemory>
         requires over { self.old.is_whole ≡ false }
-        ensures ran { (first : List (Option Settled)) → ∥ Late first (news_of (mails self.old.links.desk)) (pages_of self.old.posts.items) ∥₁
-            → IfOk result (λ r. IfSome r (λ e. ∥ RanAt first number (link_of (spring (S.supply e.end.source) (S.is_ended e.end.source) (S.faults e.end.source)) (N.sunk e.end.sink) (N.faults e.end.sink)) ∥₁)) }
+        ensures ran { (first : List (Option Settled)) → ∥ Late first (news_of (mails self.old.links.desk)) (pages_of self.old.posts.items) ∥₁ → slice_get self.old.diary.fates.items number ≡ Some Linked
+            → IfOk result (λ r. IfSome r (λ e. ∥ RanAt first number (link_of (spring (S.supply e.source) (S.is_ended e.source) (S.faults e.source)) (N.sunk e.sink) (N.faults e.sink)) ∥₁)) }
+        ensures unused { slice_get self.old.diary.fates.items number ≡ Some Refused
+            → IfOk result (λ r. IfSome r (λ e. Unused (link_of (spring (S.supply e.source) (S.is_ended e.source) (S.faults e.source)) (N.sunk e.sink) (N.faults e.sink)))) }
         ensures late { (first : List (Option Settled)) → ∥ Late first (news_of (mails self.old.links.desk)) (pages_of self.old.posts.items) ∥₁
             → OnOk result (∥ Late first (news_of (mails self.new.links.desk)) (pages_of self.new.posts.items) ∥₁) }
-        ensures worker { IfOk result (λ r. IfSome r (λ e. slice_get self.old.diary.workers.items number ≡ Some e.end.worker)) }
+        ensures fate { IfOk result (λ r. (f : Fate) × (slice_get self.old.diary.fates.items number ≡ Some f) × (is_some r ≡ has_link f)) }
+        ensures worker { IfOk result (λ r. IfSome r (λ e. slice_get self.old.diary.workers.items number ≡ Some e.worker)) }
+        ensures lost { slice_get self.old.diary.fates.items number ≡ Some Linked → IfOk result (λ r. IfSome r (λ e. slice_get (losses_of self.old.posts.items) number ≡ Some true → 0 < N.faults e.sink)) }
+        ensures others { OnOk result ((k : ℕ) → number < k → slice_get (losses_of self.old.posts.items) k ≡ Some true → slice_get (losses_of self.new.posts.items) k ≡ Some true) }
+        ensures crew { (C.faults self.new.links.crew ≡ C.faults self.old.links.crew) × (self.new.first ≡ self.old.first) }
         ensures over { self.new.is_whole ≡ false }
         ensures diary { self.new.diary ≡ self.old.diary }
     {
-        if is_without(&self.posts, number as usize) {
-            return Ok(None);
-        }
         let Some(worker) = self.diary.worker_at(number) else {
             return Err(OutOfMemory);
         };
-        match Self::close(&mut self.links, &mut self.posts, number, worker) {
-            Some(ended) => Ok(Some(ended)),
-            None => Err(OutOfMemory),
+        let Some(fate) = self.diary.fate_at(number) else {
+            return Err(OutOfMemory);
+        };
+        match fate {
+            Fate::Unlinked => Ok(None),
+            Fate::Refused => {
+                let Some(kept) = Self::take_spare(&mut self.spares, number, worker) else {
+                    return Err(OutOfMemory);
+                };
+                Ok(Some(kept))
+            }
+            Fate::Linked => {
+                let Some(closed) = Self::close(
+                    &mut self.links,
+                    &mut self.posts,
+                    number,
+                    worker,
+                ) else {
+                    return Err(OutOfMemory);
+                };
+                Ok(Some(closed))
+            }
         }
     }
 }

@@ -3,12 +3,20 @@
 #![tactic(auto)]
 
 mod calling;
+mod child;
+mod children;
 mod diary;
+mod fate;
 mod gateway_hub;
 mod group;
 mod post;
 mod posts;
+mod spare;
 
+pub use child::Child;
+pub use children::Children;
 pub use diary::Diary;
+pub use fate::Fate;
 pub use gateway_hub::GatewayHub;
 pub use group::{Group, LinkEnd};
+pub use spare::Spare;

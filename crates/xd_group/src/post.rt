@@ -32,7 +32,6 @@ use xd_remote::Gateway;
 /// told; it is unknown behind want of memory.
 #[derive(Drop)]
 pub struct Post<N: Sink + Drop> {
-    pub link: u32,
     pub gateway: Gateway<N>,
     pub suite: Snapshot<Text>,
     pub mode: ModeKind,
@@ -41,7 +40,6 @@ pub struct Post<N: Sink + Drop> {
     pub said: Log<What>,
     /// What was heard when nothing was said any more.
     pub late: Log<What>,
-    pub is_killed: bool,
     /// A write failed.
     pub is_lost: bool,
     /// Its reader's end was taken.
@@ -159,6 +157,7 @@ fn end_behind<N: Sink + Drop>(
     ensures lost { is_lost ≡ is_broken gateway.old → result.is_lost ≡ is_broken gateway.new }
     ensures sent { (suite : List ℕ) (mode : ModeKind) (told : List Entry) (said : List What) → is_lost ≡ is_broken gateway.old → is_closed ≡ has_left said → SentAs is_lost is_closed (N.sunk (sink_of gateway.old)) (N.faults (sink_of gateway.old)) (to_link suite mode told said)
         → SentAs result.is_lost result.is_closed (N.sunk (sink_of gateway.new)) (N.faults (sink_of gateway.new)) (to_link suite mode told (said ++ option_to_list news.now)) }
+    ensures keeps { is_lost ≡ is_broken gateway.old → is_lost ≡ true → result.is_lost ≡ true }
     ensures heard { (ended : Bool) (taken : List LinkNews) (said : List What) → is_lost ≡ is_broken gateway.old → HeardSo gateway.old ended is_lost taken said → HeardSo gateway.new ended result.is_lost taken said }
 {
     if is_closed || !is_farewell(news) {
@@ -182,7 +181,6 @@ impl<N: Sink + Drop> Post<N> {
     /// A link that the worker was called on.
     pub fn begin(
         alloc: Global,
-        link: u32,
         sink: N,
         suite: &Text,
         mode: ModeKind,
@@ -204,7 +202,6 @@ impl<N: Sink + Drop> Post<N> {
         let mut gateway = Gateway::new(alloc, Parity::Odd, sink);
         let is_lost = call_worker(alloc, &mut gateway, suite, mode)?;
         Ok(Post {
-            link,
             gateway,
             suite: Snapshot::of(suite),
             mode,
@@ -212,7 +209,6 @@ impl<N: Sink + Drop> Post<N> {
             told,
             said,
             late,
-            is_killed: false,
             is_lost,
             is_ended: false,
             is_closed: false,
@@ -229,6 +225,8 @@ impl<N: Sink + Drop> Post<N> {
         ensures same { (self.new.suite ≡ self.old.suite) × (self.new.mode ≡ self.old.mode) × (noted self.new.taken ≡ noted self.old.taken) }
         ensures told { OnOk result (noted self.new.told ≡ noted self.old.told ++ order.now ∷ []) }
         ensures said { (noted self.new.said ≡ noted self.old.said) × (noted self.new.late ≡ noted self.old.late) }
+        ensures lost { IfOk result (λ b. b ≡ self.new.is_lost) }
+        ensures keeps { OnOk result (self.old.is_lost ≡ true → self.new.is_lost ≡ true) }
         ensures known { OnOk result (self.new.is_known ≡ true) }
     {
         let value = order_value(alloc, order)?;
@@ -248,6 +246,8 @@ impl<N: Sink + Drop> Post<N> {
         ensures taken { OnOk result (noted self.new.taken ≡ noted self.old.taken ++ item ∷ []) }
         ensures said { IfOk result (λ r. noted self.new.said ≡ noted self.old.said ++ option_to_list r.what) }
         ensures late { noted self.new.late ≡ noted self.old.late }
+        ensures lost { IfOk result (λ r. r.is_cut ≡ self.new.is_lost) }
+        ensures keeps { OnOk result (self.old.is_lost ≡ true → self.new.is_lost ≡ true) }
         ensures known { OnOk result (self.new.is_known ≡ true) }
         ensures no_breach { IfOk result (λ r. IfSome r.what (λ x. is_breach x ≡ false)) }
     {
@@ -282,6 +282,7 @@ impl<N: Sink + Drop> Post<N> {
         ensures same { (self.new.suite ≡ self.old.suite) × (self.new.mode ≡ self.old.mode) × (noted self.new.told ≡ noted self.old.told) }
         ensures taken { OnOk result (noted self.new.taken ≡ noted self.old.taken ++ item ∷ []) }
         ensures said { noted self.new.said ≡ noted self.old.said }
+        ensures lost { self.new.is_lost ≡ self.old.is_lost }
         ensures known { OnOk result (self.new.is_known ≡ true) }
     {
         self.is_known = false;
@@ -296,19 +297,5 @@ impl<N: Sink + Drop> Post<N> {
         note_heard(&mut self.late, &news);
         self.is_known = true;
         Ok(())
-    }
-
-    /// Marks the link as killed. Gives its number at the starter, where it was not killed before.
-    pub fn kill(&mut self) -> Option<u32>
-        ensures same { (self.new.suite ≡ self.old.suite) × (self.new.mode ≡ self.old.mode) × (noted self.new.taken ≡ noted self.old.taken) }
-        ensures told { noted self.new.told ≡ noted self.old.told }
-        ensures said { (noted self.new.said ≡ noted self.old.said) × (noted self.new.late ≡ noted self.old.late) }
-        ensures known { self.new.is_known ≡ self.old.is_known }
-    {
-        if self.is_killed {
-            return None;
-        }
-        self.is_killed = true;
-        Some(self.link)
     }
 }

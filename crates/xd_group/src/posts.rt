@@ -1,5 +1,5 @@
 // The links by their numbers.
-ghost use Rattle.std.specs.Prelude.{◌≡◌, ◌≤◌, ◌∷◌, ◌++◌, [], true, false, Some, None, OnOk, IfOk, IfSome, IsSome, length, slice_get, slice_set};
+ghost use Rattle.std.specs.Prelude.{◌≡◌, ◌≤◌, ◌<◌, ℕ, ◌∷◌, ◌++◌, [], true, false, Some, None, OnOk, IfOk, IfSome, IsSome, is_some, length, map, slice_get, slice_set};
 ghost use Rattle.std.specs.Str.{encode_utf8_all};
 ghost use Rattle.xd_drive.specs.Marks.{is_breach};
 ghost use Rattle.xd_gateway.specs.Orders.{order_of};
@@ -7,7 +7,9 @@ ghost use Rattle.xd_group.specs.Ends.{EndsSo};
 ghost use Rattle.xd_group.specs.Pages.{HasPage, HeardAt, IsHeardAt, IsToldAt, Page, ToldAt, page_opened};
 ghost use Rattle.xd_link.specs.FreshLink.{unused};
 ghost use Rattle.xd_group.specs.Late.{IsLateAt, LateAt};
-ghost use Rattle.xd_group.specs.PostView.{has_ended, page_by, pages_of};
+ghost use Rattle.xd_group.specs.Kills.{KeepsLost, LostAt};
+ghost use Rattle.xd_group.specs.PostView.{has_ended, losses_of, page_by, pages_of};
+ghost use Rattle.std.specs.Bool.{then_some};
 ghost use Rattle.std.specs.List.{list_all};
 
 use crate::post::{HeardNews, Post};
@@ -35,7 +37,10 @@ pub fn tell_at<N: Sink + Drop>(
 ) -> Result<bool, OutOfMemory>
     requires order { IsSome (order_of order.now) }
     requires told { ∥ IsToldAt (pages_of posts.old.items) at ∥₁ }
-    ensures { OnOk result (ToldAt order.now at (pages_of posts.old.items) (pages_of posts.new.items)) }
+    ensures told { OnOk result (ToldAt order.now at (pages_of posts.old.items) (pages_of posts.new.items)) }
+    ensures seats { OnOk result (map is_some (pages_of posts.new.items) ≡ map is_some (pages_of posts.old.items)) }
+    ensures keeps { OnOk result (KeepsLost (losses_of posts.old.items) (losses_of posts.new.items)) }
+    ensures lost { IfOk result (λ b. LostAt (then_some b at) (losses_of posts.new.items)) }
 {
     if at >= posts.len() {
         unreachable!()
@@ -56,6 +61,9 @@ pub fn hear_at<N: Sink + Drop>(
     requires heard { ∥ IsHeardAt (pages_of posts.old.items) at ∥₁ }
     ensures heard { IfOk result (λ r. HeardAt item r.what at (pages_of posts.old.items) (pages_of posts.new.items)) }
     ensures no_breach { IfOk result (λ r. IfSome r.what (λ x. is_breach x ≡ false)) }
+    ensures seats { OnOk result (map is_some (pages_of posts.new.items) ≡ map is_some (pages_of posts.old.items)) }
+    ensures keeps { OnOk result (KeepsLost (losses_of posts.old.items) (losses_of posts.new.items)) }
+    ensures lost { IfOk result (λ r. LostAt (then_some r.is_cut at) (losses_of posts.new.items)) }
 {
     if at >= posts.len() {
         unreachable!()
@@ -74,7 +82,8 @@ pub fn hear_late_at<N: Sink + Drop>(
     item: LinkNews,
 ) -> Result<(), OutOfMemory>
     requires late { ∥ IsLateAt (pages_of posts.old.items) at ∥₁ }
-    ensures { OnOk result (LateAt item at (pages_of posts.old.items) (pages_of posts.new.items)) }
+    ensures late { OnOk result (LateAt item at (pages_of posts.old.items) (pages_of posts.new.items)) }
+    ensures lost { OnOk result (losses_of posts.new.items ≡ losses_of posts.old.items) }
 {
     if at >= posts.len() {
         unreachable!()
@@ -107,24 +116,25 @@ pub fn have_ended<N: Sink + Drop>(posts: &[Option<Post<N>>]) -> bool
 pub fn push_post<N: Sink + Drop>(
     posts: &mut Vec<Option<Post<N>>>,
     alloc: Global,
-    link: u32,
     sink: N,
     suite: &Text,
     mode: ModeKind,
 ) -> Result<(), OutOfMemory>
     requires nothing_taken { IfSome (N.sunk sink) (λ s. s ≡ unused) }
     requires short { length (encode_utf8_all suite.now) ≤ 65536 }
-    ensures { OnOk result (pages_of posts.new.items ≡ pages_of posts.old.items ++ page_opened suite.now mode true ∷ []) }
+    ensures pages { OnOk result (pages_of posts.new.items ≡ pages_of posts.old.items ++ page_opened suite.now mode true ∷ []) }
+    ensures keeps { OnOk result (KeepsLost (losses_of posts.old.items) (losses_of posts.new.items)) }
 {
     posts.reserve(1)?;
-    let post = Post::begin(alloc, link, sink, suite, mode)?;
+    let post = Post::begin(alloc, sink, suite, mode)?;
     posts.push_reserved(Some(post));
     Ok(())
 }
 
 /// Adds a number that has no link.
 pub fn push_none<N: Sink + Drop>(posts: &mut Vec<Option<Post<N>>>) -> Result<(), OutOfMemory>
-    ensures { OnOk result (pages_of posts.new.items ≡ pages_of posts.old.items ++ None ∷ []) }
+    ensures pages { OnOk result (pages_of posts.new.items ≡ pages_of posts.old.items ++ None ∷ []) }
+    ensures keeps { OnOk result (KeepsLost (losses_of posts.old.items) (losses_of posts.new.items)) }
 {
     posts.push(None)?;
     Ok(())
@@ -140,17 +150,10 @@ pub fn is_without<N: Sink + Drop>(posts: &[Option<Post<N>>], at: usize) -> bool
     posts[at].is_none()
 }
 
-/// What is left of a link.
-#[derive(Drop)]
-pub struct Left<N: Sink + Drop> {
-    pub link: u32,
-    pub sink: N,
-    pub is_killed: bool,
-}
-
-// Takes the post apart.
-fn leave<N: Sink + Drop>(post: Post<N>) -> Option<Left<N>>
-    ensures ends { IfSome result (λ l. ∥ EndsSo (page_by post) (N.sunk l.sink) (N.faults l.sink) ∥₁) }
+// Takes the post apart, where it is known to have ended.
+fn leave<N: Sink + Drop>(post: Post<N>) -> Option<N>
+    ensures ends { IfSome result (λ sink. ∥ EndsSo (page_by post) (N.sunk sink) (N.faults sink) ∥₁) }
+    ensures lost { IfSome result (λ sink. post.is_lost ≡ true → 0 < N.faults sink) }
 {
     if !post.is_known {
         return None;
@@ -158,43 +161,23 @@ fn leave<N: Sink + Drop>(post: Post<N>) -> Option<Left<N>>
     if !post.is_ended {
         return None;
     }
-    let Post {
-        link,
-        gateway,
-        is_killed,
-        ..
-    } = post;
+    let Post { gateway, .. } = post;
     let sink = gateway.into_sink();
-    Some(Left {
-        link,
-        sink,
-        is_killed,
-    })
+    Some(sink)
 }
 
-/// Takes the link at the place, where it is known to have ended.
-pub fn leave_at<N: Sink + Drop>(posts: &mut Vec<Option<Post<N>>>, at: usize) -> Option<Left<N>>
-    ensures ends { IfSome result (λ l. (p : Page) × (slice_get (pages_of posts.old.items) at ≡ Some (Some p)) × ∥ EndsSo p (N.sunk l.sink) (N.faults l.sink) ∥₁) }
-    ensures gone { IfSome result (λ l. pages_of posts.new.items ≡ slice_set (pages_of posts.old.items) at None) }
+/// Takes the link at the place, where it is known to have ended. Gives its sink.
+pub fn leave_at<N: Sink + Drop>(posts: &mut Vec<Option<Post<N>>>, at: usize) -> Option<N>
+    ensures ends { IfSome result (λ sink. (p : Page) × (slice_get (pages_of posts.old.items) at ≡ Some (Some p)) × ∥ EndsSo p (N.sunk sink) (N.faults sink) ∥₁) }
+    ensures lost { IfSome result (λ sink. slice_get (losses_of posts.old.items) at ≡ Some true → 0 < N.faults sink) }
+    ensures others { IfSome result (λ sink. (k : ℕ) → at < k → slice_get (losses_of posts.old.items) k ≡ Some true → slice_get (losses_of posts.new.items) k ≡ Some true) }
+    ensures gone { IfSome result (λ sink. pages_of posts.new.items ≡ slice_set (pages_of posts.old.items) at None) }
 {
     if at >= posts.len() {
         return None;
     }
     match posts[at].take() {
         Some(post) => leave(post),
-        None => None,
-    }
-}
-
-/// Marks the link at the place as killed. Gives its number at the starter, where it was not killed before.
-pub fn kill_at<N: Sink + Drop>(posts: &mut Vec<Option<Post<N>>>, at: usize) -> Option<u32>
-    ensures { pages_of posts.new.items ≡ pages_of posts.old.items }
-{
-    if at >= posts.len() {
-        return None;
-    }
-    match &mut posts[at] {
-        Some(post) => post.kill(),
         None => None,
     }
 }

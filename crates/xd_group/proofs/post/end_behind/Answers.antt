@@ -10,3 +10,7 @@ returns-clause-sent g c suite mode told said l e s =
 pub returns-clause-heard : goal.returns-clause-heard
 returns-clause-heard g c ended taken said l h =
     heard_kept _ _ _ _ _ _ _ c.end_worker-is_lost.ensures.stands (close_keeps _ _ _ (line_of g.N.Sink.sunk g.N.Sink.faults c.args.gateway.now) (line_of g.N.Sink.sunk g.N.Sink.faults c.end_worker-is_lost.new.gateway) l c.end_worker-is_lost.ensures.lost c.end_worker-is_lost.ensures.closes) h
+
+pub returns-clause-keeps : goal.returns-clause-keeps
+returns-clause-keeps g c l =
+    close_keeps _ _ _ (line_of g.N.Sink.sunk g.N.Sink.faults c.args.gateway.now) (line_of g.N.Sink.sunk g.N.Sink.faults c.end_worker-is_lost.new.gateway) l c.end_worker-is_lost.ensures.lost c.end_worker-is_lost.ensures.closes

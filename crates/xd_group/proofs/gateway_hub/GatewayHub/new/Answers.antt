@@ -1,12 +1,27 @@
-use Rattle.std.proofs.Common.{◌≡◌, [], ap, rules}
+use Rattle.std.proofs.Common.{◌≡◌, [], List, ap, map, sym, ◌∙◌, rules}
+use Rattle.std.specs.Prelude.{is_some}
+use Rattle.xd_group.specs.Fates.{is_linked}
 use Rattle.xd_group.specs.PostView.{pages_of}
+use Rattle.xd_group.proofs.Counting.{few_first}
 use Rattle.xd_group.proofs.Keeping.{kept_first}
+use Rattle.xd_group.proofs.Saying.{unsaid_first}
+use Rattle.xd_group.proofs.Stepping.{step_first}
 use Rattle.xd_group.proofs.gateway_hub.GatewayHub.new.Goals as goal
 
 pub invariant_of-result : goal.invariant_of-result
 invariant_of-result g c =
-    let posts : c.new-3.result.items ≡ [] = search rules in
+    let posts : c.new-4.result.items ≡ [] = search rules in
+    let diary = c.in_ok-diary.ensures in
     record {
       short = c.requires.short;
-      kept = λ e. ∣ kept_first _ _ _ _ _ _ _ c.in_ok-links.ensures.none.0 c.in_ok-diary.ensures.calls c.in_ok-diary.ensures.given c.in_ok-diary.ensures.workers (ap pages_of posts) ∣₁;
+      kept = λ e. ∣ kept_first _ _ _ _ _ _ _ c.in_ok-links.ensures.none.0 diary.calls diary.given diary.workers (ap pages_of posts) ∣₁;
+      few = λ e. rw (c.in_ok-links.ensures.crew, c.of-first.ensures) (few_first _ _ diary.fates);
+      seats = λ e. ap (λ (l : List _). map is_some (pages_of l)) posts ∙ sym (ap (map is_linked) diary.fates);
+      unsaid = λ e. ∣ unsaid_first _ _ _ _ diary.workers diary.waiting ∣₁;
     }
+
+pub invariant_of-result-2 : goal.invariant_of-result-2
+invariant_of-result-2 g c =
+    let diary = c.in_ok-diary.ensures in
+    let children = c.new-3.ensures in
+    record { in_step = λ e. ∣ rw (children.first, children.starter) (step_first _ _ _ _ _ children.none diary.calls diary.fates) ∣₁ }

@@ -7,6 +7,8 @@ invariant-loop g l = record {
   calls : noted l.self.group.diary.calls ≡ noted l.fn.self.group.diary.calls;
   given : noted l.self.group.diary.given ≡ noted l.fn.self.group.diary.given;
   places : l.self.places ≡ l.fn.self.places;
+  first : l.self.children.first ≡ l.fn.self.children.first;
+  crew : l.self.group.first ≡ l.fn.self.group.first;
   suite : l.self.group.suite ≡ l.fn.self.group.suite;
   mode : l.self.group.mode ≡ l.fn.self.group.mode;
   whole : l.self.group.is_whole ≡ l.fn.self.group.is_whole;

@@ -1,7 +1,17 @@
+use Rattle.std.proofs.Common.{◌∙◌}
 use Rattle.xd_group.proofs.group.Group.drain.Goals as goal
 
 pub take_late-requires : goal.take_late-requires
 take_late-requires g c = record { late = (c.requires.late.0, c.loop.invariant.late c.requires.late.0 c.requires.late.1) }
 
 pub loop-preserved : goal.loop-preserved
-loop-preserved g c = record { late = λ first late. c.in_ok-take_late.ensures.late first (c.loop.invariant.late first late) }
+loop-preserved g c = record { late = λ first late. c.in_ok-take_late.ensures.late first (c.loop.invariant.late first late); lost = c.in_ok-take_late.ensures.lost ∙ c.loop.invariant.lost; crew = c.in_ok-take_late.ensures.crew ∙ c.loop.invariant.crew }
+
+pub returns-then-have_ended-clause-lost : goal.returns-then-have_ended-clause-lost
+returns-then-have_ended-clause-lost g c = c.loop.invariant.lost
+
+pub returns-then-have_ended-clause-crew : goal.returns-then-have_ended-clause-crew
+returns-then-have_ended-clause-crew g c = c.loop.invariant.crew
+
+pub returns-in_err-take_late-clause-crew : goal.returns-in_err-take_late-clause-crew
+returns-in_err-take_late-clause-crew g c = c.in_err-take_late.ensures.crew ∙ c.loop.invariant.crew

@@ -1,18 +1,35 @@
-use Rattle.std.proofs.Math.Logic.{∥∥₁_map}
+use Rattle.std.proofs.Math.Logic.{∥∥₁_map, ∥∥₁_map₂, ∥∥₁_elim}
 use Rattle.xd_links.specs.Runs.{news_of}
 use Rattle.xd_note.specs.Noted.{noted}
 use Rattle.xd_post.specs.Mails.{mails}
 use Rattle.xd_group.specs.PostView.{pages_of}
+use Rattle.std.proofs.Common.{◌≡◌, ap, length, rules}
+use Rattle.std.specs.Prelude.{is_none}
+use Rattle.xd_group.specs.Fates.{is_linked}
+use Rattle.xd_group.proofs.Counting.{few_opened}
 use Rattle.xd_group.proofs.Keeping.{kept_started}
+use Rattle.xd_group.proofs.LossFacts.{post_count}
+use Rattle.xd_group.proofs.Saying.{opened_seats, unsaid_opened}
 use Rattle.xd_group.proofs.group.Group.open.Goals as goal
 
 pub invariant_of-self-2 : goal.invariant_of-self-2
 invariant_of-self-2 g c =
     let was = c.args.self.now in
+    let none = is_none c.in_ok-back.back in
+    let told = c.in_ok-note_start.ensures in
+    let last = c.in_ok-note_unlinked.ensures in
+    let seat = c.in_ok-fate.ensures in
+    let at : c.in-Ok.number ≡ length was.posts.items = search rules in
     record {
       short = was.short;
       kept = λ e. ∥∥₁_map (was.kept e)
-          (λ k. rw (c.in_ok-refuse.ensures.calls, c.in_ok-refuse.ensures.given, c.in_ok-refuse.ensures.workers, c.in_ok-note_start.ensures.given)
-          (kept_started was.suite was.mode (news_of (mails was.links.desk)) _ (noted was.diary.calls) _ (noted was.diary.given) was.diary.workers.items _ (pages_of was.posts.items) _ c.args.worker c.args.slot c.in_ok-is_read.is_read
-          c.in_ok-note_start.ensures.calls c.requires.new was.diary.known c.in_ok-note_start.ensures.workers (c.in_ok-is_read.ensures was.suite was.mode) c.in_ok-call.ensures k));
+          (λ k. rw (last.calls, last.given, last.workers, told.given)
+          (kept_started was.suite was.mode (news_of (mails was.links.desk)) _ (noted was.diary.calls) _ (noted was.diary.given) was.diary.workers.items _ (pages_of was.posts.items) _ c.args.worker c.args.slot none
+          told.calls c.requires.new was.diary.known told.workers (c.in_ok-back.ensures.news was.suite was.mode) seat.pages k));
+      few = λ e. rw (last.fates) (few_opened was.diary.fates.items _ c.in_ok-fate.fate none _ _ _ told.fates seat.linked seat.started c.in_ok-back.ensures.crew (was.few e));
+      seats = λ e. rw (last.fates) (opened_seats was.suite was.mode none (pages_of was.posts.items) _ was.diary.fates.items _ c.in_ok-fate.fate seat.pages told.fates seat.linked (was.seats e));
+      unsaid = λ e. ∥∥₁_map₂ (was.kept e) (was.unsaid e)
+          (λ k u. rw (last.given, last.workers, told.given)
+          (unsaid_opened was.suite was.mode (news_of (mails was.links.desk)) (noted was.diary.calls) (noted was.diary.given) was.diary.workers.items _ (pages_of was.posts.items) _ was.diary.waiting.items _ _ c.args.worker c.in-Ok.number (is_linked c.in_ok-fate.fate) none
+          told.workers seat.pages last.waiting (ap (λ (v : _). v.items) told.waiting) seat.linked (post_count was.posts.items c.in-Ok.number at) c.requires.new k u));
     }

@@ -1,19 +1,32 @@
-use Rattle.std.proofs.Common.{false}
-use Rattle.std.proofs.Math.Logic.{∥∥₁_map}
+use Rattle.std.proofs.Math.Logic.{∥∥₁_map, ∥∥₁_map₂, ∥∥₁_elim}
 use Rattle.xd_links.specs.Runs.{news_of}
 use Rattle.xd_note.specs.Noted.{noted}
 use Rattle.xd_post.specs.Mails.{mails}
 use Rattle.xd_group.specs.PostView.{pages_of}
+use Rattle.std.proofs.Common.{◌≡◌, ap, false, length, refl, rules}
+use Rattle.xd_group.specs.declared.fate.Fate.TheVariants.{Unlinked}
+use Rattle.xd_group.proofs.Counting.{few_skipped}
 use Rattle.xd_group.proofs.Keeping.{kept_started}
+use Rattle.xd_group.proofs.LossFacts.{post_count}
+use Rattle.xd_group.proofs.Saying.{opened_seats, unsaid_opened}
 use Rattle.xd_group.proofs.group.Group.skip.Goals as goal
 
 pub invariant_of-self-2 : goal.invariant_of-self-2
 invariant_of-self-2 g c =
     let was = c.args.self.now in
+    let told = c.in_ok-note_start.ensures in
+    let last = c.in_ok-note_unlinked.ensures in
+    let at : c.in-Ok.number ≡ length was.posts.items = search rules in
     record {
       short = was.short;
       kept = λ e. ∥∥₁_map (was.kept e)
-          (λ k. rw (c.in_ok-refuse.ensures.calls, c.in_ok-refuse.ensures.given, c.in_ok-refuse.ensures.workers, c.in_ok-note_start.ensures.given)
+          (λ k. rw (last.calls, last.given, last.workers, told.given)
           (kept_started was.suite was.mode (news_of (mails was.links.desk)) _ (noted was.diary.calls) _ (noted was.diary.given) was.diary.workers.items _ (pages_of was.posts.items) _ c.args.worker c.args.slot false
-          c.in_ok-note_start.ensures.calls c.requires.new was.diary.known c.in_ok-note_start.ensures.workers c.in_ok-skip.ensures.news c.in_ok-push_none.ensures k));
+          told.calls c.requires.new was.diary.known told.workers c.in_ok-skip.ensures.news c.in_ok-push_none.ensures.pages k));
+      few = λ e. rw (last.fates, c.in_ok-skip.ensures.crew) (few_skipped was.diary.fates.items _ _ _ told.fates (was.few e));
+      seats = λ e. rw (last.fates) (opened_seats was.suite was.mode false (pages_of was.posts.items) _ was.diary.fates.items _ Unlinked c.in_ok-push_none.ensures.pages told.fates refl (was.seats e));
+      unsaid = λ e. ∥∥₁_map₂ (was.kept e) (was.unsaid e)
+          (λ k u. rw (last.given, last.workers, told.given)
+          (unsaid_opened was.suite was.mode (news_of (mails was.links.desk)) (noted was.diary.calls) (noted was.diary.given) was.diary.workers.items _ (pages_of was.posts.items) _ was.diary.waiting.items _ _ c.args.worker c.in-Ok.number false false
+          told.workers c.in_ok-push_none.ensures.pages last.waiting (ap (λ (v : _). v.items) told.waiting) refl (post_count was.posts.items c.in-Ok.number at) c.requires.new k u));
     }

@@ -11,10 +11,8 @@ hear_late_at-requires g c =
     let late = c.requires.late in
     record { late = ∥∥₁_map late.1 (λ l. late_there late.0 (news_of (mails c.args.links.now.desk)) (pages_of c.args.posts.now.items) c.next-number.result.0 took.0 took.1 l) }
 
-pub returns : goal.returns
-returns g c =
+pub returns-clause-late : goal.returns-clause-late
+returns-clause-late g c first late =
     let took = c.next-number.ensures.news in
-    record {
-      late = λ first late. ∥∥₁_map late
-          (λ l. late_heard first (news_of (mails c.args.links.now.desk)) _ (pages_of c.args.posts.now.items) _ c.next-number.result.0 c.next-number.result.1 took.0 took.1 took.2 c.in_ok-hear_late_at.ensures l);
-    }
+    ∥∥₁_map late
+    (λ l. late_heard first (news_of (mails c.args.links.now.desk)) _ (pages_of c.args.posts.now.items) _ c.next-number.result.0 c.next-number.result.1 took.0 took.1 took.2 c.in_ok-hear_late_at.ensures.late l)

@@ -22,3 +22,6 @@ invariant_of-self-2 g c =
           (c.end_behind-is_closed.ensures.heard _ _ _ still (c.in_ok-news.ensures.hears (noted was.taken) (said ++ noted was.late) h))));
       sent = λ e. ∥∥₁_map (was.sent known) (λ s. rw (c.note_heard.ensures) (c.end_behind-is_closed.ensures.sent _ _ (noted was.told) said still (was.closed known) (rw (c.in_ok-news.ensures.sink) s)));
     }
+
+pub returns-clause-keeps : goal.returns-clause-keeps
+returns-clause-keeps g c lost = c.end_behind-is_closed.ensures.keeps (c.args.self.now.lost c.requires.known ∙ sym c.in_ok-news.ensures.broken) lost

@@ -1,4 +1,5 @@
-use Rattle.std.proofs.Math.Logic.{∥∥₁_map, ∥∥₁_map₂}
+use Rattle.std.proofs.Math.Logic.{∥∥₁_elim, ∥∥₁_map, ∥∥₁_map₂}
+use Rattle.std.proofs.Props.{props}
 use Rattle.xd_note.specs.Noted.{noted}
 use Rattle.xd_remote.specs.View.{line_of}
 use Rattle.xd_group.specs.ToLink.{order_message}
@@ -23,3 +24,13 @@ invariant_of-self-2 g c =
           (λ h s. let can = can_tell was.gateway was.is_ended was.is_lost (noted was.taken) (noted was.said) (noted was.late) c.requires.on_time c.requires.going h in
           sent_order was.is_lost c.in_ok-is_lost.is_lost was.is_closed a b _ _ (noted was.told) _ c.args.order.now (noted was.said) lost now c.note.ensures (not_left (noted was.said) c.requires.going) s (c.in_ok-is_lost.ensures.writes c.args.order.now c.in_ok-value.ensures.form can));
     }
+
+pub returns-clause-keeps : goal.returns-clause-keeps
+returns-clause-keeps g c lost =
+    let was = c.args.self.now in
+    let known = c.requires.known in
+    let a = line_of g.N.Sink.sunk g.N.Sink.faults was.gateway in
+    let b = line_of g.N.Sink.sunk g.N.Sink.faults c.write_order.new.gateway in
+    ∥∥₁_elim (was.heard known) (hlevel props)
+    (λ h. let can = can_tell was.gateway was.is_ended was.is_lost (noted was.taken) (noted was.said) (noted was.late) c.requires.on_time c.requires.going h in
+    order_keeps (order_message c.args.order.now) was.is_lost c.in_ok-is_lost.is_lost a b (was.lost known) c.in_ok-is_lost.ensures.lost (c.in_ok-is_lost.ensures.writes c.args.order.now c.in_ok-value.ensures.form can) lost)

@@ -1,0 +1,204 @@
+-- What is asked of the children of links.
+use Rattle.std.proofs.Common.{◌≡◌, ℕ, zero, suc, ◌+◌, ◌≤◌, ◌<◌, List, [], ◌∷◌, ◌++◌, map, length, Bool, true, false, Option, Some, None, option_map, refl, sym, ◌∙◌, ap, subst, arith, append_assoc, append-nil, length-append}
+use Rattle.std.specs.Prelude.{IfSome, IfNone, filter, is_none, slice_get, slice_set}
+use Rattle.std.proofs.Math.ListN.{set}
+use Rattle.std.proofs.lemmas.List.{map-append}
+use Rattle.std.proofs.lemmas.List.Elements.{filter-append}
+use Rattle.xd_edge.specs.Faults.{Rose, RoseBy}
+use Rattle.xd_link.specs.Starter.{Begun, IsNextLink, as_killed, as_reaped, fresh_link, link_changed, more_often, with_failure, with_link, with_start}
+use Rattle.xd_link.specs.declared.place.Place.{Place}
+use Rattle.xd_link.specs.declared.starter.LinkRun.{LinkRun}
+use Rattle.xd_link.specs.declared.starter.Reaped.TheVariants.{Never}
+use Rattle.xd_link.specs.declared.starter.StartRun.{StartRun}
+use Rattle.xd_group.specs.Children.{AreNumbered, Asked, TellsLinks, all_asked, asked, asked_of, changed_at, failed_starts, fresh_child, killed_child, reaped_child, starts_told}
+use Rattle.xd_group.specs.declared.child.Child.{Child}
+
+-- ---- one more child
+
+asked_more : (cs : List (Option Child)) (c : Child) → all_asked (cs ++ Some c ∷ []) ≡ all_asked cs ++ asked c ∷ []
+asked_more [] c = refl
+asked_more (None ∷ cs) c = asked_more cs c
+asked_more (Some d ∷ cs) c = ap (λ (l : List Asked). asked d ∷ l) (asked_more cs c)
+
+asked_none : (cs : List (Option Child)) → all_asked (cs ++ None ∷ []) ≡ all_asked cs
+asked_none [] = refl
+asked_none (None ∷ cs) = asked_none cs
+asked_none (Some d ∷ cs) = ap (λ (l : List Asked). asked d ∷ l) (asked_none cs)
+
+numbered_more : (n : ℕ) (cs : List (Option Child)) (c : Child) → c.link ≡ n + length (all_asked cs) → AreNumbered n cs → AreNumbered n (cs ++ Some c ∷ [])
+numbered_more n [] c e a = (e ∙ omega arith, tt)
+numbered_more n (None ∷ cs) c e a = numbered_more n cs c e a
+numbered_more n (Some d ∷ cs) c e a = (a.0, numbered_more (suc n) cs c (e ∙ omega arith) a.1)
+
+numbered_none : (n : ℕ) (cs : List (Option Child)) → AreNumbered n cs → AreNumbered n (cs ++ None ∷ [])
+numbered_none n [] a = tt
+numbered_none n (None ∷ cs) a = numbered_none n cs a
+numbered_none n (Some d ∷ cs) a = (a.0, numbered_none (suc n) cs a.1)
+
+abbrev fresh : Asked
+fresh = record { killed = false; reaped = Never }
+
+map_length : (ls : List LinkRun) → length (map asked_of ls) ≡ length ls
+map_length [] = refl
+map_length (l ∷ ls) = omega (arith, map_length ls)
+
+pub tells_first : (b : Option Begun) → TellsLinks b b []
+tells_first None = refl
+tells_first (Some b) = (b, refl, sym (append-nil (map asked_of b.links)), tt)
+
+pub tells_more : (first now next : Option Begun) (cs all : List (Option Child)) (place : Place) (link : ℕ) → IsNextLink link now → next ≡ option_map (with_start place) now → all ≡ cs ++ Some (fresh_child link) ∷ [] → TellsLinks first now cs → TellsLinks first next all
+tells_more None now next cs all place link n e is t = e ∙ ap (option_map (with_start place)) t
+tells_more (Some b) now next cs all place link n e is t =
+    let at : link ≡ length t.0.links = subst (λ (o : Option Begun). IsNextLink link o) t.1 n in
+    subst (λ (l : List (Option Child)). TellsLinks (Some b) next l) (sym is) (
+      with_start place t.0,
+      e ∙ ap (option_map (with_start place)) t.1,
+      map-append asked_of t.0.links (fresh_link place ∷ []) ∙ (ap (λ (l : List Asked). l ++ fresh ∷ []) t.2 ∙ (append_assoc (map asked_of b.links) (all_asked cs) (fresh ∷ []) ∙ ap (λ (l : List Asked). map asked_of b.links ++ l) (sym (asked_more cs (fresh_child link))))),
+      numbered_more (length b.links) cs (fresh_child link) (at ∙ (sym (map_length t.0.links) ∙ (ap length t.2 ∙ (length-append (map asked_of b.links) (all_asked cs) ∙ ap (λ (n : ℕ). n + length (all_asked cs)) (map_length b.links))))) t.3,
+    )
+
+pub tells_none : (first now next : Option Begun) (cs all : List (Option Child)) (place : Place) → next ≡ option_map (with_failure place) now → all ≡ cs ++ None ∷ [] → TellsLinks first now cs → TellsLinks first next all
+tells_none None now next cs all place e is t = e ∙ ap (option_map (with_failure place)) t
+tells_none (Some b) now next cs all place e is t =
+    subst (λ (l : List (Option Child)). TellsLinks (Some b) next l) (sym is) (
+      with_failure place t.0,
+      e ∙ ap (option_map (with_failure place)) t.1,
+      t.2 ∙ ap (λ (l : List Asked). map asked_of b.links ++ l) (sym (asked_none cs)),
+      numbered_none (length b.links) cs t.3,
+    )
+
+-- ---- a child that was asked for something
+
+abbrev changed : ℕ → (Asked → Asked) → List Asked → List Asked
+changed n g [] = []
+changed zero g (a ∷ rest) = g a ∷ rest
+changed (suc n) g (a ∷ rest) = a ∷ changed n g rest
+
+changed_map : (n : ℕ) (h : LinkRun → LinkRun) (g : Asked → Asked) (ls : List LinkRun) → ((l : LinkRun) → asked_of (h l) ≡ g (asked_of l)) → map asked_of (link_changed n h ls) ≡ changed n g (map asked_of ls)
+changed_map n h g [] same = refl
+changed_map zero h g (l ∷ ls) same = ap (λ (a : Asked). a ∷ map asked_of ls) (same l)
+changed_map (suc n) h g (l ∷ ls) same = ap (λ (rest : List Asked). asked_of l ∷ rest) (changed_map n h g ls same)
+
+-- the link of a child is so far behind the first
+there : (n : ℕ) (cs : List (Option Child)) (k : ℕ) (c : Child) (f : Child → Child) (g : Asked → Asked) → AreNumbered n cs → slice_get cs k ≡ Some (Some c) → asked (f c) ≡ g (asked c)
+    → (m : ℕ) × (c.link ≡ n + m) × (changed m g (all_asked cs) ≡ all_asked (changed_at k f cs))
+there n [] k c f g a e h = absurd (cc e)
+there n (None ∷ cs) zero c f g a e h = absurd (cc e)
+there n (None ∷ cs) (suc k) c f g a e h = there n cs k c f g a e h
+there n (Some d ∷ cs) zero c f g a e h =
+    let same : d ≡ c = cc e in
+    (0, ap (λ (x : Child). x.link) (sym same) ∙ (a.0 ∙ omega arith), ap (λ (x : Asked). x ∷ all_asked cs) (ap (λ (x : Child). g (asked x)) same ∙ (sym h ∙ ap (λ (x : Child). asked (f x)) (sym same))))
+there n (Some d ∷ cs) (suc k) c f g a e h =
+    let it = there (suc n) cs k c f g a.1 e h in
+    (suc it.0, it.1 ∙ omega arith, ap (λ (l : List Asked). asked d ∷ l) it.2)
+
+behind : (pre xs : List Asked) (m : ℕ) (g : Asked → Asked) → changed (length pre + m) g (pre ++ xs) ≡ pre ++ changed m g xs
+behind [] xs m g = ap (λ (k : ℕ). changed k g xs) (omega arith)
+behind (p ∷ pre) xs m g =
+    let next : length (p ∷ pre) + m ≡ suc (length pre + m) = omega arith in
+    ap (λ (k : ℕ). changed k g (p ∷ (pre ++ xs))) next ∙ ap (λ (l : List Asked). p ∷ l) (behind pre xs m g)
+
+numbered_same : (n : ℕ) (cs : List (Option Child)) (k : ℕ) (f : Child → Child) → ((c : Child) → (f c).link ≡ c.link) → AreNumbered n cs → AreNumbered n (changed_at k f cs)
+numbered_same n [] k f h a = tt
+numbered_same n (None ∷ cs) zero f h a = a
+numbered_same n (None ∷ cs) (suc k) f h a = numbered_same n cs k f h a
+numbered_same n (Some d ∷ cs) zero f h a = (h d ∙ a.0, a.1)
+numbered_same n (Some d ∷ cs) (suc k) f h a = (a.0, numbered_same (suc n) cs k f h a.1)
+
+tells_changed : (first now next : Option Begun) (cs : List (Option Child)) (k : ℕ) (c : Child) (f : Child → Child) (h : LinkRun → LinkRun) (g : Asked → Asked) → ((c : Child) → (f c).link ≡ c.link) → ((l : LinkRun) → asked_of (h l) ≡ g (asked_of l)) → asked (f c) ≡ g (asked c)
+    → slice_get cs k ≡ Some (Some c) → next ≡ option_map (with_link c.link h) now → TellsLinks first now cs → TellsLinks first next (changed_at k f cs)
+tells_changed None now next cs k c f h g same does asks at e t = e ∙ ap (option_map (with_link c.link h)) t
+tells_changed (Some b) now next cs k c f h g same does asks at e t =
+    let it = there (length b.links) cs k c f g t.3 at asks in
+    (
+      with_link c.link h t.0,
+      e ∙ ap (option_map (with_link c.link h)) t.1,
+      changed_map c.link h g t.0.links does ∙ (ap (changed c.link g) t.2 ∙ (ap (λ (m : ℕ). changed m g (map asked_of b.links ++ all_asked cs)) (it.1 ∙ ap (λ (n : ℕ). n + it.0) (sym (map_length b.links)))
+      ∙ (behind (map asked_of b.links) (all_asked cs) it.0 g ∙ ap (λ (l : List Asked). map asked_of b.links ++ l) it.2))),
+      numbered_same (length b.links) cs k f same t.3,
+    )
+
+set_changed : (cs : List (Option Child)) (k : ℕ) (c : Child) (f : Child → Child) → slice_get cs k ≡ Some (Some c) → set cs k (Some (f c)) ≡ changed_at k f cs
+set_changed [] k c f e = refl
+set_changed (o ∷ cs) zero c f e = let same : o ≡ Some c = cc e in ap (λ (x : Option Child). x ∷ cs) (sym (ap (option_map f) same))
+set_changed (o ∷ cs) (suc k) c f e = ap (λ (l : List (Option Child)). o ∷ l) (set_changed cs k c f e)
+
+-- where the child was asked for it before, nothing changes
+pub unchanged : (cs : List (Option Child)) (k : ℕ) (c : Child) (f : Child → Child) → slice_get cs k ≡ Some (Some c) → f c ≡ c → cs ≡ changed_at k f cs
+unchanged [] k c f e h = refl
+unchanged (o ∷ cs) zero c f e h = let same : o ≡ Some c = cc e in ap (λ (x : Option Child). x ∷ cs) (same ∙ (ap Some (sym h) ∙ sym (ap (option_map f) same)))
+unchanged (o ∷ cs) (suc k) c f e h = ap (λ (l : List (Option Child)). o ∷ l) (unchanged cs k c f e h)
+
+-- nor where there is no child
+pub none_changed : (cs : List (Option Child)) (k : ℕ) (f : Child → Child) → ((c : Child) → slice_get cs k ≡ Some (Some c) → ⊥) → cs ≡ changed_at k f cs
+none_changed [] k f h = refl
+none_changed (None ∷ cs) zero f h = refl
+none_changed (Some c ∷ cs) zero f h = absurd (h c refl)
+none_changed (o ∷ cs) (suc k) f h = ap (λ (l : List (Option Child)). o ∷ l) (none_changed cs k f (λ c e. h c e))
+
+-- ---- what a starter tells behind a call
+
+rose_later : (n a b c : ℕ) → b ≤ c → RoseBy n a b → RoseBy n a c
+rose_later n a b c l r h = omega (arith, r (omega arith))
+
+failed_same : (cs : List (Option Child)) (k : ℕ) (f : Child → Child) → failed_starts (changed_at k f cs) ≡ failed_starts cs
+failed_same [] k f = refl
+failed_same (None ∷ cs) zero f = refl
+failed_same (Some c ∷ cs) zero f = refl
+failed_same (None ∷ cs) (suc k) f = omega (arith, failed_same cs k f)
+failed_same (Some c ∷ cs) (suc k) f = failed_same cs k f
+
+pub few_changed : (cs all : List (Option Child)) (k a b c : ℕ) (child : Child) (f : Child → Child) → slice_get cs k ≡ Some (Some child) → all ≡ slice_set cs k (Some (f child)) → b ≤ c → RoseBy (failed_starts cs) a b → RoseBy (failed_starts all) a c
+few_changed cs all k a b c child f at is l r =
+    let same : failed_starts all ≡ failed_starts cs = ap failed_starts (is ∙ set_changed cs k child f at) ∙ failed_same cs k f in
+    rose_later (failed_starts all) a b c l (subst (λ (n : ℕ). RoseBy n a b) (sym same) r)
+
+pub few_more : (cs all : List (Option Child)) (child : Child) (a b c : ℕ) → all ≡ cs ++ Some child ∷ [] → b ≤ c → RoseBy (failed_starts cs) a b → RoseBy (failed_starts all) a c
+few_more cs all child a b c is l r =
+    let same : failed_starts all ≡ failed_starts cs = ap failed_starts is ∙ (ap length (filter-append is_none cs (Some child ∷ [])) ∙ ap length (append-nil (filter is_none cs))) in
+    rose_later (failed_starts all) a b c l (subst (λ (n : ℕ). RoseBy n a b) (sym same) r)
+
+pub few_failed : (cs all : List (Option Child)) (a b c : ℕ) → all ≡ cs ++ None ∷ [] → b ≤ c → Rose b c → RoseBy (failed_starts cs) a b → RoseBy (failed_starts all) a c
+few_failed cs all a b c is l rose r h =
+    let more : failed_starts all ≡ failed_starts cs + 1 = ap failed_starts is ∙ (ap length (filter-append is_none cs (None ∷ [])) ∙ length-append (filter is_none cs) (None ∷ [])) in
+    omega (arith, more, r (omega arith), rose h, l)
+
+abbrev to_killed : Asked → Asked
+to_killed a = record { killed = true; reaped = a.reaped }
+
+abbrev to_reaped : Asked → Asked
+to_reaped a = record { killed = a.killed; reaped = more_often a.reaped }
+
+pub tells_killed : (first now next : Option Begun) (cs all : List (Option Child)) (k : ℕ) (c : Child) → slice_get cs k ≡ Some (Some c) → all ≡ slice_set cs k (Some (killed_child c)) → next ≡ option_map (with_link c.link as_killed) now → TellsLinks first now cs → TellsLinks first next all
+tells_killed first now next cs all k c at is e t =
+    subst (λ (l : List (Option Child)). TellsLinks first next l) (sym (is ∙ set_changed cs k c killed_child at)) (tells_changed first now next cs k c killed_child as_killed to_killed (λ d. refl) (λ l. refl) refl at e t)
+
+pub tells_reaped : (first now next : Option Begun) (cs all : List (Option Child)) (k : ℕ) (c : Child) → slice_get cs k ≡ Some (Some c) → c.is_reaped ≡ false → all ≡ slice_set cs k (Some (reaped_child c)) → next ≡ option_map (with_link c.link as_reaped) now → TellsLinks first now cs → TellsLinks first next all
+tells_reaped first now next cs all k c at not is e t =
+    let once : asked (reaped_child c) ≡ to_reaped (asked c) = rw not refl in
+    subst (λ (l : List (Option Child)). TellsLinks first next l) (sym (is ∙ set_changed cs k c reaped_child at)) (tells_changed first now next cs k c reaped_child as_reaped to_reaped (λ d. refl) (λ l. refl) once at e t)
+
+abbrev as_child : ℕ → Bool → Bool → Child
+as_child link killed reaped = record { link = link; is_killed = killed; is_reaped = reaped }
+
+pub killed_again : (cs : List (Option Child)) (k : ℕ) (c : Child) → slice_get cs k ≡ Some (Some c) → c.is_killed ≡ true → cs ≡ changed_at k killed_child cs
+killed_again cs k c e h = unchanged cs k c killed_child e (ap (λ (b : Bool). as_child c.link b c.is_reaped) (sym h))
+
+pub reaped_again : (cs : List (Option Child)) (k : ℕ) (c : Child) → slice_get cs k ≡ Some (Some c) → c.is_reaped ≡ true → cs ≡ changed_at k reaped_child cs
+reaped_again cs k c e h = unchanged cs k c reaped_child e (ap (λ (b : Bool). as_child c.link c.is_killed b) (sym h))
+
+pub changed_set : (cs : List (Option Child)) (k : ℕ) (c : Child) (f : Child → Child) → slice_get cs k ≡ Some (Some c) → slice_set cs k (Some (f c)) ≡ changed_at k f cs
+changed_set cs k c f e = set_changed cs k c f e
+
+-- the starts that are told are not changed by what is asked of a link
+pub starts_kept : (link : ℕ) (g : LinkRun → LinkRun) (now next : Option Begun) → next ≡ option_map (with_link link g) now → starts_told next ≡ starts_told now
+starts_kept link g None next e = ap starts_told e
+starts_kept link g (Some b) next e = ap starts_told e
+
+pub starts_more : (place : Place) (now next : Option Begun) → next ≡ option_map (with_start place) now → starts_told next ≡ option_map (λ l. l ++ record { place = place; failed = false } ∷ []) (starts_told now)
+starts_more place None next e = ap starts_told e
+starts_more place (Some b) next e = ap starts_told e
+
+pub starts_failed : (place : Place) (now next : Option Begun) → next ≡ option_map (with_failure place) now → starts_told next ≡ option_map (λ l. l ++ record { place = place; failed = true } ∷ []) (starts_told now)
+starts_failed place None next e = ap starts_told e
+starts_failed place (Some b) next e = ap starts_told e

@@ -1,0 +1,276 @@
+-- Which links are killed.
+use Rattle.std.proofs.Common.{◌≡◌, ℕ, zero, suc, ◌<◌, ◌+◌, List, [], ◌∷◌, ◌++◌, length, map, Bool, true, false, ◌||◌, Option, Some, None, option_map, refl, sym, ◌∙◌, ap, subst, inl, inr, length-append, arith}
+use Rattle.std.specs.Prelude.{◌⊎◌, ◌==◌, IfSome, IfNone, is_some, slice_get}
+use Rattle.std.specs.Bool.{then_some}
+use Rattle.std.specs.List.{list_any}
+use Rattle.std.proofs.lemmas.Bool.Decides.{nat_tests}
+use Rattle.std.proofs.lemmas.List.Folds.{list_any-append}
+use Rattle.std.proofs.lemmas.List.{length-map}
+use Rattle.xd_journal.specs.declared.entry.Entry.{Entry}
+use Rattle.xd_journal.specs.declared.entry.Entry.TheVariants as entry
+use Rattle.xd_drive.specs.Calls.{is_order}
+use Rattle.xd_drive.specs.Listed.{is_among, is_kill_of, was_killed}
+use Rattle.xd_drive.specs.Performing.{is_start_of, was_started}
+use Rattle.xd_links.proofs.Places.{push_read}
+use Rattle.xd_group.specs.Children.{changed_at, cut_by, fresh_child, killed_child}
+use Rattle.xd_group.specs.Fates.{has_link, is_refused}
+use Rattle.xd_group.specs.Kills.{KeepsLost, KilledSo, LostAt}
+use Rattle.xd_group.specs.declared.child.Child.{Child}
+use Rattle.xd_group.specs.declared.fate.Fate.{Fate}
+use Rattle.xd_group.specs.declared.fate.Fate.TheVariants as fate
+use Rattle.xd_group.proofs.Keeping.{either_worker, same_some, started_before}
+
+-- ---- kills among the calls
+
+or_left : (a b : Bool) → a ≡ true → (a || b) ≡ true
+or_left true b h = refl
+or_left false b h = absurd (cc h)
+
+or_right : (a b : Bool) → b ≡ true → (a || b) ≡ true
+or_right true b h = refl
+or_right false b h = h
+
+or_other : (a b : Bool) → b ≡ false → (a || b) ≡ a
+or_other true b h = refl
+or_other false b h = h
+
+killed_more : (v : ℕ) (calls all : List Entry) (e : Entry) → all ≡ calls ++ e ∷ [] → was_killed v calls ≡ true → was_killed v all ≡ true
+killed_more v calls all e is h = ap (was_killed v) is ∙ (list_any-append (is_kill_of v) calls (e ∷ []) ∙ or_left (was_killed v calls) (list_any (is_kill_of v) (e ∷ [])) h)
+
+one_of : (v : ℕ) (e : Entry) (b : Bool) → is_kill_of v e ≡ b → list_any (is_kill_of v) (e ∷ []) ≡ b
+one_of v e true h = or_left (is_kill_of v e) false h
+one_of v e false h = or_other (is_kill_of v e) false refl ∙ h
+
+killed_same : (v : ℕ) (calls all : List Entry) (e : Entry) → all ≡ calls ++ e ∷ [] → is_kill_of v e ≡ false → was_killed v all ≡ was_killed v calls
+killed_same v calls all e is h = ap (was_killed v) is ∙ (list_any-append (is_kill_of v) calls (e ∷ []) ∙ or_other (was_killed v calls) (list_any (is_kill_of v) (e ∷ [])) (one_of v e false h))
+
+killed_here : (v : ℕ) (calls all : List Entry) (e : Entry) → all ≡ calls ++ e ∷ [] → is_kill_of v e ≡ true → was_killed v all ≡ true
+killed_here v calls all e is h = ap (was_killed v) is ∙ (list_any-append (is_kill_of v) calls (e ∷ []) ∙ or_right (was_killed v calls) (list_any (is_kill_of v) (e ∷ [])) (one_of v e true h))
+
+-- an order is no kill
+pub order_kills : (u w : ℕ) (e : Entry) → is_order w e ≡ true → is_kill_of u e ≡ false
+order_kills u w (entry.Ready a0) h = absurd (cc h)
+order_kills u w (entry.Collected a0 a1) h = absurd (cc h)
+order_kills u w (entry.Done a0 a1 a2 a3 a4) h = absurd (cc h)
+order_kills u w (entry.Back a0 a1) h = absurd (cc h)
+order_kills u w (entry.Finished a0) h = absurd (cc h)
+order_kills u w (entry.Refused a0 a1) h = absurd (cc h)
+order_kills u w (entry.Down a0 a1 a2) h = absurd (cc h)
+order_kills u w (entry.NotStarted a0) h = absurd (cc h)
+order_kills u w (entry.Start a0 a1) h = absurd (cc h)
+order_kills u w (entry.Run a0 a1) h = refl
+order_kills u w (entry.RunAll a0) h = refl
+order_kills u w (entry.Steal a0 a1) h = refl
+order_kills u w (entry.Shutdown a0) h = refl
+order_kills u w (entry.Kill a0) h = absurd (cc h)
+order_kills u w (entry.Over a0) h = absurd (cc h)
+
+-- ---- a child that was killed
+
+-- a child is one of those before, or is at the place and killed
+data CutFrom (cs : List (Option Child)) (cut : Option ℕ) (k : ℕ) (c : Child) : Type 0 where
+  AsBefore : (cut ≡ Some k → ⊥) → slice_get cs k ≡ Some (Some c) → CutFrom cs cut k c
+  Killed : (old : Child) → slice_get cs k ≡ Some (Some old) → cut ≡ Some k → c ≡ killed_child old → CutFrom cs cut k c
+
+cut_next : (o : Option Child) (cs : List (Option Child)) (j k : ℕ) (c : Child) → CutFrom cs (Some j) k c → CutFrom (o ∷ cs) (Some (suc j)) (suc k) c
+cut_next o cs j k c (AsBefore n e) = AsBefore (λ h. n (let same : j ≡ k = cc h in ap Some same)) e
+cut_next o cs j k c (Killed old e at is) = Killed old e (let same : j ≡ k = cc at in ap (λ (n : ℕ). Some (suc n)) same) is
+
+at_first : (o : Option Child) (cs : List (Option Child)) (c : Child) → option_map killed_child o ≡ Some c → CutFrom (o ∷ cs) (Some 0) 0 c
+at_first None cs c e = absurd (cc e)
+at_first (Some d) cs c e = let same : killed_child d ≡ c = cc e in Killed d refl refl (sym same)
+
+changed_from : (cs : List (Option Child)) (j k : ℕ) (c : Child) → slice_get (changed_at j killed_child cs) k ≡ Some (Some c) → CutFrom cs (Some j) k c
+changed_from [] j k c e = absurd (cc e)
+changed_from (o ∷ cs) zero zero c e = at_first o cs c (cc e)
+changed_from (o ∷ cs) zero (suc k) c e = AsBefore (λ h. cc h) e
+changed_from (o ∷ cs) (suc j) zero c e = AsBefore (λ h. cc h) e
+changed_from (o ∷ cs) (suc j) (suc k) c e = cut_next o cs j k c (changed_from cs j k c e)
+
+cut_from : (cs : List (Option Child)) (cut : Option ℕ) (k : ℕ) (c : Child) → slice_get (cut_by cut cs) k ≡ Some (Some c) → CutFrom cs cut k c
+cut_from cs None k c e = AsBefore (λ h. cc h) e
+cut_from cs (Some j) k c e = changed_from cs j k c e
+
+-- ---- what keeps it so
+
+pub kills_first : (cs : List (Option Child)) (calls : List Entry) (workers : List ℕ) (fates : List Fate) (lost : List Bool) → calls ≡ [] → workers ≡ [] → KilledSo cs calls workers fates lost
+kills_first cs calls workers fates lost a b =
+    record {
+      wherever = λ k w c wi ci h. let e : slice_get [] k ≡ Some w = ap (λ (l : List ℕ). slice_get l k) (sym b) ∙ wi in absurd (cc e);
+      only = λ k w c wi ci h. let e : slice_get [] k ≡ Some w = ap (λ (l : List ℕ). slice_get l k) (sym b) ∙ wi in absurd (cc e);
+      new = λ w f. ap (was_killed w) a;
+    }
+
+-- the hub was called for something that is no start and no kill
+pub kills_called : (cs : List (Option Child)) (calls all : List Entry) (workers : List ℕ) (fates : List Fate) (lost : List Bool) (e : Entry) → all ≡ calls ++ e ∷ [] → ((v : ℕ) → is_kill_of v e ≡ false) → KilledSo cs calls workers fates lost → KilledSo cs all workers fates lost
+kills_called cs calls all workers fates lost e is none s =
+    record {
+      wherever = λ k w c wi ci h. s.wherever k w c wi ci (sym (killed_same w calls all e is (none w)) ∙ h);
+      only = λ k w c wi ci h. more w (s.only k w c wi ci h);
+      new = λ w f. killed_same w calls all e is (none w) ∙ s.new w (started_before w calls all e is f);
+    }
+  where
+    more : {P : Type 0} (w : ℕ) → (was_killed w calls ≡ true) ⊎ P → (was_killed w all ≡ true) ⊎ P
+    more w (inl h) = inl (killed_more w calls all e is h)
+    more w (inr p) = inr p
+
+kept_loss : {P Q : Type 0} (lost next : List Bool) (k : ℕ) → KeepsLost lost next → P ⊎ (Q ⊎ (slice_get lost k ≡ Some true)) → P ⊎ (Q ⊎ (slice_get next k ≡ Some true))
+kept_loss lost next k keeps (inl p) = inl p
+kept_loss lost next k keeps (inr (inl q)) = inr (inl q)
+kept_loss lost next k keeps (inr (inr r)) = inr (inr (keeps k r))
+
+-- a child was killed, since a write failed
+pub kills_cut : (cs cs_all : List (Option Child)) (calls : List Entry) (workers : List ℕ) (fates : List Fate) (lost next : List Bool) (cut : Option ℕ) → KeepsLost lost next → LostAt cut next → cs_all ≡ cut_by cut cs → KilledSo cs calls workers fates lost → KilledSo cs_all calls workers fates next
+kills_cut cs cs_all calls workers fates lost next cut keeps at is s =
+    record {
+      wherever = λ k w c wi ci h. always k w c wi h (cut_from cs cut k c (ap (λ (l : List (Option Child)). slice_get l k) (sym is) ∙ ci));
+      only = λ k w c wi ci h. alone k w c wi h (cut_from cs cut k c (ap (λ (l : List (Option Child)). slice_get l k) (sym is) ∙ ci));
+      new = s.new;
+    }
+  where
+    always : (k w : ℕ) (c : Child) → slice_get workers k ≡ Some w → was_killed w calls ≡ true → CutFrom cs cut k c → c.is_killed ≡ true
+    always k w c wi h (AsBefore m e) = s.wherever k w c wi e h
+    always k w c wi h (Killed old e n same) = ap (λ (d : Child). d.is_killed) same
+
+    alone : (k w : ℕ) (c : Child) → slice_get workers k ≡ Some w → c.is_killed ≡ true → CutFrom cs cut k c → (was_killed w calls ≡ true) ⊎ ((slice_get fates k ≡ Some fate.Refused) ⊎ (slice_get next k ≡ Some true))
+    alone k w c wi h (AsBefore m e) = kept_loss lost next k keeps (s.only k w c wi e h)
+    alone k w c wi h (Killed old e n same) = inr (inr (subst (λ (o : Option ℕ). LostAt o next) n at))
+
+equal_self : (v : ℕ) → (v == v) ≡ true
+equal_self v = grind (arith, nat_tests)
+
+other_self : (a b : ℕ) → (a ≡ b → ⊥) → (a == b) ≡ false
+other_self a b h = grind (arith, nat_tests)
+
+no_way : (b : Bool) → b ≡ true → b ≡ false → ⊥
+no_way true t f = cc f
+no_way false t f = cc t
+
+-- the place of a worker is the place that is cut
+cut_there : (workers : List ℕ) (w : ℕ) (cut : Option ℕ) (k : ℕ) → ((k l v : ℕ) → slice_get workers k ≡ Some v → slice_get workers l ≡ Some v → k ≡ l)
+    → IfSome cut (λ at. slice_get workers at ≡ Some w) → IfNone cut ((k : ℕ) → slice_get workers k ≡ Some w → ⊥) → slice_get workers k ≡ Some w → cut ≡ Some k
+cut_there workers w None k apart some none wi = absurd (none k wi)
+cut_there workers w (Some at) k apart some none wi = ap Some (apart at k w some wi)
+
+-- the hub was called to kill a worker
+pub kills_kill : (cs cs_all : List (Option Child)) (calls all : List Entry) (workers : List ℕ) (fates : List Fate) (lost : List Bool) (w : ℕ) (cut : Option ℕ) → all ≡ calls ++ entry.Kill w ∷ [] → was_started w calls ≡ true
+    → IfSome cut (λ at. slice_get workers at ≡ Some w) → IfNone cut ((k : ℕ) → slice_get workers k ≡ Some w → ⊥) → ((k l v : ℕ) → slice_get workers k ≡ Some v → slice_get workers l ≡ Some v → k ≡ l)
+    → cs_all ≡ cut_by cut cs → KilledSo cs calls workers fates lost → KilledSo cs_all all workers fates lost
+kills_kill cs cs_all calls all workers fates lost w cut is on some none apart then s =
+    record {
+      wherever = λ k v c wi ci h. always k v c wi h (either_worker v w) (cut_from cs cut k c (ap (λ (l : List (Option Child)). slice_get l k) (sym then) ∙ ci));
+      only = λ k v c wi ci h. alone k v c wi h (cut_from cs cut k c (ap (λ (l : List (Option Child)). slice_get l k) (sym then) ∙ ci));
+      new = λ v f. killed_same v calls all (entry.Kill w) is (other_self w v (λ e. no_way (was_started v calls) (ap (λ (u : ℕ). was_started u calls) (sym e) ∙ on) (started_before v calls all (entry.Kill w) is f))) ∙ s.new v (started_before v calls all (entry.Kill w) is f);
+    }
+  where
+    always : (k v : ℕ) (c : Child) → slice_get workers k ≡ Some v → was_killed v all ≡ true → ((v ≡ w) ⊎ (v ≡ w → ⊥)) → CutFrom cs cut k c → c.is_killed ≡ true
+    always k v c wi h e (Killed old o n same) = ap (λ (d : Child). d.is_killed) same
+    always k v c wi h (inl e) (AsBefore m o) = absurd (m (cut_there workers w cut k apart some none (wi ∙ ap Some e)))
+    always k v c wi h (inr n) (AsBefore m o) = s.wherever k v c wi o (sym (killed_same v calls all (entry.Kill w) is (other_self w v (λ e. n (sym e)))) ∙ h)
+
+    by_worker : (k v : ℕ) → slice_get workers k ≡ Some v → (o : Option ℕ) → o ≡ Some k → IfSome o (λ at. slice_get workers at ≡ Some w) → was_killed v all ≡ true
+    by_worker k v wi None n some = absurd (cc n)
+    by_worker k v wi (Some at) n some =
+        let place : at ≡ k = cc n in
+        let same : v ≡ w = same_some (slice_get workers k) v w wi (ap (slice_get workers) (sym place) ∙ some) in
+        killed_here v calls all (entry.Kill w) is (ap (λ (u : ℕ). u == v) (sym same) ∙ equal_self v)
+
+    more : {P : Type 0} (v : ℕ) → (was_killed v calls ≡ true) ⊎ P → (was_killed v all ≡ true) ⊎ P
+    more v (inl h) = inl (killed_more v calls all (entry.Kill w) is h)
+    more v (inr p) = inr p
+
+    alone : (k v : ℕ) (c : Child) → slice_get workers k ≡ Some v → c.is_killed ≡ true → CutFrom cs cut k c → (was_killed v all ≡ true) ⊎ ((slice_get fates k ≡ Some fate.Refused) ⊎ (slice_get lost k ≡ Some true))
+    alone k v c wi h (AsBefore m o) = more v (s.only k v c wi o h)
+    alone k v c wi h (Killed old o n same) = inl (by_worker k v wi cut n some)
+
+-- ---- a start
+
+-- a child that was pushed and maybe killed at once
+pushed : (cs : List (Option Child)) (o : Option Child) (cut : Option ℕ) (k : ℕ) (c : Child) → CutFrom (cs ++ o ∷ []) cut k c → (cut ≡ None) ⊎ (cut ≡ Some (length cs)) → (slice_get cs k ≡ Some (Some c)) ⊎ ((k ≡ length cs) × ((o ≡ Some c) ⊎ (cut ≡ Some k)))
+pushed cs o cut k c (AsBefore m e) w = by (push_read cs k o (Some c) e)
+  where
+    by : ((k ≡ length cs) × (Some c ≡ o)) ⊎ (slice_get cs k ≡ Some (Some c)) → (slice_get cs k ≡ Some (Some c)) ⊎ ((k ≡ length cs) × ((o ≡ Some c) ⊎ (cut ≡ Some k)))
+    by (inl a) = inr (a.0, inl (sym a.1))
+    by (inr b) = inl b
+pushed cs o cut k c (Killed old e n same) w = by w
+  where
+    by : (cut ≡ None) ⊎ (cut ≡ Some (length cs)) → (slice_get cs k ≡ Some (Some c)) ⊎ ((k ≡ length cs) × ((o ≡ Some c) ⊎ (cut ≡ Some k)))
+    by (inl a) = absurd (let both : None ≡ Some k = sym a ∙ n in cc both)
+    by (inr b) = inr (let both : Some (length cs) ≡ Some k = sym b ∙ n in let at : length cs ≡ k = cc both in sym at, inr n)
+
+cut_kind : (b : Bool) (n : ℕ) → (then_some b n ≡ None) ⊎ (then_some b n ≡ Some n)
+cut_kind true n = inr refl
+cut_kind false n = inl refl
+
+cut_so : (b : Bool) (n k : ℕ) → then_some b n ≡ Some k → b ≡ true
+cut_so true n k e = refl
+cut_so false n k e = absurd (cc e)
+
+refused_is : (f : Fate) → is_refused f ≡ true → f ≡ fate.Refused
+refused_is fate.Unlinked h = absurd (cc h)
+refused_is fate.Refused h = refl
+refused_is fate.Linked h = absurd (cc h)
+
+last_read : {X : Type 0} (xs : List X) (x : X) → slice_get (xs ++ x ∷ []) (length xs) ≡ Some x
+last_read [] x = refl
+last_read (y ∷ xs) x = last_read xs x
+
+front_read : {X : Type 0} (xs ys : List X) (k : ℕ) (x : X) → slice_get xs k ≡ Some x → slice_get (xs ++ ys) k ≡ Some x
+front_read [] ys k x e = absurd (cc e)
+front_read (z ∷ xs) ys zero x e = e
+front_read (z ∷ xs) ys (suc k) x e = front_read xs ys k x e
+
+within : {X : Type 0} (xs : List X) (k : ℕ) (x : X) → slice_get xs k ≡ Some x → k ≡ length xs → ⊥
+within [] k x e n = cc e
+within (z ∷ xs) zero x e n = omega (arith, n)
+within (z ∷ xs) (suc k) x e n = within xs k x e (omega (arith, n))
+
+-- the worker of an earlier or of the last start
+worker_was : (workers : List ℕ) (w k v : ℕ) → slice_get (workers ++ w ∷ []) k ≡ Some v → (k ≡ length workers → ⊥) → slice_get workers k ≡ Some v
+worker_was workers w k v e n = by (push_read workers k w v e)
+  where
+    by : ((k ≡ length workers) × (v ≡ w)) ⊎ (slice_get workers k ≡ Some v) → slice_get workers k ≡ Some v
+    by (inl a) = absurd (n a.0)
+    by (inr b) = b
+
+pub kills_start : (cs cs_all : List (Option Child)) (calls all : List Entry) (workers ws : List ℕ) (fates fs : List Fate) (lost next : List Bool) (w slot : ℕ) (o : Option Child) (f : Fate) → all ≡ calls ++ entry.Start w slot ∷ [] → was_started w calls ≡ false → ws ≡ workers ++ w ∷ [] → fs ≡ fates ++ f ∷ []
+    → cs_all ≡ cut_by (then_some (is_refused f) (length cs)) (cs ++ o ∷ []) → IfSome o (λ c. c.is_killed ≡ false) → length workers ≡ length cs → length fates ≡ length cs → KeepsLost lost next → KilledSo cs calls workers fates lost → KilledSo cs_all all ws fs next
+kills_start cs cs_all calls all workers ws fates fs lost next w slot o f is fresh wis fis cis new count fcount keeps s =
+    record {
+      wherever = λ k v c wi ci h. always k v c (ap (λ (l : List ℕ). slice_get l k) (sym wis) ∙ wi) (same v h) (from k c ci);
+      only = λ k v c wi ci h. alone k v c (ap (λ (l : List ℕ). slice_get l k) (sym wis) ∙ wi) h (from k c ci);
+      new = λ v n. killed_same v calls all (entry.Start w slot) is refl ∙ s.new v (started_before v calls all (entry.Start w slot) is n);
+    }
+  where
+    same : (v : ℕ) → was_killed v all ≡ true → was_killed v calls ≡ true
+    same v h = sym (killed_same v calls all (entry.Start w slot) is refl) ∙ h
+
+    from : (k : ℕ) (c : Child) → slice_get cs_all k ≡ Some (Some c) → (slice_get cs k ≡ Some (Some c)) ⊎ ((k ≡ length cs) × ((o ≡ Some c) ⊎ (then_some (is_refused f) (length cs) ≡ Some k)))
+    from k c ci = pushed cs o (then_some (is_refused f) (length cs)) k c (cut_from (cs ++ o ∷ []) (then_some (is_refused f) (length cs)) k c (ap (λ (l : List (Option Child)). slice_get l k) (sym cis) ∙ ci)) (cut_kind (is_refused f) (length cs))
+
+    not_killed : (v : ℕ) → was_killed v calls ≡ true → v ≡ w → ⊥
+    not_killed v h e = no_way (was_killed v calls) h (s.new v (ap (λ (u : ℕ). was_started u calls) e ∙ fresh))
+
+    last : (k v : ℕ) → k ≡ length cs → slice_get (workers ++ w ∷ []) k ≡ Some v → v ≡ w
+    last k v at wi = same_some (slice_get (workers ++ w ∷ []) k) v w wi (ap (slice_get (workers ++ w ∷ [])) (at ∙ sym count) ∙ last_read workers w)
+
+    always : (k v : ℕ) (c : Child) → slice_get (workers ++ w ∷ []) k ≡ Some v → was_killed v calls ≡ true → (slice_get cs k ≡ Some (Some c)) ⊎ ((k ≡ length cs) × ((o ≡ Some c) ⊎ (then_some (is_refused f) (length cs) ≡ Some k))) → c.is_killed ≡ true
+    always k v c wi h (inl e) = s.wherever k v c (worker_was workers w k v wi (λ n. within cs k (Some c) e (n ∙ count))) e h
+    always k v c wi h (inr p) = absurd (not_killed v h (last k v p.0 wi))
+
+    earlier : (k v : ℕ) → (was_killed v calls ≡ true) ⊎ ((slice_get fates k ≡ Some fate.Refused) ⊎ (slice_get lost k ≡ Some true)) → (was_killed v all ≡ true) ⊎ ((slice_get fs k ≡ Some fate.Refused) ⊎ (slice_get next k ≡ Some true))
+    earlier k v (inl h) = inl (killed_more v calls all (entry.Start w slot) is h)
+    earlier k v (inr (inl r)) = inr (inl (ap (λ (l : List Fate). slice_get l k) fis ∙ front_read fates (f ∷ []) k fate.Refused r))
+    earlier k v (inr (inr l)) = inr (inr (keeps k l))
+
+    fresh_child : (p : Option Child) (c : Child) → p ≡ Some c → IfSome p (λ d. d.is_killed ≡ false) → c.is_killed ≡ false
+    fresh_child None c e n = absurd (cc e)
+    fresh_child (Some d) c e n = let same : d ≡ c = cc e in ap (λ (x : Child). x.is_killed) (sym same) ∙ n
+
+    alone : (k v : ℕ) (c : Child) → slice_get (workers ++ w ∷ []) k ≡ Some v → c.is_killed ≡ true → (slice_get cs k ≡ Some (Some c)) ⊎ ((k ≡ length cs) × ((o ≡ Some c) ⊎ (then_some (is_refused f) (length cs) ≡ Some k)))
+        → (was_killed v all ≡ true) ⊎ ((slice_get fs k ≡ Some fate.Refused) ⊎ (slice_get next k ≡ Some true))
+    alone k v c wi h (inl e) = earlier k v (s.only k v c (worker_was workers w k v wi (λ n. within cs k (Some c) e (n ∙ count))) e h)
+    alone k v c wi h (inr (at, inl e)) = absurd (no_way c.is_killed h (fresh_child o c e new))
+    alone k v c wi h (inr (at, inr n)) =
+        let is_last : slice_get (fates ++ f ∷ []) k ≡ Some f = ap (slice_get (fates ++ f ∷ [])) (at ∙ sym fcount) ∙ last_read fates f in
+        inr (inl (ap (λ (l : List Fate). slice_get l k) fis ∙ (is_last ∙ ap Some (refused_is f (cut_so (is_refused f) (length cs) k n)))))

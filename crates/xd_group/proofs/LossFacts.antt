@@ -1,0 +1,94 @@
+-- Links to which a write failed.
+use Rattle.std.proofs.Common.{◌≡◌, ℕ, zero, suc, ◌<◌, ◌≤◌, length, List, [], ◌∷◌, ◌++◌, map, Bool, true, false, Option, Some, None, get_or, refl, sym, ◌∙◌, ap, arith}
+use Rattle.std.specs.Prelude.{IfSome, is_some, option_map, slice_get, slice_set}
+use Rattle.std.specs.Bool.{then_some}
+use Rattle.std.proofs.Math.ListN.{set}
+use Rattle.std.proofs.lemmas.List.{map-append, map-set}
+use Rattle.std.proofs.lemmas.Option.{slice_get-map}
+use Rattle.xd_links.proofs.HubFacts.{here}
+use Rattle.xd_group.specs.Kills.{KeepsLost, LostAt}
+use Rattle.xd_group.specs.PostView.{is_lost_at, losses_of, page_of, pages_of}
+use Rattle.xd_group.specs.declared.post.Post.{Post}
+
+-- ---- lists of flags
+
+set_keeps : (ls : List Bool) (k i : ℕ) (v : Bool) → (slice_get ls k ≡ Some true → v ≡ true) → slice_get ls i ≡ Some true → slice_get (set ls k v) i ≡ Some true
+set_keeps [] k i v h e = absurd (cc e)
+set_keeps (l ∷ ls) zero zero v h e = ap Some (h e)
+set_keeps (l ∷ ls) zero (suc i) v h e = e
+set_keeps (l ∷ ls) (suc k) zero v h e = e
+set_keeps (l ∷ ls) (suc k) (suc i) v h e = set_keeps ls k i v h e
+
+set_there : (ls : List Bool) (k : ℕ) (v : Bool) → k < length ls → slice_get (set ls k v) k ≡ Some v
+set_there [] k v h = absurd (omega (arith, h))
+set_there (l ∷ ls) zero v h = refl
+set_there (l ∷ ls) (suc k) v h = set_there ls k v (omega (arith, h))
+
+set_past : (ls : List Bool) (k i : ℕ) (v : Bool) → k < i → slice_get (set ls k v) i ≡ slice_get ls i
+set_past [] k i v h = refl
+set_past (l ∷ ls) zero zero v h = absurd (omega (arith, h))
+set_past (l ∷ ls) zero (suc i) v h = refl
+set_past (l ∷ ls) (suc k) zero v h = absurd (omega (arith, h))
+set_past (l ∷ ls) (suc k) (suc i) v h = set_past ls k i v (omega (arith, h))
+
+set_same : (ls : List Bool) (k : ℕ) (v : Bool) → slice_get ls k ≡ Some v → set ls k v ≡ ls
+set_same [] k v e = refl
+set_same (l ∷ ls) zero v e = let same : l ≡ v = cc e in ap (λ (x : Bool). x ∷ ls) (sym same)
+set_same (l ∷ ls) (suc k) v e = ap (λ (xs : List Bool). l ∷ xs) (set_same ls k v e)
+
+front : (ls more : List Bool) (i : ℕ) → slice_get ls i ≡ Some true → slice_get (ls ++ more) i ≡ Some true
+front [] more i e = absurd (cc e)
+front (l ∷ ls) more zero e = e
+front (l ∷ ls) more (suc i) e = front ls more i e
+
+map_length : {X Y : Type 0} (f : X → Y) (xs : List X) → length (map f xs) ≡ length xs
+map_length f [] = refl
+map_length f (x ∷ xs) = omega (arith, map_length f xs)
+
+-- ---- posts
+
+set_some : (ls : List Bool) (k : ℕ) → slice_get ls k ≡ Some true → set ls k true ≡ ls
+set_some ls k e = set_same ls k true e
+
+module _ {N : Type 0} {g : _} where
+  seats_of : (xs : List (Option (Post N g))) → map is_some (pages_of xs) ≡ map is_some xs
+  seats_of [] = refl
+  seats_of (None ∷ xs) = ap (λ (l : List Bool). false ∷ l) (seats_of xs)
+  seats_of (Some p ∷ xs) = ap (λ (l : List Bool). true ∷ l) (seats_of xs)
+
+  -- a link stays where it is
+  pub seats_kept : (xs : List (Option (Post N g))) (k : ℕ) (was : Option (Post N g)) (a b : Post N g) → was ≡ Some a → slice_get xs k ≡ Some was → map is_some (pages_of (slice_set xs k (Some b))) ≡ map is_some (pages_of xs)
+  seats_kept xs k was a b is at =
+      seats_of (slice_set xs k (Some b)) ∙ (map-set is_some xs k (Some b) ∙ (set_some (map is_some xs) k (slice_get-map is_some xs k ∙ ap (option_map is_some) (at ∙ ap Some is)) ∙ sym (seats_of xs)))
+
+  read_lost : (xs : List (Option (Post N g))) (k : ℕ) (was : Option (Post N g)) (a : Post N g) (b : Bool) → was ≡ get_or xs k was → was ≡ Some a → slice_get (losses_of xs) k ≡ Some b → a.is_lost ≡ b
+  read_lost xs k was a b at is e =
+      let there : slice_get (losses_of xs) k ≡ Some a.is_lost = slice_get-map is_lost_at xs k ∙ ap (option_map is_lost_at) (here is_lost_at xs k was b e at ∙ ap Some is) in
+      let both : Some a.is_lost ≡ Some b = sym there ∙ e in cc both
+
+  pub lost_kept : (xs : List (Option (Post N g))) (k : ℕ) (was : Option (Post N g)) (a b : Post N g) → was ≡ get_or xs k was → was ≡ Some a → (a.is_lost ≡ true → b.is_lost ≡ true) → KeepsLost (losses_of xs) (losses_of (slice_set xs k (Some b)))
+  lost_kept xs k was a b at is more i e =
+      ap (λ (l : List Bool). slice_get l i) (map-set is_lost_at xs k (Some b)) ∙ set_keeps (losses_of xs) k i b.is_lost (λ h. more (read_lost xs k was a true at is h)) e
+
+  pub lost_there : (xs : List (Option (Post N g))) (k : ℕ) (b : Post N g) (c : Bool) → k < length xs → c ≡ b.is_lost → LostAt (then_some c k) (losses_of (slice_set xs k (Some b)))
+  lost_there xs k b false h e = tt
+  lost_there xs k b true h e =
+      ap (λ (l : List Bool). slice_get l k) (map-set is_lost_at xs k (Some b)) ∙ (set_there (losses_of xs) k b.is_lost (omega (arith, h, map_length is_lost_at xs)) ∙ ap Some (sym e))
+
+  pub lost_same : (xs : List (Option (Post N g))) (k : ℕ) (was : Option (Post N g)) (a b : Post N g) → was ≡ Some a → slice_get xs k ≡ Some was → b.is_lost ≡ a.is_lost → losses_of (slice_set xs k (Some b)) ≡ losses_of xs
+  lost_same xs k was a b is at e =
+      map-set is_lost_at xs k (Some b) ∙ set_same (losses_of xs) k b.is_lost (slice_get-map is_lost_at xs k ∙ (ap (option_map is_lost_at) (at ∙ ap Some is) ∙ ap Some (sym e)))
+
+  pub lost_more : (xs all : List (Option (Post N g))) (o : Option (Post N g)) → all ≡ xs ++ o ∷ [] → KeepsLost (losses_of xs) (losses_of all)
+  lost_more xs all o is i e = ap (λ (l : List (Option (Post N g))). slice_get (losses_of l) i) is ∙ (ap (λ (l : List Bool). slice_get l i) (map-append is_lost_at xs (o ∷ [])) ∙ front (losses_of xs) (is_lost_at o ∷ []) i e)
+
+  pub lost_left : {A : Type 0} (P : A → Type 0) (r : Option A) (xs : List (Option (Post N g))) (k : ℕ) (was : Option (Post N g)) (a : Post N g) → was ≡ get_or xs k was → was ≡ Some a → IfSome r (λ s. a.is_lost ≡ true → P s) → IfSome r (λ s. slice_get (losses_of xs) k ≡ Some true → P s)
+  lost_left P None xs k was a at is h = tt
+  lost_left P (Some s) xs k was a at is h = λ e. h (read_lost xs k was a true at is e)
+
+  pub lost_others : {A : Type 0} (r : Option A) (xs : List (Option (Post N g))) (k : ℕ) (o : Option (Post N g)) → IfSome r (λ s. (i : ℕ) → k < i → slice_get (losses_of xs) i ≡ Some true → slice_get (losses_of (slice_set xs k o)) i ≡ Some true)
+  lost_others None xs k o = tt
+  lost_others (Some s) xs k o = λ i h e. ap (λ (l : List Bool). slice_get l i) (map-set is_lost_at xs k o) ∙ (set_past (losses_of xs) k i (is_lost_at o) h ∙ e)
+
+  pub post_count : (xs : List (Option (Post N g))) (n : ℕ) → n ≡ length xs → n ≡ length (pages_of xs)
+  post_count xs n e = e ∙ sym (map_length page_of xs)

@@ -1,0 +1,249 @@
+-- What is said of workers whose links are not read.
+use Rattle.std.proofs.Common.{◌≡◌, ℕ, zero, suc, ◌<◌, ◌+◌, List, [], ◌∷◌, ◌++◌, map, length, Bool, true, false, Option, Some, None, refl, sym, ◌∙◌, ap, subst, inl, inr, arith, append-nil, length-append}
+use Rattle.std.specs.Prelude.{◌⊎◌, is_some, option_to_list, slice_get, slice_set}
+use Rattle.std.proofs.lemmas.Option.{slice_get_within}
+use Rattle.std.proofs.lemmas.List.{map-append}
+use Rattle.xd_edge.specs.declared.mode.ModeKind.{ModeKind}
+use Rattle.xd_journal.specs.declared.entry.Entry.{Entry}
+use Rattle.xd_journal.specs.declared.news.News.{News}
+use Rattle.xd_journal.specs.declared.news.What.{What}
+use Rattle.xd_journal.specs.declared.news.What.TheVariants.{NotStarted}
+use Rattle.xd_reader.specs.declared.news.LinkNews.{LinkNews}
+use Rattle.xd_drive.specs.Listed.{is_among}
+use Rattle.xd_drive.specs.Performing.{was_started}
+use Rattle.xd_links.proofs.Places.{push_read, set_read}
+use Rattle.xd_group.specs.Fates.{has_link, is_linked, is_refused, workers_with}
+use Rattle.xd_group.specs.Kept.{Kept, said_by}
+use Rattle.xd_group.specs.Pages.{Page, page_opened, taken_of}
+use Rattle.xd_group.specs.Unsaid.{SaidUnlinked, Unsaid, wait_one}
+use Rattle.xd_group.specs.declared.fate.Fate.{Fate}
+use Rattle.xd_group.specs.declared.fate.Fate.TheVariants as fate
+use Rattle.xd_group.proofs.FateFacts.{among_with}
+use Rattle.xd_group.proofs.Keeping.{either_worker, news_of_worker, page_taken, said_more, said_other, said_same, same_some}
+
+-- ---- which places have a page
+
+opened_some : (suite : List ℕ) (mode : ModeKind) (b : Bool) → is_some (page_opened suite mode b) ≡ b
+opened_some suite mode true = refl
+opened_some suite mode false = refl
+
+pub opened_seats : (suite : List ℕ) (mode : ModeKind) (b : Bool) (pages next : List (Option Page)) (fates fs : List Fate) (f : Fate) → next ≡ pages ++ page_opened suite mode b ∷ [] → fs ≡ fates ++ f ∷ [] → is_linked f ≡ b → map is_some pages ≡ map is_linked fates → map is_some next ≡ map is_linked fs
+opened_seats suite mode b pages next fates fs f is fis h e =
+    ap (map is_some) is ∙ (map-append is_some pages (page_opened suite mode b ∷ []) ∙ (ap (λ (l : List Bool). l ++ is_some (page_opened suite mode b) ∷ []) e
+    ∙ (ap (λ (x : Bool). map is_linked fates ++ x ∷ []) (opened_some suite mode b ∙ sym h) ∙ (sym (map-append is_linked fates (f ∷ [])) ∙ ap (map is_linked) (sym fis)))))
+
+no_page : (pages : List (Option Page)) (fates : List Fate) (k : ℕ) (f : Fate) → map is_some pages ≡ map is_linked fates → slice_get fates k ≡ Some f → is_linked f ≡ false → slice_get pages k ≡ Some None
+no_page [] [] k f e b h = absurd (cc b)
+no_page [] (g ∷ fs) k f e b h = absurd (cc e)
+no_page (o ∷ ps) [] k f e b h = absurd (cc b)
+no_page (o ∷ ps) (g ∷ fs) (suc k) f e b h = let rest : map is_some ps ≡ map is_linked fs = cc e in no_page ps fs k f rest b h
+no_page (o ∷ ps) (g ∷ fs) zero f e b h =
+    let same : is_some o ≡ is_linked g = cc e in
+    let its : g ≡ f = cc b in
+    ap Some (none o (same ∙ (ap is_linked its ∙ h)))
+  where
+    none : (o : Option Page) → is_some o ≡ false → o ≡ None
+    none None h = refl
+    none (Some p) h = absurd (cc h)
+
+-- ---- what was said
+
+pub unsaid_first : (given : List News) (workers : List ℕ) (pages : List (Option Page)) (waiting : List ℕ) → workers ≡ [] → waiting ≡ [] → Unsaid given workers pages waiting
+unsaid_first given workers pages waiting w r =
+    record {
+      waits = λ i k v e f. let z : slice_get [] i ≡ Some k = ap (λ (l : List ℕ). slice_get l i) (sym r) ∙ e in absurd (cc z);
+      once = λ i j k e f. let z : slice_get [] i ≡ Some k = ap (λ (l : List ℕ). slice_get l i) (sym r) ∙ e in absurd (cc z);
+      below = λ i k e. let z : slice_get [] i ≡ Some k = ap (λ (l : List ℕ). slice_get l i) (sym r) ∙ e in absurd (cc z);
+      said = λ k v e f. let z : slice_get [] k ≡ Some v = ap (λ (l : List ℕ). slice_get l k) (sym w) ∙ e in absurd (cc z);
+    }
+
+some_none : (o : Option (Option Page)) (p : Page) → o ≡ Some (Some p) → o ≡ Some None → ⊥
+some_none o p e f = let both : Some (Some p) ≡ Some None = sym e ∙ f in cc both
+
+-- pages where there are the same, and none at the same places
+none_same : (pages next : List (Option Page)) (k : ℕ) → map is_some next ≡ map is_some pages → slice_get next k ≡ Some None → slice_get pages k ≡ Some None
+none_same pages [] k e f = absurd (cc f)
+none_same [] (o ∷ ns) k e f = absurd (cc e)
+none_same (None ∷ ps) (o ∷ ns) zero e f = refl
+none_same (Some p ∷ ps) (o ∷ ns) zero e f = let same : o ≡ None = cc f in absurd (let z : is_some o ≡ true = cc e in let y : is_some o ≡ false = ap is_some same in (let x : true ≡ false = sym z ∙ y in cc x))
+none_same (p ∷ ps) (o ∷ ns) (suc k) e f = let rest : map is_some ns ≡ map is_some ps = cc e in none_same ps ns k rest f
+
+-- nothing was said, and no link opened or lost
+pub unsaid_told : (given : List News) (workers : List ℕ) (pages next : List (Option Page)) (waiting : List ℕ) → map is_some next ≡ map is_some pages → Unsaid given workers pages waiting → Unsaid given workers next waiting
+unsaid_told given workers pages next waiting seats u =
+    record {
+      waits = λ i k w e f. ((u.waits i k w e f).0, none_same next pages k (sym seats) (u.waits i k w e f).1);
+      once = u.once;
+      below = u.below;
+      said = λ k w e f. u.said k w e (none_same pages next k seats f);
+    }
+
+-- something was said of a worker with a link
+pub unsaid_heard : (given all : List News) (workers : List ℕ) (pages next : List (Option Page)) (waiting : List ℕ) (k w : ℕ) (p : Page) (what : Option What) (news : Option News) → all ≡ given ++ option_to_list news → news ≡ news_of_worker w what → slice_get workers k ≡ Some w → slice_get pages k ≡ Some (Some p)
+    → ((k l v : ℕ) → slice_get workers k ≡ Some v → slice_get workers l ≡ Some v → k ≡ l) → map is_some next ≡ map is_some pages → Unsaid given workers pages waiting → Unsaid all workers next waiting
+unsaid_heard given all workers pages next waiting k w p what news added is at has apart seats u =
+    let these = added ∙ ap (λ (n : Option News). given ++ option_to_list n) is in
+    let same = λ (i v : ℕ) (wi : slice_get workers i ≡ Some v) (none : slice_get pages i ≡ Some None). said_other v w given all what these (λ e. some_none (slice_get pages k) p has (ap (slice_get pages) (apart k i w at (wi ∙ ap Some e)) ∙ none)) in
+    record {
+      waits = λ i j v e f. let was = u.waits i j v e f in (same j v f was.1 ∙ was.0, none_same next pages j (sym seats) was.1);
+      once = u.once;
+      below = u.below;
+      said = λ j v e f. let none = none_same pages next j seats f in subst (λ (l : List What). (l ≡ []) ⊎ (l ≡ NotStarted ∷ [])) (sym (same j v e none)) (u.said j v e none);
+    }
+
+-- an item was taken of a link
+pub unsaid_step : (suite : List ℕ) (mode : ModeKind) (taken : List (Option (List LinkNews))) (calls : List Entry) (given all : List News) (workers : List ℕ) (pages next : List (Option Page)) (waiting : List ℕ) (k w : ℕ) (got : List LinkNews) (what : Option What) (news : Option News)
+    → slice_get taken k ≡ Some (Some got) → all ≡ given ++ option_to_list news → news ≡ news_of_worker w what → slice_get workers k ≡ Some w → map is_some next ≡ map is_some pages → Kept suite mode taken calls given workers pages → Unsaid given workers pages waiting → Unsaid all workers next waiting
+unsaid_step suite mode taken calls given all workers pages next waiting k w got what news was added is at seats kept u =
+    let it = page_taken pages k got (ap (λ (l : List (Option (List LinkNews))). slice_get l k) kept.takes ∙ was) in
+    unsaid_heard given all workers pages next waiting k w it.0 what news added is at it.1 kept.apart seats u
+
+popped : (rest waiting : List ℕ) (more : List ℕ) (i k : ℕ) → waiting ≡ rest ++ more → slice_get rest i ≡ Some k → slice_get waiting i ≡ Some k
+popped rest waiting more i k is e = ap (λ (l : List ℕ). slice_get l i) is ∙ front rest more i e
+  where
+    front : (xs ys : List ℕ) (i : ℕ) → slice_get xs i ≡ Some k → slice_get (xs ++ ys) i ≡ Some k
+    front [] ys i e = absurd (cc e)
+    front (x ∷ xs) ys zero e = e
+    front (x ∷ xs) ys (suc i) e = front xs ys i e
+
+-- a number waits no more
+pub unsaid_popped : (given : List News) (workers : List ℕ) (pages : List (Option Page)) (waiting rest more : List ℕ) → waiting ≡ rest ++ more → Unsaid given workers pages waiting → Unsaid given workers pages rest
+unsaid_popped given workers pages waiting rest more is u =
+    record {
+      waits = λ i k w e f. u.waits i k w (popped rest waiting more i k is e) f;
+      once = λ i j k e f. u.once i j k (popped rest waiting more i k is e) (popped rest waiting more j k is f);
+      below = λ i k e. u.below i k (popped rest waiting more i k is e);
+      said = u.said;
+    }
+
+last : (xs : List ℕ) (x : ℕ) → slice_get (xs ++ x ∷ []) (length xs) ≡ Some x
+last [] x = refl
+last (y ∷ xs) x = last xs x
+
+not_in : (rest waiting : List ℕ) (i k j : ℕ) → waiting ≡ rest ++ k ∷ [] → ((i j k : ℕ) → slice_get waiting i ≡ Some k → slice_get waiting j ≡ Some k → i ≡ j) → slice_get rest i ≡ Some j → j ≡ k → ⊥
+not_in rest waiting i k j is once e same =
+    let here : slice_get waiting i ≡ Some k = popped rest waiting (k ∷ []) i j is e ∙ ap Some same in
+    let there : slice_get waiting (length rest) ≡ Some k = ap (λ (l : List ℕ). slice_get l (length rest)) is ∙ last rest k in
+    let at = once i (length rest) k here there in
+    omega (arith, at, slice_get_within rest i j e)
+
+-- it is said that a worker was not started
+pub unsaid_said : (given all : List News) (workers : List ℕ) (pages : List (Option Page)) (waiting rest : List ℕ) (k : ℕ) (n : News) → n.what ≡ NotStarted → all ≡ given ++ n ∷ [] → waiting ≡ rest ++ k ∷ [] → slice_get workers k ≡ Some n.worker
+    → ((k l v : ℕ) → slice_get workers k ≡ Some v → slice_get workers l ≡ Some v → k ≡ l) → Unsaid given workers pages waiting → Unsaid all workers pages rest
+unsaid_said given all workers pages waiting rest k n not added is at apart u =
+    let here : slice_get waiting (length rest) ≡ Some k = ap (λ (l : List ℕ). slice_get l (length rest)) is ∙ last rest k in
+    let nothing = (u.waits (length rest) k n.worker here at).0 in
+    let same = λ (i v : ℕ) (wi : slice_get workers i ≡ Some v) (other : i ≡ k → ⊥). said_same v given all n added (λ e. other (apart i k n.worker (wi ∙ ap Some (sym e)) at)) in
+    record {
+      waits = λ i j v e f. let was = u.waits i j v (popped rest waiting (k ∷ []) i j is e) f in (same j v f (not_in rest waiting i k j is u.once e) ∙ was.0, was.1);
+      once = λ i j v e f. u.once i j v (popped rest waiting (k ∷ []) i v is e) (popped rest waiting (k ∷ []) j v is f);
+      below = λ i v e. u.below i v (popped rest waiting (k ∷ []) i v is e);
+      said = λ j v e f. of j v e f nothing (either_worker j k);
+    }
+  where
+    of : (j v : ℕ) → slice_get workers j ≡ Some v → slice_get pages j ≡ Some None → said_by n.worker given ≡ [] → (j ≡ k) ⊎ (j ≡ k → ⊥) → SaidUnlinked all v
+    of j v e f nothing (inl h) =
+        let its : n.worker ≡ v = same_some (slice_get workers k) n.worker v at (ap (slice_get workers) (sym h) ∙ e) in
+        inr (said_more v given all n added its ∙ (ap (λ (l : List What). l ++ n.what ∷ []) (ap (λ (u : ℕ). said_by u given) (sym its) ∙ nothing) ∙ ap (λ (x : What). x ∷ []) not))
+    of j v e f nothing (inr h) = subst (λ (l : List What). (l ≡ []) ⊎ (l ≡ NotStarted ∷ [])) (sym (said_same v given all n added (λ w. h (apart j k n.worker (e ∙ ap Some (sym w)) at)))) (u.said j v e f)
+
+-- ---- a start
+
+worker_was : (workers : List ℕ) (w k v : ℕ) → slice_get (workers ++ w ∷ []) k ≡ Some v → k < length workers → slice_get workers k ≡ Some v
+worker_was workers w k v e n = by (push_read workers k w v e)
+  where
+    by : ((k ≡ length workers) × (v ≡ w)) ⊎ (slice_get workers k ≡ Some v) → slice_get workers k ≡ Some v
+    by (inl a) = absurd (omega (arith, a.0, n))
+    by (inr b) = b
+
+-- the number waits already, or is the new one
+waited : (waiting : List ℕ) (b : Bool) (n i k : ℕ) → slice_get (waiting ++ wait_one b n) i ≡ Some k → (slice_get waiting i ≡ Some k) ⊎ ((b ≡ false) × (i ≡ length waiting) × (k ≡ n))
+waited waiting true n i k e = inl (ap (λ (l : List ℕ). slice_get l i) (sym (append-nil waiting)) ∙ e)
+waited waiting false n i k e = by (push_read waiting i n k e)
+  where
+    by : ((i ≡ length waiting) × (k ≡ n)) ⊎ (slice_get waiting i ≡ Some k) → (slice_get waiting i ≡ Some k) ⊎ ((false ≡ false) × (i ≡ length waiting) × (k ≡ n))
+    by (inl a) = inr (refl, a.0, a.1)
+    by (inr b) = inl b
+
+page_last : (suite : List ℕ) (mode : ModeKind) (pages : List (Option Page)) (b : Bool) → b ≡ false → slice_get (pages ++ page_opened suite mode b ∷ []) (length pages) ≡ Some None
+page_last suite mode [] b h = rw h refl
+page_last suite mode (p ∷ ps) b h = page_last suite mode ps b h
+
+page_front : (pages more : List (Option Page)) (k : ℕ) → slice_get pages k ≡ Some None → slice_get (pages ++ more) k ≡ Some None
+page_front [] more k e = absurd (cc e)
+page_front (p ∷ ps) more zero e = e
+page_front (p ∷ ps) more (suc k) e = page_front ps more k e
+
+pub unsaid_started : (suite : List ℕ) (mode : ModeKind) (given : List News) (workers ws : List ℕ) (pages next : List (Option Page)) (waiting waits : List ℕ) (w n : ℕ) (b : Bool) → ws ≡ workers ++ w ∷ [] → next ≡ pages ++ page_opened suite mode b ∷ [] → waits ≡ waiting ++ wait_one b n → n ≡ length pages
+    → length workers ≡ length pages → said_by w given ≡ [] → Unsaid given workers pages waiting → Unsaid given ws next waits
+unsaid_started suite mode given workers ws pages next waiting waits w n b wis is wait at count nothing u =
+    record {
+      waits = λ i k v e f. held i k v (ap (λ (l : List ℕ). slice_get l k) (sym wis) ∙ f) (from i k e);
+      once = λ i j k e f. one i j k (from i k e) (from j k f);
+      below = λ i k e. under i k (from i k e);
+      said = λ k v e f. of k v (push_read workers k w v (ap (λ (l : List ℕ). slice_get l k) (sym wis) ∙ e)) (push_read pages k (page_opened suite mode b) None (ap (λ (l : List (Option Page)). slice_get l k) (sym is) ∙ f));
+    }
+  where
+    from : (i k : ℕ) → slice_get waits i ≡ Some k → (slice_get waiting i ≡ Some k) ⊎ ((b ≡ false) × (i ≡ length waiting) × (k ≡ n))
+    from i k e = waited waiting b n i k (ap (λ (l : List ℕ). slice_get l i) (sym wait) ∙ e)
+
+    its : (v k : ℕ) → ((k ≡ length workers) × (v ≡ w)) ⊎ (slice_get workers k ≡ Some v) → k ≡ n → said_by v given ≡ []
+    its v k (inl a) h = ap (λ (x : ℕ). said_by x given) a.1 ∙ nothing
+    its v k (inr c) h = absurd (omega (arith, slice_get_within workers k v c, h, at, count))
+
+    held : (i k v : ℕ) → slice_get (workers ++ w ∷ []) k ≡ Some v → (slice_get waiting i ≡ Some k) ⊎ ((b ≡ false) × (i ≡ length waiting) × (k ≡ n)) → (said_by v given ≡ []) × (slice_get next k ≡ Some None)
+    held i k v f (inl e) =
+        let was = u.waits i k v e (worker_was workers w k v f (u.below i k e)) in
+        (was.0, ap (λ (l : List (Option Page)). slice_get l k) is ∙ page_front pages (page_opened suite mode b ∷ []) k was.1)
+    held i k v f (inr (new, here, same)) = (
+      its v k (push_read workers k w v f) same,
+      ap (λ (l : List (Option Page)). slice_get l k) is ∙ (ap (slice_get (pages ++ page_opened suite mode b ∷ [])) (same ∙ at) ∙ page_last suite mode pages b new),
+    )
+
+    one : (i j k : ℕ) → (slice_get waiting i ≡ Some k) ⊎ ((b ≡ false) × (i ≡ length waiting) × (k ≡ n)) → (slice_get waiting j ≡ Some k) ⊎ ((b ≡ false) × (j ≡ length waiting) × (k ≡ n)) → i ≡ j
+    one i j k (inl e) (inl f) = u.once i j k e f
+    one i j k (inl e) (inr (new, here, same)) = absurd (omega (arith, u.below i k e, same, at, count))
+    one i j k (inr (new, here, same)) (inl f) = absurd (omega (arith, u.below j k f, same, at, count))
+    one i j k (inr (new, here, same)) (inr (new2, here2, same2)) = here ∙ sym here2
+
+    size : length ws ≡ length workers + 1
+    size = ap length wis ∙ length-append workers (w ∷ [])
+
+    under : (i k : ℕ) → (slice_get waiting i ≡ Some k) ⊎ ((b ≡ false) × (i ≡ length waiting) × (k ≡ n)) → k < length ws
+    under i k (inl e) = omega (arith, u.below i k e, size)
+    under i k (inr (new, here, same)) = omega (arith, same, at, count, size)
+
+    of : (k v : ℕ) → ((k ≡ length workers) × (v ≡ w)) ⊎ (slice_get workers k ≡ Some v) → ((k ≡ length pages) × (None ≡ page_opened suite mode b)) ⊎ (slice_get pages k ≡ Some None) → SaidUnlinked given v
+    of k v (inl a) p = inl (ap (λ (x : ℕ). said_by x given) a.1 ∙ nothing)
+    of k v (inr c) (inl p) = absurd (omega (arith, slice_get_within workers k v c, p.0, count))
+    of k v (inr c) (inr p) = u.said k v c p
+
+pub unsaid_opened : (suite : List ℕ) (mode : ModeKind) (taken : List (Option (List LinkNews))) (calls : List Entry) (given : List News) (workers ws : List ℕ) (pages next : List (Option Page)) (waiting held waits : List ℕ) (w n : ℕ) (l b : Bool) → ws ≡ workers ++ w ∷ [] → next ≡ pages ++ page_opened suite mode b ∷ []
+    → waits ≡ held ++ wait_one l n → held ≡ waiting → l ≡ b → n ≡ length pages → was_started w calls ≡ false → Kept suite mode taken calls given workers pages → Unsaid given workers pages waiting → Unsaid given ws next waits
+unsaid_opened suite mode taken calls given workers ws pages next waiting held waits w n l b wis is wait same linked at new kept u =
+    unsaid_started suite mode given workers ws pages next waiting waits w n b wis is (wait ∙ (ap (λ (x : List ℕ). x ++ wait_one l n) same ∙ ap (λ (x : Bool). waiting ++ wait_one x n) linked)) at kept.count (kept.new_said w new) u
+
+-- ---- in the end
+
+fate_there : (workers : List ℕ) (fates : List Fate) (k w : ℕ) → length fates ≡ length workers → slice_get workers k ≡ Some w → (f : Fate) × (slice_get fates k ≡ Some f)
+fate_there [] fates k w h e = absurd (cc e)
+fate_there (x ∷ ws) [] k w h e = absurd (omega (arith, h))
+fate_there (x ∷ ws) (f ∷ fs) zero w h e = (f, refl)
+fate_there (x ∷ ws) (f ∷ fs) (suc k) w h e = fate_there ws fs k w (omega (arith, h)) e
+
+no_way : (b : Bool) → b ≡ true → b ≡ false → ⊥
+no_way true t f = cc f
+no_way false t f = cc t
+
+-- a worker without a link that is read
+pub said_unlinked : (suite : List ℕ) (mode : ModeKind) (taken : List (Option (List LinkNews))) (calls : List Entry) (given : List News) (workers : List ℕ) (pages : List (Option Page)) (fates : List Fate) (waiting : List ℕ) (w : ℕ) → length fates ≡ length workers → map is_some pages ≡ map is_linked fates
+    → is_among w (workers_with is_linked workers fates) ≡ false → Kept suite mode taken calls given workers pages → Unsaid given workers pages waiting → SaidUnlinked given w
+said_unlinked suite mode taken calls given workers pages fates waiting w matched seats out kept u = by (was_started w calls) refl
+  where
+    of : (k : ℕ) → slice_get workers k ≡ Some w → (f : Fate) → slice_get fates k ≡ Some f → (b : Bool) → is_linked f ≡ b → SaidUnlinked given w
+    of k at f is true h = absurd (no_way (is_among w (workers_with is_linked workers fates)) (among_with is_linked workers fates k w f at is h) out)
+    of k at f is false h = u.said k w at (no_page pages fates k f seats is h)
+
+    by : (b : Bool) → was_started w calls ≡ b → SaidUnlinked given w
+    by false h = inl (kept.new_said w h)
+    by true h = let it = kept.placed w h in let f = fate_there workers fates it.0 w matched it.1 in of it.0 it.1 f.0 f.1 (is_linked f.0) refl

@@ -1,0 +1,18 @@
+use Rattle.std.proofs.Common.{ap, sym, ◌∙◌, refl}
+use Rattle.std.proofs.Math.Logic.{∥∥₁_map}
+use Rattle.xd_note.specs.Noted.{noted}
+use Rattle.xd_group.specs.Children.{starts_told}
+use Rattle.xd_group.proofs.PageFacts.{no_way}
+use Rattle.xd_journal.specs.declared.entry.Entry.TheVariants.{Kill}
+use Rattle.xd_group.proofs.Stepping.{step_called}
+use Rattle.xd_group.proofs.gateway_hub.GatewayHubHub.kill.Goals as goal
+
+pub invariant_of-self : goal.invariant_of-self
+invariant_of-self g c =
+    let was = c.args.self.now in
+    let took = c.kill-cut.ensures in
+    let told = λ (s : _). starts_told (g.St.Starter.begun s) in
+    record {
+      in_step = λ e. ∥∥₁_map (was.in_step (sym took.whole ∙ e))
+          (λ s. step_called was.places.items (told was.children.first.value) _ (told was.children.starter) _ was.children.children.items _ (noted was.group.diary.calls) _ was.group.diary.fates.items _ c.kill-cut.result (Kill c.args.worker) took.called refl (ap (λ (v : _). v.items) took.starts.1) (ap (λ (v : _). told v.value) c.cut.ensures.first) c.cut.ensures.starts c.cut.ensures.children s);
+    }

@@ -1,0 +1,79 @@
+-- What a starter tells of links, and the children that are kept of them.
+use Rattle.std.specs.Prelude.{◌≡◌, ℕ, zero, suc, Bool, true, false, List, [], ◌∷◌, ◌++◌, length, map, Option, Some, None, option_map, filter, is_none, ⊤}
+use Rattle.xd_link.specs.Starter.{Begun}
+use Rattle.xd_link.specs.declared.starter.LinkRun.{LinkRun}
+use Rattle.xd_link.specs.declared.starter.StartRun.{StartRun}
+use Rattle.xd_link.specs.declared.starter.Reaped.{Reaped}
+use Rattle.xd_link.specs.declared.starter.Reaped.TheVariants.{Never, Once}
+use Rattle.xd_group.specs.declared.child.Child.{Child}
+
+-- what was asked of a link: whether to kill it, and how often to reap it
+pub record Asked : Type 0 where
+  pub killed : Bool
+  pub reaped : Reaped
+
+abbrev pub asked_of : LinkRun → Asked
+asked_of l = record { killed = l.killed; reaped = l.reaped }
+
+-- the starts that were asked for, and what was asked of each link
+pub record Told : Type 0 where
+  pub starts : List StartRun
+  pub links : List Asked
+
+abbrev pub told_of : Begun → Told
+told_of b = record { starts = b.starts; links = map asked_of b.links }
+
+-- a reaping that was asked for, or was not
+abbrev pub reaped_if : Bool → Reaped
+reaped_if true = Once
+reaped_if false = Never
+
+-- what was asked of the child
+abbrev pub asked : Child → Asked
+asked c = record { killed = c.is_killed; reaped = reaped_if c.is_reaped }
+
+-- what was asked of all children, in order
+abbrev pub all_asked : List (Option Child) → List Asked
+all_asked [] = []
+all_asked (None ∷ cs) = all_asked cs
+all_asked (Some c ∷ cs) = asked c ∷ all_asked cs
+
+-- the links of the children are numbered in order from this one
+abbrev pub AreNumbered : ℕ → List (Option Child) → Type 0
+AreNumbered n [] = ⊤
+AreNumbered n (None ∷ cs) = AreNumbered n cs
+AreNumbered n (Some c ∷ cs) = (c.link ≡ n) × AreNumbered (suc n) cs
+
+-- A starter that told this at first tells now what was asked of these children.
+abbrev pub TellsLinks : Option Begun → Option Begun → List (Option Child) → Type 0
+TellsLinks None now cs = now ≡ None
+TellsLinks (Some b) now cs = (n : Begun) × (now ≡ Some n) × (map asked_of n.links ≡ map asked_of b.links ++ all_asked cs) × AreNumbered (length b.links) cs
+
+-- how many starts failed
+abbrev pub failed_starts : List (Option Child) → ℕ
+failed_starts cs = length (filter is_none cs)
+
+-- the starts that a starter tells
+abbrev pub starts_told : Option Begun → Option (List StartRun)
+starts_told o = option_map (λ b. b.starts) o
+
+-- a child of which nothing was asked
+abbrev pub fresh_child : ℕ → Child
+fresh_child link = record { link = link; is_killed = false; is_reaped = false }
+
+abbrev pub killed_child : Child → Child
+killed_child c = record { link = c.link; is_killed = true; is_reaped = c.is_reaped }
+
+abbrev pub reaped_child : Child → Child
+reaped_child c = record { link = c.link; is_killed = c.is_killed; is_reaped = true }
+
+-- the child at the place was changed so, where there is one
+abbrev pub changed_at : ℕ → (Child → Child) → List (Option Child) → List (Option Child)
+changed_at k f [] = []
+changed_at zero f (o ∷ cs) = option_map f o ∷ cs
+changed_at (suc k) f (o ∷ cs) = o ∷ changed_at k f cs
+
+-- the children, of which the one at the place was killed, where there is a place
+abbrev pub cut_by : Option ℕ → List (Option Child) → List (Option Child)
+cut_by None cs = cs
+cut_by (Some k) cs = changed_at k killed_child cs

@@ -1,0 +1,34 @@
+-- What became of starts.
+use Rattle.std.specs.Prelude.{ℕ, Bool, true, false, List, [], ◌∷◌, if◌then◌else◌}
+use Rattle.xd_group.specs.declared.fate.Fate.{Fate}
+use Rattle.xd_group.specs.declared.fate.Fate.TheVariants.{Unlinked, Refused, Linked}
+
+-- the starter started a link
+abbrev pub has_link : Fate → Bool
+has_link Unlinked = false
+has_link Refused = true
+has_link Linked = true
+
+-- the starter failed
+abbrev pub is_unlinked : Fate → Bool
+is_unlinked Unlinked = true
+is_unlinked Refused = false
+is_unlinked Linked = false
+
+-- its link is read
+abbrev pub is_linked : Fate → Bool
+is_linked Unlinked = false
+is_linked Refused = false
+is_linked Linked = true
+
+-- the crew refused the reader of its link
+abbrev pub is_refused : Fate → Bool
+is_refused Unlinked = false
+is_refused Refused = true
+is_refused Linked = false
+
+-- of these workers those whose start had such a fate, in order
+abbrev pub workers_with : (Fate → Bool) → List ℕ → List Fate → List ℕ
+workers_with which [] fates = []
+workers_with which (w ∷ ws) [] = []
+workers_with which (w ∷ ws) (f ∷ fs) = if which f then w ∷ workers_with which ws fs else workers_with which ws fs
