@@ -3,7 +3,7 @@ ghost use Rattle.std.specs.Prelude.{◌≡◌, ◌∷◌, ◌++◌, [], ℕ, All
 ghost use Rattle.xd_journal.specs.declared.entry.Entry.TheVariants.{Start};
 ghost use Rattle.xd_note.specs.Noted.{noted};
 ghost use Rattle.xd_group.specs.Fates.{is_linked};
-ghost use Rattle.xd_group.specs.Tells.{IsStarted};
+ghost use Rattle.xd_group.specs.Tells.{IsStarted, worker_of_start, workers_started};
 ghost use Rattle.xd_group.specs.Unsaid.{wait_one};
 
 use crate::fate::Fate;
@@ -25,6 +25,7 @@ pub struct Diary {
     pub waiting: Vec<u32>,
     ghost known: { All (λ w. IsStarted (noted calls) w) workers.items },
     ghost matched: { length fates.items ≡ length workers.items },
+    ghost listed: { workers.items ≡ workers_started (noted calls) },
 }
 
 impl Diary {
@@ -48,6 +49,7 @@ impl Diary {
 
     /// An order or a kill.
     pub fn note_call(&mut self, call: &Entry)
+        requires no_start { worker_of_start call.now ≡ None }
         ensures workers { self.new.workers ≡ self.old.workers }
         ensures fates { self.new.fates ≡ self.old.fates }
         ensures calls { noted self.new.calls ≡ noted self.old.calls ++ call.now ∷ [] }

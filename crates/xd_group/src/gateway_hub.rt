@@ -26,7 +26,7 @@ ghost use Rattle.xd_group.specs.InStep.{InStep, all_started};
 ghost use Rattle.xd_group.specs.Returned.{RanSo, end_told};
 ghost use Rattle.xd_group.specs.Pages.{Page};
 ghost use Rattle.xd_group.specs.PostView.{pages_of};
-ghost use Rattle.xd_group.specs.Tells.{IsStarted, marks_told};
+ghost use Rattle.xd_group.specs.Tells.{IsStarted, marks_told, workers_started};
 
 use crate::children::{Children, Opened};
 use crate::diary::Diary;
@@ -167,6 +167,7 @@ impl<St: Starter, C: Crew<Reader<St::Src>>> GatewayHub<St, C> {
         ensures runs { IfOk result (λ ends. All (λ l. ∥ RanSo self.old.group.suite self.old.group.mode (noted self.old.group.diary.given) (noted self.old.group.diary.calls) (workers_with is_refused self.old.group.diary.workers.items self.old.group.diary.fates.items) l.worker
             (link_of (spring (St.Src.supply l.source) (St.Src.is_ended l.source) (St.Src.faults l.source)) (St.Snk.sunk l.sink) (St.Snk.faults l.sink)) ∥₁) ends.items) }
         ensures workers { IfOk result (λ ends. map (λ l. l.worker) ends.items ≡ workers_with has_link self.old.group.diary.workers.items self.old.group.diary.fates.items) }
+        ensures listed { self.old.group.diary.workers.items ≡ workers_started (noted self.old.group.diary.calls) }
         ensures begun { IfOk result (λ ends. option_map told_of (St.begun self.new.children.starter) ≡ option_map (λ b. record { starts = b.starts ++ all_started self.old.places.items (starts_of (noted self.old.group.diary.calls)) self.old.group.diary.fates.items;
             links = map asked_of b.links ++ map (λ l. end_told l.killed) ends.items }) (St.begun self.old.children.first.value)) }
         ensures unlinked { OnOk result ((w : ℕ) → is_among w (workers_with is_linked self.old.group.diary.workers.items self.old.group.diary.fates.items) ≡ false → ∥ SaidUnlinked (noted self.old.group.diary.given) w ∥₁) }
