@@ -1,6 +1,6 @@
 -- What is asked of the children of links.
-use Rattle.std.proofs.Common.{◌≡◌, ℕ, zero, suc, ◌+◌, ◌≤◌, ◌<◌, List, [], ◌∷◌, ◌++◌, map, length, Bool, true, false, Option, Some, None, option_map, refl, sym, ◌∙◌, ap, subst, arith, append_assoc, append-nil, length-append}
-use Rattle.std.specs.Prelude.{IfSome, IfNone, filter, is_none, slice_get, slice_set}
+use Rattle.std.proofs.Common.{◌≡◌, ℕ, zero, suc, ◌+◌, ◌≤◌, List, [], ◌∷◌, ◌++◌, map, length, Bool, true, false, Option, Some, None, option_map, refl, sym, ◌∙◌, ap, subst, arith, append_assoc, append-nil, length-append}
+use Rattle.std.specs.Prelude.{filter, is_none, slice_get, slice_set}
 use Rattle.std.proofs.Math.ListN.{set}
 use Rattle.std.proofs.lemmas.List.{map-append}
 use Rattle.std.proofs.lemmas.List.Elements.{filter-append}
@@ -9,7 +9,6 @@ use Rattle.xd_link.specs.Starter.{Begun, IsNextLink, as_killed, as_reaped, fresh
 use Rattle.xd_link.specs.declared.place.Place.{Place}
 use Rattle.xd_link.specs.declared.starter.LinkRun.{LinkRun}
 use Rattle.xd_link.specs.declared.starter.Reaped.TheVariants.{Never}
-use Rattle.xd_link.specs.declared.starter.StartRun.{StartRun}
 use Rattle.xd_group.specs.Children.{AreNumbered, Asked, TellsLinks, all_asked, asked, asked_of, changed_at, failed_starts, fresh_child, killed_child, reaped_child, starts_told}
 use Rattle.xd_group.specs.declared.child.Child.{Child}
 
@@ -109,12 +108,11 @@ tells_changed : (first now next : Option Begun) (cs : List (Option Child)) (k : 
     → slice_get cs k ≡ Some (Some c) → next ≡ option_map (with_link c.link h) now → TellsLinks first now cs → TellsLinks first next (changed_at k f cs)
 tells_changed None now next cs k c f h g same does asks at e t = e ∙ ap (option_map (with_link c.link h)) t
 tells_changed (Some b) now next cs k c f h g same does asks at e t =
-    let it = there (length b.links) cs k c f g t.3 at asks in
-    (
+    let it = there (length b.links) cs k c f g t.3 at asks in (
       with_link c.link h t.0,
       e ∙ ap (option_map (with_link c.link h)) t.1,
       changed_map c.link h g t.0.links does ∙ (ap (changed c.link g) t.2 ∙ (ap (λ (m : ℕ). changed m g (map asked_of b.links ++ all_asked cs)) (it.1 ∙ ap (λ (n : ℕ). n + it.0) (sym (map_length b.links)))
-      ∙ (behind (map asked_of b.links) (all_asked cs) it.0 g ∙ ap (λ (l : List Asked). map asked_of b.links ++ l) it.2))),
+          ∙ (behind (map asked_of b.links) (all_asked cs) it.0 g ∙ ap (λ (l : List Asked). map asked_of b.links ++ l) it.2))),
       numbered_same (length b.links) cs k f same t.3,
     )
 

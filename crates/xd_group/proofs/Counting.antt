@@ -1,8 +1,8 @@
 -- Counts of what is excepted.
-use Rattle.std.proofs.Common.{◌≡◌, ℕ, ◌+◌, List, [], ◌∷◌, ◌++◌, length, Bool, true, false, refl, sym, ◌∙◌, ap, subst, arith, length-append}
+use Rattle.std.proofs.Common.{◌≡◌, ℕ, ◌+◌, List, [], ◌∷◌, ◌++◌, length, Bool, true, refl, sym, ◌∙◌, ap, subst, arith, length-append}
 use Rattle.std.specs.Prelude.{filter}
 use Rattle.std.proofs.lemmas.List.Elements.{filter-append}
-use Rattle.xd_edge.specs.Faults.{Counted, RoseBy}
+use Rattle.xd_edge.specs.Faults.{Counted}
 use Rattle.xd_group.specs.Fates.{has_link, is_linked, is_refused}
 use Rattle.xd_group.specs.Few.{RoseFor, count_with}
 use Rattle.xd_group.specs.declared.fate.Fate.{Fate}

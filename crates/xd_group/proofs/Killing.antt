@@ -1,19 +1,18 @@
 -- Which links are killed.
-use Rattle.std.proofs.Common.{◌≡◌, ℕ, zero, suc, ◌<◌, ◌+◌, List, [], ◌∷◌, ◌++◌, length, map, Bool, true, false, ◌||◌, Option, Some, None, option_map, refl, sym, ◌∙◌, ap, subst, inl, inr, length-append, arith}
-use Rattle.std.specs.Prelude.{◌⊎◌, ◌==◌, IfSome, IfNone, is_some, slice_get}
+use Rattle.std.proofs.Common.{◌≡◌, ℕ, zero, suc, List, [], ◌∷◌, ◌++◌, length, Bool, true, false, ◌||◌, Option, Some, None, option_map, refl, sym, ◌∙◌, ap, subst, inl, inr, arith}
+use Rattle.std.specs.Prelude.{◌⊎◌, ◌==◌, IfSome, IfNone, slice_get}
 use Rattle.std.specs.Bool.{then_some}
 use Rattle.std.specs.List.{list_any}
 use Rattle.std.proofs.lemmas.Bool.Decides.{nat_tests}
 use Rattle.std.proofs.lemmas.List.Folds.{list_any-append}
-use Rattle.std.proofs.lemmas.List.{length-map}
 use Rattle.xd_journal.specs.declared.entry.Entry.{Entry}
 use Rattle.xd_journal.specs.declared.entry.Entry.TheVariants as entry
 use Rattle.xd_drive.specs.Calls.{is_order}
-use Rattle.xd_drive.specs.Listed.{is_among, is_kill_of, was_killed}
-use Rattle.xd_drive.specs.Performing.{is_start_of, was_started}
+use Rattle.xd_drive.specs.Listed.{is_kill_of, was_killed}
+use Rattle.xd_drive.specs.Performing.{was_started}
 use Rattle.xd_links.proofs.Places.{push_read}
-use Rattle.xd_group.specs.Children.{changed_at, cut_by, fresh_child, killed_child}
-use Rattle.xd_group.specs.Fates.{has_link, is_refused}
+use Rattle.xd_group.specs.Children.{changed_at, cut_by, killed_child}
+use Rattle.xd_group.specs.Fates.{is_refused}
 use Rattle.xd_group.specs.Kills.{KeepsLost, KilledSo, LostAt}
 use Rattle.xd_group.specs.declared.child.Child.{Child}
 use Rattle.xd_group.specs.declared.fate.Fate.{Fate}

@@ -1,17 +1,15 @@
 -- Workers that were started stay so.
 use Rattle.std.proofs.Common.{◌≡◌, ℕ, List, [], ◌∷◌, ◌++◌, Bool, true, false, ◌||◌, All, refl, sym, ap, ◌∙◌, arith, append-nil, length, length-append}
 use Rattle.std.specs.Prelude.{◌==◌}
-use Rattle.std.proofs.lemmas.Bool.{both_ways}
 use Rattle.std.proofs.lemmas.Bool.Decides.{nat_tests}
 use Rattle.std.proofs.lemmas.List.Elements.{All-push, All-same, All-weaker}
 use Rattle.std.proofs.lemmas.List.Folds.{list_any-append}
 use Rattle.std.specs.List.{list_any}
 use Rattle.xd_journal.specs.declared.entry.Entry.{Entry}
-use Rattle.xd_journal.specs.declared.entry.Entry.TheVariants.{Ready, Collected, Done, Back, Finished, Refused, Down, NotStarted, Start, Run, RunAll, Steal, Shutdown, Kill, Over}
+use Rattle.xd_journal.specs.declared.entry.Entry.TheVariants.{Start}
 use Rattle.xd_drive.specs.Performing.{is_start_of, was_started}
 use Rattle.std.specs.Prelude.{None}
 use Rattle.std.proofs.lemmas.List.Elements.{filter_map-append}
-use Rattle.xd_drive.specs.Calls.{is_order}
 use Rattle.xd_group.specs.Tells.{IsStarted, worker_of_start, workers_started}
 
 pub started_more : (w : ℕ) (calls after : List Entry) (e : Entry) → after ≡ calls ++ e ∷ [] → was_started w calls ≡ true → was_started w after ≡ true
@@ -43,21 +41,3 @@ listed_more calls after e ws is none listed = rw (is, filter_map-append worker_o
 
 pub listed_push : (calls after : List Entry) (w slot : ℕ) (ws all : List ℕ) → after ≡ calls ++ Start w slot ∷ [] → all ≡ ws ++ w ∷ [] → ws ≡ workers_started calls → all ≡ workers_started after
 listed_push calls after w slot ws all is added listed = rw (is, added, filter_map-append worker_of_start calls (Start w slot ∷ [])) (ap (λ (l : List ℕ). l ++ w ∷ []) listed)
-
--- an order is no start
-pub order_starts_none : (w : ℕ) (e : Entry) → is_order w e ≡ true → worker_of_start e ≡ None
-order_starts_none w (Start v slot) h = absurd (both_ways false refl h)
-order_starts_none w (Ready v) h = refl
-order_starts_none w (Collected v ids) h = refl
-order_starts_none w (Done v i o ms kept) h = refl
-order_starts_none w (Back v is) h = refl
-order_starts_none w (Finished v) h = refl
-order_starts_none w (Refused v text) h = refl
-order_starts_none w (Down v why kept) h = refl
-order_starts_none w (NotStarted v) h = refl
-order_starts_none w (Run v is) h = refl
-order_starts_none w (RunAll v) h = refl
-order_starts_none w (Steal v is) h = refl
-order_starts_none w (Shutdown v) h = refl
-order_starts_none w (Kill v) h = refl
-order_starts_none w (Over how) h = refl

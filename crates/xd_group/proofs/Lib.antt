@@ -7,6 +7,7 @@ pub mod Keeping
 pub mod Killing
 pub mod Known
 pub mod LossFacts
+pub mod Marking
 pub mod PageFacts
 pub mod PostFacts
 pub mod Running

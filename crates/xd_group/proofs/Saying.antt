@@ -1,6 +1,6 @@
 -- What is said of workers whose links are not read.
 use Rattle.std.proofs.Common.{◌≡◌, ℕ, zero, suc, ◌<◌, ◌+◌, List, [], ◌∷◌, ◌++◌, map, length, Bool, true, false, Option, Some, None, refl, sym, ◌∙◌, ap, subst, inl, inr, arith, append-nil, length-append}
-use Rattle.std.specs.Prelude.{◌⊎◌, is_some, option_to_list, slice_get, slice_set}
+use Rattle.std.specs.Prelude.{◌⊎◌, is_some, option_to_list, slice_get}
 use Rattle.std.proofs.lemmas.Option.{slice_get_within}
 use Rattle.std.proofs.lemmas.List.{map-append}
 use Rattle.xd_edge.specs.declared.mode.ModeKind.{ModeKind}
@@ -11,13 +11,12 @@ use Rattle.xd_journal.specs.declared.news.What.TheVariants.{NotStarted}
 use Rattle.xd_reader.specs.declared.news.LinkNews.{LinkNews}
 use Rattle.xd_drive.specs.Listed.{is_among}
 use Rattle.xd_drive.specs.Performing.{was_started}
-use Rattle.xd_links.proofs.Places.{push_read, set_read}
-use Rattle.xd_group.specs.Fates.{has_link, is_linked, is_refused, workers_with}
+use Rattle.xd_links.proofs.Places.{push_read}
+use Rattle.xd_group.specs.Fates.{is_linked, workers_with}
 use Rattle.xd_group.specs.Kept.{Kept, said_by}
-use Rattle.xd_group.specs.Pages.{Page, page_opened, taken_of}
+use Rattle.xd_group.specs.Pages.{Page, page_opened}
 use Rattle.xd_group.specs.Unsaid.{SaidUnlinked, Unsaid, wait_one}
 use Rattle.xd_group.specs.declared.fate.Fate.{Fate}
-use Rattle.xd_group.specs.declared.fate.Fate.TheVariants as fate
 use Rattle.xd_group.proofs.FateFacts.{among_with}
 use Rattle.xd_group.proofs.Keeping.{either_worker, news_of_worker, page_taken, said_more, said_other, said_same, same_some}
 

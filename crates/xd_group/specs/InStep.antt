@@ -1,5 +1,5 @@
 -- What the children of a hub have in common with its calls.
-use Rattle.std.specs.Prelude.{◌≡◌, ℕ, not, List, [], ◌∷◌, ◌++◌, Option, Some, None, option_map, option_to_list, is_some, length, map, slice_get}
+use Rattle.std.specs.Prelude.{◌≡◌, not, List, [], ◌∷◌, ◌++◌, Option, option_map, option_to_list, is_some, length, map, slice_get}
 use Rattle.xd_journal.specs.declared.entry.Entry.{Entry}
 use Rattle.xd_journal.specs.declared.entry.Entry.TheVariants.{Start}
 use Rattle.xd_link.specs.declared.place.Place.{Place}

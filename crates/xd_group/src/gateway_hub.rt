@@ -6,7 +6,7 @@ ghost use Rattle.xd_journal.specs.declared.entry.Entry.TheVariants.{Start, Kill}
 ghost use Rattle.xd_link.specs.Spring.{spring};
 ghost use Rattle.xd_drive.specs.Calls.{is_order};
 ghost use Rattle.xd_drive.specs.Listed.{is_among, starts_of, others_of};
-ghost use Rattle.xd_drive.specs.Marks.{is_breach, may_tell};
+ghost use Rattle.xd_drive.specs.Marks.{is_breach, marked_heard, marked_started, may_tell};
 ghost use Rattle.xd_note.specs.Noted.{noted};
 ghost use Rattle.xd_journal.specs.declared.entry.Entry.{Entry};
 ghost use Rattle.xd_journal.specs.declared.news.News.{News};
@@ -145,7 +145,11 @@ impl<St: Starter, C: Crew<Reader<St::Src>>> GatewayHub<St, C> {
         ensures diary { self.new.group.diary ≡ self.old.group.diary }
     {
         if let Some(ended) = self.group.end_link(number)? {
-            let Ended { worker, source, sink } = ended;
+            let Ended {
+                worker,
+                source,
+                sink,
+            } = ended;
             let killed = self.children.reap(rt, number as usize);
             ends.push(LinkEnd {
                 worker,
@@ -168,8 +172,10 @@ impl<St: Starter, C: Crew<Reader<St::Src>>> GatewayHub<St, C> {
             (link_of (spring (St.Src.supply l.source) (St.Src.is_ended l.source) (St.Src.faults l.source)) (St.Snk.sunk l.sink) (St.Snk.faults l.sink)) ∥₁) ends.items) }
         ensures workers { IfOk result (λ ends. map (λ l. l.worker) ends.items ≡ workers_with has_link self.old.group.diary.workers.items self.old.group.diary.fates.items) }
         ensures listed { self.old.group.diary.workers.items ≡ workers_started (noted self.old.group.diary.calls) }
-        ensures begun { IfOk result (λ ends. option_map told_of (St.begun self.new.children.starter) ≡ option_map (λ b. record { starts = b.starts ++ all_started self.old.places.items (starts_of (noted self.old.group.diary.calls)) self.old.group.diary.fates.items;
-            links = map asked_of b.links ++ map (λ l. end_told l.killed) ends.items }) (St.begun self.old.children.first.value)) }
+        ensures begun { IfOk result (λ ends. option_map told_of (St.begun self.new.children.starter) ≡ option_map (λ b. record {
+          starts = b.starts ++ all_started self.old.places.items (starts_of (noted self.old.group.diary.calls)) self.old.group.diary.fates.items;
+          links = map asked_of b.links ++ map (λ l. end_told l.killed) ends.items;
+        }) (St.begun self.old.children.first.value)) }
         ensures unlinked { OnOk result ((w : ℕ) → is_among w (workers_with is_linked self.old.group.diary.workers.items self.old.group.diary.fates.items) ≡ false → ∥ SaidUnlinked (noted self.old.group.diary.given) w ∥₁) }
         ensures few_refused { OnOk result (RoseFor (count_with is_refused self.old.group.diary.fates.items) (C.faults self.old.group.first.value) (C.faults self.new.group.links.crew)) }
         ensures few_unlinked { OnOk result (RoseBy (count_with is_unlinked self.old.group.diary.fates.items) (St.faults self.old.children.first.value) (St.faults self.new.children.starter)) }
@@ -204,6 +210,7 @@ impl<St: Starter, C: Crew<Reader<St::Src>>> Hub for GatewayHub<St, C> {
     fn start(&mut self, alloc: Global, worker: u32, slot: u32) -> Result<(), OutOfMemory>
         requires new { (marks_told (noted self.old.group.diary.calls) (noted self.old.group.diary.given) worker).started ≡ false }
         requires slot { slot < vec_len self.old.places }
+        ensures marks { OnOk result ((w : ℕ) → marks_told (noted self.new.group.diary.calls) (noted self.new.group.diary.given) w ≡ marked_started worker w (marks_told (noted self.old.group.diary.calls) (noted self.old.group.diary.given) w)) }
         ensures called { OnOk result (noted self.new.group.diary.calls ≡ noted self.old.group.diary.calls ++ Start worker slot ∷ []) }
         ensures given { OnOk result (noted self.new.group.diary.given ≡ noted self.old.group.diary.given) }
         ensures first { (self.new.places ≡ self.old.places) × (self.new.children.first ≡ self.old.children.first) × (self.new.group.first ≡ self.old.group.first) }
@@ -228,6 +235,7 @@ impl<St: Starter, C: Crew<Reader<St::Src>>> Hub for GatewayHub<St, C> {
     fn say(&mut self, alloc: Global, worker: u32, order: &Entry) -> Result<(), OutOfMemory>
         requires order { is_order worker order.now ≡ true }
         requires told { may_tell (marks_told (noted self.old.group.diary.calls) (noted self.old.group.diary.given) worker) ≡ true }
+        ensures marks { OnOk result ((w : ℕ) → marks_told (noted self.new.group.diary.calls) (noted self.new.group.diary.given) w ≡ marks_told (noted self.old.group.diary.calls) (noted self.old.group.diary.given) w) }
         ensures called { OnOk result (noted self.new.group.diary.calls ≡ noted self.old.group.diary.calls ++ order.now ∷ []) }
         ensures given { OnOk result (noted self.new.group.diary.given ≡ noted self.old.group.diary.given) }
         ensures first { (self.new.places ≡ self.old.places) × (self.new.children.first ≡ self.old.children.first) × (self.new.group.first ≡ self.old.group.first) }
@@ -256,6 +264,7 @@ impl<St: Starter, C: Crew<Reader<St::Src>>> Hub for GatewayHub<St, C> {
         requires someone { (w : ℕ) × ((marks_told (noted self.old.group.diary.calls) (noted self.old.group.diary.given) w).started ≡ true) }
         ensures started { IfOk result (λ n. IsStarted (noted self.old.group.diary.calls) n.worker) }
         ensures no_breach { IfOk result (λ n. is_breach n.what ≡ false) }
+        ensures marks { IfOk result (λ n. (w : ℕ) → marks_told (noted self.new.group.diary.calls) (noted self.new.group.diary.given) w ≡ marked_heard n w (marks_told (noted self.old.group.diary.calls) (noted self.old.group.diary.given) w)) }
         ensures given { IfOk result (λ n. noted self.new.group.diary.given ≡ noted self.old.group.diary.given ++ n ∷ []) }
         ensures calls { OnOk result (noted self.new.group.diary.calls ≡ noted self.old.group.diary.calls) }
         ensures first { (self.new.places ≡ self.old.places) × (self.new.children.first ≡ self.old.children.first) × (self.new.group.first ≡ self.old.group.first) }

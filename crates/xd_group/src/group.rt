@@ -415,7 +415,11 @@ impl<S: Source + Drop, N: Sink + Drop, C: Crew<Reader<S>>> Group<S, N, C> {
     }
 
     // Takes the link of this number that was kept and not read.
-    fn take_spare(spares: &mut Vec<Option<Spare<S, N>>>, number: u32, worker: u32) -> Option<Ended<S, N>>
+    fn take_spare(
+        spares: &mut Vec<Option<Spare<S, N>>>,
+        number: u32,
+        worker: u32,
+    ) -> Option<Ended<S, N>>
         ensures unused { IfSome result (λ e. Unused (link_of (spring (S.supply e.source) (S.is_ended e.source) (S.faults e.source)) (N.sunk e.sink) (N.faults e.sink))) }
         ensures worker { IfSome result (λ e. e.worker ≡ worker) }
     {
@@ -424,7 +428,11 @@ impl<S: Source + Drop, N: Sink + Drop, C: Crew<Reader<S>>> Group<S, N, C> {
             return None;
         }
         match spares[at].take() {
-            Some(Spare { source, sink }) => Some(Ended { worker, source, sink }),
+            Some(Spare { source, sink }) => Some(Ended {
+                worker,
+                source,
+                sink,
+            }),
             None => None,
         }
     }
@@ -461,12 +469,8 @@ impl<S: Source + Drop, N: Sink + Drop, C: Crew<Reader<S>>> Group<S, N, C> {
                 Ok(Some(kept))
             }
             Fate::Linked => {
-                let Some(closed) = Self::close(
-                    &mut self.links,
-                    &mut self.posts,
-                    number,
-                    worker,
-                ) else {
+                let Some(closed) = Self::close(&mut self.links, &mut self.posts, number, worker)
+                else {
                     return Err(OutOfMemory);
                 };
                 Ok(Some(closed))

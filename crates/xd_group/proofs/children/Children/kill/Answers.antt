@@ -1,4 +1,4 @@
-use Rattle.std.proofs.Common.{refl, rules}
+use Rattle.std.proofs.Common.{refl}
 use Rattle.std.proofs.Math.Logic.{∥∥₁_map}
 use Rattle.xd_group.specs.Children.{killed_child}
 use Rattle.xd_group.proofs.Asking.{changed_set, few_changed, killed_again, none_changed, tells_killed}

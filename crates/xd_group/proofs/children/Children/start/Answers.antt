@@ -1,4 +1,4 @@
-use Rattle.std.proofs.Common.{◌≡◌, ◌∷◌, ◌++◌, [], Some, None, rules, refl}
+use Rattle.std.proofs.Common.{◌≡◌, ◌∷◌, ◌++◌, [], Some, None, rules}
 use Rattle.std.proofs.Math.Logic.{∥∥₁_map}
 use Rattle.xd_group.specs.Children.{fresh_child}
 use Rattle.xd_group.proofs.Asking.{few_failed, few_more, tells_more, tells_none}

@@ -1,10 +1,10 @@
-use Rattle.std.proofs.Common.{◌≡◌, ◌+◌, ◌++◌, ◌∷◌, [], List, ap, arith, map, refl, rules, sym, ◌∙◌}
+use Rattle.std.proofs.Common.{◌≡◌, ◌+◌, ◌++◌, ◌∷◌, [], List, ap, arith, map, rules, sym, ◌∙◌}
 use Rattle.std.specs.Prelude.{is_some, take}
 use Rattle.std.proofs.lemmas.List.{map-append}
 use Rattle.std.proofs.lemmas.List.Elements.{All-push, All-same}
 use Rattle.xd_link.specs.Spring.{spring}
 use Rattle.xd_group.specs.Children.{Asked, all_asked, reaped_child}
-use Rattle.xd_group.specs.Fates.{has_link, is_refused, workers_with}
+use Rattle.xd_group.specs.Fates.{is_refused, workers_with}
 use Rattle.xd_group.specs.Late.{settled_at}
 use Rattle.xd_group.specs.LinkRun.{link_of}
 use Rattle.xd_group.specs.Returned.{RanSo, end_told}
@@ -22,7 +22,7 @@ returns-in_ok-push-clause-runs g c suite mode taken calls given pages kept late 
     let left = c.in_ok-ended.ensures in
     let fate = left.fate in
     let run : P end = ran_so suite mode taken calls given diary.workers.items pages diary.fates.items c.args.number end.worker _ fate.0 (some_of _ c.in_ok-ended.field-0 _ c.in-Some.is left.worker) fate.1 (sym fate.2 ∙ ap is_some c.in-Some.is)
-        (λ h. some_of _ c.in_ok-ended.field-0 _ c.in-Some.is (left.ran (map settled_at pages) late h)) (λ h. some_of _ c.in_ok-ended.field-0 _ c.in-Some.is (left.unused h)) kept in
+    (λ h. some_of _ c.in_ok-ended.field-0 _ c.in-Some.is (left.ran (map settled_at pages) late h)) (λ h. some_of _ c.in_ok-ended.field-0 _ c.in-Some.is (left.unused h)) kept in
     let is : c.push.new.self.items ≡ c.args.ends.now.items ++ end ∷ [] = search rules in
     All-same P _ _ is (All-push P c.args.ends.now.items end all run)
 

@@ -1,8 +1,6 @@
-use Rattle.std.proofs.Common.{◌≡◌, ◌∙◌, [], List, ap, arith, length, map, refl, rules, subst, sym}
-use Rattle.std.specs.Prelude.{is_some, option_map}
+use Rattle.std.proofs.Common.{◌≡◌, ◌∙◌, [], ap, arith, length, map, refl, rules, subst, sym}
 use Rattle.std.proofs.Math.Logic.{∥∥₁_elim, ∥∥₁_map₂}
 use Rattle.std.proofs.Props.{props}
-use Rattle.xd_edge.specs.Faults.{RoseBy}
 use Rattle.xd_drive.specs.Listed.{starts_of}
 use Rattle.xd_links.specs.Runs.{news_of}
 use Rattle.xd_note.specs.Noted.{noted}

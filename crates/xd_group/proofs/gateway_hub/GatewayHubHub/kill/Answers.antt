@@ -2,7 +2,6 @@ use Rattle.std.proofs.Common.{ap, sym, ◌∙◌, refl}
 use Rattle.std.proofs.Math.Logic.{∥∥₁_map}
 use Rattle.xd_note.specs.Noted.{noted}
 use Rattle.xd_group.specs.Children.{starts_told}
-use Rattle.xd_group.proofs.PageFacts.{no_way}
 use Rattle.xd_journal.specs.declared.entry.Entry.TheVariants.{Kill}
 use Rattle.xd_group.proofs.Stepping.{step_called}
 use Rattle.xd_group.proofs.gateway_hub.GatewayHubHub.kill.Goals as goal

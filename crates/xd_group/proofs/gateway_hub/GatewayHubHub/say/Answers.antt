@@ -1,7 +1,8 @@
-use Rattle.std.proofs.Common.{ap, sym, ◌∙◌, refl}
+use Rattle.std.proofs.Common.{ap, sym, ◌∙◌}
 use Rattle.std.proofs.Math.Logic.{∥∥₁_map}
 use Rattle.xd_note.specs.Noted.{noted}
 use Rattle.xd_group.specs.Children.{starts_told}
+use Rattle.xd_group.proofs.Marking.{marks_ordered}
 use Rattle.xd_group.proofs.PageFacts.{no_way}
 use Rattle.xd_group.proofs.Stepping.{order_plain, step_called}
 use Rattle.xd_group.proofs.gateway_hub.GatewayHubHub.say.Goals as goal
@@ -18,3 +19,6 @@ invariant_of-self-2 g c =
       in_step = λ e. ∥∥₁_map (was.in_step (sym took.whole ∙ e))
           (λ s. step_called was.places.items (told was.children.first.value) _ (told was.children.starter) _ was.children.children.items _ (noted was.group.diary.calls) _ was.group.diary.fates.items _ c.in_ok-cut.cut c.args.order.now took.called (order_plain c.args.worker c.args.order.now c.requires.order) (ap (λ (v : _). v.items) took.starts.1) (ap (λ (v : _). told v.value) c.cut.ensures.first) c.cut.ensures.starts c.cut.ensures.children s);
     }
+
+pub returns-clause-marks : goal.returns-clause-marks
+returns-clause-marks g c = marks_ordered _ _ _ _ c.args.worker c.args.order.now c.in_ok-cut.ensures.called c.requires.order c.in_ok-cut.ensures.given

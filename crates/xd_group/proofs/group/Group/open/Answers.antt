@@ -1,4 +1,4 @@
-use Rattle.std.proofs.Math.Logic.{∥∥₁_map, ∥∥₁_map₂, ∥∥₁_elim}
+use Rattle.std.proofs.Math.Logic.{∥∥₁_map, ∥∥₁_map₂}
 use Rattle.xd_links.specs.Runs.{news_of}
 use Rattle.xd_note.specs.Noted.{noted}
 use Rattle.xd_post.specs.Mails.{mails}
