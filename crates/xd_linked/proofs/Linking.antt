@@ -1,25 +1,35 @@
 -- A run over a hub of links, from its first start to its last link.
-use Rattle.std.specs.Prelude.{Result, Ok, Err, IfOk}
+use Rattle.std.specs.Prelude.{Result, Ok, Err, IfOk, option_map}
+use Rattle.std.proofs.lemmas.List.Elements.{All-map}
 use Rattle.std.proofs.lemmas.Result.{IfOk-at_ok}
-use Rattle.std.proofs.Common.{◌≡◌, ℕ, List, [], ◌∷◌, map, Bool, true, false, Option, Some, None, refl, sym, ◌∙◌, ap, subst, All}
+use Rattle.std.proofs.lemmas.Simd.{map-map}
+use Rattle.std.proofs.Common.{◌≡◌, ℕ, List, [], ◌++◌, map, true, false, Option, Some, None, refl, sym, ◌∙◌, ap, subst, All}
+use Rattle.xd_edge.specs.Faults.{Rose, RoseBy}
 use Rattle.xd_edge.specs.Sink.{Sunk}
 use Rattle.xd_edge.specs.declared.mode.ModeKind.{ModeKind}
+use Rattle.xd_edge.specs.declared.mode.ModeKind.TheVariants.{Load}
+use Rattle.xd_link.specs.Starter.{Begun}
+use Rattle.xd_link.specs.declared.place.Place.{Place}
+use Rattle.xd_link.specs.declared.starter.StartRun.{StartRun}
 use Rattle.xd_journal.specs.declared.entry.Entry.{Entry}
 use Rattle.xd_journal.specs.declared.journal.Journal.{Journal}
 use Rattle.xd_journal.specs.declared.news.News.{News}
-use Rattle.xd_drive.specs.Driven.{Broken, Whole}
-use Rattle.xd_drive.specs.Marks.{no_marks}
-use Rattle.xd_edge.specs.declared.mode.ModeKind.TheVariants.{Load}
-use Rattle.xd_group.specs.Kept.{orders_to, said_by}
-use Rattle.xd_group.specs.LinkRun.{Link, LinkRun}
-use Rattle.xd_group.specs.Tells.{marks_told}
-use Rattle.xd_edge.specs.Faults.{Rose}
 use Rattle.xd_journal.specs.declared.settings.Settings.{Settings}
 use Rattle.xd_ledger.specs.Ending.{stop_of}
 use Rattle.xd_report.specs.Status.{status_of}
 use Rattle.xd_session.specs.Ends.{is_out_fault}
-use Rattle.xd_drive.specs.Driven.{IsJournalOf}
-use Rattle.xd_linked.specs.Linked.{EndedLink, LinkedRun, RunsLinked, linked_settings, scene_told}
+use Rattle.xd_drive.specs.Driven.{Broken, IsJournalOf, Whole}
+use Rattle.xd_drive.specs.Listed.{is_among, starts_of}
+use Rattle.xd_drive.specs.Marks.{no_marks}
+use Rattle.xd_group.specs.Children.{Asked, Told, asked_of, told_of}
+use Rattle.xd_group.specs.Fates.{has_link, is_linked, is_refused, is_unlinked, workers_with}
+use Rattle.xd_group.specs.Few.{RoseFor, count_with}
+use Rattle.xd_group.specs.InStep.{all_started}
+use Rattle.xd_group.specs.Returned.{RanSo, end_told}
+use Rattle.xd_group.specs.Tells.{marks_told, workers_started}
+use Rattle.xd_group.specs.Unsaid.{SaidUnlinked}
+use Rattle.xd_group.specs.declared.fate.Fate.{Fate}
+use Rattle.xd_linked.specs.Linked.{DrivesTo, EndedLink, LinkedRun, Seen, RunsLinked, linked_settings, own_child, scene_told}
 
 -- a hub that was called for nothing and gave nothing has marked no worker
 pub unmarked : (calls : List Entry) (given : List News) → calls ≡ [] → given ≡ [] → (w : ℕ) → marks_told calls given w ≡ no_marks
@@ -37,28 +47,54 @@ broken_from j first calls was given s0 s1 c g w =
     subst (λ (f : List Entry). (count : ℕ) × (taken : List News) × Broken count taken j (scene_told f [] s0) (scene_told calls given s1)) c
     (subst (λ (n : List News). (count : ℕ) × (taken : List News) × Broken count taken j (scene_told first n s0) (scene_told calls given s1)) g w)
 
--- each link of a hub that was made of this suite and of mode load
-pub each_of : {A : Type 0} (worker : A → ℕ) (link : A → Link) (suite now : List ℕ) (mode : ModeKind) (given : List News) (calls : List Entry) (ends : List A) → now ≡ suite → mode ≡ Load
-    → All (λ l. ∥ LinkRun now mode (said_by (worker l) given) (orders_to (worker l) calls) (link l) ∥₁) ends → All (λ l. ∥ LinkRun suite Load (said_by (worker l) given) (orders_to (worker l) calls) (link l) ∥₁) ends
-each_of worker link suite now mode given calls ends s m all =
-    subst (λ (x : List ℕ). All (λ l. ∥ LinkRun x Load (said_by (worker l) given) (orders_to (worker l) calls) (link l) ∥₁) ends) s
-    (subst (λ (k : ModeKind). All (λ l. ∥ LinkRun now k (said_by (worker l) given) (orders_to (worker l) calls) (link l) ∥₁) ends) m all)
+-- what a starter tells at last, by what it told at first
+pub begun_from : (first : Option Begun) (now : Option Told) (more : List StartRun) (asked : List Asked) → now ≡ option_map (λ b. record { starts = b.starts ++ more; links = map asked_of b.links ++ asked }) first
+    → now ≡ option_map (λ b. record { starts = b.starts ++ more; links = b.links ++ asked }) (option_map told_of first)
+begun_from None now more asked e = e
+begun_from (Some b) now more asked e = e
 
--- what holds of a value by two facts of it holds where there is one
-pub both_of : {A E : Type 0} (r : Result A E) (P Q R : A → Type 0) → ((a : A) → P a → Q a → R a) → IfOk r P → IfOk r Q → IfOk r R
-both_of (Ok a) P Q R f p q = f a p q
-both_of (Err e) P Q R f p q = tt
+-- a run by what the hub took and gave and what its links left
+pub runs_linked : {A : Type 0} (seen : A → EndedLink) (ends : List A) (suite now : List ℕ) (mode : ModeKind) (j : Journal) (calls : List Entry) (given : List News) (workers : List ℕ) (fates : List Fate) (places : List Place)
+    (first : Option Begun) (last : Option Told) (starter_old starter_new crew_old crew_new out_old out_new : ℕ) (s0 s1 : Option Sunk)
+    → now ≡ suite → mode ≡ Load → workers ≡ workers_started calls → All (λ p. p ≡ own_child) places → DrivesTo j calls given s0 s1
+    → map (λ a. (seen a).worker) ends ≡ workers_with has_link workers fates
+    → All (λ a. ∥ RanSo now mode given calls (workers_with is_refused workers fates) (seen a).worker (seen a).link ∥₁) ends
+    → last ≡ option_map (λ b. record { starts = b.starts ++ all_started places (starts_of calls) fates; links = map asked_of b.links ++ map (λ a. end_told (seen a).killed) ends }) first
+    → ((w : ℕ) → is_among w (workers_with is_linked workers fates) ≡ false → ∥ SaidUnlinked given w ∥₁)
+    → RoseFor (count_with is_refused fates) crew_old crew_new → RoseBy (count_with is_unlinked fates) starter_old starter_new
+    → RunsLinked suite j (map seen ends) (record { begun = option_map told_of first; starter_faults = starter_old; crew_faults = crew_old; sunk = s0; out_faults = out_old }) (record { begun = last; starter_faults = starter_new; crew_faults = crew_new; sunk = s1; out_faults = out_new })
+runs_linked {A} seen ends suite now mode j calls given workers fates places first last starter_old starter_new crew_old crew_new out_old out_new s0 s1 same load listed own drives all each begun unlinked refused failed = record {
+  calls = calls;
+  given = given;
+  fates = fates;
+  drives = drives;
+  all = map-map (λ l. l.worker) seen ends ∙ (all ∙ ap (λ (ws : List ℕ). workers_with has_link ws fates) listed);
+  each = All-map (λ l. ∥ RanSo suite Load given calls (workers_with is_refused (workers_started calls) fates) l.worker l.link ∥₁) seen ends
+    (subst (λ (ws : List ℕ). All (λ a. ∥ RanSo suite Load given calls (workers_with is_refused ws fates) (seen a).worker (seen a).link ∥₁) ends) listed
+    (subst (λ (k : ModeKind). All (λ a. ∥ RanSo suite k given calls (workers_with is_refused workers fates) (seen a).worker (seen a).link ∥₁) ends) load
+    (subst (λ (l : List ℕ). All (λ a. ∥ RanSo l mode given calls (workers_with is_refused workers fates) (seen a).worker (seen a).link ∥₁) ends) same each)));
+  begun = (places, own, subst (λ (asked : List Asked). last ≡ option_map (λ b. record { starts = b.starts ++ all_started places (starts_of calls) fates; links = b.links ++ asked }) (option_map told_of first)) (sym (map-map (λ l. end_told l.killed) seen ends))
+    (begun_from first last (all_started places (starts_of calls) fates) (map (λ a. end_told (seen a).killed) ends) begun));
+  unlinked = λ w out. unlinked w (ap (λ (ws : List ℕ). is_among w (workers_with is_linked ws fates)) listed ∙ out);
+  few_refused = refused;
+  few_unlinked = failed;
+}
+
+-- what holds of a value by four facts of it holds where there is one
+pub from_four : {A E : Type 0} (r : Result A E) (P Q R S T : A → Type 0) → ((a : A) → P a → Q a → R a → S a → T a) → IfOk r P → IfOk r Q → IfOk r R → IfOk r S → IfOk r T
+from_four (Ok a) P Q R S T f p q u v = f a p q u v
+from_four (Err e) P Q R S T f p q u v = tt
 
 -- a run by what was driven and what its links left
-pub linked_run : {Ends E : Type 0} (ended : Result (Journal × Ends) E) (seen : Ends → List EndedLink) (now suite : List ℕ) (workers : ℕ) (settings : Settings) (old new : Option Sunk) (before later : ℕ) (j : Journal) (ends : Ends) (code : ℕ)
+pub linked_run : {Ends E : Type 0} (ended : Result (Journal × Ends) E) (seen : Ends → List EndedLink) (now suite : List ℕ) (workers : ℕ) (settings : Settings) (old new : Seen) (j : Journal) (ends : Ends) (code : ℕ)
     → now ≡ suite → settings ≡ linked_settings workers → ended ≡ Ok (j, ends) → code ≡ status_of j
     → IfOk ended (λ r. IsJournalOf settings r.0) → IfOk ended (λ r. RunsLinked now r.0 (seen r.1) old new)
-    → IfOk ended (λ r. is_out_fault (stop_of r.0) ≡ true → Rose before later) → IfOk ended (λ r. is_out_fault (stop_of r.0) ≡ false → later ≡ before)
-    → LinkedRun suite workers j code (seen ends) old new before later
-linked_run {Ends} {E} ended seen now suite workers settings old new before later j ends code same set e status journal runs rose still = record {
+    → IfOk ended (λ r. is_out_fault (stop_of r.0) ≡ true → Rose old.out_faults new.out_faults) → IfOk ended (λ r. is_out_fault (stop_of r.0) ≡ false → new.out_faults ≡ old.out_faults)
+    → LinkedRun suite workers j code (seen ends) old new
+linked_run {Ends} {E} ended seen now suite workers settings old new j ends code same set e status journal runs rose still = record {
   journal = subst (λ (s : Settings). IsJournalOf s j) set (IfOk-at_ok (λ (r : Journal × Ends). IsJournalOf settings r.0) e journal);
   status = status;
   runs = subst (λ (l : List ℕ). RunsLinked l j (seen ends) old new) same (IfOk-at_ok (λ (r : Journal × Ends). RunsLinked now r.0 (seen r.1) old new) e runs);
-  out_fault = IfOk-at_ok (λ (r : Journal × Ends). is_out_fault (stop_of r.0) ≡ true → Rose before later) e rose;
-  still = IfOk-at_ok (λ (r : Journal × Ends). is_out_fault (stop_of r.0) ≡ false → later ≡ before) e still;
+  out_fault = IfOk-at_ok (λ (r : Journal × Ends). is_out_fault (stop_of r.0) ≡ true → Rose old.out_faults new.out_faults) e rose;
+  still = IfOk-at_ok (λ (r : Journal × Ends). is_out_fault (stop_of r.0) ≡ false → new.out_faults ≡ old.out_faults) e still;
 }

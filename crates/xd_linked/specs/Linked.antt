@@ -1,22 +1,30 @@
 -- A run with workers.
-use Rattle.std.specs.Prelude.{◌≡◌, ℕ, ◌*◌, Bool, true, false, List, [], All, Option, Some, None}
-use Rattle.xd_edge.specs.Faults.{Rose}
+use Rattle.std.specs.Prelude.{◌≡◌, ℕ, ◌++◌, ◌*◌, Bool, true, false, List, [], All, map, Option, Some, None, option_map}
+use Rattle.xd_edge.specs.Faults.{Rose, RoseBy}
 use Rattle.xd_edge.specs.Sink.{Sunk}
 use Rattle.xd_edge.specs.declared.mode.ModeKind.TheVariants.{Load}
 use Rattle.xd_link.specs.Spring.{Spring}
+use Rattle.xd_link.specs.declared.place.Place.{Place}
+use Rattle.xd_link.specs.declared.place.Place.TheVariants.{Popen}
 use Rattle.xd_journal.specs.declared.entry.Entry.{Entry}
 use Rattle.xd_journal.specs.declared.journal.Journal.{Journal}
 use Rattle.xd_journal.specs.declared.news.News.{News}
 use Rattle.xd_journal.specs.declared.settings.Settings.{Settings}
 use Rattle.xd_ledger.specs.Ending.{stop_of}
 use Rattle.xd_report.specs.Status.{status_of}
+use Rattle.xd_session.specs.Ends.{is_out_fault}
 use Rattle.xd_drive.specs.Driven.{Broken, IsJournalOf, Whole}
 use Rattle.xd_drive.specs.Going.{Scene}
-use Rattle.xd_drive.specs.Listed.{others_of, starts_of}
-use Rattle.xd_session.specs.Ends.{is_out_fault}
-use Rattle.xd_group.specs.Kept.{orders_to, said_by}
-use Rattle.xd_group.specs.LinkRun.{Link, LinkRun, link_of}
-use Rattle.xd_group.specs.Tells.{marks_told}
+use Rattle.xd_drive.specs.Listed.{is_among, others_of, starts_of}
+use Rattle.xd_group.specs.Children.{Told}
+use Rattle.xd_group.specs.Fates.{has_link, is_linked, is_refused, is_unlinked, workers_with}
+use Rattle.xd_group.specs.Few.{RoseFor, count_with}
+use Rattle.xd_group.specs.InStep.{all_started}
+use Rattle.xd_group.specs.LinkRun.{Link, link_of}
+use Rattle.xd_group.specs.Returned.{RanSo, end_told}
+use Rattle.xd_group.specs.Tells.{marks_told, workers_started}
+use Rattle.xd_group.specs.Unsaid.{SaidUnlinked}
+use Rattle.xd_group.specs.declared.fate.Fate.{Fate}
 
 -- a run with so many workers, in mode load, with no limit of failures and four new workers for each (the number of
 -- restarts is pytest-xdist's default)
@@ -42,18 +50,42 @@ pub record EndedLink : Type 0 where
 abbrev pub ended_link : ℕ → Bool → Spring → Option Sunk → ℕ → EndedLink
 ended_link worker killed s sunk writes = record { worker = worker; killed = killed; link = link_of s sunk writes }
 
--- A run with workers on a suite: what the hub took and gave made the journal and its report, and each link that was read gave
--- its worker's news and took its worker's orders, from its start to its end.
-pub record RunsLinked (suite : List ℕ) (j : Journal) (links : List EndedLink) (old new : Option Sunk) : Type 0 where
+-- what is seen of the outside of a run: what the starter tells, the counts of faults of starter and crew, and the output
+pub record Seen : Type 0 where
+  pub begun : Option Told
+  pub starter_faults : ℕ
+  pub crew_faults : ℕ
+  pub sunk : Option Sunk
+  pub out_faults : ℕ
+
+-- a place where the program starts a child of itself
+abbrev pub own_child : Place
+own_child = Popen None []
+
+-- The starter told one start of such a child for each start of a worker, which failed where the worker has no link, and of
+-- each link whether its kill was asked for, and one reaping.
+abbrev pub AddsBegun : List Entry → List Fate → List EndedLink → Option Told → Option Told → Type 0
+AddsBegun calls fates links old new = (places : List Place) × (All (λ p. p ≡ own_child) places) × (new ≡ option_map (λ b. record { starts = b.starts ++ all_started places (starts_of calls) fates; links = b.links ++ map (λ l. end_told l.killed) links }) old)
+
+-- A run with workers on a suite: what the hub took and gave made the journal and its report. Each start of a worker has a fate:
+-- no link, a link whose reader was refused, or a link that was read. The links are those of the starts, in order; each that was
+-- read gave its worker's news and took its worker's orders, from its start to its end, and each other one was not used.
+pub record RunsLinked (suite : List ℕ) (j : Journal) (links : List EndedLink) (old new : Seen) : Type 0 where
   pub calls : List Entry
   pub given : List News
-  pub drives : DrivesTo j calls given old new
-  pub each : All (λ l. ∥ LinkRun suite Load (said_by l.worker given) (orders_to l.worker calls) l.link ∥₁) links
+  pub fates : List Fate
+  pub drives : DrivesTo j calls given old.sunk new.sunk
+  pub all : map (λ l. l.worker) links ≡ workers_with has_link (workers_started calls) fates
+  pub each : All (λ l. ∥ RanSo suite Load given calls (workers_with is_refused (workers_started calls) fates) l.worker l.link ∥₁) links
+  pub begun : AddsBegun calls fates links old.begun new.begun
+  pub unlinked : (w : ℕ) → is_among w (workers_with is_linked (workers_started calls) fates) ≡ false → ∥ SaidUnlinked given w ∥₁
+  pub few_refused : RoseFor (count_with is_refused fates) old.crew_faults new.crew_faults
+  pub few_unlinked : RoseBy (count_with is_unlinked fates) old.starter_faults new.starter_faults
 
--- A run of a suite on so many workers: its journal, its exit status, its links, and the output with its count of faults.
-pub record LinkedRun (suite : List ℕ) (workers : ℕ) (j : Journal) (code : ℕ) (links : List EndedLink) (old new : Option Sunk) (before now : ℕ) : Type 0 where
+-- A run of a suite on so many workers: its journal, its exit status, its links, and the outside.
+pub record LinkedRun (suite : List ℕ) (workers : ℕ) (j : Journal) (code : ℕ) (links : List EndedLink) (old new : Seen) : Type 0 where
   pub journal : IsJournalOf (linked_settings workers) j
   pub status : code ≡ status_of j
   pub runs : RunsLinked suite j links old new
-  pub out_fault : is_out_fault (stop_of j) ≡ true → Rose before now
-  pub still : is_out_fault (stop_of j) ≡ false → now ≡ before
+  pub out_fault : is_out_fault (stop_of j) ≡ true → Rose old.out_faults new.out_faults
+  pub still : is_out_fault (stop_of j) ≡ false → new.out_faults ≡ old.out_faults

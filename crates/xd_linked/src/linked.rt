@@ -1,5 +1,5 @@
 // A suite is run on workers.
-ghost use Rattle.std.specs.Prelude.{◌≡◌, ◌≤◌, [], true, false, map, length, vec_len, Ok, IfOk};
+ghost use Rattle.std.specs.Prelude.{◌≡◌, ◌≤◌, [], All, true, false, map, length, option_map, vec_len, Ok, IfOk};
 ghost use Rattle.std.specs.Str.{encode_utf8_all};
 ghost use Rattle.xd_edge.specs.Faults.{Rose};
 ghost use Rattle.xd_link.specs.Spring.{spring};
@@ -10,14 +10,15 @@ ghost use Rattle.xd_drive.specs.Driven.{IsJournalOf};
 ghost use Rattle.xd_note.specs.Noted.{noted};
 ghost use Rattle.xd_session.specs.Stands.{StandsFor};
 ghost use Rattle.xd_edge.specs.declared.mode.ModeKind.TheVariants.{Load as InModeLoad};
-ghost use Rattle.xd_linked.specs.Linked.{LinkedRun, RunsLinked, ended_link, linked_settings};
+ghost use Rattle.xd_group.specs.Children.{told_of};
+ghost use Rattle.xd_linked.specs.Linked.{LinkedRun, RunsLinked, ended_link, linked_settings, own_child};
 
 use std::alloc::Global;
 use std::sync::Wait;
 use xd_crew::Crew;
 use xd_drive::drive;
 use xd_edge::{Env, ModeKind, OutOfMemory, Sink, Text};
-use xd_group::{GatewayHub, Group, LinkEnd};
+use xd_group::{Children, GatewayHub, Group, LinkEnd};
 use xd_journal::{Journal, Settings};
 use xd_link::{Place, Starter};
 use xd_links::Links;
@@ -55,7 +56,8 @@ fn settings_of(workers: u32) -> Settings
 
 // A child of the program for each worker.
 fn places_of(alloc: Global, workers: u32) -> Result<Vec<Place>, OutOfMemory>
-    ensures { IfOk result (λ places. vec_len places ≡ workers) }
+    ensures count { IfOk result (λ places. vec_len places ≡ workers) }
+    ensures own { IfOk result (λ places. All (λ p. p ≡ own_child) places.items) }
 {
     let mut places = Vec::with_capacity(alloc, workers as usize)?;
     for _ in 0..workers {
@@ -82,10 +84,24 @@ fn run_over<R: Wait, St: Starter, C: Crew<Reader<St::Src>>, O: Sink>(
     requires no_calls { noted hub.old.group.diary.calls ≡ [] }
     requires no_news { noted hub.old.group.diary.given ≡ [] }
     requires mode { hub.old.group.mode ≡ InModeLoad }
+    requires own { All (λ p. p ≡ own_child) hub.old.places.items }
     ensures journal { IfOk result (λ r. IsJournalOf session.settings r.0) }
     ensures runs { IfOk result (λ r. RunsLinked hub.old.group.suite r.0
         (map (λ l. ended_link l.worker l.killed (spring (St.Src.supply l.source) (St.Src.is_ended l.source) (St.Src.faults l.source)) (St.Snk.sunk l.sink) (St.Snk.faults l.sink)) r.1.items)
-        (O.sunk out.old) (O.sunk out.new)) }
+        (record {
+          begun = option_map told_of (St.begun hub.old.children.first.value);
+          starter_faults = St.faults hub.old.children.first.value;
+          crew_faults = C.faults hub.old.group.first.value;
+          sunk = O.sunk out.old;
+          out_faults = O.faults out.old;
+        })
+        (record {
+          begun = option_map told_of (St.begun hub.new.children.starter);
+          starter_faults = St.faults hub.new.children.starter;
+          crew_faults = C.faults hub.new.group.links.crew;
+          sunk = O.sunk out.new;
+          out_faults = O.faults out.new;
+        })) }
     ensures out_fault { IfOk result (λ r. is_out_fault (stop_of r.0) ≡ true → Rose (O.faults out.old) (O.faults out.new)) }
     ensures still { IfOk result (λ r. is_out_fault (stop_of r.0) ≡ false → O.faults out.new ≡ O.faults out.old) }
     ensures later { O.faults out.old ≤ O.faults out.new }
@@ -137,7 +153,20 @@ pub fn run_linked<R: Wait, St: Starter, C: Crew<Reader<St::Src>>, O: Sink>(
     requires short { length (encode_utf8_all suite.now) ≤ 65536 }
     ensures ran { IfOk result (λ e. LinkedRun suite.now workers e.journal e.status
         (map (λ l. ended_link l.worker l.killed (spring (St.Src.supply l.source) (St.Src.is_ended l.source) (St.Src.faults l.source)) (St.Snk.sunk l.sink) (St.Snk.faults l.sink)) e.links.items)
-        (O.sunk out.old) (O.sunk out.new) (O.faults out.old) (O.faults out.new)) }
+        (record {
+          begun = option_map told_of (St.begun starter);
+          starter_faults = St.faults starter;
+          crew_faults = C.faults crew;
+          sunk = O.sunk out.old;
+          out_faults = O.faults out.old;
+        })
+        (record {
+          begun = option_map told_of (St.begun e.starter);
+          starter_faults = St.faults e.starter;
+          crew_faults = C.faults e.crew;
+          sunk = O.sunk out.new;
+          out_faults = O.faults out.new;
+        })) }
     ensures later { O.faults out.old ≤ O.faults out.new }
 {
     let places = places_of(alloc, workers)?;
@@ -147,12 +176,19 @@ pub fn run_linked<R: Wait, St: Starter, C: Crew<Reader<St::Src>>, O: Sink>(
     let ended = run_over(rt, alloc, session, &mut hub, out);
     let GatewayHub {
         places: _,
-        starter,
+        children,
         group,
     } = hub;
+    let Children {
+        starter,
+        children: _,
+        first: _,
+    } = children;
     let Group {
         links,
+        first: _,
         posts: _,
+        spares: _,
         diary: _,
         suite: _,
         mode: _,
