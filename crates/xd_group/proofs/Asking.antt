@@ -1,6 +1,7 @@
 -- What is asked of the children of links.
 use Rattle.std.proofs.Common.{◌≡◌, ℕ, zero, suc, ◌+◌, ◌≤◌, List, [], ◌∷◌, ◌++◌, map, length, Bool, true, false, Option, Some, None, option_map, refl, sym, ◌∙◌, ap, subst, arith, append_assoc, append-nil, length-append}
-use Rattle.std.specs.Prelude.{filter, is_none, slice_get, slice_set}
+use Rattle.std.specs.List.{list_all}
+use Rattle.std.specs.Prelude.{◌&&◌, take, filter, is_none, slice_get, slice_set}
 use Rattle.std.proofs.Math.ListN.{set}
 use Rattle.std.proofs.lemmas.List.{map-append}
 use Rattle.std.proofs.lemmas.List.Elements.{filter-append}
@@ -9,7 +10,7 @@ use Rattle.xd_link.specs.Starter.{Begun, IsNextLink, as_killed, as_reaped, fresh
 use Rattle.xd_link.specs.declared.place.Place.{Place}
 use Rattle.xd_link.specs.declared.starter.LinkRun.{LinkRun}
 use Rattle.xd_link.specs.declared.starter.Reaped.TheVariants.{Never}
-use Rattle.xd_group.specs.Children.{AreNumbered, Asked, TellsLinks, all_asked, asked, asked_of, changed_at, failed_starts, fresh_child, killed_child, reaped_child, starts_told}
+use Rattle.xd_group.specs.Children.{AreNumbered, Asked, TellsLinks, all_asked, asked, asked_of, changed_at, failed_starts, fresh_child, is_over, killed_child, reaped_child, starts_told}
 use Rattle.xd_group.specs.declared.child.Child.{Child}
 
 -- ---- one more child
@@ -200,3 +201,49 @@ starts_more place (Some b) next e = ap starts_told e
 pub starts_failed : (place : Place) (now next : Option Begun) → next ≡ option_map (with_failure place) now → starts_told next ≡ option_map (λ l. l ++ record { place = place; failed = true } ∷ []) (starts_told now)
 starts_failed place None next e = ap starts_told e
 starts_failed place (Some b) next e = ap starts_told e
+
+-- ---- a hub that is given up
+
+over_kept : (o : Option Child) → is_over (option_map reaped_child (option_map killed_child o)) ≡ true
+over_kept None = refl
+over_kept (Some c) = refl
+
+and_true : (a b : Bool) → a ≡ true → b ≡ true → (a && b) ≡ true
+and_true true b h e = e
+and_true false b h e = absurd (cc h)
+
+and_left : (a b : Bool) → (a && b) ≡ true → a ≡ true
+and_left true b h = refl
+and_left false b h = absurd (cc h)
+
+and_right : (a b : Bool) → (a && b) ≡ true → b ≡ true
+and_right true b h = h
+and_right false b h = absurd (cc h)
+
+over_more : (cs : List (Option Child)) (k : ℕ) → list_all is_over (take k cs) ≡ true → list_all is_over (take (suc k) (changed_at k reaped_child (changed_at k killed_child cs))) ≡ true
+over_more [] k h = refl
+over_more (o ∷ cs) zero h = and_true (is_over (option_map reaped_child (option_map killed_child o))) true (over_kept o) refl
+over_more (o ∷ cs) (suc k) h = and_true (is_over o) _ (and_left (is_over o) (list_all is_over (take k cs)) h) (over_more cs k (and_right (is_over o) (list_all is_over (take k cs)) h))
+
+-- one more child is over
+pub over_next : (cs killed reaped : List (Option Child)) (k j : ℕ) → j ≡ suc k → killed ≡ changed_at k killed_child cs → reaped ≡ changed_at k reaped_child killed → list_all is_over (take k cs) ≡ true → list_all is_over (take j reaped) ≡ true
+over_next cs killed reaped k j is a b h =
+    ap (λ (n : ℕ). list_all is_over (take n reaped)) is ∙ (ap (λ (l : List (Option Child)). list_all is_over (take (suc k) l)) (b ∙ ap (changed_at k reaped_child) a) ∙ over_more cs k h)
+
+changed_length : (cs : List (Option Child)) (k : ℕ) (f : Child → Child) → length (changed_at k f cs) ≡ length cs
+changed_length [] k f = refl
+changed_length (o ∷ cs) zero f = refl
+changed_length (o ∷ cs) (suc k) f = omega (arith, changed_length cs k f)
+
+pub over_length : (cs killed reaped : List (Option Child)) (k : ℕ) → killed ≡ changed_at k killed_child cs → reaped ≡ changed_at k reaped_child killed → length reaped ≡ length cs
+over_length cs killed reaped k a b = ap length (b ∙ ap (changed_at k reaped_child) a) ∙ (changed_length (changed_at k killed_child cs) k reaped_child ∙ changed_length cs k killed_child)
+
+-- all are over
+pub over_all : (cs : List (Option Child)) (n : ℕ) → n ≡ length cs → list_all is_over (take n cs) ≡ true → list_all is_over cs ≡ true
+over_all cs n e h = ap (list_all is_over) (sym (whole cs n e)) ∙ h
+  where
+    whole : (cs : List (Option Child)) (n : ℕ) → n ≡ length cs → take n cs ≡ cs
+    whole [] zero e = refl
+    whole [] (suc n) e = refl
+    whole (o ∷ cs) zero e = absurd (omega (arith, e))
+    whole (o ∷ cs) (suc n) e = ap (λ (l : List (Option Child)). o ∷ l) (whole cs n (omega (arith, e)))

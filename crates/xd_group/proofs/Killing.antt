@@ -1,5 +1,5 @@
 -- Which links are killed.
-use Rattle.std.proofs.Common.{◌≡◌, ℕ, zero, suc, List, [], ◌∷◌, ◌++◌, length, Bool, true, false, ◌||◌, Option, Some, None, option_map, refl, sym, ◌∙◌, ap, subst, inl, inr, arith}
+use Rattle.std.proofs.Common.{◌≡◌, ◌<◌, ℕ, zero, suc, List, [], ◌∷◌, ◌++◌, length, Bool, true, false, ◌||◌, Option, Some, None, option_map, refl, sym, ◌∙◌, ap, subst, inl, inr, arith}
 use Rattle.std.specs.Prelude.{◌⊎◌, ◌==◌, IfSome, IfNone, slice_get}
 use Rattle.std.specs.Bool.{then_some}
 use Rattle.std.specs.List.{list_any}
@@ -8,15 +8,16 @@ use Rattle.std.proofs.lemmas.List.Folds.{list_any-append}
 use Rattle.xd_journal.specs.declared.entry.Entry.{Entry}
 use Rattle.xd_journal.specs.declared.entry.Entry.TheVariants as entry
 use Rattle.xd_drive.specs.Calls.{is_order}
-use Rattle.xd_drive.specs.Listed.{is_kill_of, was_killed}
+use Rattle.xd_drive.specs.Listed.{is_among, is_kill_of, was_killed}
 use Rattle.xd_drive.specs.Performing.{was_started}
 use Rattle.xd_links.proofs.Places.{push_read}
-use Rattle.xd_group.specs.Children.{changed_at, cut_by, killed_child}
-use Rattle.xd_group.specs.Fates.{is_refused}
-use Rattle.xd_group.specs.Kills.{KeepsLost, KilledSo, LostAt}
+use Rattle.xd_group.specs.Children.{changed_at, cut_by, fresh_child, killed_child, reaped_child}
+use Rattle.xd_group.specs.Fates.{has_link, is_refused, workers_with}
+use Rattle.xd_group.specs.Kills.{EndKilledSo, KeepsLost, KilledSo, LostAt}
 use Rattle.xd_group.specs.declared.child.Child.{Child}
 use Rattle.xd_group.specs.declared.fate.Fate.{Fate}
 use Rattle.xd_group.specs.declared.fate.Fate.TheVariants as fate
+use Rattle.xd_group.proofs.FateFacts.{among_with}
 use Rattle.xd_group.proofs.Keeping.{either_worker, same_some, started_before}
 
 -- ---- kills among the calls
@@ -273,3 +274,44 @@ kills_start cs cs_all calls all workers ws fates fs lost next w slot o f is fres
     alone k v c wi h (inr (at, inr n)) =
         let is_last : slice_get (fates ++ f ∷ []) k ≡ Some f = ap (slice_get (fates ++ f ∷ [])) (at ∙ sym fcount) ∙ last_read fates f in
         inr (inl (ap (λ (l : List Fate). slice_get l k) fis ∙ (is_last ∙ ap Some (refused_is f (cut_so (is_refused f) (length cs) k n)))))
+
+-- ---- in the end
+
+reaped_from : (cs : List (Option Child)) (j k : ℕ) (c : Child) → slice_get (changed_at j reaped_child cs) k ≡ Some (Some c) → (d : Child) × (slice_get cs k ≡ Some (Some d)) × (c.is_killed ≡ d.is_killed)
+reaped_from [] j k c e = absurd (cc e)
+reaped_from (None ∷ cs) zero zero c e = absurd (cc e)
+reaped_from (Some d ∷ cs) zero zero c e = let same : reaped_child d ≡ c = cc e in (d, refl, ap (λ (x : Child). x.is_killed) (sym same))
+reaped_from (o ∷ cs) zero (suc k) c e = (c, e, refl)
+reaped_from (o ∷ cs) (suc j) zero c e = (c, e, refl)
+reaped_from (o ∷ cs) (suc j) (suc k) c e = reaped_from cs j k c e
+
+-- a child was waited for
+pub kills_reaped : (cs cs_all : List (Option Child)) (calls : List Entry) (workers : List ℕ) (fates : List Fate) (lost : List Bool) (j : ℕ) → cs_all ≡ changed_at j reaped_child cs → KilledSo cs calls workers fates lost → KilledSo cs_all calls workers fates lost
+kills_reaped cs cs_all calls workers fates lost j is s =
+    record {
+      wherever = λ k w c wi ci h. let it = reaped_from cs j k c (ap (λ (l : List (Option Child)). slice_get l k) (sym is) ∙ ci) in it.2 ∙ s.wherever k w it.0 wi it.1 h;
+      only = λ k w c wi ci h. let it = reaped_from cs j k c (ap (λ (l : List (Option Child)). slice_get l k) (sym is) ∙ ci) in s.only k w it.0 wi it.1 (sym it.2 ∙ h);
+      new = s.new;
+    }
+
+ends_alone : (calls : List Entry) (workers : List ℕ) (fates : List Fate) (lost : List Bool) (k w : ℕ) (f : Fate) (writes : ℕ) → slice_get workers k ≡ Some w → slice_get fates k ≡ Some f → has_link f ≡ true → (slice_get fates k ≡ Some fate.Linked → slice_get lost k ≡ Some true → 0 < writes)
+    → (was_killed w calls ≡ true) ⊎ ((slice_get fates k ≡ Some fate.Refused) ⊎ (slice_get lost k ≡ Some true)) → (was_killed w calls ≡ true) ⊎ ((is_among w (workers_with is_refused workers fates) ≡ true) ⊎ (0 < writes))
+ends_alone calls workers fates lost k w f writes wi is link some (inl h) = inl h
+ends_alone calls workers fates lost k w f writes wi is link some (inr (inl r)) = inr (inl (among_with is_refused workers fates k w fate.Refused wi r refl))
+ends_alone calls workers fates lost k w fate.Unlinked writes wi is link some (inr (inr l)) = absurd (cc link)
+ends_alone calls workers fates lost k w fate.Refused writes wi is link some (inr (inr l)) = inr (inl (among_with is_refused workers fates k w fate.Refused wi is refl))
+ends_alone calls workers fates lost k w fate.Linked writes wi is link some (inr (inr l)) = inr (inr (some is l))
+
+-- a link is given back
+pub end_killed : (cs : List (Option Child)) (calls : List Entry) (workers : List ℕ) (fates : List Fate) (lost : List Bool) (k w : ℕ) (c : Child) (f : Fate) (killed : Bool) (writes : ℕ) → slice_get workers k ≡ Some w → slice_get fates k ≡ Some f → has_link f ≡ true → slice_get cs k ≡ Some (Some c) → killed ≡ c.is_killed
+    → (slice_get fates k ≡ Some fate.Linked → slice_get lost k ≡ Some true → 0 < writes) → KilledSo cs calls workers fates lost → EndKilledSo calls (workers_with is_refused workers fates) w killed writes
+end_killed cs calls workers fates lost k w c f killed writes wi is link ci same some s =
+    record {
+      wherever = λ h. same ∙ s.wherever k w c wi ci h;
+      only = λ h. ends_alone calls workers fates lost k w f writes wi is link some (s.only k w c wi ci (sym same ∙ h));
+    }
+
+-- a child of which nothing was asked
+pub fresh_unkilled : {O : Type 0} (r : Option O) (link : ℕ) → IfSome (option_map (λ o. fresh_child link) r) (λ c. c.is_killed ≡ false)
+fresh_unkilled None link = tt
+fresh_unkilled (Some o) link = refl

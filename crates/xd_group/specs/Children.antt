@@ -1,5 +1,5 @@
 -- What a starter tells of links, and the children that are kept of them.
-use Rattle.std.specs.Prelude.{◌≡◌, ℕ, zero, suc, Bool, true, false, List, [], ◌∷◌, ◌++◌, length, map, Option, Some, None, option_map, filter, is_none, ⊤}
+use Rattle.std.specs.Prelude.{◌≡◌, ℕ, zero, suc, Bool, true, false, ◌&&◌, List, [], ◌∷◌, ◌++◌, length, map, Option, Some, None, option_map, filter, is_none, ⊤}
 use Rattle.xd_link.specs.Starter.{Begun}
 use Rattle.xd_link.specs.declared.starter.LinkRun.{LinkRun}
 use Rattle.xd_link.specs.declared.starter.StartRun.{StartRun}
@@ -77,3 +77,8 @@ changed_at (suc k) f (o ∷ cs) = o ∷ changed_at k f cs
 abbrev pub cut_by : Option ℕ → List (Option Child) → List (Option Child)
 cut_by None cs = cs
 cut_by (Some k) cs = changed_at k killed_child cs
+
+-- the child was killed and waited for, where there is one
+abbrev pub is_over : Option Child → Bool
+is_over None = true
+is_over (Some c) = c.is_killed && c.is_reaped

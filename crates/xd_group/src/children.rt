@@ -29,9 +29,10 @@ pub struct Opened<A, B> {
 }
 
 impl<St: Starter> Children<St> {
-    ghost use Rattle.std.specs.Prelude.{◌≡◌, ◌∷◌, ◌++◌, [], ℕ, Some, Option, option_map, is_none, IfOk, IfSome, IfNone, OnErr, OnSome, slice_get, vec_len, ◌<◌};
+    ghost use Rattle.std.specs.Prelude.{◌≡◌, ◌∷◌, ◌++◌, [], ℕ, Some, Option, option_map, is_none, IfOk, IfSome, IfNone, true, OnErr, OnSome, slice_get, vec_len, ◌<◌};
+    ghost use Rattle.std.specs.List.{list_all};
     ghost use Rattle.xd_link.specs.FreshLink.{unused};
-    ghost use Rattle.xd_group.specs.Children.{changed_at, cut_by, fresh_child, killed_child, reaped_child, starts_told};
+    ghost use Rattle.xd_group.specs.Children.{changed_at, cut_by, fresh_child, is_over, killed_child, reaped_child, starts_told};
     ghost use Rattle.xd_group.specs.declared.child.Child.{Child};
 
     /// Nothing was started.
@@ -133,6 +134,17 @@ impl<St: Starter> Children<St> {
         });
         let _reaped = self.starter.reap(rt, child.link);
         child.is_killed
+    }
+
+    /// Kills each child that was not waited for, and waits for it.
+    pub fn abandon<R: Wait>(&mut self, rt: &R)
+        ensures over { list_all is_over self.new.children.items ≡ true }
+        ensures first { self.new.first ≡ self.old.first }
+    {
+        for number in 0..self.children.len() {
+            self.kill(number);
+            let _killed = self.reap(rt, number);
+        }
     }
 
     // The child of this number.

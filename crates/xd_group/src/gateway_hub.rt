@@ -1,7 +1,8 @@
 // The hub over the links that a starter starts and a crew reads.
-ghost use Rattle.std.specs.Prelude.{◌≡◌, ◌≤◌, ◌<◌, ◌+◌, ◌∷◌, ◌++◌, [], ℕ, Some, All, true, false, take, length, is_some, vec_len, IfOk, IfSome, IfNone, OnOk, OnErr, List, Option, map, option_map};
+ghost use Rattle.std.specs.Prelude.{◌≡◌, ◌≤◌, ◌<◌, ◌+◌, ◌∷◌, ◌++◌, [], ℕ, Some, All, true, false, take, length, is_some, vec_len, IfOk, IfSome, IfNone, OnOk, OnErr, List, Option, Bool, map, option_map, slice_get};
 ghost use Rattle.std.specs.Str.{encode_utf8_all};
 ghost use Rattle.std.specs.Bool.{then_some};
+ghost use Rattle.std.specs.List.{list_all};
 ghost use Rattle.xd_journal.specs.declared.entry.Entry.TheVariants.{Start, Kill};
 ghost use Rattle.xd_link.specs.Spring.{spring};
 ghost use Rattle.xd_drive.specs.Calls.{is_order};
@@ -17,7 +18,7 @@ ghost use Rattle.xd_links.specs.Runs.{news_of};
 ghost use Rattle.xd_group.specs.Kept.{Kept, orders_to, said_by};
 ghost use Rattle.xd_group.specs.Late.{Late, Settled, settled_at};
 ghost use Rattle.xd_group.specs.LinkRun.{link_of};
-ghost use Rattle.xd_group.specs.Children.{all_asked, asked_of, starts_told, told_of};
+ghost use Rattle.xd_group.specs.Children.{all_asked, asked_of, is_over, starts_told, told_of};
 ghost use Rattle.xd_group.specs.Fates.{has_link, is_linked, is_refused, is_unlinked, workers_with};
 ghost use Rattle.xd_edge.specs.Faults.{RoseBy};
 ghost use Rattle.xd_group.specs.Few.{RoseFor, count_with};
@@ -25,7 +26,8 @@ ghost use Rattle.xd_group.specs.Unsaid.{SaidUnlinked};
 ghost use Rattle.xd_group.specs.InStep.{InStep, all_started};
 ghost use Rattle.xd_group.specs.Returned.{RanSo, end_told};
 ghost use Rattle.xd_group.specs.Pages.{Page};
-ghost use Rattle.xd_group.specs.PostView.{pages_of};
+ghost use Rattle.xd_group.specs.Kills.{EndKilledSo, KilledSo};
+ghost use Rattle.xd_group.specs.PostView.{losses_of, pages_of};
 ghost use Rattle.xd_group.specs.Tells.{IsStarted, marks_told, workers_started};
 
 use crate::children::{Children, Opened};
@@ -50,6 +52,7 @@ pub struct GatewayHub<St: Starter, C: Crew<Reader<St::Src>>> {
     pub children: Children<St>,
     pub group: Group<St::Src, St::Snk, C>,
     ghost in_step: { group.is_whole ≡ true → ∥ InStep places.items (starts_told (St.begun children.first.value)) (starts_told (St.begun children.starter)) children.children.items (noted group.diary.calls) group.diary.fates.items ∥₁ },
+    ghost kills: { group.is_whole ≡ true → ∥ KilledSo children.children.items (noted group.diary.calls) group.diary.workers.items group.diary.fates.items (losses_of group.posts.items) ∥₁ },
 }
 
 // The number, where the start of it was refused.
@@ -138,6 +141,13 @@ impl<St: Starter, C: Crew<Reader<St::Src>>> GatewayHub<St, C> {
         ensures asked { map is_some self.old.children.children.items ≡ map has_link self.old.group.diary.fates.items → all_asked (take number self.old.children.children.items) ≡ map (λ l. end_told l.killed) ends.old.items
             → OnOk result (all_asked (take (number + 1) self.new.children.children.items) ≡ map (λ l. end_told l.killed) ends.new.items) }
         ensures crew { (C.faults self.new.group.links.crew ≡ C.faults self.old.group.links.crew) × (self.new.group.first ≡ self.old.group.first) }
+        ensures killed { (calls : List Entry) (lost : List Bool) → map is_some self.old.children.children.items ≡ map has_link self.old.group.diary.fates.items → ∥ KilledSo self.old.children.children.items calls self.old.group.diary.workers.items self.old.group.diary.fates.items lost ∥₁
+            → (slice_get lost number ≡ Some true → slice_get (losses_of self.old.group.posts.items) number ≡ Some true)
+            → All (λ l. ∥ EndKilledSo calls (workers_with is_refused self.old.group.diary.workers.items self.old.group.diary.fates.items) l.worker l.killed (St.Snk.faults l.sink) ∥₁) ends.old.items
+            → OnOk result (All (λ l. ∥ EndKilledSo calls (workers_with is_refused self.old.group.diary.workers.items self.old.group.diary.fates.items) l.worker l.killed (St.Snk.faults l.sink) ∥₁) ends.new.items) }
+        ensures kills { (calls : List Entry) (lost : List Bool) → ∥ KilledSo self.old.children.children.items calls self.old.group.diary.workers.items self.old.group.diary.fates.items lost ∥₁
+            → OnOk result (∥ KilledSo self.new.children.children.items calls self.old.group.diary.workers.items self.old.group.diary.fates.items lost ∥₁) }
+        ensures others { OnOk result ((k : ℕ) → number < k → slice_get (losses_of self.old.group.posts.items) k ≡ Some true → slice_get (losses_of self.new.group.posts.items) k ≡ Some true) }
         ensures linked { map is_some self.new.children.children.items ≡ map is_some self.old.children.children.items }
         ensures starts { starts_told (St.begun self.new.children.starter) ≡ starts_told (St.begun self.old.children.starter) }
         ensures first { self.new.children.first ≡ self.old.children.first }
@@ -176,6 +186,7 @@ impl<St: Starter, C: Crew<Reader<St::Src>>> GatewayHub<St, C> {
           starts = b.starts ++ all_started self.old.places.items (starts_of (noted self.old.group.diary.calls)) self.old.group.diary.fates.items;
           links = map asked_of b.links ++ map (λ l. end_told l.killed) ends.items;
         }) (St.begun self.old.children.first.value)) }
+        ensures killed { IfOk result (λ ends. All (λ l. ∥ EndKilledSo (noted self.old.group.diary.calls) (workers_with is_refused self.old.group.diary.workers.items self.old.group.diary.fates.items) l.worker l.killed (St.Snk.faults l.sink) ∥₁) ends.items) }
         ensures unlinked { OnOk result ((w : ℕ) → is_among w (workers_with is_linked self.old.group.diary.workers.items self.old.group.diary.fates.items) ≡ false → ∥ SaidUnlinked (noted self.old.group.diary.given) w ∥₁) }
         ensures few_refused { OnOk result (RoseFor (count_with is_refused self.old.group.diary.fates.items) (C.faults self.old.group.first.value) (C.faults self.new.group.links.crew)) }
         ensures few_unlinked { OnOk result (RoseBy (count_with is_unlinked self.old.group.diary.fates.items) (St.faults self.old.children.first.value) (St.faults self.new.children.starter)) }
@@ -189,6 +200,15 @@ impl<St: Starter, C: Crew<Reader<St::Src>>> GatewayHub<St, C> {
             self.end_next(rt, number, &mut ends)?;
         }
         Ok(ends)
+    }
+
+    /// Where memory ran out: kills each child that is left, and waits for it. From then on the hub is only to be taken apart.
+    pub fn abandon<R: Wait>(&mut self, rt: &R)
+        ensures over { list_all is_over self.new.children.children.items ≡ true }
+        ensures first { (self.new.places ≡ self.old.places) × (self.new.children.first ≡ self.old.children.first) × (self.new.group.first ≡ self.old.group.first) }
+    {
+        self.group.is_whole = false;
+        self.children.abandon(rt);
     }
 }
 

@@ -1,3 +1,6 @@
+use Rattle.std.proofs.Math.Logic.{∥∥₁_map}
+use Rattle.xd_group.specs.Kills.{EndKilledSo}
+use Rattle.xd_group.proofs.Killing.{end_killed, kills_reaped}
 use Rattle.std.proofs.Common.{◌≡◌, ◌+◌, ◌++◌, ◌∷◌, [], List, ap, arith, map, rules, sym, ◌∙◌}
 use Rattle.std.specs.Prelude.{is_some, take}
 use Rattle.std.proofs.lemmas.List.{map-append}
@@ -65,3 +68,24 @@ returns-in_default-clause-asked g c linked was =
     let cs = c.args.self.now.children.children.items in
     let fate = c.in_ok-ended.ensures.fate in
     asked_past cs c.args.number (c.args.number + 1) (omega arith) (no_child cs c.args.self.now.group.diary.fates.items c.args.number fate.0 linked fate.1 (sym fate.2 ∙ ap is_some (none_of c.in_ok-ended.field-0 c.in_default.not-Some))) ∙ was
+
+pub returns-in_ok-push-clause-killed : goal.returns-in_ok-push-clause-killed
+returns-in_ok-push-clause-killed g c calls lost linked kills still all =
+    let diary = c.args.self.now.group.diary in
+    let end : LinkEnd g.row.St-Src.Denot g.row.St-Snk.Denot = record { worker = c.in-Some.ended.worker; source = c.in-Some.ended.source; sink = c.in-Some.ended.sink; killed = c.reap-killed.result } in
+    let P : LinkEnd g.row.St-Src.Denot g.row.St-Snk.Denot → Type 0 = λ l. ∥ EndKilledSo calls (workers_with is_refused diary.workers.items diary.fates.items) l.worker l.killed (g.St.Snk.Sink.faults l.sink) ∥₁ in
+    let cs = c.args.self.now.children.children.items in
+    let left = c.in_ok-ended.ensures in
+    let fate = left.fate in
+    let link = sym fate.2 ∙ ap is_some c.in-Some.is in
+    let kid = child_there cs diary.fates.items c.args.number fate.0 linked fate.1 link in
+    let at = some_of _ c.in_ok-ended.field-0 _ c.in-Some.is left.worker in
+    let so : P end = ∥∥₁_map kills
+    (λ k. end_killed cs calls diary.workers.items diary.fates.items lost c.args.number end.worker kid.0 fate.0 end.killed (g.St.Snk.Sink.faults end.sink) at fate.1 link kid.1 (c.reap-killed.ensures.killed kid.0 kid.1) (λ h l. some_of _ c.in_ok-ended.field-0 _ c.in-Some.is (left.lost h) (still l)) k) in
+    let is : c.push.new.self.items ≡ c.args.ends.now.items ++ end ∷ [] = search rules in
+    All-same P _ _ is (All-push P c.args.ends.now.items end all so)
+
+pub returns-in_ok-push-clause-kills : goal.returns-in_ok-push-clause-kills
+returns-in_ok-push-clause-kills g c calls lost kills =
+    let diary = c.args.self.now.group.diary in
+    ∥∥₁_map kills (λ k. kills_reaped c.args.self.now.children.children.items _ calls diary.workers.items diary.fates.items lost c.args.number c.reap-killed.ensures.children k)

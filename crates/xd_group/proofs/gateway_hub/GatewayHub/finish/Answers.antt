@@ -1,3 +1,6 @@
+use Rattle.std.proofs.Common.{List}
+use Rattle.std.specs.Prelude.{slice_get}
+use Rattle.xd_group.specs.PostView.{losses_of}
 use Rattle.std.proofs.Common.{◌≡◌, ◌∙◌, [], ap, arith, length, map, refl, rules, subst, sym}
 use Rattle.std.proofs.Math.Logic.{∥∥₁_elim, ∥∥₁_map₂}
 use Rattle.std.proofs.Props.{props}
@@ -18,7 +21,7 @@ use Rattle.xd_group.proofs.Stepping.{begun_all}
 use Rattle.xd_group.proofs.gateway_hub.GatewayHub.finish.Goals as goal
 
 pub invariant_of-self : goal.invariant_of-self
-invariant_of-self g c = record { in_step = λ e. absurd (no_way _ e c.settle.ensures.over) }
+invariant_of-self g c = record { in_step = λ e. absurd (no_way _ e c.settle.ensures.over); kills = λ e. absurd (no_way _ e c.settle.ensures.over) }
 
 pub loop-number-init : goal.loop-number-init
 loop-number-init g c =
@@ -37,6 +40,9 @@ loop-number-init g c =
       first = refl;
       crew = ap g.C.Crew.faults settled.crew.0;
       diary = settled.diary;
+      kills = was.kills settled.whole;
+      lost = λ k h e. ap (λ (l : List _). slice_get l k) settled.lost ∙ e;
+      killed = λ k d h. absurd (let size : length c.new-ends.result.items ≡ 0 = ap length none in omega (arith, h, size));
     }
 
 pub loop-number-preserved : goal.loop-number-preserved
@@ -60,6 +66,9 @@ loop-number-preserved g c =
       first = done.first ∙ inv.first;
       crew = done.crew.0 ∙ inv.crew;
       diary = done.diary ∙ inv.diary;
+      kills = rw (inv.diary) at (done.kills calls (losses_of was.posts.items) (rw (inv.diary) inv.kills));
+      lost = λ k h e. done.others k (omega (arith, h)) (inv.lost k (omega (arith, h)) e);
+      killed = rw (inv.diary) at (done.killed calls (losses_of was.posts.items) (rw (inv.diary) inv.linked) (rw (inv.diary) inv.kills) (λ e. inv.lost c.loop-number.number (omega arith) e) (rw (inv.diary) inv.killed));
     }
 
 pub returns-clause-workers : goal.returns-clause-workers
@@ -103,3 +112,6 @@ returns-clause-few_unlinked g c =
 
 pub returns-clause-runs : goal.returns-clause-runs
 returns-clause-runs g c = c.loop-number.invariant.runs
+
+pub returns-clause-killed : goal.returns-clause-killed
+returns-clause-killed g c = c.loop-number.invariant.killed

@@ -1,3 +1,7 @@
+use Rattle.std.proofs.Common.{ℕ, ◌≤◌, Some, true}
+use Rattle.std.specs.Prelude.{slice_get}
+use Rattle.xd_group.specs.Kills.{EndKilledSo, KilledSo}
+use Rattle.xd_group.specs.PostView.{losses_of}
 use Rattle.std.proofs.Common.{◌≡◌, false, All, map}
 use Rattle.std.specs.Prelude.{is_some, take}
 use Rattle.xd_link.specs.Spring.{spring}
@@ -26,4 +30,7 @@ invariant-loop-number g l = record {
   first : l.self.children.first ≡ l.fn.self.children.first;
   crew : g.C.Crew.faults l.self.group.links.crew ≡ g.C.Crew.faults l.fn.self.group.links.crew;
   diary : l.self.group.diary ≡ l.fn.self.group.diary;
+  kills : ∥ KilledSo l.self.children.children.items (noted l.fn.self.group.diary.calls) l.fn.self.group.diary.workers.items l.fn.self.group.diary.fates.items (losses_of l.fn.self.group.posts.items) ∥₁;
+  lost : (k : ℕ) → l.number ≤ k → slice_get (losses_of l.fn.self.group.posts.items) k ≡ Some true → slice_get (losses_of l.self.group.posts.items) k ≡ Some true;
+  killed : All (λ e. ∥ EndKilledSo (noted l.fn.self.group.diary.calls) (workers_with is_refused l.fn.self.group.diary.workers.items l.fn.self.group.diary.fates.items) e.worker e.killed (g.St.Snk.Sink.faults e.sink) ∥₁) l.ends.items;
 }

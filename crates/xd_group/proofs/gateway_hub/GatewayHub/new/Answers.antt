@@ -1,3 +1,4 @@
+use Rattle.xd_group.proofs.Killing.{kills_first}
 use Rattle.std.proofs.Common.{◌≡◌, [], List, ap, map, sym, ◌∙◌, rules}
 use Rattle.std.specs.Prelude.{is_some}
 use Rattle.xd_group.specs.Fates.{is_linked}
@@ -24,4 +25,7 @@ pub invariant_of-result-2 : goal.invariant_of-result-2
 invariant_of-result-2 g c =
     let diary = c.in_ok-diary.ensures in
     let children = c.new-3.ensures in
-    record { in_step = λ e. ∣ rw (children.first, children.starter) (step_first _ _ _ _ _ children.none diary.calls diary.fates) ∣₁ }
+    record {
+      in_step = λ e. ∣ rw (children.first, children.starter) (step_first _ _ _ _ _ children.none diary.calls diary.fates) ∣₁;
+      kills = λ e. ∣ kills_first _ _ _ _ _ diary.calls diary.workers ∣₁;
+    }
