@@ -1,5 +1,5 @@
 -- A run over a hub of links, from its first start to its last link.
-use Rattle.std.specs.Prelude.{Result, Ok, Err, IfOk, option_map}
+use Rattle.std.specs.Prelude.{Result, Ok, IfOk, option_map}
 use Rattle.std.proofs.lemmas.List.Elements.{All-map}
 use Rattle.std.proofs.lemmas.Result.{IfOk-at_ok}
 use Rattle.std.proofs.lemmas.Simd.{map-map}
@@ -25,6 +25,7 @@ use Rattle.xd_group.specs.Children.{Asked, Told, asked_of, told_of}
 use Rattle.xd_group.specs.Fates.{has_link, is_linked, is_refused, is_unlinked, workers_with}
 use Rattle.xd_group.specs.Few.{RoseFor, count_with}
 use Rattle.xd_group.specs.InStep.{all_started}
+use Rattle.xd_group.specs.Kills.{EndKilledSo}
 use Rattle.xd_group.specs.Returned.{RanSo, end_told}
 use Rattle.xd_group.specs.Tells.{marks_told, workers_started}
 use Rattle.xd_group.specs.Unsaid.{SaidUnlinked}
@@ -60,10 +61,11 @@ pub runs_linked : {A : Type 0} (seen : A → EndedLink) (ends : List A) (suite n
     → map (λ a. (seen a).worker) ends ≡ workers_with has_link workers fates
     → All (λ a. ∥ RanSo now mode given calls (workers_with is_refused workers fates) (seen a).worker (seen a).link ∥₁) ends
     → last ≡ option_map (λ b. record { starts = b.starts ++ all_started places (starts_of calls) fates; links = map asked_of b.links ++ map (λ a. end_told (seen a).killed) ends }) first
+    → All (λ a. ∥ EndKilledSo calls (workers_with is_refused workers fates) (seen a).worker (seen a).killed (seen a).link.writes ∥₁) ends
     → ((w : ℕ) → is_among w (workers_with is_linked workers fates) ≡ false → ∥ SaidUnlinked given w ∥₁)
     → RoseFor (count_with is_refused fates) crew_old crew_new → RoseBy (count_with is_unlinked fates) starter_old starter_new
     → RunsLinked suite j (map seen ends) (record { begun = option_map told_of first; starter_faults = starter_old; crew_faults = crew_old; sunk = s0; out_faults = out_old }) (record { begun = last; starter_faults = starter_new; crew_faults = crew_new; sunk = s1; out_faults = out_new })
-runs_linked {A} seen ends suite now mode j calls given workers fates places first last starter_old starter_new crew_old crew_new out_old out_new s0 s1 same load listed own drives all each begun unlinked refused failed = record {
+runs_linked {A} seen ends suite now mode j calls given workers fates places first last starter_old starter_new crew_old crew_new out_old out_new s0 s1 same load listed own drives all each begun killed unlinked refused failed = record {
   calls = calls;
   given = given;
   fates = fates;
@@ -75,15 +77,12 @@ runs_linked {A} seen ends suite now mode j calls given workers fates places firs
     (subst (λ (l : List ℕ). All (λ a. ∥ RanSo l mode given calls (workers_with is_refused workers fates) (seen a).worker (seen a).link ∥₁) ends) same each)));
   begun = (places, own, subst (λ (asked : List Asked). last ≡ option_map (λ b. record { starts = b.starts ++ all_started places (starts_of calls) fates; links = b.links ++ asked }) (option_map told_of first)) (sym (map-map (λ l. end_told l.killed) seen ends))
     (begun_from first last (all_started places (starts_of calls) fates) (map (λ a. end_told (seen a).killed) ends) begun));
+  killed = All-map (λ l. ∥ EndKilledSo calls (workers_with is_refused (workers_started calls) fates) l.worker l.killed l.link.writes ∥₁) seen ends
+    (subst (λ (ws : List ℕ). All (λ a. ∥ EndKilledSo calls (workers_with is_refused ws fates) (seen a).worker (seen a).killed (seen a).link.writes ∥₁) ends) listed killed);
   unlinked = λ w out. unlinked w (ap (λ (ws : List ℕ). is_among w (workers_with is_linked ws fates)) listed ∙ out);
   few_refused = refused;
   few_unlinked = failed;
 }
-
--- what holds of a value by four facts of it holds where there is one
-pub from_four : {A E : Type 0} (r : Result A E) (P Q R S T : A → Type 0) → ((a : A) → P a → Q a → R a → S a → T a) → IfOk r P → IfOk r Q → IfOk r R → IfOk r S → IfOk r T
-from_four (Ok a) P Q R S T f p q u v = f a p q u v
-from_four (Err e) P Q R S T f p q u v = tt
 
 -- a run by what was driven and what its links left
 pub linked_run : {Ends E : Type 0} (ended : Result (Journal × Ends) E) (seen : Ends → List EndedLink) (now suite : List ℕ) (workers : ℕ) (settings : Settings) (old new : Seen) (j : Journal) (ends : Ends) (code : ℕ)

@@ -20,6 +20,7 @@ use Rattle.xd_group.specs.Children.{Told}
 use Rattle.xd_group.specs.Fates.{has_link, is_linked, is_refused, is_unlinked, workers_with}
 use Rattle.xd_group.specs.Few.{RoseFor, count_with}
 use Rattle.xd_group.specs.InStep.{all_started}
+use Rattle.xd_group.specs.Kills.{EndKilledSo}
 use Rattle.xd_group.specs.LinkRun.{Link, link_of}
 use Rattle.xd_group.specs.Returned.{RanSo, end_told}
 use Rattle.xd_group.specs.Tells.{marks_told, workers_started}
@@ -78,6 +79,7 @@ pub record RunsLinked (suite : List ℕ) (j : Journal) (links : List EndedLink) 
   pub all : map (λ l. l.worker) links ≡ workers_with has_link (workers_started calls) fates
   pub each : All (λ l. ∥ RanSo suite Load given calls (workers_with is_refused (workers_started calls) fates) l.worker l.link ∥₁) links
   pub begun : AddsBegun calls fates links old.begun new.begun
+  pub killed : All (λ l. ∥ EndKilledSo calls (workers_with is_refused (workers_started calls) fates) l.worker l.killed l.link.writes ∥₁) links
   pub unlinked : (w : ℕ) → is_among w (workers_with is_linked (workers_started calls) fates) ≡ false → ∥ SaidUnlinked given w ∥₁
   pub few_refused : RoseFor (count_with is_refused fates) old.crew_faults new.crew_faults
   pub few_unlinked : RoseBy (count_with is_unlinked fates) old.starter_faults new.starter_faults

@@ -10,7 +10,8 @@ ghost use Rattle.xd_drive.specs.Driven.{IsJournalOf};
 ghost use Rattle.xd_note.specs.Noted.{noted};
 ghost use Rattle.xd_session.specs.Stands.{StandsFor};
 ghost use Rattle.xd_edge.specs.declared.mode.ModeKind.TheVariants.{Load as InModeLoad};
-ghost use Rattle.xd_group.specs.Children.{told_of};
+ghost use Rattle.std.specs.List.{list_all};
+ghost use Rattle.xd_group.specs.Children.{is_over, told_of};
 ghost use Rattle.xd_linked.specs.Linked.{LinkedRun, RunsLinked, ended_link, linked_settings, own_child};
 
 use std::alloc::Global;
@@ -107,12 +108,23 @@ fn run_over<R: Wait, St: Starter, C: Crew<Reader<St::Src>>, O: Sink>(
     ensures later { O.faults out.old ≤ O.faults out.new }
 {
     match drive(rt, alloc, session, hub, out) {
-        Ok(journal) => {
-            let links = hub.finish(rt, alloc)?;
-            Ok((journal, links))
-        }
-        Err(_) => Err(OutOfMemory),
+        Ok(journal) => match hub.finish(rt, alloc) {
+            Ok(links) => Ok((journal, links)),
+            Err(_) => Err(give_up(rt, hub)),
+        },
+        Err(_) => Err(give_up(rt, hub)),
     }
+}
+
+// Memory ran out: kills the workers that are left, and waits for their ends.
+fn give_up<R: Wait, St: Starter, C: Crew<Reader<St::Src>>>(
+    rt: &R,
+    hub: &mut GatewayHub<St, C>,
+) -> OutOfMemory
+    ensures { list_all is_over hub.new.children.children.items ≡ true }
+{
+    hub.abandon(rt);
+    OutOfMemory
 }
 
 // What the run came to, with the starter and the crew.

@@ -24,4 +24,4 @@ returns-in_ok-links-in-Ok-clause-runs g c =
       whole = λ e. whole_from c.in-Ok.journal (noted was.group.diary.calls) calls (noted was.group.diary.given) given _ _ c.requires.no_calls c.requires.no_news (c.in-Ok.ensures.whole e);
       broken = λ e. broken_from c.in-Ok.journal (noted was.group.diary.calls) calls (noted was.group.diary.given) given _ _ c.requires.no_calls c.requires.no_news (c.in-Ok.ensures.broken e);
     })
-    done.workers done.runs (rw (first) at done.begun) done.unlinked (rw (crew) at done.few_refused) (rw (first) at done.few_unlinked)
+    done.workers done.runs (rw (first) at done.begun) done.killed done.unlinked (rw (crew) at done.few_refused) (rw (first) at done.few_unlinked)
