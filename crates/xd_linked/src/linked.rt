@@ -108,10 +108,10 @@ fn run_over<R: Wait, St: Starter, C: Crew<Reader<St::Src>>, O: Sink>(
     ensures later { O.faults out.old ≤ O.faults out.new }
 {
     match drive(rt, alloc, session, hub, out) {
-        Ok(journal) => match hub.finish(rt, alloc) {
-            Ok(links) => Ok((journal, links)),
-            Err(_) => Err(give_up(rt, hub)),
-        },
+        Ok(journal) => {
+            let links = hub.finish(rt, alloc)?;
+            Ok((journal, links))
+        }
         Err(_) => Err(give_up(rt, hub)),
     }
 }

@@ -20,7 +20,7 @@ use Rattle.xd_ledger.specs.Reports.Report.{Result}
 use Rattle.xd_ledger.specs.Sharing.{State}
 use Rattle.xd_ledger.specs.State.{all_moved, completed_first, done_books, done_stop, failing, moved, settled}
 use Rattle.xd_ledger.specs.Workers.{slot_of}
-use Rattle.xd_serve.specs.Child.{fault_count}
+use Rattle.xd_runner.specs.Child.{fault_count}
 use Rattle.xdrun.specs.Child.{faults_of, report_faults}
 use Rattle.xdrun.specs.Local.{result_faults}
 

@@ -17,7 +17,7 @@ use Rattle.xd_report.specs.declared.reporter.Reporter.{Reporter}
 use Rattle.xd_report.specs.Follows.{Follows}
 use Rattle.xd_report.specs.Lines.{lines_from}
 use Rattle.xd_report.proofs.Texts.{moved-more}
-use Rattle.xd_serve.specs.Child.{fault_count}
+use Rattle.xd_runner.specs.Child.{fault_count}
 use Rattle.xdrun.specs.Child.{RanChild}
 use Rattle.xdrun.specs.Local.{AddsRound, RanTest, Told}
 

@@ -7,7 +7,7 @@ use Rattle.std.specs.Prelude.{Bool, true, false}
 use Rattle.std.specs.Bool.{OnTrue, OnFalse}
 use Rattle.xd_edge.specs.Children.{ChildRun, AddsRun, ChangesRun, IsNext, change_at, not_started, running, with_last, with_output, with_read_fault}
 use Rattle.xd_edge.proofs.ChildLemmas.{change_at_end, change_at_not, change_at_twice}
-use Rattle.xd_serve.specs.Child.{Waited}
+use Rattle.xd_runner.specs.Child.{Waited}
 use Rattle.xdrun.specs.Child.{CameTo, Drained, DrainedPart, RanChild}
 use Rattle.xd_journal.specs.declared.entry.Outcome.{Outcome}
 use Rattle.xd_journal.specs.declared.entry.Outcome.TheVariants.{Passed, Skipped, Failed}

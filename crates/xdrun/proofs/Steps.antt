@@ -23,7 +23,7 @@ use Rattle.xd_journal.specs.Local.{TestResult, round, rounds, local_entries}
 use Rattle.xd_ledger.specs.State.{all_moved, no_one}
 use Rattle.xd_report.specs.Lines.{lines_from, run_lines}
 use Rattle.xd_report.proofs.Texts.{lines-more}
-use Rattle.xd_serve.specs.Child.{fault_count, outcome_of}
+use Rattle.xd_runner.specs.Child.{fault_count, outcome_of}
 use Rattle.xdrun.specs.Child.{RanChild}
 use Rattle.xdrun.specs.Local.{kept_by, kept_outputs, result_faults, Progress, RanAll, RanTest, RanTests, SoFar}
 use Rattle.xdrun.specs.Print.{AtStep}

@@ -1,22 +1,20 @@
 -- What all the bytes of the own streams say of how they were served.
-use Rattle.std.proofs.Common.{◌≡◌, ℕ, List, [], ◌∷◌, ◌++◌, length, map, take, drop, Option, Some, None, ap, sym, ◌∙◌, subst, arith}
+use Rattle.std.proofs.Common.{◌≡◌, ℕ, List, [], ◌∷◌, ◌++◌, length, map, take, drop, Option, Some, None, refl, ap, sym, ◌∙◌, subst, arith}
 use Rattle.std.specs.Prelude.{◌≢◌, Bool, true, false, option_map, IfSome}
 use Rattle.std.proofs.lemmas.Grind.{common_steps}
-use Rattle.xd_edge.specs.Children.{ChildRun}
 use Rattle.xd_edge.specs.Faults.{StoodStill}
 use Rattle.xd_edge.specs.Files.{Held}
-use Rattle.xd_edge.specs.Sink.{Sunk}
+use Rattle.xd_edge.specs.Sink.{Sunk, with_close}
 use Rattle.xd_link.specs.FreshLink.{unused}
 use Rattle.xd_link.specs.Source.{Gave, Supply, with_given}
 use Rattle.xd_link.specs.Starter.{with_start}
 use Rattle.xd_link.specs.declared.place.Place.TheVariants.{Own}
-use Rattle.xd_serve.specs.Complete.{AreGood, GoesWrong}
-use Rattle.xd_serve.specs.Going.{Scene, scene}
+use Rattle.xd_worker.specs.History.{Heard}
+use Rattle.xd_listen.specs.Complete.{AreGood, AreStill, GoesWrong, IsCalm}
+use Rattle.xd_listen.specs.Ends.{Closes, Scene, Served}
+use Rattle.xd_listen.specs.Spoke.{Speaks}
 use Rattle.xd_link.specs.Spring.{Spring}
-use Rattle.xd_serve.specs.Served.{Served}
-use Rattle.xd_frame.specs.Writing.{Writes}
-use Rattle.xd_serve.specs.Taking.{is_whole}
-use Rattle.xd_serve.proofs.Completing.{calm, complete, goes_wrong}
+use Rattle.xd_listen.proofs.Completing.{calm, complete, goes_wrong}
 use Rattle.xd_linked.specs.Linked.{EndedLink}
 use Rattle.xdrun.specs.Outside.{Workplace}
 use Rattle.xdrun.specs.Worker.{DidWorker, ServedOwn, ServesOwn, all_bytes, scene_at, unwritten}
@@ -26,9 +24,19 @@ unwritten_by : (old new : Option Sunk) (f : Sunk → Sunk) → IfSome old (λ s.
 unwritten_by None new f fresh e = sym (ap unwritten e)
 unwritten_by (Some s) new f fresh e = ap Some fresh ∙ sym (ap unwritten e)
 
-unwritten_is : (whole : Bool) (bytes : List ℕ) (old new : Option Sunk) → IfSome old (λ s. s ≡ unused) → Writes whole bytes old new → old ≡ unwritten new
-unwritten_is true bytes old new fresh s = unwritten_by old new _ fresh s
-unwritten_is false bytes old new fresh s = unwritten_by old new _ fresh s.2.1
+-- what was written, handed on or closed does not matter
+same_unwritten : (old new : Option Sunk) (f : Sunk → Sunk) → new ≡ option_map f old → unwritten new ≡ unwritten old
+same_unwritten None new f e = ap unwritten e
+same_unwritten (Some s) new f e = ap unwritten e
+
+spoken_unwritten : (whole : Bool) (h : List Heard) (old new : Option Sunk) → IfSome old (λ s. s ≡ unused) → Speaks whole h old new → old ≡ unwritten new
+spoken_unwritten true h old new fresh s = unwritten_by old new _ fresh s
+spoken_unwritten false [] old new fresh s = unwritten_by old new _ fresh s.2.1
+spoken_unwritten false (g ∷ h) old new fresh s = unwritten_by old s.0 _ fresh s.1 ∙ sym (same_unwritten s.0 new _ s.2.2.1)
+
+closed_unwritten : (closed : Bool) (old new : Option Sunk) (before now : ℕ) → Closes closed old new before now → unwritten new ≡ unwritten old
+closed_unwritten true old new before now c = same_unwritten old new with_close (c.shut refl)
+closed_unwritten false old new before now c = ap unwritten (c.kept refl)
 
 halves : (n : ℕ) (l : List ℕ) → take n l ++ drop n l ≡ l
 halves n l = grind (arith, common_steps)
@@ -40,56 +48,50 @@ all_left bytes (Some s) new P none g p =
     let all : all_bytes (with_given (length bytes) s) ≡ s.left = ap (λ (l : List ℕ). (l ++ take (length bytes) s.left) ++ drop (length bytes) s.left) none ∙ halves (length bytes) s.left in
     subst (λ (o : Option Supply). IfSome o (λ t. P (all_bytes t))) (sym g.0) (subst P (sym all) p)
 
-still_none : (n : ℕ) → n ≡ 0 → StoodStill 0 n
-still_none n e = (e, omega (arith, e))
-
 -- the own streams, by what was told of them when they were started
-pub served_own : (status : ℕ) (held : Option Held) (start end : Spring) (sunk : Option Sunk) (n : ℕ) (runs : Option (List ChildRun)) (child_faults file_faults : ℕ) (new : Scene)
+pub served_own : (status : ℕ) (start end : Spring) (sunk : Option Sunk) (n : ℕ) (old : Workplace) (new : Scene)
     → IfSome start.supply (λ s. s.given ≡ []) → start.ended ≡ false → start.faults ≡ 0 → IfSome sunk (λ s. s ≡ unused) → n ≡ 0
-    → Served status held start end (scene sunk n runs child_faults file_faults) new → ServedOwn status held end runs child_faults file_faults new
-served_own status held start end sunk n runs child_faults file_faults new given ended reads taken writes served = record {
+    → Served status old.files.held start end (scene_at sunk n old) new → ServedOwn status end old new
+served_own status start end sunk n old new given ended reads taken writes served = record {
   start = start;
   sunk = sunk;
   none_given = given;
   not_ended = ended;
   no_reads = reads;
   none_taken = taken;
-  served = subst (λ (k : ℕ). Served status held start end (scene sunk k runs child_faults file_faults) new) writes served;
+  served = subst (λ (k : ℕ). Served status old.files.held start end (scene_at sunk k old) new) writes served;
 }
 
-module _ (status : ℕ) (held : Option Held) (end : Spring) (runs : Option (List ChildRun)) (child_faults file_faults : ℕ) (new : Scene) (s : ServedOwn status held end runs child_faults file_faults new) where
+module _ (status : ℕ) (end : Spring) (old : Workplace) (new : Scene) (s : ServedOwn status end old new) where
   -- before the link was served
   abbrev pub before : Scene
-  before = scene (unwritten new.sunk) 0 runs child_faults file_faults
+  before = scene_at (unwritten new.sunk) 0 old
 
-  before_is : scene s.sunk 0 runs child_faults file_faults ≡ before
-  before_is = ap (λ (o : Option Sunk). scene o 0 runs child_faults file_faults) (unwritten_is (is_whole s.served.0) _ s.sunk new.sunk s.none_taken s.served.2.told.says)
+  abbrev held : Option Held
+  held = old.files.held
 
-  pub own_calm : status ≡ 0 → (end.faults ≡ 0) × (new.sink_faults ≡ 0)
-  own_calm zero =
-      let c = calm held s.start end (scene s.sunk 0 runs child_faults file_faults) new status s.served zero in
-      (c.0 ∙ s.no_reads, c.1)
+  before_is : scene_at s.sunk 0 old ≡ before
+  before_is =
+      let e = s.served.2 in
+      ap (λ (o : Option Sunk). scene_at o 0 old) (spoken_unwritten e.wrote e.history s.sunk e.sunk s.none_taken e.spoke.says ∙ sym (closed_unwritten e.closed e.sunk new.sunk e.sink_faults new.sink_faults e.closes))
+
+  pub own_calm : status ≡ 0 → IsCalm 0 end.faults before new
+  own_calm zero = subst (λ (n : ℕ). IsCalm n end.faults before new) s.no_reads (subst (λ (x : Scene). IsCalm s.start.faults end.faults x new) before_is (calm held s.start end (scene_at s.sunk 0 old) new status s.served zero))
 
   pub own_wrong : status ≢ 0 → IfSome end.supply (λ t. GoesWrong held (all_bytes t) 0 end.faults before new)
   own_wrong not_zero = all_left s.served.2.bytes s.start.supply end.supply (λ l. GoesWrong held l 0 end.faults before new) s.none_given s.served.2.gave
       (subst (λ (n : ℕ). IfSome s.start.supply (λ t. GoesWrong held t.left n end.faults before new)) s.no_reads
       (subst (λ (x : Scene). IfSome s.start.supply (λ t. GoesWrong held t.left s.start.faults end.faults x new)) before_is
-      (goes_wrong held s.start end (scene s.sunk 0 runs child_faults file_faults) new status s.served not_zero)))
+      (goes_wrong held s.start end (scene_at s.sunk 0 old) new status s.served not_zero)))
 
-  pub own_complete : IfSome end.supply (λ t. AreGood held (all_bytes t) before new → end.faults ≡ 0 → new.sink_faults ≡ 0 → status ≡ 0)
-  own_complete = all_left s.served.2.bytes s.start.supply end.supply (λ l. AreGood held l before new → end.faults ≡ 0 → new.sink_faults ≡ 0 → status ≡ 0) s.none_given s.served.2.gave (each s.start.supply whole)
-    where
-      whole : IfSome s.start.supply (λ t. AreGood held t.left before new → StoodStill s.start.faults end.faults → StoodStill 0 new.sink_faults → status ≡ 0)
-      whole = subst (λ (x : Scene). IfSome s.start.supply (λ t. AreGood held t.left x new → StoodStill s.start.faults end.faults → StoodStill 0 new.sink_faults → status ≡ 0)) before_is
-          (complete held s.start end (scene s.sunk 0 runs child_faults file_faults) new status s.served)
-
-      each : (o : Option Supply) → IfSome o (λ t. AreGood held t.left before new → StoodStill s.start.faults end.faults → StoodStill 0 new.sink_faults → status ≡ 0) → IfSome o (λ t. AreGood held t.left before new → end.faults ≡ 0 → new.sink_faults ≡ 0 → status ≡ 0)
-      each None w = tt
-      each (Some t) w = λ good source sink. w good (subst (λ (n : ℕ). StoodStill n end.faults) (sym s.no_reads) (still_none end.faults source)) (still_none new.sink_faults sink)
+  pub own_complete : IfSome end.supply (λ t. AreGood held (all_bytes t) before new → StoodStill 0 end.faults → AreStill before new → status ≡ 0)
+  own_complete = all_left s.served.2.bytes s.start.supply end.supply (λ l. AreGood held l before new → StoodStill 0 end.faults → AreStill before new → status ≡ 0) s.none_given s.served.2.gave
+      (subst (λ (n : ℕ). IfSome s.start.supply (λ t. AreGood held t.left before new → StoodStill n end.faults → AreStill before new → status ≡ 0)) s.no_reads
+      (subst (λ (x : Scene). IfSome s.start.supply (λ t. AreGood held t.left x new → StoodStill s.start.faults end.faults → AreStill x new → status ≡ 0)) before_is
+      (complete held s.start end (scene_at s.sunk 0 old) new status s.served)))
 
 -- the link to the own streams, by how it was served
-pub serves_own : (l : EndedLink) (status : ℕ) (old new : Workplace) → l.worker ≡ 0 → l.killed ≡ false
-    → ServedOwn status old.files.held l.link.spring old.programs.runs old.programs.faults old.files.faults (scene_at l.link.sunk l.link.writes new)
+pub serves_own : (l : EndedLink) (status : ℕ) (old new : Workplace) → l.worker ≡ 0 → l.killed ≡ false → ServedOwn status l.link.spring old (scene_at l.link.sunk l.link.writes new)
     → new.starter.begun ≡ option_map (with_start Own) old.starter.begun → new.starter.faults ≡ old.starter.faults → ServesOwn l status old new
 serves_own l status old new number killed served started still =
     let seen = scene_at l.link.sunk l.link.writes new in
@@ -98,9 +100,10 @@ serves_own l status old new number killed served started still =
       not_killed = killed;
       served = served;
       started = started;
-      calm = λ zero. let c = own_calm status old.files.held l.link.spring old.programs.runs old.programs.faults old.files.faults seen served zero in (still, c.0, c.1);
-      wrong = own_wrong status old.files.held l.link.spring old.programs.runs old.programs.faults old.files.faults seen served;
-      complete = own_complete status old.files.held l.link.spring old.programs.runs old.programs.faults old.files.faults seen served;
+      starts_still = still;
+      calm = own_calm status l.link.spring old seen served;
+      wrong = own_wrong status l.link.spring old seen served;
+      complete = own_complete status l.link.spring old seen served;
     }
 
 pub links_one : {A : Type 0} (seen : A → EndedLink) (first links : List A) (l : A) (status : ℕ) (old new : Workplace) → first ≡ [] → links ≡ first ++ l ∷ []

@@ -5,7 +5,7 @@ use Rattle.xd_journal.specs.declared.entry.Outcome.{Outcome}
 use Rattle.xd_journal.specs.Kept.{kept_of}
 use Rattle.xd_ledger.specs.Reports.{Report}
 use Rattle.xd_ledger.specs.Reports.Report.{Result, Crash}
-use Rattle.xd_serve.specs.Child.{fault_count, outcome_of}
+use Rattle.xd_runner.specs.Child.{fault_count, outcome_of}
 
 -- Where it is told, one start more of these arguments was asked for, and it came to this outcome; with room for so
 -- many bytes this is kept of what it gave.

@@ -7,7 +7,7 @@ use Rattle.xdrun.specs.Outside.{Outside}
 
 -- what a run on workers sees of the outside
 abbrev pub seen_by_run : Outside → Seen
-seen_by_run o = record { begun = option_map told_of o.starter.begun; starter_faults = o.starter.faults; crew_faults = o.crew_faults; sunk = o.streams.out.sunk; out_faults = o.streams.out.faults }
+seen_by_run o = record { begun = option_map told_of o.starter.begun; starter_faults = o.starter.faults; crew_faults = o.crews.readers; sunk = o.streams.out.sunk; out_faults = o.streams.out.faults }
 
 -- The suite was run on so many workers. Its file is read by them, and the programs of its tests are theirs: this program
 -- reads no file, and starts no program of a test.

@@ -26,7 +26,7 @@ use Rattle.xd_report.specs.Follows.{Follows}
 use Rattle.xd_report.specs.Lines.{lines_from, run_lines}
 use Rattle.xd_report.specs.Status.{status_of}
 use Rattle.xd_report.specs.Text.{text_of}
-use Rattle.xd_serve.specs.Child.{fault_count, outcome_of}
+use Rattle.xd_runner.specs.Child.{fault_count, outcome_of}
 use Rattle.xdrun.specs.Child.{RanChild, faults_of}
 use Rattle.xdrun.specs.Outside.{Output, Programs, Streams}
 use Rattle.xdrun.specs.Print.{AtStep, FailedAt, PrintsReport}

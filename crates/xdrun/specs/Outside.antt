@@ -25,6 +25,11 @@ pub record Starting : Type 0 where
   pub begun : Option Begun
   pub faults : ℕ
 
+-- how often each of the two crews refused a job: that of the readers of links, and that of the runner of programs
+pub record Crews : Type 0 where
+  pub readers : ℕ
+  pub runners : ℕ
+
 -- what a report, a text or a refusal comes from and goes to: the files, standard output and standard error
 pub record Streams : Type 0 where
   pub files : Files
@@ -36,13 +41,14 @@ pub record Workplace : Type 0 where
   pub files : Files
   pub programs : Programs
   pub starter : Starting
+  pub crews : Crews
 
--- all of it; of the crew that runs the readers of links, its count of faults
+-- all of it
 pub record Outside : Type 0 where
   pub streams : Streams
   pub programs : Programs
   pub starter : Starting
-  pub crew_faults : ℕ
+  pub crews : Crews
 
 abbrev pub workplace : Outside → Workplace
-workplace o = record { files = o.streams.files; programs = o.programs; starter = o.starter }
+workplace o = record { files = o.streams.files; programs = o.programs; starter = o.starter; crews = o.crews }

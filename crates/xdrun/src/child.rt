@@ -3,14 +3,14 @@ ghost use Rattle.std.specs.Prelude.{◌≡◌, ◌<◌, ◌≤◌, ℕ, [], ◌+
 ghost use Rattle.std.specs.Bool.{OnTrue, OnFalse};
 ghost use Rattle.xd_edge.specs.Faults.{Counted, RoseBy};
 ghost use Rattle.xd_journal.specs.Kept.{kept_of};
-ghost use Rattle.xd_serve.specs.Child.{fault_count};
+ghost use Rattle.xd_runner.specs.Child.{fault_count};
 ghost use Rattle.xdrun.specs.Child.{CameTo, Drained, DrainedPart, RanChild};
 
 use std::alloc::Global;
 use std::sync::Wait;
 use xd_edge::{Blob, ChildFault, Children, OutOfMemory, Text};
 use xd_journal::Outcome;
-use xd_serve::wait_for;
+use xd_runner::wait_for;
 
 /// Runs a program to its end, and says how its test went, with the first bytes of its output up to the room where it
 /// failed, and none else. A program that was started is waited for.

@@ -49,20 +49,25 @@ fn main(rt: HostRuntime) -> io::Result<ExitCode> {
     let Ok(writer) = BufWriter::new(alloc, rt.stdout()) else {
         return out_of_memory(&rt);
     };
+    let (Ok(reading), Ok(running)) = (Slot::new(alloc), Slot::new(alloc)) else {
+        return out_of_memory(&rt);
+    };
+    let (Ok(read_in), Ok(run_in)) = (reading.another(), running.another()) else {
+        return out_of_memory(&rt);
+    };
+    let Ok(make) = Box::new(alloc, move || start_into(rt, alloc, &read_in)) else {
+        return out_of_memory(&rt);
+    };
+    let make: Box<dyn Fn()> = make;
+    let crew = ThreadCrew::new(rt, reading, make);
+    let Ok(make) = Box::new(alloc, move || start_into(rt, alloc, &run_in)) else {
+        return out_of_memory(&rt);
+    };
+    let make: Box<dyn Fn()> = make;
+    let mut runner = ThreadCrew::new(rt, running, make);
     let mut files = RealFiles::new(&rt);
     let starter = RealStarter::new(&rt, alloc, program, rt.stdin());
-    let Ok(slot) = Slot::new(alloc) else {
-        return out_of_memory(&rt);
-    };
-    let Ok(theirs) = slot.another() else {
-        return out_of_memory(&rt);
-    };
-    let make: Box<dyn Fn()> = match Box::new(alloc, move || start_into(rt, alloc, &theirs)) {
-        Ok(make) => make,
-        Err(_) => return out_of_memory(&rt),
-    };
-    let crew = ThreadCrew::new(rt, slot, make);
-    let children = RealChildren::new(&rt);
+    let children = RealChildren::new(rt);
     let mut clock = RealClock::new(&rt);
     let mut out = OutSink::new(writer);
     let mut err = OutSink::new(rt.stderr());
@@ -74,6 +79,7 @@ fn main(rt: HostRuntime) -> io::Result<ExitCode> {
         starter,
         crew,
         children,
+        &mut runner,
         &mut clock,
         &mut out,
         &mut err,

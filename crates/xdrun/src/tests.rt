@@ -7,6 +7,7 @@ use xd_crew::{Crew, Slot, ThreadCrew, start_into};
 use xd_edge::{Blob, Blobs, ChildEnd, Indices, MemChildren, MemClock, MemFiles, MemSink};
 use xd_link::{MemSource, MemStarter};
 use xd_reader::Reader;
+use xd_runner::Runner;
 
 pub(crate) fn words(alloc: Global, all: &[&str]) -> Result<Texts, Fail> {
     let mut items = Vec::new(alloc);
@@ -22,7 +23,7 @@ pub(crate) fn numbers(alloc: Global, all: &[u32]) -> Result<Indices, Fail> {
     })
 }
 
-// A crew of threads that read links in memory, as a test that has the runtime makes it.
+// A crew of threads, as a test that has the runtime makes it.
 macro_rules! crew {
     ($rt:ident) => {{
         let alloc = $rt.alloc();
@@ -36,7 +37,7 @@ macro_rules! crew {
 pub(crate) use crew;
 
 // `sh -c SCRIPT` writes this output, the first byte by itself, and ends so.
-pub(crate) fn shell(
+fn shell(
     alloc: Global,
     script: &str,
     output: &str,
@@ -74,9 +75,10 @@ struct Seen {
 }
 
 // What the program did with these words, where the file s.toml holds this suite.
-fn run<R: Wait + AllocGlobal, C: Crew<Reader<MemSource>>>(
+fn run<R: Wait + AllocGlobal, C: Crew<Reader<MemSource>>, D: Crew<Runner<MemChildren>>>(
     rt: &R,
     crew: C,
+    runner: &mut D,
     suite: &str,
     given: &[&str],
     faults: &Faults,
@@ -110,6 +112,7 @@ fn run<R: Wait + AllocGlobal, C: Crew<Reader<MemSource>>>(
         starter,
         crew,
         children,
+        runner,
         &mut clock,
         &mut out,
         &mut err,
@@ -125,7 +128,7 @@ fn run<R: Wait + AllocGlobal, C: Crew<Reader<MemSource>>>(
 const SUITE_0: [&str; 3] = ["s.toml", "-n", "0"];
 
 // Tests with the ids a, b and c.
-pub(crate) const THREE: &str =
+const THREE: &str =
     "[[test]]\nid = \"a\"\nrun = [\"sh\", \"-c\", \"exit 0\"]\n[[test]]\nid = \"b\"\nrun = [\"sh\", \"-c\", \"exit 3\"]\n[[test]]\nid = \"c\"\nrun = [\"sh\", \"-c\", \"exit 77\"]\n";
 
 // A test that fails with output.
@@ -154,7 +157,7 @@ fn the_report_of_a_suite(rt: HostRuntime) -> Result<(), Fail> {
         ),
     ];
     for (suite, status, report) in rows {
-        let seen = run(&rt, crew!(rt), suite, &SUITE_0, &CALM)?;
+        let seen = run(&rt, crew!(rt), &mut crew!(rt), suite, &SUITE_0, &CALM)?;
         assert_eq!(rt; seen.status, status);
         assert_eq!(rt; seen.out.as_slice(), report.as_bytes());
         assert!(rt; seen.err.is_empty());
@@ -198,7 +201,7 @@ fn what_is_refused(rt: HostRuntime) -> Result<(), Fail> {
     ];
     for (suite, given, files, line) in rows {
         let faults = Faults { files, ..CALM };
-        let seen = run(&rt, crew!(rt), suite, given, &faults)?;
+        let seen = run(&rt, crew!(rt), &mut crew!(rt), suite, given, &faults)?;
         assert_eq!(rt; seen.status, 4);
         assert_eq!(rt; seen.err.as_slice(), line.as_bytes());
         assert!(rt; seen.out.is_empty());
@@ -221,7 +224,7 @@ fn an_output_that_fails_ends_the_run(rt: HostRuntime) -> Result<(), Fail> {
     for (call, taken, starts) in rows {
         let out = [call];
         let faults = Faults { out: &out, ..CALM };
-        let seen = run(&rt, crew!(rt), THREE, &SUITE_0, &faults)?;
+        let seen = run(&rt, crew!(rt), &mut crew!(rt), THREE, &SUITE_0, &faults)?;
         assert_eq!(rt; seen.status, 3);
         assert_eq!(rt; seen.out.as_slice(), taken.as_bytes());
         assert_eq!(rt; seen.starts, starts);
@@ -242,7 +245,7 @@ fn a_program_that_fails_outside(rt: HostRuntime) -> Result<(), Fail> {
             children: &children,
             ..CALM
         };
-        let seen = run(&rt, crew!(rt), KILLED, &SUITE_0, &faults)?;
+        let seen = run(&rt, crew!(rt), &mut crew!(rt), KILLED, &SUITE_0, &faults)?;
         let report = format!(in rt.alloc();
             "1 tests\n[main] FAILED k\n==== [main] k ====\n{reason}\n1 failed\n"
         )?;

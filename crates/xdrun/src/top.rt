@@ -19,6 +19,7 @@ use xd_journal::Journal;
 use xd_link::Starter;
 use xd_linked::run_linked;
 use xd_reader::Reader;
+use xd_runner::Runner;
 
 /// What a call came to.
 #[derive(Drop)]
@@ -31,7 +32,7 @@ pub struct RunEnd<St: Starter, C: Crew<Reader<St::Src>>, K: Children> {
     pub links: Vec<LinkEnd<St::Src, St::Snk>>,
     /// The starter that was handed in.
     pub starter: St,
-    /// The crew that was handed in.
+    /// The crew of readers that was handed in.
     pub crew: C,
     /// The programs that were handed in.
     pub children: K,
@@ -59,6 +60,7 @@ pub fn xdrun<
     St: Starter,
     C: Crew<Reader<St::Src>>,
     K: Children,
+    D: Crew<Runner<K>>,
     T: Clock,
     O: Sink,
     E: Sink,
@@ -70,6 +72,7 @@ pub fn xdrun<
     starter: St,
     crew: C,
     children: K,
+    runner: &mut D,
     clock: &mut T,
     out: &mut O,
     err: &mut E,
@@ -90,7 +93,7 @@ pub fn xdrun<
           };
           programs = record { runs = K.runs children; faults = K.faults children };
           starter = record { begun = St.begun starter; faults = St.faults starter };
-          crew_faults = C.faults crew;
+          crews = record { readers = C.faults crew; runners = D.faults runner.old };
         })
         (record {
           streams = record {
@@ -100,7 +103,7 @@ pub fn xdrun<
           };
           programs = record { runs = K.runs e.children; faults = K.faults e.children };
           starter = record { begun = St.begun e.starter; faults = St.faults e.starter };
-          crew_faults = C.faults e.crew;
+          crews = record { readers = C.faults e.crew; runners = D.faults runner.new };
         })) }
     ensures no_link { IfOk result (λ e. has_links (plan_of words.now) ≡ false →
         (e.links.items ≡ []) × (e.starter ≡ starter) × (e.crew ≡ crew)) }
@@ -125,7 +128,7 @@ pub fn xdrun<
             without_run(status, children)
         }
         Plan::Worker => {
-            let end = serve_own(rt, alloc, files, starter, crew, children, clock)?;
+            let end = serve_own(rt, alloc, files, starter, crew, children, runner, clock)?;
             return Ok(end);
         }
         Plan::BadWords => {

@@ -11,21 +11,30 @@ use xd_crew::Crew;
 use xd_edge::{Children, Clock, Files, OutOfMemory};
 use xd_group::LinkEnd;
 use xd_link::{Place, StartFault, Starter};
+use xd_listen::serve;
 use xd_reader::Reader;
-use xd_serve::serve;
+use xd_runner::Runner;
 
 /// Starts a link to the program's own streams and serves it. Where it cannot be started the status is 3.
-pub fn serve_own<R: Wait, F: Files, St: Starter, C: Crew<Reader<St::Src>>, K: Children, T: Clock>(
+pub fn serve_own<
+    R: Wait,
+    F: Files,
+    St: Starter,
+    C: Crew<Reader<St::Src>>,
+    K: Children,
+    D: Crew<Runner<K>>,
+    T: Clock,
+>(
     rt: &R,
     alloc: Global,
     files: &mut F,
     starter: St,
     crew: C,
     children: K,
+    runner: &mut D,
     clock: &mut T,
 ) -> Result<RunEnd<St, C, K>, OutOfMemory>
     ensures journal { IfOk result (λ e. e.journal ≡ None) }
-    ensures crew { IfOk result (λ e. e.crew ≡ crew) }
     ensures did { IfOk result (λ e. DidWorker
         (map (λ l. ended_link l.worker l.killed
         (spring (St.Src.supply l.source) (St.Src.is_ended l.source) (St.Src.faults l.source))
@@ -35,14 +44,17 @@ pub fn serve_own<R: Wait, F: Files, St: Starter, C: Crew<Reader<St::Src>>, K: Ch
           files = record { held = F.held files.old; faults = F.faults files.old };
           programs = record { runs = K.runs children; faults = K.faults children };
           starter = record { begun = St.begun starter; faults = St.faults starter };
+          crews = record { readers = C.faults crew; runners = D.faults runner.old };
         })
         (record {
           files = record { held = F.held files.new; faults = F.faults files.new };
           programs = record { runs = K.runs e.children; faults = K.faults e.children };
           starter = record { begun = St.begun e.starter; faults = St.faults e.starter };
+          crews = record { readers = C.faults e.crew; runners = D.faults runner.new };
         })) }
 {
     let mut starter = starter;
+    let mut crew = crew;
     let mut links = Vec::new(alloc);
     links.reserve(1)?;
     let link = match starter.start(alloc, &Place::Own) {
@@ -50,7 +62,7 @@ pub fn serve_own<R: Wait, F: Files, St: Starter, C: Crew<Reader<St::Src>>, K: Ch
         Err(StartFault::Failed) => return Ok(not_started(links, starter, crew, children)),
         Err(StartFault::OutOfMemory) => return Err(OutOfMemory),
     };
-    let end = serve(rt, alloc, link, files, children, clock)?;
+    let end = serve(rt, alloc, link, files, &mut crew, children, runner, clock)?;
     links.push_reserved(LinkEnd {
         worker: 0,
         source: end.source,

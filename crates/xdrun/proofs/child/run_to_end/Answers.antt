@@ -1,7 +1,7 @@
 use Rattle.std.proofs.Common.{ℕ, arith, refl, subst}
-use Rattle.xd_serve.specs.Child.{Waited}
-use Rattle.xd_serve.proofs.Tellings.{rose_earlier}
-use Rattle.xd_serve.proofs.Waiting.{faults_to_end, still_to_end}
+use Rattle.xd_runner.specs.Child.{Waited}
+use Rattle.xd_listen.proofs.Tellings.{rose_earlier}
+use Rattle.xd_runner.proofs.Waiting.{faults_to_end, still_to_end}
 use Rattle.xdrun.proofs.Ran.{came_to, on_true}
 use Rattle.xdrun.proofs.child.run_to_end.Goals as goal
 

@@ -1,0 +1,391 @@
+-- What one input makes of a worker that listens.
+use Rattle.std.proofs.Common.{◌≡◌, ℕ, ◌+◌, ◌≤◌, List, [], ◌∷◌, ◌++◌, length, map, Bool, true, false, not, ◌||◌, Option, Some, None, refl, ap, sym, ◌∙◌, subst, arith}
+use Rattle.std.specs.Prelude.{option_to_list, IsSome}
+use Rattle.std.proofs.lemmas.List.{append-nil, map-append}
+use Rattle.xd_edge.specs.Faults.{Rose}
+use Rattle.xd_edge.specs.Files.{Held}
+use Rattle.xd_edge.specs.Sink.{Sunk}
+use Rattle.xd_frame.specs.Message.{MessageView, frames}
+use Rattle.xd_frame.specs.Writing.{CountBehind, WritesMore}
+use Rattle.xd_journal.specs.declared.entry.Outcome.{Outcome}
+use Rattle.xd_reader.specs.declared.news.LinkNews.{LinkNews}
+use Rattle.xd_reader.specs.declared.news.LinkNews.TheVariants as news
+use Rattle.xd_reader.specs.declared.news.LinkStop.TheVariants as link
+use Rattle.xd_run_tests.specs.Line.{running_test, left}
+use Rattle.xd_suite.specs.Tests.{run_at}
+use Rattle.xd_worker.specs.declared.input.WorkerInput.{WorkerInput}
+use Rattle.xd_worker.specs.declared.input.WorkerInput.TheVariants.{Message, SuiteBytes, SuiteTooLarge, SuiteUnread, Output, ChildDone, LinkEnd}
+use Rattle.xd_worker.specs.declared.input.WorkerActions.{WorkerActions}
+use Rattle.xd_worker.specs.declared.worker.WorkerCore.{WorkerCore}
+use Rattle.xd_worker.specs.Worker.{Worker, Turn, turn_of, behind}
+use Rattle.xd_worker.specs.Turns.{Came, Told as Says, SuiteRead, NoSuite, Printed, ChildEnded, LinkEnded, turned}
+use Rattle.xd_worker.specs.History.{Heard, IsMessage, turn_by, worker_after}
+use Rattle.xd_worker.specs.Stands.{Answers, StandsFor}
+use Rattle.xd_listen.specs.Running.{call_in, rests}
+use Rattle.xd_listen.specs.Inputs.{IsDue, has_end, has_last, is_last, is_link_end, is_of_link, message_in, messages_in}
+use Rattle.xd_listen.specs.Programs.{commands_in, commands_of}
+use Rattle.xd_listen.specs.Took.{TookToLast}
+use Rattle.xd_listen.specs.Suites.{FilesGave, Follows, asked_path}
+use Rattle.xd_listen.proofs.Facts.{aside, message_came, no_commands, none_more, running_some}
+use Rattle.xd_listen.proofs.Steps.{Does, Plain, Prints, Ready, Step, end_does, link_end_does, output_does, running_is}
+use Rattle.xd_listen.proofs.Tellings.{answered_later, count_more, rose_later, speaks_more}
+use Rattle.xd_listen.specs.declared.server.Door.{Door}
+use Rattle.xd_listen.specs.declared.server.Door.TheVariants as door
+use Rattle.xd_listen.specs.Halts.{door_behind}
+use Rattle.xd_listen.specs.News.{dones, news_by, news_in}
+use Rattle.xd_listen.specs.Seen.{Seen, is_shut}
+use Rattle.xd_listen.specs.Serves.{FromLink, IsBusy, IsListening, ReadsSo, RunsSo, Serves, Setting, of_link, of_program, one_if, to_start}
+use Rattle.xd_listen.specs.Spoke.{Spoke, Voice, voice}
+use Rattle.xd_listen.proofs.Counting.{dones_done, dones_piece}
+use Rattle.xd_listen.proofs.Busy.{Keeps, link_end_keeps, message_keeps}
+
+-- a server whose worker took an input, and whose sink was written to
+abbrev pub spoken : WorkerCore → Bool → Option Sunk → ℕ → Seen → Seen
+spoken core broken sunk faults s = record s { core = core; broken = broken; sunk = sunk; sink_faults = faults }
+
+-- what an input adds
+pub spoke_more : (held : Option Held) (inputs : List WorkerInput) (h : List Heard) (b0 b1 : Bool) (first v0 v1 : Voice) (core : WorkerCore) (i : WorkerInput) (acts : WorkerActions)
+    → b0 ≡ false → Spoke held inputs h (not b0) first v0 → (a : Answers core (worker_after h) i acts) → IsDue (worker_after h) i → Follows held (Rose first.file_faults v1.file_faults) (asked_path h) i
+    → (is_of_link i ≡ true → has_end inputs ≡ false) → WritesMore b0 b1 (frames acts.say) v0.sunk v1.sunk → CountBehind b0 b1 v0.sink_faults v1.sink_faults → v0.sink_faults ≤ v1.sink_faults → v0.file_faults ≤ v1.file_faults
+    → Spoke held (i ∷ inputs) (a.heard ∷ h) (not b1) first v1
+spoke_more held inputs h b0 b1 first v0 v1 core i acts whole t a due follows once writes count later files = record {
+  heard = (record { is = a.is; counts = a.counts; due = due }, t.heard);
+  ends = (once, t.ends);
+  answered = (follows, answered_later held (Rose first.file_faults v0.file_faults) (Rose first.file_faults v1.file_faults) (λ r. rose_later first.file_faults v0.file_faults v1.file_faults r files) inputs h t.answered);
+  says = speaks_more b0 b1 h a.heard (frames acts.say) first.sunk v0.sunk v1.sunk whole (ap (λ (m : List MessageView). frames m) a.says) t.says writes;
+  sink_count = count_more b0 b1 first.sink_faults v0.sink_faults v1.sink_faults t.sink_count count;
+  sink_later = (let x = t.sink_later in omega (arith, x, later));
+  files_later = (let x = t.files_later in omega (arith, x, files));
+}
+
+-- ---- which test runs
+
+runs_at : (r : Option ℕ) (u : Turn) → u.run ≡ r → Ready u → RunsSo None (commands_of u) (behind u)
+runs_at None u e y = subst (λ (l : List (List (List ℕ))). RunsSo None l (behind u)) (sym (no_commands u e)) (y.some e)
+runs_at (Some k) u e y =
+    let runs : running_test (call_in u.duties.service) ≡ Some k = y.test ∙ e in
+    subst (λ (l : List (List (List ℕ))). RunsSo None l (behind u)) (sym (ap (λ (r : Option ℕ). map (run_at u.duties.tests) (option_to_list r)) e))
+    (record { test = k; runs = runs; busy = y.busy (running_some (call_in u.duties.service) k runs) }, refl, refl)
+
+-- behind an input where none ran
+pub ready_runs : (u : Turn) → Ready u → RunsSo None (commands_of u) (behind u)
+ready_runs u y = runs_at u.run u refl y
+
+-- behind an input while one ran, which runs on
+pub kept_runs : (moment : ℕ) (u : Turn) (test : ℕ) → running_test (call_in u.duties.service) ≡ Some test → rests (call_in u.duties.service).phase ≡ false → u.run ≡ None → RunsSo (Some moment) (commands_of u) (behind u)
+kept_runs moment u test runs busy none = subst (λ (l : List (List (List ℕ))). RunsSo (Some moment) l (behind u)) (sym (no_commands u none)) (record { test = test; runs = runs; busy = busy })
+
+more_commands : (h : List Heard) (g : Heard) (orders left : List (List (List ℕ))) → commands_in h ≡ orders ++ left → left ≡ [] → commands_in (g ∷ h) ≡ orders ++ commands_of (turn_by (worker_after h) g)
+more_commands h g orders left e n = ap (λ (l : List (List (List ℕ))). l ++ commands_of (turn_by (worker_after h) g)) (e ∙ (ap (λ (l : List (List (List ℕ))). orders ++ l) n ∙ append-nil orders))
+
+runs_now : (started : Option ℕ) (left : List (List (List ℕ))) (w : Worker) → left ≡ [] → RunsSo started left w → RunsSo started [] w
+runs_now started left w e r = subst (λ (l : List (List (List ℕ))). RunsSo started l w) e r
+
+-- ---- messages
+
+shut_behind : (b : Bool) (d : Door) → d ≡ door.Open → b ≡ is_shut (door_behind b d)
+shut_behind true d e = refl
+shut_behind false d e = sym (ap is_shut e)
+
+-- a message does this to the test that runs, and to what is read
+record Did (started : Option ℕ) (last : Bool) (d : Door) (u : Turn) : Type 0 where
+  runs : RunsSo started (commands_of u) (behind u)
+  stopped : u.duties.stopped ≡ last
+  reads : ReadsSo u.suite started (commands_of u) (door_behind last d) (behind u)
+
+reads_by : (p : Option (List ℕ)) (b : Bool) (d : Door) (u : Turn) → d ≡ door.Open → u.suite ≡ p → Does b u → ReadsSo p None (commands_of u) (door_behind b d) (behind u)
+reads_by None b d u o e x = tt
+reads_by (Some path) true d u o e x = let z = sym (x.ends refl).1 ∙ e in cc
+reads_by (Some path) false d u o e x = ((x.path path e).1, refl, no_commands u (x.path path e).0, o)
+
+did_idle : (b : Bool) (d : Door) (u : Turn) → d ≡ door.Open → Does b u → Did None b d u
+did_idle b d u o x = record { runs = ready_runs u x.ready; stopped = x.stopped; reads = reads_by u.suite b d u o refl x }
+
+did_busy : (moment : ℕ) (b : Bool) (d : Door) (u : Turn) (test : ℕ) → Keeps test b u → Did (Some moment) b d u
+did_busy moment b d u test x = record {
+  runs = kept_runs moment u test x.test x.busy x.run;
+  stopped = x.stopped;
+  reads = subst (λ (p : Option (List ℕ)). ReadsSo p (Some moment) (commands_of u) (door_behind b d) (behind u)) (sym x.suite) tt;
+}
+
+keeps_message : (w : Worker) (m : MessageView) (c : Came) (k n : ℕ) → IsMessage m c → running_test (call_in w.duties.service) ≡ Some n → rests (call_in w.duties.service).phase ≡ false → w.duties.stopped ≡ false → Keeps n (is_last m.kind) (turned c k (turn_of w))
+keeps_message w m (Says said) k n s r b u = message_keeps w m said k n s r b u
+keeps_message w m (SuiteRead tests) k n s r b u = absurd s
+keeps_message w m (NoSuite text) k n s r b u = absurd s
+keeps_message w m (Printed x) k n s r b u = absurd s
+keeps_message w m (ChildEnded outcome ms) k n s r b u = absurd s
+keeps_message w m LinkEnded k n s r b u = absurd s
+
+message_did : (started : Option ℕ) (w : Worker) (m : MessageView) (g : Heard) (d : Door) → IsMessage m g.came → d ≡ door.Open → w.duties.stopped ≡ false → RunsSo started [] w → Did started (is_last m.kind) d (turn_by w g)
+message_did None w m g d is o u r = did_idle (is_last m.kind) d (turn_by w g) o (message_came w m g.came g.channels is (record { idle = r; unstopped = u }))
+message_did (Some moment) w m g d is o u r = did_busy moment (is_last m.kind) d (turn_by w g) r.test (keeps_message w m g.came g.channels r.test is r.runs r.busy u)
+
+-- the items of the reader behind a message
+link_behind : (b : Bool) (m : MessageView) (d : Door) (inputs : List WorkerInput) (got : List LinkNews) → d ≡ door.Open → is_last m.kind ≡ b → FromLink d inputs got → FromLink (door_behind b d) (Message m ∷ inputs) (got ++ news.Message m ∷ [])
+link_behind b m d inputs got o e f = by b e
+  where
+    x : IsListening inputs got
+    x = subst (λ (d : Door). FromLink d inputs got) o f
+
+    more : got ++ news.Message m ∷ [] ≡ map news.Message (messages_in inputs ++ m ∷ [])
+    more = ap (λ (l : List LinkNews). l ++ news.Message m ∷ []) x.got_is ∙ sym (map-append news.Message (messages_in inputs) (m ∷ []))
+
+    by : (c : Bool) → is_last m.kind ≡ c → FromLink (door_behind c d) (Message m ∷ inputs) (got ++ news.Message m ∷ [])
+    by true h = record {
+      later = [];
+      got_is = more ∙ sym (append-nil (map news.Message (messages_in inputs ++ m ∷ [])));
+      last = record { earlier = messages_in inputs; last = m; taken_is = refl; last_is = h; none_is = x.none_last };
+      no_end = x.no_end;
+    }
+    by false h = subst (λ (d : Door). FromLink d (Message m ∷ inputs) (got ++ news.Message m ∷ [])) (sym o)
+        (record { got_is = more; none_last = none_more (messages_in inputs) m x.none_last h; no_end = x.no_end })
+
+module _ (a : Setting) (files : ℕ) (s : Seen) (core : WorkerCore) (broken : Bool) (sunk : Option Sunk) (faults : ℕ) (acts : WorkerActions)
+    (writes : WritesMore s.broken broken (frames acts.say) s.sunk sunk) (count : CountBehind s.broken broken s.sink_faults faults) (later : s.sink_faults ≤ faults) where
+  pub message_heard : (m : MessageView) (last : Bool) → is_last m.kind ≡ last → s.door ≡ door.Open → ((h : List Heard) → StandsFor s.core h → Answers core (worker_after h) (Message m) acts)
+      → Serves a files (of_link (news.Message m)) s → Serves a files (to_start acts.suite) (record (spoken core broken sunk faults s) { door = door_behind last s.door })
+  message_heard m last e o answers g =
+      let h = g.history in
+      let w = worker_after h in
+      let x = answers h g.stands in
+      let u = turn_by w x.heard in
+      let listens : IsListening g.inputs g.of_reader = subst (λ (d : Door). FromLink d g.inputs g.of_reader) o g.from_link in
+      let d : Did s.started last s.door u = subst (λ (b : Bool). Did s.started b s.door u) e (message_did s.started w m x.heard s.door x.is o (g.stopped ∙ ap is_shut o) (runs_now s.started g.left w (g.settled refl) g.runs)) in
+      record {
+        inputs = Message m ∷ g.inputs;
+        history = x.heard ∷ h;
+        of_reader = g.of_reader ++ news.Message m ∷ [];
+        of_runner = g.of_runner;
+        left = commands_of u;
+        spoke = spoke_more a.held g.inputs h s.broken broken a.first (voice s.sunk s.sink_faults files) (voice sunk faults files) core (Message m) acts (g.whole refl) g.spoke x tt
+            (subst (λ (p : Option (List ℕ)). Follows a.held (Rose a.first.file_faults files) p (Message m)) (sym g.path_is) refl)
+            (λ z. listens.no_end) writes count later (omega arith);
+        stands = x.worker;
+        path_is = sym x.suite;
+        mails_are = g.mails_are;
+        from_link = link_behind last m s.door g.inputs g.of_reader o e g.from_link;
+        noted = g.noted;
+        from_programs = g.from_programs ∙ sym (append-nil (news_in g.inputs));
+        commands = more_commands h x.heard s.orders g.left g.commands (g.settled refl);
+        settled = λ z. cc;
+        last = λ z. refl;
+        whole = λ z. cc;
+        count = g.count;
+        some = g.some;
+        ring = g.ring;
+        runs = d.runs;
+        reads = subst (λ (p : Option (List ℕ)). ReadsSo p s.started (commands_of u) (door_behind last s.door) (behind u)) (sym x.suite) d.reads;
+        stopped = d.stopped ∙ shut_behind last s.door o;
+      }
+
+  -- the link's end
+  end_did : (started : Option ℕ) (w : Worker) (k : ℕ) → w.duties.stopped ≡ false → RunsSo started [] w → Did started true door.Ended (turned LinkEnded k (turn_of w))
+  end_did None w k u r = let x = link_end_does w k r in record { runs = ready_runs (turned LinkEnded k (turn_of w)) x.ready; stopped = x.stopped; reads = subst (λ (p : Option (List ℕ)). ReadsSo p None (commands_of (turned LinkEnded k (turn_of w))) door.Terminated (behind (turned LinkEnded k (turn_of w)))) (sym (x.ends refl).1) tt }
+  end_did (Some moment) w k u r = did_busy moment true door.Ended (turned LinkEnded k (turn_of w)) r.test (link_end_keeps w k r.test r.runs r.busy u)
+
+  end_suite : (started : Option ℕ) (w : Worker) (k : ℕ) → w.duties.stopped ≡ false → RunsSo started [] w → (turned LinkEnded k (turn_of w)).suite ≡ None
+  end_suite None w k u r = ((link_end_does w k r).ends refl).1
+  end_suite (Some moment) w k u r = (link_end_keeps w k r.test r.runs r.busy u).suite
+
+  pub end_heard : s.door ≡ door.Open → ((h : List Heard) → StandsFor s.core h → Answers core (worker_after h) LinkEnd acts)
+      → Serves a files (of_link (news.End link.Ended)) s → Serves a files (to_start None) (record (spoken core broken sunk faults s) { door = door.Ended })
+  end_heard o answers g =
+      let h = g.history in
+      let w = worker_after h in
+      let x = answers h g.stands in
+      let u = turn_by w x.heard in
+      let listens : IsListening g.inputs g.of_reader = subst (λ (d : Door). FromLink d g.inputs g.of_reader) o g.from_link in
+      let unstopped = g.stopped ∙ ap is_shut o in
+      let runs = runs_now s.started g.left w (g.settled refl) g.runs in
+      let d : Did s.started true door.Ended u = subst (λ (c : Came). Did s.started true door.Ended (turned c x.heard.channels (turn_of w))) (sym x.is) (end_did s.started w x.heard.channels unstopped runs) in
+      record {
+        inputs = LinkEnd ∷ g.inputs;
+        history = x.heard ∷ h;
+        of_reader = g.of_reader ++ news.End link.Ended ∷ [];
+        of_runner = g.of_runner;
+        left = commands_of u;
+        spoke = spoke_more a.held g.inputs h s.broken broken a.first (voice s.sunk s.sink_faults files) (voice sunk faults files) core LinkEnd acts (g.whole refl) g.spoke x tt
+            (subst (λ (p : Option (List ℕ)). Follows a.held (Rose a.first.file_faults files) p LinkEnd) (sym g.path_is) refl)
+            (λ z. listens.no_end) writes count later (omega arith);
+        stands = x.worker;
+        path_is = subst (λ (c : Came). (turned c x.heard.channels (turn_of w)).suite ≡ None) (sym x.is) (end_suite s.started w x.heard.channels unstopped runs);
+        mails_are = g.mails_are;
+        from_link = record {
+          later = [];
+          got_is = ap (λ (l : List LinkNews). l ++ news.End link.Ended ∷ []) (listens.got_is ∙ ap (map news.Message) (sym (append-nil (messages_in g.inputs))));
+          none_last = ap has_last (append-nil (messages_in g.inputs)) ∙ listens.none_last;
+          end = refl;
+        };
+        noted = g.noted;
+        from_programs = g.from_programs ∙ sym (append-nil (news_in g.inputs));
+        commands = more_commands h x.heard s.orders g.left g.commands (g.settled refl);
+        settled = λ z. cc;
+        last = λ z. refl;
+        whole = λ z. cc;
+        count = g.count;
+        some = g.some;
+        ring = g.ring;
+        runs = d.runs;
+        reads = tt;
+        stopped = d.stopped;
+      }
+
+  -- ---- the programs
+
+  busy_of : (started : Option ℕ) (w : Worker) → IsSome started → RunsSo started [] w → IsBusy w
+  busy_of None w e r = cc
+  busy_of (Some moment) w e r = r
+
+  still_runs : (started : Option ℕ) (u : Turn) → IsSome started → (test : ℕ) → running_test (call_in u.duties.service) ≡ Some test → rests (call_in u.duties.service).phase ≡ false → u.run ≡ None → RunsSo started (commands_of u) (behind u)
+  still_runs None u e test r b n = cc
+  still_runs (Some moment) u e test r b n = kept_runs moment u test r b n
+
+  link_same : (d : Door) (i : WorkerInput) (inputs : List WorkerInput) (got : List LinkNews) → message_in i ≡ [] → is_link_end i ≡ false → FromLink d inputs got → FromLink d (i ∷ inputs) got
+  link_same d i inputs got m e f = by d f
+    where
+      same : messages_in (i ∷ inputs) ≡ messages_in inputs
+      same = ap (λ (l : List MessageView). messages_in inputs ++ l) m ∙ append-nil (messages_in inputs)
+
+      end : has_end (i ∷ inputs) ≡ has_end inputs
+      end = ap (λ (b : Bool). b || has_end inputs) e
+
+      by : (c : Door) → FromLink c inputs got → FromLink c (i ∷ inputs) got
+      by door.Open x = record { got_is = x.got_is ∙ ap (map news.Message) (sym same); none_last = ap has_last same ∙ x.none_last; no_end = end ∙ x.no_end }
+      by door.Terminated x = record { later = x.later; got_is = x.got_is ∙ ap (λ (l : List MessageView). map news.Message l ++ x.later) (sym same); last = subst TookToLast (sym same) x.last; no_end = end ∙ x.no_end }
+      by door.Ended x = record { later = x.later; got_is = x.got_is ∙ ap (λ (l : List MessageView). map news.Message l ++ news.End link.Ended ∷ x.later) (sym same); none_last = ap has_last same ∙ x.none_last; end = end ∙ x.end }
+
+  pub output_heard : (piece : List ℕ) → IsSome s.started → length piece ≤ 4096 → ((h : List Heard) → StandsFor s.core h → Answers core (worker_after h) (Output piece) acts)
+      → Serves a files (of_program (news.Output piece)) s → Serves a files (to_start None) (spoken core broken sunk faults s)
+  output_heard piece some few answers g =
+      let h = g.history in
+      let w = worker_after h in
+      let x = answers h g.stands in
+      let u = turn_by w x.heard in
+      let r : IsBusy w = busy_of s.started w some (runs_now s.started g.left w (g.settled refl) g.runs) in
+      let p : Prints (turn_of w) u = subst (λ (c : Came). Prints (turn_of w) (turned c x.heard.channels (turn_of w))) (sym x.is) (output_does w piece x.heard.channels) in
+      record {
+        inputs = Output piece ∷ g.inputs;
+        history = x.heard ∷ h;
+        of_reader = g.of_reader;
+        of_runner = g.of_runner ++ news.Output piece ∷ [];
+        left = commands_of u;
+        spoke = spoke_more a.held g.inputs h s.broken broken a.first (voice s.sunk s.sink_faults files) (voice sunk faults files) core (Output piece) acts (g.whole refl) g.spoke x
+            (subst (λ (o : Option ℕ). IsSome o) (sym (running_is w.duties.service ∙ r.runs)) search, few)
+            (subst (λ (p : Option (List ℕ)). Follows a.held (Rose a.first.file_faults files) p (Output piece)) (sym g.path_is) refl)
+            (λ z. cc) writes count later (omega arith);
+        stands = x.worker;
+        path_is = p.rest.suite;
+        mails_are = g.mails_are;
+        from_link = link_same s.door (Output piece) g.inputs g.of_reader refl refl g.from_link;
+        noted = g.noted;
+        from_programs = ap (λ (l : List LinkNews). l ++ news.Output piece ∷ []) g.from_programs;
+        commands = more_commands h x.heard s.orders g.left g.commands (g.settled refl);
+        settled = λ z. cc;
+        last = λ z. refl;
+        whole = λ z. cc;
+        count = g.count ∙ ap (λ (n : ℕ). n + one_if s.started) (sym (dones_piece g.of_runner piece));
+        some = g.some;
+        ring = g.ring;
+        runs = still_runs s.started u some r.test (p.test ∙ r.runs) (ap rests p.phase_is ∙ r.busy) p.run;
+        reads = tt;
+        stopped = p.rest.stopped ∙ g.stopped;
+      }
+
+  pub done_heard : (outcome : Outcome) (ms : ℕ) → IsSome s.started → ((h : List Heard) → StandsFor s.core h → Answers core (worker_after h) (ChildDone outcome ms) acts)
+      → Serves a files (of_program (news.ChildDone outcome)) s → Serves a files (to_start None) (record (spoken core broken sunk faults s) { started = None })
+  done_heard outcome ms some answers g =
+      let h = g.history in
+      let w = worker_after h in
+      let x = answers h g.stands in
+      let u = turn_by w x.heard in
+      let r : IsBusy w = busy_of s.started w some (runs_now s.started g.left w (g.settled refl) g.runs) in
+      let p : Step (turn_of w) u = subst (λ (c : Came). Step (turn_of w) (turned c x.heard.channels (turn_of w))) (sym x.is) (end_does w outcome ms x.heard.channels r.test r.runs r.busy) in
+      record {
+        inputs = ChildDone outcome ms ∷ g.inputs;
+        history = x.heard ∷ h;
+        of_reader = g.of_reader;
+        of_runner = g.of_runner ++ news.ChildDone outcome ∷ [];
+        left = commands_of u;
+        spoke = spoke_more a.held g.inputs h s.broken broken a.first (voice s.sunk s.sink_faults files) (voice sunk faults files) core (ChildDone outcome ms) acts (g.whole refl) g.spoke x
+            (subst (λ (o : Option ℕ). IsSome o) (sym (running_is w.duties.service ∙ r.runs)) search)
+            (subst (λ (p : Option (List ℕ)). Follows a.held (Rose a.first.file_faults files) p (ChildDone outcome ms)) (sym g.path_is) refl)
+            (λ z. cc) writes count later (omega arith);
+        stands = x.worker;
+        path_is = p.rest.suite;
+        mails_are = g.mails_are;
+        from_link = link_same s.door (ChildDone outcome ms) g.inputs g.of_reader refl refl g.from_link;
+        noted = g.noted;
+        from_programs = ap (λ (l : List LinkNews). l ++ news.ChildDone outcome ∷ []) g.from_programs;
+        commands = more_commands h x.heard s.orders g.left g.commands (g.settled refl);
+        settled = λ z. cc;
+        last = λ z. refl;
+        whole = λ z. cc;
+        count = one_less s.started some (length s.orders) g.of_runner outcome g.count;
+        some = g.some;
+        ring = g.ring;
+        runs = ready_runs u p.ready;
+        reads = tt;
+        stopped = p.rest.stopped ∙ g.stopped;
+      }
+    where
+      one_less : (started : Option ℕ) → IsSome started → (n : ℕ) (ns : List LinkNews) (o : Outcome) → n ≡ dones ns + one_if started → n ≡ dones (ns ++ news.ChildDone o ∷ []) + 0
+      one_less None e n ns o c = cc
+      one_less (Some moment) e n ns o c = let d = dones_done ns o in omega (arith, c, d)
+
+  -- ---- a suite
+
+  pub suite_heard : (path : List ℕ) (i : WorkerInput) (files1 : ℕ) → s.broken ≡ false → FilesGave a.held (Rose files files1) path i → files ≤ files1 → ((h : List Heard) → StandsFor s.core h → Answers core (worker_after h) i acts)
+      → Serves a files (to_start (Some path)) s → Serves a files1 (to_start None) (spoken core broken sunk faults s)
+  suite_heard path i files1 whole gave more answers g =
+      let h = g.history in
+      let w = worker_after h in
+      let x = answers h g.stands in
+      let u = turn_by w x.heard in
+      let y = aside a.held (Rose files files1) path i gave in
+      let runs : RunsSo None [] w = subst (λ (o : Option ℕ). RunsSo o [] w) g.reads.1 (runs_now s.started g.left w g.reads.2 g.runs) in
+      let d : Plain u = y.does w x.heard x.is (record { idle = runs; unstopped = g.stopped ∙ ap is_shut g.reads.3 }) in
+      record {
+        inputs = i ∷ g.inputs;
+        history = x.heard ∷ h;
+        of_reader = g.of_reader;
+        of_runner = g.of_runner;
+        left = commands_of u;
+        spoke = spoke_more a.held g.inputs h s.broken broken a.first (voice s.sunk s.sink_faults files) (voice sunk faults files1) core i acts whole g.spoke x
+            (y.due w g.reads.0)
+            (subst (λ (p : Option (List ℕ)). Follows a.held (Rose a.first.file_faults files1) p i) (sym g.path_is) (since i gave))
+            (λ z. let q = sym y.link ∙ z in cc) writes count later more;
+        stands = x.worker;
+        path_is = d.suite;
+        mails_are = g.mails_are;
+        from_link = link_same s.door i g.inputs g.of_reader y.message y.last g.from_link;
+        noted = g.noted;
+        from_programs = g.from_programs ∙ (sym (append-nil (news_in g.inputs)) ∙ ap (λ (l : List LinkNews). news_in g.inputs ++ l) (sym (no_news i gave)));
+        commands = more_commands h x.heard s.orders g.left g.commands g.reads.2;
+        settled = λ z. cc;
+        last = λ z. refl;
+        whole = λ z. cc;
+        count = g.count;
+        some = g.some;
+        ring = g.ring;
+        runs = subst (λ (o : Option ℕ). RunsSo o (commands_of u) (behind u)) (sym g.reads.1) (ready_runs u d.ready);
+        reads = tt;
+        stopped = d.unstopped ∙ sym (ap is_shut g.reads.3);
+      }
+    where
+      since : (j : WorkerInput) → FilesGave a.held (Rose files files1) path j → FilesGave a.held (Rose a.first.file_faults files1) path j
+      since (Message m) f = f
+      since (SuiteBytes b) f = f
+      since SuiteTooLarge f = f
+      since SuiteUnread f = λ below. let r = f below in let l = g.spoke.files_later in omega (arith, r, l)
+      since (Output b) f = f
+      since (ChildDone outcome ms) f = f
+      since LinkEnd f = f
+
+      no_news : (j : WorkerInput) → FilesGave a.held (Rose files files1) path j → news_by j ≡ []
+      no_news (Message m) f = absurd f
+      no_news (SuiteBytes b) f = refl
+      no_news SuiteTooLarge f = refl
+      no_news SuiteUnread f = refl
+      no_news (Output b) f = absurd f
+      no_news (ChildDone outcome ms) f = absurd f
+      no_news LinkEnd f = refl

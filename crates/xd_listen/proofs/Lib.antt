@@ -1,0 +1,16 @@
+pub mod Beginning
+pub mod Busy
+pub mod Calls
+pub mod Completing
+pub mod Counting
+pub mod Dropping
+pub mod Endings
+pub mod Facts
+pub mod Finals
+pub mod Hears
+pub mod Puts
+pub mod Rans
+pub mod Settling
+pub mod Steps
+pub mod Items
+pub mod Tellings

@@ -1,0 +1,187 @@
+-- Why a worker listens no more.
+use Rattle.std.specs.Prelude.{◌≡◌, ◌⊎◌, ◌<◌, ◌≤◌, ℕ, zero, suc, ◌+◌, Bool, true, false, List, [], ◌∷◌, ◌++◌, length, map, Option, Some, None}
+use Rattle.xd_edge.specs.Sink.{Sunk}
+use Rattle.xd_post.specs.Post.{Ring}
+use Rattle.xd_reader.specs.declared.news.LinkNews.{LinkNews}
+use Rattle.xd_reader.specs.declared.news.LinkNews.TheVariants as news
+use Rattle.xd_reader.specs.declared.news.LinkStop.{LinkStop}
+use Rattle.xd_reader.specs.declared.news.LinkStop.TheVariants as link
+use Rattle.xd_frame.specs.Message.{MessageView}
+use Rattle.xd_worker.specs.declared.input.WorkerInput.{WorkerInput}
+use Rattle.xd_worker.specs.declared.input.WorkerInput.TheVariants.{Message}
+use Rattle.xd_worker.specs.History.{Heard, Refuses, is_over, worker_after}
+use Rattle.xd_worker.specs.declared.input.WorkerFault.{WorkerFault}
+use Rattle.xd_worker.specs.declared.input.WorkerFault.TheVariants as fault
+use Rattle.xd_listen.specs.Inputs.{has_end, has_last, messages_in}
+use Rattle.xd_listen.specs.Took.{TookToLast}
+use Rattle.xd_listen.specs.Suites.{asked_path}
+use Rattle.xd_listen.specs.Programs.{AreLeft, commands_in}
+use Rattle.xd_listen.specs.declared.stop.Stop.{Stop}
+use Rattle.xd_listen.specs.declared.stop.Stop.TheVariants as stop
+use Rattle.xd_listen.specs.declared.server.Door.{Door}
+use Rattle.xd_listen.specs.declared.server.Door.TheVariants as door
+use Rattle.xd_listen.specs.declared.server.Halt.{Halt}
+use Rattle.xd_listen.specs.declared.server.Halt.TheVariants as halt
+use Rattle.xd_listen.specs.News.{dones, news_in}
+use Rattle.xd_listen.specs.Seen.{Seen}
+use Rattle.xd_listen.specs.Serves.{NoneEmpty, Serves, Setting, IsNoted, nothing, one_if, two}
+use Rattle.xd_listen.specs.Spoke.{Spoke, voice}
+
+-- the exit status: 0 where GATEWAY_TERMINATE came or the link ended at a message's edge
+abbrev pub status_of : Stop → ℕ
+status_of stop.NotRun = 3
+status_of stop.Terminated = 0
+status_of stop.Ended = 0
+status_of stop.Cut = 3
+status_of (stop.Header fault) = 3
+status_of (stop.Message fault) = 3
+status_of stop.ReadFault = 3
+status_of stop.WriteFault = 3
+
+-- the sink is whole, but where it failed
+abbrev pub is_whole : Stop → Bool
+is_whole stop.NotRun = true
+is_whole stop.Terminated = true
+is_whole stop.Ended = true
+is_whole stop.Cut = true
+is_whole (stop.Header fault) = true
+is_whole (stop.Message fault) = true
+is_whole stop.ReadFault = true
+is_whole stop.WriteFault = false
+
+-- what is known of the messages that the worker heard, and of the item behind them, where it listens no more
+abbrev pub Ceases : Stop → List WorkerInput → List Heard → List LinkNews → Type 0
+Ceases stop.NotRun inputs h ahead = ⊥
+Ceases stop.Terminated inputs h ahead = TookToLast (messages_in inputs) × (has_end inputs ≡ false) × (is_over (worker_after h) ≡ true)
+Ceases stop.Ended inputs h ahead = (ahead ≡ news.End link.Ended ∷ []) × (has_last (messages_in inputs) ≡ false) × (has_end inputs ≡ true) × (is_over (worker_after h) ≡ true)
+Ceases stop.Cut inputs h ahead = (ahead ≡ news.End link.Cut ∷ []) × (has_last (messages_in inputs) ≡ false)
+Ceases (stop.Header fault) inputs h ahead = (ahead ≡ news.End (link.Garbled fault) ∷ []) × (has_last (messages_in inputs) ≡ false)
+Ceases (stop.Message fault) inputs h ahead = (m : MessageView) × (ahead ≡ news.Message m ∷ []) × (has_last (messages_in inputs) ≡ false) × (has_end inputs ≡ false) × Refuses (worker_after h) (Message m) fault
+Ceases stop.ReadFault inputs h ahead = (ahead ≡ news.End link.ReadFault ∷ []) × (has_last (messages_in inputs) ≡ false)
+Ceases stop.WriteFault inputs h ahead = Unit {0}
+
+-- The worker listens no more, and this is why. More items may have been taken since. `running` says how many programs
+-- ran when it ceased: one, or none.
+pub record Ceased (a : Setting) (file_faults : ℕ) (why : Stop) (s : Seen) : Type 0 where
+  pub inputs : List WorkerInput
+  pub history : List Heard
+  pub of_reader : List LinkNews
+  pub of_runner : List LinkNews
+  pub left : List (List (List ℕ))
+  pub ahead : List LinkNews
+  pub later : List LinkNews
+  pub unheard : List LinkNews
+  pub running : ℕ
+  pub spoke : Spoke a.held inputs history (is_whole why) a.first (voice s.sunk s.sink_faults file_faults)
+  pub path_is : is_whole why ≡ true → asked_path history ≡ None
+  pub mails_are : s.mails ≡ two a of_reader of_runner
+  pub from_link : of_reader ≡ map news.Message (messages_in inputs) ++ (ahead ++ later)
+  pub cause : Ceases why inputs history ahead
+  pub noted : IsNoted s.link_stop of_reader
+  pub from_programs : of_runner ≡ news_in inputs ++ unheard
+  pub commands : commands_in history ≡ s.orders ++ left
+  pub left_is : AreLeft (is_whole why) left history
+  pub count : length s.orders ≡ dones (news_in inputs) + running
+  pub one : running ≤ 1
+  pub idle : status_of why ≡ 0 → running ≡ 0
+  pub some : NoneEmpty s.orders
+  pub ring : s.ring ≡ a.orders
+  pub drained : s.short ≡ false → length s.orders ≤ dones of_runner + one_if s.started
+
+-- An item that no reader puts.
+abbrev pub IsStrange : LinkNews → Type 0
+IsStrange (news.Message m) = ⊥
+IsStrange (news.End link.Ended) = ⊥
+IsStrange (news.End link.Cut) = ⊥
+IsStrange (news.End (link.Garbled fault)) = ⊥
+IsStrange (news.End (link.BadGreeting b)) = Unit {0}
+IsStrange (news.End link.ReadFault) = ⊥
+IsStrange (news.End link.OutOfMemory) = ⊥
+IsStrange (news.Output b) = Unit {0}
+IsStrange (news.ChildDone outcome) = Unit {0}
+
+-- An item that no runner puts while so many programs run: a message, any but one end, and what comes of a program where
+-- none runs, or in pieces that are too large.
+abbrev pub IsUncalled : ℕ → LinkNews → Type 0
+IsUncalled running (news.Message m) = Unit {0}
+IsUncalled running (news.End link.Ended) = Unit {0}
+IsUncalled running (news.End link.Cut) = Unit {0}
+IsUncalled running (news.End (link.Garbled fault)) = Unit {0}
+IsUncalled running (news.End (link.BadGreeting b)) = Unit {0}
+IsUncalled running (news.End link.ReadFault) = Unit {0}
+IsUncalled running (news.End link.OutOfMemory) = ⊥
+IsUncalled running (news.Output b) = (running ≡ 0) ⊎ (4096 < length b)
+IsUncalled running (news.ChildDone outcome) = running ≡ 0
+
+-- An item was taken that could not come.
+pub record Strayed (a : Setting) (s : Seen) : Type 0 where
+  pub of_reader : List LinkNews
+  pub of_runner : List LinkNews
+  pub messages : List MessageView
+  pub heard : List LinkNews
+  pub item : LinkNews
+  pub running : ℕ
+  pub mails_are : s.mails ≡ two a of_reader of_runner
+  pub count : length s.orders ≡ dones heard + running
+  pub some : NoneEmpty s.orders
+  pub ring : s.ring ≡ a.orders
+  pub drained : s.short ≡ false → length s.orders ≤ dones of_runner + one_if s.started
+  pub strays : ((later : List LinkNews) × (of_reader ≡ map news.Message messages ++ item ∷ later) × IsStrange item) ⊎ ((later : List LinkNews) × (of_runner ≡ heard ++ item ∷ later) × IsUncalled running item)
+
+-- a message was refused, or memory was
+abbrev pub CeasesBy : WorkerFault → Setting → ℕ → Seen → Type 0
+CeasesBy (fault.Link f) a file_faults s = Ceased a file_faults (stop.Message f) s
+CeasesBy fault.OutOfMemory a file_faults s = Unit {0}
+
+-- behind a message that is GATEWAY_TERMINATE, or is not
+abbrev pub door_behind : Bool → Door → Door
+door_behind true d = door.Terminated
+door_behind false d = d
+
+-- behind GATEWAY_TERMINATE and the link's end
+abbrev pub over_by : Door → Option Halt
+over_by door.Open = None
+over_by door.Terminated = Some (halt.At stop.Terminated)
+over_by door.Ended = Some (halt.At stop.Ended)
+
+-- for this reason, unless messages are taken no more
+abbrev pub unless_shut : Bool → Halt → Option Halt
+unless_shut true h = None
+unless_shut false h = Some h
+
+-- ---- items that are dropped behind that
+
+-- the reader's end, where this item of this inbox is one
+abbrev pub noted_end : ℕ → LinkNews → Option LinkStop → Option LinkStop
+noted_end zero (news.End why) old = Some why
+noted_end n item old = old
+
+-- a program runs no more where its end comes, or the runner's
+abbrev pub still_started : ℕ → LinkNews → Option ℕ → Option ℕ
+still_started (suc k) (news.End why) old = None
+still_started (suc k) (news.ChildDone outcome) old = None
+still_started n item old = old
+
+-- the runner's end comes, or that of a reader for want of memory
+abbrev pub is_short_by : ℕ → LinkNews → Bool → Bool
+is_short_by (suc k) (news.End why) old = true
+is_short_by zero (news.End link.OutOfMemory) old = true
+is_short_by n item old = old
+
+abbrev pub without : ℕ → LinkNews → List (Option (Ring × List LinkNews)) → Seen → Seen
+without n item mails s = record s {
+  mails = mails;
+  link_stop = noted_end n item s.link_stop;
+  started = still_started n item s.started;
+  short = is_short_by n item s.short;
+}
+
+-- a sink that took this, with this count of faults
+abbrev pub at_sink : Option Sunk → ℕ → Seen → Seen
+at_sink sunk faults s = record s { sunk = sunk; sink_faults = faults }
+
+-- The worker goes on, or listens no more.
+abbrev pub Goes : Option Halt → Setting → ℕ → Seen → Type 0
+Goes None a file_faults s = Serves a file_faults nothing s
+Goes (Some (halt.At why)) a file_faults s = Ceased a file_faults why s
+Goes (Some halt.Astray) a file_faults s = Strayed a s

@@ -1,0 +1,14 @@
+pub mod Inputs
+pub mod Suites
+pub mod Programs
+pub mod Running
+pub mod Speaking
+pub mod Took
+pub mod Spoke
+pub mod News
+pub mod Seen
+pub mod Serves
+pub mod Halts
+pub mod Ends
+pub mod Joined
+pub mod Complete

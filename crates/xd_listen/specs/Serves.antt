@@ -1,0 +1,158 @@
+-- How far a worker has come that listens to its link and to its programs.
+use Rattle.std.specs.Prelude.{◌≡◌, ℕ, zero, suc, ◌+◌, Bool, true, false, not, List, [], ◌∷◌, ◌++◌, length, map, Option, Some, None}
+use Rattle.xd_edge.specs.Files.{Held}
+use Rattle.xd_edge.specs.Sink.{Sunk}
+use Rattle.xd_post.specs.Post.{Ring}
+use Rattle.xd_reader.specs.declared.news.LinkNews.{LinkNews}
+use Rattle.xd_reader.specs.declared.news.LinkNews.TheVariants.{Message, End}
+use Rattle.xd_reader.specs.declared.news.LinkStop.{LinkStop}
+use Rattle.xd_reader.specs.declared.news.LinkStop.TheVariants as link
+use Rattle.xd_run_tests.specs.Line.{running_test}
+use Rattle.xd_suite.specs.Tests.{run_at}
+use Rattle.xd_worker.specs.declared.input.WorkerInput.{WorkerInput}
+use Rattle.xd_worker.specs.declared.worker.WorkerCore.{WorkerCore}
+use Rattle.xd_worker.specs.Worker.{Worker, running_in}
+use Rattle.xd_worker.specs.History.{Heard, worker_after}
+use Rattle.xd_worker.specs.Stands.{StandsFor}
+use Rattle.xd_listen.specs.Running.{call_in, rests}
+use Rattle.xd_listen.specs.Inputs.{has_end, has_last, messages_in}
+use Rattle.xd_listen.specs.Programs.{commands_in, last_commands}
+use Rattle.xd_listen.specs.Took.{TookToLast}
+use Rattle.xd_listen.specs.Suites.{asked_path}
+use Rattle.xd_listen.specs.declared.server.Door.{Door}
+use Rattle.xd_listen.specs.declared.server.Door.TheVariants as door
+use Rattle.xd_listen.specs.News.{dones, news_in}
+use Rattle.xd_listen.specs.Seen.{Seen, is_shut}
+use Rattle.xd_listen.specs.Spoke.{Spoke, Voice, voice}
+
+-- what stays while a link is served: the files, the sink and the files' faults before it, and the rings of the reader, of
+-- the runner and of the orders
+pub record Setting : Type 0 where
+  pub held : Option Held
+  pub first : Voice
+  pub reader : Ring
+  pub runner : Ring
+  pub orders : Ring
+
+abbrev pub setting : Option Held → Option Sunk → ℕ → ℕ → Ring → Ring → Ring → Setting
+setting held sunk sink_faults file_faults reader runner orders = record { held = held; first = voice sunk sink_faults file_faults; reader = reader; runner = runner; orders = orders }
+
+-- what is to be done next: a suite to be read, an item that was taken of the reader or of the runner, and whether a test
+-- may have to be started
+pub record Owed : Type 0 where
+  pub path : Option (List ℕ)
+  pub link : Option LinkNews
+  pub program : Option LinkNews
+  pub starts : Bool
+
+abbrev pub nothing : Owed
+nothing = record { path = None; link = None; program = None; starts = false }
+
+-- an item of the reader, and one of the runner
+abbrev pub of_link : LinkNews → Owed
+of_link n = record { path = None; link = Some n; program = None; starts = false }
+
+abbrev pub of_program : LinkNews → Owed
+of_program n = record { path = None; link = None; program = Some n; starts = false }
+
+-- an item of the inbox of this number
+abbrev pub of_inbox : ℕ → LinkNews → Owed
+of_inbox zero n = of_link n
+of_inbox (suc k) n = of_program n
+
+-- a suite, if any, and then maybe a test
+abbrev pub to_start : Option (List ℕ) → Owed
+to_start path = record { path = path; link = None; program = None; starts = true }
+
+abbrev pub with_item : Option LinkNews → List LinkNews → List LinkNews
+with_item None ns = ns
+with_item (Some n) ns = ns ++ n ∷ []
+
+-- the desk of two inboxes of which these items were taken
+abbrev pub two : Setting → List LinkNews → List LinkNews → List (Option (Ring × List LinkNews))
+two a of_reader of_runner = Some (a.reader, of_reader) ∷ Some (a.runner, of_runner) ∷ []
+
+-- The items of the reader are the messages that the worker heard; behind GATEWAY_TERMINATE and the link's end more may
+-- have been taken.
+pub record IsListening (inputs : List WorkerInput) (got : List LinkNews) : Type 0 where
+  pub got_is : got ≡ map Message (messages_in inputs)
+  pub none_last : has_last (messages_in inputs) ≡ false
+  pub no_end : has_end inputs ≡ false
+
+pub record HeardLast (inputs : List WorkerInput) (got : List LinkNews) : Type 0 where
+  pub later : List LinkNews
+  pub got_is : got ≡ map Message (messages_in inputs) ++ later
+  pub last : TookToLast (messages_in inputs)
+  pub no_end : has_end inputs ≡ false
+
+pub record HeardEnd (inputs : List WorkerInput) (got : List LinkNews) : Type 0 where
+  pub later : List LinkNews
+  pub got_is : got ≡ map Message (messages_in inputs) ++ End link.Ended ∷ later
+  pub none_last : has_last (messages_in inputs) ≡ false
+  pub end : has_end inputs ≡ true
+
+abbrev pub FromLink : Door → List WorkerInput → List LinkNews → Type 0
+FromLink door.Open inputs got = IsListening inputs got
+FromLink door.Terminated inputs got = HeardLast inputs got
+FromLink door.Ended inputs got = HeardEnd inputs got
+
+-- this end of the reader was taken
+abbrev pub IsNoted : Option LinkStop → List LinkNews → Type 0
+IsNoted None got = Unit {0}
+IsNoted (Some why) got = (earlier : List LinkNews) × (later : List LinkNews) × (got ≡ earlier ++ End why ∷ later)
+
+-- a test runs in this worker
+pub record IsBusy (w : Worker) : Type 0 where
+  pub test : ℕ
+  pub runs : running_test (call_in w.duties.service) ≡ Some test
+  pub busy : rests (call_in w.duties.service).phase ≡ false
+
+-- A test runs in this worker where one was started, and where one is to be started by this command.
+abbrev pub RunsSo : Option ℕ → List (List (List ℕ)) → Worker → Type 0
+RunsSo None [] w = (call_in w.duties.service).running ≡ false
+RunsSo (Some moment) [] w = IsBusy w
+RunsSo None (command ∷ more) w = (b : IsBusy w) × (command ≡ run_at w.duties.tests b.test) × (more ≡ [])
+RunsSo (Some moment) (command ∷ more) w = ⊥
+
+-- where a suite is to be read, nothing runs and the link has not ended
+abbrev pub ReadsSo : Option (List ℕ) → Option ℕ → List (List (List ℕ)) → Door → Worker → Type 0
+ReadsSo None started left d w = Unit {0}
+ReadsSo (Some path) started left d w = (w.duties.owed ≡ true) × (started ≡ None) × (left ≡ []) × (d ≡ door.Open)
+
+abbrev pub one_if : Option ℕ → ℕ
+one_if None = 0
+one_if (Some moment) = 1
+
+-- no command is empty
+abbrev pub NoneEmpty : List (List (List ℕ)) → Type 0
+NoneEmpty [] = Unit {0}
+NoneEmpty (command ∷ more) = (command ≡ [] → ⊥) × NoneEmpty more
+
+-- this test runs in a worker, whatever it took
+abbrev pub Runs : ℕ → WorkerCore → Type 0
+Runs test core = (h : List Heard) → StandsFor core h → running_in (worker_after h).duties.service ≡ Some test
+
+-- All that was taken of the desk was done, but for what is owed: what was spoken, and what was ordered.
+pub record Serves (a : Setting) (file_faults : ℕ) (owed : Owed) (s : Seen) : Type 0 where
+  pub inputs : List WorkerInput
+  pub history : List Heard
+  pub of_reader : List LinkNews
+  pub of_runner : List LinkNews
+  pub left : List (List (List ℕ))
+  pub spoke : Spoke a.held inputs history (not s.broken) a.first (voice s.sunk s.sink_faults file_faults)
+  pub stands : StandsFor s.core history
+  pub path_is : asked_path history ≡ owed.path
+  pub mails_are : s.mails ≡ two a (with_item owed.link of_reader) (with_item owed.program of_runner)
+  pub from_link : FromLink s.door inputs of_reader
+  pub noted : IsNoted s.link_stop (with_item owed.link of_reader)
+  pub from_programs : of_runner ≡ news_in inputs
+  pub commands : commands_in history ≡ s.orders ++ left
+  pub settled : owed.starts ≡ false → left ≡ []
+  pub last : owed.starts ≡ true → left ≡ last_commands history
+  pub whole : owed.starts ≡ false → s.broken ≡ false
+  pub count : length s.orders ≡ dones of_runner + one_if s.started
+  pub some : NoneEmpty s.orders
+  pub ring : s.ring ≡ a.orders
+  pub runs : RunsSo s.started left (worker_after history)
+  pub reads : ReadsSo owed.path s.started left s.door (worker_after history)
+  pub stopped : (worker_after history).duties.stopped ≡ is_shut s.door

@@ -1,0 +1,191 @@
+// What a server takes, one item after another.
+ghost use Rattle.std.specs.Prelude.{◌≡◌, ◌≤◌, ℕ, false, Some, None, length, IfOk, IfErr, OnOk, IsSome};
+ghost use Rattle.xd_listen.specs.Halts.{CeasesBy, Goes, door_behind, over_by};
+ghost use Rattle.xd_listen.specs.Inputs.{is_last};
+ghost use Rattle.xd_listen.specs.Seen.{seen};
+ghost use Rattle.xd_listen.specs.Serves.{Runs, Serves, Setting, nothing, of_link, of_program, to_start};
+ghost use Rattle.xd_listen.specs.declared.server.Door.TheVariants.{Open};
+ghost use Rattle.xd_reader.specs.declared.news.LinkNews.TheVariants as news;
+ghost use Rattle.xd_reader.specs.declared.news.LinkStop.TheVariants as link;
+ghost use Rattle.xd_worker.specs.Stands.{HasTest, Stood};
+
+use crate::server::{Door, Halt, Server};
+use crate::stop::Stop;
+use crate::suite::read_suite;
+use std::alloc::Global;
+use std::sync::Wait;
+use xd_edge::{Blob, Clock, Files, OutOfMemory, Sink, Text, Texts};
+use xd_frame::{Kind, Message};
+use xd_journal::Outcome;
+use xd_reader::{LinkNews, LinkStop};
+use xd_worker::{WorkerFault, WorkerInput};
+
+impl<N: Sink> Server<N> {
+    /// Steps the worker with a message. Gives the path of a suite that is to be read.
+    pub fn hear_message(&mut self, message: Message) -> Result<Option<Text>, WorkerFault>
+        requires is_open { self.old.door ≡ Open }
+        ensures heard { (a : Setting) (files : ℕ) → Serves a files (of_link (news.Message message)) (seen N.sunk N.faults self.old) →
+            IfOk result (λ path. Serves a files (to_start path) (seen N.sunk N.faults self.new)) }
+        ensures refused { (a : Setting) (files : ℕ) → Serves a files (of_link (news.Message message)) (seen N.sunk N.faults self.old) →
+            IfErr result (λ fault. CeasesBy fault a files (seen N.sunk N.faults self.new)) }
+        ensures stood { Stood self.old.speaker.core → OnOk result (Stood self.new.speaker.core) }
+    {
+        let door = door_behind(&message, self.door);
+        match self.speaker.hear(WorkerInput::Message(message)) {
+            Ok(acts) => {
+                self.door = door;
+                Ok(acts.suite)
+            }
+            Err(fault) => Err(fault),
+        }
+    }
+
+    /// Steps the worker with the link's end.
+    pub fn hear_end(&mut self) -> Result<(), OutOfMemory>
+        requires is_open { self.old.door ≡ Open }
+        ensures heard { (a : Setting) (files : ℕ) → Serves a files (of_link (news.End link.Ended)) (seen N.sunk N.faults self.old) →
+            OnOk result (Serves a files (to_start None) (seen N.sunk N.faults self.new)) }
+        ensures stood { Stood self.old.speaker.core → OnOk result (Stood self.new.speaker.core) }
+    {
+        let _acts = self.speaker.tell(WorkerInput::LinkEnd)?;
+        self.door = Door::Ended;
+        Ok(())
+    }
+
+    /// Steps the worker with a piece of the running test's output.
+    pub fn hear_output(&mut self, piece: Blob) -> Result<(), OutOfMemory>
+        requires runs { IsSome self.old.started }
+        requires few { length piece ≤ 4096 }
+        ensures heard { (a : Setting) (files : ℕ) → Serves a files (of_program (news.Output piece)) (seen N.sunk N.faults self.old) →
+            OnOk result (Serves a files (to_start None) (seen N.sunk N.faults self.new)) }
+        ensures stood { Stood self.old.speaker.core → OnOk result (Stood self.new.speaker.core) }
+    {
+        let _acts = self.speaker.tell(WorkerInput::Output(piece))?;
+        Ok(())
+    }
+
+    /// Steps the worker with the end of the running test.
+    pub fn hear_done(&mut self, outcome: Outcome, ms: u64) -> Result<(), OutOfMemory>
+        requires runs { IsSome self.old.started }
+        ensures heard { (a : Setting) (files : ℕ) → Serves a files (of_program (news.ChildDone outcome)) (seen N.sunk N.faults self.old) →
+            OnOk result (Serves a files (to_start None) (seen N.sunk N.faults self.new)) }
+        ensures stood { Stood self.old.speaker.core → OnOk result (Stood self.new.speaker.core) }
+    {
+        let _acts = self.speaker.tell(WorkerInput::ChildDone { outcome, ms })?;
+        self.started = None;
+        Ok(())
+    }
+
+    /// Reads the suite file of a path, if there is one, and tells the worker.
+    pub fn read<F: Files>(&mut self, files: &mut F, path: Option<Text>) -> Result<(), OutOfMemory>
+        requires whole { self.old.speaker.is_broken ≡ false }
+        ensures read { (a : Setting) → F.held files.old ≡ a.held → Serves a (F.faults files.old) (to_start path) (seen N.sunk N.faults self.old) →
+            OnOk result (Serves a (F.faults files.new) (to_start None) (seen N.sunk N.faults self.new)) }
+        ensures stood { Stood self.old.speaker.core → OnOk result (Stood self.new.speaker.core) }
+        ensures kept { F.held files.new ≡ F.held files.old }
+    {
+        match path {
+            Some(path) => {
+                self.read_path(files, &path)?;
+                Ok(())
+            }
+            None => Ok(()),
+        }
+    }
+
+    fn read_path<F: Files>(&mut self, files: &mut F, path: &Text) -> Result<(), OutOfMemory>
+        requires whole { self.old.speaker.is_broken ≡ false }
+        ensures read { (a : Setting) → F.held files.old ≡ a.held → Serves a (F.faults files.old) (to_start (Some path.now)) (seen N.sunk N.faults self.old) →
+            OnOk result (Serves a (F.faults files.new) (to_start None) (seen N.sunk N.faults self.new)) }
+        ensures stood { Stood self.old.speaker.core → OnOk result (Stood self.new.speaker.core) }
+        ensures kept { F.held files.new ≡ F.held files.old }
+    {
+        let suite = read_suite(self.alloc, files, path)?;
+        let _acts = self.speaker.tell(suite)?;
+        Ok(())
+    }
+
+    // Orders the program of a test that is to be started.
+    fn order<R: Wait, T: Clock>(
+        &mut self,
+        rt: &R,
+        clock: &mut T,
+        test: u32,
+    ) -> Result<(), OutOfMemory>
+        requires has_test { HasTest self.old.speaker.core test }
+        requires rests { self.old.started ≡ None }
+        requires whole { self.old.speaker.is_broken ≡ false }
+        requires runs { Runs test self.old.speaker.core }
+        ensures ordered { (a : Setting) (files : ℕ) → Serves a files (to_start None) (seen N.sunk N.faults self.old) →
+            OnOk result (Serves a files nothing (seen N.sunk N.faults self.new)) }
+        ensures core { self.new.speaker.core ≡ self.old.speaker.core }
+    {
+        let command = copy_texts(self.alloc, self.speaker.core.command(test))?;
+        self.started = Some(clock.now());
+        self.orders.put(rt, command);
+        Ok(())
+    }
+
+    /// Behind an input: orders the program of a test that is to be started, or says why no more is taken. Behind a fault of
+    /// the sink no test is started.
+    pub fn settle<R: Wait, T: Clock>(
+        &mut self,
+        rt: &R,
+        clock: &mut T,
+    ) -> Result<Option<Halt>, OutOfMemory>
+        requires stood { Stood self.old.speaker.core }
+        ensures goes { (a : Setting) (files : ℕ) → Serves a files (to_start None) (seen N.sunk N.faults self.old) →
+            IfOk result (λ halt. Goes halt a files (seen N.sunk N.faults self.new)) }
+        ensures core { self.new.speaker.core ≡ self.old.speaker.core }
+    {
+        if self.speaker.is_broken {
+            return Ok(Some(Halt::At(Stop::WriteFault)));
+        }
+        match self.speaker.core.runs() {
+            None => Ok(self.over()),
+            Some(test) => {
+                if self.started.is_none() {
+                    self.order(rt, clock, test)?;
+                }
+                Ok(None)
+            }
+        }
+    }
+
+    // Where nothing runs: no more is taken behind GATEWAY_TERMINATE and the link's end.
+    fn over(&self) -> Option<Halt>
+        ensures { result ≡ over_by self.now.door }
+    {
+        match self.door {
+            Door::Open => None,
+            Door::Terminated => Some(Halt::At(Stop::Terminated)),
+            Door::Ended => Some(Halt::At(Stop::Ended)),
+        }
+    }
+}
+
+// Behind GATEWAY_TERMINATE no message is taken.
+fn door_behind(message: &Message, door: Door) -> Door
+    ensures { result ≡ door_behind (is_last message.now.kind) door }
+{
+    match message.kind {
+        Kind::Terminate => Door::Terminated,
+        Kind::Status
+        | Kind::Reconfigure
+        | Kind::Exec
+        | Kind::Item
+        | Kind::Close
+        | Kind::CloseError
+        | Kind::LastMessage => door,
+    }
+}
+
+fn copy_texts(alloc: Global, texts: &[Text]) -> Result<Texts, OutOfMemory>
+    ensures { IfOk result (λ copy. copy ≡ texts.now) }
+{
+    let mut items = Vec::with_capacity(alloc, texts.len())?;
+    for text in texts {
+        items.push(text.copy()?)?;
+    }
+    Ok(Texts { items })
+}

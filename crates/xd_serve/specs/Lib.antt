@@ -1,9 +1,0 @@
-pub mod Child
-pub mod Inputs
-pub mod Suites
-pub mod Programs
-pub mod Speaking
-pub mod Going
-pub mod Taking
-pub mod Served
-pub mod Complete
