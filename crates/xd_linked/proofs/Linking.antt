@@ -72,13 +72,17 @@ runs_linked {A} seen ends suite now mode j calls given workers fates places firs
   drives = drives;
   all = map-map (λ l. l.worker) seen ends ∙ (all ∙ ap (λ (ws : List ℕ). workers_with has_link ws fates) listed);
   each = All-map (λ l. ∥ RanSo suite Load given calls (workers_with is_refused (workers_started calls) fates) l.worker l.link ∥₁) seen ends
-    (subst (λ (ws : List ℕ). All (λ a. ∥ RanSo suite Load given calls (workers_with is_refused ws fates) (seen a).worker (seen a).link ∥₁) ends) listed
-    (subst (λ (k : ModeKind). All (λ a. ∥ RanSo suite k given calls (workers_with is_refused workers fates) (seen a).worker (seen a).link ∥₁) ends) load
-    (subst (λ (l : List ℕ). All (λ a. ∥ RanSo l mode given calls (workers_with is_refused workers fates) (seen a).worker (seen a).link ∥₁) ends) same each)));
-  begun = (places, own, subst (λ (asked : List Asked). last ≡ option_map (λ b. record { starts = b.starts ++ all_started places (starts_of calls) fates; links = b.links ++ asked }) (option_map told_of first)) (sym (map-map (λ l. end_told l.killed) seen ends))
-    (begun_from first last (all_started places (starts_of calls) fates) (map (λ a. end_told (seen a).killed) ends) begun));
+      (subst (λ (ws : List ℕ). All (λ a. ∥ RanSo suite Load given calls (workers_with is_refused ws fates) (seen a).worker (seen a).link ∥₁) ends) listed
+      (subst (λ (k : ModeKind). All (λ a. ∥ RanSo suite k given calls (workers_with is_refused workers fates) (seen a).worker (seen a).link ∥₁) ends) load
+      (subst (λ (l : List ℕ). All (λ a. ∥ RanSo l mode given calls (workers_with is_refused workers fates) (seen a).worker (seen a).link ∥₁) ends) same each)));
+  begun = (
+    places,
+    own,
+    subst (λ (asked : List Asked). last ≡ option_map (λ b. record { starts = b.starts ++ all_started places (starts_of calls) fates; links = b.links ++ asked }) (option_map told_of first)) (sym (map-map (λ l. end_told l.killed) seen ends))
+        (begun_from first last (all_started places (starts_of calls) fates) (map (λ a. end_told (seen a).killed) ends) begun),
+  );
   killed = All-map (λ l. ∥ EndKilledSo calls (workers_with is_refused (workers_started calls) fates) l.worker l.killed l.link.writes ∥₁) seen ends
-    (subst (λ (ws : List ℕ). All (λ a. ∥ EndKilledSo calls (workers_with is_refused ws fates) (seen a).worker (seen a).killed (seen a).link.writes ∥₁) ends) listed killed);
+      (subst (λ (ws : List ℕ). All (λ a. ∥ EndKilledSo calls (workers_with is_refused ws fates) (seen a).worker (seen a).killed (seen a).link.writes ∥₁) ends) listed killed);
   unlinked = λ w out. unlinked w (ap (λ (ws : List ℕ). is_among w (workers_with is_linked ws fates)) listed ∙ out);
   few_refused = refused;
   few_unlinked = failed;

@@ -16,10 +16,10 @@ returns-clause-ran g c =
     let run = c.run_over-ended.ensures in
     by_four c.end_of.result c.end_of.ensures.ended c.end_of.ensures.status c.end_of.ensures.starter c.end_of.ensures.crew
     (λ e ended status starter crew. linked_run c.run_over-ended.result
-      (λ links. map (λ l. ended_link l.worker l.killed (spring (g.St.Src.Source.supply l.source) (g.St.Src.Source.is_ended l.source) (g.St.Src.Source.faults l.source)) (g.St.Snk.Sink.sunk l.sink) (g.St.Snk.Sink.faults l.sink)) links.items)
-      c.in_ok-hub.hub.group.suite c.args.suite.now c.args.workers c.in_ok-session.session.settings _ _ e.journal e.links e.status
-      (hub.suite ∙ c.in_ok-path.ensures) (c.in_ok-session.ensures.settings ∙ c.settings_of.ensures) ended status
-      run.journal (rw (starter, crew) (rw (hub.starter.1, hub.crew.1) at run.runs)) run.out_fault run.still)
+    (λ links. map (λ l. ended_link l.worker l.killed (spring (g.St.Src.Source.supply l.source) (g.St.Src.Source.is_ended l.source) (g.St.Src.Source.faults l.source)) (g.St.Snk.Sink.sunk l.sink) (g.St.Snk.Sink.faults l.sink)) links.items)
+    c.in_ok-hub.hub.group.suite c.args.suite.now c.args.workers c.in_ok-session.session.settings _ _ e.journal e.links e.status
+    (hub.suite ∙ c.in_ok-path.ensures) (c.in_ok-session.ensures.settings ∙ c.settings_of.ensures) ended status
+    run.journal (rw (starter, crew) (rw (hub.starter.1, hub.crew.1) at run.runs)) run.out_fault run.still)
 
 pub run_over-ended-requires-clause-own : goal.run_over-ended-requires-clause-own
 run_over-ended-requires-clause-own g c = rw (c.in_ok-hub.ensures.places) c.in_ok-places.ensures.own
