@@ -40,10 +40,6 @@ module _ (args : List (List ℕ)) (room k : ℕ) (first : List ℕ) (old mid : O
     added = then_changed (λ run. with_read_fault (with_output d.gave run)) (with_last w.last) read new d.changes w.changes;
   }
 
-pub on_true : (b : Bool) (P : Type 0) → (b ≡ true → P) → OnTrue b P
-on_true true P f = f refl
-on_true false P f = tt
-
 -- never started
 pub never_started : (args : List (List ℕ)) (room : ℕ) (first : List ℕ) (old new : Option (List ChildRun)) → first ≡ [] → AddsRun (not_started args) old new → CameTo args room (Failed (negsuc 1)) first old new
 never_started args room first old new none added = record { run = not_started args; args_are = refl; came_to = refl; first_is = none ∙ grind (arith, common_steps); added = added }
