@@ -1,17 +1,13 @@
 // Runs with workers, over links in memory that threads read.
-ghost use Rattle.std.specs.Prelude.{All, IfOk};
-ghost use Rattle.xd_link.specs.FreshLink.{IsFresh};
-
 use super::*;
 use crate::tests::{crew, numbers, words};
-use crate::worker_tests::none;
-use std::collections::VecDeque;
+use crate::worker_tests::{none, starter_of};
 use std::sync::Wait;
 use std::test::Fail;
-use xd_crew::{Crew, ListedCrew, Slot, ThreadCrew, start_into};
-use xd_edge::{Blob, MemChildren, MemClock, MemFiles, MemSink};
+use xd_crew::{Crew, Slot, ThreadCrew, start_into};
+use xd_edge::{MemChildren, MemClock, MemFiles, MemSink};
 use xd_group::LinkEnd;
-use xd_link::{MemSource, MemStarter};
+use xd_link::MemSource;
 use xd_reader::Reader;
 use xd_runner::Runner;
 
@@ -50,20 +46,6 @@ fn joined(alloc: Global, parts: &[&[u8]]) -> Result<Vec<u8>, Fail> {
     Ok(all)
 }
 
-// What the worker of three tests says on each of two links.
-fn two_links(alloc: Global) -> Result<VecDeque<(MemSource, MemSink)>, Fail>
-    ensures { IfOk result (λ l. All (λ x. IsFresh x.0 x.1) l.items) }
-{
-    let mut links = VecDeque::new(alloc);
-    for _ in 0..2 {
-        let said = joined(alloc, &SAID)?;
-        let source = MemSource::new(Blob { bytes: said }, none(alloc), none(alloc));
-        let sink = MemSink::new(alloc, 2000, none(alloc))?;
-        links.push_back((source, sink))?;
-    }
-    Ok(links)
-}
-
 #[derive(Drop)]
 struct Seen {
     status: u8,
@@ -81,7 +63,8 @@ fn run<R: Wait + AllocGlobal, C: Crew<Reader<MemSource>>, D: Crew<Runner<MemChil
 ) -> Result<Seen, Fail> {
     let alloc = rt.alloc();
     let mut files = MemFiles::new(Vec::new(alloc), none(alloc));
-    let starter = MemStarter::new(alloc, two_links(alloc)?, numbers(alloc, starts)?);
+    let said = joined(alloc, &SAID)?;
+    let starter = starter_of(alloc, said.as_slice(), numbers(alloc, starts)?)?;
     let children = MemChildren::new(alloc, Vec::new(alloc), none(alloc));
     let mut clock = MemClock::new(Vec::new(alloc));
     let mut out = MemSink::new(alloc, 1000, numbers(alloc, writes)?)?;
@@ -122,16 +105,12 @@ fn a_suite_on_one_worker(rt: HostRuntime) -> Result<(), Fail> {
 
 #[test]
 fn a_worker_that_is_not_started_is_replaced(rt: HostRuntime) -> Result<(), Fail> {
-    let rows: [(&[u32], &[u32]); 2] = [(&[0], &[]), (&[], &[0])];
-    for (starts, readers) in rows {
-        let crew = ListedCrew::new(crew!(rt), numbers(rt.alloc(), readers)?);
-        let seen = run(&rt, crew, &mut crew!(rt), starts, &[])?;
-        assert_eq!(rt; seen.status, 1);
-        assert_eq!(rt;
-            seen.out.as_slice(),
-            b"[gw0] node down: not started\nreplacing crashed worker gw0\n3 tests on 1 workers, load\n[gw1] PASSED a\n[gw1] FAILED b\n[gw1] SKIPPED c\n==== [gw1] b ====\nstatus 3\n1 failed, 1 passed, 1 skipped\n".as_slice()
-        );
-    }
+    let seen = run(&rt, crew!(rt), &mut crew!(rt), &[0], &[])?;
+    assert_eq!(rt; seen.status, 1);
+    assert_eq!(rt;
+        seen.out.as_slice(),
+        b"[gw0] node down: not started\nreplacing crashed worker gw0\n3 tests on 1 workers, load\n[gw1] PASSED a\n[gw1] FAILED b\n[gw1] SKIPPED c\n==== [gw1] b ====\nstatus 3\n1 failed, 1 passed, 1 skipped\n".as_slice()
+    );
     Ok(())
 }
 

@@ -44,7 +44,7 @@ fn one_link(
 }
 
 // A starter with one link, which gives these bytes; it fails at these starts.
-fn starter_of(alloc: Global, told: &[u8], fails: Indices) -> Result<MemStarter, Fail> {
+pub(crate) fn starter_of(alloc: Global, told: &[u8], fails: Indices) -> Result<MemStarter, Fail> {
     let source = MemSource::new(Blob::of(alloc, told)?, none(alloc), none(alloc));
     let sink = MemSink::new(alloc, 2000, none(alloc))?;
     let links = one_link(alloc, source, sink)?;
