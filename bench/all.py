@@ -9,7 +9,7 @@ import multiprocessing
 
 import shared
 
-BENCHMARKS = "local", "suite", "drive", "waiting", "worker", "value", "wire"
+BENCHMARKS = "local", "runs", "suite", "drive", "waiting", "worker", "value", "wire"
 
 
 def measured(name, program):

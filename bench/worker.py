@@ -3,9 +3,9 @@
 
 Usage: bench/worker.py [PROGRAM]   from any folder; PROGRAM is the one of this repository where none is named.
 
-It runs 5,000 tests of `true` in one worker beside `-n 0` on the same suite (goal: at most 1.15 times its time), compares
-the peak memory of 500 and 5,000 tests run from one suite of 5,000 (goal: the same but for what is kept of each test),
-and sends 20,000 integers through `echo` beside the real execnet's echo (goal: at least 10 times as many a second), each
+It runs 1,000 and 20,000 tests of `true` in one worker beside `-n 0` on the same suite (goals: at most 1.15 times its time,
+and a cost per test at 20,000 of at most 1.05 times that at 1,000), compares the peak memory of 1,000 and 20,000 tests run
+from one suite of 20,000 (goal: the same but for what is kept of each test), and sends 20,000 integers through `echo` beside the real execnet's echo (goal: at least 10 times as many a second), each
 the best of some runs. Where execnet is not installed (python3-execnet on Debian) its part is skipped with a word.
 """
 
@@ -18,7 +18,7 @@ import time
 
 import shared
 
-TESTS = 5_000
+FEW, MANY = 1_000, 20_000
 ITEMS = 20_000
 
 EXECNET_ECHO = """
@@ -139,19 +139,34 @@ def execnet_echo(python, count):
     return float(done.stdout)
 
 
+def suite_of(folder, tests):
+    path = os.path.join(folder, f"suite{tests}.toml")
+    shared.write(path, "".join(f'[[test]]\nid = "test_{i}"\nrun = ["true"]\n' for i in range(tests)))
+    return path
+
+
+def compared(program, folder):
+    """The rows of tests in one worker: beside `-n 0`, and at few tests and at many."""
+    rows, costs = [], {}
+    for tests in (FEW, MANY):
+        suite = suite_of(folder, tests)
+        runs = range(shared.RUNS if tests == FEW else shared.RUNS // 2)
+        worker, alone = map(min, zip(*((run_tests(program, suite, tests)[0], run_alone(program, suite)) for _ in runs)))
+        shared.note(f"{tests} tests: worker {worker:.2f} s, -n 0 {alone:.2f} s")
+        costs[tests] = worker / tests
+        rows.append(shared.at_most(f"a worker behind pipes, {tests:,} tests of `true`", "`-n 0`", worker / alone, 1.15))
+    growth = costs[MANY] / costs[FEW]
+    rows.append(shared.at_most(f"cost per test of a worker at {MANY:,}", f"cost at {FEW:,}", growth, 1.05, "times"))
+    return rows
+
+
 def measure(program):
     with tempfile.TemporaryDirectory() as folder:
-        suite = os.path.join(folder, "suite.toml")
-        shared.write(suite, "".join(f'[[test]]\nid = "test_{i}"\nrun = ["true"]\n' for i in range(TESTS)))
-        times = [(run_tests(program, suite, TESTS)[0], run_alone(program, suite)) for _ in range(shared.RUNS)]
-        worker, alone = map(min, zip(*times))
-        few = run_tests(program, suite, TESTS // 10)[1]
-        many = run_tests(program, suite, TESTS)[1]
-    shared.note(f"{TESTS} tests: worker {worker:.2f} s, -n 0 {alone:.2f} s")
-    shared.note(f"peak memory: {few:.1f} MiB for {TESTS // 10} tests, {many:.1f} MiB for {TESTS}")
-    rows = [shared.at_most(f"a worker behind pipes, {TESTS:,} tests of `true`", "`-n 0`", worker / alone, 1.15)]
-    what = f"peak memory of a worker that ran {TESTS:,} tests of its suite, {many:.1f} MiB"
-    rows.append(shared.Row(what, f"one that ran {TESTS // 10:,} of them", many / few, "times", "the same"))
+        rows = compared(program, folder)
+        few, many = (run_tests(program, suite_of(folder, MANY), tests)[1] for tests in (FEW, MANY))
+    shared.note(f"peak memory: {few:.1f} MiB for {FEW} tests of {MANY}, {many:.1f} MiB for all")
+    what = f"peak memory of a worker that ran {MANY:,} tests of its suite, {many:.1f} MiB"
+    rows.append(shared.Row(what, f"one that ran {FEW:,} of them", many / few, "times", "the same"))
     ours = min(echo(program, ITEMS) for _ in range(shared.RUNS))
     shared.note(f"{ITEMS} items through echo: {ITEMS / ours:.0f} a second")
     what, beside = f"{ITEMS:,} integers through `echo` of a worker", "execnet's own echo"

@@ -4,10 +4,10 @@
 Usage: tools/tables.py          says which lines of a table are not the model's, and ends with status 1 where one is not
        tools/tables.py write    puts what the model says in their place; a name, its settings and its news stay
 
-A table of mode load stands in a file of crates/xd_drive/src, one run a line: its name, the settings, the news that a hub over
-lists gives, and what they come to (the calls of the hub, where the output fails; the journal, the status, and the text). How
-it is written stands at the head of crates/xd_drive/src/script.rt. The journals of all modes in crates/xd_drive/tables have
-a head of their own.
+A table of mode load stands in a file of crates/xd_tests_runs/src/drive, one run a line: its name, the settings, the news that
+a hub over lists gives, and what they come to (the calls of the hub, where the output fails; the journal, the status, and the
+text). How it is written stands at the heads of script.rt there and of crates/xd_tests_runs/src/words.rt. The journals of all
+modes in crates/xd_drive/tables have a head of their own.
 
 When a rule of a run changes: change the model, run this with `write`, and look at what changed.
 """
@@ -302,10 +302,10 @@ def main():
     writes = sys.argv[1:] == ["write"]
     if sys.argv[1:] and not writes:
         sys.exit(__doc__)
-    folder = os.path.join(ROOT, "crates", "xd_drive")
-    tables = [(os.path.join(folder, "src", f"{each}.rt"), lambda path: runs_in(path, False)) for each in RUNS]
-    tables.append((os.path.join(folder, "src", f"{FAILING}.rt"), lambda path: runs_in(path, True)))
-    tables.append((os.path.join(folder, "tables", "journals.txt"), journals_in))
+    folder = os.path.join(ROOT, "crates", "xd_tests_runs", "src", "drive")
+    tables = [(os.path.join(folder, f"{each}.rt"), lambda path: runs_in(path, False)) for each in RUNS]
+    tables.append((os.path.join(folder, f"{FAILING}.rt"), lambda path: runs_in(path, True)))
+    tables.append((os.path.join(ROOT, "crates", "xd_drive", "tables", "journals.txt"), journals_in))
     differ = 0
     for path, lines_in in tables:
         lines = list(lines_in(path))

@@ -12,6 +12,3 @@ mod end;
 pub use answers::{Arrived, Closing, GivenUp, Got, HasCallback, SendClosed, Waiting};
 pub use channel_end::ChannelEnd;
 pub use end::End;
-
-#[cfg(test)]
-mod tests;

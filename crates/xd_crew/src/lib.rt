@@ -14,6 +14,3 @@ pub use job_thread::RunningJob;
 pub use listed_crew::ListedCrew;
 pub use slot::{Slot, start_into};
 pub use thread_crew::ThreadCrew;
-
-#[cfg(test)]
-mod tests;

@@ -26,10 +26,12 @@ use Rattle.xd_session.proofs.Steps.{sound-run}
 use Rattle.xd_drive.specs.Driven.{Broken, Ended, IsJournalOf, Whole, run_given}
 use Rattle.xd_drive.specs.Failing.{FailedAt}
 use Rattle.xd_drive.specs.Going.{EndsRun, Scene}
+use Rattle.xd_drive.specs.Moments.{ToldInOrder, performed_of}
 use Rattle.xd_drive.specs.Performing.{AddsAll, Performs, all_possible, is_call, is_start, kills_of_started}
-use Rattle.xd_drive.specs.Printing.{ShowsEnd}
+use Rattle.xd_report.specs.Printing.{ShowsEnd}
 use Rattle.xd_drive.specs.Taken.{taken_of}
 use Rattle.xd_drive.proofs.Failing.{failed-behind, failed-part}
+use Rattle.xd_drive.proofs.InOrder.{order-broken}
 use Rattle.xd_drive.proofs.Kept.{kept-ended}
 use Rattle.xd_drive.proofs.Loop.{none-of}
 use Rattle.xd_drive.proofs.Performs.{performs-more}
@@ -155,9 +157,10 @@ module _ (settings : Settings) (s : Seen) (j : Journal) (proper : IsProper setti
     drive-kills old mid slots e =
         ap (all_possible slots mid.marks) (slices count a b j.entries.items first second) ∙ kills-left count s j old mid slots is (subst (λ (o : Option ℕ). EndsRun o s old mid) some e)
 
-    pub drive-broken : (old mid new : Scene) → stop_of j ≡ last_stop true (state_of s).books → EndsRun stopped s old mid → Performs (kills_of_started (take count a) (take (length b - count) (drop count b))) mid.starts new.starts mid.calls new.calls
-        → new.given ≡ mid.given → new.sunk ≡ mid.sunk → (n : ℕ) × (given : List News) × Broken n given j old new
-    drive-broken old mid new stop e kills given sunk =
+    pub drive-broken : (old mid new : Scene) (ms : Option (List Scene)) → stop_of j ≡ last_stop true (state_of s).books → EndsRun stopped s old mid → Performs (kills_of_started (take count a) (take (length b - count) (drop count b))) mid.starts new.starts mid.calls new.calls
+        → new.given ≡ mid.given → new.sunk ≡ mid.sunk → ToldInOrder s.settings (performed_of stopped s.entries) s.entries old ms
+        → (n : ℕ) × (given : List News) × Broken n given j old new × ToldInOrder j.settings n j.entries.items old ms
+    drive-broken old mid new ms stop e kills given sunk o =
         let whole_of = broken count s j old mid new still same is stop (subst (λ (o : Option ℕ). EndsRun o s old mid) some e)
         (subst (λ (es : List Entry). Performs es mid.starts new.starts mid.calls new.calls) (slices count a b j.entries.items first second) kills) given sunk in
-        (count, whole_of.0, whole_of.1)
+        (count, whole_of.0, whole_of.1, order-broken count j s old mid ms stopped some same is e o)

@@ -3,13 +3,13 @@ pub mod Driven
 pub mod Failing
 pub mod Follow
 pub mod Heard
+pub mod InOrder
 pub mod Kept
 pub mod Kills
 pub mod Loop
 pub mod NextListed
 pub mod Outs
 pub mod Performs
-pub mod Prints
 pub mod Runs
 pub mod Stepped
 pub mod Texts

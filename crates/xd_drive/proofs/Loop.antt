@@ -31,13 +31,13 @@ use Rattle.xd_drive.specs.Going.{EndsRun, EndsTail, Finished, Going, IsFresh, Sc
 use Rattle.xd_drive.specs.Marks.{Marks}
 use Rattle.xd_drive.specs.Performing.{AddsAll, Performs, after_all, after_entry, all_possible, is_start_of, kills_of_started, was_started}
 use Rattle.xd_edge.specs.Printing.{BreaksOff, ShowsSome}
-use Rattle.xd_drive.specs.Printing.{ShowsEnd}
+use Rattle.xd_report.specs.Printing.{ShowsEnd}
 use Rattle.xd_drive.specs.Taken.{taken_of, taken_with}
 use Rattle.xd_drive.proofs.Kills.{ending-possible, kills-go}
 use Rattle.xd_drive.proofs.Outs.{goes-start, started-more}
 use Rattle.xd_drive.proofs.Performs.{adds-more, adds-none, performs-more}
 use Rattle.xd_edge.proofs.PrintLemmas.{shows-all, shows-more}
-use Rattle.xd_drive.proofs.Prints.{shows-end}
+use Rattle.xd_report.proofs.Prints.{shows-end}
 use Rattle.xd_drive.proofs.Stepped.{started-by, state-is}
 use Rattle.xd_drive.proofs.Texts.{first-lines, tail-is}
 

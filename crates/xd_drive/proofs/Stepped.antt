@@ -26,7 +26,7 @@ use Rattle.xd_drive.specs.Agrees.{Agrees}
 use Rattle.xd_drive.specs.Going.{Scene, TakesNews, TellsEntries, added_by}
 use Rattle.xd_drive.specs.Marks.{Marks, is_end, marked_heard}
 use Rattle.xd_drive.specs.Performing.{AddsAll, Performs, after_all, after_entry, all_possible, between, is_start_of, was_started}
-use Rattle.xd_edge.specs.Printing.{Shows}
+use Rattle.xd_report.specs.Printing.{ShowsLines}
 use Rattle.xd_drive.specs.Taken.{taken_with}
 use Rattle.xd_drive.proofs.Follow.{follows-same}
 use Rattle.xd_drive.proofs.Kills.{ending-possible, kills-go, possible-both}
@@ -211,7 +211,7 @@ module _ (s : Seen) (proper : IsProper s.settings []) (n : News) (old mid : Scen
               performed = subst (λ (x : Option (List Entry)). Performs es x new.starts old.calls new.calls) starts (subst (λ (x : Option (List Entry)). Performs es mid.starts new.starts x new.calls) calls t.performed);
               agrees = subst (λ (f : ℕ → Marks). Agrees (state_of s1).books f) (sym (fun_ext t.marks ∙ ap (after_all es) marks-are)) behind;
               started = λ w. ap (λ (x : Marks). x.started) (t.marks w) ∙ started-by es mid.marks w ∙ ap (λ (x : Marks). x.started || was_started w es) (heard w);
-              shows = inr (subst (λ (x : Option Sunk). Shows true lines x new.sunk) sunk t.shows);
+              shows = subst (λ (x : Option Sunk). ShowsLines true lines x new.sunk) sunk t.shows;
             },
           );
         },

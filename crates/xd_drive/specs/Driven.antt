@@ -15,7 +15,7 @@ use Rattle.xd_session.specs.History.{Run, run_of}
 use Rattle.xd_drive.specs.Failing.{FailedAt}
 use Rattle.xd_drive.specs.Going.{Scene}
 use Rattle.xd_drive.specs.Performing.{AddsAll, Performs, kills_of_started}
-use Rattle.xd_drive.specs.Printing.{ShowsEnd}
+use Rattle.xd_report.specs.Printing.{ShowsEnd}
 use Rattle.xd_drive.specs.Taken.{taken_of}
 
 -- the run that the news make, where those of workers that are not active are dropped

@@ -19,8 +19,8 @@ use Rattle.xd_drive.specs.Agrees.{Agrees}
 use Rattle.xd_drive.specs.Failing.{FailedAt}
 use Rattle.xd_drive.specs.Marks.{Marks, no_marks}
 use Rattle.xd_drive.specs.Performing.{AddsAll, Performs, after_all, all_possible, kills_of_started, was_started}
-use Rattle.xd_edge.specs.Printing.{Shows, ShowsSome}
-use Rattle.xd_drive.specs.Printing.{ShowsEnd}
+use Rattle.xd_edge.specs.Printing.{ShowsSome}
+use Rattle.xd_report.specs.Printing.{ShowsEnd, ShowsLines}
 use Rattle.xd_drive.specs.Taken.{taken_of, taken_with}
 
 -- what is seen of a hub and of the output
@@ -66,7 +66,7 @@ pub record TellsEntries (shown : Bool) (es : List Entry) (lines : List ℕ) (old
   pub performed : Performs (if shown then es else []) old.starts new.starts old.calls new.calls
   pub marks : (w : ℕ) → new.marks w ≡ after_all (if shown then es else []) old.marks w
   pub given : new.given ≡ old.given
-  pub shows : Shows shown lines old.sunk new.sunk
+  pub shows : ShowsLines shown lines old.sunk new.sunk
 
 -- What one piece of news adds: it was printed and performed.
 pub record Told (more : List Entry) (s_old s_new : Seen) (old new : Scene) : Type 0 where

@@ -5,6 +5,6 @@ pub mod Failing
 pub mod Going
 pub mod Listed
 pub mod Marks
+pub mod Moments
 pub mod Performing
-pub mod Printing
 pub mod Taken

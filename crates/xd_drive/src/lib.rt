@@ -5,6 +5,7 @@
 mod copies;
 mod hub;
 mod listed_hub;
+mod moment;
 mod news;
 mod perform;
 mod printing;
@@ -12,17 +13,5 @@ mod running;
 
 pub use hub::Hub;
 pub use listed_hub::ListedHub;
+pub use moment::{Moment, NoWitness, Witness};
 pub use running::drive;
-
-#[cfg(test)]
-mod breaches;
-#[cfg(test)]
-mod failing_outputs;
-#[cfg(test)]
-mod random_runs;
-#[cfg(test)]
-mod script;
-#[cfg(test)]
-mod tests;
-#[cfg(test)]
-mod worked_runs;

@@ -10,11 +10,13 @@ ghost use Rattle.xd_report.specs.Lines.{lines_between, lines_from};
 ghost use Rattle.xd_session.specs.Stands.{StandsFor, state_of};
 ghost use Rattle.xd_drive.specs.Agrees.{Agrees};
 ghost use Rattle.xd_drive.specs.Going.{TakesNews, TellsEntries, added_by};
+ghost use Rattle.xd_drive.specs.Moments.{NotesNews, NotesTurn};
 ghost use Rattle.xd_drive.specs.Performing.{all_possible, between};
 
 use crate::Hub;
+use crate::moment::Witness;
 use crate::perform::perform;
-use crate::printing::print_lines;
+use crate::printing::print_between;
 use std::alloc::Global;
 use std::sync::Wait;
 use xd_edge::{OutOfMemory, Sink};
@@ -25,7 +27,7 @@ use xd_session::Session;
 
 // Prints the lines of the entries from one place up to another, and performs them; false where the output failed, and
 // then nothing is performed.
-fn tell_entries<H: Hub, O: Sink>(
+fn tell_entries<H: Hub, O: Sink, W: Witness<H, O>>(
     alloc: Global,
     reporter: &mut Reporter,
     journal: &Journal,
@@ -33,6 +35,7 @@ fn tell_entries<H: Hub, O: Sink>(
     to: usize,
     hub: &mut H,
     out: &mut O,
+    witness: &mut W,
 ) -> Result<bool, OutOfMemory>
     requires order { from ≤ to }
     requires within { to ≤ length journal.now.entries.items }
@@ -42,15 +45,20 @@ fn tell_entries<H: Hub, O: Sink>(
         (record { marks = H.marks hub.old; starts = H.starts hub.old; calls = H.calls hub.old; given = H.given hub.old; sunk = O.sunk out.old })
         (record { marks = H.marks hub.new; starts = H.starts hub.new; calls = H.calls hub.new; given = H.given hub.new; sunk = O.sunk out.new })) }
     ensures follows { OnOk result (Follows reporter.new (all_moved (no_one journal.now.settings) (take to journal.now.entries.items))) }
+    ensures notes { IfOk result (λ shown. NotesTurn shown
+        (record { marks = H.marks hub.old; starts = H.starts hub.old; calls = H.calls hub.old; given = H.given hub.old; sunk = O.sunk out.old })
+        (record { marks = H.marks hub.new; starts = H.starts hub.new; calls = H.calls hub.new; given = H.given hub.new; sunk = O.sunk out.new })
+        (W.seen witness.old) (W.seen witness.new)) }
     ensures slots { H.slots hub.new ≡ H.slots hub.old }
     ensures made { H.made hub.new ≡ H.made hub.old }
     ensures later { O.faults out.old ≤ O.faults out.new }
     ensures counted { IfOk result (λ shown. Counted shown (O.faults out.old) (O.faults out.new)) }
 {
-    let shown = print_lines(alloc, reporter, journal, from, to, out)?;
+    let shown = print_between(alloc, reporter, journal, from, to, out)?;
     if !shown {
         return Ok(false);
     }
+    witness.look(hub, out);
     perform(alloc, hub, &journal.entries[from..to])?;
     Ok(true)
 }
@@ -64,13 +72,14 @@ pub(crate) fn entry_count(journal: &Journal) -> usize
 
 // Takes a piece of news of an active worker, prints the lines of what it adds to the journal, and performs that; false
 // where the output failed, and then nothing is performed.
-fn tell_news<M: Mode, H: Hub, O: Sink>(
+fn tell_news<M: Mode, H: Hub, O: Sink, W: Witness<H, O>>(
     alloc: Global,
     session: &mut Session<M>,
     reporter: &mut Reporter,
     news: News,
     hub: &mut H,
     out: &mut O,
+    witness: &mut W,
 ) -> Result<bool, OutOfMemory>
     requires stands { (taken : List News) × StandsFor taken session.old }
     requires follows { Follows reporter.old (all_moved (no_one session.old.settings) session.old.entries) }
@@ -81,6 +90,10 @@ fn tell_news<M: Mode, H: Hub, O: Sink>(
     ensures tells { IfOk result (λ shown. (taken : List News) → StandsFor taken session.old → TellsEntries shown (added_by session.old.settings taken news) (lines_from (all_moved (no_one session.old.settings) session.old.entries) (added_by session.old.settings taken news))
         (record { marks = H.marks hub.old; starts = H.starts hub.old; calls = H.calls hub.old; given = H.given hub.old; sunk = O.sunk out.old })
         (record { marks = H.marks hub.new; starts = H.starts hub.new; calls = H.calls hub.new; given = H.given hub.new; sunk = O.sunk out.new })) }
+    ensures notes { IfOk result (λ shown. NotesTurn shown
+        (record { marks = H.marks hub.old; starts = H.starts hub.old; calls = H.calls hub.old; given = H.given hub.old; sunk = O.sunk out.old })
+        (record { marks = H.marks hub.new; starts = H.starts hub.new; calls = H.calls hub.new; given = H.given hub.new; sunk = O.sunk out.new })
+        (W.seen witness.old) (W.seen witness.new)) }
     ensures follows { OnOk result (Follows reporter.new (all_moved (no_one session.new.settings) session.new.entries)) }
     ensures slots { H.slots hub.new ≡ H.slots hub.old }
     ensures made { H.made hub.new ≡ H.made hub.old }
@@ -96,19 +109,21 @@ fn tell_news<M: Mode, H: Hub, O: Sink>(
         step.to,
         hub,
         out,
+        witness,
     )?;
     Ok(shown)
 }
 
 /// Takes the next piece of news, where its worker is active: prints the lines of what it adds to the journal, and
 /// performs the outputs. Where the output failed nothing is performed; gives how many entries stood before.
-pub(crate) fn take_news<R: Wait, M: Mode, H: Hub, O: Sink>(
+pub(crate) fn take_news<R: Wait, M: Mode, H: Hub, O: Sink, W: Witness<H, O>>(
     rt: &R,
     alloc: Global,
     session: &mut Session<M>,
     reporter: &mut Reporter,
     hub: &mut H,
     out: &mut O,
+    witness: &mut W,
 ) -> Result<Option<usize>, OutOfMemory>
     requires proper { IsProper session.old.settings [] }
     requires stands { (taken : List News) × StandsFor taken session.old }
@@ -119,6 +134,10 @@ pub(crate) fn take_news<R: Wait, M: Mode, H: Hub, O: Sink>(
     ensures takes { IfOk result (λ stopped. (n : News) × TakesNews n stopped session.old session.new
         (record { marks = H.marks hub.old; starts = H.starts hub.old; calls = H.calls hub.old; given = H.given hub.old; sunk = O.sunk out.old })
         (record { marks = H.marks hub.new; starts = H.starts hub.new; calls = H.calls hub.new; given = H.given hub.new; sunk = O.sunk out.new })) }
+    ensures notes { IfOk result (λ stopped. NotesNews stopped session.old session.new
+        (record { marks = H.marks hub.old; starts = H.starts hub.old; calls = H.calls hub.old; given = H.given hub.old; sunk = O.sunk out.old })
+        (record { marks = H.marks hub.new; starts = H.starts hub.new; calls = H.calls hub.new; given = H.given hub.new; sunk = O.sunk out.new })
+        (W.seen witness.old) (W.seen witness.new)) }
     ensures follows { OnOk result (Follows reporter.new (all_moved (no_one session.new.settings) session.new.entries)) }
     ensures slots { H.slots hub.new ≡ H.slots hub.old }
     ensures made { H.made hub.new ≡ H.made hub.old }
@@ -130,6 +149,6 @@ pub(crate) fn take_news<R: Wait, M: Mode, H: Hub, O: Sink>(
         return Ok(None);
     }
     let before = entry_count(session.journal());
-    let shown = tell_news(alloc, session, reporter, news, hub, out)?;
+    let shown = tell_news(alloc, session, reporter, news, hub, out, witness)?;
     if shown { Ok(None) } else { Ok(Some(before)) }
 }

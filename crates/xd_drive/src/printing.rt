@@ -5,13 +5,12 @@ ghost use Rattle.xd_ledger.specs.State.{all_moved, no_one};
 ghost use Rattle.xd_report.specs.Follows.{Follows};
 ghost use Rattle.xd_report.specs.Lines.{lines_between};
 ghost use Rattle.xd_report.specs.Text.{tail_text};
-ghost use Rattle.xd_edge.specs.Printing.{Shows};
-ghost use Rattle.xd_drive.specs.Printing.{ShowsEnd};
+ghost use Rattle.xd_report.specs.Printing.{ShowsEnd, ShowsLines};
 
 use std::alloc::Global;
-use xd_edge::{OutOfMemory, Sink, print};
+use xd_edge::{OutOfMemory, Sink};
 use xd_journal::Journal;
-use xd_report::{Reporter, tail};
+use xd_report::{Reporter, print_lines, print_tail, was_printed};
 
 /// A reporter that went over the journal so far.
 pub(crate) fn reporter_of(alloc: Global, journal: &Journal) -> Result<Reporter, OutOfMemory>
@@ -24,7 +23,7 @@ pub(crate) fn reporter_of(alloc: Global, journal: &Journal) -> Result<Reporter, 
 
 /// Prints the lines of the entries from one place up to another, with a reporter that went over those before; false where
 /// the output failed, and then nothing was handed on.
-pub(crate) fn print_lines<O: Sink>(
+pub(crate) fn print_between<O: Sink>(
     alloc: Global,
     reporter: &mut Reporter,
     journal: &Journal,
@@ -35,17 +34,18 @@ pub(crate) fn print_lines<O: Sink>(
     requires order { from ≤ to }
     requires within { to ≤ length journal.now.entries.items }
     requires follows { Follows reporter.old (all_moved (no_one journal.now.settings) (take from journal.now.entries.items)) }
-    ensures shows { IfOk result (λ shown. Shows shown (lines_between journal.now from to) (O.sunk out.old) (O.sunk out.new)) }
+    ensures shows { IfOk result (λ shown. ShowsLines shown (lines_between journal.now from to) (O.sunk out.old) (O.sunk out.new)) }
     ensures follows { OnOk result (Follows reporter.new (all_moved (no_one journal.now.settings) (take to journal.now.entries.items))) }
     ensures later { O.faults out.old ≤ O.faults out.new }
     ensures counted { IfOk result (λ shown. Counted shown (O.faults out.old) (O.faults out.new)) }
 {
-    let lines = reporter.lines(alloc, &journal.entries[from..to])?;
-    Ok(print(out, lines.as_slice()).is_ok())
+    let printed = print_lines(alloc, reporter, &journal.entries[from..to], out);
+    let shown = was_printed(printed)?;
+    Ok(shown)
 }
 
 /// Prints the tail, and closes the output; false where the output failed.
-pub(crate) fn print_tail<O: Sink>(
+pub(crate) fn print_end<O: Sink>(
     alloc: Global,
     journal: &Journal,
     out: &mut O,
@@ -54,20 +54,7 @@ pub(crate) fn print_tail<O: Sink>(
     ensures later { O.faults out.old ≤ O.faults out.new }
     ensures counted { IfOk result (λ shown. Counted shown (O.faults out.old) (O.faults out.new)) }
 {
-    let tail = tail(alloc, journal)?;
-    Ok(print_and_close(out, tail.as_slice()))
-}
-
-// Prints the bytes and closes the output; false where it failed.
-fn print_and_close<O: Sink>(out: &mut O, bytes: &[u8]) -> bool
-    ensures shows { ShowsEnd result bytes.now (O.sunk out.old) (O.sunk out.new) }
-    ensures counted { Counted result (O.faults out.old) (O.faults out.new) }
-{
-    if print(out, bytes).is_err() {
-        return false;
-    }
-    match out.close() {
-        Ok(()) => true,
-        Err(_) => false,
-    }
+    let printed = print_tail(alloc, journal, out);
+    let shown = was_printed(printed)?;
+    Ok(shown)
 }

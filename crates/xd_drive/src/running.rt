@@ -1,5 +1,5 @@
 // The loop that runs a session over a hub.
-ghost use Rattle.std.specs.Prelude.{◌≡◌, ◌≤◌, ℕ, List, [], true, false, Ok, None, IfOk, IfSome, OnOk, is_none};
+ghost use Rattle.std.specs.Prelude.{◌≡◌, ◌≤◌, ◌-◌, ℕ, List, [], length, true, false, Ok, None, IfOk, IfSome, OnOk, is_none};
 ghost use Rattle.xd_edge.specs.Faults.{Counted, Rose};
 ghost use Rattle.xd_journal.specs.declared.news.News.{News};
 ghost use Rattle.xd_ledger.specs.Ending.{stop_of};
@@ -8,11 +8,13 @@ ghost use Rattle.xd_session.specs.Ends.{is_out_fault};
 ghost use Rattle.xd_session.specs.Stands.{StandsFor};
 ghost use Rattle.xd_drive.specs.Driven.{Broken, IsJournalOf, Whole};
 ghost use Rattle.xd_drive.specs.Going.{EndsRun, EndsTail, IsFresh};
+ghost use Rattle.xd_drive.specs.Moments.{ToldInOrder, performed_of};
 
 use crate::Hub;
+use crate::moment::Witness;
 use crate::news::{entry_count, take_news};
 use crate::perform::{kill_started, perform};
-use crate::printing::{print_tail, reporter_of};
+use crate::printing::{print_end, reporter_of};
 use std::alloc::Global;
 use std::sync::Wait;
 use xd_edge::{OutOfMemory, Sink};
@@ -30,7 +32,7 @@ fn finish<O: Sink>(
     ensures later { O.faults out.old ≤ O.faults out.new }
     ensures counted { IfOk result (λ stopped. Counted (is_none stopped) (O.faults out.old) (O.faults out.new)) }
 {
-    let shown = print_tail(alloc, journal, out)?;
+    let shown = print_end(alloc, journal, out)?;
     if shown {
         Ok(None)
     } else {
@@ -40,12 +42,13 @@ fn finish<O: Sink>(
 
 // Performs the first starts, takes news until the run is over, and prints the tail. Where the output failed, how many
 // entries had been performed.
-fn run<R: Wait, M: Mode, H: Hub, O: Sink>(
+fn run<R: Wait, M: Mode, H: Hub, O: Sink, W: Witness<H, O>>(
     rt: &R,
     alloc: Global,
     session: &mut Session<M>,
     hub: &mut H,
     out: &mut O,
+    witness: &mut W,
 ) -> Result<Option<usize>, OutOfMemory>
     requires proper { IsProper session.old.settings [] }
     requires begins { StandsFor [] session.old }
@@ -54,11 +57,15 @@ fn run<R: Wait, M: Mode, H: Hub, O: Sink>(
     ensures ends { IfOk result (λ stopped. EndsRun stopped session.new
         (record { marks = H.marks hub.old; starts = H.starts hub.old; calls = H.calls hub.old; given = H.given hub.old; sunk = O.sunk out.old })
         (record { marks = H.marks hub.new; starts = H.starts hub.new; calls = H.calls hub.new; given = H.given hub.new; sunk = O.sunk out.new })) }
+    ensures in_order { IfOk result (λ stopped. ToldInOrder session.new.settings (performed_of stopped session.new.entries) session.new.entries
+        (record { marks = H.marks hub.old; starts = H.starts hub.old; calls = H.calls hub.old; given = H.given hub.old; sunk = O.sunk out.old })
+        (W.seen witness.new)) }
     ensures settings { OnOk result (session.new.settings ≡ session.old.settings) }
     ensures made { H.made hub.new ≡ H.made hub.old }
     ensures later { O.faults out.old ≤ O.faults out.new }
     ensures counted { IfOk result (λ stopped. Counted (is_none stopped) (O.faults out.old) (O.faults out.new)) }
 {
+    witness.look(hub, out);
     perform(alloc, hub, &session.journal().entries)?;
     let mut reporter = reporter_of(alloc, session.journal())?;
     for _ in rt.forever() {
@@ -66,7 +73,7 @@ fn run<R: Wait, M: Mode, H: Hub, O: Sink>(
             let stopped = finish(alloc, session.journal(), out)?;
             return Ok(stopped);
         }
-        let stopped = take_news(rt, alloc, session, &mut reporter, hub, out)?;
+        let stopped = take_news(rt, alloc, session, &mut reporter, hub, out, witness)?;
         if let Some(count) = stopped {
             return Ok(Some(count));
         }
@@ -88,13 +95,17 @@ fn run<R: Wait, M: Mode, H: Hub, O: Sink>(
 ///
 /// The hub is made of what it was made of before.
 ///
+/// The witness looks at the hub and the output at moments: for each entry once behind its lines and ahead of its performing,
+/// which the two as they stand at the end could not show. Clauses alone read what it saw.
+///
 /// Where memory is refused it returns as it stands: the workers that the hub started are left to the hub's owner to end.
-pub fn drive<R: Wait, M: Mode, H: Hub, O: Sink>(
+pub fn drive<R: Wait, M: Mode, H: Hub, O: Sink, W: Witness<H, O>>(
     rt: &R,
     alloc: Global,
     mut session: Session<M>,
     hub: &mut H,
     out: &mut O,
+    witness: &mut W,
 ) -> Result<Journal, OutOfMemory>
     requires begins { StandsFor [] session }
     requires slots { session.settings.workers ≤ H.slots hub.old }
@@ -105,13 +116,19 @@ pub fn drive<R: Wait, M: Mode, H: Hub, O: Sink>(
         (record { marks = H.marks hub.new; starts = H.starts hub.new; calls = H.calls hub.new; given = H.given hub.new; sunk = O.sunk out.new })) }
     ensures broken { IfOk result (λ j. is_out_fault (stop_of j) ≡ true → (count : ℕ) × (given : List News) × Broken count given j
         (record { marks = H.marks hub.old; starts = H.starts hub.old; calls = H.calls hub.old; given = H.given hub.old; sunk = O.sunk out.old })
-        (record { marks = H.marks hub.new; starts = H.starts hub.new; calls = H.calls hub.new; given = H.given hub.new; sunk = O.sunk out.new })) }
+        (record { marks = H.marks hub.new; starts = H.starts hub.new; calls = H.calls hub.new; given = H.given hub.new; sunk = O.sunk out.new })
+        × ToldInOrder j.settings count j.entries.items
+        (record { marks = H.marks hub.old; starts = H.starts hub.old; calls = H.calls hub.old; given = H.given hub.old; sunk = O.sunk out.old })
+        (W.seen witness.new)) }
+    ensures in_order { IfOk result (λ j. is_out_fault (stop_of j) ≡ false → ToldInOrder j.settings (length j.entries.items - 1) j.entries.items
+        (record { marks = H.marks hub.old; starts = H.starts hub.old; calls = H.calls hub.old; given = H.given hub.old; sunk = O.sunk out.old })
+        (W.seen witness.new)) }
     ensures out_fault { IfOk result (λ j. is_out_fault (stop_of j) ≡ true → Rose (O.faults out.old) (O.faults out.new)) }
     ensures still { IfOk result (λ j. is_out_fault (stop_of j) ≡ false → O.faults out.new ≡ O.faults out.old) }
     ensures later { O.faults out.old ≤ O.faults out.new }
     ensures made { H.made hub.new ≡ H.made hub.old }
 {
-    let stopped = run(rt, alloc, &mut session, hub, out)?;
+    let stopped = run(rt, alloc, &mut session, hub, out, witness)?;
     let Some(done) = stopped else {
         let journal = session.close(false)?;
         return Ok(journal);

@@ -3,7 +3,8 @@
 use Rattle.std.specs.Prelude.{◌≡◌, ℕ, ◌==◌, ◌&&◌, not, List, [], ◌∷◌, Bool, true, false, Option, Result, if◌then◌else◌}
 use Rattle.xd_value.specs.Tree.{Tree}
 use Rattle.xd_channel.specs.State.{EndState}
-use Rattle.xd_channel.specs.History.{Call, Arrive, Peer_close, Peer_last, Lose, Close as Close_end, Give_up, Set_callback, Receive, send_open, given, Stands}
+use Rattle.xd_channel.specs.History.{Call, send_open, given, Stands}
+use Rattle.xd_channel.specs.History as call
 use Rattle.xd_channel.specs.declared.end.End.{End}
 use Rattle.xd_channel.specs.declared.answers.Got.{Got}
 use Rattle.xd_channel.specs.declared.answers.Arrived.{Arrived}
@@ -14,21 +15,22 @@ use Rattle.xd_factory.specs.declared.side.Side.{Side}
 use Rattle.xd_factory.specs.declared.taken.Taken.{Taken}
 use Rattle.xd_factory.specs.declared.taken.Taken.TheVariants as taken
 use Rattle.xd_factory.specs.Numbers.{is_mine, is_in}
-use Rattle.xd_factory.specs.Said.{Said, Status, Exec, Data, Close, Last, Terminate, names_of}
+use Rattle.xd_factory.specs.Said.{Said, names_of}
+use Rattle.xd_factory.specs.Said as message
 use Rattle.xd_factory.specs.Slot.{Slot, Unseen, Here, Gone}
 use Rattle.xd_factory.specs.View.{slot_of, parity_of}
 
--- a call of a side, with what it handed out, or a message that it took
+-- a call of a side, named as the call is, with what it handed out, or a message that it took or refused
 pub data Act : Type 0 where
-  Opened : ℕ → Act  -- `open_channel` gave the number
-  Took : Said → Taken Tree → Act  -- a message, and what it did
-  Failed : (ℕ → Bool) → Act  -- a message was refused behind the opening of these numbers
-  Closed : ℕ → Act
-  Let_go : ℕ → Act
-  Function_ended : ℕ → Act
-  Hooked : ℕ → Result (List Tree × Option End) HasCallback → Act
-  Received : ℕ → Result (Got Tree) HasCallback → Act
-  Link_lost : Act
+  Open_channel : ℕ → Act  -- `open_channel` gave the number
+  Take_message : Said → Taken Tree → Act  -- a message, and what it did
+  Refuse : (ℕ → Bool) → Act  -- a message was refused behind the opening of these numbers
+  Close : ℕ → Act
+  Give_up : ℕ → Act
+  End_function : ℕ → Act
+  Set_callback : ℕ → Result (List Tree × Option End) HasCallback → Act
+  Receive : ℕ → Result (Got Tree) HasCallback → Act
+  Finish_receiving : Act
 
 -- what happened to one number
 pub data Deed : Type 0 where
@@ -92,12 +94,12 @@ arrived_of taken.Terminate = arrived.Dropped
 
 -- a message at a number, behind the opening of what it names
 abbrev pub told_deeds : Bool → ℕ → Said → Taken Tree → List Deed → List Deed
-told_deeds mine c (Data n v) t d = if n == c then on_end (Arrive v (arrived_of t)) d else d
-told_deeds mine c (Close n e) t d = if n == c then ended_deeds mine (Peer_close e) d else d
-told_deeds mine c (Last n) t d = if n == c then ended_deeds mine Peer_last d else d
-told_deeds mine c (Status n) t d = d
-told_deeds mine c (Exec n v) t d = d
-told_deeds mine c Terminate t d = d
+told_deeds mine c (message.Data n v) t d = if n == c then on_end (call.Arrive v (arrived_of t)) d else d
+told_deeds mine c (message.Close n e) t d = if n == c then ended_deeds mine (call.Peer_close e) d else d
+told_deeds mine c (message.Last n) t d = if n == c then ended_deeds mine call.Peer_last d else d
+told_deeds mine c (message.Status n) t d = d
+told_deeds mine c (message.Exec n v) t d = d
+told_deeds mine c message.Terminate t d = d
 
 abbrev pub took_deeds : Bool → ℕ → Said → Taken Tree → List Deed → List Deed
 took_deeds mine c said t d = told_deeds mine c said t (if is_in c (names_of said) then named_deeds mine d else d)
@@ -105,15 +107,15 @@ took_deeds mine c said t d = told_deeds mine c said t (if is_in c (names_of said
 -- what happened to a number, newest first
 abbrev pub deeds : Parity → ℕ → List Act → List Deed
 deeds parity c [] = []
-deeds parity c (Opened n ∷ h) = if n == c then Opens ∷ deeds parity c h else deeds parity c h
-deeds parity c (Took said t ∷ h) = took_deeds (is_mine parity c) c said t (deeds parity c h)
-deeds parity c (Failed which ∷ h) = if which c then named_deeds (is_mine parity c) (deeds parity c h) else deeds parity c h
-deeds parity c (Closed n ∷ h) = if n == c then on_end Close_end (deeds parity c h) else deeds parity c h
-deeds parity c (Let_go n ∷ h) = if n == c then on_end Give_up (deeds parity c h) else deeds parity c h
-deeds parity c (Function_ended n ∷ h) = if n == c then function_deeds (deeds parity c h) else deeds parity c h
-deeds parity c (Hooked n r ∷ h) = if n == c then on_end (Set_callback r) (deeds parity c h) else deeds parity c h
-deeds parity c (Received n r ∷ h) = if n == c then on_end (Receive r) (deeds parity c h) else deeds parity c h
-deeds parity c (Link_lost ∷ h) = on_end Lose (deeds parity c h)
+deeds parity c (Open_channel n ∷ h) = if n == c then Opens ∷ deeds parity c h else deeds parity c h
+deeds parity c (Take_message said t ∷ h) = took_deeds (is_mine parity c) c said t (deeds parity c h)
+deeds parity c (Refuse which ∷ h) = if which c then named_deeds (is_mine parity c) (deeds parity c h) else deeds parity c h
+deeds parity c (Close n ∷ h) = if n == c then on_end call.Close (deeds parity c h) else deeds parity c h
+deeds parity c (Give_up n ∷ h) = if n == c then on_end call.Give_up (deeds parity c h) else deeds parity c h
+deeds parity c (End_function n ∷ h) = if n == c then function_deeds (deeds parity c h) else deeds parity c h
+deeds parity c (Set_callback n r ∷ h) = if n == c then on_end (call.Set_callback r) (deeds parity c h) else deeds parity c h
+deeds parity c (Receive n r ∷ h) = if n == c then on_end (call.Receive r) (deeds parity c h) else deeds parity c h
+deeds parity c (Finish_receiving ∷ h) = on_end call.Lose (deeds parity c h)
 
 -- an entry is open, and its end is as the calls on it leave it
 pub record HereStands (s : EndState Tree) (d : List Deed) : Type 0 where

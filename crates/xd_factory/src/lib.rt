@@ -17,6 +17,3 @@ pub use faults::{CloseFault, HookFault, OpenFault, SendFault, SideFault, Unknown
 pub use parity::Parity;
 pub use side::{MAX_ENTRIES, Side};
 pub use taken::Taken;
-
-#[cfg(test)]
-mod tests;

@@ -97,6 +97,3 @@ impl Runs {
         }
     }
 }
-
-#[cfg(test)]
-mod tests;

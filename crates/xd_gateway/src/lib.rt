@@ -19,8 +19,3 @@ pub use laws::{call_payload_law, event_law, order_law, order_payload_law};
 pub use order::Order;
 pub use orders::{order_value, value_order};
 pub use word::{is_word, word_value};
-
-#[cfg(test)]
-mod payloads;
-#[cfg(test)]
-mod tests;

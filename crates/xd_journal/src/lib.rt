@@ -10,6 +10,3 @@ pub use entry::{Cause, Entry, Ids, Outcome, RunStop};
 pub use journal::Journal;
 pub use news::{News, What};
 pub use settings::Settings;
-
-#[cfg(test)]
-mod tests;

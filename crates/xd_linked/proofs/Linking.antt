@@ -1,5 +1,5 @@
 -- A run over a hub of links, from its first start to its last link.
-use Rattle.std.specs.Prelude.{Result, Ok, IfOk, option_map}
+use Rattle.std.specs.Prelude.{Result, Ok, Err, IfOk, OnOk, option_map}
 use Rattle.std.proofs.lemmas.List.Elements.{All-map}
 use Rattle.std.proofs.lemmas.Result.{IfOk-at_ok}
 use Rattle.std.proofs.lemmas.Simd.{map-map}
@@ -89,6 +89,12 @@ runs_linked {A} seen ends suite now mode j calls given workers fates places firs
 }
 
 -- a run by what was driven and what its links left
+-- what is seen of a hub that stayed as it was, where the run came to its end
+pub seen_as : {Ends E H : Type 0} (ended : Result (Journal × Ends) E) (seen : Ends → List EndedLink) (now : List ℕ) (old : Seen) (f : H → Seen) (before after : H) → OnOk ended (after ≡ before)
+    → IfOk ended (λ r. RunsLinked now r.0 (seen r.1) old (f before)) → IfOk ended (λ r. RunsLinked now r.0 (seen r.1) old (f after))
+seen_as {H = H} (Ok r) seen now old f before after same runs = subst (λ (h : H). RunsLinked now r.0 (seen r.1) old (f h)) (sym same) runs
+seen_as (Err e) seen now old f before after same runs = tt
+
 pub linked_run : {Ends E : Type 0} (ended : Result (Journal × Ends) E) (seen : Ends → List EndedLink) (now suite : List ℕ) (workers : ℕ) (settings : Settings) (old new : Seen) (j : Journal) (ends : Ends) (code : ℕ)
     → now ≡ suite → settings ≡ linked_settings workers → ended ≡ Ok (j, ends) → code ≡ status_of j
     → IfOk ended (λ r. IsJournalOf settings r.0) → IfOk ended (λ r. RunsLinked now r.0 (seen r.1) old new)

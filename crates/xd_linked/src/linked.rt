@@ -1,5 +1,5 @@
 // A suite is run on workers.
-ghost use Rattle.std.specs.Prelude.{◌≡◌, ◌≤◌, [], All, true, false, map, length, option_map, vec_len, Ok, IfOk};
+ghost use Rattle.std.specs.Prelude.{◌≡◌, ◌≤◌, [], All, true, false, map, length, option_map, vec_len, Ok, IfOk, OnOk, OnErr};
 ghost use Rattle.std.specs.Str.{encode_utf8_all};
 ghost use Rattle.xd_edge.specs.Faults.{Rose};
 ghost use Rattle.xd_link.specs.Spring.{spring};
@@ -17,12 +17,12 @@ ghost use Rattle.xd_linked.specs.Linked.{LinkedRun, RunsLinked, ended_link, link
 use std::alloc::Global;
 use std::sync::Wait;
 use xd_crew::Crew;
-use xd_drive::drive;
+use xd_drive::{NoWitness, drive};
 use xd_edge::{Env, ModeKind, OutOfMemory, Sink, Text};
 use xd_group::{Children, GatewayHub, Group, LinkEnd};
 use xd_journal::{Journal, Settings};
 use xd_link::{Place, Starter};
-use xd_links::Links;
+use xd_links::{Links, join_left};
 use xd_load::Load;
 use xd_reader::Reader;
 use xd_report::status_of;
@@ -72,7 +72,7 @@ fn places_of(alloc: Global, workers: u32) -> Result<Vec<Place>, OutOfMemory>
     Ok(places)
 }
 
-// Drives the session over the hub, and ends its links. Where memory runs out its workers are killed.
+// Drives the session over the hub, and ends its links.
 fn run_over<R: Wait, St: Starter, C: Crew<Reader<St::Src>>, O: Sink>(
     rt: &R,
     alloc: Global,
@@ -107,24 +107,23 @@ fn run_over<R: Wait, St: Starter, C: Crew<Reader<St::Src>>, O: Sink>(
     ensures still { IfOk result (λ r. is_out_fault (stop_of r.0) ≡ false → O.faults out.new ≡ O.faults out.old) }
     ensures later { O.faults out.old ≤ O.faults out.new }
 {
-    match drive(rt, alloc, session, hub, out) {
-        Ok(journal) => {
-            let links = hub.finish(rt, alloc)?;
-            Ok((journal, links))
-        }
-        Err(_) => Err(give_up(rt, hub)),
-    }
+    let journal = drive(rt, alloc, session, hub, out, &mut NoWitness)?;
+    let links = hub.finish(rt, alloc)?;
+    Ok((journal, links))
 }
 
-// Memory ran out: kills the workers that are left, and waits for their ends.
-fn give_up<R: Wait, St: Starter, C: Crew<Reader<St::Src>>>(
+// Where memory ran out: kills the workers that are left, and waits for their ends.
+fn end_workers<R: Wait, St: Starter, C: Crew<Reader<St::Src>>>(
     rt: &R,
     hub: &mut GatewayHub<St, C>,
-) -> OutOfMemory
-    ensures { list_all is_over hub.new.children.children.items ≡ true }
+    ended: &Result<(Journal, Vec<LinkEnd<St::Src, St::Snk>>), OutOfMemory>,
+)
+    ensures same { OnOk ended.now (hub.new ≡ hub.old) }
+    ensures over { OnErr ended.now (list_all is_over hub.new.children.children.items ≡ true) }
 {
-    hub.abandon(rt);
-    OutOfMemory
+    if ended.is_err() {
+        hub.abandon(rt);
+    }
 }
 
 // What the run came to, with the starter and the crew.
@@ -186,6 +185,7 @@ pub fn run_linked<R: Wait, St: Starter, C: Crew<Reader<St::Src>>, O: Sink>(
     let path = suite.copy()?;
     let mut hub = GatewayHub::new(alloc, places, path, ModeKind::Load, starter, crew)?;
     let ended = run_over(rt, alloc, session, &mut hub, out);
+    end_workers(rt, &mut hub, &ended);
     let GatewayHub {
         places: _,
         children,
@@ -208,9 +208,11 @@ pub fn run_linked<R: Wait, St: Starter, C: Crew<Reader<St::Src>>, O: Sink>(
     } = group;
     let Links {
         alloc: _,
-        crew,
-        desk: _,
-        handles: _,
+        mut crew,
+        mut desk,
+        handles,
+        mut going,
     } = links;
+    join_left(rt, &mut crew, &mut desk, handles, &mut going);
     end_of(alloc, ended, starter, crew)
 }

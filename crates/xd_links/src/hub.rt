@@ -18,8 +18,47 @@ pub struct Links<S: Source + Drop, C: Crew<Reader<S>>> {
     pub crew: C,
     pub desk: Desk<LinkNews>,
     pub handles: Vec<Option<C::Handle>>,
+    /// Of which links the end was not taken yet.
+    pub going: Vec<bool>,
     ghost rings: { map ring_of_mail (mails desk) ≡ map (ring_of_link C.job_of) handles.items },
     ghost fresh: { (k : ℕ) (source : S) (s : Supply) → slice_get (sources_of C.job_of handles.items) k ≡ Some (Some source) → S.supply source ≡ Some s → s.given ≡ [] },
+}
+
+// Notes of a link that its end was taken.
+fn note_end(going: &mut Vec<bool>, at: usize, item: &LinkNews) {
+    if matches!(item, LinkNews::End(_)) && at < going.len() {
+        going[at] = false;
+    }
+}
+
+/// Takes what comes of links until their readers have ended, and joins those that were not joined before. It waits for as
+/// long as a source does not end, so where memory ran out the children at their other ends are killed first.
+pub fn join_left<R: Wait, S: Source + Drop, C: Crew<Reader<S>>>(
+    rt: &R,
+    crew: &mut C,
+    desk: &mut Desk<LinkNews>,
+    handles: Vec<Option<C::Handle>>,
+    going: &mut Vec<bool>,
+)
+    ensures { C.faults crew.new ≡ C.faults crew.old }
+{
+    take_to_ends(rt, desk, going);
+    for handle in handles {
+        if let Some(handle) = handle {
+            let _end = crew.join(handle);
+        }
+    }
+}
+
+// Takes until the ends of all links were taken.
+fn take_to_ends<R: Wait>(rt: &R, desk: &mut Desk<LinkNews>, going: &mut Vec<bool>) {
+    for _ in rt.forever() {
+        if !going.contains(&true) {
+            return;
+        }
+        let (number, item) = desk.wait(rt);
+        note_end(going, number as usize, &item);
+    }
 }
 
 /// What a closed link left.
@@ -47,6 +86,7 @@ impl<S: Source + Drop, C: Crew<Reader<S>>> Links<S, C> {
             crew,
             desk: Desk::new(alloc, bell),
             handles: Vec::new(alloc),
+            going: Vec::new(alloc),
         })
     }
 
@@ -57,7 +97,9 @@ impl<S: Source + Drop, C: Crew<Reader<S>>> Links<S, C> {
         ensures news { (got : List LinkNews) × (slice_get (news_of (mails self.old.desk)) result.0 ≡ Some (Some got))
             × (news_of (mails self.new.desk) ≡ slice_set (news_of (mails self.old.desk)) result.0 (Some (got ++ result.1 ∷ []))) }
     {
-        self.desk.wait(rt)
+        let (number, item) = self.desk.wait(rt);
+        note_end(&mut self.going, number as usize, &item);
+        (number, item)
     }
 
     /// Starts a reader for the source. The source comes back where the crew refused it.
@@ -75,6 +117,7 @@ impl<S: Source + Drop, C: Crew<Reader<S>>> Links<S, C> {
         ensures silent { IfOk result (λ r. IfErr r (λ back. news_of (mails self.new.desk) ≡ news_of (mails self.old.desk) ++ None ∷ [])) }
     {
         self.handles.reserve(1)?;
+        self.going.reserve(1)?;
         let (sender, inbox) = mailbox(self.alloc, 8, self.desk.bell())?;
         let number = self.desk.add(inbox)?;
         match self
@@ -83,12 +126,14 @@ impl<S: Source + Drop, C: Crew<Reader<S>>> Links<S, C> {
         {
             Ok(handle) => {
                 self.handles.push_reserved(Some(handle));
+                self.going.push_reserved(true);
                 Ok(Ok(number))
             }
             Err(job) => {
                 let ReaderEnd { source, sender } = job.into_end();
                 self.desk.close_with(number, sender);
                 self.handles.push_reserved(None);
+                self.going.push_reserved(false);
                 Ok(Err(source))
             }
         }
@@ -109,10 +154,12 @@ impl<S: Source + Drop, C: Crew<Reader<S>>> Links<S, C> {
         ensures sources { OnOk result (sources_of C.job_of self.new.handles.items ≡ sources_of C.job_of self.old.handles.items ++ None ∷ []) }
     {
         self.handles.reserve(1)?;
+        self.going.reserve(1)?;
         let (sender, inbox) = mailbox(self.alloc, 1, self.desk.bell())?;
         let number = self.desk.add(inbox)?;
         self.desk.close_with(number, sender);
         self.handles.push_reserved(None);
+        self.going.push_reserved(false);
         Ok(())
     }
 

@@ -21,9 +21,10 @@ use Rattle.xd_listen.specs.Ends.{Closes, Ends, IsCause, Programs, Scene, Served,
 use Rattle.xd_listen.specs.Halts.{is_whole, status_of}
 use Rattle.xd_listen.specs.Programs.{AreLeft}
 use Rattle.xd_listen.specs.Seen.{Seen}
-use Rattle.xd_listen.specs.Serves.{Serves, Setting, nothing, setting, two}
+use Rattle.xd_listen.specs.Serves.{Serves, Setting, beside, nothing, setting, two}
 use Rattle.xd_listen.specs.Speaking.{greeting}
 use Rattle.xd_listen.specs.Spoke.{Speaks, Spoke, Voice, voice}
+use Rattle.xd_listen.specs.Timing.{Ticking}
 use Rattle.xd_listen.proofs.Tellings.{rose_earlier, rose_later}
 
 -- ---- the desk
@@ -60,14 +61,14 @@ spoke_none held whole first sunk faults writes count later = record {
   files_later = omega arith;
 }
 
-module _ (held : Option Held) (sunk0 sunk : Option Sunk) (faults0 faults files : ℕ) (reader runner ring : Ring) (core : WorkerCore) (broken : Bool) where
+module _ (held : Option Held) (sunk0 sunk : Option Sunk) (faults0 faults files : ℕ) (clock : Ticking) (reader runner ring : Ring) (core : WorkerCore) (broken : Bool) where
   abbrev pub place : Setting
-  place = setting held sunk0 faults0 files reader runner ring
+  place = setting held sunk0 faults0 files clock reader runner ring
 
   abbrev pub at_first : List (Option (Ring × List LinkNews)) → List (List (List ℕ)) → Seen
   at_first mails orders = record { core = core; broken = broken; sunk = sunk; sink_faults = faults; mails = mails; orders = orders; ring = ring; started = None; door = door.Open; link_stop = None; short = false }
 
-  first_serves : (mails : List (Option (Ring × List LinkNews))) → broken ≡ false → StandsFor core [] → Spoke held [] [] (not broken) (voice sunk0 faults0 files) (voice sunk faults files) → mails ≡ two place [] [] → Serves place files nothing (at_first mails [])
+  first_serves : (mails : List (Option (Ring × List LinkNews))) → broken ≡ false → StandsFor core [] → Spoke held [] [] (not broken) (voice sunk0 faults0 files) (voice sunk faults files) → mails ≡ two place [] [] → Serves place (beside files clock) nothing (at_first mails [])
   first_serves mails whole stands spoke are = record {
     inputs = [];
     history = [];
@@ -86,6 +87,7 @@ module _ (held : Option Held) (sunk0 sunk : Option Sunk) (faults0 faults files :
     last = λ z. refl;
     whole = λ z. whole;
     count = refl;
+    timed = refl;
     some = tt;
     ring = refl;
     runs = refl;
@@ -94,8 +96,8 @@ module _ (held : Option Held) (sunk0 sunk : Option Sunk) (faults0 faults files :
   }
 
   pub begun : (mails : List (Option (Ring × List LinkNews))) (orders : List (List (List ℕ))) → broken ≡ false → StandsFor core [] → Spoke held [] [] (not broken) (voice sunk0 faults0 files) (voice sunk faults files) → mails ≡ two place [] [] → orders ≡ []
-      → Serves place files nothing (at_first mails orders)
-  begun mails orders whole stands spoke are none = subst (λ (l : List (List (List ℕ))). Serves place files nothing (at_first mails l)) (sym none) (first_serves mails whole stands spoke are)
+      → Serves place (beside files clock) nothing (at_first mails orders)
+  begun mails orders whole stands spoke are none = subst (λ (l : List (List (List ℕ))). Serves place (beside files clock) nothing (at_first mails l)) (sym none) (first_serves mails whole stands spoke are)
 
 -- a sink was closed, or could not be
 pub closes_by : {E : Type 0} (r : Result Unit E) (closed : Bool) (sunk new : Option Sunk) (faults now : ℕ) → closed ≡ is_ok r → OnOk r (new ≡ option_map with_close sunk) → OnErr r (new ≡ sunk) → Counted (is_ok r) faults now → Closes closed sunk new faults now
@@ -116,7 +118,7 @@ closes_by (Err e) closed sunk new faults now is ok err count = record {
 
 -- Nothing was read and no program was run: the greeting could not be written, or a crew refused its job.
 module _ (held : Option Held) (s : Spring) (old new : Scene) (broken closed : Bool) (sunk : Option Sunk) (faults : ℕ) (spoke : Spoke held [] [] (not broken) (voice_of old) (voice sunk faults old.file_faults))
-    (closes : Closes closed sunk new.sunk faults new.sink_faults) (runs : new.runs ≡ old.runs) (child_still : new.child_faults ≡ old.child_faults) (files : new.file_faults ≡ old.file_faults)
+    (closes : Closes closed sunk new.sunk faults new.sink_faults) (runs : new.runs ≡ old.runs) (child_still : new.child_faults ≡ old.child_faults) (files : new.file_faults ≡ old.file_faults) (clock : new.clock ≡ old.clock)
     (refused : broken ≡ false → Rose old.reader_refusals new.reader_refusals ⊎ Rose old.runner_refusals new.runner_refusals) where
   none_run : Programs [] [] [] [] old new
   none_run = record {
@@ -134,6 +136,7 @@ module _ (held : Option Held) (s : Spring) (old new : Scene) (broken closed : Bo
       none_added (Some x) = ap Some (sym (append-nil x))
 
   ends_so : (why : Stop) → status_of why ≡ 3 → (not broken && closed) ≡ is_whole why → IsCause why [] [] [] s s old new → Ends why held s s old new
+  unfolding none_run
   ends_so why three whole cause = record {
     bytes = [];
     inputs = [];
@@ -151,6 +154,7 @@ module _ (held : Option Held) (s : Spring) (old new : Scene) (broken closed : Bo
     whole = whole;
     answered = λ z. refl;
     programs = none_run;
+    times = record { running = None; each = refl; timed = clock };
     left_is = none_left (not broken);
     heard = λ z. refl;
     source_count = record { still_or_rose = inl refl; still = λ z. refl };

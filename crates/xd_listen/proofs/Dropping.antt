@@ -14,7 +14,8 @@ use Rattle.xd_listen.specs.declared.stop.Stop.{Stop}
 use Rattle.xd_listen.specs.Halts.{Ceased, Goes, Strayed, IsStrange, IsUncalled, is_short_by, noted_end, still_started, without}
 use Rattle.xd_listen.specs.News.{dones, news_in}
 use Rattle.xd_listen.specs.Seen.{Seen}
-use Rattle.xd_listen.specs.Serves.{IsNoted, Serves, Setting, nothing, of_inbox, of_link, one_if, two}
+use Rattle.xd_listen.specs.Serves.{Beside, IsNoted, Serves, Setting, nothing, of_inbox, of_link, two}
+use Rattle.xd_listen.specs.Timing.{one_if}
 use Rattle.xd_listen.proofs.Counting.{dones-append}
 
 -- An item was taken of one of two inboxes.
@@ -89,8 +90,8 @@ still_drained (news.End why) b o n got d e = cc
 still_drained (news.Output x) b o n got d e = let z = d e in let y = dones-append got (news.Output x ∷ []) in omega (arith, z, y)
 still_drained (news.ChildDone outcome) b o n got d e = let x = d e in let y = dones-append got (news.ChildDone outcome ∷ []) in let z = at_most o in omega (arith, x, y, z)
 
-module _ (a : Setting) (files : ℕ) (s : Seen) (item : LinkNews) (mails : List (Option (Ring × List LinkNews))) where
-  ceased_more : (why : Stop) (n : ℕ) (c : Ceased a files why s) → TakesTwo a c.of_reader c.of_runner item mails n → Ceased a files why (without n item mails s)
+module _ (a : Setting) (now : Beside) (s : Seen) (item : LinkNews) (mails : List (Option (Ring × List LinkNews))) where
+  ceased_more : (why : Stop) (n : ℕ) (c : Ceased a now why s) → TakesTwo a c.of_reader c.of_runner item mails n → Ceased a now why (without n item mails s)
   ceased_more why zero c (First e) = record {
     inputs = c.inputs;
     history = c.history;
@@ -112,6 +113,7 @@ module _ (a : Setting) (files : ℕ) (s : Seen) (item : LinkNews) (mails : List 
     left_is = c.left_is;
     count = c.count;
     one = c.one;
+    times = c.times;
     idle = c.idle;
     some = c.some;
     ring = c.ring;
@@ -138,6 +140,7 @@ module _ (a : Setting) (files : ℕ) (s : Seen) (item : LinkNews) (mails : List 
     left_is = c.left_is;
     count = c.count;
     one = c.one;
+    times = c.times;
     idle = c.idle;
     some = c.some;
     ring = c.ring;
@@ -186,22 +189,22 @@ module _ (a : Setting) (files : ℕ) (s : Seen) (item : LinkNews) (mails : List 
       by (inr h) = inr (h.0 ++ item ∷ [], ap (λ (l : List LinkNews). l ++ item ∷ []) h.1 ∙ append_assoc x.heard (x.item ∷ h.0) (item ∷ []), h.2)
   strayed_more (suc (suc n)) x t = elim t [ ]
 
-  dropped_more : (h : Halt) (n : ℕ) → TakesAt s.mails mails n item → Goes (Some h) a files s → Goes (Some h) a files (without n item mails s)
+  dropped_more : (h : Halt) (n : ℕ) → TakesAt s.mails mails n item → Goes (Some h) a now s → Goes (Some h) a now (without n item mails s)
   dropped_more (halt.At why) n t c = ceased_more why n c (takes_two a c.of_reader c.of_runner item mails n (subst (λ (m : List (Option (Ring × List LinkNews))). TakesAt m mails n item) c.mails_are t))
   dropped_more halt.Astray n t x = strayed_more n x (takes_two a x.of_reader x.of_runner item mails n (subst (λ (m : List (Option (Ring × List LinkNews))). TakesAt m mails n item) x.mails_are t))
 
   pub dropped_as : (h : Halt) (n : ℕ) (l : Option LinkStop) (m : Option ℕ) (b : Bool) → l ≡ noted_end n item s.link_stop → m ≡ still_started n item s.started → b ≡ is_short_by n item s.short → TakesAt s.mails mails n item
-      → Goes (Some h) a files s → Goes (Some h) a files (record s { mails = mails; link_stop = l; started = m; short = b })
+      → Goes (Some h) a now s → Goes (Some h) a now (record s { mails = mails; link_stop = l; started = m; short = b })
   dropped_as h n l m b el em eb t g =
-      subst (λ (x : Bool). Goes (Some h) a files (record s { mails = mails; link_stop = l; started = m; short = x })) (sym eb)
-      (subst (λ (x : Option ℕ). Goes (Some h) a files (record s { mails = mails; link_stop = l; started = x; short = is_short_by n item s.short })) (sym em)
-      (subst (λ (x : Option LinkStop). Goes (Some h) a files (record s { mails = mails; link_stop = x; started = still_started n item s.started; short = is_short_by n item s.short })) (sym el)
+      subst (λ (x : Bool). Goes (Some h) a now (record s { mails = mails; link_stop = l; started = m; short = x })) (sym eb)
+      (subst (λ (x : Option ℕ). Goes (Some h) a now (record s { mails = mails; link_stop = l; started = x; short = is_short_by n item s.short })) (sym em)
+      (subst (λ (x : Option LinkStop). Goes (Some h) a now (record s { mails = mails; link_stop = x; started = still_started n item s.started; short = is_short_by n item s.short })) (sym el)
       (dropped_more h n t g)))
 
 -- ---- what the server takes
 
-module _ (a : Setting) (files : ℕ) (s : Seen) (item : LinkNews) (mails : List (Option (Ring × List LinkNews))) where
-  taken_two : (n : ℕ) (g : Serves a files nothing s) → TakesTwo a g.of_reader g.of_runner item mails n → Serves a files (of_inbox n item) (record s { mails = mails })
+module _ (a : Setting) (now : Beside) (s : Seen) (item : LinkNews) (mails : List (Option (Ring × List LinkNews))) where
+  taken_two : (n : ℕ) (g : Serves a now nothing s) → TakesTwo a g.of_reader g.of_runner item mails n → Serves a now (of_inbox n item) (record s { mails = mails })
   taken_two zero g (First e) = record {
     inputs = g.inputs;
     history = g.history;
@@ -220,6 +223,7 @@ module _ (a : Setting) (files : ℕ) (s : Seen) (item : LinkNews) (mails : List 
     last = λ z. cc;
     whole = g.whole;
     count = g.count;
+    timed = g.timed;
     some = g.some;
     ring = g.ring;
     runs = g.runs;
@@ -244,6 +248,7 @@ module _ (a : Setting) (files : ℕ) (s : Seen) (item : LinkNews) (mails : List 
     last = λ z. cc;
     whole = g.whole;
     count = g.count;
+    timed = g.timed;
     some = g.some;
     ring = g.ring;
     runs = g.runs;
@@ -252,12 +257,12 @@ module _ (a : Setting) (files : ℕ) (s : Seen) (item : LinkNews) (mails : List 
   }
   taken_two (suc (suc n)) g t = elim t [ ]
 
-  pub taken_item : (n : ℕ) → TakesAt s.mails mails n item → Serves a files nothing s → Serves a files (of_inbox n item) (record s { mails = mails })
+  pub taken_item : (n : ℕ) → TakesAt s.mails mails n item → Serves a now nothing s → Serves a now (of_inbox n item) (record s { mails = mails })
   taken_item n t g = taken_two n g (takes_two a g.of_reader g.of_runner item mails n (subst (λ (m : List (Option (Ring × List LinkNews))). TakesAt m mails n item) g.mails_are t))
 
 -- the reader's end was taken
-pub noted_now : (a : Setting) (files : ℕ) (s : Seen) (why : LinkStop) → Serves a files (of_link (news.End why)) s → Serves a files (of_link (news.End why)) (record s { link_stop = Some why })
-noted_now a files s why g = record {
+pub noted_now : (a : Setting) (now : Beside) (s : Seen) (why : LinkStop) → Serves a now (of_link (news.End why)) s → Serves a now (of_link (news.End why)) (record s { link_stop = Some why })
+noted_now a now s why g = record {
   inputs = g.inputs;
   history = g.history;
   of_reader = g.of_reader;
@@ -275,6 +280,7 @@ noted_now a files s why g = record {
   last = λ z. cc;
   whole = g.whole;
   count = g.count;
+  timed = g.timed;
   some = g.some;
   ring = g.ring;
   runs = g.runs;

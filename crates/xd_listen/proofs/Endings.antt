@@ -31,7 +31,8 @@ use Rattle.xd_listen.specs.Halts.{Ceased, Ceases, Strayed, IsStrange, IsUncalled
 use Rattle.xd_listen.specs.Joined.{Sources}
 use Rattle.xd_listen.specs.News.{dones, news_in}
 use Rattle.xd_listen.specs.Seen.{Seen}
-use Rattle.xd_listen.specs.Serves.{NoneEmpty, Setting}
+use Rattle.xd_listen.specs.Serves.{Beside, NoneEmpty, Setting}
+use Rattle.xd_listen.specs.Timing.{Ticking, Times}
 use Rattle.xd_listen.specs.Spoke.{Spoke, Voice, voice}
 use Rattle.xd_listen.proofs.Counting.{dones-append}
 use Rattle.xd_listen.proofs.Puts.{Fronts, end_behind, fronts, message_behind}
@@ -176,10 +177,10 @@ no_more orders put runs0 runs1 faults0 faults1 heard x more r e count =
 
 -- ---- what the programs did
 
-pub programs_ended : (a : Setting) (files : ℕ) (why : Stop) (s : Seen) (c : Ceased a files why s) (more : List LinkNews) (put : List LinkNews) (old new : Scene)
+pub programs_ended : (a : Setting) (now : Beside) (why : Stop) (s : Seen) (c : Ceased a now why s) (more : List LinkNews) (put : List LinkNews) (old new : Scene)
     → put ≡ c.of_runner ++ more → AllRan s.orders put old.runs new.runs old.child_faults new.child_faults
-    → (unheard : List Ran) × Programs c.inputs c.history c.left unheard old new × (status_of why ≡ 0 → unheard ≡ [])
-programs_ended a files why s c more put old new e r =
+    → (unheard : List Ran) × (p : Programs c.inputs c.history c.left unheard old new) × (status_of why ≡ 0 → unheard ≡ []) × (p.started ≡ s.orders)
+programs_ended a now why s c more put old new e r =
     let later = c.unheard ++ more in
     let in_put : put ≡ news_in c.inputs ++ later = e ∙ (ap (λ (l : List LinkNews). l ++ more) c.from_programs ∙ append_assoc (news_in c.inputs) c.unheard more) in
     let heard = rans_in c.inputs in
@@ -205,6 +206,7 @@ programs_ended a files why s c more put old new e r =
         later = r.later;
       },
       λ z. none unheard (let i = c.idle z in omega (arith, few, i)),
+      refl,
     )
   where
     two_parts : (x y : List Ran) (o p : List ℕ) (later : List LinkNews) → x ≡ y → o ≡ p → x ++ rans o later ≡ y ++ rans p later
@@ -234,10 +236,10 @@ refused_by (Refused g) f e = ap Refused (garbled g f e)
     garbled : (g f : FrameFault) → link.Garbled g ≡ link.Garbled f → g ≡ f
     garbled g f e = cc
 
-module _ (a : Setting) (files : ℕ) (s : Seen) (before : Sources) (old new : Scene) (why : Stop) (c : Ceased a files why s)
+module _ (a : Setting) (now : Beside) (s : Seen) (before : Sources) (old new : Scene) (why : Stop) (c : Ceased a now why s)
     (s0 s1 : Spring) (put more0 more1 runner_put : List LinkNews) (reads : PutsAll false s0 s1 [] put) (taken : put ≡ c.of_reader ++ more0) (noted : s.link_stop ≡ Some reads.stop)
     (taken1 : runner_put ≡ c.of_runner ++ more1) (ran : AllRan s.orders runner_put old.runs new.runs old.child_faults new.child_faults)
-    (closed : Bool) (closes : Closes closed s.sunk new.sunk s.sink_faults new.sink_faults) (first_is : a.first ≡ voice_of old) (files_is : new.file_faults ≡ files)
+    (closed : Bool) (closes : Closes closed s.sunk new.sunk s.sink_faults new.sink_faults) (first_is : a.first ≡ voice_of old) (files_is : new.file_faults ≡ now.file_faults) (clock_is : old.clock ≡ a.clock) (clock_now : new.clock ≡ now.clock)
     (readers_are : new.reader_refusals ≡ old.reader_refusals) (runners_are : new.runner_refusals ≡ old.runner_refusals) where
   abbrev bytes : List ℕ
   bytes = reads.reads.bytes
@@ -273,10 +275,14 @@ module _ (a : Setting) (files : ℕ) (s : Seen) (before : Sources) (old new : Sc
   source_or link.OutOfMemory r = inl r
 
   sink_was : Spoke a.held c.inputs c.history (is_whole why) (voice_of old) (voice s.sunk s.sink_faults new.file_faults)
-  sink_was = subst (λ (n : ℕ). Spoke a.held c.inputs c.history (is_whole why) (voice_of old) (voice s.sunk s.sink_faults n)) (sym files_is) (subst (λ (v : Voice). Spoke a.held c.inputs c.history (is_whole why) v (voice s.sunk s.sink_faults files)) first_is c.spoke)
+  sink_was = subst (λ (n : ℕ). Spoke a.held c.inputs c.history (is_whole why) (voice_of old) (voice s.sunk s.sink_faults n)) (sym files_is) (subst (λ (v : Voice). Spoke a.held c.inputs c.history (is_whole why) v (voice s.sunk s.sink_faults now.file_faults)) first_is c.spoke)
 
-  abbrev did : (unheard : List Ran) × Programs c.inputs c.history c.left unheard old new × (status_of why ≡ 0 → unheard ≡ [])
-  did = programs_ended a files why s c more1 runner_put old new taken1 ran
+  abbrev did : (unheard : List Ran) × (p : Programs c.inputs c.history c.left unheard old new) × (status_of why ≡ 0 → unheard ≡ []) × (p.started ≡ s.orders)
+  did = programs_ended a now why s c more1 runner_put old new taken1 ran
+
+  times_are : Times c.inputs did.1.started old.clock new.clock
+  times_are = subst (λ (l : List (List (List ℕ))). Times c.inputs l old.clock new.clock) (sym did.3)
+      (subst (λ (k : Ticking). Times c.inputs s.orders k new.clock) (sym clock_is) (subst (λ (k : Ticking). Times c.inputs s.orders a.clock k) (sym clock_now) c.times))
 
   -- it ends so, where the sink was closed or not
   ends_so : (w : Stop) → (is_whole why && closed) ≡ is_whole w → (status_of w ≡ 0 → status_of why ≡ 0) → IsStill w s0.faults s1.faults → IsCause w bytes c.inputs c.history s0 s1 old new → Ends w a.held s0 s1 old new
@@ -297,6 +303,7 @@ module _ (a : Setting) (files : ℕ) (s : Seen) (before : Sources) (old new : Sc
     whole = whole;
     answered = c.path_is;
     programs = did.1;
+    times = times_are;
     left_is = c.left_is;
     heard = λ z. did.2 (none z);
     source_count = still;

@@ -24,7 +24,8 @@ use Rattle.xd_listen.specs.Halts.{Ceased, Goes, Strayed, at_sink, status_of}
 use Rattle.xd_listen.specs.Joined.{Back, Joined, Sources}
 use Rattle.xd_listen.specs.News.{dones}
 use Rattle.xd_listen.specs.Seen.{Seen, seen}
-use Rattle.xd_listen.specs.Serves.{IsNoted, NoneEmpty, Setting, one_if, two}
+use Rattle.xd_listen.specs.Serves.{Beside, IsNoted, NoneEmpty, Setting, two}
+use Rattle.xd_listen.specs.Timing.{one_if}
 use Rattle.xd_listen.proofs.Endings.{AllRan, all_ran, ended, not_strayed}
 use Rattle.xd_listen.proofs.Puts.{end_among, put_more}
 
@@ -33,9 +34,9 @@ astray_if (halt.At why) n = absurd (n why refl)
 astray_if halt.Astray n = refl
 
 -- what was taken of both inboxes
-pub taken_of : (a : Setting) (files : ℕ) (s : Seen) (h : Halt) → Goes (Some h) a files s → (r : List LinkNews) × (q : List LinkNews) × (s.mails ≡ two a r q)
-taken_of a files s (halt.At why) c = (c.of_reader, c.of_runner, c.mails_are)
-taken_of a files s halt.Astray x = (x.of_reader, x.of_runner, x.mails_are)
+pub taken_of : (a : Setting) (now : Beside) (s : Seen) (h : Halt) → Goes (Some h) a now s → (r : List LinkNews) × (q : List LinkNews) × (s.mails ≡ two a r q)
+taken_of a now s (halt.At why) c = (c.of_reader, c.of_runner, c.mails_are)
+taken_of a now s halt.Astray x = (x.of_reader, x.of_runner, x.mails_are)
 
 -- the orders that a runner took
 pub orders_of : (mails0 mails1 : Mails) (ring : Ring) (s0 s1 : Programs) (put : List LinkNews) → mails0 ≡ Some (ring, []) ∷ [] → RunsOrders mails0 mails1 s0 s1 [] put → (got : List Order) × (mails1 ≡ Some (ring, got) ∷ [])
@@ -70,18 +71,18 @@ ran_nothing ring mails0 mails1 s0 s1 put rest ordered none are r closed =
     no_runs : (l : List Told) (old new : Option (List ChildRun)) → AreRun [] (map ran_of l) old new → new ≡ old
     no_runs l old new r = r.added ∙ (ap (λ (c : List ChildRun). option_map (λ x. x ++ c) old) (no_children r.children r.commands_are) ∙ same old)
 
-module _ (a : Setting) (files : ℕ) (before : Sources) (s : Seen) (stop : LinkStop) (ring : Ring) (ordered : List (List (List ℕ))) (b : Back) (mails : List (Option (Ring × List LinkNews))) (same : mails ≡ s.mails) (j : Joined a before s stop ring ordered b) where
+module _ (a : Setting) (now : Beside) (before : Sources) (s : Seen) (stop : LinkStop) (ring : Ring) (ordered : List (List (List ℕ))) (b : Back) (mails : List (Option (Ring × List LinkNews))) (same : mails ≡ s.mails) (j : Joined a before s stop ring ordered b) where
   mail0 : (r q : List LinkNews) → s.mails ≡ two a r q → HasMail mails 0 b.reader_ring r
   mail0 r q e = subst (λ (m : List (Option (Ring × List LinkNews))). HasMail m 0 b.reader_ring r) (sym (same ∙ e)) (subst (λ (k : Ring). HasMail (two a r q) 0 k r) (sym j.reader_is) refl)
 
   mail1 : (r q : List LinkNews) → s.mails ≡ two a r q → HasMail (slice_set mails 0 None) 1 b.runner_ring q
   mail1 r q e = subst (λ (m : List (Option (Ring × List LinkNews))). HasMail (slice_set m 0 None) 1 b.runner_ring q) (sym (same ∙ e)) (subst (λ (k : Ring). HasMail (slice_set (two a r q) 0 None) 1 k q) (sym j.runner_is) refl)
 
-  pub reader_mail : (h : Halt) → Goes (Some h) a files s → (got : List LinkNews) × HasMail mails 0 b.reader_ring got
-  reader_mail h g = let t = taken_of a files s h g in (t.0, mail0 t.0 t.1 t.2)
+  pub reader_mail : (h : Halt) → Goes (Some h) a now s → (got : List LinkNews) × HasMail mails 0 b.reader_ring got
+  reader_mail h g = let t = taken_of a now s h g in (t.0, mail0 t.0 t.1 t.2)
 
-  pub runner_mail : (h : Halt) → Goes (Some h) a files s → (got : List LinkNews) × HasMail (slice_set mails 0 None) 1 b.runner_ring got
-  runner_mail h g = let t = taken_of a files s h g in (t.1, mail1 t.0 t.1 t.2)
+  pub runner_mail : (h : Halt) → Goes (Some h) a now s → (got : List LinkNews) × HasMail (slice_set mails 0 None) 1 b.runner_ring got
+  runner_mail h g = let t = taken_of a now s h g in (t.1, mail1 t.0 t.1 t.2)
 
   pub order_mail : (got : List Order) × HasMail b.mails 0 ring got
   order_mail = let o = orders_of j.mails b.mails ring before.programs b.programs b.runner_put j.no_orders j.runs in (o.0, subst (λ (m : Mails). HasMail m 0 ring o.0) (sym o.1) refl)
@@ -98,20 +99,20 @@ module _ (a : Setting) (files : ℕ) (before : Sources) (s : Seen) (stop : LinkS
     all_ran_of : (q : List LinkNews) (more : List LinkNews) → NoneEmpty s.orders → b.runner_put ≡ q ++ more → length s.orders ≤ dones q → AllRan s.orders b.runner_put before.programs.runs b.programs.runs before.programs.faults b.programs.faults
     all_ran_of q more some taken few = all_ran s.orders some ring j.mails b.mails before.programs b.programs b.runner_put j.no_orders ordered_more q more taken few j.runs
 
-    pub finished : (why : Stop) (closed : Bool) (sunk : Option Sunk) (faults readers runners : ℕ) → Ceased a files why s → Closes closed s.sunk sunk s.sink_faults faults
+    pub finished : (why : Stop) (closed : Bool) (sunk : Option Sunk) (faults readers runners : ℕ) → Ceased a now why s → Closes closed s.sunk sunk s.sink_faults faults
         → Served (status_of (last_stop closed why stop)) a.held before.source b.source
-        (scene a.first.sunk a.first.sink_faults before.programs.runs before.programs.faults a.first.file_faults readers runners)
-        (scene sunk faults b.programs.runs b.programs.faults files readers runners)
+        (scene a.first.sunk a.first.sink_faults before.programs.runs before.programs.faults a.first.file_faults readers runners a.clock)
+        (scene sunk faults b.programs.runs b.programs.faults now.file_faults readers runners now.clock)
     finished why closed sunk faults readers runners c closes =
         let p0 = put_more rest0 c.of_reader b.reader_put (e0 c.of_reader (mail0 c.of_reader c.of_runner c.mails_are)) in
         let p1 = put_more rest1 c.of_runner b.runner_put (e1 c.of_runner (mail1 c.of_reader c.of_runner c.mails_are)) in
-        let old = scene a.first.sunk a.first.sink_faults before.programs.runs before.programs.faults a.first.file_faults readers runners in
-        let new = scene sunk faults b.programs.runs b.programs.faults files readers runners in
+        let old = scene a.first.sunk a.first.sink_faults before.programs.runs before.programs.faults a.first.file_faults readers runners a.clock in
+        let new = scene sunk faults b.programs.runs b.programs.faults now.file_faults readers runners now.clock in
         let ran = all_ran_of c.of_runner p1.0 c.some p1.1 (few_of c.of_runner (c.drained j.memory)) in
         let stopped : stop ≡ j.reads.stop = stop_is (subst (λ (o : Option LinkStop). IsNoted o c.of_reader) j.noted c.noted) p0.0 p0.1 in (
           last_stop closed why stop,
           refl,
-          ended a files s before old new why c before.source b.source b.reader_put p0.0 p1.0 b.runner_put j.reads p0.1 (j.noted ∙ ap Some stopped) p1.1 ran closed closes refl refl refl refl stop stopped,
+          ended a now s before old new why c before.source b.source b.reader_put p0.0 p1.0 b.runner_put j.reads p0.1 (j.noted ∙ ap Some stopped) p1.1 ran closed closes refl refl refl refl refl refl stop stopped,
         )
       where
         stop_is : IsNoted (Some stop) c.of_reader → (more : List LinkNews) → b.reader_put ≡ c.of_reader ++ more → stop ≡ j.reads.stop
@@ -144,14 +145,14 @@ idle_ran mails0 mails1 ring ring1 s0 s1 p0 p1 rest ordered none same fresh are r
     ran_nothing ring mails0 mails1 s0 s1 p1 rest ordered none are (runs_of mails0 mails0 mails1 s0 s0 s1 p0 p1 r refl refl fresh) (λ got h. closed got (subst (λ (k : Ring). HasMail mails1 0 k got) (sym same) h))
 
 -- the orders went through one ring
-pub ring_is : (a : Setting) (files : ℕ) (s : Seen) (h : Halt) → Goes (Some h) a files s → s.ring ≡ a.orders
-ring_is a files s (halt.At why) c = c.ring
-ring_is a files s halt.Astray x = x.ring
+pub ring_is : (a : Setting) (now : Beside) (s : Seen) (h : Halt) → Goes (Some h) a now s → s.ring ≡ a.orders
+ring_is a now s (halt.At why) c = c.ring
+ring_is a now s halt.Astray x = x.ring
 
 -- a sink that is closed does not change why the worker listens no more
-pub still_goes : {N : Type 0} (sunk : N → Option Sunk) (faults : N → ℕ) (a : Setting) (files : ℕ) (h : Halt) (x y : Server N) → y ≡ record x { speaker = record (x.speaker) { sink = y.speaker.sink } }
-    → Goes (Some h) a files (seen sunk faults x) → Goes (Some h) a files (at_sink (sunk x.speaker.sink) (faults x.speaker.sink) (seen sunk faults y))
-still_goes {N} sunk faults a files h x y e g = subst (λ (z : Server N). Goes (Some h) a files (at_sink (sunk x.speaker.sink) (faults x.speaker.sink) (seen sunk faults z))) (sym e) g
+pub still_goes : {N : Type 0} (sunk : N → Option Sunk) (faults : N → ℕ) (a : Setting) (now : Beside) (h : Halt) (x y : Server N) → y ≡ record x { speaker = record (x.speaker) { sink = y.speaker.sink } }
+    → Goes (Some h) a now (seen sunk faults x) → Goes (Some h) a now (at_sink (sunk x.speaker.sink) (faults x.speaker.sink) (seen sunk faults y))
+still_goes {N} sunk faults a now h x y e g = subst (λ (z : Server N). Goes (Some h) a now (at_sink (sunk x.speaker.sink) (faults x.speaker.sink) (seen sunk faults z))) (sym e) g
 
 pub still_closes : {N : Type 0} (sunk : N → Option Sunk) (faults : N → ℕ) (closed : Bool) (old : Option Sunk) (before : ℕ) (p q : Speaker N) → q ≡ p → Closes closed old (sunk p.sink) before (faults p.sink) → Closes closed old (sunk q.sink) before (faults q.sink)
 still_closes {N} sunk faults closed old before p q e c = subst (λ (x : Speaker N). Closes closed old (sunk x.sink) before (faults x.sink)) (sym e) c

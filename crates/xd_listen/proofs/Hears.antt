@@ -1,6 +1,6 @@
 -- What one input makes of a worker that listens.
 use Rattle.std.proofs.Common.{◌≡◌, ℕ, ◌+◌, ◌≤◌, List, [], ◌∷◌, ◌++◌, length, map, Bool, true, false, not, ◌||◌, Option, Some, None, refl, ap, sym, ◌∙◌, subst, arith}
-use Rattle.std.specs.Prelude.{option_to_list, IsSome}
+use Rattle.std.specs.Prelude.{option_to_list, IfSome, IsSome}
 use Rattle.std.proofs.lemmas.List.{append-nil, map-append}
 use Rattle.xd_edge.specs.Faults.{Rose}
 use Rattle.xd_edge.specs.Files.{Held}
@@ -34,10 +34,12 @@ use Rattle.xd_listen.specs.declared.server.Door.TheVariants as door
 use Rattle.xd_listen.specs.Halts.{door_behind}
 use Rattle.xd_listen.specs.News.{dones, news_by, news_in}
 use Rattle.xd_listen.specs.Seen.{Seen, is_shut}
-use Rattle.xd_listen.specs.Serves.{FromLink, IsBusy, IsListening, ReadsSo, RunsSo, Serves, Setting, of_link, of_program, one_if, to_start}
+use Rattle.xd_listen.specs.Serves.{Beside, beside, FromLink, IsBusy, IsListening, ReadsSo, RunsSo, Serves, Setting, of_link, of_program, to_start}
+use Rattle.xd_listen.specs.Timing.{Ticking, Ticks, AreTimed, durations_in, one_if}
 use Rattle.xd_listen.specs.Spoke.{Spoke, Voice, voice}
 use Rattle.xd_listen.proofs.Counting.{dones_done, dones_piece}
 use Rattle.xd_listen.proofs.Busy.{Keeps, link_end_keeps, message_keeps}
+use Rattle.xd_listen.proofs.Timings.{ended_at, untimed}
 
 -- a server whose worker took an input, and whose sink was written to
 abbrev pub spoken : WorkerCore → Bool → Option Sunk → ℕ → Seen → Seen
@@ -140,10 +142,10 @@ link_behind b m d inputs got o e f = by b e
     by false h = subst (λ (d : Door). FromLink d (Message m ∷ inputs) (got ++ news.Message m ∷ [])) (sym o)
         (record { got_is = more; none_last = none_more (messages_in inputs) m x.none_last h; no_end = x.no_end })
 
-module _ (a : Setting) (files : ℕ) (s : Seen) (core : WorkerCore) (broken : Bool) (sunk : Option Sunk) (faults : ℕ) (acts : WorkerActions)
+module _ (a : Setting) (now : Beside) (s : Seen) (core : WorkerCore) (broken : Bool) (sunk : Option Sunk) (faults : ℕ) (acts : WorkerActions)
     (writes : WritesMore s.broken broken (frames acts.say) s.sunk sunk) (count : CountBehind s.broken broken s.sink_faults faults) (later : s.sink_faults ≤ faults) where
   pub message_heard : (m : MessageView) (last : Bool) → is_last m.kind ≡ last → s.door ≡ door.Open → ((h : List Heard) → StandsFor s.core h → Answers core (worker_after h) (Message m) acts)
-      → Serves a files (of_link (news.Message m)) s → Serves a files (to_start acts.suite) (record (spoken core broken sunk faults s) { door = door_behind last s.door })
+      → Serves a now (of_link (news.Message m)) s → Serves a now (to_start acts.suite) (record (spoken core broken sunk faults s) { door = door_behind last s.door })
   message_heard m last e o answers g =
       let h = g.history in
       let w = worker_after h in
@@ -157,8 +159,8 @@ module _ (a : Setting) (files : ℕ) (s : Seen) (core : WorkerCore) (broken : Bo
         of_reader = g.of_reader ++ news.Message m ∷ [];
         of_runner = g.of_runner;
         left = commands_of u;
-        spoke = spoke_more a.held g.inputs h s.broken broken a.first (voice s.sunk s.sink_faults files) (voice sunk faults files) core (Message m) acts (g.whole refl) g.spoke x tt
-            (subst (λ (p : Option (List ℕ)). Follows a.held (Rose a.first.file_faults files) p (Message m)) (sym g.path_is) refl)
+        spoke = spoke_more a.held g.inputs h s.broken broken a.first (voice s.sunk s.sink_faults now.file_faults) (voice sunk faults now.file_faults) core (Message m) acts (g.whole refl) g.spoke x tt
+            (subst (λ (p : Option (List ℕ)). Follows a.held (Rose a.first.file_faults now.file_faults) p (Message m)) (sym g.path_is) refl)
             (λ z. listens.no_end) writes count later (omega arith);
         stands = x.worker;
         path_is = sym x.suite;
@@ -171,6 +173,7 @@ module _ (a : Setting) (files : ℕ) (s : Seen) (core : WorkerCore) (broken : Bo
         last = λ z. refl;
         whole = λ z. cc;
         count = g.count;
+        timed = g.timed;
         some = g.some;
         ring = g.ring;
         runs = d.runs;
@@ -188,7 +191,7 @@ module _ (a : Setting) (files : ℕ) (s : Seen) (core : WorkerCore) (broken : Bo
   end_suite (Some moment) w k u r = (link_end_keeps w k r.test r.runs r.busy u).suite
 
   pub end_heard : s.door ≡ door.Open → ((h : List Heard) → StandsFor s.core h → Answers core (worker_after h) LinkEnd acts)
-      → Serves a files (of_link (news.End link.Ended)) s → Serves a files (to_start None) (record (spoken core broken sunk faults s) { door = door.Ended })
+      → Serves a now (of_link (news.End link.Ended)) s → Serves a now (to_start None) (record (spoken core broken sunk faults s) { door = door.Ended })
   end_heard o answers g =
       let h = g.history in
       let w = worker_after h in
@@ -204,8 +207,8 @@ module _ (a : Setting) (files : ℕ) (s : Seen) (core : WorkerCore) (broken : Bo
         of_reader = g.of_reader ++ news.End link.Ended ∷ [];
         of_runner = g.of_runner;
         left = commands_of u;
-        spoke = spoke_more a.held g.inputs h s.broken broken a.first (voice s.sunk s.sink_faults files) (voice sunk faults files) core LinkEnd acts (g.whole refl) g.spoke x tt
-            (subst (λ (p : Option (List ℕ)). Follows a.held (Rose a.first.file_faults files) p LinkEnd) (sym g.path_is) refl)
+        spoke = spoke_more a.held g.inputs h s.broken broken a.first (voice s.sunk s.sink_faults now.file_faults) (voice sunk faults now.file_faults) core LinkEnd acts (g.whole refl) g.spoke x tt
+            (subst (λ (p : Option (List ℕ)). Follows a.held (Rose a.first.file_faults now.file_faults) p LinkEnd) (sym g.path_is) refl)
             (λ z. listens.no_end) writes count later (omega arith);
         stands = x.worker;
         path_is = subst (λ (c : Came). (turned c x.heard.channels (turn_of w)).suite ≡ None) (sym x.is) (end_suite s.started w x.heard.channels unstopped runs);
@@ -223,6 +226,7 @@ module _ (a : Setting) (files : ℕ) (s : Seen) (core : WorkerCore) (broken : Bo
         last = λ z. refl;
         whole = λ z. cc;
         count = g.count;
+        timed = g.timed;
         some = g.some;
         ring = g.ring;
         runs = d.runs;
@@ -255,7 +259,7 @@ module _ (a : Setting) (files : ℕ) (s : Seen) (core : WorkerCore) (broken : Bo
       by door.Ended x = record { later = x.later; got_is = x.got_is ∙ ap (λ (l : List MessageView). map news.Message l ++ news.End link.Ended ∷ x.later) (sym same); none_last = ap has_last same ∙ x.none_last; end = end ∙ x.end }
 
   pub output_heard : (piece : List ℕ) → IsSome s.started → length piece ≤ 4096 → ((h : List Heard) → StandsFor s.core h → Answers core (worker_after h) (Output piece) acts)
-      → Serves a files (of_program (news.Output piece)) s → Serves a files (to_start None) (spoken core broken sunk faults s)
+      → Serves a now (of_program (news.Output piece)) s → Serves a now (to_start None) (spoken core broken sunk faults s)
   output_heard piece some few answers g =
       let h = g.history in
       let w = worker_after h in
@@ -269,9 +273,9 @@ module _ (a : Setting) (files : ℕ) (s : Seen) (core : WorkerCore) (broken : Bo
         of_reader = g.of_reader;
         of_runner = g.of_runner ++ news.Output piece ∷ [];
         left = commands_of u;
-        spoke = spoke_more a.held g.inputs h s.broken broken a.first (voice s.sunk s.sink_faults files) (voice sunk faults files) core (Output piece) acts (g.whole refl) g.spoke x
+        spoke = spoke_more a.held g.inputs h s.broken broken a.first (voice s.sunk s.sink_faults now.file_faults) (voice sunk faults now.file_faults) core (Output piece) acts (g.whole refl) g.spoke x
             (subst (λ (o : Option ℕ). IsSome o) (sym (running_is w.duties.service ∙ r.runs)) search, few)
-            (subst (λ (p : Option (List ℕ)). Follows a.held (Rose a.first.file_faults files) p (Output piece)) (sym g.path_is) refl)
+            (subst (λ (p : Option (List ℕ)). Follows a.held (Rose a.first.file_faults now.file_faults) p (Output piece)) (sym g.path_is) refl)
             (λ z. cc) writes count later (omega arith);
         stands = x.worker;
         path_is = p.rest.suite;
@@ -284,6 +288,7 @@ module _ (a : Setting) (files : ℕ) (s : Seen) (core : WorkerCore) (broken : Bo
         last = λ z. refl;
         whole = λ z. cc;
         count = g.count ∙ ap (λ (n : ℕ). n + one_if s.started) (sym (dones_piece g.of_runner piece));
+        timed = g.timed;
         some = g.some;
         ring = g.ring;
         runs = still_runs s.started u some r.test (p.test ∙ r.runs) (ap rests p.phase_is ∙ r.busy) p.run;
@@ -291,9 +296,9 @@ module _ (a : Setting) (files : ℕ) (s : Seen) (core : WorkerCore) (broken : Bo
         stopped = p.rest.stopped ∙ g.stopped;
       }
 
-  pub done_heard : (outcome : Outcome) (ms : ℕ) → IsSome s.started → ((h : List Heard) → StandsFor s.core h → Answers core (worker_after h) (ChildDone outcome ms) acts)
-      → Serves a files (of_program (news.ChildDone outcome)) s → Serves a files (to_start None) (record (spoken core broken sunk faults s) { started = None })
-  done_heard outcome ms some answers g =
+  pub done_heard : (outcome : Outcome) (ms : ℕ) (clock : Ticking) → IsSome s.started → IfSome s.started (λ start. Ticks (start + ms) now.clock clock) → ((h : List Heard) → StandsFor s.core h → Answers core (worker_after h) (ChildDone outcome ms) acts)
+      → Serves a now (of_program (news.ChildDone outcome)) s → Serves a (beside now.file_faults clock) (to_start None) (record (spoken core broken sunk faults s) { started = None })
+  done_heard outcome ms clock some measured answers g =
       let h = g.history in
       let w = worker_after h in
       let x = answers h g.stands in
@@ -306,9 +311,9 @@ module _ (a : Setting) (files : ℕ) (s : Seen) (core : WorkerCore) (broken : Bo
         of_reader = g.of_reader;
         of_runner = g.of_runner ++ news.ChildDone outcome ∷ [];
         left = commands_of u;
-        spoke = spoke_more a.held g.inputs h s.broken broken a.first (voice s.sunk s.sink_faults files) (voice sunk faults files) core (ChildDone outcome ms) acts (g.whole refl) g.spoke x
+        spoke = spoke_more a.held g.inputs h s.broken broken a.first (voice s.sunk s.sink_faults now.file_faults) (voice sunk faults now.file_faults) core (ChildDone outcome ms) acts (g.whole refl) g.spoke x
             (subst (λ (o : Option ℕ). IsSome o) (sym (running_is w.duties.service ∙ r.runs)) search)
-            (subst (λ (p : Option (List ℕ)). Follows a.held (Rose a.first.file_faults files) p (ChildDone outcome ms)) (sym g.path_is) refl)
+            (subst (λ (p : Option (List ℕ)). Follows a.held (Rose a.first.file_faults now.file_faults) p (ChildDone outcome ms)) (sym g.path_is) refl)
             (λ z. cc) writes count later (omega arith);
         stands = x.worker;
         path_is = p.rest.suite;
@@ -321,6 +326,7 @@ module _ (a : Setting) (files : ℕ) (s : Seen) (core : WorkerCore) (broken : Bo
         last = λ z. refl;
         whole = λ z. cc;
         count = one_less s.started some (length s.orders) g.of_runner outcome g.count;
+        timed = ended_at s.started (durations_in g.inputs) ms a.clock now.clock clock some g.timed measured;
         some = g.some;
         ring = g.ring;
         runs = ready_runs u p.ready;
@@ -334,14 +340,14 @@ module _ (a : Setting) (files : ℕ) (s : Seen) (core : WorkerCore) (broken : Bo
 
   -- ---- a suite
 
-  pub suite_heard : (path : List ℕ) (i : WorkerInput) (files1 : ℕ) → s.broken ≡ false → FilesGave a.held (Rose files files1) path i → files ≤ files1 → ((h : List Heard) → StandsFor s.core h → Answers core (worker_after h) i acts)
-      → Serves a files (to_start (Some path)) s → Serves a files1 (to_start None) (spoken core broken sunk faults s)
+  pub suite_heard : (path : List ℕ) (i : WorkerInput) (files1 : ℕ) → s.broken ≡ false → FilesGave a.held (Rose now.file_faults files1) path i → now.file_faults ≤ files1 → ((h : List Heard) → StandsFor s.core h → Answers core (worker_after h) i acts)
+      → Serves a now (to_start (Some path)) s → Serves a (beside files1 now.clock) (to_start None) (spoken core broken sunk faults s)
   suite_heard path i files1 whole gave more answers g =
       let h = g.history in
       let w = worker_after h in
       let x = answers h g.stands in
       let u = turn_by w x.heard in
-      let y = aside a.held (Rose files files1) path i gave in
+      let y = aside a.held (Rose now.file_faults files1) path i gave in
       let runs : RunsSo None [] w = subst (λ (o : Option ℕ). RunsSo o [] w) g.reads.1 (runs_now s.started g.left w g.reads.2 g.runs) in
       let d : Plain u = y.does w x.heard x.is (record { idle = runs; unstopped = g.stopped ∙ ap is_shut g.reads.3 }) in
       record {
@@ -350,7 +356,7 @@ module _ (a : Setting) (files : ℕ) (s : Seen) (core : WorkerCore) (broken : Bo
         of_reader = g.of_reader;
         of_runner = g.of_runner;
         left = commands_of u;
-        spoke = spoke_more a.held g.inputs h s.broken broken a.first (voice s.sunk s.sink_faults files) (voice sunk faults files1) core i acts whole g.spoke x
+        spoke = spoke_more a.held g.inputs h s.broken broken a.first (voice s.sunk s.sink_faults now.file_faults) (voice sunk faults files1) core i acts whole g.spoke x
             (y.due w g.reads.0)
             (subst (λ (p : Option (List ℕ)). Follows a.held (Rose a.first.file_faults files1) p i) (sym g.path_is) (since i gave))
             (λ z. let q = sym y.link ∙ z in cc) writes count later more;
@@ -365,6 +371,7 @@ module _ (a : Setting) (files : ℕ) (s : Seen) (core : WorkerCore) (broken : Bo
         last = λ z. refl;
         whole = λ z. cc;
         count = g.count;
+        timed = subst (λ (l : List ℕ). AreTimed s.started l a.clock now.clock) (sym (untimed a.held (Rose now.file_faults files1) path i g.inputs gave)) g.timed;
         some = g.some;
         ring = g.ring;
         runs = subst (λ (o : Option ℕ). RunsSo o (commands_of u) (behind u)) (sym g.reads.1) (ready_runs u d.ready);
@@ -372,7 +379,7 @@ module _ (a : Setting) (files : ℕ) (s : Seen) (core : WorkerCore) (broken : Bo
         stopped = d.unstopped ∙ sym (ap is_shut g.reads.3);
       }
     where
-      since : (j : WorkerInput) → FilesGave a.held (Rose files files1) path j → FilesGave a.held (Rose a.first.file_faults files1) path j
+      since : (j : WorkerInput) → FilesGave a.held (Rose now.file_faults files1) path j → FilesGave a.held (Rose a.first.file_faults files1) path j
       since (Message m) f = f
       since (SuiteBytes b) f = f
       since SuiteTooLarge f = f
@@ -381,7 +388,7 @@ module _ (a : Setting) (files : ℕ) (s : Seen) (core : WorkerCore) (broken : Bo
       since (ChildDone outcome ms) f = f
       since LinkEnd f = f
 
-      no_news : (j : WorkerInput) → FilesGave a.held (Rose files files1) path j → news_by j ≡ []
+      no_news : (j : WorkerInput) → FilesGave a.held (Rose now.file_faults files1) path j → news_by j ≡ []
       no_news (Message m) f = absurd f
       no_news (SuiteBytes b) f = refl
       no_news SuiteTooLarge f = refl

@@ -13,7 +13,8 @@ use Rattle.xd_listen.specs.declared.server.Halt.TheVariants as halt
 use Rattle.xd_listen.specs.declared.stop.Stop.TheVariants as stop
 use Rattle.xd_listen.specs.Halts.{Goes, IsStrange, IsUncalled, unless_shut}
 use Rattle.xd_listen.specs.Seen.{Seen, is_shut}
-use Rattle.xd_listen.specs.Serves.{Serves, Setting, of_inbox, of_link, of_program, one_if}
+use Rattle.xd_listen.specs.Serves.{Beside, Serves, Setting, of_inbox, of_link, of_program}
+use Rattle.xd_listen.specs.Timing.{one_if}
 use Rattle.xd_listen.proofs.Settling.{dropped, end_ceases, strange}
 
 -- ---- inboxes
@@ -30,25 +31,25 @@ open_if door.Open e = refl
 open_if door.Terminated e = cc
 open_if door.Ended e = cc
 
-module _ (a : Setting) (files : ℕ) (s : Seen) where
-  unless : (item : LinkNews) (h : Halt) → (s.door ≡ door.Open → Serves a files (of_link item) s → Goes (Some h) a files s) → Serves a files (of_link item) s → Goes (unless_shut (is_shut s.door) h) a files s
+module _ (a : Setting) (now : Beside) (s : Seen) where
+  unless : (item : LinkNews) (h : Halt) → (s.door ≡ door.Open → Serves a now (of_link item) s → Goes (Some h) a now s) → Serves a now (of_link item) s → Goes (unless_shut (is_shut s.door) h) a now s
   unless item h f g = by (is_shut s.door) refl
     where
-      by : (b : Bool) → is_shut s.door ≡ b → Goes (unless_shut b h) a files s
-      by true e = dropped a files s item e g
+      by : (b : Bool) → is_shut s.door ≡ b → Goes (unless_shut b h) a now s
+      by true e = dropped a now s item e g
       by false e = f (open_if s.door e) g
 
-  pub cut_unless : Serves a files (of_link (news.End link.Cut)) s → Goes (unless_shut (is_shut s.door) (halt.At stop.Cut)) a files s
-  cut_unless g = unless (news.End link.Cut) (halt.At stop.Cut) (λ o x. end_ceases a files s stop.Cut link.Cut refl refl o (λ inputs h n. (refl, n)) x) g
+  pub cut_unless : Serves a now (of_link (news.End link.Cut)) s → Goes (unless_shut (is_shut s.door) (halt.At stop.Cut)) a now s
+  cut_unless g = unless (news.End link.Cut) (halt.At stop.Cut) (λ o x. end_ceases a now s stop.Cut link.Cut refl refl o (λ inputs h n. (refl, n)) x) g
 
-  pub header_unless : (f : FrameFault) → Serves a files (of_link (news.End (link.Garbled f))) s → Goes (unless_shut (is_shut s.door) (halt.At (stop.Header f))) a files s
-  header_unless f g = unless (news.End (link.Garbled f)) (halt.At (stop.Header f)) (λ o x. end_ceases a files s (stop.Header f) (link.Garbled f) refl refl o (λ inputs h n. (refl, n)) x) g
+  pub header_unless : (f : FrameFault) → Serves a now (of_link (news.End (link.Garbled f))) s → Goes (unless_shut (is_shut s.door) (halt.At (stop.Header f))) a now s
+  header_unless f g = unless (news.End (link.Garbled f)) (halt.At (stop.Header f)) (λ o x. end_ceases a now s (stop.Header f) (link.Garbled f) refl refl o (λ inputs h n. (refl, n)) x) g
 
-  pub unread_unless : Serves a files (of_link (news.End link.ReadFault)) s → Goes (unless_shut (is_shut s.door) (halt.At stop.ReadFault)) a files s
-  unread_unless g = unless (news.End link.ReadFault) (halt.At stop.ReadFault) (λ o x. end_ceases a files s stop.ReadFault link.ReadFault refl refl o (λ inputs h n. (refl, n)) x) g
+  pub unread_unless : Serves a now (of_link (news.End link.ReadFault)) s → Goes (unless_shut (is_shut s.door) (halt.At stop.ReadFault)) a now s
+  unread_unless g = unless (news.End link.ReadFault) (halt.At stop.ReadFault) (λ o x. end_ceases a now s stop.ReadFault link.ReadFault refl refl o (λ inputs h n. (refl, n)) x) g
 
-  pub strange_unless : (item : LinkNews) → IsStrange item → Serves a files (of_link item) s → Goes (unless_shut (is_shut s.door) halt.Astray) a files s
-  strange_unless item odd g = unless item halt.Astray (λ o x. strange a files s item odd o x) g
+  pub strange_unless : (item : LinkNews) → IsStrange item → Serves a now (of_link item) s → Goes (unless_shut (is_shut s.door) halt.Astray) a now s
+  strange_unless item odd g = unless item halt.Astray (λ o x. strange a now s item odd o x) g
 
 -- ---- programs
 

@@ -14,3 +14,4 @@ pub mod Settling
 pub mod Steps
 pub mod Items
 pub mod Tellings
+pub mod Timings

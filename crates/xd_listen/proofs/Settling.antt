@@ -30,9 +30,11 @@ use Rattle.xd_listen.specs.declared.stop.Stop.TheVariants as stop
 use Rattle.xd_listen.specs.Halts.{Ceased, Ceases, CeasesBy, Goes, IsStrange, IsUncalled, Strayed, is_whole, over_by, status_of}
 use Rattle.xd_listen.specs.News.{dones, news_in}
 use Rattle.xd_listen.specs.Seen.{Seen, is_shut}
-use Rattle.xd_listen.specs.Serves.{NoneEmpty, FromLink, HeardEnd, HeardLast, IsBusy, IsListening, Runs, RunsSo, Serves, Setting, nothing, of_link, of_program, one_if, to_start}
+use Rattle.xd_listen.specs.Serves.{Beside, beside, FromLink, HeardEnd, HeardLast, IsBusy, IsListening, NoneEmpty, Runs, RunsSo, Serves, Setting, nothing, of_link, of_program, to_start}
+use Rattle.xd_listen.specs.Timing.{Ticking, Ticks, durations_in, one_if}
 use Rattle.xd_listen.specs.Spoke.{Spoke, voice}
 use Rattle.xd_listen.proofs.Counting.{dones-append}
+use Rattle.xd_listen.proofs.Timings.{begun_at, times_of}
 
 pub not_none : (o : Option ℕ) (b : Bool) → is_some o ≡ not b → b ≡ false → IsSome o
 not_none o b e f = e ∙ ap not f
@@ -55,10 +57,10 @@ left_is (command ∷ more) w test e r =
     let same : b.test ≡ test = some_by (running_test (call_in w.duties.service)) b.test test b.runs (sym (running_is w.duties.service) ∙ e) in
     (ap (λ (l : List (List (List ℕ))). command ∷ l) r.2 ∙ ap (λ (c : List (List ℕ)). c ∷ []) (r.1 ∙ ap (run_at w.duties.tests) same), b)
 
-module _ (a : Setting) (files : ℕ) (s : Seen) where
-  pub ordered : (test moment : ℕ) (command : List (List ℕ)) → s.started ≡ None → Runs test s.core → ((h : List Heard) → StandsFor s.core h → command ≡ run_at (worker_after h).duties.tests test) → 0 < length command → s.broken ≡ false
-      → Serves a files (to_start None) s → Serves a files nothing (record s { started = Some moment; orders = s.orders ++ command ∷ [] })
-  ordered test moment command none runs is some whole g =
+module _ (a : Setting) (now : Beside) (s : Seen) where
+  pub ordered : (test moment : ℕ) (command : List (List ℕ)) (clock : Ticking) → Ticks moment now.clock clock → s.started ≡ None → Runs test s.core → ((h : List Heard) → StandsFor s.core h → command ≡ run_at (worker_after h).duties.tests test) → 0 < length command → s.broken ≡ false
+      → Serves a now (to_start None) s → Serves a (beside now.file_faults clock) nothing (record s { started = Some moment; orders = s.orders ++ command ∷ [] })
+  ordered test moment command clock ticks none runs is some whole g =
       let h = g.history in
       let w = worker_after h in
       let l = left_is g.left w test (runs h g.stands) (subst (λ (o : Option ℕ). RunsSo o g.left w) none g.runs) in
@@ -80,6 +82,7 @@ module _ (a : Setting) (files : ℕ) (s : Seen) where
         last = λ z. cc;
         whole = λ z. whole;
         count = one_more (subst (λ (o : Option ℕ). length s.orders ≡ dones g.of_runner + one_if o) none g.count);
+        timed = begun_at s.started (durations_in g.inputs) moment a.clock now.clock clock none g.timed ticks;
         some = none_empty_more s.orders command g.some some;
         ring = g.ring;
         runs = l.1;
@@ -91,7 +94,7 @@ module _ (a : Setting) (files : ℕ) (s : Seen) where
       one_more e = let n = length-append s.orders (command ∷ []) in omega (arith, e, n)
 
   -- nothing is to be done
-  settled_as : (left : List (List (List ℕ))) → s.broken ≡ false → left ≡ [] → (g : Serves a files (to_start None) s) → g.left ≡ left → Serves a files nothing s
+  settled_as : (left : List (List (List ℕ))) → s.broken ≡ false → left ≡ [] → (g : Serves a now (to_start None) s) → g.left ≡ left → Serves a now nothing s
   settled_as left whole e g f = record {
     inputs = g.inputs;
     history = g.history;
@@ -110,6 +113,7 @@ module _ (a : Setting) (files : ℕ) (s : Seen) where
     last = λ z. cc;
     whole = λ z. whole;
     count = g.count;
+    timed = g.timed;
     some = g.some;
     ring = g.ring;
     runs = g.runs;
@@ -118,7 +122,7 @@ module _ (a : Setting) (files : ℕ) (s : Seen) where
   }
 
   -- a test runs that was started before
-  pub runs_on : s.broken ≡ false → IsSome s.started → Serves a files (to_start None) s → Serves a files nothing s
+  pub runs_on : s.broken ≡ false → IsSome s.started → Serves a now (to_start None) s → Serves a now nothing s
   runs_on whole some g = settled_as [] whole refl g (none_left s.started g.left some g.runs)
     where
       none_left : (started : Option ℕ) (left : List (List (List ℕ))) → IsSome started → RunsSo started left (worker_after g.history) → left ≡ []
@@ -140,7 +144,7 @@ module _ (a : Setting) (files : ℕ) (s : Seen) where
       both false b x y = x
 
   -- nothing runs
-  pub idle_goes : s.broken ≡ false → ((h : List Heard) → StandsFor s.core h → running_in (worker_after h).duties.service ≡ None) → Serves a files (to_start None) s → Goes (over_by s.door) a files s
+  pub idle_goes : s.broken ≡ false → ((h : List Heard) → StandsFor s.core h → running_in (worker_after h).duties.service ≡ None) → Serves a now (to_start None) s → Goes (over_by s.door) a now s
   idle_goes whole none g = by s.door refl
     where
       l : (g.left ≡ []) × (s.started ≡ None)
@@ -149,7 +153,7 @@ module _ (a : Setting) (files : ℕ) (s : Seen) where
       over : is_shut s.door ≡ true → is_over (worker_after g.history) ≡ true
       over e = over_if (worker_after g.history) (g.stopped ∙ e) (none g.history g.stands)
 
-      ceased : (why : Stop) (ahead later : List LinkNews) → is_whole why ≡ true → g.of_reader ≡ map news.Message (messages_in g.inputs) ++ (ahead ++ later) → Ceases why g.inputs g.history ahead → Ceased a files why s
+      ceased : (why : Stop) (ahead later : List LinkNews) → is_whole why ≡ true → g.of_reader ≡ map news.Message (messages_in g.inputs) ++ (ahead ++ later) → Ceases why g.inputs g.history ahead → Ceased a now why s
       ceased why ahead later w link cause = record {
         inputs = g.inputs;
         history = g.history;
@@ -160,7 +164,7 @@ module _ (a : Setting) (files : ℕ) (s : Seen) where
         later = later;
         unheard = [];
         running = 0;
-        spoke = subst (λ (b : Bool). Spoke a.held g.inputs g.history b a.first (voice s.sunk s.sink_faults files)) (ap not whole ∙ sym w) g.spoke;
+        spoke = subst (λ (b : Bool). Spoke a.held g.inputs g.history b a.first (voice s.sunk s.sink_faults now.file_faults)) (ap not whole ∙ sym w) g.spoke;
         path_is = λ z. g.path_is;
         mails_are = g.mails_are;
         from_link = link;
@@ -171,13 +175,14 @@ module _ (a : Setting) (files : ℕ) (s : Seen) where
         left_is = subst (λ (b : Bool). AreLeft b [] g.history) (sym w) refl;
         count = subst (λ (n : List LinkNews). length s.orders ≡ dones n + 0) g.from_programs (subst (λ (o : Option ℕ). length s.orders ≡ dones g.of_runner + one_if o) l.1 g.count);
         one = omega arith;
+        times = times_of a now (to_start None) s g;
         idle = λ z. refl;
         some = g.some;
         ring = g.ring;
         drained = λ z. (let c = g.count in omega (arith, c));
       }
 
-      by : (d : Door) → s.door ≡ d → Goes (over_by d) a files s
+      by : (d : Door) → s.door ≡ d → Goes (over_by d) a now s
       by door.Open e = settled_as [] whole refl g l.0
       by door.Terminated e =
           let x : HeardLast g.inputs g.of_reader = subst (λ (d : Door). FromLink d g.inputs g.of_reader) e g.from_link in
@@ -187,7 +192,7 @@ module _ (a : Setting) (files : ℕ) (s : Seen) where
           ceased stop.Ended (news.End link.Ended ∷ []) x.later refl x.got_is (refl, x.none_last, x.end, over (ap is_shut e))
 
   -- the sink failed
-  pub broken_ceases : (path : Option (List ℕ)) → s.broken ≡ true → Serves a files (to_start path) s → Ceased a files stop.WriteFault s
+  pub broken_ceases : (path : Option (List ℕ)) → s.broken ≡ true → Serves a now (to_start path) s → Ceased a now stop.WriteFault s
   broken_ceases path broken g =
       let l = from_door s.door g.from_link in
       record {
@@ -200,7 +205,7 @@ module _ (a : Setting) (files : ℕ) (s : Seen) where
         later = l.0;
         unheard = [];
         running = one_if s.started;
-        spoke = subst (λ (b : Bool). Spoke a.held g.inputs g.history (not b) a.first (voice s.sunk s.sink_faults files)) broken g.spoke;
+        spoke = subst (λ (b : Bool). Spoke a.held g.inputs g.history (not b) a.first (voice s.sunk s.sink_faults now.file_faults)) broken g.spoke;
         path_is = λ z. cc;
         mails_are = g.mails_are;
         from_link = l.1;
@@ -211,6 +216,7 @@ module _ (a : Setting) (files : ℕ) (s : Seen) where
         left_is = g.last refl;
         count = subst (λ (n : List LinkNews). length s.orders ≡ dones n + one_if s.started) g.from_programs g.count;
         one = at_most s.started;
+        times = times_of a now (to_start path) s g;
         idle = λ z. cc;
         some = g.some;
         ring = g.ring;
@@ -227,7 +233,7 @@ module _ (a : Setting) (files : ℕ) (s : Seen) where
       at_most (Some m) = omega arith
 
   -- a message is refused, or the link cannot be read on
-  ceased_ahead : (why : Stop) (item : LinkNews) → is_whole why ≡ true → status_of why ≡ 3 → s.door ≡ door.Open → (g : Serves a files (of_link item) s) → Ceases why g.inputs g.history (item ∷ []) → Ceased a files why s
+  ceased_ahead : (why : Stop) (item : LinkNews) → is_whole why ≡ true → status_of why ≡ 3 → s.door ≡ door.Open → (g : Serves a now (of_link item) s) → Ceases why g.inputs g.history (item ∷ []) → Ceased a now why s
   ceased_ahead why item w three o g cause =
       let x : IsListening g.inputs g.of_reader = subst (λ (d : Door). FromLink d g.inputs g.of_reader) o g.from_link in
       record {
@@ -240,7 +246,7 @@ module _ (a : Setting) (files : ℕ) (s : Seen) where
         later = [];
         unheard = [];
         running = one_if s.started;
-        spoke = subst (λ (b : Bool). Spoke a.held g.inputs g.history b a.first (voice s.sunk s.sink_faults files)) (ap not (g.whole refl) ∙ sym w) g.spoke;
+        spoke = subst (λ (b : Bool). Spoke a.held g.inputs g.history b a.first (voice s.sunk s.sink_faults now.file_faults)) (ap not (g.whole refl) ∙ sym w) g.spoke;
         path_is = λ z. g.path_is;
         mails_are = g.mails_are;
         from_link = ap (λ (l : List LinkNews). l ++ item ∷ []) x.got_is;
@@ -251,6 +257,7 @@ module _ (a : Setting) (files : ℕ) (s : Seen) where
         left_is = subst (λ (b : Bool). AreLeft b [] g.history) (sym w) refl;
         count = subst (λ (n : List LinkNews). length s.orders ≡ dones n + one_if s.started) g.from_programs g.count;
         one = at_most s.started;
+        times = times_of a now (of_link item) s g;
         idle = λ z. let q = sym three ∙ z in cc;
         some = g.some;
         ring = g.ring;
@@ -261,20 +268,20 @@ module _ (a : Setting) (files : ℕ) (s : Seen) where
       at_most None = omega arith
       at_most (Some m) = omega arith
 
-  pub end_ceases : (why : Stop) (stop : LinkStop) → is_whole why ≡ true → status_of why ≡ 3 → s.door ≡ door.Open → ((inputs : List WorkerInput) (h : List Heard) → has_last (messages_in inputs) ≡ false → Ceases why inputs h (news.End stop ∷ [])) → Serves a files (of_link (news.End stop)) s → Ceased a files why s
+  pub end_ceases : (why : Stop) (stop : LinkStop) → is_whole why ≡ true → status_of why ≡ 3 → s.door ≡ door.Open → ((inputs : List WorkerInput) (h : List Heard) → has_last (messages_in inputs) ≡ false → Ceases why inputs h (news.End stop ∷ [])) → Serves a now (of_link (news.End stop)) s → Ceased a now why s
   end_ceases why stop w three o cause g =
       let x : IsListening g.inputs g.of_reader = subst (λ (d : Door). FromLink d g.inputs g.of_reader) o g.from_link in
       ceased_ahead why (news.End stop) w three o g (cause g.inputs g.history x.none_last)
 
-  pub message_ceases : (m : MessageView) (f : WorkerFault) → s.door ≡ door.Open → ((h : List Heard) → StandsFor s.core h → IsFault (worker_after h) (Message m) f) → Serves a files (of_link (news.Message m)) s → CeasesBy f a files s
+  pub message_ceases : (m : MessageView) (f : WorkerFault) → s.door ≡ door.Open → ((h : List Heard) → StandsFor s.core h → IsFault (worker_after h) (Message m) f) → Serves a now (of_link (news.Message m)) s → CeasesBy f a now s
   message_ceases m (fault.Link f) o refused g =
       let x : IsListening g.inputs g.of_reader = subst (λ (d : Door). FromLink d g.inputs g.of_reader) o g.from_link in
       ceased_ahead (stop.Message f) (news.Message m) refl refl o g (m, refl, x.none_last, x.no_end, refused g.history g.stands)
   message_ceases m fault.OutOfMemory o refused g = tt
 
   -- the core is at fault, and the rest as it was
-  pub still_ceases : (core : WorkerCore) (broken : Bool) (sunk : Option Sunk) (faults : ℕ) (f : WorkerFault) → broken ≡ s.broken → sunk ≡ s.sunk → faults ≡ s.sink_faults → CeasesBy f a files s
-      → CeasesBy f a files (record s { core = core; broken = broken; sunk = sunk; sink_faults = faults })
+  pub still_ceases : (core : WorkerCore) (broken : Bool) (sunk : Option Sunk) (faults : ℕ) (f : WorkerFault) → broken ≡ s.broken → sunk ≡ s.sunk → faults ≡ s.sink_faults → CeasesBy f a now s
+      → CeasesBy f a now (record s { core = core; broken = broken; sunk = sunk; sink_faults = faults })
   still_ceases core broken sunk faults fault.OutOfMemory b k n g = tt
   still_ceases core broken sunk faults (fault.Link f) b k n g = record {
     inputs = g.inputs;
@@ -286,7 +293,7 @@ module _ (a : Setting) (files : ℕ) (s : Seen) where
     later = g.later;
     unheard = g.unheard;
     running = g.running;
-    spoke = subst (λ (o : Option Sunk). Spoke a.held g.inputs g.history true a.first (voice o faults files)) (sym k) (subst (λ (m : ℕ). Spoke a.held g.inputs g.history true a.first (voice s.sunk m files)) (sym n) g.spoke);
+    spoke = subst (λ (o : Option Sunk). Spoke a.held g.inputs g.history true a.first (voice o faults now.file_faults)) (sym k) (subst (λ (m : ℕ). Spoke a.held g.inputs g.history true a.first (voice s.sunk m now.file_faults)) (sym n) g.spoke);
     path_is = g.path_is;
     mails_are = g.mails_are;
     from_link = g.from_link;
@@ -297,6 +304,7 @@ module _ (a : Setting) (files : ℕ) (s : Seen) where
     left_is = g.left_is;
     count = g.count;
     one = g.one;
+    times = g.times;
     idle = g.idle;
     some = g.some;
     ring = g.ring;
@@ -305,7 +313,7 @@ module _ (a : Setting) (files : ℕ) (s : Seen) where
 
   -- ---- items
 
-  pub dropped : (item : LinkNews) → is_shut s.door ≡ true → Serves a files (of_link item) s → Serves a files nothing s
+  pub dropped : (item : LinkNews) → is_shut s.door ≡ true → Serves a now (of_link item) s → Serves a now nothing s
   dropped item shut g = record {
     inputs = g.inputs;
     history = g.history;
@@ -324,6 +332,7 @@ module _ (a : Setting) (files : ℕ) (s : Seen) where
     last = λ z. cc;
     whole = g.whole;
     count = g.count;
+    timed = g.timed;
     some = g.some;
     ring = g.ring;
     runs = g.runs;
@@ -336,7 +345,7 @@ module _ (a : Setting) (files : ℕ) (s : Seen) where
       by door.Terminated e x = record { later = x.later ++ item ∷ []; got_is = ap (λ (l : List LinkNews). l ++ item ∷ []) x.got_is ∙ append_assoc (map news.Message (messages_in g.inputs)) x.later (item ∷ []); last = x.last; no_end = x.no_end }
       by door.Ended e x = record { later = x.later ++ item ∷ []; got_is = ap (λ (l : List LinkNews). l ++ item ∷ []) x.got_is ∙ append_assoc (map news.Message (messages_in g.inputs)) (news.End link.Ended ∷ x.later) (item ∷ []); none_last = x.none_last; end = x.end }
 
-  pub strange : (item : LinkNews) → IsStrange item → s.door ≡ door.Open → Serves a files (of_link item) s → Strayed a s
+  pub strange : (item : LinkNews) → IsStrange item → s.door ≡ door.Open → Serves a now (of_link item) s → Strayed a s
   strange item odd o g =
       let x : IsListening g.inputs g.of_reader = subst (λ (d : Door). FromLink d g.inputs g.of_reader) o g.from_link in
       record {
@@ -354,7 +363,7 @@ module _ (a : Setting) (files : ℕ) (s : Seen) where
         strays = inl ([], ap (λ (l : List LinkNews). l ++ item ∷ []) x.got_is, odd);
       }
 
-  pub uncalled : (item : LinkNews) → IsUncalled (one_if s.started) item → Serves a files (of_program item) s → Strayed a s
+  pub uncalled : (item : LinkNews) → IsUncalled (one_if s.started) item → Serves a now (of_program item) s → Strayed a s
   uncalled item odd g = record {
     of_reader = g.of_reader;
     of_runner = g.of_runner ++ item ∷ [];

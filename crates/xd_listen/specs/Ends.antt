@@ -21,9 +21,10 @@ use Rattle.xd_listen.specs.declared.stop.Stop.{Stop}
 use Rattle.xd_listen.specs.declared.stop.Stop.TheVariants as stop
 use Rattle.xd_listen.specs.Halts.{is_whole, status_of}
 use Rattle.xd_listen.specs.Spoke.{Spoke, Voice, voice}
+use Rattle.xd_listen.specs.Timing.{Ticking, Times}
 
--- what is seen of the outside, the link's source apart: the sink, the programs, the files, and how often each of the two
--- crews refused a job
+-- what is seen of the outside, the link's source apart: the sink, the programs, the files, how often each of the two crews
+-- refused a job, and the clock
 pub record Scene : Type 0 where
   pub sunk : Option Sunk
   pub sink_faults : ℕ
@@ -32,9 +33,10 @@ pub record Scene : Type 0 where
   pub file_faults : ℕ
   pub reader_refusals : ℕ
   pub runner_refusals : ℕ
+  pub clock : Ticking
 
-abbrev pub scene : Option Sunk → ℕ → Option (List ChildRun) → ℕ → ℕ → ℕ → ℕ → Scene
-scene sunk sink_faults runs child_faults file_faults reader_refusals runner_refusals = record {
+abbrev pub scene : Option Sunk → ℕ → Option (List ChildRun) → ℕ → ℕ → ℕ → ℕ → Ticking → Scene
+scene sunk sink_faults runs child_faults file_faults reader_refusals runner_refusals clock = record {
   sunk = sunk;
   sink_faults = sink_faults;
   runs = runs;
@@ -42,6 +44,7 @@ scene sunk sink_faults runs child_faults file_faults reader_refusals runner_refu
   file_faults = file_faults;
   reader_refusals = reader_refusals;
   runner_refusals = runner_refusals;
+  clock = clock;
 }
 
 abbrev pub voice_of : Scene → Voice
@@ -123,7 +126,7 @@ last_stop true stop.WriteFault l = stop.WriteFault
 
 -- A link was read until this: the bytes that it gave, what came to the worker and its history, the program of which it did
 -- not hear to the end, and the one that was left. The sink took all that the worker said, or not, and then it was closed,
--- or could not be.
+-- or could not be. How long each test ran is what the clock says.
 pub record Ends (why : Stop) (held : Option Held) (s0 s1 : Spring) (old new : Scene) : Type 0 where
   pub bytes : List ℕ
   pub inputs : List WorkerInput
@@ -141,6 +144,7 @@ pub record Ends (why : Stop) (held : Option Held) (s0 s1 : Spring) (old new : Sc
   pub whole : (wrote && closed) ≡ is_whole why
   pub answered : wrote ≡ true → asked_path history ≡ None
   pub programs : Programs inputs history left unheard old new
+  pub times : Times inputs programs.started old.clock new.clock
   pub left_is : AreLeft wrote left history
   pub heard : status_of why ≡ 0 → unheard ≡ []
   pub source_count : IsStill why s0.faults s1.faults

@@ -24,8 +24,9 @@ use Rattle.xd_listen.specs.declared.server.Halt.{Halt}
 use Rattle.xd_listen.specs.declared.server.Halt.TheVariants as halt
 use Rattle.xd_listen.specs.News.{dones, news_in}
 use Rattle.xd_listen.specs.Seen.{Seen}
-use Rattle.xd_listen.specs.Serves.{NoneEmpty, Serves, Setting, IsNoted, nothing, one_if, two}
+use Rattle.xd_listen.specs.Serves.{Beside, NoneEmpty, Serves, Setting, IsNoted, nothing, two}
 use Rattle.xd_listen.specs.Spoke.{Spoke, voice}
+use Rattle.xd_listen.specs.Timing.{Times, one_if}
 
 -- the exit status: 0 where GATEWAY_TERMINATE came or the link ended at a message's edge
 abbrev pub status_of : Stop → ℕ
@@ -62,7 +63,7 @@ Ceases stop.WriteFault inputs h ahead = Unit {0}
 
 -- The worker listens no more, and this is why. More items may have been taken since. `running` says how many programs
 -- ran when it ceased: one, or none.
-pub record Ceased (a : Setting) (file_faults : ℕ) (why : Stop) (s : Seen) : Type 0 where
+pub record Ceased (a : Setting) (now : Beside) (why : Stop) (s : Seen) : Type 0 where
   pub inputs : List WorkerInput
   pub history : List Heard
   pub of_reader : List LinkNews
@@ -72,7 +73,7 @@ pub record Ceased (a : Setting) (file_faults : ℕ) (why : Stop) (s : Seen) : Ty
   pub later : List LinkNews
   pub unheard : List LinkNews
   pub running : ℕ
-  pub spoke : Spoke a.held inputs history (is_whole why) a.first (voice s.sunk s.sink_faults file_faults)
+  pub spoke : Spoke a.held inputs history (is_whole why) a.first (voice s.sunk s.sink_faults now.file_faults)
   pub path_is : is_whole why ≡ true → asked_path history ≡ None
   pub mails_are : s.mails ≡ two a of_reader of_runner
   pub from_link : of_reader ≡ map news.Message (messages_in inputs) ++ (ahead ++ later)
@@ -83,6 +84,7 @@ pub record Ceased (a : Setting) (file_faults : ℕ) (why : Stop) (s : Seen) : Ty
   pub left_is : AreLeft (is_whole why) left history
   pub count : length s.orders ≡ dones (news_in inputs) + running
   pub one : running ≤ 1
+  pub times : Times inputs s.orders a.clock now.clock
   pub idle : status_of why ≡ 0 → running ≡ 0
   pub some : NoneEmpty s.orders
   pub ring : s.ring ≡ a.orders
@@ -129,9 +131,9 @@ pub record Strayed (a : Setting) (s : Seen) : Type 0 where
   pub strays : ((later : List LinkNews) × (of_reader ≡ map news.Message messages ++ item ∷ later) × IsStrange item) ⊎ ((later : List LinkNews) × (of_runner ≡ heard ++ item ∷ later) × IsUncalled running item)
 
 -- a message was refused, or memory was
-abbrev pub CeasesBy : WorkerFault → Setting → ℕ → Seen → Type 0
-CeasesBy (fault.Link f) a file_faults s = Ceased a file_faults (stop.Message f) s
-CeasesBy fault.OutOfMemory a file_faults s = Unit {0}
+abbrev pub CeasesBy : WorkerFault → Setting → Beside → Seen → Type 0
+CeasesBy (fault.Link f) a now s = Ceased a now (stop.Message f) s
+CeasesBy fault.OutOfMemory a now s = Unit {0}
 
 -- behind a message that is GATEWAY_TERMINATE, or is not
 abbrev pub door_behind : Bool → Door → Door
@@ -181,7 +183,7 @@ abbrev pub at_sink : Option Sunk → ℕ → Seen → Seen
 at_sink sunk faults s = record s { sunk = sunk; sink_faults = faults }
 
 -- The worker goes on, or listens no more.
-abbrev pub Goes : Option Halt → Setting → ℕ → Seen → Type 0
-Goes None a file_faults s = Serves a file_faults nothing s
-Goes (Some (halt.At why)) a file_faults s = Ceased a file_faults why s
-Goes (Some halt.Astray) a file_faults s = Strayed a s
+abbrev pub Goes : Option Halt → Setting → Beside → Seen → Type 0
+Goes None a now s = Serves a now nothing s
+Goes (Some (halt.At why)) a now s = Ceased a now why s
+Goes (Some halt.Astray) a now s = Strayed a s

@@ -6,6 +6,7 @@ pub mod Speaking
 pub mod Took
 pub mod Spoke
 pub mod News
+pub mod Timing
 pub mod Seen
 pub mod Serves
 pub mod Halts

@@ -24,18 +24,28 @@ use Rattle.xd_listen.specs.declared.server.Door.TheVariants as door
 use Rattle.xd_listen.specs.News.{dones, news_in}
 use Rattle.xd_listen.specs.Seen.{Seen, is_shut}
 use Rattle.xd_listen.specs.Spoke.{Spoke, Voice, voice}
+use Rattle.xd_listen.specs.Timing.{AreTimed, Ticking, durations_in, one_if}
 
--- what stays while a link is served: the files, the sink and the files' faults before it, and the rings of the reader, of
--- the runner and of the orders
+-- what stays while a link is served: the files, the sink, the files' faults and the clock before it, and the rings of the
+-- reader, of the runner and of the orders
 pub record Setting : Type 0 where
   pub held : Option Held
   pub first : Voice
+  pub clock : Ticking
   pub reader : Ring
   pub runner : Ring
   pub orders : Ring
 
-abbrev pub setting : Option Held → Option Sunk → ℕ → ℕ → Ring → Ring → Ring → Setting
-setting held sunk sink_faults file_faults reader runner orders = record { held = held; first = voice sunk sink_faults file_faults; reader = reader; runner = runner; orders = orders }
+abbrev pub setting : Option Held → Option Sunk → ℕ → ℕ → Ticking → Ring → Ring → Ring → Setting
+setting held sunk sink_faults file_faults clock reader runner orders = record { held = held; first = voice sunk sink_faults file_faults; clock = clock; reader = reader; runner = runner; orders = orders }
+
+-- what is seen beside the server: the files' faults and the clock
+pub record Beside : Type 0 where
+  pub file_faults : ℕ
+  pub clock : Ticking
+
+abbrev pub beside : ℕ → Ticking → Beside
+beside file_faults clock = record { file_faults = file_faults; clock = clock }
 
 -- what is to be done next: a suite to be read, an item that was taken of the reader or of the runner, and whether a test
 -- may have to be started
@@ -119,10 +129,6 @@ abbrev pub ReadsSo : Option (List ℕ) → Option ℕ → List (List (List ℕ))
 ReadsSo None started left d w = Unit {0}
 ReadsSo (Some path) started left d w = (w.duties.owed ≡ true) × (started ≡ None) × (left ≡ []) × (d ≡ door.Open)
 
-abbrev pub one_if : Option ℕ → ℕ
-one_if None = 0
-one_if (Some moment) = 1
-
 -- no command is empty
 abbrev pub NoneEmpty : List (List (List ℕ)) → Type 0
 NoneEmpty [] = Unit {0}
@@ -132,14 +138,14 @@ NoneEmpty (command ∷ more) = (command ≡ [] → ⊥) × NoneEmpty more
 abbrev pub Runs : ℕ → WorkerCore → Type 0
 Runs test core = (h : List Heard) → StandsFor core h → running_in (worker_after h).duties.service ≡ Some test
 
--- All that was taken of the desk was done, but for what is owed: what was spoken, and what was ordered.
-pub record Serves (a : Setting) (file_faults : ℕ) (owed : Owed) (s : Seen) : Type 0 where
+-- All that was taken of the desk was done, but for what is owed: what was spoken, what was ordered, and what was measured.
+pub record Serves (a : Setting) (now : Beside) (owed : Owed) (s : Seen) : Type 0 where
   pub inputs : List WorkerInput
   pub history : List Heard
   pub of_reader : List LinkNews
   pub of_runner : List LinkNews
   pub left : List (List (List ℕ))
-  pub spoke : Spoke a.held inputs history (not s.broken) a.first (voice s.sunk s.sink_faults file_faults)
+  pub spoke : Spoke a.held inputs history (not s.broken) a.first (voice s.sunk s.sink_faults now.file_faults)
   pub stands : StandsFor s.core history
   pub path_is : asked_path history ≡ owed.path
   pub mails_are : s.mails ≡ two a (with_item owed.link of_reader) (with_item owed.program of_runner)
@@ -151,6 +157,7 @@ pub record Serves (a : Setting) (file_faults : ℕ) (owed : Owed) (s : Seen) : T
   pub last : owed.starts ≡ true → left ≡ last_commands history
   pub whole : owed.starts ≡ false → s.broken ≡ false
   pub count : length s.orders ≡ dones of_runner + one_if s.started
+  pub timed : AreTimed s.started (durations_in inputs) a.clock now.clock
   pub some : NoneEmpty s.orders
   pub ring : s.ring ≡ a.orders
   pub runs : RunsSo s.started left (worker_after history)

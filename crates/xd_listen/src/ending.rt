@@ -4,7 +4,7 @@ ghost use Rattle.xd_edge.specs.Sink.{Sunk};
 ghost use Rattle.xd_listen.specs.Ends.{Closes};
 ghost use Rattle.xd_listen.specs.Halts.{Goes, at_sink, is_short_by, noted_end, still_started};
 ghost use Rattle.xd_listen.specs.Seen.{seen};
-ghost use Rattle.xd_listen.specs.Serves.{Setting};
+ghost use Rattle.xd_listen.specs.Serves.{Beside, Setting};
 ghost use Rattle.xd_listen.specs.declared.server.Halt.{Halt};
 
 use crate::server::Server;
@@ -24,7 +24,7 @@ impl<N: Sink> Server<N> {
     /// Takes and drops what comes, until the reader's end and the end of the running test were taken, so that neither job
     /// waits for room. Gives the reader's end.
     pub fn drain<R: Wait>(&mut self, rt: &R) -> LinkStop
-        ensures goes { (a : Setting) (files : ℕ) (halt : Halt) (sunk : Option Sunk) (faults : ℕ) → Goes (Some halt) a files (at_sink sunk faults (seen N.sunk N.faults self.old)) → Goes (Some halt) a files (at_sink sunk faults (seen N.sunk N.faults self.new)) }
+        ensures goes { (a : Setting) (now : Beside) (halt : Halt) (sunk : Option Sunk) (faults : ℕ) → Goes (Some halt) a now (at_sink sunk faults (seen N.sunk N.faults self.old)) → Goes (Some halt) a now (at_sink sunk faults (seen N.sunk N.faults self.new)) }
         ensures ended { self.new.link_stop ≡ Some result }
         ensures idle { self.new.started ≡ None }
         ensures speaker { self.new.speaker ≡ self.old.speaker }
@@ -43,7 +43,7 @@ impl<N: Sink> Server<N> {
 
     // Takes the next item, and drops it.
     fn drop_next<R: Wait>(&mut self, rt: &R)
-        ensures goes { (a : Setting) (files : ℕ) (halt : Halt) (sunk : Option Sunk) (faults : ℕ) → Goes (Some halt) a files (at_sink sunk faults (seen N.sunk N.faults self.old)) → Goes (Some halt) a files (at_sink sunk faults (seen N.sunk N.faults self.new)) }
+        ensures goes { (a : Setting) (now : Beside) (halt : Halt) (sunk : Option Sunk) (faults : ℕ) → Goes (Some halt) a now (at_sink sunk faults (seen N.sunk N.faults self.old)) → Goes (Some halt) a now (at_sink sunk faults (seen N.sunk N.faults self.new)) }
         ensures speaker { self.new.speaker ≡ self.old.speaker }
         ensures orders { self.new.orders ≡ self.old.orders }
     {

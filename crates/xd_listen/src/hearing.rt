@@ -1,9 +1,10 @@
 // What a server takes, one item after another.
-ghost use Rattle.std.specs.Prelude.{◌≡◌, ◌≤◌, ℕ, false, Some, None, length, IfOk, IfErr, OnOk, IsSome};
+ghost use Rattle.std.specs.Prelude.{◌≡◌, ◌≤◌, ℕ, ◌+◌, false, Some, None, length, IfOk, IfErr, IfSome, OnOk, IsSome};
 ghost use Rattle.xd_listen.specs.Halts.{CeasesBy, Goes, door_behind, over_by};
 ghost use Rattle.xd_listen.specs.Inputs.{is_last};
 ghost use Rattle.xd_listen.specs.Seen.{seen};
-ghost use Rattle.xd_listen.specs.Serves.{Runs, Serves, Setting, nothing, of_link, of_program, to_start};
+ghost use Rattle.xd_listen.specs.Serves.{Beside, Runs, Serves, Setting, beside, nothing, of_link, of_program, to_start};
+ghost use Rattle.xd_listen.specs.Timing.{Ticking, Ticks, ticking};
 ghost use Rattle.xd_listen.specs.declared.server.Door.TheVariants.{Open};
 ghost use Rattle.xd_reader.specs.declared.news.LinkNews.TheVariants as news;
 ghost use Rattle.xd_reader.specs.declared.news.LinkStop.TheVariants as link;
@@ -24,10 +25,10 @@ impl<N: Sink> Server<N> {
     /// Steps the worker with a message. Gives the path of a suite that is to be read.
     pub fn hear_message(&mut self, message: Message) -> Result<Option<Text>, WorkerFault>
         requires is_open { self.old.door ≡ Open }
-        ensures heard { (a : Setting) (files : ℕ) → Serves a files (of_link (news.Message message)) (seen N.sunk N.faults self.old) →
-            IfOk result (λ path. Serves a files (to_start path) (seen N.sunk N.faults self.new)) }
-        ensures refused { (a : Setting) (files : ℕ) → Serves a files (of_link (news.Message message)) (seen N.sunk N.faults self.old) →
-            IfErr result (λ fault. CeasesBy fault a files (seen N.sunk N.faults self.new)) }
+        ensures heard { (a : Setting) (now : Beside) → Serves a now (of_link (news.Message message)) (seen N.sunk N.faults self.old) →
+            IfOk result (λ path. Serves a now (to_start path) (seen N.sunk N.faults self.new)) }
+        ensures refused { (a : Setting) (now : Beside) → Serves a now (of_link (news.Message message)) (seen N.sunk N.faults self.old) →
+            IfErr result (λ fault. CeasesBy fault a now (seen N.sunk N.faults self.new)) }
         ensures stood { Stood self.old.speaker.core → OnOk result (Stood self.new.speaker.core) }
     {
         let door = door_behind(&message, self.door);
@@ -43,8 +44,8 @@ impl<N: Sink> Server<N> {
     /// Steps the worker with the link's end.
     pub fn hear_end(&mut self) -> Result<(), OutOfMemory>
         requires is_open { self.old.door ≡ Open }
-        ensures heard { (a : Setting) (files : ℕ) → Serves a files (of_link (news.End link.Ended)) (seen N.sunk N.faults self.old) →
-            OnOk result (Serves a files (to_start None) (seen N.sunk N.faults self.new)) }
+        ensures heard { (a : Setting) (now : Beside) → Serves a now (of_link (news.End link.Ended)) (seen N.sunk N.faults self.old) →
+            OnOk result (Serves a now (to_start None) (seen N.sunk N.faults self.new)) }
         ensures stood { Stood self.old.speaker.core → OnOk result (Stood self.new.speaker.core) }
     {
         let _acts = self.speaker.tell(WorkerInput::LinkEnd)?;
@@ -56,19 +57,20 @@ impl<N: Sink> Server<N> {
     pub fn hear_output(&mut self, piece: Blob) -> Result<(), OutOfMemory>
         requires runs { IsSome self.old.started }
         requires few { length piece ≤ 4096 }
-        ensures heard { (a : Setting) (files : ℕ) → Serves a files (of_program (news.Output piece)) (seen N.sunk N.faults self.old) →
-            OnOk result (Serves a files (to_start None) (seen N.sunk N.faults self.new)) }
+        ensures heard { (a : Setting) (now : Beside) → Serves a now (of_program (news.Output piece)) (seen N.sunk N.faults self.old) →
+            OnOk result (Serves a now (to_start None) (seen N.sunk N.faults self.new)) }
         ensures stood { Stood self.old.speaker.core → OnOk result (Stood self.new.speaker.core) }
     {
         let _acts = self.speaker.tell(WorkerInput::Output(piece))?;
         Ok(())
     }
 
-    /// Steps the worker with the end of the running test.
+    /// Steps the worker with the end of the running test, and how many milliseconds it ran.
     pub fn hear_done(&mut self, outcome: Outcome, ms: u64) -> Result<(), OutOfMemory>
         requires runs { IsSome self.old.started }
-        ensures heard { (a : Setting) (files : ℕ) → Serves a files (of_program (news.ChildDone outcome)) (seen N.sunk N.faults self.old) →
-            OnOk result (Serves a files (to_start None) (seen N.sunk N.faults self.new)) }
+        ensures heard { (a : Setting) (files : ℕ) (old new : Ticking) → IfSome self.old.started (λ start. Ticks (start + ms) old new) →
+            Serves a (beside files old) (of_program (news.ChildDone outcome)) (seen N.sunk N.faults self.old) →
+            OnOk result (Serves a (beside files new) (to_start None) (seen N.sunk N.faults self.new)) }
         ensures stood { Stood self.old.speaker.core → OnOk result (Stood self.new.speaker.core) }
     {
         let _acts = self.speaker.tell(WorkerInput::ChildDone { outcome, ms })?;
@@ -79,8 +81,8 @@ impl<N: Sink> Server<N> {
     /// Reads the suite file of a path, if there is one, and tells the worker.
     pub fn read<F: Files>(&mut self, files: &mut F, path: Option<Text>) -> Result<(), OutOfMemory>
         requires whole { self.old.speaker.is_broken ≡ false }
-        ensures read { (a : Setting) → F.held files.old ≡ a.held → Serves a (F.faults files.old) (to_start path) (seen N.sunk N.faults self.old) →
-            OnOk result (Serves a (F.faults files.new) (to_start None) (seen N.sunk N.faults self.new)) }
+        ensures read { (a : Setting) (clock : Ticking) → F.held files.old ≡ a.held → Serves a (beside (F.faults files.old) clock) (to_start path) (seen N.sunk N.faults self.old) →
+            OnOk result (Serves a (beside (F.faults files.new) clock) (to_start None) (seen N.sunk N.faults self.new)) }
         ensures stood { Stood self.old.speaker.core → OnOk result (Stood self.new.speaker.core) }
         ensures kept { F.held files.new ≡ F.held files.old }
     {
@@ -95,8 +97,8 @@ impl<N: Sink> Server<N> {
 
     fn read_path<F: Files>(&mut self, files: &mut F, path: &Text) -> Result<(), OutOfMemory>
         requires whole { self.old.speaker.is_broken ≡ false }
-        ensures read { (a : Setting) → F.held files.old ≡ a.held → Serves a (F.faults files.old) (to_start (Some path.now)) (seen N.sunk N.faults self.old) →
-            OnOk result (Serves a (F.faults files.new) (to_start None) (seen N.sunk N.faults self.new)) }
+        ensures read { (a : Setting) (clock : Ticking) → F.held files.old ≡ a.held → Serves a (beside (F.faults files.old) clock) (to_start (Some path.now)) (seen N.sunk N.faults self.old) →
+            OnOk result (Serves a (beside (F.faults files.new) clock) (to_start None) (seen N.sunk N.faults self.new)) }
         ensures stood { Stood self.old.speaker.core → OnOk result (Stood self.new.speaker.core) }
         ensures kept { F.held files.new ≡ F.held files.old }
     {
@@ -116,8 +118,8 @@ impl<N: Sink> Server<N> {
         requires rests { self.old.started ≡ None }
         requires whole { self.old.speaker.is_broken ≡ false }
         requires runs { Runs test self.old.speaker.core }
-        ensures ordered { (a : Setting) (files : ℕ) → Serves a files (to_start None) (seen N.sunk N.faults self.old) →
-            OnOk result (Serves a files nothing (seen N.sunk N.faults self.new)) }
+        ensures ordered { (a : Setting) (files : ℕ) → Serves a (beside files (ticking (T.moment clock.old) (T.coming clock.old))) (to_start None) (seen N.sunk N.faults self.old) →
+            OnOk result (Serves a (beside files (ticking (T.moment clock.new) (T.coming clock.new))) nothing (seen N.sunk N.faults self.new)) }
         ensures core { self.new.speaker.core ≡ self.old.speaker.core }
     {
         let command = copy_texts(self.alloc, self.speaker.core.command(test))?;
@@ -134,8 +136,8 @@ impl<N: Sink> Server<N> {
         clock: &mut T,
     ) -> Result<Option<Halt>, OutOfMemory>
         requires stood { Stood self.old.speaker.core }
-        ensures goes { (a : Setting) (files : ℕ) → Serves a files (to_start None) (seen N.sunk N.faults self.old) →
-            IfOk result (λ halt. Goes halt a files (seen N.sunk N.faults self.new)) }
+        ensures goes { (a : Setting) (files : ℕ) → Serves a (beside files (ticking (T.moment clock.old) (T.coming clock.old))) (to_start None) (seen N.sunk N.faults self.old) →
+            IfOk result (λ halt. Goes halt a (beside files (ticking (T.moment clock.new) (T.coming clock.new))) (seen N.sunk N.faults self.new)) }
         ensures core { self.new.speaker.core ≡ self.old.speaker.core }
     {
         if self.speaker.is_broken {

@@ -13,6 +13,3 @@ mod suite;
 mod taking;
 
 pub use serving::{ServeEnd, serve};
-
-#[cfg(test)]
-mod tests;

@@ -8,8 +8,9 @@ ghost use Rattle.xd_post.specs.Post.{put, ring_of_sender};
 ghost use Rattle.xd_listen.specs.Complete.{AreGood, AreStill, GoesWrong, IsCalm};
 ghost use Rattle.xd_listen.specs.Ends.{Served, scene};
 ghost use Rattle.xd_listen.specs.Seen.{seen};
-ghost use Rattle.xd_listen.specs.Serves.{Serves, nothing, setting};
+ghost use Rattle.xd_listen.specs.Serves.{Serves, beside, nothing, setting};
 ghost use Rattle.xd_listen.specs.Spoke.{Spoke, voice};
+ghost use Rattle.xd_listen.specs.Timing.{Ticking, ticking};
 ghost use Rattle.xd_worker.specs.Stands.{Stood};
 
 use crate::finishing::{finish, unserved};
@@ -51,7 +52,7 @@ struct Opened<N: Sink + Drop> {
 
 fn open<N: Sink + Drop>(alloc: Global, sink: N) -> Result<Opened<N>, OutOfMemory>
     ensures spoke { (held : Option Held) (files : ℕ) → IfOk result (λ o. Spoke held [] [] (not o.server.speaker.is_broken) (voice (N.sunk sink) (N.faults sink) files) (voice (N.sunk o.server.speaker.sink) (N.faults o.server.speaker.sink) files)) }
-    ensures serves { (held : Option Held) (files : ℕ) → IfOk result (λ o. o.server.speaker.is_broken ≡ false → Serves (setting held (N.sunk sink) (N.faults sink) files (ring_of_sender o.from_link) (ring_of_sender o.from_programs) (ring_of_sender o.server.orders)) files nothing (seen N.sunk N.faults o.server)) }
+    ensures serves { (held : Option Held) (files : ℕ) (clock : Ticking) → IfOk result (λ o. o.server.speaker.is_broken ≡ false → Serves (setting held (N.sunk sink) (N.faults sink) files clock (ring_of_sender o.from_link) (ring_of_sender o.from_programs) (ring_of_sender o.server.orders)) (beside files clock) nothing (seen N.sunk N.faults o.server)) }
     ensures fresh { IfOk result (λ o. (put o.from_link ≡ []) × (put o.from_programs ≡ []) × (put o.server.orders ≡ []) × (mails o.orders ≡ Some (ring_of_sender o.server.orders, []) ∷ [])) }
     ensures stood { IfOk result (λ o. Stood o.server.speaker.core) }
 {
@@ -83,7 +84,8 @@ fn open<N: Sink + Drop>(alloc: Global, sink: N) -> Result<Opened<N>, OutOfMemory
 
 /// Serves a link: writes the greeting, then takes the messages of the link and what its programs print as they come, to
 /// the link's end, to GATEWAY_TERMINATE or to a fault. Then it closes the sink for good, waits for the running program
-/// and for the source's end, and gives back what it was handed.
+/// and for the source's end, and gives back what it was handed. How long a test ran is told in milliseconds, by the clock:
+/// from the order of its program to the taking of its end.
 pub fn serve<
     R: Wait,
     S: Source + Drop,
@@ -106,22 +108,22 @@ pub fn serve<
     ensures served { IfOk result (λ e. Served e.status (F.held files.old)
         (spring (S.supply link.source) (S.is_ended link.source) (S.faults link.source))
         (spring (S.supply e.source) (S.is_ended e.source) (S.faults e.source))
-        (scene (N.sunk link.sink) (N.faults link.sink) (K.runs children) (K.faults children) (F.faults files.old) (C.faults crew.old) (D.faults runner.old))
-        (scene (N.sunk e.sink) (N.faults e.sink) (K.runs e.children) (K.faults e.children) (F.faults files.new) (C.faults crew.new) (D.faults runner.new))) }
+        (scene (N.sunk link.sink) (N.faults link.sink) (K.runs children) (K.faults children) (F.faults files.old) (C.faults crew.old) (D.faults runner.old) (ticking (T.moment clock.old) (T.coming clock.old)))
+        (scene (N.sunk e.sink) (N.faults e.sink) (K.runs e.children) (K.faults e.children) (F.faults files.new) (C.faults crew.new) (D.faults runner.new) (ticking (T.moment clock.new) (T.coming clock.new)))) }
     // Status 0 only where no count of the link or of a crew rose, and another one only where something is wrong. Where the
     // source tells its bytes, and nothing is wrong with all of them, and no count rises, the status is 0.
     ensures calm { IfOk result (λ e. e.status ≡ 0 → IsCalm (S.faults link.source) (S.faults e.source)
-        (scene (N.sunk link.sink) (N.faults link.sink) (K.runs children) (K.faults children) (F.faults files.old) (C.faults crew.old) (D.faults runner.old))
-        (scene (N.sunk e.sink) (N.faults e.sink) (K.runs e.children) (K.faults e.children) (F.faults files.new) (C.faults crew.new) (D.faults runner.new))) }
+        (scene (N.sunk link.sink) (N.faults link.sink) (K.runs children) (K.faults children) (F.faults files.old) (C.faults crew.old) (D.faults runner.old) (ticking (T.moment clock.old) (T.coming clock.old)))
+        (scene (N.sunk e.sink) (N.faults e.sink) (K.runs e.children) (K.faults e.children) (F.faults files.new) (C.faults crew.new) (D.faults runner.new) (ticking (T.moment clock.new) (T.coming clock.new)))) }
     ensures wrong { IfOk result (λ e. e.status ≢ 0 → IfSome (S.supply link.source) (λ s. GoesWrong (F.held files.old) s.left (S.faults link.source) (S.faults e.source)
-        (scene (N.sunk link.sink) (N.faults link.sink) (K.runs children) (K.faults children) (F.faults files.old) (C.faults crew.old) (D.faults runner.old))
-        (scene (N.sunk e.sink) (N.faults e.sink) (K.runs e.children) (K.faults e.children) (F.faults files.new) (C.faults crew.new) (D.faults runner.new)))) }
+        (scene (N.sunk link.sink) (N.faults link.sink) (K.runs children) (K.faults children) (F.faults files.old) (C.faults crew.old) (D.faults runner.old) (ticking (T.moment clock.old) (T.coming clock.old)))
+        (scene (N.sunk e.sink) (N.faults e.sink) (K.runs e.children) (K.faults e.children) (F.faults files.new) (C.faults crew.new) (D.faults runner.new) (ticking (T.moment clock.new) (T.coming clock.new))))) }
     ensures complete { IfOk result (λ e. IfSome (S.supply link.source) (λ s. AreGood (F.held files.old) s.left
-        (scene (N.sunk link.sink) (N.faults link.sink) (K.runs children) (K.faults children) (F.faults files.old) (C.faults crew.old) (D.faults runner.old))
-        (scene (N.sunk e.sink) (N.faults e.sink) (K.runs e.children) (K.faults e.children) (F.faults files.new) (C.faults crew.new) (D.faults runner.new)) →
+        (scene (N.sunk link.sink) (N.faults link.sink) (K.runs children) (K.faults children) (F.faults files.old) (C.faults crew.old) (D.faults runner.old) (ticking (T.moment clock.old) (T.coming clock.old)))
+        (scene (N.sunk e.sink) (N.faults e.sink) (K.runs e.children) (K.faults e.children) (F.faults files.new) (C.faults crew.new) (D.faults runner.new) (ticking (T.moment clock.new) (T.coming clock.new))) →
         StoodStill (S.faults link.source) (S.faults e.source) → AreStill
-        (scene (N.sunk link.sink) (N.faults link.sink) (K.runs children) (K.faults children) (F.faults files.old) (C.faults crew.old) (D.faults runner.old))
-        (scene (N.sunk e.sink) (N.faults e.sink) (K.runs e.children) (K.faults e.children) (F.faults files.new) (C.faults crew.new) (D.faults runner.new)) → e.status ≡ 0)) }
+        (scene (N.sunk link.sink) (N.faults link.sink) (K.runs children) (K.faults children) (F.faults files.old) (C.faults crew.old) (D.faults runner.old) (ticking (T.moment clock.old) (T.coming clock.old)))
+        (scene (N.sunk e.sink) (N.faults e.sink) (K.runs e.children) (K.faults e.children) (F.faults files.new) (C.faults crew.new) (D.faults runner.new) (ticking (T.moment clock.new) (T.coming clock.new))) → e.status ≡ 0)) }
 {
     let Started {
         link: _,

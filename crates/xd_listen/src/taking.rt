@@ -2,7 +2,8 @@
 ghost use Rattle.std.specs.Prelude.{◌≡◌, ℕ, Ok, Some, None, IfOk};
 ghost use Rattle.xd_listen.specs.Halts.{Goes, unless_shut};
 ghost use Rattle.xd_listen.specs.Seen.{is_shut, seen};
-ghost use Rattle.xd_listen.specs.Serves.{Serves, Setting, nothing, of_inbox, of_link, of_program, to_start};
+ghost use Rattle.xd_listen.specs.Serves.{Beside, Serves, Setting, beside, nothing, of_inbox, of_link, of_program, to_start};
+ghost use Rattle.xd_listen.specs.Timing.{ticking};
 ghost use Rattle.xd_reader.specs.declared.news.LinkNews.TheVariants as news;
 ghost use Rattle.xd_reader.specs.declared.news.LinkStop.TheVariants as link;
 ghost use Rattle.xd_worker.specs.Stands.{Stood};
@@ -28,8 +29,8 @@ impl<N: Sink> Server<N> {
         clock: &mut T,
     ) -> Result<Halt, OutOfMemory>
         requires stood { Stood self.old.speaker.core }
-        ensures goes { (a : Setting) → F.held files.old ≡ a.held → Serves a (F.faults files.old) nothing (seen N.sunk N.faults self.old) →
-            IfOk result (λ halt. Goes (Some halt) a (F.faults files.new) (seen N.sunk N.faults self.new)) }
+        ensures goes { (a : Setting) → F.held files.old ≡ a.held → Serves a (beside (F.faults files.old) (ticking (T.moment clock.old) (T.coming clock.old))) nothing (seen N.sunk N.faults self.old) →
+            IfOk result (λ halt. Goes (Some halt) a (beside (F.faults files.new) (ticking (T.moment clock.new) (T.coming clock.new))) (seen N.sunk N.faults self.new)) }
     {
         for _ in rt.forever() {
             let (inbox, news) = self.desk.wait(rt);
@@ -50,8 +51,8 @@ impl<N: Sink> Server<N> {
         news: LinkNews,
     ) -> Result<Option<Halt>, OutOfMemory>
         requires stood { Stood self.old.speaker.core }
-        ensures goes { (a : Setting) → F.held files.old ≡ a.held → Serves a (F.faults files.old) (of_inbox inbox news) (seen N.sunk N.faults self.old) →
-            IfOk result (λ halt. Goes halt a (F.faults files.new) (seen N.sunk N.faults self.new)) }
+        ensures goes { (a : Setting) → F.held files.old ≡ a.held → Serves a (beside (F.faults files.old) (ticking (T.moment clock.old) (T.coming clock.old))) (of_inbox inbox news) (seen N.sunk N.faults self.old) →
+            IfOk result (λ halt. Goes halt a (beside (F.faults files.new) (ticking (T.moment clock.new) (T.coming clock.new))) (seen N.sunk N.faults self.new)) }
         ensures stood { result ≡ Ok None → Stood self.new.speaker.core }
         ensures kept { F.held files.new ≡ F.held files.old }
     {
@@ -72,8 +73,8 @@ impl<N: Sink> Server<N> {
         news: LinkNews,
     ) -> Result<Option<Halt>, OutOfMemory>
         requires stood { Stood self.old.speaker.core }
-        ensures goes { (a : Setting) → F.held files.old ≡ a.held → Serves a (F.faults files.old) (of_link news) (seen N.sunk N.faults self.old) →
-            IfOk result (λ halt. Goes halt a (F.faults files.new) (seen N.sunk N.faults self.new)) }
+        ensures goes { (a : Setting) → F.held files.old ≡ a.held → Serves a (beside (F.faults files.old) (ticking (T.moment clock.old) (T.coming clock.old))) (of_link news) (seen N.sunk N.faults self.old) →
+            IfOk result (λ halt. Goes halt a (beside (F.faults files.new) (ticking (T.moment clock.new) (T.coming clock.new))) (seen N.sunk N.faults self.new)) }
         ensures stood { result ≡ Ok None → Stood self.new.speaker.core }
         ensures kept { F.held files.new ≡ F.held files.old }
     {
@@ -110,8 +111,8 @@ impl<N: Sink> Server<N> {
         message: Message,
     ) -> Result<Option<Halt>, OutOfMemory>
         requires stood { Stood self.old.speaker.core }
-        ensures goes { (a : Setting) → F.held files.old ≡ a.held → Serves a (F.faults files.old) (of_link (news.Message message)) (seen N.sunk N.faults self.old) →
-            IfOk result (λ halt. Goes halt a (F.faults files.new) (seen N.sunk N.faults self.new)) }
+        ensures goes { (a : Setting) → F.held files.old ≡ a.held → Serves a (beside (F.faults files.old) (ticking (T.moment clock.old) (T.coming clock.old))) (of_link (news.Message message)) (seen N.sunk N.faults self.old) →
+            IfOk result (λ halt. Goes halt a (beside (F.faults files.new) (ticking (T.moment clock.new) (T.coming clock.new))) (seen N.sunk N.faults self.new)) }
         ensures stood { result ≡ Ok None → Stood self.new.speaker.core }
         ensures kept { F.held files.new ≡ F.held files.old }
     {
@@ -137,8 +138,8 @@ impl<N: Sink> Server<N> {
         path: Option<Text>,
     ) -> Result<Option<Halt>, OutOfMemory>
         requires stood { Stood self.old.speaker.core }
-        ensures goes { (a : Setting) → F.held files.old ≡ a.held → Serves a (F.faults files.old) (to_start path) (seen N.sunk N.faults self.old) →
-            IfOk result (λ halt. Goes halt a (F.faults files.new) (seen N.sunk N.faults self.new)) }
+        ensures goes { (a : Setting) → F.held files.old ≡ a.held → Serves a (beside (F.faults files.old) (ticking (T.moment clock.old) (T.coming clock.old))) (to_start path) (seen N.sunk N.faults self.old) →
+            IfOk result (λ halt. Goes halt a (beside (F.faults files.new) (ticking (T.moment clock.new) (T.coming clock.new))) (seen N.sunk N.faults self.new)) }
         ensures stood { result ≡ Ok None → Stood self.new.speaker.core }
         ensures kept { F.held files.new ≡ F.held files.old }
     {
@@ -158,8 +159,8 @@ impl<N: Sink> Server<N> {
         stop: LinkStop,
     ) -> Result<Option<Halt>, OutOfMemory>
         requires stood { Stood self.old.speaker.core }
-        ensures goes { (a : Setting) (files : ℕ) → Serves a files (of_link (news.End stop)) (seen N.sunk N.faults self.old) →
-            IfOk result (λ halt. Goes halt a files (seen N.sunk N.faults self.new)) }
+        ensures goes { (a : Setting) (files : ℕ) → Serves a (beside files (ticking (T.moment clock.old) (T.coming clock.old))) (of_link (news.End stop)) (seen N.sunk N.faults self.old) →
+            IfOk result (λ halt. Goes halt a (beside files (ticking (T.moment clock.new) (T.coming clock.new))) (seen N.sunk N.faults self.new)) }
         ensures stood { result ≡ Ok None → Stood self.new.speaker.core }
     {
         self.link_stop = Some(stop);
@@ -179,8 +180,8 @@ impl<N: Sink> Server<N> {
     // The link ended at a message's edge.
     fn end<R: Wait, T: Clock>(&mut self, rt: &R, clock: &mut T) -> Result<Option<Halt>, OutOfMemory>
         requires stood { Stood self.old.speaker.core }
-        ensures goes { (a : Setting) (files : ℕ) → Serves a files (of_link (news.End link.Ended)) (seen N.sunk N.faults self.old) →
-            IfOk result (λ halt. Goes halt a files (seen N.sunk N.faults self.new)) }
+        ensures goes { (a : Setting) (files : ℕ) → Serves a (beside files (ticking (T.moment clock.old) (T.coming clock.old))) (of_link (news.End link.Ended)) (seen N.sunk N.faults self.old) →
+            IfOk result (λ halt. Goes halt a (beside files (ticking (T.moment clock.new) (T.coming clock.new))) (seen N.sunk N.faults self.new)) }
         ensures stood { result ≡ Ok None → Stood self.new.speaker.core }
     {
         if self.door.is_shut() {
@@ -198,8 +199,8 @@ impl<N: Sink> Server<N> {
         news: LinkNews,
     ) -> Result<Option<Halt>, OutOfMemory>
         requires stood { Stood self.old.speaker.core }
-        ensures goes { (a : Setting) (files : ℕ) → Serves a files (of_program news) (seen N.sunk N.faults self.old) →
-            IfOk result (λ halt. Goes halt a files (seen N.sunk N.faults self.new)) }
+        ensures goes { (a : Setting) (files : ℕ) → Serves a (beside files (ticking (T.moment clock.old) (T.coming clock.old))) (of_program news) (seen N.sunk N.faults self.old) →
+            IfOk result (λ halt. Goes halt a (beside files (ticking (T.moment clock.new) (T.coming clock.new))) (seen N.sunk N.faults self.new)) }
         ensures stood { result ≡ Ok None → Stood self.new.speaker.core }
     {
         match news {
@@ -221,8 +222,8 @@ impl<N: Sink> Server<N> {
 
     // A runner puts no end but for want of memory, and then its program runs no more.
     fn take_runner_end(&mut self, stop: LinkStop) -> Result<Halt, OutOfMemory>
-        ensures goes { (a : Setting) (files : ℕ) → Serves a files (of_program (news.End stop)) (seen N.sunk N.faults self.old) →
-            IfOk result (λ halt. Goes (Some halt) a files (seen N.sunk N.faults self.new)) }
+        ensures goes { (a : Setting) (now : Beside) → Serves a now (of_program (news.End stop)) (seen N.sunk N.faults self.old) →
+            IfOk result (λ halt. Goes (Some halt) a now (seen N.sunk N.faults self.new)) }
     {
         match stop {
             LinkStop::OutOfMemory => {
@@ -240,8 +241,8 @@ impl<N: Sink> Server<N> {
         piece: Blob,
     ) -> Result<Option<Halt>, OutOfMemory>
         requires stood { Stood self.old.speaker.core }
-        ensures goes { (a : Setting) (files : ℕ) → Serves a files (of_program (news.Output piece)) (seen N.sunk N.faults self.old) →
-            IfOk result (λ halt. Goes halt a files (seen N.sunk N.faults self.new)) }
+        ensures goes { (a : Setting) (files : ℕ) → Serves a (beside files (ticking (T.moment clock.old) (T.coming clock.old))) (of_program (news.Output piece)) (seen N.sunk N.faults self.old) →
+            IfOk result (λ halt. Goes halt a (beside files (ticking (T.moment clock.new) (T.coming clock.new))) (seen N.sunk N.faults self.new)) }
         ensures stood { result ≡ Ok None → Stood self.new.speaker.core }
     {
         if self.started.is_none() {
@@ -262,8 +263,8 @@ impl<N: Sink> Server<N> {
         outcome: Outcome,
     ) -> Result<Option<Halt>, OutOfMemory>
         requires stood { Stood self.old.speaker.core }
-        ensures goes { (a : Setting) (files : ℕ) → Serves a files (of_program (news.ChildDone outcome)) (seen N.sunk N.faults self.old) →
-            IfOk result (λ halt. Goes halt a files (seen N.sunk N.faults self.new)) }
+        ensures goes { (a : Setting) (files : ℕ) → Serves a (beside files (ticking (T.moment clock.old) (T.coming clock.old))) (of_program (news.ChildDone outcome)) (seen N.sunk N.faults self.old) →
+            IfOk result (λ halt. Goes halt a (beside files (ticking (T.moment clock.new) (T.coming clock.new))) (seen N.sunk N.faults self.new)) }
         ensures stood { result ≡ Ok None → Stood self.new.speaker.core }
     {
         let Some(start) = self.started else {

@@ -6,6 +6,3 @@ mod batches;
 mod load;
 
 pub use load::Load;
-
-#[cfg(test)]
-mod tests;

@@ -12,7 +12,7 @@ use Rattle.xd_factory.specs.Said.{Said}
 use Rattle.xd_factory.specs.declared.side.Side.{Side}
 use Rattle.xd_factory.proofs.Entries.{here_entries}
 use Rattle.xd_pair.specs.Part.{is_orderly, is_lost}
-use Rattle.xd_pair.specs.Pair.{Actor, Finish, after}
+use Rattle.xd_pair.specs.Pair.{Actor, Finish_receiving, after}
 use Rattle.xd_pair.specs.Handed.{Hands, owed_end}
 use Rattle.xd_pair.specs.Stands.{StandsFor}
 
@@ -54,7 +54,7 @@ none_lost (Here x) false h = absurd (let z = h in cc)
 pub owed_is : (s : Side) (c : ℕ) → owed_end (owed_of (slot_of s) (numbers_of s)) c ≡ lost_gives (slot_of s c)
 owed_is s c = owed_all (slot_of s) (numbers_of s) c ∙ none_lost (slot_of s c) (is_in c (numbers_of s)) (here_entries s.ends.entries c (is_known s.parity s.next s.seen c))
 
-pub finish_hands : (odd : Bool) (s : Side) (a : Actor) (wire : List Said) (ends : List (ℕ × End)) → ends ≡ owed_of (slot_of s) (numbers_of s) → StandsFor odd s a → Hands a (after odd a wire Finish) (λ c. []) (owed_end ends)
+pub finish_hands : (odd : Bool) (s : Side) (a : Actor) (wire : List Said) (ends : List (ℕ × End)) → ends ≡ owed_of (slot_of s) (numbers_of s) → StandsFor odd s a → Hands a (after odd a wire Finish_receiving) (λ c. []) (owed_end ends)
 finish_hands odd s a wire ends e k = record {
   got = λ c. refl;
   ended = λ c. ap (λ (x : Option End). is_orderly x || (a.part c).ended) (here c);

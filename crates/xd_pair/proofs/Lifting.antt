@@ -8,7 +8,7 @@ use Rattle.xd_frame.specs.Message.{MessageView}
 use Rattle.xd_factory.specs.Said.{Said}
 use Rattle.xd_factory.specs.declared.side.Side.{Side}
 use Rattle.xd_pair.specs.Part.{opened_in}
-use Rattle.xd_pair.specs.Pair.{Actor, World, Move, Open, Send, Call, Ask, Answer, Stop, Close_own, End_function, Give_up, Receive, Set_callback, Take, Refuse, Finish, at, adds, can_send, can_answer, can_open, takes, says, after, wire_after, Step, Odd, Even, happens, run, start}
+use Rattle.xd_pair.specs.Pair.{Actor, World, Move, Open_channel, Send, Call, Ask, Answer, Terminate, Close, End_function, Give_up, Receive, Set_callback, Take_message, Refuse, Finish_receiving, at, adds, can_send, can_answer, can_open, takes, says, after, wire_after, Step, Odd, Even, happens, run, start}
 use Rattle.xd_pair.specs.Messages.{AllMean, Adds}
 use Rattle.xd_pair.specs.Handed.{Hands}
 use Rattle.xd_pair.specs.Stands.{StandsFor, IsOpen, IsMoveIf, HandsOut, Carries, IsTake, IsRefusal}
@@ -32,20 +32,20 @@ takes_open odd a [] h = h
 takes_open odd a (m ∷ ms) h = h
 
 was_open : (odd : Bool) (a : Actor) (wire : List Said) (m : Move) → IsOpen (after odd a wire m) → IsOpen a
-was_open odd a wire Open = if_actor (λ t. IsOpen t → IsOpen a) (can_open odd a) (record (at a.next (λ p. opened_in p p.slot) a) { next = a.next + 2 }) a (λ h. h) (λ h. h)
+was_open odd a wire Open_channel = if_actor (λ t. IsOpen t → IsOpen a) (can_open odd a) (record (at a.next (λ p. opened_in p p.slot) a) { next = a.next + 2 }) a (λ h. h) (λ h. h)
 was_open odd a wire (Send n v) = if_actor (λ t. IsOpen t → IsOpen a) (can_send a n v) (adds n v a) a (λ h. h) (λ h. h)
 was_open odd a wire (Call n v) = λ h. h
 was_open odd a wire (Ask n) = λ h. h
 was_open odd a wire (Answer n v) = if_actor (λ t. IsOpen t → IsOpen a) (can_answer a n v) (adds n v a) a (λ h. h) (λ h. h)
-was_open odd a wire Stop = λ h. h
-was_open odd a wire (Close_own n e) = λ h. h
+was_open odd a wire Terminate = λ h. h
+was_open odd a wire (Close n e) = λ h. h
 was_open odd a wire (End_function n e) = λ h. h
 was_open odd a wire (Give_up n) = λ h. h
 was_open odd a wire (Receive n) = λ h. h
 was_open odd a wire (Set_callback n) = λ h. h
-was_open odd a wire Take = if_actor (λ t. IsOpen t → IsOpen a) (a.failed || a.finished) a (takes odd a wire) (λ h. h) (takes_open odd a wire)
+was_open odd a wire Take_message = if_actor (λ t. IsOpen t → IsOpen a) (a.failed || a.finished) a (takes odd a wire) (λ h. h) (takes_open odd a wire)
 was_open odd a wire (Refuse names) = λ h. absurd (let z = h in cc)
-was_open odd a wire Finish = λ h. absurd (never a.failed h)
+was_open odd a wire Finish_receiving = λ h. absurd (never a.failed h)
 
 -- what is on the way to the peer
 more_carried : (a : Actor) (old new : LinkedSide) (wire words : List Said) → Adds old.said.items new.said.items words → Carries a old wire → Carries a new (wire ++ words)
@@ -92,29 +92,29 @@ same_carried : (a : Actor) (old new : LinkedSide) (wire : List Said) → new.sai
 same_carried a old new wire e h o = subst (λ (ws : List Said). AllMean new.said.items ws) (sym (append-nil wire)) (subst (λ (ms : List MessageView). AllMean ms wire) (sym e) (h o))
 
 pub odd_takes : (odd new even rest : LinkedSide) (steps : List Step) (items : ℕ → List Tree) (end : ℕ → Option End) → IsTake odd new even rest items end → PairStands odd even steps
-    → PairStands new rest (steps ++ Odd Take ∷ []) × Hands (run steps start).odd (run (steps ++ Odd Take ∷ []) start).odd items end
+    → PairStands new rest (steps ++ Odd Take_message ∷ []) × Hands (run steps start).odd (run (steps ++ Odd Take_message ∷ []) start).odd items end
 odd_takes odd new even rest steps items end t h =
     let k = t.takes true (run steps start).odd (run steps start).to_odd h.odd_stands h.to_odd in (
-      subst (StandFor new rest) (sym (run-append steps (Odd Take) start)) (record {
+      subst (StandFor new rest) (sym (run-append steps (Odd Take_message) start)) (record {
         odd_stands = k.stands;
         even_stands = subst (λ (s : Side). StandsFor false s (run steps start).even) (sym t.quiet.peer_side) h.even_stands;
         to_odd = k.carries;
         to_even = same_carried (run steps start).even odd new (run steps start).to_even t.quiet.said h.to_even;
       }),
-      subst (λ (b : Actor). Hands (run steps start).odd b items end) (sym (next_odd steps Take)) k.hands,
+      subst (λ (b : Actor). Hands (run steps start).odd b items end) (sym (next_odd steps Take_message)) k.hands,
     )
 
 pub even_takes : (odd even new rest : LinkedSide) (steps : List Step) (items : ℕ → List Tree) (end : ℕ → Option End) → IsTake even new odd rest items end → PairStands odd even steps
-    → PairStands rest new (steps ++ Even Take ∷ []) × Hands (run steps start).even (run (steps ++ Even Take ∷ []) start).even items end
+    → PairStands rest new (steps ++ Even Take_message ∷ []) × Hands (run steps start).even (run (steps ++ Even Take_message ∷ []) start).even items end
 even_takes odd even new rest steps items end t h =
     let k = t.takes false (run steps start).even (run steps start).to_even h.even_stands h.to_even in (
-      subst (StandFor rest new) (sym (run-append steps (Even Take) start)) (record {
+      subst (StandFor rest new) (sym (run-append steps (Even Take_message) start)) (record {
         odd_stands = subst (λ (s : Side). StandsFor true s (run steps start).odd) (sym t.quiet.peer_side) h.odd_stands;
         even_stands = k.stands;
         to_odd = same_carried (run steps start).odd even new (run steps start).to_odd t.quiet.said h.to_odd;
         to_even = k.carries;
       }),
-      subst (λ (b : Actor). Hands (run steps start).even b items end) (sym (next_even steps Take)) k.hands,
+      subst (λ (b : Actor). Hands (run steps start).even b items end) (sym (next_even steps Take_message)) k.hands,
     )
 
 pub odd_refuses : (odd new even rest : LinkedSide) (steps : List Step) → IsRefusal odd new even rest → PairStands odd even steps → (names : List ℕ) × PairStands new rest (steps ++ Odd (Refuse names) ∷ [])

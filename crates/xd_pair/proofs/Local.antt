@@ -9,7 +9,7 @@ use Rattle.xd_channel.specs.History.{handed}
 use Rattle.xd_value.specs.Tree.{Tree}
 use Rattle.xd_factory.specs.Slot.{Slot, Unseen, Here, Gone, settled, receive_answer, named_slot}
 use Rattle.xd_pair.specs.Notes.{Note, Named, Item, Ends, Lasts, Asked, before_end, has_end}
-use Rattle.xd_pair.specs.Part.{Part, is_orderly, is_lost, heard_in, heard, heard_all, opened_in, received_in, hooked_in, closed_in, ended_in, given_up_in, lost_in, end_in, item_in}
+use Rattle.xd_pair.specs.Part.{Part, is_orderly, is_lost, heard_in, heard, heard_all, opened_in, received_in, hooked_in, closed_in, function_ended_in, given_up_in, lost_in, end_in, item_in}
 use Rattle.xd_factory.specs.Slot.{is_seen}
 use Rattle.xd_pair.proofs.NotesLemmas.{open_append, ended_append, has_end-append, still_ended, open_or_ended, grows, longer}
 
@@ -238,7 +238,7 @@ closed-ok f n p Unseen h k = at_slot f n p Unseen h k
 closed-ok f n p (Here s) h k = closes f n s.waiting s.marker s.sending s.callback s.given p.got p.ended p.let_go p.lost (at_slot f n p (Here s) h k)
 closed-ok f n p Gone h k = at_slot f n p Gone h k
 
-pub ended-ok : (f : Bool) (n : List Note) (p : Part) (s : Slot Tree) → p.slot ≡ s → PartOk f n p → PartOk f n (ended_in p s)
+pub ended-ok : (f : Bool) (n : List Note) (p : Part) (s : Slot Tree) → p.slot ≡ s → PartOk f n p → PartOk f n (function_ended_in p s)
 ended-ok f n p Unseen h k = at_slot f n p Unseen h k
 ended-ok f n p (Here s) h k = ends f n s.waiting s.marker s.sending s.callback s.given p.got p.ended p.let_go p.lost (at_slot f n p (Here s) h k)
 ended-ok f n p Gone h k = at_slot f n p Gone h k

@@ -10,12 +10,13 @@ use Rattle.xd_value.specs.Canonical.{dumped}
 use Rattle.xd_frame.specs.declared.kind.Kind.TheVariants as kind
 use Rattle.xd_frame.specs.Message.{MessageView}
 use Rattle.xd_factory.specs.Slot.{Slot, is_seen, is_here, closed_slot, function_ended_slot, given_up_slot, give_up_says}
-use Rattle.xd_factory.specs.Said.{Said, Exec, Data, Close, Means}
+use Rattle.xd_factory.specs.Said.{Said, Exec, Data, Means}
+use Rattle.xd_factory.specs.Said as message
 use Rattle.xd_factory.specs.Table.{is_long, HasErrorPayload, close_refusal, closing_message, close_says, giving_says, send_refusal, sent_gives}
 use Rattle.xd_factory.specs.View.{slot_of, KeepsRest}
 use Rattle.xd_factory.specs.declared.side.Side.{Side}
 use Rattle.xd_pair.specs.Part as part
-use Rattle.xd_pair.specs.Pair.{Actor, Send, Call, Answer, Close_own, End_function, Give_up, knows, can_send, can_call, can_answer}
+use Rattle.xd_pair.specs.Pair.{Actor, Send, Call, Answer, Close, End_function, Give_up, knows, can_send, can_call, can_answer}
 use Rattle.xd_pair.specs.Messages.{AllMean, Adds}
 use Rattle.xd_pair.specs.Stands.{IsMove, IsMoveIf}
 use Rattle.xd_pair.specs.declared.linked.LinkedSide.{LinkedSide}
@@ -35,7 +36,7 @@ numbered a s n slots zero h = differ a.part n 0 zero (ap is_seen (sym (slots n))
 -- the calls that end a channel
 pub close_moves : (old new : LinkedSide) (n : ℕ) (e : Option (List ℕ)) (m : Option MessageView) → HasErrorPayload e → m ≡ close_says n e (slot_of old.side n)
     → close_refusal (is_seen (slot_of old.side n)) (is_long e) ≡ None → ChangesAt old.side new.side n closed_slot → new.said.items ≡ old.said.items ++ option_to_list m
-    → IsMove old new (Close_own n e)
+    → IsMove old new (Close n e)
 close_moves old new n e m p says accepted change more odd a wire num u k = record {
   stands = at_stands odd old.side new.side a n closed_slot (λ q. part.closed_in q q.slot) (λ q. refl) change.rest change.slots k;
   says = subst (λ (s : Slot Tree). Adds old.said.items new.said.items (part.close_words n e s)) (k.slots n)
@@ -49,12 +50,12 @@ pub end_moves : (old new : LinkedSide) (n : ℕ) (e : Option (List ℕ)) (m : Me
     → close_refusal (is_seen (slot_of old.side n)) (is_long e) ≡ None → ChangesAt old.side new.side n function_ended_slot → new.said.items ≡ old.said.items ++ m ∷ []
     → IsMove old new (End_function n e)
 end_moves old new n e m p says accepted change more odd a wire num u k = record {
-  stands = at_stands odd old.side new.side a n function_ended_slot (λ q. part.ended_in q q.slot) (λ q. refl) change.rest change.slots k;
-  says = subst (λ (s : Slot Tree). Adds old.said.items new.said.items (part.end_words n e s)) (k.slots n)
+  stands = at_stands odd old.side new.side a n function_ended_slot (λ q. part.function_ended_in q q.slot) (λ q. refl) change.rest change.slots k;
+  says = subst (λ (s : Slot Tree). Adds old.said.items new.said.items (part.function_end_words n e s)) (k.slots n)
       (record {
         more = m ∷ [];
         behind = more;
-        mean = subst (λ (x : MessageView). AllMean (x ∷ []) (part.end_words n e (slot_of old.side n))) (sym says)
+        mean = subst (λ (x : MessageView). AllMean (x ∷ []) (part.function_end_words n e (slot_of old.side n))) (sym says)
             (end_said n e (slot_of old.side n) (numbered a old.side n k.slots num.unseen) accepted p);
       });
   way = refl;
@@ -118,11 +119,11 @@ answer_moves old new n v b none m end p d empty is end_is side more odd a wire n
     let closes : end ≡ record { kind = kind.Close; channel = n; payload = [] } = end_is ∙ ap (λ (x : List ℕ). closing n x) empty in
     record {
       stands = adds_stands odd new.side a (can_answer a n v) n v (same_stands odd old.side new.side a side k);
-      says = if_adds old.said.items new.said.items (can_answer a n v) (Data n v ∷ Close n None ∷ []) can
+      says = if_adds old.said.items new.said.items (can_answer a n v) (Data n v ∷ message.Close n None ∷ []) can
           (record {
             more = m ∷ end ∷ [];
             behind = more ∙ append_assoc old.said.items (m ∷ []) (end ∷ []);
-            mean = (subst (λ (x : MessageView). Means x (Data n v)) (sym is) (item_said n v b n_is p d), (subst (λ (x : MessageView). Means x (Close n None)) (sym closes) (close_means n n_is), tt));
+            mean = (subst (λ (x : MessageView). Means x (Data n v)) (sym is) (item_said n v b n_is p d), (subst (λ (x : MessageView). Means x (message.Close n None)) (sym closes) (close_means n n_is), tt));
           });
       way = refl;
     }

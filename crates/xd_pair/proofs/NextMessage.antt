@@ -9,7 +9,7 @@ use Rattle.xd_factory.specs.Table.{heard_slot, answer_of, OpensAtMost}
 use Rattle.xd_factory.specs.View.{slot_of, parity_of, next_of, fault_of, is_finished, KeepsRest}
 use Rattle.xd_factory.specs.declared.taken.Taken.{Taken}
 use Rattle.xd_factory.specs.declared.faults.SideFault.{SideFault}
-use Rattle.xd_pair.specs.Pair.{Actor, Take, takes, rest, after, wire_after}
+use Rattle.xd_pair.specs.Pair.{Actor, Take_message, takes, rest, after, wire_after}
 use Rattle.xd_pair.specs.Handed.{Hands, taken_items, taken_end}
 use Rattle.xd_pair.specs.Messages.{AllMean}
 use Rattle.xd_pair.specs.Stands.{StandsFor, IsOpen, IsTake, IsRefusal}
@@ -34,7 +34,7 @@ none_takes : (odd : Bool) (a : Actor) (wire : List Said) → AllMean [] wire →
 none_takes odd a [] h = refl
 none_takes odd a (w ∷ ws) h = absurd h
 
-none_after : (odd : Bool) (a : Actor) (wire : List Said) → (IsOpen a → AllMean [] wire) → after odd a wire Take ≡ a
+none_after : (odd : Bool) (a : Actor) (wire : List Said) → (IsOpen a → AllMean [] wire) → after odd a wire Take_message ≡ a
 none_after odd a wire h = by_test (a.failed || a.finished) h
   where
     by_test : (b : Bool) → (b ≡ false → AllMean [] wire) → (if b then a else takes odd a wire) ≡ a
@@ -54,7 +54,7 @@ takes_none old new peer left items none side said same = record {
       let means : IsOpen a → AllMean [] wire = λ o. subst (λ (ms : List MessageView). AllMean ms wire) items (carries o) in
       record {
         stands = subst (λ (b : Actor). StandsFor odd new.side b) (sym (none_after odd a wire means)) (same_stands odd old.side new.side a same k);
-        carries = λ o. subst (λ (ms : List MessageView). AllMean ms (wire_after a wire Take)) (sym none) (none_rest (a.failed || a.finished) wire (means (subst (λ (b : Actor). IsOpen b) (none_after odd a wire means) o)));
+        carries = λ o. subst (λ (ms : List MessageView). AllMean ms (wire_after a wire Take_message)) (sym none) (none_rest (a.failed || a.finished) wire (means (subst (λ (b : Actor). IsOpen b) (none_after odd a wire means) o)));
         hands = subst (λ (b : Actor). Hands a b (λ c. []) (λ c. None)) (sym (none_after odd a wire means)) (none_hands a);
       };
 }

@@ -7,8 +7,8 @@ use Rattle.xd_factory.specs.Numbers.{is_in, is_odd}
 use Rattle.xd_factory.specs.Slot.{Slot, Unseen, Here, Gone, is_seen, named_slot}
 use Rattle.xd_factory.specs.Said.{Said}
 use Rattle.xd_pair.specs.Notes.{Note, Named, Item, Ends, Lasts, Asked, owns, notes}
-use Rattle.xd_pair.specs.Part.{Part, heard, heard_in, heard_all, opened_in, received_in, hooked_in, closed_in, ended_in, given_up_in}
-use Rattle.xd_pair.specs.Pair.{Actor, World, Move, Open, Send, Call, Ask, Answer, Stop, Close_own, End_function, Give_up, Receive, Set_callback, Take, Refuse, Finish, is_told, named_part, at, adds, can_send, can_answer, can_open, takes, after, Step, Odd, Even, happens, run, start}
+use Rattle.xd_pair.specs.Part.{Part, heard, heard_in, heard_all, opened_in, received_in, hooked_in, closed_in, function_ended_in, given_up_in}
+use Rattle.xd_pair.specs.Pair.{Actor, World, Move, Open_channel, Send, Call, Ask, Answer, Terminate, Close, End_function, Give_up, Receive, Set_callback, Take_message, Refuse, Finish_receiving, is_told, named_part, at, adds, can_send, can_answer, can_open, takes, after, Step, Odd, Even, happens, run, start}
 use Rattle.xd_pair.specs.Stands.{IsNumbered}
 use Rattle.xd_pair.proofs.Says.{if_actor, received_not, hooked_not, closed_not, ended_not, given_up_not, lost_not}
 use Rattle.xd_pair.proofs.World.{sound_run, sound_start}
@@ -77,20 +77,20 @@ same_own : (odd : Bool) (a : Actor) (n : ℕ) (v : Tree) → IsOwn odd a → IsO
 same_own odd a n v k = record { own = k.own; positive = k.positive; zero = k.zero }
 
 after_own : (odd : Bool) (a : Actor) (wire : List Said) (m : Move) → IsOwn odd a → IsOwn odd (after odd a wire m)
-after_own odd a wire Open k = if_actor (IsOwn odd) (can_open odd a) (record (at a.next (λ p. opened_in p p.slot) a) { next = a.next + 2 }) a (opened_own odd a k) k
+after_own odd a wire Open_channel k = if_actor (IsOwn odd) (can_open odd a) (record (at a.next (λ p. opened_in p p.slot) a) { next = a.next + 2 }) a (opened_own odd a k) k
 after_own odd a wire (Send n v) k = if_actor (IsOwn odd) (can_send a n v) (adds n v a) a (same_own odd a n v k) k
 after_own odd a wire (Call n v) k = k
 after_own odd a wire (Ask n) k = k
 after_own odd a wire (Answer n v) k = if_actor (IsOwn odd) (can_answer a n v) (adds n v a) a (same_own odd a n v k) k
-after_own odd a wire Stop k = k
-after_own odd a wire (Close_own n e) k = at_zero odd n (λ p. closed_in p p.slot) a (closed_not (a.part 0).slot) k
-after_own odd a wire (End_function n e) k = at_zero odd n (λ p. ended_in p p.slot) a (ended_not (a.part 0).slot) k
+after_own odd a wire Terminate k = k
+after_own odd a wire (Close n e) k = at_zero odd n (λ p. closed_in p p.slot) a (closed_not (a.part 0).slot) k
+after_own odd a wire (End_function n e) k = at_zero odd n (λ p. function_ended_in p p.slot) a (ended_not (a.part 0).slot) k
 after_own odd a wire (Give_up n) k = at_zero odd n (λ p. given_up_in p p.slot) a (given_up_not (a.part 0).slot) k
 after_own odd a wire (Receive n) k = at_zero odd n (λ p. received_in p p.slot) a (received_not (a.part 0).slot) k
 after_own odd a wire (Set_callback n) k = at_zero odd n (λ p. hooked_in p p.slot) a (hooked_not (a.part 0).slot) k
-after_own odd a wire Take k = if_actor (IsOwn odd) (a.failed || a.finished) a (takes odd a wire) k (takes_own odd a wire k)
+after_own odd a wire Take_message k = if_actor (IsOwn odd) (a.failed || a.finished) a (takes odd a wire) k (takes_own odd a wire k)
 after_own odd a wire (Refuse names) k = record { own = k.own; positive = k.positive; zero = λ h. refuse_zero (is_in 0 names && is_told 0 wire) (owns odd 0) (a.part 0) h (k.zero h) }
-after_own odd a wire Finish k = record { own = k.own; positive = k.positive; zero = λ h. lost_not (a.part 0).slot (k.zero h) }
+after_own odd a wire Finish_receiving k = record { own = k.own; positive = k.positive; zero = λ h. lost_not (a.part 0).slot (k.zero h) }
 
 record AreOwn (w : World) : Type 0 where
   odd_own : IsOwn true w.odd

@@ -4,10 +4,10 @@ use Rattle.std.specs.Prelude.{pos}
 use Rattle.xd_value.specs.Tree.{int, channel}
 use Rattle.xd_factory.specs.Slot.{Gone}
 use Rattle.xd_pair.specs.Notes.{all_notes, Lasts, Item, Ends}
-use Rattle.xd_pair.specs.Pair.{Law, untouched, Open, Send, Ask, Answer, Close_own, Give_up, Receive, Set_callback, Take, Finish, Step, Odd, Even, run, start}
+use Rattle.xd_pair.specs.Pair.{Law, untouched, Open_channel, Send, Ask, Answer, Close, Give_up, Receive, Set_callback, Take_message, Finish_receiving, Step, Odd, Even, run, start}
 
 abbrev two_channels : List Step
-two_channels = Odd Open ∷ Odd Open ∷ Odd (Send 1 (channel 3)) ∷ Odd (Send 3 (int (pos 7))) ∷ Even Take ∷ Even Take ∷ Even (Receive 1) ∷ Even (Receive 3) ∷ Even (Receive 3) ∷ []
+two_channels = Odd Open_channel ∷ Odd Open_channel ∷ Odd (Send 1 (channel 3)) ∷ Odd (Send 3 (int (pos 7))) ∷ Even Take_message ∷ Even Take_message ∷ Even (Receive 1) ∷ Even (Receive 3) ∷ Even (Receive 3) ∷ []
 
 named_comes : ((run two_channels start).even.part 1).got ≡ channel 3 ∷ []
 named_comes = refl
@@ -16,7 +16,7 @@ item_comes : ((run two_channels start).even.part 3).got ≡ int (pos 7) ∷ []
 item_comes = refl
 
 abbrev closed_there : List Step
-closed_there = two_channels ++ Even (Close_own 3 None) ∷ Odd Take ∷ Odd (Receive 3) ∷ Odd (Send 3 (int (pos 8))) ∷ []
+closed_there = two_channels ++ Even (Close 3 None) ∷ Odd Take_message ∷ Odd (Receive 3) ∷ Odd (Send 3 (int (pos 8))) ∷ []
 
 end_comes : ((run closed_there start).odd.part 3).ended ≡ true
 end_comes = refl
@@ -29,8 +29,8 @@ leaves = refl
 
 -- a STATUS, an item that opens the number, a callback that is given up, and then the answer to the STATUS
 abbrev late_answer : List Step
-late_answer = Odd Open ∷ Odd (Ask 1) ∷ Odd (Send 1 (int (pos 5))) ∷ Even Take ∷ Even Take ∷ Even (Set_callback 1) ∷ Even (Give_up 1) ∷ Even (Answer 1 (int (pos 9)))
-    ∷ Odd Take ∷ Odd Take ∷ Odd Take ∷ Odd (Receive 1) ∷ Odd (Receive 1) ∷ []
+late_answer = Odd Open_channel ∷ Odd (Ask 1) ∷ Odd (Send 1 (int (pos 5))) ∷ Even Take_message ∷ Even Take_message ∷ Even (Set_callback 1) ∷ Even (Give_up 1) ∷ Even (Answer 1 (int (pos 9)))
+    ∷ Odd Take_message ∷ Odd Take_message ∷ Odd Take_message ∷ Odd (Receive 1) ∷ Odd (Receive 1) ∷ []
 
 answer_sent : (run late_answer start).even.sent 1 ≡ int (pos 9) ∷ []
 answer_sent = refl
@@ -50,7 +50,7 @@ all_said = refl
 
 -- two items and a close, and a callback that is set twice
 abbrev set_twice : List Step
-set_twice = Odd Open ∷ Odd (Send 1 (int (pos 1))) ∷ Odd (Send 1 (int (pos 2))) ∷ Odd (Close_own 1 None) ∷ Even Take ∷ Even Take ∷ Even Take ∷ Even (Set_callback 1) ∷ Even (Set_callback 1) ∷ []
+set_twice = Odd Open_channel ∷ Odd (Send 1 (int (pos 1))) ∷ Odd (Send 1 (int (pos 2))) ∷ Odd (Close 1 None) ∷ Even Take_message ∷ Even Take_message ∷ Even Take_message ∷ Even (Set_callback 1) ∷ Even (Set_callback 1) ∷ []
 
 both_come : ((run set_twice start).even.part 1).got ≡ int (pos 1) ∷ int (pos 2) ∷ []
 both_come = refl
@@ -63,7 +63,7 @@ has_left = refl
 
 -- the link is lost at two channels, one with a callback
 abbrev link_lost : List Step
-link_lost = Odd Open ∷ Odd Open ∷ Odd (Set_callback 1) ∷ Odd Finish ∷ []
+link_lost = Odd Open_channel ∷ Odd Open_channel ∷ Odd (Set_callback 1) ∷ Odd Finish_receiving ∷ []
 
 callback_told : ((run link_lost start).odd.part 1).lost ≡ true
 callback_told = refl
@@ -74,7 +74,7 @@ not_told_yet = refl
 told_then : ((run (link_lost ++ Odd (Receive 3) ∷ []) start).odd.part 3).lost ≡ true
 told_then = refl
 
-none_opens : (run (link_lost ++ Odd Open ∷ []) start).odd.next ≡ 5
+none_opens : (run (link_lost ++ Odd Open_channel ∷ []) start).odd.next ≡ 5
 none_opens = refl
 
 -- what the law rules out

@@ -14,11 +14,12 @@ use Rattle.xd_value.specs.Channels.{channels}
 use Rattle.xd_factory.specs.Slot.{Slot, Unseen, Here, Gone, settled, opened_slot, closed_slot, function_ended_slot, given_up_slot, received_slot, hooked_slot, lost_slot, named_slot}
 use Rattle.xd_factory.specs.Numbers.{is_in}
 use Rattle.xd_pair.specs.Notes.{owns}
-use Rattle.xd_factory.specs.Said.{Said, Status, Exec, Data, Close}
+use Rattle.xd_factory.specs.Said.{Said, Status, Exec, Data}
+use Rattle.xd_factory.specs.Said as message
 use Rattle.xd_pair.specs.Notes.{Note, Named, Item, Ends, Lasts, Asked, named, notes, all_notes, items}
-use Rattle.xd_pair.specs.Part.{Part, heard, heard_all, opened_in, received_in, hooked_in, closed_in, ended_in, given_up_in, closing_words, close_words, end_words, giving_words, give_up_words, may_send}
+use Rattle.xd_pair.specs.Part.{Part, heard, heard_all, opened_in, received_in, hooked_in, closed_in, function_ended_in, given_up_in, closing_words, close_words, function_end_words, giving_words, give_up_words, may_send}
 use Rattle.xd_factory.specs.Slot.{is_seen, is_here}
-use Rattle.xd_pair.specs.Pair.{Actor, Move, Open, Send, Call, Ask, Answer, Stop, Close_own, End_function, Give_up, Receive, Set_callback, Take, Refuse, Finish, is_told, has_notes, named_part, knows, at, adds, can_send, can_call, can_answer, can_open, takes, says, after}
+use Rattle.xd_pair.specs.Pair.{Actor, Move, Open_channel, Send, Call, Ask, Answer, Terminate, Close, End_function, Give_up, Receive, Set_callback, Take_message, Refuse, Finish_receiving, is_told, has_notes, named_part, knows, at, adds, can_send, can_call, can_answer, can_open, takes, says, after}
 use Rattle.xd_pair.proofs.NotesLemmas.{open_or_ended}
 use Rattle.xd_pair.proofs.Local.{settled_seen, seen_in}
 
@@ -57,10 +58,10 @@ close_quiet n c e (Here s) h = open_or_ended (n == c) (all_notes c (close_words 
     by_gives q closing.Say = rw q refl
     by_gives q closing.Nothing = refl
 
-end_quiet : (n c : ℕ) (e : Option (List ℕ)) (s : Slot Tree) → (n == c ≡ true → is_seen s ≡ false) → all_notes c (end_words n e s) ≡ []
+end_quiet : (n c : ℕ) (e : Option (List ℕ)) (s : Slot Tree) → (n == c ≡ true → is_seen s ≡ false) → all_notes c (function_end_words n e s) ≡ []
 end_quiet n c e Unseen h = refl
-end_quiet n c e Gone h = open_or_ended (n == c) (all_notes c (end_words n e Gone) ≡ []) (λ q. absurd (let z = h q in cc)) (λ q. rw q refl)
-end_quiet n c e (Here s) h = open_or_ended (n == c) (all_notes c (end_words n e (Here s)) ≡ []) (λ q. absurd (let z = h q in cc)) (λ q. rw q refl)
+end_quiet n c e Gone h = open_or_ended (n == c) (all_notes c (function_end_words n e Gone) ≡ []) (λ q. absurd (let z = h q in cc)) (λ q. rw q refl)
+end_quiet n c e (Here s) h = open_or_ended (n == c) (all_notes c (function_end_words n e (Here s)) ≡ []) (λ q. absurd (let z = h q in cc)) (λ q. rw q refl)
 
 give_up_quiet : (n c : ℕ) (s : Slot Tree) → (n == c ≡ true → is_seen s ≡ false) → all_notes c (give_up_words n s) ≡ []
 give_up_quiet n c Unseen h = refl
@@ -77,23 +78,23 @@ same_slot part n c u q = ap (λ (x : ℕ). is_seen (part x).slot) (eqb-true n c 
 
 -- a side says nothing about a number that it never saw and was not asked for
 pub quiet_says : (odd : Bool) (a : Actor) (m : Move) (c : ℕ) → is_seen (a.part c).slot ≡ false → (a.part c).asked ≡ false → all_notes c (says odd a m) ≡ []
-quiet_says odd a Open c u w = refl
+quiet_says odd a Open_channel c u w = refl
 quiet_says odd a (Send n v) c u w = if_says c (can_send a n v) (Data n v ∷ []) (λ q. let h = and_parts (may_send (a.part n).slot) (knows a.part (channels v)) q in
     rw (unnamed a.part c (channels v) u h.1, differ a.part n c u (may_seen (a.part n).slot h.0)) refl)
 quiet_says odd a (Call n v) c u w = if_says c (can_call odd a n v) (Exec n v ∷ []) (λ q. let h = and_parts (is_here (a.part n).slot) (knows a.part (channels v)) q in
     rw (unnamed a.part c (channels v) u h.1, differ a.part n c u (here_seen (a.part n).slot h.0)) refl)
 quiet_says odd a (Ask n) c u w = if_says c (is_here (a.part n).slot) (Status n ∷ []) (λ q. rw (differ a.part n c u (here_seen (a.part n).slot q)) refl)
-quiet_says odd a (Answer n v) c u w = if_says c (can_answer a n v) (Data n v ∷ Close n None ∷ []) (λ q. let h = and_parts (a.part n).asked (knows a.part (channels v)) q in
+quiet_says odd a (Answer n v) c u w = if_says c (can_answer a n v) (Data n v ∷ message.Close n None ∷ []) (λ q. let h = and_parts (a.part n).asked (knows a.part (channels v)) q in
     rw (unnamed a.part c (channels v) u h.1, unasked a.part n c w h.0) refl)
-quiet_says odd a Stop c u w = refl
-quiet_says odd a (Close_own n e) c u w = close_quiet n c e (a.part n).slot (same_slot a.part n c u)
+quiet_says odd a Terminate c u w = refl
+quiet_says odd a (Close n e) c u w = close_quiet n c e (a.part n).slot (same_slot a.part n c u)
 quiet_says odd a (End_function n e) c u w = end_quiet n c e (a.part n).slot (same_slot a.part n c u)
 quiet_says odd a (Give_up n) c u w = give_up_quiet n c (a.part n).slot (same_slot a.part n c u)
 quiet_says odd a (Receive n) c u w = refl
 quiet_says odd a (Set_callback n) c u w = refl
-quiet_says odd a Take c u w = refl
+quiet_says odd a Take_message c u w = refl
 quiet_says odd a (Refuse names) c u w = refl
-quiet_says odd a Finish c u w = refl
+quiet_says odd a Finish_receiving c u w = refl
 
 -- what was sent are the items that were said
 named_items : (b : Bool) (ns : List Note) → items ((if b then Named ∷ [] else []) ++ ns) ≡ items ns
@@ -117,7 +118,7 @@ close_items n c e (Here s) = by_gives (close_gives s)
     by_gives closing.Nothing = refl
     by_gives closing.Say = same_tests (n == c) (Ends e) refl
 
-end_items : (n c : ℕ) (e : Option (List ℕ)) (s : Slot Tree) → items (all_notes c (end_words n e s)) ≡ []
+end_items : (n c : ℕ) (e : Option (List ℕ)) (s : Slot Tree) → items (all_notes c (function_end_words n e s)) ≡ []
 end_items n c e Unseen = refl
 end_items n c e Gone = same_tests (n == c) (Ends e) refl
 end_items n c e (Here s) = same_tests (n == c) (Ends e) refl
@@ -146,7 +147,7 @@ sends : (b : Bool) (n c : ℕ) (v : Tree) (a : Actor) → (if b then adds n v a 
 sends true n c v a = one_item n c v (a.sent c) [] refl
 sends false n c v a = sym (append-nil (a.sent c))
 
-answers : (b : Bool) (n c : ℕ) (v : Tree) (a : Actor) → (if b then adds n v a else a).sent c ≡ a.sent c ++ items (all_notes c (if b then Data n v ∷ Close n None ∷ [] else []))
+answers : (b : Bool) (n c : ℕ) (v : Tree) (a : Actor) → (if b then adds n v a else a).sent c ≡ a.sent c ++ items (all_notes c (if b then Data n v ∷ message.Close n None ∷ [] else []))
 answers true n c v a = one_item n c v (a.sent c) ((if n == c then Ends None ∷ [] else []) ++ []) (same_tests (n == c) (Ends None) refl)
 answers false n c v a = sym (append-nil (a.sent c))
 
@@ -165,21 +166,21 @@ asks true n c = same_tests (n == c) Asked refl
 asks false n c = refl
 
 pub sent_says : (odd : Bool) (a : Actor) (wire : List Said) (m : Move) (c : ℕ) → (after odd a wire m).sent c ≡ a.sent c ++ items (all_notes c (says odd a m))
-sent_says odd a wire Open c = if_actor (λ t. t.sent c ≡ a.sent c ++ []) (can_open odd a) (record (at a.next (λ p. opened_in p p.slot) a) { next = a.next + 2 }) a (sym (append-nil (a.sent c))) (sym (append-nil (a.sent c)))
+sent_says odd a wire Open_channel c = if_actor (λ t. t.sent c ≡ a.sent c ++ []) (can_open odd a) (record (at a.next (λ p. opened_in p p.slot) a) { next = a.next + 2 }) a (sym (append-nil (a.sent c))) (sym (append-nil (a.sent c)))
 sent_says odd a wire (Send n v) c = sends (can_send a n v) n c v a
 sent_says odd a wire (Call n v) c = more_none _ _ (calls (can_call odd a n v) n c v)
 sent_says odd a wire (Ask n) c = more_none _ _ (asks (is_here (a.part n).slot) n c)
 sent_says odd a wire (Answer n v) c = answers (can_answer a n v) n c v a
-sent_says odd a wire Stop c = sym (append-nil (a.sent c))
-sent_says odd a wire (Close_own n e) c = more_none _ _ (close_items n c e (a.part n).slot)
+sent_says odd a wire Terminate c = sym (append-nil (a.sent c))
+sent_says odd a wire (Close n e) c = more_none _ _ (close_items n c e (a.part n).slot)
 sent_says odd a wire (End_function n e) c = more_none _ _ (end_items n c e (a.part n).slot)
 sent_says odd a wire (Give_up n) c = more_none _ _ (give_up_items n c (a.part n).slot)
 sent_says odd a wire (Receive n) c = sym (append-nil (a.sent c))
 sent_says odd a wire (Set_callback n) c = sym (append-nil (a.sent c))
-sent_says odd a [] Take c = if_actor (λ t. t.sent c ≡ a.sent c ++ []) (a.failed || a.finished) a a (sym (append-nil (a.sent c))) (sym (append-nil (a.sent c)))
-sent_says odd a (m ∷ ms) Take c = if_actor (λ t. t.sent c ≡ a.sent c ++ []) (a.failed || a.finished) a (takes odd a (m ∷ ms)) (sym (append-nil (a.sent c))) (sym (append-nil (a.sent c)))
+sent_says odd a [] Take_message c = if_actor (λ t. t.sent c ≡ a.sent c ++ []) (a.failed || a.finished) a a (sym (append-nil (a.sent c))) (sym (append-nil (a.sent c)))
+sent_says odd a (m ∷ ms) Take_message c = if_actor (λ t. t.sent c ≡ a.sent c ++ []) (a.failed || a.finished) a (takes odd a (m ∷ ms)) (sym (append-nil (a.sent c))) (sym (append-nil (a.sent c)))
 sent_says odd a wire (Refuse names) c = sym (append-nil (a.sent c))
-sent_says odd a wire Finish c = sym (append-nil (a.sent c))
+sent_says odd a wire Finish_receiving c = sym (append-nil (a.sent c))
 
 -- a slot that was seen stays so
 received_seen : (s : Slot Tree) → is_seen s ≡ true → is_seen (received_slot s) ≡ true
@@ -238,21 +239,21 @@ named_seen mine (Here s) u = refl
 named_seen mine Gone u = refl
 
 seen_stays : (odd : Bool) (a : Actor) (wire : List Said) (m : Move) (c : ℕ) → is_seen (a.part c).slot ≡ true → is_seen ((after odd a wire m).part c).slot ≡ true
-seen_stays odd a wire Open c h = if_actor (λ t. is_seen (t.part c).slot ≡ true) (can_open odd a) (record (at a.next (λ p. opened_in p p.slot) a) { next = a.next + 2 }) a (at_seen a.next c (λ p. opened_in p p.slot) a h (opened_seen (a.part c).slot h)) h
+seen_stays odd a wire Open_channel c h = if_actor (λ t. is_seen (t.part c).slot ≡ true) (can_open odd a) (record (at a.next (λ p. opened_in p p.slot) a) { next = a.next + 2 }) a (at_seen a.next c (λ p. opened_in p p.slot) a h (opened_seen (a.part c).slot h)) h
 seen_stays odd a wire (Send n v) c h = if_actor (λ t. is_seen (t.part c).slot ≡ true) (can_send a n v) (adds n v a) a h h
 seen_stays odd a wire (Call n v) c h = h
 seen_stays odd a wire (Ask n) c h = h
 seen_stays odd a wire (Answer n v) c h = if_actor (λ t. is_seen (t.part c).slot ≡ true) (can_answer a n v) (adds n v a) a h h
-seen_stays odd a wire Stop c h = h
-seen_stays odd a wire (Close_own n e) c h = at_seen n c (λ p. closed_in p p.slot) a h (closed_seen (a.part c).slot h)
-seen_stays odd a wire (End_function n e) c h = at_seen n c (λ p. ended_in p p.slot) a h (ended_seen (a.part c).slot h)
+seen_stays odd a wire Terminate c h = h
+seen_stays odd a wire (Close n e) c h = at_seen n c (λ p. closed_in p p.slot) a h (closed_seen (a.part c).slot h)
+seen_stays odd a wire (End_function n e) c h = at_seen n c (λ p. function_ended_in p p.slot) a h (ended_seen (a.part c).slot h)
 seen_stays odd a wire (Give_up n) c h = at_seen n c (λ p. given_up_in p p.slot) a h (given_up_seen (a.part c).slot h)
 seen_stays odd a wire (Receive n) c h = at_seen n c (λ p. received_in p p.slot) a h (received_seen (a.part c).slot h)
 seen_stays odd a wire (Set_callback n) c h = at_seen n c (λ p. hooked_in p p.slot) a h (hooked_seen (a.part c).slot h)
-seen_stays odd a [] Take c h = if_actor (λ t. is_seen (t.part c).slot ≡ true) (a.failed || a.finished) a a h h
-seen_stays odd a (m ∷ ms) Take c h = if_actor (λ t. is_seen (t.part c).slot ≡ true) (a.failed || a.finished) a (takes odd a (m ∷ ms)) h (heards_seen (owns odd c) (a.part c) (notes c m) h)
+seen_stays odd a [] Take_message c h = if_actor (λ t. is_seen (t.part c).slot ≡ true) (a.failed || a.finished) a a h h
+seen_stays odd a (m ∷ ms) Take_message c h = if_actor (λ t. is_seen (t.part c).slot ≡ true) (a.failed || a.finished) a (takes odd a (m ∷ ms)) h (heards_seen (owns odd c) (a.part c) (notes c m) h)
 seen_stays odd a wire (Refuse names) c h = if_part (λ t. is_seen t.slot ≡ true) (is_in c names && is_told c wire) (named_part (owns odd c) (a.part c) (a.part c).slot) (a.part c) (named_seen (owns odd c) (a.part c).slot h) h
-seen_stays odd a wire Finish c h = lost_seen (a.part c).slot h
+seen_stays odd a wire Finish_receiving c h = lost_seen (a.part c).slot h
 
 pub seen_back : (odd : Bool) (a : Actor) (wire : List Said) (m : Move) (c : ℕ) → is_seen ((after odd a wire m).part c).slot ≡ false → is_seen (a.part c).slot ≡ false
 seen_back odd a wire m c u = open_or_ended (is_seen (a.part c).slot) (is_seen (a.part c).slot ≡ false) (λ h. let z = seen_stays odd a wire m c h in cc) (λ h. h)
@@ -308,21 +309,21 @@ open_away odd a c q u w = open_or_ended (a.next == c) (StaysAway odd c ((at a.ne
     (λ h. subst (λ b. StaysAway odd c (if b then opened_in (a.part c) (a.part c).slot else a.part c)) (sym h) (λ i. u, w))
 
 pub stays_away : (odd : Bool) (a : Actor) (wire : List Said) (m : Move) (c : ℕ) → is_seen (a.part c).slot ≡ false → (a.part c).asked ≡ false → all_notes c wire ≡ [] → StaysAway odd c ((after odd a wire m).part c)
-stays_away odd a wire Open c u w k = open_or_ended (can_open odd a) (StaysAway odd c ((after odd a wire Open).part c))
+stays_away odd a wire Open_channel c u w k = open_or_ended (can_open odd a) (StaysAway odd c ((after odd a wire Open_channel).part c))
     (λ q. subst (λ b. StaysAway odd c ((if b then record (at a.next (λ p. opened_in p p.slot) a) { next = a.next + 2 } else a).part c)) (sym q) (open_away odd a c (and_parts (owns odd a.next) (not a.finished) q).0 u w))
     (λ q. subst (λ b. StaysAway odd c ((if b then record (at a.next (λ p. opened_in p p.slot) a) { next = a.next + 2 } else a).part c)) (sym q) (λ i. u, w))
 stays_away odd a wire (Send n v) c u w k = if_actor (λ t. StaysAway odd c (t.part c)) (can_send a n v) (adds n v a) a (λ i. u, w) (λ i. u, w)
 stays_away odd a wire (Call n v) c u w k = (λ i. u, w)
 stays_away odd a wire (Ask n) c u w k = (λ i. u, w)
 stays_away odd a wire (Answer n v) c u w k = if_actor (λ t. StaysAway odd c (t.part c)) (can_answer a n v) (adds n v a) a (λ i. u, w) (λ i. u, w)
-stays_away odd a wire Stop c u w k = (λ i. u, w)
-stays_away odd a wire (Close_own n e) c u w k = away_at odd n c (λ p. closed_in p p.slot) a u w (closed_not (a.part c).slot u) w
-stays_away odd a wire (End_function n e) c u w k = away_at odd n c (λ p. ended_in p p.slot) a u w (ended_not (a.part c).slot u) w
+stays_away odd a wire Terminate c u w k = (λ i. u, w)
+stays_away odd a wire (Close n e) c u w k = away_at odd n c (λ p. closed_in p p.slot) a u w (closed_not (a.part c).slot u) w
+stays_away odd a wire (End_function n e) c u w k = away_at odd n c (λ p. function_ended_in p p.slot) a u w (ended_not (a.part c).slot u) w
 stays_away odd a wire (Give_up n) c u w k = away_at odd n c (λ p. given_up_in p p.slot) a u w (given_up_not (a.part c).slot u) w
 stays_away odd a wire (Receive n) c u w k = away_at odd n c (λ p. received_in p p.slot) a u w (received_not (a.part c).slot u) w
 stays_away odd a wire (Set_callback n) c u w k = away_at odd n c (λ p. hooked_in p p.slot) a u w (hooked_not (a.part c).slot u) w
-stays_away odd a [] Take c u w k = if_actor (λ t. StaysAway odd c (t.part c)) (a.failed || a.finished) a a (λ i. u, w) (λ i. u, w)
-stays_away odd a (m ∷ ms) Take c u w k = if_actor (λ t. StaysAway odd c (t.part c)) (a.failed || a.finished) a (takes odd a (m ∷ ms)) (λ i. u, w)
+stays_away odd a [] Take_message c u w k = if_actor (λ t. StaysAway odd c (t.part c)) (a.failed || a.finished) a a (λ i. u, w) (λ i. u, w)
+stays_away odd a (m ∷ ms) Take_message c u w k = if_actor (λ t. StaysAway odd c (t.part c)) (a.failed || a.finished) a (takes odd a (m ∷ ms)) (λ i. u, w)
     (subst (λ (ns : List Note). StaysAway odd c (heard_all (owns odd c) (a.part c) ns)) (sym (append_empty (notes c m) (all_notes c ms) k).0) (λ i. u, w))
 stays_away odd a wire (Refuse names) c u w k = subst (λ b. StaysAway odd c (if b then named_part (owns odd c) (a.part c) (a.part c).slot else a.part c)) (sym (and_right (is_in c names) (is_told c wire) (untold c wire k))) (λ i. u, w)
-stays_away odd a wire Finish c u w k = (λ i. lost_not (a.part c).slot u, w)
+stays_away odd a wire Finish_receiving c u w k = (λ i. lost_not (a.part c).slot u, w)

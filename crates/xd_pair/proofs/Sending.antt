@@ -46,7 +46,7 @@ end_means : (n : ℕ) (e : Option (List ℕ)) → n == 0 ≡ false → is_long e
 end_means n None h l p = close_means n h
 end_means n (Some cs) h l p = error_means n cs (canonical (text cs)) h p (short_text (length (canonical (text cs))) l)
 
-pub end_said : (n : ℕ) (e : Option (List ℕ)) (s : Slot Tree) → (is_seen s ≡ true → n == 0 ≡ false) → close_refusal (is_seen s) (is_long e) ≡ None → HasErrorPayload e → AllMean (closing_message n e ∷ []) (part.end_words n e s)
+pub end_said : (n : ℕ) (e : Option (List ℕ)) (s : Slot Tree) → (is_seen s ≡ true → n == 0 ≡ false) → close_refusal (is_seen s) (is_long e) ≡ None → HasErrorPayload e → AllMean (closing_message n e ∷ []) (part.function_end_words n e s)
 end_said n e Unseen h l p = absurd (let z = l in cc)
 end_said n e (Here s) h l p = (end_means n e (h refl) (not_long true (is_long e) l) p, tt)
 end_said n e Gone h l p = (end_means n e (h refl) (not_long true (is_long e) l) p, tt)

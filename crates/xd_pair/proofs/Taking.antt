@@ -1,4 +1,4 @@
--- Taking a message is the move Take, and refusing one is a move Refuse.
+-- Taking a message is the move Take_message, and refusing one is a move Refuse.
 use Rattle.std.proofs.Common.{◌≡◌, ℕ, List, [], ◌∷◌, ◌++◌, Bool, true, false, Option, Some, None, refl, sym, ap, subst, ◌∙◌, ◌⊎◌, inl, inr}
 use Rattle.std.specs.Prelude.{◌==◌, ◌||◌, ◌&&◌, is_some, if◌then◌else◌}
 use Rattle.std.proofs.lemmas.Bool.{eqb-true}
@@ -24,7 +24,7 @@ use Rattle.xd_factory.specs.declared.taken.Taken.TheVariants as taken
 use Rattle.xd_factory.specs.declared.faults.SideFault.{SideFault}
 use Rattle.xd_pair.specs.Notes.{Note, Named, Item, Ends, Lasts, Asked, side_parity, owns, notes}
 use Rattle.xd_pair.specs.Part.{Part, heard_all, is_orderly, is_lost}
-use Rattle.xd_pair.specs.Pair.{Actor, Take, Refuse, takes, rest, has_notes, is_told, named_part, after, wire_after}
+use Rattle.xd_pair.specs.Pair.{Actor, Take_message, Refuse, takes, rest, has_notes, is_told, named_part, after, wire_after}
 use Rattle.xd_pair.specs.Handed.{Hands, taken_items, taken_end}
 use Rattle.xd_pair.specs.Messages.{AllMean}
 use Rattle.xd_pair.specs.Stands.{StandsFor, IsOpen}
@@ -162,9 +162,9 @@ open_actor odd s a k f = sym k.refuses ∙ ap is_some f
 
 -- a message is taken
 pub record Took (odd : Bool) (t : Side) (a : Actor) (wire : List Said) (ms : List MessageView) (answer : Taken Tree) : Type 0 where
-  pub stands : StandsFor odd t (after odd a wire Take)
-  pub carries : AllMean ms (wire_after a wire Take)
-  pub hands : Hands a (after odd a wire Take) (taken_items answer) (taken_end answer)
+  pub stands : StandsFor odd t (after odd a wire Take_message)
+  pub carries : AllMean ms (wire_after a wire Take_message)
+  pub hands : Hands a (after odd a wire Take_message) (taken_items answer) (taken_end answer)
 
 pub took : (odd : Bool) (s t : Side) (a : Actor) (wire : List Said) (m : MessageView) (ms : List MessageView) (answer : Taken Tree)
     → fault_of s ≡ None → KeepsRest s t → ((said : Said) → Means m said → answer ≡ answer_of (parity_of s) (slot_of s) said)

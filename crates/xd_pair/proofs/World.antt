@@ -8,9 +8,9 @@ use Rattle.xd_factory.specs.Numbers.{is_in, is_odd}
 use Rattle.xd_pair.specs.Notes.{owns}
 use Rattle.xd_factory.specs.Said.{Said}
 use Rattle.xd_pair.specs.Notes.{Note, notes, all_notes, items, before_end, has_end}
-use Rattle.xd_pair.specs.Part.{Part, heard_all, opened_in, received_in, hooked_in, closed_in, ended_in, given_up_in}
+use Rattle.xd_pair.specs.Part.{Part, heard_all, opened_in, received_in, hooked_in, closed_in, function_ended_in, given_up_in}
 use Rattle.xd_factory.specs.Slot.{is_seen}
-use Rattle.xd_pair.specs.Pair.{Actor, World, Move, Open, Send, Call, Ask, Answer, Stop, Close_own, End_function, Give_up, Receive, Set_callback, Take, Refuse, Finish, is_told, named_part, at, adds, can_send, can_answer, can_open, takes, rest, says, after, wire_after, Step, Odd, Even, happens, run, start, untouched, IsPrefixOf, Law, PairLaw}
+use Rattle.xd_pair.specs.Pair.{Actor, World, Move, Open_channel, Send, Call, Ask, Answer, Terminate, Close, End_function, Give_up, Receive, Set_callback, Take_message, Refuse, Finish_receiving, is_told, named_part, at, adds, can_send, can_answer, can_open, takes, rest, says, after, wire_after, Step, Odd, Even, happens, run, start, untouched, IsPrefixOf, Law, PairLaw}
 use Rattle.xd_pair.proofs.NotesLemmas.{all_notes-append, items-append, open_or_ended, ended_append, still_ended, before_items, longer}
 use Rattle.xd_pair.proofs.Local.{named-ok, SlotOk, PartOk, opened-ok, received-ok, hooked-ok, closed-ok, ended-ok, given_up-ok, lost-ok, heard_all-ok}
 use Rattle.xd_pair.proofs.Says.{quiet_says, sent_says, seen_back, stays_away, append_empty, if_actor}
@@ -68,19 +68,19 @@ takes-ok odd a (m ∷ ms) c f q k =
     (heard_all-ok (owns odd c) (all_notes c a.taken) (notes c m) (a.part c) (λ h u. (append_empty (notes c m) (all_notes c ms) (q h u)).0) before))
 
 moves-ok : (odd : Bool) (a : Actor) (wire : List Said) (m : Move) (c : ℕ) → (owns odd c ≡ true → is_seen (a.part c).slot ≡ false → all_notes c wire ≡ []) → ActorOk c a → ActorOk c (after odd a wire m)
-moves-ok odd a wire Open c q k = if_actor (ActorOk c) (can_open odd a) (record (at a.next (λ p. opened_in p p.slot) a) { next = a.next + 2 }) a
+moves-ok odd a wire Open_channel c q k = if_actor (ActorOk c) (can_open odd a) (record (at a.next (λ p. opened_in p p.slot) a) { next = a.next + 2 }) a
     (at-ok a.next c (λ p. opened_in p p.slot) a k (opened-ok a.finished (all_notes c a.taken) (a.part c) (a.part c).slot refl k)) k
 moves-ok odd a wire (Send n v) c q k = if_actor (ActorOk c) (can_send a n v) (adds n v a) a k k
 moves-ok odd a wire (Call n v) c q k = k
 moves-ok odd a wire (Ask n) c q k = k
 moves-ok odd a wire (Answer n v) c q k = if_actor (ActorOk c) (can_answer a n v) (adds n v a) a k k
-moves-ok odd a wire Stop c q k = k
-moves-ok odd a wire (Close_own n e) c q k = at-ok n c (λ p. closed_in p p.slot) a k (closed-ok a.finished (all_notes c a.taken) (a.part c) (a.part c).slot refl k)
-moves-ok odd a wire (End_function n e) c q k = at-ok n c (λ p. ended_in p p.slot) a k (ended-ok a.finished (all_notes c a.taken) (a.part c) (a.part c).slot refl k)
+moves-ok odd a wire Terminate c q k = k
+moves-ok odd a wire (Close n e) c q k = at-ok n c (λ p. closed_in p p.slot) a k (closed-ok a.finished (all_notes c a.taken) (a.part c) (a.part c).slot refl k)
+moves-ok odd a wire (End_function n e) c q k = at-ok n c (λ p. function_ended_in p p.slot) a k (ended-ok a.finished (all_notes c a.taken) (a.part c) (a.part c).slot refl k)
 moves-ok odd a wire (Give_up n) c q k = at-ok n c (λ p. given_up_in p p.slot) a k (given_up-ok a.finished (all_notes c a.taken) (a.part c) (a.part c).slot refl k)
 moves-ok odd a wire (Receive n) c q k = at-ok n c (λ p. received_in p p.slot) a k (received-ok a.finished (all_notes c a.taken) (a.part c) (a.part c).slot refl k)
 moves-ok odd a wire (Set_callback n) c q k = at-ok n c (λ p. hooked_in p p.slot) a k (hooked-ok a.finished (all_notes c a.taken) (a.part c) (a.part c).slot refl k)
-moves-ok odd a wire Take c q k = open_or_ended (a.failed || a.finished) (ActorOk c (after odd a wire Take))
+moves-ok odd a wire Take_message c q k = open_or_ended (a.failed || a.finished) (ActorOk c (after odd a wire Take_message))
     (λ h. subst (λ b. ActorOk c (if b then a else takes odd a wire)) (sym h) k)
     (λ h. subst (λ b. ActorOk c (if b then a else takes odd a wire)) (sym h) (takes-ok odd a wire c (or_parts a.failed a.finished h).1 q k))
 moves-ok odd a wire (Refuse names) c q k = by_test (is_in c names && is_told c wire)
@@ -88,7 +88,7 @@ moves-ok odd a wire (Refuse names) c q k = by_test (is_in c names && is_told c w
     by_test : (b : Bool) → PartOk a.finished (all_notes c a.taken) (if b then named_part (owns odd c) (a.part c) (a.part c).slot else a.part c)
     by_test true = named-ok a.finished (all_notes c a.taken) (a.part c) (owns odd c) (a.part c).slot refl k
     by_test false = k
-moves-ok odd a wire Finish c q k = lost-ok a.finished (all_notes c a.taken) (a.part c) (a.part c).slot refl k
+moves-ok odd a wire Finish_receiving c q k = lost-ok a.finished (all_notes c a.taken) (a.part c) (a.part c).slot refl k
 
 -- nothing on the way is lost
 total_if : (b odd : Bool) (a : Actor) (wire : List Said) → (if b then a else takes odd a wire).taken ++ (if b then wire else rest wire) ≡ a.taken ++ wire
@@ -97,20 +97,20 @@ total_if false odd a [] = refl
 total_if false odd a (m ∷ ms) = append_assoc a.taken (m ∷ []) ms
 
 total : (odd : Bool) (a : Actor) (wire : List Said) (m : Move) → (after odd a wire m).taken ++ wire_after a wire m ≡ a.taken ++ wire
-total odd a wire Open = if_actor (λ t. t.taken ++ wire ≡ a.taken ++ wire) (can_open odd a) (record (at a.next (λ p. opened_in p p.slot) a) { next = a.next + 2 }) a refl refl
+total odd a wire Open_channel = if_actor (λ t. t.taken ++ wire ≡ a.taken ++ wire) (can_open odd a) (record (at a.next (λ p. opened_in p p.slot) a) { next = a.next + 2 }) a refl refl
 total odd a wire (Send n v) = if_actor (λ t. t.taken ++ wire ≡ a.taken ++ wire) (can_send a n v) (adds n v a) a refl refl
 total odd a wire (Call n v) = refl
 total odd a wire (Ask n) = refl
 total odd a wire (Answer n v) = if_actor (λ t. t.taken ++ wire ≡ a.taken ++ wire) (can_answer a n v) (adds n v a) a refl refl
-total odd a wire Stop = refl
-total odd a wire (Close_own n e) = refl
+total odd a wire Terminate = refl
+total odd a wire (Close n e) = refl
 total odd a wire (End_function n e) = refl
 total odd a wire (Give_up n) = refl
 total odd a wire (Receive n) = refl
 total odd a wire (Set_callback n) = refl
-total odd a wire Take = total_if (a.failed || a.finished) odd a wire
+total odd a wire Take_message = total_if (a.failed || a.finished) odd a wire
 total odd a wire (Refuse names) = refl
-total odd a wire Finish = refl
+total odd a wire Finish_receiving = refl
 
 -- what is said comes behind what was said
 said_more : (c : ℕ) (taken wire new : List Said) → all_notes c (taken ++ (wire ++ new)) ≡ all_notes c (taken ++ wire) ++ all_notes c new

@@ -6,9 +6,10 @@ use Rattle.xd_value.specs.Channels.{channels}
 use Rattle.xd_factory.specs.Slot.{Slot, Unseen, named_slot}
 use Rattle.xd_factory.specs.Numbers.{is_in}
 use Rattle.xd_pair.specs.Notes.{owns}
-use Rattle.xd_factory.specs.Said.{Said, Status, Exec, Data, Close, Terminate}
+use Rattle.xd_factory.specs.Said.{Said}
+use Rattle.xd_factory.specs.Said as message
 use Rattle.xd_pair.specs.Notes.{Note, notes, all_notes, before_end, has_end}
-use Rattle.xd_pair.specs.Part.{Part, heard_all, opened_in, received_in, hooked_in, closed_in, ended_in, given_up_in, lost_in, close_words, end_words, give_up_words, may_send}
+use Rattle.xd_pair.specs.Part.{Part, heard_all, opened_in, received_in, hooked_in, closed_in, function_ended_in, given_up_in, lost_in, close_words, function_end_words, give_up_words, may_send}
 use Rattle.xd_factory.specs.Slot.{is_seen, is_here}
 
 -- a side: what stands at each number, what it sent there, its next number, whether it ended or failed, and what it took
@@ -29,20 +30,20 @@ pub record World : Type 0 where
 
 -- what a side may do
 pub data Move : Type 0 where
-  Open : Move
+  Open_channel : Move
   Send : ℕ → Tree → Move
   Call : ℕ → Tree → Move  -- CHANNEL_EXEC
   Ask : ℕ → Move  -- STATUS
   Answer : ℕ → Tree → Move  -- the answer to a STATUS
-  Stop : Move  -- GATEWAY_TERMINATE
-  Close_own : ℕ → Option (List ℕ) → Move
+  Terminate : Move  -- GATEWAY_TERMINATE
+  Close : ℕ → Option (List ℕ) → Move
   End_function : ℕ → Option (List ℕ) → Move
   Give_up : ℕ → Move
   Receive : ℕ → Move
   Set_callback : ℕ → Move
-  Take : Move
+  Take_message : Move
   Refuse : List ℕ → Move  -- a message is refused, the side has failed, and of the channels that it names these were opened
-  Finish : Move  -- the link is lost
+  Finish_receiving : Move  -- the link is lost
 
 -- each number in the value was opened or seen here
 abbrev pub knows : (ℕ → Part) → List ℕ → Bool
@@ -99,54 +100,54 @@ named_part mine p s = record p { slot = named_slot mine s }
 
 -- what a move sends to the peer
 abbrev pub says : Bool → Actor → Move → List Said
-says odd a Open = []
-says odd a (Send n v) = if can_send a n v then Data n v ∷ [] else []
-says odd a (Call n v) = if can_call odd a n v then Exec n v ∷ [] else []
-says odd a (Ask n) = if is_here (a.part n).slot then Status n ∷ [] else []
-says odd a (Answer n v) = if can_answer a n v then Data n v ∷ Close n None ∷ [] else []
-says odd a Stop = Terminate ∷ []
-says odd a (Close_own n e) = close_words n e (a.part n).slot
-says odd a (End_function n e) = end_words n e (a.part n).slot
+says odd a Open_channel = []
+says odd a (Send n v) = if can_send a n v then message.Data n v ∷ [] else []
+says odd a (Call n v) = if can_call odd a n v then message.Exec n v ∷ [] else []
+says odd a (Ask n) = if is_here (a.part n).slot then message.Status n ∷ [] else []
+says odd a (Answer n v) = if can_answer a n v then message.Data n v ∷ message.Close n None ∷ [] else []
+says odd a Terminate = message.Terminate ∷ []
+says odd a (Close n e) = close_words n e (a.part n).slot
+says odd a (End_function n e) = function_end_words n e (a.part n).slot
 says odd a (Give_up n) = give_up_words n (a.part n).slot
 says odd a (Receive n) = []
 says odd a (Set_callback n) = []
-says odd a Take = []
+says odd a Take_message = []
 says odd a (Refuse names) = []
-says odd a Finish = []
+says odd a Finish_receiving = []
 
 -- the side behind a move; a move whose premise fails changes nothing, as a call that finds no memory
 abbrev pub after : Bool → Actor → List Said → Move → Actor
-after odd a wire Open = if can_open odd a then record (at a.next (λ p. opened_in p p.slot) a) { next = a.next + 2 } else a
+after odd a wire Open_channel = if can_open odd a then record (at a.next (λ p. opened_in p p.slot) a) { next = a.next + 2 } else a
 after odd a wire (Send n v) = if can_send a n v then adds n v a else a
 after odd a wire (Call n v) = a
 after odd a wire (Ask n) = a
 after odd a wire (Answer n v) = if can_answer a n v then adds n v a else a
-after odd a wire Stop = a
-after odd a wire (Close_own n e) = at n (λ p. closed_in p p.slot) a
-after odd a wire (End_function n e) = at n (λ p. ended_in p p.slot) a
+after odd a wire Terminate = a
+after odd a wire (Close n e) = at n (λ p. closed_in p p.slot) a
+after odd a wire (End_function n e) = at n (λ p. function_ended_in p p.slot) a
 after odd a wire (Give_up n) = at n (λ p. given_up_in p p.slot) a
 after odd a wire (Receive n) = at n (λ p. received_in p p.slot) a
 after odd a wire (Set_callback n) = at n (λ p. hooked_in p p.slot) a
-after odd a wire Take = if a.failed || a.finished then a else takes odd a wire
+after odd a wire Take_message = if a.failed || a.finished then a else takes odd a wire
 after odd a wire (Refuse names) = record a { failed = true; part = λ c. if is_in c names && is_told c wire then named_part (owns odd c) (a.part c) (a.part c).slot else a.part c }
-after odd a wire Finish = record a { part = λ c. lost_in (a.part c) (a.part c).slot; finished = true }
+after odd a wire Finish_receiving = record a { part = λ c. lost_in (a.part c) (a.part c).slot; finished = true }
 
 -- what is on the way to the side behind its move
 abbrev pub wire_after : Actor → List Said → Move → List Said
-wire_after a wire Take = if a.failed || a.finished then wire else rest wire
-wire_after a wire Open = wire
+wire_after a wire Take_message = if a.failed || a.finished then wire else rest wire
+wire_after a wire Open_channel = wire
 wire_after a wire (Send n v) = wire
 wire_after a wire (Call n v) = wire
 wire_after a wire (Ask n) = wire
 wire_after a wire (Answer n v) = wire
-wire_after a wire Stop = wire
-wire_after a wire (Close_own n e) = wire
+wire_after a wire Terminate = wire
+wire_after a wire (Close n e) = wire
 wire_after a wire (End_function n e) = wire
 wire_after a wire (Give_up n) = wire
 wire_after a wire (Receive n) = wire
 wire_after a wire (Set_callback n) = wire
 wire_after a wire (Refuse names) = wire
-wire_after a wire Finish = wire
+wire_after a wire Finish_receiving = wire
 
 -- a move of one of the two sides
 pub data Step : Type 0 where

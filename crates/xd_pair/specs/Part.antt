@@ -100,8 +100,8 @@ abbrev pub closed_in : Part → Slot Tree → Part
 closed_in p s = record p { slot = closed_slot s; let_go = is_here s || p.let_go }
 
 -- the end of a function
-abbrev pub ended_in : Part → Slot Tree → Part
-ended_in p s = record p { slot = function_ended_slot s; let_go = is_here s || p.let_go }
+abbrev pub function_ended_in : Part → Slot Tree → Part
+function_ended_in p s = record p { slot = function_ended_slot s; let_go = is_here s || p.let_go }
 
 -- letting go
 abbrev pub given_up_in : Part → Slot Tree → Part
@@ -123,10 +123,10 @@ close_words n e Unseen = []
 close_words n e Gone = []
 
 -- the end of a function is always said, where the number was opened here
-abbrev pub end_words : ℕ → Option (List ℕ) → Slot Tree → List Said
-end_words n e Unseen = []
-end_words n e (Here s) = Close n e ∷ []
-end_words n e Gone = Close n e ∷ []
+abbrev pub function_end_words : ℕ → Option (List ℕ) → Slot Tree → List Said
+function_end_words n e Unseen = []
+function_end_words n e (Here s) = Close n e ∷ []
+function_end_words n e Gone = Close n e ∷ []
 
 abbrev pub giving_words : ℕ → GivenUp → List Said
 giving_words n given_up.Nothing = []

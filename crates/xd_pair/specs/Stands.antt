@@ -8,7 +8,7 @@ use Rattle.xd_factory.specs.Said.{Said}
 use Rattle.xd_factory.specs.View.{slot_of, parity_of, next_of, fault_of, is_finished, KeepsRest}
 use Rattle.xd_factory.specs.declared.side.Side.{Side}
 use Rattle.xd_pair.specs.Notes.{owns, side_parity}
-use Rattle.xd_pair.specs.Pair.{Actor, Move, Take, Refuse, knows, says, after, wire_after}
+use Rattle.xd_pair.specs.Pair.{Actor, Move, Take_message, Refuse, knows, says, after, wire_after}
 use Rattle.xd_pair.specs.Messages.{AllMean, Adds}
 use Rattle.xd_pair.specs.Handed.{Hands}
 use Rattle.xd_pair.specs.declared.linked.LinkedSide.{LinkedSide}
@@ -66,9 +66,9 @@ Carries a peer wire = IsOpen a → AllMean peer.said.items wire
 
 -- the next message of the peer is taken, and this is handed out
 pub record Takes (odd : Bool) (new left : LinkedSide) (a : Actor) (wire : List Said) (items : ℕ → List Tree) (end : ℕ → Option End) : Type 0 where
-  pub stands : StandsFor odd new.side (after odd a wire Take)
-  pub carries : Carries (after odd a wire Take) left (wire_after a wire Take)
-  pub hands : Hands a (after odd a wire Take) items end
+  pub stands : StandsFor odd new.side (after odd a wire Take_message)
+  pub carries : Carries (after odd a wire Take_message) left (wire_after a wire Take_message)
+  pub hands : Hands a (after odd a wire Take_message) items end
 
 -- the next message is refused
 pub record Refuses (odd : Bool) (new : LinkedSide) (a : Actor) (wire : List Said) : Type 0 where

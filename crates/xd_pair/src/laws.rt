@@ -2,7 +2,7 @@
 ghost use Rattle.std.specs.Prelude.{◌≡◌, ◌++◌, ◌∷◌, [], ℕ, List, Bool, true, false, Option};
 ghost use Rattle.xd_value.specs.Tree.{Tree};
 ghost use Rattle.xd_channel.specs.declared.end.End.{End};
-ghost use Rattle.xd_pair.specs.Pair.{Actor, Move, Take, Refuse, Step, Odd, Even, run, start, beginning, PairLaw};
+ghost use Rattle.xd_pair.specs.Pair.{Actor, Move, Take_message, Refuse, Step, Odd, Even, run, start, beginning, PairLaw};
 ghost use Rattle.xd_pair.specs.Handed.{Hands};
 ghost use Rattle.xd_pair.specs.Stands.{StandsFor, IsMoveIf, HandsOut, IsTake, IsRefusal};
 ghost use Rattle.xd_pair.specs.TwoSides.{PairStands};
@@ -54,13 +54,13 @@ pub fn take_law()
     ensures odd { (odd new even left : LinkedSide) (steps : List Step)
         → (items : ℕ → List Tree) → (end : ℕ → Option End)
         → IsTake odd new even left items end → PairStands odd even steps
-        → PairStands new left (steps ++ Odd Take ∷ [])
-        × Hands (run steps start).odd (run (steps ++ Odd Take ∷ []) start).odd items end }
+        → PairStands new left (steps ++ Odd Take_message ∷ [])
+        × Hands (run steps start).odd (run (steps ++ Odd Take_message ∷ []) start).odd items end }
     ensures even { (odd even new left : LinkedSide) (steps : List Step)
         → (items : ℕ → List Tree) → (end : ℕ → Option End)
         → IsTake even new odd left items end → PairStands odd even steps
-        → PairStands left new (steps ++ Even Take ∷ [])
-        × Hands (run steps start).even (run (steps ++ Even Take ∷ []) start).even items end }
+        → PairStands left new (steps ++ Even Take_message ∷ [])
+        × Hands (run steps start).even (run (steps ++ Even Take_message ∷ []) start).even items end }
 {}
 
 /// A message that one of two sides refuses is a step of their history.

@@ -7,6 +7,3 @@ mod linked;
 
 pub use laws::{hand_law, pair_law, refuse_law, start_law, step_law, take_law};
 pub use linked::{GiveUpFault, LinkedSide};
-
-#[cfg(test)]
-mod tests;

@@ -9,6 +9,3 @@ mod ends;
 pub use bell::Bell;
 pub use desk::Desk;
 pub use ends::{Emptied, Inbox, Sender, mailbox};
-
-#[cfg(test)]
-mod tests;

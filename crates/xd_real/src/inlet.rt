@@ -1,8 +1,8 @@
 // What a real link is read from.
-use libc::net::{POLLIN, poll};
-use libc::types::pollfd;
+use crate::waiting::{is_stopped, ready_for};
+use libc::net::POLLIN;
 use std::io::{self, PipeReader, Read};
-use std::os::fd::{AsRawFd, RawFd};
+use std::os::fd::AsRawFd;
 
 /// What a real link is read from: the program's own standard input, or a child's standard output.
 #[derive(Drop)]
@@ -20,37 +20,25 @@ impl<A: Read + Drop, B: Read + Drop> Read for Inlet<A, B> {
     }
 }
 
-/// An input that ends as soon as nobody holds the writing end of `stop` any more, also where a read waits for it. It is to
-/// hold no bytes of its own, since a read waits for the descriptor.
+/// An input that ends as soon as nobody holds the writing end of `closed` or of `killed` any more, also where a read waits
+/// for it. It is to hold no bytes of its own, since a read waits for the descriptor.
 #[derive(Drop)]
 pub struct Stoppable<I: Read + AsRawFd> {
     pub input: I,
-    pub stop: PipeReader,
+    pub closed: PipeReader,
+    pub killed: PipeReader,
 }
 
 impl<I: Read + AsRawFd> Read for Stoppable<I> {
     fn read(&mut self, into: &mut [u8]) -> io::Result<usize> {
-        if is_stopped(self.input.as_raw_fd(), self.stop.as_raw_fd()) {
+        let mut all = [
+            ready_for(self.input.as_raw_fd(), POLLIN),
+            ready_for(self.closed.as_raw_fd(), POLLIN),
+            ready_for(self.killed.as_raw_fd(), POLLIN),
+        ];
+        if is_stopped(&mut all) {
             return Ok(0);
         }
         self.input.read(into)
     }
-}
-
-// Waits until there is input or its end, or nobody holds the other end of `stop`; whether it is the latter.
-fn is_stopped(input: RawFd, stop: RawFd) -> bool {
-    let mut both = [
-        pollfd {
-            fd: input,
-            events: POLLIN,
-            revents: 0,
-        },
-        pollfd {
-            fd: stop,
-            events: POLLIN,
-            revents: 0,
-        },
-    ];
-    let _count = poll(&mut both, -1);
-    both[1].revents != 0
 }

@@ -4,10 +4,8 @@
 mod inlet;
 mod real_sink;
 mod real_starter;
+mod waiting;
 
 pub use inlet::{Inlet, Stoppable};
 pub use real_sink::{Outlet, OwnOutput, RealSink};
 pub use real_starter::RealStarter;
-
-#[cfg(test)]
-mod tests;

@@ -5,7 +5,7 @@ use crate::{Inlet, Outlet, OwnOutput, RealSink, Stoppable};
 use os::FromRawFd;
 use std::alloc::{AllocError, Global};
 use std::fs::Files;
-use std::io::{self, Stdin};
+use std::io::{self, PipeWriter, Stdin};
 use std::os::fd::OwnedFd;
 use std::process::{Child, ChildStdin, Command, OpenProcess, Processes, Stdio};
 use std::sync::Wait;
@@ -22,9 +22,17 @@ pub struct RealStarter<'a, H: Files + Processes> {
     rt: &'a H,
     program: Text,
     input: Stdin,
-    // By the numbers of the links; None where there is no child.
-    children: Vec<Option<Child<H::Started>>>,
+    // By the numbers of the links.
+    links: Vec<Kept<H::Started>>,
     pub faults: u64,
+}
+
+// What is kept of a link.
+#[derive(Drop)]
+enum Kept<P: OpenProcess + Drop> {
+    Child(Child<P>),
+    // Where it is dropped, the own streams are read and written no more.
+    Own(Option<PipeWriter>),
 }
 
 impl<'a, H: Files + Processes> RealStarter<'a, H> {
@@ -37,7 +45,7 @@ impl<'a, H: Files + Processes> RealStarter<'a, H> {
             rt,
             program,
             input,
-            children: Vec::new(alloc),
+            links: Vec::new(alloc),
             faults: 0,
         }
     }
@@ -47,7 +55,7 @@ impl<'a, H: Files + Processes> RealStarter<'a, H> {
         command: Command,
         link: u32,
     ) -> Option<Started<RealSource<<H::Started as OpenProcess>::Stdout>, RealSink<'a, H>>>
-        requires { vec_len self.old.children < vec_capacity self.old.children }
+        requires { vec_len self.old.links < vec_capacity self.old.links }
         ensures faults { self.new.faults ≡ self.old.faults }
         ensures no_writes { IfSome result (λ l. l.sink.faults ≡ 0) }
         ensures not_ended { IfSome result (λ l. l.source.is_ended ≡ false) }
@@ -57,7 +65,7 @@ impl<'a, H: Files + Processes> RealStarter<'a, H> {
         let mut child = command.spawn(self.rt).ok()?;
         let input = child.stdin.take()?;
         let output = child.stdout.take()?;
-        self.children.push_reserved(Some(child));
+        self.links.push_reserved(Kept::Child(child));
         Some(Started {
             link,
             source: InSource::new(Inlet::Child(output)),
@@ -73,20 +81,24 @@ impl<'a, H: Files + Processes> RealStarter<'a, H> {
         Option<Started<RealSource<<H::Started as OpenProcess>::Stdout>, RealSink<'a, H>>>,
         AllocError,
     >
-        requires { vec_len self.old.children < vec_capacity self.old.children }
+        requires { vec_len self.old.links < vec_capacity self.old.links }
         ensures faults { self.new.faults ≡ self.old.faults }
         ensures no_writes { IfOk result (λ r. IfSome r (λ l. l.sink.faults ≡ 0)) }
         ensures not_ended { IfOk result (λ r. IfSome r (λ l. l.source.is_ended ≡ false)) }
         ensures no_reads { IfOk result (λ r. IfSome r (λ l. l.source.faults ≡ 0)) }
     {
-        let Ok((stop, go)) = io::pipe(self.rt) else {
+        let (Ok((closed, go)), Ok((killed, kill))) = (io::pipe(self.rt), io::pipe(self.rt)) else {
             return Ok(None);
         };
-        let own = OwnOutput::new(alloc, own_output(), go)?;
-        self.children.push_reserved(None);
+        let Ok(killed_too) = killed.try_clone() else {
+            return Ok(None);
+        };
+        let own = OwnOutput::new(alloc, own_output(), go, killed_too)?;
+        self.links.push_reserved(Kept::Own(Some(kill)));
         let input = Stoppable {
             input: self.input,
-            stop,
+            closed,
+            killed,
         };
         Ok(Some(Started {
             link,
@@ -138,8 +150,8 @@ impl<'a, H: Files + Processes> Starter for RealStarter<'a, H> {
         Started<RealSource<<H::Started as OpenProcess>::Stdout>, RealSink<'a, H>>,
         StartFault,
     > {
-        self.children.reserve(1)?;
-        let started = match (place, u32::try_from(self.children.len())) {
+        self.links.reserve(1)?;
+        let started = match (place, u32::try_from(self.links.len())) {
             (Place::Popen { chdir, env }, Ok(link)) => {
                 let command = worker_of(alloc, &self.program, chdir, env)?;
                 self.start_child(command, link)
@@ -156,15 +168,19 @@ impl<'a, H: Files + Processes> Starter for RealStarter<'a, H> {
         }
     }
 
-    /// The own streams have no child: they are ended by the close of their sink.
+    /// The own streams have no child: a read of them ends, and each write fails, also one that waits. The other side sees
+    /// their end when the sink is closed.
     fn kill(&mut self, link: u32) -> Result<(), Failed> {
         let link = link as usize;
-        if link < self.children.len() {
-            if let Some(child) = &mut self.children[link] {
-                if child.kill().is_err() {
-                    raise(&mut self.faults);
-                    return Err(Failed);
+        if link < self.links.len() {
+            match &mut self.links[link] {
+                Kept::Child(child) => {
+                    if child.kill().is_err() {
+                        raise(&mut self.faults);
+                        return Err(Failed);
+                    }
                 }
+                Kept::Own(kill) => *kill = None,
             }
         }
         Ok(())
@@ -172,8 +188,8 @@ impl<'a, H: Files + Processes> Starter for RealStarter<'a, H> {
 
     fn reap<R: Wait>(&mut self, _rt: &R, link: u32) -> Result<(), Failed> {
         let link = link as usize;
-        if link < self.children.len() {
-            if let Some(child) = &mut self.children[link] {
+        if link < self.links.len() {
+            if let Kept::Child(child) = &mut self.links[link] {
                 if child.wait().is_err() {
                     raise(&mut self.faults);
                     return Err(Failed);

@@ -12,6 +12,3 @@ mod side;
 pub use fault::GatewayFault;
 pub use gateway::Gateway;
 pub use laws::{a_worker_can_be_told, messages_have_one_meaning};
-
-#[cfg(test)]
-mod tests;

@@ -1,9 +1,11 @@
 pub mod Blocks
+pub mod Breaking
 pub mod EachReport
 pub mod Follows
 pub mod Lines
 pub mod LocalLines
 pub mod Names
+pub mod Printing
 pub mod Status
 pub mod StopLine
 pub mod Summary

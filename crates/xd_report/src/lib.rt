@@ -14,6 +14,7 @@ mod lines;
 mod lists;
 mod names;
 mod numbers;
+mod printing;
 mod queries;
 mod reporter;
 mod results;
@@ -26,9 +27,7 @@ pub use blocks::{failure_block, is_failed_at};
 pub use ending::tail;
 pub use laws::{block_law, counts_law, id_law, line_law, lines_law, local_law};
 pub use lines::report_lines;
+pub use printing::{PrintFault, print_lines, print_tail, was_printed};
 pub use reporter::Reporter;
 pub use status::status_of;
 pub use summary::summary_line;
-
-#[cfg(test)]
-mod tests;

@@ -18,8 +18,3 @@ pub use laws::{a_test_is_of_the_suite, a_test_starts_once, one_log_is_open, two_
 pub use phase::{Ending, Phase};
 pub use place::{Place, Standing};
 pub use run_tests::{RunTests, Running};
-
-#[cfg(test)]
-mod histories;
-#[cfg(test)]
-mod tests;

@@ -1,3 +1,4 @@
 pub mod Waiting
 pub mod Watching
 pub mod Taking
+pub mod Over

@@ -49,7 +49,7 @@ takes_next orders old mid new number order t a ring got e =
 
 -- ---- programs that ran one after another
 
-added_more : (runs : List ChildRun) (run : ChildRun) (old mid new : Option (List ChildRun)) → mid ≡ option_map (λ l. l ++ runs) old → AddsRun run mid new → new ≡ option_map (λ l. l ++ (runs ++ run ∷ [])) old
+pub added_more : (runs : List ChildRun) (run : ChildRun) (old mid new : Option (List ChildRun)) → mid ≡ option_map (λ l. l ++ runs) old → AddsRun run mid new → new ≡ option_map (λ l. l ++ (runs ++ run ∷ [])) old
 added_more runs run None mid new before adds = adds ∙ ap (option_map (λ l. l ++ run ∷ [])) before
 added_more runs run (Some l) mid new before adds = adds ∙ ap (option_map (λ l. l ++ run ∷ [])) before ∙ ap Some (append_assoc l runs (run ∷ []))
 

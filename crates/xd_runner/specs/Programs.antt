@@ -1,5 +1,5 @@
 -- Programs that were started one after another, and what came of them.
-use Rattle.std.specs.Prelude.{◌≡◌, ℕ, Bool, true, false, List, ◌++◌, map, Option, Some, option_map, sum_by}
+use Rattle.std.specs.Prelude.{◌≡◌, ℕ, Bool, true, false, List, ◌++◌, map, All, Option, Some, IsSome, option_map, sum_by}
 use Rattle.xd_edge.specs.Children.{ChildRun, AddsRun, with_output, with_read_fault}
 use Rattle.xd_journal.specs.declared.entry.Outcome.{Outcome}
 use Rattle.xd_runner.specs.Child.{outcome_of, fault_count}
@@ -19,6 +19,13 @@ pub record AreRun (commands : List (List (List ℕ))) (ran : List Ran) (old new 
   pub commands_are : map (λ c. c.args) children ≡ commands
   pub outputs_are : map (λ c. c.output) children ≡ map (λ r. r.output) ran
   pub outcomes_are : map (λ c. outcome_of c.fate) children ≡ map (λ r. Some r.outcome) ran
+  pub added : new ≡ option_map (λ l. l ++ children) old
+
+-- Where they are told, each start that was asked for meanwhile is over: the child was not started, or it was waited for, or
+-- it could not be read.
+pub record AreOver (old new : Option (List ChildRun)) : Type 0 where
+  pub children : List ChildRun
+  pub over : All (λ c. IsSome (outcome_of c.fate)) children
   pub added : new ≡ option_map (λ l. l ++ children) old
 
 -- a start of this command came to this outcome, and this is what it printed

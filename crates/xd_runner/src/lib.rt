@@ -8,6 +8,3 @@ mod runner;
 
 pub use child::{outcome_of_end, wait_for};
 pub use runner::{Runner, RunnerEnd};
-
-#[cfg(test)]
-mod tests;

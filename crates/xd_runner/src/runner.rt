@@ -3,6 +3,7 @@ ghost use Rattle.std.specs.Prelude.{◌≡◌};
 ghost use Rattle.xd_post.specs.Mails.{mails};
 ghost use Rattle.xd_post.specs.Post.{put, ring_of_sender};
 ghost use Rattle.xd_runner.specs.Orders.{RunsOrders, seen};
+ghost use Rattle.xd_runner.specs.Programs.{AreOver};
 
 use crate::program::carry_out;
 use std::alloc::Global;
@@ -80,6 +81,7 @@ impl<K: Children> Job for Runner<K> {
     fn run<R: Wait>(self, rt: &R) -> RunnerEnd<K>
         ensures runs { RunsOrders (mails self.orders) (mails result.orders) (seen (K.runs self.children) (K.faults self.children)) (seen (K.runs result.children) (K.faults result.children)) (put self.sender) (put result.sender) }
         ensures ring { ring_of_sender result.sender ≡ ring_of_sender self.sender }
+        ensures over { AreOver (K.runs self.children) (K.runs result.children) }
     {
         let Runner {
             alloc,

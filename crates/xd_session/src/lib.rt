@@ -21,6 +21,3 @@ mod take;
 pub use laws::{kept_law, part_law, session_law};
 pub use session::Session;
 pub use step::Step;
-
-#[cfg(test)]
-mod tests;

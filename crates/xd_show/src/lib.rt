@@ -6,8 +6,3 @@ mod leaf;
 mod printing;
 
 pub use printing::show;
-
-#[cfg(test)]
-mod tests;
-#[cfg(test)]
-mod vectors;

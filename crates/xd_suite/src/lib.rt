@@ -14,6 +14,3 @@ mod test;
 pub use fault::{SuiteFault, SuiteRefusal, SuiteWhat};
 pub use suite::Suite;
 pub use test::Test;
-
-#[cfg(test)]
-mod tests;

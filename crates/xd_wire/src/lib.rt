@@ -9,6 +9,3 @@ mod step;
 
 pub use law::a_file_has_one_text;
 pub use print::{WireEnd, print_messages};
-
-#[cfg(test)]
-mod tests;

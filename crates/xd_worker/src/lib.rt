@@ -18,12 +18,3 @@ pub use runner::{Fed, Runner};
 pub use status::status_value;
 pub use talk::Sent;
 pub use worker::{Asked, WorkerCore};
-
-#[cfg(test)]
-mod histories;
-#[cfg(test)]
-mod replays;
-#[cfg(test)]
-mod rows;
-#[cfg(test)]
-mod tests;

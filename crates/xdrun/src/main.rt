@@ -1,27 +1,15 @@
-//! The program: its words, the top call over everything outside that is handed in, and `main`.
+//! The program: `main`, which hands the real outside to the top call.
 #![tactic(auto)]
 
-mod child;
-mod local;
-mod named;
-mod refusal;
-mod top;
-mod wire;
-mod words;
-mod worker;
-
-pub use child::run_child;
-pub use local::run_suite;
-pub use refusal::Refusal;
 use std::alloc::Global;
 use std::io::BufWriter;
 use std::process::ExitCode;
 use std::rt::Env;
 use std::{env, io};
-pub use top::{RunEnd, xdrun};
 use xd_crew::{Slot, ThreadCrew, start_into};
 use xd_edge::{OutSink, RealChildren, RealClock, RealFiles, Text, Texts};
 use xd_real::RealStarter;
+use xd_top::xdrun;
 
 // The name that the program was started by, and the words behind it.
 fn words_of(rt: &(impl Env + AllocGlobal), alloc: Global) -> io::Result<(Text, Texts)> {
@@ -93,10 +81,3 @@ fn out_of_memory(rt: &impl Eprint) -> io::Result<ExitCode> {
     eprintln!(rt; "xdrun: out of memory")?;
     Ok(ExitCode::from(6))
 }
-
-#[cfg(test)]
-mod linked_tests;
-#[cfg(test)]
-mod tests;
-#[cfg(test)]
-mod worker_tests;

@@ -12,7 +12,7 @@ use xd_channel::End;
 use xd_edge::OutOfMemory;
 
 impl Side {
-    ghost use Rattle.xd_factory.specs.History.{Act, Link_lost, SideStands};
+    ghost use Rattle.xd_factory.specs.History.{Act, Finish_receiving, SideStands};
     ghost use Rattle.xd_factory.specs.View.{slot_of, parity_of, next_of, fault_of, is_finished, numbers_of, KeepsRest};
 
     /// The link has ended. Each channel without an end gets one, and no channel opens any more. What is answered are
@@ -20,7 +20,7 @@ impl Side {
     pub fn finish_receiving(&mut self) -> Result<Vec<(u32, End)>, OutOfMemory>
         ensures owed { IfOk result (λ ends. ends.items ≡ owed_of (slot_of self.old) (numbers_of self.old)) }
         ensures slots { OnOk result ((c : ℕ) → slot_of self.new c ≡ lost_slot (slot_of self.old c)) }
-        ensures history { (h : List Act) → SideStands self.old h → OnOk result (SideStands self.new (Link_lost ∷ h)) }
+        ensures history { (h : List Act) → SideStands self.old h → OnOk result (SideStands self.new (Finish_receiving ∷ h)) }
         ensures finished { OnOk result (is_finished self.new ≡ true) }
         ensures fault { OnOk result (fault_of self.new ≡ fault_or (fault_of self.old) Finished) }
         ensures same { (parity_of self.new ≡ parity_of self.old) × (next_of self.new ≡ next_of self.old) }

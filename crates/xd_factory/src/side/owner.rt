@@ -19,7 +19,7 @@ use xd_frame::{Kind, Message};
 use xd_value::{DumpFault, Value, dumps};
 
 impl Side {
-    ghost use Rattle.xd_factory.specs.History.{Act, Opened, Closed, Function_ended, Let_go, Hooked, Received, SideStands};
+    ghost use Rattle.xd_factory.specs.History.{Act, Open_channel, Close, End_function, Give_up, Set_callback, Receive, SideStands};
     ghost use Rattle.xd_factory.specs.View.{slot_of, parity_of, next_of, fault_of, is_finished, entry_count, KeepsRest};
 
     /// Opens the next channel of the own numbers. They rise by two.
@@ -28,7 +28,7 @@ impl Side {
         ensures next { OnOk result (next_of self.new ≡ next_of self.old + 2) }
         ensures unseen { IfOk result (λ n. slot_of self.old n ≡ Unseen) }
         ensures slots { IfOk result (λ n. (c : ℕ) → slot_of self.new c ≡ (if n == c then Here fresh else slot_of self.old c)) }
-        ensures history { (h : List Act) → SideStands self.old h → IfOk result (λ n. SideStands self.new (Opened n ∷ h)) }
+        ensures history { (h : List Act) → SideStands self.old h → IfOk result (λ n. SideStands self.new (Open_channel n ∷ h)) }
         ensures rest { (parity_of self.new ≡ parity_of self.old) × (fault_of self.new ≡ fault_of self.old) × (is_finished self.new ≡ is_finished self.old) }
 
         ensures finished { IsErrOf result OpenFault.Finished ↔ (is_finished self.old ≡ true) }
@@ -89,7 +89,7 @@ impl Side {
         ensures payload { OnOk result (HasErrorPayload error) }
         ensures refused { IfErr result (IsRefusal (close_refusal (is_seen (slot_of self.old number)) (is_long error))) }
         ensures slots { OnOk result ((c : ℕ) → slot_of self.new c ≡ (if number == c then closed_slot (slot_of self.old c) else slot_of self.old c)) }
-        ensures history { (h : List Act) → SideStands self.old h → OnOk result (SideStands self.new (Closed number ∷ h)) }
+        ensures history { (h : List Act) → SideStands self.old h → OnOk result (SideStands self.new (Close number ∷ h)) }
         ensures err { OnErr result ((c : ℕ) → slot_of self.new c ≡ slot_of self.old c) }
         ensures rest { KeepsRest self.old self.new }
     {
@@ -110,7 +110,7 @@ impl Side {
         ensures payload { OnOk result (HasErrorPayload error) }
         ensures refused { IfErr result (IsRefusal (close_refusal (is_seen (slot_of self.old number)) (is_long error))) }
         ensures slots { OnOk result ((c : ℕ) → slot_of self.new c ≡ (if number == c then function_ended_slot (slot_of self.old c) else slot_of self.old c)) }
-        ensures history { (h : List Act) → SideStands self.old h → OnOk result (SideStands self.new (Function_ended number ∷ h)) }
+        ensures history { (h : List Act) → SideStands self.old h → OnOk result (SideStands self.new (End_function number ∷ h)) }
         ensures err { OnErr result ((c : ℕ) → slot_of self.new c ≡ slot_of self.old c) }
         ensures rest { KeepsRest self.old self.new }
     {
@@ -127,7 +127,7 @@ impl Side {
         ensures answer { IfOk result (λ says. says ≡ giving_says number (give_up_says (slot_of self.old number))) }
         ensures unknown { IsErr result ↔ (is_seen (slot_of self.old number) ≡ false) }
         ensures slots { (c : ℕ) → slot_of self.new c ≡ (if number == c then given_up_slot (slot_of self.old c) else slot_of self.old c) }
-        ensures history { (h : List Act) → SideStands self.old h → SideStands self.new (Let_go number ∷ h) }
+        ensures history { (h : List Act) → SideStands self.old h → SideStands self.new (Give_up number ∷ h) }
         ensures rest { KeepsRest self.old self.new }
     {
         if !self.knows(number) {
@@ -147,7 +147,7 @@ impl Side {
         ensures accepted { OnOk result (hook_fault (slot_of self.old number) ≡ None) }
         ensures refused { IfErr result (λ fault. hook_fault (slot_of self.old number) ≡ Some fault) }
         ensures slots { (c : ℕ) → slot_of self.new c ≡ (if number == c then hooked_slot (slot_of self.old c) else slot_of self.old c) }
-        ensures history { (h : List Act) → SideStands self.old h → SideStands self.new (Hooked number (hooked_trees result) ∷ h) }
+        ensures history { (h : List Act) → SideStands self.old h → SideStands self.new (Set_callback number (hooked_trees result) ∷ h) }
         ensures rest { KeepsRest self.old self.new }
     {
         match self.hook_entry(number) {
@@ -160,7 +160,7 @@ impl Side {
     pub fn receive(&mut self, number: u32) -> Result<Got, HookFault>
         ensures answer { IsGot result (receive_answer (slot_of self.old number)) }
         ensures slots { (c : ℕ) → slot_of self.new c ≡ (if number == c then received_slot (slot_of self.old c) else slot_of self.old c) }
-        ensures history { (h : List Act) → SideStands self.old h → SideStands self.new (Received number (received_trees result) ∷ h) }
+        ensures history { (h : List Act) → SideStands self.old h → SideStands self.new (Receive number (received_trees result) ∷ h) }
         ensures rest { KeepsRest self.old self.new }
     {
         match self.receive_entry(number) {

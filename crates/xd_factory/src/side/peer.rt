@@ -19,7 +19,7 @@ use xd_frame::Message;
 use xd_value::Value;
 
 impl Side {
-    ghost use Rattle.xd_factory.specs.History.{Act, Took, Failed, SideStands};
+    ghost use Rattle.xd_factory.specs.History.{Act, Take_message, Refuse, SideStands};
     ghost use Rattle.xd_factory.specs.View.{slot_of, new_at, parity_of, next_of, fault_of, is_finished, entry_count, KeepsRest};
 
     /// Takes the next message of the peer. The channels that a value names open before the value is handed on.
@@ -36,14 +36,14 @@ impl Side {
         ensures answer { (said : Said) → Means message said → IfOk result (λ taken. taken_tree taken ≡ answer_of (parity_of self.old) (slot_of self.old) said) }
         ensures slots { (said : Said) → Means message said → OnOk result ((c : ℕ) → slot_of self.new c ≡ heard_slot (parity_of self.old) said c (slot_of self.old c)) }
 
-        ensures history { (h : List Act) → (said : Said) → SideStands self.old h → Means message said → IfOk result (λ taken. SideStands self.new (Took said (taken_tree taken) ∷ h)) }
+        ensures history { (h : List Act) → (said : Said) → SideStands self.old h → Means message said → IfOk result (λ taken. SideStands self.new (Take_message said (taken_tree taken) ∷ h)) }
 
         ensures refused { fault_of self.old ≡ None → IfErr result (IsRefused (entry_count self.old) (new_at self.old) message) }
         ensures refuses { (fault : SideFault) → fault_of self.old ≡ None → Refused (entry_count self.old) (new_at self.old) message fault → IsFault fault result }
         ensures err { OnErr result ((c : ℕ) → OpensAtMost (is_mine (parity_of self.old) c) (slot_of self.old c) (slot_of self.new c)) }
         ensures others { (said : Said) → Means message said → OnErr result ((c : ℕ) → is_in c (names_of said) ≡ false → slot_of self.new c ≡ slot_of self.old c) }
         ensures unread { (fault : SideFault) → Misread message fault → (c : ℕ) → slot_of self.new c ≡ slot_of self.old c }
-        ensures failed_history { (h : List Act) → SideStands self.old h → OnErr result ((which : ℕ → Bool) × SideStands self.new (Failed which ∷ h)) }
+        ensures failed_history { (h : List Act) → SideStands self.old h → OnErr result ((which : ℕ → Bool) × SideStands self.new (Refuse which ∷ h)) }
     {
         if let Some(fault) = self.fault {
             return Err(fault);

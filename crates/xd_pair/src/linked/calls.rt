@@ -10,14 +10,14 @@ impl LinkedSide {
     ghost use Rattle.xd_factory.specs.View.{slot_of, next_of, is_finished, entry_count};
     ghost use Rattle.xd_factory.specs.Slot.{receive_answer, hook_fault};
     ghost use Rattle.xd_factory.specs.Trees.{IsGot};
-    ghost use Rattle.xd_pair.specs.Pair.{Open, Receive, Set_callback, Finish};
+    ghost use Rattle.xd_pair.specs.Pair.{Open_channel, Receive, Set_callback, Finish_receiving};
     ghost use Rattle.xd_pair.specs.Part.{item_in, end_in};
     ghost use Rattle.xd_pair.specs.Handed.{items_at, end_at, received_tree, waiting_items, waiting_end, owed_end};
     ghost use Rattle.xd_pair.specs.Stands.{IsMove, HandsOut, Stays};
 
     /// Opens the next channel of the own numbers.
     pub fn open_channel(&mut self) -> Result<u32, OpenFault>
-        ensures step { OnOk result (IsMove self.old self.new Open) }
+        ensures step { OnOk result (IsMove self.old self.new Open_channel) }
         ensures number { IfOk result (λ n. n ≡ next_of self.old.side) }
         ensures err { OnErr result (Stays self.old self.new) }
         ensures finished { IsErrOf result OpenFault.Finished ↔ (is_finished self.old.side ≡ true) }
@@ -60,9 +60,9 @@ impl LinkedSide {
 
     /// The link has ended. What is answered are the ends for the callbacks, in order of numbers.
     pub fn finish_receiving(&mut self) -> Result<Vec<(u32, End)>, OutOfMemory>
-        ensures step { OnOk result (IsMove self.old self.new Finish) }
+        ensures step { OnOk result (IsMove self.old self.new Finish_receiving) }
         ensures hands { IfOk result
-            (λ ends. HandsOut self.old Finish (λ c. []) (owed_end ends.items)) }
+            (λ ends. HandsOut self.old Finish_receiving (λ c. []) (owed_end ends.items)) }
         ensures err { OnErr result (Stays self.old self.new) }
     {
         match self.side.finish_receiving() {

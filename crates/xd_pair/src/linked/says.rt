@@ -14,7 +14,7 @@ use xd_frame::{Kind, Message};
 use xd_value::{DumpFault, Value, dumps};
 
 impl LinkedSide {
-    ghost use Rattle.xd_pair.specs.Pair.{Send, Call, Ask, Answer, Stop, Close_own, End_function, Give_up, can_call, can_answer};
+    ghost use Rattle.xd_pair.specs.Pair.{Send, Call, Ask, Answer, Terminate, Close, End_function, Give_up, can_call, can_answer};
     ghost use Rattle.xd_pair.specs.Stands.{IsMove, IsMoveIf, Stays, names_known};
     ghost use Rattle.xd_factory.specs.View.{slot_of};
 
@@ -94,7 +94,7 @@ impl LinkedSide {
 
     /// Ends the link: GATEWAY_TERMINATE.
     pub fn terminate(&mut self) -> Result<(), OutOfMemory>
-        ensures step { OnOk result (IsMove self.old self.new Stop) }
+        ensures step { OnOk result (IsMove self.old self.new Terminate) }
         ensures err { OnErr result (Stays self.old self.new) }
     {
         if self.said.reserve(1).is_err() {
@@ -109,7 +109,7 @@ impl LinkedSide {
 
     /// Closes a channel, with the text of an error where there is one.
     pub fn close(&mut self, number: u32, error: Option<Text>) -> Result<(), CloseFault>
-        ensures step { OnOk result (IsMove self.old self.new (Close_own number error)) }
+        ensures step { OnOk result (IsMove self.old self.new (Close number error)) }
         ensures refused { IfErr result
             (IsRefusal (close_refusal (is_seen (slot_of self.old.side number)) (is_long error))) }
         ensures err { OnErr result (Stays self.old self.new) }

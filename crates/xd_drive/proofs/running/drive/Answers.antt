@@ -2,6 +2,7 @@ use Rattle.std.proofs.Common.{[], true, false, refl, sym, ◌∙◌}
 use Rattle.xd_laws.proofs.Logic.{differ}
 use Rattle.xd_session.proofs.Lawful.{stands-proper}
 use Rattle.xd_drive.proofs.Driven.{drive-broken, drive-journal, drive-journal-broken, drive-kills, drive-whole}
+use Rattle.xd_drive.proofs.InOrder.{order-whole}
 use Rattle.xd_drive.proofs.running.drive.Goals as goal
 
 pub run-requires-clause-proper : goal.run-requires-clause-proper
@@ -36,7 +37,7 @@ returns-clause-broken g c = λ h.
     (record { marks = g.H.Hub.marks c.args.hub.now; starts = g.H.Hub.starts c.args.hub.now; calls = g.H.Hub.calls c.args.hub.now; given = g.H.Hub.given c.args.hub.now; sunk = g.O.Sink.sunk c.args.out.now })
     (record { marks = g.H.Hub.marks c.run.new.hub; starts = g.H.Hub.starts c.run.new.hub; calls = g.H.Hub.calls c.run.new.hub; given = g.H.Hub.given c.run.new.hub; sunk = g.O.Sink.sunk c.run.new.out })
     (record { marks = g.H.Hub.marks c.kill_started.new.hub; starts = g.H.Hub.starts c.kill_started.new.hub; calls = g.H.Hub.calls c.kill_started.new.hub; given = g.H.Hub.given c.kill_started.new.hub; sunk = g.O.Sink.sunk c.run.new.out })
-    c.in_ok-journal-2.ensures.stop c.in_ok-stopped.ensures.ends c.in_ok-kill_started.ensures.performs c.in_ok-kill_started.ensures.given refl
+    _ c.in_ok-journal-2.ensures.stop c.in_ok-stopped.ensures.ends c.in_ok-kill_started.ensures.performs c.in_ok-kill_started.ensures.given refl c.in_ok-stopped.ensures.in_order
 
 pub returns-in_default-clause-journal : goal.returns-in_default-clause-journal
 returns-in_default-clause-journal g c =
@@ -47,3 +48,10 @@ pub returns-clause-journal : goal.returns-clause-journal
 returns-clause-journal g c =
     drive-journal-broken c.args.session.settings c.run.new.session c.in_ok-journal-2.journal (stands-proper [] c.args.session c.requires.begins) c.in_ok-stopped.ensures.settings c.in_ok-journal-2.ensures.settings c.in_ok-stopped.stopped
     c.in-Some.done c.in-Some.is _ _ c.in_ok-journal-2.ensures.entries c.in_ok-journal-2.ensures.legal c.in_ok-stopped.ensures.ends
+
+pub returns-in_default-clause-in_order : goal.returns-in_default-clause-in_order
+returns-in_default-clause-in_order g c = λ h.
+    order-whole c.in_ok-journal.journal c.run.new.session _ _ c.in_ok-stopped.stopped c.in_default.not-Some c.in_ok-journal.ensures.settings c.in_ok-journal.ensures.entries c.in_ok-stopped.ensures.in_order
+
+pub returns-clause-in_order : goal.returns-clause-in_order
+returns-clause-in_order g c = λ h. absurd (differ (sym h ∙ c.in_ok-journal-2.ensures.told))

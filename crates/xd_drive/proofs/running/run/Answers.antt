@@ -3,6 +3,7 @@ use Rattle.std.specs.Prelude.{is_none}
 use Rattle.xd_journal.specs.declared.settings.Settings.{Settings}
 use Rattle.xd_ledger.specs.Proper.{IsProper}
 use Rattle.xd_drive.proofs.Follow.{follows-same}
+use Rattle.xd_drive.proofs.InOrder.{order-first, order-next, order-over, order-stops}
 use Rattle.xd_drive.proofs.Loop.{begins, first-possible, going-next, none-of, over-ends, someone-first, someone-still, stop-by, takes-none}
 use Rattle.xd_drive.proofs.running.run.Goals as goal
 
@@ -17,6 +18,7 @@ loop-init g c =
     c.deref.result.now (c.deref.ensures.value ∙ c.journal.ensures.entries) c.requires.slots c.requires.begins c.requires.fresh c.in_ok-perform.ensures.performs c.in_ok-perform.ensures.marks c.in_ok-perform.ensures.given refl in
     record {
       going = ([], first);
+      in_order = order-first c.args.session.now _ _ _ c.requires.begins c.look.ensures;
       settings = refl;
       reports = follows-same _ _ _ _ _ c.journal-2.ensures.settings c.journal-2.ensures.entries c.in_ok-reporter.ensures;
       slots = c.perform.ensures.slots;
@@ -36,12 +38,22 @@ returns-in-Some-stopped-clause-ends g c =
     stop-by c.loop.invariant.going.0 t.0 c.loop.session _ _ _ _ c.loop.invariant.going.1
     (subst (λ (x : Settings). IsProper x []) (sym c.loop.invariant.settings) c.requires.proper) c.in_ok-stopped-2.stopped c.in-Some-stopped.count c.in-Some-stopped.is t.1
 
+pub returns-then-over-clause-in_order : goal.returns-then-over-clause-in_order
+returns-then-over-clause-in_order g c =
+    order-over c.in_ok-stopped.stopped c.loop.session c.journal-then-over.result.now _ _ _ _ c.journal-then-over.ensures.entries c.in_ok-stopped.ensures.ends c.loop.invariant.in_order
+
+pub returns-in-Some-stopped-clause-in_order : goal.returns-in-Some-stopped-clause-in_order
+returns-in-Some-stopped-clause-in_order g c =
+    let t = c.in_ok-stopped-2.ensures.takes in
+    order-stops t.0 c.loop.session _ _ _ _ _ _ c.in_ok-stopped-2.stopped c.in-Some-stopped.count c.in-Some-stopped.is t.1 c.in_ok-stopped-2.ensures.notes c.loop.invariant.in_order
+
 pub loop-preserved : goal.loop-preserved
 loop-preserved g c =
     let t = c.in_ok-stopped-2.ensures.takes in
     let none = takes-none t.0 c.loop.session _ _ _ c.in_ok-stopped-2.stopped c.in_default.not-Some t.1 in
     record {
       going = (c.loop.invariant.going.0 ++ t.0 ∷ [], going-next c.loop.invariant.going.0 t.0 c.loop.session _ _ _ _ c.loop.invariant.going.1 none);
+      in_order = order-next c.loop.invariant.going.0 t.0 c.loop.session _ _ _ _ _ _ c.in_ok-stopped-2.stopped c.in_default.not-Some c.loop.invariant.going.1 t.1 c.in_ok-stopped-2.ensures.notes c.loop.invariant.in_order;
       reports = c.in_ok-stopped-2.ensures.follows;
       settings = none.settings ∙ c.loop.invariant.settings;
       slots = c.take_news.ensures.slots ∙ c.loop.invariant.slots;

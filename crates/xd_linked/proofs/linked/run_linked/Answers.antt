@@ -1,9 +1,11 @@
 use Rattle.std.proofs.Common.{◌∙◌, ap, refl, map}
+use Rattle.std.specs.Prelude.{option_map}
+use Rattle.xd_group.specs.Children.{told_of}
 use Rattle.xd_journal.specs.declared.settings.Settings.{Settings}
 use Rattle.xd_link.specs.Spring.{spring}
 use Rattle.xd_linked.specs.Linked.{ended_link}
 use Rattle.xd_linked.proofs.Facts.{by_four}
-use Rattle.xd_linked.proofs.Linking.{linked_run}
+use Rattle.xd_linked.proofs.Linking.{linked_run, seen_as}
 use Rattle.xd_linked.proofs.linked.run_linked.Goals as goal
 
 pub new-requires-2-clause-fresh : goal.new-requires-2-clause-fresh
@@ -19,7 +21,17 @@ returns-clause-ran g c =
     (λ links. map (λ l. ended_link l.worker l.killed (spring (g.St.Src.Source.supply l.source) (g.St.Src.Source.is_ended l.source) (g.St.Src.Source.faults l.source)) (g.St.Snk.Sink.sunk l.sink) (g.St.Snk.Sink.faults l.sink)) links.items)
     c.in_ok-hub.hub.group.suite c.args.suite.now c.args.workers c.in_ok-session.session.settings _ _ e.journal e.links e.status
     (hub.suite ∙ c.in_ok-path.ensures) (c.in_ok-session.ensures.settings ∙ c.settings_of.ensures) ended status
-    run.journal (rw (starter, crew) (rw (hub.starter.1, hub.crew.1) at run.runs)) run.out_fault run.still)
+    run.journal
+    (rw (starter, crew, c.join_left.ensures) (seen_as c.run_over-ended.result _ c.in_ok-hub.hub.group.suite _
+    (λ h. record {
+      begun = option_map told_of (g.St.Starter.begun h.children.starter);
+      starter_faults = g.St.Starter.faults h.children.starter;
+      crew_faults = g.C.Crew.faults h.group.links.crew;
+      sunk = g.O.Sink.sunk c.run_over-ended.new.out;
+      out_faults = g.O.Sink.faults c.run_over-ended.new.out;
+    })
+    c.run_over-ended.new.hub c.end_workers.new.hub c.end_workers.ensures.same (rw (hub.starter.1, hub.crew.1) at run.runs)))
+    run.out_fault run.still)
 
 pub run_over-ended-requires-clause-own : goal.run_over-ended-requires-clause-own
 run_over-ended-requires-clause-own g c = rw (c.in_ok-hub.ensures.places) c.in_ok-places.ensures.own

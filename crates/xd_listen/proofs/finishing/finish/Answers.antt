@@ -36,12 +36,12 @@ unreachable-requires g c =
 
 pub returns : goal.returns
 returns g c = record {
-  served = λ a files before s readers runners goes same j closes.
+  served = λ a now before s readers runners goes same j closes.
       subst (λ (n : ℕ). Served n a.held before.source (spring (g.S.Source.supply c.args.read.source) (g.S.Source.is_ended c.args.read.source) (g.S.Source.faults c.args.read.source))
-      (scene a.first.sunk a.first.sink_faults before.programs.runs before.programs.faults a.first.file_faults readers runners)
-      (scene (g.N.Sink.sunk c.args.server.speaker.sink) (g.N.Sink.faults c.args.server.speaker.sink) (g.K.Children.runs c.args.ran.children) (g.K.Children.faults c.args.ran.children) files readers runners))
+      (scene a.first.sunk a.first.sink_faults before.programs.runs before.programs.faults a.first.file_faults readers runners a.clock)
+      (scene (g.N.Sink.sunk c.args.server.speaker.sink) (g.N.Sink.faults c.args.server.speaker.sink) (g.K.Children.runs c.args.ran.children) (g.K.Children.faults c.args.ran.children) now.file_faults readers runners now.clock))
       (sym (c.status.ensures ∙ ap status_of c.last_stop.ensures))
-      (finished a files before s c.args.stop _ _ _ _ same j c.close_with-of_link.result.rest c.close_with-of_programs.result.rest c.close_with-ordered.result.rest c.close_with-of_link.ensures.emptied
+      (finished a now before s c.args.stop _ _ _ _ same j c.close_with-of_link.result.rest c.close_with-of_programs.result.rest c.close_with-ordered.result.rest c.close_with-of_link.ensures.emptied
       (λ got h. c.close_with-of_programs.ensures.emptied got (subst (λ (m : List (Option (Ring × List LinkNews))). HasMail m 1 (ring_of_sender c.args.ran.sender) got) (sym c.close_with-of_link.ensures.closed) h))
-      c.close_with-ordered.ensures.emptied c.in-At.why c.args.is_closed _ _ readers runners (subst (λ (h : Halt). Goes (Some h) a files s) c.in-At.is goes) closes);
+      c.close_with-ordered.ensures.emptied c.in-At.why c.args.is_closed _ _ readers runners (subst (λ (h : Halt). Goes (Some h) a now s) c.in-At.is goes) closes);
 }

@@ -3,7 +3,7 @@ use Rattle.xd_links.proofs.HubFacts.{rings_taken, news_taken}
 use Rattle.xd_links.proofs.hub.Links.next.Goals as goal
 
 pub invariant_of-self : goal.invariant_of-self
-invariant_of-self g c = record { rings = rings_taken _ _ _ _ c.wait.ensures.takes ∙ c.args.self.now.rings; fresh = c.args.self.now.fresh }
+invariant_of-self g c = record { rings = rings_taken _ _ _ _ c.wait-number.ensures.takes ∙ c.args.self.now.rings; fresh = c.args.self.now.fresh }
 
 pub returns-clause-news : goal.returns-clause-news
-returns-clause-news g c = news_taken _ _ _ _ c.wait.ensures.takes
+returns-clause-news g c = news_taken _ _ _ _ c.wait-number.ensures.takes

@@ -4,12 +4,12 @@ use Rattle.xd_edge.specs.Sink.{Sunk}
 use Rattle.xd_listen.specs.declared.server.Halt.{Halt}
 use Rattle.xd_listen.specs.Halts.{Goes, at_sink}
 use Rattle.xd_listen.specs.Seen.{seen}
-use Rattle.xd_listen.specs.Serves.{Setting}
+use Rattle.xd_listen.specs.Serves.{Beside, Setting}
 use Rattle.xd_listen.proofs.server.Server.drain.Given as goal
 
 abbrev pub invariant-loop : goal.invariant-loop
 invariant-loop g l = record {
-  goes : (a : Setting) (files : ℕ) (halt : Halt) (sunk : Option Sunk) (faults : ℕ) → Goes (Some halt) a files (at_sink sunk faults (seen g.N.Sink.sunk g.N.Sink.faults l.fn.self)) → Goes (Some halt) a files (at_sink sunk faults (seen g.N.Sink.sunk g.N.Sink.faults l.self));
+  goes : (a : Setting) (now : Beside) (halt : Halt) (sunk : Option Sunk) (faults : ℕ) → Goes (Some halt) a now (at_sink sunk faults (seen g.N.Sink.sunk g.N.Sink.faults l.fn.self)) → Goes (Some halt) a now (at_sink sunk faults (seen g.N.Sink.sunk g.N.Sink.faults l.self));
   speaker : l.self.speaker ≡ l.fn.self.speaker;
   orders : l.self.orders ≡ l.fn.self.orders;
 }

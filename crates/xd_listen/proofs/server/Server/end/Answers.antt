@@ -6,4 +6,4 @@ use Rattle.xd_listen.proofs.Settling.{dropped}
 use Rattle.xd_listen.proofs.server.Server.end.Goals as goal
 
 pub returns-then-is_shut-clause-goes : goal.returns-then-is_shut-clause-goes
-returns-then-is_shut-clause-goes g c = λ a files s. dropped a files (seen g.N.Sink.sunk g.N.Sink.faults c.args.self.now) (news.End link.Ended) (sym c.is_shut.ensures ∙ c.if-is_shut.true) s
+returns-then-is_shut-clause-goes g c = λ a files s. dropped a _ (seen g.N.Sink.sunk g.N.Sink.faults c.args.self.now) (news.End link.Ended) (sym c.is_shut.ensures ∙ c.if-is_shut.true) s

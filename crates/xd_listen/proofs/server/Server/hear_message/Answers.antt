@@ -8,13 +8,13 @@ use Rattle.xd_listen.proofs.Settling.{message_ceases, still_ceases}
 use Rattle.xd_listen.proofs.server.Server.hear_message.Goals as goal
 
 pub returns-in-Ok-clause-heard : goal.returns-in-Ok-clause-heard
-returns-in-Ok-clause-heard g c = λ a files s.
-    subst (λ (d : Door). Serves a files (to_start c.in-Ok.acts.suite) (record (spoken c.hear.new.self.core c.hear.new.self.is_broken (g.N.Sink.sunk c.hear.new.self.sink) (g.N.Sink.faults c.hear.new.self.sink) (seen g.N.Sink.sunk g.N.Sink.faults c.args.self.now)) { door = d })) (sym c.door_behind-door.ensures)
-    (message_heard a files (seen g.N.Sink.sunk g.N.Sink.faults c.args.self.now) c.hear.new.self.core c.hear.new.self.is_broken (g.N.Sink.sunk c.hear.new.self.sink) (g.N.Sink.faults c.hear.new.self.sink) c.in-Ok.acts
+returns-in-Ok-clause-heard g c = λ a now s.
+    subst (λ (d : Door). Serves a now (to_start c.in-Ok.acts.suite) (record (spoken c.hear.new.self.core c.hear.new.self.is_broken (g.N.Sink.sunk c.hear.new.self.sink) (g.N.Sink.faults c.hear.new.self.sink) (seen g.N.Sink.sunk g.N.Sink.faults c.args.self.now)) { door = d })) (sym c.door_behind-door.ensures)
+    (message_heard a now (seen g.N.Sink.sunk g.N.Sink.faults c.args.self.now) c.hear.new.self.core c.hear.new.self.is_broken (g.N.Sink.sunk c.hear.new.self.sink) (g.N.Sink.faults c.hear.new.self.sink) c.in-Ok.acts
     c.in-Ok.ensures.writes c.in-Ok.ensures.count c.hear.ensures.later c.args.message (is_last c.args.message.kind) refl c.requires.is_open c.in-Ok.ensures.answers s)
 
 pub returns-in-Err-clause-refused : goal.returns-in-Err-clause-refused
-returns-in-Err-clause-refused g c = λ a files s.
-    still_ceases a files (seen g.N.Sink.sunk g.N.Sink.faults c.args.self.now) c.hear.new.self.core c.hear.new.self.is_broken (g.N.Sink.sunk c.hear.new.self.sink) (g.N.Sink.faults c.hear.new.self.sink) c.in-Err.fault
+returns-in-Err-clause-refused g c = λ a now s.
+    still_ceases a now (seen g.N.Sink.sunk g.N.Sink.faults c.args.self.now) c.hear.new.self.core c.hear.new.self.is_broken (g.N.Sink.sunk c.hear.new.self.sink) (g.N.Sink.faults c.hear.new.self.sink) c.in-Err.fault
     c.in-Err.ensures.as_before c.in-Err.ensures.silent c.in-Err.ensures.still
-    (message_ceases a files (seen g.N.Sink.sunk g.N.Sink.faults c.args.self.now) c.args.message c.in-Err.fault c.requires.is_open c.in-Err.ensures.refused s)
+    (message_ceases a now (seen g.N.Sink.sunk g.N.Sink.faults c.args.self.now) c.args.message c.in-Err.fault c.requires.is_open c.in-Err.ensures.refused s)

@@ -3,14 +3,17 @@ use Rattle.xd_reader.specs.declared.news.LinkNews.TheVariants as news
 use Rattle.xd_worker.specs.declared.input.WorkerFault.{WorkerFault}
 use Rattle.xd_listen.specs.Halts.{CeasesBy}
 use Rattle.xd_listen.specs.Seen.{seen}
+use Rattle.xd_listen.specs.Serves.{beside}
+use Rattle.xd_listen.specs.Timing.{ticking}
 use Rattle.xd_listen.proofs.Settling.{dropped}
 use Rattle.xd_listen.proofs.server.Server.take_message.Goals as goal
 
 pub returns-then-is_shut-clause-goes : goal.returns-then-is_shut-clause-goes
 returns-then-is_shut-clause-goes g c = λ a e s.
-    dropped a (g.F.Files.faults c.args.files.now) (seen g.N.Sink.sunk g.N.Sink.faults c.args.self.now) (news.Message c.args.message) (sym c.is_shut.ensures ∙ c.if-is_shut.true) s
+    dropped a _ (seen g.N.Sink.sunk g.N.Sink.faults c.args.self.now) (news.Message c.args.message) (sym c.is_shut.ensures ∙ c.if-is_shut.true) s
 
 pub returns-in-Err-Link-clause-goes : goal.returns-in-Err-Link-clause-goes
 returns-in-Err-Link-clause-goes g c = λ a e s.
-    subst (λ (f : WorkerFault). CeasesBy f a (g.F.Files.faults c.args.files.now) (seen g.N.Sink.sunk g.N.Sink.faults c.hear_message.new.self)) c.in-Err-Link.field-0-is
-    (c.in-Err-Link.ensures.refused a (g.F.Files.faults c.args.files.now) s)
+    let now = beside (g.F.Files.faults c.args.files.now) (ticking (g.T.Clock.moment c.args.clock.now) (g.T.Clock.coming c.args.clock.now)) in
+    subst (λ (f : WorkerFault). CeasesBy f a now (seen g.N.Sink.sunk g.N.Sink.faults c.hear_message.new.self)) c.in-Err-Link.field-0-is
+    (c.in-Err-Link.ensures.refused a now s)

@@ -6,7 +6,7 @@ use Rattle.xd_listen.proofs.Settling.{uncalled}
 use Rattle.xd_listen.proofs.server.Server.take_output.Goals as goal
 
 pub returns-then-is_none-clause-goes : goal.returns-then-is_none-clause-goes
-returns-then-is_none-clause-goes g c = λ a files s. uncalled a files (seen g.N.Sink.sunk g.N.Sink.faults c.args.self.now) (news.Output c.args.piece) (inl (none_runs c.args.self.now.started c.is_none.result c.is_none.ensures c.if-is_none.true)) s
+returns-then-is_none-clause-goes g c = λ a files s. uncalled a _ (seen g.N.Sink.sunk g.N.Sink.faults c.args.self.now) (news.Output c.args.piece) (inl (none_runs c.args.self.now.started c.is_none.result c.is_none.ensures c.if-is_none.true)) s
 
 pub returns-then-as_slice-gt-MAX_PIECE-clause-goes : goal.returns-then-as_slice-gt-MAX_PIECE-clause-goes
-returns-then-as_slice-gt-MAX_PIECE-clause-goes g c = λ a files s. uncalled a files (seen g.N.Sink.sunk g.N.Sink.faults c.args.self.now) (news.Output c.args.piece) (inr (subst (λ (x : List ℕ). 4096 < length x) c.as_slice.ensures c.if-as_slice-gt-MAX_PIECE.true)) s
+returns-then-as_slice-gt-MAX_PIECE-clause-goes g c = λ a files s. uncalled a _ (seen g.N.Sink.sunk g.N.Sink.faults c.args.self.now) (news.Output c.args.piece) (inr (subst (λ (x : List ℕ). 4096 < length x) c.as_slice.ensures c.if-as_slice-gt-MAX_PIECE.true)) s

@@ -1,0 +1,60 @@
+-- That each entry was performed after its lines.
+use Rattle.std.specs.Prelude.{◌≡◌, ◌≤◌, ◌<◌, ℕ, ◌⊎◌, Bool, true, false, List, [], ◌∷◌, ◌++◌, map, take, length, Option, Some, None, IfSome, option_map}
+use Rattle.std.specs.List.{Any}
+use Rattle.xd_edge.specs.Printing.{ShowsSome}
+use Rattle.xd_edge.specs.Sink.{Sunk}
+use Rattle.xd_journal.specs.declared.settings.Settings.{Settings}
+use Rattle.xd_journal.specs.declared.entry.Entry.{Entry}
+use Rattle.xd_journal.specs.declared.news.News.{News}
+use Rattle.xd_note.specs.Noted.{noted}
+use Rattle.xd_note.specs.declared.log.Log.{Log}
+use Rattle.xd_report.specs.Lines.{run_lines}
+use Rattle.xd_session.specs.Stands.{Seen}
+use Rattle.xd_drive.specs.Going.{Scene}
+use Rattle.xd_drive.specs.Marks.{Marks}
+use Rattle.xd_drive.specs.Performing.{Performs}
+use Rattle.xd_drive.specs.declared.moment.Moment.{Moment}
+
+module _ {H O : Type 0} (marks : H → ℕ → Marks) (starts calls : H → Option (List Entry)) (given : H → Option (List News)) (sunk : O → Option Sunk) where
+  -- what is seen of the hub and the output of a moment, by what these tell
+  abbrev pub scene_at : Moment H O → Scene
+  scene_at m = record { marks = marks m.hub.value; starts = starts m.hub.value; calls = calls m.hub.value; given = given m.hub.value; sunk = sunk m.out.value }
+
+  -- the same of each moment that was noted
+  abbrev pub scenes_of : Log (Moment H O) → List Scene
+  scenes_of moments = map scene_at (noted moments)
+
+-- What is printed and performed together notes the moment between: the hub was as it had been, the output as it came to be.
+-- Where the output failed it notes none.
+abbrev pub NotesTurn : Bool → Scene → Scene → Option (List Scene) → Option (List Scene) → Type 0
+NotesTurn true old new before after = (m : Scene) × (after ≡ option_map (λ l. l ++ m ∷ []) before) × (m.starts ≡ old.starts) × (m.calls ≡ old.calls) × (m.sunk ≡ new.sunk)
+NotesTurn false old new before after = after ≡ before
+
+-- A piece of news notes a moment, or none where it adds nothing to the journal or the output failed.
+abbrev pub NotesNews : Option ℕ → Seen → Seen → Scene → Scene → Option (List Scene) → Option (List Scene) → Type 0
+NotesNews None s_old s_new old new before after = NotesTurn true old new before after ⊎ ((s_new.entries ≡ s_old.entries) × (after ≡ before))
+NotesNews (Some count) s_old s_new old new before after = after ≡ before
+
+-- At this moment the hub had been called for no more than entries ahead of the one at this place, and the output had taken and
+-- handed on the lines of that entry and of all ahead of it.
+pub record IsBetween (settings : Settings) (es : List Entry) (place : ℕ) (old m : Scene) : Type 0 where
+  pub called : ℕ
+  pub ahead : called ≤ place
+  pub performed : Performs (take called es) old.starts m.starts old.calls m.calls
+  pub told : ℕ
+  pub with_it : place < told
+  pub within : told ≤ length es
+  pub shows : ShowsSome (run_lines settings (take told es)) old.sunk m.sunk
+
+-- Each of the first so many entries had such a moment ahead of it.
+abbrev pub InOrder : Settings → ℕ → List Entry → Scene → List Scene → Type 0
+InOrder settings count es old moments = (place : ℕ) → place < count → Any (λ m. IsBetween settings es place old m) moments
+
+-- the same, where the moments are told
+abbrev pub ToldInOrder : Settings → ℕ → List Entry → Scene → Option (List Scene) → Type 0
+ToldInOrder settings count es old seen = IfSome seen (InOrder settings count es old)
+
+-- how many entries were performed: all, or where the output failed so many
+abbrev pub performed_of : Option ℕ → List Entry → ℕ
+performed_of None es = length es
+performed_of (Some count) es = count

@@ -1,0 +1,60 @@
+-- How long the programs of tests ran, by the moments that a clock gives, in milliseconds.
+use Rattle.std.specs.Prelude.{◌≡◌, ◌≤◌, ℕ, ◌+◌, List, [], ◌∷◌, length, drop, Option, Some, None, option_map, IfSome}
+use Rattle.xd_edge.specs.Clock.{next_moment}
+use Rattle.xd_worker.specs.declared.input.WorkerInput.{WorkerInput}
+use Rattle.xd_worker.specs.declared.input.WorkerInput.TheVariants.{Message, SuiteBytes, SuiteTooLarge, SuiteUnread, Output, ChildDone, LinkEnd}
+
+-- what is seen of a clock: the last moment that it gave, and those that it will give, where it tells them
+pub record Ticking : Type 0 where
+  pub moment : ℕ
+  pub coming : Option (List ℕ)
+
+abbrev pub ticking : ℕ → Option (List ℕ) → Ticking
+ticking moment coming = record { moment = moment; coming = coming }
+
+-- The clock gave this moment next.
+pub record Ticks (moment : ℕ) (old new : Ticking) : Type 0 where
+  pub later : old.moment ≤ moment
+  pub last : new.moment ≡ moment
+  pub told : IfSome old.coming (λ ms. moment ≡ next_moment old.moment ms)
+  pub next : new.coming ≡ option_map (drop 1) old.coming
+
+-- The clock gave a moment, and then one that lies so far behind it.
+pub record Lasts (ms : ℕ) (old new : Ticking) : Type 0 where
+  pub start : ℕ
+  pub mid : Ticking
+  pub begins : Ticks start old mid
+  pub ends : Ticks (start + ms) mid new
+
+-- For each of these durations, of which the last stands first, the clock gave the moments of its begin and its end, one
+-- duration behind the other, and no other moment.
+abbrev pub AreMeasured : List ℕ → Ticking → Ticking → Type 0
+AreMeasured [] old new = new ≡ old
+AreMeasured (ms ∷ durations) old new = (mid : Ticking) × AreMeasured durations old mid × Lasts ms mid new
+
+-- Where a program runs that began at this moment, the clock gave that moment behind all others.
+abbrev pub AreTimed : Option ℕ → List ℕ → Ticking → Ticking → Type 0
+AreTimed None durations old new = AreMeasured durations old new
+AreTimed (Some start) durations old new = (mid : Ticking) × AreMeasured durations old mid × Ticks start mid new
+
+-- the durations that the worker was told with the ends of its tests, the last one first
+abbrev pub durations_in : List WorkerInput → List ℕ
+durations_in [] = []
+durations_in (Message m ∷ is) = durations_in is
+durations_in (SuiteBytes b ∷ is) = durations_in is
+durations_in (SuiteTooLarge ∷ is) = durations_in is
+durations_in (SuiteUnread ∷ is) = durations_in is
+durations_in (Output b ∷ is) = durations_in is
+durations_in (ChildDone outcome ms ∷ is) = ms ∷ durations_in is
+durations_in (LinkEnd ∷ is) = durations_in is
+
+abbrev pub one_if : Option ℕ → ℕ
+one_if None = 0
+one_if (Some moment) = 1
+
+-- The clock gave a moment for each program that was started, and another for each whose end the worker was told with the
+-- duration between the two.
+pub record Times (inputs : List WorkerInput) (started : List (List (List ℕ))) (old new : Ticking) : Type 0 where
+  pub running : Option ℕ
+  pub each : length started ≡ length (durations_in inputs) + one_if running
+  pub timed : AreTimed running (durations_in inputs) old new

@@ -1,6 +1,0 @@
-use Rattle.std.proofs.Common.{◌≡◌}
-use Rattle.xd_post.specs.Post.{ring_of_inbox}
-use Rattle.xd_post.proofs.tests.carry.Given as goal
-
-abbrev pub invariant-loop-number : goal.invariant-loop-number
-invariant-loop-number g l = ring_of_inbox l.inbox ≡ ring_of_inbox l.initial.inbox

@@ -1,0 +1,27 @@
+// A wait for a descriptor that the end of a pipe cuts short.
+use libc::net::poll;
+use libc::types::pollfd;
+use std::os::fd::RawFd;
+
+/// Waits for the first of these, or that nobody holds the other end of one of the pipes behind it any more; whether it is
+/// the latter.
+pub fn is_stopped(all: &mut [pollfd]) -> bool {
+    let _count = poll(all, -1);
+    all.iter().skip(1).any(|stop| stop.revents != 0)
+}
+
+/// Whether nobody holds the other end of this pipe any more.
+pub fn is_left(stop: pollfd) -> bool {
+    let mut all = [stop];
+    let _count = poll(&mut all, 0);
+    all[0].revents != 0
+}
+
+/// A descriptor that is to be ready for these events.
+pub fn ready_for(fd: RawFd, events: i16) -> pollfd {
+    pollfd {
+        fd,
+        events,
+        revents: 0,
+    }
+}

@@ -1,0 +1,56 @@
+-- The report of a run, with its tail.
+use Rattle.std.proofs.Common.{◌≡◌, ℕ, inl, inr, Bool, true, false, List, ◌++◌, length, Option, refl, sym, ◌∙◌, ap, subst}
+use Rattle.xd_edge.specs.Children.{ChildRun}
+use Rattle.xd_edge.specs.Sink.{Sunk, PrintedPart}
+use Rattle.xd_edge.proofs.PrintLemmas.{broken-part, printed_is_part, shows-all}
+use Rattle.xd_edge.proofs.SinkLemmas.{printed_part_of_more}
+use Rattle.xd_suite.specs.declared.test.Test.{Test}
+use Rattle.xd_journal.specs.declared.entry.Entry.{Entry}
+use Rattle.xd_journal.specs.declared.journal.Journal.{Journal}
+use Rattle.xd_journal.specs.declared.settings.Settings.{Settings}
+use Rattle.xd_ledger.specs.State.{all_moved, no_one}
+use Rattle.xd_report.specs.Lines.{lines_from, run_lines}
+use Rattle.xd_report.specs.Text.{run_tail, run_text, tail_text}
+use Rattle.xd_report.specs.Breaking.{BrokeAtEnd}
+use Rattle.xd_report.specs.Printing.{ShowsEnd}
+use Rattle.xd_report.proofs.Prints.{shows-end}
+use Rattle.xd_report.proofs.Texts.{lines-more}
+use Rattle.xd_top.specs.Local.{RanAll, RanPrinted, ShowsReport}
+use Rattle.xd_top.specs.Print.{AtStep, FailedAt}
+
+module _ (tests : List Test) (ids : List (List ℕ)) (j : Journal) (runs0 runs1 : Option (List ChildRun)) (faults0 faults1 : ℕ) (out0 out1 : Option Sunk) where
+  abbrev lines : List ℕ
+  lines = run_lines j.settings j.entries.items
+
+  pub not_ran : RanAll false tests ids j runs0 runs1 faults0 faults1 out0 out1 → RanPrinted false tests ids j runs0 runs1 faults0 faults1 out0 out1
+  not_ran ran = record {
+    results = ran.results;
+    so_far = ran.so_far;
+    within = ran.within;
+    all = ran.all;
+    shows = inl ran.shows;
+  }
+
+  pub printed : (shown : Bool) (out2 : Option Sunk) → RanAll true tests ids j runs0 runs1 faults0 faults1 out0 out1 → ShowsEnd shown (tail_text j) out1 out2 → RanPrinted shown tests ids j runs0 runs1 faults0 faults1 out0 out2
+  printed shown out2 ran shows = record { results = ran.results; so_far = ran.so_far; within = ran.within; all = λ is. ran.all refl; shows = both shown shows }
+    where
+      both : (b : Bool) → ShowsEnd b (tail_text j) out1 out2 → ShowsReport b (length ran.results ≡ length tests) j out0 out2
+      both true tail = shows-end lines (tail_text j) out0 out1 out2 ran.shows tail
+      both false (inl tail) = inr (record { all = ran.all refl; shows = inl (out1, ran.shows, tail) })
+      both false (inr tail) = inr (record { all = ran.all refl; shows = inr (shows-all lines (tail_text j) out0 out1 out2 ran.shows tail) })
+
+module _ (settings : Settings) (es : List Entry) (old new : Option Sunk) where
+  step_part : AtStep settings es old new → PrintedPart (run_lines settings es) old new
+  step_part s =
+      let joined : run_lines settings es ≡ run_lines settings s.before ++ lines_from (all_moved (no_one settings) s.before) s.step =
+      ap (run_lines settings) s.entries ∙ lines-more (no_one settings) s.before s.step in
+      subst (λ (l : List ℕ). PrintedPart l old new) (sym joined) (broken-part _ _ old new s.shows)
+
+  -- of the report a first part was taken
+  pub failed_part : (did_all : Type 0) → FailedAt did_all settings es old new → PrintedPart (run_text settings es) old new
+  failed_part did_all (inl s) = printed_part_of_more (run_lines settings es) (run_tail settings es) old new (step_part s)
+  failed_part did_all (inr t) = by t.shows
+    where
+      by : BrokeAtEnd settings es es old new → PrintedPart (run_text settings es) old new
+      by (inl b) = broken-part (run_lines settings es) (run_tail settings es) old new b
+      by (inr p) = printed_is_part (run_text settings es) old new p

@@ -1,0 +1,79 @@
+-- Why nothing is run or printed, and the line that says so. A choice of this project.
+use Rattle.std.specs.Prelude.{ℕ, ◌≡◌, ◌≤◌, ◌⊎◌, Bool, false, List, [], ◌∷◌, ◌++◌, length, Option, Some, IsSomeAnd, codes}
+use Rattle.xd_edge.specs.Faults.{Rose, StoodStill}
+use Rattle.xd_edge.specs.Files.{Held, HasFile, HasLarger}
+use Rattle.xd_edge.specs.Printing.{Shows}
+use Rattle.xd_suite.specs.declared.test.Test.{Test}
+use Rattle.xd_suite.specs.declared.fault.SuiteFault.{SuiteFault}
+use Rattle.xd_suite.specs.declared.fault.SuiteWhat.TheVariants.{TooLarge}
+use Rattle.xd_suite.specs.FaultText.{fault_text}
+use Rattle.xd_suite.specs.Faults.{of_file}
+use Rattle.xd_suite.specs.Suite.{IsFaulty, IsSuiteOf}
+use Rattle.xd_top.specs.declared.refusal.Refusal.{Refusal}
+use Rattle.xd_top.specs.declared.refusal.Refusal.TheVariants.{BadWords, Unread, Suite, FileUnread, FileTooLarge}
+use Rattle.xd_top.specs.Outside.{Streams}
+
+-- the line of a suite's fault, by the fault in words
+unfoldable pub suite_line : List ℕ → List ℕ
+suite_line text = codes "xdrun: " ++ (text ++ 10 ∷ [])
+
+-- the line on standard error
+abbrev pub refusal_line : Refusal → List ℕ
+refusal_line BadWords = codes "xdrun: bad words" ++ 10 ∷ []
+refusal_line Unread = codes "xdrun: suite cannot be read" ++ 10 ∷ []
+refusal_line (Suite fault) = suite_line (fault_text fault)
+refusal_line FileUnread = codes "xdrun: file cannot be read" ++ 10 ∷ []
+refusal_line FileTooLarge = codes "xdrun: file is too large" ++ 10 ∷ []
+
+-- The suite file of this name has these tests, where it is told.
+pub record HasSuite (held : Option Held) (suite : List ℕ) (tests : List Test) : Type 0 where
+  pub bytes : List ℕ
+  pub file : HasFile held suite bytes
+  pub is : IsSuiteOf bytes tests
+
+-- The suite file of this name has bytes that are few enough and have this fault first, where it is told.
+pub record HasFaulty (held : Option Held) (suite : List ℕ) (fault : SuiteFault) : Type 0 where
+  pub bytes : List ℕ
+  pub file : HasFile held suite bytes
+  pub small : length bytes ≤ 4194304
+  pub faulty : IsFaulty bytes fault
+
+-- The suite file of this name is larger than what is read, or has this fault.
+abbrev pub HasRefused : Option Held → List ℕ → SuiteFault → Type 0
+HasRefused held suite fault = ((fault ≡ of_file TooLarge) × HasLarger held suite 4194304) ⊎ HasFaulty held suite fault
+
+-- why there is no suite; `rose` says that the count of faults of the files rose. A suite that is too large is refused
+-- by the files.
+abbrev pub WhySuiteRefused : Option Held → List ℕ → Type 0 → Refusal → Type 0
+WhySuiteRefused held suite rose Unread = rose
+WhySuiteRefused held suite rose (Suite fault) = HasRefused held suite fault
+WhySuiteRefused held suite rose _ = ⊥
+
+-- the count of faults of the files: it rose where a file could not be read, and is else as before
+abbrev pub FilesCount : Refusal → ℕ → ℕ → Type 0
+FilesCount Unread before now = Rose before now
+FilesCount FileUnread before now = Rose before now
+FilesCount _ before now = now ≡ before
+
+-- A refusal: nothing on standard output, and its line on standard error, or a first part of the line, which was not handed
+-- on, where that failed.
+pub record Refuses (why : Refusal) (status : ℕ) (old new : Streams) : Type 0 where
+  pub four : status ≡ 4
+  pub files_count : FilesCount why old.files.faults new.files.faults
+  pub no_output : new.out ≡ old.out
+  pub shown : Bool
+  pub line : Shows shown (refusal_line why) old.err.sunk new.err.sunk
+  pub fault : shown ≡ false → Rose old.err.faults new.err.faults
+
+-- The files tell that the bytes of the suite file of this name list these tests.
+pub record TellsTests (held : Option Held) (suite : List ℕ) (tests : List Test) : Type 0 where
+  pub bytes : List ℕ
+  pub told : IsSomeAnd held (λ file. file suite ≡ Some bytes)
+  pub is : IsSuiteOf bytes tests
+
+-- The suite file of this name was refused; it is not one that the files tell to list tests, unless their count rose.
+pub record RefusesSuite (suite : List ℕ) (status : ℕ) (old new : Streams) : Type 0 where
+  pub why : Refusal
+  pub cause : WhySuiteRefused old.files.held suite (Rose old.files.faults new.files.faults) why
+  pub refused : Refuses why status old new
+  pub not_accepted : (tests : List Test) → TellsTests old.files.held suite tests → StoodStill old.files.faults new.files.faults → ⊥

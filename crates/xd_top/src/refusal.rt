@@ -1,0 +1,65 @@
+// Why nothing is run.
+ghost use Rattle.std.specs.Prelude.{◌≡◌, Bool, false, IfOk, OnOk, string_bytes};
+ghost use Rattle.xd_edge.specs.Faults.{Rose};
+ghost use Rattle.xd_edge.specs.Printing.{Shows};
+ghost use Rattle.xd_suite.specs.FaultText.{fault_text};
+ghost use Rattle.xd_top.specs.Refusal.{refusal_line, suite_line};
+
+use std::alloc::Global;
+use xd_edge::{OutOfMemory, Sink, print};
+use xd_suite::SuiteFault;
+
+/// Why nothing is run. Each has its line on standard error.
+#[derive(Clone, Copy, Debug, PartialEq, Eq)]
+pub enum Refusal {
+    /// The words are of no form that is known.
+    BadWords,
+    /// The suite file is missing or cannot be read.
+    Unread,
+    /// The suite file is refused, for its first fault.
+    Suite(SuiteFault),
+    /// The file of messages is missing or cannot be read.
+    FileUnread,
+    /// The file of messages has over 64 MiB.
+    FileTooLarge,
+}
+
+fn refusal_line(alloc: Global, why: Refusal) -> Result<String, OutOfMemory>
+    ensures { IfOk result (λ line. string_bytes line ≡ refusal_line why) }
+{
+    match why {
+        Refusal::BadWords => line_of(alloc, "xdrun: bad words\n"),
+        Refusal::Unread => line_of(alloc, "xdrun: suite cannot be read\n"),
+        Refusal::Suite(fault) => suite_line(alloc, fault),
+        Refusal::FileUnread => line_of(alloc, "xdrun: file cannot be read\n"),
+        Refusal::FileTooLarge => line_of(alloc, "xdrun: file is too large\n"),
+    }
+}
+
+fn line_of(alloc: Global, line: &str) -> Result<String, OutOfMemory>
+    ensures { IfOk result (λ copy. string_bytes copy ≡ line.now) }
+{
+    let copy = String::from_str(alloc, line)?;
+    Ok(copy)
+}
+
+#[tactic(auto, unfolding(crate::specs::Refusal::suite_line))]
+fn suite_line(alloc: Global, fault: SuiteFault) -> Result<String, OutOfMemory>
+    ensures { IfOk result (λ line. string_bytes line ≡ suite_line (fault_text fault)) }
+{
+    let text = fault.text(alloc)?;
+    let line = format!(in alloc; "xdrun: {}\n", text.as_str())?;
+    Ok(line)
+}
+
+/// Prints the line, or nothing of it is handed on where standard error failed. Gives the exit status of a refusal.
+pub fn refuse<E: Sink>(alloc: Global, err: &mut E, why: Refusal) -> Result<u8, OutOfMemory>
+    ensures four { IfOk result (λ status. status ≡ 4) }
+    ensures line { OnOk result ((shown : Bool)
+        × Shows shown (refusal_line why) (E.sunk err.old) (E.sunk err.new)
+        × (shown ≡ false → Rose (E.faults err.old) (E.faults err.new))) }
+{
+    let line = refusal_line(alloc, why)?;
+    let _shown = print(err, line.as_bytes()).is_ok();
+    Ok(4)
+}

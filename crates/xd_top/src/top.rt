@@ -1,0 +1,162 @@
+// The top call.
+ghost use Rattle.std.specs.Prelude.{◌≡◌, [], map, false, IfNone, IfOk};
+ghost use Rattle.xd_link.specs.Spring.{spring};
+ghost use Rattle.xd_linked.specs.Linked.{ended_link};
+ghost use Rattle.xd_listen.specs.Timing.{ticking};
+ghost use Rattle.xd_top.specs.Top.{Did};
+ghost use Rattle.xd_top.specs.Words.{has_links, plan_of};
+
+use crate::named::{LocalEnd, run_named};
+use crate::refusal::{Refusal, refuse};
+use crate::wire::print_named;
+use crate::words::{Plan, plan_of};
+use crate::worker::serve_own;
+use std::alloc::Global;
+use std::sync::Wait;
+use xd_crew::Crew;
+use xd_edge::{Children, Clock, Files, OutOfMemory, Sink, Text};
+use xd_group::LinkEnd;
+use xd_journal::Journal;
+use xd_link::Starter;
+use xd_linked::run_linked;
+use xd_reader::Reader;
+use xd_runner::Runner;
+
+/// What a call came to.
+#[derive(Drop)]
+pub struct RunEnd<St: Starter, C: Crew<Reader<St::Src>>, K: Children> {
+    /// The exit status.
+    pub status: u8,
+    /// The journal of the run, where one was begun.
+    pub journal: Option<Journal>,
+    /// The links that were started.
+    pub links: Vec<LinkEnd<St::Src, St::Snk>>,
+    /// The starter that was handed in.
+    pub starter: St,
+    /// The crew of readers that was handed in.
+    pub crew: C,
+    /// The programs that were handed in.
+    pub children: K,
+}
+
+/// Does what the words ask for.
+///
+/// `SUITE -n 0` runs the tests of a suite file in this program, one after another. Its status is 0 where all is well, 1
+/// where a test failed, 3 where the report could not be written, 5 where there is no test.
+///
+/// `SUITE -n K`, K from 1 to 32, runs them on K workers, which the starter starts and the crew's jobs read, and prints the
+/// report as the results come. Its status is that of `-n 0`, and 2 where the workers' lists of tests differ or could not
+/// be had.
+///
+/// `worker` serves the program's own standard input and output as a worker of execnet's messages. Its status is 0 where
+/// it was told to end or its input ended behind a whole message, else 3.
+///
+/// `wire FILE` prints a file of messages. Its status is 0 where the file has no fault, 1 where it has one, 3 where the
+/// text could not be written.
+///
+/// The status is 4 where the words or the file are refused.
+pub fn xdrun<
+    R: Wait,
+    F: Files,
+    St: Starter,
+    C: Crew<Reader<St::Src>>,
+    K: Children,
+    D: Crew<Runner<K>>,
+    T: Clock,
+    O: Sink,
+    E: Sink,
+>(
+    rt: &R,
+    alloc: Global,
+    words: &[Text],
+    files: &mut F,
+    starter: St,
+    crew: C,
+    children: K,
+    runner: &mut D,
+    clock: &mut T,
+    out: &mut O,
+    err: &mut E,
+) -> Result<RunEnd<St, C, K>, OutOfMemory>
+    ensures did { IfOk result (λ e. Did (plan_of words.now)
+        (record {
+          status = e.status;
+          journal = e.journal;
+          links = map (λ l. ended_link l.worker l.killed
+              (spring (St.Src.supply l.source) (St.Src.is_ended l.source) (St.Src.faults l.source))
+              (St.Snk.sunk l.sink) (St.Snk.faults l.sink)) e.links.items;
+        })
+        (record {
+          streams = record {
+            files = record { held = F.held files.old; faults = F.faults files.old };
+            out = record { sunk = O.sunk out.old; faults = O.faults out.old };
+            err = record { sunk = E.sunk err.old; faults = E.faults err.old };
+          };
+          programs = record { runs = K.runs children; faults = K.faults children };
+          starter = record { begun = St.begun starter; faults = St.faults starter };
+          crews = record { readers = C.faults crew; runners = D.faults runner.old };
+          clock = ticking (T.moment clock.old) (T.coming clock.old);
+        })
+        (record {
+          streams = record {
+            files = record { held = F.held files.new; faults = F.faults files.new };
+            out = record { sunk = O.sunk out.new; faults = O.faults out.new };
+            err = record { sunk = E.sunk err.new; faults = E.faults err.new };
+          };
+          programs = record { runs = K.runs e.children; faults = K.faults e.children };
+          starter = record { begun = St.begun e.starter; faults = St.faults e.starter };
+          crews = record { readers = C.faults e.crew; runners = D.faults runner.new };
+          clock = ticking (T.moment clock.new) (T.coming clock.new);
+        })) }
+    ensures no_link { IfOk result (λ e. has_links (plan_of words.now) ≡ false →
+        (e.links.items ≡ []) × (e.starter ≡ starter) × (e.crew ≡ crew)) }
+    ensures no_child { IfOk result (λ e. has_links (plan_of words.now) ≡ false →
+        IfNone e.journal (e.children ≡ children)) }
+{
+    let end = match plan_of(words)? {
+        Plan::Local { suite } => { run_named(rt, alloc, &suite, files, children, clock, out, err)? }
+        Plan::Linked { suite, workers } => {
+            let end = run_linked(rt, alloc, &suite, workers, starter, crew, out)?;
+            return Ok(RunEnd {
+                status: end.status,
+                journal: Some(end.journal),
+                links: end.links,
+                starter: end.starter,
+                crew: end.crew,
+                children,
+            });
+        }
+        Plan::Wire { file } => {
+            let status = print_named(alloc, &file, files, out, err)?;
+            without_run(status, children)
+        }
+        Plan::Worker => {
+            let end = serve_own(rt, alloc, files, starter, crew, children, runner, clock)?;
+            return Ok(end);
+        }
+        Plan::BadWords => {
+            let status = refuse(alloc, err, Refusal::BadWords)?;
+            without_run(status, children)
+        }
+    };
+    Ok(RunEnd {
+        status: end.status,
+        journal: end.journal,
+        links: Vec::new(alloc),
+        starter,
+        crew,
+        children: end.children,
+    })
+}
+
+fn without_run<K: Children>(status: u8, children: K) -> LocalEnd<K>
+    ensures status { result.status ≡ status }
+    ensures journal { result.journal ≡ None }
+    ensures children { result.children ≡ children }
+{
+    LocalEnd {
+        status,
+        journal: None,
+        children,
+    }
+}

@@ -1,0 +1,20 @@
+-- What is left of the line of a call that runs nothing. That a test waits until another entry stands behind it is the rule of
+-- pytest-xdist's `remote.py`.
+use Rattle.std.specs.Prelude.{◌≡◌, ◌⊎◌, ℕ, List, [], ◌∷◌, false}
+use Rattle.xd_run_tests.specs.declared.phase.Phase.TheVariants.{Serving}
+use Rattle.xd_run_tests.specs.declared.place.Place.{Place}
+use Rattle.xd_run_tests.specs.declared.place.Place.TheVariants.{Test}
+use Rattle.xd_run_tests.specs.History.{Given, call_after}
+use Rattle.xd_run_tests.specs.Line.{Call, left}
+
+-- nothing, or one test
+abbrev pub IsIdle : List Place → Type 0
+IsIdle ps = (ps ≡ []) ⊎ ((n : ℕ) × (ps ≡ Test n ∷ []))
+
+-- a call that serves its suite and runs nothing has no more left
+abbrev pub WaitsForNext : Call → Type 0
+WaitsForNext c = c.phase ≡ Serving → c.running ≡ false → IsIdle (left c)
+
+-- Whatever comes.
+abbrev pub IdleLaw : Type 0
+IdleLaw = (h : List Given) → WaitsForNext (call_after h)
