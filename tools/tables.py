@@ -163,11 +163,12 @@ class Output:
         return not self.failed
 
     def prints(self, data):
-        """A write where there is something to write, then a flush."""
-        if data:
-            if not self.call():
-                return False
-            self.taken += data
+        """A write and a flush; neither where there is nothing to write."""
+        if not data:
+            return True
+        if not self.call():
+            return False
+        self.taken += data
         return self.call()
 
 
