@@ -15,12 +15,20 @@ const REPORTS: &str = "\
      load,2,0,0 ~ s0,0;s1,1;C0:a|b|c|d;C1=;r0,0,1;r1,2,3;G0,e,half;D1,2,p,5;D1,3,s,5 ~ 1 ~ 4 tests on 2 workers, load/[gw0] node down: Not properly terminated/[gw0] CRASHED a/[gw1] PASSED c/[gw1] SKIPPED d/==== [gw0] a ====/worker 'gw0' crashed while running 'a'/---- output: 4 bytes ----/half/worker gw0 crashed and worker restarting disabled/1 failed, 1 passed, 1 skipped/\n\
      each,1,1,4 ~ s0,0;N0;s1,0;C1:a|b;a1;D1,0,-1,5 ~ 2 ~ [gw0] node down: not started/replacing crashed worker gw0/2 tests on 1 workers, each/[gw1] FAILED a/==== [gw1] a ====/killed by a signal/stopping after 1 failures/1 failed/\n\
      load,2,0,8 ~ s0,0;s1,1;C0:a|b|c|d|e;C1:a|b|c|d|f ~ 1 ~ different tests collected by gw0 and gw1, first at place 4/no tests ran/\n\
-     load,1,0,4 ~ s0,0;X0:suite cannot be read ~ 2 ~ collection failed on gw0: suite cannot be read/no tests ran/";
+     load,1,0,4 ~ s0,0;X0:suite cannot be read ~ 2 ~ collection failed on gw0: suite cannot be read/no tests ran/\n\
+     loadscope,1,0,4 ~ s0,0;C0:a;r0,0;D0,0,p,5 ~ 0 ~ 1 tests on 1 workers, loadscope/[gw0] PASSED a/1 passed/\n\
+     loadfile,1,0,4 ~ s0,0;C0:a;r0,0;D0,0,p,5 ~ 0 ~ 1 tests on 1 workers, loadfile/[gw0] PASSED a/1 passed/\n\
+     loadgroup,1,0,4 ~ s0,0;C0:a;r0,0;D0,0,p,5 ~ 0 ~ 1 tests on 1 workers, loadgroup/[gw0] PASSED a/1 passed/\n\
+     worksteal,1,0,4 ~ s0,0;C0:a;r0,0;D0,0,p,5 ~ 0 ~ 1 tests on 1 workers, worksteal/[gw0] PASSED a/1 passed/";
 
 fn mode(words: &str) -> Result<ModeKind, Fail> {
     match words {
         "local" => Ok(ModeKind::Local),
         "load" => Ok(ModeKind::Load),
+        "loadscope" => Ok(ModeKind::LoadScope),
+        "loadfile" => Ok(ModeKind::LoadFile),
+        "loadgroup" => Ok(ModeKind::LoadGroup),
+        "worksteal" => Ok(ModeKind::WorkSteal),
         "each" => Ok(ModeKind::Each),
         _ => Err(Fail::from("a mode")),
     }
