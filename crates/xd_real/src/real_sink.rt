@@ -109,8 +109,8 @@ impl<B: Write + Drop> Write for Outlet<B> {
 }
 
 /// The writing direction of a real link, which tells nothing. A close ends it for good, also where what it holds could not
-/// be handed on: a child's input ends; the own streams end both ways, so that a read which waits for the own input ends,
-/// too.
+/// be handed on: a child's input ends, as it does where a write to it fails; the own streams end both ways, so that a read
+/// which waits for the own input ends, too.
 #[derive(Drop)]
 pub struct RealSink<'a, H: Files + Processes> {
     rt: &'a H,
@@ -130,6 +130,15 @@ impl<'a, H: Files + Processes> RealSink<'a, H> {
             outlet: Some(outlet),
             plug: None,
             faults: 0,
+        }
+    }
+
+    // Closes the input of a child that takes no more.
+    fn leave_child(&mut self)
+        ensures { self.new.faults ≡ self.old.faults }
+    {
+        if matches!(&self.outlet, Some(Outlet::Child(_))) {
+            self.outlet = None;
         }
     }
 
@@ -156,6 +165,7 @@ impl<'a, H: Files + Processes> Sink for RealSink<'a, H> {
                 }
             }
         }
+        self.leave_child();
         raise(&mut self.faults);
         Err(Failed)
     }

@@ -68,7 +68,7 @@ impl<'a, H: Files + Processes> RealStarter<'a, H> {
         self.links.push_reserved(Kept::Child(child));
         Some(Started {
             link,
-            source: InSource::new(Inlet::Child(output)),
+            source: InSource::new(Inlet::Child(Some(output))),
             sink: RealSink::new(self.rt, Outlet::Child(input)),
         })
     }
