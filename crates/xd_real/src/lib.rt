@@ -8,6 +8,7 @@ mod real_sink;
 mod real_starter;
 mod stream;
 mod waiting;
+mod worker;
 
 pub use inlet::{Inlet, Stoppable};
 pub use outlet::Outlet;

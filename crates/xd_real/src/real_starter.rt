@@ -2,6 +2,7 @@
 ghost use Rattle.std.specs.Prelude.{◌≡◌, ◌<◌, None, false, IfOk, IfSome, vec_len, vec_capacity};
 
 use crate::stream::{accept, connect, shut};
+use crate::worker::worker_of;
 use crate::{Inlet, Outlet, OwnOutput, RealSink, Stoppable, StreamOutput};
 use os::FromRawFd;
 use std::alloc::{AllocError, Global};
@@ -9,9 +10,9 @@ use std::fs::Files;
 use std::io::{self, PipeWriter, Stdin};
 use std::net::{Net, OpenStream, Shutdown};
 use std::os::fd::OwnedFd;
-use std::process::{Child, ChildStdin, Command, OpenProcess, Processes, Stdio};
+use std::process::{Child, ChildStdin, Command, OpenProcess, Processes};
 use std::sync::Wait;
-use xd_edge::{Env, Failed, Text, raise};
+use xd_edge::{Failed, Text, raise};
 use xd_link::{InSource, Place, StartFault, Started, Starter};
 
 /// What a real link is read from.
@@ -138,8 +139,8 @@ impl<'a, H: Files + Processes + Net> RealStarter<'a, H> {
     }
 }
 
-// Kills it; whether the system did so.
-fn is_killed<P: OpenProcess + Drop, S: OpenStream + Drop>(kept: &mut Kept<P, S>) -> bool {
+// Whether the system did so.
+fn kill_link<P: OpenProcess + Drop, S: OpenStream + Drop>(kept: &mut Kept<P, S>) -> bool {
     match kept {
         Kept::Child(child) => child.kill().is_ok(),
         Kept::Own(kill) => {
@@ -153,26 +154,6 @@ fn is_killed<P: OpenProcess + Drop, S: OpenStream + Drop>(kept: &mut Kept<P, S>)
 // The standard output, which nothing else writes to or closes.
 fn own_output() -> ChildStdin {
     ChildStdin::from(unsafe { OwnedFd::from_raw_fd(1) })
-}
-
-// This program as a worker, in a folder of its own where one is named. Its standard error is the program's own.
-fn worker_of(
-    alloc: Global,
-    program: &Text,
-    chdir: &Option<Text>,
-    env: &Env,
-) -> Result<Command, AllocError> {
-    let mut command = Command::new(alloc, program.as_str())?;
-    command.arg("worker")?;
-    command.stdin(Stdio::piped());
-    command.stdout(Stdio::piped());
-    if let Some(folder) = chdir {
-        command.current_dir(folder.as_str())?;
-    }
-    for (name, value) in &env.items {
-        command.env(name.as_str(), value.as_str())?;
-    }
-    Ok(command)
 }
 
 impl<'a, H: Files + Processes + Net> Starter for RealStarter<'a, H> {
@@ -215,7 +196,7 @@ impl<'a, H: Files + Processes + Net> Starter for RealStarter<'a, H> {
     /// stream at once, and that of the own streams when the sink is closed.
     fn kill(&mut self, link: u32) -> Result<(), Failed> {
         let link = link as usize;
-        if link < self.links.len() && !is_killed(&mut self.links[link]) {
+        if link < self.links.len() && !kill_link(&mut self.links[link]) {
             raise(&mut self.faults);
             return Err(Failed);
         }
