@@ -7,19 +7,21 @@ use libc::net::POLLIN;
 use std::io::{self, PipeReader, Read};
 use std::os::fd::AsRawFd;
 
-/// What a real link is read from: the program's own standard input, or a child's standard output, which is closed where a
-/// read has met its end.
+/// What a real link is read from: the program's own standard input, a child's standard output, which is closed where a
+/// read has met its end, or a TCP stream.
 #[derive(Drop)]
-pub enum Inlet<A: Read + Drop, B: Read + Drop> {
+pub enum Inlet<A: Read + Drop, B: Read + Drop, S: Read + Drop> {
     Own(A),
     Child(Option<B>),
+    Stream(S),
 }
 
-impl<A: Read + Drop, B: Read + Drop> Read for Inlet<A, B> {
+impl<A: Read + Drop, B: Read + Drop, S: Read + Drop> Read for Inlet<A, B, S> {
     fn read(&mut self, into: &mut [u8]) -> io::Result<usize> {
         match self {
             Inlet::Own(own) => own.read(into),
             Inlet::Child(child) => read_to_close(child, into),
+            Inlet::Stream(stream) => stream.read(into),
         }
     }
 }

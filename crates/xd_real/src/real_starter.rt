@@ -1,41 +1,50 @@
 // Real links.
 ghost use Rattle.std.specs.Prelude.{◌≡◌, ◌<◌, None, false, IfOk, IfSome, vec_len, vec_capacity};
 
-use crate::{Inlet, Outlet, OwnOutput, RealSink, Stoppable};
+use crate::stream::{accept, connect, shut};
+use crate::worker::worker_of;
+use crate::{Inlet, Outlet, OwnOutput, RealSink, Stoppable, StreamOutput};
 use os::FromRawFd;
 use std::alloc::{AllocError, Global};
 use std::fs::Files;
 use std::io::{self, PipeWriter, Stdin};
+use std::net::{Net, OpenStream, Shutdown};
 use std::os::fd::OwnedFd;
-use std::process::{Child, ChildStdin, Command, OpenProcess, Processes, Stdio};
+use std::process::{Child, ChildStdin, Command, OpenProcess, Processes};
 use std::sync::Wait;
-use xd_edge::{Env, Failed, Text, raise};
+use xd_edge::{Failed, Text, raise};
 use xd_link::{InSource, Place, StartFault, Started, Starter};
 
 /// What a real link is read from.
-pub type RealSource<O> = InSource<Inlet<Stoppable<Stdin>, O>>;
+pub type RealSource<H> = InSource<
+    Inlet<Stoppable<Stdin>, <<H as Processes>::Started as OpenProcess>::Stdout, <H as Net>::Stream>,
+>;
 
-/// The links of the system, which tell nothing: children of the program, and its own standard input and output. A socket
-/// fails for now.
+// A link of the system.
+type RealLink<'a, H> = Started<RealSource<H>, RealSink<'a, H>>;
+
+/// The links of the system, which tell nothing: children of the program, TCP streams, and the program's own standard input
+/// and output.
 #[derive(Drop)]
-pub struct RealStarter<'a, H: Files + Processes> {
+pub struct RealStarter<'a, H: Files + Processes + Net> {
     rt: &'a H,
     program: Text,
     input: Stdin,
     // By the numbers of the links.
-    links: Vec<Kept<H::Started>>,
+    links: Vec<Kept<H::Started, H::Stream>>,
     pub faults: u64,
 }
 
 // What is kept of a link.
 #[derive(Drop)]
-enum Kept<P: OpenProcess + Drop> {
+enum Kept<P: OpenProcess + Drop, S: OpenStream + Drop> {
     Child(Child<P>),
     // Where it is dropped, the own streams are read and written no more.
     Own(Option<PipeWriter>),
+    Stream(S),
 }
 
-impl<'a, H: Files + Processes> RealStarter<'a, H> {
+impl<'a, H: Files + Processes + Net> RealStarter<'a, H> {
     /// It has started nothing, and has not failed yet. A child runs this program with the one word `worker`. A name
     /// without a slash is looked for in the child's PATH; a relative path is read from the child's folder.
     pub fn new(rt: &'a H, alloc: Global, program: Text, input: Stdin) -> RealStarter<'a, H>
@@ -50,11 +59,7 @@ impl<'a, H: Files + Processes> RealStarter<'a, H> {
         }
     }
 
-    fn start_child(
-        &mut self,
-        command: Command,
-        link: u32,
-    ) -> Option<Started<RealSource<<H::Started as OpenProcess>::Stdout>, RealSink<'a, H>>>
+    fn start_child(&mut self, command: Command, link: u32) -> Option<RealLink<'a, H>>
         requires { vec_len self.old.links < vec_capacity self.old.links }
         ensures faults { self.new.faults ≡ self.old.faults }
         ensures no_writes { IfSome result (λ l. l.sink.faults ≡ 0) }
@@ -73,14 +78,7 @@ impl<'a, H: Files + Processes> RealStarter<'a, H> {
         })
     }
 
-    fn start_own(
-        &mut self,
-        alloc: Global,
-        link: u32,
-    ) -> Result<
-        Option<Started<RealSource<<H::Started as OpenProcess>::Stdout>, RealSink<'a, H>>>,
-        AllocError,
-    >
+    fn start_own(&mut self, alloc: Global, link: u32) -> Result<Option<RealLink<'a, H>>, AllocError>
         requires { vec_len self.old.links < vec_capacity self.old.links }
         ensures faults { self.new.faults ≡ self.old.faults }
         ensures no_writes { IfOk result (λ r. IfSome r (λ l. l.sink.faults ≡ 0)) }
@@ -106,6 +104,51 @@ impl<'a, H: Files + Processes> RealStarter<'a, H> {
             sink: RealSink::new(self.rt, Outlet::Own(own)),
         }))
     }
+
+    // A close of the sink ends these directions of the stream.
+    fn start_stream(
+        &mut self,
+        alloc: Global,
+        stream: io::Result<H::Stream>,
+        closes: Shutdown,
+        link: u32,
+    ) -> Result<Option<RealLink<'a, H>>, AllocError>
+        requires { vec_len self.old.links < vec_capacity self.old.links }
+        ensures faults { self.new.faults ≡ self.old.faults }
+        ensures no_writes { IfOk result (λ r. IfSome r (λ l. l.sink.faults ≡ 0)) }
+        ensures not_ended { IfOk result (λ r. IfSome r (λ l. l.source.is_ended ≡ false)) }
+        ensures no_reads { IfOk result (λ r. IfSome r (λ l. l.source.faults ≡ 0)) }
+    {
+        let Ok(stream) = stream else {
+            return Ok(None);
+        };
+        let (Ok(reading), Ok(writing)) = (stream.try_clone(), stream.try_clone()) else {
+            return Ok(None);
+        };
+        // Each flush sends at once, and does not wait until what was sent before has arrived.
+        if stream.set_nodelay(true).is_err() {
+            return Ok(None);
+        }
+        let output = StreamOutput::new(alloc, writing, closes)?;
+        self.links.push_reserved(Kept::Stream(stream));
+        Ok(Some(Started {
+            link,
+            source: InSource::new(Inlet::Stream(reading)),
+            sink: RealSink::new(self.rt, Outlet::Stream(output)),
+        }))
+    }
+}
+
+// Whether the system did so.
+fn kill_link<P: OpenProcess + Drop, S: OpenStream + Drop>(kept: &mut Kept<P, S>) -> bool {
+    match kept {
+        Kept::Child(child) => child.kill().is_ok(),
+        Kept::Own(kill) => {
+            *kill = None;
+            true
+        }
+        Kept::Stream(stream) => shut(stream, Shutdown::Both).is_ok(),
+    }
 }
 
 // The standard output, which nothing else writes to or closes.
@@ -113,28 +156,8 @@ fn own_output() -> ChildStdin {
     ChildStdin::from(unsafe { OwnedFd::from_raw_fd(1) })
 }
 
-// This program as a worker, in a folder of its own where one is named. Its standard error is the program's own.
-fn worker_of(
-    alloc: Global,
-    program: &Text,
-    chdir: &Option<Text>,
-    env: &Env,
-) -> Result<Command, AllocError> {
-    let mut command = Command::new(alloc, program.as_str())?;
-    command.arg("worker")?;
-    command.stdin(Stdio::piped());
-    command.stdout(Stdio::piped());
-    if let Some(folder) = chdir {
-        command.current_dir(folder.as_str())?;
-    }
-    for (name, value) in &env.items {
-        command.env(name.as_str(), value.as_str())?;
-    }
-    Ok(command)
-}
-
-impl<'a, H: Files + Processes> Starter for RealStarter<'a, H> {
-    type Src = RealSource<<H::Started as OpenProcess>::Stdout>;
+impl<'a, H: Files + Processes + Net> Starter for RealStarter<'a, H> {
+    type Src = RealSource<H>;
 
     type Snk = RealSink<'a, H>;
 
@@ -142,14 +165,7 @@ impl<'a, H: Files + Processes> Starter for RealStarter<'a, H> {
 
     ghost begun = { λ _. None };
 
-    fn start(
-        &mut self,
-        alloc: Global,
-        place: &Place,
-    ) -> Result<
-        Started<RealSource<<H::Started as OpenProcess>::Stdout>, RealSink<'a, H>>,
-        StartFault,
-    > {
+    fn start(&mut self, alloc: Global, place: &Place) -> Result<RealLink<'a, H>, StartFault> {
         self.links.reserve(1)?;
         let started = match (place, u32::try_from(self.links.len())) {
             (Place::Popen { chdir, env }, Ok(link)) => {
@@ -157,7 +173,15 @@ impl<'a, H: Files + Processes> Starter for RealStarter<'a, H> {
                 self.start_child(command, link)
             }
             (Place::Own, Ok(link)) => self.start_own(alloc, link)?,
-            _ => None,
+            (Place::Socket { host, port }, Ok(link)) => {
+                let stream = connect(self.rt, host, *port);
+                self.start_stream(alloc, stream, Shutdown::Write, link)?
+            }
+            (Place::Listen { host, port }, Ok(link)) => {
+                let stream = accept(self.rt, host, *port);
+                self.start_stream(alloc, stream, Shutdown::Both, link)?
+            }
+            (_, Err(_)) => None,
         };
         match started {
             Some(link) => Ok(link),
@@ -168,20 +192,13 @@ impl<'a, H: Files + Processes> Starter for RealStarter<'a, H> {
         }
     }
 
-    /// The own streams have no child: a read of them ends, and each write fails, also one that waits. The other side sees
-    /// their end when the sink is closed.
+    /// Where there is no child, a read ends, and each write fails, also one that waits. The other side sees the end of a
+    /// stream at once, and that of the own streams when the sink is closed.
     fn kill(&mut self, link: u32) -> Result<(), Failed> {
         let link = link as usize;
-        if link < self.links.len() {
-            match &mut self.links[link] {
-                Kept::Child(child) => {
-                    if child.kill().is_err() {
-                        raise(&mut self.faults);
-                        return Err(Failed);
-                    }
-                }
-                Kept::Own(kill) => *kill = None,
-            }
+        if link < self.links.len() && !kill_link(&mut self.links[link]) {
+            raise(&mut self.faults);
+            return Err(Failed);
         }
         Ok(())
     }

