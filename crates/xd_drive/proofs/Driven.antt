@@ -1,5 +1,5 @@
 -- A session that was driven to its end.
-use Rattle.std.proofs.Common.{◌≡◌, ℕ, ◌-◌, List, [], ◌∷◌, ◌++◌, length, take, drop, filter, Bool, true, false, Option, Some, None, refl, ap, sym, ◌∙◌, subst}
+use Rattle.std.proofs.Common.{◌≡◌, ℕ, ◌-◌, List, [], ◌∷◌, ◌++◌, length, take, drop, filter, Bool, true, false, Option, refl, ap, sym, ◌∙◌, subst}
 use Rattle.std.proofs.lemmas.List.{append-nil, drop-append-le, take-append-le, take_rest}
 use Rattle.std.proofs.lemmas.List.Elements.{filter-append}
 use Rattle.xd_edge.specs.Sink.{Sunk, PrintedPart}
@@ -23,6 +23,8 @@ use Rattle.xd_session.specs.Ends.{last_stop}
 use Rattle.xd_session.specs.History.{run_of}
 use Rattle.xd_session.specs.Stands.{Seen, StandsFor, state_of}
 use Rattle.xd_session.proofs.Steps.{sound-run}
+use Rattle.xd_drive.specs.declared.written.Written.{Written}
+use Rattle.xd_drive.specs.declared.written.Written.TheVariants.{Whole as WholeAt, Broken as BrokenAt}
 use Rattle.xd_drive.specs.Driven.{Broken, Ended, IsJournalOf, Whole, run_given}
 use Rattle.xd_drive.specs.Failing.{FailedAt}
 use Rattle.xd_drive.specs.Going.{EndsRun, Scene}
@@ -33,7 +35,7 @@ use Rattle.xd_drive.specs.Taken.{taken_of}
 use Rattle.xd_drive.proofs.Failing.{failed-behind, failed-part}
 use Rattle.xd_drive.proofs.InOrder.{order-broken}
 use Rattle.xd_drive.proofs.Kept.{kept-ended}
-use Rattle.xd_drive.proofs.Loop.{none-of}
+use Rattle.xd_drive.proofs.Loop.{whole-of}
 use Rattle.xd_drive.proofs.Performs.{performs-more}
 use Rattle.xd_drive.proofs.Stepped.{state-is}
 use Rattle.xd_drive.proofs.Texts.{silent-ending, text-behind, text-is}
@@ -58,7 +60,7 @@ module _ (failed : Bool) (s : Seen) (given : List News) (j : Journal) (p : IsPro
   text-same : text_of j ≡ run_text s.settings s.entries
   text-same = text-is j s.settings (s.entries ++ ending failed (state_of s).books) same entries_are ∙ text-behind (ending failed (state_of s).books) (silent-ending failed (state_of s).books) s.settings s.entries
 
-pub whole : (s : Seen) (j : Journal) (old new : Scene) → IsProper s.settings [] → j.settings ≡ s.settings → j.entries.items ≡ s.entries ++ ending false (state_of s).books → stop_of j ≡ last_stop false (state_of s).books → EndsRun None s old new
+pub whole : (s : Seen) (j : Journal) (old new : Scene) → IsProper s.settings [] → j.settings ≡ s.settings → j.entries.items ≡ s.entries ++ ending false (state_of s).books → stop_of j ≡ last_stop false (state_of s).books → EndsRun WholeAt s old new
     → (given : List News) × Whole given j old new
 whole s j old new p same is stop e =
     let f = e.1 in (
@@ -71,7 +73,7 @@ whole s j old new p same is stop e =
       },
     )
 
-pub kills-left : (count : ℕ) (s : Seen) (j : Journal) (old new : Scene) (slots : ℕ) → j.entries.items ≡ s.entries ++ ending true (state_of s).books → EndsRun (Some count) s old new
+pub kills-left : (count : ℕ) (s : Seen) (j : Journal) (old new : Scene) (slots : ℕ) → j.entries.items ≡ s.entries ++ ending true (state_of s).books → EndsRun (BrokenAt count) s old new
     → all_possible slots new.marks (kills_of_started (take count j.entries.items) (drop count j.entries.items)) ≡ true
 kills-left count s j old new slots is e =
     let f = e.1 in
@@ -79,7 +81,7 @@ kills-left count s j old new slots is e =
     ∙ ap (λ (es : List Entry). all_possible slots new.marks (kills_of_started es (drop count (s.entries ++ ending true (state_of s).books)))) (take-append-le count s.entries (ending true (state_of s).books) f.within)
     ∙ ap (λ (es : List Entry). all_possible slots new.marks (kills_of_started (take count s.entries) es)) (drop-append-le count s.entries (ending true (state_of s).books) f.within) ∙ f.kills slots
 
-pub broken : (count : ℕ) (s : Seen) (j : Journal) (old mid new : Scene) → IsProper s.settings [] → j.settings ≡ s.settings → j.entries.items ≡ s.entries ++ ending true (state_of s).books → stop_of j ≡ last_stop true (state_of s).books → EndsRun (Some count) s old mid
+pub broken : (count : ℕ) (s : Seen) (j : Journal) (old mid new : Scene) → IsProper s.settings [] → j.settings ≡ s.settings → j.entries.items ≡ s.entries ++ ending true (state_of s).books → stop_of j ≡ last_stop true (state_of s).books → EndsRun (BrokenAt count) s old mid
     → Performs (kills_of_started (take count j.entries.items) (drop count j.entries.items)) mid.starts new.starts mid.calls new.calls → new.given ≡ mid.given → new.sunk ≡ mid.sunk → (given : List News) × Broken count given j old new
 broken count s j old mid new p same is stop e kills given sunk =
     let f = e.1 in
@@ -134,33 +136,33 @@ slices n a b es p q =
     ap (λ (x : List Entry). kills_of_started (take n x) (take (length b - n) (drop n b))) p ∙ ap (λ (y : List Entry). kills_of_started (take n es) (take (length y - n) (drop n y))) q
     ∙ ap (kills_of_started (take n es)) (take_rest es n)
 
-module _ (settings : Settings) (s : Seen) (j : Journal) (proper : IsProper settings []) (kept : s.settings ≡ settings) (same : j.settings ≡ s.settings) (stopped : Option ℕ) where
+module _ (settings : Settings) (s : Seen) (j : Journal) (proper : IsProper settings []) (kept : s.settings ≡ settings) (same : j.settings ≡ s.settings) (written : Written) where
   still : IsProper s.settings []
   still = subst (λ (x : Settings). IsProper x []) (sym kept) proper
 
-  pub drive-journal : (old new : Scene) → ((x : ℕ) → stopped ≡ Some x → ⊥) → j.entries.items ≡ s.entries ++ ending false (state_of s).books → IsLegal j → EndsRun stopped s old new → IsJournalOf settings j
+  pub drive-journal : (old new : Scene) → ((x : ℕ) → written ≡ BrokenAt x → ⊥) → j.entries.items ≡ s.entries ++ ending false (state_of s).books → IsLegal j → EndsRun written s old new → IsJournalOf settings j
   drive-journal old new none is legal e =
-      let f = subst (λ (o : Option ℕ). EndsRun o s old new) (none-of stopped none) e in
+      let f = subst (λ (o : Written). EndsRun o s old new) (whole-of written none) e in
       subst (λ (x : Settings). IsJournalOf x j) kept (journal-by false s j (taken_of s.settings (f.0)) still same is f.1.over legal f.1.stands)
 
-  pub drive-journal-broken : (count : ℕ) → stopped ≡ Some count → (old new : Scene) → j.entries.items ≡ s.entries ++ ending true (state_of s).books → IsLegal j → EndsRun stopped s old new → IsJournalOf settings j
+  pub drive-journal-broken : (count : ℕ) → written ≡ BrokenAt count → (old new : Scene) → j.entries.items ≡ s.entries ++ ending true (state_of s).books → IsLegal j → EndsRun written s old new → IsJournalOf settings j
   drive-journal-broken count some old new is legal e =
-      let f = subst (λ (o : Option ℕ). EndsRun o s old new) some e in
+      let f = subst (λ (o : Written). EndsRun o s old new) some e in
       subst (λ (x : Settings). IsJournalOf x j) kept (journal-by true s j (taken_of s.settings (f.0)) still same is refl legal f.1.stands)
 
-  pub drive-whole : (old new : Scene) → ((x : ℕ) → stopped ≡ Some x → ⊥) → j.entries.items ≡ s.entries ++ ending false (state_of s).books → stop_of j ≡ last_stop false (state_of s).books → EndsRun stopped s old new
+  pub drive-whole : (old new : Scene) → ((x : ℕ) → written ≡ BrokenAt x → ⊥) → j.entries.items ≡ s.entries ++ ending false (state_of s).books → stop_of j ≡ last_stop false (state_of s).books → EndsRun written s old new
       → (given : List News) × Whole given j old new
-  drive-whole old new none is stop e = whole s j old new still same is stop (subst (λ (o : Option ℕ). EndsRun o s old new) (none-of stopped none) e)
+  drive-whole old new none is stop e = whole s j old new still same is stop (subst (λ (o : Written). EndsRun o s old new) (whole-of written none) e)
 
-  module _ (count : ℕ) (some : stopped ≡ Some count) (is : j.entries.items ≡ s.entries ++ ending true (state_of s).books) (a b : List Entry) (first : a ≡ j.entries.items) (second : b ≡ j.entries.items) where
-    pub drive-kills : (old mid : Scene) (slots : ℕ) → EndsRun stopped s old mid → all_possible slots mid.marks (kills_of_started (take count a) (take (length b - count) (drop count b))) ≡ true
+  module _ (count : ℕ) (some : written ≡ BrokenAt count) (is : j.entries.items ≡ s.entries ++ ending true (state_of s).books) (a b : List Entry) (first : a ≡ j.entries.items) (second : b ≡ j.entries.items) where
+    pub drive-kills : (old mid : Scene) (slots : ℕ) → EndsRun written s old mid → all_possible slots mid.marks (kills_of_started (take count a) (take (length b - count) (drop count b))) ≡ true
     drive-kills old mid slots e =
-        ap (all_possible slots mid.marks) (slices count a b j.entries.items first second) ∙ kills-left count s j old mid slots is (subst (λ (o : Option ℕ). EndsRun o s old mid) some e)
+        ap (all_possible slots mid.marks) (slices count a b j.entries.items first second) ∙ kills-left count s j old mid slots is (subst (λ (o : Written). EndsRun o s old mid) some e)
 
-    pub drive-broken : (old mid new : Scene) (ms : Option (List Scene)) → stop_of j ≡ last_stop true (state_of s).books → EndsRun stopped s old mid → Performs (kills_of_started (take count a) (take (length b - count) (drop count b))) mid.starts new.starts mid.calls new.calls
-        → new.given ≡ mid.given → new.sunk ≡ mid.sunk → ToldInOrder s.settings (performed_of stopped s.entries) s.entries old ms
+    pub drive-broken : (old mid new : Scene) (ms : Option (List Scene)) → stop_of j ≡ last_stop true (state_of s).books → EndsRun written s old mid → Performs (kills_of_started (take count a) (take (length b - count) (drop count b))) mid.starts new.starts mid.calls new.calls
+        → new.given ≡ mid.given → new.sunk ≡ mid.sunk → ToldInOrder s.settings (performed_of written s.entries) s.entries old ms
         → (n : ℕ) × (given : List News) × Broken n given j old new × ToldInOrder j.settings n j.entries.items old ms
     drive-broken old mid new ms stop e kills given sunk o =
-        let whole_of = broken count s j old mid new still same is stop (subst (λ (o : Option ℕ). EndsRun o s old mid) some e)
+        let whole_of = broken count s j old mid new still same is stop (subst (λ (o : Written). EndsRun o s old mid) some e)
         (subst (λ (es : List Entry). Performs es mid.starts new.starts mid.calls new.calls) (slices count a b j.entries.items first second) kills) given sunk in
-        (count, whole_of.0, whole_of.1, order-broken count j s old mid ms stopped some same is e o)
+        (count, whole_of.0, whole_of.1, order-broken count j s old mid ms written some same is e o)

@@ -1,6 +1,6 @@
 -- That each entry was performed after its lines.
-use Rattle.std.proofs.Common.{◌≡◌, ℕ, ◌+◌, ◌-◌, ◌≤◌, ◌<◌, List, [], ◌∷◌, ◌++◌, map, length, take, length-append, Bool, true, false, Option, Some, None, refl, sym, ◌∙◌, ap, subst, arith, inl, inr}
-use Rattle.std.specs.Prelude.{◌⊎◌, IfSome, nat_lt, option_map}
+use Rattle.std.proofs.Common.{◌≡◌, ℕ, ◌-◌, ◌≤◌, ◌<◌, List, [], ◌∷◌, ◌++◌, map, length, length-append, Bool, true, false, Option, Some, None, refl, sym, ◌∙◌, ap, subst, arith, inl, inr}
+use Rattle.std.specs.Prelude.{IfSome, nat_lt, option_map}
 use Rattle.std.specs.List.{Any}
 use Rattle.std.proofs.Math.Seq.{take-append_seam}
 use Rattle.std.proofs.lemmas.Bool.Decides.{nat_tests}
@@ -16,10 +16,12 @@ use Rattle.xd_ledger.specs.Ending.{ending}
 use Rattle.xd_report.specs.Lines.{run_lines}
 use Rattle.xd_session.specs.Stands.{Seen, StandsFor, state_of}
 use Rattle.xd_laws.proofs.Logic.{cases_of}
+use Rattle.xd_drive.specs.declared.written.Written.{Written}
+use Rattle.xd_drive.specs.declared.written.Written.TheVariants.{Whole, Broken}
 use Rattle.xd_drive.specs.Going.{EndsRun, EndsTail, Going, Scene, TakesNews}
 use Rattle.xd_drive.specs.Moments.{InOrder, IsBetween, NotesNews, NotesTurn, ToldInOrder, performed_of}
 use Rattle.xd_drive.specs.Performing.{Performs}
-use Rattle.xd_drive.proofs.Loop.{going-next, none-of, takes-none}
+use Rattle.xd_drive.proofs.Loop.{going-next, whole-of, takes-whole}
 use Rattle.xd_drive.proofs.Performs.{performs-none}
 use Rattle.xd_drive.proofs.Texts.{first-lines}
 
@@ -104,7 +106,7 @@ order-same x y es fs old ms ns a b c o =
 
 by-news : (s0 s1 : Seen) (old mid new : Scene) (before after : Option (List Scene)) (more : List Entry) → s1.settings ≡ s0.settings → s1.entries ≡ s0.entries ++ more
     → Performs s0.entries old.starts mid.starts old.calls mid.calls → ShowsSome (run_lines s1.settings s1.entries) old.sunk new.sunk
-    → NotesNews None s0 s1 mid new before after → ToldInOrder s0.settings (length s0.entries) s0.entries old before → ToldInOrder s1.settings (length s1.entries) s1.entries old after
+    → NotesNews Whole s0 s1 mid new before after → ToldInOrder s0.settings (length s0.entries) s0.entries old before → ToldInOrder s1.settings (length s1.entries) s1.entries old after
 by-news s0 s1 old mid new before after more same is p s (inl t) o =
     seen-more before after t.0 (InOrder s0.settings (length s0.entries) s0.entries old) (InOrder s1.settings (length s1.entries) s1.entries old) t.1
     (λ b q. order-same s0.settings s1.settings (s0.entries ++ more) s1.entries old (b ++ t.0 ∷ []) (b ++ t.0 ∷ []) same is refl
@@ -114,20 +116,20 @@ by-news s0 s1 old mid new before after more same is p s (inr t) o =
     subst (λ (k : Option (List Scene)). ToldInOrder s1.settings (length s1.entries) s1.entries old k) (sym t.1)
     (if-so before _ _ (λ b q. order-same s0.settings s1.settings s0.entries s1.entries old b b same t.0 refl q) o)
 
-pub order-next : (given : List News) (n : News) (s0 s1 : Seen) (old mid new : Scene) (before after : Option (List Scene)) (stopped : Option ℕ) → ((x : ℕ) → stopped ≡ Some x → ⊥) → Going given s0 old mid → TakesNews n stopped s0 s1 mid new
-    → NotesNews stopped s0 s1 mid new before after → ToldInOrder s0.settings (length s0.entries) s0.entries old before → ToldInOrder s1.settings (length s1.entries) s1.entries old after
-order-next given n s0 s1 old mid new before after stopped none g t m o =
-    let taken = takes-none n s0 s1 mid new stopped none t in
+pub order-next : (given : List News) (n : News) (s0 s1 : Seen) (old mid new : Scene) (before after : Option (List Scene)) (written : Written) → ((x : ℕ) → written ≡ Broken x → ⊥) → Going given s0 old mid → TakesNews n written s0 s1 mid new
+    → NotesNews written s0 s1 mid new before after → ToldInOrder s0.settings (length s0.entries) s0.entries old before → ToldInOrder s1.settings (length s1.entries) s1.entries old after
+order-next given n s0 s1 old mid new before after written none g t m o =
+    let taken = takes-whole n s0 s1 mid new written none t in
     let next = going-next given n s0 s1 old mid new g taken in
     by-news s0 s1 old mid new before after (taken.told.0) taken.settings taken.told.1.entries g.performed next.shows
-    (subst (λ (q : Option ℕ). NotesNews q s0 s1 mid new before after) (none-of stopped none) m) o
+    (subst (λ (q : Written). NotesNews q s0 s1 mid new before after) (whole-of written none) m) o
 
 -- the output failed at the lines of a piece of news
-pub order-stops : (n : News) (s0 s1 : Seen) (old mid new : Scene) (before after : Option (List Scene)) (stopped : Option ℕ) (count : ℕ) → stopped ≡ Some count → TakesNews n stopped s0 s1 mid new → NotesNews stopped s0 s1 mid new before after
+pub order-stops : (n : News) (s0 s1 : Seen) (old mid new : Scene) (before after : Option (List Scene)) (written : Written) (count : ℕ) → written ≡ Broken count → TakesNews n written s0 s1 mid new → NotesNews written s0 s1 mid new before after
     → ToldInOrder s0.settings (length s0.entries) s0.entries old before → ToldInOrder s1.settings count s1.entries old after
-order-stops n s0 s1 old mid new before after stopped count is t m o =
-    let told = subst (λ (q : Option ℕ). TakesNews n q s0 s1 mid new) is t in
-    let same : after ≡ before = subst (λ (q : Option ℕ). NotesNews q s0 s1 mid new before after) is m in
+order-stops n s0 s1 old mid new before after written count is t m o =
+    let told = subst (λ (q : Written). TakesNews n q s0 s1 mid new) is t in
+    let same : after ≡ before = subst (λ (q : Written). NotesNews q s0 s1 mid new before after) is m in
     subst (λ (x : Settings). ToldInOrder x count s1.entries old after) (sym t.settings)
     (subst (λ (l : List Entry). ToldInOrder s0.settings count l old after) (sym told.told.1.entries)
     (subst (λ (k : ℕ). ToldInOrder s0.settings k (s0.entries ++ told.told.0) old after) (sym told.told.1.count_is)
@@ -135,10 +137,10 @@ order-stops n s0 s1 old mid new before after stopped count is t m o =
     (if-so before _ _ (λ b q. order-behind s0.settings (length s0.entries) s0.entries (told.told.0) old b (omega arith) q) o))))
 
 -- the run is over, and at the tail the output failed or not
-pub order-over : (stopped : Option ℕ) (s : Seen) (j : Journal) (old : Scene) (ms : Option (List Scene)) (a b : Option Sunk) → j.entries.items ≡ s.entries → EndsTail stopped j a b → ToldInOrder s.settings (length s.entries) s.entries old ms
-    → ToldInOrder s.settings (performed_of stopped s.entries) s.entries old ms
-order-over None s j old ms a b is e o = o
-order-over (Some count) s j old ms a b is e o = subst (λ (k : ℕ). ToldInOrder s.settings k s.entries old ms) (sym (e.0 ∙ ap length is)) o
+pub order-over : (written : Written) (s : Seen) (j : Journal) (old : Scene) (ms : Option (List Scene)) (a b : Option Sunk) → j.entries.items ≡ s.entries → EndsTail written j a b → ToldInOrder s.settings (length s.entries) s.entries old ms
+    → ToldInOrder s.settings (performed_of written s.entries) s.entries old ms
+order-over Whole s j old ms a b is e o = o
+order-over (Broken count) s j old ms a b is e o = subst (λ (k : ℕ). ToldInOrder s.settings k s.entries old ms) (sym (e.0 ∙ ap length is)) o
 
 -- behind the end of the journal
 
@@ -148,17 +150,17 @@ order-ended failed count j s old ms same is l o =
     subst (λ (x : Settings). ToldInOrder x count j.entries.items old ms) (sym same)
     (subst (λ (es : List Entry). ToldInOrder s.settings count es old ms) (sym is) (if-so ms _ _ (λ b q. order-behind s.settings count s.entries (ending failed (state_of s).books) old b l q) o))
 
-pub order-whole : (j : Journal) (s : Seen) (old : Scene) (ms : Option (List Scene)) (stopped : Option ℕ) → ((x : ℕ) → stopped ≡ Some x → ⊥) → j.settings ≡ s.settings → j.entries.items ≡ s.entries ++ ending false (state_of s).books
-    → ToldInOrder s.settings (performed_of stopped s.entries) s.entries old ms → ToldInOrder j.settings (length j.entries.items - 1) j.entries.items old ms
-order-whole j s old ms stopped none same is o =
+pub order-whole : (j : Journal) (s : Seen) (old : Scene) (ms : Option (List Scene)) (written : Written) → ((x : ℕ) → written ≡ Broken x → ⊥) → j.settings ≡ s.settings → j.entries.items ≡ s.entries ++ ending false (state_of s).books
+    → ToldInOrder s.settings (performed_of written s.entries) s.entries old ms → ToldInOrder j.settings (length j.entries.items - 1) j.entries.items old ms
+order-whole j s old ms written none same is o =
     subst (λ (k : ℕ). ToldInOrder j.settings k j.entries.items old ms) (omega (arith, ap length is, length-append s.entries (ending false (state_of s).books)))
-    (order-ended false (length s.entries) j s old ms same is (omega arith) (subst (λ (q : Option ℕ). ToldInOrder s.settings (performed_of q s.entries) s.entries old ms) (none-of stopped none) o))
+    (order-ended false (length s.entries) j s old ms same is (omega arith) (subst (λ (q : Written). ToldInOrder s.settings (performed_of q s.entries) s.entries old ms) (whole-of written none) o))
 
-pub order-broken : (count : ℕ) (j : Journal) (s : Seen) (old new : Scene) (ms : Option (List Scene)) (stopped : Option ℕ) → stopped ≡ Some count → j.settings ≡ s.settings → j.entries.items ≡ s.entries ++ ending true (state_of s).books → EndsRun stopped s old new
-    → ToldInOrder s.settings (performed_of stopped s.entries) s.entries old ms → ToldInOrder j.settings count j.entries.items old ms
-order-broken count j s old new ms stopped some same is e o =
-    let f = subst (λ (q : Option ℕ). EndsRun q s old new) some e in
-    order-ended true count j s old ms same is f.1.within (subst (λ (q : Option ℕ). ToldInOrder s.settings (performed_of q s.entries) s.entries old ms) some o)
+pub order-broken : (count : ℕ) (j : Journal) (s : Seen) (old new : Scene) (ms : Option (List Scene)) (written : Written) → written ≡ Broken count → j.settings ≡ s.settings → j.entries.items ≡ s.entries ++ ending true (state_of s).books → EndsRun written s old new
+    → ToldInOrder s.settings (performed_of written s.entries) s.entries old ms → ToldInOrder j.settings count j.entries.items old ms
+order-broken count j s old new ms written some same is e o =
+    let f = subst (λ (q : Written). EndsRun q s old new) some e in
+    order-ended true count j s old ms same is f.1.within (subst (λ (q : Written). ToldInOrder s.settings (performed_of q s.entries) s.entries old ms) some o)
 
 -- what is noted
 

@@ -1,5 +1,5 @@
 -- From one piece of news to the next.
-use Rattle.std.proofs.Common.{◌≡◌, ℕ, zero, suc, ◌+◌, ◌≤◌, ◌<◌, List, [], ◌∷◌, ◌++◌, length, take, drop, length-append, Bool, true, false, not, ◌||◌, Option, Some, None, refl, sym, ◌∙◌, ap, subst, arith, inl, inr, append_assoc}
+use Rattle.std.proofs.Common.{◌≡◌, ℕ, zero, suc, ◌+◌, ◌≤◌, ◌<◌, List, [], ◌∷◌, ◌++◌, length, take, drop, length-append, Bool, true, false, not, ◌||◌, Option, refl, sym, ◌∙◌, ap, subst, arith, inl, inr, append_assoc}
 use Rattle.std.specs.Prelude.{◌==◌, ◌⊎◌, nat_lt, if◌then◌else◌}
 use Rattle.std.specs.List.{list_any}
 use Rattle.std.proofs.Math.Path.{fun_ext}
@@ -26,6 +26,8 @@ use Rattle.xd_session.specs.History.{run_of}
 use Rattle.xd_session.specs.Stands.{Seen, StandsFor, state_of}
 use Rattle.xd_laws.proofs.Logic.{and, cases_of, differ}
 use Rattle.xd_laws.proofs.Crew.{has}
+use Rattle.xd_drive.specs.declared.written.Written.{Written}
+use Rattle.xd_drive.specs.declared.written.Written.TheVariants.{Whole, Broken}
 use Rattle.xd_drive.specs.Agrees.{Agrees}
 use Rattle.xd_drive.specs.Going.{EndsRun, EndsTail, Finished, Going, IsFresh, Scene, Stopped, TakesNews, Untold}
 use Rattle.xd_drive.specs.Marks.{Marks}
@@ -95,7 +97,7 @@ module _ (given : List News) (n : News) (s0 s1 : Seen) (old mid new : Scene) (g 
   lines-more : (more : List Entry) → s1.settings ≡ s0.settings → s1.entries ≡ s0.entries ++ more → run_lines s1.settings s1.entries ≡ run_lines s0.settings s0.entries ++ lines_from (all_moved (no_one s0.settings) s0.entries) more
   lines-more more same is = ap (λ (x : Settings). run_lines x s1.entries) same ∙ ap (run_lines s0.settings) is ∙ lines-join (no_one s0.settings) s0.entries more
 
-  pub going-next : TakesNews n None s0 s1 mid new → Going (given ++ n ∷ []) s1 old new
+  pub going-next : TakesNews n Whole s0 s1 mid new → Going (given ++ n ∷ []) s1 old new
   going-next t =
       let more = t.told.0 in
       let told = t.told.1 in
@@ -109,7 +111,7 @@ module _ (given : List News) (n : News) (s0 s1 : Seen) (old mid new : Scene) (g 
       }
 
   -- the output failed at the lines of the news
-  module _ (proper : IsProper s0.settings []) (count : ℕ) (t : TakesNews n (Some count) s0 s1 mid new) where
+  module _ (proper : IsProper s0.settings []) (count : ℕ) (t : TakesNews n (Broken count) s0 s1 mid new) where
     abbrev more : List Entry
     more = t.told.0
 
@@ -232,7 +234,7 @@ someone-first s old new p st g = (0, g.started 0 ∙ ap (was_started 0) st.entri
     by_count zero h = absurd (differ h)
     by_count (suc k) h = refl
 
-pub someone-still : (n : News) (s0 s1 : Seen) (mid new : Scene) → TakesNews n None s0 s1 mid new → (w : ℕ) × ((mid.marks w).started ≡ true) → (w : ℕ) × ((new.marks w).started ≡ true)
+pub someone-still : (n : News) (s0 s1 : Seen) (mid new : Scene) → TakesNews n Whole s0 s1 mid new → (w : ℕ) × ((mid.marks w).started ≡ true) → (w : ℕ) × ((new.marks w).started ≡ true)
 someone-still n s0 s1 mid new t w = (w.0, t.told.1.started w.0 ∙ ap (λ (b : Bool). b || was_started w.0 (t.told.0)) w.1)
 
 -- what the last step of the loop comes to
@@ -243,16 +245,16 @@ begins s slots old new es is l st fresh performed marks given sunk =
     going-first s slots old new l st fresh (subst (λ (x : List Entry). Performs x old.starts new.starts old.calls new.calls) is performed) (λ w. marks w ∙ ap (λ (x : List Entry). after_all x old.marks w) is) given sunk
 
 pub over-ends : (given : List News) (s : Seen) (old mid new : Scene) (g : Going given s old mid) (starts_same : new.starts ≡ mid.starts) (calls_same : new.calls ≡ mid.calls) (given_same : new.given ≡ mid.given) (marks_same : (w : ℕ) → new.marks w ≡ mid.marks w)
-    (j : Journal) → j.settings ≡ s.settings → j.entries.items ≡ s.entries → is_over (state_of s).books ≡ true → IsProper s.settings [] → (stopped : Option ℕ) → EndsTail stopped j mid.sunk new.sunk → EndsRun stopped s old new
-over-ends given s old mid new g a b c d j e f over p None t = (given, finished given s old mid new g a b c d j e f over t)
-over-ends given s old mid new g a b c d j e f over p (Some count) t = (given, unfinished given s old mid new g a b c d j e f over p count (t.0 ∙ ap length f) t.1)
+    (j : Journal) → j.settings ≡ s.settings → j.entries.items ≡ s.entries → is_over (state_of s).books ≡ true → IsProper s.settings [] → (written : Written) → EndsTail written j mid.sunk new.sunk → EndsRun written s old new
+over-ends given s old mid new g a b c d j e f over p Whole t = (given, finished given s old mid new g a b c d j e f over t)
+over-ends given s old mid new g a b c d j e f over p (Broken count) t = (given, unfinished given s old mid new g a b c d j e f over p count (t.0 ∙ ap length f) t.1)
 
-pub stop-by : (given : List News) (n : News) (s0 s1 : Seen) (old mid new : Scene) → Going given s0 old mid → IsProper s0.settings [] → (stopped : Option ℕ) (count : ℕ) → stopped ≡ Some count → TakesNews n stopped s0 s1 mid new → (all : List News) × Stopped all count s1 old new
-stop-by given n s0 s1 old mid new g p stopped count is t = (given ++ n ∷ [], going-stop given n s0 s1 old mid new g p count (subst (λ (o : Option ℕ). TakesNews n o s0 s1 mid new) is t))
+pub stop-by : (given : List News) (n : News) (s0 s1 : Seen) (old mid new : Scene) → Going given s0 old mid → IsProper s0.settings [] → (written : Written) (count : ℕ) → written ≡ Broken count → TakesNews n written s0 s1 mid new → (all : List News) × Stopped all count s1 old new
+stop-by given n s0 s1 old mid new g p written count is t = (given ++ n ∷ [], going-stop given n s0 s1 old mid new g p count (subst (λ (o : Written). TakesNews n o s0 s1 mid new) is t))
 
-pub none-of : (o : Option ℕ) → ((x : ℕ) → o ≡ Some x → ⊥) → o ≡ None
-none-of None h = refl
-none-of (Some x) h = absurd (h x refl)
+pub whole-of : (o : Written) → ((x : ℕ) → o ≡ Broken x → ⊥) → o ≡ Whole
+whole-of Whole h = refl
+whole-of (Broken x) h = absurd (h x refl)
 
-pub takes-none : (n : News) (s0 s1 : Seen) (mid new : Scene) (stopped : Option ℕ) → ((x : ℕ) → stopped ≡ Some x → ⊥) → TakesNews n stopped s0 s1 mid new → TakesNews n None s0 s1 mid new
-takes-none n s0 s1 mid new stopped h t = subst (λ (o : Option ℕ). TakesNews n o s0 s1 mid new) (none-of stopped h) t
+pub takes-whole : (n : News) (s0 s1 : Seen) (mid new : Scene) (written : Written) → ((x : ℕ) → written ≡ Broken x → ⊥) → TakesNews n written s0 s1 mid new → TakesNews n Whole s0 s1 mid new
+takes-whole n s0 s1 mid new written h t = subst (λ (o : Written). TakesNews n o s0 s1 mid new) (whole-of written h) t

@@ -22,6 +22,7 @@ use Rattle.xd_report.specs.Lines.{lines_between, lines_from}
 use Rattle.xd_session.specs.History.{Run as TheRun, input_of, run_of}
 use Rattle.xd_session.specs.Stands.{Seen, StandsFor, state_of}
 use Rattle.xd_laws.proofs.Logic.{split-and, split-or}
+use Rattle.xd_drive.specs.declared.written.Written.TheVariants.{Whole, Broken}
 use Rattle.xd_drive.specs.Agrees.{Agrees}
 use Rattle.xd_drive.specs.Going.{Scene, TakesNews, TellsEntries, added_by}
 use Rattle.xd_drive.specs.Marks.{Marks, is_end, marked_heard}
@@ -137,7 +138,7 @@ module _ (s : Seen) (proper : IsProper s.settings []) (n : News) (old mid : Scen
   taken-is b taken st h = ap (λ (q : Bool). if q then taken ++ n ∷ [] else taken) (ap (λ (x : State). is_active n.worker x.books) (sym (state-is s taken proper st)) ∙ h)
 
   -- it is dropped
-  pub dropped : is_active n.worker (state_of s).books ≡ false → (m : News) × TakesNews m None s s old mid
+  pub dropped : is_active n.worker (state_of s).books ≡ false → (m : News) × TakesNews m Whole s s old mid
   dropped off = (
     n,
     record {
@@ -197,7 +198,7 @@ module _ (s : Seen) (proper : IsProper s.settings []) (n : News) (old mid : Scen
           (ending-possible s1.settings (taken ++ n ∷ []) slots (state_of s1).books (after_all es mid.marks) p1 (ap (λ (x : State). x.books) (state-is s1 (taken ++ n ∷ []) p1 (stands taken st)))
           (subst (λ (f : ℕ → Marks). Agrees (state_of s1).books (after_all es f)) (sym marks-are) behind))
 
-      pub told : TellsEntries true es lines mid new → (m : News) × TakesNews m None s s1 old new
+      pub told : TellsEntries true es lines mid new → (m : News) × TakesNews m Whole s s1 old new
       told t = (
         n,
         record {
@@ -217,7 +218,7 @@ module _ (s : Seen) (proper : IsProper s.settings []) (n : News) (old mid : Scen
         },
       )
 
-      pub untold : (count : ℕ) → count ≡ length s.entries → TellsEntries false es lines mid new → (m : News) × TakesNews m (Some count) s s1 old new
+      pub untold : (count : ℕ) → count ≡ length s.entries → TellsEntries false es lines mid new → (m : News) × TakesNews m (Broken count) s s1 old new
       untold count counted t =
           let marks_same : (w : ℕ) → new.marks w ≡ marked_heard n w (old.marks w) = λ w. t.marks w ∙ heard w in (
             n,

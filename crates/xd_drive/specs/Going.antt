@@ -15,6 +15,8 @@ use Rattle.xd_report.specs.Lines.{lines_from, run_lines}
 use Rattle.xd_report.specs.Text.{run_text, tail_text}
 use Rattle.xd_session.specs.History.{input_of, run_of}
 use Rattle.xd_session.specs.Stands.{Seen, StandsFor, state_of}
+use Rattle.xd_drive.specs.declared.written.Written.{Written}
+use Rattle.xd_drive.specs.declared.written.Written.TheVariants.{Whole, Broken}
 use Rattle.xd_drive.specs.Agrees.{Agrees}
 use Rattle.xd_drive.specs.Failing.{FailedAt}
 use Rattle.xd_drive.specs.Marks.{Marks, no_marks}
@@ -88,16 +90,16 @@ pub record Untold (n : News) (count : ℕ) (more : List Entry) (s_old s_new : Se
       → (slots : ℕ) → all_possible slots new.marks (kills_of_started done (more ++ ending true (state_of s_new).books)) ≡ true
   pub shows : TookPart (lines_from (all_moved (no_one s_old.settings) s_old.entries) more) old.sunk new.sunk
 
-abbrev pub TellsNews : News → Option ℕ → Seen → Seen → Scene → Scene → Type 0
-TellsNews n None s_old s_new old new = (more : List Entry) × Told more s_old s_new old new
-TellsNews n (Some count) s_old s_new old new = (more : List Entry) × Untold n count more s_old s_new old new
+abbrev pub TellsNews : News → Written → Seen → Seen → Scene → Scene → Type 0
+TellsNews n Whole s_old s_new old new = (more : List Entry) × Told more s_old s_new old new
+TellsNews n (Broken count) s_old s_new old new = (more : List Entry) × Untold n count more s_old s_new old new
 
 -- One piece of news was given; where its worker is active it was taken.
-pub record TakesNews (n : News) (stopped : Option ℕ) (s_old s_new : Seen) (old new : Scene) : Type 0 where
+pub record TakesNews (n : News) (written : Written) (s_old s_new : Seen) (old new : Scene) : Type 0 where
   pub gave : AddsAll (n ∷ []) old.given new.given
   pub settings : s_new.settings ≡ s_old.settings
   pub stands : (taken : List News) → StandsFor taken s_old → StandsFor (taken_with s_old.settings taken n) s_new
-  pub told : TellsNews n stopped s_old s_new old new
+  pub told : TellsNews n written s_old s_new old new
 
 -- The run is over, and its whole report was printed.
 pub record Finished (given : List News) (s : Seen) (old new : Scene) : Type 0 where
@@ -108,14 +110,14 @@ pub record Finished (given : List News) (s : Seen) (old new : Scene) : Type 0 wh
   pub shows : ShowsEnd true (run_text s.settings s.entries) old.sunk new.sunk
 
 -- How the run came to its end, where the output failed with so many entries performed.
-abbrev pub EndsRun : Option ℕ → Seen → Scene → Scene → Type 0
-EndsRun None s old new = (given : List News) × Finished given s old new
-EndsRun (Some count) s old new = (given : List News) × Stopped given count s old new
+abbrev pub EndsRun : Written → Seen → Scene → Scene → Type 0
+EndsRun Whole s old new = (given : List News) × Finished given s old new
+EndsRun (Broken count) s old new = (given : List News) × Stopped given count s old new
 
 -- The tail of the journal was printed and the output closed; or, where it failed, so many entries had been performed.
-abbrev pub EndsTail : Option ℕ → Journal → Option Sunk → Option Sunk → Type 0
-EndsTail None j old new = ShowsEnd true (tail_text j) old new
-EndsTail (Some count) j old new = (count ≡ length j.entries.items) × ShowsEnd false (tail_text j) old new
+abbrev pub EndsTail : Written → Journal → Option Sunk → Option Sunk → Type 0
+EndsTail Whole j old new = ShowsEnd true (tail_text j) old new
+EndsTail (Broken count) j old new = (count ≡ length j.entries.items) × ShowsEnd false (tail_text j) old new
 
 -- No worker has a mark.
 abbrev pub IsFresh : (ℕ → Marks) → Type 0

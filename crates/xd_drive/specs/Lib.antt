@@ -8,3 +8,4 @@ pub mod Marks
 pub mod Moments
 pub mod Performing
 pub mod Taken
+pub mod Written

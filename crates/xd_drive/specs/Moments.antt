@@ -1,5 +1,5 @@
 -- That each entry was performed after its lines.
-use Rattle.std.specs.Prelude.{◌≡◌, ◌≤◌, ◌<◌, ℕ, ◌⊎◌, Bool, true, false, List, [], ◌∷◌, ◌++◌, map, take, length, Option, Some, None, IfSome, option_map}
+use Rattle.std.specs.Prelude.{◌≡◌, ◌≤◌, ◌<◌, ℕ, ◌⊎◌, Bool, true, false, List, [], ◌∷◌, ◌++◌, map, take, length, Option, IfSome, option_map}
 use Rattle.std.specs.List.{Any}
 use Rattle.xd_edge.specs.Printing.{ShowsSome}
 use Rattle.xd_edge.specs.Sink.{Sunk}
@@ -10,6 +10,8 @@ use Rattle.xd_note.specs.Noted.{noted}
 use Rattle.xd_note.specs.declared.log.Log.{Log}
 use Rattle.xd_report.specs.Lines.{run_lines}
 use Rattle.xd_session.specs.Stands.{Seen}
+use Rattle.xd_drive.specs.declared.written.Written.{Written}
+use Rattle.xd_drive.specs.declared.written.Written.TheVariants.{Whole, Broken}
 use Rattle.xd_drive.specs.Going.{Scene}
 use Rattle.xd_drive.specs.Marks.{Marks}
 use Rattle.xd_drive.specs.Performing.{Performs}
@@ -31,9 +33,9 @@ NotesTurn true old new before after = (m : Scene) × (after ≡ option_map (λ l
 NotesTurn false old new before after = after ≡ before
 
 -- A piece of news notes a moment, or none where it adds nothing to the journal or the output failed.
-abbrev pub NotesNews : Option ℕ → Seen → Seen → Scene → Scene → Option (List Scene) → Option (List Scene) → Type 0
-NotesNews None s_old s_new old new before after = NotesTurn true old new before after ⊎ ((s_new.entries ≡ s_old.entries) × (after ≡ before))
-NotesNews (Some count) s_old s_new old new before after = after ≡ before
+abbrev pub NotesNews : Written → Seen → Seen → Scene → Scene → Option (List Scene) → Option (List Scene) → Type 0
+NotesNews Whole s_old s_new old new before after = NotesTurn true old new before after ⊎ ((s_new.entries ≡ s_old.entries) × (after ≡ before))
+NotesNews (Broken count) s_old s_new old new before after = after ≡ before
 
 -- At this moment the hub had been called for no more than entries ahead of the one at this place, and the output had taken and
 -- handed on the lines of that entry and of all ahead of it.
@@ -55,6 +57,6 @@ abbrev pub ToldInOrder : Settings → ℕ → List Entry → Scene → Option (L
 ToldInOrder settings count es old seen = IfSome seen (InOrder settings count es old)
 
 -- how many entries were performed: all, or where the output failed so many
-abbrev pub performed_of : Option ℕ → List Entry → ℕ
-performed_of None es = length es
-performed_of (Some count) es = count
+abbrev pub performed_of : Written → List Entry → ℕ
+performed_of Whole es = length es
+performed_of (Broken count) es = count

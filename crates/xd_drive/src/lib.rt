@@ -10,8 +10,10 @@ mod news;
 mod perform;
 mod printing;
 mod running;
+mod written;
 
 pub use hub::Hub;
 pub use listed_hub::ListedHub;
 pub use moment::{Moment, NoWitness, Witness};
 pub use running::drive;
+pub use written::Written;

@@ -1,5 +1,5 @@
 // One piece of news.
-ghost use Rattle.std.specs.Prelude.{◌≡◌, ◌≤◌, ℕ, List, [], ◌∷◌, ◌++◌, length, take, true, false, Ok, None, Some, IfOk, IfSome, OnOk, is_none};
+ghost use Rattle.std.specs.Prelude.{◌≡◌, ◌≤◌, ℕ, List, [], ◌∷◌, ◌++◌, length, take, true, false, Ok, IfOk, IfSome, OnOk};
 ghost use Rattle.xd_edge.specs.Faults.{Counted};
 ghost use Rattle.xd_journal.specs.declared.news.News.{News};
 ghost use Rattle.xd_ledger.specs.Proper.{IsProper};
@@ -12,11 +12,12 @@ ghost use Rattle.xd_drive.specs.Agrees.{Agrees};
 ghost use Rattle.xd_drive.specs.Going.{TakesNews, TellsEntries, added_by};
 ghost use Rattle.xd_drive.specs.Moments.{NotesNews, NotesTurn};
 ghost use Rattle.xd_drive.specs.Performing.{all_possible, between};
+ghost use Rattle.xd_drive.specs.Written.{is_whole};
 
-use crate::Hub;
 use crate::moment::Witness;
 use crate::perform::perform;
 use crate::printing::print_between;
+use crate::{Hub, Written};
 use std::alloc::Global;
 use std::sync::Wait;
 use xd_edge::{OutOfMemory, Sink};
@@ -115,7 +116,7 @@ fn tell_news<M: Mode, H: Hub, O: Sink, W: Witness<H, O>>(
 }
 
 /// Takes the next piece of news, where its worker is active: prints the lines of what it adds to the journal, and
-/// performs the outputs. Where the output failed nothing is performed; gives how many entries stood before.
+/// performs the outputs. Where the output failed nothing of it is performed.
 pub(crate) fn take_news<R: Wait, M: Mode, H: Hub, O: Sink, W: Witness<H, O>>(
     rt: &R,
     alloc: Global,
@@ -124,17 +125,17 @@ pub(crate) fn take_news<R: Wait, M: Mode, H: Hub, O: Sink, W: Witness<H, O>>(
     hub: &mut H,
     out: &mut O,
     witness: &mut W,
-) -> Result<Option<usize>, OutOfMemory>
+) -> Result<Written, OutOfMemory>
     requires proper { IsProper session.old.settings [] }
     requires stands { (taken : List News) × StandsFor taken session.old }
     requires follows { Follows reporter.old (all_moved (no_one session.old.settings) session.old.entries) }
     requires slots { session.old.settings.workers ≤ H.slots hub.old }
     requires agrees { Agrees (state_of session.old).books (H.marks hub.old) }
     requires someone { (w : ℕ) × ((H.marks hub.old w).started ≡ true) }
-    ensures takes { IfOk result (λ stopped. (n : News) × TakesNews n stopped session.old session.new
+    ensures takes { IfOk result (λ written. (n : News) × TakesNews n written session.old session.new
         (record { marks = H.marks hub.old; starts = H.starts hub.old; calls = H.calls hub.old; given = H.given hub.old; sunk = O.sunk out.old })
         (record { marks = H.marks hub.new; starts = H.starts hub.new; calls = H.calls hub.new; given = H.given hub.new; sunk = O.sunk out.new })) }
-    ensures notes { IfOk result (λ stopped. NotesNews stopped session.old session.new
+    ensures notes { IfOk result (λ written. NotesNews written session.old session.new
         (record { marks = H.marks hub.old; starts = H.starts hub.old; calls = H.calls hub.old; given = H.given hub.old; sunk = O.sunk out.old })
         (record { marks = H.marks hub.new; starts = H.starts hub.new; calls = H.calls hub.new; given = H.given hub.new; sunk = O.sunk out.new })
         (W.seen witness.old) (W.seen witness.new)) }
@@ -142,13 +143,17 @@ pub(crate) fn take_news<R: Wait, M: Mode, H: Hub, O: Sink, W: Witness<H, O>>(
     ensures slots { H.slots hub.new ≡ H.slots hub.old }
     ensures made { H.made hub.new ≡ H.made hub.old }
     ensures later { O.faults out.old ≤ O.faults out.new }
-    ensures counted { IfOk result (λ stopped. Counted (is_none stopped) (O.faults out.old) (O.faults out.new)) }
+    ensures counted { IfOk result (λ written. Counted (is_whole written) (O.faults out.old) (O.faults out.new)) }
 {
     let news = hub.next(rt, alloc)?;
     if !session.is_active(news.worker) {
-        return Ok(None);
+        return Ok(Written::Whole);
     }
-    let before = entry_count(session.journal());
+    let performed = entry_count(session.journal());
     let shown = tell_news(alloc, session, reporter, news, hub, out, witness)?;
-    if shown { Ok(None) } else { Ok(Some(before)) }
+    if shown {
+        Ok(Written::Whole)
+    } else {
+        Ok(Written::Broken { performed })
+    }
 }

@@ -1,5 +1,5 @@
 // The loop that runs a session over a hub.
-ghost use Rattle.std.specs.Prelude.{◌≡◌, ◌≤◌, ◌-◌, ℕ, List, [], length, true, false, Ok, None, IfOk, IfSome, OnOk, is_none};
+ghost use Rattle.std.specs.Prelude.{◌≡◌, ◌≤◌, ◌-◌, ℕ, List, [], length, true, false, Ok, IfOk, IfSome, OnOk};
 ghost use Rattle.xd_edge.specs.Faults.{Counted, Rose};
 ghost use Rattle.xd_journal.specs.declared.news.News.{News};
 ghost use Rattle.xd_ledger.specs.Ending.{stop_of};
@@ -9,12 +9,13 @@ ghost use Rattle.xd_session.specs.Stands.{StandsFor};
 ghost use Rattle.xd_drive.specs.Driven.{Broken, IsJournalOf, Whole};
 ghost use Rattle.xd_drive.specs.Going.{EndsRun, EndsTail, IsFresh};
 ghost use Rattle.xd_drive.specs.Moments.{ToldInOrder, performed_of};
+ghost use Rattle.xd_drive.specs.Written.{is_whole};
 
-use crate::Hub;
 use crate::moment::Witness;
 use crate::news::{entry_count, take_news};
 use crate::perform::{kill_started, perform};
 use crate::printing::{print_end, reporter_of};
+use crate::{Hub, Written};
 use std::alloc::Global;
 use std::sync::Wait;
 use xd_edge::{OutOfMemory, Sink};
@@ -22,26 +23,22 @@ use xd_journal::Journal;
 use xd_ledger::Mode;
 use xd_session::Session;
 
-// Prints the tail and closes the output. Where it failed, how many entries had been performed.
-fn finish<O: Sink>(
-    alloc: Global,
-    journal: &Journal,
-    out: &mut O,
-) -> Result<Option<usize>, OutOfMemory>
-    ensures ends { IfOk result (λ stopped. EndsTail stopped journal.now (O.sunk out.old) (O.sunk out.new)) }
+// Prints the tail of a journal that was performed, and closes the output.
+fn finish<O: Sink>(alloc: Global, journal: &Journal, out: &mut O) -> Result<Written, OutOfMemory>
+    ensures ends { IfOk result (λ written. EndsTail written journal.now (O.sunk out.old) (O.sunk out.new)) }
     ensures later { O.faults out.old ≤ O.faults out.new }
-    ensures counted { IfOk result (λ stopped. Counted (is_none stopped) (O.faults out.old) (O.faults out.new)) }
+    ensures counted { IfOk result (λ written. Counted (is_whole written) (O.faults out.old) (O.faults out.new)) }
 {
     let shown = print_end(alloc, journal, out)?;
     if shown {
-        Ok(None)
+        Ok(Written::Whole)
     } else {
-        Ok(Some(entry_count(journal)))
+        let performed = entry_count(journal);
+        Ok(Written::Broken { performed })
     }
 }
 
-// Performs the first starts, takes news until the run is over, and prints the tail. Where the output failed, how many
-// entries had been performed.
+// Performs the first starts, takes news until the run is over or the output fails, and prints the tail.
 fn run<R: Wait, M: Mode, H: Hub, O: Sink, W: Witness<H, O>>(
     rt: &R,
     alloc: Global,
@@ -49,33 +46,33 @@ fn run<R: Wait, M: Mode, H: Hub, O: Sink, W: Witness<H, O>>(
     hub: &mut H,
     out: &mut O,
     witness: &mut W,
-) -> Result<Option<usize>, OutOfMemory>
+) -> Result<Written, OutOfMemory>
     requires proper { IsProper session.old.settings [] }
     requires begins { StandsFor [] session.old }
     requires slots { session.old.settings.workers ≤ H.slots hub.old }
     requires fresh { IsFresh (H.marks hub.old) }
-    ensures ends { IfOk result (λ stopped. EndsRun stopped session.new
+    ensures ends { IfOk result (λ written. EndsRun written session.new
         (record { marks = H.marks hub.old; starts = H.starts hub.old; calls = H.calls hub.old; given = H.given hub.old; sunk = O.sunk out.old })
         (record { marks = H.marks hub.new; starts = H.starts hub.new; calls = H.calls hub.new; given = H.given hub.new; sunk = O.sunk out.new })) }
-    ensures in_order { IfOk result (λ stopped. ToldInOrder session.new.settings (performed_of stopped session.new.entries) session.new.entries
+    ensures in_order { IfOk result (λ written. ToldInOrder session.new.settings (performed_of written session.new.entries) session.new.entries
         (record { marks = H.marks hub.old; starts = H.starts hub.old; calls = H.calls hub.old; given = H.given hub.old; sunk = O.sunk out.old })
         (W.seen witness.new)) }
     ensures settings { OnOk result (session.new.settings ≡ session.old.settings) }
     ensures made { H.made hub.new ≡ H.made hub.old }
     ensures later { O.faults out.old ≤ O.faults out.new }
-    ensures counted { IfOk result (λ stopped. Counted (is_none stopped) (O.faults out.old) (O.faults out.new)) }
+    ensures counted { IfOk result (λ written. Counted (is_whole written) (O.faults out.old) (O.faults out.new)) }
 {
     witness.look(hub, out);
     perform(alloc, hub, &session.journal().entries)?;
     let mut reporter = reporter_of(alloc, session.journal())?;
     for _ in rt.forever() {
         if session.over() {
-            let stopped = finish(alloc, session.journal(), out)?;
-            return Ok(stopped);
+            let written = finish(alloc, session.journal(), out)?;
+            return Ok(written);
         }
-        let stopped = take_news(rt, alloc, session, &mut reporter, hub, out, witness)?;
-        if let Some(count) = stopped {
-            return Ok(Some(count));
+        let written = take_news(rt, alloc, session, &mut reporter, hub, out, witness)?;
+        if let Written::Broken { performed } = written {
+            return Ok(Written::Broken { performed });
         }
     }
     unreachable!()
@@ -128,8 +125,8 @@ pub fn drive<R: Wait, M: Mode, H: Hub, O: Sink, W: Witness<H, O>>(
     ensures later { O.faults out.old ≤ O.faults out.new }
     ensures made { H.made hub.new ≡ H.made hub.old }
 {
-    let stopped = run(rt, alloc, &mut session, hub, out, witness)?;
-    let Some(done) = stopped else {
+    let written = run(rt, alloc, &mut session, hub, out, witness)?;
+    let Written::Broken { performed } = written else {
         let journal = session.close(false)?;
         return Ok(journal);
     };
@@ -137,8 +134,8 @@ pub fn drive<R: Wait, M: Mode, H: Hub, O: Sink, W: Witness<H, O>>(
     kill_started(
         alloc,
         hub,
-        &journal.entries[..done],
-        &journal.entries[done..],
+        &journal.entries[..performed],
+        &journal.entries[performed..],
     )?;
     Ok(journal)
 }

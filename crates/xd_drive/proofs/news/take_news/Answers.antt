@@ -35,7 +35,7 @@ returns-else-shown-clause-takes g c =
     untold c.args.session.now c.requires.proper c.in_ok-news.news _ (record { marks = g.H.Hub.marks c.next.new.self; starts = g.H.Hub.starts c.next.new.self; calls = g.H.Hub.calls c.next.new.self; given = g.H.Hub.given c.next.new.self; sunk = g.O.Sink.sunk c.args.out.now })
     c.in_ok-news.ensures.given c.in_ok-news.ensures.marks c.in_ok-news.ensures.starts c.in_ok-news.ensures.calls refl
     c.requires.agrees c.in_ok-news.ensures.started (g.H.Hub.slots c.args.hub.now) c.requires.slots (sym c.is_active.ensures ∙ c.if-not-is_active.false)
-    c.tell_news.new.session c.in_ok-shown.ensures.stands c.tell_news.ensures.settings _ c.requires.stands.0 c.requires.stands.1 c.entry_count-before.result (c.entry_count-before.ensures ∙ ap length c.journal.ensures.entries)
+    c.tell_news.new.session c.in_ok-shown.ensures.stands c.tell_news.ensures.settings _ c.requires.stands.0 c.requires.stands.1 c.entry_count-performed.result (c.entry_count-performed.ensures ∙ ap length c.journal.ensures.entries)
     (subst (λ (b : Bool). TellsEntries b (added_by c.args.session.now.settings c.requires.stands.0 c.in_ok-news.news) (lines_from (all_moved (no_one c.args.session.now.settings) c.args.session.now.entries) (added_by c.args.session.now.settings c.requires.stands.0 c.in_ok-news.news)) (record { marks = g.H.Hub.marks c.next.new.self; starts = g.H.Hub.starts c.next.new.self; calls = g.H.Hub.calls c.next.new.self; given = g.H.Hub.given c.next.new.self; sunk = g.O.Sink.sunk c.args.out.now })
     (record { marks = g.H.Hub.marks c.tell_news.new.hub; starts = g.H.Hub.starts c.tell_news.new.hub; calls = g.H.Hub.calls c.tell_news.new.hub; given = g.H.Hub.given c.tell_news.new.hub; sunk = g.O.Sink.sunk c.tell_news.new.out })) c.if-shown.false (c.in_ok-shown.ensures.tells c.requires.stands.0 c.requires.stands.1))
 

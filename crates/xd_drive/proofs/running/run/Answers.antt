@@ -1,10 +1,10 @@
 use Rattle.std.proofs.Common.{◌++◌, ◌∷◌, [], refl, sym, ◌∙◌, ap, subst}
-use Rattle.std.specs.Prelude.{is_none}
 use Rattle.xd_journal.specs.declared.settings.Settings.{Settings}
 use Rattle.xd_ledger.specs.Proper.{IsProper}
+use Rattle.xd_drive.specs.Written.{is_whole}
 use Rattle.xd_drive.proofs.Follow.{follows-same}
 use Rattle.xd_drive.proofs.InOrder.{order-first, order-next, order-over, order-stops}
-use Rattle.xd_drive.proofs.Loop.{begins, first-possible, going-next, none-of, over-ends, someone-first, someone-still, stop-by, takes-none}
+use Rattle.xd_drive.proofs.Loop.{begins, first-possible, going-next, over-ends, someone-first, someone-still, stop-by, takes-whole, whole-of}
 use Rattle.xd_drive.proofs.running.run.Goals as goal
 
 pub perform-requires : goal.perform-requires
@@ -30,34 +30,34 @@ loop-init g c =
 pub returns-then-over-clause-ends : goal.returns-then-over-clause-ends
 returns-then-over-clause-ends g c =
     over-ends c.loop.invariant.going.0 c.loop.session _ _ _ c.loop.invariant.going.1 refl refl refl (λ w. refl) c.journal-then-over.result.now c.journal-then-over.ensures.settings c.journal-then-over.ensures.entries
-    (sym c.over.ensures ∙ c.if-over.true) (subst (λ (x : Settings). IsProper x []) (sym c.loop.invariant.settings) c.requires.proper) c.in_ok-stopped.stopped c.in_ok-stopped.ensures.ends
+    (sym c.over.ensures ∙ c.if-over.true) (subst (λ (x : Settings). IsProper x []) (sym c.loop.invariant.settings) c.requires.proper) c.in_ok-written.written c.in_ok-written.ensures.ends
 
-pub returns-in-Some-stopped-clause-ends : goal.returns-in-Some-stopped-clause-ends
-returns-in-Some-stopped-clause-ends g c =
-    let t = c.in_ok-stopped-2.ensures.takes in
+pub returns-in-Broken-clause-ends : goal.returns-in-Broken-clause-ends
+returns-in-Broken-clause-ends g c =
+    let t = c.in_ok-written-2.ensures.takes in
     stop-by c.loop.invariant.going.0 t.0 c.loop.session _ _ _ _ c.loop.invariant.going.1
-    (subst (λ (x : Settings). IsProper x []) (sym c.loop.invariant.settings) c.requires.proper) c.in_ok-stopped-2.stopped c.in-Some-stopped.count c.in-Some-stopped.is t.1
+    (subst (λ (x : Settings). IsProper x []) (sym c.loop.invariant.settings) c.requires.proper) c.in_ok-written-2.written c.in-Broken.performed c.in-Broken.is t.1
 
 pub returns-then-over-clause-in_order : goal.returns-then-over-clause-in_order
 returns-then-over-clause-in_order g c =
-    order-over c.in_ok-stopped.stopped c.loop.session c.journal-then-over.result.now _ _ _ _ c.journal-then-over.ensures.entries c.in_ok-stopped.ensures.ends c.loop.invariant.in_order
+    order-over c.in_ok-written.written c.loop.session c.journal-then-over.result.now _ _ _ _ c.journal-then-over.ensures.entries c.in_ok-written.ensures.ends c.loop.invariant.in_order
 
-pub returns-in-Some-stopped-clause-in_order : goal.returns-in-Some-stopped-clause-in_order
-returns-in-Some-stopped-clause-in_order g c =
-    let t = c.in_ok-stopped-2.ensures.takes in
-    order-stops t.0 c.loop.session _ _ _ _ _ _ c.in_ok-stopped-2.stopped c.in-Some-stopped.count c.in-Some-stopped.is t.1 c.in_ok-stopped-2.ensures.notes c.loop.invariant.in_order
+pub returns-in-Broken-clause-in_order : goal.returns-in-Broken-clause-in_order
+returns-in-Broken-clause-in_order g c =
+    let t = c.in_ok-written-2.ensures.takes in
+    order-stops t.0 c.loop.session _ _ _ _ _ _ c.in_ok-written-2.written c.in-Broken.performed c.in-Broken.is t.1 c.in_ok-written-2.ensures.notes c.loop.invariant.in_order
 
 pub loop-preserved : goal.loop-preserved
 loop-preserved g c =
-    let t = c.in_ok-stopped-2.ensures.takes in
-    let none = takes-none t.0 c.loop.session _ _ _ c.in_ok-stopped-2.stopped c.in_default.not-Some t.1 in
+    let t = c.in_ok-written-2.ensures.takes in
+    let none = takes-whole t.0 c.loop.session _ _ _ c.in_ok-written-2.written c.in_default.not-Broken t.1 in
     record {
       going = (c.loop.invariant.going.0 ++ t.0 ∷ [], going-next c.loop.invariant.going.0 t.0 c.loop.session _ _ _ _ c.loop.invariant.going.1 none);
-      in_order = order-next c.loop.invariant.going.0 t.0 c.loop.session _ _ _ _ _ _ c.in_ok-stopped-2.stopped c.in_default.not-Some c.loop.invariant.going.1 t.1 c.in_ok-stopped-2.ensures.notes c.loop.invariant.in_order;
-      reports = c.in_ok-stopped-2.ensures.follows;
+      in_order = order-next c.loop.invariant.going.0 t.0 c.loop.session _ _ _ _ _ _ c.in_ok-written-2.written c.in_default.not-Broken c.loop.invariant.going.1 t.1 c.in_ok-written-2.ensures.notes c.loop.invariant.in_order;
+      reports = c.in_ok-written-2.ensures.follows;
       settings = none.settings ∙ c.loop.invariant.settings;
       slots = c.take_news.ensures.slots ∙ c.loop.invariant.slots;
       made = c.take_news.ensures.made ∙ c.loop.invariant.made;
       someone = someone-still t.0 c.loop.session _ _ _ none c.loop.invariant.someone;
-      still = c.in_ok-stopped-2.ensures.counted.still (ap is_none (none-of c.in_ok-stopped-2.stopped c.in_default.not-Some)) ∙ c.loop.invariant.still;
+      still = c.in_ok-written-2.ensures.counted.still (ap is_whole (whole-of c.in_ok-written-2.written c.in_default.not-Broken)) ∙ c.loop.invariant.still;
     }
