@@ -1,0 +1,105 @@
+-- Lists of the numbers below some number, each in one of them at most, kept by their neighbours: for each place the one
+-- behind it and the one before it. The places are the numbers, and behind them an end for each list, which stands before
+-- its first number and behind its last.
+use Rattle.std.specs.Prelude.{◌≡◌, ℕ, zero, suc, ◌+◌, ◌==◌, ◌≤◌, ◌<◌, Bool, true, false, List, [], ◌∷◌, ◌++◌, take, drop, length, get_or, Option, Some, None, if◌then◌else◌}
+use Rattle.xd_ledger.specs.Numbers.{times, without}
+
+abbrev pub at : List ℕ → ℕ → ℕ
+at xs i = get_or xs i 0
+
+-- the owner of a number that stands in no list
+abbrev pub no_chain : ℕ
+no_chain = 4294967295
+
+abbrev pub owner_of : List ℕ → ℕ → ℕ
+owner_of owner x = get_or owner x no_chain
+
+-- so many numbers, from this one on
+abbrev pub walk : List ℕ → ℕ → ℕ → List ℕ
+walk next i zero = []
+walk next i (suc n) = i ∷ walk next (at next i) n
+
+-- what stands in a chain
+abbrev pub chain : List ℕ → List ℕ → List ℕ → ℕ → List ℕ
+chain next owner counts k = walk next (at next (length owner + k)) (at counts k)
+
+-- what is kept of the chains beside the way back
+pub record Lists : Type 0 where
+  pub next : List ℕ
+  pub owner : List ℕ
+  pub counts : List ℕ
+
+-- what stands in chain k
+abbrev pub chain_at : Lists → ℕ → List ℕ
+chain_at l k = chain l.next l.owner l.counts k
+
+-- the number stands in none
+abbrev pub is_free : ℕ → Lists → Bool
+is_free x l = owner_of l.owner x == no_chain
+
+-- how many numbers there are
+abbrev pub items_of : Lists → ℕ
+items_of l = length l.owner
+
+-- how many chains there are
+abbrev pub chains_of : Lists → ℕ
+chains_of l = length l.counts
+
+-- the lists behind a change of one
+abbrev pub changed : ℕ → List ℕ → (ℕ → List ℕ) → ℕ → List ℕ
+changed k xs lists j = if k == j then xs else lists j
+
+-- from the place `u` on the numbers follow one another up to the end
+abbrev pub Nexts : List ℕ → ℕ → List ℕ → ℕ → Type 0
+Nexts next u [] end = at next u ≡ end
+Nexts next u (x ∷ xs) end = (at next u ≡ x) × Nexts next x xs end
+
+abbrev pub Backs : List ℕ → ℕ → List ℕ → ℕ → Type 0
+Backs previous u [] end = at previous end ≡ u
+Backs previous u (x ∷ xs) end = (at previous x ≡ u) × Backs previous x xs end
+
+-- the numbers of chain k are linked through its end, and owned by it
+pub record Stands (next previous owner : List ℕ) (end k count : ℕ) (xs : List ℕ) : Type 0 where
+  pub nexts : Nexts next end xs end
+  pub backs : Backs previous end xs end
+  pub owns : (x : ℕ) → times x xs ≡ (if owner_of owner x == k then 1 else 0)
+  pub counted : length xs ≡ count
+
+pub record AreChains (next previous owner counts : List ℕ) (lists : ℕ → List ℕ) : Type 0 where
+  pub nexts_fit : length next ≡ length owner + length counts
+  pub backs_fit : length previous ≡ length owner + length counts
+  pub few : length owner ≤ 1600000
+  pub few_chains : length counts ≤ 4000000000
+  pub owned : (x : ℕ) → (owner_of owner x == no_chain) ≡ false → owner_of owner x < length counts
+  pub stands : (k : ℕ) → k < length counts → Stands next previous owner (length owner + k) k (at counts k) (lists k)
+
+-- the numbers go from one list to the end of another
+abbrev pub shifted : ℕ → ℕ → List ℕ → (ℕ → List ℕ) → ℕ → List ℕ
+shifted from to items lists = changed to (lists to ++ items) (changed from (without items (lists from)) lists)
+
+-- the first so many numbers of the one do
+abbrev pub poured : ℕ → ℕ → ℕ → (ℕ → List ℕ) → ℕ → List ℕ
+poured n from to lists = changed to (lists to ++ take n (lists from)) (changed from (drop n (lists from)) lists)
+
+-- the last, where there is one
+abbrev pub final_of : List ℕ → Option ℕ
+final_of [] = None
+final_of (x ∷ []) = Some x
+final_of (x ∷ y ∷ xs) = final_of (y ∷ xs)
+
+-- the part of the list ahead of the number, and the part behind it
+abbrev pub ahead : ℕ → List ℕ → List ℕ
+ahead x [] = []
+ahead x (y ∷ ys) = if x == y then [] else y ∷ ahead x ys
+
+abbrev pub behind : ℕ → List ℕ → List ℕ
+behind x [] = []
+behind x (y ∷ ys) = if x == y then ys else behind x ys
+
+abbrev pub first_or : ℕ → List ℕ → ℕ
+first_or other [] = other
+first_or other (x ∷ xs) = x
+
+abbrev pub last_or : ℕ → List ℕ → ℕ
+last_or other [] = other
+last_or other (x ∷ xs) = last_or x xs
