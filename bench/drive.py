@@ -29,7 +29,7 @@ use std::alloc::Global;
 use std::collections::VecDeque;
 use std::time::Instant;
 use std::{env, fs, io};
-use xd_drive::{ListedHub, drive};
+use xd_drive::{ListedHub, NoWitness, drive};
 use xd_edge::{Failed, Indices, ModeKind, OutOfMemory, Sink, Text, Texts};
 use xd_journal::{News, Outcome, Settings, What};
 use xd_load::Load;
@@ -138,7 +138,7 @@ fn main(rt: HostRuntime) -> io::Result<()> {
         let mut hub = ListedHub::new(alloc, news, nobody);
         let mut out = Dropping { bytes: 0 };
         let begun = Instant::now(&rt)?;
-        let driven = drive(&rt, alloc, session, &mut hub, &mut out);
+        let driven = drive(&rt, alloc, session, &mut hub, &mut out, &mut NoWitness);
         let took = begun.elapsed(&rt)?.as_micros();
         if let Ok(journal) = driven {
             println!(rt; "took {took} {} {}", journal.entries.len(), out.bytes)?;
@@ -206,7 +206,7 @@ def measure(_):
     few, many = SIZES
     rows = []
     with tempfile.TemporaryDirectory() as folder:
-        crates = " may_wait=1: xd_drive xd_session xd_report_laws xd_laws xd_report xd_load xd_ledger xd_journal xd_edge"
+        crates = " may_wait=1: xd_drive xd_session xd_report_laws xd_laws xd_report xd_load xd_ledger xd_note xd_journal xd_edge"
         source = PROGRAM.replace("WORKERS", str(WORKERS))
         program = shared.build(folder, "drive_bench", source, crates, {"begun": ANSWERS})
         best = {}
