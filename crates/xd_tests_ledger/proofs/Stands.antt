@@ -14,6 +14,7 @@ pub pool_stands : (x : ℕ) (pool others : List ℕ) → among x pool ≡ true �
 pool_stands x pool others h = grind (arith, nat_tests, append x pool others)
 
 in-seats : (x w : ℕ) (ss : List Seat) → among x (held_in w ss) ≡ true → among x (held_by_all ss) ≡ true
+in-seats x w [] h = cc
 in-seats x w (s ∷ ss) h = grind (arith, nat_tests, in-seats x w ss, append x s.held (held_by_all ss))
 
 pub held_stands : (x w : ℕ) (t : Table) → among x (held w t) ≡ true → among x (t.pool ++ held_by_all t.rota) ≡ true
