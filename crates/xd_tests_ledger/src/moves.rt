@@ -7,7 +7,9 @@ use xd_ledger::{Death, Ledger, Seat};
 
 // So many runs, each of so many moves and with so few items that each list is empty at times.
 const RUNS: u32 = 200;
+
 const MOVES: u32 = 50;
+
 const ITEMS: u32 = 12;
 
 // A ledger, and what stands where as plain lists.
@@ -230,9 +232,7 @@ fn make_move(rt: &impl Abort, alloc: Global, run: &mut Run, state: &mut u32) -> 
 // The item is in the pool, between these.
 #[tactic(auto, using(crate::proofs::Stands::pool_stands))]
 fn is_in_pool(ledger: &Ledger, item: u32, ahead: Option<u32>, behind: Option<u32>) -> bool {
-    ledger.in_pool(item)
-        && ledger.previous_item(item) == ahead
-        && ledger.next_item(item) == behind
+    ledger.in_pool(item) && ledger.previous_item(item) == ahead && ledger.next_item(item) == behind
 }
 
 // The worker of the rota holds the item, between these.
