@@ -1,3 +1,4 @@
+use std::alloc::Global;
 use std::test::Fail;
 use xd_ledger::{Death, Ledger};
 
@@ -88,5 +89,48 @@ fn a_ledger_is_filled_behind_the_first_workers(rt: HostRuntime) -> Result<(), Fa
         ledger.assign_front(alloc, 3, 2)?.items.as_slice(),
         [0, 1].as_slice()
     );
+    Ok(())
+}
+
+// The items of the pool, by their neighbours.
+#[tactic(auto, using(crate::proofs::Stands::pool_stands))]
+fn pool_of(alloc: Global, ledger: &Ledger) -> Result<Vec<u32>, Fail> {
+    let mut items = Vec::new(alloc);
+    let mut next = ledger.first_pool();
+    for _ in 0..ledger.pool_len() {
+        if let Some(item) = next
+            && ledger.in_pool(item)
+        {
+            items.push(item)?;
+            next = ledger.next_item(item);
+        }
+    }
+    Ok(items)
+}
+
+#[test]
+fn a_neighbour_is_one_of_the_same_list(rt: HostRuntime) -> Result<(), Fail> {
+    let alloc = rt.alloc();
+    let mut ledger = Ledger::new(alloc, 4)?;
+    ledger.join(alloc, 0)?;
+    assert_eq!(rt;
+        ledger.assign_front(alloc, 0, 3)?.items.as_slice(),
+        [0, 1, 2].as_slice()
+    );
+    assert_eq!(rt;
+        (ledger.last_held(0), ledger.previous_item(2)),
+        (Some(2), Some(1))
+    );
+    ledger.give_back(0, &[2])?;
+    assert_eq!(rt; pool_of(alloc, &ledger)?.as_slice(), [3, 2].as_slice());
+    ledger.complete(0, 0);
+    assert_eq!(rt;
+        ledger.die(alloc, 0)?,
+        Death {
+            head: Some(1),
+            rest: 0
+        }
+    );
+    assert_eq!(rt; pool_of(alloc, &ledger)?.as_slice(), [3, 2].as_slice());
     Ok(())
 }

@@ -7,3 +7,5 @@ mod journal;
 mod ledger;
 #[cfg(test)]
 mod load;
+#[cfg(test)]
+mod moves;
