@@ -47,6 +47,12 @@ def lives(one):
     return now is not None and now.start == one.start and now.state != ENDED
 
 
+def is_kept(one):
+    """Whether the system keeps the number of this very process, as it does until somebody waited for the end of all of it."""
+    now = process(one.pid)
+    return now is not None and now.start == one.start
+
+
 def threads(pid):
     """How many threads a process has."""
     return len(os.listdir(f"/proc/{pid}/task"))

@@ -1,7 +1,7 @@
 -- What is asked of the children of links.
 use Rattle.std.proofs.Common.{◌≡◌, ℕ, zero, suc, ◌+◌, ◌≤◌, List, [], ◌∷◌, ◌++◌, map, length, Bool, true, false, Option, Some, None, option_map, refl, sym, ◌∙◌, ap, subst, arith, append_assoc, append-nil, length-append}
 use Rattle.std.specs.List.{list_all}
-use Rattle.std.specs.Prelude.{◌&&◌, take, filter, is_none, slice_get, slice_set}
+use Rattle.std.specs.Prelude.{◌&&◌, ◌||◌, not, take, filter, is_none, slice_get, slice_set}
 use Rattle.std.proofs.Math.ListN.{set}
 use Rattle.std.proofs.lemmas.List.{map-append}
 use Rattle.std.proofs.lemmas.List.Elements.{filter-append}
@@ -10,7 +10,7 @@ use Rattle.xd_link.specs.Starter.{Begun, IsNextLink, as_killed, as_reaped, fresh
 use Rattle.xd_link.specs.declared.place.Place.{Place}
 use Rattle.xd_link.specs.declared.starter.LinkRun.{LinkRun}
 use Rattle.xd_link.specs.declared.starter.Reaped.TheVariants.{Never}
-use Rattle.xd_group.specs.Children.{AreNumbered, Asked, TellsLinks, all_asked, asked, asked_of, changed_at, failed_starts, fresh_child, is_over, killed_child, reaped_child, starts_told}
+use Rattle.xd_group.specs.Children.{AreNumbered, Asked, TellsLinks, all_asked, asked, asked_of, all_buried, buried_child, changed_at, is_buried, failed_starts, fresh_child, is_over, killed_child, reaped_child, starts_told}
 use Rattle.xd_group.specs.declared.child.Child.{Child}
 
 -- ---- one more child
@@ -247,3 +247,66 @@ over_all cs n e h = ap (list_all is_over) (sym (whole cs n e)) ∙ h
     whole [] (suc n) e = refl
     whole (o ∷ cs) zero e = absurd (omega (arith, e))
     whole (o ∷ cs) (suc n) e = ap (λ (l : List (Option Child)). o ∷ l) (whole cs n (omega (arith, e)))
+
+-- ---- children that were killed
+
+not_or : (a b : Bool) → (not a || (b || a)) ≡ true
+not_or true true = refl
+not_or true false = refl
+not_or false b = refl
+
+pub buried_all : (cs : List (Option Child)) → list_all is_buried (all_buried cs) ≡ true
+buried_all [] = refl
+buried_all (None ∷ cs) = buried_all cs
+buried_all (Some c ∷ cs) = and_true (not c.is_killed || (c.is_reaped || c.is_killed)) (list_all is_buried (all_buried cs)) (not_or c.is_killed c.is_reaped) (buried_all cs)
+
+or_first : (a b : Bool) → b ≡ true → (a || b) ≡ true
+or_first true b h = refl
+or_first false b h = h
+
+or_same : (a b : Bool) → b ≡ false → (a || b) ≡ a
+or_same true b h = refl
+or_same false b h = h
+
+pub not_true : (b : Bool) → not b ≡ true → b ≡ false
+not_true true h = absurd (cc h)
+not_true false h = refl
+
+pub not_false : (b : Bool) → not b ≡ false → b ≡ true
+not_false true h = refl
+not_false false h = absurd (cc h)
+
+-- a child that was killed is waited for
+pub buried_killed : (cs : List (Option Child)) (k : ℕ) (c : Child) → slice_get cs k ≡ Some (Some c) → c.is_killed ≡ true → changed_at k reaped_child cs ≡ changed_at k buried_child cs
+buried_killed [] k c e h = refl
+buried_killed (None ∷ cs) zero c e h = refl
+buried_killed (Some d ∷ cs) zero c e h = let same : d ≡ c = cc e in let it : d.is_killed ≡ true = ap (λ (x : Child). x.is_killed) same ∙ h in ap (λ (b : Bool). Some (as_child d.link d.is_killed b) ∷ cs) (sym (or_first d.is_reaped d.is_killed it))
+buried_killed (o ∷ cs) (suc k) c e h = ap (λ (l : List (Option Child)). o ∷ l) (buried_killed cs k c e h)
+
+-- one that was not is left
+pub buried_other : (cs : List (Option Child)) (k : ℕ) (c : Child) → slice_get cs k ≡ Some (Some c) → c.is_killed ≡ false → cs ≡ changed_at k buried_child cs
+buried_other cs k c e h = unchanged cs k c buried_child e (ap (λ (b : Bool). as_child c.link c.is_killed b) (or_same c.is_reaped c.is_killed h))
+
+-- the first children are buried
+abbrev pub buried_to : ℕ → List (Option Child) → List (Option Child)
+buried_to zero cs = cs
+buried_to (suc n) [] = []
+buried_to (suc n) (o ∷ cs) = option_map buried_child o ∷ buried_to n cs
+
+pub buried_next : (n j : ℕ) (cs now next : List (Option Child)) → j ≡ suc n → next ≡ changed_at n buried_child now → now ≡ buried_to n cs → next ≡ buried_to j cs
+buried_next n j cs now next is a b = a ∙ (ap (changed_at n buried_child) b ∙ (one n cs ∙ ap (λ (m : ℕ). buried_to m cs) (sym is)))
+  where
+    one : (n : ℕ) (cs : List (Option Child)) → changed_at n buried_child (buried_to n cs) ≡ buried_to (suc n) cs
+    one zero [] = refl
+    one zero (o ∷ cs) = refl
+    one (suc n) [] = refl
+    one (suc n) (o ∷ cs) = ap (λ (l : List (Option Child)). option_map buried_child o ∷ l) (one n cs)
+
+pub buried_done : (n : ℕ) (cs now : List (Option Child)) → length cs ≤ n → now ≡ buried_to n cs → now ≡ all_buried cs
+buried_done n cs now h e = e ∙ whole n cs h
+  where
+    whole : (n : ℕ) (cs : List (Option Child)) → length cs ≤ n → buried_to n cs ≡ all_buried cs
+    whole zero [] h = refl
+    whole zero (o ∷ cs) h = absurd (omega (arith, h))
+    whole (suc n) [] h = refl
+    whole (suc n) (o ∷ cs) h = ap (λ (l : List (Option Child)). option_map buried_child o ∷ l) (whole n cs (omega (arith, h)))

@@ -1,10 +1,11 @@
 -- Workers by what became of their starts.
-use Rattle.std.proofs.Common.{◌≡◌, ℕ, zero, suc, List, [], ◌∷◌, ◌++◌, map, take, length, Bool, true, false, Option, Some, None, refl, sym, ◌∙◌, ap, arith, append-nil}
+use Rattle.std.proofs.Common.{◌≡◌, ◌≤◌, ◌<◌, ℕ, zero, suc, List, [], ◌∷◌, ◌++◌, map, take, length, Bool, true, false, Option, Some, None, refl, sym, ◌∙◌, ap, ◌+◌, arith, append-nil}
 use Rattle.std.specs.Prelude.{◌==◌, ◌||◌, if◌then◌else◌, is_some, slice_get, option_map}
 use Rattle.std.proofs.lemmas.Bool.Decides.{nat_tests}
+use Rattle.std.proofs.lemmas.List.{map-append}
 use Rattle.xd_drive.specs.Listed.{is_among}
 use Rattle.xd_group.specs.Children.{Asked, all_asked, asked, changed_at, failed_starts, reaped_child}
-use Rattle.xd_group.specs.Fates.{has_link, is_unlinked, workers_with}
+use Rattle.xd_group.specs.Fates.{KeptFrom, has_link, is_refused, is_unlinked, workers_with}
 use Rattle.xd_group.specs.Few.{count_with}
 use Rattle.xd_group.specs.Returned.{end_told}
 use Rattle.xd_group.specs.declared.child.Child.{Child}
@@ -213,3 +214,20 @@ worker_there (w ∷ ws) (g ∷ fs) (suc k) f e b = worker_there ws fs k f (omega
 
 pub with_all : (which : Fate → Bool) (ws : List ℕ) (fs : List Fate) (n : ℕ) → n ≡ length ws → length fs ≡ length ws → workers_with which (take n ws) (take n fs) ≡ workers_with which ws fs
 with_all which ws fs n e m = ap (λ (l : List ℕ). workers_with which l (take n fs)) (take_all ws n e) ∙ ap (workers_with which ws) (take_all fs n (e ∙ sym m))
+
+-- ---- links that are kept
+
+pub spared_more : (spares next : List Bool) (fates fs : List Fate) (f : Fate) → next ≡ spares ++ is_refused f ∷ [] → fs ≡ fates ++ f ∷ [] → spares ≡ map is_refused fates → next ≡ map is_refused fs
+spared_more spares next fates fs f is fis e = is ∙ (ap (λ (l : List Bool). l ++ is_refused f ∷ []) e ∙ (sym (map-append is_refused fates (f ∷ [])) ∙ sym (ap (map is_refused) fis)))
+
+pub spared_from : (spares : List Bool) (fates : List Fate) → spares ≡ map is_refused fates → KeptFrom 0 spares fates
+spared_from spares fates e k h f = ap (λ (l : List Bool). slice_get l k) e ∙ at fates k f
+  where
+    at : (fs : List Fate) (k : ℕ) → slice_get fs k ≡ Some fate.Refused → slice_get (map is_refused fs) k ≡ Some true
+    at [] k f = absurd (cc f)
+    at (g ∷ fs) zero f = let same : g ≡ fate.Refused = cc f in ap (λ (x : Fate). Some (is_refused x)) same
+    at (g ∷ fs) (suc k) f = at fs k f
+
+-- one number further
+pub spared_past : (n : ℕ) (spares next : List Bool) (fates : List Fate) → ((k : ℕ) → n < k → slice_get spares k ≡ Some true → slice_get next k ≡ Some true) → KeptFrom n spares fates → KeptFrom (n + 1) next fates
+spared_past n spares next fates others kept k h f = others k (omega (arith, h)) (kept k (omega (arith, h)) f)

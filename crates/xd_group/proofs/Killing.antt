@@ -11,7 +11,7 @@ use Rattle.xd_drive.specs.Calls.{is_order}
 use Rattle.xd_drive.specs.Listed.{is_among, is_kill_of, was_killed}
 use Rattle.xd_drive.specs.Performing.{was_started}
 use Rattle.xd_links.proofs.Places.{push_read}
-use Rattle.xd_group.specs.Children.{changed_at, cut_by, fresh_child, killed_child, reaped_child}
+use Rattle.xd_group.specs.Children.{all_buried, buried_child, changed_at, cut_by, fresh_child, killed_child, reaped_child}
 use Rattle.xd_group.specs.Fates.{has_link, is_refused, workers_with}
 use Rattle.xd_group.specs.Kills.{EndKilledSo, KeepsLost, KilledSo, LostAt}
 use Rattle.xd_group.specs.declared.child.Child.{Child}
@@ -315,3 +315,18 @@ end_killed cs calls workers fates lost k w c f killed writes wi is link ci same 
 pub fresh_unkilled : {O : Type 0} (r : Option O) (link : ℕ) → IfSome (option_map (λ o. fresh_child link) r) (λ c. c.is_killed ≡ false)
 fresh_unkilled None link = tt
 fresh_unkilled (Some o) link = refl
+
+buried_from : (cs : List (Option Child)) (k : ℕ) (c : Child) → slice_get (all_buried cs) k ≡ Some (Some c) → (d : Child) × (slice_get cs k ≡ Some (Some d)) × (c.is_killed ≡ d.is_killed)
+buried_from [] k c e = absurd (cc e)
+buried_from (None ∷ cs) zero c e = absurd (cc e)
+buried_from (Some d ∷ cs) zero c e = let same : buried_child d ≡ c = cc e in (d, refl, ap (λ (x : Child). x.is_killed) (sym same))
+buried_from (o ∷ cs) (suc k) c e = buried_from cs k c e
+
+-- the children that were killed were waited for
+pub kills_buried : (cs cs_all : List (Option Child)) (calls : List Entry) (workers : List ℕ) (fates : List Fate) (lost : List Bool) → cs_all ≡ all_buried cs → KilledSo cs calls workers fates lost → KilledSo cs_all calls workers fates lost
+kills_buried cs cs_all calls workers fates lost is s =
+    record {
+      wherever = λ k w c wi ci h. let was = buried_from cs k c (ap (λ (l : List (Option Child)). slice_get l k) (sym is) ∙ ci) in was.2 ∙ s.wherever k w was.0 wi was.1 h;
+      only = λ k w c wi ci h. let was = buried_from cs k c (ap (λ (l : List (Option Child)). slice_get l k) (sym is) ∙ ci) in s.only k w was.0 wi was.1 (sym was.2 ∙ h);
+      new = s.new;
+    }

@@ -1,5 +1,5 @@
--- Links to which a write failed.
-use Rattle.std.proofs.Common.{◌≡◌, ℕ, zero, suc, ◌<◌, length, List, [], ◌∷◌, ◌++◌, map, Bool, true, false, Option, Some, None, get_or, refl, sym, ◌∙◌, ap, arith}
+-- Links to which a write failed, and links that are kept.
+use Rattle.std.proofs.Common.{◌≡◌, ℕ, zero, suc, ◌<◌, ◌≤◌, length, List, [], ◌∷◌, ◌++◌, map, Bool, true, false, Option, Some, None, get_or, refl, sym, ◌∙◌, ap, arith}
 use Rattle.std.specs.Prelude.{IfSome, is_some, option_map, slice_get, slice_set}
 use Rattle.std.specs.Bool.{then_some}
 use Rattle.std.proofs.Math.ListN.{set}
@@ -75,10 +75,6 @@ module _ {N : Type 0} {g : _} where
   lost_there xs k b true h e =
       ap (λ (l : List Bool). slice_get l k) (map-set is_lost_at xs k (Some b)) ∙ (set_there (losses_of xs) k b.is_lost (omega (arith, h, map_length is_lost_at xs)) ∙ ap Some (sym e))
 
-  pub lost_same : (xs : List (Option (Post N g))) (k : ℕ) (was : Option (Post N g)) (a b : Post N g) → was ≡ Some a → slice_get xs k ≡ Some was → b.is_lost ≡ a.is_lost → losses_of (slice_set xs k (Some b)) ≡ losses_of xs
-  lost_same xs k was a b is at e =
-      map-set is_lost_at xs k (Some b) ∙ set_same (losses_of xs) k b.is_lost (slice_get-map is_lost_at xs k ∙ (ap (option_map is_lost_at) (at ∙ ap Some is) ∙ ap Some (sym e)))
-
   pub lost_more : (xs all : List (Option (Post N g))) (o : Option (Post N g)) → all ≡ xs ++ o ∷ [] → KeepsLost (losses_of xs) (losses_of all)
   lost_more xs all o is i e = ap (λ (l : List (Option (Post N g))). slice_get (losses_of l) i) is ∙ (ap (λ (l : List Bool). slice_get l i) (map-append is_lost_at xs (o ∷ [])) ∙ front (losses_of xs) (is_lost_at o ∷ []) i e)
 
@@ -92,3 +88,23 @@ module _ {N : Type 0} {g : _} where
 
   pub post_count : (xs : List (Option (Post N g))) (n : ℕ) → n ≡ length xs → n ≡ length (pages_of xs)
   post_count xs n e = e ∙ sym (map_length page_of xs)
+
+-- ---- links that are kept
+
+module _ {X : Type 0} where
+  pub spare_past : (xs : List (Option X)) (k : ℕ) → length xs ≤ k → slice_get (map is_some xs) k ≡ Some true → ⊥
+  spare_past [] k h e = cc e
+  spare_past (x ∷ xs) zero h e = omega (arith, h)
+  spare_past (x ∷ xs) (suc k) h e = spare_past xs k (omega (arith, h)) e
+
+  pub spare_there : (xs : List (Option X)) (k : ℕ) (was : Option X) → was ≡ get_or xs k was → slice_get (map is_some xs) k ≡ Some true → was ≡ None → ⊥
+  spare_there xs k was at e n =
+      let there : slice_get (map is_some xs) k ≡ Some (is_some was) = slice_get-map is_some xs k ∙ ap (option_map is_some) (here is_some xs k was true e at) in
+      let both : Some true ≡ Some (is_some was) = sym e ∙ there in
+      let yes : true ≡ is_some was = cc both in
+      let no : is_some was ≡ false = ap is_some n in
+      let z : true ≡ false = yes ∙ no in cc z
+
+  -- another is kept as it was
+  pub spare_taken : (xs : List (Option X)) (k i : ℕ) (o : Option X) → k < i → slice_get (map is_some xs) i ≡ Some true → slice_get (map is_some (slice_set xs k o)) i ≡ Some true
+  spare_taken xs k i o h e = ap (λ (l : List Bool). slice_get l i) (map-set is_some xs k o) ∙ (set_past (map is_some xs) k i (is_some o) h ∙ e)

@@ -12,7 +12,7 @@ use Rattle.xd_link.specs.declared.place.Place.{Place}
 use Rattle.xd_link.specs.declared.starter.StartRun.{StartRun}
 use Rattle.xd_drive.specs.Listed.{starts_of}
 use Rattle.xd_drive.specs.Performing.{is_start}
-use Rattle.xd_group.specs.Children.{Asked, TellsLinks, Told, all_asked, asked_of, told_of, cut_by, fresh_child, killed_child, starts_told}
+use Rattle.xd_group.specs.Children.{Asked, TellsLinks, Told, all_asked, all_buried, asked_of, buried_child, told_of, cut_by, fresh_child, killed_child, starts_told}
 use Rattle.xd_group.specs.Fates.{has_link}
 use Rattle.xd_group.specs.InStep.{InStep, all_started, start_told}
 use Rattle.xd_group.specs.declared.child.Child.{Child}
@@ -101,6 +101,16 @@ step_cut places first first_now now next cs cs_all calls all fates fs cut is fis
 pub step_called : (places : List Place) (first first_now now next : Option (List StartRun)) (cs cs_all : List (Option Child)) (calls all : List Entry) (fates fs : List Fate) (cut : Option ℕ) (e : Entry) → all ≡ calls ++ e ∷ [] → is_start e ≡ false → fs ≡ fates → first_now ≡ first → next ≡ now → cs_all ≡ cut_by cut cs → InStep places first now cs calls fates → InStep places first_now next cs_all all fs
 step_called places first first_now now next cs cs_all calls all fates fs cut e is not fis same told cis s =
     rw (same, fis) (step_other places first now next cs cs_all calls all fates e is not (ap (map is_some) cis ∙ cut_linked cut cs) told s)
+
+buried_linked : (cs : List (Option Child)) → map is_some (all_buried cs) ≡ map is_some cs
+buried_linked [] = refl
+buried_linked (None ∷ cs) = ap (λ (l : List Bool). false ∷ l) (buried_linked cs)
+buried_linked (Some c ∷ cs) = ap (λ (l : List Bool). true ∷ l) (buried_linked cs)
+
+-- the children that were killed were waited for
+pub step_buried : (places : List Place) (first first_now now next : Option (List StartRun)) (cs cs_all : List (Option Child)) (calls : List Entry) (fates : List Fate) → first_now ≡ first → next ≡ now → cs_all ≡ all_buried cs → InStep places first now cs calls fates → InStep places first_now next cs_all calls fates
+step_buried places first first_now now next cs cs_all calls fates same told cis s =
+    rw (same) (step_same places first now next cs cs_all calls calls fates refl (ap (map is_some) cis ∙ buried_linked cs) told s)
 
 -- an order is no start
 pub order_plain : (w : ℕ) (e : Entry) → is_order w e ≡ true → is_start e ≡ false

@@ -1,5 +1,5 @@
 -- What a starter tells of links, and the children that are kept of them.
-use Rattle.std.specs.Prelude.{◌≡◌, ℕ, zero, suc, Bool, true, false, ◌&&◌, List, [], ◌∷◌, ◌++◌, length, map, Option, Some, None, option_map, filter, is_none, ⊤}
+use Rattle.std.specs.Prelude.{◌≡◌, ℕ, zero, suc, Bool, true, false, ◌&&◌, ◌||◌, not, List, [], ◌∷◌, ◌++◌, length, map, Option, Some, None, option_map, filter, is_none, ⊤}
 use Rattle.xd_link.specs.Starter.{Begun}
 use Rattle.xd_link.specs.declared.starter.LinkRun.{LinkRun}
 use Rattle.xd_link.specs.declared.starter.StartRun.{StartRun}
@@ -67,6 +67,10 @@ killed_child c = record { link = c.link; is_killed = true; is_reaped = c.is_reap
 abbrev pub reaped_child : Child → Child
 reaped_child c = record { link = c.link; is_killed = c.is_killed; is_reaped = true }
 
+-- waited for, where it was killed
+abbrev pub buried_child : Child → Child
+buried_child c = record { link = c.link; is_killed = c.is_killed; is_reaped = c.is_reaped || c.is_killed }
+
 -- the child at the place was changed so, where there is one
 abbrev pub changed_at : ℕ → (Child → Child) → List (Option Child) → List (Option Child)
 changed_at k f [] = []
@@ -82,3 +86,12 @@ cut_by (Some k) cs = changed_at k killed_child cs
 abbrev pub is_over : Option Child → Bool
 is_over None = true
 is_over (Some c) = c.is_killed && c.is_reaped
+
+-- the children, of which each that was killed was waited for
+abbrev pub all_buried : List (Option Child) → List (Option Child)
+all_buried cs = map (option_map buried_child) cs
+
+-- the child was waited for or not killed, where there is one
+abbrev pub is_buried : Option Child → Bool
+is_buried None = true
+is_buried (Some c) = not c.is_killed || c.is_reaped

@@ -1,5 +1,5 @@
 -- What became of starts.
-use Rattle.std.specs.Prelude.{ℕ, Bool, true, false, List, [], ◌∷◌, if◌then◌else◌}
+use Rattle.std.specs.Prelude.{◌≡◌, ◌≤◌, ℕ, Bool, true, false, List, [], ◌∷◌, Some, if◌then◌else◌, slice_get}
 use Rattle.xd_group.specs.declared.fate.Fate.{Fate}
 use Rattle.xd_group.specs.declared.fate.Fate.TheVariants.{Unlinked, Refused, Linked}
 
@@ -32,3 +32,7 @@ abbrev pub workers_with : (Fate → Bool) → List ℕ → List Fate → List �
 workers_with which [] fates = []
 workers_with which (w ∷ ws) [] = []
 workers_with which (w ∷ ws) (f ∷ fs) = if which f then w ∷ workers_with which ws fs else workers_with which ws fs
+
+-- from this number on each link whose reader was refused is kept
+abbrev pub KeptFrom : ℕ → List Bool → List Fate → Type 0
+KeptFrom n kept fates = (k : ℕ) → n ≤ k → slice_get fates k ≡ Some Refused → slice_get kept k ≡ Some true

@@ -32,7 +32,7 @@ impl<St: Starter> Children<St> {
     ghost use Rattle.std.specs.Prelude.{◌≡◌, ◌∷◌, ◌++◌, [], ℕ, Some, Option, option_map, is_none, IfOk, IfSome, IfNone, true, OnErr, OnSome, slice_get, vec_len, ◌<◌};
     ghost use Rattle.std.specs.List.{list_all};
     ghost use Rattle.xd_link.specs.FreshLink.{unused};
-    ghost use Rattle.xd_group.specs.Children.{changed_at, cut_by, fresh_child, is_over, killed_child, reaped_child, starts_told};
+    ghost use Rattle.xd_group.specs.Children.{all_buried, buried_child, changed_at, cut_by, is_buried, fresh_child, is_over, killed_child, reaped_child, starts_told};
     ghost use Rattle.xd_group.specs.declared.child.Child.{Child};
 
     /// Nothing was started.
@@ -134,6 +134,33 @@ impl<St: Starter> Children<St> {
         });
         let _reaped = self.starter.reap(rt, child.link);
         child.is_killed
+    }
+
+    /// Waits for each child that was killed and not waited for before.
+    pub fn bury<R: Wait>(&mut self, rt: &R)
+        ensures children { self.new.children.items ≡ all_buried self.old.children.items }
+        ensures buried { list_all is_buried self.new.children.items ≡ true }
+        ensures starts { starts_told (St.begun self.new.starter) ≡ starts_told (St.begun self.old.starter) }
+        ensures first { self.new.first ≡ self.old.first }
+    {
+        for number in 0..self.children.len() {
+            self.bury_at(rt, number);
+        }
+    }
+
+    // Waits for the child of this number, where it was killed.
+    fn bury_at<R: Wait>(&mut self, rt: &R, number: usize)
+        ensures children { self.new.children.items ≡ changed_at number buried_child self.old.children.items }
+        ensures starts { starts_told (St.begun self.new.starter) ≡ starts_told (St.begun self.old.starter) }
+        ensures first { self.new.first ≡ self.old.first }
+    {
+        let Some(child) = self.child_at(number) else {
+            return;
+        };
+        if !child.is_killed {
+            return;
+        }
+        let _killed = self.reap(rt, number);
     }
 
     /// Kills each child that was not waited for, and waits for it.

@@ -18,8 +18,8 @@ ghost use Rattle.xd_links.specs.Runs.{news_of};
 ghost use Rattle.xd_group.specs.Kept.{Kept, orders_to, said_by};
 ghost use Rattle.xd_group.specs.Late.{Late, Settled, settled_at};
 ghost use Rattle.xd_group.specs.LinkRun.{link_of};
-ghost use Rattle.xd_group.specs.Children.{all_asked, asked_of, is_over, starts_told, told_of};
-ghost use Rattle.xd_group.specs.Fates.{has_link, is_linked, is_refused, is_unlinked, workers_with};
+ghost use Rattle.xd_group.specs.Children.{all_asked, asked_of, is_buried, is_over, starts_told, told_of};
+ghost use Rattle.xd_group.specs.Fates.{KeptFrom, has_link, is_linked, is_refused, is_unlinked, workers_with};
 ghost use Rattle.xd_edge.specs.Faults.{RoseBy};
 ghost use Rattle.xd_group.specs.Few.{RoseFor, count_with};
 ghost use Rattle.xd_group.specs.Unsaid.{SaidUnlinked};
@@ -105,8 +105,18 @@ impl<St: Starter, C: Crew<Reader<St::Src>>> GatewayHub<St, C> {
         })
     }
 
-    // Takes an item of a link.
-    fn step<R: Wait>(&mut self, rt: &R) -> Result<Option<News>, OutOfMemory>
+    // Waits for the children that were killed, so that nothing is kept of them while the hub waits for news.
+    fn bury<R: Wait>(&mut self, rt: &R)
+        ensures buried { list_all is_buried self.new.children.children.items ≡ true }
+        ensures group { self.new.group ≡ self.old.group }
+        ensures first { (self.new.places ≡ self.old.places) × (self.new.children.first ≡ self.old.children.first) }
+    {
+        self.children.bury(rt);
+    }
+
+    // Takes an item of a link, where no child that was killed is still to be waited for.
+    fn take<R: Wait>(&mut self, rt: &R) -> Result<Option<News>, OutOfMemory>
+        requires buried { list_all is_buried self.old.children.children.items ≡ true }
         ensures started { IfOk result (λ r. IfSome r (λ n. IsStarted (noted self.old.group.diary.calls) n.worker)) }
         ensures given { IfOk result (λ r. IfSome r (λ n. noted self.new.group.diary.given ≡ noted self.old.group.diary.given ++ n ∷ [])) }
         ensures no_breach { IfOk result (λ r. IfSome r (λ n. is_breach n.what ≡ false)) }
@@ -121,6 +131,22 @@ impl<St: Starter, C: Crew<Reader<St::Src>>> GatewayHub<St, C> {
         Ok(news)
     }
 
+    // Waits for the children that were killed, and takes an item of a link.
+    fn step<R: Wait>(&mut self, rt: &R) -> Result<Option<News>, OutOfMemory>
+        ensures started { IfOk result (λ r. IfSome r (λ n. IsStarted (noted self.old.group.diary.calls) n.worker)) }
+        ensures given { IfOk result (λ r. IfSome r (λ n. noted self.new.group.diary.given ≡ noted self.old.group.diary.given ++ n ∷ [])) }
+        ensures no_breach { IfOk result (λ r. IfSome r (λ n. is_breach n.what ≡ false)) }
+        ensures silent { IfOk result (λ r. IfNone r (noted self.new.group.diary.given ≡ noted self.old.group.diary.given)) }
+        ensures calls { noted self.new.group.diary.calls ≡ noted self.old.group.diary.calls }
+        ensures whole { OnOk result (self.new.group.is_whole ≡ self.old.group.is_whole) }
+        ensures made { (self.new.group.suite ≡ self.old.group.suite) × (self.new.group.mode ≡ self.old.group.mode) }
+        ensures first { (self.new.places ≡ self.old.places) × (self.new.children.first ≡ self.old.children.first) × (self.new.group.first ≡ self.old.group.first) }
+    {
+        self.bury(rt);
+        let news = self.take(rt)?;
+        Ok(news)
+    }
+
     // Ends the link of this number, where it has one: its child is reaped.
     fn end_next<R: Wait>(
         &mut self,
@@ -129,6 +155,8 @@ impl<St: Starter, C: Crew<Reader<St::Src>>> GatewayHub<St, C> {
         ends: &mut Vec<LinkEnd<St::Src, St::Snk>>,
     ) -> Result<(), OutOfMemory>
         requires over { self.old.group.is_whole ≡ false }
+        requires kept { KeptFrom number (map is_some self.old.group.spares.items) self.old.group.diary.fates.items }
+        ensures kept { OnOk result (KeptFrom (number + 1) (map is_some self.new.group.spares.items) self.old.group.diary.fates.items) }
         ensures runs { (suite : List ℕ) (mode : ModeKind) (taken : List (Option (List LinkNews))) (calls : List Entry) (given : List News) (pages : List (Option Page))
             → ∥ Kept suite mode taken calls given self.old.group.diary.workers.items pages ∥₁
             → ∥ Late (map settled_at pages) (news_of (mails self.old.group.links.desk)) (pages_of self.old.group.posts.items) ∥₁

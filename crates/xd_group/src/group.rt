@@ -5,7 +5,7 @@ ghost use Rattle.std.specs.Str.{encode_utf8_all};
 ghost use Rattle.xd_links.specs.Runs.{news_of};
 ghost use Rattle.xd_note.specs.Noted.{noted};
 ghost use Rattle.xd_post.specs.Mails.{mails};
-ghost use Rattle.xd_group.specs.Fates.{is_linked, is_refused};
+ghost use Rattle.xd_group.specs.Fates.{KeptFrom, is_linked, is_refused};
 ghost use Rattle.xd_group.specs.Few.{RoseFor, count_with};
 ghost use Rattle.xd_group.specs.Kept.{Kept};
 ghost use Rattle.xd_group.specs.PostView.{pages_of};
@@ -17,7 +17,7 @@ use crate::post::Post;
 use crate::posts::{
     have_ended, hear_at, hear_late_at, is_without, leave_at, push_none, push_post, tell_at,
 };
-use crate::spare::Spare;
+use crate::spare::{Spare, keep, take_kept};
 use std::alloc::Global;
 use std::snapshot::Snapshot;
 use std::sync::Wait;
@@ -44,6 +44,7 @@ pub struct Group<S: Source + Drop, N: Sink + Drop, C: Crew<Reader<S>>> {
     ghost kept: { is_whole ≡ true → ∥ Kept suite mode (news_of (mails links.desk)) (noted diary.calls) (noted diary.given) diary.workers.items (pages_of posts.items) ∥₁ },
     ghost few: { is_whole ≡ true → RoseFor (count_with is_refused diary.fates.items) (C.faults first.value) (C.faults links.crew) },
     ghost seats: { is_whole ≡ true → map is_some (pages_of posts.items) ≡ map is_linked diary.fates.items },
+    ghost spared: { is_whole ≡ true → map is_some spares.items ≡ map is_refused diary.fates.items },
     ghost unsaid: { is_whole ≡ true → ∥ Unsaid (noted diary.given) diary.workers.items (pages_of posts.items) diary.waiting.items ∥₁ },
 }
 
@@ -79,7 +80,7 @@ fn cut_of(is_cut: bool, number: usize) -> Option<usize>
 }
 
 impl<S: Source + Drop, N: Sink + Drop, C: Crew<Reader<S>>> Group<S, N, C> {
-    ghost use Rattle.std.specs.Prelude.{◌≡◌, ◌≤◌, ◌<◌, ◌∷◌, ◌++◌, [], ℕ, List, Option, Some, true, false, map, length, is_none, is_some, slice_get, OnOk, OnErr, IfOk, IfSome, IfNone, IsSome};
+    ghost use Rattle.std.specs.Prelude.{◌≡◌, ◌≤◌, ◌<◌, ◌+◌, ◌∷◌, ◌++◌, [], ℕ, List, Option, Some, true, false, map, length, is_none, is_some, slice_get, OnOk, OnErr, IfOk, IfSome, IfNone, IsSome};
     ghost use Rattle.xd_edge.specs.declared.mode.ModeKind.{ModeKind};
     ghost use Rattle.xd_edge.specs.Faults.{Counted};
     ghost use Rattle.xd_drive.specs.Calls.{is_order};
@@ -196,15 +197,16 @@ impl<S: Source + Drop, N: Sink + Drop, C: Crew<Reader<S>>> Group<S, N, C> {
         ensures started { IfOk result (λ fate. has_link fate ≡ true) }
         ensures pages { OnOk result (pages_of posts.new.items ≡ pages_of posts.old.items ++ page_opened suite.now mode (is_none back) ∷ []) }
         ensures keeps { OnOk result (KeepsLost (losses_of posts.old.items) (losses_of posts.new.items)) }
+        ensures kept { IfOk result (λ fate. map is_some spares.new.items ≡ map is_some spares.old.items ++ is_refused fate ∷ []) }
     {
         match back {
             None => {
-                spares.push(None)?;
+                keep(spares, None)?;
                 push_post(posts, alloc, sink, suite, mode)?;
                 Ok(Fate::Linked)
             }
             Some(source) => {
-                spares.push(Some(Spare { source, sink }))?;
+                keep(spares, Some(Spare { source, sink }))?;
                 push_none(posts)?;
                 Ok(Fate::Refused)
             }
@@ -278,7 +280,7 @@ impl<S: Source + Drop, N: Sink + Drop, C: Crew<Reader<S>>> Group<S, N, C> {
         }
         self.links.skip()?;
         push_none(&mut self.posts)?;
-        self.spares.push(None)?;
+        keep(&mut self.spares, None)?;
         self.diary.note_start(worker, slot, Fate::Unlinked)?;
         self.diary.note_unlinked(number, Fate::Unlinked)?;
         self.is_whole = was_whole;
@@ -338,7 +340,7 @@ impl<S: Source + Drop, N: Sink + Drop, C: Crew<Reader<S>>> Group<S, N, C> {
         requires late { (first : List (Option Settled)) × ∥ Late first (news_of (mails links.old.desk)) (pages_of posts.old.items) ∥₁ }
         ensures late { (first : List (Option Settled)) → ∥ Late first (news_of (mails links.old.desk)) (pages_of posts.old.items) ∥₁
             → OnOk result (∥ Late first (news_of (mails links.new.desk)) (pages_of posts.new.items) ∥₁) }
-        ensures lost { OnOk result (losses_of posts.new.items ≡ losses_of posts.old.items) }
+        ensures keeps { OnOk result (KeepsLost (losses_of posts.old.items) (losses_of posts.new.items)) }
         ensures crew { links.new.crew ≡ links.old.crew }
     {
         let (number, item) = links.next(rt);
@@ -355,7 +357,7 @@ impl<S: Source + Drop, N: Sink + Drop, C: Crew<Reader<S>>> Group<S, N, C> {
         requires late { (first : List (Option Settled)) × ∥ Late first (news_of (mails links.old.desk)) (pages_of posts.old.items) ∥₁ }
         ensures late { (first : List (Option Settled)) → ∥ Late first (news_of (mails links.old.desk)) (pages_of posts.old.items) ∥₁
             → OnOk result (∥ Late first (news_of (mails links.new.desk)) (pages_of posts.new.items) ∥₁) }
-        ensures lost { OnOk result (losses_of posts.new.items ≡ losses_of posts.old.items) }
+        ensures keeps { OnOk result (KeepsLost (losses_of posts.old.items) (losses_of posts.new.items)) }
         ensures crew { links.new.crew ≡ links.old.crew }
     {
         for _ in rt.forever() {
@@ -370,8 +372,9 @@ impl<S: Source + Drop, N: Sink + Drop, C: Crew<Reader<S>>> Group<S, N, C> {
     /// Takes from the links until nothing more is to come of any. From now on nothing is told and nothing said.
     pub fn settle<R: Wait>(&mut self, rt: &R) -> Result<(), OutOfMemory>
         ensures late { OnOk result (∥ Late (map settled_at (pages_of self.old.posts.items)) (news_of (mails self.new.links.desk)) (pages_of self.new.posts.items) ∥₁) }
-        ensures lost { OnOk result (losses_of self.new.posts.items ≡ losses_of self.old.posts.items) }
+        ensures keeps { OnOk result (KeepsLost (losses_of self.old.posts.items) (losses_of self.new.posts.items)) }
         ensures crew { (self.new.links.crew ≡ self.old.links.crew) × (self.new.first ≡ self.old.first) }
+        ensures spares { self.new.spares ≡ self.old.spares }
         ensures whole { OnOk result (self.old.is_whole ≡ true) }
         ensures over { self.new.is_whole ≡ false }
         ensures diary { self.new.diary ≡ self.old.diary }
@@ -414,32 +417,26 @@ impl<S: Source + Drop, N: Sink + Drop, C: Crew<Reader<S>>> Group<S, N, C> {
         })
     }
 
-    // Takes the link of this number that was kept and not read.
-    fn take_spare(
-        spares: &mut Vec<Option<Spare<S, N>>>,
-        number: u32,
-        worker: u32,
-    ) -> Option<Ended<S, N>>
-        ensures unused { IfSome result (λ e. Unused (link_of (spring (S.supply e.source) (S.is_ended e.source) (S.faults e.source)) (N.sunk e.sink) (N.faults e.sink))) }
-        ensures worker { IfSome result (λ e. e.worker ≡ worker) }
+    // Gives the link of this number that was kept and not read.
+    fn end_spare(spares: &mut Vec<Option<Spare<S, N>>>, number: u32, worker: u32) -> Ended<S, N>
+        requires kept { slice_get (map is_some spares.old.items) number ≡ Some true }
+        ensures unused { Unused (link_of (spring (S.supply result.source) (S.is_ended result.source) (S.faults result.source)) (N.sunk result.sink) (N.faults result.sink)) }
+        ensures worker { result.worker ≡ worker }
+        ensures others { (k : ℕ) → number < k → slice_get (map is_some spares.old.items) k ≡ Some true → slice_get (map is_some spares.new.items) k ≡ Some true }
     {
-        let at = number as usize;
-        if at >= spares.len() {
-            return None;
-        }
-        match spares[at].take() {
-            Some(Spare { source, sink }) => Some(Ended {
-                worker,
-                source,
-                sink,
-            }),
-            None => None,
+        let Spare { source, sink } = take_kept(spares, number as usize);
+        Ended {
+            worker,
+            source,
+            sink,
         }
     }
 
     /// Closes the link of this number, and gives what it left; `None` where the number has none.
     pub fn end_link(&mut self, number: u32) -> Result<Option<Ended<S, N>>, OutOfMemory>
         requires over { self.old.is_whole ≡ false }
+        requires kept { KeptFrom number (map is_some self.old.spares.items) self.old.diary.fates.items }
+        ensures kept { OnOk result (KeptFrom (number + 1) (map is_some self.new.spares.items) self.old.diary.fates.items) }
         ensures ran { (first : List (Option Settled)) → ∥ Late first (news_of (mails self.old.links.desk)) (pages_of self.old.posts.items) ∥₁ → slice_get self.old.diary.fates.items number ≡ Some Linked
             → IfOk result (λ r. IfSome r (λ e. ∥ RanAt first number (link_of (spring (S.supply e.source) (S.is_ended e.source) (S.faults e.source)) (N.sunk e.sink) (N.faults e.sink)) ∥₁)) }
         ensures unused { slice_get self.old.diary.fates.items number ≡ Some Refused
@@ -463,9 +460,7 @@ impl<S: Source + Drop, N: Sink + Drop, C: Crew<Reader<S>>> Group<S, N, C> {
         match fate {
             Fate::Unlinked => Ok(None),
             Fate::Refused => {
-                let Some(kept) = Self::take_spare(&mut self.spares, number, worker) else {
-                    return Err(OutOfMemory);
-                };
+                let kept = Self::end_spare(&mut self.spares, number, worker);
                 Ok(Some(kept))
             }
             Fate::Linked => {

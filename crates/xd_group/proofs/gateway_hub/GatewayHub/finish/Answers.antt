@@ -14,7 +14,8 @@ use Rattle.xd_group.specs.InStep.{all_started}
 use Rattle.xd_group.specs.Late.{settled_at}
 use Rattle.xd_group.specs.PostView.{pages_of}
 use Rattle.xd_group.specs.Returned.{end_told}
-use Rattle.xd_group.proofs.FateFacts.{failed_count, linked_length, take_all, with_all}
+use Rattle.std.specs.Prelude.{is_some}
+use Rattle.xd_group.proofs.FateFacts.{failed_count, linked_length, spared_from, take_all, with_all}
 use Rattle.xd_group.proofs.PageFacts.{no_way}
 use Rattle.xd_group.proofs.Saying.{said_unlinked}
 use Rattle.xd_group.proofs.Stepping.{begun_all}
@@ -31,6 +32,7 @@ loop-number-init g c =
     record {
       over = settled.over;
       kept = was.group.kept settled.whole;
+      spared = spared_from _ was.group.diary.fates.items (ap (λ (s : _). map is_some s.items) settled.spares ∙ was.group.spared settled.whole);
       late = settled.late;
       runs = λ k d h. absurd (let size : length c.new-ends.result.items ≡ 0 = ap length none in omega (arith, h, size));
       workers = ap (map (λ e. e.worker)) none;
@@ -41,9 +43,14 @@ loop-number-init g c =
       crew = ap g.C.Crew.faults settled.crew.0;
       diary = settled.diary;
       kills = was.kills settled.whole;
-      lost = λ k h e. ap (λ (l : List _). slice_get l k) settled.lost ∙ e;
+      lost = λ k h e. settled.keeps k e;
       killed = λ k d h. absurd (let size : length c.new-ends.result.items ≡ 0 = ap length none in omega (arith, h, size));
     }
+
+pub end_next-requires : goal.end_next-requires
+end_next-requires g c =
+    let inv = c.loop-number.invariant in
+    record { over = inv.over; kept = rw (inv.diary) inv.spared }
 
 pub loop-number-preserved : goal.loop-number-preserved
 loop-number-preserved g c =
@@ -57,6 +64,7 @@ loop-number-preserved g c =
     record {
       over = done.over;
       kept = inv.kept;
+      spared = rw (inv.diary) at done.kept;
       late = done.late (map settled_at pages) inv.late;
       runs = rw (inv.diary) at (done.runs was.suite was.mode taken calls given pages (rw (inv.diary) inv.kept) inv.late (rw (inv.diary) inv.runs));
       workers = rw (inv.diary) at (done.workers (rw (inv.diary) inv.workers));

@@ -1,24 +1,39 @@
-use Rattle.xd_group.specs.PostView.{losses_of}
-use Rattle.xd_group.proofs.Killing.{kills_cut}
-use Rattle.std.proofs.Common.{ap, sym, ◌∙◌}
-use Rattle.std.proofs.Math.Logic.{∥∥₁_map}
+use Rattle.std.proofs.Common.{ap, ◌∙◌}
 use Rattle.xd_note.specs.Noted.{noted}
-use Rattle.xd_group.specs.Children.{starts_told}
-use Rattle.xd_group.proofs.PageFacts.{no_way}
-use Rattle.xd_group.proofs.Stepping.{step_cut}
 use Rattle.xd_group.proofs.gateway_hub.GatewayHub.step.Goals as goal
 
-pub invariant_of-self : goal.invariant_of-self
-invariant_of-self g c = record { in_step = λ e. absurd (no_way _ e c.in_err-news.ensures.over); kills = λ e. absurd (no_way _ e c.in_err-news.ensures.over) }
+pub returns-clause-started : goal.returns-clause-started
+returns-clause-started g c = rw (c.bury.ensures.group) at (c.in_ok-news.ensures.started)
 
-pub invariant_of-self-2 : goal.invariant_of-self-2
-invariant_of-self-2 g c =
-    let was = c.args.self.now in
-    let took = c.in_ok-news.ensures in
-    let told = λ (s : _). starts_told (g.St.Starter.begun s) in
-    record {
-      in_step = λ e. ∥∥₁_map (was.in_step (sym took.whole ∙ e))
-          (λ s. step_cut was.places.items (told was.children.first.value) _ (told was.children.starter) _ was.children.children.items _ (noted was.group.diary.calls) _ was.group.diary.fates.items _ c.in_ok-news.field-0.cut took.calls (ap (λ (v : _). v.items) took.starts.1) (ap (λ (v : _). told v.value) c.cut.ensures.first) c.cut.ensures.starts c.cut.ensures.children s);
-      kills = λ e. ∥∥₁_map (was.kills (sym took.whole ∙ e))
-          (λ k. rw (took.calls, took.starts.0, took.starts.1) (kills_cut was.children.children.items _ (noted was.group.diary.calls) was.group.diary.workers.items was.group.diary.fates.items (losses_of was.group.posts.items) _ c.in_ok-news.field-0.cut took.keeps took.cut c.cut.ensures.children k));
-    }
+pub returns-clause-given : goal.returns-clause-given
+returns-clause-given g c = rw (c.bury.ensures.group) at (c.in_ok-news.ensures.given)
+
+pub returns-clause-silent : goal.returns-clause-silent
+returns-clause-silent g c = rw (c.bury.ensures.group) at (c.in_ok-news.ensures.silent)
+
+pub returns-clause-calls : goal.returns-clause-calls
+returns-clause-calls g c = rw (c.bury.ensures.group) at (c.in_ok-news.ensures.calls)
+
+pub returns-clause-whole : goal.returns-clause-whole
+returns-clause-whole g c = rw (c.bury.ensures.group) at (c.in_ok-news.ensures.whole)
+
+pub returns-clause-made : goal.returns-clause-made
+returns-clause-made g c = rw (c.bury.ensures.group) at (c.in_ok-news.ensures.made)
+
+pub returns-clause-first : goal.returns-clause-first
+returns-clause-first g c =
+    let now = c.in_ok-news.ensures.first in
+    let was = c.bury.ensures in
+    (now.0 ∙ was.first.0, now.1 ∙ was.first.1, now.2 ∙ ap (λ (h : _). h.first) was.group)
+
+pub returns-in_err-news-clause-calls : goal.returns-in_err-news-clause-calls
+returns-in_err-news-clause-calls g c = rw (c.bury.ensures.group) at (c.in_err-news.ensures.calls)
+
+pub returns-in_err-news-clause-made : goal.returns-in_err-news-clause-made
+returns-in_err-news-clause-made g c = rw (c.bury.ensures.group) at (c.in_err-news.ensures.made)
+
+pub returns-in_err-news-clause-first : goal.returns-in_err-news-clause-first
+returns-in_err-news-clause-first g c =
+    let now = c.in_err-news.ensures.first in
+    let was = c.bury.ensures in
+    (now.0 ∙ was.first.0, now.1 ∙ was.first.1, now.2 ∙ ap (λ (h : _). h.first) was.group)

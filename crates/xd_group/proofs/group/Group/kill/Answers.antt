@@ -18,5 +18,6 @@ invariant_of-self g c =
           (kept_called was.suite was.mode (news_of (mails was.links.desk)) (noted was.diary.calls) _ (noted was.diary.given) was.diary.workers.items (pages_of was.posts.items) (Kill c.args.worker) c.note_call.ensures.calls (λ v. refl) (λ v. refl) k));
       few = λ e. rw (c.note_call.ensures.fates) (was.few e);
       seats = λ e. rw (c.note_call.ensures.fates) (was.seats e);
+      spared = λ e. rw (c.note_call.ensures.fates) (was.spared e);
       unsaid = λ e. rw (c.note_call.ensures.given, c.note_call.ensures.workers, c.note_call.ensures.waiting) (was.unsaid e);
     }

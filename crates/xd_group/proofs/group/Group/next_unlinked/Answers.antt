@@ -20,6 +20,7 @@ invariant_of-self-in_default-worker_at g c =
       kept = λ e. rw (took.calls, took.given, took.workers) (was.kept e);
       few = λ e. rw (took.fates) (was.few e);
       seats = λ e. rw (took.fates) (was.seats e);
+      spared = λ e. rw (took.fates) (was.spared e);
       unsaid = λ e. ∥∥₁_map (was.unsaid e) (λ u. rw (took.given, took.workers) (unsaid_popped (noted was.diary.given) was.diary.workers.items (pages_of was.posts.items) was.diary.waiting.items _ (c.in-Some.number ∷ []) took.waiting u));
     }
 
@@ -32,6 +33,7 @@ invariant_of-self-then-not-is_without g c =
       kept = λ e. rw (took.calls, took.given, took.workers) (was.kept e);
       few = λ e. rw (took.fates) (was.few e);
       seats = λ e. rw (took.fates) (was.seats e);
+      spared = λ e. rw (took.fates) (was.spared e);
       unsaid = λ e. ∥∥₁_map (was.unsaid e) (λ u. rw (took.given, took.workers) (unsaid_popped (noted was.diary.given) was.diary.workers.items (pages_of was.posts.items) was.diary.waiting.items _ (c.in-Some.number ∷ []) took.waiting u));
     }
 
@@ -50,6 +52,7 @@ invariant_of-self-2 g c =
           (rw (← took.workers) c.in-Some-worker_at.ensures.at) (rw (← took.calls) c.in-Some-worker_at.ensures.started) (rw (← c.deref.ensures.value) (c.is_without.ensures c.if-not-is_without.false)) k));
       few = λ e. rw (told.fates, took.fates) (was.few e);
       seats = λ e. rw (told.fates, took.fates) (was.seats e);
+      spared = λ e. rw (told.fates, took.fates) (was.spared e);
       unsaid = λ e. ∥∥₁_map₂ (was.kept e) (was.unsaid e)
           (λ k u. rw (told.workers, took.workers, told.waiting)
           (unsaid_said (noted was.diary.given) _ was.diary.workers.items (pages_of was.posts.items) was.diary.waiting.items _ c.in-Some.number n refl

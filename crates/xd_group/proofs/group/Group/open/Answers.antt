@@ -3,10 +3,11 @@ use Rattle.xd_links.specs.Runs.{news_of}
 use Rattle.xd_note.specs.Noted.{noted}
 use Rattle.xd_post.specs.Mails.{mails}
 use Rattle.xd_group.specs.PostView.{pages_of}
-use Rattle.std.proofs.Common.{◌≡◌, ap, length, rules}
-use Rattle.std.specs.Prelude.{is_none}
+use Rattle.std.proofs.Common.{◌≡◌, ap, length, map, rules}
+use Rattle.std.specs.Prelude.{is_none, is_some}
 use Rattle.xd_group.specs.Fates.{is_linked}
 use Rattle.xd_group.proofs.Counting.{few_opened}
+use Rattle.xd_group.proofs.FateFacts.{spared_more}
 use Rattle.xd_group.proofs.Keeping.{kept_started}
 use Rattle.xd_group.proofs.LossFacts.{post_count}
 use Rattle.xd_group.proofs.Saying.{opened_seats, unsaid_opened}
@@ -28,6 +29,7 @@ invariant_of-self-2 g c =
           told.calls c.requires.new was.diary.known told.workers (c.in_ok-back.ensures.news was.suite was.mode) seat.pages k));
       few = λ e. rw (last.fates) (few_opened was.diary.fates.items _ c.in_ok-fate.fate none _ _ _ told.fates seat.linked seat.started c.in_ok-back.ensures.crew (was.few e));
       seats = λ e. rw (last.fates) (opened_seats was.suite was.mode none (pages_of was.posts.items) _ was.diary.fates.items _ c.in_ok-fate.fate seat.pages told.fates seat.linked (was.seats e));
+      spared = λ e. rw (last.fates) (spared_more (map is_some was.spares.items) _ was.diary.fates.items _ c.in_ok-fate.fate seat.kept told.fates (was.spared e));
       unsaid = λ e. ∥∥₁_map₂ (was.kept e) (was.unsaid e)
           (λ k u. rw (last.given, last.workers, told.given)
           (unsaid_opened was.suite was.mode (news_of (mails was.links.desk)) (noted was.diary.calls) (noted was.diary.given) was.diary.workers.items _ (pages_of was.posts.items) _ was.diary.waiting.items _ _ c.args.worker c.in-Ok.number (is_linked c.in_ok-fate.fate) none

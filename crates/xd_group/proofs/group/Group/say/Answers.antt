@@ -29,6 +29,7 @@ invariant_of-self-2 g c =
           c.note_call.ensures.calls c.in-Some.ensures.some c.requires.told c.requires.order c.in_ok-is_cut.ensures.told k));
       few = λ e. rw (c.note_call.ensures.fates) (was.few whole);
       seats = λ e. rw (c.note_call.ensures.fates, c.in_ok-is_cut.ensures.seats) (was.seats whole);
+      spared = λ e. rw (c.note_call.ensures.fates) (was.spared whole);
       unsaid = λ e. ∥∥₁_map (was.unsaid whole)
           (λ u. rw (c.note_call.ensures.given, c.note_call.ensures.workers, c.note_call.ensures.waiting)
           (unsaid_told (noted was.diary.given) was.diary.workers.items (pages_of was.posts.items) _ was.diary.waiting.items c.in_ok-is_cut.ensures.seats u));

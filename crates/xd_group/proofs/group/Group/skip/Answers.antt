@@ -3,9 +3,11 @@ use Rattle.xd_links.specs.Runs.{news_of}
 use Rattle.xd_note.specs.Noted.{noted}
 use Rattle.xd_post.specs.Mails.{mails}
 use Rattle.xd_group.specs.PostView.{pages_of}
-use Rattle.std.proofs.Common.{◌≡◌, ap, false, length, refl, rules}
+use Rattle.std.proofs.Common.{◌≡◌, ap, false, length, map, refl, rules}
+use Rattle.std.specs.Prelude.{is_some}
 use Rattle.xd_group.specs.declared.fate.Fate.TheVariants.{Unlinked}
 use Rattle.xd_group.proofs.Counting.{few_skipped}
+use Rattle.xd_group.proofs.FateFacts.{spared_more}
 use Rattle.xd_group.proofs.Keeping.{kept_started}
 use Rattle.xd_group.proofs.LossFacts.{post_count}
 use Rattle.xd_group.proofs.Saying.{opened_seats, unsaid_opened}
@@ -25,6 +27,7 @@ invariant_of-self-2 g c =
           told.calls c.requires.new was.diary.known told.workers c.in_ok-skip.ensures.news c.in_ok-push_none.ensures.pages k));
       few = λ e. rw (last.fates, c.in_ok-skip.ensures.crew) (few_skipped was.diary.fates.items _ _ _ told.fates (was.few e));
       seats = λ e. rw (last.fates) (opened_seats was.suite was.mode false (pages_of was.posts.items) _ was.diary.fates.items _ Unlinked c.in_ok-push_none.ensures.pages told.fates refl (was.seats e));
+      spared = λ e. rw (last.fates) (spared_more (map is_some was.spares.items) _ was.diary.fates.items _ Unlinked c.in_ok-keep.ensures told.fates (was.spared e));
       unsaid = λ e. ∥∥₁_map₂ (was.kept e) (was.unsaid e)
           (λ k u. rw (last.given, last.workers, told.given)
           (unsaid_opened was.suite was.mode (news_of (mails was.links.desk)) (noted was.diary.calls) (noted was.diary.given) was.diary.workers.items _ (pages_of was.posts.items) _ was.diary.waiting.items _ _ c.args.worker c.in-Ok.number false false

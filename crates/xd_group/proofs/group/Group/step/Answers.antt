@@ -38,6 +38,7 @@ invariant_of-self-2 g c =
           took.1 took.2 c.in-Some.ensures.at c.in-Some.ensures.started c.in_ok-heard.ensures.heard said.is said.given k));
       few = λ e. rw (said.fates, c.next-number.ensures.crew) (was.few whole);
       seats = λ e. rw (said.fates, c.in_ok-heard.ensures.seats) (was.seats whole);
+      spared = λ e. rw (said.fates) (was.spared whole);
       unsaid = λ e. ∥∥₁_map₂ (was.kept whole) (was.unsaid whole)
           (λ k u. rw (said.workers, said.waiting)
           (unsaid_step was.suite was.mode (news_of (mails was.links.desk)) (noted was.diary.calls) (noted was.diary.given) _ was.diary.workers.items (pages_of was.posts.items) _ was.diary.waiting.items c.next-number.result.0 c.in-Some.worker took.0 c.in_ok-heard.heard.what c.note_what-news.result

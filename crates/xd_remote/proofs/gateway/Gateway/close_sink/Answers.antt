@@ -1,5 +1,5 @@
 use Rattle.xd_remote.proofs.Lines.{closed}
-use Rattle.xd_remote.proofs.gateway.Gateway.close.Goals as goal
+use Rattle.xd_remote.proofs.gateway.Gateway.close_sink.Goals as goal
 
 pub returns-clause-closes : goal.returns-clause-closes
 returns-clause-closes g c =
