@@ -3,7 +3,7 @@ ghost use Rattle.std.specs.Prelude.{◌≡◌, IfOk, true};
 ghost use Rattle.xd_drive.specs.Calls.{is_order};
 
 use std::alloc::Global;
-use xd_edge::{Indices, OutOfMemory, Text, Texts};
+use xd_edge::{Indices, OutOfMemory, Text, copy_texts};
 use xd_journal::{Entry, News, What};
 
 fn copy_indices(alloc: Global, indices: &Indices) -> Result<Indices, OutOfMemory>
@@ -11,16 +11,6 @@ fn copy_indices(alloc: Global, indices: &Indices) -> Result<Indices, OutOfMemory
 {
     let items = indices.items.as_slice().to_vec(alloc)?;
     Ok(Indices { items })
-}
-
-fn copy_texts(alloc: Global, texts: &Texts) -> Result<Texts, OutOfMemory>
-    ensures { IfOk result (λ copy. copy ≡ texts.now) }
-{
-    let mut items = Vec::with_capacity(alloc, texts.items.len())?;
-    for text in &texts.items {
-        items.push(text.copy()?)?;
-    }
-    Ok(Texts { items })
 }
 
 fn copy_text(text: &Option<Text>) -> Result<Option<Text>, OutOfMemory>
@@ -41,7 +31,7 @@ fn copy_what(alloc: Global, what: &What) -> Result<What, OutOfMemory>
     match what {
         What::Ready => Ok(What::Ready),
         What::Collected(ids) => {
-            let ids = copy_texts(alloc, ids)?;
+            let ids = copy_texts(alloc, &ids.items)?;
             Ok(What::Collected(ids))
         }
         What::LogStart { index, log } => Ok(What::LogStart {

@@ -15,7 +15,7 @@ use crate::stop::Stop;
 use crate::suite::read_suite;
 use std::alloc::Global;
 use std::sync::Wait;
-use xd_edge::{Blob, Clock, Files, OutOfMemory, Sink, Text, Texts};
+use xd_edge::{Blob, Clock, Files, OutOfMemory, Sink, Text, copy_texts};
 use xd_frame::{Kind, Message};
 use xd_journal::Outcome;
 use xd_reader::{LinkNews, LinkStop};
@@ -180,14 +180,4 @@ fn door_behind(message: &Message, door: Door) -> Door
         | Kind::CloseError
         | Kind::LastMessage => door,
     }
-}
-
-fn copy_texts(alloc: Global, texts: &[Text]) -> Result<Texts, OutOfMemory>
-    ensures { IfOk result (λ copy. copy ≡ texts.now) }
-{
-    let mut items = Vec::with_capacity(alloc, texts.len())?;
-    for text in texts {
-        items.push(text.copy()?)?;
-    }
-    Ok(Texts { items })
 }

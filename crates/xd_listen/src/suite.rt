@@ -5,9 +5,8 @@ ghost use Rattle.xd_listen.specs.Suites.{FilesGave};
 
 use std::alloc::Global;
 use xd_edge::{FileFault, Files, OutOfMemory, Text};
+use xd_suite::MAX_SUITE_BYTES;
 use xd_worker::WorkerInput;
-
-const MAX_SUITE_BYTES: u64 = 4_194_304;
 
 /// What the files give for the path of a suite.
 pub fn read_suite<F: Files>(
@@ -19,7 +18,7 @@ pub fn read_suite<F: Files>(
     ensures kept { F.held files.new ≡ F.held files.old }
     ensures later { F.faults files.old ≤ F.faults files.new }
 {
-    match files.read_file(alloc, path, MAX_SUITE_BYTES) {
+    match files.read_file(alloc, path, u64::from(MAX_SUITE_BYTES)) {
         Ok(bytes) => Ok(WorkerInput::SuiteBytes(bytes)),
         Err(FileFault::TooLarge) => Ok(WorkerInput::SuiteTooLarge),
         Err(FileFault::Failed) => Ok(WorkerInput::SuiteUnread),

@@ -7,4 +7,5 @@ mod program;
 mod runner;
 
 pub use child::{outcome_of_end, wait_for};
+pub use program::PIECE;
 pub use runner::{Runner, RunnerEnd};

@@ -18,7 +18,7 @@ use xd_post::{Desk, Sender};
 use xd_reader::{LinkNews, LinkStop};
 
 /// How many bytes a piece of output has at most.
-const PIECE: usize = 4096;
+pub const PIECE: usize = 4096;
 
 /// Takes orders and runs them, to the empty one or to want of memory.
 pub fn carry_out<R: Wait, K: Children>(

@@ -24,13 +24,8 @@ use crate::logs::Logs;
 use crate::rules;
 use std::alloc::Global;
 use xd_edge::{Blob, OutOfMemory, Text, Texts};
-use xd_journal::{Cause, Entry, Outcome};
+use xd_journal::{Cause, Entry, MOST_OF_ALL, MOST_OF_ONE, Outcome};
 use xd_ledger::Mode;
-
-// Of the output of one test so many bytes are kept, and so many of all tests of a run together.
-const MOST_OF_ONE: u32 = 8192;
-
-const MOST_OF_ALL: u32 = 67_108_864;
 
 // What decides: the mode, the books, the logs, and how many bytes the entries so far keep.
 #[derive(Drop)]

@@ -12,7 +12,7 @@ ghost use Rattle.xd_session.specs.Crew.{books_of};
 use crate::books::RunBooks;
 use std::alloc::Global;
 use std::collections::BTreeSet;
-use xd_edge::{ModeKind, OutOfMemory, Text, Texts};
+use xd_edge::{ModeKind, OutOfMemory, Text, Texts, copy_texts};
 use xd_journal::Ids;
 use xd_ledger::Listed;
 
@@ -98,17 +98,6 @@ fn differ_at(one: &[Text], other: &[Text]) -> Option<u32>
         return Some(one.len() as u32);
     }
     None
-}
-
-fn copy_of(alloc: Global, texts: &[Text]) -> Result<Texts, OutOfMemory>
-    ensures { IfOk result (λ t. t ≡ texts.now) }
-{
-    let mut items = Vec::new(alloc);
-    for i in 0..texts.len() {
-        let text = texts[i].copy()?;
-        items.push(text)?;
-    }
-    Ok(Texts { items })
 }
 
 // The place of the collection that is kept for the slot, or the count of all.
@@ -200,7 +189,7 @@ impl RunBooks {
     {
         let comparison = self.compare(worker, &own.items);
         if let Comparison::First = comparison {
-            let copy = copy_of(alloc, &own.items)?;
+            let copy = copy_texts(alloc, &own.items)?;
             self.keep(worker, copy)?;
         }
         Ok(TakenList {

@@ -12,5 +12,5 @@ mod table;
 mod test;
 
 pub use fault::{SuiteFault, SuiteRefusal, SuiteWhat};
-pub use suite::Suite;
+pub use suite::{MAX_SUITE_BYTES, Suite};
 pub use test::Test;

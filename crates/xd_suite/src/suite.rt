@@ -12,7 +12,8 @@ use std::alloc::Global;
 use std::marker::Model;
 use xd_edge::{ModeKind, OutOfMemory, Text, Texts};
 
-const MAX_BYTES: usize = 4_194_304;
+/// A suite file has at most so many bytes.
+pub const MAX_SUITE_BYTES: u32 = 4_194_304;
 
 /// The tests of a suite file, in order: at most 50,000, and each runs a program.
 #[derive(Drop)]
@@ -38,7 +39,7 @@ impl Suite {
         ensures ok { IfOk result (IsSuiteOf bytes.now) }
         ensures refused { IfErr result (IsRefused bytes.now) }
     {
-        if bytes.len() > MAX_BYTES {
+        if bytes.len() > MAX_SUITE_BYTES as usize {
             return Err(of_file(SuiteWhat::TooLarge));
         }
         let table = match toml::table_from_slice(alloc, bytes) {

@@ -10,7 +10,7 @@ use std::alloc::Global;
 use std::sync::Wait;
 use xd_edge::{Blob, ChildFault, Children, OutOfMemory, Text};
 use xd_journal::Outcome;
-use xd_runner::wait_for;
+use xd_runner::{PIECE, wait_for};
 
 /// Runs a program to its end, and says how its test went, with the first bytes of its output up to the room where it
 /// failed, and none else. A program that was started is waited for.
@@ -88,7 +88,7 @@ fn drain<R: Wait, K: Children>(
     ensures part { OnFalse result (DrainedPart room (K.place child.old) output.new.items (K.runs children.old) (K.runs children.new)) }
     ensures counted { Counted result (K.faults children.old) (K.faults children.new) }
 {
-    let mut buffer = [0u8; 4096];
+    let mut buffer = [0u8; PIECE];
     for _ in rt.forever() {
         match children.read(rt, child, &mut buffer) {
             Ok(0) => return true,

@@ -11,9 +11,7 @@ use std::sync::Wait;
 use xd_edge::{Children, Clock, FileFault, Files, OutOfMemory, Sink, Text};
 use xd_journal::Journal;
 use xd_report::status_of;
-use xd_suite::{Suite, SuiteFault, SuiteRefusal, SuiteWhat};
-
-const MAX_SUITE_BYTES: u64 = 4_194_304;
+use xd_suite::{MAX_SUITE_BYTES, Suite, SuiteFault, SuiteRefusal, SuiteWhat};
 
 const TOO_LARGE: SuiteFault = SuiteFault {
     test: None,
@@ -90,7 +88,7 @@ fn read_suite<F: Files>(
         (λ _. F.faults files.new ≡ F.faults files.old)
         (λ why. FilesCount why (F.faults files.old) (F.faults files.new))) }
 {
-    let bytes = match files.read_file(alloc, suite, MAX_SUITE_BYTES) {
+    let bytes = match files.read_file(alloc, suite, u64::from(MAX_SUITE_BYTES)) {
         Ok(bytes) => bytes,
         Err(FileFault::Failed) => return Ok(Err(Refusal::Unread)),
         Err(FileFault::TooLarge) => return Ok(Err(Refusal::Suite(TOO_LARGE))),
