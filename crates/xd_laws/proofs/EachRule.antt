@@ -1,5 +1,5 @@
 -- Mode each keeps its rule.
-use Rattle.std.proofs.Common.{◌≡◌, ℕ, true, sym, ap, subst}
+use Rattle.std.proofs.Common.{◌≡◌, ℕ, true, refl, sym, ap, subst}
 use Rattle.xd_edge.specs.declared.mode.ModeKind.TheVariants.{Each}
 use Rattle.xd_ledger.specs.Plan.{is_each, is_scope}
 use Rattle.xd_ledger.specs.Each.{joins}
@@ -9,7 +9,7 @@ use Rattle.xd_ledger.specs.Sharing.{State}
 use Rattle.xd_ledger.specs.Outputs.{turn_of}
 use Rattle.xd_laws.proofs.Turns.{Tidy, Good, good-first}
 use Rattle.xd_laws.proofs.Rule.{CallFits, Rule}
-use Rattle.xd_laws.proofs.InMode.{InMode, mode-input, turned-in, turned-mode}
+use Rattle.xd_laws.proofs.InMode.{InMode, agrees-in, mode-input, no-queue, turned-in, turned-mode}
 use Rattle.xd_laws.proofs.EachTurns.{good-share, good-joins}
 
 each-good : (s : State) (c : Call) → Tidy s → s.books.shared ≡ true → InMode Each s → CallFits s c → Good s (turned Each c (turn_of s))
@@ -26,4 +26,6 @@ each_rule = record {
   shutdown = λ s w p m. m;
   settled = λ s m. m;
   turns = λ s c d h m f. turned-in Each (InMode Each) s c m (turned-mode Each s (turned Each c (turn_of s)) m (each-good s c d h m f));
+  agrees = λ s c d h m f. agrees-in Each s c m (each-good s c d h m f);
+  queue = λ s m. no-queue Each s refl m;
 }

@@ -1,9 +1,9 @@
 -- The mode of a run stays, and its outputs are those of its own rule.
-use Rattle.std.proofs.Common.{◌≡◌, true, ap, sym, ◌∙◌, subst}
+use Rattle.std.proofs.Common.{◌≡◌, true, false, ap, sym, ◌∙◌, subst}
 use Rattle.xd_edge.specs.declared.mode.ModeKind.{ModeKind}
 use Rattle.xd_journal.specs.declared.entry.Entry.{Entry}
 use Rattle.xd_journal.specs.declared.entry.Entry.TheVariants.{Ready, Collected, Done, Back, Finished, Refused, Down, NotStarted, Start, Run, RunAll, Steal, Shutdown, Kill, Over}
-use Rattle.xd_ledger.specs.Plan.{Plan}
+use Rattle.xd_ledger.specs.Plan.{Plan, is_scope}
 use Rattle.xd_ledger.specs.Turn.{Turn}
 use Rattle.xd_ledger.specs.Modes.{Call, turned}
 use Rattle.xd_ledger.specs.Books.{marked}
@@ -16,7 +16,8 @@ use Rattle.xd_ledger.specs.Proper.{may_follow}
 use Rattle.xd_laws.proofs.Logic.{differ}
 use Rattle.xd_laws.proofs.Turns.{Good}
 use Rattle.xd_laws.proofs.Inputs.{collecting-keeps}
-use Rattle.xd_laws.proofs.Rule.{Turned, turned-good}
+use Rattle.xd_laws.proofs.Queue.{QueueFits}
+use Rattle.xd_laws.proofs.Rule.{Agrees, Turned, agrees-good, turned-good}
 
 -- the mode is this one
 abbrev pub InMode : ModeKind → State → Type 0
@@ -42,6 +43,14 @@ mode-input k s (Over how) h m = absurd (differ h)
 -- the outputs of a mode are those of its own rule
 pub turned-in : (k : ModeKind) (X : State → Type 0) (s : State) (c : Call) → InMode k s → Turned X s (turned k c (turn_of s)).acts → Turned X s (acts_of c s)
 turned-in k X s c m t = subst (λ (q : ModeKind). Turned X s (turned q c (turn_of s)).acts) (sym m) t
+
+-- what they make of the state, too
+pub agrees-in : (k : ModeKind) (s : State) (c : Call) → InMode k s → Good s (turned k c (turn_of s)) → Agrees s (turned s.plan.mode c (turn_of s))
+agrees-in k s c m g = subst (λ (q : ModeKind). Agrees s (turned q c (turn_of s))) (sym m) (agrees-good s (turned k c (turn_of s)) g)
+
+-- a mode that hands out tests has no queue of units
+pub no-queue : (k : ModeKind) (s : State) → is_scope k ≡ false → InMode k s → is_scope s.plan.mode ≡ true → QueueFits s.books.table s.plan s.books.crew
+no-queue k s n m h = absurd (differ (sym n ∙ ap is_scope (sym m) ∙ h))
 
 pub turned-mode : (k : ModeKind) (s : State) (t : Turn) → InMode k s → Good s t → Turned (InMode k) s t.acts
 turned-mode k s t m g = turned-good (InMode k) s t g (ap (λ (p : Plan). p.mode) g.plan ∙ g.mode ∙ m)

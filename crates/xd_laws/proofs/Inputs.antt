@@ -1,6 +1,6 @@
 -- The state behind an input that may follow is tidy.
-use Rattle.std.proofs.Common.{◌≡◌, ℕ, ◌+◌, List, [], ◌∷◌, map, true, false, refl, ap, sym, ◌∙◌, arith, length, not}
-use Rattle.std.specs.Prelude.{Some, None, Option, is_some, ◌==◌}
+use Rattle.std.proofs.Common.{◌≡◌, ℕ, zero, suc, ◌+◌, List, [], ◌∷◌, map, Bool, true, false, refl, ap, sym, ◌∙◌, arith, length, not}
+use Rattle.std.specs.Prelude.{Some, None, Option, is_some, ◌==◌, if◌then◌else◌}
 use Rattle.std.specs.List.{range_with_len}
 use Rattle.std.proofs.lemmas.Bool.Decides.{nat_tests}
 use Rattle.xd_journal.specs.declared.entry.Ids.{Ids}
@@ -9,14 +9,15 @@ use Rattle.xd_journal.specs.declared.entry.RunStop.{RunStop}
 use Rattle.xd_journal.specs.declared.entry.RunStop.TheVariants.{CollectError}
 use Rattle.xd_journal.specs.declared.entry.Entry.{Entry}
 use Rattle.xd_journal.specs.declared.entry.Entry.TheVariants.{Ready, Collected, Done, Back, Finished, Refused, Down, NotStarted, Start, Run, RunAll, Steal, Shutdown, Kill, Over}
+use Rattle.xd_ledger.specs.declared.member.Listed.{Listed}
 use Rattle.xd_ledger.specs.declared.member.Member.{Member}
 use Rattle.xd_ledger.specs.Table.{joined}
-use Rattle.xd_ledger.specs.Plan.{items_named, total}
+use Rattle.xd_ledger.specs.Plan.{is_each, items_named, total}
 use Rattle.xd_ledger.specs.Books.{marked}
 use Rattle.xd_ledger.specs.Workers.{is_shut, slot_of, made_ready, made_collected, made_gone}
 use Rattle.xd_ledger.specs.Collections.{unequal, listed, with_list}
 use Rattle.xd_ledger.specs.Stops.{is_stopped, or_stop, stopped_by, at_limit, out_of_restarts}
-use Rattle.xd_ledger.specs.Sharing.{State, in_books, joining, share_where_full, shared_now, is_full}
+use Rattle.xd_ledger.specs.Sharing.{State, in_books, joining, share_where_full, shared_now, sizes_from, is_full}
 use Rattle.xd_ledger.specs.State.{moved, collecting, completed_first, failing, done_stop, gone, buried}
 use Rattle.xd_ledger.specs.Proper.{may_follow}
 use Rattle.xd_laws.proofs.Logic.{differ, in_both, split-and, not_true}
@@ -168,3 +169,23 @@ full-share s n = in_both (λ (u : State). u.books.shared ≡ true → IsFull u) 
 
 pub full-joining : (s : State) (w : ℕ) → s.books.shared ≡ false → (joining w s).books.shared ≡ true → IsFull (joining w s)
 full-joining s w n k = full-share (in_books (λ b. record b { table = joined w b.table }) s) n k
+
+-- in mode each every slot has its number of tests
+abbrev pub IsSized : State → Type 0
+IsSized s = is_each s.plan.mode ≡ true → length s.plan.sizes ≡ s.books.settings.workers
+
+length-sizes : (ls : List Listed) (slot n : ℕ) → length (sizes_from ls slot n) ≡ n
+length-sizes ls slot zero = refl
+length-sizes ls slot (suc n) = ap suc (length-sizes ls (slot + 1) n)
+
+sized-by : (ls : List Listed) (n : ℕ) (b : Bool) → b ≡ true → length (sizes_from ls 0 (if b then n else 1)) ≡ n
+sized-by ls n true h = length-sizes ls 0 n
+sized-by ls n false h = absurd (differ h)
+
+sized-share : (s : State) → s.books.shared ≡ false → (share_where_full s).books.shared ≡ true → IsSized (share_where_full s)
+sized-share s n = in_both (λ (u : State). u.books.shared ≡ true → IsSized u) (is_full s.books) (shared_now s) s
+    (λ h k e. sized-by s.books.lists s.books.settings.workers (is_each s.plan.mode) e)
+    (λ h k. absurd (differ (sym n ∙ k)))
+
+pub sized-joining : (s : State) (w : ℕ) → s.books.shared ≡ false → (joining w s).books.shared ≡ true → IsSized (joining w s)
+sized-joining s w n k = sized-share (in_books (λ b. record b { table = joined w b.table }) s) n k

@@ -34,7 +34,9 @@ pub mod Shared
 pub mod Stopping
 pub mod Early
 pub mod Placing
+pub mod Calls
 pub mod Laws
+pub mod Unshared
 pub mod Whole
 mod Rows
 mod WholeRows

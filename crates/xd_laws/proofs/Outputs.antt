@@ -27,7 +27,7 @@ use Rattle.xd_laws.proofs.Placed.{shared-of_held, shared-of_back, one_item, head
 use Rattle.xd_laws.proofs.CrewFits.{IsFree, kin-same, free-gone}
 use Rattle.xd_laws.proofs.Turns.{Tidy, Calm, MayShut, InRota, orderly-shutdown}
 use Rattle.xd_laws.proofs.Rule.{Fit, IsFresh, Rule, fit-none, fit-first, fit-join, fit-start, fit-shutdown, fit-shut_all}
-use Rattle.xd_laws.proofs.Inputs.{IsFull, still_shared, shut_as_before, tidy-input, joins-by, joins-rota, full-joining}
+use Rattle.xd_laws.proofs.Inputs.{IsFull, IsSized, still_shared, shut_as_before, tidy-input, joins-by, joins-rota, full-joining, sized-joining}
 
 unless-fit : (X : State → Type 0) → Rule X → (s : Books) (t : State) (es : List Entry) → Tidy t → X t → (is_stopped s ≡ false → is_stopped t.books ≡ false → Fit X t es) → Fit X t (unless_stopped s t.books es)
 unless-fit X rule s t es d x f =
@@ -68,13 +68,13 @@ joining-fit X rule s t w d x rota unshut still fresh =
     (λ h. (rule.turns t (Joined w (slot_of w t.books)) d (still h) x (record { rota = rota; slot_is = refl; unshut = sym (d.placed.fits.marks w (seat-among w t.books.table.rota ∙ rota)) ∙ unshut })).fit)
     (λ h. in_both (λ (os : List Entry). Fit X t os) t.books.shared shared_ [] (λ k. (rule.turns t (Share (slots_of_rota t.books)) d k x (fresh h k)).fit) (λ k. fit-none X t d x))
 
-fresh-by : (s t : State) (w : ℕ) → t ≡ joining w s → ((v : ℕ) → has v (λ m. m.shut) t.books.crew ≡ false) → s.books.shared ≡ false → t.books.shared ≡ true → IsFresh t (slots_of_rota t.books)
+pub fresh-by : (s t : State) (w : ℕ) → t ≡ joining w s → ((v : ℕ) → has v (λ m. m.shut) t.books.crew ≡ false) → s.books.shared ≡ false → t.books.shared ≡ true → IsFresh t (slots_of_rota t.books)
 fresh-by s t w e unshut h k =
-    let f = full-joining s w h (ap (λ (u : State). u.books.shared) (sym e) ∙ k) in
-    record { slots_are = refl; pool = subst IsFull (sym e) f; unshut = unshut }
+    let now : (joining w s).books.shared ≡ true = ap (λ (u : State). u.books.shared) (sym e) ∙ k in
+    record { slots_are = refl; pool = subst IsFull (sym e) (full-joining s w h now); sizes = subst IsSized (sym e) (sized-joining s w h now); unshut = unshut }
 
 -- who shares was told nothing before
-unshut-collected : (s : State) (w : ℕ) (g : Ids) → Calm s → is_stopped s.books ≡ false → s.books.shared ≡ false → (v : ℕ) → has v (λ m. m.shut) (moved s (Collected w g)).books.crew ≡ false
+pub unshut-collected : (s : State) (w : ℕ) (g : Ids) → Calm s → is_stopped s.books ≡ false → s.books.shared ≡ false → (v : ℕ) → has v (λ m. m.shut) (moved s (Collected w g)).books.crew ≡ false
 unshut-collected s w g c h k v = shut_as_before s w v g ∙ c.unshut h k v
 
 collected-fit : (X : State → Type 0) → Rule X → (s : State) (w : ℕ) (g : Ids) → Tidy s → Tidy (moved s (Collected w g)) → X (moved s (Collected w g))
@@ -92,7 +92,7 @@ collected-fit X rule s w g d t x =
 
 -- a test ends
 
-workers-first : (w : ℕ) (items : List ℕ) (t : Table) → workers_of (completed_first w items t) ≡ workers_of t
+pub workers-first : (w : ℕ) (items : List ℕ) (t : Table) → workers_of (completed_first w items t) ≡ workers_of t
 workers-first w [] t = refl
 workers-first w (i ∷ is) t = workers-change w (λ s. record s { held = without (i ∷ []) s.held }) t.rota (λ s. refl)
 

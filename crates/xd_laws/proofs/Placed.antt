@@ -137,7 +137,7 @@ shared-of_held s w x k h = elim (cases_of s.books.shared) [
       absurd (omega (arith, none, times-table x t, held-within x w t.rota, among-times x (held w t) h)))
 ]
 
-first_among : (is xs : List ℕ) → not_empty is ≡ true → all_among is xs ≡ true → (x : ℕ) × (among x xs ≡ true)
+pub first_among : (is xs : List ℕ) → not_empty is ≡ true → all_among is xs ≡ true → (x : ℕ) × (among x xs ≡ true)
 first_among [] xs h k = absurd (differ h)
 first_among (i ∷ is) xs h k = (i, (split-and (among i xs) (all_among is xs) k).0)
 

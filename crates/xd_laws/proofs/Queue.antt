@@ -10,12 +10,13 @@ use Rattle.xd_ledger.specs.Table.{Table, held, held_in, in_rota, at_seat, withou
 use Rattle.xd_ledger.specs.Plan.{Plan, Handed}
 use Rattle.xd_ledger.specs.Units.{units_left}
 use Rattle.xd_ledger.specs.Orderly.{not_empty}
+use Rattle.xd_ledger.specs.Suits.{tests_of}
 use Rattle.xd_laws.proofs.Logic.{differ, cases_of, split-and, split-or, not_true}
 use Rattle.xd_laws.proofs.Counts.{times-append, times-without, among-times}
 use Rattle.xd_laws.proofs.Rota.{has_seat, seat-change, seat-left, seat-joined}
 use Rattle.xd_laws.proofs.Places.{AtMostOnce, times-table, held-within}
 use Rattle.xd_laws.proofs.Crew.{has}
-use Rattle.xd_laws.proofs.Units.{tests_of, none_empty, tests-append, none_empty-append, given_to, given-more, tests-left, none_empty-left}
+use Rattle.xd_laws.proofs.Units.{none_empty, tests-append, none_empty-append, given_to, given-more, tests-left, none_empty-left}
 
 -- what one worker holds
 

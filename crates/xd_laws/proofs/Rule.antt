@@ -9,19 +9,20 @@ use Rattle.xd_journal.specs.declared.entry.Entry.TheVariants.{Start, Shutdown}
 use Rattle.xd_ledger.specs.declared.member.Member.{Member}
 use Rattle.xd_ledger.specs.Numbers.{among, all_distinct}
 use Rattle.xd_ledger.specs.Table.{seat_shut}
-use Rattle.xd_ledger.specs.Plan.{total}
+use Rattle.xd_ledger.specs.Plan.{total, is_each, is_scope}
 use Rattle.xd_ledger.specs.Turn.{Turn}
-use Rattle.xd_ledger.specs.Modes.{Call}
+use Rattle.xd_ledger.specs.Modes.{Call, turned}
 use Rattle.xd_ledger.specs.Modes.Call.{Share, Joined, TestDone, TestsBack, Died}
 use Rattle.xd_ledger.specs.Workers.{slot_of, made_shut, is_waiting, started}
 use Rattle.xd_ledger.specs.Sharing.{State}
 use Rattle.xd_ledger.specs.State.{moved, all_moved, settled}
-use Rattle.xd_ledger.specs.Outputs.{acts_of, shut_all, slots_of_rota}
+use Rattle.xd_ledger.specs.Outputs.{acts_of, shut_all, slots_of_rota, turn_of}
 use Rattle.xd_ledger.specs.Proper.{may_follow}
 use Rattle.xd_ledger.specs.Orderly.{is_orderly, all_orderly}
 use Rattle.xd_laws.proofs.Logic.{differ, and-false, cases_of, split-and, not_true, and}
 use Rattle.xd_laws.proofs.Crew.{has-more, has, has-same, has-set, numbers, distinct-numbered, none-next}
 use Rattle.xd_laws.proofs.Placed.{placed-output}
+use Rattle.xd_laws.proofs.Queue.{QueueFits}
 use Rattle.xd_laws.proofs.CrewFits.{Kin, IsFree, kin-length, kin-free, crew-start}
 use Rattle.xd_laws.proofs.Turns.{Calm, MayShut, Tidy, Good, InRota, all_moved-first, all_moved-join, all_orderly-join, tidy-quiet, orderly-shutdown}
 
@@ -37,10 +38,16 @@ pub record Turned (X : State → Type 0) (s : State) (es : List Entry) : Type 0 
   pub kin : Kin s.books.crew (all_moved s es).books.crew
   pub settings : (all_moved s es).books.settings ≡ s.books.settings
 
+-- what the outputs of a mode make of table and plan is what its rule computes
+pub record Agrees (s : State) (t : Turn) : Type 0 where
+  pub table : (all_moved s t.acts).books.table ≡ t.table
+  pub plan : (all_moved s t.acts).plan ≡ t.plan
+
 -- the tests were shared just now, among workers of these slots
 pub record IsFresh (s : State) (slots : List ℕ) : Type 0 where
   pub slots_are : slots ≡ slots_of_rota s.books
   pub pool : s.books.table.pool ≡ range_with_len 0 (total s.plan)
+  pub sizes : is_each s.plan.mode ≡ true → length s.plan.sizes ≡ s.books.settings.workers
   pub unshut : (v : ℕ) → has v (λ m. m.shut) s.books.crew ≡ false
 
 -- the worker joined, at this slot, and was told nothing
@@ -57,13 +64,16 @@ CallFits s (TestDone w ms) = InRota s w
 CallFits s TestsBack = Unit {0}
 CallFits s Died = Unit {0}
 
--- what a mode says is in order, and keeps this; and so does everything else that happens
+-- what a mode says is in order, agrees with its rule, and keeps this; and so does everything else that happens; where units
+-- are handed out, those that wait fit the table
 pub record Rule (X : State → Type 0) : Type 0 where
   pub input : (s : State) (e : Entry) → may_follow s e ≡ true → Tidy s → X s → X (moved s e)
   pub start : (s : State) (w slot : ℕ) → X s → X (moved s (Start w slot))
   pub shutdown : (s : State) (w : ℕ) → MayShut s → X s → X (moved s (Shutdown w))
   pub settled : (s : State) → X s → X (settled s)
   pub turns : (s : State) (c : Call) → Tidy s → s.books.shared ≡ true → X s → CallFits s c → Turned X s (acts_of c s)
+  pub agrees : (s : State) (c : Call) → Tidy s → s.books.shared ≡ true → X s → CallFits s c → Agrees s (turned s.plan.mode c (turn_of s))
+  pub queue : (s : State) → X s → is_scope s.plan.mode ≡ true → QueueFits s.books.table s.plan s.books.crew
 
 pub fit-none : (X : State → Type 0) (s : State) → Tidy s → X s → Fit X s []
 fit-none X s d x = record { orderly = refl; tidy = d; also = x }
@@ -77,6 +87,9 @@ pub fit-join : (X : State → Type 0) (s : State) (xs ys : List Entry) → Fit X
 fit-join X s xs ys a b =
     let same = sym (all_moved-join s xs ys) in
     record { orderly = all_orderly-join s xs ys a.orderly b.orderly; tidy = subst Tidy same b.tidy; also = subst X same b.also }
+
+pub agrees-good : (s : State) (t : Turn) → Good s t → Agrees s t
+agrees-good s t g = record { table = g.table; plan = g.plan }
 
 pub turned-good : (X : State → Type 0) (s : State) (t : Turn) → Good s t → X (all_moved s t.acts) → Turned X s t.acts
 turned-good X s t g x = record { fit = record { orderly = g.orderly; tidy = g.tidy; also = x }; kin = g.kin; settings = g.settings }

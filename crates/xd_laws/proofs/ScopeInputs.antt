@@ -17,13 +17,14 @@ use Rattle.xd_ledger.specs.Collections.{unequal, listed, with_list}
 use Rattle.xd_ledger.specs.Sharing.{State, in_books, ids_at, planned, shared_now}
 use Rattle.xd_ledger.specs.State.{moved, completed_first, down_plan}
 use Rattle.xd_ledger.specs.Proper.{may_follow, are_ids}
+use Rattle.xd_ledger.specs.Suits.{tests_of}
 use Rattle.xd_laws.proofs.Logic.{differ, cases_of, split-and, not_true}
 use Rattle.xd_laws.proofs.Places.{AtMostOnce}
 use Rattle.xd_laws.proofs.Crew.{has, has-same, has-kept, has-more}
 use Rattle.xd_laws.proofs.Placed.{at_most_once, no_back}
 use Rattle.xd_laws.proofs.Turns.{Tidy}
 use Rattle.xd_laws.proofs.Inputs.{collecting-keeps}
-use Rattle.xd_laws.proofs.Units.{tests_of, none_empty, tests-units, none_empty-units, given_to}
+use Rattle.xd_laws.proofs.Units.{none_empty, tests-units, none_empty-units, given_to}
 use Rattle.xd_laws.proofs.Queue.{QueueFits, buried_plan, queue-crew, queue-shut, queue-completed, queue-left, queue-died, queue-joined}
 use Rattle.xd_laws.proofs.ScopeTurns.{IsScoped}
 

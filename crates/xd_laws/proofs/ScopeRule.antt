@@ -14,7 +14,7 @@ use Rattle.xd_ledger.specs.Outputs.{turn_of, acts_of}
 use Rattle.xd_laws.proofs.Logic.{differ}
 use Rattle.xd_laws.proofs.Rota.{seat-among}
 use Rattle.xd_laws.proofs.Turns.{Tidy, good-first}
-use Rattle.xd_laws.proofs.Rule.{CallFits, Turned, Rule, turned-good}
+use Rattle.xd_laws.proofs.Rule.{Agrees, CallFits, Turned, Rule, agrees-good, turned-good}
 use Rattle.xd_laws.proofs.Queue.{QueueFits, queue-crew}
 use Rattle.xd_laws.proofs.ScopeTurns.{IsScoped, Fine, fine-share, fine-refill, fine-refill_all}
 use Rattle.xd_laws.proofs.ScopeInputs.{Scoped, scoped-input, scoped-start, scoped-shutdown}
@@ -59,6 +59,8 @@ scope_rule = record {
   shutdown = λ s w p k. scoped-shutdown s w k;
   settled = λ s k. record { mode = record { scope = k.mode.scope; each = k.mode.each }; queue = k.queue };
   turns = scope-turned;
+  agrees = λ s c d h k f. subst (λ (t : Turn). Agrees s t) (sym (turned-scope s.plan.mode c (turn_of s) k.mode.scope)) (agrees-good s (scope_turn c (turn_of s)) (scope-fine s c d h k f).good);
+  queue = λ s k h. k.queue;
 }
 
 each-no : (k : ModeKind) → is_scope k ≡ true → is_each k ≡ false

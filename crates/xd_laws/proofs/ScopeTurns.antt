@@ -17,12 +17,13 @@ use Rattle.xd_ledger.specs.Sharing.{State}
 use Rattle.xd_ledger.specs.State.{all_moved, run_plan}
 use Rattle.xd_ledger.specs.Outputs.{turn_of}
 use Rattle.xd_ledger.specs.Orderly.{not_empty}
+use Rattle.xd_ledger.specs.Suits.{tests_of}
 use Rattle.xd_laws.proofs.Logic.{differ, split-and, in_both}
 use Rattle.xd_laws.proofs.Counts.{times-append, among-times, times-among, distinct-of_times, all_among-of, all_among-self, all_among-take, all_among-drop, among_of-all_among}
 use Rattle.xd_laws.proofs.Rota.{told-change, workers-change}
 use Rattle.xd_laws.proofs.Places.{times-table}
 use Rattle.xd_laws.proofs.Turns.{Tidy, Good, InRota, in_rota-behind, unshut-of, turn-once, orderly-run, named-plain, good-more, good-shut, in_turn-keeps}
-use Rattle.xd_laws.proofs.Units.{tests_of, none_empty}
+use Rattle.xd_laws.proofs.Units.{none_empty}
 use Rattle.xd_laws.proofs.Queue.{QueueFits, handed_out, queue-shut, queue-given}
 use Rattle.xd_laws.proofs.EachTurns.{told-other, rota-distinct}
 

@@ -222,4 +222,6 @@ rule-spent X rule = record {
     kin = t.kin;
     settings = t.settings;
   });
+  agrees = λ s c d h k f. rule.agrees s c d h k.also f;
+  queue = λ s k h. rule.queue s k.also h;
 }

@@ -7,7 +7,7 @@ use Rattle.xd_ledger.specs.Sharing.{State}
 use Rattle.xd_ledger.specs.Outputs.{turn_of}
 use Rattle.xd_laws.proofs.Turns.{Tidy, Good, IsPlain, good-first}
 use Rattle.xd_laws.proofs.Rule.{CallFits, Rule}
-use Rattle.xd_laws.proofs.InMode.{InMode, mode-input, turned-in, turned-mode}
+use Rattle.xd_laws.proofs.InMode.{InMode, agrees-in, mode-input, no-queue, turned-in, turned-mode}
 use Rattle.xd_laws.proofs.StealTurns.{good-rule, good-share}
 
 steal_plain : (s : State) → InMode WorkSteal s → IsPlain s.plan.mode
@@ -27,4 +27,6 @@ steal_rule = record {
   shutdown = λ s w p m. m;
   settled = λ s m. m;
   turns = λ s c d h m f. turned-in WorkSteal (InMode WorkSteal) s c m (turned-mode WorkSteal s (turned WorkSteal c (turn_of s)) m (steal-good s c d h m f));
+  agrees = λ s c d h m f. agrees-in WorkSteal s c m (steal-good s c d h m f);
+  queue = λ s m. no-queue WorkSteal s refl m;
 }

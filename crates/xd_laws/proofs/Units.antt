@@ -11,13 +11,9 @@ use Rattle.xd_ledger.specs.Plan.{Handed}
 use Rattle.xd_ledger.specs.Scopes.{scope_of}
 use Rattle.xd_ledger.specs.Units.{Group, added, grouped, put, largest_first, units, unless_empty, units_left}
 use Rattle.xd_ledger.specs.Orderly.{not_empty}
+use Rattle.xd_ledger.specs.Suits.{tests_of}
 use Rattle.xd_laws.proofs.Logic.{split-and, and, in_both}
 use Rattle.xd_laws.proofs.Counts.{times-append}
-
--- the tests of all units
-abbrev pub tests_of : List (List ℕ) → List ℕ
-tests_of [] = []
-tests_of (u ∷ us) = u ++ tests_of us
 
 abbrev pub none_empty : List (List ℕ) → Bool
 none_empty us = list_all not_empty us

@@ -1,17 +1,16 @@
 // The batches of mode load.
-ghost use Rattle.std.specs.Prelude.{◌≡◌, ◌<◌, ◌++◌, ◌∷◌, [], OnOk, true};
-ghost use Rattle.xd_edge.specs.declared.mode.ModeKind.TheVariants.{Load};
+ghost use Rattle.std.specs.Prelude.{◌≡◌, ◌<◌, OnOk, true};
 ghost use Rattle.xd_ledger.specs.Calls.{turn};
 ghost use Rattle.xd_ledger.specs.Load.{more, is_due, refill, refill_all, give_unless_shut, dealt, share};
 ghost use Rattle.xd_ledger.specs.Plan.{Plan};
 ghost use Rattle.xd_ledger.specs.Table.{in_rota, workers_of};
-ghost use Rattle.xd_ledger.specs.Turn.{in_turn, shut, shut_each};
+ghost use Rattle.xd_ledger.specs.Turn.{in_turn};
 ghost use Rattle.xd_load.specs.Stands.{InChunks};
 
 use std::alloc::Global;
 use xd_edge::OutOfMemory;
 use xd_journal::Entry;
-use xd_ledger::Ledger;
+use xd_ledger::{Ledger, give_front, shut, shut_rota};
 
 // A worker starts a test when another stands behind it, so it needs two.
 const ENOUGH: u32 = 2;
@@ -38,14 +37,6 @@ fn due(pool: u32, workers: u32, holds: u32, ms: u64) -> bool
     holds < low && !(ms >= SLOW_MS && holds >= ENOUGH)
 }
 
-// One more act.
-fn act(entry: Entry, acts: &mut Vec<Entry>) -> Result<(), OutOfMemory>
-    ensures { OnOk result (acts.new.items ≡ acts.old.items ++ entry ∷ []) }
-{
-    acts.push(entry)?;
-    Ok(())
-}
-
 // A worker that isn't shut gets these many from the pool's front.
 fn give(
     alloc: Global,
@@ -55,14 +46,13 @@ fn give(
     acts: &mut Vec<Entry>,
 ) -> Result<(), OutOfMemory>
     requires { in_rota worker ledger.old ≡ true }
-    ensures { OnOk result ((p : Plan) → p.mode ≡ Load →
+    ensures { OnOk result ((p : Plan) →
         turn ledger.new p acts.new.items ≡ give_unless_shut count worker (turn ledger.old p acts.old.items)) }
 {
-    if ledger.is_shut(worker) || count == 0 || ledger.pool_len() == 0 {
-        return Ok(());
+    if !ledger.is_shut(worker) {
+        give_front(alloc, worker, count, ledger, acts)?;
     }
-    let indices = ledger.assign_front(alloc, worker, count)?;
-    act(Entry::Run { worker, indices }, acts)
+    Ok(())
 }
 
 // Refills the worker.
@@ -83,8 +73,7 @@ pub(crate) fn refill_one(
     }
     let pool = ledger.pool_len();
     if pool == 0 {
-        ledger.shut(worker);
-        return act(Entry::Shutdown { worker }, acts);
+        return shut(worker, ledger, acts);
     }
     let workers = ledger.rota_len();
     let holds = ledger.held_len(worker);
@@ -92,23 +81,7 @@ pub(crate) fn refill_one(
         return Ok(());
     }
     let count = more_of(pool, workers, chunk, holds);
-    if count == 0 {
-        return Ok(());
-    }
-    let indices = ledger.assign_front(alloc, worker, count)?;
-    act(Entry::Run { worker, indices }, acts)
-}
-
-// Shuts the worker, where it isn't.
-fn shut_one(worker: u32, ledger: &mut Ledger, acts: &mut Vec<Entry>) -> Result<(), OutOfMemory>
-    requires { in_rota worker ledger.old ≡ true }
-    ensures { OnOk result ((p : Plan) → turn ledger.new p acts.new.items ≡ shut worker (turn ledger.old p acts.old.items)) }
-{
-    if ledger.is_shut(worker) {
-        return Ok(());
-    }
-    ledger.shut(worker);
-    act(Entry::Shutdown { worker }, acts)
+    give_front(alloc, worker, count, ledger, acts)
 }
 
 // Refills every worker.
@@ -128,18 +101,6 @@ pub(crate) fn refill_each(
     Ok(())
 }
 
-// Shuts every worker.
-fn shut_everyone(ledger: &mut Ledger, acts: &mut Vec<Entry>) -> Result<(), OutOfMemory>
-    ensures { OnOk result ((p : Plan) →
-        turn ledger.new p acts.new.items ≡ shut_each (workers_of ledger.old) (turn ledger.old p acts.old.items)) }
-{
-    for place in 0..ledger.rota_len() {
-        let worker = ledger.rota_at(place);
-        shut_one(worker, ledger, acts)?;
-    }
-    Ok(())
-}
-
 // Every worker gets these many.
 fn give_each(
     alloc: Global,
@@ -147,7 +108,7 @@ fn give_each(
     ledger: &mut Ledger,
     acts: &mut Vec<Entry>,
 ) -> Result<(), OutOfMemory>
-    ensures given { OnOk result ((p : Plan) → p.mode ≡ Load →
+    ensures given { OnOk result ((p : Plan) →
         turn ledger.new p acts.new.items ≡ in_turn (give_unless_shut count) (workers_of ledger.old) (turn ledger.old p acts.old.items)) }
     ensures same { OnOk result (workers_of ledger.new ≡ workers_of ledger.old) }
 {
@@ -195,7 +156,7 @@ pub(crate) fn share_all(
 {
     share_out(alloc, chunk, ledger, acts)?;
     if ledger.pool_len() == 0 {
-        shut_everyone(ledger, acts)?;
+        shut_rota(ledger, acts)?;
         return Ok(());
     }
     Ok(())

@@ -1,95 +1,157 @@
 -- The outputs of a rule, put together.
-use Rattle.std.proofs.Common.{◌≡◌, ℕ, drop, List, [], ◌∷◌, ◌++◌, refl, ap, sym, subst, ◌∙◌, Bool, true, false, append_assoc}
+use Rattle.std.proofs.Common.{◌≡◌, ℕ, ◌-◌, drop, length, List, [], ◌∷◌, ◌++◌, refl, ap, sym, subst, ◌∙◌, arith, Bool, true, false, not, append_assoc, length-append}
 use Rattle.std.specs.Prelude.{if◌then◌else◌, Option, Some, None, is_some}
-use Rattle.xd_edge.specs.declared.mode.ModeKind.{ModeKind}
-use Rattle.xd_edge.specs.declared.mode.ModeKind.TheVariants.{Load}
+use Rattle.std.specs.List.{list_all}
 use Rattle.xd_journal.specs.declared.entry.Entry.{Entry}
-use Rattle.xd_journal.specs.declared.entry.Entry.TheVariants.{Done, Finished, Refused, Kill, Start}
+use Rattle.xd_journal.specs.declared.entry.Entry.TheVariants.{Ready, Collected, Done, Back, Finished, Refused, Down, NotStarted, Start, Run, RunAll, Steal, Shutdown, Kill, Over}
 use Rattle.xd_journal.specs.declared.entry.Outcome.{Outcome}
 use Rattle.xd_journal.specs.declared.entry.RunStop.{RunStop}
 use Rattle.xd_journal.specs.declared.entry.RunStop.TheVariants.{CollectError}
 use Rattle.xd_ledger.specs.declared.member.Member.{Member}
-use Rattle.xd_ledger.specs.Books.{Books}
-use Rattle.xd_ledger.specs.Table.{Table, held}
-use Rattle.xd_ledger.specs.Plan.{Plan, Asked, items_named, is_scope}
-use Rattle.xd_ledger.specs.Units.{units_left}
-use Rattle.xd_ledger.specs.Turn.{Turn}
-use Rattle.xd_ledger.specs.Calls.{Turned, turn}
-use Rattle.xd_ledger.specs.Modes.{Call, turned}
+use Rattle.xd_ledger.specs.Books.{Books, on_table}
+use Rattle.xd_ledger.specs.Table.{Table, given_back, held}
+use Rattle.xd_ledger.specs.Plan.{Plan, Asked, is_each, items_named}
+use Rattle.xd_ledger.specs.Calls.{Turned, last_of}
+use Rattle.xd_ledger.specs.Modes.{Call}
+use Rattle.xd_ledger.specs.Modes.Call.{Died, TestDone, TestsBack}
 use Rattle.xd_ledger.specs.Workers.{waiting, slot_of}
 use Rattle.xd_ledger.specs.Stops.{is_stopped, or_stop}
 use Rattle.xd_ledger.specs.Sharing.{State, in_books}
-use Rattle.xd_ledger.specs.State.{all_moved, moved, done_books, down_books, down_plan, steal_without, after_down}
-use Rattle.xd_ledger.specs.Outputs.{turn_of, acts_of, own_outputs, shut_all}
-use Rattle.xd_session.specs.Rules.{At, Acted, Closed, Ruled, begun_at, told_all, crew_told}
-use Rattle.xd_session.proofs.Closing.{all_moved-append, told-moved, ruled, append-nil}
-use Rattle.xd_session.proofs.Follow.{Follows}
+use Rattle.xd_ledger.specs.State.{after_back, after_down, all_moved, done_books, down_books, down_plan, moved, next, steal_without}
+use Rattle.xd_ledger.specs.Suits.{Finds, Suits}
+use Rattle.xd_ledger.specs.Outputs.{acts_of, own_outputs, shut_all}
+use Rattle.xd_ledger.specs.Proper.{may_follow}
+use Rattle.xd_laws.specs.Called.{Called, Reached}
+use Rattle.xd_laws.proofs.Calls.{back-called, died-called, done-called}
+use Rattle.xd_laws.proofs.Inputs.{done-unstopped, down-unstopped, unstopped-before}
+use Rattle.xd_laws.proofs.Logic.{differ, split-and}
+use Rattle.xd_laws.proofs.Unshared.{down-unshared}
+use Rattle.xd_session.specs.Known.{Known, known_of, steal_told}
+use Rattle.xd_session.specs.Rules.{Acted, At, Before, Calls, Closed, Comes, MayDie, Ruled, begun_at, crew_told, told_all}
+use Rattle.xd_session.proofs.Closing.{all_moved-append, append-nil, ruled, stop-told_all, told-moved}
+use Rattle.xd_session.proofs.Orders.{Tells, tells, tells-acts}
 
-pub acted-none : (s : State) (b : Books) (es : List Entry) (stands : Plan → Type 0) → At s b stands → Acted [] s b es es stands
-acted-none s b es stands a = record { at = a; entries_are = sym (append-nil es) }
+-- what a mode says changes of the books the table and the marks, and of what is known the open steal
 
-pub acted-by : (xs ys : List Entry) (s : State) (b : Books) (es fs : List Entry) (stands : Plan → Type 0) → xs ≡ ys → Acted xs s b es fs stands → Acted ys s b es fs stands
-acted-by xs ys s b es fs stands e a = subst (λ zs. Acted zs s b es fs stands) e a
+told-books : (st : Bool) (es : List Entry) (s : State) → Tells st es → (all_moved s es).books ≡ record (s.books) { table = (all_moved s es).books.table; crew = crew_told es s.books.crew }
+told-books st [] s h = refl
+told-books st (Run w is ∷ es) s h = told-books st es (next s (Run w is)) (split-and true (list_all (tells st) es) h).1
+told-books st (RunAll w ∷ es) s h = told-books st es (next s (RunAll w)) (split-and true (list_all (tells st) es) h).1
+told-books st (Steal w is ∷ es) s h = told-books st es (next s (Steal w is)) (split-and st (list_all (tells st) es) h).1
+told-books st (Shutdown w ∷ es) s h = told-books st es (next s (Shutdown w)) (split-and true (list_all (tells st) es) h).1
+told-books st (Start w slot ∷ es) s h = absurd (differ h)
+told-books st (Kill w ∷ es) s h = absurd (differ h)
+told-books st (Over how ∷ es) s h = absurd (differ h)
+told-books st (Ready w ∷ es) s h = absurd (differ h)
+told-books st (Collected w g ∷ es) s h = absurd (differ h)
+told-books st (Done w i u m o ∷ es) s h = absurd (differ h)
+told-books st (Back w i ∷ es) s h = absurd (differ h)
+told-books st (Finished w ∷ es) s h = absurd (differ h)
+told-books st (Refused w t ∷ es) s h = absurd (differ h)
+told-books st (Down w c o ∷ es) s h = absurd (differ h)
+told-books st (NotStarted w ∷ es) s h = absurd (differ h)
 
-pub acted-shut : (s : State) (b c : Books) (es fs : List Entry) (stands : Plan → Type 0) → At s b stands → c ≡ told_all (waiting b.crew) b → fs ≡ es ++ shut_all b.crew → Acted (shut_all s.books.crew) s c es fs stands
-acted-shut s b c es fs stands a t n =
+told-known : (st : Bool) (es : List Entry) (s : State) → Tells st es → known_of (all_moved s es).plan ≡ record (known_of s.plan) { steal = steal_told es s.plan.steal }
+told-known st [] s h = refl
+told-known st (Run w is ∷ es) s h = told-known st es (next s (Run w is)) (split-and true (list_all (tells st) es) h).1
+told-known st (RunAll w ∷ es) s h = told-known st es (next s (RunAll w)) (split-and true (list_all (tells st) es) h).1
+told-known st (Steal w is ∷ es) s h = told-known st es (next s (Steal w is)) (split-and st (list_all (tells st) es) h).1
+told-known st (Shutdown w ∷ es) s h = told-known st es (next s (Shutdown w)) (split-and true (list_all (tells st) es) h).1
+told-known st (Start w slot ∷ es) s h = absurd (differ h)
+told-known st (Kill w ∷ es) s h = absurd (differ h)
+told-known st (Over how ∷ es) s h = absurd (differ h)
+told-known st (Ready w ∷ es) s h = absurd (differ h)
+told-known st (Collected w g ∷ es) s h = absurd (differ h)
+told-known st (Done w i u m o ∷ es) s h = absurd (differ h)
+told-known st (Back w i ∷ es) s h = absurd (differ h)
+told-known st (Finished w ∷ es) s h = absurd (differ h)
+told-known st (Refused w t ∷ es) s h = absurd (differ h)
+told-known st (Down w c o ∷ es) s h = absurd (differ h)
+told-known st (NotStarted w ∷ es) s h = absurd (differ h)
+
+-- a call of the mode
+
+pub suits-by : (c : Call) (change : Plan → Plan) (s : State) (b : Books) (k : Known) (stands : Plan → Type 0) → Calls c s b k (Before change stands) → Suits c change b.table stands
+suits-by c change s b k stands a =
+    let q = a.at.stands_for a.going in
+    record {
+      plan = q.0;
+      stands_for = q.1.0;
+      finds = subst (λ (p : Plan). Finds c p b.table) q.1.1 (subst (λ (d : Books). Finds c s.plan d.table) (sym a.at.books_are) a.called.finds);
+    }
+
+-- a call for which nothing changes of the plan
+pub as-before : (c : Call) (s : State) (b : Books) (k : Known) (stands : Plan → Type 0) → Calls c s b k stands → Calls c s b k (Before (λ p. p) stands)
+as-before c s b k stands a = record {
+  at = record { books_are = a.at.books_are; known_is = a.at.known_is; stands_for = λ h. (s.plan, (a.at.stands_for h, refl)) };
+  going = a.going;
+  called = a.called;
+}
+
+pub acted-call : (c : Call) (change : Plan → Plan) (s : State) (b d : Books) (k j : Known) (none acts : List Entry) (table : Table) (old new : List Entry) (stands stands_now : Plan → Type 0)
+    → none ≡ [] → Calls c s b k (Before change stands) → ((p : Plan) → stands p → Turned c (change p) b.table none table acts stands_now)
+    → d ≡ record b { table = table; crew = crew_told acts b.crew } → j ≡ record k { steal = steal_told acts k.steal } → new ≡ old ++ acts → Acted (acts_of c s) s d j old new stands_now
+acted-call c change s b d k j none acts table old new stands stands_now z a t de je n =
+    let q = a.at.stands_for a.going in
+    let t1 : Turned c s.plan b.table none table acts stands_now = subst (λ (p : Plan). Turned c p b.table none table acts stands_now) (sym q.1.1) (t q.0 q.1.0) in
+    let t2 : Turned c s.plan b.table [] table acts stands_now = subst (λ (es : List Entry). Turned c s.plan b.table es table acts stands_now) z t1 in
+    let t3 : Turned c s.plan s.books.table [] table acts stands_now = subst (λ (x : Books). Turned c s.plan x.table [] table acts stands_now) a.at.books_are t2 in
+    let m : State = all_moved s (acts_of c s) in
+    let steals = not (is_each s.plan.mode) in
+    let acts_are : acts ≡ acts_of c s = t3.acts_are in
+    let table_is : table ≡ m.books.table = t3.table_is ∙ sym a.called.table in
+    let from : Books → Books = λ x. record x { table = table; crew = crew_told acts x.crew } in
+    let at_table : Table → Books = λ x. record (s.books) { table = x; crew = crew_told acts s.books.crew } in
+    let at_acts : List Entry → Books = λ es. record (s.books) { table = m.books.table; crew = crew_told es s.books.crew } in
+    let knows : Known → Known = λ x. record x { steal = steal_told acts x.steal } in
+    let knows_acts : List Entry → Known = λ es. record (known_of s.plan) { steal = steal_told es s.plan.steal } in
+    record {
+      at = record {
+        books_are = de ∙ ap from a.at.books_are ∙ ap at_table table_is ∙ ap at_acts acts_are ∙ sym (told-books steals (acts_of c s) s (tells-acts c s));
+        known_is = je ∙ ap knows a.at.known_is ∙ ap knows_acts acts_are ∙ sym (told-known steals (acts_of c s) s (tells-acts c s));
+        stands_for = λ h. subst stands_now (sym a.called.plan) t3.stands_for;
+      };
+      entries_are = n ∙ ap (λ (es : List Entry). old ++ es) acts_are;
+    }
+
+-- lists of outputs
+
+pub acted-none : (s : State) (b : Books) (k : Known) (es : List Entry) (stands : Plan → Type 0) → At s b k stands → Acted [] s b k es es stands
+acted-none s b k es stands a = record { at = a; entries_are = sym (append-nil es) }
+
+pub acted-by : (xs ys : List Entry) (s : State) (b : Books) (k : Known) (es fs : List Entry) (stands : Plan → Type 0) → xs ≡ ys → Acted xs s b k es fs stands → Acted ys s b k es fs stands
+acted-by xs ys s b k es fs stands e a = subst (λ zs. Acted zs s b k es fs stands) e a
+
+pub acted-append : (xs ys : List Entry) (s : State) (b c : Books) (k j : Known) (e0 e1 e2 : List Entry) (st0 st : Plan → Type 0) → Acted xs s b k e0 e1 st0 → Acted ys (all_moved s xs) c j e1 e2 st
+    → Acted (xs ++ ys) s c j e0 e2 st
+acted-append xs ys s b c k j e0 e1 e2 st0 st x y = record {
+  at = subst (λ v. At v c j st) (sym (all_moved-append s xs ys)) y.at;
+  entries_are = y.entries_are ∙ ap (λ es. es ++ ys) x.entries_are ∙ append_assoc e0 xs ys;
+}
+
+-- behind a stop a mode stands for nothing
+pub stopped-at : (s : State) (b : Books) (k : Known) (stands : Plan → Type 0) → is_stopped b ≡ true → b ≡ s.books → k ≡ known_of s.plan → At s b k stands
+stopped-at s b k stands h e d = record { books_are = e; known_is = d; stands_for = λ q. absurd (differ (sym (ap is_stopped e ∙ q) ∙ h)) }
+
+pub acted-shut : (s : State) (b c : Books) (k : Known) (es fs : List Entry) (stands : Plan → Type 0) → At s b k stands → c ≡ told_all (waiting b.crew) b → fs ≡ es ++ shut_all b.crew
+    → Acted (shut_all s.books.crew) s c k es fs stands
+acted-shut s b c k es fs stands a t n =
     let ws : List ℕ = waiting s.books.crew in
     let f : Books → Books = λ d. told_all (waiting d.crew) d in
     let g : Books → List Entry = λ d. es ++ shut_all d.crew in
-    let k : c ≡ (in_books (told_all ws) s).books = t ∙ ap f a.books_are in
+    let e : c ≡ (in_books (told_all ws) s).books = t ∙ ap f a.books_are in
     record {
-      at = subst (λ v. At v c stands) (sym (told-moved ws s)) (record { books_are = k; stands_for = a.stands_for; load = a.load; steal = a.steal });
+      at = subst (λ v. At v c k stands) (sym (told-moved ws s)) (record { books_are = e; known_is = a.known_is; stands_for = λ q. a.stands_for (sym (stop-told_all ws s.books) ∙ q) });
       entries_are = n ∙ ap g a.books_are;
     }
 
--- a call of the mode, in a state whose table the call got
-pub acted-books : (s : State) (c : Call) (b : Books) (table : Table) (acts : List Entry) (crew : List Member) (old new : List Entry) (stands_now : Plan → Type 0)
-    → b ≡ s.books → s.plan.steal ≡ None → Turned c s.plan b.table [] table acts stands_now → Follows s (turned s.plan.mode c (turn_of s)) → crew ≡ crew_told acts b.crew → new ≡ old ++ acts
-    → Acted (acts_of c s) s (record b { table = table; crew = crew }) old new stands_now
-acted-books s c b table acts crew old new stands_now a st t f k n =
-    let by : Books → Turn = λ d. turned s.plan.mode c (turn d.table s.plan []) in
-    let u : Turn = by s.books in
-    let e : by b ≡ u = ap by a in
-    let te : table ≡ u.table = t.table_is ∙ ap (λ (v : Turn). v.table) e in
-    let ae : acts ≡ u.acts = t.acts_are ∙ ap (λ (v : Turn). v.acts) e in
-    let told : List Entry → List Member = λ es. crew_told es b.crew in
-    let from : Books → List Member = λ d. crew_told u.acts d.crew in
-    let ce : crew ≡ crew_told u.acts s.books.crew = k ∙ ap told ae ∙ ap from a in
-    let at_crew : List Member → Books = λ ms. record b { table = table; crew = ms } in
-    let at_table : Table → Books = λ d. record b { table = d; crew = crew_told u.acts s.books.crew } in
-    let at_books : Books → Books = λ d. record d { table = u.table; crew = crew_told u.acts s.books.crew } in
-    record {
-      at = subst (λ v. At v (record b { table = table; crew = crew }) stands_now) (sym f.is) (record {
-        books_are = ap at_crew ce ∙ ap at_table te ∙ ap at_books a;
-        stands_for = subst (λ (v : Turn). stands_now v.plan) e t.stands_for;
-        load = f.load;
-        steal = ap (λ (p : Plan). p.steal) f.plan ∙ st;
-      });
-      entries_are = n ∙ ap (λ es. old ++ es) ae;
-    }
-
-pub acted-from : (s : State) (c : Call) (b : Books) (table : Table) (none acts : List Entry) (crew : List Member) (old new : List Entry) (stands stands_now : Plan → Type 0)
-    → none ≡ [] → At s b stands → Turned c s.plan b.table none table acts stands_now → Follows s (turned s.plan.mode c (turn_of s)) → crew ≡ crew_told acts b.crew → new ≡ old ++ acts
-    → Acted (acts_of c s) s (record b { table = table; crew = crew }) old new stands_now
-acted-from s c b table none acts crew old new stands stands_now z a t f k n =
-    acted-books s c b table acts crew old new stands_now a.books_are a.steal (subst (λ es. Turned c s.plan b.table es table acts stands_now) z t) f k n
-
 -- a rule: its entry, its own outputs, the closing
-pub finish : (s : State) (e : Entry) (b c : Books) (e0 e1 e2 e3 : List Entry) (stands : Plan → Type 0) → e1 ≡ e0 ++ e ∷ []
-    → Acted (own_outputs s e (moved s e)) (moved s e) b e1 e2 stands
-    → ((u : State) → At u b stands → Closed u c e2 e3 stands) → Ruled s e c e0 e3 stands
-finish s e b c e0 e1 e2 e3 stands n a k =
+pub finish : (s : State) (e : Entry) (b c : Books) (k j : Known) (e0 e1 e2 e3 : List Entry) (stands stands_now : Plan → Type 0) → e1 ≡ e0 ++ e ∷ []
+    → Acted (own_outputs s e (moved s e)) (moved s e) b k e1 e2 stands
+    → ((u : State) → At u b k stands → Closed u c j e2 e3 stands_now) → Ruled s e c j e0 e3 stands_now
+finish s e b c k j e0 e1 e2 e3 stands stands_now n a f =
     let own : List Entry = own_outputs s e (moved s e) in
-    ruled s e c e0 e2 e3 stands (k (all_moved (moved s e) own) a.at) (a.entries_are ∙ ap (λ es. es ++ own) n ∙ append_assoc e0 (e ∷ []) own)
-
-pub named : (slot : ℕ) (is : List ℕ) (p : Plan) → p.mode ≡ Load → items_named slot is p ≡ is
-named slot is p h = rw h refl
-
-pub done-at : (s : State) (w i : ℕ) (o : Outcome) (ms : ℕ) (out : List ℕ) (b c : Books) (stands : Plan → Type 0) → At s b stands → c ≡ done_books w (i ∷ []) o b → At (moved s (Done w i o ms out)) c stands
-done-at s w i o ms out b c stands a e =
-    let f : Books → Books = λ d. done_books w (i ∷ []) o d in
-    let g : List ℕ → Books = λ is. done_books w is o s.books in
-    record { books_are = e ∙ ap f a.books_are ∙ ap g (sym (named (slot_of w s.books) (i ∷ []) s.plan a.load)); stands_for = a.stands_for; load = a.load; steal = a.steal }
+    ruled s e c j e0 e2 e3 stands_now (f (all_moved (moved s e) own) a.at) (a.entries_are ∙ ap (λ es. es ++ own) n ∙ append_assoc e0 (e ∷ []) own)
 
 pub choose-second : (q r : Bool) (xs ys zs : List Entry) → q ≡ false → r ≡ true → ys ≡ (if q then xs else if r then ys else zs)
 choose-second false true xs ys zs h k = refl
@@ -109,19 +171,32 @@ pub choose-yes : (q : Bool) (xs ys : List Entry) → q ≡ true → xs ≡ (if q
 choose-yes true xs ys h = refl
 choose-yes false xs ys h = cc
 
-pub gone-left-at : (s : State) (w : ℕ) (b c : Books) (stands : Plan → Type 0) → At s b stands → c ≡ (moved (record s { books = b }) (Finished w)).books → At (moved s (Finished w)) c stands
-gone-left-at s w b c stands a e =
+pub choose-once : (q : Bool) (xs ys : List Entry) → (if q then [] else ys) ≡ (if q then [] else if q then xs else ys)
+choose-once true xs ys = refl
+choose-once false xs ys = refl
+
+-- each input
+
+pub done-at : (s : State) (w i : ℕ) (o : Outcome) (ms : ℕ) (out : List ℕ) (item : ℕ) (b c : Books) (k : Known) (stands : Plan → Type 0) → At s b k stands → items_named (slot_of w s.books) (i ∷ []) s.plan ≡ item ∷ []
+    → c ≡ done_books w (item ∷ []) o b → At (moved s (Done w i o ms out)) c k stands
+done-at s w i o ms out item b c k stands a named e =
+    let f : Books → Books = λ d. done_books w (item ∷ []) o d in
+    let g : List ℕ → Books = λ is. done_books w is o s.books in
+    record { books_are = e ∙ ap f a.books_are ∙ ap g (sym named); known_is = a.known_is; stands_for = λ h. a.stands_for (done-unstopped s w i o ms out h) }
+
+pub gone-left-at : (s : State) (w : ℕ) (b c : Books) (k : Known) (stands : Plan → Type 0) → At s b k stands → c ≡ (moved (record s { books = b }) (Finished w)).books → At (moved s (Finished w)) c k stands
+gone-left-at s w b c k stands a e =
     let f : Books → Books = λ d. (moved (record s { books = d }) (Finished w)).books in
-    record { books_are = e ∙ ap f a.books_are; stands_for = a.stands_for; load = a.load; steal = a.steal }
+    record { books_are = e ∙ ap f a.books_are; known_is = a.known_is; stands_for = a.stands_for }
+
+pub refused-at : (s : State) (w : ℕ) (text : List ℕ) (b c : Books) (k : Known) (stands : Plan → Type 0) → At s b k stands → c ≡ (moved (record s { books = b }) (Refused w text)).books → At (moved s (Refused w text)) c k stands
+refused-at s w text b c k stands a e =
+    let f : Books → Books = λ d. (moved (record s { books = d }) (Refused w text)).books in
+    record { books_are = e ∙ ap f a.books_are; known_is = a.known_is; stands_for = λ h. a.stands_for (unstopped-before s.books.stop (Some (CollectError w)) h) }
 
 pub is_stopped-by : (q : Option RunStop) (how : RunStop) → is_some (or_stop q (Some how)) ≡ true
 is_stopped-by None how = refl
 is_stopped-by (Some x) how = refl
-
-pub refused-at : (s : State) (w : ℕ) (text : List ℕ) (b c : Books) (stands : Plan → Type 0) → At s b stands → c ≡ (moved (record s { books = b }) (Refused w text)).books → At (moved s (Refused w text)) c stands
-refused-at s w text b c stands a e =
-    let f : Books → Books = λ d. (moved (record s { books = d }) (Refused w text)).books in
-    record { books_are = e ∙ ap f a.books_are; stands_for = a.stands_for; load = a.load; steal = a.steal }
 
 choose-stop : (q r : Bool) (ys : List Entry) → r ≡ true → (if q then [] else ys) ≡ (if q then [] else if r then ys else [])
 choose-stop true r ys h = refl
@@ -135,33 +210,60 @@ refused-outs s w text before h =
     let f : Bool → List Entry = λ q. if q then [] else shut_all t.books.crew in
     ap f h ∙ choose-stop (is_stopped s.books) (is_stopped t.books) (shut_all t.books.crew) (is_stopped-by s.books.stop (CollectError w))
 
-pub acted-append : (xs ys : List Entry) (s : State) (b c : Books) (e0 e1 e2 : List Entry) (st0 st : Plan → Type 0) → Acted xs s b e0 e1 st0 → Acted ys (all_moved s xs) c e1 e2 st → Acted (xs ++ ys) s c e0 e2 st
-acted-append xs ys s b c e0 e1 e2 st0 st x y = record {
-  at = subst (λ v. At v c st) (sym (all_moved-append s xs ys)) y.at;
-  entries_are = y.entries_are ∙ ap (λ es. es ++ ys) x.entries_are ∙ append_assoc e0 xs ys;
-}
+-- the mode stands for the plan as it was before the steal was closed
+pub back-at : (s : State) (w : ℕ) (is : List ℕ) (items : List ℕ) (b c : Books) (k j : Known) (stands : Plan → Type 0) → At s b k stands → items ≡ items_named (slot_of w s.books) is s.plan
+    → c ≡ on_table (given_back w items) b → j ≡ record k { steal = None } → At (after_back w is s) c j (Before (λ p. record p { steal = None }) stands)
+back-at s w is items b c k j stands a named e d =
+    let f : Books → Books = λ x. on_table (given_back w items) x in
+    let g : List ℕ → Books = λ xs. on_table (given_back w xs) s.books in
+    let h : Known → Known = λ x. record x { steal = None } in
+    record { books_are = e ∙ ap f a.books_are ∙ ap g named; known_is = d ∙ ap h a.known_is; stands_for = λ q. (s.plan, (a.stands_for q, refl)) }
 
--- in mode load a death changes nothing of the plan
-pub same_plan : (w : ℕ) (rest : List ℕ) (p : Plan) → p.mode ≡ Load → p.steal ≡ None → down_plan w rest p ≡ p
-same_plan w rest p h k =
-    let f : ModeKind → Option Asked → Plan = λ m a. record p { queue = if is_scope m then p.queue ++ units_left w rest p.given else p.queue; steal = steal_without w a } in
-    ap (λ m. f m p.steal) h ∙ ap (f Load) k ∙ ap (λ a. record p { steal = a }) (sym k)
+drop-front : (xs ys : List ℕ) → drop (length xs) (xs ++ ys) ≡ ys
+drop-front [] ys = refl
+drop-front (x ∷ xs) ys = drop-front xs ys
 
-pub down-at : (s : State) (w : ℕ) (b c : Books) (stands : Plan → Type 0) → At s b stands → c ≡ down_books w b → At (after_down w s) c stands
-down-at s w b c stands a e =
-    let f : Books → Books = λ d. down_books w d in
-    let p = same_plan w (drop 1 (held w s.books.table)) s.plan a.load a.steal in
+-- what came to the pool's end are its last items
+last-of-pool : (xs ys : List ℕ) → last_of (length ys) (xs ++ ys) ≡ ys
+last-of-pool xs ys =
+    let e : length (xs ++ ys) - length ys ≡ length xs = (let l = length-append xs ys in omega (arith, l)) in
+    ap (λ n. drop n (xs ++ ys)) e ∙ drop-front xs ys
+
+-- the mode stands for the plan as it was before what the dead worker held came back
+pub down-at : (s : State) (w rest : ℕ) (b c : Books) (k j : Known) (stands : Plan → Type 0) → At s b k stands → rest ≡ length (drop 1 (held w b.table)) → c ≡ down_books w b
+    → j ≡ record k { steal = steal_without w k.steal } → At (after_down w s) c j (Before (down_plan w (last_of rest c.table.pool)) stands)
+down-at s w rest b c k j stands a r e d =
+    let f : Books → Books = λ x. down_books w x in
+    let g : Known → Known = λ x. record x { steal = steal_without w x.steal } in
+    let behind : Books → List ℕ = λ x. drop 1 (held w x.table) in
+    let last : last_of rest c.table.pool ≡ behind s.books =
+    ap (λ n. last_of n c.table.pool) r ∙ ap (λ (x : Books). last_of (length (behind b)) x.table.pool) e ∙ last-of-pool b.table.pool (behind b) ∙ ap behind a.books_are in
     record {
       books_are = e ∙ ap f a.books_are;
-      stands_for = subst stands (sym p) a.stands_for;
-      load = ap (λ (q : Plan). q.mode) p ∙ a.load;
-      steal = ap (λ (q : Plan). q.steal) p ∙ a.steal;
+      known_is = d ∙ ap g a.known_is;
+      stands_for = λ h. (s.plan, (a.stands_for (down-unstopped w s h), ap (λ xs. down_plan w xs s.plan) (sym last)));
     }
 
-pub acted-kill : (s : State) (w : ℕ) (b : Books) (es fs : List Entry) (st : Plan → Type 0) → At s b st → fs ≡ es ++ Kill w ∷ [] → Acted (Kill w ∷ []) s b es fs st
-acted-kill s w b es fs st a n = record { at = a; entries_are = n }
+-- a death takes no stop back
+pub still-stopped : (w : ℕ) (b : Books) → is_stopped b ≡ true → is_stopped (down_books w b) ≡ true
+still-stopped w b h = still b.stop _ h
+  where
+    still : (a how : Option RunStop) → is_some a ≡ true → is_some (or_stop a how) ≡ true
+    still None how h = absurd (differ h)
+    still (Some x) how h = refl
 
-pub acted-start : (s : State) (w slot : ℕ) (b c : Books) (es fs : List Entry) (st : Plan → Type 0) → At s b st → c ≡ begun_at w slot b → fs ≡ es ++ Start w slot ∷ [] → Acted (Start w slot ∷ []) s c es fs st
-acted-start s w slot b c es fs st a e n =
+-- where no stop came the mode may hear of the death
+pub may-die : (s : State) (e : Entry) (w : ℕ) (b : Books) (k : Known) (stands : Plan → Type 0) → Comes e s b k stands → moved s e ≡ after_down w s → is_stopped (after_down w s).books ≡ false → MayDie (after_down w s) stands
+may-die s e w b k stands a m h = record {
+  going = h;
+  hears = λ q. subst (λ (u : State). Called Died u) m (died-called s e a.reached a.follows (ap (λ (u : State). u.books.shared) m ∙ q));
+  stays = λ q. subst stands (sym (down-unshared s w (drop 1 (held w s.books.table)) a.reached q)) (a.at.stands_for (down-unstopped w s h));
+}
+
+pub acted-kill : (s : State) (w : ℕ) (b : Books) (k : Known) (es fs : List Entry) (st : Plan → Type 0) → At s b k st → fs ≡ es ++ Kill w ∷ [] → Acted (Kill w ∷ []) s b k es fs st
+acted-kill s w b k es fs st a n = record { at = a; entries_are = n }
+
+pub acted-start : (s : State) (w slot : ℕ) (b c : Books) (k : Known) (es fs : List Entry) (st : Plan → Type 0) → At s b k st → c ≡ begun_at w slot b → fs ≡ es ++ Start w slot ∷ [] → Acted (Start w slot ∷ []) s c k es fs st
+acted-start s w slot b c k es fs st a e n =
     let f : Books → Books = λ d. begun_at w slot d in
-    record { at = record { books_are = e ∙ ap f a.books_are; stands_for = a.stands_for; load = a.load; steal = a.steal }; entries_are = n }
+    record { at = record { books_are = e ∙ ap f a.books_are; known_is = a.known_is; stands_for = a.stands_for }; entries_are = n }

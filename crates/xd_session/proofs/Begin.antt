@@ -1,7 +1,6 @@
 -- The start of a run.
 use Rattle.std.proofs.Common.{◌≡◌, ℕ, zero, suc, ◌+◌, List, [], ◌∷◌, ◌++◌, refl, ap, sym, subst, ◌∙◌, arith, append_assoc}
 use Rattle.std.proofs.lemmas.Grind.{common_steps, fold-append}
-use Rattle.xd_edge.specs.declared.mode.ModeKind.TheVariants.{Load}
 use Rattle.xd_journal.specs.declared.settings.Settings.{Settings}
 use Rattle.xd_journal.specs.declared.entry.Entry.{Entry}
 use Rattle.xd_journal.specs.declared.entry.Entry.TheVariants.{Start}
@@ -15,6 +14,7 @@ use Rattle.xd_ledger.specs.Proper.{IsProper}
 use Rattle.xd_ledger.specs.Meaning.{spent_by}
 use Rattle.xd_ledger.specs.Workers.{started}
 use Rattle.std.proofs.lemmas.List.{append-nil}
+use Rattle.xd_session.specs.Known.{Known, known_of}
 use Rattle.xd_session.specs.Rules.{At, InStep, begun_at}
 use Rattle.xd_session.specs.Stands.{CanBegin}
 
@@ -47,31 +47,30 @@ pub starts-spend : (w n : ℕ) → spent_by (starts_from w n) ≡ 0
 starts-spend w zero = refl
 starts-spend w (suc n) = starts-spend (w + 1) n
 
-begun-at : (settings : Settings) (n : ℕ) (b : Books) (stands : Plan → Type 0) → settings.mode ≡ Load → stands (no_one settings).plan → b ≡ (all_moved (no_one settings) (starts_from 0 n)).books
-    → At (state_at settings (starts_from 0 n)) b stands
-begun-at settings n b stands h f e =
+begun-at : (settings : Settings) (n : ℕ) (b : Books) (stands : Plan → Type 0) → stands (no_one settings).plan → b ≡ (all_moved (no_one settings) (starts_from 0 n)).books
+    → At (state_at settings (starts_from 0 n)) b (known_of (no_one settings).plan) stands
+begun-at settings n b stands f e =
     let k = starts-moved settings 0 n [] in
-    subst (λ v. At v b stands) (sym (ap settled k)) (record { books_are = e ∙ ap (λ (s : State). s.books) k; stands_for = f; load = h; steal = refl })
+    subst (λ v. At v b (known_of (no_one settings).plan) stands) (sym (ap settled k)) (record { books_are = e ∙ ap (λ (s : State). s.books) k; known_is = refl; stands_for = λ q. f })
 
 pub begun-proper : (settings : Settings) → CanBegin settings → IsProper settings []
 begun-proper settings c = record {
-  mode = rw c.mode refl;
+  mode = c.mode;
   some_worker = c.some_worker;
   few_workers = c.few_workers;
   few_restarts = c.few_restarts;
   follow = refl;
 }
 
-pub begun-step : (settings kept : Settings) (entries : List Entry) (b : Books) (stands : Plan → Type 0) → kept ≡ settings → CanBegin settings → stands (no_one settings).plan → b ≡ (all_moved (no_one settings) (starts_from 0 settings.workers)).books
-    → entries ≡ starts_from 0 settings.workers → InStep kept entries [] 0 b stands
-begun-step settings kept entries b stands same c f e k =
-    subst (λ s. InStep s entries [] 0 b stands) (sym same)
-    (subst (λ es. InStep settings es [] 0 b stands) (sym k) (record {
-      mode = c.mode;
+pub begun-step : (settings kept : Settings) (entries : List Entry) (b : Books) (k : Known) (stands : Plan → Type 0) → kept ≡ settings → k ≡ known_of (no_one settings).plan → CanBegin settings → stands (no_one settings).plan → b ≡ (all_moved (no_one settings) (starts_from 0 settings.workers)).books
+    → entries ≡ starts_from 0 settings.workers → InStep kept entries [] 0 b k stands
+begun-step settings kept entries b kn stands same known c f e k =
+    subst (λ s. InStep s entries [] 0 b kn stands) (sym same)
+    (subst (λ es. InStep settings es [] 0 b kn stands) (sym k) (record {
       inputs = [];
       proper = begun-proper settings c;
       journal = sym (append-nil (first_starts settings));
-      at = begun-at settings settings.workers b stands c.mode f e;
+      at = subst (λ q. At (state_at settings (starts_from 0 settings.workers)) b q stands) (sym known) (begun-at settings settings.workers b stands f e);
       spent_is = sym (starts-spend 0 settings.workers);
       spent_low = omega arith;
       short = λ v. refl;

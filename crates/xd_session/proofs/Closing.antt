@@ -16,6 +16,7 @@ use Rattle.xd_ledger.specs.Sharing.{State, in_books}
 use Rattle.xd_ledger.specs.State.{is_input, state_at, no_one, settles, settled, all_moved, next, moved, is_finished}
 use Rattle.xd_ledger.specs.Outputs.{shut_all, closing, own_outputs}
 use Rattle.xd_ledger.specs.Stops.{is_stopped, is_shutting}
+use Rattle.xd_session.specs.Known.{Known}
 use Rattle.xd_session.specs.Rules.{At, Closed, Ruled, told, told_all, shutdowns}
 
 pub all_moved-append : (s : State) (es fs : List Entry) → all_moved s (es ++ fs) ≡ all_moved (all_moved s es) fs
@@ -24,6 +25,11 @@ all_moved-append s es fs = fold-append next s es fs
 pub told-moved : (ws : List ℕ) (s : State) → all_moved s (shutdowns ws) ≡ in_books (told_all ws) s
 told-moved [] s = refl
 told-moved (w ∷ ws) s = told-moved ws (in_books (told w) s)
+
+-- who is told to shut down stops nothing
+pub stop-told_all : (ws : List ℕ) (b : Books) → is_stopped (told_all ws b) ≡ is_stopped b
+stop-told_all [] b = refl
+stop-told_all (w ∷ ws) b = stop-told_all ws (told w b)
 
 all_few-shut : (w : ℕ) (ss : List Seat) → list_all (λ s. nat_lt (length s.held) 2) (at_seat w (λ s. record s { shut = true }) ss) ≡ list_all (λ s. nat_lt (length s.held) 2) ss
 all_few-shut w [] = refl
@@ -59,42 +65,41 @@ pick-yes : {A : Type 0} (b : Bool) (x y : A) → b ≡ true → (if b then x els
 pick-yes true x y h = refl
 pick-yes false x y h = cc
 
-at-same : (s : State) (b : Books) (stands : Plan → Type 0) → At s b stands → (s.books.shutting || settles s) ≡ s.books.shutting → At (settled s) b stands
-at-same s b stands a e = record {
+at-same : (s : State) (b : Books) (k : Known) (stands : Plan → Type 0) → At s b k stands → (s.books.shutting || settles s) ≡ s.books.shutting → At (settled s) b k stands
+at-same s b k stands a e = record {
   books_are = a.books_are ∙ ap (λ x. record (s.books) { shutting = x }) (sym e);
+  known_is = a.known_is;
   stands_for = a.stands_for;
-  load = a.load;
-  steal = a.steal;
 }
 
 pub append-nil : (es : List Entry) → es ++ [] ≡ es
 append-nil [] = refl
 append-nil (e ∷ es) = ap (λ fs. e ∷ fs) (append-nil es)
 
-closed-none : (s : State) (b : Books) (es : List Entry) (stands : Plan → Type 0) → At s b stands → closing s ≡ [] → (s.books.shutting || settles s) ≡ s.books.shutting → Closed s b es es stands
-closed-none s b es stands a none e = record {
-  at = subst (λ fs. At (settled (all_moved s fs)) b stands) (sym none) (at-same s b stands a e);
+closed-none : (s : State) (b : Books) (k : Known) (es : List Entry) (stands : Plan → Type 0) → At s b k stands → closing s ≡ [] → (s.books.shutting || settles s) ≡ s.books.shutting → Closed s b k es es stands
+closed-none s b k es stands a none e = record {
+  at = subst (λ fs. At (settled (all_moved s fs)) b k stands) (sym none) (at-same s b k stands a e);
   entries_are = sym (ap (λ fs. es ++ fs) none ∙ append-nil es);
 }
 
-pub closed-open : (s : State) (b : Books) (es : List Entry) (stands : Plan → Type 0) → At s b stands → settles s ≡ false → Closed s b es es stands
-closed-open s b es stands a h =
+pub closed-open : (s : State) (b : Books) (k : Known) (es : List Entry) (stands : Plan → Type 0) → At s b k stands → settles s ≡ false → Closed s b k es es stands
+closed-open s b k es stands a h =
     let t : (not (is_shutting s.books) && settles s) ≡ false = ap (λ x. not (is_shutting s.books) && x) h ∙ and-false (not (is_shutting s.books)) in
-    closed-none s b es stands a (pick-no (not (is_shutting s.books) && settles s) (shut_all s.books.crew) [] t) (ap (λ x. s.books.shutting || x) h ∙ or-false s.books.shutting)
+    closed-none s b k es stands a (pick-no (not (is_shutting s.books) && settles s) (shut_all s.books.crew) [] t) (ap (λ x. s.books.shutting || x) h ∙ or-false s.books.shutting)
 
 shutting-of : (stopped shutting shared done : Bool) → (not stopped && shared && done) ≡ true → (stopped || shutting) ≡ true → (shutting || (not stopped && shared && done)) ≡ shutting
 shutting-of true shutting shared done h k = cc
 shutting-of false true shared done h k = refl
 shutting-of false false shared done h k = cc
 
-pub closed-shut : (s : State) (b : Books) (es : List Entry) (stands : Plan → Type 0) → At s b stands → settles s ≡ true → is_shutting s.books ≡ true → Closed s b es es stands
-closed-shut s b es stands a h k =
+pub closed-shut : (s : State) (b : Books) (kn : Known) (es : List Entry) (stands : Plan → Type 0) → At s b kn stands → settles s ≡ true → is_shutting s.books ≡ true → Closed s b kn es es stands
+closed-shut s b kn es stands a h k =
     let t : (not (is_shutting s.books) && settles s) ≡ false = ap (λ x. not x && settles s) k in
-    closed-none s b es stands a (pick-no (not (is_shutting s.books) && settles s) (shut_all s.books.crew) [] t) (shutting-of (is_stopped s.books) s.books.shutting s.books.shared (is_finished s.books.table s.plan) h k)
+    closed-none s b kn es stands a (pick-no (not (is_shutting s.books) && settles s) (shut_all s.books.crew) [] t) (shutting-of (is_stopped s.books) s.books.shutting s.books.shared (is_finished s.books.table s.plan) h k)
 
-pub closed-now : (s : State) (b c : Books) (es fs : List Entry) (stands : Plan → Type 0) → At s b stands → settles s ≡ true → is_shutting s.books ≡ false
-    → c ≡ told_all (waiting b.crew) b → fs ≡ es ++ shutdowns (waiting b.crew) → Closed s (record c { shutting = true }) es fs stands
-closed-now s b c es fs stands a h k told_is notes =
+pub closed-now : (s : State) (b c : Books) (kn : Known) (es fs : List Entry) (stands : Plan → Type 0) → At s b kn stands → settles s ≡ true → is_shutting s.books ≡ false
+    → c ≡ told_all (waiting b.crew) b → fs ≡ es ++ shutdowns (waiting b.crew) → Closed s (record c { shutting = true }) kn es fs stands
+closed-now s b c kn es fs stands a h k told_is notes =
     let ws : List ℕ = waiting s.books.crew in
     let t : (not (is_shutting s.books) && settles s) ≡ true = ap (λ x. not x && settles s) k ∙ h in
     let out : closing s ≡ shutdowns ws = pick-yes (not (is_shutting s.books) && settles s) (shutdowns ws) [] t in
@@ -104,35 +109,39 @@ closed-now s b c es fs stands a h k told_is notes =
     let on : Books → Books = λ d. record d { shutting = true } in
     let fin : record c { shutting = true } ≡ (settled (in_books (told_all ws) s)).books = ap on e ∙ ap (λ x. record (told_all ws s.books) { shutting = x }) (sym mark) in
     record {
-      at = subst (λ u. At (settled u) (record c { shutting = true }) stands) (sym after) (record { books_are = fin; stands_for = a.stands_for; load = a.load; steal = a.steal });
+      at = subst (λ u. At (settled u) (record c { shutting = true }) kn stands) (sym after) (record { books_are = fin; known_is = a.known_is; stands_for = λ q. a.stands_for (sym (stop-told_all ws s.books) ∙ q) });
       entries_are = notes ∙ ap (λ d. es ++ shutdowns (waiting d.crew)) a.books_are ∙ ap (λ gs. es ++ gs) (sym out);
     }
 
 -- a rule is its own outputs and the closing
-pub ruled : (s : State) (e : Entry) (b : Books) (old mid new : List Entry) (stands : Plan → Type 0)
-    → Closed (all_moved (moved s e) (own_outputs s e (moved s e))) b mid new stands → mid ≡ old ++ e ∷ own_outputs s e (moved s e) → Ruled s e b old new stands
-ruled s e b old mid new stands c m =
+pub ruled : (s : State) (e : Entry) (b : Books) (k : Known) (old mid new : List Entry) (stands : Plan → Type 0)
+    → Closed (all_moved (moved s e) (own_outputs s e (moved s e))) b k mid new stands → mid ≡ old ++ e ∷ own_outputs s e (moved s e) → Ruled s e b k old new stands
+ruled s e b k old mid new stands c m =
     let t : State = moved s e in
     let own : List Entry = own_outputs s e t in
     let u : State = all_moved t own in
     record {
-      at = subst (λ v. At (settled v) b stands) (sym (all_moved-append t own (closing u))) c.at;
+      at = subst (λ v. At (settled v) b k stands) (sym (all_moved-append t own (closing u))) c.at;
       entries_are = c.entries_are ∙ ap (λ xs. xs ++ closing u) m ∙ append_assoc old (e ∷ own) (closing u);
     }
+
+stop-where : (q : Bool) (w : ℕ) (b : Books) → is_stopped (if q then told w b else b) ≡ is_stopped b
+stop-where true w b = refl
+stop-where false w b = refl
 
 pub own-where : (q : Bool) (t : State) (w : ℕ) → all_moved t (if q then Shutdown w ∷ [] else []) ≡ in_books (λ b. if q then told w b else b) t
 own-where true t w = refl
 own-where false t w = refl
 
-pub ready-at : (s : State) (w : ℕ) (b c : Books) (stands : Plan → Type 0) → At s b stands
+pub ready-at : (s : State) (w : ℕ) (b c : Books) (k : Known) (stands : Plan → Type 0) → At s b k stands
     → c ≡ (if is_shutting (marked (made_ready w) b) then told w (marked (made_ready w) b) else marked (made_ready w) b)
-    → At (all_moved (moved s (Ready w)) (own_outputs s (Ready w) (moved s (Ready w)))) c stands
-ready-at s w b c stands a e =
+    → At (all_moved (moved s (Ready w)) (own_outputs s (Ready w) (moved s (Ready w)))) c k stands
+ready-at s w b c k stands a e =
     let t : State = moved s (Ready w) in
     let u = own-where (is_shutting t.books) t w in
     let f : Books → Books = λ d. if is_shutting (marked (made_ready w) d) then told w (marked (made_ready w) d) else marked (made_ready w) d in
     let g : c ≡ f s.books = e ∙ ap f a.books_are in
-    subst (λ v. At v c stands) (sym u) (record { books_are = g; stands_for = a.stands_for; load = a.load; steal = a.steal })
+    subst (λ v. At v c k stands) (sym u) (record { books_are = g; known_is = a.known_is; stands_for = λ q. a.stands_for (sym (stop-where (is_shutting t.books) w t.books) ∙ q) })
 
 pub state-grown : (settings : Settings) (es outs : List Entry) (e : Entry) → is_input e ≡ true → state_at settings (es ++ e ∷ outs) ≡ settled (all_moved (moved (state_at settings es) e) outs)
 state-grown settings es outs e h =

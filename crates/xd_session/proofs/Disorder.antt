@@ -1,5 +1,5 @@
 -- A collection that is not in order is a breach.
-use Rattle.std.proofs.Common.{◌≡◌, ℕ, List, [], ◌∷◌, length, refl, ap, sym, ◌∙◌, subst, Bool, true, false, not, ◌&&◌, suc}
+use Rattle.std.proofs.Common.{◌≡◌, ℕ, List, [], ◌∷◌, length, refl, ap, sym, ◌∙◌, Bool, true, false, not, ◌&&◌, suc, inl, inr}
 use Rattle.std.specs.Prelude.{if◌then◌else◌, ◌==◌, Option, Some, None, is_none, nat_le}
 use Rattle.std.specs.List.{list_all}
 use Rattle.std.proofs.lemmas.Slice.Eq.{bytes_eq-Decides}
@@ -10,13 +10,11 @@ use Rattle.xd_journal.specs.declared.entry.Ids.TheVariants as ids
 use Rattle.xd_ledger.specs.declared.member.Listed.{Listed}
 use Rattle.xd_ledger.specs.Books.{Books}
 use Rattle.xd_ledger.specs.Collections.{differ_at, key, listed, listed_in}
-use Rattle.xd_ledger.specs.Meaning.{Log, breach, given_ids, or_breach}
+use Rattle.xd_ledger.specs.Meaning.{given_ids}
 use Rattle.xd_ledger.specs.Proper.{is_id, may_follow, most_tests, no_text_twice}
 use Rattle.xd_ledger.specs.Sharing.{State}
 use Rattle.xd_ledger.specs.Workers.{is_active, was_ready, has_collected}
-use Rattle.xd_ledger.specs.Plan.{Plan}
-use Rattle.xd_session.specs.Told.{Told}
-use Rattle.xd_laws.proofs.Logic.{differ, and-false}
+use Rattle.xd_laws.proofs.Logic.{and-false, cases_of, differ}
 
 abbrev pub in_order : List (List ℕ) → Bool
 in_order own = nat_le (length own) most_tests && list_all is_id own && no_text_twice own
@@ -67,17 +65,21 @@ given-bad : (w : ℕ) (own : List (List ℕ)) (s : State) (o : Option Listed) �
 given-bad w own s None e good bad = listed-bad w own s bad
 given-bad w own s (Some l) e good bad = bad-by w own s l (differ_at l.ids own) refl (good l refl) bad
 
-pub out_of_order : (w : ℕ) (own : List (List ℕ)) (log : Option Log) (spent : ℕ) (s : State) (b : Books) → b ≡ s.books → list_all (λ l. nat_le (length l.ids) most_tests) b.lists ≡ true
-    → list_all (λ l. list_all is_id l.ids && no_text_twice l.ids) b.lists ≡ true → false ≡ in_order own → Some (breach w log spent s) ≡ or_breach w log spent s (given_ids w own s)
-out_of_order w own log spent s b e few ordered bad =
+pub out_of_order : (w : ℕ) (own : List (List ℕ)) (s : State) (b : Books) → b ≡ s.books → list_all (λ l. nat_le (length l.ids) most_tests) b.lists ≡ true
+    → list_all (λ l. list_all is_id l.ids && no_text_twice l.ids) b.lists ≡ true → in_order own ≡ false → may_follow s (given_ids w own s) ≡ false
+out_of_order w own s b e few ordered bad =
     let few_now = ap (λ (d : Books). list_all (λ (l : Listed). nat_le (length l.ids) most_tests) d.lists) (sym e) ∙ few in
     let ordered_now = ap (λ (d : Books). list_all (λ (l : Listed). list_all is_id l.ids && no_text_twice l.ids) d.lists) (sym e) ∙ ordered in
     let good : (l : Listed) → listed w s.books ≡ Some l → in_order l.ids ≡ true =
     λ l k. and-three (nat_le (length l.ids) most_tests) (list_all is_id l.ids) (no_text_twice l.ids)
     (listed-holds (λ (x : Listed). nat_le (length x.ids) most_tests) (key w s.books) s.books.lists l few_now k)
     (listed-holds (λ (x : Listed). list_all is_id x.ids && no_text_twice x.ids) (key w s.books) s.books.lists l ordered_now k) in
-    let m : may_follow s (given_ids w own s) ≡ false = given-bad w own s (listed w s.books) refl good (sym bad) in
-    sym (ap (λ q. if q then Some (given_ids w own s) else Some (breach w log spent s)) m)
+    given-bad w own s (listed w s.books) refl good bad
 
-pub told-as : (x y : Option Entry) (s : State) (es fs : List Entry) (m n : ℕ) (b : Books) (st : Plan → Type 0) → x ≡ y → Told x s es fs m n b st → Told y s es fs m n b st
-told-as x y s es fs m n b st e t = subst (λ z. Told z s es fs m n b st) e t
+-- a collection that may follow is in order
+pub orderly-collection : (w : ℕ) (own : List (List ℕ)) (s : State) (b : Books) → b ≡ s.books → list_all (λ l. nat_le (length l.ids) most_tests) b.lists ≡ true
+    → list_all (λ l. list_all is_id l.ids && no_text_twice l.ids) b.lists ≡ true → may_follow s (given_ids w own s) ≡ true → in_order own ≡ true
+orderly-collection w own s b e few ordered h = elim (cases_of (in_order own)) [
+  | inl k ↦ k
+  | inr k ↦ absurd (differ (sym (out_of_order w own s b e few ordered k) ∙ h))
+]

@@ -2,7 +2,6 @@
 use Rattle.std.proofs.Common.{◌≡◌, ℕ, zero, suc, ◌+◌, List, [], ◌∷◌, ◌++◌, map, Bool, true, false, not, ◌&&◌, ◌||◌, refl, ap, sym, ◌∙◌, subst, arith, inl, inr}
 use Rattle.std.specs.Prelude.{if◌then◌else◌, ◌==◌, Option, Some, None}
 use Rattle.std.proofs.lemmas.Bool.Decides.{nat_tests}
-use Rattle.xd_edge.specs.declared.mode.ModeKind.TheVariants.{Load}
 use Rattle.xd_journal.specs.declared.settings.Settings.{Settings}
 use Rattle.xd_journal.specs.declared.entry.RunStop.{RunStop}
 use Rattle.xd_journal.specs.declared.entry.Ids.{Ids}
@@ -19,14 +18,11 @@ use Rattle.xd_ledger.specs.Sharing.{State, in_books, is_full, joining}
 use Rattle.xd_ledger.specs.State.{all_moved, collecting, completed_first, moved, no_one}
 use Rattle.xd_ledger.specs.Outputs.{outputs, stepped}
 use Rattle.xd_ledger.specs.Histories.{begun, starts_from, stepped_all}
-use Rattle.xd_ledger.specs.Orderly.{all_orderly, is_orderly}
-use Rattle.xd_ledger.specs.Proper.{all_may_follow, are_ids, may_follow}
+use Rattle.xd_ledger.specs.Orderly.{all_orderly, is_orderly, is_orderly_run}
+use Rattle.xd_ledger.specs.Proper.{IsProper, all_may_follow, are_ids, may_follow}
 use Rattle.xd_laws.proofs.Crew.{has, has-kept, has-member, has-more, has-same, has-set}
-use Rattle.xd_laws.proofs.InMode.{InMode}
-use Rattle.xd_laws.proofs.LoadRule.{load_rule}
+use Rattle.xd_laws.proofs.Laws.{orderly}
 use Rattle.xd_laws.proofs.Logic.{differ, or-left, split-and, split-or}
-use Rattle.xd_laws.proofs.Outputs.{outputs-fit}
-use Rattle.xd_laws.proofs.Runs.{Holds, begun-holds, stepped-holds}
 use Rattle.xd_laws.proofs.Turns.{all_moved-first}
 
 -- each of these workers has given its collection
@@ -143,21 +139,17 @@ joins-outputs s (e ∷ es) h k =
     let p = split-and (is_orderly s e) (all_orderly (moved s e) es) h in
     subst (λ (u : State). AllCollected u) (sym (all_moved-first s e es p.0)) (joins-outputs (moved s e) es p.1 (joins-output s e p.0 k))
 
-joins-stepped : (s : State) (e : Entry) → may_follow s e ≡ true → Holds (InMode Load) s → AllCollected s → AllCollected (stepped s e)
-joins-stepped s e h d k =
-    let f = outputs-fit (InMode Load) load_rule s e h d.tidy d.also in
-    joins-outputs (moved s e) (outputs s e) f.orderly (joins-input s e h k)
-
-joins-all : (s : State) (ins : List Entry) → all_may_follow s ins ≡ true → Holds (InMode Load) s → AllCollected s → AllCollected (stepped_all s ins)
+-- behind the inputs of a proper run, each of whose outputs are in order
+joins-all : (s : State) (ins : List Entry) → all_may_follow s ins ≡ true → is_orderly_run s ins ≡ true → AllCollected s → AllCollected (stepped_all s ins)
 joins-all s [] h d k = k
 joins-all s (e ∷ ins) h d k =
     let p = split-and (may_follow s e) (all_may_follow (stepped s e) ins) h in
-    joins-all (stepped s e) ins p.1 (stepped-holds (InMode Load) load_rule s e p.0 d) (joins-stepped s e p.0 d k)
+    let q = split-and (all_orderly (moved s e) (outputs s e)) (is_orderly_run (stepped s e) ins) d in
+    joins-all (stepped s e) ins p.1 q.1 (joins-outputs (moved s e) (outputs s e) q.0 (joins-input s e p.0 k))
 
 joins-starts : (s : State) (w n : ℕ) → AllCollected s → AllCollected (all_moved s (starts_from w n))
 joins-starts s w zero k = k
 joins-starts s w (suc n) k = joins-starts (moved s (Start w w)) (w + 1) n (start-keeps s.books.table.who_joined s.books.crew w w k)
 
-pub joins-behind : (settings : Settings) (ins : List Entry) → settings.mode ≡ Load → all_may_follow (begun settings) ins ≡ true → AllCollected (stepped_all (begun settings) ins)
-joins-behind settings ins m h =
-    joins-all (begun settings) ins h (begun-holds (InMode Load) load_rule settings m) (joins-starts (no_one settings) 0 settings.workers (λ v a. absurd (differ a)))
+pub joins-behind : (settings : Settings) (ins : List Entry) → IsProper settings ins → AllCollected (stepped_all (begun settings) ins)
+joins-behind settings ins p = joins-all (begun settings) ins p.follow (orderly settings ins p) (joins-starts (no_one settings) 0 settings.workers (λ v a. absurd (differ a)))

@@ -17,6 +17,7 @@ use Rattle.xd_ledger.specs.Proper.{IsProper, all_may_follow, may_follow}
 use Rattle.xd_laws.proofs.Logic.{and, split-and}
 use Rattle.xd_session.specs.declared.logs.WorkerLog.{WorkerLog}
 use Rattle.xd_session.specs.Ends.{is_out_fault, last_stop}
+use Rattle.xd_session.specs.Known.{Known}
 use Rattle.xd_session.specs.Rules.{InStep}
 use Rattle.xd_session.specs.Stands.{Seen, StandsFor, state_of}
 use Rattle.xd_session.proofs.Begin.{begun-proper}
@@ -32,7 +33,7 @@ all-inputs : (s : State) (es : List Entry) → all_may_follow s es ≡ true → 
 all-inputs s [] h = refl
 all-inputs s (e ∷ es) h = (let p = split-and (may_follow s e) (all_may_follow (stepped s e) es) h in and (input-of s e p.0) (all-inputs (stepped s e) es p.1))
 
-module _ (settings : Settings) (entries : List Entry) (logs : List WorkerLog) (spent : ℕ) (b : Books) (st : Plan → Type 0) (k : InStep settings entries logs spent b st) (j : Journal) (same : j.settings ≡ settings) where
+module _ (settings : Settings) (entries : List Entry) (logs : List WorkerLog) (spent : ℕ) (b : Books) (kn : Known) (st : Plan → Type 0) (k : InStep settings entries logs spent b kn st) (j : Journal) (same : j.settings ≡ settings) where
   inputs-are : list_all is_input k.inputs ≡ true
   inputs-are = all-inputs (begun settings) k.inputs k.proper.follow
 
@@ -71,14 +72,14 @@ pub record Closed (failed : Bool) (v : Seen) (j : Journal) : Type 0 where
   pub legal : IsLegal j
 
 -- in the words of the call
-pub closed : (settings : Settings) (entries : List Entry) (logs : List WorkerLog) (spent : ℕ) (b : Books) (st : Plan → Type 0) → InStep settings entries logs spent b st
+pub closed : (settings : Settings) (entries : List Entry) (logs : List WorkerLog) (spent : ℕ) (b : Books) (kn : Known) (st : Plan → Type 0) → InStep settings entries logs spent b kn st
     → (j : Journal) (failed whole : Bool) (v : Seen) → record { settings = settings; entries = entries; logs = logs; whole = whole } ≡ v → j.settings ≡ settings → j.entries.items ≡ entries ++ ending failed b
     → may_close failed (state_of v).books ≡ true → Closed failed v j
-closed settings entries logs spent b st k j failed whole v e same is may =
+closed settings entries logs spent b kn st k j failed whole v e same is may =
     let own : j.entries.items ≡ entries ++ ending failed (state_at settings entries).books = is ∙ ap (λ (c : Books). entries ++ ending failed c) k.at.books_are in
     let seen : (state_at settings entries).books ≡ (state_of v).books = ap (λ (u : Seen). (state_of u).books) e in
     record {
-      stop = stop-ended settings entries logs spent b st k j same failed own ∙ ap (last_stop failed) seen;
-      told = told-ended settings entries logs spent b st k j same failed own;
-      legal = legal-ended settings entries logs spent b st k j same failed own (ap (may_close failed) seen ∙ may);
+      stop = stop-ended settings entries logs spent b kn st k j same failed own ∙ ap (last_stop failed) seen;
+      told = told-ended settings entries logs spent b kn st k j same failed own;
+      legal = legal-ended settings entries logs spent b kn st k j same failed own (ap (may_close failed) seen ∙ may);
     }

@@ -8,8 +8,8 @@ pub mod Compares
 pub mod Deaths
 pub mod Disorder
 pub mod Ends
-pub mod Follow
 pub mod Joins
+pub mod Judging
 pub mod Lawful
 pub mod Loops
 pub mod Orders
@@ -19,4 +19,5 @@ mod Rows
 pub mod Shares
 pub mod Steady
 pub mod Steps
+pub mod Taking
 pub mod Waiting

@@ -1,11 +1,11 @@
 -- A collection, a worker that joins, and the share.
-use Rattle.std.proofs.Common.{◌≡◌, ℕ, zero, suc, ◌≤◌, List, [], ◌∷◌, ◌++◌, take, length, refl, ap, sym, subst, ◌∙◌, arith, Bool, true, false, not, ◌&&◌}
+use Rattle.std.proofs.Common.{◌≡◌, ℕ, zero, suc, ◌+◌, ◌*◌, ◌≤◌, List, [], ◌∷◌, ◌++◌, map, take, length, refl, ap, sym, subst, ◌∙◌, arith, Bool, true, false, not, ◌&&◌, inl, inr}
 use Rattle.std.specs.Prelude.{if◌then◌else◌, ◌==◌, Option, Some, None, is_none, sum, nat_le}
-use Rattle.std.specs.List.{list_all, range_with_len}
+use Rattle.std.specs.List.{list_all}
 use Rattle.std.proofs.lemmas.Bool.Decides.{nat_tests}
-use Rattle.std.proofs.lemmas.List.FromFn.{length-range_with_len}
+use Rattle.std.proofs.lemmas.Grind.{common_steps}
 use Rattle.xd_edge.specs.declared.mode.ModeKind.{ModeKind}
-use Rattle.xd_edge.specs.declared.mode.ModeKind.TheVariants.{Load}
+use Rattle.xd_edge.specs.declared.mode.ModeKind.TheVariants.{Local, Each, Load, LoadScope, LoadFile, LoadGroup, WorkSteal}
 use Rattle.xd_journal.specs.declared.entry.Entry.{Entry}
 use Rattle.xd_journal.specs.declared.entry.Entry.TheVariants.{Collected}
 use Rattle.xd_journal.specs.declared.entry.Ids.{Ids}
@@ -13,26 +13,30 @@ use Rattle.xd_journal.specs.declared.entry.Ids.TheVariants as ids
 use Rattle.xd_journal.specs.declared.entry.RunStop.{RunStop}
 use Rattle.xd_journal.specs.declared.entry.RunStop.TheVariants.{Unequal}
 use Rattle.xd_ledger.specs.declared.member.Listed.{Listed}
-use Rattle.xd_ledger.specs.declared.member.Member.{Member}
 use Rattle.xd_ledger.specs.Books.{Books, marked, on_table}
-use Rattle.xd_ledger.specs.Calls.{Turned, shared_plan}
+use Rattle.xd_ledger.specs.Calls.{shared_plan}
 use Rattle.xd_ledger.specs.Collections.{differ_at, listed, unequal, with_list}
 use Rattle.xd_ledger.specs.Meaning.{given_ids}
 use Rattle.xd_ledger.specs.Modes.Call.{Joined, Share}
-use Rattle.xd_ledger.specs.Outputs.{acts_of, after_joining, own_outputs, slots_of_rota, unless_stopped}
-use Rattle.xd_ledger.specs.Plan.{Plan, is_each, is_scope}
+use Rattle.xd_ledger.specs.Outputs.{acts_of, after_joining, own_outputs, shut_all, slots_of_rota, unless_stopped}
+use Rattle.xd_ledger.specs.Plan.{Plan, is_each}
+use Rattle.xd_ledger.specs.Proper.{may_follow, most_tests, most_workers}
 use Rattle.xd_ledger.specs.Sharing.{State, ids_at, in_books, is_full, joining, planned, shared_now, sizes_from}
 use Rattle.xd_ledger.specs.State.{collecting, moved}
-use Rattle.xd_ledger.specs.Table.{Table, joined}
-use Rattle.xd_ledger.specs.Units.{units}
+use Rattle.xd_ledger.specs.Sound.{most_items}
+use Rattle.xd_ledger.specs.Stops.{is_stopped}
+use Rattle.xd_ledger.specs.Table.{joined}
 use Rattle.xd_ledger.specs.Workers.{is_shut, made_collected, slot_of}
+use Rattle.xd_laws.specs.Called.{Called, Reached}
+use Rattle.xd_laws.proofs.Calls.{Joins, joined-called, shared-called}
 use Rattle.xd_laws.proofs.Crew.{has-same}
+use Rattle.xd_laws.proofs.Logic.{and, cases_of, differ, in_both, split-and}
 use Rattle.xd_session.specs.declared.lists.Comparison.{Comparison}
 use Rattle.xd_session.specs.Compared.{compared, comparison, given, stop_of}
-use Rattle.xd_session.specs.Joining.{taken_in}
-use Rattle.xd_session.specs.Rules.{Acted, At, crew_told}
-use Rattle.xd_session.proofs.Acts.{acted-books, acted-by}
-use Rattle.xd_session.proofs.Follow.{follows-share}
+use Rattle.xd_session.specs.Joining.{TakenIn, collections_of, filled, lists_from, taken_in}
+use Rattle.xd_session.specs.Known.{Known, known_of}
+use Rattle.xd_session.specs.Rules.{Acted, At, Before, Calls, Comes, MayJoin, MayShare}
+use Rattle.xd_session.proofs.Acts.{acted-by, acted-none, choose-third}
 
 pub few-at : (n slot : ℕ) (ls : List Listed) → list_all (λ l. nat_le (length l.ids) n) ls ≡ true → length (ids_at slot ls) ≤ n
 few-at n slot [] h = omega arith
@@ -44,58 +48,103 @@ take-end (suc n) [] h = refl
 take-end zero (x ∷ xs) h = absurd (omega arith)
 take-end (suc n) (x ∷ xs) h = ap (λ ys. x ∷ ys) (take-end n xs (omega arith))
 
--- the plan that the mode makes of the collection is the one of the run
-plans-load : (k : ModeKind) (ls : List Listed) (workers : ℕ) (p : Plan) → p.mode ≡ k → k ≡ Load → shared_plan (ids_at 0 ls ∷ []) p ≡ planned ls workers p
-plans-load k ls workers p h e =
-    let m : p.mode ≡ Load = h ∙ e in
-    let f : ModeKind → Plan = λ q. record p { sizes = length (ids_at 0 ls) ∷ []; queue = if is_scope q then units q p.reorder (ids_at 0 ls) else [] } in
-    let g : ModeKind → Plan = λ q. record p { sizes = sizes_from ls 0 (if is_each q then workers else 1); queue = if is_scope q then units q p.reorder (ids_at 0 ls) else [] } in
-    ap f m ∙ sym (ap g m)
+-- the plan that the mode makes of the collections is the one of the run
 
-pub acted-share : (s : State) (b : Books) (t table : Table) (lists : List (List (List ℕ))) (slots : List ℕ) (none acts : List Entry) (crew : List Member) (n : ℕ) (old new : List Entry) (stands stands_now : Plan → Type 0)
-    → none ≡ [] → At s b stands → lists ≡ ids_at 0 b.lists ∷ [] → slots ≡ slots_of_rota b → n ≡ length (ids_at 0 b.lists) → t ≡ record (b.table) { pool = range_with_len 0 n }
-    → ((p : Plan) → stands p → sum (shared_plan lists p).sizes ≡ length t.pool → Turned (Share slots) (shared_plan lists p) t none table acts stands_now)
-    → crew ≡ crew_told acts b.crew → new ≡ old ++ acts
-    → Acted (acts_of (Share (slots_of_rota s.books)) (shared_now s)) (shared_now s) (record b { table = table; crew = crew; shared = true }) old new stands_now
-acted-share s b t table lists slots none acts crew n old new stands stands_now z a l sl cnt e tu k w =
-    let u : State = shared_now s in
-    let c : Books = record b { table = t; shared = true } in
-    let len : length t.pool ≡ n = ap (λ (x : Table). length x.pool) e ∙ length-range_with_len 0 n in
-    let size : sum (shared_plan lists s.plan).sizes ≡ length t.pool = ap (λ ls. sum (shared_plan ls s.plan).sizes) l ∙ omega (arith, len, cnt) in
-    let t0 = tu s.plan a.stands_for size in
-    let plan_is : shared_plan lists s.plan ≡ u.plan = ap (λ ls. shared_plan ls s.plan) l ∙ plans-load s.plan.mode b.lists s.books.settings.workers s.plan refl a.load ∙ ap (λ (d : Books). planned d.lists s.books.settings.workers s.plan) a.books_are in
-    let slots_are : slots ≡ slots_of_rota s.books = sl ∙ ap slots_of_rota a.books_are in
-    let t1 : Turned (Share slots) u.plan t none table acts stands_now = subst (λ (p : Plan). Turned (Share slots) p t none table acts stands_now) plan_is t0 in
-    let t2 : Turned (Share slots) u.plan t [] table acts stands_now = subst (λ es. Turned (Share slots) u.plan t es table acts stands_now) z t1 in
-    let t3 : Turned (Share (slots_of_rota s.books)) u.plan t [] table acts stands_now = subst (λ xs. Turned (Share xs) u.plan t [] table acts stands_now) slots_are t2 in
-    let sized : sum (planned b.lists b.settings.workers s.plan).sizes ≡ n =
-    ap (λ (p : Plan). sum p.sizes) (sym (plans-load s.plan.mode b.lists b.settings.workers s.plan refl a.load)) ∙ omega (arith, cnt) in
-    let at_table : Table → Books = λ x. record b { table = x; shared = true } in
-    let f : ℕ → Books = λ m. record b { table = record (b.table) { pool = range_with_len 0 m }; shared = true } in
-    let g : Books → Books = λ d. record d { table = record (d.table) { pool = range_with_len 0 (sum (planned d.lists d.settings.workers s.plan).sizes) }; shared = true } in
-    let books_are : c ≡ u.books = ap at_table e ∙ ap f (sym sized) ∙ ap g a.books_are in
-    acted-books u (Share (slots_of_rota s.books)) c table acts crew old new stands_now books_are a.steal t3 (follows-share u (slots_of_rota s.books) a.load) k w
+sizes-same : (ls : List Listed) (slot n : ℕ) → map length (lists_from ls slot n) ≡ sizes_from ls slot n
+sizes-same ls slot zero = refl
+sizes-same ls slot (suc n) = ap (λ (ns : List ℕ). length (ids_at slot ls) ∷ ns) (sizes-same ls (slot + 1) n)
+
+queue-same : (m : ModeKind) (ls : List Listed) (workers : ℕ) (p : Plan) → (shared_plan (collections_of m workers ls) (record p { mode = m })).queue ≡ (planned ls workers (record p { mode = m })).queue
+queue-same Local ls workers p = refl
+queue-same Each ls workers p = refl
+queue-same Load ls workers p = refl
+queue-same LoadScope ls workers p = refl
+queue-same LoadFile ls workers p = refl
+queue-same LoadGroup ls workers p = refl
+queue-same WorkSteal ls workers p = refl
+
+pub plans-same : (ls : List Listed) (workers : ℕ) (p : Plan) → shared_plan (collections_of p.mode workers ls) p ≡ planned ls workers p
+plans-same ls workers p =
+    let at_sizes : List ℕ → Plan = λ ns. record p { sizes = ns; queue = (shared_plan (collections_of p.mode workers ls) p).queue } in
+    let at_queue : List (List ℕ) → Plan = λ us. record p { sizes = (planned ls workers p).sizes; queue = us } in
+    ap at_sizes (sizes-same ls 0 (if is_each p.mode then workers else 1)) ∙ ap at_queue (queue-same p.mode ls workers p)
+
+-- few tests
+
+pub few-lists : (ls : List Listed) (slot n : ℕ) → list_all (λ l. nat_le (length l.ids) most_tests) ls ≡ true → list_all (λ ids. nat_le (length ids) most_tests) (lists_from ls slot n) ≡ true
+few-lists ls slot zero h = refl
+few-lists ls slot (suc n) h =
+    let one : length (ids_at slot ls) ≤ most_tests = few-at most_tests slot ls h in
+    let r = few-lists ls (slot + 1) n h in
+    and (grind (arith, nat_tests, one)) r
+
+sum-few : (lists : List (List (List ℕ))) → list_all (λ ids. nat_le (length ids) most_tests) lists ≡ true → sum (map length lists) ≤ most_tests * length lists
+sum-few [] h = omega arith
+sum-few (ids ∷ lists) h =
+    let p = split-and (nat_le (length ids) most_tests) (list_all (λ is. nat_le (length is) most_tests) lists) h in
+    let one : length ids ≤ most_tests = grind (arith, nat_tests, p.0) in
+    let r = sum-few lists p.1 in
+    let all : sum (map length (ids ∷ lists)) ≡ length ids + sum (map length lists) = grind (arith, common_steps) in
+    let more : length (ids ∷ lists) ≡ 1 + length lists = grind (arith, common_steps) in
+    omega (arith, one, r, all, more)
+
+length-lists : (ls : List Listed) (slot n : ℕ) → length (lists_from ls slot n) ≡ n
+length-lists ls slot zero = refl
+length-lists ls slot (suc n) = ap suc (length-lists ls (slot + 1) n)
+
+slots-few : (b : Bool) (workers : ℕ) → nat_le workers most_workers ≡ true → (if b then workers else 1) ≤ most_workers
+slots-few true workers h = grind (arith, nat_tests, h)
+slots-few false workers h = omega arith
+
+pub few_in_all : (mode : ModeKind) (workers : ℕ) (ls : List Listed) → nat_le workers most_workers ≡ true → list_all (λ l. nat_le (length l.ids) most_tests) ls ≡ true → sum (map length (collections_of mode workers ls)) ≤ most_items
+few_in_all mode workers ls w h =
+    let n = (if is_each mode then workers else 1) in
+    let a = sum-few (collections_of mode workers ls) (few-lists ls 0 n h) in
+    let b = length-lists ls 0 n in
+    let c = slots-few (is_each mode) workers w in
+    omega (arith, a, b, c)
+
+-- in every mode but each there is one
+pub one_list : (mode : ModeKind) (workers : ℕ) (ls : List Listed) → is_each mode ≡ false → ids_at 0 ls ∷ [] ≡ collections_of mode workers ls
+one_list mode workers ls h = sym (ap (λ b. lists_from ls 0 (if b then workers else 1)) h)
+
+-- the share
+
+-- what is kept where the mode shares
+abbrev pub with_pool : List ℕ → Books → Books
+with_pool sizes b = record b { table = filled sizes b.table; shared = true }
+
+pub calls-share : (s : State) (b : Books) (k : Known) (stands : Plan → Type 0) → At s b k stands → MayShare s
+    → (let lists = collections_of k.mode b.settings.workers b.lists in
+    Calls (Share (slots_of_rota s.books)) (shared_now s) (with_pool (map length lists) b) (record k { sizes = map length lists }) (Before (shared_plan lists) stands))
+calls-share s b k stands a m =
+    let collections : Known → Books → List (List (List ℕ)) = λ x d. collections_of x.mode d.settings.workers d.lists in
+    let lists = collections k b in
+    let lists_are : lists ≡ collections (known_of s.plan) s.books = ap (λ (x : Known). collections x b) a.known_is ∙ ap (λ (d : Books). collections (known_of s.plan) d) a.books_are in
+    let plan : shared_plan lists s.plan ≡ (shared_now s).plan = ap (λ (xs : List (List (List ℕ))). shared_plan xs s.plan) lists_are ∙ plans-same s.books.lists s.books.settings.workers s.plan in
+    let sizes : map length lists ≡ (shared_now s).plan.sizes = ap (λ (p : Plan). p.sizes) plan in
+    let pooled : Books → Books = λ d. with_pool (map length lists) d in
+    let sized : List ℕ → Books = λ ns. with_pool ns s.books in
+    let known : Known → Known = λ x. record x { sizes = map length lists } in
+    let known_sizes : List ℕ → Known = λ ns. record (known_of s.plan) { sizes = ns } in
+    record {
+      at = record {
+        books_are = ap pooled a.books_are ∙ ap sized sizes;
+        known_is = ap known a.known_is ∙ ap known_sizes sizes;
+        stands_for = λ h. (s.plan, (a.stands_for m.going, sym plan));
+      };
+      going = m.going;
+      called = m.deals;
+    }
 
 -- the worker joins
 abbrev pub seated_in : ℕ → State → State
 seated_in w s = in_books (on_table (joined w)) s
 
-pub at-seated : (s : State) (w : ℕ) (b c : Books) (stands : Plan → Type 0) → At s b stands → c ≡ on_table (joined w) b → At (seated_in w s) c stands
-at-seated s w b c stands a e =
+pub at-seated : (s : State) (w : ℕ) (b c : Books) (k : Known) (stands : Plan → Type 0) → At s b k stands → c ≡ on_table (joined w) b → At (seated_in w s) c k stands
+at-seated s w b c k stands a e =
     let f : Books → Books = λ d. on_table (joined w) d in
-    record { books_are = e ∙ ap f a.books_are; stands_for = a.stands_for; load = a.load; steal = a.steal }
-
-pub joined-by : (s : State) (w : ℕ) (full shared : Bool) (outs : List Entry) (b : Books) (es fs : List Entry) (st : Plan → Type 0) → is_full (seated_in w s).books ≡ full → s.books.shared ≡ shared
-    → Acted outs (if full then shared_now (seated_in w s) else seated_in w s) b es fs st
-    → outs ≡ (let u = (if full then shared_now (seated_in w s) else seated_in w s) in if shared then acts_of (Joined w (slot_of w u.books)) u else if u.books.shared then acts_of (Share (slots_of_rota u.books)) u else [])
-    → Acted (after_joining w s.books (joining w s)) (joining w s) b es fs st
-joined-by s w full shared outs b es fs st f h a o =
-    let after : Bool → Bool → List Entry = λ q r. (let u = (if q then shared_now (seated_in w s) else seated_in w s) in if r then acts_of (Joined w (slot_of w u.books)) u else if u.books.shared then acts_of (Share (slots_of_rota u.books)) u else []) in
-    let a1 = acted-by outs (after full shared) (if full then shared_now (seated_in w s) else seated_in w s) b es fs st o a in
-    let P : Bool → Type 0 = λ q. Acted (after q shared) (if q then shared_now (seated_in w s) else seated_in w s) b es fs st in
-    let a2 = subst P (sym f) a1 in
-    let Q : Bool → Type 0 = λ r. Acted (after (is_full (seated_in w s).books) r) (joining w s) b es fs st in
-    subst Q (sym h) a2
+    record { books_are = e ∙ ap f a.books_are; known_is = a.known_is; stands_for = a.stands_for }
 
 no-full : (shared m : Bool) → (not shared && m) ≡ true → shared ≡ false
 no-full true m h = cc
@@ -103,6 +152,36 @@ no-full false m h = refl
 
 pub full-unshared : (w : ℕ) (s : State) → is_full (seated_in w s).books ≡ true → s.books.shared ≡ false
 full-unshared w s h = no-full s.books.shared (length (joined w s.books.table).rota == s.books.settings.workers) h
+
+not-full : (w : ℕ) (s : State) (shared : Bool) → s.books.shared ≡ shared → shared ≡ true → joining w s ≡ seated_in w s
+not-full w s true e h = rw e
+not-full w s false e h = absurd (differ h)
+
+-- behind the share the mode hears of the worker
+pub calls-joined : (w : ℕ) (s : State) (b : Books) (k : Known) (stands : Plan → Type 0) → At (seated_in w s) b k stands → MayJoin w s → s.books.shared ≡ true
+    → Calls (Joined w (slot_of w (seated_in w s).books)) (seated_in w s) b k stands
+calls-joined w s b k stands a m h = record { at = a; going = m.going; called = subst (λ (u : State). Called (Joined w (slot_of w s.books)) u) (not-full w s true h refl) (m.hears h) }
+
+-- the last one that was missing brings the share
+pub may-share : (w : ℕ) (s : State) → MayJoin w s → is_full (seated_in w s).books ≡ true → MayShare (seated_in w s)
+may-share w s m f =
+    let e : joining w s ≡ shared_now (seated_in w s) = rw f in
+    record {
+      going = m.going;
+      deals = subst (λ (u : State). Called (Share (slots_of_rota u.books)) u) e (m.shares (ap (λ (u : State). u.books.shared) e) (full-unshared w s f));
+    }
+
+pub joined-by : (s : State) (w : ℕ) (full shared : Bool) (outs : List Entry) (b : Books) (k : Known) (es fs : List Entry) (st : Plan → Type 0) → is_full (seated_in w s).books ≡ full → s.books.shared ≡ shared
+    → Acted outs (if full then shared_now (seated_in w s) else seated_in w s) b k es fs st
+    → outs ≡ (let u = (if full then shared_now (seated_in w s) else seated_in w s) in if shared then acts_of (Joined w (slot_of w u.books)) u else if u.books.shared then acts_of (Share (slots_of_rota u.books)) u else [])
+    → Acted (after_joining w s.books (joining w s)) (joining w s) b k es fs st
+joined-by s w full shared outs b k es fs st f h a o =
+    let after : Bool → Bool → List Entry = λ q r. (let u = (if q then shared_now (seated_in w s) else seated_in w s) in if r then acts_of (Joined w (slot_of w u.books)) u else if u.books.shared then acts_of (Share (slots_of_rota u.books)) u else []) in
+    let a1 = acted-by outs (after full shared) (if full then shared_now (seated_in w s) else seated_in w s) b k es fs st o a in
+    let P : Bool → Type 0 = λ q. Acted (after q shared) (if q then shared_now (seated_in w s) else seated_in w s) b k es fs st in
+    let a2 = subst P (sym f) a1 in
+    let Q : Bool → Type 0 = λ r. Acted (after (is_full (seated_in w s).books) r) (joining w s) b k es fs st in
+    subst Q (sym h) a2
 
 -- the collection goes into the books
 
@@ -133,36 +212,105 @@ noted w g s = in_books (λ b. marked (made_collected w) (with_list w g b)) s
 pub shut-noted : (w : ℕ) (g : Ids) (s : State) → is_shut w (noted w g s).books ≡ is_shut w s.books
 shut-noted w g s = has-same w (λ m. m.shut) (made_collected w) s.books.crew (λ m. refl) (λ m. refl)
 
-pub at-noted : (w : ℕ) (own : List (List ℕ)) (s : State) (b c d : Books) (stands : Plan → Type 0) → At s b stands → c ≡ with_list w (given (comparison own (listed w b)) own) b → d ≡ marked (made_collected w) c
-    → At (noted w (given (comparison own (listed w s.books)) own) s) d stands
-at-noted w own s b c d stands a e k =
-    let f : Books → Books = λ x. marked (made_collected w) (with_list w (given (comparison own (listed w x)) own) x) in
-    record { books_are = k ∙ ap (λ (x : Books). marked (made_collected w) x) e ∙ ap f a.books_are; stands_for = a.stands_for; load = a.load; steal = a.steal }
+pub at-noted : (w : ℕ) (own : List (List ℕ)) (s : State) (b c d : Books) (k : Known) (stands : Plan → Type 0) → At s b k stands → c ≡ with_list w (given (comparison own (listed w b)) own) b → d ≡ marked (made_collected w) c
+    → At (noted w (given (comparison own (listed w s.books)) own) s) d k stands
+at-noted w own s b c d k stands a e f =
+    let g : Books → Books = λ x. marked (made_collected w) (with_list w (given (comparison own (listed w x)) own) x) in
+    record { books_are = f ∙ ap (λ (x : Books). marked (made_collected w) x) e ∙ ap g a.books_are; known_is = a.known_is; stands_for = a.stands_for }
+
+-- who joins stops nothing
+pub stop-joining : (w : ℕ) (s : State) → is_stopped (joining w s).books ≡ is_stopped s.books
+stop-joining w s = in_both (λ (x : State). is_stopped x.books ≡ is_stopped s.books) (is_full (seated_in w s).books) (shared_now (seated_in w s)) (seated_in w s) (λ e. refl) (λ e. refl)
+
+-- with any other collection the worker joins
+pub taken-joined : (w : ℕ) (s : State) (b : Books) (k : Known) (es fs : List Entry) (st : Plan → Type 0) → is_stopped s.books ≡ false → Acted (after_joining w s.books (joining w s)) (joining w s) b k es fs st → TakenIn w None s b k es fs st
+taken-joined w s b k es fs st h a =
+    acted-by (after_joining w s.books (joining w s)) _ (joining w s) b k es fs st
+    (choose-third (is_stopped s.books) (is_stopped (joining w s).books) [] (shut_all (joining w s).books.crew) (after_joining w s.books (joining w s)) h (stop-joining w s ∙ h)) a
+
+-- a worker that may give its collection, was not told to shut down, and whose collection differs from none, may join
+pub may-join : (w : ℕ) (g : Ids) (s : State) → Reached s → may_follow s (Collected w g) ≡ true → is_shut w s.books ≡ false → is_stopped s.books ≡ false → unequal w g (listed w s.books) ≡ None → MayJoin w (noted w g s)
+may-join w g s r f u h n =
+    let m = noted w g s in
+    let same : moved s (Collected w g) ≡ joining w m = ap (λ (o : Option RunStop). collecting w o m) n ∙ joined-unless (is_shut w m.books) w m refl (shut-noted w g s ∙ u) in
+    let still : is_stopped (joining w m).books ≡ false = stop-joining w m ∙ h in
+    let j : Joins s w g = record { follows = f; unshut = u; before = h; going = ap (λ (t : State). is_stopped t.books) same ∙ still } in
+    record {
+      going = h;
+      hears = λ q. subst (λ (n : ℕ). Called (Joined w n) (joining w m)) (slot-joining w m) (subst (λ (t : State). Called (Joined w (slot_of w t.books)) t) same (joined-called s w g r j q));
+      shares = λ q v. subst (λ (t : State). Called (Share (slots_of_rota t.books)) t) same (shared-called s w g r j v (ap (λ (t : State). t.books.shared) same ∙ q));
+    }
+  where
+    joined-unless : (b : Bool) (v : ℕ) (t : State) → is_shut v t.books ≡ b → b ≡ false → collecting v None t ≡ joining v t
+    joined-unless true v t e k = absurd (differ (sym k))
+    joined-unless false v t e k = rw e
+
+    slot-joining : (v : ℕ) (t : State) → slot_of v (joining v t).books ≡ slot_of v t.books
+    slot-joining v t = in_both (λ (x : State). slot_of v x.books ≡ slot_of v t.books) (is_full (seated_in v t).books) (shared_now (seated_in v t)) (seated_in v t) (λ e. refl) (λ e. refl)
 
 collecting-is : (w : ℕ) (o : Option RunStop) (s : State) → collecting w o s ≡ (if is_shut w s.books then s else taken_in w o s)
 collecting-is w None s = refl
 collecting-is w (Some how) s = refl
 
-within : (q : Bool) (none : List Entry) (s u : State) (outs : State → List Entry) → (if q then none else outs u) ≡ (if q then none else outs (if q then s else u))
-within true none s u outs = refl
-within false none s u outs = refl
+-- a collection that differs from none lets its worker join
+pub may-take_in : (w : ℕ) (own : List (List ℕ)) (s : State) (c : Comparison) (b : Books) (k : Known) (stands : Plan → Type 0) → Comes (given_ids w own s) s b k stands → c ≡ comparison own (listed w s.books) → is_shut w s.books ≡ false
+    → is_stopped s.books ≡ false → stop_of w c ≡ None → MayJoin w (noted w (given (comparison own (listed w s.books)) own) s)
+may-take_in w own s c b k stands a e u h n =
+    let o : Option Listed = listed w s.books in
+    let g : Ids = given (comparison own o) own in
+    may-join w g s a.reached (ap (may_follow s) (sym (given-is w own s)) ∙ a.follows) u h (unequal-is w own o ∙ ap (stop_of w) (sym e) ∙ n)
+
+-- behind a stop whoever may give its collection was told to shut down
+pub going-on : (w : ℕ) (b : Books) → (is_stopped b ≡ true → is_shut w b ≡ true) → is_shut w b ≡ false → is_stopped b ≡ false
+going-on w b told u = elim (cases_of (is_stopped b)) [
+  | inl h ↦ absurd (differ (sym u ∙ told h))
+  | inr h ↦ h
+]
 
 -- what a collection brings
-pub acted-collected : (w : ℕ) (own : List (List ℕ)) (s : State) (c : Comparison) (shut : Bool) (b : Books) (es fs : List Entry) (st : Plan → Type 0)
-    → c ≡ comparison own (listed w s.books) → shut ≡ is_shut w s.books
-    → (let g = given (comparison own (listed w s.books)) own in let m = noted w g s in let u = taken_in w (stop_of w c) m in
-    Acted (if shut then [] else unless_stopped m.books u.books (after_joining w m.books u)) (if shut then m else u) b es fs st)
-    → (let e = Collected w (given (comparison own (listed w s.books)) own) in Acted (own_outputs s e (moved s e)) (moved s e) b es fs st)
-acted-collected w own s c shut b es fs st ce se a =
+pub acted-collected : (w : ℕ) (own : List (List ℕ)) (s : State) (c : Comparison) (b : Books) (k : Known) (es fs : List Entry) (st : Plan → Type 0) → c ≡ comparison own (listed w s.books) → is_shut w s.books ≡ false
+    → (let m = noted w (given (comparison own (listed w s.books)) own) s in TakenIn w (stop_of w c) m b k es fs st)
+    → (let e = Collected w (given (comparison own (listed w s.books)) own) in Acted (own_outputs s e (moved s e)) (moved s e) b k es fs st)
+acted-collected w own s c b k es fs st ce sh a =
     let o : Option Listed = listed w s.books in
     let g : Ids = given (comparison own o) own in
     let m : State = noted w g s in
     let outs : State → List Entry = λ v. unless_stopped s.books v.books (after_joining w s.books v) in
-    let P : Option RunStop → Bool → Type 0 = λ h q. Acted (if q then [] else outs (if q then m else taken_in w h m)) (if q then m else taken_in w h m) b es fs st in
-    let a1 : P (stop_of w c) shut = acted-by (if shut then [] else outs (taken_in w (stop_of w c) m)) (if shut then [] else outs (if shut then m else taken_in w (stop_of w c) m)) (if shut then m else taken_in w (stop_of w c) m) b es fs st (within shut [] m (taken_in w (stop_of w c) m) outs) a in
     let stops : stop_of w c ≡ unequal w g o = ap (stop_of w) ce ∙ sym (unequal-is w own o) in
-    let a2 : P (unequal w g o) shut = subst (λ h. P h shut) stops a1 in
-    let a3 : P (unequal w g o) (is_shut w s.books) = subst (λ q. P (unequal w g o) q) se a2 in
-    let R : Bool → Type 0 = λ q. Acted (if is_shut w s.books then [] else outs (if q then m else taken_in w (unequal w g o) m)) (if q then m else taken_in w (unequal w g o) m) b es fs st in
-    let a4 : R (is_shut w m.books) = subst R (sym (shut-noted w g s)) a3 in
-    subst (λ v. Acted (if is_shut w s.books then [] else outs v) v b es fs st) (sym (collecting-is w (unequal w g o) m)) a4
+    let P : Option RunStop → Type 0 = λ h. Acted (outs (taken_in w h m)) (taken_in w h m) b k es fs st in
+    let a1 : P (unequal w g o) = subst P stops a in
+    let Q : Bool → Type 0 = λ q. Acted (if is_shut w s.books then [] else outs (if q then m else taken_in w (unequal w g o) m)) (if q then m else taken_in w (unequal w g o) m) b k es fs st in
+    let R : Bool → Type 0 = λ q. Acted (if q then [] else outs (taken_in w (unequal w g o) m)) (taken_in w (unequal w g o) m) b k es fs st in
+    let a2 : Q false = subst R (sym sh) a1 in
+    let a3 : Q (is_shut w m.books) = subst Q (sym (shut-noted w g s ∙ sh)) a2 in
+    subst (λ v. Acted (if is_shut w s.books then [] else outs v) v b k es fs st) (sym (collecting-is w (unequal w g o) m)) a3
+
+-- one that was told to shut down brings nothing
+pub acted-shut-off : (w : ℕ) (own : List (List ℕ)) (s : State) (b : Books) (k : Known) (es : List Entry) (st : Plan → Type 0) → is_shut w s.books ≡ true
+    → (let m = noted w (given (comparison own (listed w s.books)) own) s in At m b k st)
+    → (let e = Collected w (given (comparison own (listed w s.books)) own) in Acted (own_outputs s e (moved s e)) (moved s e) b k es es st)
+acted-shut-off w own s b k es st sh a =
+    let o : Option Listed = listed w s.books in
+    let g : Ids = given (comparison own o) own in
+    let m : State = noted w g s in
+    let outs : State → List Entry = λ v. unless_stopped s.books v.books (after_joining w s.books v) in
+    let Q : Bool → Type 0 = λ q. Acted (if is_shut w s.books then [] else outs (if q then m else taken_in w (unequal w g o) m)) (if q then m else taken_in w (unequal w g o) m) b k es es st in
+    let R : Bool → Type 0 = λ q. Acted (if q then [] else outs m) m b k es es st in
+    let a2 : Q true = subst R (sym sh) (acted-none m b k es st a) in
+    let a3 : Q (is_shut w m.books) = subst Q (sym (shut-noted w g s ∙ sh)) a2 in
+    subst (λ v. Acted (if is_shut w s.books then [] else outs v) v b k es es st) (sym (collecting-is w (unequal w g o) m)) a3
+
+-- one slot more
+lists-more : (ls : List Listed) (slot n : ℕ) → lists_from ls slot (n + 1) ≡ lists_from ls slot n ++ ids_at (slot + n) ls ∷ []
+lists-more ls slot zero = grind (arith, common_steps)
+lists-more ls slot (suc n) = let k = lists-more ls (slot + 1) n in grind (arith, common_steps)
+
+pub lists_next : (ls : List Listed) (n : ℕ) → lists_from ls 0 (n + 1) ≡ lists_from ls 0 n ++ ids_at n ls ∷ []
+lists_next ls n = lists-more ls 0 n ∙ ap (λ k. lists_from ls 0 n ++ ids_at k ls ∷ []) (omega arith)
+
+map-more : (xs : List (List (List ℕ))) (x : List (List ℕ)) → map length (xs ++ x ∷ []) ≡ map length xs ++ length x ∷ []
+map-more [] x = refl
+map-more (y ∷ ys) x = ap (λ (ns : List ℕ). length y ∷ ns) (map-more ys x)
+
+pub sizes_next : (ls : List Listed) (n : ℕ) → map length (lists_from ls 0 (n + 1)) ≡ map length (lists_from ls 0 n) ++ length (ids_at n ls) ∷ []
+sizes_next ls n = ap (λ (xs : List (List (List ℕ))). map length xs) (lists_next ls n) ∙ map-more (lists_from ls 0 n) (ids_at n ls)

@@ -1,7 +1,6 @@
 -- A session keeps in step with the news that it takes.
 use Rattle.std.proofs.Common.{◌≡◌, ℕ, ◌+◌, List, [], ◌∷◌, ◌++◌, refl, ap, sym, subst, ◌∙◌, Bool, true, false, add-zero, inl, inr}
 use Rattle.std.specs.Prelude.{if◌then◌else◌, ◌==◌, Option, Some, None}
-use Rattle.xd_edge.specs.declared.mode.ModeKind.TheVariants.{Load}
 use Rattle.xd_journal.specs.declared.settings.Settings.{Settings}
 use Rattle.xd_journal.specs.declared.entry.Entry.{Entry}
 use Rattle.xd_journal.specs.declared.news.News.{News}
@@ -17,36 +16,40 @@ use Rattle.xd_ledger.specs.State.{state_at}
 use Rattle.xd_ledger.specs.Stops.{is_stopped}
 use Rattle.xd_ledger.specs.Table.{all_items, has_joined}
 use Rattle.xd_ledger.specs.Workers.{has_collected, is_active, is_shut, was_ready}
+use Rattle.xd_laws.proofs.Calls.{tidy-reached}
 use Rattle.xd_laws.proofs.Counts.{empty-of_times}
 use Rattle.xd_laws.proofs.Crew.{distinct-numbered}
-use Rattle.xd_laws.proofs.InMode.{InMode}
 use Rattle.xd_laws.proofs.Logic.{cases_of, differ}
 use Rattle.xd_laws.proofs.Placed.{due_times}
-use Rattle.xd_laws.proofs.Runs.{Holds}
 use Rattle.xd_laws.proofs.Turns.{Tidy}
 use Rattle.xd_session.specs.declared.logs.WorkerLog.{WorkerLog}
 use Rattle.xd_session.specs.History.{Run as SoFar, entries_with, input_of, run_of, said_by}
-use Rattle.xd_session.specs.Joining.{IsBare}
+use Rattle.xd_session.specs.Joining.{IsBare, IsNew}
 use Rattle.xd_session.specs.Kept.{log_in, shortened}
+use Rattle.xd_session.specs.Known.{Known}
 use Rattle.xd_session.specs.Rules.{At, InStep}
 use Rattle.xd_session.specs.Stands.{Seen, StandsFor}
-use Rattle.xd_session.specs.Told.{Told, Took}
+use Rattle.xd_session.specs.Told.{Steady, Told, Took}
 use Rattle.xd_session.proofs.Joins.{AllCollected, joins-behind}
-use Rattle.xd_session.proofs.Steps.{holds-behind, journal-more, journal-state, logs-more, meaning-follows, meaning-short, orderly-next, proper-more, run-more, run-taken, short-twice, sound-run, spent-more, state-next}
+use Rattle.xd_session.proofs.Steps.{journal-more, journal-state, logs-more, meaning-follows, meaning-short, orderly-next, proper-more, run-more, run-taken, short-twice, sound-run, spent-more, state-next}
 use Rattle.xd_session.proofs.Waiting.{AllTold, shut-where, told-behind}
 
-module _ (settings : Settings) (entries : List Entry) (logs : List WorkerLog) (spent : ℕ) (b : Books) (st : Plan → Type 0) (k : InStep settings entries logs spent b st) where
+-- a session in step stands for a state of a proper run
+module _ (settings : Settings) (entries : List Entry) (logs : List WorkerLog) (spent : ℕ) (b : Books) (kn : Known) (st : Plan → Type 0) (k : InStep settings entries logs spent b kn st) where
   pub behind : state_at settings entries ≡ stepped_all (begun settings) k.inputs
   behind = ap (state_at settings) k.journal ∙ journal-state settings k.inputs k.proper.follow
 
-  pub holds : Holds (InMode Load) (state_at settings entries)
-  holds = subst (λ (u : State). Holds (InMode Load) u) (sym behind) (holds-behind settings k.inputs k.mode k.proper.follow)
+  pub steady : Steady (state_at settings entries) b kn st
+  steady = record { at = k.at; reached = record { settings = settings; inputs = k.inputs; proper = k.proper; state = behind } }
+
+  tidy : Tidy (state_at settings entries)
+  tidy = tidy-reached (state_at settings entries) steady.reached
 
   collected : AllCollected (state_at settings entries)
-  collected = subst (λ (u : State). AllCollected u) (sym behind) (joins-behind settings k.inputs k.mode k.proper.follow)
+  collected = subst (λ (u : State). AllCollected u) (sym behind) (joins-behind settings k.inputs k.proper)
 
   all-told : AllTold (state_at settings entries)
-  all-told = subst (λ (u : State). AllTold u) (sym behind) (told-behind settings k.inputs k.mode k.proper.follow)
+  all-told = subst (λ (u : State). AllTold u) (sym behind) (told-behind settings k.inputs k.proper)
 
 new-seat : (s : State) (w : ℕ) → AllCollected s → has_collected w s.books ≡ false → has_joined w s.books.table ≡ false
 new-seat s w d h = elim (cases_of (has_joined w s.books.table)) [
@@ -57,50 +60,43 @@ new-seat s w d h = elim (cases_of (has_joined w s.books.table)) [
 bare-state : (s : State) → Tidy s → s.books.shared ≡ false → IsBare s.books.table
 bare-state s d h = empty-of_times (all_items s.books.table) (λ x. d.placed.whole x ∙ ap (λ q. due_times x q (total s.plan)) h)
 
-pub step-new : (settings : Settings) (entries : List Entry) (logs : List WorkerLog) (spent : ℕ) (b : Books) (st : Plan → Type 0) → InStep settings entries logs spent b st → (w : ℕ) → has_collected w b ≡ false → has_joined w b.table ≡ false
-step-new settings entries logs spent b st k w h =
-    let a = k.at.books_are in
-    ap (λ (d : Books). has_joined w d.table) a ∙ new-seat (state_at settings entries) w (collected settings entries logs spent b st k) (ap (λ (d : Books). has_collected w d) (sym a) ∙ h)
-
 shut-state : (s : State) (w : ℕ) → Tidy s → AllTold s → is_stopped s.books ≡ true → is_active w s.books ≡ true → was_ready w s.books ≡ true → is_shut w s.books ≡ true
 shut-state s w d t h a r = shut-where w s.books.crew (distinct-numbered s.books.crew d.crew.numbered) a r (t h w)
 
-pub step-told : (settings : Settings) (entries : List Entry) (logs : List WorkerLog) (spent : ℕ) (b : Books) (st : Plan → Type 0) → InStep settings entries logs spent b st → (w : ℕ) → is_active w b ≡ true → is_stopped b ≡ true → was_ready w b ≡ true
-    → is_shut w b ≡ true
-step-told settings entries logs spent b st k w a h r =
+new-state : (s : State) (w : ℕ) → Tidy s → AllCollected s → AllTold s → is_active w s.books ≡ true → has_collected w s.books ≡ false → was_ready w s.books ≡ true → IsNew w s.books
+new-state s w d c t a h r = record { absent = new-seat s w c h; bare = bare-state s d; told = λ q. shut-state s w d t q a r }
+
+-- whoever gives its collection is new
+pub step-new : (settings : Settings) (entries : List Entry) (logs : List WorkerLog) (spent : ℕ) (b : Books) (kn : Known) (st : Plan → Type 0) → InStep settings entries logs spent b kn st → (w : ℕ) → is_active w b ≡ true → has_collected w b ≡ false
+    → was_ready w b ≡ true → IsNew w b
+step-new settings entries logs spent b kn st k w a h r =
     let s = state_at settings entries in
     let e : s.books ≡ b = sym k.at.books_are in
-    ap (λ (d : Books). is_shut w d) k.at.books_are ∙ shut-state s w (holds settings entries logs spent b st k).tidy (all-told settings entries logs spent b st k) (ap (λ (d : Books). is_stopped d) e ∙ h)
-    (ap (λ (d : Books). is_active w d) e ∙ a) (ap (λ (d : Books). was_ready w d) e ∙ r)
+    subst (λ (d : Books). IsNew w d) e
+    (new-state s w (tidy settings entries logs spent b kn st k) (collected settings entries logs spent b kn st k) (all-told settings entries logs spent b kn st k)
+    (ap (λ (d : Books). is_active w d) e ∙ a) (ap (λ (d : Books). has_collected w d) e ∙ h) (ap (λ (d : Books). was_ready w d) e ∙ r))
 
-pub step-bare : (settings : Settings) (entries : List Entry) (logs : List WorkerLog) (spent : ℕ) (b : Books) (st : Plan → Type 0) → InStep settings entries logs spent b st → b.shared ≡ false → IsBare b.table
-step-bare settings entries logs spent b st k h =
-    let a = k.at.books_are in
-    subst (λ (d : Books). IsBare d.table) (sym a) (bare-state (state_at settings entries) (holds settings entries logs spent b st k).tidy (ap (λ (d : Books). d.shared) (sym a) ∙ h))
-
-next-by : (settings : Settings) (entries now : List Entry) (logs logs_now : List WorkerLog) (spent spent_now : ℕ) (b c : Books) (st st_now : Plan → Type 0) (o : Option Entry) → InStep settings entries logs spent b st
-    → ((e : Entry) → o ≡ Some e → may_follow (state_at settings entries) e ≡ true) → ((v : ℕ) → log_in v logs_now ≡ shortened (log_in v logs_now)) → Told o (state_at settings entries) entries now spent spent_now c st_now
-    → InStep settings now logs_now spent_now c st_now
-next-by settings entries now logs logs_now spent spent_now b c st st_now None k h short t = record {
-  mode = k.mode;
+next-by : (settings : Settings) (entries now : List Entry) (logs logs_now : List WorkerLog) (spent spent_now : ℕ) (b c : Books) (kn kc : Known) (st st_now : Plan → Type 0) (o : Option Entry) → InStep settings entries logs spent b kn st
+    → ((e : Entry) → o ≡ Some e → may_follow (state_at settings entries) e ≡ true) → ((v : ℕ) → log_in v logs_now ≡ shortened (log_in v logs_now)) → Told o (state_at settings entries) entries now spent spent_now c kc st_now
+    → InStep settings now logs_now spent_now c kc st_now
+next-by settings entries now logs logs_now spent spent_now b c kn kc st st_now None k h short t = record {
   inputs = k.inputs;
   proper = k.proper;
   journal = t.entries_are ∙ k.journal;
-  at = subst (λ es. At (state_at settings es) c st_now) (sym t.entries_are) t.at;
+  at = subst (λ es. At (state_at settings es) c kc st_now) (sym t.entries_are) t.at;
   spent_is = t.spent_is ∙ add-zero spent ∙ k.spent_is ∙ ap spent_by (sym t.entries_are);
   spent_low = t.spent_low;
   short = short;
 }
-next-by settings entries now logs logs_now spent spent_now b c st st_now (Some e) k h short t =
+next-by settings entries now logs logs_now spent spent_now b c kn kc st st_now (Some e) k h short t =
     let s0 = state_at settings entries in
     let m : may_follow s0 e ≡ true = h e refl in
-    let after = behind settings entries logs spent b st k in
+    let after = behind settings entries logs spent b kn st k in
     record {
-      mode = k.mode;
       inputs = k.inputs ++ e ∷ [];
       proper = proper-more settings k.inputs e k.proper (ap (λ u. may_follow u e) (sym after) ∙ m);
       journal = t.entries_are ∙ ap (λ es. es ++ (e ∷ outputs s0 e)) k.journal ∙ ap (λ u. journal_of settings k.inputs ++ (e ∷ outputs u e)) after ∙ sym (journal-more settings k.inputs e);
-      at = subst (λ u. At u c st_now) (sym (ap (state_at settings) t.entries_are ∙ state-next settings entries e m)) t.at;
+      at = subst (λ u. At u c kc st_now) (sym (ap (state_at settings) t.entries_are ∙ state-next settings entries e m)) t.at;
       spent_is = t.spent_is ∙ ap (λ n. n + spent_by (e ∷ [])) k.spent_is ∙ sym (spent-more s0 entries e (orderly-next settings k.inputs s0 e k.proper after m)) ∙ ap spent_by (sym t.entries_are);
       spent_low = t.spent_low;
       short = short;
@@ -110,18 +106,18 @@ short-if : (b : Bool) (x y : Option Log) → y ≡ shortened y → (if b then sh
 short-if true x y h = sym (short-twice x)
 short-if false x y h = h
 
-pub step-next : (settings : Settings) (entries now : List Entry) (logs logs_now : List WorkerLog) (spent spent_now : ℕ) (b c : Books) (st st_now : Plan → Type 0) (w : ℕ) (n : What) → InStep settings entries logs spent b st
-    → is_active w b ≡ true → Took w n (state_at settings entries) logs logs_now entries now spent spent_now c st_now → InStep settings now logs_now spent_now c st_now
-step-next settings entries now logs logs_now spent spent_now b c st st_now w n k a t =
+pub step-next : (settings : Settings) (entries now : List Entry) (logs logs_now : List WorkerLog) (spent spent_now : ℕ) (b c : Books) (kn kc : Known) (st st_now : Plan → Type 0) (w : ℕ) (n : What) → InStep settings entries logs spent b kn st
+    → is_active w b ≡ true → Took w n (state_at settings entries) logs logs_now entries now spent spent_now c kc st_now → InStep settings now logs_now spent_now c kc st_now
+step-next settings entries now logs logs_now spent spent_now b c kn kc st st_now w n k a t =
     let s0 = state_at settings entries in
     let act : is_active w s0.books ≡ true = ap (λ (d : Books). is_active w d) (sym k.at.books_are) ∙ a in
-    next-by settings entries now logs logs_now spent spent_now b c st st_now (meaning_of w (log_in w logs) spent s0 n) k (λ e h. meaning-follows w (log_in w logs) spent s0 n e act h)
+    next-by settings entries now logs logs_now spent spent_now b c kn kc st st_now (meaning_of w (log_in w logs) spent s0 n) k (λ e h. meaning-follows w (log_in w logs) spent s0 n e act h)
     (λ v. (let r = t.logs_are v in r ∙ short-if (v == w) (with_news (log_in v logs) n) (log_in v logs) (k.short v) ∙ ap shortened (sym r))) t.told
 
-pub stands-next : (settings : Settings) (entries now : List Entry) (logs logs_now : List WorkerLog) (spent spent_now : ℕ) (b c : Books) (st st_now : Plan → Type 0) (n : News) (taken : List News) → InStep settings entries logs spent b st
-    → is_active n.worker b ≡ true → Took n.worker n.what (state_at settings entries) logs logs_now entries now spent spent_now c st_now
+pub stands-next : (settings : Settings) (entries now : List Entry) (logs logs_now : List WorkerLog) (spent spent_now : ℕ) (b c : Books) (kn kc : Known) (st st_now : Plan → Type 0) (n : News) (taken : List News) → InStep settings entries logs spent b kn st
+    → is_active n.worker b ≡ true → Took n.worker n.what (state_at settings entries) logs logs_now entries now spent spent_now c kc st_now
     → StandsFor taken (record { settings = settings; entries = entries; logs = logs; whole = true }) → StandsFor (taken ++ n ∷ []) (record { settings = settings; entries = now; logs = logs_now; whole = true })
-stands-next settings entries now logs logs_now spent spent_now b c st st_now n taken k a t f =
+stands-next settings entries now logs logs_now spent spent_now b c kn kc st st_now n taken k a t f =
     let s0 = state_at settings entries in
     let w = n.worker in
     let r : SoFar = run_of settings taken in

@@ -4,7 +4,6 @@ use Rattle.std.specs.Prelude.{if◌then◌else◌, ◌==◌, filter, fold, Optio
 use Rattle.std.proofs.lemmas.Grind.{fold-append}
 use Rattle.std.proofs.lemmas.List.{append-nil}
 use Rattle.std.proofs.lemmas.Bool.Decides.{nat_tests}
-use Rattle.xd_edge.specs.declared.mode.ModeKind.TheVariants.{Load}
 use Rattle.xd_journal.specs.declared.settings.Settings.{Settings}
 use Rattle.xd_journal.specs.declared.entry.Entry.{Entry}
 use Rattle.xd_journal.specs.declared.entry.Entry.TheVariants.{Ready, Collected, Done, Back, Finished, Refused, Down, NotStarted, Start, Run, RunAll, Steal, Shutdown, Kill, Over}
@@ -23,11 +22,8 @@ use Rattle.xd_ledger.specs.Proper.{IsProper, all_may_follow, may_follow, names_h
 use Rattle.xd_ledger.specs.Sharing.{State}
 use Rattle.xd_ledger.specs.State.{all_moved, is_input, moved, no_one, settled, state_at}
 use Rattle.xd_ledger.specs.Workers.{is_active}
-use Rattle.xd_laws.proofs.InMode.{InMode}
-use Rattle.xd_laws.proofs.LoadRule.{load_rule}
 use Rattle.xd_laws.proofs.Laws.{orderly}
 use Rattle.xd_laws.proofs.Logic.{and, differ, split-and}
-use Rattle.xd_laws.proofs.Runs.{Holds, all-hold, begun-holds}
 use Rattle.xd_session.specs.declared.logs.WorkerLog.{WorkerLog}
 use Rattle.xd_session.specs.History.{IsProperRun, Run as SoFar, after_news, begun_run, entries_with, input_of, inputs_with, run_of, said_by, state_with}
 use Rattle.xd_session.specs.Kept.{log_in, shortened}
@@ -104,10 +100,6 @@ orderly-next settings ins s e p same h =
     let follows : may_follow (stepped_all (begun settings) ins) e ≡ true = ap (λ (u : State). may_follow u e) (sym same) ∙ h in
     let Ordered : State → Type 0 = λ u. all_orderly (moved u e) (outputs u e) ≡ true in
     subst Ordered (sym same) (orderly-last (begun settings) ins e (orderly settings (ins ++ e ∷ []) (proper-more settings ins e p follows)))
-
--- what holds of the states of a run in mode load
-pub holds-behind : (settings : Settings) (ins : List Entry) → settings.mode ≡ Load → all_may_follow (begun settings) ins ≡ true → Holds (InMode Load) (stepped_all (begun settings) ins)
-holds-behind settings ins m h = all-hold (InMode Load) load_rule (begun settings) ins h (begun-holds (InMode Load) load_rule settings m)
 
 -- outputs keep nothing of a test
 

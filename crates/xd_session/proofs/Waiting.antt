@@ -3,7 +3,6 @@ use Rattle.std.proofs.Common.{◌≡◌, ℕ, zero, suc, ◌+◌, List, [], ◌�
 use Rattle.std.specs.Prelude.{if◌then◌else◌, ◌==◌, filter, Option, Some, None}
 use Rattle.std.specs.List.{list_any}
 use Rattle.std.proofs.lemmas.Bool.Decides.{nat_tests}
-use Rattle.xd_edge.specs.declared.mode.ModeKind.TheVariants.{Load}
 use Rattle.xd_journal.specs.declared.settings.Settings.{Settings}
 use Rattle.xd_journal.specs.declared.entry.RunStop.{RunStop}
 use Rattle.xd_journal.specs.declared.entry.Ids.{Ids}
@@ -15,20 +14,17 @@ use Rattle.xd_ledger.specs.Collections.{listed, unequal, with_list}
 use Rattle.xd_ledger.specs.Histories.{begun, starts_from, stepped_all}
 use Rattle.xd_ledger.specs.Modes.Call.{TestDone, TestsBack}
 use Rattle.xd_ledger.specs.Numbers.{all_distinct, among}
-use Rattle.xd_ledger.specs.Orderly.{all_orderly, is_orderly}
+use Rattle.xd_ledger.specs.Orderly.{all_orderly, is_orderly, is_orderly_run}
 use Rattle.xd_ledger.specs.Outputs.{acts_of, after_death, after_joining, closing, outputs, own_outputs, shut_all, stepped, unless_stopped}
-use Rattle.xd_ledger.specs.Proper.{all_may_follow, may_follow}
+use Rattle.xd_ledger.specs.Proper.{IsProper, all_may_follow, may_follow}
 use Rattle.xd_ledger.specs.Sharing.{State, in_books}
 use Rattle.xd_ledger.specs.State.{all_moved, collecting, moved, no_one}
 use Rattle.xd_ledger.specs.Stops.{is_shutting, is_stopped}
 use Rattle.xd_ledger.specs.Workers.{is_shut, is_waiting, made_collected, made_gone, made_ready, made_shut, started}
 use Rattle.xd_laws.proofs.Crew.{has, has-cleared, has-more, has-same, numbers}
 use Rattle.xd_laws.proofs.Inputs.{collecting-keeps}
-use Rattle.xd_laws.proofs.InMode.{InMode}
-use Rattle.xd_laws.proofs.LoadRule.{load_rule}
+use Rattle.xd_laws.proofs.Laws.{orderly}
 use Rattle.xd_laws.proofs.Logic.{and-false, cases_of, differ, in_both, or-left, or-right, split-and, split-or}
-use Rattle.xd_laws.proofs.Outputs.{outputs-fit}
-use Rattle.xd_laws.proofs.Runs.{Holds, begun-holds, stepped-holds}
 use Rattle.xd_laws.proofs.Turns.{all_moved-first}
 
 -- the worker is active, was ready and was not told to shut down
@@ -212,26 +208,26 @@ told-input s (Over how) a k h v x = absurd (differ a)
 
 -- runs
 
-told-stepped : (s : State) (e : Entry) → may_follow s e ≡ true → Holds (InMode Load) s → AllTold s → AllTold (stepped s e)
+told-stepped : (s : State) (e : Entry) → may_follow s e ≡ true → all_orderly (moved s e) (outputs s e) ≡ true → AllTold s → AllTold (stepped s e)
 told-stepped s e a d k =
     let now = moved s e in
     let own = own_outputs s e now in
-    let r = leaves-outputs now (outputs s e) (outputs-fit (InMode Load) load_rule s e a d.tidy d.also).orderly in
+    let r = leaves-outputs now (outputs s e) d in
     λ h v. r.1 v ∙ none-left (told v (outputs s e)) (Waits v now.books.crew) (λ x. told-left v own (closing (all_moved now own)) (told-input s e a k (sym r.0 ∙ h) v x))
 
-told-run : (s : State) (ins : List Entry) → all_may_follow s ins ≡ true → Holds (InMode Load) s → AllTold s → AllTold (stepped_all s ins)
+told-run : (s : State) (ins : List Entry) → all_may_follow s ins ≡ true → is_orderly_run s ins ≡ true → AllTold s → AllTold (stepped_all s ins)
 told-run s [] h d k = k
 told-run s (e ∷ ins) h d k =
     let p = split-and (may_follow s e) (all_may_follow (stepped s e) ins) h in
-    told-run (stepped s e) ins p.1 (stepped-holds (InMode Load) load_rule s e p.0 d) (told-stepped s e p.0 d k)
+    let q = split-and (all_orderly (moved s e) (outputs s e)) (is_orderly_run (stepped s e) ins) d in
+    told-run (stepped s e) ins p.1 q.1 (told-stepped s e p.0 q.0 k)
 
 starts-stop : (s : State) (w n : ℕ) → is_stopped (all_moved s (starts_from w n)).books ≡ is_stopped s.books
 starts-stop s w zero = refl
 starts-stop s w (suc n) = starts-stop (moved s (Start w w)) (w + 1) n
 
-pub told-behind : (settings : Settings) (ins : List Entry) → settings.mode ≡ Load → all_may_follow (begun settings) ins ≡ true → AllTold (stepped_all (begun settings) ins)
-told-behind settings ins m h =
-    told-run (begun settings) ins h (begun-holds (InMode Load) load_rule settings m) (λ a. absurd (differ (sym (starts-stop (no_one settings) 0 settings.workers) ∙ a)))
+pub told-behind : (settings : Settings) (ins : List Entry) → IsProper settings ins → AllTold (stepped_all (begun settings) ins)
+told-behind settings ins p = told-run (begun settings) ins p.follow (orderly settings ins p) (λ a. absurd (differ (sym (starts-stop (no_one settings) 0 settings.workers) ∙ a)))
 
 -- one worker
 

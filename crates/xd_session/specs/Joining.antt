@@ -1,15 +1,54 @@
 -- A worker joins, and the tests are shared.
-use Rattle.std.specs.Prelude.{◌≡◌, ℕ, [], Option, Some, None}
+use Rattle.std.specs.Prelude.{◌≡◌, ℕ, zero, suc, ◌+◌, true, false, List, [], ◌∷◌, sum, Option, Some, None, if◌then◌else◌}
+use Rattle.std.specs.List.{range_with_len}
+use Rattle.xd_edge.specs.declared.mode.ModeKind.{ModeKind}
+use Rattle.xd_journal.specs.declared.entry.Entry.{Entry}
 use Rattle.xd_journal.specs.declared.entry.RunStop.{RunStop}
-use Rattle.xd_ledger.specs.Sharing.{State, in_books, joining}
-use Rattle.xd_ledger.specs.Stops.{stopped_by}
-use Rattle.xd_ledger.specs.Table.{Table, all_items}
+use Rattle.xd_ledger.specs.declared.member.Listed.{Listed}
+use Rattle.xd_ledger.specs.Books.{Books}
+use Rattle.xd_ledger.specs.Outputs.{after_joining, unless_stopped}
+use Rattle.xd_ledger.specs.Plan.{Plan, is_each}
+use Rattle.xd_ledger.specs.Sharing.{State, ids_at, in_books, joining}
+use Rattle.xd_ledger.specs.Stops.{is_stopped, stopped_by}
+use Rattle.xd_ledger.specs.Table.{Table, all_items, has_joined}
+use Rattle.xd_ledger.specs.Workers.{has_collected, is_shut, was_ready}
+use Rattle.xd_session.specs.Known.{Known}
+use Rattle.xd_session.specs.Rules.{Acted}
 
 -- before the share no item stands anywhere
 abbrev pub IsBare : Table → Type 0
 IsBare t = all_items t ≡ []
 
+-- what holds of a worker that gives its collection: it has not joined, before the share no item stands anywhere, and behind a
+-- stop it was told to shut down
+pub record IsNew (worker : ℕ) (b : Books) : Type 0 where
+  pub absent : has_joined worker b.table ≡ false
+  pub bare : b.shared ≡ false → IsBare b.table
+  pub told : is_stopped b ≡ true → is_shut worker b ≡ true
+
+-- the ids that stand for each of so many slots, from this one on
+abbrev pub lists_from : List Listed → ℕ → ℕ → List (List (List ℕ))
+lists_from ls slot zero = []
+lists_from ls slot (suc n) = ids_at slot ls ∷ lists_from ls (slot + 1) n
+
+-- the collections that are shared: in mode each one of each slot, else a single one
+abbrev pub collections_of : ModeKind → ℕ → List Listed → List (List (List ℕ))
+collections_of mode workers ls = lists_from ls 0 (if is_each mode then workers else 1)
+
+-- those of the books
+abbrev pub collections_in : ModeKind → Books → List (List (List ℕ))
+collections_in mode b = collections_of mode b.settings.workers b.lists
+
+-- all items of collections with so many tests come into the pool, in order
+abbrev pub filled : List ℕ → Table → Table
+filled sizes t = record t { pool = range_with_len 0 (sum sizes) }
+
 -- a collection that differs stops the run, with any other the worker joins
 abbrev pub taken_in : ℕ → Option RunStop → State → State
 taken_in worker (Some how) s = in_books (stopped_by (Some how)) s
 taken_in worker None s = joining worker s
+
+-- that was done, and what it brings was said
+abbrev pub TakenIn : ℕ → Option RunStop → State → Books → Known → List Entry → List Entry → (Plan → Type 0) → Type 0
+TakenIn worker stop s b k old new stands =
+    Acted (unless_stopped s.books (taken_in worker stop s).books (after_joining worker s.books (taken_in worker stop s))) (taken_in worker stop s) b k old new stands

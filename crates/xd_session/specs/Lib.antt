@@ -4,7 +4,9 @@ pub mod Crew
 pub mod Ends
 pub mod History
 pub mod Joining
+pub mod Judged
 pub mod Kept
+pub mod Known
 pub mod Part
 pub mod Rules
 pub mod Stands

@@ -1,6 +1,5 @@
--- What a rule of the session leaves, in mode load.
-use Rattle.std.specs.Prelude.{◌≡◌, ℕ, ◌≤◌, false, List, [], ◌∷◌, ◌++◌, fold, map, None}
-use Rattle.xd_edge.specs.declared.mode.ModeKind.TheVariants.{Load}
+-- What a rule of the session leaves.
+use Rattle.std.specs.Prelude.{◌≡◌, ℕ, ◌≤◌, false, true, List, [], ◌∷◌, ◌++◌, fold, map}
 use Rattle.xd_journal.specs.declared.settings.Settings.{Settings}
 use Rattle.xd_journal.specs.declared.entry.Entry.{Entry}
 use Rattle.xd_journal.specs.declared.entry.Entry.TheVariants.{Shutdown}
@@ -8,38 +7,74 @@ use Rattle.xd_journal.specs.Kept.{most_of_all}
 use Rattle.xd_ledger.specs.declared.member.Member.{Member}
 use Rattle.xd_ledger.specs.Table.{shut_down}
 use Rattle.xd_ledger.specs.Plan.{Plan}
-use Rattle.xd_ledger.specs.Turn.{Turn}
+use Rattle.xd_ledger.specs.Modes.{Call}
+use Rattle.xd_ledger.specs.Modes.Call.{Died, Joined, Share}
 use Rattle.xd_ledger.specs.Books.{Books, marked, on_table}
-use Rattle.xd_ledger.specs.Workers.{started, made_shut}
-use Rattle.xd_ledger.specs.Sharing.{State}
+use Rattle.xd_ledger.specs.Workers.{started, made_shut, slot_of}
+use Rattle.xd_ledger.specs.Stops.{is_stopped}
+use Rattle.xd_ledger.specs.Sharing.{State, joining, shared_now}
 use Rattle.xd_ledger.specs.State.{settled, all_moved, state_at}
-use Rattle.xd_ledger.specs.Outputs.{closing, outputs, stepped}
+use Rattle.xd_ledger.specs.Outputs.{closing, outputs, slots_of_rota, stepped}
 use Rattle.xd_ledger.specs.Histories.{journal_of}
-use Rattle.xd_ledger.specs.Proper.{IsProper}
+use Rattle.xd_ledger.specs.Proper.{IsProper, may_follow}
 use Rattle.xd_ledger.specs.Meaning.{spent_by}
+use Rattle.xd_laws.specs.Called.{Called, Reached}
 use Rattle.xd_session.specs.declared.logs.WorkerLog.{WorkerLog}
 use Rattle.xd_session.specs.Kept.{log_in, shortened}
+use Rattle.xd_session.specs.Known.{Known, known_of}
 
--- the books and a mode that stand for a state of mode load
-pub record At (s : State) (books : Books) (stands : Plan → Type 0) : Type 0 where
-  pub books_are : books ≡ s.books
-  pub stands_for : stands s.plan
-  pub load : s.plan.mode ≡ Load
-  pub steal : s.plan.steal ≡ None
+-- what is kept of a run and its mode stand for the state; behind a stop the mode is not called, and stands for nothing
+pub record At (s : State) (b : Books) (k : Known) (stands : Plan → Type 0) : Type 0 where
+  pub books_are : b ≡ s.books
+  pub known_is : k ≡ known_of s.plan
+  pub stands_for : is_stopped s.books ≡ false → stands s.plan
+
+-- the mode stands for the plan as it was before this change
+abbrev pub Before : (Plan → Plan) → (Plan → Type 0) → Plan → Type 0
+Before change stands p = (q : Plan) × (stands q × (p ≡ change q))
+
+-- so they stand where the input comes that may follow the state of a proper run
+pub record Comes (e : Entry) (s : State) (b : Books) (k : Known) (stands : Plan → Type 0) : Type 0 where
+  pub at : At s b k stands
+  pub reached : Reached s
+  pub follows : may_follow s e ≡ true
+
+-- so they stand where the mode is called
+pub record Calls (c : Call) (s : State) (b : Books) (k : Known) (stands : Plan → Type 0) : Type 0 where
+  pub at : At s b k stands
+  pub going : is_stopped s.books ≡ false
+  pub called : Called c s
+
+-- the worker may join: what the mode finds where it hears of it, or where it shares the tests
+pub record MayJoin (worker : ℕ) (s : State) : Type 0 where
+  pub going : is_stopped s.books ≡ false
+  pub hears : s.books.shared ≡ true → Called (Joined worker (slot_of worker s.books)) (joining worker s)
+  pub shares : (joining worker s).books.shared ≡ true → s.books.shared ≡ false → Called (Share (slots_of_rota (joining worker s).books)) (joining worker s)
+
+-- the tests may be shared: what the mode finds
+pub record MayShare (s : State) : Type 0 where
+  pub going : is_stopped s.books ≡ false
+  pub deals : Called (Share (slots_of_rota s.books)) (shared_now s)
+
+-- a death where no stop came: what the mode finds where it hears of it, and before the share it goes on as it was
+pub record MayDie (s : State) (stands : Plan → Type 0) : Type 0 where
+  pub going : is_stopped s.books ≡ false
+  pub hears : s.books.shared ≡ true → Called Died s
+  pub stays : s.books.shared ≡ false → stands s.plan
 
 -- these outputs were said
-pub record Acted (acts : List Entry) (s : State) (books : Books) (old new : List Entry) (stands : Plan → Type 0) : Type 0 where
-  pub at : At (all_moved s acts) books stands
+pub record Acted (acts : List Entry) (s : State) (b : Books) (k : Known) (old new : List Entry) (stands : Plan → Type 0) : Type 0 where
+  pub at : At (all_moved s acts) b k stands
   pub entries_are : new ≡ old ++ acts
 
 -- where nothing is left to hand out, all are shut, and the run is marked
-pub record Closed (s : State) (books : Books) (old new : List Entry) (stands : Plan → Type 0) : Type 0 where
-  pub at : At (settled (all_moved s (closing s))) books stands
+pub record Closed (s : State) (b : Books) (k : Known) (old new : List Entry) (stands : Plan → Type 0) : Type 0 where
+  pub at : At (settled (all_moved s (closing s))) b k stands
   pub entries_are : new ≡ old ++ closing s
 
 -- the input came, with all that follows it
-pub record Ruled (s : State) (e : Entry) (books : Books) (old new : List Entry) (stands : Plan → Type 0) : Type 0 where
-  pub at : At (stepped s e) books stands
+pub record Ruled (s : State) (e : Entry) (b : Books) (k : Known) (old new : List Entry) (stands : Plan → Type 0) : Type 0 where
+  pub at : At (stepped s e) b k stands
   pub entries_are : new ≡ old ++ e ∷ outputs s e
 
 -- a worker was started
@@ -66,18 +101,13 @@ told_by ms _ = ms
 abbrev pub crew_told : List Entry → List Member → List Member
 crew_told es ms = fold told_by ms es
 
--- the state behind the outputs of a turn
-abbrev pub with_turn : Turn → State → State
-with_turn u s = record s { books = record (s.books) { table = u.table; crew = crew_told u.acts s.books.crew }; plan = u.plan }
-
 -- the entries are the journal of a proper run, for whose state the books and the mode stand, and of each log as much is
 -- kept as can be asked for
-pub record InStep (settings : Settings) (entries : List Entry) (logs : List WorkerLog) (spent : ℕ) (books : Books) (stands : Plan → Type 0) : Type 0 where
-  pub mode : settings.mode ≡ Load
+pub record InStep (settings : Settings) (entries : List Entry) (logs : List WorkerLog) (spent : ℕ) (b : Books) (k : Known) (stands : Plan → Type 0) : Type 0 where
   pub inputs : List Entry
   pub proper : IsProper settings inputs
   pub journal : entries ≡ journal_of settings inputs
-  pub at : At (state_at settings entries) books stands
+  pub at : At (state_at settings entries) b k stands
   pub spent_is : spent ≡ spent_by entries
   pub spent_low : spent ≤ most_of_all
   pub short : (worker : ℕ) → log_in worker logs ≡ shortened (log_in worker logs)

@@ -1,12 +1,11 @@
 -- A session as its callers see it, and the news that it stands for.
 use Rattle.std.specs.Prelude.{◌≡◌, ℕ, Bool, true, nat_le, List}
-use Rattle.xd_edge.specs.declared.mode.ModeKind.TheVariants.{Load}
 use Rattle.xd_journal.specs.declared.settings.Settings.{Settings}
 use Rattle.xd_journal.specs.declared.entry.Entry.{Entry}
 use Rattle.xd_journal.specs.declared.news.News.{News}
 use Rattle.xd_ledger.specs.Sharing.{State}
 use Rattle.xd_ledger.specs.State.{state_at}
-use Rattle.xd_ledger.specs.Proper.{most_workers, most_restarts}
+use Rattle.xd_ledger.specs.Proper.{has_workers, most_workers, most_restarts}
 use Rattle.xd_ledger.specs.Meaning.{log_of}
 use Rattle.xd_session.specs.declared.logs.WorkerLog.{WorkerLog}
 use Rattle.xd_session.specs.Kept.{log_in, shortened}
@@ -22,9 +21,9 @@ pub record Seen : Type 0 where
 abbrev pub state_of : Seen → State
 state_of s = state_at s.settings s.entries
 
--- settings that a session can be made with: so far those of mode load
+-- settings that a session can be made with
 pub record CanBegin (settings : Settings) : Type 0 where
-  pub mode : settings.mode ≡ Load
+  pub mode : has_workers settings.mode ≡ true
   pub some_worker : nat_le 1 settings.workers ≡ true
   pub few_workers : nat_le settings.workers most_workers ≡ true
   pub few_restarts : nat_le settings.restarts most_restarts ≡ true

@@ -1,7 +1,7 @@
 // What the session keeps of a run beside its mode.
 ghost use Rattle.std.specs.Prelude.{◌≡◌, ◌&&◌, true, nat_le, length};
 ghost use Rattle.std.specs.List.{list_all};
-ghost use Rattle.xd_ledger.specs.Proper.{is_id, most_tests, no_text_twice};
+ghost use Rattle.xd_ledger.specs.Proper.{is_id, most_tests, most_workers, no_text_twice};
 
 use xd_journal::{RunStop, Settings};
 use xd_ledger::{Ledger, Listed, Member};
@@ -20,5 +20,6 @@ pub struct RunBooks {
     pub stop: Option<RunStop>,
     pub shutting: bool,
     ghost few: { list_all (λ l. nat_le (length l.ids) most_tests) lists.items ≡ true },
+    ghost few_workers: { nat_le settings.workers most_workers ≡ true },
     ghost ordered: { list_all (λ l. list_all is_id l.ids && no_text_twice l.ids) lists.items ≡ true },
 }

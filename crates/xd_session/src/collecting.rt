@@ -1,43 +1,100 @@
 // A worker collected: it joins, and the last one that was missing brings the share.
-ghost use Rattle.std.specs.Prelude.{◌≡◌, ◌&&◌, ◌≤◌, nat_le, length, true, false, [], ◌∷◌, OnOk, IfOk, if◌then◌else◌};
+ghost use Rattle.std.specs.Prelude.{◌≡◌, ◌&&◌, ◌≤◌, nat_le, length, map, sum, true, false, None, [], ◌∷◌, ℕ, List, OnOk, IfOk, if◌then◌else◌};
 ghost use Rattle.std.specs.List.{list_all};
+ghost use Rattle.xd_ledger.specs.Calls.{Turned, shared_plan};
 ghost use Rattle.xd_ledger.specs.Meaning.{given_ids};
-ghost use Rattle.xd_ledger.specs.Modes.Call.{Joined, Share};
-ghost use Rattle.xd_ledger.specs.Outputs.{acts_of, after_joining, slots_of_rota, unless_stopped};
+ghost use Rattle.xd_ledger.specs.Modes.Call.{Share};
+ghost use Rattle.xd_ledger.specs.Outputs.{acts_of, after_joining, slots_of_rota};
 ghost use Rattle.xd_ledger.specs.Proper.{is_id, most_tests, no_text_twice};
-ghost use Rattle.xd_ledger.specs.Sharing.{State, ids_at, in_books, is_full, joining, shared_now};
+ghost use Rattle.xd_ledger.specs.Sharing.{State, ids_at, is_full, joining, shared_now};
+ghost use Rattle.xd_ledger.specs.Plan.{Plan, is_each};
+ghost use Rattle.xd_ledger.specs.Sound.{most_items};
+ghost use Rattle.xd_ledger.specs.Suits.{Suits};
 ghost use Rattle.xd_ledger.specs.Books.{on_table};
 ghost use Rattle.xd_ledger.specs.Stops.{is_stopped};
 ghost use Rattle.xd_ledger.specs.Table.{has_joined, in_rota, joined};
 ghost use Rattle.xd_ledger.specs.Workers.{is_shut, slot_of};
+ghost use Rattle.xd_laws.specs.Called.{Called};
 ghost use Rattle.xd_session.specs.Compared.{stop_of};
 ghost use Rattle.xd_session.specs.Crew.{books_of};
-ghost use Rattle.xd_session.specs.Joining.{IsBare, taken_in};
-ghost use Rattle.xd_session.specs.Rules.{Acted, At, Ruled};
+ghost use Rattle.xd_session.specs.Joining.{IsBare, IsNew, TakenIn, collections_in, filled, lists_from};
+ghost use Rattle.xd_session.specs.Known.{known_by};
+ghost use Rattle.xd_session.specs.Rules.{Acted, At, Comes, MayJoin, MayShare, Ruled};
 
 use crate::books::RunBooks;
-use crate::lists::{Comparison, place_of};
+use crate::known::{is_each, total_of};
+use crate::lists::{Comparison, copy_of, place_of};
 use crate::marks::Mark;
-use crate::outputs::{follow, note, note_all, shut_everyone};
-use crate::rules::finish;
+use crate::outputs::{note, shut_everyone};
+use crate::state::{RunState, take_acts};
 use std::alloc::Global;
 use std::slice;
-use xd_edge::{Indices, OutOfMemory, Texts};
+use xd_edge::{Indices, ModeKind, OutOfMemory, Texts};
 use xd_journal::{Entry, RunStop};
-use xd_ledger::{Listed, Mode};
+use xd_ledger::{Ledger, Listed, Mode};
 
-// The ids that stand for slot 0.
-fn first_ids<'a>(lists: &'a [Listed], none: &'a Texts) -> &'a Texts
+// The ids that stand for the slot.
+fn ids_of<'a>(slot: u32, lists: &'a [Listed], none: &'a Texts) -> &'a Texts
     requires none { none.now ≡ [] }
     requires few { list_all (λ l. nat_le (length l.ids) most_tests) lists.now ≡ true }
-    ensures ids { result.now ≡ ids_at 0 lists.now }
+    ensures ids { result.now ≡ ids_at slot lists.now }
     ensures few { length result.now ≤ most_tests }
 {
-    let place = place_of(lists, 0);
+    let place = place_of(lists, slot);
     if place < lists.len() {
         return &lists[place].ids;
     }
     none
+}
+
+// The ids that stand for each of so many slots, in order.
+#[tactic(auto, using(crate::proofs::Shares::lists_next))]
+fn ids_of_slots(
+    alloc: Global,
+    slots: u32,
+    lists: &[Listed],
+    none: &Texts,
+) -> Result<Vec<Texts>, OutOfMemory>
+    requires none { none.now ≡ [] }
+    requires few { list_all (λ l. nat_le (length l.ids) most_tests) lists.now ≡ true }
+    ensures { IfOk result (λ all. all.items ≡ lists_from lists.now 0 slots) }
+{
+    let mut all = Vec::new(alloc);
+    for slot in 0..slots {
+        let ids = copy_of(alloc, &ids_of(slot, lists, none).items)?;
+        all.push(ids)?;
+    }
+    Ok(all)
+}
+
+// How many tests each of so many slots has, in order.
+#[tactic(auto, using(crate::proofs::Shares::sizes_next))]
+fn sizes_of_slots(
+    alloc: Global,
+    slots: u32,
+    lists: &[Listed],
+    none: &Texts,
+) -> Result<Indices, OutOfMemory>
+    requires none { none.now ≡ [] }
+    requires few { list_all (λ l. nat_le (length l.ids) most_tests) lists.now ≡ true }
+    ensures { IfOk result (λ sizes. sizes ≡ map length (lists_from lists.now 0 slots)) }
+{
+    let mut items = Vec::new(alloc);
+    for slot in 0..slots {
+        let ids = ids_of(slot, lists, none);
+        items.push(ids.items.len() as u32)?;
+    }
+    Ok(Indices { items })
+}
+
+// How many slots have tests of their own.
+fn slots_shared(kind: ModeKind, workers: u32) -> u32
+    ensures { result ≡ (if is_each kind then workers else 1) }
+{
+    if is_each(kind) {
+        return workers;
+    }
+    1
 }
 
 // The slots of the workers of the rota, in rota order.
@@ -50,57 +107,6 @@ fn slots_of(alloc: Global, books: &RunBooks) -> Result<Indices, OutOfMemory>
         items.push(books.slot_of(worker))?;
     }
     Ok(Indices { items })
-}
-
-// All tests come into the pool, and the mode deals them.
-fn share<M: Mode>(
-    alloc: Global,
-    mode: &mut M,
-    books: &mut RunBooks,
-    entries: &mut Vec<Entry>,
-) -> Result<(), OutOfMemory>
-    requires { IsBare books.old.ledger }
-    ensures { OnOk result ((s : State) → At s (books_of books.old) (M.stands mode.old) →
-        Acted (acts_of (Share (slots_of_rota s.books)) (shared_now s)) (shared_now s) (books_of books.new) entries.old.items entries.new.items (M.stands mode.new)) }
-{
-    let none = Texts {
-        items: Vec::new(alloc),
-    };
-    let slots = slots_of(alloc, books)?;
-    let first = first_ids(&books.lists, &none);
-    books.ledger.fill(alloc, first.items.len() as u32)?;
-    books.shared = true;
-    let mut acts = Vec::new(alloc);
-    mode.share(
-        alloc,
-        &slots.items,
-        slice::from_ref(first),
-        &mut books.ledger,
-        &mut acts,
-    )?;
-    follow(&acts, &mut books.crew);
-    note_all(&mut acts, entries)?;
-    Ok(())
-}
-
-// The mode hears of a worker that joined behind the share.
-fn call_joined<M: Mode>(
-    alloc: Global,
-    worker: u32,
-    mode: &mut M,
-    books: &mut RunBooks,
-    entries: &mut Vec<Entry>,
-) -> Result<(), OutOfMemory>
-    requires { in_rota worker books.old.ledger ≡ true }
-    ensures { OnOk result ((s : State) → At s (books_of books.old) (M.stands mode.old) →
-        Acted (acts_of (Joined worker (slot_of worker s.books)) s) s (books_of books.new) entries.old.items entries.new.items (M.stands mode.new)) }
-{
-    let slot = books.slot_of(worker);
-    let mut acts = Vec::new(alloc);
-    mode.joined(alloc, worker, slot, &mut books.ledger, &mut acts)?;
-    follow(&acts, &mut books.crew);
-    note_all(&mut acts, entries)?;
-    Ok(())
 }
 
 // The rota has as many workers as the settings say, for the first time.
@@ -121,114 +127,188 @@ fn seat(alloc: Global, worker: u32, books: &mut RunBooks) -> Result<(), OutOfMem
     Ok(())
 }
 
-// The worker joins, and what that brings.
-fn join<M: Mode>(
+// All tests of these collections come into the pool, and the mode deals them.
+fn deal<M: Mode>(
     alloc: Global,
-    worker: u32,
+    slots: &[u32],
+    collections: &[Texts],
+    total: u32,
     mode: &mut M,
-    books: &mut RunBooks,
-    entries: &mut Vec<Entry>,
+    ledger: &mut Ledger,
+    acts: &mut Vec<Entry>,
 ) -> Result<(), OutOfMemory>
-    requires new { has_joined worker books.old.ledger ≡ false }
-    requires bare { books.old.shared ≡ false → IsBare books.old.ledger }
-    ensures { OnOk result ((s : State) → At s (books_of books.old) (M.stands mode.old) →
-        Acted (after_joining worker s.books (joining worker s)) (joining worker s) (books_of books.new) entries.old.items entries.new.items (M.stands mode.new)) }
+    requires few { total ≤ most_items }
+    requires total { total ≡ sum (map length collections.now) }
+    requires bare { IsBare ledger.old }
+    requires suits { Suits (Share slots.now) (shared_plan collections.now) (filled (map length collections.now) ledger.old) (M.stands mode.old) }
+    ensures { OnOk result ((p : Plan) → M.stands mode.old p →
+        Turned (Share slots.now) (shared_plan collections.now p) (filled (map length collections.now) ledger.old) acts.old.items ledger.new acts.new.items (M.stands mode.new)) }
 {
-    seat(alloc, worker, books)?;
-    if books.shared {
-        call_joined(alloc, worker, mode, books, entries)?;
-        return Ok(());
-    }
-    if is_full(books) {
-        share(alloc, mode, books, entries)?;
-        return Ok(());
-    }
+    ledger.fill(alloc, total)?;
+    mode.share(alloc, slots, collections, ledger, acts)?;
     Ok(())
 }
 
-// A collection that differs stops the run and all are shut, with any other the worker joins.
-fn take_in<M: Mode>(
+// The mode deals the tests: in mode each those of each slot, else those of the run. Gives how many each slot has.
+#[tactic(auto, using(crate::proofs::Shares::few_in_all, crate::proofs::Shares::one_list))]
+fn deal_all<M: Mode>(
     alloc: Global,
-    worker: u32,
-    comparison: Comparison,
+    kind: ModeKind,
     mode: &mut M,
     books: &mut RunBooks,
-    entries: &mut Vec<Entry>,
-) -> Result<(), OutOfMemory>
-    requires new { has_joined worker books.old.ledger ≡ false }
-    requires bare { books.old.shared ≡ false → IsBare books.old.ledger }
-    requires going { is_stopped (books_of books.old) ≡ false }
-    ensures { OnOk result ((s : State) → At s (books_of books.old) (M.stands mode.old) →
-        Acted (unless_stopped s.books (taken_in worker (stop_of worker comparison) s).books (after_joining worker s.books (taken_in worker (stop_of worker comparison) s))) (taken_in worker (stop_of worker comparison) s) (books_of books.new) entries.old.items entries.new.items (M.stands mode.new)) }
+    acts: &mut Vec<Entry>,
+) -> Result<Indices, OutOfMemory>
+    requires bare { IsBare books.old.ledger }
+    requires suits { Suits (Share (slots_of_rota (books_of books.old))) (shared_plan (collections_in kind (books_of books.old))) (filled (map length (collections_in kind (books_of books.old))) books.old.ledger) (M.stands mode.old) }
+    ensures sizes { IfOk result (λ sizes. (sizes ≡ map length (collections_in kind (books_of books.old))) × (sum sizes ≤ most_items)) }
+    ensures books { OnOk result (books_of books.new ≡ on_table (λ t. books.new.ledger) (books_of books.old)) }
+    ensures dealt { OnOk result ((p : Plan) → M.stands mode.old p →
+        Turned (Share (slots_of_rota (books_of books.old))) (shared_plan (collections_in kind (books_of books.old)) p)
+        (filled (map length (collections_in kind (books_of books.old))) books.old.ledger) acts.old.items books.new.ledger acts.new.items (M.stands mode.new)) }
 {
-    match comparison {
-        Comparison::Differs { other, place } => {
-            books.stop_by(RunStop::Unequal {
-                worker,
-                other,
-                place,
-            });
-            shut_everyone(alloc, books, entries)?;
-            Ok(())
-        }
-        Comparison::First | Comparison::Same => {
-            join(alloc, worker, mode, books, entries)?;
-            Ok(())
-        }
+    let none = Texts {
+        items: Vec::new(alloc),
+    };
+    let slots = slots_of(alloc, books)?;
+    let count = slots_shared(kind, books.settings.workers);
+    let sizes = sizes_of_slots(alloc, count, &books.lists, &none)?;
+    let total = total_of(&sizes.items);
+    if is_each(kind) {
+        let all = ids_of_slots(alloc, count, &books.lists, &none)?;
+        deal(
+            alloc,
+            &slots.items,
+            &all,
+            total,
+            mode,
+            &mut books.ledger,
+            acts,
+        )?;
+        return Ok(sizes);
     }
-}
-
-// One that was told to shut down before does not join.
-fn take_in_unless<M: Mode>(
-    alloc: Global,
-    shut: bool,
-    worker: u32,
-    comparison: Comparison,
-    mode: &mut M,
-    books: &mut RunBooks,
-    entries: &mut Vec<Entry>,
-) -> Result<(), OutOfMemory>
-    requires new { has_joined worker books.old.ledger ≡ false }
-    requires bare { books.old.shared ≡ false → IsBare books.old.ledger }
-    requires going { shut ≡ false → is_stopped (books_of books.old) ≡ false }
-    ensures { OnOk result ((s : State) → At s (books_of books.old) (M.stands mode.old) →
-        Acted (if shut then [] else unless_stopped s.books (taken_in worker (stop_of worker comparison) s).books (after_joining worker s.books (taken_in worker (stop_of worker comparison) s))) (if shut then s else taken_in worker (stop_of worker comparison) s) (books_of books.new) entries.old.items entries.new.items (M.stands mode.new)) }
-{
-    if shut {
-        return Ok(());
-    }
-    take_in(alloc, worker, comparison, mode, books, entries)?;
-    Ok(())
-}
-
-// A worker gave its collection.
-pub(crate) fn collected<M: Mode>(
-    alloc: Global,
-    worker: u32,
-    own: Texts,
-    mode: &mut M,
-    books: &mut RunBooks,
-    entries: &mut Vec<Entry>,
-) -> Result<(), OutOfMemory>
-    requires few { length own ≤ most_tests }
-    requires ordered { (list_all is_id own && no_text_twice own) ≡ true }
-    requires new { has_joined worker books.old.ledger ≡ false }
-    requires bare { books.old.shared ≡ false → IsBare books.old.ledger }
-    requires told { is_stopped (books_of books.old) ≡ true → is_shut worker (books_of books.old) ≡ true }
-    ensures { OnOk result ((s : State) → At s (books_of books.old) (M.stands mode.old) →
-        Ruled s (given_ids worker own s) (books_of books.new) entries.old.items entries.new.items (M.stands mode.new)) }
-{
-    let shut = books.is_shut(worker);
-    let taken = books.take_list(alloc, worker, own)?;
-    note(
-        Entry::Collected {
-            worker,
-            ids: taken.ids,
-        },
-        entries,
+    let first = ids_of(0, &books.lists, &none);
+    deal(
+        alloc,
+        &slots.items,
+        slice::from_ref(first),
+        total,
+        mode,
+        &mut books.ledger,
+        acts,
     )?;
-    books.mark(worker, Mark::Collected);
-    take_in_unless(alloc, shut, worker, taken.comparison, mode, books, entries)?;
-    finish(alloc, mode, books, entries)?;
-    Ok(())
+    Ok(sizes)
+}
+
+impl<M: Mode> RunState<M> {
+    // All tests come into the pool, and the mode deals them.
+    fn share(&mut self, alloc: Global, entries: &mut Vec<Entry>) -> Result<(), OutOfMemory>
+        requires bare { IsBare self.old.books.ledger }
+        requires at { (s : State) × (At s (books_of self.old.books) (known_by self.old.known) (M.stands self.old.mode) × MayShare s) }
+        ensures { OnOk result ((s : State) → At s (books_of self.old.books) (known_by self.old.known) (M.stands self.old.mode) → MayShare s →
+            Acted (acts_of (Share (slots_of_rota s.books)) (shared_now s)) (shared_now s) (books_of self.new.books) (known_by self.new.known) entries.old.items entries.new.items (M.stands self.new.mode)) }
+    {
+        let mut acts = Vec::new(alloc);
+        let sizes = deal_all(
+            alloc,
+            self.known.mode,
+            &mut self.mode,
+            &mut self.books,
+            &mut acts,
+        )?;
+        self.books.shared = true;
+        self.known.sizes = sizes;
+        take_acts(alloc, &mut acts, &mut self.books, &mut self.known, entries)?;
+        Ok(())
+    }
+
+    // The worker joins, and what that brings.
+    fn join(
+        &mut self,
+        alloc: Global,
+        worker: u32,
+        entries: &mut Vec<Entry>,
+    ) -> Result<(), OutOfMemory>
+        requires new { has_joined worker self.old.books.ledger ≡ false }
+        requires bare { self.old.books.shared ≡ false → IsBare self.old.books.ledger }
+        requires at { (s : State) × (At s (books_of self.old.books) (known_by self.old.known) (M.stands self.old.mode) × MayJoin worker s) }
+        ensures { OnOk result ((s : State) → At s (books_of self.old.books) (known_by self.old.known) (M.stands self.old.mode) → MayJoin worker s →
+            Acted (after_joining worker s.books (joining worker s)) (joining worker s) (books_of self.new.books) (known_by self.new.known) entries.old.items entries.new.items (M.stands self.new.mode)) }
+    {
+        seat(alloc, worker, &mut self.books)?;
+        if self.books.shared {
+            self.call_joined(alloc, worker, entries)?;
+            return Ok(());
+        }
+        if is_full(&self.books) {
+            self.share(alloc, entries)?;
+            return Ok(());
+        }
+        Ok(())
+    }
+
+    // A collection that differs stops the run and all are shut, with any other the worker joins.
+    fn take_in(
+        &mut self,
+        alloc: Global,
+        worker: u32,
+        comparison: Comparison,
+        entries: &mut Vec<Entry>,
+    ) -> Result<(), OutOfMemory>
+        requires new { has_joined worker self.old.books.ledger ≡ false }
+        requires bare { self.old.books.shared ≡ false → IsBare self.old.books.ledger }
+        requires going { is_stopped (books_of self.old.books) ≡ false }
+        requires at { stop_of worker comparison ≡ None → (s : State) × (At s (books_of self.old.books) (known_by self.old.known) (M.stands self.old.mode) × MayJoin worker s) }
+        ensures { OnOk result ((s : State) → At s (books_of self.old.books) (known_by self.old.known) (M.stands self.old.mode) → (stop_of worker comparison ≡ None → MayJoin worker s) →
+            TakenIn worker (stop_of worker comparison) s (books_of self.new.books) (known_by self.new.known) entries.old.items entries.new.items (M.stands self.new.mode)) }
+    {
+        match comparison {
+            Comparison::Differs { other, place } => {
+                self.books.stop_by(RunStop::Unequal {
+                    worker,
+                    other,
+                    place,
+                });
+                shut_everyone(alloc, &mut self.books, entries)?;
+                Ok(())
+            }
+            Comparison::First | Comparison::Same => {
+                self.join(alloc, worker, entries)?;
+                Ok(())
+            }
+        }
+    }
+
+    // A worker gave its collection. One that was told to shut down before does not join.
+    pub(crate) fn collected(
+        &mut self,
+        alloc: Global,
+        worker: u32,
+        own: Texts,
+        entries: &mut Vec<Entry>,
+    ) -> Result<(), OutOfMemory>
+        requires few { length own ≤ most_tests }
+        requires ordered { (list_all is_id own && no_text_twice own) ≡ true }
+        requires joins { IsNew worker (books_of self.old.books) }
+        requires at { (s : State) × Comes (given_ids worker own s) s (books_of self.old.books) (known_by self.old.known) (M.stands self.old.mode) }
+        ensures { OnOk result ((s : State) → Comes (given_ids worker own s) s (books_of self.old.books) (known_by self.old.known) (M.stands self.old.mode) →
+            Ruled s (given_ids worker own s) (books_of self.new.books) (known_by self.new.known) entries.old.items entries.new.items (M.stands self.new.mode)) }
+    {
+        let shut = self.books.is_shut(worker);
+        let taken = self.books.take_list(alloc, worker, own)?;
+        note(
+            Entry::Collected {
+                worker,
+                ids: taken.ids,
+            },
+            entries,
+        )?;
+        self.books.mark(worker, Mark::Collected);
+        if shut {
+            self.finish(alloc, entries)?;
+            return Ok(());
+        }
+        self.take_in(alloc, worker, taken.comparison, entries)?;
+        self.finish(alloc, entries)?;
+        Ok(())
+    }
 }

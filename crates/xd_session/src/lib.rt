@@ -4,16 +4,19 @@
 
 mod books;
 mod collecting;
-mod decide;
 mod ending;
+mod judge;
+mod known;
 mod laws;
 mod lists;
 mod logs;
 mod marks;
 mod outputs;
+mod plan;
 mod rules;
 mod seats;
 mod session;
+mod state;
 mod step;
 mod stops;
 mod take;

@@ -3,16 +3,16 @@ ghost use Rattle.std.specs.Prelude.{◌≡◌, ◌≤◌, ◌==◌, ◌&&◌, �
 ghost use Rattle.std.specs.List.{list_all};
 ghost use Rattle.std.specs.Str.{chars};
 ghost use Rattle.xd_ledger.specs.Collections.{differ_at, listed, key, with_list};
-ghost use Rattle.xd_ledger.specs.Plan.{is_each};
 ghost use Rattle.xd_ledger.specs.Proper.{is_plain, is_id, no_text_twice, most_tests};
 ghost use Rattle.xd_ledger.specs.Sharing.{ids_at};
 ghost use Rattle.xd_session.specs.Compared.{compared, comparison, given, place_in_lists};
 ghost use Rattle.xd_session.specs.Crew.{books_of};
 
 use crate::books::RunBooks;
+use crate::known::is_each;
 use std::alloc::Global;
 use std::collections::BTreeSet;
-use xd_edge::{ModeKind, OutOfMemory, Text, Texts};
+use xd_edge::{OutOfMemory, Text, Texts};
 use xd_journal::Ids;
 use xd_ledger::Listed;
 
@@ -100,7 +100,7 @@ fn differ_at(one: &[Text], other: &[Text]) -> Option<u32>
     None
 }
 
-fn copy_of(alloc: Global, texts: &[Text]) -> Result<Texts, OutOfMemory>
+pub(crate) fn copy_of(alloc: Global, texts: &[Text]) -> Result<Texts, OutOfMemory>
     ensures { IfOk result (λ t. t ≡ texts.now) }
 {
     let mut items = Vec::new(alloc);
@@ -138,15 +138,6 @@ fn given(comparison: Comparison, own: Texts) -> Ids
     match comparison {
         Comparison::Same => Ids::Same,
         Comparison::First | Comparison::Differs { .. } => Ids::List(own),
-    }
-}
-
-fn is_each(mode: ModeKind) -> bool
-    ensures { result ≡ is_each mode }
-{
-    match mode {
-        ModeKind::Each => true,
-        _ => false,
     }
 }
 

@@ -8,6 +8,7 @@ ghost use Rattle.xd_session.specs.Kept.{log_in, shortened, log_of_item, place_of
 use std::alloc::Global;
 use std::marker::Model;
 use xd_edge::{Blob, OutOfMemory};
+use xd_journal::What;
 
 // So many bytes of a log can be asked for.
 const MOST_OF_ONE: usize = 8192;
@@ -157,7 +158,7 @@ impl Logs {
     }
 
     // The worker starts the log of a test, on the channel of this number.
-    pub(crate) fn start(
+    fn start(
         &mut self,
         alloc: Global,
         worker: u32,
@@ -177,7 +178,7 @@ impl Logs {
     }
 
     // More bytes of the worker's last log, of which the first ones are kept.
-    pub(crate) fn add(&mut self, worker: u32, piece: &[u8]) -> Result<(), OutOfMemory>
+    fn add(&mut self, worker: u32, piece: &[u8]) -> Result<(), OutOfMemory>
         ensures { OnOk result ((v number : ℕ) → log_in v self.new ≡ (if v == worker then shortened (with_news (log_in v self.old) (what.Piece number piece.now)) else log_in v self.old)) }
     {
         let place = place_of(&self.items, worker);
@@ -189,12 +190,26 @@ impl Logs {
     }
 
     // The worker's last log is closed.
-    pub(crate) fn close(&mut self, worker: u32)
+    fn close(&mut self, worker: u32)
         ensures { (v number : ℕ) → log_in v self.new ≡ (if v == worker then with_news (log_in v self.old) (what.LogClosed number) else log_in v self.old) }
     {
         let place = place_of(&self.items, worker);
         if place < self.items.len() {
             self.items[place].is_open = false;
         }
+    }
+
+    // The worker's last log behind its news.
+    pub(crate) fn hear(&mut self, alloc: Global, worker: u32, what: &What) -> Result<(), OutOfMemory>
+        ensures { OnOk result (((v : ℕ) → log_in v self.old ≡ shortened (log_in v self.old)) →
+            (v : ℕ) → log_in v self.new ≡ (if v == worker then shortened (with_news (log_in v self.old) what.now) else log_in v self.old)) }
+    {
+        match what {
+            What::LogStart { index, log } => self.start(alloc, worker, *index, *log)?,
+            What::Piece { bytes, .. } => self.add(worker, bytes.as_slice())?,
+            What::LogClosed { .. } => self.close(worker),
+            _ => {}
+        }
+        Ok(())
     }
 }

@@ -1,8 +1,9 @@
 // The workers of a run, and their marks.
-ghost use Rattle.std.specs.Prelude.{◌≡◌, ◌&&◌, ◌<◌, map, length, drop, true, false, if◌then◌else◌, ◌++◌, ◌∷◌, [], OnOk, IfOk};
+ghost use Rattle.std.specs.Prelude.{◌≡◌, ◌&&◌, ◌<◌, nat_le, map, length, drop, true, false, if◌then◌else◌, ◌++◌, ◌∷◌, [], OnOk, IfOk};
 ghost use Rattle.std.specs.List.{list_any};
 ghost use Rattle.xd_ledger.specs.Books.{marked};
 ghost use Rattle.xd_ledger.specs.Histories.{is_over};
+ghost use Rattle.xd_ledger.specs.Proper.{most_workers};
 ghost use Rattle.xd_ledger.specs.State.{no_one};
 ghost use Rattle.xd_ledger.specs.Stops.{is_stopped, is_shutting};
 ghost use Rattle.xd_ledger.specs.Table.{held, left, shut_down};
@@ -116,6 +117,7 @@ fn shut_seat(ledger: &mut Ledger, worker: u32)
 impl RunBooks {
     // Nobody was started yet.
     pub(crate) fn new(alloc: Global, settings: Settings) -> Result<RunBooks, OutOfMemory>
+        requires { nat_le settings.workers most_workers ≡ true }
         ensures { IfOk result (λ b. books_of b ≡ (no_one settings).books) }
     {
         let ledger = Ledger::new(alloc, 0)?;

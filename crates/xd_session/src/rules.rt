@@ -1,337 +1,381 @@
 // The rules of the session: what each input changes, and what is said behind it.
-ghost use Rattle.std.specs.Prelude.{◌≡◌, length, drop, not, ◌&&◌, true, [], OnOk, if◌then◌else◌, Some};
+ghost use Rattle.std.specs.Prelude.{◌≡◌, ◌+◌, ◌^◌, nat_lt, map, length, drop, not, ◌&&◌, ℕ, true, false, [], IfOk, OnOk, if◌then◌else◌, is_some, Some, None};
+ghost use Rattle.std.specs.List.{list_all};
 ghost use Rattle.xd_journal.specs.declared.entry.Entry.TheVariants as entry;
 ghost use Rattle.xd_ledger.specs.Calls.{last_of};
-ghost use Rattle.xd_ledger.specs.Modes.Call.{Died, TestDone};
+ghost use Rattle.xd_ledger.specs.Modes.Call.{Died, TestDone, TestsBack};
 ghost use Rattle.xd_ledger.specs.Numbers.{first_of};
 ghost use Rattle.xd_ledger.specs.Outputs.{acts_of, after_death, shut_all};
+ghost use Rattle.xd_ledger.specs.Proper.{names_head};
 ghost use Rattle.xd_ledger.specs.Sharing.{State};
-ghost use Rattle.xd_ledger.specs.State.{settles};
+ghost use Rattle.xd_ledger.specs.State.{down_plan, settles};
 ghost use Rattle.xd_ledger.specs.Stops.{is_stopped};
 ghost use Rattle.xd_ledger.specs.Table.{held, in_rota};
+ghost use Rattle.xd_ledger.specs.Workers.{slot_of};
+ghost use Rattle.xd_laws.specs.Called.{Called};
 ghost use Rattle.xd_session.specs.Crew.{books_of};
-ghost use Rattle.xd_session.specs.Rules.{Acted, At, Closed, Ruled};
+ghost use Rattle.xd_session.specs.Known.{first_item, known_by, known_of, where_is};
+ghost use Rattle.xd_session.specs.Rules.{Acted, At, Before, Calls, Closed, Comes, MayDie, Ruled};
 
-use crate::books::RunBooks;
+use crate::known::named;
 use crate::marks::Mark;
-use crate::outputs::{follow, note, note_all, shut_everyone, tell_where_shutting};
+use crate::outputs::{note, shut_everyone, tell_where_shutting};
+use crate::state::RunState;
 use std::alloc::Global;
-use xd_edge::{Blob, OutOfMemory, Text};
+use xd_edge::{Blob, Indices, OutOfMemory, Text};
 use xd_journal::{Cause, Entry, Outcome, RunStop};
 use xd_ledger::Mode;
 
-fn all_handed_out(stopped: bool, shared: bool, finished: bool) -> bool
-    ensures { result ≡ (not stopped && shared && finished) }
-{
-    !stopped && shared && finished
-}
-
-// Nothing is left to hand out.
-fn settles<M: Mode>(mode: &M, books: &RunBooks) -> bool
-    ensures { (s : State) → At s (books_of books.now) (M.stands mode.now) → result ≡ settles s }
-{
-    all_handed_out(
-        books.is_stopped(),
-        books.shared,
-        mode.finished(&books.ledger),
-    )
-}
-
-// Behind each rule: where nothing is left to hand out, all are shut.
-pub(crate) fn finish<M: Mode>(
-    alloc: Global,
-    mode: &M,
-    books: &mut RunBooks,
-    entries: &mut Vec<Entry>,
-) -> Result<(), OutOfMemory>
-    ensures { OnOk result ((s : State) → At s (books_of books.old) (M.stands mode.now) →
-        Closed s (books_of books.new) entries.old.items entries.new.items (M.stands mode.now)) }
-{
-    if !settles(mode, books) {
-        return Ok(());
+impl<M: Mode> RunState<M> {
+    // Nothing is left to hand out.
+    fn settles(&self) -> bool
+        ensures { (s : State) → At s (books_of self.now.books) (known_by self.now.known) (M.stands self.now.mode) → result ≡ settles s }
+    {
+        if self.books.is_stopped() {
+            return false;
+        }
+        self.books.shared && self.mode.finished(&self.books.ledger)
     }
-    if books.is_shutting() {
-        return Ok(());
+
+    // Behind each rule: where nothing is left to hand out, all are shut.
+    pub(crate) fn finish(
+        &mut self,
+        alloc: Global,
+        entries: &mut Vec<Entry>,
+    ) -> Result<(), OutOfMemory>
+        ensures { OnOk result ((s : State) → At s (books_of self.old.books) (known_by self.old.known) (M.stands self.old.mode) →
+            Closed s (books_of self.new.books) (known_by self.new.known) entries.old.items entries.new.items (M.stands self.new.mode)) }
+    {
+        if !self.settles() {
+            return Ok(());
+        }
+        if self.books.is_shutting() {
+            return Ok(());
+        }
+        shut_everyone(alloc, &mut self.books, entries)?;
+        self.books.shutting = true;
+        Ok(())
     }
-    shut_everyone(alloc, books, entries)?;
-    books.shutting = true;
-    Ok(())
-}
 
-// A worker is there; where the run is shutting it is shut.
-pub(crate) fn ready<M: Mode>(
-    alloc: Global,
-    worker: u32,
-    mode: &M,
-    books: &mut RunBooks,
-    entries: &mut Vec<Entry>,
-) -> Result<(), OutOfMemory>
-    ensures { OnOk result ((s : State) → At s (books_of books.old) (M.stands mode.now) →
-        Ruled s (entry.Ready worker) (books_of books.new) entries.old.items entries.new.items (M.stands mode.now)) }
-{
-    note(Entry::Ready { worker }, entries)?;
-    books.mark(worker, Mark::Ready);
-    tell_where_shutting(worker, books, entries)?;
-    finish(alloc, mode, books, entries)?;
-    Ok(())
-}
-
-// The mode hears that a test ended.
-fn call_done<M: Mode>(
-    alloc: Global,
-    worker: u32,
-    item: u32,
-    ms: u64,
-    mode: &mut M,
-    books: &mut RunBooks,
-    entries: &mut Vec<Entry>,
-) -> Result<(), OutOfMemory>
-    requires { in_rota worker books.old.ledger ≡ true }
-    ensures { OnOk result ((s : State) → At s (books_of books.old) (M.stands mode.old) →
-        Acted (acts_of (TestDone worker ms) s) s (books_of books.new) entries.old.items entries.new.items (M.stands mode.new)) }
-{
-    let mut acts = Vec::new(alloc);
-    mode.done(alloc, worker, item, ms, &mut books.ledger, &mut acts)?;
-    follow(&acts, &mut books.crew);
-    note_all(&mut acts, entries)?;
-    Ok(())
-}
-
-// What a Done brings: nothing behind a stop, at a stop all are shut, else what the mode says.
-fn done_outputs<M: Mode>(
-    alloc: Global,
-    before: bool,
-    worker: u32,
-    item: u32,
-    ms: u64,
-    mode: &mut M,
-    books: &mut RunBooks,
-    entries: &mut Vec<Entry>,
-) -> Result<(), OutOfMemory>
-    requires { in_rota worker books.old.ledger ≡ true }
-    ensures { OnOk result ((s : State) → At s (books_of books.old) (M.stands mode.old) →
-        Acted (if before then [] else if is_stopped s.books then shut_all s.books.crew else acts_of (TestDone worker ms) s) s (books_of books.new) entries.old.items entries.new.items (M.stands mode.new)) }
-{
-    if before {
-        return Ok(());
+    // The item at the worker's head, where the worker's number for a test names it.
+    pub(crate) fn head_named(&self, worker: u32, index: u32) -> Option<u32>
+        ensures seated { (item : ℕ) → result ≡ Some item → in_rota worker self.now.books.ledger ≡ true }
+        ensures only { (s : State) → books_of self.now.books ≡ s.books → known_by self.now.known ≡ known_of s.plan → is_some result ≡ names_head worker index s }
+        ensures named { result ≡ where_is (first_item (slot_of worker (books_of self.now.books)) (known_by self.now.known) + index) (first_of (held worker self.now.books.ledger)) }
+    {
+        if !self.books.ledger.in_rota(worker) {
+            return None;
+        }
+        let first = self.known.first_item(self.books.slot_of(worker));
+        named(first, index, self.books.ledger.head(worker))
     }
-    if books.is_stopped() {
-        shut_everyone(alloc, books, entries)?;
-        return Ok(());
+
+    // What a stop brings: nothing behind an earlier one, else all are shut.
+    fn stop_outputs(
+        &mut self,
+        alloc: Global,
+        before: bool,
+        entries: &mut Vec<Entry>,
+    ) -> Result<(), OutOfMemory>
+        requires { is_stopped (books_of self.old.books) ≡ true }
+        ensures { OnOk result ((s : State) → books_of self.old.books ≡ s.books → known_by self.old.known ≡ known_of s.plan →
+            Acted (if before then [] else shut_all s.books.crew) s (books_of self.new.books) (known_by self.new.known) entries.old.items entries.new.items (M.stands self.new.mode)) }
+    {
+        if before {
+            return Ok(());
+        }
+        shut_everyone(alloc, &mut self.books, entries)?;
+        Ok(())
     }
-    call_done(alloc, worker, item, ms, mode, books, entries)?;
-    Ok(())
-}
 
-// The test at a worker's head ended.
-pub(crate) fn done<M: Mode>(
-    alloc: Global,
-    worker: u32,
-    index: u32,
-    outcome: Outcome,
-    ms: u64,
-    output: Blob,
-    mode: &mut M,
-    books: &mut RunBooks,
-    entries: &mut Vec<Entry>,
-) -> Result<(), OutOfMemory>
-    requires seated { in_rota worker books.old.ledger ≡ true }
-    requires head { first_of (held worker books.old.ledger) ≡ Some index }
-    ensures { OnOk result ((s : State) → At s (books_of books.old) (M.stands mode.old) →
-        Ruled s (entry.Done worker index outcome ms output) (books_of books.new) entries.old.items entries.new.items (M.stands mode.new)) }
-{
-    let before = books.is_stopped();
-    note(
-        Entry::Done {
-            worker,
-            index,
-            outcome,
-            ms,
-            output,
-        },
-        entries,
-    )?;
-    books.score(worker, index, outcome)?;
-    done_outputs(alloc, before, worker, index, ms, mode, books, entries)?;
-    finish(alloc, mode, books, entries)?;
-    Ok(())
-}
-
-// A worker ran all that it was told to run. It holds nothing.
-pub(crate) fn finished<M: Mode>(
-    alloc: Global,
-    worker: u32,
-    mode: &M,
-    books: &mut RunBooks,
-    entries: &mut Vec<Entry>,
-) -> Result<(), OutOfMemory>
-    requires { held worker books.old.ledger ≡ [] }
-    ensures { OnOk result ((s : State) → At s (books_of books.old) (M.stands mode.now) →
-        Ruled s (entry.Finished worker) (books_of books.new) entries.old.items entries.new.items (M.stands mode.now)) }
-{
-    note(Entry::Finished { worker }, entries)?;
-    books.leave(worker);
-    books.mark(worker, Mark::Gone);
-    finish(alloc, mode, books, entries)?;
-    Ok(())
-}
-
-// What a stop brings: nothing behind an earlier one, else all are shut.
-fn stop_outputs<M: Mode>(
-    alloc: Global,
-    before: bool,
-    _mode: &M,
-    books: &mut RunBooks,
-    entries: &mut Vec<Entry>,
-) -> Result<(), OutOfMemory>
-    ensures { OnOk result ((s : State) → At s (books_of books.old) (M.stands _mode.now) →
-        Acted (if before then [] else shut_all s.books.crew) s (books_of books.new) entries.old.items entries.new.items (M.stands _mode.now)) }
-{
-    if before {
-        return Ok(());
+    // A worker is there; where the run is shutting it is shut.
+    pub(crate) fn ready(
+        &mut self,
+        alloc: Global,
+        worker: u32,
+        entries: &mut Vec<Entry>,
+    ) -> Result<(), OutOfMemory>
+        ensures { OnOk result ((s : State) → At s (books_of self.old.books) (known_by self.old.known) (M.stands self.old.mode) →
+            Ruled s (entry.Ready worker) (books_of self.new.books) (known_by self.new.known) entries.old.items entries.new.items (M.stands self.new.mode)) }
+    {
+        note(Entry::Ready { worker }, entries)?;
+        self.books.mark(worker, Mark::Ready);
+        tell_where_shutting(worker, &mut self.books, entries)?;
+        self.finish(alloc, entries)?;
+        Ok(())
     }
-    shut_everyone(alloc, books, entries)?;
-    Ok(())
-}
 
-// A worker could not collect.
-pub(crate) fn refused<M: Mode>(
-    alloc: Global,
-    worker: u32,
-    text: Text,
-    mode: &M,
-    books: &mut RunBooks,
-    entries: &mut Vec<Entry>,
-) -> Result<(), OutOfMemory>
-    ensures { OnOk result ((s : State) → At s (books_of books.old) (M.stands mode.now) →
-        Ruled s (entry.Refused worker text) (books_of books.new) entries.old.items entries.new.items (M.stands mode.now)) }
-{
-    let before = books.is_stopped();
-    note(Entry::Refused { worker, text }, entries)?;
-    books.mark(worker, Mark::Gone);
-    books.stop_by(RunStop::CollectError { worker });
-    stop_outputs(alloc, before, mode, books, entries)?;
-    finish(alloc, mode, books, entries)?;
-    Ok(())
-}
-
-// The mode hears of a death behind the share. The last tests of the pool are those that the worker held behind its head.
-fn call_died<M: Mode>(
-    alloc: Global,
-    worker: u32,
-    slot: u32,
-    rest: u32,
-    mode: &mut M,
-    books: &mut RunBooks,
-    entries: &mut Vec<Entry>,
-) -> Result<(), OutOfMemory>
-    ensures { OnOk result ((s : State) → At s (books_of books.old) (M.stands mode.old) →
-        Acted (if s.books.shared then acts_of Died s else []) s (books_of books.new) entries.old.items entries.new.items (M.stands mode.new)) }
-{
-    if !books.shared {
-        return Ok(());
+    // What a Done brings: nothing behind a stop, at a stop all are shut, else what the mode says.
+    fn done_outputs(
+        &mut self,
+        alloc: Global,
+        before: bool,
+        worker: u32,
+        item: u32,
+        ms: u64,
+        entries: &mut Vec<Entry>,
+    ) -> Result<(), OutOfMemory>
+        requires late { before ≡ true → is_stopped (books_of self.old.books) ≡ true }
+        requires seated { in_rota worker self.old.books.ledger ≡ true }
+        requires at { is_stopped (books_of self.old.books) ≡ false → (s : State) × Calls (TestDone worker ms) s (books_of self.old.books) (known_by self.old.known) (M.stands self.old.mode) }
+        ensures { OnOk result ((s : State) → At s (books_of self.old.books) (known_by self.old.known) (M.stands self.old.mode) → (is_stopped s.books ≡ false → Called (TestDone worker ms) s) →
+            Acted (if before then [] else if is_stopped s.books then shut_all s.books.crew else acts_of (TestDone worker ms) s) s (books_of self.new.books) (known_by self.new.known) entries.old.items entries.new.items (M.stands self.new.mode)) }
+    {
+        if self.books.is_stopped() {
+            self.stop_outputs(alloc, before, entries)?;
+            return Ok(());
+        }
+        self.call_done(alloc, worker, item, ms, entries)?;
+        Ok(())
     }
-    let mut acts = Vec::new(alloc);
-    mode.died(alloc, worker, slot, rest, &mut books.ledger, &mut acts)?;
-    follow(&acts, &mut books.crew);
-    note_all(&mut acts, entries)?;
-    Ok(())
-}
 
-// What a death brings where the run goes on: the mode's part, and a new worker at the same slot.
-fn restart<M: Mode>(
-    alloc: Global,
-    worker: u32,
-    rest: u32,
-    mode: &mut M,
-    books: &mut RunBooks,
-    entries: &mut Vec<Entry>,
-) -> Result<(), OutOfMemory>
-    ensures { OnOk result ((s : State) → At s (books_of books.old) (M.stands mode.old) →
-        Acted (after_death worker s) s (books_of books.new) entries.old.items entries.new.items (M.stands mode.new)) }
-{
-    let slot = books.slot_of(worker);
-    let number = books.next_worker()?;
-    call_died(alloc, worker, slot, rest, mode, books, entries)?;
-    books.start(number, slot)?;
-    note(
-        Entry::Start {
-            worker: number,
-            slot,
-        },
-        entries,
-    )?;
-    Ok(())
-}
-
-// What a death brings.
-fn death_outputs<M: Mode>(
-    alloc: Global,
-    before: bool,
-    worker: u32,
-    rest: u32,
-    mode: &mut M,
-    books: &mut RunBooks,
-    entries: &mut Vec<Entry>,
-) -> Result<(), OutOfMemory>
-    ensures { OnOk result ((s : State) → At s (books_of books.old) (M.stands mode.old) →
-        Acted (if before then [] else if is_stopped s.books then shut_all s.books.crew else after_death worker s) s (books_of books.new) entries.old.items entries.new.items (M.stands mode.new)) }
-{
-    if before {
-        return Ok(());
+    // The test at a worker's head ended.
+    pub(crate) fn done(
+        &mut self,
+        alloc: Global,
+        worker: u32,
+        index: u32,
+        outcome: Outcome,
+        ms: u64,
+        output: Blob,
+        entries: &mut Vec<Entry>,
+    ) -> Result<(), OutOfMemory>
+        requires { (s : State) × Comes (entry.Done worker index outcome ms output) s (books_of self.old.books) (known_by self.old.known) (M.stands self.old.mode) }
+        ensures { OnOk result ((s : State) → Comes (entry.Done worker index outcome ms output) s (books_of self.old.books) (known_by self.old.known) (M.stands self.old.mode) →
+            Ruled s (entry.Done worker index outcome ms output) (books_of self.new.books) (known_by self.new.known) entries.old.items entries.new.items (M.stands self.new.mode)) }
+    {
+        let before = self.books.is_stopped();
+        let Some(item) = self.head_named(worker, index) else {
+            return Ok(());
+        };
+        note(
+            Entry::Done {
+                worker,
+                index,
+                outcome,
+                ms,
+                output,
+            },
+            entries,
+        )?;
+        self.books.score(worker, item, outcome)?;
+        self.done_outputs(alloc, before, worker, item, ms, entries)?;
+        self.finish(alloc, entries)?;
+        Ok(())
     }
-    if books.is_stopped() {
-        shut_everyone(alloc, books, entries)?;
-        return Ok(());
+
+    // The items that the worker's numbers name.
+    fn items_of(
+        &self,
+        alloc: Global,
+        worker: u32,
+        indices: &[u32],
+    ) -> Result<Indices, OutOfMemory>
+        requires { list_all (λ i. nat_lt (first_item (slot_of worker (books_of self.now.books)) (known_by self.now.known) + i) (2 ^ 32)) indices.now ≡ true }
+        ensures { IfOk result (λ items. items ≡ map (λ i. first_item (slot_of worker (books_of self.now.books)) (known_by self.now.known) + i) indices.now) }
+    {
+        let first = self.known.first_item(self.books.slot_of(worker));
+        let mut items = Vec::new(alloc);
+        for i in 0..indices.len() {
+            items.push(first + indices[i])?;
+        }
+        Ok(Indices { items })
     }
-    restart(alloc, worker, rest, mode, books, entries)?;
-    Ok(())
-}
 
-// A worker went down: it is killed, its head is reported, what it held behind it goes to the pool's end.
-pub(crate) fn down<M: Mode>(
-    alloc: Global,
-    worker: u32,
-    cause: Cause,
-    output: Blob,
-    mode: &mut M,
-    books: &mut RunBooks,
-    entries: &mut Vec<Entry>,
-) -> Result<(), OutOfMemory>
-    ensures { OnOk result ((s : State) → At s (books_of books.old) (M.stands mode.old) →
-        Ruled s (entry.Down worker cause output) (books_of books.new) entries.old.items entries.new.items (M.stands mode.new)) }
-{
-    let before = books.is_stopped();
-    note(
-        Entry::Down {
-            worker,
-            cause,
-            output,
-        },
-        entries,
-    )?;
-    let rest = books.bury(alloc, worker)?;
-    note(Entry::Kill { worker }, entries)?;
-    death_outputs(alloc, before, worker, rest, mode, books, entries)?;
-    finish(alloc, mode, books, entries)?;
-    Ok(())
-}
+    // What an answer to a steal brings: nothing behind a stop, else what the mode says.
+    fn back_outputs(
+        &mut self,
+        alloc: Global,
+        worker: u32,
+        entries: &mut Vec<Entry>,
+    ) -> Result<(), OutOfMemory>
+        requires { is_stopped (books_of self.old.books) ≡ false → (s : State) × Calls TestsBack s (books_of self.old.books) (known_by self.old.known) (Before (λ p. record p { steal = None }) (M.stands self.old.mode)) }
+        ensures { OnOk result ((s : State) → At s (books_of self.old.books) (known_by self.old.known) (Before (λ p. record p { steal = None }) (M.stands self.old.mode)) → (is_stopped s.books ≡ false → Called TestsBack s) →
+            Acted (if is_stopped s.books then [] else acts_of TestsBack s) s (books_of self.new.books) (known_by self.new.known) entries.old.items entries.new.items (M.stands self.new.mode)) }
+    {
+        if self.books.is_stopped() {
+            return Ok(());
+        }
+        self.call_back(alloc, worker, entries)?;
+        Ok(())
+    }
 
-// A worker could not be started.
-pub(crate) fn not_started<M: Mode>(
-    alloc: Global,
-    worker: u32,
-    mode: &mut M,
-    books: &mut RunBooks,
-    entries: &mut Vec<Entry>,
-) -> Result<(), OutOfMemory>
-    ensures { OnOk result ((s : State) → At s (books_of books.old) (M.stands mode.old) →
-        Ruled s (entry.NotStarted worker) (books_of books.new) entries.old.items entries.new.items (M.stands mode.new)) }
-{
-    let before = books.is_stopped();
-    note(Entry::NotStarted { worker }, entries)?;
-    let rest = books.bury(alloc, worker)?;
-    death_outputs(alloc, before, worker, rest, mode, books, entries)?;
-    finish(alloc, mode, books, entries)?;
-    Ok(())
+    // The worker answered its steal: what it gives goes to the pool's end.
+    pub(crate) fn back(
+        &mut self,
+        alloc: Global,
+        worker: u32,
+        indices: Indices,
+        entries: &mut Vec<Entry>,
+    ) -> Result<(), OutOfMemory>
+        requires { (s : State) × Comes (entry.Back worker indices) s (books_of self.old.books) (known_by self.old.known) (M.stands self.old.mode) }
+        ensures { OnOk result ((s : State) → Comes (entry.Back worker indices) s (books_of self.old.books) (known_by self.old.known) (M.stands self.old.mode) →
+            Ruled s (entry.Back worker indices) (books_of self.new.books) (known_by self.new.known) entries.old.items entries.new.items (M.stands self.new.mode)) }
+    {
+        let items = self.items_of(alloc, worker, &indices.items)?;
+        note(Entry::Back { worker, indices }, entries)?;
+        self.books.give_back(worker, &items.items)?;
+        self.known.steal = None;
+        self.back_outputs(alloc, worker, entries)?;
+        self.finish(alloc, entries)?;
+        Ok(())
+    }
+
+    // A worker ran all that it was told to run. It holds nothing.
+    pub(crate) fn finished(
+        &mut self,
+        alloc: Global,
+        worker: u32,
+        entries: &mut Vec<Entry>,
+    ) -> Result<(), OutOfMemory>
+        requires { held worker self.old.books.ledger ≡ [] }
+        ensures { OnOk result ((s : State) → At s (books_of self.old.books) (known_by self.old.known) (M.stands self.old.mode) →
+            Ruled s (entry.Finished worker) (books_of self.new.books) (known_by self.new.known) entries.old.items entries.new.items (M.stands self.new.mode)) }
+    {
+        note(Entry::Finished { worker }, entries)?;
+        self.books.leave(worker);
+        self.books.mark(worker, Mark::Gone);
+        self.finish(alloc, entries)?;
+        Ok(())
+    }
+
+    // A worker could not collect.
+    pub(crate) fn refused(
+        &mut self,
+        alloc: Global,
+        worker: u32,
+        text: Text,
+        entries: &mut Vec<Entry>,
+    ) -> Result<(), OutOfMemory>
+        ensures { OnOk result ((s : State) → At s (books_of self.old.books) (known_by self.old.known) (M.stands self.old.mode) →
+            Ruled s (entry.Refused worker text) (books_of self.new.books) (known_by self.new.known) entries.old.items entries.new.items (M.stands self.new.mode)) }
+    {
+        let before = self.books.is_stopped();
+        note(Entry::Refused { worker, text }, entries)?;
+        self.books.mark(worker, Mark::Gone);
+        self.books.stop_by(RunStop::CollectError { worker });
+        self.stop_outputs(alloc, before, entries)?;
+        self.finish(alloc, entries)?;
+        Ok(())
+    }
+
+    // The mode's part of a death, where the tests are shared.
+    fn hear_of_death(
+        &mut self,
+        alloc: Global,
+        worker: u32,
+        slot: u32,
+        rest: u32,
+        entries: &mut Vec<Entry>,
+    ) -> Result<(), OutOfMemory>
+        requires { self.old.books.shared ≡ true → (s : State) × Calls Died s (books_of self.old.books) (known_by self.old.known) (Before (down_plan worker (last_of rest self.old.books.ledger.pool)) (M.stands self.old.mode)) }
+        ensures { OnOk result ((s : State) → At s (books_of self.old.books) (known_by self.old.known) (Before (down_plan worker (last_of rest self.old.books.ledger.pool)) (M.stands self.old.mode)) → MayDie s (M.stands self.old.mode) →
+            Acted (if s.books.shared then acts_of Died s else []) s (books_of self.new.books) (known_by self.new.known) entries.old.items entries.new.items (M.stands self.new.mode)) }
+    {
+        if !self.books.shared {
+            return Ok(());
+        }
+        self.call_died(alloc, worker, slot, rest, entries)?;
+        Ok(())
+    }
+
+    // What a death brings where the run goes on: the mode's part, and a new worker at the same slot.
+    fn restart(
+        &mut self,
+        alloc: Global,
+        worker: u32,
+        rest: u32,
+        entries: &mut Vec<Entry>,
+    ) -> Result<(), OutOfMemory>
+        requires { self.old.books.shared ≡ true → (s : State) × Calls Died s (books_of self.old.books) (known_by self.old.known) (Before (down_plan worker (last_of rest self.old.books.ledger.pool)) (M.stands self.old.mode)) }
+        ensures { OnOk result ((s : State) → At s (books_of self.old.books) (known_by self.old.known) (Before (down_plan worker (last_of rest self.old.books.ledger.pool)) (M.stands self.old.mode)) → MayDie s (M.stands self.old.mode) →
+            Acted (after_death worker s) s (books_of self.new.books) (known_by self.new.known) entries.old.items entries.new.items (M.stands self.new.mode)) }
+    {
+        let slot = self.books.slot_of(worker);
+        let number = self.books.next_worker()?;
+        self.hear_of_death(alloc, worker, slot, rest, entries)?;
+        self.books.start(number, slot)?;
+        note(
+            Entry::Start {
+                worker: number,
+                slot,
+            },
+            entries,
+        )?;
+        Ok(())
+    }
+
+    // What a death brings.
+    fn death_outputs(
+        &mut self,
+        alloc: Global,
+        before: bool,
+        worker: u32,
+        rest: u32,
+        entries: &mut Vec<Entry>,
+    ) -> Result<(), OutOfMemory>
+        requires late { before ≡ true → is_stopped (books_of self.old.books) ≡ true }
+        requires at { is_stopped (books_of self.old.books) ≡ false → self.old.books.shared ≡ true →
+            (s : State) × Calls Died s (books_of self.old.books) (known_by self.old.known) (Before (down_plan worker (last_of rest self.old.books.ledger.pool)) (M.stands self.old.mode)) }
+        ensures { OnOk result ((s : State) → At s (books_of self.old.books) (known_by self.old.known) (Before (down_plan worker (last_of rest self.old.books.ledger.pool)) (M.stands self.old.mode)) →
+            (is_stopped s.books ≡ false → MayDie s (M.stands self.old.mode)) →
+            Acted (if before then [] else if is_stopped s.books then shut_all s.books.crew else after_death worker s) s (books_of self.new.books) (known_by self.new.known) entries.old.items entries.new.items (M.stands self.new.mode)) }
+    {
+        if self.books.is_stopped() {
+            self.stop_outputs(alloc, before, entries)?;
+            return Ok(());
+        }
+        self.restart(alloc, worker, rest, entries)?;
+        Ok(())
+    }
+
+    // A worker went down: it is killed, its head is reported, what it held behind it goes to the pool's end.
+    pub(crate) fn down(
+        &mut self,
+        alloc: Global,
+        worker: u32,
+        cause: Cause,
+        output: Blob,
+        entries: &mut Vec<Entry>,
+    ) -> Result<(), OutOfMemory>
+        requires { (s : State) × Comes (entry.Down worker cause output) s (books_of self.old.books) (known_by self.old.known) (M.stands self.old.mode) }
+        ensures { OnOk result ((s : State) → Comes (entry.Down worker cause output) s (books_of self.old.books) (known_by self.old.known) (M.stands self.old.mode) →
+            Ruled s (entry.Down worker cause output) (books_of self.new.books) (known_by self.new.known) entries.old.items entries.new.items (M.stands self.new.mode)) }
+    {
+        let before = self.books.is_stopped();
+        note(
+            Entry::Down {
+                worker,
+                cause,
+                output,
+            },
+            entries,
+        )?;
+        let rest = self.books.bury(alloc, worker)?;
+        self.known.forget_steal_of(worker);
+        note(Entry::Kill { worker }, entries)?;
+        self.death_outputs(alloc, before, worker, rest, entries)?;
+        self.finish(alloc, entries)?;
+        Ok(())
+    }
+
+    // A worker could not be started.
+    pub(crate) fn not_started(
+        &mut self,
+        alloc: Global,
+        worker: u32,
+        entries: &mut Vec<Entry>,
+    ) -> Result<(), OutOfMemory>
+        requires { (s : State) × Comes (entry.NotStarted worker) s (books_of self.old.books) (known_by self.old.known) (M.stands self.old.mode) }
+        ensures { OnOk result ((s : State) → Comes (entry.NotStarted worker) s (books_of self.old.books) (known_by self.old.known) (M.stands self.old.mode) →
+            Ruled s (entry.NotStarted worker) (books_of self.new.books) (known_by self.new.known) entries.old.items entries.new.items (M.stands self.new.mode)) }
+    {
+        let before = self.books.is_stopped();
+        note(Entry::NotStarted { worker }, entries)?;
+        let rest = self.books.bury(alloc, worker)?;
+        self.known.forget_steal_of(worker);
+        self.death_outputs(alloc, before, worker, rest, entries)?;
+        self.finish(alloc, entries)?;
+        Ok(())
+    }
 }

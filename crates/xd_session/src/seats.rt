@@ -1,10 +1,10 @@
 // The rota of a run: who holds which tests.
 ghost use Rattle.std.specs.Prelude.{◌≡◌, ◌+◌, ◌==◌, Some, None, true, [], ◌∷◌, length, take, drop, OnOk, IfOk, if◌then◌else◌};
 ghost use Rattle.xd_ledger.specs.Books.{on_table};
-ghost use Rattle.xd_ledger.specs.Numbers.{first_of};
+ghost use Rattle.xd_ledger.specs.Numbers.{all_among, all_distinct, first_of};
 ghost use Rattle.xd_ledger.specs.State.{failing, done_books, down_books};
-ghost use Rattle.xd_ledger.specs.Table.{held, in_rota, left, completed, died};
-ghost use Rattle.xd_session.specs.Crew.{books_of, is_first};
+ghost use Rattle.xd_ledger.specs.Table.{held, in_rota, left, completed, died, given_back};
+ghost use Rattle.xd_session.specs.Crew.{books_of};
 
 use crate::books::RunBooks;
 use crate::marks::Mark;
@@ -39,6 +39,19 @@ fn die_where(alloc: Global, ledger: &mut Ledger, worker: u32) -> Result<Death, O
     Ok(death)
 }
 
+// These items go from the worker to the end of the pool, where there are any.
+fn give_where(ledger: &mut Ledger, worker: u32, items: &[u32]) -> Result<(), OutOfMemory>
+    requires distinct { all_distinct items.now ≡ true }
+    requires holds { all_among items.now (held worker ledger.old) ≡ true }
+    ensures { OnOk result (ledger.new ≡ given_back worker items.now ledger.old) }
+{
+    if items.is_empty() {
+        return Ok(());
+    }
+    ledger.give_back(worker, items)?;
+    Ok(())
+}
+
 fn is_failed(outcome: Outcome) -> bool
     ensures { (if result then 1 else 0) ≡ failing outcome }
 {
@@ -57,16 +70,14 @@ impl RunBooks {
         leave_seat(&mut self.ledger, worker);
     }
 
-    // The test is the one at the worker's head.
-    pub(crate) fn is_head(&self, worker: u32, item: u32) -> bool
-        ensures seated { result ≡ true → in_rota worker self.now.ledger ≡ true }
-        ensures head { result ≡ true → first_of (held worker self.now.ledger) ≡ Some item }
-        ensures only { result ≡ is_first item (held worker self.now.ledger) }
+    // The worker gives these tests back.
+    pub(crate) fn give_back(&mut self, worker: u32, items: &[u32]) -> Result<(), OutOfMemory>
+        requires distinct { all_distinct items.now ≡ true }
+        requires holds { all_among items.now (held worker self.old.ledger) ≡ true }
+        ensures { OnOk result (books_of self.new ≡ on_table (given_back worker items.now) (books_of self.old)) }
     {
-        if !self.ledger.in_rota(worker) {
-            return false;
-        }
-        self.ledger.head(worker) == Some(item)
+        give_where(&mut self.ledger, worker, items)?;
+        Ok(())
     }
 
     // The worker holds no test.

@@ -12,11 +12,12 @@ ghost use Rattle.xd_session.specs.Ends.{is_out_fault, last_stop};
 ghost use Rattle.xd_session.specs.Stands.{CanBegin, StandsFor, state_of};
 
 use crate::books::RunBooks;
-use crate::decide::Core;
 use crate::ending::end;
 use crate::logs::Logs;
+use crate::plan::KnownPlan;
 use crate::step::Step;
-use crate::take::take;
+use crate::state::RunState;
+use crate::take::Core;
 use std::alloc::Global;
 use std::marker::Model;
 use xd_edge::OutOfMemory;
@@ -36,13 +37,14 @@ impl<M: Mode> Model for Session<M> {
     ghost use Rattle.std.specs.Prelude.{◌≡◌, List, true};
     ghost use Rattle.xd_session.specs.Stands.{Seen};
     ghost use Rattle.xd_session.specs.Crew.{books_of};
+    ghost use Rattle.xd_session.specs.Known.{known_by};
     ghost use Rattle.xd_session.specs.Rules.{InStep};
 
     ghost Value = { Seen };
 
     ghost view = { λ s. record { settings = s.journal.settings; entries = s.journal.entries.items; logs = s.core.logs; whole = s.whole } };
 
-    ghost invariant = { λ s. s.whole ≡ true → InStep s.journal.settings s.journal.entries.items s.core.logs s.core.spent (books_of s.core.books) (M.stands s.core.mode) };
+    ghost invariant = { λ s. s.whole ≡ true → InStep s.journal.settings s.journal.entries.items s.core.logs s.core.spent (books_of s.core.state.books) (known_by s.core.state.known) (M.stands s.core.state.mode) };
 }
 
 // The first workers are started, each at the slot of its number.
@@ -64,8 +66,8 @@ fn start_all(workers: u32, books: &mut RunBooks, journal: &mut Journal) -> Resul
 }
 
 impl<M: Mode> Session<M> {
-    /// The session at the start of a run with 1 to 32 workers and at most 1,000 restarts, in mode load, with a mode at
-    /// its start by these settings. Its journal has the Start entries of the first workers.
+    /// The session at the start of a run with 1 to 32 workers and at most 1,000 restarts, with a mode at its start by these
+    /// settings. Its journal has the Start entries of the first workers.
     pub fn new(alloc: Global, settings: Settings, mode: M) -> Result<Session<M>, OutOfMemory>
         requires settings { CanBegin settings }
         requires fresh { M.stands mode (no_one settings).plan }
@@ -76,8 +78,11 @@ impl<M: Mode> Session<M> {
         let mut journal = Journal::new(alloc, settings);
         start_all(settings.workers, &mut books, &mut journal)?;
         let core = Core {
-            mode,
-            books,
+            state: RunState {
+                mode,
+                books,
+                known: KnownPlan::new(alloc, settings.mode),
+            },
             logs: Logs::new(alloc),
             spent: 0,
         };
@@ -102,13 +107,8 @@ impl<M: Mode> Session<M> {
         let from = self.journal.entries.len();
         self.whole = false;
         let News { worker, what } = news;
-        take(
-            alloc,
-            worker,
-            what,
-            &mut self.core,
-            &mut self.journal.entries,
-        )?;
+        self.core
+            .take(alloc, worker, what, &mut self.journal.entries)?;
         self.whole = true;
         Ok(Step {
             from,
@@ -121,7 +121,7 @@ impl<M: Mode> Session<M> {
         requires { self.now.whole ≡ true }
         ensures { result ≡ is_active worker (state_of self.now).books }
     {
-        self.core.books.is_active(worker)
+        self.core.state.books.is_active(worker)
     }
 
     /// The run is shutting and no worker is active.
@@ -129,7 +129,7 @@ impl<M: Mode> Session<M> {
         requires { self.now.whole ≡ true }
         ensures { result ≡ is_over (state_of self.now).books }
     {
-        self.core.books.is_over()
+        self.core.state.books.is_over()
     }
 
     /// The journal so far.
@@ -152,7 +152,7 @@ impl<M: Mode> Session<M> {
         ensures told { IfOk result (λ j. is_out_fault (stop_of j) ≡ out_failed) }
         ensures legal { IfOk result IsLegal }
     {
-        end(out_failed, &self.core.books, &mut self.journal.entries)?;
+        end(out_failed, &self.core.state.books, &mut self.journal.entries)?;
         Ok(self.journal)
     }
 }

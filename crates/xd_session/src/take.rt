@@ -1,109 +1,197 @@
-// One piece of news: what it means, and what is kept of its logs.
-ghost use Rattle.std.specs.Prelude.{◌≡◌, ◌≤◌, ℕ, false, true, OnOk};
+// One piece of news: what follows it, and what is kept of its logs.
+ghost use Rattle.std.specs.Prelude.{◌≡◌, ◌≤◌, ◌+◌, ℕ, length, take, true, false, IfOk, OnOk, Some};
+ghost use Rattle.xd_journal.specs.declared.entry.Entry.TheVariants as entry;
 ghost use Rattle.xd_journal.specs.declared.news.What.TheVariants as what;
 ghost use Rattle.xd_journal.specs.Kept.{most_of_all};
+ghost use Rattle.xd_ledger.specs.Meaning.{kept, meaning_of, output_of};
 ghost use Rattle.xd_ledger.specs.Sharing.{State};
-ghost use Rattle.xd_ledger.specs.Stops.{is_stopped};
-ghost use Rattle.xd_ledger.specs.Table.{has_joined};
-ghost use Rattle.xd_ledger.specs.Workers.{is_active, has_collected, is_shut, was_ready};
+ghost use Rattle.xd_ledger.specs.Workers.{has_collected, is_active, was_ready};
 ghost use Rattle.xd_session.specs.Crew.{books_of};
-ghost use Rattle.xd_session.specs.Joining.{IsBare};
+ghost use Rattle.xd_session.specs.Joining.{IsNew};
+ghost use Rattle.xd_session.specs.Judged.{judged};
 ghost use Rattle.xd_session.specs.Kept.{log_in, shortened};
+ghost use Rattle.xd_session.specs.Known.{known_by};
 ghost use Rattle.xd_session.specs.Rules.{At};
-ghost use Rattle.xd_session.specs.Told.{Took};
+ghost use Rattle.xd_session.specs.Told.{Steady, Told, Took};
+ghost use Rattle.xd_session.specs.declared.judge.Verdict.TheVariants.{Follows};
 
-use crate::decide::{self, Core};
+use crate::judge::Verdict;
+use crate::logs::Logs;
+use crate::state::RunState;
 use std::alloc::Global;
 use xd_edge::{Blob, OutOfMemory};
-use xd_journal::{Entry, What};
+use xd_journal::{Cause, Entry, Outcome, What};
 use xd_ledger::Mode;
 
-// A log starts, or what claims to.
-fn start_log<M: Mode>(
-    alloc: Global,
-    worker: u32,
-    index: u32,
-    log: u32,
-    core: &mut Core<M>,
-    entries: &mut Vec<Entry>,
-) -> Result<(), OutOfMemory>
-    requires low { core.old.spent ≤ most_of_all }
-    requires active { is_active worker (books_of core.old.books) ≡ true }
-    ensures { OnOk result ((s : State) → At s (books_of core.old.books) (M.stands core.old.mode) → ((v : ℕ) → log_in v core.old.logs ≡ shortened (log_in v core.old.logs)) →
-        Took worker (what.LogStart index log) s core.old.logs core.new.logs entries.old.items entries.new.items core.old.spent core.new.spent (books_of core.new.books) (M.stands core.new.mode)) }
-{
-    decide::log_starts(alloc, worker, index, log, core, entries)?;
-    core.logs.start(alloc, worker, index, log)?;
-    Ok(())
+// Of the output of one test so many bytes are kept, and so many of all tests of a run together.
+const MOST_OF_ONE: u32 = 8192;
+
+const MOST_OF_ALL: u32 = 67_108_864;
+
+// What decides: the state of the run, the logs, and how many bytes the entries so far keep.
+#[derive(Drop)]
+pub struct Core<M: Mode> {
+    pub state: RunState<M>,
+    pub logs: Logs,
+    pub spent: u32,
 }
 
-// Output, or what claims to be.
-fn add_piece<M: Mode>(
-    alloc: Global,
-    worker: u32,
-    log: u32,
-    bytes: &Blob,
-    core: &mut Core<M>,
-    entries: &mut Vec<Entry>,
-) -> Result<(), OutOfMemory>
-    requires low { core.old.spent ≤ most_of_all }
-    requires active { is_active worker (books_of core.old.books) ≡ true }
-    ensures { OnOk result ((s : State) → At s (books_of core.old.books) (M.stands core.old.mode) → ((v : ℕ) → log_in v core.old.logs ≡ shortened (log_in v core.old.logs)) →
-        Took worker (what.Piece log bytes.now) s core.old.logs core.new.logs entries.old.items entries.new.items core.old.spent core.new.spent (books_of core.new.books) (M.stands core.new.mode)) }
+// The first bytes.
+fn first_bytes(alloc: Global, bytes: &[u8], count: u32) -> Result<Blob, OutOfMemory>
+    ensures { IfOk result (λ b. b ≡ take count bytes.now) }
 {
-    decide::log_goes_on(alloc, worker, log, bytes.as_slice(), core, entries)?;
-    core.logs.add(worker, bytes.as_slice())?;
-    Ok(())
+    let count = (count as usize).min(bytes.len());
+    let first = Blob::of(alloc, &bytes[..count])?;
+    Ok(first)
 }
 
-// A log ends, or what claims to.
-fn end_log<M: Mode>(
-    alloc: Global,
-    worker: u32,
-    log: u32,
-    core: &mut Core<M>,
-    entries: &mut Vec<Entry>,
-) -> Result<(), OutOfMemory>
-    requires low { core.old.spent ≤ most_of_all }
-    requires active { is_active worker (books_of core.old.books) ≡ true }
-    ensures { OnOk result ((s : State) → At s (books_of core.old.books) (M.stands core.old.mode) → ((v : ℕ) → log_in v core.old.logs ≡ shortened (log_in v core.old.logs)) →
-        Took worker (what.LogClosed log) s core.old.logs core.new.logs entries.old.items entries.new.items core.old.spent core.new.spent (books_of core.new.books) (M.stands core.new.mode)) }
-{
-    decide::log_ends(alloc, worker, log, core, entries)?;
-    core.logs.close(worker);
-    Ok(())
-}
+impl<M: Mode> Core<M> {
+    // What is kept of the output so far of the test at the worker's head.
+    fn kept_output(&self, alloc: Global, worker: u32) -> Result<Blob, OutOfMemory>
+        requires { self.now.spent ≤ most_of_all }
+        ensures kept { IfOk result (λ b. (s : State) → At s (books_of self.now.state.books) (known_by self.now.state.known) (M.stands self.now.state.mode) → b ≡ kept worker (log_in worker self.now.logs) self.now.spent s) }
+        ensures low { IfOk result (λ b. self.now.spent + length b ≤ most_of_all) }
+    {
+        let count = MOST_OF_ONE.min(MOST_OF_ALL - self.spent);
+        match self.logs.index_of(worker) {
+            Some(index) => {
+                if self.state.head_named(worker, index).is_some() {
+                    let bytes = first_bytes(alloc, self.logs.bytes_of(worker), count)?;
+                    return Ok(bytes);
+                }
+                Ok(Blob::from_vec(Vec::new(alloc)))
+            }
+            None => Ok(Blob::from_vec(Vec::new(alloc))),
+        }
+    }
 
-// One piece of news of an active worker.
-pub(crate) fn take<M: Mode>(
-    alloc: Global,
-    worker: u32,
-    what: What,
-    core: &mut Core<M>,
-    entries: &mut Vec<Entry>,
-) -> Result<(), OutOfMemory>
-    requires low { core.old.spent ≤ most_of_all }
-    requires active { is_active worker (books_of core.old.books) ≡ true }
-    requires new { has_collected worker (books_of core.old.books) ≡ false → has_joined worker core.old.books.ledger ≡ false }
-    requires bare { core.old.books.shared ≡ false → IsBare core.old.books.ledger }
-    requires told { is_stopped (books_of core.old.books) ≡ true → was_ready worker (books_of core.old.books) ≡ true → is_shut worker (books_of core.old.books) ≡ true }
-    ensures { OnOk result ((s : State) → At s (books_of core.old.books) (M.stands core.old.mode) → ((v : ℕ) → log_in v core.old.logs ≡ shortened (log_in v core.old.logs)) →
-        Took worker what s core.old.logs core.new.logs entries.old.items entries.new.items core.old.spent core.new.spent (books_of core.new.books) (M.stands core.new.mode)) }
-{
-    match what {
-        What::Ready => decide::ready(alloc, worker, core, entries),
-        What::Collected(own) => decide::collects(alloc, worker, own, core, entries),
-        What::LogStart { index, log } => start_log(alloc, worker, index, log, core, entries),
-        What::Piece { log, bytes } => add_piece(alloc, worker, log, &bytes, core, entries),
-        What::LogClosed { log } => end_log(alloc, worker, log, core, entries),
-        What::Done { index, outcome, ms } => decide::test_ends(
-            alloc, worker, index, outcome, ms, core, entries,
-        ),
-        What::Back(indices) => decide::gives_back(alloc, worker, &indices.items, core, entries),
-        What::Finished => decide::finishes(alloc, worker, core, entries),
-        What::Closed(text) => decide::closes(alloc, worker, text, core, entries),
-        What::Stray => decide::strays(alloc, worker, core, entries),
-        What::Gone(cause) => decide::goes(alloc, worker, cause, core, entries),
-        What::NotStarted => decide::does_not_start(alloc, worker, core, entries),
+    // What is kept of a test that ended: output of a failed one alone.
+    fn output_of(
+        &self,
+        alloc: Global,
+        worker: u32,
+        outcome: Outcome,
+    ) -> Result<Blob, OutOfMemory>
+        requires { self.now.spent ≤ most_of_all }
+        ensures kept { IfOk result (λ b. (s : State) → At s (books_of self.now.state.books) (known_by self.now.state.known) (M.stands self.now.state.mode) → b ≡ output_of worker outcome (log_in worker self.now.logs) self.now.spent s) }
+        ensures low { IfOk result (λ b. self.now.spent + length b ≤ most_of_all) }
+    {
+        match outcome {
+            Outcome::Failed(_) => {
+                let output = self.kept_output(alloc, worker)?;
+                Ok(output)
+            }
+            Outcome::Passed | Outcome::Skipped => Ok(Blob::from_vec(Vec::new(alloc))),
+        }
+    }
+
+    // A worker went down, with the output so far of its head.
+    fn go_down(
+        &mut self,
+        alloc: Global,
+        worker: u32,
+        cause: Cause,
+        entries: &mut Vec<Entry>,
+    ) -> Result<(), OutOfMemory>
+        requires low { self.old.spent ≤ most_of_all }
+        requires active { is_active worker (books_of self.old.state.books) ≡ true }
+        requires at { (s : State) × Steady s (books_of self.old.state.books) (known_by self.old.state.known) (M.stands self.old.state.mode) }
+        ensures told { OnOk result ((s : State) → Steady s (books_of self.old.state.books) (known_by self.old.state.known) (M.stands self.old.state.mode) →
+            Told (Some (entry.Down worker cause (kept worker (log_in worker self.old.logs) self.old.spent s))) s entries.old.items entries.new.items self.old.spent self.new.spent (books_of self.new.state.books) (known_by self.new.state.known) (M.stands self.new.state.mode)) }
+        ensures logs { self.new.logs ≡ self.old.logs }
+    {
+        let output = self.kept_output(alloc, worker)?;
+        self.spent += output.bytes.len() as u32;
+        self.state.down(alloc, worker, cause, output, entries)?;
+        Ok(())
+    }
+
+    // The test at the worker's head ends.
+    fn end_test(
+        &mut self,
+        alloc: Global,
+        worker: u32,
+        index: u32,
+        outcome: Outcome,
+        ms: u64,
+        entries: &mut Vec<Entry>,
+    ) -> Result<(), OutOfMemory>
+        requires low { self.old.spent ≤ most_of_all }
+        requires at { (s : State) × (Steady s (books_of self.old.state.books) (known_by self.old.state.known) (M.stands self.old.state.mode) × (judged worker (log_in worker self.old.logs) s (what.Done index outcome ms) ≡ Follows)) }
+        requires active { is_active worker (books_of self.old.state.books) ≡ true }
+        ensures told { OnOk result ((s : State) → Steady s (books_of self.old.state.books) (known_by self.old.state.known) (M.stands self.old.state.mode) → judged worker (log_in worker self.old.logs) s (what.Done index outcome ms) ≡ Follows →
+            Told (meaning_of worker (log_in worker self.old.logs) self.old.spent s (what.Done index outcome ms)) s entries.old.items entries.new.items self.old.spent self.new.spent (books_of self.new.state.books) (known_by self.new.state.known) (M.stands self.new.state.mode)) }
+        ensures logs { self.new.logs ≡ self.old.logs }
+    {
+        let output = self.output_of(alloc, worker, outcome)?;
+        self.spent += output.bytes.len() as u32;
+        self.state
+            .done(alloc, worker, index, outcome, ms, output, entries)?;
+        Ok(())
+    }
+
+    // The input of the news follows.
+    fn follow(
+        &mut self,
+        alloc: Global,
+        worker: u32,
+        what: What,
+        entries: &mut Vec<Entry>,
+    ) -> Result<(), OutOfMemory>
+        requires low { self.old.spent ≤ most_of_all }
+        requires active { is_active worker (books_of self.old.state.books) ≡ true }
+        requires joins { has_collected worker (books_of self.old.state.books) ≡ false → was_ready worker (books_of self.old.state.books) ≡ true → IsNew worker (books_of self.old.state.books) }
+        requires at { (s : State) × (Steady s (books_of self.old.state.books) (known_by self.old.state.known) (M.stands self.old.state.mode) × (judged worker (log_in worker self.old.logs) s what ≡ Follows)) }
+        ensures told { OnOk result ((s : State) → Steady s (books_of self.old.state.books) (known_by self.old.state.known) (M.stands self.old.state.mode) → judged worker (log_in worker self.old.logs) s what ≡ Follows →
+            Told (meaning_of worker (log_in worker self.old.logs) self.old.spent s what) s entries.old.items entries.new.items self.old.spent self.new.spent (books_of self.new.state.books) (known_by self.new.state.known) (M.stands self.new.state.mode)) }
+        ensures logs { self.new.logs ≡ self.old.logs }
+    {
+        match what {
+            What::Ready => self.state.ready(alloc, worker, entries)?,
+            What::Collected(own) => self.state.collected(alloc, worker, own, entries)?,
+            What::Done { index, outcome, ms } => {
+                self.end_test(alloc, worker, index, outcome, ms, entries)?
+            }
+            What::Back(indices) => self.state.back(alloc, worker, indices, entries)?,
+            What::Finished => self.state.finished(alloc, worker, entries)?,
+            What::Closed(text) => {
+                if let Some(text) = text {
+                    self.state.refused(alloc, worker, text, entries)?;
+                }
+            }
+            What::Gone(cause) => self.go_down(alloc, worker, cause, entries)?,
+            What::NotStarted => self.state.not_started(alloc, worker, entries)?,
+            What::Piece { log: _, bytes: _bytes } => {}
+            What::LogStart { index: _, log: _ } => {}
+            What::LogClosed { log: _ } => {}
+            What::Stray => {}
+        }
+        Ok(())
+    }
+
+    // One piece of news of an active worker.
+    pub(crate) fn take(
+        &mut self,
+        alloc: Global,
+        worker: u32,
+        what: What,
+        entries: &mut Vec<Entry>,
+    ) -> Result<(), OutOfMemory>
+        requires low { self.old.spent ≤ most_of_all }
+        requires active { is_active worker (books_of self.old.state.books) ≡ true }
+        requires joins { has_collected worker (books_of self.old.state.books) ≡ false → was_ready worker (books_of self.old.state.books) ≡ true → IsNew worker (books_of self.old.state.books) }
+        requires at { (s : State) × Steady s (books_of self.old.state.books) (known_by self.old.state.known) (M.stands self.old.state.mode) }
+        ensures { OnOk result ((s : State) → Steady s (books_of self.old.state.books) (known_by self.old.state.known) (M.stands self.old.state.mode) → ((v : ℕ) → log_in v self.old.logs ≡ shortened (log_in v self.old.logs)) →
+            Took worker what s self.old.logs self.new.logs entries.old.items entries.new.items self.old.spent self.new.spent (books_of self.new.state.books) (known_by self.new.state.known) (M.stands self.new.state.mode)) }
+    {
+        match self.state.judge(alloc, worker, &what, &self.logs)? {
+            Verdict::Follows => self.follow(alloc, worker, what, entries)?,
+            Verdict::Silent => self.logs.hear(alloc, worker, &what)?,
+            Verdict::Breach => {
+                self.go_down(alloc, worker, Cause::Breach, entries)?;
+                self.logs.hear(alloc, worker, &what)?
+            }
+        }
+        Ok(())
     }
 }

@@ -1,11 +1,9 @@
-//! Tests of what a session stands on: of the journal, the ledger, and mode load.
+//! Tests of what a session stands on: of the journal and the ledger.
 #![tactic(auto)]
 
 #[cfg(test)]
 mod journal;
 #[cfg(test)]
 mod ledger;
-#[cfg(test)]
-mod load;
 #[cfg(test)]
 mod moves;

@@ -1,9 +1,10 @@
-use Rattle.std.proofs.Common.{◌≡◌, ◌<◌, length, get_or, ap, refl, ◌∙◌, arith}
+use Rattle.std.proofs.Common.{◌≡◌, ◌<◌, length, get_or, ap, ◌∙◌, arith}
 use Rattle.xd_ledger.specs.Table.{workers_of}
 use Rattle.xd_ledger.specs.Turn.{Turn}
 use Rattle.xd_ledger.specs.Load.{give_unless_shut}
 use Rattle.xd_ledger.specs.Calls.{turn}
-use Rattle.xd_load.proofs.Turns.{in_rota-at, one_more, workers-give_unless, load_plan}
+use Rattle.xd_ledger.proofs.Turns.{in_rota-at, one_more, some_plan}
+use Rattle.xd_load.proofs.Turns.{workers-give_unless}
 use Rattle.xd_load.proofs.batches.give_each.Goals as goal
 
 pub give-requires : goal.give-requires
@@ -16,11 +17,11 @@ loop-place-preserved c =
     let now = c.loop-place.ledger in
     let ws = workers_of c.args.ledger.now in
     let step = c.in_ok-give.ensures in
-    let one = ap (λ (u : Turn). workers_of u.table) (step (load_plan 0) refl) in
+    let one = ap (λ (u : Turn). workers_of u.table) (step some_plan) in
     let lt : c.loop-place.place < length ws = grind (arith, c.loop-place.invariant.rota) in
     let at : c.rota_at-worker.result ≡ get_or ws c.loop-place.place 0 = rw (c.rota_at-worker.ensures, c.loop-place.invariant.rota) in
     record {
-      rota = one ∙ workers-give_unless c.args.count c.rota_at-worker.result (turn now (load_plan 0) c.loop-place.acts.items) ∙ c.loop-place.invariant.rota;
-      turned = λ p h.
-          (one_more (give_unless_shut c.args.count) c.rota_at-worker.result c.loop-place.place ws _ _ _ (step p h) (c.loop-place.invariant.turned p h) at lt);
+      rota = one ∙ workers-give_unless c.args.count c.rota_at-worker.result (turn now some_plan c.loop-place.acts.items) ∙ c.loop-place.invariant.rota;
+      turned = λ p.
+          (one_more (give_unless_shut c.args.count) c.rota_at-worker.result c.loop-place.place ws _ _ _ (step p) (c.loop-place.invariant.turned p) at lt);
     }

@@ -1,5 +1,4 @@
 use Rattle.std.proofs.Common.{◌≡◌, take}
-use Rattle.xd_edge.specs.declared.mode.ModeKind.TheVariants.{Load}
 use Rattle.xd_ledger.specs.Table.{workers_of}
 use Rattle.xd_ledger.specs.Plan.{Plan}
 use Rattle.xd_ledger.specs.Turn.{in_turn}
@@ -10,6 +9,6 @@ use Rattle.xd_load.proofs.batches.give_each.Given as goal
 abbrev pub invariant-loop-place : goal.invariant-loop-place
 invariant-loop-place l = record {
   rota : workers_of l.ledger ≡ workers_of l.fn.ledger;
-  turned : (p : Plan) → p.mode ≡ Load →
+  turned : (p : Plan) →
       turn l.ledger p l.acts.items ≡ in_turn (give_unless_shut l.fn.count) (take l.place (workers_of l.fn.ledger)) (turn l.fn.ledger p l.fn.acts.items);
 }

@@ -3,7 +3,8 @@ use Rattle.xd_ledger.specs.Table.{workers_of}
 use Rattle.xd_ledger.specs.Turn.{Turn}
 use Rattle.xd_ledger.specs.Load.{refill}
 use Rattle.xd_ledger.specs.Calls.{turn}
-use Rattle.xd_load.proofs.Turns.{in_rota-at, one_more, workers-refill, load_plan, load_plan-stands}
+use Rattle.xd_ledger.proofs.Turns.{in_rota-at, one_more}
+use Rattle.xd_load.proofs.Turns.{workers-refill, load_plan, load_plan-stands}
 use Rattle.xd_load.proofs.batches.refill_each.Goals as goal
 
 pub refill_one-requires : goal.refill_one-requires

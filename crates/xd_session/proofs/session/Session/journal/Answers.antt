@@ -4,4 +4,4 @@ use Rattle.xd_session.proofs.Lawful.{legal-so-far}
 use Rattle.xd_session.proofs.session.Session.journal.Goals as goal
 
 pub returns-clause-legal : goal.returns-clause-legal
-returns-clause-legal g c = λ h. legal-so-far _ _ _ _ _ _ (c.self.invariant (ap (λ (v : Seen). v.whole) c.self.view_is ∙ h)) _ refl refl
+returns-clause-legal g c = λ h. legal-so-far _ _ _ _ _ _ _ (c.self.invariant (ap (λ (v : Seen). v.whole) c.self.view_is ∙ h)) _ refl refl

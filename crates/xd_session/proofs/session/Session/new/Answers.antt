@@ -5,6 +5,7 @@ use Rattle.xd_ledger.specs.State.{all_moved, no_one}
 use Rattle.xd_ledger.specs.Histories.{starts_from}
 use Rattle.xd_session.specs.declared.logs.WorkerLog.{WorkerLog}
 use Rattle.xd_session.specs.Crew.{books_of}
+use Rattle.xd_session.specs.Known.{known_by}
 use Rattle.xd_session.specs.Rules.{InStep}
 use Rattle.xd_session.proofs.Begin.{begun-step}
 use Rattle.xd_session.proofs.session.Session.new.Goals as goal
@@ -12,6 +13,6 @@ use Rattle.xd_session.proofs.session.Session.new.Goals as goal
 pub invariant_of-result : goal.invariant_of-result
 invariant_of-result g c = λ h.
     (let e : c.in_ok-books.books.settings ≡ c.args.settings = ap (λ (b : Books). b.settings) c.in_ok-books.ensures in
-    subst (λ (ls : List WorkerLog). InStep c.start_all.new.journal.settings c.start_all.new.journal.entries.items ls 0 (books_of c.start_all.new.books) (g.M.Mode.stands c.args.mode)) (sym c.new-2.ensures)
-    (begun-step c.args.settings _ _ _ _ (c.start_all.ensures.settings ∙ c.new-journal.ensures.settings) c.requires.settings c.requires.fresh
+    subst (λ (ls : List WorkerLog). InStep c.start_all.new.journal.settings c.start_all.new.journal.entries.items ls 0 (books_of c.start_all.new.books) (known_by c.new-2.result) (g.M.Mode.stands c.args.mode)) (sym c.new-3.ensures)
+    (begun-step c.args.settings _ _ _ _ _ (c.start_all.ensures.settings ∙ c.new-journal.ensures.settings) c.new-2.ensures c.requires.settings c.requires.fresh
     (c.in_ok-start_all.ensures.books ∙ ap (λ (s : Settings). (all_moved (no_one s) (starts_from 0 c.args.settings.workers)).books) e) c.in_ok-start_all.ensures.entries))

@@ -1,0 +1,13 @@
+use Rattle.std.proofs.Common.{◌≡◌, take}
+use Rattle.xd_ledger.specs.Table.{workers_of}
+use Rattle.xd_ledger.specs.Plan.{Plan}
+use Rattle.xd_ledger.specs.Turn.{in_turn, shut}
+use Rattle.xd_ledger.specs.Calls.{turn}
+use Rattle.xd_ledger.proofs.moves.shut_rota.Given as goal
+
+abbrev pub invariant-loop-place : goal.invariant-loop-place
+invariant-loop-place l = record {
+  rota : workers_of l.ledger ≡ workers_of l.fn.ledger;
+  turned : (p : Plan) →
+      turn l.ledger p l.acts.items ≡ in_turn shut (take l.place (workers_of l.fn.ledger)) (turn l.fn.ledger p l.fn.acts.items);
+}

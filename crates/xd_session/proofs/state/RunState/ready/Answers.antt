@@ -1,0 +1,32 @@
+use Rattle.std.proofs.Common.{◌≡◌, ◌++◌, ◌∷◌, [], ap, sym, subst, ◌∙◌, List, ℕ, Bool, length, true, false}
+use Rattle.std.specs.Prelude.{if◌then◌else◌}
+use Rattle.xd_journal.specs.declared.entry.Entry.{Entry}
+use Rattle.xd_journal.specs.declared.entry.Entry.TheVariants.{Ready, Done, Back, Finished, Refused, Down, NotStarted, Start, Shutdown, Kill}
+use Rattle.xd_ledger.specs.Books.{Books, marked}
+use Rattle.xd_ledger.specs.Modes.Call.{Died, TestDone, TestsBack}
+use Rattle.xd_ledger.specs.Outputs.{acts_of, after_death, shut_all}
+use Rattle.xd_ledger.specs.Sharing.{State}
+use Rattle.xd_ledger.specs.State.{moved, settles}
+use Rattle.xd_ledger.specs.Stops.{is_shutting, is_stopped}
+use Rattle.xd_ledger.specs.Workers.{made_gone, made_ready, slot_of}
+use Rattle.xd_session.specs.Crew.{books_of}
+use Rattle.xd_session.specs.Known.{known_by}
+use Rattle.xd_session.specs.Rules.{told}
+use Rattle.std.proofs.Common.{append_assoc}
+use Rattle.xd_session.proofs.Closing.{ready-at, ruled}
+use Rattle.xd_session.proofs.state.RunState.ready.Goals as goal
+
+pub returns : goal.returns
+returns g c = λ s a.
+    (let w : ℕ = c.args.worker in
+    let b : Books = books_of c.args.self.now.books in
+    let old : List Entry = c.args.entries.now.items in
+    let k : Books = books_of c.mark.new.self in
+    let f : Books → Books = λ d. if is_shutting d then told w d else d in
+    let own : Books → List Entry = λ d. if is_shutting d then Shutdown w ∷ [] else [] in
+    let e : k ≡ marked (made_ready w) b = c.mark.ensures in
+    let notes : c.tell_where_shutting.new.entries.items ≡ old ++ Ready w ∷ own (marked (made_ready w) s.books) =
+    c.in_ok-tell_where_shutting.ensures.noted ∙ ap (λ (xs : List Entry). xs ++ own k) c.in_ok-note.ensures ∙ append_assoc old (Ready w ∷ []) (own k) ∙ ap (λ (d : Books). old ++ Ready w ∷ own d) (e ∙ ap (λ (d : Books). marked (made_ready w) d) a.books_are) in
+    ruled s (Ready w) _ _ old c.tell_where_shutting.new.entries.items c.finish.new.entries.items _
+    (c.in_ok-finish.ensures _ (ready-at s w b (books_of c.tell_where_shutting.new.books) _ _ a (c.in_ok-tell_where_shutting.ensures.told ∙ ap f e)))
+    notes)

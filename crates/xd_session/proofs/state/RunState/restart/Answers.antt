@@ -1,0 +1,33 @@
+use Rattle.std.proofs.Common.{◌≡◌, ◌++◌, ◌∷◌, [], ap, sym, subst, refl, ◌∙◌, List, ℕ, Bool, length, true, false}
+use Rattle.std.specs.Prelude.{if◌then◌else◌}
+use Rattle.xd_journal.specs.declared.entry.Entry.{Entry}
+use Rattle.xd_journal.specs.declared.entry.Entry.TheVariants.{Ready, Done, Back, Finished, Refused, Down, NotStarted, Start, Shutdown, Kill}
+use Rattle.xd_ledger.specs.Books.{Books, marked}
+use Rattle.xd_ledger.specs.Modes.Call.{Died, TestDone, TestsBack}
+use Rattle.xd_ledger.specs.Outputs.{acts_of, after_death, shut_all}
+use Rattle.xd_ledger.specs.Sharing.{State}
+use Rattle.xd_ledger.specs.State.{moved, settles}
+use Rattle.xd_ledger.specs.Stops.{is_shutting, is_stopped}
+use Rattle.xd_ledger.specs.Workers.{made_gone, made_ready, slot_of}
+use Rattle.xd_session.specs.Crew.{books_of}
+use Rattle.xd_session.specs.Known.{known_by}
+use Rattle.xd_session.specs.Rules.{told}
+use Rattle.xd_ledger.specs.State.{all_moved}
+use Rattle.xd_session.proofs.Acts.{acted-append, acted-by, acted-start}
+use Rattle.xd_session.proofs.state.RunState.restart.Goals as goal
+
+pub returns : goal.returns
+returns g c = λ s a m.
+    (let w : ℕ = c.args.worker in
+    let number : ℕ = c.in_ok-number.number in
+    let slot : ℕ = c.slot_of-slot.result in
+    let xs : List Entry = if s.books.shared then acts_of Died s else [] in
+    let first = c.in_ok-hear_of_death.ensures s a m in
+    let n : number ≡ length s.books.crew = c.in_ok-number.ensures ∙ ap (λ (d : Books). length d.crew) a.books_are in
+    let p : slot ≡ slot_of w s.books = c.slot_of-slot.ensures ∙ ap (λ (d : Books). slot_of w d) a.books_are in
+    let numbers : ℕ → List Entry = λ k. xs ++ Start k slot ∷ [] in
+    let slots : ℕ → List Entry = λ k. xs ++ Start (length s.books.crew) k ∷ [] in
+    acted-by (xs ++ Start number slot ∷ []) _ s _ _ c.args.entries.now.items c.note.new.entries.items _ (ap numbers n ∙ ap slots p)
+    (acted-append xs (Start number slot ∷ []) s (books_of c.hear_of_death.new.self.books) _ _ _ c.args.entries.now.items c.hear_of_death.new.entries.items c.note.new.entries.items _ _
+    first
+    (acted-start (all_moved s xs) number slot (books_of c.hear_of_death.new.self.books) (books_of c.start.new.self) _ c.hear_of_death.new.entries.items c.note.new.entries.items _ first.at c.in_ok-start.ensures c.in_ok-note.ensures)))

@@ -1,0 +1,26 @@
+use Rattle.std.proofs.Common.{◌≡◌, ◌++◌, ◌∷◌, [], ap, sym, subst, refl, ◌∙◌, List, ℕ, Bool, length, true, false}
+use Rattle.std.specs.Prelude.{if◌then◌else◌}
+use Rattle.xd_journal.specs.declared.entry.Entry.{Entry}
+use Rattle.xd_journal.specs.declared.entry.Entry.TheVariants.{Ready, Done, Back, Finished, Refused, Down, NotStarted, Start, Shutdown, Kill}
+use Rattle.xd_ledger.specs.Books.{Books, marked}
+use Rattle.xd_ledger.specs.Modes.Call.{Died, TestDone, TestsBack}
+use Rattle.xd_ledger.specs.Outputs.{acts_of, after_death, shut_all}
+use Rattle.xd_ledger.specs.Sharing.{State}
+use Rattle.xd_ledger.specs.State.{moved, settles}
+use Rattle.xd_ledger.specs.Stops.{is_shutting, is_stopped}
+use Rattle.xd_ledger.specs.Workers.{made_gone, made_ready, slot_of}
+use Rattle.xd_session.specs.Crew.{books_of}
+use Rattle.xd_session.specs.Known.{known_by}
+use Rattle.xd_session.specs.Rules.{told}
+use Rattle.xd_session.proofs.Acts.{acted-by, acted-none, acted-shut, choose-no, choose-yes, stopped-at}
+use Rattle.xd_session.proofs.state.RunState.stop_outputs.Goals as goal
+
+pub returns-then-before : goal.returns-then-before
+returns-then-before g c = λ s e d.
+    acted-by [] _ s _ _ c.args.entries.now.items c.args.entries.now.items _ (choose-yes c.args.before [] (shut_all s.books.crew) c.if-before.true)
+    (acted-none s _ _ c.args.entries.now.items _ (stopped-at s _ _ _ c.requires e d))
+
+pub returns : goal.returns
+returns g c = λ s e d.
+    acted-by (shut_all s.books.crew) _ s _ _ c.args.entries.now.items c.shut_everyone.new.entries.items _ (choose-no c.args.before [] (shut_all s.books.crew) c.if-before.false)
+    (acted-shut s (books_of c.args.self.now.books) (books_of c.shut_everyone.new.books) _ c.args.entries.now.items c.shut_everyone.new.entries.items _ (stopped-at s _ _ _ c.requires e d) c.in_ok-shut_everyone.ensures.told c.in_ok-shut_everyone.ensures.noted)
