@@ -1,4 +1,4 @@
--- What all the bytes of the own streams say of how they were served.
+-- What all the bytes of a link say of how it was served.
 use Rattle.std.proofs.Common.{◌≡◌, ℕ, List, [], ◌∷◌, ◌++◌, length, map, take, drop, Option, Some, None, refl, ap, sym, ◌∙◌, subst, arith}
 use Rattle.std.specs.Prelude.{◌≢◌, Bool, true, false, option_map, IfSome}
 use Rattle.std.proofs.lemmas.Grind.{common_steps}
@@ -8,7 +8,7 @@ use Rattle.xd_edge.specs.Sink.{Sunk, with_close}
 use Rattle.xd_link.specs.FreshLink.{unused}
 use Rattle.xd_link.specs.Source.{Gave, Supply, with_given}
 use Rattle.xd_link.specs.Starter.{with_start}
-use Rattle.xd_link.specs.declared.place.Place.TheVariants.{Own}
+use Rattle.xd_link.specs.declared.place.Place.{Place}
 use Rattle.xd_worker.specs.History.{Heard}
 use Rattle.xd_listen.specs.Complete.{AreGood, AreStill, GoesWrong, IsCalm}
 use Rattle.xd_listen.specs.Ends.{Closes, Scene, Served}
@@ -17,7 +17,7 @@ use Rattle.xd_link.specs.Spring.{Spring}
 use Rattle.xd_listen.proofs.Completing.{calm, complete, goes_wrong}
 use Rattle.xd_linked.specs.Linked.{EndedLink}
 use Rattle.xd_top.specs.Outside.{Workplace}
-use Rattle.xd_top.specs.Worker.{DidWorker, ServedOwn, ServesOwn, all_bytes, scene_at, unwritten}
+use Rattle.xd_top.specs.Worker.{DidServe, ServedLink, ServesLink, all_bytes, scene_at, unwritten}
 
 -- a sink that was not written to, by what it tells later
 unwritten_by : (old new : Option Sunk) (f : Sunk → Sunk) → IfSome old (λ s. s ≡ unused) → new ≡ option_map f old → old ≡ unwritten new
@@ -48,11 +48,11 @@ all_left bytes (Some s) new P none g p =
     let all : all_bytes (with_given (length bytes) s) ≡ s.left = ap (λ (l : List ℕ). (l ++ take (length bytes) s.left) ++ drop (length bytes) s.left) none ∙ halves (length bytes) s.left in
     subst (λ (o : Option Supply). IfSome o (λ t. P (all_bytes t))) (sym g.0) (subst P (sym all) p)
 
--- the own streams, by what was told of them when they were started
-pub served_own : (status : ℕ) (start end : Spring) (sunk : Option Sunk) (n : ℕ) (old : Workplace) (new : Scene)
+-- a link, by what was told of it when it was started
+pub served_link : (status : ℕ) (start end : Spring) (sunk : Option Sunk) (n : ℕ) (old : Workplace) (new : Scene)
     → IfSome start.supply (λ s. s.given ≡ []) → start.ended ≡ false → start.faults ≡ 0 → IfSome sunk (λ s. s ≡ unused) → n ≡ 0
-    → Served status old.files.held start end (scene_at sunk n old) new → ServedOwn status end old new
-served_own status start end sunk n old new given ended reads taken writes served = record {
+    → Served status old.files.held start end (scene_at sunk n old) new → ServedLink status end old new
+served_link status start end sunk n old new given ended reads taken writes served = record {
   start = start;
   sunk = sunk;
   none_given = given;
@@ -62,7 +62,7 @@ served_own status start end sunk n old new given ended reads taken writes served
   served = subst (λ (k : ℕ). Served status old.files.held start end (scene_at sunk k old) new) writes served;
 }
 
-module _ (status : ℕ) (end : Spring) (old : Workplace) (new : Scene) (s : ServedOwn status end old new) where
+module _ (status : ℕ) (end : Spring) (old : Workplace) (new : Scene) (s : ServedLink status end old new) where
   -- before the link was served
   abbrev pub before : Scene
   before = scene_at (unwritten new.sunk) 0 old
@@ -75,25 +75,25 @@ module _ (status : ℕ) (end : Spring) (old : Workplace) (new : Scene) (s : Serv
       let e = s.served.2 in
       ap (λ (o : Option Sunk). scene_at o 0 old) (spoken_unwritten e.wrote e.history s.sunk e.sunk s.none_taken e.spoke.says ∙ sym (closed_unwritten e.closed e.sunk new.sunk e.sink_faults new.sink_faults e.closes))
 
-  pub own_calm : status ≡ 0 → IsCalm 0 end.faults before new
-  own_calm zero = subst (λ (n : ℕ). IsCalm n end.faults before new) s.no_reads (subst (λ (x : Scene). IsCalm s.start.faults end.faults x new) before_is (calm held s.start end (scene_at s.sunk 0 old) new status s.served zero))
+  pub link_calm : status ≡ 0 → IsCalm 0 end.faults before new
+  link_calm zero = subst (λ (n : ℕ). IsCalm n end.faults before new) s.no_reads (subst (λ (x : Scene). IsCalm s.start.faults end.faults x new) before_is (calm held s.start end (scene_at s.sunk 0 old) new status s.served zero))
 
-  pub own_wrong : status ≢ 0 → IfSome end.supply (λ t. GoesWrong held (all_bytes t) 0 end.faults before new)
-  own_wrong not_zero = all_left s.served.2.bytes s.start.supply end.supply (λ l. GoesWrong held l 0 end.faults before new) s.none_given s.served.2.gave
+  pub link_wrong : status ≢ 0 → IfSome end.supply (λ t. GoesWrong held (all_bytes t) 0 end.faults before new)
+  link_wrong not_zero = all_left s.served.2.bytes s.start.supply end.supply (λ l. GoesWrong held l 0 end.faults before new) s.none_given s.served.2.gave
       (subst (λ (n : ℕ). IfSome s.start.supply (λ t. GoesWrong held t.left n end.faults before new)) s.no_reads
       (subst (λ (x : Scene). IfSome s.start.supply (λ t. GoesWrong held t.left s.start.faults end.faults x new)) before_is
       (goes_wrong held s.start end (scene_at s.sunk 0 old) new status s.served not_zero)))
 
-  pub own_complete : IfSome end.supply (λ t. AreGood held (all_bytes t) before new → StoodStill 0 end.faults → AreStill before new → status ≡ 0)
-  own_complete = all_left s.served.2.bytes s.start.supply end.supply (λ l. AreGood held l before new → StoodStill 0 end.faults → AreStill before new → status ≡ 0) s.none_given s.served.2.gave
+  pub link_complete : IfSome end.supply (λ t. AreGood held (all_bytes t) before new → StoodStill 0 end.faults → AreStill before new → status ≡ 0)
+  link_complete = all_left s.served.2.bytes s.start.supply end.supply (λ l. AreGood held l before new → StoodStill 0 end.faults → AreStill before new → status ≡ 0) s.none_given s.served.2.gave
       (subst (λ (n : ℕ). IfSome s.start.supply (λ t. AreGood held t.left before new → StoodStill n end.faults → AreStill before new → status ≡ 0)) s.no_reads
       (subst (λ (x : Scene). IfSome s.start.supply (λ t. AreGood held t.left x new → StoodStill s.start.faults end.faults → AreStill x new → status ≡ 0)) before_is
       (complete held s.start end (scene_at s.sunk 0 old) new status s.served)))
 
--- the link to the own streams, by how it was served
-pub serves_own : (l : EndedLink) (status : ℕ) (old new : Workplace) → l.worker ≡ 0 → l.killed ≡ false → ServedOwn status l.link.spring old (scene_at l.link.sunk l.link.writes new)
-    → new.starter.begun ≡ option_map (with_start Own) old.starter.begun → new.starter.faults ≡ old.starter.faults → ServesOwn l status old new
-serves_own l status old new number killed served started still =
+-- the link to a place, by how it was served
+pub serves_link : (place : Place) (l : EndedLink) (status : ℕ) (old new : Workplace) → l.worker ≡ 0 → l.killed ≡ false → ServedLink status l.link.spring old (scene_at l.link.sunk l.link.writes new)
+    → new.starter.begun ≡ option_map (with_start place) old.starter.begun → new.starter.faults ≡ old.starter.faults → ServesLink place l status old new
+serves_link place l status old new number killed served started still =
     let seen = scene_at l.link.sunk l.link.writes new in
     record {
       number = number;
@@ -101,12 +101,12 @@ serves_own l status old new number killed served started still =
       served = served;
       started = started;
       starts_still = still;
-      calm = own_calm status l.link.spring old seen served;
-      wrong = own_wrong status l.link.spring old seen served;
-      complete = own_complete status l.link.spring old seen served;
+      calm = link_calm status l.link.spring old seen served;
+      wrong = link_wrong status l.link.spring old seen served;
+      complete = link_complete status l.link.spring old seen served;
     }
 
-pub links_one : {A : Type 0} (seen : A → EndedLink) (first links : List A) (l : A) (status : ℕ) (old new : Workplace) → first ≡ [] → links ≡ first ++ l ∷ []
-    → ServesOwn (seen l) status old new → DidWorker (map seen links) status old new
-links_one {A} seen first links l status old new none one s =
-    subst (λ (ls : List A). DidWorker (map seen ls) status old new) (sym (one ∙ ap (λ (ls : List A). ls ++ l ∷ []) none)) s
+pub links_one : {A : Type 0} (seen : A → EndedLink) (first links : List A) (l : A) (place : Place) (status : ℕ) (old new : Workplace) → first ≡ [] → links ≡ first ++ l ∷ []
+    → ServesLink place (seen l) status old new → DidServe place (map seen links) status old new
+links_one {A} seen first links l place status old new none one s =
+    subst (λ (ls : List A). DidServe place (map seen ls) status old new) (sym (one ∙ ap (λ (ls : List A). ls ++ l ∷ []) none)) s

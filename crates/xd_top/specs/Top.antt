@@ -1,6 +1,7 @@
 -- What the top call came to, by what the words ask for.
 use Rattle.std.specs.Prelude.{ℕ, ◌≡◌, List, Option, None}
 use Rattle.xd_journal.specs.declared.journal.Journal.{Journal}
+use Rattle.xd_link.specs.declared.place.Place.TheVariants.{Own}
 use Rattle.xd_top.specs.declared.refusal.Refusal.TheVariants as refusal
 use Rattle.xd_top.specs.declared.words.Plan.{Plan}
 use Rattle.xd_top.specs.declared.words.Plan.TheVariants.{Local, Linked, Wire, Worker, BadWords}
@@ -10,7 +11,7 @@ use Rattle.xd_linked.specs.Linked.{EndedLink}
 use Rattle.xd_top.specs.Outside.{Outside, workplace}
 use Rattle.xd_top.specs.Refusal.{Refuses}
 use Rattle.xd_top.specs.Wire.{DidWire}
-use Rattle.xd_top.specs.Worker.{DidWorker}
+use Rattle.xd_top.specs.Worker.{DidServe}
 
 -- what the call hands back: the exit status, the journal of the run, where one was begun, and the links that were started
 pub record End : Type 0 where
@@ -28,7 +29,7 @@ pub record Serves (end : End) (old new : Outside) : Type 0 where
   pub no_run : end.journal ≡ None
   pub no_report : new.streams.out ≡ old.streams.out
   pub quiet : new.streams.err ≡ old.streams.err
-  pub did : DidWorker end.links end.status (workplace old) (workplace new)
+  pub did : DidServe Own end.links end.status (workplace old) (workplace new)
 
 -- bad words: no run
 pub record RefusesWords (end : End) (old new : Outside) : Type 0 where

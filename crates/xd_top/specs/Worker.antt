@@ -1,11 +1,12 @@
--- What the command worker does. A choice of this project; the worker's side is execnet's `serve_popen`.
+-- What the commands do that serve one link: worker its own streams, socketserver a connection. A choice of this project; the
+-- worker's side is execnet's `serve_popen`.
 use Rattle.std.specs.Prelude.{ℕ, ◌≡◌, ◌≢◌, ◌++◌, false, List, [], ◌∷◌, Option, IfSome, option_map}
 use Rattle.xd_edge.specs.Faults.{Rose, StoodStill}
 use Rattle.xd_edge.specs.Sink.{Sunk}
 use Rattle.xd_link.specs.FreshLink.{unused}
 use Rattle.xd_link.specs.Source.{Supply}
 use Rattle.xd_link.specs.Starter.{with_failure, with_start}
-use Rattle.xd_link.specs.declared.place.Place.TheVariants.{Own}
+use Rattle.xd_link.specs.declared.place.Place.{Place}
 use Rattle.xd_listen.specs.Complete.{AreGood, AreStill, GoesWrong, IsCalm}
 use Rattle.xd_listen.specs.Ends.{Scene, Served, scene}
 use Rattle.xd_link.specs.Spring.{Spring}
@@ -24,9 +25,8 @@ unwritten sunk = option_map (λ _. unused) sunk
 abbrev pub scene_at : Option Sunk → ℕ → Workplace → Scene
 scene_at sunk writes place = scene sunk writes place.programs.runs place.programs.faults place.files.faults place.crews.readers place.crews.runners place.clock
 
--- A link to the program's own streams was started, of which nothing was read or written before, and it was served to its
--- end, with this exit status.
-pub record ServedOwn (status : ℕ) (end : Spring) (old : Workplace) (new : Scene) : Type 0 where
+-- A link was started, of which nothing was read or written before, and it was served to its end, with this exit status.
+pub record ServedLink (status : ℕ) (end : Spring) (old : Workplace) (new : Scene) : Type 0 where
   pub start : Spring
   pub sunk : Option Sunk
   pub none_given : IfSome start.supply (λ s. s.given ≡ [])
@@ -35,29 +35,29 @@ pub record ServedOwn (status : ℕ) (end : Spring) (old : Workplace) (new : Scen
   pub none_taken : IfSome sunk (λ s. s ≡ unused)
   pub served : Served status old.files.held start end (scene_at sunk 0 old) new
 
--- The link to the own streams was started and served to its end. The status is 0 only where no count of the starter, the
+-- The link to this place was started and served to its end. The status is 0 only where no count of the starter, the
 -- link and the crews rose, and another one only where something is wrong with the link; where the link tells its bytes,
 -- nothing is wrong with all of them and no count rises, it is 0.
-pub record ServesOwn (l : EndedLink) (status : ℕ) (old new : Workplace) : Type 0 where
+pub record ServesLink (place : Place) (l : EndedLink) (status : ℕ) (old new : Workplace) : Type 0 where
   pub number : l.worker ≡ 0
   pub not_killed : l.killed ≡ false
-  pub served : ServedOwn status l.link.spring old (scene_at l.link.sunk l.link.writes new)
-  pub started : new.starter.begun ≡ option_map (with_start Own) old.starter.begun
+  pub served : ServedLink status l.link.spring old (scene_at l.link.sunk l.link.writes new)
+  pub started : new.starter.begun ≡ option_map (with_start place) old.starter.begun
   pub starts_still : new.starter.faults ≡ old.starter.faults
   pub calm : status ≡ 0 → IsCalm 0 l.link.spring.faults (scene_at (unwritten l.link.sunk) 0 old) (scene_at l.link.sunk l.link.writes new)
   pub wrong : status ≢ 0 → IfSome l.link.spring.supply (λ s. GoesWrong old.files.held (all_bytes s) 0 l.link.spring.faults (scene_at (unwritten l.link.sunk) 0 old) (scene_at l.link.sunk l.link.writes new))
   pub complete : IfSome l.link.spring.supply (λ s. AreGood old.files.held (all_bytes s) (scene_at (unwritten l.link.sunk) 0 old) (scene_at l.link.sunk l.link.writes new)
       → StoodStill 0 l.link.spring.faults → AreStill (scene_at (unwritten l.link.sunk) 0 old) (scene_at l.link.sunk l.link.writes new) → status ≡ 0)
 
--- The link to the own streams could not be started.
-pub record StartsNone (status : ℕ) (old new : Workplace) : Type 0 where
+-- The link to this place could not be started.
+pub record StartsNone (place : Place) (status : ℕ) (old new : Workplace) : Type 0 where
   pub three : status ≡ 3
   pub fault : Rose old.starter.faults new.starter.faults
-  pub asked : new.starter.begun ≡ option_map (with_failure Own) old.starter.begun
+  pub asked : new.starter.begun ≡ option_map (with_failure place) old.starter.begun
   pub no_child : new.programs.runs ≡ old.programs.runs
 
--- What worker came to, by its link.
-abbrev pub DidWorker : List EndedLink → ℕ → Workplace → Workplace → Type 0
-DidWorker [] status old new = StartsNone status old new
-DidWorker (l ∷ []) status old new = ServesOwn l status old new
-DidWorker (l ∷ m ∷ ls) status old new = ⊥
+-- What serving one link came to, by that link.
+abbrev pub DidServe : Place → List EndedLink → ℕ → Workplace → Workplace → Type 0
+DidServe place [] status old new = StartsNone place status old new
+DidServe place (l ∷ []) status old new = ServesLink place l status old new
+DidServe place (l ∷ m ∷ ls) status old new = ⊥

@@ -10,14 +10,14 @@ use crate::named::{LocalEnd, run_named};
 use crate::refusal::{Refusal, refuse};
 use crate::wire::print_named;
 use crate::words::{Plan, plan_of};
-use crate::worker::serve_own;
+use crate::worker::serve_at;
 use std::alloc::Global;
 use std::sync::Wait;
 use xd_crew::Crew;
 use xd_edge::{Children, Clock, Files, OutOfMemory, Sink, Text};
 use xd_group::LinkEnd;
 use xd_journal::Journal;
-use xd_link::Starter;
+use xd_link::{Place, Starter};
 use xd_linked::run_linked;
 use xd_reader::Reader;
 use xd_runner::Runner;
@@ -131,7 +131,7 @@ pub fn xdrun<
             without_run(status, children)
         }
         Plan::Worker => {
-            let end = serve_own(rt, alloc, files, starter, crew, children, runner, clock)?;
+            let end = serve_at(rt, alloc, &Place::Own, files, starter, crew, children, runner, clock)?;
             return Ok(end);
         }
         Plan::BadWords => {

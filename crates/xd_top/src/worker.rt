@@ -1,9 +1,9 @@
-// `worker`: the program's own streams are served as a worker.
+// The commands that serve one link as a worker.
 ghost use Rattle.std.specs.Prelude.{◌≡◌, None, map, IfOk};
 ghost use Rattle.xd_link.specs.Spring.{spring};
 ghost use Rattle.xd_linked.specs.Linked.{ended_link};
 ghost use Rattle.xd_listen.specs.Timing.{ticking};
-ghost use Rattle.xd_top.specs.Worker.{DidWorker};
+ghost use Rattle.xd_top.specs.Worker.{DidServe};
 
 use crate::top::RunEnd;
 use std::alloc::Global;
@@ -16,8 +16,8 @@ use xd_listen::serve;
 use xd_reader::Reader;
 use xd_runner::Runner;
 
-/// Starts a link to the program's own streams and serves it. Where it cannot be started the status is 3.
-pub fn serve_own<
+/// Starts a link to this place and serves it. Where it cannot be started the status is 3.
+pub fn serve_at<
     R: Wait,
     F: Files,
     St: Starter,
@@ -28,6 +28,7 @@ pub fn serve_own<
 >(
     rt: &R,
     alloc: Global,
+    place: &Place,
     files: &mut F,
     starter: St,
     crew: C,
@@ -36,7 +37,7 @@ pub fn serve_own<
     clock: &mut T,
 ) -> Result<RunEnd<St, C, K>, OutOfMemory>
     ensures journal { IfOk result (λ e. e.journal ≡ None) }
-    ensures did { IfOk result (λ e. DidWorker
+    ensures did { IfOk result (λ e. DidServe place.now
         (map (λ l. ended_link l.worker l.killed
         (spring (St.Src.supply l.source) (St.Src.is_ended l.source) (St.Src.faults l.source))
         (St.Snk.sunk l.sink) (St.Snk.faults l.sink)) e.links.items)
@@ -60,7 +61,7 @@ pub fn serve_own<
     let mut crew = crew;
     let mut links = Vec::new(alloc);
     links.reserve(1)?;
-    let link = match starter.start(alloc, &Place::Own) {
+    let link = match starter.start(alloc, place) {
         Ok(link) => link,
         Err(StartFault::Failed) => return Ok(not_started(links, starter, crew, children)),
         Err(StartFault::OutOfMemory) => return Err(OutOfMemory),

@@ -3,8 +3,8 @@ use Rattle.xd_link.specs.Spring.{spring}
 use Rattle.xd_listen.specs.Timing.{ticking}
 use Rattle.xd_top.specs.Outside.{Workplace}
 use Rattle.xd_top.specs.Worker.{scene_at}
-use Rattle.xd_top.proofs.Workers.{links_one, served_own, serves_own}
-use Rattle.xd_top.proofs.worker.serve_own.Goals as goal
+use Rattle.xd_top.proofs.Workers.{links_one, served_link, serves_link}
+use Rattle.xd_top.proofs.worker.serve_at.Goals as goal
 
 pub returns-clause-did : goal.returns-clause-did
 returns-clause-did g c =
@@ -24,8 +24,8 @@ returns-clause-did g c =
       crews = record { readers = g.C.Crew.faults c.serve.new.crew; runners = g.D.Crew.faults c.serve.new.runner };
       clock = ticking (g.T.Clock.moment c.serve.new.clock) (g.T.Clock.coming c.serve.new.clock);
     } in
-    let own = served_own c.in_ok-end.end.status start end (g.St.Snk.Sink.sunk c.in-Ok.link.sink) (g.St.Snk.Sink.faults c.in-Ok.link.sink) old
+    let link = served_link c.in_ok-end.end.status start end (g.St.Snk.Sink.sunk c.in-Ok.link.sink) (g.St.Snk.Sink.faults c.in-Ok.link.sink) old
     (scene_at (g.St.Snk.Sink.sunk c.in_ok-end.end.sink) (g.St.Snk.Sink.faults c.in_ok-end.end.sink) new)
     c.in-Ok.ensures.nothing_given c.in-Ok.ensures.not_ended c.in-Ok.ensures.no_reads c.in-Ok.ensures.nothing_taken c.in-Ok.ensures.no_writes c.in_ok-end.ensures.served in
-    links_one _ _ _ _ _ _ _ (c.in_ok-reserve.ensures.items ∙ c.new-links.ensures.items) c.push_reserved.ensures.items
-    (serves_own _ _ _ _ refl refl own c.in-Ok.ensures.started (c.in-Ok.ensures.counted.still refl))
+    links_one _ _ _ _ _ _ _ _ (c.in_ok-reserve.ensures.items ∙ c.new-links.ensures.items) c.push_reserved.ensures.items
+    (serves_link _ _ _ _ _ refl refl link c.in-Ok.ensures.started (c.in-Ok.ensures.counted.still refl))
