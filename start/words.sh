@@ -17,19 +17,35 @@ commit() {
     git -C "$root" describe --always --dirty 2>/dev/null || echo unknown
 }
 
+# Whether the words look like a command's. The program alone decides: what is missed here runs as well, and is only not
+# put in the script's place.
 have_a_form() {
     case "${1-}" in
-        -* | socketserver) return 1 ;;
-        worker) [ $# -eq 1 ] ;;
-        wire) [ $# -eq 2 ] && [ "${2#-}" = "$2" ] ;;
-        *) [ $# -eq 3 ] && [ "$2" = -n ] && is_count "$3" ;;
+        worker) [ $# -eq 1 ]; return ;;
+        wire | socketserver) [ $# -eq 2 ] && [ "${2#-}" = "$2" ]; return ;;
     esac
+    suites=0
+    while [ $# -gt 0 ]; do
+        case "$1" in
+            -d | -x | --no-loadscope-reorder) ;;
+            -n | --dist | --tx | --maxfail | --max-worker-restart | --maxschedchunk)
+                is_value_of "$1" "${2-}" || return 1
+                shift
+                ;;
+            -*) return 1 ;;
+            *) suites=$((suites + 1)) ;;
+        esac
+        shift
+    done
+    [ "$suites" -eq 1 ]
 }
 
-is_count() {
+is_value_of() {
     case "$1" in
-        [0-9] | [12][0-9] | 3[0-2]) ;;
-        *) return 1 ;;
+        -n) case "$2" in [0-9] | [12][0-9] | 3[0-2]) ;; *) return 1 ;; esac ;;
+        --dist) case "$2" in each | load | loadscope | loadfile | loadgroup | worksteal) ;; *) return 1 ;; esac ;;
+        --tx) [ -n "$2" ] ;;
+        *) case "$2" in '' | *[!0-9]*) return 1 ;; esac ;;
     esac
 }
 
