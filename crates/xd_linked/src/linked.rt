@@ -1,5 +1,5 @@
 // A suite is run on workers.
-ghost use Rattle.std.specs.Prelude.{◌≡◌, ◌≤◌, [], All, true, false, map, length, option_map, vec_len, Ok, IfOk, OnOk, OnErr};
+ghost use Rattle.std.specs.Prelude.{◌≡◌, ◌≤◌, [], true, false, map, length, option_map, vec_len, Ok, IfOk, OnOk, OnErr};
 ghost use Rattle.std.specs.Str.{encode_utf8_all};
 ghost use Rattle.xd_edge.specs.Faults.{Rose};
 ghost use Rattle.xd_link.specs.Spring.{spring};
@@ -8,25 +8,38 @@ ghost use Rattle.xd_ledger.specs.Ending.{stop_of};
 ghost use Rattle.xd_report.specs.Status.{status_of};
 ghost use Rattle.xd_drive.specs.Driven.{IsJournalOf};
 ghost use Rattle.xd_note.specs.Noted.{noted};
-ghost use Rattle.xd_session.specs.Stands.{StandsFor};
-ghost use Rattle.xd_edge.specs.declared.mode.ModeKind.TheVariants.{Load as InModeLoad};
+ghost use Rattle.xd_session.specs.Stands.{CanBegin, StandsFor};
+ghost use Rattle.xd_ledger.specs.State.{no_one};
 ghost use Rattle.std.specs.List.{list_all};
 ghost use Rattle.xd_group.specs.Children.{is_over, told_of};
-ghost use Rattle.xd_linked.specs.Linked.{LinkedRun, RunsLinked, ended_link, linked_settings, own_child};
+ghost use Rattle.xd_linked.specs.Linked.{LinkedRun, RunsLinked, Setup, ended_link};
 
 use std::alloc::Global;
 use std::sync::Wait;
 use xd_crew::Crew;
 use xd_drive::{NoWitness, drive};
-use xd_edge::{Env, ModeKind, OutOfMemory, Sink, Text};
+use xd_edge::{ModeKind, OutOfMemory, Sink, Text};
 use xd_group::{Children, GatewayHub, Group, LinkEnd};
 use xd_journal::{Journal, Settings};
+use xd_ledger::Mode;
 use xd_link::{Place, Starter};
 use xd_links::{Links, join_left};
-use xd_load::Load;
+use xd_load::{Each, Load};
 use xd_reader::Reader;
 use xd_report::status_of;
+use xd_scope::Scope;
 use xd_session::Session;
+use xd_steal::Steal;
+
+/// A suite that is to be run on workers.
+#[derive(Drop)]
+pub struct LinkedSuite {
+    /// The path under which each worker reads the suite.
+    pub path: Text,
+    pub settings: Settings,
+    /// Where the worker of each slot is started.
+    pub places: Vec<Place>,
+}
 
 /// What a run with workers came to.
 #[derive(Drop)]
@@ -40,43 +53,11 @@ pub struct Linked<St: Starter, C: Crew<Reader<St::Src>>> {
     pub crew: C,
 }
 
-// How a run with so many workers goes: in mode load, without a limit of failures, with four new workers for each.
-fn settings_of(workers: u32) -> Settings
-    requires { workers ≤ 32 }
-    ensures { result ≡ linked_settings workers }
-{
-    Settings {
-        mode: ModeKind::Load,
-        workers,
-        maxfail: 0,
-        restarts: 4 * workers,
-        chunk: None,
-        reorder: true,
-    }
-}
-
-// A child of the program for each worker.
-fn places_of(alloc: Global, workers: u32) -> Result<Vec<Place>, OutOfMemory>
-    ensures count { IfOk result (λ places. vec_len places ≡ workers) }
-    ensures own { IfOk result (λ places. All (λ p. p ≡ own_child) places.items) }
-{
-    let mut places = Vec::with_capacity(alloc, workers as usize)?;
-    for _ in 0..workers {
-        places.push(Place::Popen {
-            chdir: None,
-            env: Env {
-                items: Vec::new(alloc),
-            },
-        })?;
-    }
-    Ok(places)
-}
-
 // Drives the session over the hub, and ends its links.
-fn run_over<R: Wait, St: Starter, C: Crew<Reader<St::Src>>, O: Sink>(
+fn run_over<R: Wait, M: Mode, St: Starter, C: Crew<Reader<St::Src>>, O: Sink>(
     rt: &R,
     alloc: Global,
-    session: Session<Load>,
+    session: Session<M>,
     hub: &mut GatewayHub<St, C>,
     out: &mut O,
 ) -> Result<(Journal, Vec<LinkEnd<St::Src, St::Snk>>), OutOfMemory>
@@ -84,10 +65,11 @@ fn run_over<R: Wait, St: Starter, C: Crew<Reader<St::Src>>, O: Sink>(
     requires slots { session.settings.workers ≤ vec_len hub.old.places }
     requires no_calls { noted hub.old.group.diary.calls ≡ [] }
     requires no_news { noted hub.old.group.diary.given ≡ [] }
-    requires mode { hub.old.group.mode ≡ InModeLoad }
-    requires own { All (λ p. p ≡ own_child) hub.old.places.items }
+    requires mode { hub.old.group.mode ≡ session.settings.mode }
     ensures journal { IfOk result (λ r. IsJournalOf session.settings r.0) }
-    ensures runs { IfOk result (λ r. RunsLinked hub.old.group.suite r.0
+    ensures runs { IfOk result (λ r. RunsLinked
+        (record { suite = hub.old.group.suite; settings = session.settings; places = hub.old.places.items })
+        r.0
         (map (λ l. ended_link l.worker l.killed (spring (St.Src.supply l.source) (St.Src.is_ended l.source) (St.Src.faults l.source)) (St.Snk.sunk l.sink) (St.Snk.faults l.sink)) r.1.items)
         (record {
           begun = option_map told_of (St.begun hub.old.children.first.value);
@@ -149,20 +131,21 @@ fn end_of<St: Starter, C: Crew<Reader<St::Src>>>(
     })
 }
 
-/// Runs a suite on so many workers, and prints its report as the results come.
+/// Runs a suite on workers in the mode of its settings, and prints its report as the results come.
 pub fn run_linked<R: Wait, St: Starter, C: Crew<Reader<St::Src>>, O: Sink>(
     rt: &R,
     alloc: Global,
-    suite: &Text,
-    workers: u32,
+    suite: LinkedSuite,
     starter: St,
     crew: C,
     out: &mut O,
 ) -> Result<Linked<St, C>, OutOfMemory>
-    requires some { 1 ≤ workers }
-    requires few { workers ≤ 32 }
-    requires short { length (encode_utf8_all suite.now) ≤ 65536 }
-    ensures ran { IfOk result (λ e. LinkedRun suite.now workers e.journal e.status
+    requires settings { CanBegin suite.settings }
+    requires slots { suite.settings.workers ≤ vec_len suite.places }
+    requires short { length (encode_utf8_all suite.path) ≤ 65536 }
+    ensures ran { IfOk result (λ e. LinkedRun
+        (record { suite = suite.path; settings = suite.settings; places = suite.places.items })
+        e.journal e.status
         (map (λ l. ended_link l.worker l.killed (spring (St.Src.supply l.source) (St.Src.is_ended l.source) (St.Src.faults l.source)) (St.Snk.sunk l.sink) (St.Snk.faults l.sink)) e.links.items)
         (record {
           begun = option_map told_of (St.begun starter);
@@ -180,10 +163,59 @@ pub fn run_linked<R: Wait, St: Starter, C: Crew<Reader<St::Src>>, O: Sink>(
         })) }
     ensures later { O.faults out.old ≤ O.faults out.new }
 {
-    let places = places_of(alloc, workers)?;
-    let session = Session::new(alloc, settings_of(workers), Load::new(None))?;
-    let path = suite.copy()?;
-    let mut hub = GatewayHub::new(alloc, places, path, ModeKind::Load, starter, crew)?;
+    let Settings { mode, chunk, reorder, .. } = suite.settings;
+    match mode {
+        ModeKind::Local => unreachable!(),
+        ModeKind::Each => run_in(rt, alloc, suite, Each::new(), starter, crew, out),
+        ModeKind::Load => run_in(rt, alloc, suite, Load::new(chunk), starter, crew, out),
+        ModeKind::LoadScope | ModeKind::LoadFile | ModeKind::LoadGroup => {
+            run_in(rt, alloc, suite, Scope::new(alloc, mode, reorder), starter, crew, out)
+        }
+        ModeKind::WorkSteal => run_in(rt, alloc, suite, Steal::new(), starter, crew, out),
+    }
+}
+
+// Runs a suite on workers in this mode.
+fn run_in<R: Wait, M: Mode, St: Starter, C: Crew<Reader<St::Src>>, O: Sink>(
+    rt: &R,
+    alloc: Global,
+    suite: LinkedSuite,
+    mode: M,
+    starter: St,
+    crew: C,
+    out: &mut O,
+) -> Result<Linked<St, C>, OutOfMemory>
+    requires settings { CanBegin suite.settings }
+    requires fresh { M.stands mode (no_one suite.settings).plan }
+    requires slots { suite.settings.workers ≤ vec_len suite.places }
+    requires short { length (encode_utf8_all suite.path) ≤ 65536 }
+    ensures ran { IfOk result (λ e. LinkedRun
+        (record { suite = suite.path; settings = suite.settings; places = suite.places.items })
+        e.journal e.status
+        (map (λ l. ended_link l.worker l.killed (spring (St.Src.supply l.source) (St.Src.is_ended l.source) (St.Src.faults l.source)) (St.Snk.sunk l.sink) (St.Snk.faults l.sink)) e.links.items)
+        (record {
+          begun = option_map told_of (St.begun starter);
+          starter_faults = St.faults starter;
+          crew_faults = C.faults crew;
+          sunk = O.sunk out.old;
+          out_faults = O.faults out.old;
+        })
+        (record {
+          begun = option_map told_of (St.begun e.starter);
+          starter_faults = St.faults e.starter;
+          crew_faults = C.faults e.crew;
+          sunk = O.sunk out.new;
+          out_faults = O.faults out.new;
+        })) }
+    ensures later { O.faults out.old ≤ O.faults out.new }
+{
+    let LinkedSuite {
+        path,
+        settings,
+        places,
+    } = suite;
+    let session = Session::new(alloc, settings, mode)?;
+    let mut hub = GatewayHub::new(alloc, places, path, settings.mode, starter, crew)?;
     let ended = run_over(rt, alloc, session, &mut hub, out);
     end_workers(rt, &mut hub, &ended);
     let GatewayHub {
