@@ -7,7 +7,6 @@ use Rattle.std.proofs.Common.{◌≡◌, ℕ, List, [], ◌++◌, map, true, fal
 use Rattle.xd_edge.specs.Faults.{Rose, RoseBy}
 use Rattle.xd_edge.specs.Sink.{Sunk}
 use Rattle.xd_edge.specs.declared.mode.ModeKind.{ModeKind}
-use Rattle.xd_edge.specs.declared.mode.ModeKind.TheVariants.{Load}
 use Rattle.xd_link.specs.Starter.{Begun}
 use Rattle.xd_link.specs.declared.place.Place.{Place}
 use Rattle.xd_link.specs.declared.starter.StartRun.{StartRun}
@@ -30,7 +29,7 @@ use Rattle.xd_group.specs.Returned.{RanSo, end_told}
 use Rattle.xd_group.specs.Tells.{marks_told, workers_started}
 use Rattle.xd_group.specs.Unsaid.{SaidUnlinked}
 use Rattle.xd_group.specs.declared.fate.Fate.{Fate}
-use Rattle.xd_linked.specs.Linked.{DrivesTo, EndedLink, LinkedRun, Seen, RunsLinked, linked_settings, own_child, scene_told}
+use Rattle.xd_linked.specs.Linked.{DrivesTo, EndedLink, LinkedRun, Seen, RunsLinked, own_child, scene_told}
 
 -- a hub that was called for nothing and gave nothing has marked no worker
 pub unmarked : (calls : List Entry) (given : List News) → calls ≡ [] → given ≡ [] → (w : ℕ) → marks_told calls given w ≡ no_marks
@@ -57,7 +56,7 @@ begun_from (Some b) now more asked e = e
 -- a run by what the hub took and gave and what its links left
 pub runs_linked : {A : Type 0} (seen : A → EndedLink) (ends : List A) (suite now : List ℕ) (mode : ModeKind) (j : Journal) (calls : List Entry) (given : List News) (workers : List ℕ) (fates : List Fate) (places : List Place)
     (first : Option Begun) (last : Option Told) (starter_old starter_new crew_old crew_new out_old out_new : ℕ) (s0 s1 : Option Sunk)
-    → now ≡ suite → mode ≡ Load → workers ≡ workers_started calls → All (λ p. p ≡ own_child) places → DrivesTo j calls given s0 s1
+    → now ≡ suite → mode ≡ j.settings.mode → workers ≡ workers_started calls → All (λ p. p ≡ own_child) places → DrivesTo j calls given s0 s1
     → map (λ a. (seen a).worker) ends ≡ workers_with has_link workers fates
     → All (λ a. ∥ RanSo now mode given calls (workers_with is_refused workers fates) (seen a).worker (seen a).link ∥₁) ends
     → last ≡ option_map (λ b. record { starts = b.starts ++ all_started places (starts_of calls) fates; links = map asked_of b.links ++ map (λ a. end_told (seen a).killed) ends }) first
@@ -65,15 +64,15 @@ pub runs_linked : {A : Type 0} (seen : A → EndedLink) (ends : List A) (suite n
     → ((w : ℕ) → is_among w (workers_with is_linked workers fates) ≡ false → ∥ SaidUnlinked given w ∥₁)
     → RoseFor (count_with is_refused fates) crew_old crew_new → RoseBy (count_with is_unlinked fates) starter_old starter_new
     → RunsLinked suite j (map seen ends) (record { begun = option_map told_of first; starter_faults = starter_old; crew_faults = crew_old; sunk = s0; out_faults = out_old }) (record { begun = last; starter_faults = starter_new; crew_faults = crew_new; sunk = s1; out_faults = out_new })
-runs_linked {A} seen ends suite now mode j calls given workers fates places first last starter_old starter_new crew_old crew_new out_old out_new s0 s1 same load listed own drives all each begun killed unlinked refused failed = record {
+runs_linked {A} seen ends suite now mode j calls given workers fates places first last starter_old starter_new crew_old crew_new out_old out_new s0 s1 same kind listed own drives all each begun killed unlinked refused failed = record {
   calls = calls;
   given = given;
   fates = fates;
   drives = drives;
   all = map-map (λ l. l.worker) seen ends ∙ (all ∙ ap (λ (ws : List ℕ). workers_with has_link ws fates) listed);
-  each = All-map (λ l. ∥ RanSo suite Load given calls (workers_with is_refused (workers_started calls) fates) l.worker l.link ∥₁) seen ends
-      (subst (λ (ws : List ℕ). All (λ a. ∥ RanSo suite Load given calls (workers_with is_refused ws fates) (seen a).worker (seen a).link ∥₁) ends) listed
-      (subst (λ (k : ModeKind). All (λ a. ∥ RanSo suite k given calls (workers_with is_refused workers fates) (seen a).worker (seen a).link ∥₁) ends) load
+  each = All-map (λ l. ∥ RanSo suite j.settings.mode given calls (workers_with is_refused (workers_started calls) fates) l.worker l.link ∥₁) seen ends
+      (subst (λ (ws : List ℕ). All (λ a. ∥ RanSo suite j.settings.mode given calls (workers_with is_refused ws fates) (seen a).worker (seen a).link ∥₁) ends) listed
+      (subst (λ (k : ModeKind). All (λ a. ∥ RanSo suite k given calls (workers_with is_refused workers fates) (seen a).worker (seen a).link ∥₁) ends) kind
       (subst (λ (l : List ℕ). All (λ a. ∥ RanSo l mode given calls (workers_with is_refused workers fates) (seen a).worker (seen a).link ∥₁) ends) same each)));
   begun = (
     places,
@@ -95,12 +94,12 @@ pub seen_as : {Ends E H : Type 0} (ended : Result (Journal × Ends) E) (seen : E
 seen_as {H = H} (Ok r) seen now old f before after same runs = subst (λ (h : H). RunsLinked now r.0 (seen r.1) old (f h)) (sym same) runs
 seen_as (Err e) seen now old f before after same runs = tt
 
-pub linked_run : {Ends E : Type 0} (ended : Result (Journal × Ends) E) (seen : Ends → List EndedLink) (now suite : List ℕ) (workers : ℕ) (settings : Settings) (old new : Seen) (j : Journal) (ends : Ends) (code : ℕ)
-    → now ≡ suite → settings ≡ linked_settings workers → ended ≡ Ok (j, ends) → code ≡ status_of j
+pub linked_run : {Ends E : Type 0} (ended : Result (Journal × Ends) E) (seen : Ends → List EndedLink) (now suite : List ℕ) (run settings : Settings) (old new : Seen) (j : Journal) (ends : Ends) (code : ℕ)
+    → now ≡ suite → settings ≡ run → ended ≡ Ok (j, ends) → code ≡ status_of j
     → IfOk ended (λ r. IsJournalOf settings r.0) → IfOk ended (λ r. RunsLinked now r.0 (seen r.1) old new)
     → IfOk ended (λ r. is_out_fault (stop_of r.0) ≡ true → Rose old.out_faults new.out_faults) → IfOk ended (λ r. is_out_fault (stop_of r.0) ≡ false → new.out_faults ≡ old.out_faults)
-    → LinkedRun suite workers j code (seen ends) old new
-linked_run {Ends} {E} ended seen now suite workers settings old new j ends code same set e status journal runs rose still = record {
+    → LinkedRun suite run j code (seen ends) old new
+linked_run {Ends} {E} ended seen now suite run settings old new j ends code same set e status journal runs rose still = record {
   journal = subst (λ (s : Settings). IsJournalOf s j) set (IfOk-at_ok (λ (r : Journal × Ends). IsJournalOf settings r.0) e journal);
   status = status;
   runs = subst (λ (l : List ℕ). RunsLinked l j (seen ends) old new) same (IfOk-at_ok (λ (r : Journal × Ends). RunsLinked now r.0 (seen r.1) old new) e runs);

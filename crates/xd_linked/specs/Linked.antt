@@ -1,7 +1,8 @@
 -- A run with workers.
-use Rattle.std.specs.Prelude.{◌≡◌, ℕ, ◌++◌, ◌*◌, Bool, true, false, List, [], All, map, Option, Some, None, option_map}
+use Rattle.std.specs.Prelude.{◌≡◌, ℕ, ◌++◌, Bool, true, false, List, [], All, map, Option, Some, None, option_map}
 use Rattle.xd_edge.specs.Faults.{Rose, RoseBy}
 use Rattle.xd_edge.specs.Sink.{Sunk}
+use Rattle.xd_edge.specs.declared.mode.ModeKind.{ModeKind}
 use Rattle.xd_edge.specs.declared.mode.ModeKind.TheVariants.{Load}
 use Rattle.xd_link.specs.Spring.{Spring}
 use Rattle.xd_link.specs.declared.place.Place.{Place}
@@ -27,10 +28,10 @@ use Rattle.xd_group.specs.Tells.{marks_told, workers_started}
 use Rattle.xd_group.specs.Unsaid.{SaidUnlinked}
 use Rattle.xd_group.specs.declared.fate.Fate.{Fate}
 
--- a run with so many workers, in mode load, with no limit of failures and four new workers for each (the number of
--- restarts is pytest-xdist's default)
-abbrev pub linked_settings : ℕ → Settings
-linked_settings workers = record { mode = Load; workers = workers; maxfail = 0; restarts = 4 * workers; chunk = None; reorder = true }
+-- the modes that a run on workers can be in
+abbrev pub has_mode : ModeKind → Bool
+has_mode Load = true
+has_mode _ = false
 
 -- what is seen of a hub that took these calls and gave these news, and of the output
 abbrev pub scene_told : List Entry → List News → Option Sunk → Scene
@@ -68,7 +69,7 @@ own_child = Popen None []
 abbrev pub AddsBegun : List Entry → List Fate → List EndedLink → Option Told → Option Told → Type 0
 AddsBegun calls fates links old new = (places : List Place) × (All (λ p. p ≡ own_child) places) × (new ≡ option_map (λ b. record { starts = b.starts ++ all_started places (starts_of calls) fates; links = b.links ++ map (λ l. end_told l.killed) links }) old)
 
--- A run with workers on a suite: what the hub took and gave made the journal and its report. Each start of a worker has a fate:
+-- A run with workers on a suite, in the mode of its settings: what the hub took and gave made the journal and its report. Each start of a worker has a fate:
 -- no link, a link whose reader was refused, or a link that was read. The links are those of the starts, in order; each that was
 -- read gave its worker's news and took its worker's orders, from its start to its end, and each other one was not used.
 pub record RunsLinked (suite : List ℕ) (j : Journal) (links : List EndedLink) (old new : Seen) : Type 0 where
@@ -77,16 +78,16 @@ pub record RunsLinked (suite : List ℕ) (j : Journal) (links : List EndedLink) 
   pub fates : List Fate
   pub drives : DrivesTo j calls given old.sunk new.sunk
   pub all : map (λ l. l.worker) links ≡ workers_with has_link (workers_started calls) fates
-  pub each : All (λ l. ∥ RanSo suite Load given calls (workers_with is_refused (workers_started calls) fates) l.worker l.link ∥₁) links
+  pub each : All (λ l. ∥ RanSo suite j.settings.mode given calls (workers_with is_refused (workers_started calls) fates) l.worker l.link ∥₁) links
   pub begun : AddsBegun calls fates links old.begun new.begun
   pub killed : All (λ l. ∥ EndKilledSo calls (workers_with is_refused (workers_started calls) fates) l.worker l.killed l.link.writes ∥₁) links
   pub unlinked : (w : ℕ) → is_among w (workers_with is_linked (workers_started calls) fates) ≡ false → ∥ SaidUnlinked given w ∥₁
   pub few_refused : RoseFor (count_with is_refused fates) old.crew_faults new.crew_faults
   pub few_unlinked : RoseBy (count_with is_unlinked fates) old.starter_faults new.starter_faults
 
--- A run of a suite on so many workers: its journal, its exit status, its links, and the outside.
-pub record LinkedRun (suite : List ℕ) (workers : ℕ) (j : Journal) (code : ℕ) (links : List EndedLink) (old new : Seen) : Type 0 where
-  pub journal : IsJournalOf (linked_settings workers) j
+-- A run of a suite on workers by these settings: its journal, its exit status, its links, and the outside.
+pub record LinkedRun (suite : List ℕ) (run : Settings) (j : Journal) (code : ℕ) (links : List EndedLink) (old new : Seen) : Type 0 where
+  pub journal : IsJournalOf run j
   pub status : code ≡ status_of j
   pub runs : RunsLinked suite j links old new
   pub out_fault : is_out_fault (stop_of j) ≡ true → Rose old.out_faults new.out_faults

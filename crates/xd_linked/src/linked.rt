@@ -8,11 +8,11 @@ ghost use Rattle.xd_ledger.specs.Ending.{stop_of};
 ghost use Rattle.xd_report.specs.Status.{status_of};
 ghost use Rattle.xd_drive.specs.Driven.{IsJournalOf};
 ghost use Rattle.xd_note.specs.Noted.{noted};
-ghost use Rattle.xd_session.specs.Stands.{StandsFor};
-ghost use Rattle.xd_edge.specs.declared.mode.ModeKind.TheVariants.{Load as InModeLoad};
+ghost use Rattle.xd_session.specs.Stands.{CanBegin, StandsFor};
+ghost use Rattle.xd_ledger.specs.State.{no_one};
 ghost use Rattle.std.specs.List.{list_all};
 ghost use Rattle.xd_group.specs.Children.{is_over, told_of};
-ghost use Rattle.xd_linked.specs.Linked.{LinkedRun, RunsLinked, ended_link, linked_settings, own_child};
+ghost use Rattle.xd_linked.specs.Linked.{LinkedRun, RunsLinked, ended_link, has_mode, own_child};
 
 use std::alloc::Global;
 use std::sync::Wait;
@@ -21,6 +21,7 @@ use xd_drive::{NoWitness, drive};
 use xd_edge::{Env, ModeKind, OutOfMemory, Sink, Text};
 use xd_group::{Children, GatewayHub, Group, LinkEnd};
 use xd_journal::{Journal, Settings};
+use xd_ledger::Mode;
 use xd_link::{Place, Starter};
 use xd_links::{Links, join_left};
 use xd_load::Load;
@@ -38,21 +39,6 @@ pub struct Linked<St: Starter, C: Crew<Reader<St::Src>>> {
     pub links: Vec<LinkEnd<St::Src, St::Snk>>,
     pub starter: St,
     pub crew: C,
-}
-
-// How a run with so many workers goes: in mode load, without a limit of failures, with four new workers for each.
-fn settings_of(workers: u32) -> Settings
-    requires { workers ≤ 32 }
-    ensures { result ≡ linked_settings workers }
-{
-    Settings {
-        mode: ModeKind::Load,
-        workers,
-        maxfail: 0,
-        restarts: 4 * workers,
-        chunk: None,
-        reorder: true,
-    }
 }
 
 // A child of the program for each worker.
@@ -73,10 +59,10 @@ fn places_of(alloc: Global, workers: u32) -> Result<Vec<Place>, OutOfMemory>
 }
 
 // Drives the session over the hub, and ends its links.
-fn run_over<R: Wait, St: Starter, C: Crew<Reader<St::Src>>, O: Sink>(
+fn run_over<R: Wait, M: Mode, St: Starter, C: Crew<Reader<St::Src>>, O: Sink>(
     rt: &R,
     alloc: Global,
-    session: Session<Load>,
+    session: Session<M>,
     hub: &mut GatewayHub<St, C>,
     out: &mut O,
 ) -> Result<(Journal, Vec<LinkEnd<St::Src, St::Snk>>), OutOfMemory>
@@ -84,7 +70,7 @@ fn run_over<R: Wait, St: Starter, C: Crew<Reader<St::Src>>, O: Sink>(
     requires slots { session.settings.workers ≤ vec_len hub.old.places }
     requires no_calls { noted hub.old.group.diary.calls ≡ [] }
     requires no_news { noted hub.old.group.diary.given ≡ [] }
-    requires mode { hub.old.group.mode ≡ InModeLoad }
+    requires mode { hub.old.group.mode ≡ session.settings.mode }
     requires own { All (λ p. p ≡ own_child) hub.old.places.items }
     ensures journal { IfOk result (λ r. IsJournalOf session.settings r.0) }
     ensures runs { IfOk result (λ r. RunsLinked hub.old.group.suite r.0
@@ -149,20 +135,21 @@ fn end_of<St: Starter, C: Crew<Reader<St::Src>>>(
     })
 }
 
-/// Runs a suite on so many workers, and prints its report as the results come.
-pub fn run_linked<R: Wait, St: Starter, C: Crew<Reader<St::Src>>, O: Sink>(
+// Runs a suite on workers in this mode.
+fn run_in<R: Wait, M: Mode, St: Starter, C: Crew<Reader<St::Src>>, O: Sink>(
     rt: &R,
     alloc: Global,
     suite: &Text,
-    workers: u32,
+    settings: Settings,
+    mode: M,
     starter: St,
     crew: C,
     out: &mut O,
 ) -> Result<Linked<St, C>, OutOfMemory>
-    requires some { 1 ≤ workers }
-    requires few { workers ≤ 32 }
+    requires settings { CanBegin settings }
+    requires fresh { M.stands mode (no_one settings).plan }
     requires short { length (encode_utf8_all suite.now) ≤ 65536 }
-    ensures ran { IfOk result (λ e. LinkedRun suite.now workers e.journal e.status
+    ensures ran { IfOk result (λ e. LinkedRun suite.now settings e.journal e.status
         (map (λ l. ended_link l.worker l.killed (spring (St.Src.supply l.source) (St.Src.is_ended l.source) (St.Src.faults l.source)) (St.Snk.sunk l.sink) (St.Snk.faults l.sink)) e.links.items)
         (record {
           begun = option_map told_of (St.begun starter);
@@ -180,10 +167,10 @@ pub fn run_linked<R: Wait, St: Starter, C: Crew<Reader<St::Src>>, O: Sink>(
         })) }
     ensures later { O.faults out.old ≤ O.faults out.new }
 {
-    let places = places_of(alloc, workers)?;
-    let session = Session::new(alloc, settings_of(workers), Load::new(None))?;
+    let places = places_of(alloc, settings.workers)?;
+    let session = Session::new(alloc, settings, mode)?;
     let path = suite.copy()?;
-    let mut hub = GatewayHub::new(alloc, places, path, ModeKind::Load, starter, crew)?;
+    let mut hub = GatewayHub::new(alloc, places, path, settings.mode, starter, crew)?;
     let ended = run_over(rt, alloc, session, &mut hub, out);
     end_workers(rt, &mut hub, &ended);
     let GatewayHub {
@@ -215,4 +202,44 @@ pub fn run_linked<R: Wait, St: Starter, C: Crew<Reader<St::Src>>, O: Sink>(
     } = links;
     join_left(rt, &mut crew, &mut desk, handles, &mut going);
     end_of(alloc, ended, starter, crew)
+}
+
+/// Runs a suite on workers by these settings, and prints its report as the results come.
+pub fn run_linked<R: Wait, St: Starter, C: Crew<Reader<St::Src>>, O: Sink>(
+    rt: &R,
+    alloc: Global,
+    suite: &Text,
+    settings: Settings,
+    starter: St,
+    crew: C,
+    out: &mut O,
+) -> Result<Linked<St, C>, OutOfMemory>
+    requires settings { CanBegin settings }
+    requires mode { has_mode settings.mode ≡ true }
+    requires short { length (encode_utf8_all suite.now) ≤ 65536 }
+    ensures ran { IfOk result (λ e. LinkedRun suite.now settings e.journal e.status
+        (map (λ l. ended_link l.worker l.killed (spring (St.Src.supply l.source) (St.Src.is_ended l.source) (St.Src.faults l.source)) (St.Snk.sunk l.sink) (St.Snk.faults l.sink)) e.links.items)
+        (record {
+          begun = option_map told_of (St.begun starter);
+          starter_faults = St.faults starter;
+          crew_faults = C.faults crew;
+          sunk = O.sunk out.old;
+          out_faults = O.faults out.old;
+        })
+        (record {
+          begun = option_map told_of (St.begun e.starter);
+          starter_faults = St.faults e.starter;
+          crew_faults = C.faults e.crew;
+          sunk = O.sunk out.new;
+          out_faults = O.faults out.new;
+        })) }
+    ensures later { O.faults out.old ≤ O.faults out.new }
+{
+    match settings.mode {
+        ModeKind::Load => {
+            let mode = Load::new(settings.chunk);
+            run_in(rt, alloc, suite, settings, mode, starter, crew, out)
+        }
+        _ => unreachable!(),
+    }
 }

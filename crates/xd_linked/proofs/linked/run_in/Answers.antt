@@ -1,16 +1,11 @@
-use Rattle.std.proofs.Common.{◌∙◌, ap, refl, map}
+use Rattle.std.proofs.Common.{◌∙◌, map}
 use Rattle.std.specs.Prelude.{option_map}
 use Rattle.xd_group.specs.Children.{told_of}
-use Rattle.xd_journal.specs.declared.settings.Settings.{Settings}
 use Rattle.xd_link.specs.Spring.{spring}
 use Rattle.xd_linked.specs.Linked.{ended_link}
 use Rattle.xd_linked.proofs.Facts.{by_four}
 use Rattle.xd_linked.proofs.Linking.{linked_run, seen_as}
-use Rattle.xd_linked.proofs.linked.run_linked.Goals as goal
-
-pub new-requires-2-clause-fresh : goal.new-requires-2-clause-fresh
-new-requires-2-clause-fresh g c =
-    c.new.ensures _ (ap (λ (s : Settings). s.mode) c.settings_of.ensures) (ap (λ (s : Settings). s.chunk) c.settings_of.ensures) refl refl
+use Rattle.xd_linked.proofs.linked.run_in.Goals as goal
 
 pub returns-clause-ran : goal.returns-clause-ran
 returns-clause-ran g c =
@@ -19,8 +14,8 @@ returns-clause-ran g c =
     by_four c.end_of.result c.end_of.ensures.ended c.end_of.ensures.status c.end_of.ensures.starter c.end_of.ensures.crew
     (λ e ended status starter crew. linked_run c.run_over-ended.result
     (λ links. map (λ l. ended_link l.worker l.killed (spring (g.St.Src.Source.supply l.source) (g.St.Src.Source.is_ended l.source) (g.St.Src.Source.faults l.source)) (g.St.Snk.Sink.sunk l.sink) (g.St.Snk.Sink.faults l.sink)) links.items)
-    c.in_ok-hub.hub.group.suite c.args.suite.now c.args.workers c.in_ok-session.session.settings _ _ e.journal e.links e.status
-    (hub.suite ∙ c.in_ok-path.ensures) (c.in_ok-session.ensures.settings ∙ c.settings_of.ensures) ended status
+    c.in_ok-hub.hub.group.suite c.args.suite.now c.args.settings c.in_ok-session.session.settings _ _ e.journal e.links e.status
+    (hub.suite ∙ c.in_ok-path.ensures) c.in_ok-session.ensures.settings ended status
     run.journal
     (rw (starter, crew, c.join_left.ensures) (seen_as c.run_over-ended.result _ c.in_ok-hub.hub.group.suite _
     (λ h. record {

@@ -1,4 +1,5 @@
-use Rattle.std.proofs.Common.{◌∙◌, ap}
+use Rattle.std.proofs.Common.{◌∙◌, ap, sym}
+use Rattle.xd_journal.specs.declared.settings.Settings.{Settings}
 use Rattle.xd_link.specs.Spring.{spring}
 use Rattle.xd_note.specs.Noted.{noted}
 use Rattle.xd_group.specs.declared.group.LinkEnd.{LinkEnd}
@@ -19,7 +20,7 @@ returns-clause-runs g c =
     let crew = ap (λ p. p.4.value) made in
     runs_linked seen c.in_ok-links.links.items was.group.suite now.group.suite now.group.mode c.in_ok-journal.journal calls given now.group.diary.workers.items now.group.diary.fates.items now.places.items
     _ _ _ _ _ _ _ _ _ _
-    (ap (λ p. p.0) made) (ap (λ p. p.1) made ∙ c.requires.mode) done.listed (rw (ap (λ p. p.2) made) c.requires.own)
+    (ap (λ p. p.0) made) (ap (λ p. p.1) made ∙ (c.requires.mode ∙ sym (ap (λ (s : Settings). s.mode) c.in_ok-journal.ensures.journal.settings))) done.listed (rw (ap (λ p. p.2) made) c.requires.own)
     (record {
       whole = λ e. whole_from c.in_ok-journal.journal (noted was.group.diary.calls) calls (noted was.group.diary.given) given _ _ c.requires.no_calls c.requires.no_news (c.in_ok-journal.ensures.whole e);
       broken = λ e. let b = c.in_ok-journal.ensures.broken e in broken_from c.in_ok-journal.journal (noted was.group.diary.calls) calls (noted was.group.diary.given) given _ _ c.requires.no_calls c.requires.no_news (b.0, b.1, b.2);
