@@ -5,6 +5,7 @@ mod child;
 mod local;
 mod named;
 mod refusal;
+mod settings;
 mod top;
 mod wire;
 mod words;

@@ -8,6 +8,7 @@ ghost use Rattle.xd_top.specs.Words.{has_links, plan_of};
 
 use crate::named::{LocalEnd, run_named};
 use crate::refusal::{Refusal, refuse};
+use crate::settings::settings_on;
 use crate::wire::print_named;
 use crate::words::{Plan, plan_of};
 use crate::worker::serve_at;
@@ -116,7 +117,7 @@ pub fn xdrun<
     let end = match plan_of(words)? {
         Plan::Local { suite } => { run_named(rt, alloc, &suite, files, children, clock, out, err)? }
         Plan::Linked { suite, workers } => {
-            let end = run_linked(rt, alloc, &suite, workers, starter, crew, out)?;
+            let end = run_linked(rt, alloc, &suite, settings_on(workers), starter, crew, out)?;
             return Ok(RunEnd {
                 status: end.status,
                 journal: Some(end.journal),
