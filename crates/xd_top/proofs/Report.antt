@@ -1,12 +1,10 @@
 -- The report of a run, with its tail.
-use Rattle.std.proofs.Common.{◌≡◌, ℕ, inl, inr, Bool, true, false, List, ◌++◌, length, Option, refl, sym, ◌∙◌, ap, subst}
-use Rattle.xd_edge.specs.Children.{ChildRun}
+use Rattle.std.proofs.Common.{◌≡◌, ℕ, inl, inr, Bool, true, false, List, ◌++◌, Option, refl, sym, ◌∙◌, ap, subst}
 use Rattle.xd_edge.specs.Sink.{Sunk, PrintedPart}
 use Rattle.xd_edge.proofs.PrintLemmas.{broken-part, printed_is_part, shows-all}
 use Rattle.xd_edge.proofs.SinkLemmas.{printed_part_of_more}
 use Rattle.xd_suite.specs.declared.test.Test.{Test}
 use Rattle.xd_journal.specs.declared.entry.Entry.{Entry}
-use Rattle.xd_journal.specs.declared.journal.Journal.{Journal}
 use Rattle.xd_journal.specs.declared.settings.Settings.{Settings}
 use Rattle.xd_ledger.specs.State.{all_moved, no_one}
 use Rattle.xd_report.specs.Lines.{lines_from, run_lines}
@@ -15,29 +13,27 @@ use Rattle.xd_report.specs.Breaking.{BrokeAtEnd}
 use Rattle.xd_report.specs.Printing.{ShowsEnd}
 use Rattle.xd_report.proofs.Prints.{shows-end}
 use Rattle.xd_report.proofs.Texts.{lines-more}
-use Rattle.xd_top.specs.Local.{RanAll, RanPrinted, ShowsReport}
 use Rattle.xd_top.specs.Print.{AtStep, FailedAt}
+use Rattle.xd_top.specs.Running.{HasEnded, RanAll, RanPrinted, Scene, ShowsReport}
 
-module _ (tests : List Test) (ids : List (List ℕ)) (j : Journal) (runs0 runs1 : Option (List ChildRun)) (faults0 faults1 : ℕ) (out0 out1 : Option Sunk) where
-  abbrev lines : List ℕ
-  lines = run_lines j.settings j.entries.items
-
-  pub not_ran : RanAll false tests ids j runs0 runs1 faults0 faults1 out0 out1 → RanPrinted false tests ids j runs0 runs1 faults0 faults1 out0 out1
-  not_ran ran = record {
+module _ (tests : List Test) (old : Scene) where
+  pub not_ran : (new : Scene) → RanAll false tests old new → RanPrinted false tests old new
+  not_ran new ran = record {
     results = ran.results;
     so_far = ran.so_far;
-    within = ran.within;
     all = ran.all;
     shows = inl ran.shows;
+    told = ran.told;
   }
 
-  pub printed : (shown : Bool) (out2 : Option Sunk) → RanAll true tests ids j runs0 runs1 faults0 faults1 out0 out1 → ShowsEnd shown (tail_text j) out1 out2 → RanPrinted shown tests ids j runs0 runs1 faults0 faults1 out0 out2
-  printed shown out2 ran shows = record { results = ran.results; so_far = ran.so_far; within = ran.within; all = λ is. ran.all refl; shows = both shown shows }
+  -- the tail goes to the output, and leaves the run as it was
+  pub printed : (shown : Bool) (mid : Scene) (out : Option Sunk) → RanAll true tests old mid → ShowsEnd shown (tail_text mid.run.journal) mid.sunk out → RanPrinted shown tests old (record { run = mid.run; sunk = out })
+  printed shown mid out ran shows = record { results = ran.results; so_far = ran.so_far; all = λ is. ran.all refl; shows = both shown shows; told = λ is. ran.told refl }
     where
-      both : (b : Bool) → ShowsEnd b (tail_text j) out1 out2 → ShowsReport b (length ran.results ≡ length tests) j out0 out2
-      both true tail = shows-end lines (tail_text j) out0 out1 out2 ran.shows tail
-      both false (inl tail) = inr (record { all = ran.all refl; shows = inl (out1, ran.shows, tail) })
-      both false (inr tail) = inr (record { all = ran.all refl; shows = inr (shows-all lines (tail_text j) out0 out1 out2 ran.shows tail) })
+      both : (b : Bool) → ShowsEnd b (tail_text mid.run.journal) mid.sunk out → ShowsReport b (HasEnded old.run.journal.settings.maxfail tests ran.results) mid.run.journal old.sunk out
+      both true tail = shows-end (run_lines mid.run.journal.settings mid.run.journal.entries.items) (tail_text mid.run.journal) old.sunk mid.sunk out ran.shows tail
+      both false (inl tail) = inr (record { all = ran.all refl; shows = inl (mid.sunk, ran.shows, tail) })
+      both false (inr tail) = inr (record { all = ran.all refl; shows = inr (shows-all (run_lines mid.run.journal.settings mid.run.journal.entries.items) (tail_text mid.run.journal) old.sunk mid.sunk out ran.shows tail) })
 
 module _ (settings : Settings) (es : List Entry) (old new : Option Sunk) where
   step_part : AtStep settings es old new → PrintedPart (run_lines settings es) old new

@@ -5,29 +5,37 @@ use Rattle.std.proofs.lemmas.List.Sums.{sum_by-append}
 use Rattle.std.proofs.lemmas.Bool.Decides.{nat_tests}
 use Rattle.std.proofs.lemmas.Grind.{common_steps}
 use Rattle.std.specs.List.{list_all}
-use Rattle.std.specs.Prelude.{nat_le, unwrap_or}
+use Rattle.std.specs.Prelude.{is_some, nat_le, unwrap_or}
 use Rattle.xd_edge.specs.Children.{ChildRun, AddsRun}
 use Rattle.xd_edge.specs.Faults.{RoseBy}
 use Rattle.xd_edge.specs.Printing.{ShowsSome}
-use Rattle.xd_edge.specs.Sink.{Sunk, TookPart}
+use Rattle.xd_edge.specs.Sink.{TookPart}
 use Rattle.xd_edge.proofs.PrintLemmas.{shows-more}
 use Rattle.xd_suite.specs.declared.test.Test.{Test}
 use Rattle.xd_suite.specs.Tests.{run_at}
 use Rattle.xd_journal.specs.declared.entry.Entry.{Entry}
+use Rattle.xd_journal.specs.declared.entry.Entry.TheVariants.{Collected}
+use Rattle.xd_journal.specs.declared.entry.Ids.TheVariants.{List as Listed}
 use Rattle.xd_journal.specs.declared.entry.Outcome.{Outcome}
 use Rattle.xd_journal.specs.declared.entry.Outcome.TheVariants.{Passed, Skipped, Failed}
 use Rattle.xd_journal.specs.declared.journal.Journal.{Journal}
 use Rattle.xd_journal.specs.declared.settings.Settings.{Settings}
 use Rattle.xd_journal.specs.Kept.{most_of_one, room_behind, kept_of}
 use Rattle.xd_journal.specs.Local.{TestResult, round, rounds, local_entries}
-use Rattle.xd_ledger.specs.State.{all_moved, no_one}
+use Rattle.xd_journal.specs.Stop.{reaches}
+use Rattle.xd_ledger.specs.State.{all_moved, next, no_one}
+use Rattle.xd_ledger.specs.Stops.{is_stopped}
+use Rattle.xd_report.specs.Follows.{Follows}
 use Rattle.xd_report.specs.Printing.{ShowsLines}
 use Rattle.xd_report.specs.Lines.{lines_from, run_lines}
 use Rattle.xd_report.proofs.Texts.{lines-more}
 use Rattle.xd_runner.specs.Child.{fault_count, outcome_of}
 use Rattle.xd_top.specs.Child.{RanChild}
-use Rattle.xd_top.specs.Local.{kept_by, kept_outputs, result_faults, Progress, RanAll, RanTest, RanTests, SoFar}
+use Rattle.xd_top.specs.Local.{kept_by, kept_outputs, local_settings, RanTests}
+use Rattle.xd_top.specs.Outside.{Programs}
 use Rattle.xd_top.specs.Print.{AtStep}
+use Rattle.xd_top.specs.Running.{failed_of, ids_of, result_faults, behind, IsBegun, Progress, RanAll, RanTest, Running, Scene, SoFar}
+use Rattle.xd_top.proofs.Alone.{below-next, is_some-stop, stop-begun, stop_by}
 
 rounds-last : (n : ℕ) (rs : List TestResult) (r : TestResult) → rounds n (rs ++ r ∷ []) ≡ rounds n rs ++ round (n + length rs) r
 rounds-last n [] r = let same : n ≡ n + 0 = omega arith in ap (λ k. round k r) same
@@ -110,49 +118,89 @@ module _ (tests : List Test) where
         added = added_more ran.runs run old mid new ran.added more.added;
       }
 
-  module _ (ids : List (List ℕ)) (runs0 : Option (List ChildRun)) (faults0 : ℕ) (out0 : Option Sunk) where
+  module _ (old : Scene) (is_local : old.run.journal.settings ≡ local_settings old.run.journal.settings.maxfail) where
+    abbrev limit : ℕ
+    limit = old.run.journal.settings.maxfail
+
     -- no test was run yet
-    none_ran : (es : List Entry) → es ≡ local_entries ids [] → SoFar [] tests ids es runs0 runs0 faults0 faults0
-    none_ran es is = record {
+    none_ran : (r : Running) → r.journal.entries.items ≡ local_entries (ids_of tests) [] → r.journal.settings ≡ old.run.journal.settings → r.programs ≡ old.run.programs → SoFar [] tests old.run r
+    none_ran r is same_settings same = record {
       entries = is;
-      ran = record { runs = []; commands = refl; outcomes = refl; outputs = refl; added = added_none runs0 };
-      faults = λ below. omega arith;
-      still = λ none. refl;
+      settings = same_settings;
+      ran = record { runs = []; commands = refl; outcomes = refl; outputs = refl; added = ap (λ (p : Programs). p.runs) same ∙ added_none old.run.programs.runs };
+      faults = λ below. omega (arith, ap (λ (p : Programs). p.faults) same);
+      still = λ none. ap (λ (p : Programs). p.faults) same;
       few_kept = refl;
       few_in_all = omega arith;
-    }
-
-    pub start : (j : Journal) (out1 : Option Sunk) → j.entries.items ≡ local_entries ids [] → ShowsLines true (run_lines j.settings j.entries.items) out0 out1 → Progress 0 0 tests ids j runs0 runs0 faults0 faults0 out0 out1
-    start j out1 is shows = record {
-      results = [];
-      so_far = none_ran j.entries.items is;
-      counted = refl;
-      spent_is = refl;
-      shows = shows;
-    }
-
-    pub not_collected : (j : Journal) (out1 : Option Sunk) → j.entries.items ≡ local_entries ids [] → ShowsLines false (run_lines j.settings j.entries.items) out0 out1 → RanAll false tests ids j runs0 runs0 faults0 faults0 out0 out1
-    not_collected j out1 is shows = record {
-      results = [];
-      so_far = none_ran j.entries.items is;
+      below = tt;
       within = omega arith;
-      all = λ no. cc;
-      shows = record {
-        before = [];
-        step = local_entries ids [];
-        entries = is;
-        is_step = inl (ids, refl);
-        shows = (out0, inl (refl, refl), subst (λ (es : List Entry). TookPart (run_lines j.settings es) out0 out1) is shows);
-      };
     }
 
-    module _ (k spent1 spent2 : ℕ) (j1 j2 : Journal) (same : j2.settings ≡ j1.settings) (runs1 runs2 : Option (List ChildRun)) (faults1 faults2 : ℕ) (out1 out2 : Option Sunk) (p : Progress k spent1 tests ids j1 runs0 runs1 faults0 faults1 out0 out1)
-        (within : k < length tests) (shown : Bool) (more : RanTest shown k (run_at tests k) spent1 spent2 j1 j2.entries.items runs1 runs2 faults1 faults2 out1 out2) (later : faults1 ≤ faults2) where
+    module _ (begun : IsBegun tests old.run) (new : Scene) (same : new.run ≡ record (old.run) { reporter = new.run.reporter }) where
+      entries_same : new.run.journal.entries.items ≡ local_entries (ids_of tests) []
+      entries_same = ap (λ (r : Running). r.journal.entries.items) same ∙ begun.entries
+
+      first : SoFar [] tests old.run new.run
+      first = none_ran new.run entries_same (ap (λ (r : Running). r.journal.settings) same) (ap (λ (r : Running). r.programs) same)
+
+      abbrev lines : Journal → List ℕ
+      lines j = run_lines j.settings j.entries.items
+
+      lines_same : lines new.run.journal ≡ lines old.run.journal
+      lines_same = ap (λ (r : Running). lines r.journal) same
+
+      pub start : ShowsLines true (lines old.run.journal) old.sunk new.sunk → Follows new.run.reporter (behind old.run.journal) → Progress 0 tests old new
+      start shows follows = record {
+        results = [];
+        so_far = first;
+        counted = refl;
+        spent_is = ap (λ (r : Running). r.spent) same ∙ begun.nothing_kept;
+        shows = subst (λ (l : List ℕ). ShowsSome l old.sunk new.sunk) (sym lines_same) shows;
+        told = subst (λ (j : Journal). Follows new.run.reporter (behind j)) (sym (ap (λ (r : Running). r.journal) same)) follows;
+      }
+
+      pub not_collected : ShowsLines false (lines old.run.journal) old.sunk new.sunk → RanAll false tests old new
+      not_collected shows = record {
+        results = [];
+        so_far = first;
+        all = λ no. cc;
+        shows = record {
+          before = [];
+          step = local_entries (ids_of tests) [];
+          entries = entries_same;
+          is_step = inl (ids_of tests, refl);
+          shows = (old.sunk, inl (refl, refl), subst (λ (es : List Entry). TookPart (run_lines new.run.journal.settings es) old.sunk new.sunk) entries_same (subst (λ (l : List ℕ). TookPart l old.sunk new.sunk) (sym lines_same) shows));
+        };
+        told = λ no. cc;
+      }
+
+    -- the state behind the first tests has the stop that their failures make
+    stop_behind : (r : Running) (results : List TestResult) → SoFar results tests old.run r → (behind r.journal).books.stop ≡ stop_by limit (failed_of results)
+    stop_behind r results so_far =
+        ap (λ (st : Settings). (all_moved (no_one st) r.journal.entries.items).books.stop) (so_far.settings ∙ is_local)
+        ∙ ap (λ (es : List Entry). (all_moved (no_one (local_settings limit)) es).books.stop) so_far.entries
+        ∙ stop-begun limit (next (no_one (local_settings limit)) (Collected 0 (Listed (ids_of tests)))) results refl refl refl so_far.below
+
+    reached_is : (r : Running) (results : List TestResult) (b : Bool) → SoFar results tests old.run r → b ≡ is_stopped (behind r.journal).books → b ≡ reaches limit (failed_of results)
+    reached_is r results b so_far is = is ∙ ap is_some (stop_behind r results so_far) ∙ is_some-stop limit (failed_of results)
+
+    -- behind the test that reached the limit
+    pub limited : (count : ℕ) (new : Scene) (b : Bool) → Progress count tests old new → b ≡ is_stopped (behind new.run.journal).books → b ≡ true → RanAll true tests old new
+    limited count new b p is reached = record {
+      results = p.results;
+      so_far = p.so_far;
+      all = λ _. inl (sym (reached_is new.run p.results b p.so_far is) ∙ reached);
+      shows = p.shows;
+      told = λ _. p.told;
+    }
+
+    module _ (k : ℕ) (mid new : Scene) (p : Progress k tests old mid) (within : k < length tests) (b : Bool) (b_is : b ≡ is_stopped (behind mid.run.journal).books) (go_on : b ≡ false)
+        (shown : Bool) (more : RanTest shown k (run_at tests k) mid new) where
       abbrev es1 : List Entry
-      es1 = j1.entries.items
+      es1 = mid.run.journal.entries.items
 
       abbrev es2 : List Entry
-      es2 = j2.entries.items
+      es2 = new.run.journal.entries.items
 
       abbrev results : List TestResult
       results = p.results ++ more.result ∷ []
@@ -160,16 +208,16 @@ module _ (tests : List Test) where
       long : length results ≡ k + 1
       long = omega (arith, p.counted, length-append p.results (more.result ∷ []))
 
-      entries_are : local_entries ids results ≡ local_entries ids p.results ++ round k more.result
+      entries_are : local_entries (ids_of tests) results ≡ local_entries (ids_of tests) p.results ++ round k more.result
       entries_are =
           let at : 0 + length p.results ≡ k = omega (arith, p.counted) in
-          ap (λ (l : List Entry). local_entries ids [] ++ l) (rounds-last 0 p.results more.result ∙ ap (λ n. rounds 0 p.results ++ round n more.result) at)
+          ap (λ (l : List Entry). local_entries (ids_of tests) [] ++ l) (rounds-last 0 p.results more.result ∙ ap (λ n. rounds 0 p.results ++ round n more.result) at)
 
-      grown : es2 ≡ local_entries ids results
-      grown = more.entries ∙ ap (λ (l : List Entry). l ++ round k more.result) p.so_far.entries ∙ sym entries_are
+      grown : es2 ≡ local_entries (ids_of tests) results
+      grown = more.noted.entries ∙ ap (λ (l : List Entry). l ++ round k more.result) p.so_far.entries ∙ sym entries_are
 
-      low : length more.result.output ≤ room_behind spent1
-      low = low_of _ _ more.result.outcome more.result.output runs1 runs2 more.ran
+      low : length more.result.output ≤ room_behind mid.run.spent
+      low = low_of _ _ more.result.outcome more.result.output mid.run.programs.runs new.run.programs.runs more.noted.ran
 
       total_kept : kept_by results ≡ kept_by p.results + length more.result.output
       total_kept = kept_by-more p.results more.result
@@ -177,50 +225,58 @@ module _ (tests : List Test) where
       faults_total : result_faults results ≡ result_faults p.results + fault_count more.result.outcome
       faults_total = omega (arith, sum_by-append (λ (r : TestResult). fault_count r.outcome) p.results (more.result ∷ []))
 
-      so_far : SoFar results tests ids es2 runs0 runs2 faults0 faults2
+      so_far : SoFar results tests old.run new.run
       so_far = record {
         entries = grown;
-        ran = one_more p.results more.result runs0 runs1 runs2 (omega (arith, p.counted)) p.so_far.ran (subst (λ n. RanChild (run_at tests (length p.results)) (room_behind n) more.result.outcome more.result.output runs1 runs2) p.spent_is (subst (λ n. RanChild (run_at tests n) (room_behind spent1) more.result.outcome more.result.output runs1 runs2) (sym p.counted) more.ran));
+        settings = more.noted.settings ∙ p.so_far.settings;
+        ran = one_more p.results more.result old.run.programs.runs mid.run.programs.runs new.run.programs.runs (omega (arith, p.counted, within)) p.so_far.ran
+            (subst (λ n. RanChild (run_at tests (length p.results)) (room_behind n) more.result.outcome more.result.output mid.run.programs.runs new.run.programs.runs) p.spent_is
+            (subst (λ n. RanChild (run_at tests n) (room_behind mid.run.spent) more.result.outcome more.result.output mid.run.programs.runs new.run.programs.runs) (sym p.counted) more.noted.ran));
         faults =
-            subst (λ n. RoseBy n faults0 faults2) (sym faults_total) (rose_more (result_faults p.results) (fault_count more.result.outcome) faults0 faults1 faults2 p.so_far.faults more.faults later);
-        still = λ none. more.still (omega (arith, none, faults_total)) ∙ p.so_far.still (omega (arith, none, faults_total));
-        few_kept = few_more p.results more.result spent1 p.so_far.few_kept low;
+            subst (λ n. RoseBy n old.run.programs.faults new.run.programs.faults) (sym faults_total)
+            (rose_more (result_faults p.results) (fault_count more.result.outcome) old.run.programs.faults mid.run.programs.faults new.run.programs.faults p.so_far.faults more.noted.faults more.noted.later);
+        still = λ none. more.noted.still (omega (arith, none, faults_total)) ∙ p.so_far.still (omega (arith, none, faults_total));
+        few_kept = few_more p.results more.result mid.run.spent p.so_far.few_kept low;
         few_in_all = (let t = total_kept in let l = low in let s = p.spent_is in let f = p.so_far.few_in_all in grind (arith, common_steps));
+        below = below-next limit p.results more.result p.so_far.below (sym (reached_is mid.run p.results b p.so_far b_is) ∙ go_on);
+        within = omega (arith, long, within);
       }
 
       abbrev added : List ℕ
-      added = lines_from (all_moved (no_one j1.settings) es1) (round k more.result)
+      added = lines_from (behind mid.run.journal) (round k more.result)
 
-      text : run_lines j2.settings es2 ≡ run_lines j1.settings es1 ++ added
-      text = ap (λ (st : Settings). run_lines st es2) same ∙ ap (run_lines j1.settings) more.entries ∙ lines-more (no_one j1.settings) es1 (round k more.result)
+      text : run_lines new.run.journal.settings es2 ≡ run_lines mid.run.journal.settings es1 ++ added
+      text = ap (λ (st : Settings). run_lines st es2) more.noted.settings ∙ ap (run_lines mid.run.journal.settings) more.noted.entries ∙ lines-more (no_one mid.run.journal.settings) es1 (round k more.result)
 
       -- at the lines of this test
-      broke : TookPart added out1 out2 → AtStep j1.settings es2 out0 out2
+      broke : TookPart added mid.sunk new.sunk → AtStep mid.run.journal.settings es2 old.sunk new.sunk
       broke part = record {
         before = es1;
         step = round k more.result;
-        entries = more.entries;
+        entries = more.noted.entries;
         is_step = inr (k, more.result, refl);
-        shows = (out1, p.shows, part);
+        shows = (mid.sunk, p.shows, part);
       }
 
-      pub next : shown ≡ true → Progress (k + 1) spent2 tests ids j2 runs0 runs2 faults0 faults2 out0 out2
-      next is = record {
+      pub go : shown ≡ true → Progress (k + 1) tests old new
+      go is = record {
         results = results;
         so_far = so_far;
         counted = long;
-        spent_is = more.spent ∙ (let s = p.spent_is in let t = total_kept in omega arith);
-        shows = subst (λ (l : List ℕ). ShowsSome l out0 out2) (sym text) (shows-more (run_lines j1.settings es1) added out0 out1 out2 p.shows (subst (λ b. ShowsLines b added out1 out2) is more.shows));
+        spent_is = more.noted.spent ∙ (let s = p.spent_is in let t = total_kept in omega arith);
+        shows = subst (λ (l : List ℕ). ShowsSome l old.sunk new.sunk) (sym text)
+            (shows-more (run_lines mid.run.journal.settings es1) added old.sunk mid.sunk new.sunk p.shows (subst (λ b. ShowsLines b added mid.sunk new.sunk) is more.shows));
+        told = more.told is;
       }
 
-      pub stop : shown ≡ false → RanAll false tests ids j2 runs0 runs2 faults0 faults2 out0 out2
+      pub stop : shown ≡ false → RanAll false tests old new
       stop is = record {
         results = results;
         so_far = so_far;
-        within = omega (arith, long);
         all = λ no. cc;
-        shows = subst (λ (st : Settings). AtStep st es2 out0 out2) (sym same) (broke (subst (λ b. ShowsLines b added out1 out2) is more.shows));
+        shows = subst (λ (st : Settings). AtStep st es2 old.sunk new.sunk) (sym more.noted.settings) (broke (subst (λ b. ShowsLines b added mid.sunk new.sunk) is more.shows));
+        told = λ no. cc;
       }
 
-    pub finish : (spent : ℕ) (j : Journal) (runs : Option (List ChildRun)) (faults : ℕ) (out : Option Sunk) → Progress (length tests) spent tests ids j runs0 runs faults0 faults out0 out → RanAll true tests ids j runs0 runs faults0 faults out0 out
-    finish spent j runs faults out p = record { results = p.results; so_far = p.so_far; within = omega (arith, p.counted); all = λ yes. p.counted; shows = p.shows }
+    pub finish : (new : Scene) → Progress (length tests) tests old new → RanAll true tests old new
+    finish new p = record { results = p.results; so_far = p.so_far; all = λ _. inr p.counted; shows = p.shows; told = λ _. p.told }

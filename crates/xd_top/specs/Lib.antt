@@ -2,6 +2,7 @@ pub mod Child
 pub mod Local
 pub mod Print
 pub mod Refusal
+pub mod Running
 pub mod Top
 pub mod Wire
 pub mod Words

@@ -22,10 +22,13 @@ pub fn run_child<R: Wait, K: Children>(
     room: usize,
 ) -> Result<(Outcome, Blob), OutOfMemory>
     requires { 0 < length args.now }
-    ensures ran { IfOk result (λ r. RanChild args.now room r.0 r.1 (K.runs children.old) (K.runs children.new)) }
+    ensures ran { IfOk result (λ r.
+        RanChild args.now room r.0 r.1 (K.runs children.old) (K.runs children.new)) }
     ensures later { K.faults children.old ≤ K.faults children.new }
-    ensures faults { IfOk result (λ r. RoseBy (fault_count r.0) (K.faults children.old) (K.faults children.new)) }
-    ensures still { IfOk result (λ r. fault_count r.0 ≡ 0 → K.faults children.new ≡ K.faults children.old) }
+    ensures faults { IfOk result (λ r.
+        RoseBy (fault_count r.0) (K.faults children.old) (K.faults children.new)) }
+    ensures still { IfOk result (λ r.
+        fault_count r.0 ≡ 0 → K.faults children.new ≡ K.faults children.old) }
 {
     let mut output = Vec::with_capacity(alloc, room)?;
     let outcome = run_to_end(rt, alloc, children, args, &mut output, room)?;
@@ -35,7 +38,8 @@ pub fn run_child<R: Wait, K: Children>(
 
 // What is kept of the output of a test that went so.
 fn kept_of(alloc: Global, outcome: Outcome, output: &[u8]) -> Result<Blob, OutOfMemory>
-    ensures { IfOk result (λ b. (room : ℕ) → length output.now ≤ room → b ≡ kept_of outcome room output.now) }
+    ensures { IfOk result (λ b.
+        (room : ℕ) → length output.now ≤ room → b ≡ kept_of outcome room output.now) }
 {
     match outcome {
         Outcome::Failed(_) => Blob::of(alloc, output),
@@ -57,10 +61,13 @@ fn run_to_end<R: Wait, K: Children>(
     requires program { 0 < length args.now }
     requires room { room ≤ vec_capacity output.old }
     requires empty { output.old.items ≡ [] }
-    ensures ran { IfOk result (λ o. CameTo args.now room o output.new.items (K.runs children.old) (K.runs children.new)) }
+    ensures ran { IfOk result (λ o.
+        CameTo args.now room o output.new.items (K.runs children.old) (K.runs children.new)) }
     ensures later { K.faults children.old ≤ K.faults children.new }
-    ensures faults { IfOk result (λ o. RoseBy (fault_count o) (K.faults children.old) (K.faults children.new)) }
-    ensures still { IfOk result (λ o. fault_count o ≡ 0 → K.faults children.new ≡ K.faults children.old) }
+    ensures faults { IfOk result (λ o.
+        RoseBy (fault_count o) (K.faults children.old) (K.faults children.new)) }
+    ensures still { IfOk result (λ o.
+        fault_count o ≡ 0 → K.faults children.new ≡ K.faults children.old) }
 {
     let mut child = match children.start(alloc, args) {
         Ok(child) => child,
@@ -84,8 +91,10 @@ fn drain<R: Wait, K: Children>(
     requires empty { output.old.items ≡ [] }
     ensures same_child { K.place child.new ≡ K.place child.old }
     ensures is_read { IsTrue (K.is_read child.new) }
-    ensures whole { OnTrue result (Drained room (K.place child.old) output.new.items (K.runs children.old) (K.runs children.new)) }
-    ensures part { OnFalse result (DrainedPart room (K.place child.old) output.new.items (K.runs children.old) (K.runs children.new)) }
+    ensures whole { OnTrue result (Drained room (K.place child.old) output.new.items
+        (K.runs children.old) (K.runs children.new)) }
+    ensures part { OnFalse result (DrainedPart room (K.place child.old) output.new.items
+        (K.runs children.old) (K.runs children.new)) }
     ensures counted { Counted result (K.faults children.old) (K.faults children.new) }
 {
     let mut buffer = [0u8; 4096];

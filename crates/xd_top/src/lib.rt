@@ -11,6 +11,6 @@ mod words;
 mod worker;
 
 pub use child::run_child;
-pub use local::run_suite;
+pub use local::{LocalRun, LocalSuite, run_suite};
 pub use refusal::Refusal;
 pub use top::{RunEnd, xdrun};

@@ -1,25 +1,22 @@
 // The tests of a suite, one after another in this program.
-ghost use Rattle.std.specs.Prelude.{◌≡◌, ◌≢◌, ◌<◌, ◌≤◌, [], map, true, false, Ok, drop, length, IfOk, OnOk};
+ghost use Rattle.std.specs.Prelude.{◌≡◌, ◌<◌, ◌≤◌, drop, length, IfOk, OnOk};
 ghost use Rattle.xd_edge.specs.Faults.{Counted};
 ghost use Rattle.xd_suite.specs.Tests.{run_at};
-ghost use Rattle.xd_journal.specs.declared.entry.RunStop.TheVariants.{Completed, OutFault};
 ghost use Rattle.xd_journal.specs.Kept.{most_of_all, room_behind};
-ghost use Rattle.xd_journal.specs.Local.{local_entries};
-ghost use Rattle.xd_ledger.specs.Legal.{IsLegal};
-ghost use Rattle.xd_ledger.specs.Reports.{NamesInOrder, reports_in};
-ghost use Rattle.xd_ledger.specs.Ending.{stop_of};
 ghost use Rattle.xd_ledger.specs.Sharing.{State};
 ghost use Rattle.xd_ledger.specs.State.{all_moved};
-ghost use Rattle.xd_report.specs.EachReport.{NamesTests};
+ghost use Rattle.xd_ledger.specs.Stops.{is_stopped};
 ghost use Rattle.xd_report.specs.Follows.{Follows};
 ghost use Rattle.xd_report.specs.Lines.{lines_from};
-ghost use Rattle.xd_report.specs.Printing.{Ends, ShowsLines};
-ghost use Rattle.xd_top.specs.Child.{faults_of};
-ghost use Rattle.xd_top.specs.Local.{AddsRound, RanAll, RanPrinted, RanTest, RunsTests, Told, local_settings, stop_after};
-ghost use Rattle.xd_top.specs.Print.{PrintsReport};
+ghost use Rattle.xd_report.specs.Printing.{Ends, ShowsEnd, ShowsLines};
+ghost use Rattle.xd_report.specs.Text.{tail_text};
+ghost use Rattle.xd_top.specs.Local.{RunsTests, local_settings, stop_after};
+ghost use Rattle.xd_top.specs.Running.{AddsRound, Closed, HasCollected, IsBegun, IsNew, NotesTest};
+ghost use Rattle.xd_top.specs.Running.{RanAll, RanPrinted, RanTest, Told, behind, scene};
 
 use crate::child::run_child;
 use std::alloc::Global;
+use std::marker::Model;
 use std::sync::Wait;
 use xd_edge::{Blob, Children, Clock, Indices, ModeKind, OutOfMemory, Sink};
 use xd_journal::{Entry, Ids, Journal, Outcome, RunStop, Settings};
@@ -32,112 +29,279 @@ const MOST_OF_ONE: usize = 8192;
 /// Of the output of all failed tests of a run so many bytes are kept, in the order of the tests.
 const MOST_OF_ALL: usize = 67_108_864;
 
-/// Runs the tests of a suite in order, and prints the report. The line of a test is handed on as soon as it has ended.
-/// Where the output fails no further test is started.
-pub fn run_suite<R: Wait, K: Children, T: Clock, O: Sink>(
-    rt: &R,
-    alloc: Global,
-    suite: &Suite,
-    children: &mut K,
-    clock: &mut T,
-    out: &mut O,
-) -> Result<Journal, OutOfMemory>
-    ensures ran { IfOk result (λ j. RunsTests suite.now j
-        (record { sunk = O.sunk out.old; faults = O.faults out.old })
-        (record { sunk = O.sunk out.new; faults = O.faults out.new })
-        (record { runs = K.runs children.old; faults = K.faults children.old })
-        (record { runs = K.runs children.new; faults = K.faults children.new })) }
-{
-    let mut journal = Journal::new(alloc, local_settings());
-    let ids = suite.ids(alloc, ModeKind::Local)?;
-    journal.push(Entry::Collected {
-        worker: 0,
-        ids: Ids::List(ids),
-    })?;
-    let printed = run_and_print(rt, alloc, suite, &mut journal, children, clock, out);
-    let shown = was_printed(printed)?;
-    journal.push(Entry::Over {
-        how: stop_after(shown),
-    })?;
-    Ok(journal)
+/// A suite that is to be run in this program.
+#[derive(Drop)]
+pub struct LocalSuite<K: Children> {
+    pub alloc: Global,
+    pub tests: Suite,
+    /// How many failures stop the run. 0 is no limit.
+    pub maxfail: u32,
+    /// What starts the programs of the tests.
+    pub children: K,
 }
 
-fn local_settings() -> Settings
-    ensures { result ≡ local_settings }
+/// The journal of a run, and the programs that were handed in.
+#[derive(Drop)]
+pub struct LocalRun<K: Children> {
+    pub journal: Journal,
+    pub children: K,
+}
+
+/// Runs the tests of a suite in order, and prints the report. The line of a test is handed on as soon as it has ended.
+/// Where the failures reach their limit, or the output fails, no further test is started.
+pub fn run_suite<R: Wait, K: Children, T: Clock, O: Sink>(
+    rt: &R,
+    suite: LocalSuite<K>,
+    clock: &mut T,
+    out: &mut O,
+) -> Result<LocalRun<K>, OutOfMemory>
+    ensures ran { IfOk result (λ r. RunsTests suite.tests suite.maxfail r.journal
+        (record {
+          out = record { sunk = O.sunk out.old; faults = O.faults out.old };
+          programs = record { runs = K.runs suite.children; faults = K.faults suite.children };
+        })
+        (record {
+          out = record { sunk = O.sunk out.new; faults = O.faults out.new };
+          programs = record { runs = K.runs r.children; faults = K.faults r.children };
+        })) }
+{
+    let mut run = Run::new(suite.alloc, suite.maxfail, suite.children);
+    run.collect(&suite.tests)?;
+    let printed = run.run_and_print(rt, &suite.tests, clock, out);
+    let shown = was_printed(printed)?;
+    let ended = run.close(shown)?;
+    Ok(ended)
+}
+
+fn local_settings(maxfail: u32) -> Settings
+    ensures { result ≡ local_settings maxfail }
 {
     Settings {
         mode: ModeKind::Local,
         workers: 0,
-        maxfail: 0,
+        maxfail,
         restarts: 0,
         chunk: None,
         reorder: true,
     }
 }
 
-fn stop_after(shown: bool) -> RunStop
-    ensures { result ≡ stop_after shown }
+fn stop_after(shown: bool, first: Option<RunStop>) -> RunStop
+    ensures { result ≡ stop_after shown first }
 {
     if shown {
-        RunStop::Completed
+        first.unwrap_or(RunStop::Completed)
     } else {
         RunStop::OutFault
     }
 }
 
-// Runs the tests and prints their lines and the tail.
-fn run_and_print<R: Wait, K: Children, T: Clock, O: Sink>(
-    rt: &R,
+// A run without workers, as far as it came.
+#[derive(Drop)]
+struct Run<K: Children> {
     alloc: Global,
-    suite: &Suite,
-    journal: &mut Journal,
-    children: &mut K,
-    clock: &mut T,
-    out: &mut O,
-) -> Result<(), PrintFault>
-    requires { journal.old.entries.items ≡ local_entries (map (λ t. t.id) suite.now) [] }
-    ensures ran { Ends result (λ shown. RanPrinted shown suite.now (map (λ t. t.id) suite.now) journal.new (K.runs children.old) (K.runs children.new) (K.faults children.old) (K.faults children.new) (O.sunk out.old) (O.sunk out.new)) }
-    ensures settings { journal.new.settings ≡ journal.old.settings }
-    ensures counted { Ends result (λ shown. Counted shown (O.faults out.old) (O.faults out.new)) }
-{
-    run_tests(rt, alloc, suite, journal, children, clock, out)?;
-    print_tail(alloc, journal, out)?;
-    Ok(())
+    journal: Journal,
+    // It went over all entries whose lines were printed.
+    reporter: Reporter,
+    // How many bytes of output are kept.
+    spent: usize,
+    children: K,
 }
 
-// Prints the line of the collection, and runs the tests in order.
-fn run_tests<R: Wait, K: Children, T: Clock, O: Sink>(
-    rt: &R,
-    alloc: Global,
-    suite: &Suite,
-    journal: &mut Journal,
-    children: &mut K,
-    clock: &mut T,
-    out: &mut O,
-) -> Result<(), PrintFault>
-    requires { journal.old.entries.items ≡ local_entries (map (λ t. t.id) suite.now) [] }
-    ensures ran { Ends result (λ shown. RanAll shown suite.now (map (λ t. t.id) suite.now) journal.new (K.runs children.old) (K.runs children.new) (K.faults children.old) (K.faults children.new) (O.sunk out.old) (O.sunk out.new)) }
-    ensures settings { journal.new.settings ≡ journal.old.settings }
-    ensures counted { Ends result (λ shown. Counted shown (O.faults out.old) (O.faults out.new)) }
-{
-    let mut reporter = Reporter::new(alloc, journal.settings);
-    print_from(alloc, &mut reporter, journal, 0, out)?;
-    let mut spent = 0;
-    for test in 0..suite.len() {
-        run_test(
-            rt,
+impl<K: Children> Model for Run<K> {
+    ghost use Rattle.xd_top.specs.Running.{Running};
+
+    ghost Value = { Running };
+
+    ghost view = { λ r. record {
+      journal = r.journal;
+      reporter = r.reporter;
+      spent = r.spent;
+      programs = record { runs = K.runs r.children; faults = K.faults r.children };
+    } };
+}
+
+impl<K: Children> Run<K> {
+    // Nothing was collected yet.
+    fn new(alloc: Global, maxfail: u32, children: K) -> Run<K>
+        ensures new { IsNew maxfail result }
+        ensures programs { result.programs ≡
+            record { runs = K.runs children; faults = K.faults children } }
+    {
+        let settings = local_settings(maxfail);
+        Run {
             alloc,
-            suite,
-            test,
-            journal,
-            &mut reporter,
+            journal: Journal::new(alloc, settings),
+            reporter: Reporter::new(alloc, settings),
+            spent: 0,
             children,
-            clock,
-            out,
-            &mut spent,
-        )?;
+        }
     }
-    Ok(())
+
+    // Notes which tests there are.
+    fn collect(&mut self, suite: &Suite) -> Result<(), OutOfMemory>
+        ensures collected { OnOk result (HasCollected suite.now self.old self.new) }
+    {
+        let ids = suite.ids(self.alloc, ModeKind::Local)?;
+        self.journal.push(Entry::Collected {
+            worker: 0,
+            ids: Ids::List(ids),
+        })?;
+        Ok(())
+    }
+
+    // Runs the tests and prints their lines and the tail.
+    fn run_and_print<R: Wait, T: Clock, O: Sink>(
+        &mut self,
+        rt: &R,
+        suite: &Suite,
+        clock: &mut T,
+        out: &mut O,
+    ) -> Result<(), PrintFault>
+        requires begun { IsBegun suite.now self.old }
+        ensures ran { Ends result (λ shown. RanPrinted shown suite.now
+            (scene self.old (O.sunk out.old)) (scene self.new (O.sunk out.new))) }
+        ensures counted { Ends result (λ shown.
+            Counted shown (O.faults out.old) (O.faults out.new)) }
+    {
+        self.run_tests(rt, suite, clock, out)?;
+        self.print_end(out)?;
+        Ok(())
+    }
+
+    // Prints the line of the collection, and runs the tests in order, up to the one that reaches the
+    // limit on failures.
+    fn run_tests<R: Wait, T: Clock, O: Sink>(
+        &mut self,
+        rt: &R,
+        suite: &Suite,
+        clock: &mut T,
+        out: &mut O,
+    ) -> Result<(), PrintFault>
+        requires begun { IsBegun suite.now self.old }
+        ensures ran { Ends result (λ shown. RanAll shown suite.now
+            (scene self.old (O.sunk out.old)) (scene self.new (O.sunk out.new))) }
+        ensures counted { Ends result (λ shown.
+            Counted shown (O.faults out.old) (O.faults out.new)) }
+    {
+        self.print_from(0, out)?;
+        for test in 0..suite.len() {
+            if self.is_stopped() {
+                return Ok(());
+            }
+            self.run_test(rt, suite, test, clock, out)?;
+        }
+        Ok(())
+    }
+
+    // Whether the failures reached their limit.
+    fn is_stopped(&self) -> bool
+        requires told { Told self.now }
+        ensures { result ≡ is_stopped (behind self.now.journal).books }
+    {
+        self.reporter.first_stop().is_some()
+    }
+
+    // Runs one test and prints its line.
+    fn run_test<R: Wait, T: Clock, O: Sink>(
+        &mut self,
+        rt: &R,
+        suite: &Suite,
+        test: u32,
+        clock: &mut T,
+        out: &mut O,
+    ) -> Result<(), PrintFault>
+        requires test { test < length suite.now }
+        requires told { Told self.old }
+        requires room { self.old.spent ≤ most_of_all }
+        ensures ran { Ends result (λ shown. RanTest shown test (run_at suite.now test)
+            (scene self.old (O.sunk out.old)) (scene self.new (O.sunk out.new))) }
+        ensures counted { Ends result (λ shown.
+            Counted shown (O.faults out.old) (O.faults out.new)) }
+    {
+        let from = self.entry_count();
+        self.note_test(rt, suite, test, clock)?;
+        self.print_from(from, out)?;
+        Ok(())
+    }
+
+    // Runs one test, and notes that and its result.
+    fn note_test<R: Wait, T: Clock>(
+        &mut self,
+        rt: &R,
+        suite: &Suite,
+        test: u32,
+        clock: &mut T,
+    ) -> Result<(), OutOfMemory>
+        requires test { test < length suite.now }
+        requires room { self.old.spent ≤ most_of_all }
+        ensures notes { OnOk result (NotesTest test (run_at suite.now test) self.old self.new) }
+    {
+        let start = clock.now();
+        let room = room_behind(self.spent);
+        let (outcome, output) = run_child(
+            rt,
+            self.alloc,
+            &mut self.children,
+            suite.command(test),
+            room,
+        )?;
+        let ms = clock.now() - start;
+        self.spent += output.as_slice().len();
+        add_round(self.alloc, &mut self.journal, test, outcome, ms, output)?;
+        Ok(())
+    }
+
+    // How many entries there are.
+    fn entry_count(&self) -> usize
+        ensures { result ≡ length self.now.journal.entries.items }
+    {
+        self.journal.entries.len()
+    }
+
+    // Prints the lines of the entries from a place on.
+    fn print_from<O: Sink>(&mut self, from: usize, out: &mut O) -> Result<(), PrintFault>
+        requires within { from ≤ length self.old.journal.entries.items }
+        ensures shows { (s : State) → Follows self.old.reporter s → Ends result (λ shown.
+            ShowsLines shown (lines_from s (drop from self.old.journal.entries.items))
+            (O.sunk out.old) (O.sunk out.new)) }
+        ensures follows { (s : State) → Follows self.old.reporter s → Ends result (λ shown.
+            Follows self.new.reporter (all_moved s (drop from self.old.journal.entries.items))) }
+        ensures keeps { self.new ≡ record (self.old) { reporter = self.new.reporter } }
+        ensures counted { Ends result (λ shown.
+            Counted shown (O.faults out.old) (O.faults out.new)) }
+    {
+        print_lines(
+            self.alloc,
+            &mut self.reporter,
+            &self.journal.entries[from..],
+            out,
+        )
+    }
+
+    // Prints the tail of the report, and closes the output.
+    fn print_end<O: Sink>(&self, out: &mut O) -> Result<(), PrintFault>
+        ensures shows { Ends result (λ shown.
+            ShowsEnd shown (tail_text self.now.journal) (O.sunk out.old) (O.sunk out.new)) }
+        ensures counted { Ends result (λ shown.
+            Counted shown (O.faults out.old) (O.faults out.new)) }
+    {
+        print_tail(self.alloc, &self.journal, out)
+    }
+
+    // The journal with its end, and the programs.
+    fn close(mut self, shown: bool) -> Result<LocalRun<K>, OutOfMemory>
+        ensures closed { IfOk result (λ r. Closed shown self r.journal) }
+        ensures children { IfOk result (λ r. self.programs ≡
+            record { runs = K.runs r.children; faults = K.faults r.children }) }
+    {
+        let how = stop_after(shown, self.reporter.first_stop());
+        self.journal.push(Entry::Over { how })?;
+        Ok(LocalRun {
+            journal: self.journal,
+            children: self.children,
+        })
+    }
 }
 
 // How many bytes may be kept of the next test's output, where so many are kept.
@@ -146,39 +310,6 @@ fn room_behind(spent: usize) -> usize
     ensures { result ≡ room_behind spent }
 {
     MOST_OF_ONE.min(MOST_OF_ALL - spent)
-}
-
-// Runs one test and prints its line. So many bytes of output are kept before and behind it.
-fn run_test<R: Wait, K: Children, T: Clock, O: Sink>(
-    rt: &R,
-    alloc: Global,
-    suite: &Suite,
-    test: u32,
-    journal: &mut Journal,
-    reporter: &mut Reporter,
-    children: &mut K,
-    clock: &mut T,
-    out: &mut O,
-    spent: &mut usize,
-) -> Result<(), PrintFault>
-    requires test { test < length suite.now }
-    requires told { Told reporter.old journal.old }
-    requires room { spent.old ≤ most_of_all }
-    ensures ran { Ends result (λ shown. RanTest shown test (run_at suite.now test) spent.old spent.new journal.old journal.new.entries.items (K.runs children.old) (K.runs children.new) (K.faults children.old) (K.faults children.new) (O.sunk out.old) (O.sunk out.new)) }
-    ensures told { OnOk result (Told reporter.new journal.new) }
-    ensures settings { journal.new.settings ≡ journal.old.settings }
-    ensures children_later { K.faults children.old ≤ K.faults children.new }
-    ensures counted { Ends result (λ shown. Counted shown (O.faults out.old) (O.faults out.new)) }
-{
-    let start = clock.now();
-    let room = room_behind(*spent);
-    let (outcome, output) = run_child(rt, alloc, children, suite.command(test), room)?;
-    let ms = clock.now() - start;
-    let from = journal.entries.len();
-    *spent += output.as_slice().len();
-    add_round(alloc, journal, test, outcome, ms, output)?;
-    print_from(alloc, reporter, journal, from, out)?;
-    Ok(())
 }
 
 // Notes that a test was run, and its result.
@@ -190,7 +321,9 @@ fn add_round(
     ms: u64,
     output: Blob,
 ) -> Result<(), OutOfMemory>
-    ensures entries { OnOk result (AddsRound test outcome ms output journal.old.entries.items journal.new.entries.items) }
+    ensures entries { OnOk result (AddsRound test
+        (record { outcome = outcome; ms = ms; output = output })
+        journal.old.entries.items journal.new.entries.items) }
     ensures settings { journal.new.settings ≡ journal.old.settings }
 {
     let mut indices = Vec::new(alloc);
@@ -207,22 +340,4 @@ fn add_round(
         output,
     })?;
     Ok(())
-}
-
-// Prints the lines of the entries from a place on.
-fn print_from<O: Sink>(
-    alloc: Global,
-    reporter: &mut Reporter,
-    journal: &Journal,
-    from: usize,
-    out: &mut O,
-) -> Result<(), PrintFault>
-    requires { from ≤ length journal.now.entries.items }
-    ensures shows { (s : State) → Follows reporter.old s
-        → Ends result (λ shown. ShowsLines shown (lines_from s (drop from journal.now.entries.items)) (O.sunk out.old) (O.sunk out.new)) }
-    ensures follows { (s : State) → Follows reporter.old s
-        → Ends result (λ shown. Follows reporter.new (all_moved s (drop from journal.now.entries.items))) }
-    ensures counted { Ends result (λ shown. Counted shown (O.faults out.old) (O.faults out.new)) }
-{
-    print_lines(alloc, reporter, &journal.entries[from..], out)
 }
