@@ -3,9 +3,9 @@ use crate::outside::{Given, NOTHING, call, crew, numbers, programs, readers};
 use std::test::Fail;
 use xd_crew::{ListedCrew, Slot, ThreadCrew, start_into};
 use xd_edge::{MemClock, MemSink};
+use xd_local::{LocalSuite, run_suite};
 use xd_report::status_of;
 use xd_suite::Suite;
-use xd_top::{LocalSuite, run_suite};
 
 const SUITE_0: [&str; 3] = ["s.toml", "-n", "0"];
 

@@ -1,8 +1,5 @@
-pub mod Child
-pub mod Local
-pub mod Print
+pub mod Named
 pub mod Refusal
-pub mod Running
 pub mod Top
 pub mod Wire
 pub mod Words

@@ -5,7 +5,7 @@ use Rattle.xd_top.specs.declared.refusal.Refusal.TheVariants as refusal
 use Rattle.xd_top.specs.declared.words.Plan.{Plan}
 use Rattle.xd_top.specs.declared.words.Plan.TheVariants.{Local, Linked, Wire, Worker, BadWords}
 use Rattle.xd_top.specs.Linked.{DidLinked}
-use Rattle.xd_top.specs.Local.{DidLocal, around}
+use Rattle.xd_top.specs.Named.{DidLocal, around}
 use Rattle.xd_linked.specs.Linked.{EndedLink}
 use Rattle.xd_top.specs.Outside.{Outside, workplace}
 use Rattle.xd_top.specs.Refusal.{Refuses}

@@ -1,15 +1,15 @@
 // `SUITE -n 0`: the suite file is read, and its tests are run in the program itself.
 ghost use Rattle.std.specs.Prelude.{◌≡◌, IfOk, IfNone, MatchResult};
 ghost use Rattle.xd_edge.specs.Faults.{Rose};
-ghost use Rattle.xd_top.specs.Local.{DidLocal};
+ghost use Rattle.xd_top.specs.Named.{DidLocal};
 ghost use Rattle.xd_top.specs.Refusal.{FilesCount, HasSuite, WhySuiteRefused};
 
-use crate::local::{LocalSuite, run_suite};
 use crate::refusal::{Refusal, refuse};
 use std::alloc::Global;
 use std::sync::Wait;
 use xd_edge::{Children, Clock, FileFault, Files, OutOfMemory, Sink, Text};
 use xd_journal::Journal;
+use xd_local::{LocalSuite, run_suite};
 use xd_report::status_of;
 use xd_suite::{Suite, SuiteFault, SuiteRefusal, SuiteWhat};
 
