@@ -1,5 +1,5 @@
 // What reports need of the state of a run.
-ghost use Rattle.std.specs.Prelude.{OnOk};
+ghost use Rattle.std.specs.Prelude.{◌≡◌, OnOk};
 ghost use Rattle.xd_ledger.specs.Sharing.{State};
 ghost use Rattle.xd_ledger.specs.State.{next, no_one};
 ghost use Rattle.xd_report.specs.Follows.{Follows};
@@ -41,6 +41,13 @@ impl Reporter {
             deaths: 0,
             stop: None,
         }
+    }
+
+    /// The first stop of the run so far.
+    pub fn first_stop(&self) -> Option<RunStop>
+        ensures { (s : State) → Follows self.now s → result ≡ s.books.stop }
+    {
+        self.stop
     }
 
     // One entry more.

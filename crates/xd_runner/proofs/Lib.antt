@@ -1,4 +1,3 @@
-pub mod Waiting
 pub mod Watching
 pub mod Taking
 pub mod Over

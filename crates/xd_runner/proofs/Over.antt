@@ -5,7 +5,7 @@ use Rattle.std.proofs.lemmas.List.Elements.{All-cons, All-nil, All-push}
 use Rattle.xd_edge.specs.Children.{ChildRun}
 use Rattle.xd_journal.specs.declared.entry.Outcome.{Outcome}
 use Rattle.xd_reader.specs.declared.news.LinkNews.{LinkNews}
-use Rattle.xd_runner.specs.Child.{outcome_of}
+use Rattle.xd_child.specs.Ending.{outcome_of}
 use Rattle.xd_runner.specs.Orders.{EndsCut, EndsWell, IsLeft, Mails, Order, RunsOrders, Seen, ran_of}
 use Rattle.xd_runner.specs.Programs.{AreOver, AreRun, CameTo, Ran}
 use Rattle.xd_runner.proofs.Taking.{added_more}

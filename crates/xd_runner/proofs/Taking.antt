@@ -13,7 +13,7 @@ use Rattle.xd_post.specs.Mails.{TakesAt}
 use Rattle.xd_reader.specs.declared.news.LinkNews.{LinkNews}
 use Rattle.xd_reader.specs.declared.news.LinkNews.TheVariants.{End}
 use Rattle.xd_reader.specs.declared.news.LinkStop.TheVariants.{OutOfMemory}
-use Rattle.xd_runner.specs.Child.{fault_count, outcome_of}
+use Rattle.xd_child.specs.Ending.{fault_count, outcome_of}
 use Rattle.xd_runner.specs.Orders.{ArePieces, EndsCut, EndsWell, IsCommand, Mails, Order, Runs, RunsOrders, Seen, TakesOf, Told, all_news, ran_of, told_news}
 use Rattle.xd_runner.specs.Programs.{AreRun, CameTo, Ran, faults_of}
 use Rattle.xd_runner.specs.Running.{RunsOne, RunsPart}

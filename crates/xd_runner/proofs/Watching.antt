@@ -12,11 +12,11 @@ use Rattle.xd_journal.specs.declared.entry.Outcome.{Outcome}
 use Rattle.xd_journal.specs.declared.entry.Outcome.TheVariants.{Failed}
 use Rattle.xd_reader.specs.declared.news.LinkNews.{LinkNews}
 use Rattle.xd_reader.specs.declared.news.LinkNews.TheVariants.{Output, ChildDone}
-use Rattle.xd_runner.specs.Child.{Waited, fault_count, fate_so, outcome_of}
+use Rattle.xd_child.specs.Ending.{Waited, fault_count, fate_so, outcome_of}
 use Rattle.xd_runner.specs.Orders.{IsPiece, Order, Seen, seen}
 use Rattle.xd_runner.specs.Programs.{CameTo, read_so}
 use Rattle.xd_runner.specs.Running.{Heard, HeardPart, RunsOne, RunsPart, RunsTo, Waits, Watches, WatchesPart}
-use Rattle.xd_runner.proofs.Waiting.{faults_to_end, still_to_end}
+use Rattle.xd_child.proofs.Waiting.{faults_to_end, still_to_end}
 use lib.IntN.{negsuc}
 
 -- ---- one change of a run behind another

@@ -1,4 +1,3 @@
-pub mod Child
 pub mod Programs
 pub mod Orders
 pub mod Running

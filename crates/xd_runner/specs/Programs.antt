@@ -2,7 +2,7 @@
 use Rattle.std.specs.Prelude.{◌≡◌, ℕ, Bool, true, false, List, ◌++◌, map, All, Option, Some, IsSome, option_map, sum_by}
 use Rattle.xd_edge.specs.Children.{ChildRun, AddsRun, with_output, with_read_fault}
 use Rattle.xd_journal.specs.declared.entry.Outcome.{Outcome}
-use Rattle.xd_runner.specs.Child.{outcome_of, fault_count}
+use Rattle.xd_child.specs.Ending.{outcome_of, fault_count}
 
 -- what came of a test: all that its program printed, and how it went
 pub record Ran : Type 0 where

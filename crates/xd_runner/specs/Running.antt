@@ -7,7 +7,7 @@ use Rattle.xd_edge.specs.MemChildren.{whole_output}
 use Rattle.xd_journal.specs.declared.entry.Outcome.{Outcome}
 use Rattle.xd_reader.specs.declared.news.LinkNews.{LinkNews}
 use Rattle.xd_reader.specs.declared.news.LinkNews.TheVariants.{Output}
-use Rattle.xd_runner.specs.Child.{fault_count, fate_so, outcome_of}
+use Rattle.xd_child.specs.Ending.{fault_count, fate_so, outcome_of}
 use Rattle.xd_runner.specs.Orders.{ArePieces, IsLeft, IsPiece, Order, Seen, Told, told_news}
 use Rattle.xd_runner.specs.Programs.{CameTo, read_so}
 

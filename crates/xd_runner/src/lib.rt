@@ -2,9 +2,7 @@
 //! piece, and then how its test went.
 #![tactic(auto)]
 
-mod child;
 mod program;
 mod runner;
 
-pub use child::{outcome_of_end, wait_for};
 pub use runner::{Runner, RunnerEnd};

@@ -9,9 +9,9 @@ ghost use Rattle.xd_runner.specs.Orders.{RunsOrders, seen};
 ghost use Rattle.xd_runner.specs.Programs.{read_so};
 ghost use Rattle.xd_runner.specs.Running.{Heard, HeardPart, RunsOne, RunsPart, RunsTo, Watches, WatchesPart};
 
-use crate::child::wait_for;
 use std::alloc::Global;
 use std::sync::Wait;
+use xd_child::wait_for;
 use xd_edge::{Blob, ChildFault, Children, OutOfMemory, Text, Texts};
 use xd_journal::Outcome;
 use xd_post::{Desk, Sender};

@@ -101,6 +101,18 @@ fn shell(
     Ok((args, Blobs { items }, end))
 }
 
+// The programs of tests, of which one call fails.
+pub fn programs(alloc: Global, failing: Option<u32>) -> Result<MemChildren, Fail> {
+    let programs = vec![in alloc;
+        shell(alloc, "exit 0", "noise", ChildEnd::Status(0))?,
+        shell(alloc, "exit 3", "", ChildEnd::Status(3))?,
+        shell(alloc, "exit 77", "noise", ChildEnd::Status(77))?,
+        shell(alloc, "kill -9 $$", "", ChildEnd::Killed)?,
+        shell(alloc, "echo hi; exit 1", "hi\n", ChildEnd::Status(1))?,
+    ]?;
+    Ok(MemChildren::new(alloc, programs, only(alloc, failing)?))
+}
+
 // What a call is handed: its words, what the file s.toml holds, what the first two links give that are started; and which
 // call of the outside fails, counted from 0 for each part of it.
 #[derive(Drop)]
@@ -156,14 +168,7 @@ pub fn call<R: Wait + AllocGlobal, C: Crew<Reader<MemSource>>, D: Crew<Runner<Me
     let second = Blob::of(alloc, given.second)?;
     let links = two_links(alloc, first, second)?;
     let starter = MemStarter::new(alloc, links, only(alloc, given.starts)?);
-    let programs = vec![in alloc;
-        shell(alloc, "exit 0", "noise", ChildEnd::Status(0))?,
-        shell(alloc, "exit 3", "", ChildEnd::Status(3))?,
-        shell(alloc, "exit 77", "noise", ChildEnd::Status(77))?,
-        shell(alloc, "kill -9 $$", "", ChildEnd::Killed)?,
-        shell(alloc, "echo hi; exit 1", "hi\n", ChildEnd::Status(1))?,
-    ]?;
-    let children = MemChildren::new(alloc, programs, only(alloc, given.children)?);
+    let children = programs(alloc, given.children)?;
     let mut clock = MemClock::new(Vec::new(alloc));
     let mut out = MemSink::new(alloc, 1000, only(alloc, given.out)?)?;
     let mut err = MemSink::new(alloc, 1000, numbers(alloc, &[])?)?;

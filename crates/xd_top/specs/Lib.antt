@@ -1,6 +1,4 @@
-pub mod Child
-pub mod Local
-pub mod Print
+pub mod Named
 pub mod Refusal
 pub mod Top
 pub mod Wire

@@ -1,24 +1,13 @@
 -- What is seen of the outside at one moment, as far as it tells.
-use Rattle.std.specs.Prelude.{ℕ, List, Option}
-use Rattle.xd_edge.specs.Children.{ChildRun}
+use Rattle.std.specs.Prelude.{ℕ, Option}
 use Rattle.xd_edge.specs.Files.{Held}
-use Rattle.xd_edge.specs.Sink.{Sunk}
 use Rattle.xd_link.specs.Starter.{Begun}
 use Rattle.xd_listen.specs.Timing.{Ticking}
-
--- an output: what it took, and its count of faults
-pub record Output : Type 0 where
-  pub sunk : Option Sunk
-  pub faults : ℕ
+use Rattle.xd_local.specs.Outside.{Output, Programs}
 
 -- the files: what they hold, and their count of faults
 pub record Files : Type 0 where
   pub held : Option Held
-  pub faults : ℕ
-
--- the programs: the starts that were asked for, and their count of faults
-pub record Programs : Type 0 where
-  pub runs : Option (List ChildRun)
   pub faults : ℕ
 
 -- the starter: the starts that it was asked for, and its count of faults

@@ -6,7 +6,7 @@ use Rattle.xd_top.specs.declared.refusal.Refusal.TheVariants as refusal
 use Rattle.xd_top.specs.declared.words.Plan.{Plan}
 use Rattle.xd_top.specs.declared.words.Plan.TheVariants.{Local, Linked, Wire, Worker, BadWords}
 use Rattle.xd_top.specs.Linked.{DidLinked}
-use Rattle.xd_top.specs.Local.{DidLocal}
+use Rattle.xd_top.specs.Named.{DidLocal, around}
 use Rattle.xd_linked.specs.Linked.{EndedLink}
 use Rattle.xd_top.specs.Outside.{Outside, workplace}
 use Rattle.xd_top.specs.Refusal.{Refuses}
@@ -38,7 +38,8 @@ pub record RefusesWords (end : End) (old new : Outside) : Type 0 where
 
 -- The call did what the words ask for.
 abbrev pub Did : Plan → End → Outside → Outside → Type 0
-Did (Local suite) end old new = DidLocal suite end.journal end.status old.streams new.streams old.programs new.programs
+Did (Local suite) end old new =
+    DidLocal (record { suite = suite; maxfail = 0 }) (record { journal = end.journal; status = end.status }) (around old) (around new)
 Did (Linked suite workers) end old new = DidLinked suite workers end.journal end.status end.links old new
 Did (Wire file) end old new = Messages file end old new
 Did Worker end old new = Serves end old new

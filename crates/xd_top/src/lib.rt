@@ -1,8 +1,6 @@
 //! The words of the program, and the top call over everything outside that is handed in.
 #![tactic(auto)]
 
-mod child;
-mod local;
 mod named;
 mod refusal;
 mod settings;
@@ -11,7 +9,5 @@ mod wire;
 mod words;
 mod worker;
 
-pub use child::run_child;
-pub use local::run_suite;
 pub use refusal::Refusal;
 pub use top::{RunEnd, xdrun};

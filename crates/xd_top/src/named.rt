@@ -1,15 +1,15 @@
 // `SUITE -n 0`: the suite file is read, and its tests are run in the program itself.
 ghost use Rattle.std.specs.Prelude.{◌≡◌, IfOk, IfNone, MatchResult};
 ghost use Rattle.xd_edge.specs.Faults.{Rose};
-ghost use Rattle.xd_top.specs.Local.{DidLocal};
+ghost use Rattle.xd_top.specs.Named.{DidLocal};
 ghost use Rattle.xd_top.specs.Refusal.{FilesCount, HasSuite, WhySuiteRefused};
 
-use crate::local::run_suite;
 use crate::refusal::{Refusal, refuse};
 use std::alloc::Global;
 use std::sync::Wait;
 use xd_edge::{Children, Clock, FileFault, Files, OutOfMemory, Sink, Text};
 use xd_journal::Journal;
+use xd_local::{LocalSuite, run_suite};
 use xd_report::status_of;
 use xd_suite::{Suite, SuiteFault, SuiteRefusal, SuiteWhat};
 
@@ -19,6 +19,17 @@ const TOO_LARGE: SuiteFault = SuiteFault {
     test: None,
     what: SuiteWhat::TooLarge,
 };
+
+/// A suite file whose tests are to be run in the program itself.
+#[derive(Drop)]
+pub struct LocalFile<K: Children> {
+    pub alloc: Global,
+    pub suite: Text,
+    /// How many failures stop the run. 0 is no limit.
+    pub maxfail: u32,
+    /// What starts the programs of the tests.
+    pub children: K,
+}
 
 /// What such a command came to: its exit status, the journal of the run, where one was begun, and the programs that were
 /// handed in.
@@ -32,46 +43,54 @@ pub struct LocalEnd<K: Children> {
 /// Runs the tests of the suite file, or says why it is refused.
 pub fn run_named<R: Wait, F: Files, K: Children, T: Clock, O: Sink, E: Sink>(
     rt: &R,
-    alloc: Global,
-    suite: &Text,
+    file: LocalFile<K>,
     files: &mut F,
-    children: K,
     clock: &mut T,
     out: &mut O,
     err: &mut E,
 ) -> Result<LocalEnd<K>, OutOfMemory>
-    ensures did { IfOk result (λ e. DidLocal suite.now e.journal e.status
+    ensures did { IfOk result (λ e. DidLocal (record { suite = file.suite; maxfail = file.maxfail })
+        (record { journal = e.journal; status = e.status })
         (record {
-          files = record { held = F.held files.old; faults = F.faults files.old };
-          out = record { sunk = O.sunk out.old; faults = O.faults out.old };
-          err = record { sunk = E.sunk err.old; faults = E.faults err.old };
+          streams = record {
+            files = record { held = F.held files.old; faults = F.faults files.old };
+            out = record { sunk = O.sunk out.old; faults = O.faults out.old };
+            err = record { sunk = E.sunk err.old; faults = E.faults err.old };
+          };
+          programs = record { runs = K.runs file.children; faults = K.faults file.children };
         })
         (record {
-          files = record { held = F.held files.new; faults = F.faults files.new };
-          out = record { sunk = O.sunk out.new; faults = O.faults out.new };
-          err = record { sunk = E.sunk err.new; faults = E.faults err.new };
-        })
-        (record { runs = K.runs children; faults = K.faults children })
-        (record { runs = K.runs e.children; faults = K.faults e.children })) }
-    ensures no_child { IfOk result (λ e. IfNone e.journal (e.children ≡ children)) }
+          streams = record {
+            files = record { held = F.held files.new; faults = F.faults files.new };
+            out = record { sunk = O.sunk out.new; faults = O.faults out.new };
+            err = record { sunk = E.sunk err.new; faults = E.faults err.new };
+          };
+          programs = record { runs = K.runs e.children; faults = K.faults e.children };
+        })) }
+    ensures no_child { IfOk result (λ e. IfNone e.journal (e.children ≡ file.children)) }
 {
-    let mut children = children;
-    match read_suite(alloc, suite, files)? {
+    match read_suite(file.alloc, &file.suite, files)? {
         Ok(tests) => {
-            let journal = run_suite(rt, alloc, &tests, &mut children, clock, out)?;
-            let status = status_of(alloc, &journal)?;
+            let suite = LocalSuite {
+                alloc: file.alloc,
+                tests,
+                maxfail: file.maxfail,
+                children: file.children,
+            };
+            let run = run_suite(rt, suite, clock, out)?;
+            let status = status_of(file.alloc, &run.journal)?;
             Ok(LocalEnd {
                 status,
-                journal: Some(journal),
-                children,
+                journal: Some(run.journal),
+                children: run.children,
             })
         }
         Err(why) => {
-            let status = refuse(alloc, err, why)?;
+            let status = refuse(file.alloc, err, why)?;
             Ok(LocalEnd {
                 status,
                 journal: None,
-                children,
+                children: file.children,
             })
         }
     }
@@ -85,7 +104,8 @@ fn read_suite<F: Files>(
 ) -> Result<Result<Suite, Refusal>, OutOfMemory>
     ensures read { IfOk result (λ r. MatchResult r
         (HasSuite (F.held files.old) suite.now)
-        (WhySuiteRefused (F.held files.old) suite.now (Rose (F.faults files.old) (F.faults files.new)))) }
+        (WhySuiteRefused (F.held files.old) suite.now
+        (Rose (F.faults files.old) (F.faults files.new)))) }
     ensures count { IfOk result (λ r. MatchResult r
         (λ _. F.faults files.new ≡ F.faults files.old)
         (λ why. FilesCount why (F.faults files.old) (F.faults files.new))) }

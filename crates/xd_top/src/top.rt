@@ -6,7 +6,7 @@ ghost use Rattle.xd_listen.specs.Timing.{ticking};
 ghost use Rattle.xd_top.specs.Top.{Did};
 ghost use Rattle.xd_top.specs.Words.{has_links, plan_of};
 
-use crate::named::{LocalEnd, run_named};
+use crate::named::{LocalEnd, LocalFile, run_named};
 use crate::refusal::{Refusal, refuse};
 use crate::settings::settings_on;
 use crate::wire::print_named;
@@ -115,7 +115,15 @@ pub fn xdrun<
         IfNone e.journal (e.children ≡ children)) }
 {
     let end = match plan_of(words)? {
-        Plan::Local { suite } => { run_named(rt, alloc, &suite, files, children, clock, out, err)? }
+        Plan::Local { suite } => {
+            let file = LocalFile {
+                alloc,
+                suite,
+                maxfail: 0,
+                children,
+            };
+            run_named(rt, file, files, clock, out, err)?
+        }
         Plan::Linked { suite, workers } => {
             let end = run_linked(rt, alloc, &suite, settings_on(workers), starter, crew, out)?;
             return Ok(RunEnd {

@@ -52,7 +52,8 @@ fn print_file<F: Files, O: Sink>(
     ensures printed { IfOk result (λ r. MatchResult r
         (λ how. PrintsFile path.now (F.held files.old) (Rose (O.faults out.old) (O.faults out.new))
         how (O.sunk out.old) (O.sunk out.new))
-        (WhyFileRefused path.now (F.held files.old) (Rose (F.faults files.old) (F.faults files.new)))) }
+        (WhyFileRefused path.now (F.held files.old)
+        (Rose (F.faults files.old) (F.faults files.new)))) }
     ensures still { IfOk result (λ r. MatchResult r
         (λ how. how ≢ OutFailed → O.faults out.new ≡ O.faults out.old)
         (λ _. (O.sunk out.new ≡ O.sunk out.old) × (O.faults out.new ≡ O.faults out.old))) }

@@ -1,0 +1,5 @@
+pub mod Alone
+pub mod NewLines
+pub mod Report
+pub mod Steps
+pub mod Whole

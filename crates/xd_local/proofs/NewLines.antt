@@ -1,0 +1,55 @@
+-- The entries of one test, and their lines.
+use Rattle.std.proofs.Common.{◌≡◌, ℕ, Bool, true, List, ◌++◌, length, drop, Option, refl, sym, ◌∙◌, ap, subst}
+use Rattle.std.proofs.lemmas.List.{drop_at}
+use Rattle.xd_edge.specs.Sink.{Sunk}
+use Rattle.xd_journal.specs.declared.entry.Entry.{Entry}
+use Rattle.xd_journal.specs.declared.journal.Journal.{Journal}
+use Rattle.xd_journal.specs.declared.settings.Settings.{Settings}
+use Rattle.xd_journal.specs.Local.{round}
+use Rattle.xd_ledger.specs.State.{all_moved, no_one}
+use Rattle.xd_report.specs.declared.reporter.Reporter.{Reporter}
+use Rattle.xd_report.specs.Follows.{Follows}
+use Rattle.xd_report.specs.Lines.{lines_from}
+use Rattle.xd_report.specs.Printing.{ShowsLines}
+use Rattle.xd_report.proofs.Texts.{moved-more}
+use Rattle.xd_local.specs.Running.{IsNoted, NotesTest, RanTest, Running, Told, behind}
+
+-- the entries that came last
+new_ones : (old added new : List Entry) (from : ℕ) → new ≡ old ++ added → from ≡ length old → drop from new ≡ added
+new_ones old added new from is at = ap (λ (l : List Entry). drop from l) is ∙ drop_at old added from (sym at)
+
+module _ (test : ℕ) (args : List (List ℕ)) (from : ℕ) (old mid new : Running) (n : NotesTest test args old mid) (from_is : from ≡ length old.journal.entries.items) (same : new ≡ record mid { reporter = new.reporter }) where
+  added : drop from mid.journal.entries.items ≡ round test n.result
+  added = new_ones old.journal.entries.items (round test n.result) mid.journal.entries.items from n.noted.entries from_is
+
+  -- the reporter that has seen nothing of it
+  pub ahead : Told old → Follows mid.reporter (behind old.journal)
+  ahead told = subst (λ (r : Reporter). Follows r (behind old.journal)) (sym n.unseen) told
+
+  noted : IsNoted test args n.result old new
+  noted = subst (λ (r : Running). IsNoted test args n.result old r) (sym same) (record {
+    entries = n.noted.entries;
+    settings = n.noted.settings;
+    ran = n.noted.ran;
+    spent = n.noted.spent;
+    faults = n.noted.faults;
+    still = n.noted.still;
+    later = n.noted.later;
+  })
+
+  followed : Follows new.reporter (all_moved (behind old.journal) (drop from mid.journal.entries.items)) → Told new
+  followed follows =
+      let is : behind mid.journal ≡ all_moved (behind old.journal) (drop from mid.journal.entries.items) =
+      ap (λ (st : Settings). all_moved (no_one st) mid.journal.entries.items) n.noted.settings ∙ ap (all_moved (no_one old.journal.settings)) n.noted.entries ∙ moved-more (no_one old.journal.settings) old.journal.entries.items (round test n.result)
+      ∙ ap (all_moved (behind old.journal)) (sym added) in
+      subst (λ (j : Journal). Follows new.reporter (behind j)) (sym (ap (λ (r : Running). r.journal) same)) (subst (Follows new.reporter) (sym is) follows)
+
+  pub ran_test : (shown : Bool) (out_old out_new : Option Sunk) → ShowsLines shown (lines_from (behind old.journal) (drop from mid.journal.entries.items)) out_old out_new
+      → (shown ≡ true → Follows new.reporter (all_moved (behind old.journal) (drop from mid.journal.entries.items)))
+      → RanTest shown test args (record { run = old; sunk = out_old }) (record { run = new; sunk = out_new })
+  ran_test shown out_old out_new shows follows = record {
+    result = n.result;
+    noted = noted;
+    shows = subst (λ (l : List Entry). ShowsLines shown (lines_from (behind old.journal) l) out_old out_new) added shows;
+    told = λ is. followed (follows is);
+  }

@@ -1,0 +1,4 @@
+pub mod Local
+pub mod Outside
+pub mod Print
+pub mod Running

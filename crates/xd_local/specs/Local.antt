@@ -1,0 +1,95 @@
+-- A run in the program itself.
+use Rattle.std.specs.Prelude.{ℕ, ◌≡◌, ◌≢◌, ◌+◌, ◌<◌, ◌≤◌, nat_le, Bool, true, false, List, [], ◌∷◌, ◌++◌, map, take, length, Option, Some, None, option_map, unwrap_or, sum_by, if◌then◌else◌}
+use Rattle.std.specs.List.{list_all}
+use Rattle.xd_edge.specs.declared.mode.ModeKind.TheVariants.{Local}
+use Rattle.xd_edge.specs.Children.{ChildRun}
+use Rattle.xd_edge.specs.Faults.{Rose, RoseBy, StoodStill}
+use Rattle.xd_suite.specs.declared.test.Test.{Test}
+use Rattle.xd_journal.specs.declared.settings.Settings.{Settings}
+use Rattle.xd_journal.specs.declared.entry.Entry.TheVariants.{Over}
+use Rattle.xd_journal.specs.declared.entry.RunStop.{RunStop}
+use Rattle.xd_journal.specs.declared.entry.RunStop.TheVariants.{Completed, MaxFail, OutFault}
+use Rattle.xd_journal.specs.declared.journal.Journal.{Journal}
+use Rattle.xd_journal.specs.Kept.{most_of_one, most_of_all, room_behind, kept_of}
+use Rattle.xd_journal.specs.Local.{TestResult, local_entries}
+use Rattle.xd_journal.specs.Stop.{reaches}
+use Rattle.xd_ledger.specs.Ending.{stop_of}
+use Rattle.xd_ledger.specs.Legal.{IsLegal}
+use Rattle.xd_ledger.specs.Reports.{NamesInOrder, Report, reports_in}
+use Rattle.xd_ledger.specs.Reports.Report.{Result, Crash}
+use Rattle.xd_report.specs.EachReport.{NamesTests}
+use Rattle.xd_child.specs.Ending.{fault_count, outcome_of}
+use Rattle.xd_local.specs.Outside.{Reach}
+use Rattle.xd_local.specs.Print.{PrintsReport, failures_in}
+
+-- without workers, and with this limit on failures; 0 is no limit
+abbrev pub local_settings : ℕ → Settings
+local_settings maxfail = record { mode = Local; workers = 0; maxfail = maxfail; restarts = 0; chunk = None; reorder = true }
+
+-- what is kept of the output of these starts, where those before keep so many bytes
+abbrev pub kept_outputs : ℕ → List ChildRun → List (List ℕ)
+kept_outputs spent [] = []
+kept_outputs spent (r ∷ rs) =
+    let kept = unwrap_or (option_map (λ o. kept_of o (room_behind spent) r.output) (outcome_of r.fate)) [] in
+    kept ∷ kept_outputs (spent + length kept) rs
+
+-- how many bytes these results keep
+abbrev pub kept_by : List TestResult → ℕ
+kept_by [] = 0
+kept_by (r ∷ rs) = length r.output + kept_by rs
+
+-- Where they are told, the first of these tests were started in suite order, one start for each result, by their
+-- commands, and came to these results, which keep the first bytes of what the failed ones gave.
+pub record RanTests (tests : List Test) (results : List TestResult) (old new : Option (List ChildRun)) : Type 0 where
+  pub runs : List ChildRun
+  pub commands : map (λ r. r.args) runs ≡ take (length results) (map (λ t. t.run) tests)
+  pub outcomes : map (λ r. outcome_of r.fate) runs ≡ map (λ r. Some r.outcome) results
+  pub outputs : map (λ r. r.output) results ≡ kept_outputs 0 runs
+  pub added : new ≡ option_map (λ l. l ++ runs) old
+
+-- The journal is the collection of these tests, their results and the end; the results are those of their programs, and
+-- what they keep of their output is within the limits.
+pub record RunsSuite (tests : List Test) (j : Journal) (old new : Option (List ChildRun)) : Type 0 where
+  pub results : List TestResult
+  pub entries : j.entries.items ≡ local_entries (map (λ t. t.id) tests) results ++ Over (stop_of j) ∷ []
+  pub ran : RanTests tests results old new
+  pub few_kept : list_all (λ r. nat_le (length r.output) most_of_one) results ≡ true
+  pub few_in_all : kept_by results ≤ most_of_all
+
+-- how a run ends whose report was printed, or was not, by its first stop
+abbrev pub stop_after : Bool → Option RunStop → RunStop
+stop_after true first = unwrap_or first Completed
+stop_after false first = OutFault
+
+-- how a run with this limit ends behind so many failures
+abbrev pub stop_at : ℕ → ℕ → RunStop
+stop_at limit failures = if reaches limit failures then MaxFail failures else Completed
+
+-- No test was run behind the one whose failure reached this limit. Where the output did not fail, the run ended by the
+-- limit exactly where its failures reached it, with their number.
+pub record KeepsLimit (limit : ℕ) (j : Journal) : Type 0 where
+  pub none_behind : (k : ℕ) → k < length (reports_in j) → reaches limit (failures_in (take k (reports_in j))) ≡ false
+  pub how : stop_of j ≢ OutFault → stop_of j ≡ stop_at limit (failures_in (reports_in j))
+
+-- how many faults of the outside a report stands for
+abbrev pub report_faults : Report → ℕ
+report_faults (Result w item outcome) = fault_count outcome
+report_faults (Crash w item) = 0
+
+abbrev pub faults_of : List Report → ℕ
+faults_of rs = sum_by report_faults rs
+
+-- A run of these tests with this limit on failures, its journal, its report and its programs.
+pub record RunsTests (tests : List Test) (maxfail : ℕ) (j : Journal) (old new : Reach) : Type 0 where
+  pub legal : IsLegal j
+  pub settings : j.settings ≡ local_settings maxfail
+  pub suite : RunsSuite tests j old.programs.runs new.programs.runs
+  pub once : NamesInOrder j
+  pub limit : KeepsLimit maxfail j
+  pub names : NamesTests j
+  pub printed : PrintsReport (stop_of j) j old.out.sunk new.out.sunk
+  pub out_fault : stop_of j ≡ OutFault → Rose old.out.faults new.out.faults
+  pub still : stop_of j ≢ OutFault → new.out.faults ≡ old.out.faults
+  pub completed : StoodStill old.out.faults new.out.faults → stop_of j ≡ stop_at maxfail (failures_in (reports_in j))
+  pub child_faults : RoseBy (faults_of (reports_in j)) old.programs.faults new.programs.faults
+  pub child_still : faults_of (reports_in j) ≡ 0 → new.programs.faults ≡ old.programs.faults

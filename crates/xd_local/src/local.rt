@@ -1,0 +1,55 @@
+// The tests of a suite, one after another in this program.
+ghost use Rattle.std.specs.Prelude.{IfOk};
+ghost use Rattle.xd_local.specs.Local.{RunsTests};
+
+use crate::running::Run;
+use std::alloc::Global;
+use std::sync::Wait;
+use xd_edge::{Children, Clock, OutOfMemory, Sink};
+use xd_journal::Journal;
+use xd_report::was_printed;
+use xd_suite::Suite;
+
+/// A suite that is to be run in this program.
+#[derive(Drop)]
+pub struct LocalSuite<K: Children> {
+    pub alloc: Global,
+    pub tests: Suite,
+    /// How many failures stop the run. 0 is no limit.
+    pub maxfail: u32,
+    /// What starts the programs of the tests.
+    pub children: K,
+}
+
+/// The journal of a run, and the programs that were handed in.
+#[derive(Drop)]
+pub struct LocalRun<K: Children> {
+    pub journal: Journal,
+    pub children: K,
+}
+
+/// Runs the tests of a suite in order, and prints the report. The line of a test is handed on as soon as it has ended.
+/// Where the failures reach their limit, or the output fails, no further test is started.
+pub fn run_suite<R: Wait, K: Children, T: Clock, O: Sink>(
+    rt: &R,
+    suite: LocalSuite<K>,
+    clock: &mut T,
+    out: &mut O,
+) -> Result<LocalRun<K>, OutOfMemory>
+    ensures ran { IfOk result (λ r. RunsTests suite.tests suite.maxfail r.journal
+        (record {
+          out = record { sunk = O.sunk out.old; faults = O.faults out.old };
+          programs = record { runs = K.runs suite.children; faults = K.faults suite.children };
+        })
+        (record {
+          out = record { sunk = O.sunk out.new; faults = O.faults out.new };
+          programs = record { runs = K.runs r.children; faults = K.faults r.children };
+        })) }
+{
+    let mut run = Run::new(suite.alloc, suite.maxfail, suite.children);
+    run.collect(&suite.tests)?;
+    let printed = run.run_and_print(rt, &suite.tests, clock, out);
+    let shown = was_printed(printed)?;
+    let ended = run.close(shown)?;
+    Ok(ended)
+}

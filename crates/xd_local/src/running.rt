@@ -1,0 +1,300 @@
+// A run without workers, from its first entry to its last.
+ghost use Rattle.std.specs.Prelude.{◌≡◌, ◌<◌, ◌≤◌, drop, length, IfOk, OnOk};
+ghost use Rattle.xd_edge.specs.Faults.{Counted};
+ghost use Rattle.xd_suite.specs.Tests.{run_at};
+ghost use Rattle.xd_journal.specs.Kept.{most_of_all, room_behind};
+ghost use Rattle.xd_ledger.specs.Sharing.{State};
+ghost use Rattle.xd_ledger.specs.State.{all_moved};
+ghost use Rattle.xd_ledger.specs.Stops.{is_stopped};
+ghost use Rattle.xd_report.specs.Follows.{Follows};
+ghost use Rattle.xd_report.specs.Lines.{lines_from};
+ghost use Rattle.xd_report.specs.Printing.{Ends, ShowsEnd, ShowsLines};
+ghost use Rattle.xd_report.specs.Text.{tail_text};
+ghost use Rattle.xd_local.specs.Local.{local_settings, stop_after};
+ghost use Rattle.xd_local.specs.Running.{AddsRound, Closed, HasCollected, IsBegun, IsNew, NotesTest};
+ghost use Rattle.xd_local.specs.Running.{RanAll, RanPrinted, RanTest, Told, behind, scene};
+
+use crate::local::LocalRun;
+use std::alloc::Global;
+use std::marker::Model;
+use std::sync::Wait;
+use xd_child::run_child;
+use xd_edge::{Blob, Children, Clock, Indices, ModeKind, OutOfMemory, Sink};
+use xd_journal::{Entry, Ids, Journal, Outcome, RunStop, Settings};
+use xd_report::{PrintFault, Reporter, print_lines, print_tail};
+use xd_suite::Suite;
+
+/// Of the output of one failed test so many bytes are kept.
+const MOST_OF_ONE: usize = 8192;
+
+/// Of the output of all failed tests of a run so many bytes are kept, in the order of the tests.
+const MOST_OF_ALL: usize = 67_108_864;
+
+// A run without workers, as far as it came.
+#[derive(Drop)]
+pub struct Run<K: Children> {
+    alloc: Global,
+    journal: Journal,
+    // It went over all entries whose lines were printed.
+    reporter: Reporter,
+    // How many bytes of output are kept.
+    spent: usize,
+    children: K,
+}
+
+impl<K: Children> Model for Run<K> {
+    ghost use Rattle.xd_local.specs.Running.{Running};
+
+    ghost Value = { Running };
+
+    ghost view = { λ r. record {
+      journal = r.journal;
+      reporter = r.reporter;
+      spent = r.spent;
+      programs = record { runs = K.runs r.children; faults = K.faults r.children };
+    } };
+}
+
+impl<K: Children> Run<K> {
+    // Nothing was collected yet.
+    pub fn new(alloc: Global, maxfail: u32, children: K) -> Run<K>
+        ensures new { IsNew maxfail result }
+        ensures programs { result.programs ≡
+            record { runs = K.runs children; faults = K.faults children } }
+    {
+        let settings = local_settings(maxfail);
+        Run {
+            alloc,
+            journal: Journal::new(alloc, settings),
+            reporter: Reporter::new(alloc, settings),
+            spent: 0,
+            children,
+        }
+    }
+
+    // Notes which tests there are.
+    pub fn collect(&mut self, suite: &Suite) -> Result<(), OutOfMemory>
+        ensures collected { OnOk result (HasCollected suite.now self.old self.new) }
+    {
+        let ids = suite.ids(self.alloc, ModeKind::Local)?;
+        self.journal.push(Entry::Collected {
+            worker: 0,
+            ids: Ids::List(ids),
+        })?;
+        Ok(())
+    }
+
+    // Runs the tests and prints their lines and the tail.
+    pub fn run_and_print<R: Wait, T: Clock, O: Sink>(
+        &mut self,
+        rt: &R,
+        suite: &Suite,
+        clock: &mut T,
+        out: &mut O,
+    ) -> Result<(), PrintFault>
+        requires begun { IsBegun suite.now self.old }
+        ensures ran { Ends result (λ shown. RanPrinted shown suite.now
+            (scene self.old (O.sunk out.old)) (scene self.new (O.sunk out.new))) }
+        ensures counted { Ends result (λ shown.
+            Counted shown (O.faults out.old) (O.faults out.new)) }
+    {
+        self.run_tests(rt, suite, clock, out)?;
+        self.print_end(out)?;
+        Ok(())
+    }
+
+    // Prints the line of the collection, and runs the tests in order, up to the one that reaches the
+    // limit on failures.
+    fn run_tests<R: Wait, T: Clock, O: Sink>(
+        &mut self,
+        rt: &R,
+        suite: &Suite,
+        clock: &mut T,
+        out: &mut O,
+    ) -> Result<(), PrintFault>
+        requires begun { IsBegun suite.now self.old }
+        ensures ran { Ends result (λ shown. RanAll shown suite.now
+            (scene self.old (O.sunk out.old)) (scene self.new (O.sunk out.new))) }
+        ensures counted { Ends result (λ shown.
+            Counted shown (O.faults out.old) (O.faults out.new)) }
+    {
+        self.print_from(0, out)?;
+        for test in 0..suite.len() {
+            if self.is_stopped() {
+                return Ok(());
+            }
+            self.run_test(rt, suite, test, clock, out)?;
+        }
+        Ok(())
+    }
+
+    // Whether the failures reached their limit.
+    fn is_stopped(&self) -> bool
+        requires told { Told self.now }
+        ensures { result ≡ is_stopped (behind self.now.journal).books }
+    {
+        self.reporter.first_stop().is_some()
+    }
+
+    // Runs one test and prints its line.
+    fn run_test<R: Wait, T: Clock, O: Sink>(
+        &mut self,
+        rt: &R,
+        suite: &Suite,
+        test: u32,
+        clock: &mut T,
+        out: &mut O,
+    ) -> Result<(), PrintFault>
+        requires test { test < length suite.now }
+        requires told { Told self.old }
+        requires room { self.old.spent ≤ most_of_all }
+        ensures ran { Ends result (λ shown. RanTest shown test (run_at suite.now test)
+            (scene self.old (O.sunk out.old)) (scene self.new (O.sunk out.new))) }
+        ensures counted { Ends result (λ shown.
+            Counted shown (O.faults out.old) (O.faults out.new)) }
+    {
+        let from = self.entry_count();
+        self.note_test(rt, suite, test, clock)?;
+        self.print_from(from, out)?;
+        Ok(())
+    }
+
+    // Runs one test, and notes that and its result.
+    fn note_test<R: Wait, T: Clock>(
+        &mut self,
+        rt: &R,
+        suite: &Suite,
+        test: u32,
+        clock: &mut T,
+    ) -> Result<(), OutOfMemory>
+        requires test { test < length suite.now }
+        requires room { self.old.spent ≤ most_of_all }
+        ensures notes { OnOk result (NotesTest test (run_at suite.now test) self.old self.new) }
+    {
+        let start = clock.now();
+        let room = room_behind(self.spent);
+        let (outcome, output) = run_child(
+            rt,
+            self.alloc,
+            &mut self.children,
+            suite.command(test),
+            room,
+        )?;
+        let ms = clock.now() - start;
+        self.spent += output.as_slice().len();
+        add_round(self.alloc, &mut self.journal, test, outcome, ms, output)?;
+        Ok(())
+    }
+
+    // How many entries there are.
+    fn entry_count(&self) -> usize
+        ensures { result ≡ length self.now.journal.entries.items }
+    {
+        self.journal.entries.len()
+    }
+
+    // Prints the lines of the entries from a place on.
+    fn print_from<O: Sink>(&mut self, from: usize, out: &mut O) -> Result<(), PrintFault>
+        requires within { from ≤ length self.old.journal.entries.items }
+        ensures shows { (s : State) → Follows self.old.reporter s → Ends result (λ shown.
+            ShowsLines shown (lines_from s (drop from self.old.journal.entries.items))
+            (O.sunk out.old) (O.sunk out.new)) }
+        ensures follows { (s : State) → Follows self.old.reporter s → Ends result (λ shown.
+            Follows self.new.reporter (all_moved s (drop from self.old.journal.entries.items))) }
+        ensures keeps { self.new ≡ record (self.old) { reporter = self.new.reporter } }
+        ensures counted { Ends result (λ shown.
+            Counted shown (O.faults out.old) (O.faults out.new)) }
+    {
+        print_lines(
+            self.alloc,
+            &mut self.reporter,
+            &self.journal.entries[from..],
+            out,
+        )
+    }
+
+    // Prints the tail of the report, and closes the output.
+    fn print_end<O: Sink>(&self, out: &mut O) -> Result<(), PrintFault>
+        ensures shows { Ends result (λ shown.
+            ShowsEnd shown (tail_text self.now.journal) (O.sunk out.old) (O.sunk out.new)) }
+        ensures counted { Ends result (λ shown.
+            Counted shown (O.faults out.old) (O.faults out.new)) }
+    {
+        print_tail(self.alloc, &self.journal, out)
+    }
+
+    // The journal with its end, and the programs.
+    pub fn close(mut self, shown: bool) -> Result<LocalRun<K>, OutOfMemory>
+        ensures closed { IfOk result (λ r. Closed shown self r.journal) }
+        ensures children { IfOk result (λ r. self.programs ≡
+            record { runs = K.runs r.children; faults = K.faults r.children }) }
+    {
+        let how = stop_after(shown, self.reporter.first_stop());
+        self.journal.push(Entry::Over { how })?;
+        Ok(LocalRun {
+            journal: self.journal,
+            children: self.children,
+        })
+    }
+}
+
+fn local_settings(maxfail: u32) -> Settings
+    ensures { result ≡ local_settings maxfail }
+{
+    Settings {
+        mode: ModeKind::Local,
+        workers: 0,
+        maxfail,
+        restarts: 0,
+        chunk: None,
+        reorder: true,
+    }
+}
+
+fn stop_after(shown: bool, first: Option<RunStop>) -> RunStop
+    ensures { result ≡ stop_after shown first }
+{
+    if shown {
+        first.unwrap_or(RunStop::Completed)
+    } else {
+        RunStop::OutFault
+    }
+}
+
+// How many bytes may be kept of the next test's output, where so many are kept.
+fn room_behind(spent: usize) -> usize
+    requires { spent ≤ most_of_all }
+    ensures { result ≡ room_behind spent }
+{
+    MOST_OF_ONE.min(MOST_OF_ALL - spent)
+}
+
+// Notes that a test was run, and its result.
+fn add_round(
+    alloc: Global,
+    journal: &mut Journal,
+    test: u32,
+    outcome: Outcome,
+    ms: u64,
+    output: Blob,
+) -> Result<(), OutOfMemory>
+    ensures entries { OnOk result (AddsRound test
+        (record { outcome = outcome; ms = ms; output = output })
+        journal.old.entries.items journal.new.entries.items) }
+    ensures settings { journal.new.settings ≡ journal.old.settings }
+{
+    let mut indices = Vec::new(alloc);
+    indices.push(test)?;
+    journal.push(Entry::Run {
+        worker: 0,
+        indices: Indices { items: indices },
+    })?;
+    journal.push(Entry::Done {
+        worker: 0,
+        index: test,
+        outcome,
+        ms,
+        output,
+    })?;
+    Ok(())
+}
