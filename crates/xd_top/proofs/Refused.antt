@@ -8,7 +8,7 @@ use Rattle.xd_suite.specs.declared.test.Test.{Test}
 use Rattle.xd_suite.specs.Suite.{IsFaulty}
 use Rattle.xd_suite.proofs.OneAnswer.{not_both}
 use Rattle.xd_top.specs.declared.refusal.Refusal.{Refusal}
-use Rattle.xd_top.specs.declared.refusal.Refusal.TheVariants.{BadWords, Unread, Suite, FileUnread, FileTooLarge}
+use Rattle.xd_top.specs.declared.refusal.Refusal.TheVariants.{Words, Unread, Suite, FileUnread, FileTooLarge}
 use Rattle.xd_top.specs.Outside.{Streams}
 use Rattle.xd_top.specs.Refusal.{HasRefused, Refuses, RefusesSuite, TellsTests, WhySuiteRefused}
 
@@ -37,7 +37,7 @@ module _ (held : Option Held) (suite : List ℕ) (tests : List Test) (told : Tel
       not_both told.bytes fault tests (subst (λ (b : List ℕ). IsFaulty b fault) same faulty.faulty) told.is
 
   no_cause : (why : Refusal) (rose : Type 0) → WhySuiteRefused held suite rose why → (rose → ⊥) → ⊥
-  no_cause BadWords rose cause calm = cause
+  no_cause (Words why) rose cause calm = cause
   no_cause Unread rose cause calm = calm cause
   no_cause (Suite fault) rose cause calm = not_refused fault cause
   no_cause FileUnread rose cause calm = cause

@@ -2,7 +2,6 @@ pub mod Named
 pub mod Refusal
 pub mod Top
 pub mod Wire
-pub mod Words
 pub mod Worker
 pub mod Outside
 pub mod Linked

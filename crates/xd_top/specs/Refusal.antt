@@ -10,8 +10,9 @@ use Rattle.xd_suite.specs.FaultText.{fault_text}
 use Rattle.xd_suite.specs.Faults.{of_file}
 use Rattle.xd_suite.specs.Suite.{IsFaulty, IsSuiteOf}
 use Rattle.xd_top.specs.declared.refusal.Refusal.{Refusal}
-use Rattle.xd_top.specs.declared.refusal.Refusal.TheVariants.{BadWords, Unread, Suite, FileUnread, FileTooLarge}
+use Rattle.xd_top.specs.declared.refusal.Refusal.TheVariants.{Words, Unread, Suite, FileUnread, FileTooLarge}
 use Rattle.xd_top.specs.Outside.{Streams}
+use Rattle.xd_words.specs.Refusal.{words_line}
 
 -- the line of a suite's fault, by the fault in words
 unfoldable pub suite_line : List ℕ → List ℕ
@@ -19,7 +20,7 @@ suite_line text = codes "xdrun: " ++ (text ++ 10 ∷ [])
 
 -- the line on standard error
 abbrev pub refusal_line : Refusal → List ℕ
-refusal_line BadWords = codes "xdrun: bad words" ++ 10 ∷ []
+refusal_line (Words why) = words_line why
 refusal_line Unread = codes "xdrun: suite cannot be read" ++ 10 ∷ []
 refusal_line (Suite fault) = suite_line (fault_text fault)
 refusal_line FileUnread = codes "xdrun: file cannot be read" ++ 10 ∷ []

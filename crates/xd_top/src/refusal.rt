@@ -8,12 +8,13 @@ ghost use Rattle.xd_top.specs.Refusal.{refusal_line, suite_line};
 use std::alloc::Global;
 use xd_edge::{OutOfMemory, Sink, print};
 use xd_suite::SuiteFault;
+use xd_words::WordsRefusal;
 
 /// Why nothing is run. Each has its line on standard error.
 #[derive(Clone, Copy, Debug, PartialEq, Eq)]
 pub enum Refusal {
-    /// The words are of no form that is known.
-    BadWords,
+    /// The words are refused.
+    Words(WordsRefusal),
     /// The suite file is missing or cannot be read.
     Unread,
     /// The suite file is refused, for its first fault.
@@ -28,7 +29,7 @@ fn refusal_line(alloc: Global, why: Refusal) -> Result<String, OutOfMemory>
     ensures { IfOk result (λ line. string_bytes line ≡ refusal_line why) }
 {
     match why {
-        Refusal::BadWords => line_of(alloc, "xdrun: bad words\n"),
+        Refusal::Words(why) => line_of(alloc, why.line()),
         Refusal::Unread => line_of(alloc, "xdrun: suite cannot be read\n"),
         Refusal::Suite(fault) => suite_line(alloc, fault),
         Refusal::FileUnread => line_of(alloc, "xdrun: file cannot be read\n"),

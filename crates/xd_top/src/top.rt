@@ -3,14 +3,12 @@ ghost use Rattle.std.specs.Prelude.{◌≡◌, [], map, false, IfNone, IfOk};
 ghost use Rattle.xd_link.specs.Spring.{spring};
 ghost use Rattle.xd_linked.specs.Linked.{ended_link};
 ghost use Rattle.xd_listen.specs.Timing.{ticking};
-ghost use Rattle.xd_top.specs.Top.{Did};
-ghost use Rattle.xd_top.specs.Words.{has_links, plan_of};
+ghost use Rattle.xd_top.specs.Top.{Did, has_links};
+ghost use Rattle.xd_words.specs.Words.{plan_of};
 
 use crate::named::{LocalEnd, LocalFile, run_named};
 use crate::refusal::{Refusal, refuse};
-use crate::settings::settings_on;
 use crate::wire::print_named;
-use crate::words::{Plan, plan_of};
 use crate::worker::serve_at;
 use std::alloc::Global;
 use std::sync::Wait;
@@ -19,9 +17,10 @@ use xd_edge::{Children, Clock, Files, OutOfMemory, Sink, Text};
 use xd_group::LinkEnd;
 use xd_journal::Journal;
 use xd_link::{Place, Starter};
-use xd_linked::run_linked;
+use xd_linked::{LinkedSuite, run_linked};
 use xd_reader::Reader;
 use xd_runner::Runner;
+use xd_words::{Plan, plan_of};
 
 /// What a call came to.
 #[derive(Drop)]
@@ -42,15 +41,15 @@ pub struct RunEnd<St: Starter, C: Crew<Reader<St::Src>>, K: Children> {
 
 /// Does what the words ask for.
 ///
-/// `SUITE -n 0` runs the tests of a suite file in this program, one after another. Its status is 0 where all is well, 1
-/// where a test failed, 3 where the report could not be written, 5 where there is no test.
+/// `SUITE`, or with `-n 0`, runs the tests of a suite file in this program, one after another. Its status is 0 where all is
+/// well, 1 where a test failed, 3 where the report could not be written, 5 where there is no test.
 ///
-/// `SUITE -n K`, K from 1 to 32, runs them on K workers, which the starter starts and the crew's jobs read, and prints the
-/// report as the results come. Its status is that of `-n 0`, and 2 where the workers' lists of tests differ or could not
-/// be had.
+/// `SUITE` with `-n K`, K from 1 to 32, or with `--tx` runs them on workers, which the starter starts and the crew's jobs
+/// read, and prints the report as the results come. Its status is that of a run without workers, and 2 where `--maxfail`
+/// stopped it or a worker could not read the suite.
 ///
-/// `worker` serves the program's own standard input and output as a worker of execnet's messages. Its status is 0 where
-/// it was told to end or its input ended behind a whole message, else 3.
+/// `worker` serves the program's own standard input and output as a worker of execnet's messages, `socketserver HOST:PORT`
+/// one connection. The status is 0 where it was told to end or its input ended after a whole message, else 3.
 ///
 /// `wire FILE` prints a file of messages. Its status is 0 where the file has no fault, 1 where it has one, 3 where the
 /// text could not be written.
@@ -114,18 +113,27 @@ pub fn xdrun<
     ensures no_child { IfOk result (λ e. has_links (plan_of words.now) ≡ false →
         IfNone e.journal (e.children ≡ children)) }
 {
-    let end = match plan_of(words)? {
-        Plan::Local { suite } => {
+    let end = match plan_of(alloc, words)? {
+        Plan::Local { suite, maxfail } => {
             let file = LocalFile {
                 alloc,
                 suite,
-                maxfail: 0,
+                maxfail,
                 children,
             };
             run_named(rt, file, files, clock, out, err)?
         }
-        Plan::Linked { suite, workers } => {
-            let end = run_linked(rt, alloc, &suite, settings_on(workers), starter, crew, out)?;
+        Plan::Linked {
+            suite,
+            settings,
+            places,
+        } => {
+            let suite = LinkedSuite {
+                path: suite,
+                settings,
+                places: places.items,
+            };
+            let end = run_linked(rt, alloc, suite, starter, crew, out)?;
             return Ok(RunEnd {
                 status: end.status,
                 journal: Some(end.journal),
@@ -140,11 +148,21 @@ pub fn xdrun<
             without_run(status, children)
         }
         Plan::Worker => {
-            let end = serve_at(rt, alloc, &Place::Own, files, starter, crew, children, runner, clock)?;
+            let place = Place::Own;
+            let end = serve_at(
+                rt, alloc, &place, files, starter, crew, children, runner, clock,
+            )?;
             return Ok(end);
         }
-        Plan::BadWords => {
-            let status = refuse(alloc, err, Refusal::BadWords)?;
+        Plan::SocketServer { host, port } => {
+            let place = Place::Listen { host, port };
+            let end = serve_at(
+                rt, alloc, &place, files, starter, crew, children, runner, clock,
+            )?;
+            return Ok(end);
+        }
+        Plan::Refused(why) => {
+            let status = refuse(alloc, err, Refusal::Words(why))?;
             without_run(status, children)
         }
     };
