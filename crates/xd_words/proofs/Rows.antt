@@ -1,20 +1,17 @@
 -- What clap finds, and whether it refuses.
-use Rattle.std.proofs.Common.{◌≡◌, ◌==◌, ◌&&◌, Bool, true, ℕ, [], ◌∷◌, List, length, refl, ap, ◌∙◌, if◌then◌else◌}
+use Rattle.std.proofs.Common.{◌≡◌, ◌&&◌, Bool, true, false, ℕ, [], ◌∷◌, List, refl, sym, ap, ◌∙◌}
 use Rattle.std.specs.Prelude.{Option, Some, None}
 use Rattle.clap.specs.Words.{App, IsAmong, Kinds, Row, fault_of, matches_of}
 use Rattle.clap.specs.declared.error.kind.ErrorKind.{ErrorKind}
-use Rattle.xd_words.specs.Asked.{rows_in}
+use Rattle.xd_words.specs.Asked.{rows_in, unless_fault}
 
-none_refused : (kinds : Kinds) (rows : List Row) → kinds ≡ [] → Some rows ≡ (if length kinds == 0 then Some rows else None)
-none_refused kinds rows none = rw none refl
-
-some_refused : (kinds : Kinds) (rows : List Row) (k : ErrorKind) → IsAmong k kinds → None ≡ (if length kinds == 0 then Some rows else None)
+some_refused : (kinds : Kinds) (rows : List Row) (k : ErrorKind) → IsAmong k kinds → None ≡ unless_fault kinds rows
 some_refused [] rows k among = absurd among
 some_refused (x ∷ xs) rows k among = refl
 
 pub found_some : (a : App) (words : List (List ℕ)) (rows : List Row) → rows ≡ matches_of a words → fault_of a words ≡ [] → Some rows ≡ rows_in a words
 unfolding rows_in
-found_some a words rows same none = ap Some same ∙ none_refused (fault_of a words) (matches_of a words) none
+found_some a words rows same none = rw (none) (ap Some same)
 
 pub found_none : (a : App) (words : List (List ℕ)) (k : ErrorKind) → IsAmong k (fault_of a words) → None ≡ rows_in a words
 unfolding rows_in
@@ -22,3 +19,4 @@ found_none a words k among = some_refused (fault_of a words) (matches_of a words
 
 pub both_left : (a b : Bool) → (a && b) ≡ true → a ≡ true
 both_left true b h = refl
+both_left false b h = h

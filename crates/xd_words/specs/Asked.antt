@@ -1,15 +1,19 @@
 -- What the words of the main command say, option by option. The options are pytest-xdist's, but for SUITE.
 use Rattle.std.specs.Prelude.{ℕ, ◌==◌, nat_le, Bool, true, false, ◌&&◌, not, List, [], ◌∷◌, map, length, Option, Some, None, is_some, unwrap_or, option_and_then, if◌then◌else◌, codes}
 use Rattle.std.specs.Str.{bytes_eq, chars, encode_utf8_all}
-use Rattle.clap.specs.Words.{App, Row, all_of, fault_of, first_of, matches_of}
+use Rattle.clap.specs.Words.{App, Kinds, Row, all_of, fault_of, first_of, matches_of}
 use Rattle.xd_edge.specs.declared.mode.ModeKind.{ModeKind}
-use Rattle.xd_edge.specs.declared.mode.ModeKind.TheVariants.{Load}
+use Rattle.xd_edge.specs.declared.mode.ModeKind.TheVariants.{Each, Load, LoadScope, LoadFile, LoadGroup, WorkSteal}
 use Rattle.xd_spec.specs.Numbers.{number_in}
 use Rattle.xd_words.specs.declared.asked.Asked.{Asked}
 
 -- what clap finds among the words, where it does not refuse them
+abbrev pub unless_fault : Kinds → List Row → Option (List Row)
+unless_fault [] rows = Some rows
+unless_fault (k ∷ ks) rows = None
+
 unfoldable pub rows_in : App → List (List ℕ) → Option (List Row)
-rows_in app words = if length (fault_of app words) == 0 then Some (matches_of app words) else None
+rows_in app words = unless_fault (fault_of app words) (matches_of app words)
 
 -- ---- one value
 
@@ -21,10 +25,15 @@ starts_with_zero (b ∷ bs) = b == 48 && not (length bs == 0)
 abbrev pub plain_number : ℕ → List ℕ → Option ℕ
 plain_number limit text = if starts_with_zero text then None else number_in limit text
 
--- each mode that runs know
+-- the modes by their names
 abbrev pub mode_named : List ℕ → Option ModeKind
 mode_named text =
-    if bytes_eq text (codes "load") then Some Load
+    if bytes_eq text (codes "each") then Some Each
+    else if bytes_eq text (codes "load") then Some Load
+    else if bytes_eq text (codes "loadscope") then Some LoadScope
+    else if bytes_eq text (codes "loadfile") then Some LoadFile
+    else if bytes_eq text (codes "loadgroup") then Some LoadGroup
+    else if bytes_eq text (codes "worksteal") then Some WorkSteal
     else None
 
 -- an option that does not stand, or whose value is a number up to this limit

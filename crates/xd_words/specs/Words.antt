@@ -1,8 +1,8 @@
 -- What the words behind the program's name ask for, or why they are refused.
-use Rattle.std.specs.Prelude.{ℕ, ◌*◌, ◌==◌, ◌≡◌, ◌≤◌, nat_le, Bool, true, false, ◌&&◌, ◌||◌, not, List, [], ◌∷◌, map, length, replicate, Option, Some, None, is_some, unwrap_or, Result, Ok, Err, if◌then◌else◌, codes}
+use Rattle.std.specs.Prelude.{ℕ, ◌*◌, ◌==◌, ◌≡◌, ◌≢◌, ◌≤◌, nat_le, Bool, true, false, ◌&&◌, ◌||◌, not, List, [], ◌∷◌, map, length, replicate, Option, Some, None, is_some, unwrap_or, Result, Ok, Err, if◌then◌else◌, codes}
 use Rattle.std.specs.Str.{bytes_eq, encode_utf8_all}
 use Rattle.clap.specs.Words.{Row}
-use Rattle.xd_edge.specs.declared.mode.ModeKind.TheVariants.{Load}
+use Rattle.xd_edge.specs.declared.mode.ModeKind.TheVariants.{Load, Local as WithoutWorkers}
 use Rattle.xd_journal.specs.declared.settings.Settings.{Settings}
 use Rattle.xd_link.specs.declared.place.Place.{Place}
 use Rattle.xd_link.specs.declared.place.Place.TheVariants.{Popen}
@@ -93,12 +93,12 @@ plan_of words = plan_of_utf8 (map encode_utf8_all words)
 
 -- ---- what a run may rest on
 
--- one to 32 workers, as many as places, in a mode that is built, at most 1,000 new workers; a suite's path of at most 65,536 bytes
+-- one to 32 workers, as many as places, a mode of workers, at most 1,000 new workers; a suite's path of at most 65,536 bytes
 pub record FitsRun (suite : List ℕ) (settings : Settings) (places : List Place) : Type 0 where
   pub some : 1 ≤ settings.workers
   pub few : settings.workers ≤ 32
   pub each : length places ≡ settings.workers
-  pub mode : settings.mode ≡ Load
+  pub shared : settings.mode ≢ WithoutWorkers
   pub restarts : settings.restarts ≤ 1000
   pub short : length (encode_utf8_all suite) ≤ 65536
 

@@ -1,7 +1,7 @@
 // What the words of the main command say, option by option.
-ghost use Rattle.std.specs.Prelude.{◌≡◌, ◌≤◌, IfOk, IfSome, option_and_then, option_map, codes};
+ghost use Rattle.std.specs.Prelude.{◌≡◌, ◌≢◌, ◌≤◌, IfOk, IfSome, option_and_then, option_map, codes};
 ghost use Rattle.clap.specs.Words.{first_of, found_of, rows_of};
-ghost use Rattle.xd_edge.specs.declared.mode.ModeKind.TheVariants.{Load as InModeLoad};
+ghost use Rattle.xd_edge.specs.declared.mode.ModeKind.TheVariants.{Local as WithoutWorkers};
 ghost use Rattle.xd_words.specs.Asked.{asked_of, has_numbers, is_mode, is_number, is_path, is_positive, is_well_formed};
 ghost use Rattle.xd_words.specs.Asked.{mode_named, number, path_of, plain_number, starts_with_zero};
 
@@ -42,7 +42,7 @@ pub fn asked_of(alloc: Global, matches: &ArgMatches) -> Result<Asked, OutOfMemor
     ensures suite { IfOk result (λ asked. asked.suite ≡ path_of (codes "suite") (rows_of (found_of matches.now))) }
     ensures few { IfOk result (λ asked. IfSome asked.count (λ n. n ≤ 32)) }
     ensures restarts { IfOk result (λ asked. IfSome asked.restarts (λ n. n ≤ 1000)) }
-    ensures mode { IfOk result (λ asked. IfSome asked.mode (λ m. m ≡ InModeLoad)) }
+    ensures shared { IfOk result (λ asked. IfSome asked.mode (λ m. m ≢ WithoutWorkers)) }
 {
     let suite = path_of(alloc, matches, "suite")?;
     let tx = values(alloc, matches, "tx")?;
@@ -96,7 +96,7 @@ pub fn path_of(alloc: Global, matches: &ArgMatches, id: &str) -> Result<Text, Ou
 
 fn is_number(text: Option<&str>, limit: u32) -> bool
     requires { limit ≤ 1000000 }
-    ensures { result ≡ is_number limit (option_map (λ t. t.now) text) }
+    ensures { result ≡ is_number limit (option_map (λ t. t.now) text.entry) }
 {
     match text {
         Some(text) => plain_number(limit, text).is_some(),
@@ -114,7 +114,7 @@ fn is_positive(number: Option<u32>) -> bool
 }
 
 fn is_mode(text: Option<&str>) -> bool
-    ensures { result ≡ is_mode (option_map (λ t. t.now) text) }
+    ensures { result ≡ is_mode (option_map (λ t. t.now) text.entry) }
 {
     match text {
         Some(text) => mode_named(text).is_some(),
@@ -132,18 +132,23 @@ fn number(matches: &ArgMatches, id: &str, limit: u32) -> Option<u32>
 
 fn mode(matches: &ArgMatches) -> Option<ModeKind>
     ensures mode { result ≡ option_and_then mode_named (first_of (codes "dist") (rows_of (found_of matches.now))) }
-    ensures load { IfSome result (λ m. m ≡ InModeLoad) }
+    ensures shared { IfSome result (λ m. m ≢ WithoutWorkers) }
 {
     mode_named(value(matches, "dist")?)
 }
 
-// Each mode that runs know.
+// The modes by their names.
 fn mode_named(text: &str) -> Option<ModeKind>
     ensures mode { result ≡ mode_named text.now }
-    ensures load { IfSome result (λ m. m ≡ InModeLoad) }
+    ensures shared { IfSome result (λ m. m ≢ WithoutWorkers) }
 {
     match text {
+        "each" => Some(ModeKind::Each),
         "load" => Some(ModeKind::Load),
+        "loadscope" => Some(ModeKind::LoadScope),
+        "loadfile" => Some(ModeKind::LoadFile),
+        "loadgroup" => Some(ModeKind::LoadGroup),
+        "worksteal" => Some(ModeKind::WorkSteal),
         _ => None,
     }
 }

@@ -8,7 +8,7 @@ use clap::{Arg, ArgAction, Command};
 use std::alloc::{AllocError, Global};
 
 // A command without a name of its own among the words, and without options that clap would add.
-fn plain(alloc: Global) -> Command<'static>
+fn plain<'a>(alloc: Global) -> Command<'a>
     ensures { app_of result ≡ plain_app }
 {
     Command::new(alloc, "xdrun")
@@ -18,7 +18,7 @@ fn plain(alloc: Global) -> Command<'static>
 }
 
 // A word that has to stand.
-fn path(alloc: Global, id: &'static str) -> Arg<'static>
+fn path<'a>(alloc: Global, id: &'a str) -> Arg<'a>
     ensures rule { rule_of result ≡ path_rule id.now }
     ensures local { result.global ≡ false }
 {
@@ -26,7 +26,7 @@ fn path(alloc: Global, id: &'static str) -> Arg<'static>
 }
 
 // An option of one letter, with a value.
-fn short(alloc: Global, id: &'static str, letter: char) -> Arg<'static>
+fn short<'a>(alloc: Global, id: &'a str, letter: char) -> Arg<'a>
     ensures rule { rule_of result ≡ short_rule id.now letter }
     ensures local { result.global ≡ false }
 {
@@ -34,7 +34,7 @@ fn short(alloc: Global, id: &'static str, letter: char) -> Arg<'static>
 }
 
 // An option of a word, with a value.
-fn long(alloc: Global, id: &'static str, name: &'static str) -> Arg<'static>
+fn long<'a>(alloc: Global, id: &'a str, name: &'a str) -> Arg<'a>
     ensures rule { rule_of result ≡ long_rule id.now name.now }
     ensures local { result.global ≡ false }
 {
@@ -42,7 +42,7 @@ fn long(alloc: Global, id: &'static str, name: &'static str) -> Arg<'static>
 }
 
 // The same, any number of times.
-fn repeated(alloc: Global, id: &'static str, name: &'static str) -> Arg<'static>
+fn repeated<'a>(alloc: Global, id: &'a str, name: &'a str) -> Arg<'a>
     ensures rule { rule_of result ≡ repeated_rule id.now name.now }
     ensures local { result.global ≡ false }
 {
@@ -50,7 +50,7 @@ fn repeated(alloc: Global, id: &'static str, name: &'static str) -> Arg<'static>
 }
 
 // An option of one letter, without a value.
-fn short_flag(alloc: Global, id: &'static str, letter: char) -> Arg<'static>
+fn short_flag<'a>(alloc: Global, id: &'a str, letter: char) -> Arg<'a>
     ensures rule { rule_of result ≡ short_flag_rule id.now letter }
     ensures local { result.global ≡ false }
 {
@@ -58,7 +58,7 @@ fn short_flag(alloc: Global, id: &'static str, letter: char) -> Arg<'static>
 }
 
 // An option of a word, without a value.
-fn long_flag(alloc: Global, id: &'static str, name: &'static str) -> Arg<'static>
+fn long_flag<'a>(alloc: Global, id: &'a str, name: &'a str) -> Arg<'a>
     ensures rule { rule_of result ≡ long_flag_rule id.now name.now }
     ensures local { result.global ≡ false }
 {
@@ -75,7 +75,7 @@ fn with_arg<'a>(command: Command<'a>, arg: Arg<'a>) -> Result<Command<'a>, Alloc
 
 /// The main command.
 #[tactic(auto, unfolding(crate::specs::Command::main_app))]
-pub fn main_command(alloc: Global) -> Result<Command<'static>, AllocError>
+pub fn main_command<'a>(alloc: Global) -> Result<Command<'a>, AllocError>
     ensures app { IfOk result (λ c. app_of c ≡ main_app) }
     ensures simple { IfOk result (λ c. is_simple_and_free (app_of c) ≡ true) }
 {
@@ -95,7 +95,7 @@ pub fn main_command(alloc: Global) -> Result<Command<'static>, AllocError>
 
 /// `wire FILE`, behind its name.
 #[tactic(auto, unfolding(crate::specs::Command::wire_app))]
-pub fn wire_command(alloc: Global) -> Result<Command<'static>, AllocError>
+pub fn wire_command<'a>(alloc: Global) -> Result<Command<'a>, AllocError>
     ensures app { IfOk result (λ c. app_of c ≡ wire_app) }
     ensures simple { IfOk result (λ c. is_simple_and_free (app_of c) ≡ true) }
 {
@@ -105,7 +105,7 @@ pub fn wire_command(alloc: Global) -> Result<Command<'static>, AllocError>
 
 /// `worker`, behind its name.
 #[tactic(auto, unfolding(crate::specs::Command::worker_app))]
-pub fn worker_command(alloc: Global) -> Command<'static>
+pub fn worker_command<'a>(alloc: Global) -> Command<'a>
     ensures app { app_of result ≡ worker_app }
     ensures simple { is_simple_and_free (app_of result) ≡ true }
 {

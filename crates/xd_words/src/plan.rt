@@ -2,7 +2,7 @@
 ghost use Rattle.std.specs.Prelude.{◌≡◌, ◌≢◌, ◌≤◌, IfOk, IfSome, map, length, replicate, None, [], false};
 ghost use Rattle.std.specs.Str.{encode_utf8_all};
 ghost use Rattle.clap.specs.Words.{found_of, rows_of};
-ghost use Rattle.xd_edge.specs.declared.mode.ModeKind.TheVariants.{Load as InModeLoad};
+ghost use Rattle.xd_edge.specs.declared.mode.ModeKind.TheVariants.{Local as WithoutWorkers};
 ghost use Rattle.xd_link.specs.declared.place.Place.TheVariants.{Popen};
 ghost use Rattle.xd_spec.specs.declared.fault.SpecFault.TheVariants.{OutOfMemory as NoMemory};
 ghost use Rattle.xd_spec.specs.Tx.{tx_of};
@@ -71,16 +71,20 @@ fn plan_of_texts(alloc: Global, words: &[&str]) -> Result<Plan, OutOfMemory>
     ensures plan { IfOk result (λ plan. plan ≡ plan_of_utf8 (map (λ w. w.now) words.now)) }
     ensures fits { IfOk result Fits }
 {
-    match words {
-        [first, rest @ ..] if *first == "worker" => {
+    let [first, rest @ ..] = words else {
+        let plan = main_plan(alloc, words)?;
+        return Ok(plan);
+    };
+    match *first {
+        "worker" => {
             let plan = worker_plan(alloc, rest)?;
             Ok(plan)
         }
-        [first, rest @ ..] if *first == "wire" => {
+        "wire" => {
             let plan = wire_plan(alloc, rest)?;
             Ok(plan)
         }
-        [first, ..] if *first == "socketserver" => Ok(Plan::Refused(WordsRefusal::BadWords)),
+        "socketserver" => Ok(Plan::Refused(WordsRefusal::BadWords)),
         _ => {
             let plan = main_plan(alloc, words)?;
             Ok(plan)
@@ -146,7 +150,7 @@ fn plan_by(alloc: Global, matches: &ArgMatches) -> Result<Plan, OutOfMemory>
 fn plan_for(alloc: Global, asked: Asked) -> Result<Plan, OutOfMemory>
     requires few { IfSome asked.count (λ n. n ≤ 32) }
     requires restarts { IfSome asked.restarts (λ n. n ≤ 1000) }
-    requires mode { IfSome asked.mode (λ m. m ≡ InModeLoad) }
+    requires shared { IfSome asked.mode (λ m. m ≢ WithoutWorkers) }
     requires short { length (encode_utf8_all asked.suite) ≤ 65536 }
     ensures plan { IfOk result (λ plan. plan ≡ plan_for asked) }
     ensures fits { IfOk result Fits }
@@ -245,7 +249,7 @@ fn child(alloc: Global) -> Place
 fn run_at(asked: Asked, places: Places) -> Plan
     requires few { length places ≤ 32 }
     requires restarts { IfSome asked.restarts (λ n. n ≤ 1000) }
-    requires mode { IfSome asked.mode (λ m. m ≡ InModeLoad) }
+    requires shared { IfSome asked.mode (λ m. m ≢ WithoutWorkers) }
     requires short { length (encode_utf8_all asked.suite) ≤ 65536 }
     ensures plan { result ≡ run_at asked places }
     ensures fits { Fits result }
