@@ -70,8 +70,8 @@ texts_of (Some texts) = map chars texts
 abbrev pub has_numbers : List Row → Bool
 has_numbers rows =
     is_number 32 (first_of (codes "n") rows) && is_number 1000000 (first_of (codes "maxfail") rows)
-    && is_number 1000 (first_of (codes "restarts") rows) && is_number 1000000 (first_of (codes "chunk") rows)
-    && is_positive (number 1000000 (codes "chunk") rows)
+    && is_number 1000 (first_of (codes "max-worker-restart") rows) && is_number 1000000 (first_of (codes "maxschedchunk") rows)
+    && is_positive (number 1000000 (codes "maxschedchunk") rows)
 
 unfoldable pub is_well_formed : List Row → Bool
 is_well_formed rows = is_mode (first_of (codes "dist") rows) && has_numbers rows
@@ -90,7 +90,7 @@ asked_of rows = record {
   tx = texts_of (all_of (codes "tx") rows);
   maxfail = number 1000000 (codes "maxfail") rows;
   first = flag (codes "x") rows;
-  restarts = number 1000 (codes "restarts") rows;
-  chunk = number 1000000 (codes "chunk") rows;
-  reorder = not (flag (codes "keep") rows);
+  restarts = number 1000 (codes "max-worker-restart") rows;
+  chunk = number 1000000 (codes "maxschedchunk") rows;
+  reorder = not (flag (codes "no-loadscope-reorder") rows);
 }

@@ -20,34 +20,34 @@ abbrev pub short_rule : List ℕ → ℕ → Rule
 short_rule id letter = record (new_rule id) { short = Some letter }
 
 -- an option of a word, with a value
-abbrev pub long_rule : List ℕ → List ℕ → Rule
-long_rule id name = record (new_rule id) { long = Some name }
+abbrev pub long_rule : List ℕ → Rule
+long_rule name = record (new_rule name) { long = Some name }
 
 -- the same, any number of times
-abbrev pub repeated_rule : List ℕ → List ℕ → Rule
-repeated_rule id name = record (new_rule id) { long = Some name; action = Some Append }
+abbrev pub repeated_rule : List ℕ → Rule
+repeated_rule name = record (new_rule name) { long = Some name; action = Some Append }
 
 -- an option of one letter, without a value
 abbrev pub short_flag_rule : List ℕ → ℕ → Rule
 short_flag_rule id letter = record (new_rule id) { short = Some letter; action = Some SetTrue }
 
 -- an option of a word, without a value
-abbrev pub long_flag_rule : List ℕ → List ℕ → Rule
-long_flag_rule id name = record (new_rule id) { long = Some name; action = Some SetTrue }
+abbrev pub long_flag_rule : List ℕ → Rule
+long_flag_rule name = record (new_rule name) { long = Some name; action = Some SetTrue }
 
 -- SUITE -n N --dist MODE -d --tx SPEC --maxfail K -x --max-worker-restart M --maxschedchunk C --no-loadscope-reorder
 unfoldable pub main_app : App
 main_app = with_rule (with_rule (with_rule (with_rule (with_rule (with_rule (with_rule (with_rule (with_rule (with_rule plain_app
     (path_rule (codes "suite")))
     (short_rule (codes "n") 110))
-    (long_rule (codes "dist") (codes "dist")))
+    (long_rule (codes "dist")))
     (short_flag_rule (codes "d") 100))
-    (repeated_rule (codes "tx") (codes "tx")))
-    (long_rule (codes "maxfail") (codes "maxfail")))
+    (repeated_rule (codes "tx")))
+    (long_rule (codes "maxfail")))
     (short_flag_rule (codes "x") 120))
-    (long_rule (codes "restarts") (codes "max-worker-restart")))
-    (long_rule (codes "chunk") (codes "maxschedchunk")))
-    (long_flag_rule (codes "keep") (codes "no-loadscope-reorder"))
+    (long_rule (codes "max-worker-restart")))
+    (long_rule (codes "maxschedchunk")))
+    (long_flag_rule (codes "no-loadscope-reorder"))
 
 -- wire FILE, behind its name
 unfoldable pub wire_app : App

@@ -54,9 +54,9 @@ pub fn asked_of(alloc: Global, matches: &ArgMatches) -> Result<Asked, OutOfMemor
         tx,
         maxfail: number(matches, "maxfail", 1_000_000),
         first: flag(matches, "x"),
-        restarts: number(matches, "restarts", 1_000),
-        chunk: number(matches, "chunk", 1_000_000),
-        reorder: !flag(matches, "keep"),
+        restarts: number(matches, "max-worker-restart", 1_000),
+        chunk: number(matches, "maxschedchunk", 1_000_000),
+        reorder: !flag(matches, "no-loadscope-reorder"),
     })
 }
 
@@ -73,9 +73,9 @@ fn has_numbers(matches: &ArgMatches) -> bool
 {
     is_number(value(matches, "n"), 32)
         && is_number(value(matches, "maxfail"), 1_000_000)
-        && is_number(value(matches, "restarts"), 1_000)
-        && is_number(value(matches, "chunk"), 1_000_000)
-        && is_positive(number(matches, "chunk", 1_000_000))
+        && is_number(value(matches, "max-worker-restart"), 1_000)
+        && is_number(value(matches, "maxschedchunk"), 1_000_000)
+        && is_positive(number(matches, "maxschedchunk", 1_000_000))
 }
 
 /// A path of at most 65,536 bytes.

@@ -34,19 +34,19 @@ fn short<'a>(alloc: Global, id: &'a str, letter: char) -> Arg<'a>
 }
 
 // An option of a word, with a value.
-fn long<'a>(alloc: Global, id: &'a str, name: &'a str) -> Arg<'a>
-    ensures rule { rule_of result ≡ long_rule id.now name.now }
+fn long<'a>(alloc: Global, name: &'a str) -> Arg<'a>
+    ensures rule { rule_of result ≡ long_rule name.now }
     ensures local { result.global ≡ false }
 {
-    Arg::new(alloc, id).long(name)
+    Arg::new(alloc, name).long(name)
 }
 
 // The same, any number of times.
-fn repeated<'a>(alloc: Global, id: &'a str, name: &'a str) -> Arg<'a>
-    ensures rule { rule_of result ≡ repeated_rule id.now name.now }
+fn repeated<'a>(alloc: Global, name: &'a str) -> Arg<'a>
+    ensures rule { rule_of result ≡ repeated_rule name.now }
     ensures local { result.global ≡ false }
 {
-    Arg::new(alloc, id).long(name).action(ArgAction::Append)
+    Arg::new(alloc, name).long(name).action(ArgAction::Append)
 }
 
 // An option of one letter, without a value.
@@ -58,11 +58,11 @@ fn short_flag<'a>(alloc: Global, id: &'a str, letter: char) -> Arg<'a>
 }
 
 // An option of a word, without a value.
-fn long_flag<'a>(alloc: Global, id: &'a str, name: &'a str) -> Arg<'a>
-    ensures rule { rule_of result ≡ long_flag_rule id.now name.now }
+fn long_flag<'a>(alloc: Global, name: &'a str) -> Arg<'a>
+    ensures rule { rule_of result ≡ long_flag_rule name.now }
     ensures local { result.global ≡ false }
 {
-    Arg::new(alloc, id).long(name).action(ArgAction::SetTrue)
+    Arg::new(alloc, name).long(name).action(ArgAction::SetTrue)
 }
 
 fn with_arg<'a>(command: Command<'a>, arg: Arg<'a>) -> Result<Command<'a>, AllocError>
@@ -82,14 +82,14 @@ pub fn main_command<'a>(alloc: Global) -> Result<Command<'a>, AllocError>
     let command = plain(alloc);
     let command = with_arg(command, path(alloc, "suite"))?;
     let command = with_arg(command, short(alloc, "n", 'n'))?;
-    let command = with_arg(command, long(alloc, "dist", "dist"))?;
+    let command = with_arg(command, long(alloc, "dist"))?;
     let command = with_arg(command, short_flag(alloc, "d", 'd'))?;
-    let command = with_arg(command, repeated(alloc, "tx", "tx"))?;
-    let command = with_arg(command, long(alloc, "maxfail", "maxfail"))?;
+    let command = with_arg(command, repeated(alloc, "tx"))?;
+    let command = with_arg(command, long(alloc, "maxfail"))?;
     let command = with_arg(command, short_flag(alloc, "x", 'x'))?;
-    let command = with_arg(command, long(alloc, "restarts", "max-worker-restart"))?;
-    let command = with_arg(command, long(alloc, "chunk", "maxschedchunk"))?;
-    let command = with_arg(command, long_flag(alloc, "keep", "no-loadscope-reorder"))?;
+    let command = with_arg(command, long(alloc, "max-worker-restart"))?;
+    let command = with_arg(command, long(alloc, "maxschedchunk"))?;
+    let command = with_arg(command, long_flag(alloc, "no-loadscope-reorder"))?;
     Ok(command)
 }
 
