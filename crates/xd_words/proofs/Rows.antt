@@ -1,6 +1,6 @@
 -- What clap finds, and whether it refuses.
-use Rattle.std.proofs.Common.{◌≡◌, ◌&&◌, Bool, true, false, ℕ, [], ◌∷◌, List, refl, sym, ap, ◌∙◌}
-use Rattle.std.specs.Prelude.{Option, Some, None}
+use Rattle.std.proofs.Common.{◌≡◌, ◌&&◌, Bool, true, false, ℕ, [], ◌∷◌, List, refl, ap}
+use Rattle.std.specs.Prelude.{Some, None}
 use Rattle.clap.specs.Words.{App, IsAmong, Kinds, Row, fault_of, matches_of}
 use Rattle.clap.specs.declared.error.kind.ErrorKind.{ErrorKind}
 use Rattle.xd_words.specs.Asked.{rows_in, unless_fault}

@@ -1,5 +1,5 @@
 -- The commands, as clap reads their words.
-use Rattle.std.specs.Prelude.{ℕ, Bool, true, List, Some, codes}
+use Rattle.std.specs.Prelude.{ℕ, true, List, Some, codes}
 use Rattle.clap.specs.Words.{App, Rule, new_app, new_rule, with_rule}
 use Rattle.clap.specs.Simple.{on_top}
 use Rattle.clap.specs.declared.builder.action.ArgAction.TheVariants.{Append, SetTrue}
