@@ -5,3 +5,5 @@
 mod places;
 #[cfg(test)]
 mod spec;
+#[cfg(test)]
+mod words;

@@ -1,0 +1,107 @@
+-- What the words behind the program's name ask for, or why they are refused.
+use Rattle.std.specs.Prelude.{ℕ, ◌*◌, ◌==◌, ◌≡◌, ◌≢◌, ◌≤◌, Bool, ◌&&◌, ◌||◌, not, List, [], ◌∷◌, map, length, replicate, Option, Some, None, is_some, unwrap_or, Result, Ok, Err, if◌then◌else◌, codes}
+use Rattle.std.specs.Str.{bytes_eq, encode_utf8_all}
+use Rattle.clap.specs.Words.{Row}
+use Rattle.xd_edge.specs.declared.mode.ModeKind.TheVariants.{Load, Local as WithoutWorkers}
+use Rattle.xd_journal.specs.declared.settings.Settings.{Settings}
+use Rattle.xd_link.specs.declared.place.Place.{Place}
+use Rattle.xd_link.specs.declared.place.Place.TheVariants.{Popen}
+use Rattle.xd_spec.specs.declared.fault.SpecFault.{SpecFault}
+use Rattle.xd_spec.specs.Tx.{tx_of}
+use Rattle.xd_words.specs.Asked.{asked_of, is_path, is_well_formed, path_of, rows_in}
+use Rattle.xd_words.specs.Command.{main_app, wire_app, worker_app}
+use Rattle.xd_words.specs.declared.asked.Asked.{Asked}
+use Rattle.xd_words.specs.declared.plan.Plan.{Plan}
+use Rattle.xd_words.specs.declared.plan.Plan.TheVariants.{Local, Linked, Wire, Worker, Refused}
+use Rattle.xd_words.specs.declared.refusal.WordsRefusal.{WordsRefusal}
+use Rattle.xd_words.specs.declared.refusal.WordsRefusal.TheVariants.{BadWords, CountWithPlaces, FirstWithMaxfail, LoadWithDist, NoWorkers, BadSpec}
+
+-- ---- the main command
+
+abbrev pub has_places : Asked → Bool
+has_places a = not (length a.tx == 0)
+
+abbrev pub names_mode : Asked → Bool
+names_mode a = a.load || is_some a.mode
+
+-- what options exclude each other, in order
+unfoldable pub exclusion : Asked → Option WordsRefusal
+exclusion a =
+    if is_some a.count && has_places a then Some CountWithPlaces
+    else if a.first && is_some a.maxfail then Some FirstWithMaxfail
+    else if a.load && is_some a.mode then Some LoadWithDist
+    else if names_mode a && not (is_some a.count) && not (has_places a) then Some NoWorkers
+    else None
+
+-- the places of the words of --tx, or so many children of the program
+unfoldable pub places_of : Asked → Result (List Place) SpecFault
+places_of a = if has_places a then tx_of (map encode_utf8_all a.tx) else Ok (replicate (unwrap_or a.count 0) (Popen None []))
+
+-- the first failure stops the run, or so many do; 0 is no limit
+abbrev pub maxfail_of : Asked → ℕ
+maxfail_of a = if a.first then 1 else unwrap_or a.maxfail 0
+
+-- mode load where none is named, and four new workers for each where no number is named
+abbrev pub settings_of : Asked → ℕ → Settings
+settings_of a workers = record { mode = unwrap_or a.mode Load; workers = workers; maxfail = maxfail_of a; restarts = unwrap_or a.restarts (4 * workers); chunk = a.chunk; reorder = a.reorder }
+
+-- without workers the tests are run in the program itself
+unfoldable pub run_at : Asked → List Place → Plan
+run_at a places = if length places == 0 then Local a.suite (maxfail_of a) else Linked a.suite (settings_of a (length places)) places
+
+abbrev pub run_where : Asked → Result (List Place) SpecFault → Plan
+run_where a (Err fault) = Refused BadSpec
+run_where a (Ok places) = run_at a places
+
+abbrev pub refused_or : Option WordsRefusal → Plan → Plan
+refused_or (Some why) plan = Refused why
+refused_or None plan = plan
+
+unfoldable pub plan_for : Asked → Plan
+plan_for a = refused_or (exclusion a) (run_where a (places_of a))
+
+unfoldable pub plan_by : List Row → Plan
+plan_by rows = if is_well_formed rows && is_path (path_of (codes "suite") rows) then plan_for (asked_of rows) else Refused BadWords
+
+abbrev pub main_plan : Option (List Row) → Plan
+main_plan None = Refused BadWords
+main_plan (Some rows) = plan_by rows
+
+-- ---- the other commands
+
+abbrev pub worker_plan : Option (List Row) → Plan
+worker_plan None = Refused BadWords
+worker_plan (Some rows) = Worker
+
+abbrev pub wire_plan : Option (List Row) → Plan
+wire_plan None = Refused BadWords
+wire_plan (Some rows) = if is_path (path_of (codes "file") rows) then Wire (path_of (codes "file") rows) else Refused BadWords
+
+-- ---- all commands
+
+-- the first word selects the command, by its UTF-8; a suite of such a name is written ./worker
+unfoldable pub plan_of_utf8 : List (List ℕ) → Plan
+plan_of_utf8 [] = main_plan (rows_in main_app [])
+plan_of_utf8 (w ∷ ws) =
+    if bytes_eq w (codes "worker") then worker_plan (rows_in worker_app ws)
+    else if bytes_eq w (codes "wire") then wire_plan (rows_in wire_app ws)
+    else if bytes_eq w (codes "socketserver") then Refused BadWords
+    else main_plan (rows_in main_app (w ∷ ws))
+
+abbrev pub plan_of : List (List ℕ) → Plan
+plan_of words = plan_of_utf8 (map encode_utf8_all words)
+
+-- ---- what a run may rest on
+
+-- one to 32 workers, as many as places, a mode of workers, at most 1,000 new workers; a suite's path of at most 65,536 bytes
+pub record FitsRun (suite : List ℕ) (settings : Settings) (places : List Place) : Type 0 where
+  pub some : 1 ≤ settings.workers
+  pub few : settings.workers ≤ 32
+  pub each : length places ≡ settings.workers
+  pub shared : settings.mode ≢ WithoutWorkers
+  pub restarts : settings.restarts ≤ 1000
+  pub short : length (encode_utf8_all suite) ≤ 65536
+
+abbrev pub Fits : Plan → Type 0
+Fits (Linked suite settings places) = FitsRun suite settings places
+Fits _ = Unit {0}

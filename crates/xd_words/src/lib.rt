@@ -1,0 +1,14 @@
+//! The words behind the program's name: what they ask for, or why they are refused. clap reads them as texts; numbers, modes
+//! and what excludes what are read here.
+#![tactic(auto)]
+
+mod asked;
+mod command;
+mod matches;
+mod places;
+mod plan;
+mod refusal;
+
+pub use places::Places;
+pub use plan::{Plan, plan_of};
+pub use refusal::WordsRefusal;
