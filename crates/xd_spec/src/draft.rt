@@ -215,8 +215,9 @@ fn is_set(name: &Text, env: &[(Text, Text)]) -> bool
     false
 }
 
-// HOST:PORT.
-fn address_in(value: &str) -> Option<(&str, u16)>
+/// The host and the port of HOST:PORT, which is cut at its last `:`. The host is not empty, and the port is from 1 to 65,535,
+/// in one to five digits.
+pub fn address_in(value: &str) -> Option<(&str, u16)>
     ensures { option_map (λ a. (chars a.0.now, a.1)) result ≡ address_in value.now }
 {
     let (host, port) = cut_port(value)?;

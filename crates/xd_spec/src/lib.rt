@@ -8,6 +8,7 @@ mod numbers;
 mod spec;
 mod tx;
 
+pub use draft::address_in;
 pub use fault::SpecFault;
 pub use numbers::number_in;
 pub use spec::Spec;

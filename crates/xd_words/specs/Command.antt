@@ -56,3 +56,7 @@ wire_app = with_rule plain_app (path_rule (codes "file"))
 -- worker, behind its name
 unfoldable pub worker_app : App
 worker_app = plain_app
+
+-- socketserver HOST:PORT, after its name
+unfoldable pub socketserver_app : App
+socketserver_app = with_rule plain_app (path_rule (codes "address"))

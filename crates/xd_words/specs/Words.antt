@@ -1,18 +1,19 @@
 -- What the words behind the program's name ask for, or why they are refused.
 use Rattle.std.specs.Prelude.{ℕ, ◌*◌, ◌==◌, ◌≡◌, ◌≢◌, ◌≤◌, Bool, ◌&&◌, ◌||◌, not, List, [], ◌∷◌, map, length, replicate, Option, Some, None, is_some, unwrap_or, Result, Ok, Err, if◌then◌else◌, codes}
 use Rattle.std.specs.Str.{bytes_eq, encode_utf8_all}
-use Rattle.clap.specs.Words.{Row}
+use Rattle.clap.specs.Words.{Row, first_of}
 use Rattle.xd_edge.specs.declared.mode.ModeKind.TheVariants.{Load, Local as WithoutWorkers}
 use Rattle.xd_journal.specs.declared.settings.Settings.{Settings}
 use Rattle.xd_link.specs.declared.place.Place.{Place}
 use Rattle.xd_link.specs.declared.place.Place.TheVariants.{Popen}
 use Rattle.xd_spec.specs.declared.fault.SpecFault.{SpecFault}
+use Rattle.xd_spec.specs.Spec.{address_in}
 use Rattle.xd_spec.specs.Tx.{tx_of}
 use Rattle.xd_words.specs.Asked.{asked_of, is_path, is_well_formed, path_of, rows_in}
-use Rattle.xd_words.specs.Command.{main_app, wire_app, worker_app}
+use Rattle.xd_words.specs.Command.{main_app, socketserver_app, wire_app, worker_app}
 use Rattle.xd_words.specs.declared.asked.Asked.{Asked}
 use Rattle.xd_words.specs.declared.plan.Plan.{Plan}
-use Rattle.xd_words.specs.declared.plan.Plan.TheVariants.{Local, Linked, Wire, Worker, Refused}
+use Rattle.xd_words.specs.declared.plan.Plan.TheVariants.{Local, Linked, Wire, Worker, SocketServer, Refused}
 use Rattle.xd_words.specs.declared.refusal.WordsRefusal.{WordsRefusal}
 use Rattle.xd_words.specs.declared.refusal.WordsRefusal.TheVariants.{BadWords, CountWithPlaces, FirstWithMaxfail, LoadWithDist, NoWorkers, BadSpec}
 
@@ -77,6 +78,15 @@ abbrev pub wire_plan : Option (List Row) → Plan
 wire_plan None = Refused BadWords
 wire_plan (Some rows) = if is_path (path_of (codes "file") rows) then Wire (path_of (codes "file") rows) else Refused BadWords
 
+-- the host and the port where one connection is waited for
+abbrev pub serve_at : Option (List ℕ × ℕ) → Plan
+serve_at None = Refused BadWords
+serve_at (Some address) = SocketServer address.0 address.1
+
+abbrev pub socketserver_plan : Option (List Row) → Plan
+socketserver_plan None = Refused BadWords
+socketserver_plan (Some rows) = serve_at (address_in (unwrap_or (first_of (codes "address") rows) []))
+
 -- ---- all commands
 
 -- the first word selects the command, by its UTF-8; a suite of such a name is written ./worker
@@ -85,7 +95,7 @@ plan_of_utf8 [] = main_plan (rows_in main_app [])
 plan_of_utf8 (w ∷ ws) =
     if bytes_eq w (codes "worker") then worker_plan (rows_in worker_app ws)
     else if bytes_eq w (codes "wire") then wire_plan (rows_in wire_app ws)
-    else if bytes_eq w (codes "socketserver") then Refused BadWords
+    else if bytes_eq w (codes "socketserver") then socketserver_plan (rows_in socketserver_app ws)
     else main_plan (rows_in main_app (w ∷ ws))
 
 abbrev pub plan_of : List (List ℕ) → Plan

@@ -1,7 +1,7 @@
 // The commands, as clap reads their words.
 ghost use Rattle.std.specs.Prelude.{◌≡◌, IfOk, codes, false, true};
 ghost use Rattle.clap.specs.Words.{app_of, is_simple_and_free, new_app, rule_of, with_rule};
-ghost use Rattle.xd_words.specs.Command.{main_app, plain_app, wire_app, worker_app};
+ghost use Rattle.xd_words.specs.Command.{main_app, plain_app, socketserver_app, wire_app, worker_app};
 ghost use Rattle.xd_words.specs.Command.{long_flag_rule, long_rule, path_rule, repeated_rule, short_flag_rule, short_rule};
 
 use clap::{Arg, ArgAction, Command};
@@ -110,4 +110,14 @@ pub fn worker_command<'a>(alloc: Global) -> Command<'a>
     ensures simple { is_simple_and_free (app_of result) ≡ true }
 {
     plain(alloc)
+}
+
+/// `socketserver HOST:PORT`, after its name.
+#[tactic(auto, unfolding(crate::specs::Command::socketserver_app))]
+pub fn socketserver_command<'a>(alloc: Global) -> Result<Command<'a>, AllocError>
+    ensures app { IfOk result (λ c. app_of c ≡ socketserver_app) }
+    ensures simple { IfOk result (λ c. is_simple_and_free (app_of c) ≡ true) }
+{
+    let command = with_arg(plain(alloc), path(alloc, "address"))?;
+    Ok(command)
 }

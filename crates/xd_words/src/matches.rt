@@ -4,9 +4,9 @@ ghost use Rattle.std.specs.Str.{chars};
 ghost use Rattle.clap.specs.Words.{all_of, app_of, first_of, found_of, is_simple_and_free, rows_of};
 ghost use Rattle.clap.specs.declared.error.kind.ErrorKind.TheVariants.{OutOfMemory as NoMemory};
 ghost use Rattle.xd_words.specs.Asked.{flag, rows_in, texts_of};
-ghost use Rattle.xd_words.specs.Command.{main_app, wire_app, worker_app};
+ghost use Rattle.xd_words.specs.Command.{main_app, socketserver_app, wire_app, worker_app};
 
-use crate::command::{main_command, wire_command, worker_command};
+use crate::command::{main_command, socketserver_command, wire_command, worker_command};
 use clap::error::ErrorKind;
 use clap::{ArgMatches, Command};
 use std::alloc::Global;
@@ -44,6 +44,18 @@ pub fn worker_matches<'a, 'b>(
     ensures { IfOk result (λ r. option_map (λ m. rows_of (found_of m)) r ≡ rows_in worker_app (map (λ w. w.now) words.now)) }
 {
     let matches = matches_in(worker_command(alloc), words)?;
+    Ok(matches)
+}
+
+/// The same of `socketserver HOST:PORT`.
+pub fn socketserver_matches<'a, 'b>(
+    alloc: Global,
+    words: &'a [&'b str],
+) -> Result<Option<ArgMatches<'a>>, OutOfMemory>
+    ensures { IfOk result (λ r. option_map (λ m. rows_of (found_of m)) r ≡ rows_in socketserver_app (map (λ w. w.now) words.now)) }
+{
+    let command = socketserver_command(alloc)?;
+    let matches = matches_in(command, words)?;
     Ok(matches)
 }
 

@@ -5,21 +5,22 @@ ghost use Rattle.clap.specs.Words.{found_of, rows_of};
 ghost use Rattle.xd_edge.specs.declared.mode.ModeKind.TheVariants.{Local as WithoutWorkers};
 ghost use Rattle.xd_link.specs.declared.place.Place.TheVariants.{Popen};
 ghost use Rattle.xd_spec.specs.declared.fault.SpecFault.TheVariants.{OutOfMemory as NoMemory};
+ghost use Rattle.xd_spec.specs.Spec.{address_in};
 ghost use Rattle.xd_spec.specs.Tx.{tx_of};
 ghost use Rattle.xd_words.specs.Asked.{rows_in};
-ghost use Rattle.xd_words.specs.Command.{main_app, wire_app, worker_app};
+ghost use Rattle.xd_words.specs.Command.{main_app, socketserver_app, wire_app, worker_app};
 ghost use Rattle.xd_words.specs.Words.{Fits, exclusion, main_plan, maxfail_of, places_of, plan_by, plan_for, plan_of};
-ghost use Rattle.xd_words.specs.Words.{plan_of_utf8, run_at, settings_of, wire_plan, worker_plan};
+ghost use Rattle.xd_words.specs.Words.{plan_of_utf8, run_at, serve_at, settings_of, socketserver_plan, wire_plan, worker_plan};
 
 use crate::asked::{Asked, asked_of, is_path, is_well_formed, path_of};
-use crate::matches::{main_matches, wire_matches, worker_matches};
+use crate::matches::{main_matches, socketserver_matches, value, wire_matches, worker_matches};
 use crate::{Places, WordsRefusal};
 use clap::ArgMatches;
 use std::alloc::Global;
 use xd_edge::{Env, ModeKind, OutOfMemory, Text};
 use xd_journal::Settings;
 use xd_link::Place;
-use xd_spec::{SpecFault, expand_tx};
+use xd_spec::{SpecFault, address_in, expand_tx};
 
 /// What the words ask for.
 #[derive(Drop)]
@@ -41,6 +42,11 @@ pub enum Plan {
     },
     /// `worker`: the program's own streams are served as a worker.
     Worker,
+    /// `socketserver HOST:PORT`: one connection is accepted there and served as a worker.
+    SocketServer {
+        host: Text,
+        port: u16,
+    },
     /// The words are refused.
     Refused(WordsRefusal),
 }
@@ -84,7 +90,10 @@ fn plan_of_texts(alloc: Global, words: &[&str]) -> Result<Plan, OutOfMemory>
             let plan = wire_plan(alloc, rest)?;
             Ok(plan)
         }
-        "socketserver" => Ok(Plan::Refused(WordsRefusal::BadWords)),
+        "socketserver" => {
+            let plan = socketserver_plan(alloc, rest)?;
+            Ok(plan)
+        }
         _ => {
             let plan = main_plan(alloc, words)?;
             Ok(plan)
@@ -115,6 +124,29 @@ fn wire_plan(alloc: Global, words: &[&str]) -> Result<Plan, OutOfMemory>
     } else {
         Ok(Plan::Refused(WordsRefusal::BadWords))
     }
+}
+
+fn socketserver_plan(alloc: Global, words: &[&str]) -> Result<Plan, OutOfMemory>
+    ensures plan { IfOk result (λ plan. plan ≡ socketserver_plan (rows_in socketserver_app (map (λ w. w.now) words.now))) }
+    ensures fits { IfOk result Fits }
+{
+    let Some(matches) = socketserver_matches(alloc, words)? else {
+        return Ok(Plan::Refused(WordsRefusal::BadWords));
+    };
+    let plan = serve_at(alloc, value(&matches, "address").unwrap_or(""))?;
+    Ok(plan)
+}
+
+// The server at this address.
+fn serve_at(alloc: Global, address: &str) -> Result<Plan, OutOfMemory>
+    ensures plan { IfOk result (λ plan. plan ≡ serve_at (address_in address.now)) }
+    ensures fits { IfOk result Fits }
+{
+    let Some((host, port)) = address_in(address) else {
+        return Ok(Plan::Refused(WordsRefusal::BadWords));
+    };
+    let host = Text::of(alloc, host)?;
+    Ok(Plan::SocketServer { host, port })
 }
 
 fn main_plan(alloc: Global, words: &[&str]) -> Result<Plan, OutOfMemory>
