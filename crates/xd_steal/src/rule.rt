@@ -97,7 +97,8 @@ fn ask_or_shut(
     if count == 0 {
         return shut_all(workers, ledger, acts);
     }
-    ask(alloc, worker, count, asked, ledger, acts)
+    ask(alloc, worker, count, asked, ledger, acts)?;
+    Ok(())
 }
 
 // Where someone is idle still and no steal is open, someone is asked.

@@ -1,4 +1,4 @@
-use Rattle.std.proofs.Common.{ℕ, Vec, Global, true, false, ◌≡◌, ◌<◌, length, ap, ◌∙◌, arith}
+use Rattle.std.proofs.Common.{ℕ, Vec, Global, true, false, ◌<◌, length, ap, ◌∙◌, arith}
 use Rattle.xd_ledger.specs.Table.{workers_of}
 use Rattle.xd_ledger.proofs.Turns.{in_rota-at}
 use Rattle.xd_steal.proofs.Rota.{idle-more}
