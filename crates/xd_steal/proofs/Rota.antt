@@ -52,7 +52,7 @@ seat_in w (suc k) (s ∷ ss) d h e =
       holds = grind (arith, nat_tests, r.holds);
     }
 
-pub seat_at : (t : Table) (w k : ℕ) → all_distinct (workers_of t) ≡ true → k < length (workers_of t) → w ≡ get_or (workers_of t) k 0 → SeatAt w k t.rota
+seat_at : (t : Table) (w k : ℕ) → all_distinct (workers_of t) ≡ true → k < length (workers_of t) → w ≡ get_or (workers_of t) k 0 → SeatAt w k t.rota
 seat_at t w k d h e = seat_in w k t.rota d (omega (arith, length-map t.rota (λ s. s.worker))) (sym e)
 
 -- who is idle among these seats
@@ -62,7 +62,7 @@ idle_in ss = map (λ s. s.worker) (filter (λ s. not s.shut && nat_lt (length s.
 abbrev pub open_in : List Seat → List Seat
 open_in ss = filter (λ s. not s.shut) ss
 
-pub idle-next : (t : Table) (w k : ℕ) → all_distinct (workers_of t) ≡ true → k < length (workers_of t) → w ≡ get_or (workers_of t) k 0
+idle-next : (t : Table) (w k : ℕ) → all_distinct (workers_of t) ≡ true → k < length (workers_of t) → w ≡ get_or (workers_of t) k 0
     → idle_in (drop k t.rota) ≡ (if not (seat_shut w t) && nat_lt (length (held w t)) enough then w ∷ idle_in (drop (k + 1) t.rota) else idle_in (drop (k + 1) t.rota))
 idle-next t w k d h e =
     let r = seat_at t w k d h e in
@@ -79,7 +79,7 @@ idle-more t w k false old now d h e b i n =
     let r = idle-next t w k d h e ∙ ap (λ (b : Bool). if b then w ∷ idle_in (drop (k + 1) t.rota) else idle_in (drop (k + 1) t.rota)) (sym b) in
     ap (λ xs. xs ++ idle_in (drop (k + 1) t.rota)) n ∙ ap (λ xs. old ++ xs) (sym r) ∙ i
 
-pub most-next : (t : Table) (w k : ℕ) → all_distinct (workers_of t) ≡ true → k < length (workers_of t) → w ≡ get_or (workers_of t) k 0
+most-next : (t : Table) (w k : ℕ) → all_distinct (workers_of t) ≡ true → k < length (workers_of t) → w ≡ get_or (workers_of t) k 0
     → most (open_in (drop k t.rota)) ≡ max (if seat_shut w t then 0 else length (held w t)) (most (open_in (drop (k + 1) t.rota)))
 most-next t w k d h e =
     let r = seat_at t w k d h e in
@@ -89,7 +89,7 @@ most-next t w k d h e =
 abbrev pub first_in : ℕ → List Seat → Option ℕ
 first_in n ss = option_map (λ s. s.worker) (first_with n (open_in ss))
 
-pub first-next : (t : Table) (n w k : ℕ) → all_distinct (workers_of t) ≡ true → k < length (workers_of t) → w ≡ get_or (workers_of t) k 0
+first-next : (t : Table) (n w k : ℕ) → all_distinct (workers_of t) ≡ true → k < length (workers_of t) → w ≡ get_or (workers_of t) k 0
     → first_in n (drop k t.rota) ≡ (if not (seat_shut w t) && (length (held w t) == n) then Some w else first_in n (drop (k + 1) t.rota))
 first-next t n w k d h e =
     let r = seat_at t w k d h e in

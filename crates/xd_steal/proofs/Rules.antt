@@ -1,5 +1,5 @@
 -- The rule of worksteal, step by step.
-use Rattle.std.proofs.Common.{◌≡◌, ℕ, zero, suc, subst, ◌+◌, ◌-◌, ◌/◌, ◌≤◌, ◌<◌, List, [], ◌∷◌, ◌++◌, drop, length, get_or, true, false, refl, ap, sym, ◌∙◌, arith}
+use Rattle.std.proofs.Common.{◌≡◌, ℕ, zero, suc, subst, ◌+◌, ◌-◌, ◌/◌, ◌<◌, List, [], ◌∷◌, ◌++◌, drop, length, get_or, true, false, refl, ap, sym, ◌∙◌, arith}
 use Rattle.std.specs.Prelude.{if◌then◌else◌, ◌==◌, min, Option, Some, option_map}
 use Rattle.std.proofs.lemmas.Bool.Decides.{nat_tests}
 use Rattle.xd_journal.specs.declared.entry.Entry.{Entry}
@@ -49,22 +49,19 @@ victim_is w t d h =
 abbrev pub number_for : ℕ → ℕ
 number_for n = min (n / kept_part) (n - enough)
 
-pub number_few : (n : ℕ) → number_for n ≤ n
-number_few n = omega arith
-
-pub follows : (t : Table) (p : Plan) (acts : List Entry) (asked : Option ℕ) (u : Turn) → turn t p acts ≡ u → StandsFor asked p → Follows u t acts asked
+follows : (t : Table) (p : Plan) (acts : List Entry) (asked : Option ℕ) (u : Turn) → turn t p acts ≡ u → StandsFor asked p → Follows u t acts asked
 follows t p acts asked u e s = record {
   table_is = ap (λ (v : Turn). v.table) e;
   acts_are = ap (λ (v : Turn). v.acts) e;
   stands_for = subst (StandsFor asked) (ap (λ (v : Turn). v.plan) e) s;
 }
 
-pub shuts-at_zero : (ws : List ℕ) (w : ℕ) (t : Table) (u : Turn) → VictimIs w t → number_for (length (held w t)) ≡ 0 → asks_or_shuts ws (victim t) u ≡ shut_each ws u
+shuts-at_zero : (ws : List ℕ) (w : ℕ) (t : Table) (u : Turn) → VictimIs w t → number_for (length (held w t)) ≡ 0 → asks_or_shuts ws (victim t) u ≡ shut_each ws u
 shuts-at_zero ws w t u v z =
     let n : (number v.seat == 0) ≡ true = ap (λ xs. number_for (length xs) == 0) (sym v.holds) ∙ ap (λ n. n == 0) z in
     ap (λ s. asks_or_shuts ws s u) v.is ∙ ap (λ b. if b then shut_each ws u else asks v.seat (number v.seat) u) n
 
-pub asks-else : (ws : List ℕ) (w : ℕ) (t : Table) (u : Turn) → VictimIs w t → (number_for (length (held w t)) == 0) ≡ false
+asks-else : (ws : List ℕ) (w : ℕ) (t : Table) (u : Turn) → VictimIs w t → (number_for (length (held w t)) == 0) ≡ false
     → asks_or_shuts ws (victim t) u ≡ record u {
       plan = record (u.plan) { steal = Some (record { worker = w; tests = drop (length (held w t) - number_for (length (held w t))) (held w t) }) };
       acts = u.acts ++ Steal w (drop (length (held w t) - number_for (length (held w t))) (held w t)) ∷ [];

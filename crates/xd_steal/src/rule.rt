@@ -1,6 +1,5 @@
 // The one rule of mode worksteal, which runs at each of its calls.
-ghost use Rattle.std.specs.Prelude.{◌≡◌, ◌≤◌, ◌-◌, ◌/◌, ◌++◌, ◌∷◌, [], true, length, drop, min, OnOk, Some, None};
-ghost use Rattle.xd_edge.specs.declared.mode.ModeKind.TheVariants.{WorkSteal};
+ghost use Rattle.std.specs.Prelude.{◌≡◌, ◌≤◌, ◌-◌, ◌/◌, ◌++◌, ◌∷◌, [], true, length, drop, min, OnOk, Some};
 ghost use Rattle.xd_journal.specs.declared.entry.Entry.TheVariants.{Steal};
 ghost use Rattle.xd_ledger.specs.Calls.{turn};
 ghost use Rattle.xd_ledger.specs.Numbers.{all_among, all_distinct};

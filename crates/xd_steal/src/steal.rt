@@ -22,16 +22,7 @@ fn asked_without(worker: u32, asked: Option<u32>) -> Option<u32>
     ensures { (steal : Option Asked) → option_map (λ a. a.worker) steal ≡ asked →
         option_map (λ a. a.worker) (steal_without worker steal) ≡ result }
 {
-    match asked {
-        None => None,
-        Some(victim) => {
-            if victim == worker {
-                None
-            } else {
-                Some(victim)
-            }
-        }
-    }
+    asked.filter(|&victim| victim != worker)
 }
 
 impl Steal {

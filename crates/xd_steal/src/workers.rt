@@ -34,7 +34,7 @@ pub(crate) fn idle(alloc: Global, ledger: &Ledger) -> Result<Indices, OutOfMemor
     Ok(Indices { items })
 }
 
-// How many tests can be asked of the worker at most: none of one that may not be told.
+// How many tests the worker holds, or 0 where it may not be told.
 fn held_open(worker: u32, ledger: &Ledger) -> u32
     requires { in_rota worker ledger.now ≡ true }
     ensures { result ≡ (if seat_shut worker ledger.now then 0 else length (held worker ledger.now)) }

@@ -22,5 +22,5 @@ returns c =
     let e = c.deref.ensures.value ∙ c.workers.view_is ∙ c.in_ok-workers.ensures in
     let some = ap (λ n. n == 0) c.deref.ensures.len ∙ sym c.if-is_empty.ensures in
     on_ok_weaker c.after_dealing.result (λ after p s. (let u = turn c.args.ledger.now p c.args.acts.now.items in
-      subst (λ (v : Turn). Follows v c.after_dealing.new.ledger c.after_dealing.new.acts.items c.after_dealing.new.asked)
-      (ap after_dealing (c.in_ok-deal.ensures.dealt p) ∙ sym (rule-deals ws u e some)) (after p s))) c.after_dealing.ensures
+    subst (λ (v : Turn). Follows v c.after_dealing.new.ledger c.after_dealing.new.acts.items c.after_dealing.new.asked)
+    (ap after_dealing (c.in_ok-deal.ensures.dealt p) ∙ sym (rule-deals ws u e some)) (after p s))) c.after_dealing.ensures
