@@ -1,5 +1,5 @@
 // Lists of numbers, each number linked with its neighbours.
-ghost use Rattle.std.specs.Prelude.{◌≡◌, ℕ, take, slice_index, ◌+◌, ◌-◌, replicate, is_ok, IfOk, OnOk, ◌<◌, ◌≤◌, ◌==◌, [], ◌∷◌, ◌++◌, length, nat_lt, true, false, Some, None, if◌then◌else◌};
+ghost use Rattle.std.specs.Prelude.{◌≡◌, ℕ, take, drop, slice_index, ◌+◌, ◌-◌, replicate, is_ok, IfOk, OnOk, ◌<◌, ◌≤◌, ◌==◌, [], ◌∷◌, ◌++◌, length, nat_lt, true, false, Some, None, if◌then◌else◌};
 ghost use Rattle.std.specs.List.{range_with_len};
 ghost use Rattle.xd_ledger.specs.Numbers.{among, all_among, all_distinct, without, first_of};
 ghost use Rattle.xd_ledger.specs.Chains.{chain_at, is_free, items_of, chains_of, changed, shifted, poured, ahead, behind, final_of};
@@ -268,6 +268,27 @@ impl Chains {
             items.push(place)?;
             place = self.next[place as usize];
         }
+        Ok(Indices { items })
+    }
+
+    // The last so many numbers of the list, which has as many.
+    pub(crate) fn copy_last(
+        &self,
+        alloc: Global,
+        chain: u32,
+        count: u32,
+    ) -> Result<Indices, OutOfMemory>
+        requires known { chain < chains_of self.now }
+        requires enough { count ≤ length (chain_at self.now chain) }
+        ensures { IfOk result (λ v. v ≡ drop (length (chain_at self.now chain) - count) (chain_at self.now chain)) }
+    {
+        let mut items = Vec::with_capacity(alloc, count as usize)?;
+        let mut place = self.previous[self.owner.len() + chain as usize];
+        for i in 0..count {
+            items.push(place)?;
+            place = self.previous[place as usize];
+        }
+        items.reverse();
         Ok(Indices { items })
     }
 

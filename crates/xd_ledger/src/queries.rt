@@ -1,5 +1,5 @@
 // What the ledger tells.
-ghost use Rattle.std.specs.Prelude.{nat_lt, ◌≡◌, ◌<◌, ◌++◌, ℕ, length, slice_index, true};
+ghost use Rattle.std.specs.Prelude.{nat_lt, ◌≡◌, ◌<◌, ◌≤◌, ◌-◌, ◌++◌, ℕ, length, drop, slice_index, true, IfOk};
 ghost use Rattle.std.specs.List.{list_all};
 ghost use Rattle.xd_ledger.specs.Chains.{chain_at, chains_of, ahead, behind, final_of};
 ghost use Rattle.xd_ledger.specs.Numbers.{among, first_of};
@@ -11,6 +11,8 @@ use crate::chains::Chains;
 use crate::ledger::{POOL, chain_of, place_of};
 use crate::numbers::is_among;
 use crate::post::Post;
+use std::alloc::Global;
+use xd_edge::{Indices, OutOfMemory};
 
 // Each post's list has fewer numbers than that.
 fn all_below(chains: &Chains, rota: &[Post], count: u32) -> bool
@@ -148,5 +150,17 @@ impl Ledger {
         ensures held { (w : ℕ) → in_rota w self.now ≡ true → among item (held w self.now) ≡ true → result ≡ final_of (ahead item (held w self.now)) }
     {
         self.chains.previous(item)
+    }
+
+    /// The last so many items that the worker of the rota holds, in their order. It holds as many. Costs what it gives.
+    pub fn last_items(&self, alloc: Global, worker: u32, count: u32) -> Result<Indices, OutOfMemory>
+        requires seated { in_rota worker self.now ≡ true }
+        requires enough { count ≤ length (held worker self.now) }
+        ensures { IfOk result (λ r. r ≡ drop (length (held worker self.now) - count) (held worker self.now)) }
+    {
+        let items = self
+            .chains
+            .copy_last(alloc, chain_of(&self.rota, worker), count)?;
+        Ok(items)
     }
 }

@@ -121,6 +121,10 @@ fn a_neighbour_is_one_of_the_same_list(rt: HostRuntime) -> Result<(), Fail> {
         (ledger.last_held(0), ledger.previous_item(2)),
         (Some(2), Some(1))
     );
+    assert_eq!(rt;
+        ledger.last_items(alloc, 0, 2)?.items.as_slice(),
+        [1, 2].as_slice()
+    );
     ledger.give_back(0, &[2])?;
     assert_eq!(rt; pool_of(alloc, &ledger)?.as_slice(), [3, 2].as_slice());
     ledger.complete(0, 0);
