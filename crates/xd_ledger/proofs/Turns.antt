@@ -1,5 +1,5 @@
 -- The moves of a turn keep the rota's workers, and go on one by one.
-use Rattle.std.proofs.Common.{◌≡◌, ℕ, zero, suc, ◌+◌, ◌<◌, List, [], ◌∷◌, ◌++◌, take, length, get_or, Bool, true, false, refl, ap, ◌∙◌, arith, map}
+use Rattle.std.proofs.Common.{◌≡◌, ℕ, zero, suc, ◌+◌, ◌<◌, List, [], ◌∷◌, ◌++◌, take, length, get_or, Bool, true, false, refl, ap, sym, ◌∙◌, arith, map}
 use Rattle.std.proofs.lemmas.List.{length-map, take_more}
 use Rattle.std.specs.Prelude.{if◌then◌else◌, ◌==◌, None}
 use Rattle.std.specs.List.{list_any}
@@ -50,3 +50,12 @@ one_more f w k ws t u v a b e h = let m = in_turn-one_more f ws k t h in cc
 pub in_turn-append : (f : ℕ → Turn → Turn) (ws vs : List ℕ) (t : Turn) → in_turn f (ws ++ vs) t ≡ in_turn f vs (in_turn f ws t)
 in_turn-append f [] vs t = refl
 in_turn-append f (w ∷ ws) vs t = in_turn-append f ws vs (f w t)
+
+-- who is in the rota goes by its workers alone
+
+in_workers : (w : ℕ) (ss : List Seat) → list_any (λ s. s.worker == w) ss ≡ list_any (λ v. v == w) (map (λ s. s.worker) ss)
+in_workers w [] = refl
+in_workers w (s ∷ ss) = grind (arith, nat_tests, in_workers w ss)
+
+pub in_rota-same : (w : ℕ) (t u : Table) → workers_of t ≡ workers_of u → in_rota w t ≡ in_rota w u
+in_rota-same w t u e = in_workers w t.rota ∙ ap (λ vs. list_any (λ v. v == w) vs) e ∙ sym (in_workers w u.rota)

@@ -6,7 +6,7 @@ use Rattle.xd_ledger.specs.Table.{workers_of, seat_shut, held}
 use Rattle.xd_edge.specs.declared.mode.ModeKind.TheVariants.{Load}
 use Rattle.xd_load.specs.Stands.{InChunks}
 use Rattle.xd_ledger.specs.Plan.{Plan, chunk_of}
-use Rattle.xd_ledger.specs.Turn.{Turn, in_turn, give, give_front, shut}
+use Rattle.xd_ledger.specs.Turn.{Turn, in_turn, give_front, shut}
 use Rattle.xd_ledger.specs.Load.{refill, topped_up, more, is_due, give_unless_shut, dealt}
 use Rattle.xd_ledger.proofs.Turns.{workers-give, workers-shut_turn, in_turn-append}
 

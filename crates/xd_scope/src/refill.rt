@@ -1,0 +1,162 @@
+// Units for workers that hold few tests.
+ghost use Rattle.std.specs.Prelude.{◌≡◌, ◌≤◌, OnOk, length, take, true};
+ghost use Rattle.xd_ledger.specs.Calls.{turn};
+ghost use Rattle.xd_ledger.specs.Plan.{Plan};
+ghost use Rattle.xd_ledger.specs.ScopeModes.{enough, give_more, give_unit, refill};
+ghost use Rattle.xd_ledger.specs.Suits.{AreInPool};
+ghost use Rattle.xd_ledger.specs.Table.{in_rota, workers_of};
+ghost use Rattle.xd_ledger.specs.Turn.{in_turn};
+ghost use Rattle.xd_scope.specs.Stands.{IsAt, Keeps, give_where_few};
+
+use crate::units::{Given, Units, copy_of, next_unit};
+use std::alloc::Global;
+use xd_edge::OutOfMemory;
+use xd_journal::Entry;
+use xd_ledger::{Ledger, shut};
+
+// A worker starts a test when another stands behind it, so it needs two.
+const ENOUGH: u32 = 2;
+
+// The unit at the queue's front goes to the worker.
+pub(crate) fn give_unit(
+    alloc: Global,
+    worker: u32,
+    units: &mut Units,
+    ledger: &mut Ledger,
+    acts: &mut Vec<Entry>,
+) -> Result<(), OutOfMemory>
+    requires seated { in_rota worker ledger.old ≡ true }
+    requires fits { AreInPool units.old.queue.items ledger.old.pool }
+    ensures turned { OnOk result ((p : Plan) → Keeps units.old p →
+        IsAt (give_unit worker (turn ledger.old p acts.old.items)) ledger.new acts.new.items units.new) }
+    ensures fits { OnOk result (AreInPool units.new.queue.items ledger.new.pool) }
+    ensures rota { OnOk result (workers_of ledger.new ≡ workers_of ledger.old) }
+{
+    let Some(unit) = next_unit(&mut units.queue) else {
+        return Ok(());
+    };
+    ledger.assign(worker, &unit.items)?;
+    let tests = copy_of(alloc, &unit.items)?;
+    units.given.push(Given { worker, tests })?;
+    acts.push(Entry::Run {
+        worker,
+        indices: unit,
+    })?;
+    Ok(())
+}
+
+// A unit, where the worker holds fewer tests than it needs.
+fn give_where_few(
+    alloc: Global,
+    worker: u32,
+    units: &mut Units,
+    ledger: &mut Ledger,
+    acts: &mut Vec<Entry>,
+) -> Result<(), OutOfMemory>
+    requires seated { in_rota worker ledger.old ≡ true }
+    requires fits { AreInPool units.old.queue.items ledger.old.pool }
+    ensures turned { OnOk result ((p : Plan) → Keeps units.old p →
+        IsAt (give_where_few worker (turn ledger.old p acts.old.items)) ledger.new acts.new.items units.new) }
+    ensures fits { OnOk result (AreInPool units.new.queue.items ledger.new.pool) }
+    ensures rota { OnOk result (workers_of ledger.new ≡ workers_of ledger.old) }
+{
+    if ledger.held_len(worker) >= ENOUGH {
+        return Ok(());
+    }
+    give_unit(alloc, worker, units, ledger, acts)?;
+    Ok(())
+}
+
+// A unit, and further ones while the worker holds fewer tests than it needs: each has a test, so two more are enough.
+fn give_enough(
+    alloc: Global,
+    worker: u32,
+    units: &mut Units,
+    ledger: &mut Ledger,
+    acts: &mut Vec<Entry>,
+) -> Result<(), OutOfMemory>
+    requires seated { in_rota worker ledger.old ≡ true }
+    requires fits { AreInPool units.old.queue.items ledger.old.pool }
+    ensures turned { OnOk result ((p : Plan) → Keeps units.old p →
+        IsAt (give_more enough worker (give_unit worker (turn ledger.old p acts.old.items))) ledger.new acts.new.items units.new) }
+    ensures fits { OnOk result (AreInPool units.new.queue.items ledger.new.pool) }
+    ensures rota { OnOk result (workers_of ledger.new ≡ workers_of ledger.old) }
+{
+    give_unit(alloc, worker, units, ledger, acts)?;
+    give_where_few(alloc, worker, units, ledger, acts)?;
+    give_where_few(alloc, worker, units, ledger, acts)?;
+    Ok(())
+}
+
+// Refills the worker.
+pub(crate) fn refill_one(
+    alloc: Global,
+    worker: u32,
+    units: &mut Units,
+    ledger: &mut Ledger,
+    acts: &mut Vec<Entry>,
+) -> Result<(), OutOfMemory>
+    requires seated { in_rota worker ledger.old ≡ true }
+    requires fits { AreInPool units.old.queue.items ledger.old.pool }
+    ensures turned { OnOk result ((p : Plan) → Keeps units.old p →
+        IsAt (refill worker (turn ledger.old p acts.old.items)) ledger.new acts.new.items units.new) }
+    ensures fits { OnOk result (AreInPool units.new.queue.items ledger.new.pool) }
+    ensures rota { OnOk result (workers_of ledger.new ≡ workers_of ledger.old) }
+{
+    if ledger.is_shut(worker) {
+        return Ok(());
+    }
+    if units.queue.len() == 0 {
+        shut(worker, ledger, acts)?;
+        return Ok(());
+    }
+    if ledger.held_len(worker) > ENOUGH {
+        return Ok(());
+    }
+    give_enough(alloc, worker, units, ledger, acts)?;
+    Ok(())
+}
+
+// The first so many workers of the rota get a unit each.
+pub(crate) fn give_each(
+    alloc: Global,
+    count: u32,
+    units: &mut Units,
+    ledger: &mut Ledger,
+    acts: &mut Vec<Entry>,
+) -> Result<(), OutOfMemory>
+    requires within { count ≤ length (workers_of ledger.old) }
+    requires fits { AreInPool units.old.queue.items ledger.old.pool }
+    ensures turned { OnOk result ((p : Plan) → Keeps units.old p →
+        IsAt (in_turn give_unit (take count (workers_of ledger.old)) (turn ledger.old p acts.old.items)) ledger.new acts.new.items units.new) }
+    ensures fits { OnOk result (AreInPool units.new.queue.items ledger.new.pool) }
+    ensures rota { OnOk result (workers_of ledger.new ≡ workers_of ledger.old) }
+{
+    for place in 0..count {
+        let worker = ledger.rota_at(place);
+        give_unit(alloc, worker, units, ledger, acts)?;
+    }
+    Ok(())
+}
+
+// The first so many workers of the rota are refilled.
+pub(crate) fn refill_each(
+    alloc: Global,
+    count: u32,
+    units: &mut Units,
+    ledger: &mut Ledger,
+    acts: &mut Vec<Entry>,
+) -> Result<(), OutOfMemory>
+    requires within { count ≤ length (workers_of ledger.old) }
+    requires fits { AreInPool units.old.queue.items ledger.old.pool }
+    ensures turned { OnOk result ((p : Plan) → Keeps units.old p →
+        IsAt (in_turn refill (take count (workers_of ledger.old)) (turn ledger.old p acts.old.items)) ledger.new acts.new.items units.new) }
+    ensures fits { OnOk result (AreInPool units.new.queue.items ledger.new.pool) }
+    ensures rota { OnOk result (workers_of ledger.new ≡ workers_of ledger.old) }
+{
+    for place in 0..count {
+        let worker = ledger.rota_at(place);
+        refill_one(alloc, worker, units, ledger, acts)?;
+    }
+    Ok(())
+}
