@@ -1,25 +1,25 @@
 -- What a child that was started and waited for leaves of its output.
 use Rattle.std.specs.Prelude.{ℕ, ◌≡◌, List, take, Option, Some}
 use Rattle.xd_edge.specs.Children.{ChildRun, AddsRun, ChangesRun, with_output, with_read_fault}
-use Rattle.xd_journal.specs.declared.entry.Outcome.{Outcome}
 use Rattle.xd_journal.specs.Kept.{kept_of}
 use Rattle.xd_child.specs.Ending.{outcome_of}
+use Rattle.xd_child.specs.declared.running.ChildResult.{ChildResult}
 
--- Where it is told, one start more of these arguments was asked for, and it came to this outcome; with room for so
--- many bytes this is kept of what it gave.
-pub record RanChild (args : List (List ℕ)) (room : ℕ) (outcome : Outcome) (kept : List ℕ) (old new : Option (List ChildRun)) : Type 0 where
+-- Where it is told, one start more of these arguments was asked for, and it came to this result, with room for so many
+-- bytes of what it gave.
+pub record RanChild (args : List (List ℕ)) (room : ℕ) (result : ChildResult) (old new : Option (List ChildRun)) : Type 0 where
   pub run : ChildRun
   pub args_are : run.args ≡ args
-  pub came_to : outcome_of run.fate ≡ Some outcome
-  pub kept_is : kept ≡ kept_of outcome room run.output
+  pub came_to : outcome_of run.fate ≡ Some result.outcome
+  pub kept_is : result.output ≡ kept_of result.outcome room run.output
   pub added : AddsRun run old new
 
--- The same, with the first bytes of what it gave, up to the room, however it went.
-pub record CameTo (args : List (List ℕ)) (room : ℕ) (outcome : Outcome) (first : List ℕ) (old new : Option (List ChildRun)) : Type 0 where
+-- The same, with the first bytes of what it gave, up to the room, however its test went.
+pub record CameTo (args : List (List ℕ)) (room : ℕ) (first : ChildResult) (old new : Option (List ChildRun)) : Type 0 where
   pub run : ChildRun
   pub args_are : run.args ≡ args
-  pub came_to : outcome_of run.fate ≡ Some outcome
-  pub first_is : first ≡ take room run.output
+  pub came_to : outcome_of run.fate ≡ Some first.outcome
+  pub first_is : first.output ≡ take room run.output
   pub added : AddsRun run old new
 
 -- Where they are told, the start at this place gave some bytes more, whose first ones are kept, up to the room.

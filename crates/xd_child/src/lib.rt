@@ -5,4 +5,4 @@ mod ending;
 mod running;
 
 pub use ending::{outcome_of_end, wait_for};
-pub use running::run_child;
+pub use running::{ChildResult, run_child};

@@ -12,28 +12,40 @@ use std::sync::Wait;
 use xd_edge::{Blob, ChildFault, Children, OutOfMemory, Text};
 use xd_journal::Outcome;
 
-/// Runs a program to its end, and says how its test went, with the first bytes of its output up to the room where it
-/// failed, and none else. A program that was started is waited for.
+/// What the program of a test came to.
+#[derive(Drop)]
+pub struct ChildResult {
+    /// How the test went.
+    pub outcome: Outcome,
+    /// What is kept of the output: its first bytes where the test failed, and none else.
+    pub output: Blob,
+}
+
+/// Runs a program to its end. Of its output so many bytes are kept as there is room for. A program that was started is
+/// waited for.
 pub fn run_child<R: Wait, K: Children>(
     rt: &R,
     alloc: Global,
     children: &mut K,
     args: &[Text],
     room: usize,
-) -> Result<(Outcome, Blob), OutOfMemory>
+) -> Result<ChildResult, OutOfMemory>
     requires { 0 < length args.now }
     ensures ran { IfOk result (λ r.
-        RanChild args.now room r.0 r.1 (K.runs children.old) (K.runs children.new)) }
+        RanChild args.now room r (K.runs children.old) (K.runs children.new)) }
     ensures later { K.faults children.old ≤ K.faults children.new }
     ensures faults { IfOk result (λ r.
-        RoseBy (fault_count r.0) (K.faults children.old) (K.faults children.new)) }
+        RoseBy (fault_count r.outcome) (K.faults children.old) (K.faults children.new)) }
     ensures still { IfOk result (λ r.
-        fault_count r.0 ≡ 0 → K.faults children.new ≡ K.faults children.old) }
+        fault_count r.outcome ≡ 0 → K.faults children.new ≡ K.faults children.old) }
 {
     let mut output = Vec::with_capacity(alloc, room)?;
     let outcome = run_to_end(rt, alloc, children, args, &mut output, room)?;
     let kept = kept_of(alloc, outcome, &output)?;
-    Ok((outcome, kept))
+    Ok(ChildResult {
+        outcome,
+        output: kept,
+    })
 }
 
 // What is kept of the output of a test that went so.
@@ -62,7 +74,8 @@ fn run_to_end<R: Wait, K: Children>(
     requires room { room ≤ vec_capacity output.old }
     requires empty { output.old.items ≡ [] }
     ensures ran { IfOk result (λ o.
-        CameTo args.now room o output.new.items (K.runs children.old) (K.runs children.new)) }
+        CameTo args.now room (record { outcome = o; output = output.new.items })
+        (K.runs children.old) (K.runs children.new)) }
     ensures later { K.faults children.old ≤ K.faults children.new }
     ensures faults { IfOk result (λ o.
         RoseBy (fault_count o) (K.faults children.old) (K.faults children.new)) }

@@ -1,5 +1,5 @@
 -- The entries of one test, and their lines.
-use Rattle.std.proofs.Common.{◌≡◌, ℕ, Bool, true, List, ◌++◌, length, drop, Option, refl, sym, ◌∙◌, ap, subst}
+use Rattle.std.proofs.Common.{◌≡◌, ℕ, Bool, true, List, ◌++◌, length, drop, Option, sym, ◌∙◌, ap, subst}
 use Rattle.std.proofs.lemmas.List.{drop_at}
 use Rattle.xd_edge.specs.Sink.{Sunk}
 use Rattle.xd_journal.specs.declared.entry.Entry.{Entry}

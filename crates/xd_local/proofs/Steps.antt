@@ -34,7 +34,7 @@ use Rattle.xd_child.specs.Running.{RanChild}
 use Rattle.xd_local.specs.Local.{kept_by, kept_outputs, local_settings, RanTests}
 use Rattle.xd_local.specs.Outside.{Programs}
 use Rattle.xd_local.specs.Print.{AtStep}
-use Rattle.xd_local.specs.Running.{failed_of, ids_of, result_faults, behind, IsBegun, Progress, RanAll, RanTest, Running, Scene, SoFar}
+use Rattle.xd_local.specs.Running.{child_of, failed_of, ids_of, result_faults, behind, IsBegun, Progress, RanAll, RanTest, Running, Scene, SoFar}
 use Rattle.xd_local.proofs.Alone.{below-next, is_some-stop, stop-begun, stop_by}
 
 rounds-last : (n : ℕ) (rs : List TestResult) (r : TestResult) → rounds n (rs ++ r ∷ []) ≡ rounds n rs ++ round (n + length rs) r
@@ -88,7 +88,7 @@ zero_more n = omega arith
 kept_total : (results : List TestResult) (runs : List ChildRun) (spent : ℕ) → map (λ r. r.output) results ≡ kept_outputs spent runs → kept_by results ≡ lengths (kept_outputs spent runs)
 kept_total results runs spent e = sum-outputs results ∙ ap lengths e
 
-low_of : (args : List (List ℕ)) (room : ℕ) (o : Outcome) (kept : List ℕ) (old new : Option (List ChildRun)) → RanChild args room o kept old new → length kept ≤ room
+low_of : (args : List (List ℕ)) (room : ℕ) (o : Outcome) (kept : List ℕ) (old new : Option (List ChildRun)) → RanChild args room (record { outcome = o; output = kept }) old new → length kept ≤ room
 low_of args room Passed kept old new r = let l = ap length r.kept_is in grind (arith, common_steps)
 low_of args room Skipped kept old new r = let l = ap length r.kept_is in grind (arith, common_steps)
 low_of args room (Failed c) kept old new r = let l = ap length r.kept_is in grind (arith, common_steps)
@@ -98,7 +98,7 @@ few_more [] r spent h l = grind (arith, nat_tests)
 few_more (x ∷ xs) r spent h l = let ih = few_more xs r spent in grind (arith, nat_tests, ih)
 
 module _ (tests : List Test) where
-  one_more : (results : List TestResult) (r : TestResult) (old mid new : Option (List ChildRun)) → length results < length tests → RanTests tests results old mid → RanChild (run_at tests (length results)) (room_behind (kept_by results)) r.outcome r.output mid new → RanTests tests (results ++ r ∷ []) old new
+  one_more : (results : List TestResult) (r : TestResult) (old mid new : Option (List ChildRun)) → length results < length tests → RanTests tests results old mid → RanChild (run_at tests (length results)) (room_behind (kept_by results)) (child_of r) mid new → RanTests tests (results ++ r ∷ []) old new
   one_more results r old mid new within ran more =
       let run : ChildRun = more.run in
       let long : length (results ++ r ∷ []) ≡ length results + 1 = omega (arith, length-append results (r ∷ [])) in
@@ -230,8 +230,8 @@ module _ (tests : List Test) where
         entries = grown;
         settings = more.noted.settings ∙ p.so_far.settings;
         ran = one_more p.results more.result old.run.programs.runs mid.run.programs.runs new.run.programs.runs (omega (arith, p.counted, within)) p.so_far.ran
-            (subst (λ n. RanChild (run_at tests (length p.results)) (room_behind n) more.result.outcome more.result.output mid.run.programs.runs new.run.programs.runs) p.spent_is
-            (subst (λ n. RanChild (run_at tests n) (room_behind mid.run.spent) more.result.outcome more.result.output mid.run.programs.runs new.run.programs.runs) (sym p.counted) more.noted.ran));
+            (subst (λ n. RanChild (run_at tests (length p.results)) (room_behind n) (child_of more.result) mid.run.programs.runs new.run.programs.runs) p.spent_is
+            (subst (λ n. RanChild (run_at tests n) (room_behind mid.run.spent) (child_of more.result) mid.run.programs.runs new.run.programs.runs) (sym p.counted) more.noted.ran));
         faults =
             subst (λ n. RoseBy n old.run.programs.faults new.run.programs.faults) (sym faults_total)
             (rose_more (result_faults p.results) (fault_count more.result.outcome) old.run.programs.faults mid.run.programs.faults new.run.programs.faults p.so_far.faults more.noted.faults more.noted.later);

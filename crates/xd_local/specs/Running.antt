@@ -19,6 +19,7 @@ use Rattle.xd_report.specs.Follows.{Follows}
 use Rattle.xd_report.specs.Lines.{lines_from, run_lines}
 use Rattle.xd_report.specs.Printing.{ShowsEnd, ShowsLines}
 use Rattle.xd_report.specs.Text.{text_of}
+use Rattle.xd_child.specs.declared.running.ChildResult.{ChildResult}
 use Rattle.xd_child.specs.Ending.{fault_count}
 use Rattle.xd_child.specs.Running.{RanChild}
 use Rattle.xd_local.specs.Local.{RanTests, kept_by, local_settings, stop_after}
@@ -77,11 +78,15 @@ pub record IsBegun (tests : List Test) (r : Running) : Type 0 where
 abbrev pub AddsRound : ℕ → TestResult → List Entry → List Entry → Type 0
 AddsRound test result old new = new ≡ old ++ round test result
 
+-- what the program of a test came to
+abbrev pub child_of : TestResult → ChildResult
+child_of r = record { outcome = r.outcome; output = r.output }
+
 -- one test was run and came to this result, and both were noted
 pub record IsNoted (test : ℕ) (args : List (List ℕ)) (result : TestResult) (old new : Running) : Type 0 where
   pub entries : AddsRound test result old.journal.entries.items new.journal.entries.items
   pub settings : new.journal.settings ≡ old.journal.settings
-  pub ran : RanChild args (room_behind old.spent) result.outcome result.output old.programs.runs new.programs.runs
+  pub ran : RanChild args (room_behind old.spent) (child_of result) old.programs.runs new.programs.runs
   pub spent : new.spent ≡ old.spent + length result.output
   pub faults : RoseBy (fault_count result.outcome) old.programs.faults new.programs.faults
   pub still : fault_count result.outcome ≡ 0 → new.programs.faults ≡ old.programs.faults

@@ -18,9 +18,9 @@ use crate::local::LocalRun;
 use std::alloc::Global;
 use std::marker::Model;
 use std::sync::Wait;
-use xd_child::run_child;
-use xd_edge::{Blob, Children, Clock, Indices, ModeKind, OutOfMemory, Sink};
-use xd_journal::{Entry, Ids, Journal, Outcome, RunStop, Settings};
+use xd_child::{ChildResult, run_child};
+use xd_edge::{Children, Clock, Indices, ModeKind, OutOfMemory, Sink};
+use xd_journal::{Entry, Ids, Journal, RunStop, Settings};
 use xd_report::{PrintFault, Reporter, print_lines, print_tail};
 use xd_suite::Suite;
 
@@ -173,7 +173,7 @@ impl<K: Children> Run<K> {
     {
         let start = clock.now();
         let room = room_behind(self.spent);
-        let (outcome, output) = run_child(
+        let came = run_child(
             rt,
             self.alloc,
             &mut self.children,
@@ -181,8 +181,8 @@ impl<K: Children> Run<K> {
             room,
         )?;
         let ms = clock.now() - start;
-        self.spent += output.as_slice().len();
-        add_round(self.alloc, &mut self.journal, test, outcome, ms, output)?;
+        self.spent += came.output.as_slice().len();
+        add_round(self.alloc, &mut self.journal, test, came, ms)?;
         Ok(())
     }
 
@@ -274,12 +274,11 @@ fn add_round(
     alloc: Global,
     journal: &mut Journal,
     test: u32,
-    outcome: Outcome,
+    came: ChildResult,
     ms: u64,
-    output: Blob,
 ) -> Result<(), OutOfMemory>
     ensures entries { OnOk result (AddsRound test
-        (record { outcome = outcome; ms = ms; output = output })
+        (record { outcome = came.outcome; ms = ms; output = came.output })
         journal.old.entries.items journal.new.entries.items) }
     ensures settings { journal.new.settings ≡ journal.old.settings }
 {
@@ -292,9 +291,9 @@ fn add_round(
     journal.push(Entry::Done {
         worker: 0,
         index: test,
-        outcome,
+        outcome: came.outcome,
         ms,
-        output,
+        output: came.output,
     })?;
     Ok(())
 }

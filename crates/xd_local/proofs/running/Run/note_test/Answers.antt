@@ -6,15 +6,15 @@ use Rattle.xd_local.proofs.running.Run.note_test.Goals as goal
 pub returns : goal.returns
 returns g c = record {
   notes = rw (← c.self.view_is) (record {
-    result = record { outcome = c.in_ok-outcome.outcome; ms = c.now.result - c.now-start.result; output = c.in_ok-outcome.output };
+    result = record { outcome = c.in_ok-came.came.outcome; ms = c.now.result - c.now-start.result; output = c.in_ok-came.came.output };
     noted = record {
       entries = c.in_ok-add_round.ensures.entries;
       settings = c.add_round.ensures.settings;
-      ran = subst (λ (n : ℕ). RanChild (run_at c.args.suite.now c.args.test) n c.in_ok-outcome.outcome c.in_ok-outcome.output (g.K.Children.runs c.self.inside.children) (g.K.Children.runs c.run_child.new.children)) c.room_behind-room.ensures
-          (subst (λ (args : List (List ℕ)). RanChild args c.room_behind-room.result c.in_ok-outcome.outcome c.in_ok-outcome.output (g.K.Children.runs c.self.inside.children) (g.K.Children.runs c.run_child.new.children)) c.command.ensures.run c.in_ok-outcome.ensures.ran);
+      ran = subst (λ (n : ℕ). RanChild (run_at c.args.suite.now c.args.test) n c.in_ok-came.came (g.K.Children.runs c.self.inside.children) (g.K.Children.runs c.run_child.new.children)) c.room_behind-room.ensures
+          (subst (λ (args : List (List ℕ)). RanChild args c.room_behind-room.result c.in_ok-came.came (g.K.Children.runs c.self.inside.children) (g.K.Children.runs c.run_child.new.children)) c.command.ensures.run c.in_ok-came.ensures.ran);
       spent = ap (λ (l : List ℕ). c.self.inside.spent + length l) c.as_slice.ensures;
-      faults = c.in_ok-outcome.ensures.faults;
-      still = c.in_ok-outcome.ensures.still;
+      faults = c.in_ok-came.ensures.faults;
+      still = c.in_ok-came.ensures.still;
       later = c.run_child.ensures.later;
     };
     unseen = refl;
