@@ -184,3 +184,18 @@ fn words_that_are_refused_by_their_first_cause(rt: HostRuntime) -> Result<(), Fa
     }
     Ok(())
 }
+
+#[test]
+fn a_path_has_at_most_65536_bytes(rt: HostRuntime) -> Result<(), Fail> {
+    for command in ["", "wire "] {
+        for (bytes, is_refused) in [(65_536, false), (65_537, true)] {
+            let mut line = String::from_str(rt.alloc(), command)?;
+            for _ in 0..bytes {
+                line.push('a')?;
+            }
+            let plan = plan(rt.alloc(), line.as_str())?;
+            assert_eq!(rt; plan.as_str() == "xdrun: bad words\n", is_refused);
+        }
+    }
+    Ok(())
+}
