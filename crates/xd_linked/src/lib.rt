@@ -4,4 +4,4 @@
 
 mod linked;
 
-pub use linked::{Linked, run_linked};
+pub use linked::{Linked, LinkedSuite, run_linked};
