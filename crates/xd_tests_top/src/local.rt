@@ -1,11 +1,7 @@
-// `SUITE -n 0`, and what is refused.
-use crate::outside::{Given, NOTHING, call, crew, numbers, programs, readers};
+// A run without workers, and what is refused.
+use crate::outside::{Given, NOTHING, call, crew, numbers, readers};
 use std::test::Fail;
 use xd_crew::{ListedCrew, Slot, ThreadCrew, start_into};
-use xd_edge::{MemClock, MemSink};
-use xd_local::{LocalSuite, run_suite};
-use xd_report::status_of;
-use xd_suite::Suite;
 
 const SUITE_0: [&str; 3] = ["s.toml", "-n", "0"];
 
@@ -54,10 +50,28 @@ fn the_report_of_a_suite(rt: HostRuntime) -> Result<(), Fail> {
 
 #[test]
 fn what_is_refused(rt: HostRuntime) -> Result<(), Fail> {
-    let rows: [(&str, &[&'static str], Option<u32>, &str); 10] = [
+    let rows: [(&str, &[&'static str], Option<u32>, &str); 13] = [
         (
             THREE,
             &["s.toml", "--dist", "load"],
+            None,
+            "xdrun: please specify -n or --tx\n",
+        ),
+        (
+            THREE,
+            &["s.toml", "-n", "2", "--tx", "popen"],
+            None,
+            "xdrun: -n and --tx exclude each other\n",
+        ),
+        (
+            THREE,
+            &["s.toml", "--tx", "0*popen"],
+            None,
+            "xdrun: bad spec\n",
+        ),
+        (
+            THREE,
+            &["socketserver", "localhost"],
             None,
             "xdrun: bad words\n",
         ),
@@ -152,35 +166,31 @@ fn a_program_that_fails_outside(rt: HostRuntime) -> Result<(), Fail> {
     Ok(())
 }
 
-// A limit of 1 ends the run behind the test that fails; one of 2 is not reached.
+// A limit of 1 ends the run after the test that fails; one of 2 is not reached.
 #[test]
 fn the_limit_on_failures_ends_the_run(rt: HostRuntime) -> Result<(), Fail> {
-    let rows: [(u32, &str, usize); 2] = [
+    let rows: [(&[&'static str], &str, usize); 2] = [
         (
-            1,
+            &["s.toml", "-n", "0", "-x"],
             "3 tests\n[main] PASSED a\n[main] FAILED b\n==== [main] b ====\nstatus 3\nstopping after 1 failures\n1 failed, 1 passed\n",
             2,
         ),
         (
-            2,
+            &["s.toml", "--maxfail", "2"],
             "3 tests\n[main] PASSED a\n[main] FAILED b\n[main] SKIPPED c\n==== [main] b ====\nstatus 3\n1 failed, 1 passed, 1 skipped\n",
             3,
         ),
     ];
-    let alloc = rt.alloc();
-    for (maxfail, report, started) in rows {
-        let suite = LocalSuite {
-            alloc,
-            tests: Suite::read(alloc, THREE.as_bytes())?,
-            maxfail,
-            children: programs(alloc, None)?,
+    for (words, report, started) in rows {
+        let given = Given {
+            words,
+            suite: THREE,
+            ..NOTHING
         };
-        let mut clock = MemClock::new(Vec::new(alloc));
-        let mut out = MemSink::new(alloc, 1000, numbers(alloc, &[])?)?;
-        let run = run_suite(&rt, suite, &mut clock, &mut out)?;
-        assert_eq!(rt; status_of(alloc, &run.journal)?, 1);
-        assert_eq!(rt; out.bytes.as_slice(), report.as_bytes());
-        assert_eq!(rt; run.children.runs.len(), started);
+        let seen = call(&rt, readers!(rt, &[]), &mut crew!(rt), &given)?;
+        assert_eq!(rt; seen.status, 1);
+        assert_eq!(rt; seen.out.as_slice(), report.as_bytes());
+        assert_eq!(rt; seen.programs, started);
     }
     Ok(())
 }

@@ -102,7 +102,7 @@ fn shell(
 }
 
 // The programs of tests, of which one call fails.
-pub fn programs(alloc: Global, failing: Option<u32>) -> Result<MemChildren, Fail> {
+fn programs(alloc: Global, failing: Option<u32>) -> Result<MemChildren, Fail> {
     let programs = vec![in alloc;
         shell(alloc, "exit 0", "noise", ChildEnd::Status(0))?,
         shell(alloc, "exit 3", "", ChildEnd::Status(3))?,

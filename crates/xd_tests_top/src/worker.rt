@@ -1,4 +1,4 @@
-// The command worker.
+// The commands that serve one link: worker, and socketserver.
 use crate::outside::{Given, NOTHING, call, crew, numbers, readers};
 use std::test::Fail;
 use xd_crew::{ListedCrew, Slot, ThreadCrew, start_into};
@@ -13,16 +13,19 @@ const SAID: &[u8] = b"1\x04\0\0\0\x01\0\0\0\x06F\0\0\0\x05Q\x05\0\0\0\x01\0\0\0\
 
 #[test]
 fn a_worker_answers_what_it_is_told(rt: HostRuntime) -> Result<(), Fail> {
-    let given = Given {
-        words: &["worker"],
-        first: TOLD,
-        ..NOTHING
-    };
-    let seen = call(&rt, readers!(rt, &[]), &mut crew!(rt), &given)?;
-    assert_eq!(rt; seen.status, 0);
-    assert_eq!(rt; seen.links.len(), 1);
-    assert_eq!(rt; seen.links[0].sink.bytes.as_slice(), SAID);
-    assert!(rt; seen.out.is_empty() && seen.err.is_empty());
+    let rows: [&[&'static str]; 2] = [&["worker"], &["socketserver", "localhost:8888"]];
+    for words in rows {
+        let given = Given {
+            words,
+            first: TOLD,
+            ..NOTHING
+        };
+        let seen = call(&rt, readers!(rt, &[]), &mut crew!(rt), &given)?;
+        assert_eq!(rt; seen.status, 0);
+        assert_eq!(rt; seen.links.len(), 1);
+        assert_eq!(rt; seen.links[0].sink.bytes.as_slice(), SAID);
+        assert!(rt; seen.out.is_empty() && seen.err.is_empty());
+    }
     Ok(())
 }
 
