@@ -163,13 +163,26 @@ pub fn run_linked<R: Wait, St: Starter, C: Crew<Reader<St::Src>>, O: Sink>(
         })) }
     ensures later { O.faults out.old ≤ O.faults out.new }
 {
-    let Settings { mode, chunk, reorder, .. } = suite.settings;
+    let Settings {
+        mode,
+        chunk,
+        reorder,
+        ..
+    } = suite.settings;
     match mode {
         ModeKind::Local => unreachable!(),
         ModeKind::Each => run_in(rt, alloc, suite, Each::new(alloc), starter, crew, out),
         ModeKind::Load => run_in(rt, alloc, suite, Load::new(chunk), starter, crew, out),
         ModeKind::LoadScope | ModeKind::LoadFile | ModeKind::LoadGroup => {
-            run_in(rt, alloc, suite, Scope::new(alloc, mode, reorder), starter, crew, out)
+            run_in(
+                rt,
+                alloc,
+                suite,
+                Scope::new(alloc, mode, reorder),
+                starter,
+                crew,
+                out,
+            )
         }
         ModeKind::WorkSteal => run_in(rt, alloc, suite, Steal::new(), starter, crew, out),
     }

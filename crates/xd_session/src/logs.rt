@@ -200,7 +200,12 @@ impl Logs {
     }
 
     // The worker's last log behind its news.
-    pub(crate) fn hear(&mut self, alloc: Global, worker: u32, what: &What) -> Result<(), OutOfMemory>
+    pub(crate) fn hear(
+        &mut self,
+        alloc: Global,
+        worker: u32,
+        what: &What,
+    ) -> Result<(), OutOfMemory>
         ensures { OnOk result (((v : ℕ) → log_in v self.old ≡ shortened (log_in v self.old)) →
             (v : ℕ) → log_in v self.new ≡ (if v == worker then shortened (with_news (log_in v self.old) what.now) else log_in v self.old)) }
     {

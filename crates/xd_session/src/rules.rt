@@ -165,12 +165,7 @@ impl<M: Mode> RunState<M> {
     }
 
     // The items that the worker's numbers name.
-    fn items_of(
-        &self,
-        alloc: Global,
-        worker: u32,
-        indices: &[u32],
-    ) -> Result<Indices, OutOfMemory>
+    fn items_of(&self, alloc: Global, worker: u32, indices: &[u32]) -> Result<Indices, OutOfMemory>
         requires { list_all (λ i. nat_lt (first_item (slot_of worker (books_of self.now.books)) (known_by self.now.known) + i) (2 ^ 32)) indices.now ≡ true }
         ensures { IfOk result (λ items. items ≡ map (λ i. first_item (slot_of worker (books_of self.now.books)) (known_by self.now.known) + i) indices.now) }
     {

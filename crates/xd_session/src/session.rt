@@ -15,8 +15,8 @@ use crate::books::RunBooks;
 use crate::ending::end;
 use crate::logs::Logs;
 use crate::plan::KnownPlan;
-use crate::step::Step;
 use crate::state::RunState;
+use crate::step::Step;
 use crate::take::Core;
 use std::alloc::Global;
 use std::marker::Model;
@@ -152,7 +152,11 @@ impl<M: Mode> Session<M> {
         ensures told { IfOk result (λ j. is_out_fault (stop_of j) ≡ out_failed) }
         ensures legal { IfOk result IsLegal }
     {
-        end(out_failed, &self.core.state.books, &mut self.journal.entries)?;
+        end(
+            out_failed,
+            &self.core.state.books,
+            &mut self.journal.entries,
+        )?;
         Ok(self.journal)
     }
 }

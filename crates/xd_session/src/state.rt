@@ -63,7 +63,8 @@ impl<M: Mode> RunState<M> {
     {
         let slot = self.books.slot_of(worker);
         let mut acts = Vec::new(alloc);
-        self.mode.joined(alloc, worker, slot, &mut self.books.ledger, &mut acts)?;
+        self.mode
+            .joined(alloc, worker, slot, &mut self.books.ledger, &mut acts)?;
         take_acts(alloc, &mut acts, &mut self.books, &mut self.known, entries)?;
         Ok(())
     }
@@ -83,7 +84,8 @@ impl<M: Mode> RunState<M> {
             Acted (acts_of (TestDone worker ms) s) s (books_of self.new.books) (known_by self.new.known) entries.old.items entries.new.items (M.stands self.new.mode)) }
     {
         let mut acts = Vec::new(alloc);
-        self.mode.done(alloc, worker, item, ms, &mut self.books.ledger, &mut acts)?;
+        self.mode
+            .done(alloc, worker, item, ms, &mut self.books.ledger, &mut acts)?;
         take_acts(alloc, &mut acts, &mut self.books, &mut self.known, entries)?;
         Ok(())
     }
@@ -100,7 +102,8 @@ impl<M: Mode> RunState<M> {
             Acted (acts_of TestsBack s) s (books_of self.new.books) (known_by self.new.known) entries.old.items entries.new.items (M.stands self.new.mode)) }
     {
         let mut acts = Vec::new(alloc);
-        self.mode.back(alloc, worker, &mut self.books.ledger, &mut acts)?;
+        self.mode
+            .back(alloc, worker, &mut self.books.ledger, &mut acts)?;
         take_acts(alloc, &mut acts, &mut self.books, &mut self.known, entries)?;
         Ok(())
     }

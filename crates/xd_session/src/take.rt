@@ -66,12 +66,7 @@ impl<M: Mode> Core<M> {
     }
 
     // What is kept of a test that ended: output of a failed one alone.
-    fn output_of(
-        &self,
-        alloc: Global,
-        worker: u32,
-        outcome: Outcome,
-    ) -> Result<Blob, OutOfMemory>
+    fn output_of(&self, alloc: Global, worker: u32, outcome: Outcome) -> Result<Blob, OutOfMemory>
         requires { self.now.spent ≤ most_of_all }
         ensures kept { IfOk result (λ b. (s : State) → At s (books_of self.now.state.books) (known_by self.now.state.known) (M.stands self.now.state.mode) → b ≡ output_of worker outcome (log_in worker self.now.logs) self.now.spent s) }
         ensures low { IfOk result (λ b. self.now.spent + length b ≤ most_of_all) }
@@ -161,7 +156,10 @@ impl<M: Mode> Core<M> {
             }
             What::Gone(cause) => self.go_down(alloc, worker, cause, entries)?,
             What::NotStarted => self.state.not_started(alloc, worker, entries)?,
-            What::Piece { log: _, bytes: _bytes } => {}
+            What::Piece {
+                log: _,
+                bytes: _bytes,
+            } => {}
             What::LogStart { index: _, log: _ } => {}
             What::LogClosed { log: _ } => {}
             What::Stray => {}
