@@ -1,3 +1,4 @@
 pub mod Queue
+pub mod ScopeNames
 pub mod Shares
 pub mod Turned

@@ -2,6 +2,9 @@
 //! LoadScopeScheduling and its two kinds hand them out.
 #![tactic(auto)]
 
+mod names;
 mod refill;
 mod share;
 mod units;
+
+pub use names::scope_of;
