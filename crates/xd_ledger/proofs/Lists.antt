@@ -4,7 +4,7 @@ use Rattle.std.proofs.lemmas.List.{drop_more}
 use Rattle.std.specs.Prelude.{◌||◌, ◌==◌, filter}
 use Rattle.std.specs.List.{list_all, range_with_len}
 use Rattle.std.proofs.lemmas.Bool.Decides.{nat_tests}
-use Rattle.xd_ledger.specs.Chains.{behind}
+use Rattle.xd_ledger.specs.Chains.{ahead, behind, final_of}
 use Rattle.xd_ledger.specs.Numbers.{among, without, all_among, all_distinct, first_of}
 
 -- parts of a list
@@ -88,3 +88,21 @@ behind-at (x ∷ xs) (suc k) h d =
     let other : (get_or xs k 0 == x) ≡ false = not-first x (get_or xs k 0) xs d here in
     let e : suc k + 1 ≡ suc (k + 1) = omega arith in
     rw (other, e) (behind-at xs k (omega arith) rest)
+
+pub ahead-at : (xs : List ℕ) (k : ℕ) → k < length xs → all_distinct xs ≡ true → ahead (get_or xs k 0) xs ≡ take k xs
+ahead-at [] k h d = absurd (omega arith)
+ahead-at (x ∷ xs) zero h d = grind (arith, nat_tests)
+ahead-at (x ∷ xs) (suc k) h d =
+    let here : among (get_or xs k 0) xs ≡ true = among-at xs k (omega arith) in
+    let rest : all_distinct xs ≡ true = grind (arith, nat_tests) in
+    let other : (get_or xs k 0 == x) ≡ false = not-first x (get_or xs k 0) xs d here in
+    rw other (ap (λ (ys : List ℕ). x ∷ ys) (ahead-at xs k (omega arith) rest))
+
+pub final-take : (xs : List ℕ) (k : ℕ) → k < length xs → final_of (take (k + 1) xs) ≡ Some (get_or xs k 0)
+final-take [] k h = absurd (omega arith)
+final-take (x ∷ xs) zero h = refl
+final-take (x ∷ []) (suc k) h = absurd (omega arith)
+final-take (x ∷ y ∷ xs) (suc k) h =
+    let e : suc k + 1 ≡ suc (suc k) = omega arith in
+    let f : k + 1 ≡ suc k = omega arith in
+    ap (λ (n : ℕ). final_of (take n (x ∷ y ∷ xs))) e ∙ ap (λ (n : ℕ). final_of (take n (y ∷ xs))) (sym f) ∙ final-take (y ∷ xs) k (omega arith)

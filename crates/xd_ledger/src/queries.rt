@@ -126,6 +126,13 @@ impl Ledger {
         self.chains.first(POOL)
     }
 
+    /// The last item of the pool.
+    pub fn last_pool(&self) -> Option<u32>
+        ensures { result ≡ final_of self.now.pool }
+    {
+        self.chains.last(POOL)
+    }
+
     /// The last item that the worker of the rota holds.
     pub fn last_held(&self, worker: u32) -> Option<u32>
         requires { in_rota worker self.now ≡ true }

@@ -1,3 +1,7 @@
+pub mod Grouped
 pub mod Queue
+pub mod Remains
+pub mod ScopeNames
 pub mod Shares
+pub mod Sorted
 pub mod Turned

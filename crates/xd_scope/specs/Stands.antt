@@ -1,9 +1,17 @@
 -- What a scope mode keeps of a plan, and the turn that a call leaves it at.
-use Rattle.std.specs.Prelude.{◌≡◌, ℕ, nat_lt, true, List, [], ◌∷◌, None, length, take, drop, reverse, if◌then◌else◌}
+use Rattle.std.specs.Prelude.{◌≡◌, ℕ, suc, ◌==◌, nat_lt, true, List, [], ◌∷◌, Option, Some, None, option_map, length, take, drop, reverse, map, filter, if◌then◌else◌}
+use Rattle.std.specs.BTreeMap.{BTreeMap, get_by}
+use Rattle.std.specs.BTreeSet.{BTreeSet, contains}
+use Rattle.std.specs.Cmp.Lexicographic.{slice_cmp}
+use Rattle.std.specs.Ordering.{nat_cmp}
+use Rattle.std.specs.Str.{IsUtf8, bytes_eq, chars}
+use denote.Ref.{Bor}
+use Rattle.xd_ledger.specs.Numbers.{among}
+use Rattle.xd_ledger.specs.Units.{Group, unless_empty}
 use Rattle.xd_journal.specs.declared.entry.Entry.{Entry}
 use Rattle.xd_ledger.specs.Table.{Table, held}
 use Rattle.xd_ledger.specs.Turn.{Turn, in_turn, shut_each}
-use Rattle.xd_ledger.specs.Plan.{Plan, is_scope}
+use Rattle.xd_ledger.specs.Plan.{Handed, Plan, is_scope}
 use Rattle.xd_ledger.specs.ScopeModes.{enough, give_unit, refill}
 use Rattle.xd_scope.specs.declared.units.Units.{Units}
 
@@ -35,3 +43,21 @@ served_share k ws t = in_turn refill (take k ws) (in_turn give_unit (take k ws) 
 abbrev pub first_ids : List (List (List ℕ)) → List (List ℕ)
 first_ids [] = []
 first_ids (ids ∷ lists) = ids
+
+-- the set has these numbers
+abbrev pub IsSetOf : List ℕ → BTreeSet ℕ → Type 0
+IsSetOf xs s = (x : ℕ) → contains nat_cmp s x ≡ among x xs
+
+-- what is left of one unit, where it is the worker's
+abbrev pub left_of : ℕ → List ℕ → Handed → List (List ℕ)
+left_of worker rest u = if u.worker == worker then unless_empty (filter (λ t. among t rest) u.tests) else []
+
+-- the place of the scope's group, where it has one
+abbrev pub place_in : List ℕ → List Group → Option ℕ
+place_in scope [] = None
+place_in scope (g ∷ gs) = if bytes_eq g.scope scope then Some 0 else option_map suc (place_in scope gs)
+
+-- the units are those of the groups, and the map knows the place of each scope
+pub record AreGrouped (gs : List Group) (places : BTreeMap (Bor (List ℕ)) ℕ) (us : List (List ℕ)) : Type 0 where
+  pub units_are : us ≡ map (λ g. g.tests) gs
+  pub places_are : (bs : List ℕ) → IsUtf8 bs → get_by (λ k. slice_cmp nat_cmp bs k.now) places ≡ place_in (chars bs) gs

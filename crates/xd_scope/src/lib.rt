@@ -2,6 +2,12 @@
 //! LoadScopeScheduling and its two kinds hand them out.
 #![tactic(auto)]
 
+mod fallen;
+mod groups;
+mod names;
+mod order;
 mod refill;
 mod share;
 mod units;
+
+pub use names::scope_of;

@@ -1,0 +1,96 @@
+-- What is left of units, one after another.
+use Rattle.std.proofs.Common.{◌≡◌, ℕ, suc, ◌+◌, ◌-◌, ◌<◌, ◌≤◌, min, List, [], ◌∷◌, ◌++◌, take, drop, length, get_or, filter, Bool, true, false, Option, Some, refl, ap, sym, ◌∙◌, arith, append_assoc, cond, nat_lt}
+use Rattle.std.specs.Prelude.{◌==◌, ◌||◌, if◌then◌else◌}
+use Rattle.std.specs.BTreeSet.{BTreeSet, contains}
+use Rattle.std.specs.BTreeMap.{is_at}
+use Rattle.std.specs.Ordering.{is_eq, nat_cmp}
+use Rattle.std.proofs.lemmas.Bool.Decides.{nat_tests}
+use Rattle.std.proofs.lemmas.List.{drop_more, take_more}
+use Rattle.xd_ledger.specs.Calls.{last_of}
+use Rattle.xd_ledger.specs.Chains.{ahead, final_of}
+use Rattle.xd_ledger.specs.Numbers.{all_distinct, among}
+use Rattle.xd_ledger.specs.Plan.{Handed}
+use Rattle.xd_ledger.specs.Units.{unless_empty, units_left}
+use Rattle.xd_ledger.proofs.Lists.{ahead-at, among-at, among-append, final-take}
+use Rattle.xd_scope.specs.Stands.{IsSetOf, left_of}
+
+-- the set of the last items
+
+eq-cmp : (x y : ℕ) → is_eq (nat_cmp x y) ≡ (x == y)
+eq-cmp x y = grind (arith, nat_tests)
+
+flip-eq : (x y : ℕ) → (x == y) ≡ (y == x)
+flip-eq x y = grind (arith, nat_tests)
+
+either : (a b : Bool) → cond a true b ≡ (a || b)
+either true b = refl
+either false b = refl
+
+pub set-more : (xs : List ℕ) (k item : ℕ) (s t : BTreeSet ℕ) → k < length xs → item ≡ get_or xs k 0 → IsSetOf (drop (k + 1) xs) s
+    → ((q : ℕ) → contains nat_cmp t q ≡ cond (is_at (nat_cmp item) q) true (contains nat_cmp s q)) → IsSetOf (drop k xs) t
+set-more xs k item s t h at old new = λ x.
+    (new x ∙ ap (λ (b : Bool). cond b true (contains nat_cmp s x)) (eq-cmp item x ∙ flip-eq item x ∙ ap (λ (y : ℕ). x == y) at)
+    ∙ ap (λ (b : Bool). cond (x == get_or xs k 0) true b) (old x) ∙ either (x == get_or xs k 0) (among x (drop (k + 1) xs))
+    ∙ sym (ap (among x) (drop_more xs k 0 h)))
+
+pub last-at : (xs : List ℕ) (k x : ℕ) → k < length xs → Some x ≡ final_of (take (k + 1) xs) → x ≡ get_or xs k 0
+last-at xs k x h e = let f = final-take xs k h in cc
+
+pub in-pool : (xs ys : List ℕ) (k x : ℕ) → k < length xs → x ≡ get_or xs k 0 → among x (xs ++ ys) ≡ true
+in-pool xs ys k x h at =
+    let a : among x xs ≡ true = ap (λ (z : ℕ). among z xs) at ∙ among-at xs k h in
+    among-append x xs ys ∙ rw a
+
+pub previous-at : (xs : List ℕ) (k x : ℕ) (next : Option ℕ) → k < length xs → all_distinct xs ≡ true → x ≡ get_or xs k 0 → next ≡ final_of (ahead x xs) → next ≡ final_of (take k xs)
+previous-at xs k x next h d at e = e ∙ ap (λ (z : ℕ). final_of (ahead z xs)) at ∙ ap final_of (ahead-at xs k h d)
+
+pub none-yet : (xs : List ℕ) (x : ℕ) → among x (drop (length xs) xs) ≡ false
+none-yet [] x = refl
+none-yet (y ∷ xs) x = none-yet xs x
+
+pub last-capped : (n : ℕ) (xs : List ℕ) → last_of (min n (length xs)) xs ≡ last_of n xs
+last-capped n xs = ap (λ (k : ℕ). drop k xs) (let e : length xs - min n (length xs) ≡ length xs - n = omega arith in e)
+
+-- tests that pass
+
+pub filter-more : (test : ℕ → Bool) (xs ys : List ℕ) → filter test (xs ++ ys) ≡ filter test xs ++ filter test ys
+filter-more test [] ys = refl
+filter-more test (x ∷ xs) ys = grind (arith, nat_tests, filter-more test xs ys)
+
+pub filter-one_more : (test : ℕ → Bool) (xs : List ℕ) (k x : ℕ) (old new : List ℕ) → k < length xs → x ≡ get_or xs k 0 → old ≡ filter test (take k xs) → new ≡ old ++ filter test (x ∷ []) → new ≡ filter test (take (k + 1) xs)
+filter-one_more test xs k x old new h at a b =
+    let e = take_more xs k 0 h in
+    let f = filter-more test (take k xs) (get_or xs k 0 ∷ []) in
+    let g : new ≡ filter test (take k xs) ++ filter test (get_or xs k 0 ∷ []) = b ∙ ap (λ (zs : List ℕ). zs ++ filter test (x ∷ [])) a ∙ ap (λ (z : ℕ). filter test (take k xs) ++ filter test (z ∷ [])) at in
+    g ∙ sym f ∙ ap (filter test) (sym e)
+
+pub filter-same : (p q : ℕ → Bool) (xs : List ℕ) → ((x : ℕ) → p x ≡ q x) → filter p xs ≡ filter q xs
+filter-same p q [] h = refl
+filter-same p q (x ∷ xs) h = let e = filter-same p q xs h in let f = h x in grind (arith, nat_tests)
+
+pub unless-none : (ts : List ℕ) → length ts ≡ 0 → unless_empty ts ≡ []
+unless-none [] h = refl
+unless-none (t ∷ ts) h = absurd (omega arith)
+
+pub unless-some : (ts : List ℕ) → (length ts ≡ 0 → ⊥) → unless_empty ts ≡ ts ∷ []
+unless-some [] h = absurd (h refl)
+unless-some (t ∷ ts) h = refl
+
+-- one unit after another
+
+pub left-other : (w : ℕ) (rest : List ℕ) (u : Handed) → (u.worker == w) ≡ false → left_of w rest u ≡ []
+left-other w rest u h = rw h
+
+pub left-own : (w : ℕ) (rest : List ℕ) (s : BTreeSet ℕ) (u : Handed) (ts : List ℕ) → IsSetOf rest s → (u.worker == w) ≡ true → ts ≡ filter (λ t. contains nat_cmp s t) u.tests → left_of w rest u ≡ unless_empty ts
+left-own w rest s u ts h own e =
+    let same : filter (λ t. among t rest) u.tests ≡ ts = filter-same (λ t. among t rest) (λ t. contains nat_cmp s t) u.tests (λ x. sym (h x)) ∙ sym e in
+    rw own (ap unless_empty same)
+
+pub left-one_more : (w : ℕ) (rest : List ℕ) (given : List Handed) (i : ℕ) (u : Handed) (left now all : List (List ℕ))
+    → i < length given → u ≡ get_or given i u → now ≡ left ++ left_of w rest u → left ++ units_left w rest (drop i given) ≡ all
+    → now ++ units_left w rest (drop (i + 1) given) ≡ all
+left-one_more w rest given i u left now all h e a b =
+    ap (λ (xs : List (List ℕ)). xs ++ units_left w rest (drop (i + 1) given)) a
+    ∙ append_assoc left (left_of w rest u) (units_left w rest (drop (i + 1) given))
+    ∙ ap (λ (xs : List (List ℕ)). left ++ xs) (ap (λ (v : Handed). left_of w rest v ++ units_left w rest (drop (i + 1) given)) e ∙ sym (ap (units_left w rest) (drop_more given i u h)))
+    ∙ b

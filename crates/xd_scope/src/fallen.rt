@@ -1,0 +1,106 @@
+// What is left of the units of a worker that died.
+ghost use Rattle.std.specs.Prelude.{◌≡◌, ◌≤◌, ◌++◌, ◌∷◌, ℕ, List, OnOk, IfOk, [], filter, length, true, if◌then◌else◌};
+ghost use Rattle.std.specs.BTreeSet.{contains};
+ghost use Rattle.std.specs.Ordering.{nat_cmp};
+ghost use Rattle.xd_ledger.specs.Calls.{last_of};
+ghost use Rattle.xd_ledger.specs.Numbers.{all_distinct, among};
+ghost use Rattle.xd_ledger.specs.Units.{units_left};
+ghost use Rattle.xd_scope.specs.Stands.{IsSetOf, left_of};
+
+use crate::units::Given;
+use std::alloc::Global;
+use std::collections::{BTreeSet, VecDeque};
+use xd_edge::{Indices, OutOfMemory};
+use xd_ledger::Ledger;
+
+// The last so many items of the pool.
+fn last_items(alloc: Global, rest: u32, ledger: &Ledger) -> Result<BTreeSet<u32>, OutOfMemory>
+    requires distinct { all_distinct ledger.now.pool ≡ true }
+    requires within { rest ≤ length ledger.now.pool }
+    ensures { IfOk result (λ r. IsSetOf (last_of rest ledger.now.pool) r) }
+{
+    let mut items = BTreeSet::new(alloc);
+    let mut next = ledger.last_pool();
+    for done in 0..rest {
+        let item = next.unwrap();
+        items.insert(item)?;
+        next = ledger.previous_item(item);
+    }
+    Ok(items)
+}
+
+// The test too, where it is among the items.
+fn add_if_left(test: u32, items: &BTreeSet<u32>, tests: &mut Vec<u32>) -> Result<(), OutOfMemory>
+    ensures { OnOk result (tests.new.items ≡ tests.old.items ++ filter (λ t. contains nat_cmp items.now t) (test ∷ [])) }
+{
+    if items.contains(&test) {
+        tests.push(test)?;
+    }
+    Ok(())
+}
+
+// The tests that are among the items.
+fn tests_left(alloc: Global, tests: &[u32], items: &BTreeSet<u32>) -> Result<Indices, OutOfMemory>
+    ensures { IfOk result (λ r. r ≡ filter (λ t. contains nat_cmp items.now t) tests.now) }
+{
+    let mut left = Vec::new(alloc);
+    for test in tests {
+        add_if_left(*test, items, &mut left)?;
+    }
+    Ok(Indices { items: left })
+}
+
+// What is left of the unit goes to the queue's end, where it is the worker's.
+fn keep_one(
+    alloc: Global,
+    worker: u32,
+    items: &BTreeSet<u32>,
+    unit: &Given,
+    queue: &mut VecDeque<Indices>,
+) -> Result<(), OutOfMemory>
+    ensures { OnOk result ((rest : List ℕ) → IsSetOf rest items.now → queue.new.items ≡ queue.old.items ++ left_of worker rest unit.now) }
+{
+    if unit.worker != worker {
+        return Ok(());
+    }
+    let tests = tests_left(alloc, &unit.tests.items, items)?;
+    if tests.items.len() == 0 {
+        return Ok(());
+    }
+    queue.push_back(tests)?;
+    Ok(())
+}
+
+// What is left of each unit of the worker goes to the queue's end, in order.
+fn keep_each(
+    alloc: Global,
+    worker: u32,
+    items: &BTreeSet<u32>,
+    given: &[Given],
+    queue: &mut VecDeque<Indices>,
+) -> Result<(), OutOfMemory>
+    ensures { OnOk result ((rest : List ℕ) → IsSetOf rest items.now → queue.new.items ≡ queue.old.items ++ units_left worker rest given.now) }
+{
+    for unit in given {
+        keep_one(alloc, worker, items, unit, queue)?;
+    }
+    Ok(())
+}
+
+// The tests of the worker's units that are among the last so many items of the pool wait again, those of a unit
+// together, in order of assignment.
+pub(crate) fn keep_rest(
+    alloc: Global,
+    worker: u32,
+    rest: u32,
+    ledger: &Ledger,
+    given: &[Given],
+    queue: &mut VecDeque<Indices>,
+) -> Result<(), OutOfMemory>
+    requires { all_distinct ledger.now.pool ≡ true }
+    ensures { OnOk result (queue.new.items ≡ queue.old.items ++ units_left worker (last_of rest ledger.now.pool) given.now) }
+{
+    let items = last_items(alloc, rest.min(ledger.pool_len()), ledger)?;
+    keep_each(alloc, worker, &items, given, queue)?;
+    Ok(())
+}
