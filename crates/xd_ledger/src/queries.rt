@@ -1,6 +1,7 @@
 // What the ledger tells.
-ghost use Rattle.std.specs.Prelude.{nat_lt, ◌≡◌, ◌<◌, ◌≤◌, ◌-◌, ◌++◌, ℕ, length, drop, slice_index, true, IfOk};
+ghost use Rattle.std.specs.Prelude.{nat_lt, ◌≡◌, ◌<◌, ◌≤◌, ◌++◌, ℕ, length, slice_index, true, IfOk};
 ghost use Rattle.std.specs.List.{list_all};
+ghost use Rattle.xd_ledger.specs.Calls.{last_of};
 ghost use Rattle.xd_ledger.specs.Chains.{chain_at, chains_of, ahead, behind, final_of};
 ghost use Rattle.xd_ledger.specs.Numbers.{among, first_of};
 ghost use Rattle.xd_ledger.specs.Posts.{chains_in};
@@ -163,7 +164,7 @@ impl Ledger {
     pub fn last_items(&self, alloc: Global, worker: u32, count: u32) -> Result<Indices, OutOfMemory>
         requires seated { in_rota worker self.now ≡ true }
         requires enough { count ≤ length (held worker self.now) }
-        ensures { IfOk result (λ r. r ≡ drop (length (held worker self.now) - count) (held worker self.now)) }
+        ensures { IfOk result (λ r. r ≡ last_of count (held worker self.now)) }
     {
         let items = self
             .chains

@@ -1,7 +1,7 @@
 // The one rule of mode worksteal, which runs at each of its calls.
-ghost use Rattle.std.specs.Prelude.{◌≡◌, ◌≤◌, ◌-◌, ◌/◌, ◌++◌, ◌∷◌, [], true, length, drop, min, OnOk, Some};
+ghost use Rattle.std.specs.Prelude.{◌≡◌, ◌≤◌, ◌-◌, ◌/◌, ◌++◌, ◌∷◌, [], true, length, min, OnOk, Some};
 ghost use Rattle.xd_journal.specs.declared.entry.Entry.TheVariants.{Steal};
-ghost use Rattle.xd_ledger.specs.Calls.{turn};
+ghost use Rattle.xd_ledger.specs.Calls.{last_of, turn};
 ghost use Rattle.xd_ledger.specs.Numbers.{all_among, all_distinct};
 ghost use Rattle.xd_ledger.specs.Plan.{Plan};
 ghost use Rattle.xd_ledger.specs.Table.{held, in_rota, workers_of};
@@ -68,7 +68,7 @@ fn ask(
     requires seated { in_rota worker ledger.now ≡ true }
     requires enough { count ≤ length (held worker ledger.now) }
     ensures open { OnOk result (asked.new ≡ Some worker) }
-    ensures asks { OnOk result (acts.new.items ≡ acts.old.items ++ Steal worker (drop (length (held worker ledger.now) - count) (held worker ledger.now)) ∷ []) }
+    ensures asks { OnOk result (acts.new.items ≡ acts.old.items ++ Steal worker (last_of count (held worker ledger.now)) ∷ []) }
 {
     let indices = ledger.last_items(alloc, worker, count)?;
     acts.push(Entry::Steal { worker, indices })?;

@@ -121,10 +121,6 @@ fn a_neighbour_is_one_of_the_same_list(rt: HostRuntime) -> Result<(), Fail> {
         (ledger.last_held(0), ledger.previous_item(2)),
         (Some(2), Some(1))
     );
-    assert_eq!(rt;
-        ledger.last_items(alloc, 0, 2)?.items.as_slice(),
-        [1, 2].as_slice()
-    );
     ledger.give_back(0, &[2])?;
     assert_eq!(rt; pool_of(alloc, &ledger)?.as_slice(), [3, 2].as_slice());
     ledger.complete(0, 0);
@@ -136,5 +132,21 @@ fn a_neighbour_is_one_of_the_same_list(rt: HostRuntime) -> Result<(), Fail> {
         }
     );
     assert_eq!(rt; pool_of(alloc, &ledger)?.as_slice(), [3, 2].as_slice());
+    Ok(())
+}
+
+#[test]
+fn the_last_items_stand_in_their_order(rt: HostRuntime) -> Result<(), Fail> {
+    let alloc = rt.alloc();
+    let mut ledger = Ledger::new(alloc, 4)?;
+    ledger.join(alloc, 0)?;
+    assert_eq!(rt;
+        ledger.assign_front(alloc, 0, 3)?.items.as_slice(),
+        [0, 1, 2].as_slice()
+    );
+    assert_eq!(rt;
+        ledger.last_items(alloc, 0, 2)?.items.as_slice(),
+        [1, 2].as_slice()
+    );
     Ok(())
 }
