@@ -7,7 +7,9 @@ mod groups;
 mod names;
 mod order;
 mod refill;
+mod scope;
 mod share;
 mod units;
 
 pub use names::scope_of;
+pub use scope::Scope;

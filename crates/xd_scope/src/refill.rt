@@ -2,7 +2,7 @@
 ghost use Rattle.std.specs.Prelude.{◌≡◌, ◌≤◌, OnOk, length, take, true};
 ghost use Rattle.xd_ledger.specs.Calls.{turn};
 ghost use Rattle.xd_ledger.specs.Plan.{Plan};
-ghost use Rattle.xd_ledger.specs.ScopeModes.{enough, give_more, give_unit, refill};
+ghost use Rattle.xd_ledger.specs.ScopeModes.{enough, give_more, give_unit, refill, refill_all};
 ghost use Rattle.xd_ledger.specs.Suits.{AreInPool};
 ghost use Rattle.xd_ledger.specs.Table.{in_rota, workers_of};
 ghost use Rattle.xd_ledger.specs.Turn.{in_turn};
@@ -158,5 +158,21 @@ pub(crate) fn refill_each(
         let worker = ledger.rota_at(place);
         refill_one(alloc, worker, units, ledger, acts)?;
     }
+    Ok(())
+}
+
+// Every worker of the rota is refilled.
+pub(crate) fn refill_all(
+    alloc: Global,
+    units: &mut Units,
+    ledger: &mut Ledger,
+    acts: &mut Vec<Entry>,
+) -> Result<(), OutOfMemory>
+    requires { AreInPool units.old.queue.items ledger.old.pool }
+    ensures { OnOk result ((p : Plan) → Keeps units.old p →
+        IsAt (refill_all (turn ledger.old p acts.old.items)) ledger.new acts.new.items units.new) }
+{
+    let count = ledger.rota_len();
+    refill_each(alloc, count, units, ledger, acts)?;
     Ok(())
 }

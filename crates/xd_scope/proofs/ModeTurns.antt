@@ -1,0 +1,82 @@
+-- What a call of the mode does, from what its turn is.
+use Rattle.std.proofs.Common.{◌≡◌, ℕ, ◌+◌, ◌≤◌, List, [], ◌∷◌, ◌++◌, length, map, Bool, true, false, refl, ap, sym, subst, ◌∙◌, arith}
+use Rattle.std.specs.Prelude.{fold, sum, if◌then◌else◌, None}
+use Rattle.std.specs.List.{range_with_len}
+use Rattle.std.proofs.lemmas.List.FromFn.{length-range_with_len}
+use Rattle.xd_journal.specs.declared.entry.Entry.{Entry}
+use Rattle.xd_edge.specs.declared.mode.ModeKind.{ModeKind}
+use Rattle.xd_edge.specs.declared.mode.ModeKind.TheVariants.{Local, Each, Load, LoadScope, LoadFile, LoadGroup, WorkSteal}
+use Rattle.xd_ledger.specs.Calls.{Turned, shared_plan, turn}
+use Rattle.xd_ledger.specs.Modes.{Call, scope_turn, turned}
+use Rattle.xd_ledger.specs.Plan.{Plan, is_scope}
+use Rattle.xd_ledger.specs.State.{down_plan}
+use Rattle.xd_ledger.specs.Suits.{AreInPool}
+use Rattle.xd_ledger.specs.Table.{Table}
+use Rattle.xd_ledger.specs.Turn.{Turn}
+use Rattle.xd_ledger.specs.Units.{units, units_left}
+use Rattle.xd_scope.specs.declared.units.Units.{Units}
+use Rattle.xd_scope.specs.Stands.{IsAt, Keeps, first_ids}
+
+turned-scope : (m : ModeKind) (c : Call) (t : Turn) → is_scope m ≡ true → turned m c t ≡ scope_turn c t
+turned-scope Local c t h = absurd (cc)
+turned-scope Each c t h = absurd (cc)
+turned-scope Load c t h = absurd (cc)
+turned-scope LoadScope c t h = refl
+turned-scope LoadFile c t h = refl
+turned-scope LoadGroup c t h = refl
+turned-scope WorkSteal c t h = absurd (cc)
+
+pub scope-mode : (u : Units) (p : Plan) → Keeps u p → is_scope p.mode ≡ true
+scope-mode u p k = ap is_scope k.mode ∙ k.scope
+
+pub turned-at : (c : Call) (p : Plan) (before : Table) (acts : List Entry) (after : Table) (acts_now : List Entry) (u v : Units) → Keeps u p → IsAt (scope_turn c (turn before p acts)) after acts_now v → Turned c p before acts after acts_now (λ q. Keeps v q)
+turned-at c p before acts after acts_now u v k h =
+    let e = sym (turned-scope p.mode c (turn before p acts) (scope-mode u p k)) in
+    let g = subst (λ (t : Turn). IsAt t after acts_now v) e h in
+    record { table_is = g.table_is; acts_are = g.acts_are; stands_for = g.keeps }
+
+pub fits-of : (u : Units) (p : Plan) (pool : List ℕ) → Keeps u p → (is_scope p.mode ≡ true → AreInPool p.queue pool) → AreInPool u.queue.items pool
+fits-of u p pool k h = subst (λ (q : List (List ℕ)). AreInPool q pool) k.queue (h (scope-mode u p k))
+
+-- a worker is down
+
+pub keeps-down : (w : ℕ) (rest : List ℕ) (u v : Units) (p : Plan) → Keeps u p → v.kind ≡ u.kind → v.reorder ≡ u.reorder → v.given.items ≡ u.given.items → v.queue.items ≡ u.queue.items ++ units_left w rest u.given.items → Keeps v (down_plan w rest p)
+keeps-down w rest u v p k a b c d = record {
+  mode = k.mode ∙ sym a;
+  scope = ap is_scope a ∙ k.scope;
+  reorder = k.reorder ∙ sym b;
+  queue = ap (λ (q : Bool). if q then p.queue ++ units_left w rest p.given else p.queue) (scope-mode u p k) ∙ ap (λ (q : List (List ℕ)). q ++ units_left w rest p.given) k.queue ∙ ap (λ g. u.queue.items ++ units_left w rest g) k.given ∙ sym d;
+  given = k.given ∙ sym c;
+  steal = rw k.steal;
+}
+
+-- the tests are shared
+
+first-is : (lists : List (List (List ℕ))) (p : Plan) → is_scope p.mode ≡ true → (shared_plan lists p).queue ≡ units p.mode p.reorder (first_ids lists)
+first-is [] p h = rw h
+first-is (ids ∷ lists) p h = rw h
+
+pub keeps-shared : (lists : List (List (List ℕ))) (u v : Units) (p : Plan) → Keeps u p → v.kind ≡ u.kind → v.reorder ≡ u.reorder → v.given.items ≡ u.given.items → v.queue.items ≡ units u.kind u.reorder (first_ids lists) → Keeps v (shared_plan lists p)
+keeps-shared lists u v p k a b c d = record {
+  mode = k.mode ∙ sym a;
+  scope = ap is_scope a ∙ k.scope;
+  reorder = k.reorder ∙ sym b;
+  queue = first-is lists p (scope-mode u p k) ∙ ap (λ (m : ModeKind). units m p.reorder (first_ids lists)) k.mode ∙ ap (λ (r : Bool). units u.kind r (first_ids lists)) k.reorder ∙ sym d;
+  given = k.given ∙ sym c;
+  steal = k.steal;
+}
+
+fold-plus : (a : ℕ) (xs : List ℕ) → fold ◌+◌ a xs ≡ a + fold ◌+◌ 0 xs
+fold-plus a [] = omega arith
+fold-plus a (x ∷ xs) =
+    let p : fold ◌+◌ (a + x) xs ≡ (a + x) + fold ◌+◌ 0 xs = fold-plus (a + x) xs in
+    let q : fold ◌+◌ (0 + x) xs ≡ (0 + x) + fold ◌+◌ 0 xs = fold-plus (0 + x) xs in
+    p ∙ omega (arith, q)
+
+first-few : (lists : List (List (List ℕ))) → length (first_ids lists) ≤ sum (map length lists)
+first-few [] = omega arith
+first-few (ids ∷ lists) = let e = fold-plus (0 + length ids) (map length lists) in omega (arith, e)
+
+-- there are no more ids than tests in the pool
+pub few-ids : (lists : List (List (List ℕ))) (pool : List ℕ) (n : ℕ) → pool ≡ range_with_len 0 (sum (map length lists)) → n ≡ length pool → length (first_ids lists) ≤ n
+few-ids lists pool n e len = omega (arith, first-few lists, len, ap length e, length-range_with_len 0 (sum (map length lists)))

@@ -1,0 +1,16 @@
+use Rattle.std.proofs.Common.{◌≡◌, ℕ, List, take, length, ap, arith}
+use Rattle.std.proofs.lemmas.List.{take_all}
+use Rattle.xd_ledger.specs.Calls.{turn}
+use Rattle.xd_ledger.specs.ScopeModes.{refill}
+use Rattle.xd_ledger.specs.Table.{workers_of}
+use Rattle.xd_ledger.specs.Turn.{in_turn}
+use Rattle.xd_scope.proofs.Turned.{is-at-same}
+use Rattle.xd_scope.proofs.refill.refill_all.Goals as goal
+
+pub returns : goal.returns
+returns c = λ p h.
+    (let ws = workers_of c.args.ledger.now in
+    let t = turn c.args.ledger.now p c.args.acts.now.items in
+    let all = take_all c.rota_len-count.result ws (omega (arith, c.rota_len-count.ensures)) in
+    is-at-same (in_turn refill (take c.rota_len-count.result ws) t) (in_turn refill ws t) c.refill_each.new.ledger c.refill_each.new.acts.items c.refill_each.new.units
+    (ap (λ (vs : List ℕ). in_turn refill vs t) all) (c.in_ok-refill_each.ensures.turned p h))
