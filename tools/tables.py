@@ -4,7 +4,7 @@
 Usage: tools/tables.py          says which lines of a table are not the model's, and ends with status 1 where one is not
        tools/tables.py write    puts what the model says in their place; a name, its settings and its news stay
 
-A table of mode load stands in a file of crates/xd_tests_runs/src/drive, one run a line: its name, the settings, the news that
+A table stands in a file of crates/xd_tests_runs/src/drive, one run a line (tools/draw.py draws more of them): its name, the settings, the news that
 a hub over lists gives, and what they come to (the calls of the hub, where the output fails; the journal, the status, and the
 text). How it is written stands at the heads of script.rt there and of crates/xd_tests_runs/src/words.rt. The journals of all
 modes in crates/xd_drive/tables have a head of their own.
@@ -18,7 +18,7 @@ import sys
 import model
 
 ROOT = os.path.dirname(os.path.dirname(os.path.abspath(__file__)))
-RUNS = "worked_runs", "breaches", "random_runs"
+RUNS = "worked_runs", "breaches", "random_runs", "other_modes"
 FAILING = "failing_outputs"
 LINE_END = "\\n\\"
 BAR = " ~ "
@@ -140,7 +140,7 @@ def show(entry):
         return f"X{w}:{rest[0]}"
     if kind == "Start":
         return f"s{w},{rest[0]}"
-    letters = {"Ready": "R", "Back": "B", "Finished": "F", "NotStarted": "N", "Run": "r", "Shutdown": "h", "Kill": "k"}
+    letters = {"Ready": "R", "Back": "B", "Finished": "F", "NotStarted": "N", "Run": "r", "RunAll": "a", "Steal": "t", "Shutdown": "h", "Kill": "k"}
     return f"{letters[kind]}{w}{show_numbers(rest[0]) if rest else ''}"
 
 
@@ -219,8 +219,10 @@ def drive(settings, news, fails):
 
 
 def settings_of(words):
-    workers, maxfail, restarts, chunk, fails = words.split(",")
-    settings = model.Settings("load", int(workers), int(maxfail), int(restarts), None if chunk == "-" else int(chunk))
+    workers, maxfail, restarts, chunk, fails, *how = words.split(",")
+    mode = how[0] if how else "load"
+    chunk = None if chunk == "-" else int(chunk)
+    settings = model.Settings(mode, int(workers), int(maxfail), int(restarts), chunk, "kept" not in how)
     return settings, None if fails == "-" else int(fails)
 
 

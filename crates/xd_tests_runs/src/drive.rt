@@ -6,6 +6,7 @@ ghost use Rattle.xd_drive.specs.Marks.{is_end, is_ready, may_tell};
 
 mod breaches;
 mod failing_outputs;
+mod other_modes;
 mod random_runs;
 mod script;
 mod worked_runs;
@@ -163,6 +164,11 @@ fn breaches_and_their_neighbours_have_their_journals(rt: HostRuntime) -> Result<
 #[test]
 fn random_runs_are_those_of_the_model(rt: HostRuntime) -> Result<(), Fail> {
     expect_runs(&rt, rt.alloc(), random_runs::RUNS)
+}
+
+#[test]
+fn random_runs_of_other_modes_are_those_of_the_model(rt: HostRuntime) -> Result<(), Fail> {
+    expect_runs(&rt, rt.alloc(), other_modes::RUNS)
 }
 
 #[test]

@@ -7,7 +7,7 @@
 // An id %1f, %20 or %7f is that character. Output x*9 is nine times x, and / in it is a newline.
 //
 // Entries: what was said in capitals as above, with the kept output last, and = for the same ids; then s start, with its
-// slot; r run, with tests; a run all; h shutdown; k kill; o the end. What is shown has more than eight of one character as
+// slot; r run, with tests; a run all; t steal, with tests; h shutdown; k kill; o the end. What is shown has more than eight of one character as
 // x*9, and / for a newline.
 use std::alloc::Global;
 use std::collections::VecDeque;
@@ -509,10 +509,15 @@ fn show_told(text: &mut String, entry: &Entry) -> Result<(), Fail> {
             write!(text, "r{worker}")?;
             show_numbers(text, &indices.items)?;
         }
+        Entry::RunAll { worker } => write!(text, "a{worker}")?,
+        Entry::Steal { worker, indices } => {
+            write!(text, "t{worker}")?;
+            show_numbers(text, &indices.items)?;
+        }
         Entry::Shutdown { worker } => write!(text, "h{worker}")?,
         Entry::Kill { worker } => write!(text, "k{worker}")?,
         Entry::Over { how } => show_stop(text, how)?,
-        _ => return Err(Fail::from("an entry of mode load")),
+        _ => return Err(Fail::from("an output")),
     }
     Ok(())
 }

@@ -2,10 +2,12 @@
 //
 // A table has a line for each run, its fields parted by ` ~ `: a name, the settings, the news, the journal, the status and
 // the text. The settings are the workers, the failures that stop the run or 0, the restarts, the chunk or -, and which call
-// of the output fails, counted from 0, or -. News and entries are those of `words`; in the text, too, more than eight of
-// one character are written x*9, and / is a newline.
-ghost use Rattle.std.specs.Prelude.{◌≡◌, ◌≤◌, [], IfOk};
-ghost use Rattle.xd_session.specs.Stands.{StandsFor};
+// of the output fails, counted from 0, or -; then the mode, where it is not load, and `kept` where scopes keep their order.
+// News and entries are those of `words`; in the text, too, more than eight of one character are written x*9, and / is a
+// newline.
+ghost use Rattle.std.specs.Prelude.{◌≡◌, [], IfOk};
+ghost use Rattle.xd_ledger.specs.State.{no_one};
+ghost use Rattle.xd_session.specs.Stands.{CanBegin};
 
 use crate::words::{news_of, number, show_bytes, show_entries};
 use std::alloc::Global;
@@ -14,42 +16,53 @@ use std::test::Fail;
 use xd_drive::{ListedHub, drive};
 use xd_edge::{Indices, MemSink, ModeKind};
 use xd_journal::{Journal, Settings};
-use xd_load::Load;
+use xd_ledger::Mode;
+use xd_load::{Each, Load};
 use xd_note::Log;
 use xd_report::status_of;
+use xd_scope::Scope;
 use xd_session::Session;
+use xd_steal::Steal;
 
-// A session at its start, by the first four settings.
-fn begun(alloc: Global, words: &str) -> Result<Session<Load>, Fail>
-    ensures begins { IfOk result (λ s. StandsFor [] s) }
-    ensures few { IfOk result (λ s. s.settings.workers ≤ 32) }
+fn mode_of(word: Option<&str>) -> ModeKind {
+    match word {
+        Some("each") => ModeKind::Each,
+        Some("loadscope") => ModeKind::LoadScope,
+        Some("loadfile") => ModeKind::LoadFile,
+        Some("loadgroup") => ModeKind::LoadGroup,
+        Some("worksteal") => ModeKind::WorkSteal,
+        _ => ModeKind::Load,
+    }
+}
+
+fn settings_of(words: &str) -> Result<Settings, Fail>
+    ensures { IfOk result CanBegin }
 {
-    let mut words = words.split(',');
-    let workers = number(words.next().ok_or("the workers")?)?;
-    let maxfail = number(words.next().ok_or("the limit on failures")?)?;
-    let restarts = number(words.next().ok_or("the restarts")?)?;
-    let chunk = words.next().ok_or("the chunk")?.parse::<u32>().ok();
-    if workers < 1 || workers > 32 || restarts > 1000 {
+    let mut fields = words.split(',');
+    let workers = number(fields.next().ok_or("the workers")?)?;
+    let maxfail = number(fields.next().ok_or("the limit on failures")?)?;
+    let restarts = number(fields.next().ok_or("the restarts")?)?;
+    let chunk = fields.next().ok_or("the chunk")?.parse::<u32>().ok();
+    let mode = mode_of(fields.nth(1));
+    if workers < 1 || workers > 32 || restarts > 1000 || mode == ModeKind::Local {
         return Err(Fail::from("settings within their limits"));
     }
-    let settings = Settings {
-        mode: ModeKind::Load,
+    Ok(Settings {
+        mode,
         workers,
         maxfail,
         restarts,
         chunk,
-        reorder: true,
-    };
-    let session = Session::new(alloc, settings, Load::new(chunk))?;
-    Ok(session)
+        reorder: fields.next().is_none(),
+    })
 }
 
-// The output, by the last setting.
+// The output, by the setting that says which call of it fails.
 fn output_that_fails(alloc: Global, words: &str) -> Result<MemSink, Fail> {
     let mut fails = Vec::new(alloc);
-    let last = words.split(',').last().ok_or("which call fails")?;
-    if last != "-" {
-        fails.push(number(last)?)?;
+    let which = words.split(',').nth(4).ok_or("which call fails")?;
+    if which != "-" {
+        fails.push(number(which)?)?;
     }
     let out = MemSink::new(alloc, 100_000, Indices { items: fails })?;
     Ok(out)
@@ -72,13 +85,42 @@ fn rest_of(alloc: Global, journal: &Journal, out: &MemSink) -> Result<String, Fa
 }
 
 /// What the run with these settings and news comes to.
-pub fn run_of<R: Wait>(rt: &R, alloc: Global, settings: &str, news: &str) -> Result<Ran, Fail> {
-    let session = begun(alloc, settings)?;
+pub fn run_of<R: Wait>(rt: &R, alloc: Global, words: &str, news: &str) -> Result<Ran, Fail> {
+    let settings = settings_of(words)?;
+    let kind = settings.mode;
+    match kind {
+        ModeKind::Each => run_in(rt, alloc, settings, Each::new(alloc), words, news),
+        ModeKind::LoadScope | ModeKind::LoadFile | ModeKind::LoadGroup => {
+            let mode = Scope::new(alloc, kind, settings.reorder);
+            run_in(rt, alloc, settings, mode, words, news)
+        }
+        ModeKind::WorkSteal => run_in(rt, alloc, settings, Steal::new(), words, news),
+        ModeKind::Load => {
+            let mode = Load::new(settings.chunk);
+            run_in(rt, alloc, settings, mode, words, news)
+        }
+        ModeKind::Local => Err(Fail::from("a mode with workers")),
+    }
+}
+
+// The same in this mode.
+fn run_in<R: Wait, M: Mode>(
+    rt: &R,
+    alloc: Global,
+    settings: Settings,
+    mode: M,
+    words: &str,
+    news: &str,
+) -> Result<Ran, Fail>
+    requires begins { CanBegin settings }
+    requires fresh { M.stands mode (no_one settings).plan }
+{
+    let session = Session::new(alloc, settings, mode)?;
     let refused = Indices {
         items: Vec::new(alloc),
     };
     let mut hub = ListedHub::new(alloc, news_of(alloc, news)?, refused);
-    let mut out = output_that_fails(alloc, settings)?;
+    let mut out = output_that_fails(alloc, words)?;
     let mut moments = Log::new(alloc)?;
     let journal = drive(rt, alloc, session, &mut hub, &mut out, &mut moments)?;
     let mut calls = String::new(alloc);
