@@ -28,6 +28,7 @@ fn plan(alloc: Global, line: &str) -> Result<String, Fail> {
         }
         Plan::Wire { file } => write!(text, "wire {}", file.as_str())?,
         Plan::Worker => text.push_str("worker")?,
+        Plan::SocketServer { host, port } => write!(text, "serve {} {port}", host.as_str())?,
         Plan::Refused(why) => text.push_str(why.line())?,
     }
     Ok(text)
@@ -110,6 +111,8 @@ fn words_that_are_accepted(rt: HostRuntime) -> Result<(), Fail> {
         ("-n 0 -- -s.toml", "local -s.toml 0"),
         ("-", "local - 0"),
         ("./worker", "local ./worker 0"),
+        ("socketserver h:7", "serve h 7"),
+        ("socketserver ::1:65535", "serve ::1 65535"),
         ("worker", "worker"),
         ("worker --", "worker"),
         ("wire f", "wire f"),
@@ -149,7 +152,12 @@ fn words_that_are_refused_by_their_first_cause(rt: HostRuntime) -> Result<(), Fa
         ("worker s.toml", "xdrun: bad words\n"),
         ("wire", "xdrun: bad words\n"),
         ("wire f g", "xdrun: bad words\n"),
-        ("socketserver h:7", "xdrun: bad words\n"),
+        ("socketserver", "xdrun: bad words\n"),
+        ("socketserver h", "xdrun: bad words\n"),
+        ("socketserver h:0", "xdrun: bad words\n"),
+        ("socketserver h:65536", "xdrun: bad words\n"),
+        ("socketserver :7", "xdrun: bad words\n"),
+        ("socketserver h:7 h:8", "xdrun: bad words\n"),
         (
             "s.toml -n 2 --tx popen",
             "xdrun: -n and --tx exclude each other\n",
