@@ -141,16 +141,6 @@ pub fn push_none<N: Sink + Drop>(posts: &mut Vec<Option<Post<N>>>) -> Result<(),
     Ok(())
 }
 
-/// Whether the place has no link.
-pub fn is_without<N: Sink + Drop>(posts: &[Option<Post<N>>], at: usize) -> bool
-    ensures { result ≡ true → HasPage (pages_of posts.now) at → ⊥ }
-{
-    if at >= posts.len() {
-        return false;
-    }
-    posts[at].is_none()
-}
-
 // Takes the post apart when nothing more is to come of its link.
 fn leave<N: Sink + Drop>(post: Post<N>) -> N
     requires known { post.is_known ≡ true }
