@@ -47,6 +47,7 @@ pub mod Serving
 pub mod ScopeServing
 pub mod Owing
 pub mod Keeping
+pub mod Going
 pub mod Whole
 mod Rows
 mod WholeRows
