@@ -2,6 +2,7 @@
 """Draws random runs on workers by the model of a run, and prints them as lines of a table that tests read.
 
 Usage: tools/draw.py SEED COUNT MODE ..   as in: tools/draw.py 2026 40 each worksteal
+       tools/draw.py retries SEED COUNT MODE ..   the same with more deaths, and crashed tests that are tried again
 
 A line has a name, the settings and the news; `tools/tables.py write` puts what they come to behind them. The workers are
 honest but for deaths: each says that it is ready, collects, runs what it was given in order, the last test only once it was
@@ -30,7 +31,8 @@ class Draw:
 
     def __init__(self, rng, settings):
         self.rng, self.settings, self.run, self.words = rng, settings, model.begin(settings), []
-        count = rng.choice([0, 1, 2, 3, 5, 8, 12, 20])
+        self.deaths = 8 if settings.retries else 25
+        count = rng.choice([1, 2, 3, 5] if settings.retries else [0, 1, 2, 3, 5, 8, 12, 20])
         lists = settings.workers if settings.mode == "each" else 1
         self.ids = [draw_ids(rng, settings.mode, max(0, count - rng.randrange(3) * (slot > 0))) for slot in range(lists)]
 
@@ -49,7 +51,7 @@ class Draw:
         """The next news of this worker; whether it had one."""
         run, rng = self.run, self.rng
         held = run.held.get(w, [])
-        if rng.randrange(25) == 0:
+        if rng.randrange(self.deaths) == 0:
             self.end(w)
         elif w not in run.ready:
             self.news(f"R{w}", w, ("Ready",))
@@ -90,21 +92,26 @@ class Draw:
         return " ".join(self.words)
 
 
-def draw(rng, mode):
+def draw(rng, mode, is_retried):
     """The settings and the news of one run."""
     chunk = rng.choice([None, None, 1, 3]) if mode == "load" else None
-    settings = model.Settings(mode, rng.randrange(1, 5), rng.choice([0, 0, 0, 1, 2]), rng.choice([0, 2, 8, 8]), chunk, rng.randrange(3) > 0)
-    words = [settings.workers, settings.maxfail, settings.restarts, "-" if chunk is None else chunk, "-", mode]
-    return ",".join(map(str, words + ([] if settings.reorder else ["kept"]))), Draw(rng, settings).all()
+    workers, maxfail, restarts = rng.randrange(1, 5), rng.choice([0, 0, 0, 1, 2]), rng.choice([0, 2, 8, 8])
+    retries = rng.choice([1, 1, 2, 3]) if is_retried else 0
+    settings = model.Settings(mode, workers, maxfail, restarts, chunk, rng.randrange(3) > 0, retries)
+    words = [workers, maxfail, restarts, "-" if chunk is None else chunk, "-", mode]
+    how = [] if settings.reorder else ["kept"]
+    return ",".join(map(str, words + how + ([f"r{retries}"] if retries else []))), Draw(rng, settings).all()
 
 
 def main():
-    if len(sys.argv) < 4:
+    is_retried = sys.argv[1:2] == ["retries"]
+    words = sys.argv[2:] if is_retried else sys.argv[1:]
+    if len(words) < 3:
         sys.exit(__doc__)
-    rng = random.Random(int(sys.argv[1]))
-    for i in range(int(sys.argv[2])):
-        for mode in sys.argv[3:]:
-            settings, news = draw(rng, mode)
+    rng = random.Random(int(words[0]))
+    for i in range(int(words[1])):
+        for mode in words[2:]:
+            settings, news = draw(rng, mode, is_retried)
             print(f"     {mode} {i} ~ {settings} ~ {news} ~  ~  ~ \\n\\")
 
 

@@ -18,7 +18,7 @@ import sys
 import model
 
 ROOT = os.path.dirname(os.path.dirname(os.path.abspath(__file__)))
-RUNS = "worked_runs", "breaches", "random_runs", "other_modes"
+RUNS = "worked_runs", "worked_modes", "breaches", "random_runs", "other_modes", "retried_runs", "retried_modes"
 FAILING = "failing_outputs"
 LINE_END = "\\n\\"
 BAR = " ~ "
@@ -222,7 +222,8 @@ def settings_of(words):
     workers, maxfail, restarts, chunk, fails, *how = words.split(",")
     mode = how[0] if how else "load"
     chunk = None if chunk == "-" else int(chunk)
-    settings = model.Settings(mode, int(workers), int(maxfail), int(restarts), chunk, "kept" not in how)
+    retries = next((int(word[1:]) for word in how[1:] if word[0] == "r"), 0)
+    settings = model.Settings(mode, int(workers), int(maxfail), int(restarts), chunk, "kept" not in how, retries)
     return settings, None if fails == "-" else int(fails)
 
 

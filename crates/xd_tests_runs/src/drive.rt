@@ -8,7 +8,10 @@ mod breaches;
 mod failing_outputs;
 mod other_modes;
 mod random_runs;
+mod retried_modes;
+mod retried_runs;
 mod script;
+mod worked_modes;
 mod worked_runs;
 
 use script::run_of;
@@ -153,7 +156,8 @@ fn expect_runs<R: Wait + Abort>(rt: &R, alloc: Global, runs: &str) -> Result<(),
 
 #[test]
 fn worked_runs_have_their_journals_and_texts(rt: HostRuntime) -> Result<(), Fail> {
-    expect_runs(&rt, rt.alloc(), worked_runs::RUNS)
+    expect_runs(&rt, rt.alloc(), worked_runs::RUNS)?;
+    expect_runs(&rt, rt.alloc(), worked_modes::RUNS)
 }
 
 #[test]
@@ -169,6 +173,14 @@ fn random_runs_are_those_of_the_model(rt: HostRuntime) -> Result<(), Fail> {
 #[test]
 fn random_runs_of_other_modes_are_those_of_the_model(rt: HostRuntime) -> Result<(), Fail> {
     expect_runs(&rt, rt.alloc(), other_modes::RUNS)
+}
+
+#[test]
+fn runs_in_which_crashed_tests_are_tried_again_are_those_of_the_model(
+    rt: HostRuntime,
+) -> Result<(), Fail> {
+    expect_runs(&rt, rt.alloc(), retried_runs::RUNS)?;
+    expect_runs(&rt, rt.alloc(), retried_modes::RUNS)
 }
 
 #[test]

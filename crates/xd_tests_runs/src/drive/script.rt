@@ -2,7 +2,8 @@
 //
 // A table has a line for each run, its fields parted by ` ~ `: a name, the settings, the news, the journal, the status and
 // the text. The settings are the workers, the failures that stop the run or 0, the restarts, the chunk or -, and which call
-// of the output fails, counted from 0, or -; then the mode, where it is not load, and `kept` where scopes keep their order.
+// of the output fails, counted from 0, or -; then the mode, where more follows or it is not load, `kept` where scopes keep
+// their order, and, as `r2`, how often a crashed test is tried again.
 // News and entries are those of `words`; in the text, too, more than eight of one character are written x*9, and / is a
 // newline.
 ghost use Rattle.std.specs.Prelude.{◌≡◌, [], IfOk};
@@ -35,6 +36,18 @@ fn mode_of(word: Option<&str>) -> ModeKind {
     }
 }
 
+// Whether scopes are handed out largest first, and how often a crashed test is tried again.
+fn how_of(words: &str) -> Result<(bool, u32), Fail> {
+    let (mut reorder, mut retries) = (true, 0);
+    for word in words.split(',').skip(6) {
+        match word.strip_prefix('r') {
+            Some(count) => retries = number(count)?,
+            None => reorder = false,
+        }
+    }
+    Ok((reorder, retries))
+}
+
 fn settings_of(words: &str) -> Result<Settings, Fail>
     ensures { IfOk result CanBegin }
 {
@@ -44,6 +57,7 @@ fn settings_of(words: &str) -> Result<Settings, Fail>
     let restarts = number(fields.next().ok_or("the restarts")?)?;
     let chunk = fields.next().ok_or("the chunk")?.parse::<u32>().ok();
     let mode = mode_of(fields.nth(1));
+    let (reorder, retries) = how_of(words)?;
     if workers < 1 || workers > 32 || restarts > 1000 || mode == ModeKind::Local {
         return Err(Fail::from("settings within their limits"));
     }
@@ -53,8 +67,8 @@ fn settings_of(words: &str) -> Result<Settings, Fail>
         maxfail,
         restarts,
         chunk,
-        reorder: fields.next().is_none(),
-        retries: 0,
+        reorder,
+        retries,
     })
 }
 
