@@ -1,21 +1,21 @@
 -- Worked journals of runs whose crashed tests are tried again.
-use Rattle.std.specs.Prelude.{◌≡◌, List, [], ◌∷◌, ◌++◌, true, None, Some}
+use Rattle.std.specs.Prelude.{◌≡◌, List, [], ◌∷◌, ◌++◌, true, None, Some, pos}
 use Rattle.std.proofs.Common.{refl}
 use Rattle.xd_edge.specs.declared.mode.ModeKind.TheVariants.{Each, Load, LoadFile}
 use Rattle.xd_journal.specs.declared.settings.Settings.{Settings}
 use Rattle.xd_journal.specs.declared.news.What.TheVariants.{LogStart, Piece, Gone}
 use Rattle.xd_journal.specs.declared.entry.Ids.TheVariants as ids
 use Rattle.xd_journal.specs.declared.entry.Cause.TheVariants.{Ended}
-use Rattle.xd_journal.specs.declared.entry.Outcome.TheVariants.{Passed}
+use Rattle.xd_journal.specs.declared.entry.Outcome.TheVariants.{Passed, Failed}
 use Rattle.xd_journal.specs.declared.entry.RunStop.TheVariants.{MaxFail, Restarts}
 use Rattle.xd_journal.specs.declared.entry.Entry.{Entry}
 use Rattle.xd_journal.specs.declared.entry.Entry.TheVariants.{Ready, Collected, Done, Down, Start, Run, RunAll, Shutdown, Kill}
 use Rattle.xd_ledger.specs.Histories.{journal_of}
 use Rattle.xd_ledger.specs.Meaning.{meaning}
 use Rattle.xd_ledger.specs.Reports.{reports}
-use Rattle.xd_ledger.specs.Reports.Report.{Crash}
+use Rattle.xd_ledger.specs.Reports.Report.{Result, Crash}
 use Rattle.xd_ledger.specs.State.{state_at}
-use Rattle.xd_ledger.proofs.Rows.{three_ids, four_ids, file_ids}
+use Rattle.xd_ledger.proofs.Rows.{ten_ids, three_ids, four_ids, file_ids}
 
 -- a crashed test is tried once more
 abbrev once_more : Settings
@@ -38,6 +38,13 @@ a_crashed_test_is_tried_again = refl
 -- it stands first in the pool, before the rest of its worker
 pub a_retried_test_is_first : (state_at once_more (shared_three ++ Down 0 Ended [] ∷ [])).books.table.pool ≡ 0 ∷ 2 ∷ []
 a_retried_test_is_first = refl
+
+-- of ten tests: before those that wait, and the rest behind them
+abbrev shared_ten : List Entry
+shared_ten = Start 0 0 ∷ Start 1 1 ∷ Ready 0 ∷ Collected 0 (ids.List ten_ids) ∷ Ready 1 ∷ Collected 1 ids.Same ∷ Run 0 (0 ∷ 1 ∷ []) ∷ Run 1 (2 ∷ 3 ∷ []) ∷ []
+
+pub its_rest_is_last : (state_at once_more (shared_ten ++ Down 0 Ended [] ∷ [])).books.table.pool ≡ 0 ∷ 4 ∷ 5 ∷ 6 ∷ 7 ∷ 8 ∷ 9 ∷ 1 ∷ []
+its_rest_is_last = refl
 
 -- and is reported once its retries are spent
 pub a_retry_is_not_reported : reports once_more (shared_three ++ Down 0 Ended [] ∷ []) ≡ []
@@ -67,6 +74,10 @@ a_retry_is_a_death = refl
 
 pub the_last_death_is_no_retry : reports (record once_more { restarts = 1; retries = 2 }) tried_twice ≡ Crash 2 0 ∷ []
 the_last_death_is_no_retry = refl
+
+-- behind a stop nothing is tried again
+pub a_stopped_run_tries_nothing_again : reports (record once_more { maxfail = 1 }) (shared_three ++ (Done 1 1 (Failed (pos 1)) 5 [] ∷ Down 0 Ended [] ∷ [])) ≡ Result 1 1 (Failed (pos 1)) ∷ Crash 0 0 ∷ []
+a_stopped_run_tries_nothing_again = refl
 
 -- where no death is made good nothing is tried again
 abbrev without_restarts : Settings

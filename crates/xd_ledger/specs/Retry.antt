@@ -9,10 +9,10 @@ use Rattle.xd_ledger.specs.Stops.{is_stopped}
 abbrev pub may_restart : Books → Bool
 may_restart b = not (is_stopped b) && nat_le (b.deaths + 1) b.settings.restarts
 
--- a worker went down at the item's head fewer times than the retries say
+-- fewer workers so far died with the item at their head than the retries say
 abbrev pub has_retries : ℕ → Books → Bool
 has_retries item b = nat_lt (times item b.lost) b.settings.retries
 
--- a Down of the worker behind these books is a retry: it has a head, a new worker follows, and the head has retries left
+-- a Down of the worker behind these books is a retry: it has a head, which has retries left, and a new worker follows
 abbrev pub is_retry : ℕ → Books → Bool
 is_retry worker b = elim (held worker b.table) [ [] ↦ false | item ∷ items ↦ may_restart b && has_retries item b ]

@@ -10,7 +10,6 @@ ghost use Rattle.xd_ledger.specs.Table.{has_joined, held, held_by_all, in_rota, 
 use crate::Ledger;
 use crate::chains::Chains;
 use crate::ledger::{POOL, chain_of, place_of};
-use crate::numbers::is_among;
 use crate::post::Post;
 use std::alloc::Global;
 use xd_edge::{Indices, OutOfMemory};
@@ -33,7 +32,7 @@ impl Ledger {
     pub fn has_joined(&self, worker: u32) -> bool
         ensures { result ≡ has_joined worker self.now }
     {
-        is_among(worker, &self.who_joined)
+        self.who_joined.has(worker)
     }
 
     /// The worker is in the rota.

@@ -39,7 +39,7 @@ fn a_death_reports_the_head_and_gives_back_the_rest(rt: HostRuntime) -> Result<(
     ledger.shut(0);
     assert!(rt; ledger.is_shut(0) && !ledger.is_shut(1));
     assert_eq!(rt;
-        ledger.die(alloc, 0)?,
+        ledger.die(0, false),
         Death {
             head: Some(0),
             rest: 1
@@ -51,11 +51,32 @@ fn a_death_reports_the_head_and_gives_back_the_rest(rt: HostRuntime) -> Result<(
         [1, 2].as_slice()
     );
     assert_eq!(rt;
-        ledger.die(alloc, 1)?,
+        ledger.die(1, false),
         Death {
             head: Some(1),
             rest: 1
         }
+    );
+    Ok(())
+}
+
+#[test]
+fn a_head_that_is_tried_again_stands_at_the_front_of_the_pool(rt: HostRuntime) -> Result<(), Fail> {
+    let alloc = rt.alloc();
+    let mut ledger = Ledger::new(alloc, 4)?;
+    ledger.join(alloc, 0)?;
+    ledger.join(alloc, 1)?;
+    ledger.assign(0, &[2, 1])?;
+    assert_eq!(rt;
+        ledger.die(0, true),
+        Death {
+            head: Some(2),
+            rest: 1
+        }
+    );
+    assert_eq!(rt;
+        ledger.assign_front(alloc, 1, 4)?.items.as_slice(),
+        [2, 0, 3, 1].as_slice()
     );
     Ok(())
 }
@@ -125,7 +146,7 @@ fn a_neighbour_is_one_of_the_same_list(rt: HostRuntime) -> Result<(), Fail> {
     assert_eq!(rt; pool_of(alloc, &ledger)?.as_slice(), [3, 2].as_slice());
     ledger.complete(0, 0);
     assert_eq!(rt;
-        ledger.die(alloc, 0)?,
+        ledger.die(0, false),
         Death {
             head: Some(1),
             rest: 0

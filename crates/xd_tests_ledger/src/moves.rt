@@ -146,16 +146,21 @@ fn leave(rt: &impl Abort, ledger: &mut Ledger, worker: u32) {
 
 fn die(
     rt: &impl Abort,
-    alloc: Global,
     ledger: &mut Ledger,
     pool: &mut Vec<u32>,
     seat: &Seat,
+    retry: bool,
 ) -> Result<(), Fail> {
     assert!(rt; ledger.in_rota(seat.worker));
-    let Death { head, rest } = ledger.die(alloc, seat.worker)?;
+    let Death { head, rest } = ledger.die(seat.worker, retry);
     let held = seat.held.items.as_slice();
     assert!(rt; head == held.first().copied());
     assert!(rt; rest as usize == held.len().saturating_sub(1));
+    if let Some(item) = head
+        && retry
+    {
+        pool.insert(0, item)?;
+    }
     for item in held.iter().skip(1) {
         pool.push(*item)?;
     }
@@ -163,18 +168,12 @@ fn die(
 }
 
 // The worker leaves where it holds nothing, and dies where it does.
-fn end(
-    rt: &impl Abort,
-    alloc: Global,
-    ledger: &mut Ledger,
-    pool: &mut Vec<u32>,
-    seat: &Seat,
-) -> Result<(), Fail> {
+fn end(rt: &impl Abort, ledger: &mut Ledger, pool: &mut Vec<u32>, seat: &Seat) -> Result<(), Fail> {
     if seat.held.items.is_empty() {
         leave(rt, ledger, seat.worker);
         return Ok(());
     }
-    die(rt, alloc, ledger, pool, seat)?;
+    die(rt, ledger, pool, seat, false)?;
     Ok(())
 }
 
@@ -216,12 +215,12 @@ fn make_move(rt: &impl Abort, alloc: Global, run: &mut Run, state: &mut u32) -> 
     let place = roll(state, run.rota.len());
     if kind < 2 || place >= run.rota.len() {
         join(rt, alloc, run)?;
-    } else if kind == 2 {
+    } else if kind < 4 {
         let seat = run.rota.remove(place);
-        die(rt, alloc, &mut run.ledger, &mut run.pool, &seat)?;
-    } else if kind == 3 {
+        die(rt, &mut run.ledger, &mut run.pool, &seat, kind == 3)?;
+    } else if kind == 4 {
         let seat = run.rota.remove(place);
-        end(rt, alloc, &mut run.ledger, &mut run.pool, &seat)?;
+        end(rt, &mut run.ledger, &mut run.pool, &seat)?;
     } else {
         let seat = &mut run.rota[place];
         stay(rt, alloc, &mut run.ledger, &mut run.pool, seat, state)?;
