@@ -45,10 +45,10 @@ before_collected w ms v h = elim (cases_of (has v (λ m. m.collected) ms)) [
 
 -- the tests are shared
 
-planned-queue : (ls : List Listed) (n : ℕ) (p : Plan) → is_scope p.mode ≡ true → (planned ls n p).queue ≡ units p.mode p.reorder (ids_at 0 ls)
+pub planned-queue : (ls : List Listed) (n : ℕ) (p : Plan) → is_scope p.mode ≡ true → (planned ls n p).queue ≡ units p.mode p.reorder (ids_at 0 ls)
 planned-queue ls n p h = rw h
 
-planned-sizes : (ls : List Listed) (n : ℕ) (p : Plan) → is_each p.mode ≡ false → (planned ls n p).sizes ≡ length (ids_at 0 ls) ∷ []
+pub planned-sizes : (ls : List Listed) (n : ℕ) (p : Plan) → is_each p.mode ≡ false → (planned ls n p).sizes ≡ length (ids_at 0 ls) ∷ []
 planned-sizes ls n p h = rw h
 
 queue-shared : (s : State) → Scoped s → QueueFits (shared_now s).books.table (shared_now s).plan (shared_now s).books.crew

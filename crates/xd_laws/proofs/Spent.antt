@@ -191,7 +191,7 @@ few-all : (v : ℕ) (ss : List Seat) → list_all (λ s. nat_lt (length s.held) 
 few-all v [] h = omega arith
 few-all v (s ∷ ss) h = grind (arith, nat_tests, few-all v ss, h)
 
-spent-finished : (t : Table) (p : Plan) → is_finished t p ≡ true → IsSpent t p
+pub spent-finished : (t : Table) (p : Plan) → is_finished t p ≡ true → IsSpent t p
 spent-finished t p h =
     let a = split-and ((length t.pool == 0) && is_none p.steal) (list_all (λ s. nat_lt (length s.held) 2) t.rota) h in
     let b = split-and (length t.pool == 0) (is_none p.steal) a.0 in
