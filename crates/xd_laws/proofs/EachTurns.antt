@@ -24,7 +24,7 @@ use Rattle.xd_laws.proofs.Rule.{IsFresh}
 
 -- the items of slots
 
-base-each : (slot : ℕ) (p : Plan) → is_each p.mode ≡ true → base slot p ≡ sum (take slot p.sizes)
+pub base-each : (slot : ℕ) (p : Plan) → is_each p.mode ≡ true → base slot p ≡ sum (take slot p.sizes)
 base-each slot p h = rw h
 
 fold-plus : (a : ℕ) (xs : List ℕ) → fold ◌+◌ a xs ≡ a + fold ◌+◌ 0 xs

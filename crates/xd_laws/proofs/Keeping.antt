@@ -96,7 +96,7 @@ pub later-call : (X : State → Type 0) → Rule X → (s : State) (c : Call) �
 later-call X rule s c d h x f = later-outputs s (acts_of c s) (rule.turns s c d h x f).fit.orderly (plain-acts c s)
 
 -- a new worker was told nothing
-new-untold : (ms : List Member) (n slot : ℕ) → is_member n ms ≡ false → (has n (λ m. m.active) (ms ++ started n slot ∷ []) ≡ true) × (has n (λ m. m.shut) (ms ++ started n slot ∷ []) ≡ false)
+pub new-untold : (ms : List Member) (n slot : ℕ) → is_member n ms ≡ false → (has n (λ m. m.active) (ms ++ started n slot ∷ []) ≡ true) × (has n (λ m. m.shut) (ms ++ started n slot ∷ []) ≡ false)
 new-untold ms n slot h =
     let none : has n (λ m. m.shut) ms ≡ false = no-mark n (λ m. m.shut) ms h in
     (has-more n (λ m. m.active) ms (started n slot) ∙ grind (arith, nat_tests), has-more n (λ m. m.shut) ms (started n slot) ∙ grind (arith, nat_tests, none))

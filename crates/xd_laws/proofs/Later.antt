@@ -1,7 +1,8 @@
 -- What outputs that start no one leave as it was.
 use Rattle.std.proofs.Common.{◌≡◌, ℕ, ◌+◌, ◌≤◌, List, [], ◌∷◌, ◌++◌, length, map, Bool, true, false, not, ◌&&◌, ◌||◌, refl, ap, sym, ◌∙◌, subst, arith, length-append}
 use Rattle.std.specs.Prelude.{if◌then◌else◌, ◌==◌}
-use Rattle.std.specs.List.{list_all}
+use Rattle.std.specs.List.{list_all, list_any}
+use Rattle.std.proofs.lemmas.Bool.Decides.{nat_tests}
 use Rattle.std.proofs.lemmas.List.Folds.{list_all-append}
 use Rattle.xd_journal.specs.declared.settings.Settings.{Settings}
 use Rattle.xd_journal.specs.declared.entry.RunStop.{RunStop}
@@ -21,7 +22,7 @@ use Rattle.xd_ledger.specs.Outputs.{acts_of, turn_of}
 use Rattle.xd_ledger.specs.Orderly.{is_orderly, all_orderly}
 use Rattle.xd_laws.proofs.Logic.{and, differ, split-and}
 use Rattle.xd_laws.proofs.Counts.{among-filter}
-use Rattle.xd_laws.proofs.Crew.{has, has-kept, has-same}
+use Rattle.xd_laws.proofs.Crew.{has, has-kept, has-same, has-set}
 use Rattle.xd_laws.proofs.CrewFits.{slot-marked}
 use Rattle.xd_laws.proofs.Rota.{has_seat, is_told, seat-change, told-change, told-shut, untold-of_seat, workers-change}
 use Rattle.xd_laws.proofs.Turns.{all_moved-first}
@@ -125,6 +126,41 @@ later-outputs s (e ∷ es) o h =
     let p = split-and (is_plain e) (all_plain es) h in
     let q = split-and (is_orderly s e) (all_orderly (moved s e) es) o in
     subst (λ (u : State). Later s u) (sym (all_moved-first s e es q.0)) (later-then s (moved s e) (all_moved (moved s e) es) (later-output s e p.0) (later-outputs (moved s e) es q.1 p.1))
+
+-- the output tells the worker to shut down
+abbrev pub tells : ℕ → Entry → Bool
+tells v (Shutdown w) = w == v
+tells v _ = false
+
+-- whom nobody tells was not told
+pub untold-outputs : (v : ℕ) (s : State) (es : List Entry) → all_orderly s es ≡ true → all_plain es ≡ true → list_any (tells v) es ≡ false
+    → has v (λ m. m.shut) (all_moved s es).books.crew ≡ has v (λ m. m.shut) s.books.crew
+untold-outputs v s [] o p h = refl
+untold-outputs v s (e ∷ es) o p h =
+    let q = split-and (is_orderly s e) (all_orderly (moved s e) es) o in
+    let r = split-and (is_plain e) (all_plain es) p in
+    let n = neither (tells v e) (list_any (tells v) es) h in
+    ap (λ (u : State). has v (λ m. m.shut) u.books.crew) (all_moved-first s e es q.0) ∙ untold-outputs v (moved s e) es q.1 r.1 n.1 ∙ one s e r.0 n.0
+  where
+    neither : (a b : Bool) → (a || b) ≡ false → (a ≡ false) × (b ≡ false)
+    neither true b h = absurd (differ (sym h))
+    neither false b h = (refl, h)
+    one : (s : State) (e : Entry) → is_plain e ≡ true → tells v e ≡ false → has v (λ m. m.shut) (moved s e).books.crew ≡ has v (λ m. m.shut) s.books.crew
+    one s (Shutdown w) p h = has-set v w (λ m. m.shut) (made_shut w) s.books.crew (λ m. refl) (λ m. refl) ∙ grind (arith, nat_tests, h)
+    one s (Run w is) p h = refl
+    one s (RunAll w) p h = refl
+    one s (Steal w is) p h = refl
+    one s (Kill w) p h = refl
+    one s (Start w slot) p h = absurd (differ p)
+    one s (Over how) p h = absurd (differ p)
+    one s (Ready w) p h = absurd (differ p)
+    one s (Collected w g) p h = absurd (differ p)
+    one s (Done w i u m o) p h = absurd (differ p)
+    one s (Back w i) p h = absurd (differ p)
+    one s (Finished w) p h = absurd (differ p)
+    one s (Refused w t) p h = absurd (differ p)
+    one s (Down w c o) p h = absurd (differ p)
+    one s (NotStarted w) p h = absurd (differ p)
 
 -- what a mode says is plain
 

@@ -47,6 +47,10 @@ pub mod Serving
 pub mod ScopeServing
 pub mod Owing
 pub mod Keeping
+pub mod EachServing
+pub mod Going
+pub mod OwingInputs
+pub mod OwingRuns
 pub mod Whole
 mod Rows
 mod WholeRows

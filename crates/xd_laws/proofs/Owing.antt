@@ -1,13 +1,14 @@
 -- What holds behind each whole rule of a run, and that someone owes the next step by it.
-use Rattle.std.proofs.Common.{◌≡◌, ℕ, zero, suc, ◌+◌, ◌≤◌, ◌<◌, List, [], ◌∷◌, ◌++◌, length, map, Bool, true, false, not, ◌&&◌, ◌||◌, refl, ap, sym, ◌∙◌, subst, arith, inl, inr}
-use Rattle.std.specs.Prelude.{if◌then◌else◌, ◌==◌, ◌⊎◌, nat_le, nat_lt, Option, Some, None, is_none}
-use Rattle.std.specs.List.{list_all, list_any}
+use Rattle.std.proofs.Common.{◌≡◌, ℕ, zero, suc, ◌+◌, ◌≤◌, ◌<◌, List, [], ◌∷◌, ◌++◌, length, map, take, Bool, true, false, not, ◌&&◌, ◌||◌, refl, ap, sym, ◌∙◌, subst, arith, inl, inr}
+use Rattle.std.specs.Prelude.{if◌then◌else◌, ◌==◌, ◌⊎◌, nat_le, nat_lt, sum, slice_index, Option, Some, None, is_none}
+use Rattle.std.specs.List.{list_all, list_any, range_with_len}
 use Rattle.std.proofs.lemmas.Bool.Decides.{nat_tests}
+use Rattle.xd_edge.specs.declared.mode.ModeKind.{ModeKind}
 use Rattle.xd_ledger.specs.declared.member.Member.{Member}
 use Rattle.xd_ledger.specs.declared.seat.Seat.{Seat}
 use Rattle.xd_ledger.specs.Numbers.{all_distinct, among}
 use Rattle.xd_ledger.specs.Table.{Table, held, held_in, in_rota, seat_shut, workers_of}
-use Rattle.xd_ledger.specs.Plan.{Asked, is_each, slot_items}
+use Rattle.xd_ledger.specs.Plan.{Asked, Plan, is_each, slot_items}
 use Rattle.xd_ledger.specs.Workers.{is_active, slot_in, slot_of, some_active}
 use Rattle.xd_ledger.specs.Stops.{is_shutting, is_stopped}
 use Rattle.xd_ledger.specs.Sharing.{State}
@@ -56,6 +57,22 @@ Seated s = (v : ℕ) → has v (λ m. m.active) s.books.crew ≡ true → has v 
 -- in mode each whoever is in the rota was told
 abbrev pub EachTold : State → Type 0
 EachTold s = is_each s.plan.mode ≡ true → (v : ℕ) → InRota s v → seat_shut v s.books.table ≡ true
+
+-- the items of a slot are known by the mode and the sizes
+pub slot_items-same : (slot : ℕ) (p q : Plan) → p.sizes ≡ q.sizes → p.mode ≡ q.mode → slot_items slot p ≡ slot_items slot q
+slot_items-same slot p q a b =
+    ap (λ (k : ModeKind). range_with_len (if is_each k then sum (take slot p.sizes) else 0) (slice_index p.sizes slot)) b
+    ∙ ap (λ (ns : List ℕ). range_with_len (if is_each q.mode then sum (take slot ns) else 0) (slice_index ns slot)) a
+
+-- who waits for an item still waits for it
+pub awaits-by : (s t : State) (x : ℕ) (o : Awaits s x) → has o.who (λ m. m.active) t.books.crew ≡ true → has o.who (λ m. m.shut) t.books.crew ≡ false
+    → slot_in o.who t.books.crew ≡ slot_in o.who s.books.crew → t.plan.sizes ≡ s.plan.sizes → t.plan.mode ≡ s.plan.mode → Awaits t x
+awaits-by s t x o active untold slot sizes mode = record {
+  who = o.who;
+  active = active;
+  untold = untold;
+  fits = λ e. ap (λ (i : ℕ). among x (slot_items i t.plan)) slot ∙ ap (λ (xs : List ℕ). among x xs) (slot_items-same (slot_in o.who s.books.crew) t.plan s.plan sizes mode) ∙ o.fits (ap is_each (sym mode) ∙ e);
+}
 
 -- what holds of a run that was not stopped
 pub record Going (s : State) : Type 0 where

@@ -6,7 +6,7 @@ use Rattle.xd_ledger.specs.Numbers.{among, all_distinct, times}
 use Rattle.xd_laws.proofs.Counts.{among-times}
 use Rattle.xd_laws.proofs.Logic.{differ, cases_of, split-and, split-or, not_true}
 
-none-among : (x : ℕ) (xs : List ℕ) → among x xs ≡ false → times x xs ≡ 0
+pub none-among : (x : ℕ) (xs : List ℕ) → among x xs ≡ false → times x xs ≡ 0
 none-among x [] h = refl
 none-among x (y ∷ xs) h = grind (arith, nat_tests, none-among x xs)
 
