@@ -1,15 +1,15 @@
 -- Workers of the rota that have something to do.
-use Rattle.std.proofs.Common.{◌≡◌, ℕ, zero, suc, ◌+◌, ◌≤◌, List, [], ◌∷◌, ◌++◌, length, take, map, Bool, true, false, not, ◌&&◌, ◌||◌, refl, ap, sym, ◌∙◌, subst, arith, inl, inr, length-append}
+use Rattle.std.proofs.Common.{◌≡◌, ℕ, zero, suc, ◌+◌, ◌≤◌, List, [], ◌∷◌, ◌++◌, length, take, Bool, true, false, ◌||◌, refl, ap, sym, ◌∙◌, subst, arith, inl, inr, length-append}
 use Rattle.std.specs.Prelude.{if◌then◌else◌, ◌==◌, ◌⊎◌, nat_le}
 use Rattle.std.proofs.lemmas.Bool.Decides.{nat_tests}
 use Rattle.std.proofs.lemmas.List.{length-take-le}
-use Rattle.xd_journal.specs.declared.entry.Entry.TheVariants.{Run, Shutdown}
+use Rattle.xd_journal.specs.declared.entry.Entry.TheVariants.{Shutdown}
 use Rattle.xd_ledger.specs.declared.seat.Seat.{Seat}
 use Rattle.xd_ledger.specs.Numbers.{among, all_among, without}
-use Rattle.xd_ledger.specs.Table.{Table, held, held_in, seat_shut, at_seat, in_rota, workers_of, assigned, shut_down}
+use Rattle.xd_ledger.specs.Table.{Table, held, held_in, seat_shut, at_seat, assigned, shut_down}
 use Rattle.xd_ledger.specs.Turn.{Turn, give, give_front, shut, in_turn, shut_each}
 use Rattle.xd_laws.proofs.Logic.{differ, cases_of, or-left, or-right, split-and, split-or, in_both}
-use Rattle.xd_laws.proofs.Rota.{has_seat, is_told, seat-among, seat-change, told-change, told-shut, untold-of_seat, workers-change}
+use Rattle.xd_laws.proofs.Rota.{has_seat, is_told, told-change, told-shut, untold-of_seat}
 use Rattle.xd_laws.proofs.Queue.{held-shut}
 use Rattle.xd_laws.proofs.EachTurns.{pool-shut}
 

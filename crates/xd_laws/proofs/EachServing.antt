@@ -1,7 +1,7 @@
 -- What mode each keeps beside its rule, and how its calls leave workers and pool.
-use Rattle.std.proofs.Common.{◌≡◌, ℕ, zero, suc, ◌+◌, ◌-◌, ◌≤◌, ◌<◌, List, [], ◌∷◌, ◌++◌, drop, length, map, take, Bool, true, false, not, ◌&&◌, ◌||◌, refl, ap, sym, ◌∙◌, subst, arith, inl, inr}
-use Rattle.std.specs.Prelude.{if◌then◌else◌, ◌==◌, ◌⊎◌, nat_le, nat_lt, sum, slice_index, Option, Some, None}
-use Rattle.std.specs.List.{list_any, range_with_len}
+use Rattle.std.proofs.Common.{◌≡◌, ℕ, suc, ◌+◌, ◌-◌, ◌≤◌, ◌<◌, List, [], ◌∷◌, ◌++◌, drop, length, map, take, Bool, true, false, not, ◌&&◌, ◌||◌, refl, ap, sym, ◌∙◌, subst, arith, inl, inr}
+use Rattle.std.specs.Prelude.{if◌then◌else◌, ◌==◌, ◌⊎◌, nat_le, nat_lt, sum, slice_index, Some, None}
+use Rattle.std.specs.List.{list_any}
 use Rattle.std.proofs.lemmas.Bool.Decides.{nat_tests}
 use Rattle.xd_edge.specs.declared.mode.ModeKind.{ModeKind}
 use Rattle.xd_edge.specs.declared.mode.ModeKind.TheVariants.{Each}
@@ -11,8 +11,8 @@ use Rattle.xd_journal.specs.declared.entry.Entry.TheVariants.{Ready, Collected, 
 use Rattle.xd_ledger.specs.declared.member.Member.{Member}
 use Rattle.xd_ledger.specs.declared.seat.Seat.{Seat}
 use Rattle.xd_ledger.specs.Numbers.{all_among, all_distinct, among, times, without}
-use Rattle.xd_ledger.specs.Table.{Table, assigned, at_seat, held, held_in, in_rota, joined, seat_shut, shut_down, without_seat, workers_of}
-use Rattle.xd_ledger.specs.Plan.{Asked, Plan, base, is_each, items_named, slot_items, total}
+use Rattle.xd_ledger.specs.Table.{Table, assigned, at_seat, held, held_in, in_rota, joined, retried_item, seat_shut, shut_down, without_seat, workers_of}
+use Rattle.xd_ledger.specs.Plan.{Plan, base, is_each, items_named, slot_items, total}
 use Rattle.xd_ledger.specs.Turn.{Turn, shut}
 use Rattle.xd_ledger.specs.Each.{give_all, give_of_slot, give_slots, joins, remainder, share}
 use Rattle.xd_ledger.specs.Modes.{Call, each_turn, turned}
@@ -20,16 +20,18 @@ use Rattle.xd_ledger.specs.Modes.Call.{Share, Joined, TestDone, TestsBack, Died}
 use Rattle.xd_ledger.specs.Books.{marked}
 use Rattle.xd_ledger.specs.Collections.{listed, unequal, with_list}
 use Rattle.xd_ledger.specs.Workers.{is_active, made_collected, made_gone, made_ready, made_shut, slot_in, slot_of, started}
-use Rattle.xd_ledger.specs.Sharing.{State, in_books, shared_now}
+use Rattle.xd_ledger.specs.Retry.{is_retry}
+use Rattle.xd_ledger.specs.Sharing.{State, in_books}
 use Rattle.xd_ledger.specs.State.{all_moved, completed_first, moved, no_one}
 use Rattle.xd_ledger.specs.Outputs.{acts_of, turn_of}
 use Rattle.xd_ledger.specs.Orderly.{all_orderly, is_orderly, may_run, not_empty}
 use Rattle.xd_ledger.specs.Proper.{may_follow}
-use Rattle.xd_laws.proofs.Logic.{and, cases_of, clash, differ, in_both, not_true, or-left, or-right, split-and, split-or}
-use Rattle.xd_laws.proofs.Counts.{among-drop, among-filter, among-in_range, among-times, among_of-all_among, bounds-of_range, times-among, times-append}
+use Rattle.xd_laws.proofs.Logic.{cases_of, clash, differ, in_both, not_true, or-left, or-right, split-and, split-or}
+use Rattle.xd_laws.proofs.Counts.{among-filter, among-in_range, among-times, among_of-all_among, bounds-of_range, times-among, times-append}
 use Rattle.xd_laws.proofs.Rota.{has_seat, seat-among, seat-change, seat-left, told-change, told-shut}
 use Rattle.xd_laws.proofs.Crew.{has, has-cleared, has-member, has-more, has-same, is_member}
 use Rattle.xd_laws.proofs.CrewFits.{slot-marked, slot-new, slot-old}
+use Rattle.xd_laws.proofs.Places.{times-apart}
 use Rattle.xd_laws.proofs.Placed.{Placed, no_back, placed-output, shared-of_held}
 use Rattle.xd_laws.proofs.Turns.{InRota, Tidy, all_moved-first}
 use Rattle.xd_laws.proofs.Queue.{held-fewer, held-left, held-more, held-none, held-shut}
@@ -39,11 +41,11 @@ use Rattle.xd_laws.proofs.InMode.{InMode}
 use Rattle.xd_laws.proofs.EachTurns.{base-each, pool-shut, rota-apart, rota-distinct, sum-more}
 use Rattle.xd_laws.proofs.EachRule.{each_rule}
 use Rattle.xd_laws.proofs.Pigeons.{all-taken, among-image, image-once, none-among}
-use Rattle.xd_laws.proofs.Busy.{AllWork, told-kept}
-use Rattle.xd_laws.proofs.Later.{all_plain, plain-acts, tells, untold-outputs}
+use Rattle.xd_laws.proofs.Busy.{told-kept}
+use Rattle.xd_laws.proofs.Later.{plain-acts, tells, untold-outputs}
 use Rattle.xd_laws.proofs.Serving.{Beside, Both, NoSteal, no_steal-input, rule-both}
-use Rattle.xd_laws.proofs.Owing.{AskedOpen, Awaited, Awaits, awaits-by, slot_items-same}
-use Rattle.xd_laws.proofs.Keeping.{AllThere, Expects, Keeper, OthersTold, buried_acts, is_new, later-call, new-untold, replaced}
+use Rattle.xd_laws.proofs.Owing.{Awaited, Awaits, awaits-by, slot_items-same}
+use Rattle.xd_laws.proofs.Keeping.{Expects, Keeper, OthersTold, buried_acts, later-call, new-untold}
 
 -- what each move leaves a worker
 
@@ -370,9 +372,11 @@ none-left s slots e d f full y h =
   where
     no-other : (i k : ℕ) → i ≡ k → among y (slot_items i s.plan) ≡ false → among y (slot_items k s.plan) ≡ true → ⊥
     no-other i k same away there = clash (among y (slot_items k s.plan)) (ap (λ (j : ℕ). among y (slot_items j s.plan)) (sym same) ∙ away) there
+
     length-mapped : (g : ℕ → ℕ) (xs : List ℕ) → length (map g xs) ≡ length xs
     length-mapped g [] = refl
     length-mapped g (x ∷ xs) = ap (λ (k : ℕ). suc k) (length-mapped g xs)
+
     length-workers : (ss : List Seat) → length (map (λ (x : Seat). x.worker) ss) ≡ length ss
     length-workers [] = refl
     length-workers (x ∷ ss) = ap (λ (k : ℕ). suc k) (length-workers ss)
@@ -401,6 +405,7 @@ tells-joins v w slot t n none =
     first : (items : List ℕ) → list_any (tells v) (give_of_slot w slot items t).acts ≡ false
     first [] = ap (λ (es : List Entry). list_any (tells v) es) none
     first (i ∷ is) = ap (λ (es : List Entry). list_any (tells v) (es ++ Run w (map (λ item. item - base slot t.plan) (i ∷ is)) ∷ [])) none
+
     more : (es : List Entry) → list_any (tells v) es ≡ false → list_any (tells v) (es ++ Shutdown w ∷ []) ≡ false
     more [] h = rw n refl
     more (e ∷ es) h = by (tells v e) (list_any (tells v) es) h (more es)
@@ -490,12 +495,14 @@ each-waits s Died d h x f o = subst Awaited (sym (none-said s Died x refl)) o
 pool-buried : (s : State) (w x : ℕ) → among x (moved s (NotStarted w)).books.table.pool ≡ true → (among x s.books.table.pool ≡ true) ⊎ (among x (held w s.books.table) ≡ true)
 pool-buried s w x h =
     let pool = s.books.table.pool in
-    let rest = drop 1 (held w s.books.table) in
-    let all = times-append x pool rest in
-    let some = among-times x (pool ++ rest) h in
+    let items = held w s.books.table in
+    let retry = is_retry w s.books in
+    let first = times-append x (retried_item retry items) (pool ++ drop 1 items) in
+    let all = times-append x pool (drop 1 items) in
+    let some = among-times x (retried_item retry items ++ (pool ++ drop 1 items)) h in
     elim (cases_of (among x pool)) [
       | inl a ↦ inl a
-      | inr a ↦ inr (among-drop x 1 (held w s.books.table) (times-among x rest (omega (arith, all, some, none-among x pool a))))
+      | inr a ↦ inr (times-among x items (omega (arith, first, all, some, none-among x pool a, times-apart x retry items)))
     ]
 
 each-buried : (s : State) (w : ℕ) → is_active w s.books ≡ true → Tidy s → InEach s → Awaited s → InEach (moved s (NotStarted w))
@@ -521,18 +528,24 @@ each-buried s w a d x o z free y h = elim (pool-buried s w y h) [
   where
     ms : List Member
     ms = s.books.crew
+
     now : State
     now = moved s (NotStarted w)
+
     n : ℕ
     n = length ms
+
     new : Member
     new = started n (slot_of w now.books)
+
     after : State
     after = moved now (Start n (slot_of w now.books))
+
     no-mark : (b c : Bool) → (b || (c && false)) ≡ b
     no-mark true c = refl
     no-mark false true = refl
     no-mark false false = refl
+
     newcomer : among y (slot_items (slot_of w s.books) s.plan) ≡ true → Awaits after y
     newcomer mine =
         let marks = new-untold now.books.crew n (slot_of w now.books) free in

@@ -1,11 +1,8 @@
 -- What holds behind each whole rule of a run: calls of the mode, stops, and the last Shutdowns keep it.
-use Rattle.std.proofs.Common.{◌≡◌, ℕ, zero, suc, ◌+◌, ◌≤◌, ◌<◌, List, [], ◌∷◌, ◌++◌, drop, length, map, Bool, true, false, not, ◌&&◌, ◌||◌, refl, ap, sym, ◌∙◌, subst, arith, inl, inr, length-append}
-use Rattle.std.specs.Prelude.{if◌then◌else◌, ◌==◌, ◌⊎◌, nat_le, Option, Some, None, filter, is_some}
-use Rattle.std.specs.List.{list_all, list_any}
-use Rattle.std.specs.Str.{bytes_eq}
+use Rattle.std.proofs.Common.{◌≡◌, ℕ, ◌<◌, List, [], ◌∷◌, length, map, Bool, true, false, not, ◌&&◌, ◌||◌, refl, ap, sym, ◌∙◌, subst, arith, inl, inr}
+use Rattle.std.specs.Prelude.{if◌then◌else◌, ◌==◌, Option, Some, None, is_some}
+use Rattle.std.specs.List.{list_any}
 use Rattle.std.proofs.lemmas.Bool.Decides.{nat_tests}
-use Rattle.std.proofs.lemmas.List.Folds.{list_all-append}
-use Rattle.xd_edge.specs.declared.mode.ModeKind.{ModeKind}
 use Rattle.xd_edge.specs.declared.mode.ModeKind.TheVariants.{WorkSteal}
 use Rattle.xd_journal.specs.declared.settings.Settings.{Settings}
 use Rattle.xd_journal.specs.declared.entry.Entry.{Entry}
@@ -13,36 +10,30 @@ use Rattle.xd_journal.specs.declared.entry.Entry.TheVariants.{Ready, Collected, 
 use Rattle.xd_journal.specs.declared.entry.Ids.{Ids}
 use Rattle.xd_journal.specs.declared.entry.RunStop.{RunStop}
 use Rattle.xd_ledger.specs.declared.member.Member.{Member}
-use Rattle.xd_ledger.specs.declared.seat.Seat.{Seat}
-use Rattle.xd_ledger.specs.Numbers.{all_distinct, among}
-use Rattle.xd_ledger.specs.Table.{Table, held, in_rota, joined, left, seat_shut, without_seat, workers_of}
+use Rattle.xd_ledger.specs.Numbers.{among}
+use Rattle.xd_ledger.specs.Table.{Table, seat_shut, workers_of}
 use Rattle.xd_ledger.specs.Plan.{Asked, Plan, is_each}
-use Rattle.xd_ledger.specs.Turn.{Turn}
 use Rattle.xd_ledger.specs.Modes.{Call, turned}
-use Rattle.xd_ledger.specs.Modes.Call.{Share, Joined, TestDone, TestsBack, Died}
-use Rattle.xd_ledger.specs.Books.{Books, marked}
+use Rattle.xd_ledger.specs.Modes.Call.{TestsBack}
+use Rattle.xd_ledger.specs.Books.{marked}
 use Rattle.xd_ledger.specs.Collections.{listed, unequal, with_list}
-use Rattle.xd_ledger.specs.Workers.{is_active, is_shut, is_waiting, made_collected, made_gone, made_ready, made_shut, slot_in, waiting}
+use Rattle.xd_ledger.specs.Workers.{is_waiting, made_collected, made_gone, made_shut, slot_in, waiting}
 use Rattle.xd_ledger.specs.Stops.{is_shutting, is_stopped}
 use Rattle.xd_ledger.specs.Sharing.{State, in_books}
 use Rattle.xd_ledger.specs.State.{is_finished, moved, all_moved, settled, settles}
-use Rattle.xd_ledger.specs.Outputs.{acts_of, closing, outputs, own_outputs, shut_all, stepped, turn_of, unless_stopped}
+use Rattle.xd_ledger.specs.Outputs.{acts_of, closing, shut_all, turn_of, unless_stopped}
 use Rattle.xd_ledger.specs.Orderly.{all_orderly, is_orderly}
-use Rattle.xd_ledger.specs.Proper.{may_follow}
-use Rattle.xd_laws.proofs.Logic.{and, cases_of, differ, in_both, not_true, or-left, or-right, split-and, split-or}
-use Rattle.xd_laws.proofs.Crew.{distinct-numbered, has, has-cleared, has-kept, has-member, has-same, has-set, is_member, numbers}
-use Rattle.xd_laws.proofs.CrewFits.{slot-marked}
-use Rattle.xd_laws.proofs.Rota.{has_seat, seat-among, seat-left, told-left}
-use Rattle.xd_laws.proofs.Queue.{held-left}
-use Rattle.xd_laws.proofs.Turns.{InRota, Tidy, all_moved-first}
+use Rattle.xd_laws.proofs.Logic.{cases_of, differ, in_both, not_true, or-left, or-right, split-and, split-or}
+use Rattle.xd_laws.proofs.Crew.{distinct-numbered, has, has-cleared, has-member, has-same, has-set, is_member}
+use Rattle.xd_laws.proofs.Turns.{Tidy, all_moved-first}
 use Rattle.xd_laws.proofs.Rule.{CallFits, Rule, fit-shut_all}
 use Rattle.xd_laws.proofs.Inputs.{collecting-keeps}
-use Rattle.xd_laws.proofs.Spent.{IsSpent, Spent, spent-finished}
-use Rattle.xd_laws.proofs.Busy.{AllWork, has_work}
-use Rattle.xd_laws.proofs.Later.{Later, all_plain, is_plain, later-outputs, later-shutdown, later-then, tells}
+use Rattle.xd_laws.proofs.Spent.{spent-finished}
+use Rattle.xd_laws.proofs.Busy.{AllWork}
+use Rattle.xd_laws.proofs.Later.{Later, all_plain, is_plain, later-outputs, tells}
 use Rattle.xd_laws.proofs.Serving.{Ahead}
-use Rattle.xd_laws.proofs.Owing.{AllTold, AskedOpen, Awaited, Awaits, EachTold, Going, HasSlot, Owing, Seated, awaits-by, has-both, has-without}
-use Rattle.xd_laws.proofs.Keeping.{Expects, Keeper, OthersTold, later-call}
+use Rattle.xd_laws.proofs.Owing.{AllTold, AskedOpen, Awaited, Going, HasSlot, Owing, Seated, awaits-by, has-both, has-without}
+use Rattle.xd_laws.proofs.Keeping.{Keeper, OthersTold, later-call}
 
 -- marks
 
@@ -117,6 +108,7 @@ told-in v s (e ∷ es) o p h k =
     here v s (Refused w y) t k = absurd (differ t)
     here v s (Down w c o) t k = absurd (differ t)
     here v s (NotStarted w) t k = absurd (differ t)
+
     member : (v : ℕ) (s : State) (e : Entry) → is_plain e ≡ true → is_member v s.books.crew ≡ true → is_member v (moved s e).books.crew ≡ true
     member v s (Shutdown w) t k = has-same v (λ m. true) (made_shut w) s.books.crew (λ m. refl) (λ m. refl) ∙ k
     member v s (Run w is) t k = k
@@ -274,6 +266,7 @@ going-spent s t l shared pool steal g = record {
   where
     none : (x : ℕ) → among x t.books.table.pool ≡ true → ⊥
     none x z = differ (ap (λ (xs : List ℕ). among x xs) (sym pool) ∙ l.pool x z)
+
     empty : (xs : List ℕ) → ((x : ℕ) → among x xs ≡ true → ⊥) → xs ≡ []
     empty [] h = refl
     empty (x ∷ xs) h = absurd (h x (grind (arith, nat_tests)))
@@ -285,6 +278,7 @@ owing-closed s d o k = by (not (is_shutting s.books) && settles s) refl o
   where
     set : (u : State) → Going u → Going (settled u)
     set u g = going-alike u (settled u) (record { active = λ v. refl; shut = λ v. refl; slots = λ v. refl; table = refl; plan = refl; shared = refl; settings = refl }) g.seated g
+
     still : (settles s ≡ true → s.books.shutting ≡ true) → Owing (settled s)
     still h = record {
       told = λ q. k.told (elim (split-or (is_stopped s.books) (s.books.shutting || settles s) q) [
@@ -293,18 +287,22 @@ owing-closed s d o k = by (not (is_shutting s.books) && settles s) refl o
       ]);
       going = λ q. set s (k.going q);
     }
+
     unclosed : (a b c : Bool) → (not (a || b) && c) ≡ false → a ≡ false → c ≡ true → b ≡ true
     unclosed true b c h n z = absurd (differ (sym n))
     unclosed false true c h n z = refl
     unclosed false false c h n z = absurd (differ (sym h ∙ z))
+
     parts : settles s ≡ true → (is_stopped s.books ≡ false) × (s.books.shared ≡ true) × (is_finished s.books.table s.plan ≡ true)
     parts h =
         let a = split-and (not (is_stopped s.books) && s.books.shared) (is_finished s.books.table s.plan) h in
         let b = split-and (not (is_stopped s.books)) s.books.shared a.0 in
         (not_true (is_stopped s.books) b.0, b.1, a.1)
+
     steal-shut_all : (ws : List ℕ) (u : State) → (all_moved u (map (λ w. Shutdown w) ws)).plan.steal ≡ u.plan.steal
     steal-shut_all [] u = refl
     steal-shut_all (w ∷ ws) u = steal-shut_all ws (moved u (Shutdown w))
+
     ended : settles s ≡ true → all_orderly s (shut_all s.books.crew) ≡ true → Owing (settled (all_moved s (shut_all s.books.crew)))
     ended h q =
         let m = all_moved s (shut_all s.books.crew) in
@@ -315,6 +313,7 @@ owing-closed s d o k = by (not (is_shutting s.books) && settles s) refl o
           told = λ y. told-all s d q;
           going = λ y. set m (going-spent s m l p.1 spent.pool (steal-shut_all (waiting s.books.crew) s ∙ spent.steal) (k.going p.0));
         }
+
     by : (b : Bool) → (not (is_shutting s.books) && settles s) ≡ b → all_orderly s (if b then shut_all s.books.crew else []) ≡ true → Owing (settled (all_moved s (if b then shut_all s.books.crew else [])))
     by true e q = ended (split-and (not (is_shutting s.books)) (settles s) e).1 q
     by false e q = still (λ h. unclosed (is_stopped s.books) s.books.shutting (settles s) e (parts h).0 h)

@@ -1,6 +1,6 @@
 -- A mode tells nobody to shut down but where the pool is empty and no steal is open.
-use Rattle.std.proofs.Common.{◌≡◌, ℕ, zero, suc, List, [], ◌∷◌, ◌++◌, length, take, drop, ◌-◌, ◌+◌, ◌/◌, Bool, true, false, not, ◌&&◌, refl, ap, sym, ◌∙◌, subst, inl, inr}
-use Rattle.std.specs.Prelude.{if◌then◌else◌, ◌==◌, ◌⊎◌, ◌*◌, nat_lt, Option, Some, None}
+use Rattle.std.proofs.Common.{◌≡◌, ℕ, List, [], ◌∷◌, ◌++◌, length, take, drop, ◌-◌, ◌+◌, ◌/◌, Bool, true, false, refl, ap, sym, ◌∙◌, subst, inl, inr}
+use Rattle.std.specs.Prelude.{◌==◌, ◌⊎◌, ◌*◌, nat_lt, Option, Some, None}
 use Rattle.std.specs.List.{list_all}
 use Rattle.xd_journal.specs.declared.entry.Entry.{Entry}
 use Rattle.xd_journal.specs.declared.entry.Entry.TheVariants.{Run, RunAll, Steal, Shutdown}
@@ -13,10 +13,10 @@ use Rattle.xd_ledger.specs.Load as load
 use Rattle.xd_ledger.specs.Worksteal as steal
 use Rattle.xd_ledger.specs.Sharing.{State}
 use Rattle.xd_ledger.specs.Outputs.{turn_of}
-use Rattle.xd_laws.proofs.Logic.{and, differ, in_both, split-and}
+use Rattle.xd_laws.proofs.Logic.{and, in_both, split-and}
 use Rattle.xd_laws.proofs.Rota.{has_seat}
 use Rattle.xd_laws.proofs.EachTurns.{pool-shut}
-use Rattle.xd_laws.proofs.Turns.{Good, IsPlain, good-first}
+use Rattle.xd_laws.proofs.Turns.{Good, IsPlain}
 use Rattle.xd_laws.proofs.StealTurns.{IsOpen, good-dealt, idle-open, one_seat-turn, victim-of}
 use Rattle.xd_laws.proofs.Busy.{shut_each-pool}
 use Rattle.xd_laws.proofs.StealBusy.{dealt-spent}
@@ -163,6 +163,7 @@ serves-after s t g d e = by (steal.idle t.table)
     on_steal : (ws : List ℕ) (o : Option Asked) → t.plan.steal ≡ o → Serves s (elim o as (λ _. Turn) [ None ↦ steal.asks_or_shuts ws (steal.victim t.table) t | Some a ↦ t ])
     on_steal ws None h = serves-asks_or_shuts s ws (steal.victim t.table) t g d e h refl
     on_steal ws (Some a) h = serves-dealt s t d
+
     by : (ws : List ℕ) → Serves s (elim ws as (λ _. Turn) [ [] ↦ t | v ∷ vs ↦ (elim t.plan.steal as (λ _. Turn) [ None ↦ steal.asks_or_shuts (v ∷ vs) (steal.victim t.table) t | Some a ↦ t ]) ])
     by [] = serves-dealt s t d
     by (v ∷ vs) = on_steal (v ∷ vs) t.plan.steal refl
@@ -172,8 +173,10 @@ serves-rule s plain g = by (steal.idle t.table) refl
   where
     t : Turn
     t = turn_of s
+
     first : Dealt s t
     first = record { hand = refl; same = refl }
+
     by : (ws : List ℕ) → steal.idle t.table ≡ ws → Serves s (elim ws as (λ _. Turn) [ [] ↦ t | v ∷ vs ↦ steal.after_dealing (steal.dealt (v ∷ vs) t) ])
     by [] e = serves-dealt s t first
     by (v ∷ vs) e =

@@ -1,5 +1,5 @@
 -- How a mode's calls keep that someone will take each item of the pool.
-use Rattle.std.proofs.Common.{◌≡◌, ℕ, ◌+◌, ◌≤◌, ◌<◌, List, [], ◌∷◌, ◌++◌, length, Bool, true, false, not, ◌&&◌, ◌||◌, refl, ap, sym, ◌∙◌, subst, arith, inl, inr}
+use Rattle.std.proofs.Common.{◌≡◌, ℕ, List, [], ◌∷◌, ◌++◌, length, Bool, true, false, refl, ap, sym, ◌∙◌, subst, arith, inl, inr}
 use Rattle.std.specs.Prelude.{if◌then◌else◌, ◌==◌, ◌⊎◌, Some, None}
 use Rattle.std.proofs.lemmas.Bool.Decides.{nat_tests}
 use Rattle.xd_edge.specs.declared.mode.ModeKind.TheVariants.{WorkSteal}
@@ -8,8 +8,7 @@ use Rattle.xd_journal.specs.declared.entry.Entry.TheVariants.{Ready, Collected, 
 use Rattle.xd_ledger.specs.declared.member.Member.{Member}
 use Rattle.xd_ledger.specs.Numbers.{among}
 use Rattle.xd_ledger.specs.Table.{Table, in_rota, seat_shut, workers_of}
-use Rattle.xd_ledger.specs.Plan.{Plan, Asked, is_each}
-use Rattle.xd_ledger.specs.Turn.{Turn}
+use Rattle.xd_ledger.specs.Plan.{Plan, is_each}
 use Rattle.xd_ledger.specs.Modes.{Call, turned}
 use Rattle.xd_ledger.specs.Modes.Call.{Share, Joined, TestDone, TestsBack, Died}
 use Rattle.xd_ledger.specs.Workers.{is_active, slot_of, started}
@@ -17,15 +16,15 @@ use Rattle.xd_ledger.specs.Sharing.{State}
 use Rattle.xd_ledger.specs.State.{moved, all_moved, next}
 use Rattle.xd_ledger.specs.Outputs.{acts_of, turn_of}
 use Rattle.xd_laws.proofs.Logic.{differ, in_both, split-and}
-use Rattle.xd_laws.proofs.Crew.{has, has-member, has-more, is_member}
-use Rattle.xd_laws.proofs.Rota.{has_seat, seat-among}
+use Rattle.xd_laws.proofs.Crew.{has, has-more, is_member}
+use Rattle.xd_laws.proofs.Rota.{seat-among}
 use Rattle.xd_laws.proofs.Turns.{InRota, Tidy}
 use Rattle.xd_laws.proofs.Rule.{CallFits, Rule}
 use Rattle.xd_laws.proofs.Busy.{AllWork}
-use Rattle.xd_laws.proofs.Handing.{Serves, all_hand, hands_out}
+use Rattle.xd_laws.proofs.Handing.{all_hand, hands_out}
 use Rattle.xd_laws.proofs.Later.{Later, later-outputs, plain-acts}
 use Rattle.xd_laws.proofs.Serving.{Ahead, Server}
-use Rattle.xd_laws.proofs.Owing.{AskedOpen, Awaited, Awaits}
+use Rattle.xd_laws.proofs.Owing.{AskedOpen, Awaited}
 
 -- the call is of this worker's coming
 abbrev pub is_new : ℕ → Call → Bool

@@ -1,17 +1,14 @@
 -- What outputs that start no one leave as it was.
-use Rattle.std.proofs.Common.{◌≡◌, ℕ, ◌+◌, ◌≤◌, List, [], ◌∷◌, ◌++◌, length, map, Bool, true, false, not, ◌&&◌, ◌||◌, refl, ap, sym, ◌∙◌, subst, arith, length-append}
-use Rattle.std.specs.Prelude.{if◌then◌else◌, ◌==◌}
+use Rattle.std.proofs.Common.{◌≡◌, ℕ, List, [], ◌∷◌, ◌++◌, Bool, true, false, not, ◌||◌, refl, ap, sym, ◌∙◌, subst, arith}
+use Rattle.std.specs.Prelude.{◌==◌}
 use Rattle.std.specs.List.{list_all, list_any}
 use Rattle.std.proofs.lemmas.Bool.Decides.{nat_tests}
 use Rattle.std.proofs.lemmas.List.Folds.{list_all-append}
-use Rattle.xd_journal.specs.declared.settings.Settings.{Settings}
-use Rattle.xd_journal.specs.declared.entry.RunStop.{RunStop}
 use Rattle.xd_journal.specs.declared.entry.Entry.{Entry}
 use Rattle.xd_journal.specs.declared.entry.Entry.TheVariants.{Ready, Collected, Done, Back, Finished, Refused, Down, NotStarted, Start, Run, RunAll, Steal, Shutdown, Kill, Over}
-use Rattle.xd_ledger.specs.declared.member.Member.{Member}
 use Rattle.xd_ledger.specs.declared.seat.Seat.{Seat}
 use Rattle.xd_ledger.specs.Numbers.{among, without}
-use Rattle.xd_ledger.specs.Table.{Table, in_rota, seat_shut, workers_of, assigned, shut_down}
+use Rattle.xd_ledger.specs.Table.{seat_shut, workers_of, assigned}
 use Rattle.xd_ledger.specs.Plan.{Plan, items_named, slot_items}
 use Rattle.xd_ledger.specs.Workers.{made_shut, slot_in, slot_of}
 use Rattle.xd_ledger.specs.Sharing.{State}
@@ -24,7 +21,7 @@ use Rattle.xd_laws.proofs.Logic.{and, differ, split-and}
 use Rattle.xd_laws.proofs.Counts.{among-filter}
 use Rattle.xd_laws.proofs.Crew.{has, has-kept, has-same, has-set}
 use Rattle.xd_laws.proofs.CrewFits.{slot-marked}
-use Rattle.xd_laws.proofs.Rota.{has_seat, is_told, seat-change, told-change, told-shut, untold-of_seat, workers-change}
+use Rattle.xd_laws.proofs.Rota.{told-change, workers-change}
 use Rattle.xd_laws.proofs.Turns.{all_moved-first}
 use Rattle.xd_laws.proofs.Busy.{told-kept}
 use Rattle.xd_laws.proofs.Turned.{Kept, turned-keeps}
@@ -59,15 +56,38 @@ pub record Later (s t : State) : Type 0 where
 
 pub later-same : (s : State) → Later s s
 later-same s = record {
-  active = λ v. refl; ready = λ v. refl; collected = λ v. refl; slots = λ v. refl; shut = λ v h. h; rota = refl; told = λ v h. h; pool = λ x h. h;
-  settings = refl; stop = refl; shutting = refl; shared = refl; sizes = refl; mode = refl;
+  active = λ v. refl;
+  ready = λ v. refl;
+  collected = λ v. refl;
+  slots = λ v. refl;
+  shut = λ v h. h;
+  rota = refl;
+  told = λ v h. h;
+  pool = λ x h. h;
+  settings = refl;
+  stop = refl;
+  shutting = refl;
+  shared = refl;
+  sizes = refl;
+  mode = refl;
 }
 
 pub later-then : (s t u : State) → Later s t → Later t u → Later s u
 later-then s t u a b = record {
-  active = λ v. b.active v ∙ a.active v; ready = λ v. b.ready v ∙ a.ready v; collected = λ v. b.collected v ∙ a.collected v; slots = λ v. b.slots v ∙ a.slots v;
-  shut = λ v h. b.shut v (a.shut v h); rota = b.rota ∙ a.rota; told = λ v h. b.told v (a.told v h); pool = λ x h. a.pool x (b.pool x h);
-  settings = b.settings ∙ a.settings; stop = b.stop ∙ a.stop; shutting = b.shutting ∙ a.shutting; shared = b.shared ∙ a.shared; sizes = b.sizes ∙ a.sizes; mode = b.mode ∙ a.mode;
+  active = λ v. b.active v ∙ a.active v;
+  ready = λ v. b.ready v ∙ a.ready v;
+  collected = λ v. b.collected v ∙ a.collected v;
+  slots = λ v. b.slots v ∙ a.slots v;
+  shut = λ v h. b.shut v (a.shut v h);
+  rota = b.rota ∙ a.rota;
+  told = λ v h. b.told v (a.told v h);
+  pool = λ x h. a.pool x (b.pool x h);
+  settings = b.settings ∙ a.settings;
+  stop = b.stop ∙ a.stop;
+  shutting = b.shutting ∙ a.shutting;
+  shared = b.shared ∙ a.shared;
+  sizes = b.sizes ∙ a.sizes;
+  mode = b.mode ∙ a.mode;
 }
 
 still-among : (x : ℕ) (those xs : List ℕ) → among x (without those xs) ≡ true → among x xs ≡ true
@@ -78,11 +98,20 @@ later-given : (s : State) (w : ℕ) (items : List ℕ) (p : Plan) → p.sizes �
 later-given s w items p a b =
     let f : Seat → Seat = λ x. record x { held = x.held ++ items } in
     record {
-      active = λ v. refl; ready = λ v. refl; collected = λ v. refl; slots = λ v. refl; shut = λ v h. h;
+      active = λ v. refl;
+      ready = λ v. refl;
+      collected = λ v. refl;
+      slots = λ v. refl;
+      shut = λ v h. h;
       rota = workers-change w f s.books.table.rota (λ x. refl);
       told = λ v h. told-change v w f s.books.table.rota (λ x. refl) (λ x. refl) ∙ h;
       pool = λ x h. still-among x items s.books.table.pool h;
-      settings = refl; stop = refl; shutting = refl; shared = refl; sizes = a; mode = b;
+      settings = refl;
+      stop = refl;
+      shutting = refl;
+      shared = refl;
+      sizes = a;
+      mode = b;
     }
 
 pub later-shutdown : (s : State) (w : ℕ) → Later s (moved s (Shutdown w))
@@ -97,15 +126,32 @@ later-shutdown s w =
       rota = workers-change w (λ x. record x { shut = true }) s.books.table.rota (λ x. refl);
       told = λ v h. told-kept v w s.books.table.rota h;
       pool = λ x h. h;
-      settings = refl; stop = refl; shutting = refl; shared = refl; sizes = refl; mode = refl;
+      settings = refl;
+      stop = refl;
+      shutting = refl;
+      shared = refl;
+      sizes = refl;
+      mode = refl;
     }
 
 later-output : (s : State) (e : Entry) → is_plain e ≡ true → Later s (moved s e)
 later-output s (Run w is) h = later-given s w (items_named (slot_of w s.books) is s.plan) (moved s (Run w is)).plan refl refl
 later-output s (RunAll w) h = later-given s w (slot_items (slot_of w s.books) s.plan) s.plan refl refl
 later-output s (Steal w is) h = record {
-  active = λ v. refl; ready = λ v. refl; collected = λ v. refl; slots = λ v. refl; shut = λ v k. k; rota = refl; told = λ v k. k; pool = λ x k. k;
-  settings = refl; stop = refl; shutting = refl; shared = refl; sizes = refl; mode = refl;
+  active = λ v. refl;
+  ready = λ v. refl;
+  collected = λ v. refl;
+  slots = λ v. refl;
+  shut = λ v k. k;
+  rota = refl;
+  told = λ v k. k;
+  pool = λ x k. k;
+  settings = refl;
+  stop = refl;
+  shutting = refl;
+  shared = refl;
+  sizes = refl;
+  mode = refl;
 }
 later-output s (Shutdown w) h = later-shutdown s w
 later-output s (Kill w) h = later-same s
@@ -145,6 +191,7 @@ untold-outputs v s (e ∷ es) o p h =
     neither : (a b : Bool) → (a || b) ≡ false → (a ≡ false) × (b ≡ false)
     neither true b h = absurd (differ (sym h))
     neither false b h = (refl, h)
+
     one : (s : State) (e : Entry) → is_plain e ≡ true → tells v e ≡ false → has v (λ m. m.shut) (moved s e).books.crew ≡ has v (λ m. m.shut) s.books.crew
     one s (Shutdown w) p h = has-set v w (λ m. m.shut) (made_shut w) s.books.crew (λ m. refl) (λ m. refl) ∙ grind (arith, nat_tests, h)
     one s (Run w is) p h = refl

@@ -1,20 +1,16 @@
 -- Behind each turn of mode load the pool is empty, or each worker has work.
-use Rattle.std.proofs.Common.{◌≡◌, ℕ, zero, suc, ◌+◌, ◌-◌, ◌*◌, ◌/◌, ◌≤◌, ◌<◌, List, [], ◌∷◌, ◌++◌, length, take, Bool, true, false, not, ◌&&◌, refl, ap, sym, ◌∙◌, subst, arith, inl, inr, length-append}
-use Rattle.std.specs.Prelude.{if◌then◌else◌, ◌==◌, ◌⊎◌, nat_le, nat_lt, min, max}
+use Rattle.std.proofs.Common.{◌≡◌, ℕ, suc, ◌+◌, ◌-◌, ◌*◌, ◌/◌, ◌≤◌, List, [], ◌∷◌, ◌++◌, length, take, true, false, not, ◌&&◌, refl, ap, sym, ◌∙◌, subst, arith, inl, inr, length-append}
+use Rattle.std.specs.Prelude.{◌⊎◌, nat_le, nat_lt, min, max}
 use Rattle.std.proofs.lemmas.Bool.Decides.{nat_tests}
-use Rattle.xd_journal.specs.declared.entry.Entry.TheVariants.{Shutdown}
-use Rattle.xd_ledger.specs.declared.seat.Seat.{Seat}
-use Rattle.xd_ledger.specs.Numbers.{among, all_among, without}
-use Rattle.xd_ledger.specs.Table.{held, seat_shut, shut_down, workers_of}
+use Rattle.xd_ledger.specs.Numbers.{among, without}
+use Rattle.xd_ledger.specs.Table.{held, seat_shut, workers_of}
 use Rattle.xd_ledger.specs.Plan.{chunk_of}
-use Rattle.xd_ledger.specs.Turn.{Turn, give, give_front, shut, in_turn, shut_each, shut_where_empty}
-use Rattle.xd_ledger.specs.Load.{enough, low, high, is_due, more, topped_up, refill, refill_all, first_batch, give_unless_shut, dealt, share}
+use Rattle.xd_ledger.specs.Turn.{Turn, give, give_front, shut, in_turn, shut_each}
+use Rattle.xd_ledger.specs.Load.{enough, is_due, more, topped_up, refill, refill_all, first_batch, give_unless_shut, dealt, share}
 use Rattle.xd_ledger.specs.Sharing.{State}
-use Rattle.xd_ledger.specs.Outputs.{turn_of}
-use Rattle.xd_laws.proofs.Logic.{differ, cases_of, or-left, or-right, split-and, in_both}
-use Rattle.xd_laws.proofs.Counts.{all_among-append}
+use Rattle.xd_laws.proofs.Logic.{cases_of, or-left, or-right, in_both}
 use Rattle.xd_laws.proofs.Rota.{has_seat, told-change}
-use Rattle.xd_laws.proofs.Turns.{Good, InRota, IsPlain, in_rota-of, rota-all}
+use Rattle.xd_laws.proofs.Turns.{Good, IsPlain, in_rota-of, rota-all}
 use Rattle.xd_laws.proofs.LoadTurns.{good-refill, good-guarded}
 use Rattle.xd_laws.proofs.EachTurns.{pool-shut}
 use Rattle.xd_laws.proofs.Busy.{AllWork, Employs, front-spent, front-still, front-work, has_work, shut-still, shut_each-pool, work-through}

@@ -1,5 +1,5 @@
 -- What holds behind each whole rule of a run, and that someone owes the next step by it.
-use Rattle.std.proofs.Common.{◌≡◌, ℕ, zero, suc, ◌+◌, ◌≤◌, ◌<◌, List, [], ◌∷◌, ◌++◌, length, map, take, Bool, true, false, not, ◌&&◌, ◌||◌, refl, ap, sym, ◌∙◌, subst, arith, inl, inr}
+use Rattle.std.proofs.Common.{◌≡◌, ℕ, suc, ◌≤◌, ◌<◌, List, [], ◌∷◌, length, map, take, Bool, true, false, not, ◌&&◌, ◌||◌, refl, ap, sym, ◌∙◌, subst, arith, inl, inr}
 use Rattle.std.specs.Prelude.{if◌then◌else◌, ◌==◌, ◌⊎◌, nat_le, nat_lt, sum, slice_index, Option, Some, None, is_none}
 use Rattle.std.specs.List.{list_all, list_any, range_with_len}
 use Rattle.std.proofs.lemmas.Bool.Decides.{nat_tests}
@@ -7,9 +7,9 @@ use Rattle.xd_edge.specs.declared.mode.ModeKind.{ModeKind}
 use Rattle.xd_ledger.specs.declared.member.Member.{Member}
 use Rattle.xd_ledger.specs.declared.seat.Seat.{Seat}
 use Rattle.xd_ledger.specs.Numbers.{all_distinct, among}
-use Rattle.xd_ledger.specs.Table.{Table, held, held_in, in_rota, seat_shut, workers_of}
+use Rattle.xd_ledger.specs.Table.{held, held_in, in_rota, seat_shut, workers_of}
 use Rattle.xd_ledger.specs.Plan.{Asked, Plan, is_each, slot_items}
-use Rattle.xd_ledger.specs.Workers.{is_active, slot_in, slot_of, some_active}
+use Rattle.xd_ledger.specs.Workers.{slot_in, slot_of, some_active}
 use Rattle.xd_ledger.specs.Stops.{is_shutting, is_stopped}
 use Rattle.xd_ledger.specs.Sharing.{State}
 use Rattle.xd_ledger.specs.State.{is_finished, settles}
@@ -20,7 +20,7 @@ use Rattle.xd_laws.proofs.Crew.{distinct-numbered, has, numbers}
 use Rattle.xd_laws.proofs.Rota.{has_seat, one-of_seat, seat-among, seats_of}
 use Rattle.xd_laws.proofs.Turns.{InRota, Tidy}
 use Rattle.xd_laws.proofs.Pigeons.{as-many}
-use Rattle.xd_laws.proofs.Busy.{AllWork, has_work}
+use Rattle.xd_laws.proofs.Busy.{AllWork}
 
 -- whoever is active and ready was told to shut down
 abbrev pub AllTold : State → Type 0
@@ -166,6 +166,7 @@ busy-owes s v a b = owes-by s v (λ m. true)
     fourth false false true e f h = refl
     fourth false false false true f h = refl
     fourth false false false false f h = absurd (differ h)
+
     any-has : (v : ℕ) (ms : List Member) → has v (λ m. m.active) ms ≡ true → has v (λ m. m.active && true) ms ≡ true
     any-has v [] h = h
     any-has v (m ∷ ms) h = grind (arith, nat_tests, h, any-has v ms)
@@ -183,6 +184,7 @@ asked-owes s a e h = owes-by s a.worker (λ m. true)
     fifth false false true e f h = refl
     fifth false false false true f h = refl
     fifth false false false false f h = h
+
     any-has : (v : ℕ) (ms : List Member) → has v (λ m. m.active) ms ≡ true → has v (λ m. m.active && true) ms ≡ true
     any-has v [] h = h
     any-has v (m ∷ ms) h = grind (arith, nat_tests, h, any-has v ms)
@@ -231,6 +233,7 @@ unshared-owes s d g u n = elim (cases_of (someone_owes s)) [
     length-mapped : {A B : Type 0} (f : A → B) (xs : List A) → length (map f xs) ≡ length xs
     length-mapped f [] = refl
     length-mapped f (x ∷ xs) = ap (λ (n : ℕ). suc n) (length-mapped f xs)
+
     among-mapped : (f : ℕ → ℕ) (w k : ℕ) (ws : List ℕ) → among w ws ≡ true → f w ≡ k → among k (map f ws) ≡ true
     among-mapped f w k [] h e = absurd (differ h)
     among-mapped f w k (v ∷ ws) h e = elim (split-or (w == v) (among w ws) h) [
@@ -279,8 +282,10 @@ shared-owes s d g h f = by s.books.table.pool refl s.plan.steal refl
                 ])
           ])
         ]
+
     by_seats : list_all (λ x. nat_lt (length x.held) 2) s.books.table.rota ≡ false → someone_owes s ≡ true
     by_seats k = (let r = seats-owe s.books.table.rota (λ w. d.placed.fits.seats w) k in busy-owes s r.0 (d.placed.fits.active r.0 r.1) r.2)
+
     by : (pool : List ℕ) → s.books.table.pool ≡ pool → (o : Option Asked) → s.plan.steal ≡ o → someone_owes s ≡ true
     by (x ∷ xs) e o q = pool-owes x (ap (λ (ys : List ℕ). among x ys) e ∙ grind (arith, nat_tests))
     by [] e (Some a) q = asked-owes s a q (g.asked a q).0
@@ -307,6 +312,7 @@ owing-owes s d o settled h = elim (cases_of (is_shutting s.books)) [
     some-left true true h k = refl
     some-left true false h k = absurd (differ (sym k))
     some-left false b h k = absurd (differ h)
+
     neither : (a b : Bool) → (a || b) ≡ false → (a ≡ false) × (b ≡ false)
     neither true b h = absurd (differ (sym h))
     neither false b h = (refl, h)

@@ -1,10 +1,9 @@
 -- Behind each input, and all that follows it, someone owes the next step.
-use Rattle.std.proofs.Common.{◌≡◌, ℕ, zero, suc, ◌+◌, ◌≤◌, ◌<◌, List, [], ◌∷◌, ◌++◌, drop, length, map, Bool, true, false, not, ◌&&◌, ◌||◌, refl, ap, sym, ◌∙◌, subst, arith, inl, inr, length-append}
-use Rattle.std.specs.Prelude.{if◌then◌else◌, ◌==◌, ◌⊎◌, nat_le, Option, Some, None, is_some}
-use Rattle.std.specs.List.{list_all, list_any}
+use Rattle.std.proofs.Common.{◌≡◌, ℕ, suc, ◌≤◌, ◌<◌, List, [], ◌∷◌, drop, length, map, Bool, true, false, not, ◌&&◌, ◌||◌, refl, ap, sym, ◌∙◌, subst, arith, inl, inr, length-append}
+use Rattle.std.specs.Prelude.{if◌then◌else◌, ◌==◌, nat_le, Option, Some, None, is_some}
+use Rattle.std.specs.List.{list_any}
 use Rattle.std.specs.Str.{bytes_eq}
 use Rattle.std.proofs.lemmas.Bool.Decides.{nat_tests}
-use Rattle.xd_edge.specs.declared.mode.ModeKind.{ModeKind}
 use Rattle.xd_edge.specs.declared.mode.ModeKind.TheVariants.{WorkSteal}
 use Rattle.xd_journal.specs.declared.settings.Settings.{Settings}
 use Rattle.xd_journal.specs.declared.entry.Entry.{Entry}
@@ -14,41 +13,37 @@ use Rattle.xd_journal.specs.declared.entry.Outcome.{Outcome}
 use Rattle.xd_journal.specs.declared.entry.RunStop.{RunStop}
 use Rattle.xd_journal.specs.declared.entry.RunStop.TheVariants.{CollectError}
 use Rattle.xd_ledger.specs.declared.member.Member.{Member}
-use Rattle.xd_ledger.specs.declared.member.Listed.{Listed}
 use Rattle.xd_ledger.specs.declared.seat.Seat.{Seat}
-use Rattle.xd_ledger.specs.Numbers.{all_distinct, all_among, among, without}
-use Rattle.xd_ledger.specs.Table.{Table, at_seat, given_back, held, held_in, in_rota, joined, left, seat_shut, without_seat, workers_of}
-use Rattle.xd_ledger.specs.Plan.{Asked, Plan, is_each, items_named}
-use Rattle.xd_ledger.specs.Turn.{Turn}
+use Rattle.xd_ledger.specs.Numbers.{all_among, among, without}
+use Rattle.xd_ledger.specs.Table.{Table, at_seat, held, held_in, joined, seat_shut, without_seat, workers_of}
+use Rattle.xd_ledger.specs.Plan.{Asked, is_each, items_named}
 use Rattle.xd_ledger.specs.Modes.{Call, turned}
 use Rattle.xd_ledger.specs.Modes.Call.{Share, Joined, TestDone, TestsBack, Died}
-use Rattle.xd_ledger.specs.Books.{Books, marked}
+use Rattle.xd_ledger.specs.Books.{marked}
 use Rattle.xd_ledger.specs.Collections.{listed, unequal, with_list}
 use Rattle.xd_ledger.specs.Workers.{has_collected, is_active, is_shut, made_collected, made_gone, made_ready, made_shut, slot_in, slot_of, started, was_ready}
-use Rattle.xd_ledger.specs.Stops.{is_shutting, is_stopped, or_stop, stopped_by}
+use Rattle.xd_ledger.specs.Stops.{is_shutting, is_stopped, or_stop}
 use Rattle.xd_ledger.specs.Sharing.{State, in_books, is_full, joining, shared_now}
-use Rattle.xd_ledger.specs.State.{all_moved, collecting, completed_first, moved, no_one, settled, settles, steal_without}
-use Rattle.xd_ledger.specs.Outputs.{acts_of, after_death, after_joining, closing, outputs, own_outputs, slots_of_rota, stepped, turn_of, unless_stopped}
-use Rattle.xd_ledger.specs.Orderly.{all_orderly}
-use Rattle.xd_ledger.specs.Proper.{all_may_follow, is_head, may_follow, may_give_back}
-use Rattle.xd_ledger.specs.Histories.{begun, stepped_all}
-use Rattle.xd_laws.proofs.Logic.{and, cases_of, clash, differ, in_both, not_true, or-left, or-right, split-and, split-or}
-use Rattle.xd_laws.proofs.Crew.{has, has-cleared, has-member, has-more, has-same, has-set, is_member, length-numbers, none-next, numbers}
-use Rattle.xd_laws.proofs.CrewFits.{Kin, kin-length, kin-same, slot-marked, slot-new, slot-old}
+use Rattle.xd_ledger.specs.State.{all_moved, collecting, completed_first, moved, settled, steal_without}
+use Rattle.xd_ledger.specs.Outputs.{acts_of, after_death, after_joining, closing, own_outputs, slots_of_rota, stepped, turn_of, unless_stopped}
+use Rattle.xd_ledger.specs.Proper.{is_head, may_follow, may_give_back}
+use Rattle.xd_laws.proofs.Logic.{cases_of, clash, differ, in_both, not_true, or-left, or-right, split-and, split-or}
+use Rattle.xd_laws.proofs.Crew.{has, has-cleared, has-member, has-more, has-same, has-set, is_member, none-next}
+use Rattle.xd_laws.proofs.CrewFits.{kin-length, kin-same, slot-marked, slot-new, slot-old}
 use Rattle.xd_laws.proofs.Rota.{has_seat, seat-among, seat-joined, seat-left, seat-of_held, told-change, told-joined, told-left, workers-change}
 use Rattle.xd_laws.proofs.Placed.{head_among, no_back, one_item, shared-of_back, shared-of_held}
 use Rattle.xd_laws.proofs.Queue.{held-left}
 use Rattle.xd_laws.proofs.Turns.{InRota, Tidy, all_moved-join}
 use Rattle.xd_laws.proofs.Rule.{CallFits, IsFresh, Rule, Turned, fit-none}
-use Rattle.xd_laws.proofs.Inputs.{collecting-keeps, done-unstopped, down-unstopped, joins-by, joins-rota, shut_as_before, tidy-input}
+use Rattle.xd_laws.proofs.Inputs.{collecting-keeps, done-unstopped, down-unstopped, joins-by, shut_as_before, tidy-input}
 use Rattle.xd_laws.proofs.Outputs.{closing-fit, fresh-by, own-fit, unshut-collected, workers-first}
 use Rattle.xd_laws.proofs.Spent.{Spent}
 use Rattle.xd_laws.proofs.Busy.{AllWork, has_work}
 use Rattle.xd_laws.proofs.Later.{Later, later-same, later-shutdown}
 use Rattle.xd_laws.proofs.Serving.{Ahead, OthersWork}
-use Rattle.xd_laws.proofs.Owing.{AllTold, AskedOpen, Awaited, Awaits, Going, HasSlot, Owing, Seated}
-use Rattle.xd_laws.proofs.Keeping.{AllThere, Expects, Keeper, OthersTold, buried_acts, is_new, later-call, new-untold, replaced}
-use Rattle.xd_laws.proofs.Going.{Alike, Fewer, StillOpen, asked-by, awaited-by, fewer-collected, fewer-gone, going-alike, going-call, going-spent, owing-closed, owing-later, owing-unless, seated-later, told-fewer}
+use Rattle.xd_laws.proofs.Owing.{AllTold, AskedOpen, Awaited, Going, HasSlot, Owing, Seated}
+use Rattle.xd_laws.proofs.Keeping.{AllThere, Expects, Keeper, OthersTold, buried_acts, later-call, replaced}
+use Rattle.xd_laws.proofs.Going.{Alike, StillOpen, asked-by, awaited-by, fewer-collected, fewer-gone, going-alike, going-call, going-spent, owing-closed, owing-later, owing-unless, seated-later, told-fewer}
 
 -- a stop stays
 stays-by : (before now : Bool) → (now ≡ false → before ≡ false) → before ≡ true → now ≡ true
@@ -129,23 +124,33 @@ ready-owing s w d p o = in_both (λ (os : List Entry). Owing (all_moved now os))
   where
     ms : List Member
     ms = s.books.crew
+
     now : State
     now = moved s (Ready w)
+
     after : State
     after = moved now (Shutdown w)
+
     alike : Alike s now
     alike = record {
       active = λ v. has-same v (λ m. m.active) (made_ready w) ms (λ m. refl) (λ m. refl);
       shut = λ v. has-same v (λ m. m.shut) (made_ready w) ms (λ m. refl) (λ m. refl);
       slots = λ v. slot-marked v (made_ready w) ms (λ m. refl) (λ m. refl);
-      table = refl; plan = refl; shared = refl; settings = refl;
+      table = refl;
+      plan = refl;
+      shared = refl;
+      settings = refl;
     }
+
     going-now : Going s → Going now
     going-now g = going-alike s now alike (λ v a c n. g.seated v (sym (alike.active v) ∙ a) (sym (has-same v (λ m. m.collected) (made_ready w) ms (λ m. refl) (λ m. refl)) ∙ c) (sym (alike.shut v) ∙ n)) g
+
     still : is_shutting s.books ≡ false → Owing now
     still q = record { told = λ z. absurd (clash (is_shutting s.books) q z); going = λ z. going-now (o.going z) }
+
     marked_shut : is_shutting s.books ≡ true → is_stopped s.books ≡ false → s.books.shutting ≡ true
     marked_shut q z = elim (split-or (is_stopped s.books) s.books.shutting q) [ inl a ↦ absurd (clash (is_stopped s.books) z a) | inr a ↦ a ]
+
     told : is_shutting s.books ≡ true → AllTold after
     told q v a r =
         let l = later-shutdown now w in
@@ -157,6 +162,7 @@ ready-owing s w d p o = in_both (λ (os : List Entry). Owing (all_moved now os))
               (let before : has v (λ m. m.ready) ms ≡ true = sym (has-set v w (λ m. m.ready) (made_ready w) ms (λ m. refl) (λ m. refl) ∙ rw k refl) ∙ ready in
               l.shut v (alike.shut v ∙ o.told q v (sym (alike.active v) ∙ active) before))
         ]
+
     shutting : is_shutting s.books ≡ true → Owing after
     shutting q = record {
       told = λ z. told q;
@@ -172,15 +178,20 @@ finished-owing s w h d o = record { told = λ q. told-fewer s now (fewer-gone s 
   where
     now : State
     now = moved s (Finished w)
+
     ms : List Member
     ms = s.books.crew
+
     is_told : has w (λ m. m.shut) ms ≡ true
     is_told = (split-and (is_active w s.books) (is_shut w s.books) (split-and (is_active w s.books && is_shut w s.books) (has_collected w s.books)
         (split-and (is_active w s.books && is_shut w s.books && has_collected w s.books) (length (held w s.books.table) == 0) h).0).0).1
+
     still_open : StillOpen s now
     still_open v a n = (still-active v w ms (other-by v w (λ u. has u (λ m. m.shut) ms) is_told n) a, shut-gone v w ms ∙ n)
+
     shared : is_stopped s.books ≡ false → s.books.shared ≡ true
     shared z = elim (cases_of s.books.shared) [ inl k ↦ k | inr k ↦ absurd (clash (has w (λ m. m.shut) ms) (d.calm.unshut z k w) is_told) ]
+
     goes : is_stopped s.books ≡ false → Going s → Going now
     goes z g = record {
       seated = seated-gone s now w refl refl g.seated;
@@ -223,10 +234,13 @@ module _ (X : State → Type 0) (k : Keeper X) where
     where
       now : State
       now = moved s (Done w i u m out)
+
       items : List ℕ
       items = items_named (slot_of w s.books) (i ∷ []) s.plan
+
       rota : (v : ℕ) → among v (workers_of now.books.table) ≡ among v (workers_of s.books.table)
       rota v = ap (λ (ws : List ℕ). among v ws) (workers-first w items s.books.table)
+
       goes : is_stopped s.books ≡ false → is_stopped now.books ≡ false → Owing (all_moved now (acts_of (TestDone w m) now))
       goes n z =
           let g = o.going n in
@@ -250,22 +264,29 @@ module _ (X : State → Type 0) (k : Keeper X) where
     where
       now : State
       now = moved s (Back w is)
+
       mode : s.plan.mode ≡ WorkSteal
       mode = elim (k.steals s xs) [ inl m ↦ m | inr none ↦ absurd (no_back s w is none h) ]
+
       no-each : {A : Type 0} → is_each s.plan.mode ≡ true → A
       no-each e = absurd (differ (sym (ap is_each mode) ∙ e))
+
       asked_by : (steal : Option Asked) (answer : Asked → Bool) → (elim steal as (λ _. Bool) [ None ↦ false | Some a ↦ (a.worker == w) && answer a ]) ≡ true → (a : Asked) × (steal ≡ Some a) × (a.worker ≡ w)
       asked_by None answer q = absurd (differ q)
       asked_by (Some a) answer q = (a, refl, grind (arith, nat_tests, (split-and (a.worker == w) (answer a) q).0))
+
       the_asked : (a : Asked) × (s.plan.steal ≡ Some a) × (a.worker ≡ w)
       the_asked = asked_by s.plan.steal (λ a. elim is [
         | [] ↦ true
         | i ∷ js ↦ bytes_eq (i ∷ js) a.tests && all_among (items_named (slot_of w s.books) (i ∷ js) s.plan) (drop 1 (held w s.books.table))
       ]) (split-and (is_active w s.books) (may_give_back w is s) h).1
+
       items : List ℕ
       items = items_named (slot_of w s.books) is s.plan
+
       rota : (v : ℕ) → among v (workers_of now.books.table) ≡ among v (workers_of s.books.table)
       rota v = ap (λ (ws : List ℕ). among v ws) (workers-change w (λ z. record z { held = without items z.held }) s.books.table.rota (λ z. refl))
+
       goes : is_stopped s.books ≡ false → is_stopped now.books ≡ false → Owing (all_moved now (acts_of TestsBack now))
       goes n z =
           let g = o.going n in
@@ -408,39 +429,53 @@ module _ (X : State → Type 0) (k : Keeper X) where
     where
       now : State
       now = moved s (Collected w g)
+
       first : State
       first = in_books (λ b. marked (made_collected w) (with_list w g b)) s
+
       stop : Option RunStop
       stop = unequal w g (listed w s.books)
+
       shut_first : is_shut w first.books ≡ is_shut w s.books
       shut_first = has-same w (λ m. m.shut) (made_collected w) s.books.crew (λ m. refl) (λ m. refl)
+
       alike : Alike s first
       alike = record {
         active = λ v. has-same v (λ m. m.active) (made_collected w) s.books.crew (λ m. refl) (λ m. refl);
         shut = λ v. has-same v (λ m. m.shut) (made_collected w) s.books.crew (λ m. refl) (λ m. refl);
         slots = λ v. slot-marked v (made_collected w) s.books.crew (λ m. refl) (λ m. refl);
-        table = refl; plan = refl; shared = refl; settings = refl;
+        table = refl;
+        plan = refl;
+        shared = refl;
+        settings = refl;
       }
+
       seated_first : is_shut w s.books ≡ true → Seated s → Seated first
       seated_first u c v a e n =
           let n_before = sym (alike.shut v) ∙ n in
           let other = other-by v w (λ y. has y (λ m. m.shut) s.books.crew) u n_before in
           c v (sym (alike.active v) ∙ a) (sym (has-set v w (λ m. m.collected) (made_collected w) s.books.crew (λ m. refl) (λ m. refl) ∙ rw other refl) ∙ e) n_before
+
       owing_first : is_shut w s.books ≡ true → Owing first
       owing_first u = record {
         told = λ q v a r. alike.shut v ∙ o.told q v (sym (alike.active v) ∙ a) (sym (has-same v (λ m. m.ready) (made_collected w) s.books.crew (λ m. refl) (λ m. refl)) ∙ r);
         going = λ z. (let c = o.going z in going-alike s first alike (seated_first u c.seated) c);
       }
+
       unchanged : (how : Option RunStop) → is_shut w first.books ≡ true → collecting w how first ≡ first
       unchanged None h = rw h refl
       unchanged (Some how) h = rw h refl
+
       too_late : is_shut w s.books ≡ true → Owing now
       too_late u = subst Owing (sym (unchanged stop (shut_first ∙ u))) (owing_first u)
+
       kept : (a how : Option RunStop) → is_some a ≡ true → is_some (or_stop a how) ≡ true
       kept None how h = absurd (differ h)
       kept (Some a) how h = h
+
       stays : is_stopped s.books ≡ true → is_stopped now.books ≡ true
       stays h = collecting-keeps (λ (u : State). is_stopped u.books ≡ true) first w stop h (kept s.books.stop stop h) h (λ z. h)
+
       joins : is_shut w s.books ≡ false → is_stopped s.books ≡ false → is_stopped now.books ≡ false → Owing (all_moved now (after_joining w s.books now))
       joins u n z =
           let e = joins-by first w stop (shut_first ∙ u) z in
@@ -457,38 +492,51 @@ module _ (X : State → Type 0) (k : Keeper X) where
     where
       ms : List Member
       ms = s.books.crew
+
       now : State
       now = moved s (NotStarted w)
+
       mid : State
       mid = all_moved now (buried_acts now)
+
       after : State
       after = replaced now w
+
       n : ℕ
       n = length now.books.crew
+
       new : Member
       new = started n (slot_of w now.books)
+
       turns : Turned X now (buried_acts now)
       turns = in_both (λ (es : List Entry). Turned X now es) now.books.shared (acts_of Died now) [] (λ h. k.rule.turns now Died t h x tt)
           (λ h. record { fit = fit-none X now t x; kin = kin-same now.books.crew; settings = refl })
+
       later : Later now mid
       later = in_both (λ (es : List Entry). Later now (all_moved now es)) now.books.shared (acts_of Died now) [] (λ h. later-call X k.rule now Died t h x tt) (λ h. later-same now)
+
       before_share : s.books.shared ≡ false → mid ≡ now
       before_share h = in_both (λ (es : List Entry). all_moved now es ≡ now) now.books.shared (acts_of Died now) [] (λ q. absurd (clash s.books.shared h q)) (λ q. refl)
+
       free : is_member n mid.books.crew ≡ false
       free = ap (λ (i : ℕ). is_member i mid.books.crew) (sym (kin-length now.books.crew mid.books.crew turns.kin)) ∙ none-next mid.books.crew turns.fit.tidy.crew.numbered
+
       same : n ≡ length ms
       same = length-mapped (made_gone w) ms
         where
           length-mapped : (f : Member → Member) (xs : List Member) → length (map f xs) ≡ length xs
           length-mapped f [] = refl
           length-mapped f (y ∷ ys) = ap (λ (i : ℕ). suc i) (length-mapped f ys)
+
       -- the newcomer changes nothing of the others
       no-mark : (b c : Bool) → (b || (c && false)) ≡ b
       no-mark true c = refl
       no-mark false true = refl
       no-mark false false = refl
+
       open_after : StillOpen mid after
       open_after v b q = (has-more v (λ m. m.active) mid.books.crew new ∙ or-left (has v (λ m. m.active) mid.books.crew) (n == v && true) b, has-more v (λ m. m.shut) mid.books.crew new ∙ no-mark (has v (λ m. m.shut) mid.books.crew) (n == v) ∙ q)
+
       asked_now : Going s → AskedOpen now
       asked_now g b e =
           let p = asked-without s.plan.steal e in
@@ -501,6 +549,7 @@ module _ (X : State → Type 0) (k : Keeper X) where
             | inl h ↦ absurd (let z : None ≡ Some b = sym (rw h refl) ∙ q in cc)
             | inr h ↦ (let z : Some c ≡ Some b = sym (rw h refl) ∙ q in let y : c ≡ b = cc in (ap (λ (u : Asked). Some u) y, ap (λ (u : Asked). u.worker == w) (sym y) ∙ h))
           ]
+
       seated_after : Going s → Seated after
       seated_after g v b c q =
           let collected : has v (λ m. m.collected) mid.books.crew ≡ true = sym (no-mark (has v (λ m. m.collected) mid.books.crew) (n == v)) ∙ sym (has-more v (λ m. m.collected) mid.books.crew new) ∙ c in
@@ -511,6 +560,7 @@ module _ (X : State → Type 0) (k : Keeper X) where
                 absurd (clash (is_member v mid.books.crew) (subst (λ (i : ℕ). is_member i mid.books.crew ≡ false) e free) (has-member v (λ m. m.collected) mid.books.crew collected)))
           ] in
           seated-later now mid later (seated-gone s now w refl refl g.seated) v active collected untold
+
       slots_after : Going s → after.books.shared ≡ false → (i : ℕ) → i < after.books.settings.workers → HasSlot after i
       slots_after g h i l =
           let unshared : s.books.shared ≡ false = sym later.shared ∙ h in
@@ -519,6 +569,7 @@ module _ (X : State → Type 0) (k : Keeper X) where
         where
           come : State
           come = moved now (Start n (slot_of w now.books))
+
           here : HasSlot s i → HasSlot come i
           here one = elim (cases_of (one.who == w)) [
             | inl q ↦
@@ -537,12 +588,14 @@ module _ (X : State → Type 0) (k : Keeper X) where
                   slot = slot-old one.who now.books.crew new (has-member one.who (λ m. m.active) now.books.crew active) ∙ slot-marked one.who (made_gone w) ms (λ m. refl) (λ m. refl) ∙ one.slot;
                 })
           ]
+
       room_after : Going s → after.books.shared ≡ false → length after.books.table.rota < after.books.settings.workers
       room_after g h =
           let unshared : s.books.shared ≡ false = sym later.shared ∙ h in
           let below = g.room unshared in
           let less = fewer-seats w s.books.table.rota in
           subst (λ (u : State). length u.books.table.rota < u.books.settings.workers) (sym (before_share unshared)) (omega (arith, below, less))
+
       work_after : Going s → after.books.shared ≡ true → AllWork (workers_of after.books.table) after.books.table
       work_after g h = in_both (λ (es : List Entry). AllWork (workers_of (all_moved now es).books.table) (all_moved now es).books.table) now.books.shared (acts_of Died now) []
           (λ q. (let l = later-call X k.rule now Died t q x tt in
@@ -551,12 +604,15 @@ module _ (X : State → Type 0) (k : Keeper X) where
           (subst (λ (ws : List ℕ). AllWork ws (turned now.plan.mode Died (turn_of now)).table) (sym l.rota)
           (k.work now Died t q x tt (λ e. absurd (let y : Died ≡ TestsBack = e in cc)) tt (λ e v b r. told-gone s now w refl (g.told q e) v b)))))
           (λ q. absurd (clash s.books.shared q (sym later.shared ∙ h)))
+
       told_after : Going s → after.books.shared ≡ true → is_each after.plan.mode ≡ true → (v : ℕ) → InRota after v → seat_shut v after.books.table ≡ true
       told_after g h e v b =
           let q : s.books.shared ≡ true = sym later.shared ∙ h in
           later.told v (told-gone s now w refl (g.told q (ap is_each (sym later.mode) ∙ e)) v (ap (λ (ws : List ℕ). among v ws) (sym later.rota) ∙ b))
+
       asked_mid : Going s → AskedOpen mid
       asked_mid g = in_both (λ (es : List Entry). AskedOpen (all_moved now es)) now.books.shared (acts_of Died now) [] (λ q. k.asked now Died t q x tt (asked_now g)) (λ q. asked_now g)
+
       going_after : Going s → Going after
       going_after g = record {
         seated = seated_after g;
@@ -567,6 +623,7 @@ module _ (X : State → Type 0) (k : Keeper X) where
         slots = slots_after g;
         room = room_after g;
       }
+
       goes : is_stopped s.books ≡ false → is_stopped now.books ≡ false → Owing (all_moved now (after_death w now))
       goes q z =
           subst Owing (sym (all_moved-join now (buried_acts now) (Start n (slot_of w now.books) ∷ [])))

@@ -1,29 +1,28 @@
 -- Behind each whole rule of a run that is not over someone owes the next step.
-use Rattle.std.proofs.Common.{◌≡◌, ℕ, zero, suc, ◌+◌, ◌≤◌, ◌<◌, List, [], ◌∷◌, ◌++◌, length, Bool, true, false, not, ◌&&◌, ◌||◌, refl, ap, sym, ◌∙◌, subst, arith, inl, inr}
-use Rattle.std.specs.Prelude.{if◌then◌else◌, ◌==◌, ◌⊎◌, nat_le, Option, Some, None}
+use Rattle.std.proofs.Common.{◌≡◌, ℕ, zero, suc, ◌+◌, ◌≤◌, ◌<◌, List, [], ◌∷◌, length, Bool, true, false, ◌&&◌, ◌||◌, refl, ap, sym, ◌∙◌, subst, arith, inl, inr}
+use Rattle.std.specs.Prelude.{◌==◌, nat_le, Some, None}
 use Rattle.std.proofs.lemmas.Bool.Decides.{nat_tests}
 use Rattle.xd_edge.specs.declared.mode.ModeKind.{ModeKind}
 use Rattle.xd_edge.specs.declared.mode.ModeKind.TheVariants.{Local, Each, Load, LoadScope, LoadFile, LoadGroup, WorkSteal}
 use Rattle.xd_journal.specs.declared.settings.Settings.{Settings}
 use Rattle.xd_journal.specs.declared.entry.Entry.{Entry}
 use Rattle.xd_journal.specs.declared.entry.Entry.TheVariants.{Start}
-use Rattle.xd_ledger.specs.declared.member.Member.{Member}
 use Rattle.xd_ledger.specs.Numbers.{among}
 use Rattle.xd_ledger.specs.Table.{Table, fresh}
 use Rattle.xd_ledger.specs.Plan.{is_scope}
 use Rattle.xd_ledger.specs.Workers.{started}
 use Rattle.xd_ledger.specs.Stops.{is_stopped}
 use Rattle.xd_ledger.specs.Sharing.{State}
-use Rattle.xd_ledger.specs.State.{all_moved, is_finished, moved, no_one, settled, settles}
+use Rattle.xd_ledger.specs.State.{all_moved, moved, no_one, settled, settles}
 use Rattle.xd_ledger.specs.Outputs.{outputs, stepped}
 use Rattle.xd_ledger.specs.Histories.{begun, first_starts, is_over, starts_from, stepped_all}
 use Rattle.xd_ledger.specs.Owes.{someone_owes}
 use Rattle.xd_ledger.specs.Proper.{IsProper, all_may_follow, has_workers, may_follow}
-use Rattle.xd_laws.proofs.Logic.{and-false, clash, differ, or-left, or-right, cases_of, split-and, split-or}
+use Rattle.xd_laws.proofs.Logic.{and-false, clash, differ, or-left, or-right, cases_of, split-and}
 use Rattle.xd_laws.proofs.Crew.{has, has-member, has-more, is_member}
 use Rattle.xd_laws.proofs.CrewFits.{slot-new, slot-old}
 use Rattle.xd_laws.proofs.Runs.{Holds, all-hold, begun-holds, stepped-holds}
-use Rattle.xd_laws.proofs.Spent.{And, rule-spent}
+use Rattle.xd_laws.proofs.Spent.{Spent, begun-spent, spent-step}
 use Rattle.xd_laws.proofs.InMode.{InMode}
 use Rattle.xd_laws.proofs.Serving.{InLoad, load_server, steal_server}
 use Rattle.xd_laws.proofs.ScopeServing.{InScope, scope-begins, scope_server}
@@ -88,12 +87,16 @@ opening-owing s w same some o = record { told = λ h. absurd (clash (is_stopped 
   where
     all-false : (a b c : Bool) → a ≡ false → b ≡ false → c ≡ false → (a || (b || c)) ≡ false
     all-false a b c p q r = rw (p, q, r) refl
+
     unsettled : settles s ≡ false
     unsettled = rw (o.shared, o.unstopped) refl
+
     quiet : (is_stopped s.books || (s.books.shutting || settles s)) ≡ false
     quiet = all-false (is_stopped s.books) s.books.shutting (settles s) o.unstopped o.open_ unsettled
+
     alike : Going s → Going (settled s)
     alike g = going-alike s (settled s) (record { active = λ v. refl; shut = λ v. refl; slots = λ v. refl; table = refl; plan = refl; shared = refl; settings = refl }) g.seated g
+
     going : Going (settled s)
     going = alike (record {
       seated = λ v a c n. absurd (clash (has v (λ m. m.collected) s.books.crew) (o.collected v) c);
@@ -110,7 +113,14 @@ begun-owing settings h =
     let n = settings.workers in
     let first = all_moved (no_one settings) (first_starts settings) in
     let start : Opening (no_one settings) 0 = record {
-      rota = refl; shared = refl; unstopped = refl; open_ = refl; steal = refl; collected = λ v. refl; slots = λ k l. absurd (omega (arith, l)); none = λ v l. refl;
+      rota = refl;
+      shared = refl;
+      unstopped = refl;
+      open_ = refl;
+      steal = refl;
+      collected = λ v. refl;
+      slots = λ k l. absurd (omega (arith, l));
+      none = λ v l. refl;
     } in
     let o = opening-starts (no_one settings) 0 n start in
     opening-owing first (0 + n) (same-settings (no_one settings) 0 n ∙ omega arith) (grind (arith, nat_tests, h)) o
@@ -121,11 +131,11 @@ begun-owing settings h =
 
 -- the inputs
 
-all-owing : (X : State → Type 0) → Keeper X → (s : State) (es : List Entry) → all_may_follow s es ≡ true → Holds (And X) s → Owing s → Owing (stepped_all s es)
-all-owing X k s [] h d o = o
-all-owing X k s (e ∷ es) h d o =
-    let p = split-and (may_follow s e) (all_may_follow (stepped s e) es) h in
-    all-owing X k (stepped s e) es p.1 (stepped-holds (And X) (rule-spent X k.rule) s e p.0 d) (step-owing X k s e p.0 d.tidy d.also.also d.also.spent o)
+all-owing : (X : State → Type 0) → Keeper X → (s : State) (es : List Entry) → all_may_follow s es ≡ true → Holds X s → Spent s → Owing s → Owing (stepped_all s es)
+all-owing X k s [] h d p o = o
+all-owing X k s (e ∷ es) h d p o =
+    let q = split-and (may_follow s e) (all_may_follow (stepped s e) es) h in
+    all-owing X k (stepped s e) es q.1 (stepped-holds X k.rule s e q.0 d) (spent-step X k.rule s e q.0 d.tidy d.also p) (step-owing X k s e q.0 d.tidy d.also p o)
 
 -- behind a whole rule the mark is set where nothing is left to hand out
 abbrev IsMarked : State → Type 0
@@ -138,12 +148,11 @@ all-marked s (e ∷ es) m = all-marked (stepped s e) es (λ h. or-right (all_mov
 by_rule : (X : State → Type 0) → Keeper X → (settings : Settings) (inputs : List Entry) → X (no_one settings) → IsProper settings inputs → is_over (stepped_all (begun settings) inputs).books ≡ false
     → someone_owes (stepped_all (begun settings) inputs) ≡ true
 by_rule X k settings inputs x p h =
-    let rule = rule-spent X k.rule in
-    let first = begun-holds (And X) rule settings (record { also = x; spent = record { spent = λ a b. absurd (differ a) } }) in
+    let first = begun-holds X k.rule settings x in
     let s = stepped_all (begun settings) inputs in
     let opened = all_moved (no_one settings) (first_starts settings) in
-    let last = all-hold (And X) rule (begun settings) inputs p.follow first in
-    let owing = all-owing X k (begun settings) inputs p.follow first (begun-owing settings p.some_worker) in
+    let last = all-hold X k.rule (begun settings) inputs p.follow first in
+    let owing = all-owing X k (begun settings) inputs p.follow first (begun-spent settings) (begun-owing settings p.some_worker) in
     owing-owes s last.tidy owing (all-marked (begun settings) inputs (λ z. or-right opened.books.shutting (settles opened) z)) h
 
 by_mode : (k : ModeKind) (settings : Settings) (inputs : List Entry) → settings.mode ≡ k → IsProper settings inputs → is_over (stepped_all (begun settings) inputs).books ≡ false

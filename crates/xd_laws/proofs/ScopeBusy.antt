@@ -1,5 +1,5 @@
 -- Behind each turn of a mode with scopes the pool is empty, or each worker has work.
-use Rattle.std.proofs.Common.{◌≡◌, ℕ, zero, suc, ◌+◌, ◌≤◌, List, [], ◌∷◌, ◌++◌, length, take, drop, reverse, Bool, true, false, not, ◌&&◌, ◌||◌, refl, ap, sym, ◌∙◌, subst, arith, inl, inr}
+use Rattle.std.proofs.Common.{◌≡◌, ℕ, zero, suc, ◌+◌, ◌≤◌, List, [], ◌∷◌, ◌++◌, length, take, drop, reverse, true, false, ◌||◌, refl, ap, sym, ◌∙◌, subst, arith, inl, inr}
 use Rattle.std.specs.Prelude.{if◌then◌else◌, ◌==◌, ◌⊎◌, nat_le, nat_lt, None}
 use Rattle.std.proofs.lemmas.Bool.Decides.{nat_tests}
 use Rattle.std.proofs.lemmas.List.{length-take-le}
@@ -8,13 +8,13 @@ use Rattle.xd_ledger.specs.Numbers.{among, all_among, times, without}
 use Rattle.xd_ledger.specs.Table.{Table, held, seat_shut, shut_down, workers_of}
 use Rattle.xd_ledger.specs.Plan.{Plan}
 use Rattle.xd_ledger.specs.Turn.{Turn, shut, in_turn, shut_each}
-use Rattle.xd_ledger.specs.ScopeModes.{enough, give_unit, give_more, refill, refill_all, shut_where_spent, share}
+use Rattle.xd_ledger.specs.ScopeModes.{enough, give_unit, give_more, refill, shut_where_spent, share}
 use Rattle.xd_ledger.specs.Sharing.{State}
 use Rattle.xd_ledger.specs.Outputs.{turn_of}
 use Rattle.xd_ledger.specs.Orderly.{not_empty}
 use Rattle.xd_ledger.specs.Suits.{tests_of}
 use Rattle.xd_laws.proofs.Logic.{differ, cases_of, or-left, or-right, split-and, split-or, in_both}
-use Rattle.xd_laws.proofs.Counts.{times-append, times-without, times-among, all_among-take, all_among-of, all_among-drop, all_among-self, among_of-all_among, empty-of_times}
+use Rattle.xd_laws.proofs.Counts.{times-append, times-without, all_among-take, all_among-of, all_among-drop, all_among-self, among_of-all_among, empty-of_times}
 use Rattle.xd_laws.proofs.Rota.{has_seat, seat-among, seat-change}
 use Rattle.xd_laws.proofs.Turns.{Tidy, InRota, in_rota-of}
 use Rattle.xd_laws.proofs.EachTurns.{pool-shut, rota-distinct}
@@ -90,16 +90,21 @@ covered-share t c = by t.table.pool
   where
     k : ℕ
     k = length t.plan.queue
+
     ws : List ℕ
     ws = workers_of t.table
+
     last : Turn
     last = in_turn refill (take k ws) (in_turn give_unit (take k ws) (shut_each (reverse (drop k ws)) t))
+
     done : IsCovered last
     done = covered-refills (take k ws) (in_turn give_unit (take k ws) (shut_each (reverse (drop k ws)) t))
         (in_turn-all IsCovered give_unit (λ w u z. covered-unit w u z) (take k ws) (shut_each (reverse (drop k ws)) t) (covered-shuts (reverse (drop k ws)) t c))
+
     spent : (q : List (List ℕ)) → IsCovered (elim q as (λ _. Turn) [ [] ↦ shut_each (workers_of last.table) last | u ∷ us ↦ last ])
     spent [] = covered-shuts (workers_of last.table) last done
     spent (u ∷ us) = done
+
     by : (pool : List ℕ) → IsCovered (elim pool as (λ _. Turn) [ [] ↦ t | x ∷ xs ↦ shut_where_spent last ])
     by [] = c
     by (x ∷ xs) = spent last.plan.queue
@@ -233,37 +238,52 @@ shuts-work v (w ∷ ws) t a seat = elim (split-or (v == w) (among v ws) a) [
 module _ (s : State) (k : IsScoped s) (d : Tidy s) (unshut : (v : ℕ) → InRota s v → seat_shut v s.books.table ≡ false) (f : Fine s (turn_of s)) (c : Covers s.books.table s.plan) where
   abbrev begins : Turn
   begins = turn_of s
+
   abbrev n : ℕ
   n = length s.plan.queue
+
   abbrev ws : List ℕ
   ws = workers_of s.books.table
+
   abbrev front : List ℕ
   front = take n ws
+
   abbrev back : List ℕ
   back = reverse (drop n ws)
+
   ahead : all_among front ws ≡ true
   ahead = all_among-take n ws
+
   behind : all_among back ws ≡ true
   behind = all_among-of back ws (λ x h. among_of-all_among x (drop n ws) ws (all_among-drop n (drop n ws) ws (all_among-self (drop n ws))) (sym (among-reverse x (drop n ws)) ∙ h))
+
   abbrev first : Turn
   first = shut_each back begins
+
   untold : (v : ℕ) → among v front ≡ true → seat_shut v first.table ≡ false
   untold v h = told-others v back begins (among-reverse v (drop n ws) ∙ front-only v n ws (rota-distinct s d) h) ∙ unshut v (among_of-all_among v front ws ahead h)
+
   abbrev units : Turn
   units = in_turn give_unit front first
+
   dealt : FineFor s front units
   dealt = fine-units s front first k ahead (record { fine = fine-shut_each s back begins behind f; untold = untold })
+
   covered : Covers units.table units.plan
   covered = in_turn-all IsCovered give_unit (λ w u z. covered-unit w u z) front first (covered-shuts back begins c)
+
   abbrev last : Turn
   last = in_turn refill front units
+
   front-work : AllWork front last.table
   front-work = refills-work s front units k ahead (record { fine = dealt.fine; covers = covered })
+
   back-work : (v : ℕ) → among v (drop n ws) ≡ true → has_work v last.table ≡ true
   back-work v h =
       let told = shuts-work v back begins (among-reverse v (drop n ws) ∙ h) (seat-among v s.books.table.rota ∙ among_of-all_among v (drop n ws) ws (all_among-drop n (drop n ws) ws (all_among-self (drop n ws))) h) in
       in_turn-all (λ (u : Turn). has_work v u.table ≡ true) refill (λ w u z. still-refill v w u z) front units
       (in_turn-all (λ (u : Turn). has_work v u.table ≡ true) give_unit (λ w u z. unit-still v w u z) front first told)
+
   last-work : AllWork ws last.table
   last-work = elim front-work [
     | inl e ↦ inl e
@@ -275,9 +295,11 @@ module _ (s : State) (k : IsScoped s) (d : Tidy s) (unshut : (v : ℕ) → InRot
     where
       kept : (vs : List ℕ) (u : Turn) → AllWork ws u.table → AllWork ws (shut_each vs u).table
       kept vs u z = elim z [ inl e ↦ inl (shut_each-pool vs u ∙ e) | inr h ↦ inr (λ v a. shut_each-still v vs u (h v a)) ]
+
       spent : (q : List (List ℕ)) → AllWork ws (elim q as (λ _. Turn) [ [] ↦ shut_each (workers_of last.table) last | u ∷ us ↦ last ]).table
       spent [] = kept (workers_of last.table) last last-work
       spent (u ∷ us) = last-work
+
       by : (pool : List ℕ) → s.books.table.pool ≡ pool → AllWork ws (elim pool as (λ _. Turn) [ [] ↦ begins | x ∷ xs ↦ shut_where_spent last ]).table
       by [] e = inl e
       by (x ∷ xs) e = spent last.plan.queue
@@ -317,17 +339,23 @@ fair-share t f c = by t.table.pool refl
   where
     k : ℕ
     k = length t.plan.queue
+
     vs : List ℕ
     vs = workers_of t.table
+
     one : Turn
     one = shut_each (reverse (drop k vs)) t
+
     two : Turn
     two = in_turn give_unit (take k vs) one
+
     covers : Covers two.table two.plan
     covers = in_turn-all IsCovered give_unit (λ w u z. covered-unit w u z) (take k vs) one (covered-shuts (reverse (drop k vs)) t c)
+
     few : length vs ≤ k → Fair two
     few h = (let none : one ≡ t = ap (λ (xs : List ℕ). shut_each (reverse xs) t) (drop-all k vs h) in
         in_turn-all Fair give_unit (λ w u z. fair-unit w u z) (take k vs) one (subst Fair (sym none) f))
+
     many : k ≤ length vs → Fair two
     many h = (let count : length (take k vs) ≡ k = length-take-le k vs h in
         let same : length one.plan.queue ≡ k = ap (λ (p : Plan). length p.queue) (plan-shut_each (reverse (drop k vs)) t) in
@@ -336,14 +364,18 @@ fair-share t f c = by t.table.pool refl
           steal = in_turn-all (λ (u : Turn). u.plan.steal ≡ None) give_unit (λ w u z. unit-by (λ (y : Turn). y.plan.steal ≡ None) w u z (λ x us e. z)) (take k vs) one (ap (λ (p : Plan). p.steal) (plan-shut_each (reverse (drop k vs)) t) ∙ f.steal);
           fair = inl (covers-spent two.table two.plan covers spent);
         })
+
     dealt_fair : Fair two
     dealt_fair = elim (cases_of (nat_le k (length vs))) [ inl h ↦ many (grind (arith, nat_tests, h)) | inr h ↦ few (grind (arith, nat_tests, h)) ]
+
     last_one : FairCover (in_turn refill (take k vs) two)
     last_one = in_turn-all FairCover refill (λ w u z. both-refill w u z) (take k vs) two (record { fair = dealt_fair; covers = covers })
+
     spent_by : (q : List (List ℕ)) → (in_turn refill (take k vs) two).plan.queue ≡ q
         → Fair (elim q as (λ _. Turn) [ [] ↦ shut_each (workers_of (in_turn refill (take k vs) two).table) (in_turn refill (take k vs) two) | u ∷ us ↦ in_turn refill (take k vs) two ])
     spent_by [] e = fair-shut_each (workers_of (in_turn refill (take k vs) two).table) (in_turn refill (take k vs) two) (covers-spent (in_turn refill (take k vs) two).table (in_turn refill (take k vs) two).plan last_one.covers e) last_one.fair
     spent_by (u ∷ us) e = last_one.fair
+
     by : (pool : List ℕ) → t.table.pool ≡ pool → Fair (elim pool as (λ _. Turn) [ [] ↦ t | x ∷ xs ↦ shut_where_spent (in_turn refill (take k vs) two) ])
     by [] e = f
     by (x ∷ xs) e = spent_by (in_turn refill (take k vs) two).plan.queue refl

@@ -1,6 +1,6 @@
 -- What else the modes with scopes keep: the queue has each test of the pool, and whatever a worker holds was given to it.
-use Rattle.std.proofs.Common.{◌≡◌, ℕ, ◌+◌, ◌≤◌, List, [], ◌∷◌, ◌++◌, take, drop, length, reverse, map, Bool, true, false, not, ◌&&◌, refl, ap, sym, ◌∙◌, subst, arith, inl, inr}
-use Rattle.std.specs.Prelude.{if◌then◌else◌, ◌==◌, ◌⊎◌, None, sum}
+use Rattle.std.proofs.Common.{◌≡◌, ℕ, ◌+◌, ◌≤◌, List, [], ◌∷◌, ◌++◌, take, drop, length, reverse, true, false, refl, ap, sym, ◌∙◌, subst, arith, inl, inr}
+use Rattle.std.specs.Prelude.{if◌then◌else◌, ◌==◌, sum}
 use Rattle.std.specs.List.{range_with_len}
 use Rattle.std.proofs.lemmas.Bool.Decides.{nat_tests}
 use Rattle.xd_edge.specs.declared.mode.ModeKind.{ModeKind}
@@ -10,16 +10,17 @@ use Rattle.xd_journal.specs.declared.entry.Entry.{Entry}
 use Rattle.xd_journal.specs.declared.entry.Entry.TheVariants.{Ready, Collected, Done, Back, Finished, Refused, Down, NotStarted, Start, Run, RunAll, Steal, Shutdown, Kill, Over}
 use Rattle.xd_ledger.specs.declared.seat.Seat.{Seat}
 use Rattle.xd_ledger.specs.Numbers.{among, times, without}
-use Rattle.xd_ledger.specs.Table.{Table, at_seat, held, held_in, joined, seat_shut, shut_down, without_seat, workers_of}
-use Rattle.xd_ledger.specs.Plan.{Plan, Handed, is_each, is_scope, items_named}
+use Rattle.xd_ledger.specs.Table.{Table, at_seat, held, held_in, joined, retried_item, seat_shut, shut_down, without_seat, workers_of}
+use Rattle.xd_ledger.specs.Plan.{Plan, is_each, is_scope, items_named}
 use Rattle.xd_ledger.specs.Turn.{Turn, shut, in_turn, shut_each}
-use Rattle.xd_ledger.specs.Units.{units_left}
-use Rattle.xd_ledger.specs.ScopeModes.{enough, give_unit, give_more, refill, refill_all, shut_where_spent, share}
-use Rattle.xd_ledger.specs.Modes.{Call, turned, scope_turn}
+use Rattle.xd_ledger.specs.Units.{units_left, unless_empty}
+use Rattle.xd_ledger.specs.ScopeModes.{give_unit, refill, shut_where_spent, share}
+use Rattle.xd_ledger.specs.Modes.{Call, scope_turn}
 use Rattle.xd_ledger.specs.Modes.Call.{Share, Joined, TestDone, TestsBack, Died}
 use Rattle.xd_ledger.specs.Books.{marked}
 use Rattle.xd_ledger.specs.Workers.{made_collected, slot_of}
 use Rattle.xd_ledger.specs.Collections.{listed, unequal, with_list}
+use Rattle.xd_ledger.specs.Retry.{is_retry}
 use Rattle.xd_ledger.specs.Sharing.{State, ids_at, in_books, planned, shared_now}
 use Rattle.xd_ledger.specs.State.{moved, all_moved, completed_first, down_plan, no_one}
 use Rattle.xd_ledger.specs.Outputs.{acts_of, turn_of}
@@ -30,17 +31,16 @@ use Rattle.xd_laws.proofs.Counts.{all_among-self, times-append, times-cut, times
 use Rattle.xd_laws.proofs.Rota.{seat-among}
 use Rattle.xd_laws.proofs.Placed.{no_back}
 use Rattle.xd_laws.proofs.Turns.{Tidy, good-first}
-use Rattle.xd_laws.proofs.Rule.{CallFits, Rule}
+use Rattle.xd_laws.proofs.Rule.{CallFits}
 use Rattle.xd_laws.proofs.Inputs.{collecting-keeps}
-use Rattle.xd_laws.proofs.Units.{given_to, given-more, tests-append, tests-left, tests-units}
+use Rattle.xd_laws.proofs.Units.{given_to, given-more, tests-append, tests-left, tests-units, times-unless_empty}
 use Rattle.xd_laws.proofs.Queue.{held-shut}
-use Rattle.xd_laws.proofs.ScopeTurns.{Fine, with_unit}
 use Rattle.xd_laws.proofs.ScopeInputs.{Scoped, planned-queue, planned-sizes}
 use Rattle.xd_laws.proofs.ScopeRule.{scope_rule, turned-scope, scoped-none}
 use Rattle.xd_laws.proofs.Busy.{AllWork}
 use Rattle.xd_laws.proofs.Handing.{Fair, Serves, in_turn-all, serves-fair}
 use Rattle.xd_laws.proofs.ScopeBusy.{Ample, Covers, covered-refill, covered-refills, covered-share, fair-refill, fair-refills, fair-share, none-there, refill-employs, refill-keeps, refills-work, share-work, unit-by}
-use Rattle.xd_laws.proofs.Serving.{Ahead, Beside, Both, NoSteal, Server, one-work, rule-both}
+use Rattle.xd_laws.proofs.Serving.{Ahead, Beside, Both, Server, one-work, rule-both}
 
 -- whatever is held was given
 
@@ -114,24 +114,32 @@ filled-first : (s : State) (w : ℕ) (items : List ℕ) → Filled s → Covers 
 filled-first s w [] f = (f.covers, f.given)
 filled-first s w (i ∷ is) f = (f.covers, λ v x. (let a = held-less x v w (i ∷ []) s.books.table.rota in let b = f.given v x in omega (arith, a, b)))
 
-left-queue : (w : ℕ) (rest : List ℕ) (p : Plan) → is_scope p.mode ≡ true → (down_plan w rest p).queue ≡ p.queue ++ units_left w rest p.given
-left-queue w rest p h = rw h refl
+left-queue : (w : ℕ) (retried rest : List ℕ) (p : Plan) → is_scope p.mode ≡ true → (down_plan w retried rest p).queue ≡ unless_empty retried ++ (p.queue ++ units_left w rest p.given)
+left-queue w retried rest p h = rw h refl
 
 filled-down : (s : State) (w : ℕ) → Scoped s → Filled s → Filled (moved s (NotStarted w))
 filled-down s w k f =
-    let rest = drop 1 (held w s.books.table) in
+    let items = held w s.books.table in
+    let retry = is_retry w s.books in
+    let first = retried_item retry items in
+    let rest = drop 1 items in
+    let left = units_left w rest s.plan.given in
     record {
       covers = λ x.
-          (let q : times x (tests_of (down_plan w rest s.plan).queue) ≡ times x (tests_of (s.plan.queue ++ units_left w rest s.plan.given)) = ap (λ (q : List (List ℕ)). times x (tests_of q)) (left-queue w rest s.plan k.mode.scope) in
-          let a = tests-append x s.plan.queue (units_left w rest s.plan.given) in
+          (let q : times x (tests_of (down_plan w first rest s.plan).queue) ≡ times x (tests_of (unless_empty first ++ (s.plan.queue ++ left))) =
+          ap (λ (q : List (List ℕ)). times x (tests_of q)) (left-queue w first rest s.plan k.mode.scope) in
+          let n = tests-append x (unless_empty first) (s.plan.queue ++ left) in
+          let o = times-unless_empty x first in
+          let a = tests-append x s.plan.queue left in
+          let m = times-append x first (s.books.table.pool ++ rest) in
           let b = times-append x s.books.table.pool rest in
           let c = f.covers x in
           let d = tests-left x w rest s.plan.given in
           let g = f.given w x in
-          let cut = times-cut x (held w s.books.table) in
+          let cut = times-cut x items in
           elim (cases_of (among x rest)) [
-            | inl h ↦ (let e : times x (tests_of (units_left w rest s.plan.given)) ≡ times x (given_to w s.plan.given) = d ∙ rw h refl in omega (arith, q, a, b, c, e, g, cut))
-            | inr h ↦ omega (arith, q, a, b, c, none-there x rest h)
+            | inl h ↦ (let e : times x (tests_of left) ≡ times x (given_to w s.plan.given) = d ∙ rw h refl in omega (arith, q, n, o, a, m, b, c, e, g, cut))
+            | inr h ↦ omega (arith, q, n, o, a, m, b, c, none-there x rest h)
           ]);
       given = λ v x. (let a = held-left x v w s.books.table.rota in let b = f.given v x in omega (arith, a, b));
     }
@@ -188,17 +196,23 @@ given-share t g = by t.table.pool
   where
     k : ℕ
     k = length t.plan.queue
+
     ws : List ℕ
     ws = workers_of t.table
+
     one : IsGiven (shut_each (reverse (drop k ws)) t)
     one = in_turn-all IsGiven shut (λ w u z. given-shut w u z) (reverse (drop k ws)) t g
+
     two : IsGiven (in_turn give_unit (take k ws) (shut_each (reverse (drop k ws)) t))
     two = in_turn-all IsGiven give_unit (λ w u z. given-unit w u z) (take k ws) (shut_each (reverse (drop k ws)) t) one
+
     three : IsGiven (in_turn refill (take k ws) (in_turn give_unit (take k ws) (shut_each (reverse (drop k ws)) t)))
     three = in_turn-all IsGiven refill (λ w u z. given-refill w u z) (take k ws) (in_turn give_unit (take k ws) (shut_each (reverse (drop k ws)) t)) two
+
     spent : (last : Turn) → IsGiven last → (q : List (List ℕ)) → IsGiven (elim q as (λ _. Turn) [ [] ↦ shut_each (workers_of last.table) last | u ∷ us ↦ last ])
     spent last z [] = in_turn-all IsGiven shut (λ w u y. given-shut w u y) (workers_of last.table) last z
     spent last z (u ∷ us) = z
+
     by : (pool : List ℕ) → IsGiven (elim pool as (λ _. Turn) [ [] ↦ t | x ∷ xs ↦ shut_where_spent (in_turn refill (take k ws) (in_turn give_unit (take k ws) (shut_each (reverse (drop k ws)) t))) ])
     by [] = g
     by (x ∷ xs) = spent (in_turn refill (take k ws) (in_turn give_unit (take k ws) (shut_each (reverse (drop k ws)) t))) three
@@ -261,6 +275,7 @@ scope-fair s c x = by c
   where
     first : Fair (turn_of s)
     first = record { steal = x.first.queue.steal; fair = inr refl }
+
     by : (c : Call) → Fair (scope_turn c (turn_of s))
     by (Share slots) = fair-share (turn_of s) first x.second.covers
     by (Joined w slot) = fair-refills (workers_of s.books.table) (turn_of s) first x.second.covers

@@ -1,33 +1,28 @@
 -- What else a mode keeps, and how it leaves workers and pool at its calls.
-use Rattle.std.proofs.Common.{◌≡◌, ℕ, ◌+◌, ◌≤◌, List, [], ◌∷◌, ◌++◌, drop, length, map, Bool, true, false, not, ◌&&◌, refl, ap, sym, ◌∙◌, subst, arith, inl, inr}
-use Rattle.std.specs.Prelude.{if◌then◌else◌, ◌==◌, ◌⊎◌, Option, None, sum}
-use Rattle.std.specs.List.{range_with_len}
+use Rattle.std.proofs.Common.{◌≡◌, ℕ, [], true, false, refl, ap, sym, ◌∙◌, subst, arith, inl, inr}
+use Rattle.std.specs.Prelude.{◌==◌, ◌⊎◌, Option, None}
 use Rattle.std.proofs.lemmas.Bool.Decides.{nat_tests}
-use Rattle.std.proofs.lemmas.List.{append-nil}
 use Rattle.xd_edge.specs.declared.mode.ModeKind.{ModeKind}
 use Rattle.xd_edge.specs.declared.mode.ModeKind.TheVariants.{Load, WorkSteal}
-use Rattle.xd_journal.specs.declared.settings.Settings.{Settings}
 use Rattle.xd_journal.specs.declared.entry.Entry.{Entry}
 use Rattle.xd_journal.specs.declared.entry.Entry.TheVariants.{Ready, Collected, Done, Back, Finished, Refused, Down, NotStarted, Start, Run, RunAll, Steal, Shutdown, Kill, Over}
-use Rattle.xd_ledger.specs.declared.seat.Seat.{Seat}
-use Rattle.xd_ledger.specs.Numbers.{among, times, without}
-use Rattle.xd_ledger.specs.Table.{Table, held, in_rota, seat_shut, workers_of}
-use Rattle.xd_ledger.specs.Plan.{Plan, Asked, is_each, is_scope}
+use Rattle.xd_ledger.specs.Table.{workers_of}
+use Rattle.xd_ledger.specs.Plan.{Plan, Asked, is_each}
 use Rattle.xd_ledger.specs.Turn.{Turn}
 use Rattle.xd_ledger.specs.Load.{refill}
-use Rattle.xd_ledger.specs.Modes.{Call, turned, load_turn, scope_turn, worksteal_turn}
+use Rattle.xd_ledger.specs.Modes.{Call, turned, load_turn, worksteal_turn}
 use Rattle.xd_ledger.specs.Modes.Call.{Share, Joined, TestDone, TestsBack, Died}
 use Rattle.xd_ledger.specs.Books.{marked}
 use Rattle.xd_ledger.specs.Workers.{made_collected}
 use Rattle.xd_ledger.specs.Collections.{listed, unequal, with_list}
 use Rattle.xd_ledger.specs.Sharing.{State, in_books}
-use Rattle.xd_ledger.specs.State.{moved, all_moved, settled, steal_without, no_one}
+use Rattle.xd_ledger.specs.State.{moved, all_moved, settled, steal_without}
 use Rattle.xd_ledger.specs.Outputs.{acts_of, turn_of}
 use Rattle.xd_ledger.specs.Proper.{may_follow}
 use Rattle.xd_laws.proofs.Logic.{differ, cases_of}
 use Rattle.xd_laws.proofs.Rota.{seat-among}
-use Rattle.xd_laws.proofs.Turns.{Tidy, MayShut, InRota, good-first, in_rota-of}
-use Rattle.xd_laws.proofs.Rule.{CallFits, Rule, IsFresh}
+use Rattle.xd_laws.proofs.Turns.{Tidy, InRota, good-first, in_rota-of}
+use Rattle.xd_laws.proofs.Rule.{CallFits, Rule}
 use Rattle.xd_laws.proofs.Inputs.{collecting-keeps}
 use Rattle.xd_laws.proofs.InMode.{InMode}
 use Rattle.xd_laws.proofs.LoadRule.{load_rule, load_plain}
@@ -125,6 +120,7 @@ load-fair s c n = by c
   where
     first : Fair (turn_of s)
     first = record { steal = n; fair = inr refl }
+
     by : (c : Call) → Fair (load_turn c (turn_of s))
     by (Share slots) = fair-share (turn_of s) first
     by (Joined w slot) = fair-refill_all (turn_of s) first

@@ -1,12 +1,12 @@
 -- Behind each turn of mode worksteal the pool is empty, or each worker has work.
-use Rattle.std.proofs.Common.{◌≡◌, ℕ, zero, suc, ◌+◌, ◌/◌, ◌≤◌, List, [], ◌∷◌, ◌++◌, length, take, map, Bool, true, false, not, ◌&&◌, ◌||◌, refl, ap, sym, ◌∙◌, subst, arith, inl, inr}
-use Rattle.std.specs.Prelude.{if◌then◌else◌, ◌==◌, ◌⊎◌, nat_le, nat_lt, filter, Option, Some, None}
+use Rattle.std.proofs.Common.{◌≡◌, ℕ, ◌+◌, ◌/◌, ◌≤◌, List, [], ◌∷◌, length, take, map, Bool, true, false, not, ◌&&◌, ◌||◌, refl, sym, ◌∙◌, subst, arith, inl, inr}
+use Rattle.std.specs.Prelude.{◌==◌, nat_le, nat_lt, filter, Option, Some, None}
 use Rattle.std.proofs.lemmas.Bool.Decides.{nat_tests}
 use Rattle.xd_ledger.specs.declared.seat.Seat.{Seat}
 use Rattle.xd_ledger.specs.Numbers.{among}
 use Rattle.xd_ledger.specs.Table.{held_in, workers_of}
 use Rattle.xd_ledger.specs.Plan.{Asked}
-use Rattle.xd_ledger.specs.Turn.{Turn, give, give_front, shut_each}
+use Rattle.xd_ledger.specs.Turn.{Turn, give_front, shut_each}
 use Rattle.xd_ledger.specs.Worksteal.{enough, idle, dealt, victim, number, asks, asks_or_shuts, after_dealing, rule, share}
 use Rattle.xd_laws.proofs.Logic.{differ, cases_of, in_both}
 use Rattle.xd_laws.proofs.Rota.{is_told}
@@ -69,6 +69,7 @@ after-pool t = by (idle t.table)
     on_steal : (ws : List ℕ) (o : Option Asked) → (elim o as (λ _. Turn) [ None ↦ asks_or_shuts ws (victim t.table) t | Some a ↦ t ]).table.pool ≡ t.table.pool
     on_steal ws None = shuts-pool ws (victim t.table) t
     on_steal ws (Some a) = refl
+
     by : (ws : List ℕ) → (elim ws as (λ _. Turn) [ [] ↦ t | v ∷ vs ↦ (elim t.plan.steal as (λ _. Turn) [ None ↦ asks_or_shuts (v ∷ vs) (victim t.table) t | Some a ↦ t ]) ]).table.pool ≡ t.table.pool
     by [] = refl
     by (v ∷ vs) = on_steal (v ∷ vs) t.plan.steal
@@ -79,6 +80,7 @@ rule-work t = by (idle t.table) refl
     unmapped : (ss : List Seat) → map (λ s. s.worker) ss ≡ [] → ss ≡ []
     unmapped [] h = refl
     unmapped (s ∷ ss) h = absurd (let z : s.worker ∷ map (λ x. x.worker) ss ≡ [] = h in cc)
+
     by : (ws : List ℕ) → idle t.table ≡ ws → AllWork (workers_of t.table) (elim ws as (λ _. Turn) [ [] ↦ t | v ∷ vs ↦ after_dealing (dealt (v ∷ vs) t) ]).table
     by [] e = inr (λ v a. working v t.table.rota (unmapped (filter is_idle t.table.rota) e) a)
     by (v ∷ vs) e = inl (after-pool (dealt (v ∷ vs) t) ∙ dealt-spent v vs t)
