@@ -1,6 +1,6 @@
 -- The calls of the mode behind the inputs of a proper run, in every mode.
-use Rattle.std.proofs.Common.{◌≡◌, ℕ, ◌+◌, ◌≤◌, ◌<◌, List, [], ◌∷◌, length, map, Bool, true, false, not, ◌&&◌, refl, ap, sym, ◌∙◌, subst, arith, inl, inr}
-use Rattle.std.specs.Prelude.{◌==◌, nat_lt, if◌then◌else◌}
+use Rattle.std.proofs.Common.{◌≡◌, ℕ, ◌<◌, List, [], ◌∷◌, length, map, true, false, not, refl, ap, sym, ◌∙◌, subst, arith}
+use Rattle.std.specs.Prelude.{nat_lt}
 use Rattle.std.specs.List.{list_all, list_any}
 use Rattle.std.proofs.lemmas.Bool.Decides.{nat_tests}
 use Rattle.std.proofs.lemmas.List.{length-map}
@@ -10,33 +10,33 @@ use Rattle.xd_journal.specs.declared.settings.Settings.{Settings}
 use Rattle.xd_journal.specs.declared.entry.Ids.{Ids}
 use Rattle.xd_journal.specs.declared.entry.Outcome.{Outcome}
 use Rattle.xd_journal.specs.declared.entry.Entry.{Entry}
-use Rattle.xd_journal.specs.declared.entry.Entry.TheVariants.{Collected, Done, Back, NotStarted}
-use Rattle.xd_ledger.specs.Numbers.{all_among, all_distinct, among, times}
-use Rattle.xd_ledger.specs.Table.{Table, in_rota, workers_of}
-use Rattle.xd_ledger.specs.Plan.{Plan, is_each, is_scope, items_named}
+use Rattle.xd_journal.specs.declared.entry.Entry.TheVariants.{Collected, Done, Back}
+use Rattle.xd_ledger.specs.Numbers.{all_distinct, among}
+use Rattle.xd_ledger.specs.Table.{in_rota, workers_of}
+use Rattle.xd_ledger.specs.Plan.{is_scope, items_named}
 use Rattle.xd_ledger.specs.Modes.{Call}
 use Rattle.xd_ledger.specs.Modes.Call.{Share, Joined, TestDone, TestsBack, Died}
 use Rattle.xd_ledger.specs.Books.{marked}
 use Rattle.xd_ledger.specs.Collections.{listed, unequal, with_list}
 use Rattle.xd_ledger.specs.Workers.{is_active, is_shut, made_collected, slot_of}
 use Rattle.xd_ledger.specs.Sharing.{State, in_books}
-use Rattle.xd_ledger.specs.State.{all_moved, collecting, moved, no_one}
+use Rattle.xd_ledger.specs.State.{moved, no_one}
 use Rattle.xd_ledger.specs.Outputs.{slots_of_rota}
 use Rattle.xd_ledger.specs.Stops.{is_stopped}
-use Rattle.xd_ledger.specs.Suits.{AreInPool, CallSuits, CanShare, Finds, tests_of}
+use Rattle.xd_ledger.specs.Suits.{AreInPool, CallSuits, CanShare, tests_of}
 use Rattle.xd_ledger.specs.Histories.{begun, stepped_all}
 use Rattle.xd_ledger.specs.Proper.{IsProper, has_workers, is_head, may_follow}
 use Rattle.xd_laws.specs.Called.{Called, Reached}
 use Rattle.xd_laws.proofs.Logic.{and, differ, not_true, split-and}
 use Rattle.xd_laws.proofs.Counts.{all_among-of, among-times, distinct-of_times, times-among}
-use Rattle.xd_laws.proofs.Crew.{has, has-member, has-same}
+use Rattle.xd_laws.proofs.Crew.{has-member, has-same}
 use Rattle.xd_laws.proofs.Rota.{seat-among, seat-of_held}
 use Rattle.xd_laws.proofs.Places.{times-table}
 use Rattle.xd_laws.proofs.Placed.{at_most_once, head_among, one_item, shared-of_back, shared-of_held}
 use Rattle.xd_laws.proofs.Queue.{QueueFits}
 use Rattle.xd_laws.proofs.Turns.{InRota, Tidy, pool-distinct}
 use Rattle.xd_laws.proofs.EachTurns.{rota-apart, rota-distinct}
-use Rattle.xd_laws.proofs.Rule.{CallFits, HasJoined, IsFresh, Rule}
+use Rattle.xd_laws.proofs.Rule.{CallFits, IsFresh, Rule}
 use Rattle.xd_laws.proofs.Runs.{all-hold, begun-holds}
 use Rattle.xd_laws.proofs.Inputs.{joins-by, joins-rota, shut_as_before, still_shared, tidy-input}
 use Rattle.xd_laws.proofs.Outputs.{fresh-by, unshut-collected, workers-first}

@@ -24,7 +24,7 @@ use Rattle.xd_laws.proofs.Rule.{IsFresh}
 
 -- the items of slots
 
-base-each : (slot : ℕ) (p : Plan) → is_each p.mode ≡ true → base slot p ≡ sum (take slot p.sizes)
+pub base-each : (slot : ℕ) (p : Plan) → is_each p.mode ≡ true → base slot p ≡ sum (take slot p.sizes)
 base-each slot p h = rw h
 
 fold-plus : (a : ℕ) (xs : List ℕ) → fold ◌+◌ a xs ≡ a + fold ◌+◌ 0 xs
@@ -149,7 +149,7 @@ pub told-other : (v w : ℕ) (t : Turn) → (v == w) ≡ false → seat_shut v (
 told-other v w t h = in_both (λ (u : Turn). seat_shut v u.table ≡ seat_shut v t.table) (seat_shut w t.table) t (record t { table = shut_down w t.table; acts = t.acts ++ Shutdown w ∷ [] }) (λ k. refl)
     (λ k. told-shut v w t.table.rota ∙ rw h)
 
-pool-shut : (w : ℕ) (t : Turn) → (shut w t).table.pool ≡ t.table.pool
+pub pool-shut : (w : ℕ) (t : Turn) → (shut w t).table.pool ≡ t.table.pool
 pool-shut w t = in_both (λ (u : Turn). u.table.pool ≡ t.table.pool) (seat_shut w t.table) t (record t { table = shut_down w t.table; acts = t.acts ++ Shutdown w ∷ [] }) (λ k. refl) (λ k. refl)
 
 may-take_still : (s : State) (v w : ℕ) (t : Turn) → is_each s.plan.mode ≡ true → t.plan ≡ s.plan → (v == w) ≡ false → (slot_of v s.books ≡ slot_of w s.books → ⊥) → MayTake s t v

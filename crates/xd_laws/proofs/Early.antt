@@ -1,15 +1,15 @@
 -- No report stands before the first collection.
-use Rattle.std.proofs.Common.{◌≡◌, ℕ, List, [], ◌∷◌, ◌++◌, take, Bool, true, false, ◌||◌, refl, ap, sym, ◌∙◌, map}
-use Rattle.std.specs.List.{list_any}
+use Rattle.std.proofs.Common.{◌≡◌, ℕ, List, [], ◌∷◌, ◌++◌, Bool, true, false, ◌||◌, refl, ap, sym, ◌∙◌, map}
 use Rattle.xd_journal.specs.declared.settings.Settings.{Settings}
 use Rattle.xd_journal.specs.declared.entry.Outcome.{Outcome}
 use Rattle.xd_journal.specs.declared.entry.Entry.{Entry}
 use Rattle.xd_journal.specs.declared.entry.Entry.TheVariants.{Ready, Collected, Done, Back, Finished, Refused, Down, NotStarted, Start, Run, RunAll, Steal, Shutdown, Kill, Over}
 use Rattle.xd_ledger.specs.declared.seat.Seat.{Seat}
 use Rattle.xd_ledger.specs.Numbers.{among, without}
-use Rattle.xd_ledger.specs.Table.{at_seat, held_in, without_seat}
+use Rattle.xd_ledger.specs.Table.{at_seat, crash_item, held_in, without_seat}
 use Rattle.xd_ledger.specs.Plan.{items_named, slot_items}
 use Rattle.xd_ledger.specs.Workers.{is_active, slot_of}
+use Rattle.xd_ledger.specs.Retry.{is_retry}
 use Rattle.xd_ledger.specs.Sharing.{State}
 use Rattle.xd_ledger.specs.State.{moved, no_one}
 use Rattle.xd_ledger.specs.Proper.{is_head, may_follow, names_head}
@@ -17,6 +17,7 @@ use Rattle.xd_ledger.specs.Orderly.{is_orderly}
 use Rattle.xd_ledger.specs.Reports.{Report, Crash, reports, reports_of}
 use Rattle.xd_laws.specs.Early.{has_collection, is_collection}
 use Rattle.xd_laws.proofs.Logic.{differ, split-and}
+use Rattle.xd_laws.proofs.Places.{no-crash}
 use Rattle.xd_laws.proofs.Placed.{head_among, one_item}
 use Rattle.xd_laws.proofs.Walk.{Keeps, reports-more}
 
@@ -73,7 +74,7 @@ early-said settings s es (Back w is) h rs k =
 early-said settings s es (Finished w) h rs k = early-more settings s (moved s (Finished w)) es (Finished w) (left-none w s.books.table.rota) (λ r. refl) rs k
 early-said settings s es (Refused w t) h rs k = early-more settings s (moved s (Refused w t)) es (Refused w t) (λ r. r) (λ r. refl) rs k
 early-said settings s es (Down w c o) h rs k =
-    early-more settings s (moved s (Down w c o)) es (Down w c o) (left-none w s.books.table.rota) (λ r. ap (λ (ss : List Seat). map (λ item. Crash w item) (take 1 (held_in w ss))) r) rs k
+    early-more settings s (moved s (Down w c o)) es (Down w c o) (left-none w s.books.table.rota) (λ r. ap (λ (ss : List Seat). map (λ item. Crash w item) (crash_item (is_retry w s.books) (held_in w ss))) r ∙ ap (λ (items : List ℕ). map (λ item. Crash w item) items) (no-crash (is_retry w s.books))) rs k
 early-said settings s es (NotStarted w) h rs k = early-more settings s (moved s (NotStarted w)) es (NotStarted w) (left-none w s.books.table.rota) (λ r. refl) rs k
 early-said settings s es (Start w slot) h rs k = absurd (differ h)
 early-said settings s es (Run w is) h rs k = absurd (differ h)

@@ -17,6 +17,7 @@ use Rattle.xd_ledger.specs.Books.{marked}
 use Rattle.xd_ledger.specs.Workers.{is_shut, slot_of, made_ready, made_collected, made_gone}
 use Rattle.xd_ledger.specs.Collections.{unequal, listed, with_list}
 use Rattle.xd_ledger.specs.Stops.{is_stopped, or_stop, stopped_by, at_limit, out_of_restarts}
+use Rattle.xd_ledger.specs.Retry.{is_retry}
 use Rattle.xd_ledger.specs.Sharing.{State, in_books, joining, share_where_full, shared_now, sizes_from, is_full}
 use Rattle.xd_ledger.specs.State.{moved, collecting, completed_first, failing, done_stop, gone, buried}
 use Rattle.xd_ledger.specs.Proper.{may_follow}
@@ -98,7 +99,7 @@ calm-collected s w g c =
 
 pub down-unstopped : (w : ℕ) (s : State) → is_stopped (moved s (NotStarted w)).books ≡ false → is_stopped s.books ≡ false
 down-unstopped w s h =
-    let c = gone w (buried w s.books) in
+    let c = gone w (buried w (is_retry w s.books) s.books) in
     unstopped-before s.books.stop (or_stop (at_limit c) (out_of_restarts w c)) h
 
 pub done-unstopped : (s : State) (w i : ℕ) (u : Outcome) (m : ℕ) (o : List ℕ) → is_stopped (moved s (Done w i u m o)).books ≡ false → is_stopped s.books ≡ false

@@ -1,6 +1,6 @@
 -- The laws.
 use Rattle.std.proofs.Common.{◌≡◌, ℕ, subst, Bool, List, true, false, refl, ap, sym, ◌∙◌, arith, ◌≤◌, ◌<◌, [], ◌∷◌, ◌++◌, not, ◌||◌, inl, inr}
-use Rattle.xd_laws.proofs.Spent.{Spent, And, rule-spent}
+use Rattle.xd_laws.proofs.Spent.{Spent, all-spent, begun-spent}
 use Rattle.xd_laws.proofs.Told.{items_told, told-all}
 use Rattle.xd_laws.proofs.Places.{times-table}
 use Rattle.xd_laws.proofs.Crew.{has}
@@ -55,20 +55,15 @@ pub record Lawful (settings : Settings) (inputs : List Entry) : Type 0 where
   pub spent : Spent (stepped_all (begun settings) inputs)
   pub told : items_told (reports settings (journal_of settings inputs)) ≡ (stepped_all (begun settings) inputs).books.table.reported
 
-spent-none : (settings : Settings) → Spent (no_one settings)
-spent-none settings = record { spent = λ h k. absurd (differ h) }
-
 by_rule : (X : State → Type 0) → Rule X → (settings : Settings) (inputs : List Entry) → X (no_one settings) → IsProper settings inputs → Lawful settings inputs
-by_rule X plain settings inputs x p =
-    let rule = rule-spent X plain in
-    let b = begun-holds (And X) rule settings (record { also = x; spent = spent-none settings }) in
-    let all = all-hold (And X) rule (begun settings) inputs p.follow b in
+by_rule X rule settings inputs x p =
+    let b = begun-holds X rule settings x in
     record {
-      come = come-journal (And X) rule settings inputs (record { also = x; spent = spent-none settings }) p.follow;
-      order = all-orderly (And X) rule (begun settings) inputs p.follow b;
-      tidy = all.tidy;
-      spent = all.also.spent;
-      told = told-all (And X) rule settings inputs p.follow b;
+      come = come-journal X rule settings inputs x p.follow;
+      order = all-orderly X rule (begun settings) inputs p.follow b;
+      tidy = (all-hold X rule (begun settings) inputs p.follow b).tidy;
+      spent = all-spent X rule (begun settings) inputs p.follow b (begun-spent settings);
+      told = told-all X rule settings inputs p.follow b;
     }
 
 by_mode : (k : ModeKind) (settings : Settings) (inputs : List Entry) → settings.mode ≡ k → IsProper settings inputs → Lawful settings inputs

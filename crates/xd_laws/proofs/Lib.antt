@@ -37,6 +37,20 @@ pub mod Placing
 pub mod Calls
 pub mod Laws
 pub mod Unshared
+pub mod Busy
+pub mod LoadBusy
+pub mod StealBusy
+pub mod Handing
+pub mod ScopeBusy
+pub mod Later
+pub mod Serving
+pub mod ScopeServing
+pub mod Owing
+pub mod Keeping
+pub mod EachServing
+pub mod Going
+pub mod OwingInputs
+pub mod OwingRuns
 pub mod Whole
 mod Rows
 mod WholeRows

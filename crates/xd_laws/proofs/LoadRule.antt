@@ -10,7 +10,7 @@ use Rattle.xd_laws.proofs.Rule.{CallFits, Rule}
 use Rattle.xd_laws.proofs.InMode.{InMode, agrees-in, mode-input, no-queue, turned-in, turned-mode}
 use Rattle.xd_laws.proofs.LoadTurns.{good-refill, good-refill_all, good-share}
 
-load_plain : (s : State) → InMode Load s → IsPlain s.plan.mode
+pub load_plain : (s : State) → InMode Load s → IsPlain s.plan.mode
 load_plain s m = subst IsPlain (sym m) (record { each = refl; scope = refl })
 
 load-good : (s : State) (c : Call) → Tidy s → s.books.shared ≡ true → InMode Load s → CallFits s c → Good s (turned Load c (turn_of s))

@@ -31,7 +31,7 @@ pub good-refill_all : (s : State) (t : Turn) → IsPlain s.plan.mode → Good s 
 good-refill_all s t plain g =
     in_turn-keeps (Good s) (refill 0) (workers_of s.books.table) (λ w u a h. good-refill s 0 w u plain a h) (workers_of t.table) t (rota-all s t g) g
 
-good-guarded : (s : State) (n w : ℕ) (t : Turn) → IsPlain s.plan.mode → InRota s w → Good s t → Good s (give_unless_shut n w t)
+pub good-guarded : (s : State) (n w : ℕ) (t : Turn) → IsPlain s.plan.mode → InRota s w → Good s t → Good s (give_unless_shut n w t)
 good-guarded s n w t plain a g = in_both (Good s) (seat_shut w t.table) t (give_front w n t) (λ h. g) (λ h. good-give_front s w n t plain a g h)
 
 good-dealt : (s : State) (t : Turn) → IsPlain s.plan.mode → Good s t → Good s (dealt t)

@@ -5,6 +5,11 @@ use Rattle.std.specs.Prelude.{if◌then◌else◌, ◌⊎◌}
 pub differ : false ≡ true → ⊥
 differ h = cc
 
+-- nothing is both
+pub clash : (b : Bool) → b ≡ false → b ≡ true → ⊥
+clash true h k = cc
+clash false h k = cc
+
 pub cases_of : (b : Bool) → (b ≡ true) ⊎ (b ≡ false)
 cases_of true = inl refl
 cases_of false = inr refl

@@ -128,7 +128,7 @@ down-fit X rule s w a d t x =
     (λ j k. death-fit X rule now w t x (free-gone ms s.books.settings.workers w d.crew a) (t.crew.below w member))
 
 -- the outputs of an input, where the state behind it is tidy
-own-fit : (X : State → Type 0) → Rule X → (s : State) (e : Entry) → may_follow s e ≡ true → Tidy s → Tidy (moved s e) → X (moved s e) → Fit X (moved s e) (own_outputs s e (moved s e))
+pub own-fit : (X : State → Type 0) → Rule X → (s : State) (e : Entry) → may_follow s e ≡ true → Tidy s → Tidy (moved s e) → X (moved s e) → Fit X (moved s e) (own_outputs s e (moved s e))
 own-fit X rule s (Ready w) h d t x = ready-fit X rule s w h d t x
 own-fit X rule s (Collected w g) h d t x = collected-fit X rule s w g d t x
 own-fit X rule s (Done w i u m o) h d t x = done-fit X rule s w i u m o h d t x
@@ -154,7 +154,7 @@ may-settles s h =
     let a = split-and (not (is_stopped s.books) && s.books.shared) (is_finished s.books.table s.plan) h in
     or-right (is_stopped s.books) s.books.shared (split-and (not (is_stopped s.books)) s.books.shared a.0).1
 
-closing-fit : (X : State → Type 0) → Rule X → (s : State) → Tidy s → X s → Fit X s (closing s)
+pub closing-fit : (X : State → Type 0) → Rule X → (s : State) → Tidy s → X s → Fit X s (closing s)
 closing-fit X rule s d x = in_both (λ (es : List Entry). Fit X s es) (not (is_shutting s.books) && settles s) (shut_all s.books.crew) [] (λ h. fit-shut_all X rule s (may-settles s (split-and (not (is_shutting s.books)) (settles s) h).1) d x) (λ h. fit-none X s d x)
 
 -- all that follows an input

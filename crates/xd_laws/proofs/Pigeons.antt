@@ -1,11 +1,12 @@
 -- As many numbers below a bound as the bound says, none of them twice, are all of them.
 use Rattle.std.proofs.Common.{◌≡◌, ℕ, zero, suc, ◌+◌, ◌≤◌, ◌<◌, List, [], ◌∷◌, length, map, true, false, not, refl, ap, sym, ◌∙◌, arith, inl, inr}
-use Rattle.std.specs.Prelude.{◌==◌, if◌then◌else◌}
+use Rattle.std.specs.Prelude.{◌==◌, nat_lt}
 use Rattle.std.proofs.lemmas.Bool.Decides.{nat_tests}
 use Rattle.xd_ledger.specs.Numbers.{among, all_distinct, times}
+use Rattle.xd_laws.proofs.Counts.{among-times}
 use Rattle.xd_laws.proofs.Logic.{differ, cases_of, split-and, split-or, not_true}
 
-none-among : (x : ℕ) (xs : List ℕ) → among x xs ≡ false → times x xs ≡ 0
+pub none-among : (x : ℕ) (xs : List ℕ) → among x xs ≡ false → times x xs ≡ 0
 none-among x [] h = refl
 none-among x (y ∷ xs) h = grind (arith, nat_tests, none-among x xs)
 
@@ -54,6 +55,22 @@ all-taken k n xs once low full l = elim (cases_of (among k xs)) [
   | inl h ↦ h
   | inr h ↦ (let gap = tally-gap k n xs once (none-among k xs h) l in absurd (omega (arith, gap, tally-all n xs low, full)))
 ]
+
+-- a list in which each number below a bound stands is as long as the bound at least
+
+tally-high : (n : ℕ) (xs : List ℕ) → ((k : ℕ) → k < n → among k xs ≡ true) → n ≤ tally n xs
+tally-high zero xs h = omega arith
+tally-high (suc n) xs h = omega (arith, among-times n xs (h n (omega arith)), tally-high n xs (λ k l. h k (omega (arith, l))))
+
+tally-most : (n : ℕ) (xs : List ℕ) → tally n xs ≤ length xs
+tally-most n [] = omega (arith, tally-none n)
+tally-most n (y ∷ ys) = elim (cases_of (nat_lt y n)) [
+  | inl h ↦ (let low : y < n = grind (arith, nat_tests, h) in omega (arith, tally-below n y ys low, tally-most n ys))
+  | inr h ↦ (let high : n ≤ y = grind (arith, nat_tests, h) in omega (arith, tally-above n y ys high, tally-most n ys))
+]
+
+pub as-many : (n : ℕ) (xs : List ℕ) → ((k : ℕ) → k < n → among k xs ≡ true) → n ≤ length xs
+as-many n xs h = omega (arith, tally-high n xs h, tally-most n xs)
 
 -- images
 

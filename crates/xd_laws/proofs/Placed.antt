@@ -18,6 +18,7 @@ use Rattle.xd_ledger.specs.Books.{marked}
 use Rattle.xd_ledger.specs.Workers.{is_active, was_ready, has_collected, is_shut, slot_of, made_collected}
 use Rattle.xd_ledger.specs.Collections.{unequal, listed, with_list}
 use Rattle.xd_ledger.specs.Stops.{stopped_by}
+use Rattle.xd_ledger.specs.Retry.{is_retry}
 use Rattle.xd_ledger.specs.Sharing.{State, in_books, joining, share_where_full, shared_now, is_full}
 use Rattle.xd_ledger.specs.State.{moved, collecting, completed_first, steal_without}
 use Rattle.xd_ledger.specs.Proper.{may_follow, may_give_back, is_head, are_ids}
@@ -182,8 +183,8 @@ steals-without w b (Some a) k = in_both (StealFits b) (a.worker == w) None (Some
 
 pub placed-down : (s : State) (w : ℕ) → Placed s → Placed (moved s (NotStarted w))
 placed-down s w k = record {
-  fits = fits-gone s.books.table (died w s.books.table) s.books.crew w refl k.fits;
-  whole = λ x. died-keeps x w s.books.table (k.fits.seats w) ∙ k.whole x;
+  fits = fits-gone s.books.table (died w (is_retry w s.books) s.books.table) s.books.crew w refl k.fits;
+  whole = λ x. died-keeps x w (is_retry w s.books) s.books.table (k.fits.seats w) ∙ k.whole x;
   steals = steals-without w s.books.shared s.plan.steal k.steals;
 }
 

@@ -1,9 +1,9 @@
 -- Each move of the table keeps every item once.
-use Rattle.std.proofs.Common.{◌≡◌, ℕ, ◌+◌, ◌≤◌, List, [], ◌∷◌, ◌++◌, take, drop, true, false, refl, ap, arith}
+use Rattle.std.proofs.Common.{◌≡◌, ℕ, ◌+◌, ◌≤◌, List, [], ◌∷◌, ◌++◌, drop, Bool, true, false, refl, ap, arith}
 use Rattle.std.proofs.lemmas.Bool.Decides.{nat_tests}
 use Rattle.xd_ledger.specs.declared.seat.Seat.{Seat}
 use Rattle.xd_ledger.specs.Numbers.{among, without, all_distinct, all_among, times}
-use Rattle.xd_ledger.specs.Table.{Table, held, held_in, held_by_all, all_items, assigned, completed, given_back, left, died, joined, at_seat, without_seat}
+use Rattle.xd_ledger.specs.Table.{Table, crash_item, held, held_in, held_by_all, all_items, retried_item, assigned, completed, given_back, left, died, joined, at_seat, without_seat}
 use Rattle.xd_laws.proofs.Counts.{times-append, times-without, times-distinct, times-cut, among-times, among_of-all_among}
 use Rattle.xd_laws.proofs.Rota.{seats_of}
 
@@ -71,9 +71,34 @@ pub none_back-keeps : (x w : ℕ) (t : Table) → seats_of w t.rota ≡ 0 → ti
 none_back-keeps x w t h =
     omega (arith, times-table x t, times-table x (given_back w [] t), held-no_seat x w (λ s. record s { held = without [] s.held }) t.rota h, times-append x t.pool [])
 
-pub died-keeps : (x w : ℕ) (t : Table) → seats_of w t.rota ≤ 1 → times x (all_items (died w t)) ≡ times x (all_items t)
-died-keeps x w t seat =
-    omega (arith, times-table x t, times-table x (died w t), held-but_one x w t.rota seat, times-cut x (held w t), times-append x t.pool (drop 1 (held w t)), times-append x t.reported (take 1 (held w t)))
+-- the items of a worker that goes are the head, which is tried again or is not, and the rest
+pub times-apart : (x : ℕ) (retry : Bool) (xs : List ℕ) → times x (retried_item retry xs) + (times x (crash_item retry xs) + times x (drop 1 xs)) ≡ times x xs
+times-apart x true xs = omega (arith, times-cut x xs)
+times-apart x false xs = omega (arith, times-cut x xs)
+
+-- where nothing is held nothing is tried again, and nothing crashes
+
+pub no-retried : (retry : Bool) → retried_item retry [] ≡ []
+no-retried true = refl
+no-retried false = refl
+
+pub no-crash : (retry : Bool) → crash_item retry [] ≡ []
+no-crash true = refl
+no-crash false = refl
+
+pub died-keeps : (x w : ℕ) (retry : Bool) (t : Table) → seats_of w t.rota ≤ 1 → times x (all_items (died w retry t)) ≡ times x (all_items t)
+died-keeps x w retry t seat =
+    let items = held w t in
+    omega (
+      arith,
+      times-table x t,
+      times-table x (died w retry t),
+      held-but_one x w t.rota seat,
+      times-apart x retry items,
+      times-append x (retried_item retry items) (t.pool ++ drop 1 items),
+      times-append x t.pool (drop 1 items),
+      times-append x t.reported (crash_item retry items),
+    )
 
 -- a worker that holds nothing leaves
 pub left-keeps : (x w : ℕ) (t : Table) → seats_of w t.rota ≤ 1 → held w t ≡ [] → times x (all_items (left w t)) ≡ times x (all_items t)

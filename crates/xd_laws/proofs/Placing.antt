@@ -1,27 +1,26 @@
 -- The last entry that moves an item decides its place.
-use Rattle.std.proofs.Common.{◌≡◌, ℕ, ◌+◌, ◌≤◌, ◌<◌, List, [], ◌∷◌, ◌++◌, length, take, drop, Bool, true, false, not, ◌&&◌, refl, ap, sym, ◌∙◌, subst, arith, inl, inr}
+use Rattle.std.proofs.Common.{◌≡◌, ℕ, ◌+◌, ◌≤◌, List, [], ◌∷◌, ◌++◌, length, take, drop, Bool, true, false, not, ◌&&◌, refl, ap, sym, ◌∙◌, subst, arith, inl, inr}
 use Rattle.std.specs.Prelude.{◌==◌, if◌then◌else◌, nat_lt, Option, Some, None}
 use Rattle.std.specs.List.{range_with_len}
 use Rattle.std.proofs.lemmas.Bool.Decides.{nat_tests}
 use Rattle.xd_journal.specs.declared.settings.Settings.{Settings}
 use Rattle.xd_journal.specs.declared.entry.Ids.{Ids}
-use Rattle.xd_journal.specs.declared.entry.Outcome.{Outcome}
 use Rattle.xd_journal.specs.declared.entry.Entry.{Entry}
 use Rattle.xd_journal.specs.declared.entry.Entry.TheVariants.{Ready, Collected, Done, Back, Finished, Refused, Down, NotStarted, Start, Run, RunAll, Steal, Shutdown, Kill, Over}
 use Rattle.xd_ledger.specs.declared.seat.Seat.{Seat}
 use Rattle.xd_ledger.specs.Numbers.{all_among, all_distinct, among, times, without}
-use Rattle.xd_ledger.specs.Table.{Table, all_items, assigned, at_seat, died, given_back, held, held_in, in_rota, joined, left, without_seat}
+use Rattle.xd_ledger.specs.Table.{Table, all_items, assigned, at_seat, crash_item, died, given_back, held, held_in, in_rota, joined, left, retried_item, without_seat}
 use Rattle.xd_ledger.specs.Plan.{base, is_each, items_named, slot_items, total}
 use Rattle.xd_ledger.specs.Books.{marked}
 use Rattle.xd_ledger.specs.Workers.{has_collected, is_active, is_shut, made_collected, slot_of}
 use Rattle.xd_ledger.specs.Collections.{listed, unequal, with_list}
-use Rattle.xd_ledger.specs.Stops.{stopped_by}
+use Rattle.xd_ledger.specs.Retry.{is_retry}
 use Rattle.xd_ledger.specs.Sharing.{State, in_books, shared_now}
 use Rattle.xd_ledger.specs.State.{all_moved, completed_first, moved, next, no_one, reached}
 use Rattle.xd_ledger.specs.Proper.{may_follow}
 use Rattle.xd_ledger.specs.Orderly.{is_orderly, may_run, not_empty}
-use Rattle.xd_laws.specs.Places.{HeldBy, InPool, Place, Reported, StandsAt, brings_share, or_before, place_by, put_last, puts}
-use Rattle.xd_laws.proofs.Logic.{cases_of, differ, in_both, split-and}
+use Rattle.xd_laws.specs.Places.{HeldBy, InPool, Place, Reported, StandsAt, or_before, place_by, put_last, puts}
+use Rattle.xd_laws.proofs.Logic.{cases_of, differ, split-and}
 use Rattle.xd_laws.proofs.Counts.{among-in_range, among-times, times-among, times-append, times-behind_range, times-cut, times-without}
 use Rattle.xd_laws.proofs.Rota.{has_seat, seat-of_held}
 use Rattle.xd_laws.proofs.Places.{held-within, joined-keeps, times-table}
@@ -143,24 +142,31 @@ not-held x xs a b = elim (cases_of (among x xs)) [
     not-among y [] h = refl
     not-among y (z ∷ zs) h = grind (arith, nat_tests, not-among y zs)
 
-leaves-died : (t : Table) (x w : ℕ) → among x (held w t) ≡ false → times x (all_items (died w t)) ≡ times x (all_items t) → Leaves t (died w t) x
-leaves-died t x w n e = record {
-  pool = among-more x t.pool (drop 1 (held w t));
+leaves-died : (t : Table) (x w : ℕ) (retry : Bool) → among x (held w t) ≡ false → times x (all_items (died w retry t)) ≡ times x (all_items t) → Leaves t (died w retry t) x
+leaves-died t x w retry n e = record {
+  pool = λ k. among-last x (retried_item retry (held w t)) (t.pool ++ drop 1 (held w t)) (among-more x t.pool (drop 1 (held w t)) k);
   held = λ v. held-after_left x v w t.rota n;
-  reported = among-more x t.reported (take 1 (held w t));
+  reported = among-more x t.reported (crash_item retry (held w t));
   none = e;
 }
 
-stands-died : (t : Table) (x w : ℕ) (p : Option Place) → times x (all_items (died w t)) ≡ times x (all_items t) → StandsAt t x p
-    → StandsAt (died w t) x (or_before (if among x (take 1 (held w t)) then Some Reported else (if among x (drop 1 (held w t)) then Some InPool else None)) p)
-stands-died t x w p e h = by (among x (take 1 (held w t))) refl
-  where
-    rest : (c : Bool) → among x (take 1 (held w t)) ≡ false → among x (drop 1 (held w t)) ≡ c → StandsAt (died w t) x (or_before (if c then Some InPool else None) p)
-    rest true a b = among-last x t.pool (drop 1 (held w t)) b
-    rest false a b = stands-left t (died w t) x p (leaves-died t x w (not-held x (held w t) a b) e) h
+-- the head comes to the pool where it is tried again, else it is reported
+stands-head : (t : Table) (x w : ℕ) (retry : Bool) → among x (take 1 (held w t)) ≡ true → StandsAt (died w retry t) x (Some (if retry then InPool else Reported))
+stands-head t x w true a = among-more x (take 1 (held w t)) (t.pool ++ drop 1 (held w t)) a
+stands-head t x w false a = among-last x t.reported (take 1 (held w t)) a
 
-    by : (c : Bool) → among x (take 1 (held w t)) ≡ c → StandsAt (died w t) x (or_before (if c then Some Reported else (if among x (drop 1 (held w t)) then Some InPool else None)) p)
-    by true a = among-last x t.reported (take 1 (held w t)) a
+stands-died : (t : Table) (x w : ℕ) (retry : Bool) (p : Option Place) → times x (all_items (died w retry t)) ≡ times x (all_items t) → StandsAt t x p
+    → StandsAt (died w retry t) x
+    (or_before (if among x (take 1 (held w t)) then Some (if retry then InPool else Reported) else (if among x (drop 1 (held w t)) then Some InPool else None)) p)
+stands-died t x w retry p e h = by (among x (take 1 (held w t))) refl
+  where
+    rest : (c : Bool) → among x (take 1 (held w t)) ≡ false → among x (drop 1 (held w t)) ≡ c → StandsAt (died w retry t) x (or_before (if c then Some InPool else None) p)
+    rest true a b = among-last x (retried_item retry (held w t)) (t.pool ++ drop 1 (held w t)) (among-last x t.pool (drop 1 (held w t)) b)
+    rest false a b = stands-left t (died w retry t) x p (leaves-died t x w retry (not-held x (held w t) a b) e) h
+
+    by : (c : Bool) → among x (take 1 (held w t)) ≡ c
+        → StandsAt (died w retry t) x (or_before (if c then Some (if retry then InPool else Reported) else (if among x (drop 1 (held w t)) then Some InPool else None)) p)
+    by true a = stands-head t x w retry a
     by false a = rest (among x (drop 1 (held w t))) a refl
 
 none-in_none : (x : ℕ) (xs : List ℕ) → xs ≡ [] → among x xs ≡ false
@@ -246,10 +252,10 @@ stands-said s (Finished w) x p d h k =
     stands-left s.books.table (left w s.books.table) x p
     (leaves-gone s.books.table x w (empty_of (held w s.books.table) a.1) (same-times s (moved s (Finished w)) x d.placed (tidy-input s (Finished w) h d).placed refl refl)) k
 stands-said s (Refused w t) x p d h k = k
-stands-said s (Down w c o) x p d h k = stands-died s.books.table x w p (same-times s (moved s (Down w c o)) x d.placed (tidy-input s (Down w c o) h d).placed refl refl) k
+stands-said s (Down w c o) x p d h k = stands-died s.books.table x w (is_retry w s.books) p (same-times s (moved s (Down w c o)) x d.placed (tidy-input s (Down w c o) h d).placed refl refl) k
 stands-said s (NotStarted w) x p d h k =
-    stands-left s.books.table (died w s.books.table) x p
-    (leaves-died s.books.table x w (none-in_none x (held w s.books.table) (none-held s w d.placed h)) (same-times s (moved s (NotStarted w)) x d.placed (tidy-input s (NotStarted w) h d).placed refl refl)) k
+    stands-left s.books.table (died w (is_retry w s.books) s.books.table) x p
+    (leaves-died s.books.table x w (is_retry w s.books) (none-in_none x (held w s.books.table) (none-held s w d.placed h)) (same-times s (moved s (NotStarted w)) x d.placed (tidy-input s (NotStarted w) h d).placed refl refl)) k
 stands-said s (Start w slot) x p d h k = absurd (differ h)
 stands-said s (Run w is) x p d h k = absurd (differ h)
 stands-said s (RunAll w) x p d h k = absurd (differ h)

@@ -1,14 +1,14 @@
 -- The queue of units fits the table, whatever happens to them.
-use Rattle.std.proofs.Common.{◌≡◌, ℕ, ◌+◌, ◌≤◌, List, [], ◌∷◌, ◌++◌, take, drop, Bool, true, false, not, ◌&&◌, refl, ap, sym, ◌∙◌, subst, arith, inl, inr}
+use Rattle.std.proofs.Common.{◌≡◌, ℕ, ◌+◌, ◌≤◌, List, [], ◌∷◌, ◌++◌, drop, Bool, true, false, not, ◌&&◌, refl, ap, sym, ◌∙◌, subst, arith, inl, inr}
 use Rattle.std.specs.Prelude.{if◌then◌else◌, ◌==◌, None}
 use Rattle.std.proofs.lemmas.Bool.Decides.{nat_tests}
 use Rattle.std.proofs.lemmas.List.{append-nil}
 use Rattle.xd_ledger.specs.declared.seat.Seat.{Seat}
 use Rattle.xd_ledger.specs.declared.member.Member.{Member}
 use Rattle.xd_ledger.specs.Numbers.{among, without, times}
-use Rattle.xd_ledger.specs.Table.{Table, held, held_in, in_rota, at_seat, without_seat, assigned, completed, left, died, joined, shut_down}
+use Rattle.xd_ledger.specs.Table.{Table, crash_item, held, held_in, in_rota, at_seat, without_seat, assigned, completed, left, died, joined, retried_item, shut_down}
 use Rattle.xd_ledger.specs.Plan.{Plan, Handed}
-use Rattle.xd_ledger.specs.Units.{units_left}
+use Rattle.xd_ledger.specs.Units.{units_left, unless_empty}
 use Rattle.xd_ledger.specs.Orderly.{not_empty}
 use Rattle.xd_ledger.specs.Suits.{tests_of}
 use Rattle.xd_laws.proofs.Logic.{differ, cases_of, split-and, split-or, not_true}
@@ -16,7 +16,7 @@ use Rattle.xd_laws.proofs.Counts.{times-append, times-without, among-times}
 use Rattle.xd_laws.proofs.Rota.{has_seat, seat-change, seat-left, seat-joined}
 use Rattle.xd_laws.proofs.Places.{AtMostOnce, times-table, held-within}
 use Rattle.xd_laws.proofs.Crew.{has}
-use Rattle.xd_laws.proofs.Units.{none_empty, tests-append, none_empty-append, given_to, given-more, tests-left, none_empty-left}
+use Rattle.xd_laws.proofs.Units.{none_empty, tests-append, none_empty-append, given_to, given-more, tests-left, none_empty-left, none_empty-unless, times-unless_empty}
 
 -- what one worker holds
 
@@ -133,18 +133,30 @@ left-within x w t p ms once q = elim (cases_of (in_rota w t)) [
 ]
 
 -- the plan of a mode with scopes behind a death
-abbrev pub buried_plan : ℕ → List ℕ → Plan → Plan
-buried_plan w rest p = record p { queue = p.queue ++ units_left w rest p.given; steal = None }
+abbrev pub buried_plan : ℕ → List ℕ → List ℕ → Plan → Plan
+buried_plan w retried rest p = record p { queue = unless_empty retried ++ (p.queue ++ units_left w rest p.given); steal = None }
 
-pub queue-died : (t : Table) (p : Plan) (ms : List Member) (w : ℕ) → AtMostOnce t → QueueFits t p ms → QueueFits (died w t) (buried_plan w (drop 1 (held w t)) p) ms
-queue-died t p ms w once q =
+pub queue-died : (t : Table) (p : Plan) (ms : List Member) (w : ℕ) (retry : Bool) → AtMostOnce t → QueueFits t p ms
+    → QueueFits (died w retry t) (buried_plan w (retried_item retry (held w t)) (drop 1 (held w t)) p) ms
+queue-died t p ms w retry once q =
+    let first = retried_item retry (held w t) in
     let rest = drop 1 (held w t) in
+    let left = units_left w rest p.given in
     record {
-      whole = λ x. omega (arith, tests-append x p.queue (units_left w rest p.given), left-within x w t p ms once q, q.whole x, times-append x t.pool rest);
-      filled = none_empty-append p.queue (units_left w rest p.given) q.filled (none_empty-left w rest p.given);
+      whole = λ x. omega (
+        arith,
+        tests-append x (unless_empty first) (p.queue ++ left),
+        times-unless_empty x first,
+        tests-append x p.queue left,
+        left-within x w t p ms once q,
+        q.whole x,
+        times-append x first (t.pool ++ rest),
+        times-append x t.pool rest,
+      );
+      filled = none_empty-append (unless_empty first) (p.queue ++ left) (none_empty-unless first) (none_empty-append p.queue left q.filled (none_empty-left w rest p.given));
       given = λ v x h. (let s = stays v w t.rota h in
           let e : times x (held_in v (without_seat w t.rota)) ≡ times x (held v t) = ap (λ (xs : List ℕ). times x xs) (held-left v w t.rota s.0) in
-          let k = q.given v x s.1 in omega (arith, e, k, times-append x t.reported (take 1 (held w t))));
+          let k = q.given v x s.1 in omega (arith, e, k, times-append x t.reported (crash_item retry (held w t))));
       late = q.late;
       steal = refl;
     }

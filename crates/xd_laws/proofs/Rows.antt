@@ -1,7 +1,7 @@
 -- A worked run that the laws speak of: it is proper, it is over without a stop, and its reports are of all its tests.
 -- Behind it stands what the laws rule out.
-use Rattle.std.specs.Prelude.{◌≡◌, ℕ, List, [], ◌∷◌, true, false, Some, None, map}
-use Rattle.std.proofs.Common.{refl, arith, ◌<◌, ◌≤◌, take}
+use Rattle.std.specs.Prelude.{◌≡◌, List, [], ◌∷◌, true, false, None}
+use Rattle.std.proofs.Common.{refl, arith, ◌≤◌, take}
 use Rattle.xd_edge.specs.declared.mode.ModeKind.TheVariants.{Load}
 use Rattle.xd_journal.specs.declared.settings.Settings.{Settings}
 use Rattle.xd_journal.specs.declared.entry.Ids.TheVariants as ids
@@ -22,7 +22,7 @@ use Rattle.xd_ledger.specs.Reports.{reports, Result, Crash}
 
 -- mode load with two workers, and three tests
 abbrev pub three : Settings
-three = record { mode = Load; workers = 2; maxfail = 0; restarts = 8; chunk = None; reorder = true }
+three = record { mode = Load; workers = 2; maxfail = 0; restarts = 8; chunk = None; reorder = true; retries = 0 }
 
 -- worker 0 goes down at its first test, and worker 2 comes in its place
 abbrev pub a_death : List Entry

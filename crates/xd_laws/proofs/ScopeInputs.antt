@@ -8,12 +8,13 @@ use Rattle.xd_journal.specs.declared.entry.Entry.TheVariants.{Ready, Collected, 
 use Rattle.xd_ledger.specs.declared.member.Member.{Member}
 use Rattle.xd_ledger.specs.declared.member.Listed.{Listed}
 use Rattle.xd_ledger.specs.Numbers.{times}
-use Rattle.xd_ledger.specs.Table.{Table, held, died, joined}
+use Rattle.xd_ledger.specs.Table.{Table, held, died, joined, retried_item}
 use Rattle.xd_ledger.specs.Plan.{Plan, is_each, is_scope, items_named}
 use Rattle.xd_ledger.specs.Units.{units}
 use Rattle.xd_ledger.specs.Books.{marked}
 use Rattle.xd_ledger.specs.Workers.{is_active, was_ready, has_collected, slot_of, started, made_ready, made_collected, made_shut, made_gone}
 use Rattle.xd_ledger.specs.Collections.{unequal, listed, with_list}
+use Rattle.xd_ledger.specs.Retry.{is_retry}
 use Rattle.xd_ledger.specs.Sharing.{State, in_books, ids_at, planned, shared_now}
 use Rattle.xd_ledger.specs.State.{moved, completed_first, down_plan}
 use Rattle.xd_ledger.specs.Proper.{may_follow, are_ids}
@@ -45,10 +46,10 @@ before_collected w ms v h = elim (cases_of (has v (λ m. m.collected) ms)) [
 
 -- the tests are shared
 
-planned-queue : (ls : List Listed) (n : ℕ) (p : Plan) → is_scope p.mode ≡ true → (planned ls n p).queue ≡ units p.mode p.reorder (ids_at 0 ls)
+pub planned-queue : (ls : List Listed) (n : ℕ) (p : Plan) → is_scope p.mode ≡ true → (planned ls n p).queue ≡ units p.mode p.reorder (ids_at 0 ls)
 planned-queue ls n p h = rw h
 
-planned-sizes : (ls : List Listed) (n : ℕ) (p : Plan) → is_each p.mode ≡ false → (planned ls n p).sizes ≡ length (ids_at 0 ls) ∷ []
+pub planned-sizes : (ls : List Listed) (n : ℕ) (p : Plan) → is_each p.mode ≡ false → (planned ls n p).sizes ≡ length (ids_at 0 ls) ∷ []
 planned-sizes ls n p h = rw h
 
 queue-shared : (s : State) → Scoped s → QueueFits (shared_now s).books.table (shared_now s).plan (shared_now s).books.crew
@@ -93,17 +94,20 @@ queue-first t p ms w (i ∷ is) once q = queue-completed t p ms w i once q
 
 -- a worker goes
 
-plan-down : (w : ℕ) (rest : List ℕ) (p : Plan) → is_scope p.mode ≡ true → p.steal ≡ None → down_plan w rest p ≡ buried_plan w rest p
-plan-down w rest p h k = rw (h, k)
+plan-down : (w : ℕ) (retried rest : List ℕ) (p : Plan) → is_scope p.mode ≡ true → p.steal ≡ None → down_plan w retried rest p ≡ buried_plan w retried rest p
+plan-down w retried rest p h k = rw (h, k)
 
 scoped-down : (s : State) (w : ℕ) → Tidy s → Scoped s → Scoped (moved s (NotStarted w))
 scoped-down s w d k =
     let ms = s.books.crew in
     let t = s.books.table in
+    let retry = is_retry w s.books in
+    let first = retried_item retry (held w t) in
+    let rest = drop 1 (held w t) in
     record {
       mode = record { scope = k.mode.scope; each = k.mode.each };
-      queue = subst (λ (p : Plan). QueueFits (died w t) p (map (made_gone w) ms)) (sym (plan-down w (drop 1 (held w t)) s.plan k.mode.scope k.queue.steal))
-          (queue-crew (died w t) (buried_plan w (drop 1 (held w t)) s.plan) ms (map (made_gone w) ms) (same_collected (made_gone w) ms (λ m. refl) (λ m. refl)) (queue-died t s.plan ms w (at_most_once s d.placed) k.queue));
+      queue = subst (λ (p : Plan). QueueFits (died w retry t) p (map (made_gone w) ms)) (sym (plan-down w first rest s.plan k.mode.scope k.queue.steal))
+          (queue-crew (died w retry t) (buried_plan w first rest s.plan) ms (map (made_gone w) ms) (same_collected (made_gone w) ms (λ m. refl) (λ m. refl)) (queue-died t s.plan ms w retry (at_most_once s d.placed) k.queue));
     }
 
 pub scoped-input : (s : State) (e : Entry) → may_follow s e ≡ true → Tidy s → Scoped s → Scoped (moved s e)

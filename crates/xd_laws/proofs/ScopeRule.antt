@@ -19,7 +19,7 @@ use Rattle.xd_laws.proofs.Queue.{QueueFits, queue-crew}
 use Rattle.xd_laws.proofs.ScopeTurns.{IsScoped, Fine, fine-share, fine-refill, fine-refill_all}
 use Rattle.xd_laws.proofs.ScopeInputs.{Scoped, scoped-input, scoped-start, scoped-shutdown}
 
-turned-scope : (k : ModeKind) (c : Call) (t : Turn) → is_scope k ≡ true → turned k c t ≡ scope_turn c t
+pub turned-scope : (k : ModeKind) (c : Call) (t : Turn) → is_scope k ≡ true → turned k c t ≡ scope_turn c t
 turned-scope Local c t h = absurd (differ h)
 turned-scope Each c t h = absurd (differ h)
 turned-scope Load c t h = absurd (differ h)
@@ -28,7 +28,7 @@ turned-scope LoadFile c t h = refl
 turned-scope LoadGroup c t h = refl
 turned-scope WorkSteal c t h = absurd (differ h)
 
-scope-fine : (s : State) (c : Call) → Tidy s → s.books.shared ≡ true → Scoped s → CallFits s c → Fine s (scope_turn c (turn_of s))
+pub scope-fine : (s : State) (c : Call) → Tidy s → s.books.shared ≡ true → Scoped s → CallFits s c → Fine s (scope_turn c (turn_of s))
 scope-fine s (Share slots) d h k f = fine-share s k.mode d (λ v a. sym (d.placed.fits.marks v (seat-among v s.books.table.rota ∙ a)) ∙ f.unshut v) (record { good = good-first s d h; queue = k.queue })
 scope-fine s (Joined w slot) d h k f = fine-refill_all s k.mode (record { good = good-first s d h; queue = k.queue })
 scope-fine s (TestDone w ms) d h k f = fine-refill s w (turn_of s) k.mode f (record { good = good-first s d h; queue = k.queue })

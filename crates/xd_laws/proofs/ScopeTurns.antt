@@ -44,7 +44,7 @@ fine-shut s w t a f = record {
       (λ h. f.queue) (λ h. queue-shut t.table t.plan s.books.crew w f.queue);
 }
 
-fine-shut_each : (s : State) (ws : List ℕ) (t : Turn) → all_among ws (workers_of s.books.table) ≡ true → Fine s t → Fine s (shut_each ws t)
+pub fine-shut_each : (s : State) (ws : List ℕ) (t : Turn) → all_among ws (workers_of s.books.table) ≡ true → Fine s t → Fine s (shut_each ws t)
 fine-shut_each s ws t h f = in_turn-keeps (Fine s) shut (workers_of s.books.table) (fine-shut s) ws t h f
 
 -- a unit is handed out
@@ -62,7 +62,7 @@ plan-scope : (w : ℕ) (u : List ℕ) (us : List (List ℕ)) (p : Plan) → is_s
 plan-scope w u us p h e = run-scope w u p h ∙ ap (λ (q : List (List ℕ)). handed_out w u q p) (ap (λ (q : List (List ℕ)). without_unit u q) e ∙ without-first u us)
 
 -- the turn behind the first unit
-abbrev with_unit : ℕ → List ℕ → List (List ℕ) → Turn → Turn
+abbrev pub with_unit : ℕ → List ℕ → List (List ℕ) → Turn → Turn
 with_unit w u us t = record { table = assigned w u t.table; plan = handed_out w u us t.plan; acts = t.acts ++ Run w u ∷ [] }
 
 fine-unit : (s : State) (w : ℕ) (u : List ℕ) (us : List (List ℕ)) (t : Turn) → IsScoped s → InRota s w → Fine s t → seat_shut w t.table ≡ false → t.plan.queue ≡ u ∷ us → Fine s (with_unit w u us t)
@@ -92,14 +92,14 @@ unit-by : (s : State) (w : ℕ) (q : List (List ℕ)) (t : Turn) → IsScoped s 
 unit-by s w [] t k a f unshut e = f
 unit-by s w (u ∷ us) t k a f unshut e = fine-unit s w u us t k a f unshut e
 
-fine-give_unit : (s : State) (w : ℕ) (t : Turn) → IsScoped s → InRota s w → Fine s t → seat_shut w t.table ≡ false → Fine s (give_unit w t)
+pub fine-give_unit : (s : State) (w : ℕ) (t : Turn) → IsScoped s → InRota s w → Fine s t → seat_shut w t.table ≡ false → Fine s (give_unit w t)
 fine-give_unit s w t k a f unshut = unit-by s w t.plan.queue t k a f unshut refl
 
 told-by : (v w : ℕ) (q : List (List ℕ)) (t : Turn) → seat_shut v (elim q as (λ _. Turn) [ [] ↦ t | u ∷ us ↦ with_unit w u us t ]).table ≡ seat_shut v t.table
 told-by v w [] t = refl
 told-by v w (u ∷ us) t = told-change v w (λ s. record s { held = s.held ++ u }) t.table.rota (λ s. refl) (λ s. refl)
 
-told-give_unit : (v w : ℕ) (t : Turn) → seat_shut v (give_unit w t).table ≡ seat_shut v t.table
+pub told-give_unit : (v w : ℕ) (t : Turn) → seat_shut v (give_unit w t).table ≡ seat_shut v t.table
 told-give_unit v w t = told-by v w t.plan.queue t
 
 -- a worker is refilled
@@ -133,11 +133,11 @@ spent-by s [] t f = fine-shut_each s (workers_of t.table) t (ap (λ (ws : List �
 spent-by s (u ∷ us) t f = f
 
 -- a turn in which those may still be told
-record FineFor (s : State) (ws : List ℕ) (t : Turn) : Type 0 where
-  fine : Fine s t
-  untold : (v : ℕ) → among v ws ≡ true → seat_shut v t.table ≡ false
+pub record FineFor (s : State) (ws : List ℕ) (t : Turn) : Type 0 where
+  pub fine : Fine s t
+  pub untold : (v : ℕ) → among v ws ≡ true → seat_shut v t.table ≡ false
 
-fine-units : (s : State) (ws : List ℕ) (t : Turn) → IsScoped s → all_among ws (workers_of s.books.table) ≡ true → FineFor s ws t → FineFor s ws (in_turn give_unit ws t)
+pub fine-units : (s : State) (ws : List ℕ) (t : Turn) → IsScoped s → all_among ws (workers_of s.books.table) ≡ true → FineFor s ws t → FineFor s ws (in_turn give_unit ws t)
 fine-units s ws t k h f =
     in_turn-keeps (FineFor s ws) give_unit ws
     (λ w u a g. record {
@@ -145,7 +145,7 @@ fine-units s ws t k h f =
       untold = λ v b. told-give_unit v w u ∙ g.untold v b;
     }) ws t (all_among-self ws) f
 
-told-others : (v : ℕ) (ws : List ℕ) (t : Turn) → among v ws ≡ false → seat_shut v (shut_each ws t).table ≡ seat_shut v t.table
+pub told-others : (v : ℕ) (ws : List ℕ) (t : Turn) → among v ws ≡ false → seat_shut v (shut_each ws t).table ≡ seat_shut v t.table
 told-others v [] t h = refl
 told-others v (w ∷ ws) t h =
     let other : (v == w) ≡ false = grind (arith, nat_tests, h) in
@@ -155,12 +155,12 @@ among-join : (x : ℕ) (xs ys : List ℕ) → among x (xs ++ ys) ≡ (among x xs
 among-join x [] ys = refl
 among-join x (y ∷ xs) ys = grind (arith, nat_tests, among-join x xs ys)
 
-among-reverse : (x : ℕ) (xs : List ℕ) → among x (reverse xs) ≡ among x xs
+pub among-reverse : (x : ℕ) (xs : List ℕ) → among x (reverse xs) ≡ among x xs
 among-reverse x [] = refl
 among-reverse x (y ∷ xs) = ap (λ (zs : List ℕ). among x zs) (reverse-append (y ∷ []) xs) ∙ among-join x (reverse xs) (y ∷ []) ∙ grind (arith, nat_tests, among-reverse x xs)
 
 -- who stands in front does not stand behind
-front-only : (v n : ℕ) (ws : List ℕ) → all_distinct ws ≡ true → among v (take n ws) ≡ true → among v (drop n ws) ≡ false
+pub front-only : (v n : ℕ) (ws : List ℕ) → all_distinct ws ≡ true → among v (take n ws) ≡ true → among v (drop n ws) ≡ false
 front-only v zero ws d h = absurd (differ h)
 front-only v (suc n) [] d h = absurd (differ h)
 front-only v (suc n) (w ∷ ws) d h = grind (arith, nat_tests, d, h, front-only v n ws, behind v n ws)

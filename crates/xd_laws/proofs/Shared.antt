@@ -1,6 +1,6 @@
 -- Once the tests are shared, the run has those that were collected.
-use Rattle.std.proofs.Common.{◌≡◌, ℕ, zero, suc, ◌+◌, ◌≤◌, ◌<◌, List, [], ◌∷◌, ◌++◌, length, map, Bool, true, false, not, ◌&&◌, ◌||◌, refl, ap, sym, ◌∙◌, subst, arith, inl, inr}
-use Rattle.std.specs.Prelude.{◌==◌, if◌then◌else◌, sum, Option, Some, None, is_some}
+use Rattle.std.proofs.Common.{◌≡◌, ℕ, zero, suc, ◌+◌, ◌≤◌, ◌<◌, List, [], ◌∷◌, ◌++◌, length, map, Bool, true, false, not, refl, ap, sym, ◌∙◌, subst, arith, inl, inr}
+use Rattle.std.specs.Prelude.{◌==◌, if◌then◌else◌, Option, Some, None, is_some}
 use Rattle.std.proofs.lemmas.Bool.Decides.{nat_tests}
 use Rattle.xd_edge.specs.declared.mode.ModeKind.{ModeKind}
 use Rattle.xd_journal.specs.declared.settings.Settings.{Settings}
@@ -16,12 +16,10 @@ use Rattle.xd_ledger.specs.Plan.{is_each, items_named, slot_items}
 use Rattle.xd_ledger.specs.Books.{marked}
 use Rattle.xd_ledger.specs.Workers.{slot_in, slot_of, started, made_ready, made_collected, made_shut, made_gone}
 use Rattle.xd_ledger.specs.Collections.{ids_of, key, listed, listed_in, lists_with, unequal, with_list}
-use Rattle.xd_ledger.specs.Stops.{stopped_by}
-use Rattle.xd_ledger.specs.Sharing.{State, ids_at, in_books, is_full, shared_now, sizes_from}
-use Rattle.xd_ledger.specs.State.{completed_first, moved, no_one, settled}
+use Rattle.xd_ledger.specs.Sharing.{State, ids_at, in_books, shared_now, sizes_from}
+use Rattle.xd_ledger.specs.State.{completed_first, moved, no_one}
 use Rattle.xd_ledger.specs.Proper.{may_follow}
 use Rattle.xd_ledger.specs.Orderly.{is_orderly}
-use Rattle.xd_ledger.specs.Reports.{Report, reports}
 use Rattle.xd_laws.specs.Collected.{slots}
 use Rattle.xd_laws.proofs.Logic.{differ, cases_of, split-and, split-or}
 use Rattle.xd_laws.proofs.Rota.{has_seat, seat-among, seat-change, seat-joined, seat-left}

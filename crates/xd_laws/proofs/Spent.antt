@@ -1,10 +1,12 @@
 -- A run that is shutting and was not stopped has nothing left to hand out.
 use Rattle.std.proofs.Common.{◌≡◌, ℕ, zero, suc, ◌+◌, ◌≤◌, ◌<◌, List, [], ◌∷◌, ◌++◌, drop, length, map, Bool, true, false, not, ◌&&◌, refl, ap, sym, ◌∙◌, subst, arith, inl, inr}
 use Rattle.std.proofs.lemmas.List.{append-nil}
-use Rattle.std.specs.Prelude.{if◌then◌else◌, ◌==◌, nat_lt, Option, Some, None, is_none}
+use Rattle.std.specs.Prelude.{if◌then◌else◌, ◌==◌, nat_lt, Option, Some, None, is_none, is_some}
 use Rattle.std.specs.List.{list_all}
 use Rattle.std.proofs.lemmas.Bool.Decides.{nat_tests}
+use Rattle.xd_journal.specs.declared.settings.Settings.{Settings}
 use Rattle.xd_journal.specs.declared.entry.Ids.{Ids}
+use Rattle.xd_journal.specs.declared.entry.RunStop.{RunStop}
 use Rattle.xd_journal.specs.declared.entry.RunStop.TheVariants.{CollectError}
 use Rattle.xd_journal.specs.declared.entry.Entry.{Entry}
 use Rattle.xd_journal.specs.declared.entry.Entry.TheVariants.{Ready, Collected, Done, Back, Finished, Refused, Down, NotStarted, Start, Run, RunAll, Steal, Shutdown, Kill, Over}
@@ -13,19 +15,23 @@ use Rattle.xd_ledger.specs.Numbers.{among, without, all_distinct, all_among}
 use Rattle.xd_ledger.specs.Table.{Table, held, held_in, at_seat, without_seat, assigned}
 use Rattle.xd_ledger.specs.Plan.{Plan, Asked, is_each, base, items_named, slot_items}
 use Rattle.xd_ledger.specs.Books.{marked}
-use Rattle.xd_ledger.specs.Workers.{slot_of, made_collected}
+use Rattle.xd_ledger.specs.Workers.{slot_of, made_collected, waiting}
 use Rattle.xd_ledger.specs.Collections.{unequal, listed, with_list}
 use Rattle.xd_ledger.specs.Stops.{is_stopped}
 use Rattle.xd_ledger.specs.Sharing.{State, in_books}
-use Rattle.xd_ledger.specs.State.{moved, all_moved, settled, settles, is_finished, completed_first, steal_without}
-use Rattle.xd_ledger.specs.Outputs.{acts_of}
-use Rattle.xd_ledger.specs.Proper.{may_follow}
+use Rattle.xd_ledger.specs.State.{moved, all_moved, settled, settles, is_finished, completed_first, no_one}
+use Rattle.xd_ledger.specs.Outputs.{acts_of, after_death, closing, own_outputs, shut_all, stepped, unless_stopped}
+use Rattle.xd_ledger.specs.Modes.Call.{Died}
+use Rattle.xd_ledger.specs.Histories.{begun, first_starts, starts_from, stepped_all}
+use Rattle.xd_ledger.specs.Proper.{all_may_follow, may_follow}
 use Rattle.xd_ledger.specs.Orderly.{is_orderly, all_orderly, may_run, not_empty}
-use Rattle.xd_laws.proofs.Logic.{differ, cases_of, split-and, split-or}
+use Rattle.xd_laws.proofs.Logic.{differ, cases_of, in_both, split-and, split-or}
 use Rattle.xd_laws.proofs.Rota.{has_seat, seat-left}
 use Rattle.xd_laws.proofs.Placed.{empty_of, first_named-by, no_back}
-use Rattle.xd_laws.proofs.Turns.{Tidy, all_moved-first}
-use Rattle.xd_laws.proofs.Inputs.{collecting-keeps, unstopped-before, down-unstopped, done-unstopped}
+use Rattle.xd_laws.proofs.Turns.{Tidy, all_moved-first, all_moved-join}
+use Rattle.xd_laws.proofs.Inputs.{collecting-keeps, unstopped-before, down-unstopped, done-unstopped, tidy-input}
+use Rattle.xd_laws.proofs.Outputs.{closing-fit, own-fit}
+use Rattle.xd_laws.proofs.Runs.{Holds, stepped-holds}
 use Rattle.xd_laws.proofs.Rule.{Rule}
 use Rattle.xd_laws.proofs.Queue.{held-none, held-shut, held-left}
 
@@ -153,33 +159,69 @@ spent-first : (t : Table) (p : Plan) (w : ℕ) (items : List ℕ) → IsSpent t 
 spent-first t p w [] k = k
 spent-first t p w (i ∷ is) k = record { pool = k.pool; steal = k.steal; few = λ v. (let a = few-fewer v w (i ∷ []) t.rota in let b = k.few v in omega (arith, a, b)) }
 
-spent-down : (s : State) (w : ℕ) → Spent s → Spent (moved s (NotStarted w))
-spent-down s w k = record {
-  spent = λ u v. (let i = k.spent u (down-unstopped w s v) in
-      let low = i.few w in
-      record {
-        pool = ap (λ (xs : List ℕ). xs ++ drop 1 (held w s.books.table)) i.pool ∙ few-drop 1 (held w s.books.table) (omega (arith, low));
-        steal = ap (λ (a : Option Asked). steal_without w a) i.steal;
-        few = λ x. few-left x w s.books.table.rota (i.few x);
-      });
-}
+-- a death may bring a test back, but then a new worker is started
+abbrev pub is_loss : Entry → Bool
+is_loss (Down w c o) = true
+is_loss (NotStarted w) = true
+is_loss _ = false
 
-spent-input : (s : State) (e : Entry) → may_follow s e ≡ true → Tidy s → Spent s → Spent (moved s e)
-spent-input s (Ready w) h d k = record { spent = k.spent }
-spent-input s (Collected w g) h d k = spent-collected s w g d k
-spent-input s (Done w i u m o) h d k = record { spent = λ a b. spent-first s.books.table s.plan w (items_named (slot_of w s.books) (i ∷ []) s.plan) (k.spent a (done-unstopped s w i u m o b)) }
-spent-input s (Back w is) h d k = record { spent = λ a b. absurd (no_back s w is (k.spent a b).steal h) }
-spent-input s (Finished w) h d k = record { spent = λ a b. (let i = k.spent a b in record { pool = i.pool; steal = i.steal; few = λ x. few-left x w s.books.table.rota (i.few x) }) }
-spent-input s (Refused w t) h d k = record { spent = λ a b. k.spent a (unstopped-before s.books.stop (Some (CollectError w)) b) }
-spent-input s (Down w r o) h d k = (let n = spent-down s w k in record { spent = n.spent })
-spent-input s (NotStarted w) h d k = spent-down s w k
-spent-input s (Start w slot) h d k = absurd (differ h)
-spent-input s (Run w is) h d k = absurd (differ h)
-spent-input s (RunAll w) h d k = absurd (differ h)
-spent-input s (Steal w is) h d k = absurd (differ h)
-spent-input s (Shutdown w) h d k = absurd (differ h)
-spent-input s (Kill w) h d k = absurd (differ h)
-spent-input s (Over how) h d k = absurd (differ h)
+spent-input : (s : State) (e : Entry) → may_follow s e ≡ true → is_loss e ≡ false → Tidy s → Spent s → Spent (moved s e)
+spent-input s (Ready w) h n d k = record { spent = k.spent }
+spent-input s (Collected w g) h n d k = spent-collected s w g d k
+spent-input s (Done w i u m o) h n d k = record { spent = λ a b. spent-first s.books.table s.plan w (items_named (slot_of w s.books) (i ∷ []) s.plan) (k.spent a (done-unstopped s w i u m o b)) }
+spent-input s (Back w is) h n d k = record { spent = λ a b. absurd (no_back s w is (k.spent a b).steal h) }
+spent-input s (Finished w) h n d k = record { spent = λ a b. (let i = k.spent a b in record { pool = i.pool; steal = i.steal; few = λ x. few-left x w s.books.table.rota (i.few x) }) }
+spent-input s (Refused w t) h n d k = record { spent = λ a b. k.spent a (unstopped-before s.books.stop (Some (CollectError w)) b) }
+spent-input s (Down w r o) h n d k = absurd (differ (sym n))
+spent-input s (NotStarted w) h n d k = absurd (differ (sym n))
+spent-input s (Start w slot) h n d k = absurd (differ h)
+spent-input s (Run w is) h n d k = absurd (differ h)
+spent-input s (RunAll w) h n d k = absurd (differ h)
+spent-input s (Steal w is) h n d k = absurd (differ h)
+spent-input s (Shutdown w) h n d k = absurd (differ h)
+spent-input s (Kill w) h n d k = absurd (differ h)
+spent-input s (Over how) h n d k = absurd (differ h)
+
+stop-shut_all : (ws : List ℕ) (u : State) → (all_moved u (map (λ w. Shutdown w) ws)).books.stop ≡ u.books.stop
+stop-shut_all [] u = refl
+stop-shut_all (w ∷ ws) u = stop-shut_all ws (moved u (Shutdown w))
+
+spent-lost : (s : State) (w : ℕ) → Spent (all_moved (moved s (NotStarted w)) (unless_stopped s.books (moved s (NotStarted w)).books (after_death w (moved s (NotStarted w)))))
+spent-lost s w =
+    in_both (λ (es : List Entry). Spent (all_moved now es)) (is_stopped s.books) [] (if is_stopped now.books then shut_all now.books.crew else after_death w now)
+    (λ h. record { spent = λ u v. absurd (differ (sym (down-unstopped w s v) ∙ h)) })
+    (λ h. in_both (λ (es : List Entry). Spent (all_moved now es)) (is_stopped now.books) (shut_all now.books.crew) (after_death w now)
+    (λ k. record { spent = λ u v. absurd (differ (sym v ∙ ap (λ (a : Option RunStop). is_some a) (stop-shut_all (waiting now.books.crew) now) ∙ k)) })
+    (λ k. subst Spent (sym (all_moved-join now first (start ∷ []))) (record { spent = λ u v. absurd (differ u) })))
+  where
+    now : State
+    now = moved s (NotStarted w)
+
+    first : List Entry
+    first = if now.books.shared then acts_of Died now else []
+
+    start : Entry
+    start = Start (length now.books.crew) (slot_of w now.books)
+
+spent-own : (s : State) (e : Entry) → may_follow s e ≡ true → Tidy s → Spent s → all_orderly (moved s e) (own_outputs s e (moved s e)) ≡ true → Spent (all_moved (moved s e) (own_outputs s e (moved s e)))
+spent-own s e h d k o = elim (cases_of (is_loss e)) [ inl l ↦ lost e l | inr n ↦ spent-outputs (moved s e) (own_outputs s e (moved s e)) o (spent-input s e h n d k) ]
+  where
+    lost : (e : Entry) → is_loss e ≡ true → Spent (all_moved (moved s e) (own_outputs s e (moved s e)))
+    lost (Down w r b) l = spent-lost s w
+    lost (NotStarted w) l = spent-lost s w
+    lost (Ready w) l = absurd (differ l)
+    lost (Collected w g) l = absurd (differ l)
+    lost (Done w i u m b) l = absurd (differ l)
+    lost (Back w is) l = absurd (differ l)
+    lost (Finished w) l = absurd (differ l)
+    lost (Refused w t) l = absurd (differ l)
+    lost (Start w slot) l = absurd (differ l)
+    lost (Run w is) l = absurd (differ l)
+    lost (RunAll w) l = absurd (differ l)
+    lost (Steal w is) l = absurd (differ l)
+    lost (Shutdown w) l = absurd (differ l)
+    lost (Kill w) l = absurd (differ l)
+    lost (Over how) l = absurd (differ l)
 
 -- the mark is set where nothing is left
 
@@ -191,7 +233,7 @@ few-all : (v : ℕ) (ss : List Seat) → list_all (λ s. nat_lt (length s.held) 
 few-all v [] h = omega arith
 few-all v (s ∷ ss) h = grind (arith, nat_tests, few-all v ss, h)
 
-spent-finished : (t : Table) (p : Plan) → is_finished t p ≡ true → IsSpent t p
+pub spent-finished : (t : Table) (p : Plan) → is_finished t p ≡ true → IsSpent t p
 spent-finished t p h =
     let a = split-and ((length t.pool == 0) && is_none p.steal) (list_all (λ s. nat_lt (length s.held) 2) t.rota) h in
     let b = split-and (length t.pool == 0) (is_none p.steal) a.0 in
@@ -205,23 +247,26 @@ spent-settled s k = record {
   ];
 }
 
--- each rule keeps it too
+-- behind a whole rule, and behind whole runs
 
-pub record And (X : State → Type 0) (s : State) : Type 0 where
-  pub also : X s
-  pub spent : Spent s
+pub spent-step : (X : State → Type 0) → Rule X → (s : State) (e : Entry) → may_follow s e ≡ true → Tidy s → X s → Spent s → Spent (stepped s e)
+spent-step X rule s e h d x k =
+    let now = moved s e in
+    let own = own_outputs s e now in
+    let f = own-fit X rule s e h d (tidy-input s e h d) (rule.input s e h d x) in
+    let mid = all_moved now own in
+    let last = spent-outputs mid (closing mid) (closing-fit X rule mid f.tidy f.also).orderly (spent-own s e h d k f.orderly) in
+    subst (λ (u : State). Spent (settled u)) (sym (all_moved-join now own (closing mid))) (spent-settled (all_moved mid (closing mid)) last)
 
-pub rule-spent : (X : State → Type 0) → Rule X → Rule (And X)
-rule-spent X rule = record {
-  input = λ s e h d k. record { also = rule.input s e h d k.also; spent = spent-input s e h d k.spent };
-  start = λ s w slot k. record { also = rule.start s w slot k.also; spent = record { spent = λ u v. absurd (differ u) } };
-  shutdown = λ s w p k. record { also = rule.shutdown s w p k.also; spent = spent-shutdown s w k.spent };
-  settled = λ s k. record { also = rule.settled s k.also; spent = spent-settled s k.spent };
-  turns = λ s c d h k f. (let t = rule.turns s c d h k.also f in record {
-    fit = record { orderly = t.fit.orderly; tidy = t.fit.tidy; also = record { also = t.fit.also; spent = spent-outputs s (acts_of c s) t.fit.orderly k.spent } };
-    kin = t.kin;
-    settings = t.settings;
-  });
-  agrees = λ s c d h k f. rule.agrees s c d h k.also f;
-  queue = λ s k h. rule.queue s k.also h;
-}
+pub all-spent : (X : State → Type 0) → Rule X → (s : State) (es : List Entry) → all_may_follow s es ≡ true → Holds X s → Spent s → Spent (stepped_all s es)
+all-spent X rule s [] h d k = k
+all-spent X rule s (e ∷ es) h d k =
+    let p = split-and (may_follow s e) (all_may_follow (stepped s e) es) h in
+    all-spent X rule (stepped s e) es p.1 (stepped-holds X rule s e p.0 d) (spent-step X rule s e p.0 d.tidy d.also k)
+
+pub begun-spent : (settings : Settings) → Spent (begun settings)
+begun-spent settings = spent-settled (all_moved (no_one settings) (first_starts settings)) (starts (no_one settings) 0 settings.workers (record { spent = λ u v. absurd (differ u) }))
+  where
+    starts : (s : State) (w n : ℕ) → Spent s → Spent (all_moved s (starts_from w n))
+    starts s w zero k = k
+    starts s w (suc n) k = starts (moved s (Start w w)) (w + 1) n (record { spent = λ u v. absurd (differ u) })

@@ -10,7 +10,7 @@ use Rattle.xd_laws.proofs.Rule.{CallFits, Rule}
 use Rattle.xd_laws.proofs.InMode.{InMode, agrees-in, mode-input, no-queue, turned-in, turned-mode}
 use Rattle.xd_laws.proofs.StealTurns.{good-rule, good-share}
 
-steal_plain : (s : State) → InMode WorkSteal s → IsPlain s.plan.mode
+pub steal_plain : (s : State) → InMode WorkSteal s → IsPlain s.plan.mode
 steal_plain s m = subst IsPlain (sym m) (record { each = refl; scope = refl })
 
 steal-good : (s : State) (c : Call) → Tidy s → s.books.shared ≡ true → InMode WorkSteal s → CallFits s c → Good s (turned WorkSteal c (turn_of s))

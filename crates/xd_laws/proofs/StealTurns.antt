@@ -21,7 +21,7 @@ use Rattle.xd_laws.proofs.Placed.{Placed, at_most_once}
 use Rattle.xd_laws.proofs.Turns.{Good, InRota, IsPlain, in_rota-behind, unshut-of, good-more, good-give_front, good-shut_each}
 
 -- each worker has one seat at most
-abbrev OneSeat : List Seat → Type 0
+abbrev pub OneSeat : List Seat → Type 0
 OneSeat ss = (w : ℕ) → seats_of w ss ≤ 1
 
 one_seat-rest : (s : Seat) (ss : List Seat) → OneSeat (s ∷ ss) → OneSeat ss
@@ -31,9 +31,9 @@ pub one_seat-turn : (s : State) (t : Turn) → Good s t → OneSeat t.table.rota
 one_seat-turn s t g = λ w. subst (λ (u : Table). seats_of w u.rota ≤ 1) g.table (g.tidy.placed.fits.seats w)
 
 -- the worker is in the rota and was not told to shut down
-record IsOpen (w : ℕ) (ss : List Seat) : Type 0 where
-  there : has_seat w ss ≡ true
-  untold : is_told w ss ≡ false
+pub record IsOpen (w : ℕ) (ss : List Seat) : Type 0 where
+  pub there : has_seat w ss ≡ true
+  pub untold : is_told w ss ≡ false
 
 open-first : (s : Seat) (ss : List Seat) → OneSeat (s ∷ ss) → s.shut ≡ false → IsOpen s.worker (s ∷ ss)
 open-first s ss one h =
@@ -61,7 +61,7 @@ idle-step true w s ss one e h rest = elim (split-or (w == s.worker) (among w (ma
   | inr k ↦ open-later w s ss one (rest k)
 ]
 
-idle-open : (w : ℕ) (ss : List Seat) → OneSeat ss → among w (map (λ x. x.worker) (filter is_idle ss)) ≡ true → IsOpen w ss
+pub idle-open : (w : ℕ) (ss : List Seat) → OneSeat ss → among w (map (λ x. x.worker) (filter is_idle ss)) ≡ true → IsOpen w ss
 idle-open w [] one h = absurd (differ h)
 idle-open w (s ∷ ss) one h = idle-step (is_idle s) w s ss one refl h (idle-open w ss (one_seat-rest s ss one))
 
@@ -85,7 +85,7 @@ open-give v w (i ∷ is) t o =
     let f : Seat → Seat = λ s. record s { held = s.held ++ i ∷ is } in
     record { there = seat-change v w f t.table.rota (λ s. refl) ∙ o.there; untold = told-change v w f t.table.rota (λ s. refl) (λ s. refl) ∙ o.untold }
 
-good-dealt : (s : State) (ws : List ℕ) (t : Turn) → IsPlain s.plan.mode → Good s t → ((w : ℕ) → among w ws ≡ true → IsOpen w t.table.rota) → Good s (dealt ws t)
+pub good-dealt : (s : State) (ws : List ℕ) (t : Turn) → IsPlain s.plan.mode → Good s t → ((w : ℕ) → among w ws ≡ true → IsOpen w t.table.rota) → Good s (dealt ws t)
 good-dealt s [] t plain g o = g
 good-dealt s (w ∷ ws) t plain g o =
     let n = length t.table.pool / (length ws + 1) in
@@ -95,11 +95,11 @@ good-dealt s (w ∷ ws) t plain g o =
 
 -- the worker that is asked
 
-record IsVictim (ss : List Seat) (s : Seat) : Type 0 where
-  open_ : IsOpen s.worker ss
-  holds : held_in s.worker ss ≡ s.held
+pub record IsVictim (ss : List Seat) (s : Seat) : Type 0 where
+  pub open_ : IsOpen s.worker ss
+  pub holds : held_in s.worker ss ≡ s.held
 
-abbrev is_open : Seat → Bool
+abbrev pub is_open : Seat → Bool
 is_open s = not s.shut
 
 victim-later : (x : Seat) (ss : List Seat) (s : Seat) → OneSeat (x ∷ ss) → IsVictim ss s → IsVictim (x ∷ ss) s
@@ -115,7 +115,7 @@ victim-first : (c : Bool) (x : Seat) (ss : List Seat) (s : Seat) (rest : Option 
 victim-first true x ss s rest one h k v = victim-here x ss s one h cc
 victim-first false x ss s rest one h k v = victim-later x ss s one (v k)
 
-victim-of : (n : ℕ) (ss : List Seat) (s : Seat) → OneSeat ss → first_with n (filter is_open ss) ≡ Some s → IsVictim ss s
+pub victim-of : (n : ℕ) (ss : List Seat) (s : Seat) → OneSeat ss → first_with n (filter is_open ss) ≡ Some s → IsVictim ss s
 victim-of n [] s one h = absurd (let q : None ≡ Some s = h in cc)
 victim-of n (x ∷ ss) s one h =
     let later = victim-of n ss s (one_seat-rest x ss one) in

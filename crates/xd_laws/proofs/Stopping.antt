@@ -1,5 +1,5 @@
 -- The counts of a run and its stop are those that its journal tells.
-use Rattle.std.proofs.Common.{◌≡◌, ℕ, suc, ◌+◌, ◌≤◌, ◌<◌, List, [], ◌∷◌, ◌++◌, length, take, map, Bool, true, false, not, ◌&&◌, refl, ap, sym, ◌∙◌, subst, arith, inl, inr, append_assoc}
+use Rattle.std.proofs.Common.{◌≡◌, ℕ, suc, ◌+◌, ◌≤◌, ◌<◌, List, [], ◌∷◌, ◌++◌, length, map, Bool, true, false, not, ◌&&◌, refl, ap, sym, ◌∙◌, subst, arith, inl, inr, append_assoc}
 use Rattle.std.specs.Prelude.{◌==◌, ◌⊎◌, if◌then◌else◌, filter, nat_lt, Option, Some, None, is_some}
 use Rattle.std.proofs.lemmas.Bool.Decides.{nat_tests}
 use Rattle.std.proofs.lemmas.List.{append-nil}
@@ -14,22 +14,23 @@ use Rattle.xd_journal.specs.declared.entry.Entry.{Entry}
 use Rattle.xd_journal.specs.declared.entry.Entry.TheVariants.{Ready, Collected, Done, Back, Finished, Refused, Down, NotStarted, Start, Run, RunAll, Steal, Shutdown, Kill, Over}
 use Rattle.xd_journal.specs.Stop.{reaches}
 use Rattle.xd_ledger.specs.declared.member.Listed.{Listed}
-use Rattle.xd_ledger.specs.Table.{held, joined}
+use Rattle.xd_ledger.specs.Table.{crash_item, held, joined}
 use Rattle.xd_ledger.specs.Plan.{base, is_each, items_named}
 use Rattle.xd_ledger.specs.Books.{Books, marked}
 use Rattle.xd_ledger.specs.Workers.{has_collected, is_active, made_collected, slot_of, was_ready}
 use Rattle.xd_ledger.specs.Collections.{differ_at, ids_of, key, listed, listed_in, lists_with, unequal, with_list}
 use Rattle.xd_ledger.specs.Stops.{at_limit, or_stop, out_of_restarts, stopped_by}
+use Rattle.xd_ledger.specs.Retry.{is_retry}
 use Rattle.xd_ledger.specs.Sharing.{State, in_books, shared_now}
 use Rattle.xd_ledger.specs.State.{buried, completed_first, done_stop, failing, gone, moved, no_one}
 use Rattle.xd_ledger.specs.Proper.{are_ids, may_follow}
 use Rattle.xd_ledger.specs.Orderly.{is_orderly}
 use Rattle.xd_ledger.specs.Reports.{Report, Result, Crash, reports, reports_of}
 use Rattle.xd_laws.specs.Stopped.{Brings, Collects, StopsBy, deaths, fails, failures, is_death, is_death_of}
-use Rattle.xd_laws.proofs.Logic.{differ, cases_of, split-and}
-use Rattle.xd_laws.proofs.Placed.{Placed}
+use Rattle.xd_laws.proofs.Logic.{differ, split-and}
 use Rattle.xd_laws.proofs.Turns.{Tidy}
 use Rattle.xd_laws.proofs.Inputs.{collecting-keeps}
+use Rattle.xd_laws.proofs.Places.{no-crash}
 use Rattle.xd_laws.proofs.Told.{none-held}
 use Rattle.xd_laws.proofs.Walk.{Keeps, reports-more}
 
@@ -249,14 +250,14 @@ restarts-some w b how h = by (nat_lt b.settings.restarts b.deaths) refl h
 record IsDeath (settings : Settings) (s : State) (es : List Entry) (e : Entry) (w : ℕ) : Type 0 where
   its : is_death_of w e ≡ true
   one : deaths (e ∷ []) ≡ 1
-  crash : failures (reports settings (es ++ e ∷ [])) ≡ failures (reports settings es) + length (take 1 (held w s.books.table))
+  crash : failures (reports settings (es ++ e ∷ [])) ≡ failures (reports settings es) + length (crash_item (is_retry w s.books) (held w s.books.table))
 
 tells-lost : (settings : Settings) (s : State) (es : List Entry) (e : Entry) (w : ℕ) → IsDeath settings s es e w → Tells settings s es → Tells settings (moved s (NotStarted w)) (es ++ e ∷ [])
 tells-lost settings s es e w x k =
-    let c : Books = gone w (buried w s.books) in
+    let c : Books = gone w (buried w (is_retry w s.books) s.books) in
     let added = x.crash in
     let old = k.failures_are in
-    let f : s.books.failures + length (take 1 (held w s.books.table)) ≡ failures (reports settings (es ++ e ∷ [])) = omega (arith, added, old) in
+    let f : s.books.failures + length (crash_item (is_retry w s.books) (held w s.books.table)) ≡ failures (reports settings (es ++ e ∷ [])) = omega (arith, added, old) in
     let more = deaths-more es e in
     let one = x.one in
     let lost = k.deaths_are in
@@ -284,12 +285,12 @@ tells-lost settings s es e w x k =
 same-worker : (w : ℕ) → (w == w) ≡ true
 same-worker w = grind (arith, nat_tests)
 
-down-lost : (settings : Settings) (s : State) (es : List Entry) (w : ℕ) (e : Entry) → is_death_of w e ≡ true → deaths (e ∷ []) ≡ 1 → reports settings (es ++ e ∷ []) ≡ reports settings es ++ map (λ item. Crash w item) (take 1 (held w s.books.table))
-    → IsDeath settings s es e w
+down-lost : (settings : Settings) (s : State) (es : List Entry) (w : ℕ) (e : Entry) → is_death_of w e ≡ true → deaths (e ∷ []) ≡ 1
+    → reports settings (es ++ e ∷ []) ≡ reports settings es ++ map (λ item. Crash w item) (crash_item (is_retry w s.books) (held w s.books.table)) → IsDeath settings s es e w
 down-lost settings s es w e its one rs =
-    let crashes = map (λ item. Crash w item) (take 1 (held w s.books.table)) in
-    let a = failures-more settings es e crashes rs in
-    let b = crash-fails w (take 1 (held w s.books.table)) in
+    let items = crash_item (is_retry w s.books) (held w s.books.table) in
+    let a = failures-more settings es e (map (λ item. Crash w item) items) rs in
+    let b = crash-fails w items in
     record { its = its; one = one; crash = omega (arith, a, b) }
 
 -- a worker collects
@@ -375,7 +376,8 @@ tells-said settings s es (Down w c o) d h rs k =
     record { settings_are = t.settings_are; failures_are = t.failures_are; deaths_are = t.deaths_are; lists = t.lists; under = t.under; stops = t.stops })
 tells-said settings s es (NotStarted w) d h rs k =
     tells-lost settings s es (NotStarted w) w
-    (down-lost settings s es w (NotStarted w) (same-worker w) refl (rs ∙ ap (λ (xs : List ℕ). reports settings es ++ map (λ item. Crash w item) (take 1 xs)) (sym (none-held s w d.placed h)))) k
+    (down-lost settings s es w (NotStarted w) (same-worker w) refl
+    (rs ∙ ap (λ (xs : List ℕ). reports settings es ++ map (λ item. Crash w item) xs) (sym (ap (λ (xs : List ℕ). crash_item (is_retry w s.books) xs) (none-held s w d.placed h) ∙ no-crash (is_retry w s.books))))) k
 tells-said settings s es (Start w slot) d h rs k = absurd (differ h)
 tells-said settings s es (Run w is) d h rs k = absurd (differ h)
 tells-said settings s es (RunAll w) d h rs k = absurd (differ h)

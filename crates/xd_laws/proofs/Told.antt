@@ -1,16 +1,17 @@
 -- The reports of a journal are of the items that its state has as reported, in their order.
-use Rattle.std.proofs.Common.{◌≡◌, ℕ, zero, suc, ◌+◌, List, [], ◌∷◌, ◌++◌, take, map, Bool, true, false, not, refl, ap, sym, ◌∙◌, append_assoc, inl, inr}
+use Rattle.std.proofs.Common.{◌≡◌, ℕ, zero, suc, ◌+◌, List, [], ◌∷◌, ◌++◌, map, Bool, true, false, not, refl, ap, sym, ◌∙◌, append_assoc, inl, inr}
 use Rattle.std.specs.Prelude.{if◌then◌else◌}
 use Rattle.std.proofs.lemmas.List.{append-nil}
 use Rattle.xd_journal.specs.declared.settings.Settings.{Settings}
 use Rattle.xd_journal.specs.declared.entry.Outcome.{Outcome}
 use Rattle.xd_journal.specs.declared.entry.Entry.{Entry}
 use Rattle.xd_journal.specs.declared.entry.Entry.TheVariants.{Ready, Collected, Done, Back, Finished, Refused, Down, NotStarted, Start, Run, RunAll, Steal, Shutdown, Kill, Over}
-use Rattle.xd_ledger.specs.Table.{Table, held, in_rota}
+use Rattle.xd_ledger.specs.Table.{Table, crash_item, held, in_rota}
 use Rattle.xd_ledger.specs.Plan.{is_each, base}
 use Rattle.xd_ledger.specs.Books.{marked}
 use Rattle.xd_ledger.specs.Workers.{is_active, was_ready, slot_of, made_collected}
 use Rattle.xd_ledger.specs.Collections.{unequal, listed, with_list}
+use Rattle.xd_ledger.specs.Retry.{is_retry}
 use Rattle.xd_ledger.specs.Sharing.{State, in_books}
 use Rattle.xd_ledger.specs.State.{moved, all_moved, settled, no_one, completed_first}
 use Rattle.xd_ledger.specs.Outputs.{outputs, stepped}
@@ -19,6 +20,7 @@ use Rattle.xd_ledger.specs.Proper.{may_follow, all_may_follow}
 use Rattle.xd_ledger.specs.Orderly.{is_orderly, all_orderly}
 use Rattle.xd_ledger.specs.Reports.{Report, Result, Crash, item_of, reports_of, reports_from, reports}
 use Rattle.xd_laws.proofs.Logic.{differ, cases_of, split-and, not_true}
+use Rattle.xd_laws.proofs.Places.{no-crash}
 use Rattle.xd_laws.proofs.Placed.{Placed}
 use Rattle.xd_laws.proofs.Turns.{all_moved-first}
 use Rattle.xd_laws.proofs.Inputs.{collecting-keeps}
@@ -114,8 +116,8 @@ told-input s (Done w i u m o) h k = one-by (is_each s.plan.mode) (base (slot_of 
 told-input s (Back w is) h k = same_reported s (moved s (Back w is)) refl
 told-input s (Finished w) h k = same_reported s (moved s (Finished w)) refl
 told-input s (Refused w t) h k = same_reported s (moved s (Refused w t)) refl
-told-input s (Down w c o) h k = ap (λ (xs : List ℕ). reported s ++ xs) (sym (crash-items w (take 1 (held w s.books.table))))
-told-input s (NotStarted w) h k = ap (λ (xs : List ℕ). reported s ++ take 1 xs) (none-held s w k h)
+told-input s (Down w c o) h k = ap (λ (xs : List ℕ). reported s ++ xs) (sym (crash-items w (crash_item (is_retry w s.books) (held w s.books.table))))
+told-input s (NotStarted w) h k = ap (λ (xs : List ℕ). reported s ++ crash_item (is_retry w s.books) xs) (none-held s w k h) ∙ ap (λ (xs : List ℕ). reported s ++ xs) (no-crash (is_retry w s.books))
 told-input s (Start w slot) h k = absurd (differ h)
 told-input s (Run w is) h k = absurd (differ h)
 told-input s (RunAll w) h k = absurd (differ h)

@@ -1,6 +1,6 @@
 -- What the moves of a turn keep, the rule of each mode keeps.
-use Rattle.std.proofs.Common.{◌≡◌, ℕ, zero, suc, List, [], ◌∷◌, ◌++◌, drop, length, take, reverse, Bool, true, false, refl}
-use Rattle.std.specs.Prelude.{Option, Some, None, nat_lt, ◌*◌, ◌==◌, if◌then◌else◌}
+use Rattle.std.proofs.Common.{ℕ, zero, suc, List, [], ◌∷◌, ◌++◌, drop, length, take, reverse}
+use Rattle.std.specs.Prelude.{Option, Some, None, nat_lt, ◌*◌, ◌==◌}
 use Rattle.xd_edge.specs.declared.mode.ModeKind.{ModeKind}
 use Rattle.xd_edge.specs.declared.mode.ModeKind.TheVariants.{Local, Each, Load, LoadScope, LoadFile, LoadGroup, WorkSteal}
 use Rattle.xd_journal.specs.declared.entry.Entry.TheVariants.{RunAll, Shutdown}

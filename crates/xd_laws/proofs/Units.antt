@@ -113,7 +113,7 @@ pub given-more : (w : ℕ) (us : List Handed) (u : Handed) → given_to w (us ++
 given-more w [] u = append-nil (if u.worker == w then u.tests else [])
 given-more w (v ∷ us) u = ap (λ (xs : List ℕ). (if v.worker == w then v.tests else []) ++ xs) (given-more w us u) ∙ sym (append_assoc (if v.worker == w then v.tests else []) (given_to w us) (if u.worker == w then u.tests else []))
 
-times-unless_empty : (x : ℕ) (ts : List ℕ) → times x (tests_of (unless_empty ts)) ≡ times x ts
+pub times-unless_empty : (x : ℕ) (ts : List ℕ) → times x (tests_of (unless_empty ts)) ≡ times x ts
 times-unless_empty x [] = refl
 times-unless_empty x (t ∷ ts) = ap (λ (xs : List ℕ). times x xs) (append-nil (t ∷ ts))
 
@@ -135,7 +135,7 @@ tests-left x w rest (u ∷ us) =
     let r = tests-left x w rest us in
     grind (arith, nat_tests, a, b, c, r)
 
-none_empty-unless : (ts : List ℕ) → none_empty (unless_empty ts) ≡ true
+pub none_empty-unless : (ts : List ℕ) → none_empty (unless_empty ts) ≡ true
 none_empty-unless [] = refl
 none_empty-unless (t ∷ ts) = refl
 

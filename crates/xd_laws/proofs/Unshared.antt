@@ -1,16 +1,17 @@
 -- Before the share the plan is the one of the start.
-use Rattle.std.proofs.Common.{◌≡◌, ℕ, ◌+◌, List, [], ◌∷◌, ◌++◌, drop, map, Bool, true, false, not, ◌&&◌, refl, ap, sym, ◌∙◌, subst, arith, inl, inr}
+use Rattle.std.proofs.lemmas.Bool.Decides.{nat_tests}
+use Rattle.std.proofs.Common.{◌≡◌, ℕ, ◌+◌, List, [], ◌∷◌, drop, map, Bool, true, false, ◌&&◌, refl, ap, sym, ◌∙◌, subst, arith, inl, inr}
 use Rattle.std.specs.Prelude.{None, if◌then◌else◌, is_none}
 use Rattle.xd_journal.specs.declared.settings.Settings.{Settings}
-use Rattle.xd_journal.specs.declared.entry.Ids.{Ids}
 use Rattle.xd_journal.specs.declared.entry.Entry.{Entry}
 use Rattle.xd_journal.specs.declared.entry.Entry.TheVariants.{Ready, Collected, Done, Back, Finished, Refused, Down, NotStarted, Start, Run, RunAll, Steal, Shutdown, Kill, Over}
 use Rattle.xd_ledger.specs.Numbers.{all_among, all_distinct, among, times}
-use Rattle.xd_ledger.specs.Table.{all_items, held}
+use Rattle.xd_ledger.specs.Table.{all_items, held, retried_item}
 use Rattle.xd_ledger.specs.Plan.{Plan, base, is_each, is_scope, items_named, slot_items, total}
 use Rattle.xd_ledger.specs.Books.{marked}
 use Rattle.xd_ledger.specs.Collections.{listed, unequal, with_list}
 use Rattle.xd_ledger.specs.Workers.{made_collected, slot_of}
+use Rattle.xd_ledger.specs.Retry.{is_retry}
 use Rattle.xd_ledger.specs.Sharing.{State, in_books}
 use Rattle.xd_ledger.specs.State.{down_plan, moved, no_one}
 use Rattle.xd_ledger.specs.Proper.{may_follow}
@@ -18,7 +19,7 @@ use Rattle.xd_ledger.specs.Orderly.{is_orderly, may_run, not_empty}
 use Rattle.xd_laws.specs.Called.{Reached}
 use Rattle.xd_laws.proofs.Logic.{cases_of, differ, split-and}
 use Rattle.xd_laws.proofs.Counts.{among-drop, among-times}
-use Rattle.xd_laws.proofs.Places.{times-table}
+use Rattle.xd_laws.proofs.Places.{no-retried, times-table}
 use Rattle.xd_laws.proofs.Placed.{Placed, due_times, first_among, shared-of_held}
 use Rattle.xd_laws.proofs.Inputs.{collecting-keeps}
 use Rattle.xd_laws.proofs.Walk.{Keeps}
@@ -36,12 +37,12 @@ named-some : (slot : ℕ) (is : List ℕ) (p : Plan) → not_empty is ≡ true �
 named-some slot [] p h = absurd (differ h)
 named-some slot (i ∷ is) p h = elim (is_each p.mode) as (λ b. not_empty (if b then (base slot p + i) ∷ map (λ j. base slot p + j) is else i ∷ is) ≡ true) [ true ↦ refl | false ↦ refl ]
 
--- a death changes nothing of such a plan
-down-unplanned : (settings : Settings) (w : ℕ) (rest : List ℕ) (p : Plan) → p ≡ (no_one settings).plan → down_plan w rest p ≡ p
+-- a death at which nothing is tried again changes nothing of such a plan
+down-unplanned : (settings : Settings) (w : ℕ) (rest : List ℕ) (p : Plan) → p ≡ (no_one settings).plan → down_plan w [] rest p ≡ p
 down-unplanned settings w rest p h =
     let start = (no_one settings).plan in
-    let same : down_plan w rest start ≡ start = ap (λ (us : List (List ℕ)). record start { queue = us }) (both-none (is_scope start.mode) [] refl) in
-    ap (down_plan w rest) h ∙ same ∙ sym h
+    let same : down_plan w [] rest start ≡ start = ap (λ (us : List (List ℕ)). record start { queue = us }) (both-none (is_scope start.mode) [] refl) in
+    ap (down_plan w [] rest) h ∙ same ∙ sym h
 
 -- where an item is in the pool the tests are shared
 shared-of_pool : (s : State) (x : ℕ) → Placed s → among x s.books.table.pool ≡ true → s.books.shared ≡ true
@@ -74,23 +75,38 @@ steal-shared s w is k h =
     let one = first_among is behind c.1 a.1 in
     shared-of_held s w one.0 k (among-drop one.0 2 (held w s.books.table) one.1)
 
-unplanned-said : (settings : Settings) (s : State) (e : Entry) → may_follow s e ≡ true → Unplanned settings s → Unplanned settings (moved s e)
-unplanned-said settings s (Ready w) h k = k
-unplanned-said settings s (Collected w g) h k =
+-- before the share nobody holds anything
+none-held : (s : State) (w : ℕ) → Placed s → s.books.shared ≡ false → held w s.books.table ≡ []
+none-held s w k n = by (held w s.books.table) refl
+  where
+    by : (xs : List ℕ) → held w s.books.table ≡ xs → xs ≡ []
+    by [] e = refl
+    by (x ∷ xs) e = absurd (differ (sym n ∙ shared-of_held s w x k (ap (λ (ys : List ℕ). among x ys) e ∙ grind (arith, nat_tests))))
+
+-- so a death changes nothing of the plan
+down-unheld : (settings : Settings) (s : State) (w : ℕ) → Placed s → s.plan ≡ (no_one settings).plan → s.books.shared ≡ false → (moved s (NotStarted w)).plan ≡ s.plan
+down-unheld settings s w k e n =
+    let rest = drop 1 (held w s.books.table) in
+    let none : retried_item (is_retry w s.books) (held w s.books.table) ≡ [] = ap (λ (xs : List ℕ). retried_item (is_retry w s.books) xs) (none-held s w k n) ∙ no-retried (is_retry w s.books) in
+    ap (λ (xs : List ℕ). down_plan w xs rest s.plan) none ∙ down-unplanned settings w rest s.plan e
+
+unplanned-said : (settings : Settings) (s : State) (e : Entry) → may_follow s e ≡ true → Placed s → Unplanned settings s → Unplanned settings (moved s e)
+unplanned-said settings s (Ready w) h d k = k
+unplanned-said settings s (Collected w g) h d k =
     collecting-keeps (Unplanned settings) (in_books (λ b. marked (made_collected w) (with_list w g b)) s) w (unequal w g (listed w s.books)) k k k (λ n e. absurd (differ (sym e)))
-unplanned-said settings s (Done w i u m o) h k = k
-unplanned-said settings s (Back w is) h k = λ n. ap (λ (p : Plan). record p { steal = None }) (k n)
-unplanned-said settings s (Finished w) h k = k
-unplanned-said settings s (Refused w t) h k = k
-unplanned-said settings s (Down w c o) h k = λ n. down-unplanned settings w (drop 1 (held w s.books.table)) s.plan (k n) ∙ k n
-unplanned-said settings s (NotStarted w) h k = λ n. down-unplanned settings w (drop 1 (held w s.books.table)) s.plan (k n) ∙ k n
-unplanned-said settings s (Start w slot) h k = absurd (differ h)
-unplanned-said settings s (Run w is) h k = absurd (differ h)
-unplanned-said settings s (RunAll w) h k = absurd (differ h)
-unplanned-said settings s (Steal w is) h k = absurd (differ h)
-unplanned-said settings s (Shutdown w) h k = absurd (differ h)
-unplanned-said settings s (Kill w) h k = absurd (differ h)
-unplanned-said settings s (Over how) h k = absurd (differ h)
+unplanned-said settings s (Done w i u m o) h d k = k
+unplanned-said settings s (Back w is) h d k = λ n. ap (λ (p : Plan). record p { steal = None }) (k n)
+unplanned-said settings s (Finished w) h d k = k
+unplanned-said settings s (Refused w t) h d k = k
+unplanned-said settings s (Down w c o) h d k = λ n. down-unheld settings s w d (k n) n ∙ k n
+unplanned-said settings s (NotStarted w) h d k = λ n. down-unheld settings s w d (k n) n ∙ k n
+unplanned-said settings s (Start w slot) h d k = absurd (differ h)
+unplanned-said settings s (Run w is) h d k = absurd (differ h)
+unplanned-said settings s (RunAll w) h d k = absurd (differ h)
+unplanned-said settings s (Steal w is) h d k = absurd (differ h)
+unplanned-said settings s (Shutdown w) h d k = absurd (differ h)
+unplanned-said settings s (Kill w) h d k = absurd (differ h)
+unplanned-said settings s (Over how) h d k = absurd (differ h)
 
 unplanned-told : (settings : Settings) (s : State) (e : Entry) → Placed s → is_orderly s e ≡ true → Unplanned settings s → Unplanned settings (moved s e)
 unplanned-told settings s (Start w slot) p h k = k
@@ -111,13 +127,13 @@ unplanned-told settings s (NotStarted w) p h k = absurd (differ h)
 
 keeps_unplanned : (settings : Settings) → Keeps settings (λ s es. Unplanned settings s)
 keeps_unplanned settings = record {
-  said = λ s es e d h at k. unplanned-said settings s e h k;
+  said = λ s es e d h at k. unplanned-said settings s e h d.placed k;
   told = λ s es e p h at k. unplanned-told settings s e p h k;
   settled = λ s es k. k;
 }
 
 -- a death before the share changes nothing of the plan
-pub down-unshared : (s : State) (w : ℕ) (rest : List ℕ) → Reached s → s.books.shared ≡ false → down_plan w rest s.plan ≡ s.plan
+pub down-unshared : (s : State) (w : ℕ) (rest : List ℕ) → Reached s → s.books.shared ≡ false → down_plan w [] rest s.plan ≡ s.plan
 down-unshared s w rest r n =
     let k : Unplanned r.settings s = subst (Unplanned r.settings) (sym r.state) (journal-keeps r.settings r.inputs (λ u es. Unplanned r.settings u) (keeps_unplanned r.settings) r.proper (λ e. refl)) in
     down-unplanned r.settings w rest s.plan (k n)

@@ -1,8 +1,7 @@
 -- The laws of a whole journal.
-use Rattle.std.proofs.Common.{◌≡◌, ℕ, ◌≤◌, ◌<◌, List, [], ◌∷◌, ◌++◌, map, Bool, true, false, refl, ap, sym, ◌∙◌, subst, arith, inl, inr}
+use Rattle.std.proofs.Common.{◌≡◌, ℕ, List, [], ◌∷◌, ◌++◌, map, Bool, true, false, refl, ap, sym, ◌∙◌, subst, arith, inl, inr}
 use Rattle.std.specs.Prelude.{filter, unwrap_or, Option, Some, None, is_some}
 use Rattle.std.proofs.lemmas.List.{append-nil}
-use Rattle.xd_journal.specs.declared.settings.Settings.{Settings}
 use Rattle.xd_journal.specs.declared.entry.RunStop.{RunStop}
 use Rattle.xd_journal.specs.declared.entry.RunStop.TheVariants.{Completed, OutFault}
 use Rattle.xd_journal.specs.declared.entry.Entry.{Entry}
@@ -17,17 +16,16 @@ use Rattle.xd_ledger.specs.Sharing.{State}
 use Rattle.xd_ledger.specs.State.{all_moved, no_one, settled, state_at}
 use Rattle.xd_ledger.specs.Histories.{begun, end_of, is_over, journal_of, stepped_all}
 use Rattle.xd_ledger.specs.Ending.{ending, may_close, over_in, stop_of}
-use Rattle.xd_ledger.specs.Proper.{IsProper}
 use Rattle.xd_ledger.specs.Reports.{Report, item_of, reports, reports_from, reports_in}
 use Rattle.xd_laws.specs.Collected.{collected}
-use Rattle.xd_laws.specs.Stopped.{Brings, StopsBy}
+use Rattle.xd_laws.specs.Stopped.{StopsBy}
 use Rattle.xd_laws.specs.Whole.{EndsRightly, IsWhole, NamesEach, tests_in}
 use Rattle.xd_laws.proofs.Logic.{cases_of}
 use Rattle.xd_laws.proofs.Turns.{all_moved-join}
 use Rattle.xd_laws.proofs.Walk.{journal-state, reports-append}
 use Rattle.xd_laws.proofs.NoOver.{NoOver, no-over-journal, stop-failed, stop-over}
 use Rattle.xd_laws.proofs.Stopping.{Tells, keeps_tells, stops-behind, tells-none}
-use Rattle.xd_laws.proofs.Laws.{in_one_place, journal-keeps, over-shared, reported_once, shared_total, lawful, none-reported}
+use Rattle.xd_laws.proofs.Laws.{journal-keeps, over-shared, reported_once, shared_total, lawful, none-reported}
 
 -- the end moves nothing and reports nothing
 

@@ -1,6 +1,6 @@
 -- Small journals that the laws of whole journals speak of, and others that they rule out.
 use Rattle.std.specs.Prelude.{◌≡◌, ℕ, List, [], ◌∷◌, ◌++◌, true, false, Some, None, map, pos}
-use Rattle.std.proofs.Common.{refl, arith, length, ap, sym, ◌∙◌, ◌<◌, subst, take}
+use Rattle.std.proofs.Common.{refl, arith, length, ap, sym, ◌∙◌, subst, take}
 use Rattle.std.specs.List.{list_any}
 use Rattle.xd_journal.specs.declared.settings.Settings.{Settings}
 use Rattle.xd_journal.specs.declared.journal.Journal.{Journal}
@@ -14,13 +14,13 @@ use Rattle.xd_journal.specs.declared.entry.Entry.{Entry}
 use Rattle.xd_journal.specs.declared.entry.Entry.TheVariants.{Ready, Collected, Done, Down, Start, Run, Kill, Over}
 use Rattle.xd_ledger.specs.Numbers.{first_of, times}
 use Rattle.xd_ledger.specs.Table.{held}
-use Rattle.xd_ledger.specs.Sharing.{State, in_books}
+use Rattle.xd_ledger.specs.Sharing.{in_books}
 use Rattle.xd_ledger.specs.Histories.{begun, is_over, journal_of, stepped_all}
 use Rattle.xd_ledger.specs.Ending.{ending, stop_in, stop_of}
 use Rattle.xd_ledger.specs.State.{state_at}
 use Rattle.xd_ledger.specs.Plan.{total}
 use Rattle.xd_ledger.specs.Proper.{IsProper}
-use Rattle.xd_ledger.specs.Reports.{Report, Result, item_of, reports, reports_in}
+use Rattle.xd_ledger.specs.Reports.{Report, item_of, reports, reports_in}
 use Rattle.xd_laws.specs.Collected.{IsShared, collected}
 use Rattle.xd_laws.specs.Crashes.{IsDeath}
 use Rattle.xd_laws.specs.Places.{HeldBy, InPool, Reported, StandsAt, place_by}
@@ -144,7 +144,7 @@ abbrev crashed : List Entry
 crashed = dealt ++ Down 0 Ended [] ∷ Kill 0 ∷ []
 
 crashed-head : IsDeath three crashed [] 0 0
-crashed-head = record { before = dealt; cause = Ended; output = []; after = Kill 0 ∷ []; are = refl; head = refl; reported = refl }
+crashed-head = record { before = dealt; cause = Ended; output = []; after = Kill 0 ∷ []; are = refl; head = refl; final = refl; reported = refl }
 
 -- it stands for the test behind the head
 crash_behind_head : first_of (held 0 (state_at three dealt).books.table) ≡ Some 2 → ⊥

@@ -7,6 +7,7 @@ use Rattle.xd_ledger.specs.Numbers.{among, times}
 use Rattle.xd_ledger.specs.Table.{Table, all_items, held}
 use Rattle.xd_ledger.specs.Plan.{items_named, slot_items, total}
 use Rattle.xd_ledger.specs.Workers.{slot_of}
+use Rattle.xd_ledger.specs.Retry.{is_retry}
 use Rattle.xd_ledger.specs.Sharing.{State}
 use Rattle.xd_ledger.specs.State.{moved, next, no_one, reached}
 
@@ -20,15 +21,15 @@ abbrev pub brings_share : State → Entry → Bool
 brings_share s e = not s.books.shared && (moved s e).books.shared
 
 -- where the entry puts the item, where it moves it: a Run or a RunAll gives it to a worker, its result and the death of
--- the worker at whose head it stands report it, and the share, its return, and the death of a worker that holds it behind
--- the head bring it to the pool
+-- the worker at whose head it stands report it, and the share, its return, the death of a worker that holds it behind the
+-- head, and that of a worker at whose head it stands where it is tried again bring it to the pool
 abbrev pub puts : State → Entry → ℕ → Option Place
 puts s (Run w indices) x = if among x (items_named (slot_of w s.books) indices s.plan) then Some (HeldBy w) else None
 puts s (RunAll w) x = if among x (slot_items (slot_of w s.books) s.plan) then Some (HeldBy w) else None
 puts s (Done w index outcome ms output) x = if among x (items_named (slot_of w s.books) (index ∷ []) s.plan) then Some Reported else None
 puts s (Back w indices) x = if among x (items_named (slot_of w s.books) indices s.plan) then Some InPool else None
 puts s (Down w cause output) x =
-    if among x (take 1 (held w s.books.table)) then Some Reported else (if among x (drop 1 (held w s.books.table)) then Some InPool else None)
+    if among x (take 1 (held w s.books.table)) then Some (if is_retry w s.books then InPool else Reported) else (if among x (drop 1 (held w s.books.table)) then Some InPool else None)
 puts s (Collected w given) x =
     if brings_share s (Collected w given) && nat_lt x (total (moved s (Collected w given)).plan) then Some InPool else None
 puts s _ x = None

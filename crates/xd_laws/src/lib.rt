@@ -10,6 +10,7 @@ ghost use Rattle.xd_ledger.specs.State.{state_at};
 ghost use Rattle.xd_ledger.specs.Stops.{is_stopped};
 ghost use Rattle.xd_ledger.specs.Proper.{IsProper};
 ghost use Rattle.xd_ledger.specs.Orderly.{is_orderly_run};
+ghost use Rattle.xd_ledger.specs.Owes.{someone_owes};
 ghost use Rattle.xd_ledger.specs.Reports.{Report, Crash, reports};
 ghost use Rattle.xd_laws.specs.Collected.{IsShared};
 ghost use Rattle.xd_laws.specs.Crashes.{IsDeath};
@@ -70,4 +71,10 @@ pub fn place_law()
 /// ahead of it, and its test was the first that the worker held there.
 pub fn crash_law()
     ensures { (settings : Settings) (es : List Entry) (earlier : List Report) (later : List Report) (worker : ℕ) (item : ℕ) → reports settings es ≡ earlier ++ Crash worker item ∷ later → IsDeath settings es earlier worker item }
+{}
+
+/// In every mode, behind whatever proper inputs, a run that is not over has a worker that owes the next step: it is not ready
+/// yet, has not collected, is to end, has a test that it may start, or has to answer a steal.
+pub fn owes_law()
+    ensures { (settings : Settings) (inputs : List Entry) → IsProper settings inputs → is_over (stepped_all (begun settings) inputs).books ≡ false → someone_owes (stepped_all (begun settings) inputs) ≡ true }
 {}
