@@ -28,7 +28,7 @@ have_a_form() {
     while [ $# -gt 0 ]; do
         case "$1" in
             -d | -x | --no-loadscope-reorder) ;;
-            -n | --dist | --tx | --maxfail | --max-worker-restart | --maxschedchunk)
+            -n | --dist | --tx | --maxfail | --max-worker-restart | --crash-retries | --maxschedchunk)
                 is_value_of "$1" "${2-}" || return 1
                 shift
                 ;;

@@ -214,7 +214,7 @@ module _ (tests : List Test) (maxfail : ℕ) (j1 : Journal) (shown : Bool) (old 
 
   names : NamesTests j1
   names = record {
-    lines = stands Lines (lines-named (local_settings maxfail) (first ∷ []) rest (record { slot = 0; worker = 0; ids = ids }) refl refl refl);
+    lines = stands Lines (lines-named (local_settings maxfail) (first ∷ []) rest (record { slot = 0; worker = 0; ids = ids }) refl refl refl refl);
     blocks = stands Blocks (blocks-named (local_settings maxfail) (first ∷ []) rest (record { slot = 0; worker = 0; ids = ids }) refl refl refl);
   }
     where

@@ -15,15 +15,16 @@ use Rattle.xd_ledger.specs.Collections.{listed, unequal, with_list}
 use Rattle.xd_ledger.specs.Numbers.{first_of}
 use Rattle.xd_ledger.specs.Plan.{base, is_each}
 use Rattle.xd_ledger.specs.Reports.{Report, Result, Crash, reports_of, reports_from}
+use Rattle.xd_ledger.specs.Retry.{is_retry}
 use Rattle.xd_ledger.specs.Sharing.{State, in_books, is_full, shared_now}
 use Rattle.xd_ledger.specs.State.{after_collected, collecting, is_input, moved, next, reached, settled}
 use Rattle.xd_ledger.specs.Stops.{stopped_by}
-use Rattle.xd_ledger.specs.Table.{held, joined}
+use Rattle.xd_ledger.specs.Table.{crash_item, held, joined}
 use Rattle.xd_ledger.specs.Workers.{is_shut, made_collected, slot_of}
 use Rattle.xd_report.specs.declared.counts.Counts.{Counts}
 use Rattle.xd_report.specs.Blocks.{block, block_of, blocks_from, crash_reason}
-use Rattle.xd_report.specs.EachReport.{Block, Line, Tests, Of, NodeDown, Replaces, HasBlockEach, HasLineEach, outputs_from, outputs_of, text_of_blocks, text_of_report, reports_told, text_of_line, text_of_lines, is_failure, is_passed, is_skipped}
-use Rattle.xd_report.specs.Lines.{collected_line, crashed_line, last_of_slot, lines_from, lines_of, replacing}
+use Rattle.xd_report.specs.EachReport.{Block, Line, Tests, Of, NodeDown, Retried, Replaces, HasBlockEach, HasLineEach, outputs_from, outputs_of, text_of_blocks, text_of_report, reports_told, text_of_line, text_of_lines, is_failure, is_passed, is_skipped}
+use Rattle.xd_report.specs.Lines.{collected_line, last_of_slot, lines_from, lines_of, lost_line, replacing}
 use Rattle.xd_report.specs.Summary.{counted, counted_from}
 use Rattle.xd_report.specs.Tests.{id_of, item_id, mode_of, tests}
 
@@ -54,19 +55,21 @@ of_done field kind s w i outcome ms out step n =
     let one = done-reports s w i outcome ms out in
     step one.0 n ∙ ap (λ rs. field n + many kind rs) (sym one.1)
 
-failed-down : (h : List ℕ) (w n : ℕ) → n + (if is_some (first_of h) then 1 else 0) ≡ n + many is_failure (map (λ item. Crash w item) (take 1 h))
-failed-down [] w n = refl
-failed-down (x ∷ xs) w n = refl
+failed-down : (h : List ℕ) (retry : Bool) (w n : ℕ) → n + (if is_some (first_of (crash_item retry h)) then 1 else 0) ≡ n + many is_failure (map (λ item. Crash w item) (crash_item retry h))
+failed-down h true w n = refl
+failed-down [] false w n = refl
+failed-down (x ∷ xs) false w n = refl
 
-none-down : (kind : Report → Bool) (h : List ℕ) (w n : ℕ) → ((item : ℕ) → kind (Crash w item) ≡ false) → n ≡ n + many kind (map (λ item. Crash w item) (take 1 h))
-none-down kind [] w n none = sym (add-zero n)
-none-down kind (x ∷ xs) w n none = sym (add-zero n) ∙ ap (λ b. n + length (if b then (Crash w x ∷ []) else [])) (sym (none x))
+none-down : (kind : Report → Bool) (h : List ℕ) (retry : Bool) (w n : ℕ) → ((item : ℕ) → kind (Crash w item) ≡ false) → n ≡ n + many kind (map (λ item. Crash w item) (crash_item retry h))
+none-down kind h true w n none = sym (add-zero n)
+none-down kind [] false w n none = sym (add-zero n)
+none-down kind (x ∷ xs) false w n none = sym (add-zero n) ∙ ap (λ b. n + length (if b then (Crash w x ∷ []) else [])) (sym (none x))
 
 failed-adds : (s : State) (e : Entry) → Adds (λ n. n.failed) is_failure s e
 failed-adds s (Done w i Passed ms out) = of_done (λ n. n.failed) is_failure s w i Passed ms out (λ item n. sym (add-zero n.failed))
 failed-adds s (Done w i Skipped ms out) = of_done (λ n. n.failed) is_failure s w i Skipped ms out (λ item n. sym (add-zero n.failed))
 failed-adds s (Done w i (Failed code) ms out) = of_done (λ n. n.failed) is_failure s w i (Failed code) ms out (λ item n. refl)
-failed-adds s (Down w cause out) = λ n. failed-down (held w s.books.table) w n.failed
+failed-adds s (Down w cause out) = λ n. failed-down (held w s.books.table) (is_retry w s.books) w n.failed
 failed-adds s (Ready w) = λ n. refl
 failed-adds s (Collected w given) = λ n. refl
 failed-adds s (Back w is) = λ n. refl
@@ -85,7 +88,7 @@ passed-adds : (s : State) (e : Entry) → Adds (λ n. n.passed) is_passed s e
 passed-adds s (Done w i Passed ms out) = of_done (λ n. n.passed) is_passed s w i Passed ms out (λ item n. refl)
 passed-adds s (Done w i Skipped ms out) = of_done (λ n. n.passed) is_passed s w i Skipped ms out (λ item n. sym (add-zero n.passed))
 passed-adds s (Done w i (Failed code) ms out) = of_done (λ n. n.passed) is_passed s w i (Failed code) ms out (λ item n. sym (add-zero n.passed))
-passed-adds s (Down w cause out) = λ n. none-down is_passed (held w s.books.table) w n.passed (λ item. refl)
+passed-adds s (Down w cause out) = λ n. none-down is_passed (held w s.books.table) (is_retry w s.books) w n.passed (λ item. refl)
 passed-adds s (Ready w) = λ n. sym (add-zero n.passed)
 passed-adds s (Collected w given) = λ n. sym (add-zero n.passed)
 passed-adds s (Back w is) = λ n. sym (add-zero n.passed)
@@ -104,7 +107,7 @@ skipped-adds : (s : State) (e : Entry) → Adds (λ n. n.skipped) is_skipped s e
 skipped-adds s (Done w i Passed ms out) = of_done (λ n. n.skipped) is_skipped s w i Passed ms out (λ item n. sym (add-zero n.skipped))
 skipped-adds s (Done w i Skipped ms out) = of_done (λ n. n.skipped) is_skipped s w i Skipped ms out (λ item n. refl)
 skipped-adds s (Done w i (Failed code) ms out) = of_done (λ n. n.skipped) is_skipped s w i (Failed code) ms out (λ item n. sym (add-zero n.skipped))
-skipped-adds s (Down w cause out) = λ n. none-down is_skipped (held w s.books.table) w n.skipped (λ item. refl)
+skipped-adds s (Down w cause out) = λ n. none-down is_skipped (held w s.books.table) (is_retry w s.books) w n.skipped (λ item. refl)
 skipped-adds s (Ready w) = λ n. sym (add-zero n.skipped)
 skipped-adds s (Collected w given) = λ n. sym (add-zero n.skipped)
 skipped-adds s (Back w is) = λ n. sym (add-zero n.skipped)
@@ -199,6 +202,7 @@ told-append [] ys = refl
 told-append (Of report id ∷ xs) ys = ap (λ (l : List Report). report ∷ l) (told-append xs ys)
 told-append (Tests n k ∷ xs) ys = told-append xs ys
 told-append (NodeDown w why ∷ xs) ys = told-append xs ys
+told-append (Retried w item id ∷ xs) ys = told-append xs ys
 told-append (Replaces old ∷ xs) ys = told-append xs ys
 
 abbrev pub join : (mode : ModeKind) (a b : List ℕ) (rs ss : List Report) → HasLineEach mode a rs → HasLineEach mode b ss → HasLineEach mode (a ++ b) (rs ++ ss)
@@ -222,9 +226,12 @@ perhaps : (mode : ModeKind) (b : Bool) (l : Line) → reports_told (l ∷ []) �
 perhaps mode true l none = plain_line mode l none
 perhaps mode false l none = nothing mode
 
-crash_lines : (mode : ModeKind) (w : ℕ) (id : ℕ → List ℕ) (h : List ℕ) → HasLineEach mode (elim (first_of h) [ None ↦ [] | Some item ↦ crashed_line mode w (id item) ]) (map (λ item. Crash w item) (take 1 h))
-crash_lines mode w id [] = nothing mode
-crash_lines mode w id (x ∷ xs) = report_line mode (Crash w x) (id x)
+lost_lines : (mode : ModeKind) (w : ℕ) (id : ℕ → List ℕ) (h : List ℕ) (retry : Bool)
+    → HasLineEach mode (elim (first_of h) [ None ↦ [] | Some item ↦ lost_line retry mode w (id item) ]) (map (λ item. Crash w item) (crash_item retry h))
+lost_lines mode w id [] true = nothing mode
+lost_lines mode w id [] false = nothing mode
+lost_lines mode w id (x ∷ xs) true = plain_line mode (Retried w x (id x)) refl
+lost_lines mode w id (x ∷ xs) false = report_line mode (Crash w x) (id x)
 
 replacing_lines : (mode : ModeKind) (old : Option ℕ) → HasLineEach mode (replacing mode old) []
 replacing_lines mode None = nothing mode
@@ -238,7 +245,7 @@ entry_lines s (Done w i outcome ms out) =
     let one = done-reports s w i outcome ms out in
     subst (λ (rs : List Report). HasLineEach (mode_of s) (lines_of s (Done w i outcome ms out)) rs) (sym one.1) (report_line (mode_of s) (Result w one.0 outcome) (id_of w i s))
 entry_lines s (Down w cause out) =
-    join (mode_of s) _ _ [] _ (plain_line (mode_of s) (NodeDown w (Some cause)) refl) (crash_lines (mode_of s) w (λ item. item_id w item s) (held w s.books.table))
+    join (mode_of s) _ _ [] _ (plain_line (mode_of s) (NodeDown w (Some cause)) refl) (lost_lines (mode_of s) w (λ item. item_id w item s) (held w s.books.table) (is_retry w s.books))
 entry_lines s (NotStarted w) = plain_line (mode_of s) (NodeDown w None) refl
 entry_lines s (Start w slot) = replacing_lines (mode_of s) (last_of_slot slot s.books.crew None)
 entry_lines s (Ready w) = nothing (mode_of s)
@@ -295,10 +302,11 @@ one_block mode report id output fails = record {
   outputs_are = refl;
 }
 
-crash_blocks : (mode : ModeKind) (w : ℕ) (id : ℕ → List ℕ) (output h : List ℕ)
-    → HasBlockEach mode (elim (first_of h) [ None ↦ [] | Some item ↦ block mode w (id item) (crash_reason mode w (id item)) output ]) (map (λ item. Crash w item) (take 1 h)) (map (λ _. output) (take 1 h))
-crash_blocks mode w id output [] = no_block mode [] refl
-crash_blocks mode w id output (x ∷ xs) = one_block mode (Crash w x) (id x) output refl
+crash_blocks : (mode : ModeKind) (w : ℕ) (id : ℕ → List ℕ) (output h : List ℕ) (retry : Bool)
+    → HasBlockEach mode (elim (first_of (crash_item retry h)) [ None ↦ [] | Some item ↦ block mode w (id item) (crash_reason mode w (id item)) output ]) (map (λ item. Crash w item) (crash_item retry h)) (map (λ _. output) (crash_item retry h))
+crash_blocks mode w id output h true = no_block mode [] refl
+crash_blocks mode w id output [] false = no_block mode [] refl
+crash_blocks mode w id output (x ∷ xs) false = one_block mode (Crash w x) (id x) output refl
 
 entry_blocks : (s : State) (e : Entry) → HasBlockEach (mode_of s) (block_of s e) (reports_of s e) (outputs_of s e)
 entry_blocks s (Done w i Passed ms out) =
@@ -311,7 +319,7 @@ entry_blocks s (Done w i (Failed code) ms out) =
     let one = done-reports s w i (Failed code) ms out in
     subst (λ (rs : List Report). HasBlockEach (mode_of s) (block_of s (Done w i (Failed code) ms out)) rs (out ∷ [])) (sym one.1)
     (one_block (mode_of s) (Result w one.0 (Failed code)) (id_of w i s) out refl)
-entry_blocks s (Down w cause out) = crash_blocks (mode_of s) w (λ item. item_id w item s) out (held w s.books.table)
+entry_blocks s (Down w cause out) = crash_blocks (mode_of s) w (λ item. item_id w item s) out (held w s.books.table) (is_retry w s.books)
 entry_blocks s (Collected w given) = no_block (mode_of s) [] refl
 entry_blocks s (NotStarted w) = no_block (mode_of s) [] refl
 entry_blocks s (Start w slot) = no_block (mode_of s) [] refl

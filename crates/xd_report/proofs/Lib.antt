@@ -1,5 +1,6 @@
 pub mod EachReport
 pub mod Endings
+mod Heads
 pub mod Kept
 pub mod Loops
 pub mod Moves

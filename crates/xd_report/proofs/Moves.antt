@@ -13,11 +13,11 @@ use Rattle.xd_report.specs.Follows.{Follows, bare}
 use Rattle.xd_report.proofs.Kept.{not_kept}
 
 pub settle : (r : Reporter) (s : State) → Follows r s → Follows r (settled s)
-settle r s f = record { settings = f.settings; mode = f.mode; crew = f.crew; lists = f.lists; rota = f.rota; shared = f.shared; sizes = f.sizes; failures = f.failures; deaths = f.deaths; stop = f.stop }
+settle r s f = record { settings = f.settings; mode = f.mode; crew = f.crew; lists = f.lists; rota = f.rota; shared = f.shared; sizes = f.sizes; failures = f.failures; deaths = f.deaths; lost = f.lost; stop = f.stop }
 
 -- a mark that is not kept
 pub mark : (r : Reporter) (s : State) (change : Member → Member) → ((m : Member) → bare (change m) ≡ bare m) → Follows r s → Follows r (in_books (marked change) s)
-mark r s change same f = record { settings = f.settings; mode = f.mode; crew = not_kept change s.books.crew same ∙ f.crew; lists = f.lists; rota = f.rota; shared = f.shared; sizes = f.sizes; failures = f.failures; deaths = f.deaths; stop = f.stop }
+mark r s change same f = record { settings = f.settings; mode = f.mode; crew = not_kept change s.books.crew same ∙ f.crew; lists = f.lists; rota = f.rota; shared = f.shared; sizes = f.sizes; failures = f.failures; deaths = f.deaths; lost = f.lost; stop = f.stop }
 
 -- a worker that was told to shut down does not join
 pub stays : (w : ℕ) (how : Option RunStop) (s : State) → is_shut w s.books ≡ true → collecting w how s ≡ s

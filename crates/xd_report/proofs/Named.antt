@@ -15,16 +15,17 @@ use Rattle.xd_ledger.specs.Collections.{ids_of, key, listed, listed_in, lists_wi
 use Rattle.xd_ledger.specs.Numbers.{first_of}
 use Rattle.xd_ledger.specs.Plan.{Plan, base, is_each, items_named}
 use Rattle.xd_ledger.specs.Reports.{Report, Result, Crash, reports, reports_from, reports_of}
+use Rattle.xd_ledger.specs.Retry.{is_retry}
 use Rattle.xd_ledger.specs.Sharing.{State, ids_at, in_books, is_full, shared_now}
 use Rattle.xd_ledger.specs.State.{after_collected, all_moved, collecting, is_input, moved, next, no_one, reached, settled}
 use Rattle.xd_ledger.specs.Stops.{stopped_by}
-use Rattle.xd_ledger.specs.Table.{held, joined}
+use Rattle.xd_ledger.specs.Table.{crash_item, held, joined, retried_item}
 use Rattle.xd_ledger.specs.Workers.{is_shut, made_collected, slot_of}
 use Rattle.xd_report.specs.Blocks.{block, block_of, blocks_from, crash_reason}
-use Rattle.xd_report.specs.EachReport.{Block, Line, Tests, Of, NodeDown, Replaces, HasNamedBlockEach, HasNamedLineEach, Names, NamesBlocks, id_in, is_failure, kept_outputs, outputs_from, outputs_of, reports_told, text_of_line, text_of_report}
-use Rattle.xd_report.specs.Lines.{collected_line, crashed_line, last_of_slot, lines_from, lines_of, replacing, run_lines}
+use Rattle.xd_report.specs.EachReport.{Block, Line, Tests, Of, NodeDown, Retried, Replaces, HasNamedBlockEach, HasNamedLineEach, Names, NamesBlocks, id_in, is_failure, kept_outputs, outputs_from, outputs_of, reports_told, retried, retried_from, retried_of, text_of_line, text_of_report}
+use Rattle.xd_report.specs.Lines.{collected_line, last_of_slot, lines_from, lines_of, lost_line, replacing, run_lines}
 use Rattle.xd_report.specs.Tests.{id_of, item_id, mode_of, tests}
-use Rattle.xd_report.proofs.EachReport.{all_blocks, all_lines, collected-settings, join, join_blocks, next-settings}
+use Rattle.xd_report.proofs.EachReport.{all_blocks, collected-settings, join, join_blocks, next-settings}
 use Rattle.xd_report.proofs.Texts.{blocks-more, lines-more}
 
 -- lines with names, put together
@@ -34,6 +35,7 @@ names-append name [] ys n m = m
 names-append name (Of report id ∷ xs) ys n m = (n.0, names-append name xs ys n.1 m)
 names-append name (Tests k workers ∷ xs) ys n m = names-append name xs ys n m
 names-append name (NodeDown w why ∷ xs) ys n m = names-append name xs ys n m
+names-append name (Retried w item id ∷ xs) ys n m = (n.0, names-append name xs ys n.1 m)
 names-append name (Replaces old ∷ xs) ys n m = names-append name xs ys n m
 
 both : (name : Report → List ℕ) (mode : ModeKind) (a b : List ℕ) (rs ss : List Report) → HasNamedLineEach name mode a rs → HasNamedLineEach name mode b ss → HasNamedLineEach name mode (a ++ b) (rs ++ ss)
@@ -63,18 +65,12 @@ replacing_named : (name : Report → List ℕ) (mode : ModeKind) (old : Option �
 replacing_named name mode None = none name mode
 replacing_named name mode (Some old) = other name mode (Replaces old) refl tt
 
-crash_named : (name : Report → List ℕ) (mode : ModeKind) (w : ℕ) (id : ℕ → List ℕ) (h : List ℕ) → ((item : ℕ) → first_of h ≡ Some item → id item ≡ name (Crash w item))
-    → HasNamedLineEach name mode (elim (first_of h) [ None ↦ [] | Some item ↦ crashed_line mode w (id item) ]) (map (λ item. Crash w item) (take 1 h))
-crash_named name mode w id [] right = none name mode
-crash_named name mode w id (x ∷ xs) right = one name mode (Crash w x) (id x) (right x refl)
-
--- lines that are of no report
-unnamed : (name : Report → List ℕ) (ls : List Line) → reports_told ls ≡ [] → Names name ls
-unnamed name [] e = tt
-unnamed name (Of report id ∷ ls) e = absurd (cc)
-unnamed name (Tests k workers ∷ ls) e = unnamed name ls e
-unnamed name (NodeDown w why ∷ ls) e = unnamed name ls e
-unnamed name (Replaces old ∷ ls) e = unnamed name ls e
+lost_named : (name : Report → List ℕ) (mode : ModeKind) (w : ℕ) (id : ℕ → List ℕ) (h : List ℕ) (retry : Bool) → ((item : ℕ) → first_of h ≡ Some item → id item ≡ name (Crash w item))
+    → HasNamedLineEach name mode (elim (first_of h) [ None ↦ [] | Some item ↦ lost_line retry mode w (id item) ]) (map (λ item. Crash w item) (crash_item retry h))
+lost_named name mode w id [] true right = none name mode
+lost_named name mode w id [] false right = none name mode
+lost_named name mode w id (x ∷ xs) true right = other name mode (Retried w x (id x)) refl (right x refl, tt)
+lost_named name mode w id (x ∷ xs) false right = one name mode (Crash w x) (id x) (right x refl)
 
 -- an entry that is reached here gives its test the id that it has by these names
 abbrev pub Right : (Report → List ℕ) → State → Entry → Type 0
@@ -112,7 +108,7 @@ module _ (name : Report → List ℕ) where
       subst (λ (k : Settings). HasNamedLineEach name k.mode (collected_line s.books.shared t) []) (collected-settings w given s) (perhaps name (mode_of t) _ (tests t) t.books.settings.workers)
   entry_named s (Done w i outcome ms out) right = done-named s w i outcome ms out right
   entry_named s (Down w cause out) right =
-      both name (mode_of s) _ _ [] _ (other name (mode_of s) (NodeDown w (Some cause)) refl tt) (crash_named name (mode_of s) w (λ item. item_id w item s) (held w s.books.table) right)
+      both name (mode_of s) _ _ [] _ (other name (mode_of s) (NodeDown w (Some cause)) refl tt) (lost_named name (mode_of s) w (λ item. item_id w item s) (held w s.books.table) (is_retry w s.books) right)
   entry_named s (NotStarted w) right = other name (mode_of s) (NodeDown w None) refl tt
   entry_named s (Start w slot) right = replacing_named name (mode_of s) (last_of_slot slot s.books.crew None)
   entry_named s (Ready w) right = none name (mode_of s)
@@ -134,6 +130,45 @@ module _ (name : Report → List ℕ) where
       both name settings.mode (lines_of t e) (lines_from (next s e) es) (reports_of t e) (reports_from (next s e) es)
       (subst (λ (k : Settings). HasNamedLineEach name k.mode (lines_of t e) (reports_of t e)) (reached-settings (is_input e) s ∙ set) (entry_named t e right.0))
       (lines-by settings (next s e) es (next-settings s e ∙ set) right.1)
+
+-- entries without a report that try no test again have no line with an id
+
+no-items : (name : Report → List ℕ) (w : ℕ) (id : ℕ → List ℕ) (h : List ℕ) (retry : Bool) → map (λ item. Crash w item) (crash_item retry h) ≡ [] → retried_item retry h ≡ []
+    → (item : ℕ) → first_of h ≡ Some item → id item ≡ name (Crash w item)
+no-items name w id [] retry no_report no_retry item is = absurd (cc)
+no-items name w id (x ∷ xs) true no_report no_retry item is = absurd (cc)
+no-items name w id (x ∷ xs) false no_report no_retry item is = absurd (cc)
+
+quiet : (name : Report → List ℕ) (s : State) (e : Entry) → reports_of s e ≡ [] → retried_of s e ≡ [] → Right name s e
+quiet name s (Done w i outcome ms out) no_report no_retry = λ item is.
+    (let one_report : Result w item outcome ∷ [] ≡ [] = ap (map (λ x. Result w x outcome)) (sym is) ∙ no_report in
+    absurd (cc))
+quiet name s (Down w cause out) no_report no_retry = no-items name w (λ item. item_id w item s) (held w s.books.table) (is_retry w s.books) no_report no_retry
+quiet name s (Collected w given) no_report no_retry = tt
+quiet name s (NotStarted w) no_report no_retry = tt
+quiet name s (Start w slot) no_report no_retry = tt
+quiet name s (Ready w) no_report no_retry = tt
+quiet name s (Back w is) no_report no_retry = tt
+quiet name s (Finished w) no_report no_retry = tt
+quiet name s (Refused w text) no_report no_retry = tt
+quiet name s (Run w is) no_report no_retry = tt
+quiet name s (RunAll w) no_report no_retry = tt
+quiet name s (Steal w is) no_report no_retry = tt
+quiet name s (Shutdown w) no_report no_retry = tt
+quiet name s (Kill w) no_report no_retry = tt
+quiet name s (Over how) no_report no_retry = tt
+
+both-none : {X : Type 0} → (xs ys : List X) → xs ++ ys ≡ [] → (xs ≡ []) × (ys ≡ [])
+both-none [] ys e = (refl, e)
+both-none (x ∷ xs) ys e = absurd (cc)
+
+quiet-all : (name : Report → List ℕ) (s : State) (es : List Entry) → reports_from s es ≡ [] → retried_from s es ≡ [] → AllRight name s es
+quiet-all name s [] no_report no_retry = tt
+quiet-all name s (e ∷ es) no_report no_retry =
+    let t = reached s e in
+    let first = both-none (reports_of t e) (reports_from (next s e) es) no_report in
+    let again = both-none (retried_of t e) (retried_from (next s e) es) no_retry in
+    (quiet name t e first.0 again.0, quiet-all name (next s e) es first.1 again.1)
 
 -- a run whose first collection this is, in no mode each
 record Listing (settings : Settings) (first : Listed) (s : State) : Type 0 where
@@ -257,10 +292,11 @@ one_block name mode report id output fails right = record {
   names = (right, tt);
 }
 
-crash_block : (name : Report → List ℕ) (mode : ModeKind) (w : ℕ) (id : ℕ → List ℕ) (output h : List ℕ) → ((item : ℕ) → first_of h ≡ Some item → id item ≡ name (Crash w item))
-    → HasNamedBlockEach name mode (elim (first_of h) [ None ↦ [] | Some item ↦ block mode w (id item) (crash_reason mode w (id item)) output ]) (map (λ item. Crash w item) (take 1 h)) (map (λ _. output) (take 1 h))
-crash_block name mode w id output [] right = no_block name mode [] refl
-crash_block name mode w id output (x ∷ xs) right = one_block name mode (Crash w x) (id x) output refl (right x refl)
+crash_block : (name : Report → List ℕ) (mode : ModeKind) (w : ℕ) (id : ℕ → List ℕ) (output h : List ℕ) (retry : Bool) → ((item : ℕ) → first_of h ≡ Some item → id item ≡ name (Crash w item))
+    → HasNamedBlockEach name mode (elim (first_of (crash_item retry h)) [ None ↦ [] | Some item ↦ block mode w (id item) (crash_reason mode w (id item)) output ]) (map (λ item. Crash w item) (crash_item retry h)) (map (λ _. output) (crash_item retry h))
+crash_block name mode w id output h true right = no_block name mode [] refl
+crash_block name mode w id output [] false right = no_block name mode [] refl
+crash_block name mode w id output (x ∷ xs) false right = one_block name mode (Crash w x) (id x) output refl (right x refl)
 
 module _ (name : Report → List ℕ) where
   quiet-block : (s : State) (w i : ℕ) (outcome : Outcome) → ((item : ℕ) → is_failure (Result w item outcome) ≡ false)
@@ -280,7 +316,7 @@ module _ (name : Report → List ℕ) where
   entry_block s (Done w i Passed ms out) right = quiet-block s w i Passed (λ item. refl)
   entry_block s (Done w i Skipped ms out) right = quiet-block s w i Skipped (λ item. refl)
   entry_block s (Done w i (Failed code) ms out) right = failed-block s w i code ms out right
-  entry_block s (Down w cause out) right = crash_block name (mode_of s) w (λ item. item_id w item s) out (held w s.books.table) right
+  entry_block s (Down w cause out) right = crash_block name (mode_of s) w (λ item. item_id w item s) out (held w s.books.table) (is_retry w s.books) right
   entry_block s (Collected w given) right = no_block name (mode_of s) [] refl
   entry_block s (NotStarted w) right = no_block name (mode_of s) [] refl
   entry_block s (Start w slot) right = no_block name (mode_of s) [] refl
@@ -367,15 +403,13 @@ behind settings before first first_is = record {
   first_is = first_is;
 }
 
-pub lines-named : (settings : Settings) (before more : List Entry) (first : Listed) → is_each settings.mode ≡ false → reports settings before ≡ []
+pub lines-named : (settings : Settings) (before more : List Entry) (first : Listed) → is_each settings.mode ≡ false → reports settings before ≡ [] → retried settings before ≡ []
     → listed_in 0 (all_moved (no_one settings) before).books.lists ≡ Some first
     → HasNamedLineEach (id_in first.ids) settings.mode (run_lines settings (before ++ more)) (reports settings (before ++ more))
-lines-named settings before more first one_list no_report first_is =
+lines-named settings before more first one_list no_report no_retry first_is =
     let s = all_moved (no_one settings) before in
     let l = behind settings before first first_is in
-    let ahead = all_lines (no_one settings) before in
-    let x : HasNamedLineEach (id_in first.ids) settings.mode (run_lines settings before) (reports settings before) =
-    record { each = ahead; names = unnamed (id_in first.ids) ahead.lines (ahead.each_once ∙ no_report) } in
+    let x = lines-by (id_in first.ids) settings (no_one settings) before refl (quiet-all (id_in first.ids) (no_one settings) before no_report no_retry) in
     let y = lines-by (id_in first.ids) settings s more l.set (all-right settings first one_list s more l) in
     let joined_up = both (id_in first.ids) settings.mode (run_lines settings before) (lines_from s more) (reports settings before) (reports_from s more) x y in
     subst (λ (text : List ℕ). HasNamedLineEach (id_in first.ids) settings.mode text (reports settings (before ++ more))) (sym (lines-more (no_one settings) before more))

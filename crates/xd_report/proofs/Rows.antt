@@ -22,7 +22,7 @@ abbrev ten_ids : List (List ℕ)
 ten_ids = (97 ∷ []) ∷ (98 ∷ []) ∷ (99 ∷ []) ∷ (100 ∷ []) ∷ (101 ∷ []) ∷ (102 ∷ []) ∷ (103 ∷ []) ∷ (104 ∷ []) ∷ (105 ∷ []) ∷ (106 ∷ []) ∷ []
 
 abbrev load_maxfail_settings : Settings
-load_maxfail_settings = record { mode = Load; workers = 2; maxfail = 1; restarts = 8; chunk = None; reorder = true }
+load_maxfail_settings = record { mode = Load; workers = 2; maxfail = 1; restarts = 8; chunk = None; reorder = true; retries = 0 }
 
 abbrev load_maxfail : List Entry
 load_maxfail = Start 0 0 ∷ Start 1 1 ∷ Ready 0 ∷ Collected 0 (ids.List ten_ids) ∷ Ready 1 ∷ Collected 1 ids.Same ∷ Run 0 (0 ∷ 1 ∷ []) ∷ Run 1 (2 ∷ 3 ∷ []) ∷ Done 0 0 (Failed (pos 1)) 5 [] ∷ Shutdown 0 ∷ Shutdown 1 ∷ Done 0 1 Passed 5 [] ∷ Done 1 2 Passed 5 [] ∷ Done 1 3 Passed 5 [] ∷ Finished 0 ∷ Finished 1 ∷ []
@@ -41,7 +41,7 @@ abbrev five_other_ids : List (List ℕ)
 five_other_ids = (97 ∷ []) ∷ (98 ∷ []) ∷ (99 ∷ []) ∷ (100 ∷ []) ∷ (102 ∷ []) ∷ []
 
 abbrev load_unequal_settings : Settings
-load_unequal_settings = record { mode = Load; workers = 2; maxfail = 0; restarts = 8; chunk = None; reorder = true }
+load_unequal_settings = record { mode = Load; workers = 2; maxfail = 0; restarts = 8; chunk = None; reorder = true; retries = 0 }
 
 abbrev load_unequal : List Entry
 load_unequal = Start 0 0 ∷ Start 1 1 ∷ Ready 0 ∷ Collected 0 (ids.List five_ids) ∷ Ready 1 ∷ Collected 1 (ids.List five_other_ids) ∷ Shutdown 0 ∷ Shutdown 1 ∷ []
@@ -57,7 +57,7 @@ abbrev four_ids : List (List ℕ)
 four_ids = (97 ∷ []) ∷ (98 ∷ []) ∷ (99 ∷ []) ∷ (100 ∷ []) ∷ []
 
 abbrev load_no_restarts_settings : Settings
-load_no_restarts_settings = record { mode = Load; workers = 2; maxfail = 0; restarts = 0; chunk = None; reorder = true }
+load_no_restarts_settings = record { mode = Load; workers = 2; maxfail = 0; restarts = 0; chunk = None; reorder = true; retries = 0 }
 
 abbrev load_no_restarts : List Entry
 load_no_restarts = Start 0 0 ∷ Start 1 1 ∷ Ready 0 ∷ Collected 0 (ids.List four_ids) ∷ Ready 1 ∷ Collected 1 ids.Same ∷ Run 0 (0 ∷ 1 ∷ []) ∷ Run 1 (2 ∷ 3 ∷ []) ∷ Shutdown 0 ∷ Shutdown 1 ∷ Down 0 Ended [] ∷ Kill 0 ∷ Done 1 2 Passed 5 [] ∷ Done 1 3 Passed 5 [] ∷ Finished 1 ∷ []
@@ -73,7 +73,7 @@ abbrev three_ids : List (List ℕ)
 three_ids = (97 ∷ []) ∷ (98 ∷ []) ∷ (99 ∷ []) ∷ []
 
 abbrev load_three_tests_and_a_death_settings : Settings
-load_three_tests_and_a_death_settings = record { mode = Load; workers = 2; maxfail = 0; restarts = 8; chunk = None; reorder = true }
+load_three_tests_and_a_death_settings = record { mode = Load; workers = 2; maxfail = 0; restarts = 8; chunk = None; reorder = true; retries = 0 }
 
 abbrev load_three_tests_and_a_death : List Entry
 load_three_tests_and_a_death = Start 0 0 ∷ Start 1 1 ∷ Ready 0 ∷ Collected 0 (ids.List three_ids) ∷ Ready 1 ∷ Collected 1 ids.Same ∷ Run 0 (0 ∷ []) ∷ Run 1 (1 ∷ []) ∷ Run 0 (2 ∷ []) ∷ Shutdown 0 ∷ Shutdown 1 ∷ Down 0 Ended [] ∷ Kill 0 ∷ Start 2 0 ∷ Ready 2 ∷ Collected 2 ids.Same ∷ Run 2 (2 ∷ []) ∷ Shutdown 2 ∷ Done 1 1 Passed 5 [] ∷ Finished 1 ∷ Done 2 2 Passed 5 [] ∷ Finished 2 ∷ []
@@ -96,9 +96,31 @@ text_of_load_two_deaths = refl
 pub status_of_load_two_deaths : run_status load_three_tests_and_a_death_settings load_two_deaths ≡ 1
 status_of_load_two_deaths = refl
 
+-- a test at whose head a worker went down is tried again once: the retry is no report, and the second crash is one
+abbrev once_more : Settings
+once_more = record { mode = Load; workers = 2; maxfail = 0; restarts = 8; chunk = None; reorder = true; retries = 1 }
+
+abbrev crashed_twice : List Entry
+crashed_twice = Start 0 0 ∷ Start 1 1 ∷ Ready 0 ∷ Collected 0 (ids.List three_ids) ∷ Ready 1 ∷ Collected 1 ids.Same ∷ Run 0 (0 ∷ []) ∷ Run 1 (1 ∷ []) ∷ Run 0 (2 ∷ []) ∷ Shutdown 0 ∷ Shutdown 1 ∷ Down 0 Ended [] ∷ Kill 0 ∷ Start 2 0 ∷ Ready 2 ∷ Collected 2 ids.Same ∷ Run 2 (0 ∷ 2 ∷ []) ∷ Down 2 Ended [] ∷ Kill 2 ∷ Start 3 0 ∷ []
+
+pub text_of_crashed_twice : run_text once_more crashed_twice ≡ line (codes "3 tests on 2 workers, load") ++ line (codes "[gw0] node down: Not properly terminated") ++ line (codes "[gw0] RETRY a") ++ line (codes "replacing crashed worker gw0") ++ line (codes "[gw2] node down: Not properly terminated") ++ line (codes "[gw2] CRASHED a") ++ line (codes "replacing crashed worker gw2") ++ line (codes "==== [gw2] a ====") ++ line (codes "worker 'gw2' crashed while running 'a'") ++ line (codes "1 failed")
+unfolding digits encode reason_of output_text crash_reason heading_line name plain tag tests_line limit_line disabled_line most_line place_text refusal_text
+text_of_crashed_twice = refl
+
+-- the same test passes when it is tried again
+abbrev passed_at_last : List Entry
+passed_at_last = Start 0 0 ∷ Start 1 1 ∷ Ready 0 ∷ Collected 0 (ids.List three_ids) ∷ Ready 1 ∷ Collected 1 ids.Same ∷ Run 0 (0 ∷ []) ∷ Run 1 (1 ∷ []) ∷ Run 0 (2 ∷ []) ∷ Shutdown 0 ∷ Shutdown 1 ∷ Down 0 Ended [] ∷ Kill 0 ∷ Start 2 0 ∷ Ready 2 ∷ Collected 2 ids.Same ∷ Run 2 (0 ∷ 2 ∷ []) ∷ Shutdown 2 ∷ Done 1 1 Passed 5 [] ∷ Finished 1 ∷ Done 2 0 Passed 5 [] ∷ Done 2 2 Passed 5 [] ∷ Finished 2 ∷ []
+
+pub text_of_passed_at_last : run_text once_more passed_at_last ≡ line (codes "3 tests on 2 workers, load") ++ line (codes "[gw0] node down: Not properly terminated") ++ line (codes "[gw0] RETRY a") ++ line (codes "replacing crashed worker gw0") ++ line (codes "[gw1] PASSED b") ++ line (codes "[gw2] PASSED a") ++ line (codes "[gw2] PASSED c") ++ line (codes "3 passed")
+unfolding digits encode reason_of output_text crash_reason heading_line name plain tag tests_line limit_line disabled_line most_line place_text refusal_text
+text_of_passed_at_last = refl
+
+pub status_of_passed_at_last : run_status once_more passed_at_last ≡ 0
+status_of_passed_at_last = refl
+
 -- the suite file of the one worker is missing
 abbrev one_worker : Settings
-one_worker = record { mode = Load; workers = 1; maxfail = 0; restarts = 4; chunk = None; reorder = true }
+one_worker = record { mode = Load; workers = 1; maxfail = 0; restarts = 4; chunk = None; reorder = true; retries = 0 }
 
 abbrev no_suite : List Entry
 no_suite = Start 0 0 ∷ Ready 0 ∷ Refused 0 (codes "suite cannot be read") ∷ []
@@ -120,7 +142,7 @@ text_of_not_started = refl
 
 -- without workers; the kept output does not end its line, and the report could not be written
 abbrev local_settings : Settings
-local_settings = record { mode = Local; workers = 0; maxfail = 0; restarts = 0; chunk = None; reorder = true }
+local_settings = record { mode = Local; workers = 0; maxfail = 0; restarts = 0; chunk = None; reorder = true; retries = 0 }
 
 abbrev local_run : List Entry
 local_run = Collected 0 (ids.List three_ids) ∷ Run 0 (0 ∷ []) ∷ Done 0 0 Passed 5 [] ∷ Run 0 (1 ∷ []) ∷ Done 0 1 (Failed (pos 3)) 5 (104 ∷ 105 ∷ []) ∷ Run 0 (2 ∷ []) ∷ Done 0 2 Skipped 5 [] ∷ Over OutFault ∷ []

@@ -1,4 +1,5 @@
--- The blocks of what failed: a failed test, or a test at whose head a worker went down. A choice of this project.
+-- The blocks of what failed: a failed test, or a test at whose head a worker went down and that is not tried again. A choice
+-- of this project.
 use Rattle.std.specs.Prelude.{ℕ, ℤ, zero, suc, ◌-◌, ◌≡◌, ◌==◌, Bool, true, false, List, [], ◌∷◌, ◌++◌, length, take, Some, None, is_some, slice_index_or, negsuc, if◌then◌else◌, codes}
 use Rattle.std.specs.List.{HoldsAt}
 use Rattle.std.specs.Fmt.{decimal, signed_decimal}
@@ -10,7 +11,7 @@ use Rattle.xd_journal.specs.declared.journal.Journal.{Journal}
 use Rattle.xd_ledger.specs.Sharing.{State}
 use Rattle.xd_ledger.specs.State.{reached, next, all_moved, no_one}
 use Rattle.xd_report.specs.Names.{name, tag, plain}
-use Rattle.xd_report.specs.Tests.{mode_of, id_of, head, item_id}
+use Rattle.xd_report.specs.Tests.{mode_of, id_of, crash_of, item_id}
 
 -- why a test failed
 unfoldable pub reason_of : ℤ → List ℕ
@@ -43,9 +44,9 @@ heading_line mode worker id = codes "==== " ++ (tag mode worker ++ (plain id ++ 
 abbrev pub block : ModeKind → ℕ → List ℕ → List ℕ → List ℕ → List ℕ
 block mode worker id reason output = heading_line mode worker id ++ (reason ++ (10 ∷ [] ++ output_text output))
 
--- the block of the test at whose head a worker went down
+-- the block of the test at whose head a worker went down, where it is not tried again
 abbrev pub crash_block : ℕ → List ℕ → State → List ℕ
-crash_block worker output s = elim (head worker s) [
+crash_block worker output s = elim (crash_of worker s) [
   | None ↦ []
   | Some item ↦ block (mode_of s) worker (item_id worker item s) (crash_reason (mode_of s) worker (item_id worker item s)) output
 ]
@@ -56,10 +57,10 @@ block_of s (Done worker index (Failed code) ms output) = block (mode_of s) worke
 block_of s (Down worker cause output) = crash_block worker output s
 block_of s _ = []
 
--- the entry is a failed report: a failed test, or the end of a worker that held one
+-- the entry is a failed report: a failed test, or the end of a worker that held one, where that is not tried again
 abbrev pub is_failed_report : State → Entry → Bool
 is_failed_report s (Done worker index (Failed code) ms output) = true
-is_failed_report s (Down worker cause output) = is_some (head worker s)
+is_failed_report s (Down worker cause output) = is_some (crash_of worker s)
 is_failed_report s _ = false
 
 -- the blocks of these entries behind a state

@@ -9,20 +9,22 @@ use Rattle.xd_journal.specs.declared.entry.Outcome.TheVariants.{Passed, Skipped,
 use Rattle.xd_journal.specs.declared.settings.Settings.{Settings}
 use Rattle.xd_journal.specs.declared.journal.Journal.{Journal}
 use Rattle.xd_ledger.specs.Reports.{Report, Result, Crash, collected_in, item_of, reports_in}
+use Rattle.xd_ledger.specs.Retry.{is_retry}
 use Rattle.xd_ledger.specs.Sharing.{State}
 use Rattle.xd_ledger.specs.State.{next, no_one, reached}
-use Rattle.xd_ledger.specs.Table.{held}
+use Rattle.xd_ledger.specs.Table.{crash_item, held, retried_item}
 use Rattle.xd_report.specs.declared.counts.Counts.{Counts}
 use Rattle.xd_report.specs.Blocks.{block, blocks_from, crash_reason, reason_of}
-use Rattle.xd_report.specs.Lines.{tests_line, result_line, crashed_line, down_line, replacing, run_lines}
+use Rattle.xd_report.specs.Lines.{tests_line, result_line, lost_line, down_line, replacing, run_lines}
 use Rattle.xd_report.specs.Names.{cause_text}
 
 -- what a line tells: how many tests there are on how many workers, how a test went, that a worker went down and of which
--- cause (none where it was not started), or whom a new worker replaces
+-- cause (none where it was not started), which test it went down at that is tried again, or whom a new worker replaces
 pub data Line : Type 0 where
   Tests : (tests : ℕ) → (workers : ℕ) → Line
   Of : (report : Report) → (id : List ℕ) → Line
   NodeDown : (worker : ℕ) → (why : Option Cause) → Line
+  Retried : (worker : ℕ) → (item : ℕ) → (id : List ℕ) → Line
   Replaces : (old : ℕ) → Line
 
 -- the words for why a worker went down
@@ -33,20 +35,22 @@ why_text None = codes "not started"
 abbrev pub text_of_line : ModeKind → Line → List ℕ
 text_of_line mode (Tests tests workers) = tests_line mode tests workers
 text_of_line mode (Of (Result worker item outcome) id) = result_line mode worker outcome id
-text_of_line mode (Of (Crash worker item) id) = crashed_line mode worker id
+text_of_line mode (Of (Crash worker item) id) = lost_line false mode worker id
 text_of_line mode (NodeDown worker why) = down_line mode worker (why_text why)
+text_of_line mode (Retried worker item id) = lost_line true mode worker id
 text_of_line mode (Replaces old) = replacing mode (Some old)
 
 abbrev pub text_of_lines : ModeKind → List Line → List ℕ
 text_of_lines mode [] = []
 text_of_lines mode (l ∷ ls) = text_of_line mode l ++ text_of_lines mode ls
 
--- the reports that these lines are of
+-- the reports that these lines are of; a test that is tried again has none by that
 abbrev pub reports_told : List Line → List Report
 reports_told [] = []
 reports_told (Of report id ∷ ls) = report ∷ reports_told ls
 reports_told (Tests tests workers ∷ ls) = reports_told ls
 reports_told (NodeDown worker why ∷ ls) = reports_told ls
+reports_told (Retried worker item id ∷ ls) = reports_told ls
 reports_told (Replaces old ∷ ls) = reports_told ls
 
 -- The text is a list of lines, and each of these reports has one of them, in order.
@@ -55,15 +59,30 @@ pub record HasLineEach (mode : ModeKind) (text : List ℕ) (rs : List Report) : 
   pub text_is : text ≡ text_of_lines mode lines
   pub each_once : reports_told lines ≡ rs
 
--- each line that is of a report gives the id that its test has by these names
+-- the items that are tried again by one entry behind a state
+abbrev pub retried_of : State → Entry → List ℕ
+retried_of s (Down worker cause output) = retried_item (is_retry worker s.books) (held worker s.books.table)
+retried_of s _ = []
+
+abbrev pub retried_from : State → List Entry → List ℕ
+retried_from s [] = []
+retried_from s (e ∷ es) = retried_of (reached s e) e ++ retried_from (next s e) es
+
+-- the items that are tried again by the entries of a run, in order
+abbrev pub retried : Settings → List Entry → List ℕ
+retried settings entries = retried_from (no_one settings) entries
+
+-- each line that is of a report gives the id that its test has by these names, and that of a test which is tried again the
+-- id that a crash of it would have
 abbrev pub Names : (Report → List ℕ) → List Line → Type 0
 Names name [] = Unit
 Names name (Of report id ∷ ls) = (id ≡ name report) × Names name ls
 Names name (Tests tests workers ∷ ls) = Names name ls
 Names name (NodeDown worker why ∷ ls) = Names name ls
+Names name (Retried worker item id ∷ ls) = (id ≡ name (Crash worker item)) × Names name ls
 Names name (Replaces old ∷ ls) = Names name ls
 
--- The same, and the line of each report gives the id of its test.
+-- The same, and the line of each report, and of each test that is tried again, gives the id of its test.
 pub record HasNamedLineEach (name : Report → List ℕ) (mode : ModeKind) (text : List ℕ) (rs : List Report) : Type 0 where
   pub each : HasLineEach mode text rs
   pub names : Names name each.lines
@@ -111,7 +130,7 @@ text_of_blocks mode (b ∷ bs) = text_of_report mode b.report b.id b.output ++ t
 -- what an entry that is a failed report keeps of its test's output
 abbrev pub outputs_of : State → Entry → List (List ℕ)
 outputs_of s (Done worker index (Failed code) ms output) = output ∷ []
-outputs_of s (Down worker cause output) = map (λ _. output) (take 1 (held worker s.books.table))
+outputs_of s (Down worker cause output) = map (λ _. output) (crash_item (is_retry worker s.books) (held worker s.books.table))
 outputs_of s _ = []
 
 abbrev pub outputs_from : State → List Entry → List (List ℕ)
@@ -139,8 +158,8 @@ pub record HasNamedBlockEach (name : Report → List ℕ) (mode : ModeKind) (tex
   pub each : HasBlockEach mode text rs outputs
   pub names : NamesBlocks name each.blocks
 
--- In the text of this journal the line of each report, and the block of each failed one, gives the id of its test among
--- those that were collected.
+-- In the text of this journal the line of each report and of each test that is tried again, and the block of each failed
+-- report, gives the id of its test among those that were collected.
 pub record NamesTests (j : Journal) : Type 0 where
   pub lines : HasNamedLineEach (id_in (collected_in j)) j.settings.mode (run_lines j.settings j.entries.items) (reports_in j)
   pub blocks : HasNamedBlockEach (id_in (collected_in j)) j.settings.mode (blocks_from (no_one j.settings) j.entries.items) (reports_in j) (kept_outputs j.settings j.entries.items)

@@ -36,4 +36,5 @@ pub record Follows (r : Reporter) (s : State) : Type 0 where
   pub sizes : s.plan.sizes ≡ r.sizes.items
   pub failures : s.books.failures ≡ r.failures
   pub deaths : s.books.deaths ≡ r.deaths
+  pub lost : s.books.lost ≡ r.lost.items
   pub stop : s.books.stop ≡ r.stop

@@ -10,9 +10,10 @@ use Rattle.xd_journal.specs.declared.entry.Outcome.{Outcome}
 use Rattle.xd_journal.specs.declared.journal.Journal.{Journal}
 use Rattle.xd_journal.specs.Local.{is_local_mode}
 use Rattle.xd_ledger.specs.declared.member.Member.{Member}
+use Rattle.xd_ledger.specs.Retry.{is_retry}
 use Rattle.xd_ledger.specs.Sharing.{State}
 use Rattle.xd_ledger.specs.State.{after_collected, reached, next, all_moved, no_one}
-use Rattle.xd_report.specs.Names.{name, tag, plain, outcome_text, mode_text, cause_text}
+use Rattle.xd_report.specs.Names.{name, tag, plain, outcome_text, lost_text, mode_text, cause_text}
 use Rattle.xd_report.specs.Tests.{mode_of, id_of, head, item_id, tests}
 
 -- so many tests, and on whom they run
@@ -36,12 +37,13 @@ result_line mode worker outcome id = tag mode worker ++ (outcome_text outcome ++
 abbrev pub down_line : ModeKind → ℕ → List ℕ → List ℕ
 down_line mode worker why = tag mode worker ++ (codes "node down: " ++ (why ++ 10 ∷ []))
 
--- the test at whose head a worker went down
-abbrev pub crashed_line : ModeKind → ℕ → List ℕ → List ℕ
-crashed_line mode worker id = tag mode worker ++ (codes "CRASHED " ++ (plain id ++ 10 ∷ []))
+-- the test at whose head a worker went down; it is tried again, or it crashed
+abbrev pub lost_line : Bool → ModeKind → ℕ → List ℕ → List ℕ
+lost_line retry mode worker id = tag mode worker ++ (lost_text retry ++ (plain id ++ 10 ∷ []))
 
-abbrev pub crashed : ℕ → State → List ℕ
-crashed worker s = elim (head worker s) [ None ↦ [] | Some item ↦ crashed_line (mode_of s) worker (item_id worker item s) ]
+-- the line of the test at the worker's head, where it goes down with one
+abbrev pub lost : ℕ → State → List ℕ
+lost worker s = elim (head worker s) [ None ↦ [] | Some item ↦ lost_line (is_retry worker s.books) (mode_of s) worker (item_id worker item s) ]
 
 -- the last worker of the slot so far
 abbrev pub last_of_slot : ℕ → List Member → Option ℕ → Option ℕ
@@ -56,7 +58,7 @@ replacing mode (Some old) = codes "replacing crashed worker " ++ (name mode old 
 -- the lines of an entry that the state ahead of it tells
 abbrev pub told : State → Entry → List ℕ
 told s (Done worker index outcome ms output) = result_line (mode_of s) worker outcome (id_of worker index s)
-told s (Down worker cause output) = down_line (mode_of s) worker (cause_text cause) ++ crashed worker s
+told s (Down worker cause output) = down_line (mode_of s) worker (cause_text cause) ++ lost worker s
 told s (NotStarted worker) = down_line (mode_of s) worker (codes "not started")
 told s (Start worker slot) = replacing (mode_of s) (last_of_slot slot s.books.crew None)
 told s _ = []

@@ -1,6 +1,7 @@
--- The words of a report. Those of a result, of a worker and of a mode are pytest-xdist's; the causes, and that a run
--- without workers has the name `main`, are a choice of this project, but for the first cause.
-use Rattle.std.specs.Prelude.{ℕ, ◌==◌, ◌||◌, nat_lt, List, [], ◌∷◌, ◌++◌, map, codes, if◌then◌else◌}
+-- The words of a report. Those of a result, of a worker and of a mode are pytest-xdist's; those of a test that is tried
+-- again, the causes, and that a run without workers has the name `main`, are a choice of this project, but for the first
+-- cause.
+use Rattle.std.specs.Prelude.{ℕ, ◌==◌, ◌||◌, nat_lt, Bool, true, false, List, [], ◌∷◌, ◌++◌, map, codes, if◌then◌else◌}
 use Rattle.std.specs.Fmt.{decimal}
 use Rattle.std.specs.Str.{encode_utf8_all}
 use Rattle.xd_edge.specs.declared.mode.ModeKind.{ModeKind}
@@ -34,6 +35,11 @@ abbrev pub outcome_text : Outcome → List ℕ
 outcome_text Passed = codes "PASSED "
 outcome_text Skipped = codes "SKIPPED "
 outcome_text (Failed code) = codes "FAILED "
+
+-- of the test at whose head a worker went down: it is tried again, or it crashed
+abbrev pub lost_text : Bool → List ℕ
+lost_text true = codes "RETRY "
+lost_text false = codes "CRASHED "
 
 abbrev pub mode_text : ModeKind → List ℕ
 mode_text Each = codes "each"

@@ -5,8 +5,9 @@ use Rattle.xd_journal.specs.Local.{is_local_mode}
 use Rattle.xd_ledger.specs.Collections.{key}
 use Rattle.xd_ledger.specs.Numbers.{first_of}
 use Rattle.xd_ledger.specs.Plan.{base, total}
+use Rattle.xd_ledger.specs.Retry.{is_retry}
 use Rattle.xd_ledger.specs.Sharing.{State, ids_at}
-use Rattle.xd_ledger.specs.Table.{held}
+use Rattle.xd_ledger.specs.Table.{crash_item, held}
 use Rattle.xd_ledger.specs.Workers.{slot_of}
 
 abbrev pub mode_of : State → ModeKind
@@ -19,6 +20,10 @@ id_of worker index s = slice_index_or (ids_at (key worker s.books) s.books.lists
 -- the first item that the worker holds
 abbrev pub head : ℕ → State → Option ℕ
 head worker s = first_of (held worker s.books.table)
+
+-- the item that is reported where the worker goes down: the first that it holds, where that is not tried again
+abbrev pub crash_of : ℕ → State → Option ℕ
+crash_of worker s = first_of (crash_item (is_retry worker s.books) (held worker s.books.table))
 
 -- the id of an item of the worker's slot
 abbrev pub item_id : ℕ → ℕ → State → List ℕ

@@ -27,7 +27,8 @@ pub fn failure_block(alloc: Global, journal: &Journal, at: usize) -> Result<Blob
     Ok(Blob { bytes })
 }
 
-/// The entry at a place is a failed report: a failed test, or the end of a worker that held one.
+/// The entry at a place is a failed report: a failed test, or the end of a worker that held one, where that is not tried
+/// again.
 pub fn is_failed_at(alloc: Global, journal: &Journal, at: usize) -> Result<bool, OutOfMemory>
     requires { at < length journal.now.entries.items }
     ensures failed { IfOk result (λ failed. failed ≡ true → IsFailedAt journal.now at) }
@@ -68,7 +69,7 @@ impl Reporter {
         }
     }
 
-    // The block of the test at whose head a worker went down.
+    // The block of the test at whose head a worker went down, where it is not tried again.
     fn add_crash(
         &self,
         alloc: Global,
@@ -78,7 +79,7 @@ impl Reporter {
     ) -> Result<(), OutOfMemory>
         ensures { (s : State) → Follows self.now s → OnOk result (out.new.items ≡ out.old.items ++ crash_block worker output.now s) }
     {
-        let Some(item) = self.head(worker) else {
+        let Some(item) = self.crash_of(worker) else {
             return Ok(());
         };
         let mode = self.settings.mode;
@@ -97,7 +98,7 @@ impl Reporter {
                 outcome: Outcome::Failed(_),
                 ..
             } => true,
-            Entry::Down { worker, .. } => self.head(*worker).is_some(),
+            Entry::Down { worker, .. } => self.crash_of(*worker).is_some(),
             _ => false,
         }
     }

@@ -12,7 +12,7 @@ ghost use Rattle.xd_ledger.specs.Plan.{is_each};
 ghost use Rattle.xd_ledger.specs.State.{all_moved, no_one};
 ghost use Rattle.xd_ledger.specs.Reports.{reports};
 ghost use Rattle.xd_report.specs.Blocks.{blocks_from};
-ghost use Rattle.xd_report.specs.EachReport.{Counted, HasBlockEach, HasLineEach, HasNamedBlockEach, HasNamedLineEach, id_in, kept_outputs};
+ghost use Rattle.xd_report.specs.EachReport.{Counted, HasBlockEach, HasLineEach, HasNamedBlockEach, HasNamedLineEach, id_in, kept_outputs, retried};
 ghost use Rattle.xd_report.specs.Lines.{lines_from, run_lines, tests_line};
 ghost use Rattle.xd_report.specs.LocalLines.{test_lines};
 ghost use Rattle.xd_report.specs.Summary.{counts};
@@ -24,16 +24,17 @@ pub fn lines_law()
 {}
 
 /// Among the lines of a journal each report has exactly one, in order. The others tell of the run and its workers, in words
-/// that no worker chooses, so none of them can be read as a result.
+/// that no worker chooses, or begin with RETRY and name a test that is tried again and so is not reported there; so none of
+/// them can be read as a result.
 pub fn line_law()
     ensures { (settings : Settings) (entries : List Entry) → HasLineEach settings.mode (run_lines settings entries) (reports settings entries) }
 {}
 
-/// Where no report stands ahead of the first collection, the line of each report and the block of each failed one give the
-/// id that this collection has at the place of the report's test. In mode each, of which nothing is said, each slot has a
-/// collection of its own.
+/// Where no report stands ahead of the first collection, and no test is tried again there, the line of each report and of
+/// each test that is tried again gives the id that this collection has at the place of the test; and so does the block of
+/// each failed report. In mode each, of which nothing is said, each slot has a collection of its own.
 pub fn id_law()
-    ensures lines { (settings : Settings) (before : List Entry) (more : List Entry) (first : Listed) → is_each settings.mode ≡ false → reports settings before ≡ [] → listed_in 0 (all_moved (no_one settings) before).books.lists ≡ Some first → HasNamedLineEach (id_in first.ids) settings.mode (run_lines settings (before ++ more)) (reports settings (before ++ more)) }
+    ensures lines { (settings : Settings) (before : List Entry) (more : List Entry) (first : Listed) → is_each settings.mode ≡ false → reports settings before ≡ [] → retried settings before ≡ [] → listed_in 0 (all_moved (no_one settings) before).books.lists ≡ Some first → HasNamedLineEach (id_in first.ids) settings.mode (run_lines settings (before ++ more)) (reports settings (before ++ more)) }
     ensures blocks { (settings : Settings) (before : List Entry) (more : List Entry) (first : Listed) → is_each settings.mode ≡ false → reports settings before ≡ [] → listed_in 0 (all_moved (no_one settings) before).books.lists ≡ Some first → HasNamedBlockEach (id_in first.ids) settings.mode (blocks_from (no_one settings) (before ++ more)) (reports settings (before ++ more)) (kept_outputs settings (before ++ more)) }
 {}
 

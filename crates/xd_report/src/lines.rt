@@ -1,15 +1,16 @@
 // The lines of a journal's entries.
 ghost use Rattle.std.specs.Prelude.{◌≡◌, ◌≤◌, ◌++◌, length, None, IfOk, OnOk};
+ghost use Rattle.std.specs.Str.{chars};
 ghost use Rattle.xd_journal.specs.Local.{is_local_mode};
 ghost use Rattle.xd_ledger.specs.Sharing.{State};
 ghost use Rattle.xd_ledger.specs.State.{all_moved, reached, next};
 ghost use Rattle.xd_report.specs.Follows.{Follows};
-ghost use Rattle.xd_report.specs.Lines.{collected_line, crashed, down_line, last_of_slot, lines_between, lines_from, lines_of, replacing, result_line, tests_line, told};
+ghost use Rattle.xd_report.specs.Lines.{collected_line, down_line, last_of_slot, lines_between, lines_from, lines_of, lost, lost_line, replacing, result_line, tests_line, told};
 ghost use Rattle.xd_report.specs.Names.{cause_text};
 ghost use Rattle.xd_report.specs.Tests.{id_of, mode_of};
 
 use crate::crew;
-use crate::names::{add_name, add_plain, add_tag, cause_text, mode_text, outcome_text};
+use crate::names::{add_name, add_plain, add_tag, cause_text, lost_text, mode_text, outcome_text};
 use crate::reporter::Reporter;
 use crate::writing::{add, add_number, add_text};
 use std::alloc::Global;
@@ -145,16 +146,16 @@ impl Reporter {
         add(out, &[b'\n'])
     }
 
-    fn add_crashed(&self, alloc: Global, out: &mut Vec<u8>, worker: u32) -> Result<(), OutOfMemory>
-        ensures { (s : State) → Follows self.now s → OnOk result (out.new.items ≡ out.old.items ++ crashed worker s) }
+    // The line of the test at a worker's head.
+    fn add_lost(&self, alloc: Global, out: &mut Vec<u8>, worker: u32) -> Result<(), OutOfMemory>
+        ensures { (s : State) → Follows self.now s → OnOk result (out.new.items ≡ out.old.items ++ lost worker s) }
     {
         let Some(item) = self.head(worker) else {
             return Ok(());
         };
-        add_tag(alloc, out, self.settings.mode, worker)?;
-        add_text(out, "CRASHED ")?;
-        add_plain(alloc, out, self.item_id(worker, item)?)?;
-        add(out, &[b'\n'])
+        let id = self.item_id(worker, item)?;
+        let retry = self.is_retry(worker);
+        add_lost_line(alloc, out, retry, self.settings.mode, worker, id)
     }
 
     // A worker went down, with a test at its head or without.
@@ -165,10 +166,10 @@ impl Reporter {
         worker: u32,
         cause: Cause,
     ) -> Result<(), OutOfMemory>
-        ensures { (s : State) → Follows self.now s → OnOk result (out.new.items ≡ out.old.items ++ (down_line (mode_of s) worker (cause_text cause) ++ crashed worker s)) }
+        ensures { (s : State) → Follows self.now s → OnOk result (out.new.items ≡ out.old.items ++ (down_line (mode_of s) worker (cause_text cause) ++ lost worker s)) }
     {
         self.add_down(alloc, out, worker, cause_text(cause))?;
-        self.add_crashed(alloc, out, worker)?;
+        self.add_lost(alloc, out, worker)?;
         Ok(())
     }
 
@@ -178,6 +179,22 @@ impl Reporter {
     {
         crew::last_of_slot(&self.crew, slot)
     }
+}
+
+fn add_lost_line(
+    alloc: Global,
+    out: &mut Vec<u8>,
+    retry: bool,
+    mode: ModeKind,
+    worker: u32,
+    id: &str,
+) -> Result<(), OutOfMemory>
+    ensures { OnOk result (out.new.items ≡ out.old.items ++ lost_line retry mode worker (chars id.now)) }
+{
+    add_tag(alloc, out, mode, worker)?;
+    add_text(out, lost_text(retry))?;
+    add_plain(alloc, out, id)?;
+    add(out, &[b'\n'])
 }
 
 fn add_replacing(

@@ -1,7 +1,7 @@
 // The words of a report.
 ghost use Rattle.std.specs.Prelude.{◌≡◌, ◌++◌, OnOk, map, string_bytes, IfOk};
 ghost use Rattle.std.specs.Str.{chars, encode_utf8_all};
-ghost use Rattle.xd_report.specs.Names.{name, tag, plain, printable, outcome_text, mode_text, cause_text};
+ghost use Rattle.xd_report.specs.Names.{name, tag, plain, printable, outcome_text, lost_text, mode_text, cause_text};
 
 use crate::writing::{add, add_number, add_text};
 use std::alloc::Global;
@@ -72,6 +72,12 @@ pub fn outcome_text(outcome: Outcome) -> &'static str
         Outcome::Skipped => "SKIPPED ",
         Outcome::Failed(_) => "FAILED ",
     }
+}
+
+pub fn lost_text(retry: bool) -> &'static str
+    ensures { result.now ≡ lost_text retry }
+{
+    if retry { "RETRY " } else { "CRASHED " }
 }
 
 pub fn mode_text(mode: ModeKind) -> &'static str

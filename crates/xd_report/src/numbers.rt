@@ -1,6 +1,7 @@
 // Numbers and lists of them. What has no room in a number has none in memory either.
 ghost use Rattle.std.specs.Prelude.{◌≡◌, ◌+◌, ◌==◌, ◌++◌, ◌∷◌, IfOk, map, sum, OnOk};
 ghost use Rattle.std.specs.List.{range_with_len, list_any};
+ghost use Rattle.xd_ledger.specs.Numbers.{times};
 
 use std::alloc::Global;
 use xd_edge::OutOfMemory;
@@ -59,4 +60,11 @@ pub fn is_among(item: u64, items: &[u64]) -> bool
     ensures { result ≡ list_any (λ y. item == y) items.now }
 {
     items.iter().any(|&y| item == y)
+}
+
+/// How often an item stands there.
+pub fn times(item: u64, items: &[u64]) -> usize
+    ensures { result ≡ times item items.now }
+{
+    items.iter().filter(|&&y| item == y).count()
 }

@@ -3,12 +3,13 @@ ghost use Rattle.std.specs.Prelude.{◌≡◌, [], IfOk, Some, slice_index, slic
 ghost use Rattle.std.specs.Str.{chars};
 ghost use Rattle.xd_ledger.specs.Collections.{key};
 ghost use Rattle.xd_ledger.specs.Plan.{base, is_each, items_named};
+ghost use Rattle.xd_ledger.specs.Retry.{has_retries, is_retry, may_restart};
 ghost use Rattle.xd_ledger.specs.Sharing.{State, ids_at};
 ghost use Rattle.xd_ledger.specs.Workers.{is_shut, slot_of};
 ghost use Rattle.xd_report.specs.Follows.{Follows};
-ghost use Rattle.xd_report.specs.Tests.{head, id_of, item_id, tests};
+ghost use Rattle.xd_report.specs.Tests.{crash_of, head, id_of, item_id, tests};
 
-use crate::numbers::{each_more, sum_of};
+use crate::numbers::{each_more, sum_of, times};
 use crate::reporter::Reporter;
 use crate::{crew, desk, lists};
 use std::alloc::Global;
@@ -75,6 +76,41 @@ impl Reporter {
         ensures { (s : State) → Follows self.now s → result ≡ head worker s }
     {
         desk::head_in(&self.rota, worker)
+    }
+
+    // Where the worker goes down, the test at its head is tried again.
+    pub(crate) fn is_retry(&self, worker: u32) -> bool
+        ensures { (s : State) → Follows self.now s → result ≡ is_retry worker s.books }
+    {
+        match self.head(worker) {
+            Some(item) => self.may_restart() && self.has_retries(item),
+            None => false,
+        }
+    }
+
+    // One death more is made good by a new worker.
+    fn may_restart(&self) -> bool
+        ensures { (s : State) → Follows self.now s → result ≡ may_restart s.books }
+    {
+        self.stop.is_none() && self.deaths < self.settings.restarts
+    }
+
+    // Workers went down at the item's head fewer times than the retries say.
+    fn has_retries(&self, item: u64) -> bool
+        ensures { (s : State) → Follows self.now s → result ≡ has_retries item s.books }
+    {
+        times(item, &self.lost) < self.settings.retries as usize
+    }
+
+    // The item that is reported where the worker goes down.
+    pub(crate) fn crash_of(&self, worker: u32) -> Option<u64>
+        ensures { (s : State) → Follows self.now s → result ≡ crash_of worker s }
+    {
+        if self.is_retry(worker) {
+            None
+        } else {
+            self.head(worker)
+        }
     }
 
     // The first item of a worker's slot.

@@ -11,7 +11,7 @@ use xd_journal::{Entry, RunStop, Settings};
 use xd_ledger::{Listed, Member};
 
 /// Follows a journal entry by entry, and keeps of it what the report of the next entry needs: the workers, the ids of
-/// each slot, and what each worker holds.
+/// each slot, what each worker holds, and at which items workers went down.
 #[derive(Drop)]
 pub struct Reporter {
     pub(crate) settings: Settings,
@@ -22,6 +22,7 @@ pub struct Reporter {
     pub(crate) sizes: Vec<u64>,
     pub(crate) failures: u32,
     pub(crate) deaths: u32,
+    pub(crate) lost: Vec<u64>,
     pub(crate) stop: Option<RunStop>,
 }
 
@@ -39,6 +40,7 @@ impl Reporter {
             sizes: Vec::new(alloc),
             failures: 0,
             deaths: 0,
+            lost: Vec::new(alloc),
             stop: None,
         }
     }

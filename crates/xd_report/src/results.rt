@@ -1,8 +1,9 @@
 // Results, deaths and stops.
-ghost use Rattle.std.specs.Prelude.{◌≡◌, ℕ, ◌+◌, List, [], ◌∷◌, length, take, OnOk, Some};
+ghost use Rattle.std.specs.Prelude.{◌≡◌, ℕ, ◌+◌, List, [], ◌∷◌, ◌++◌, length, take, OnOk, Some};
 ghost use Rattle.xd_journal.specs.declared.entry.Entry.TheVariants.{Done};
 ghost use Rattle.xd_ledger.specs.Books.{on_table};
-ghost use Rattle.xd_ledger.specs.Table.{held, left};
+ghost use Rattle.xd_ledger.specs.Retry.{is_retry};
+ghost use Rattle.xd_ledger.specs.Table.{crash_item, held, left};
 ghost use Rattle.xd_ledger.specs.Plan.{base, items_named};
 ghost use Rattle.xd_ledger.specs.Sharing.{State, in_books};
 ghost use Rattle.xd_ledger.specs.State.{moved, after_down, completed_first, gone};
@@ -106,14 +107,24 @@ impl Reporter {
         desk::leave(&mut self.rota, worker);
     }
 
-    // The test at a worker's head is a failure.
+    // The test at a worker's head is a failure, where it is not tried again.
     fn fail_head(&mut self, worker: u32) -> Result<(), OutOfMemory>
-        ensures { (s : State) → Follows self.old s → OnOk result (Follows self.new (in_books (λ b. record b { failures = b.failures + length (take 1 (held worker b.table)) }) s)) }
+        ensures { (s : State) → Follows self.old s → OnOk result (Follows self.new (in_books (λ b. record b { failures = b.failures + length (crash_item (is_retry worker b) (held worker b.table)) }) s)) }
     {
-        match self.head(worker) {
+        match self.crash_of(worker) {
             Some(_) => self.fail(),
             None => Ok(()),
         }
+    }
+
+    // A worker went down at its head once more.
+    fn lose_head(&mut self, worker: u32) -> Result<(), OutOfMemory>
+        ensures { (s : State) → Follows self.old s → OnOk result (Follows self.new (in_books (λ b. record b { lost = b.lost ++ take 1 (held worker b.table) }) s)) }
+    {
+        if let Some(item) = self.head(worker) {
+            self.lost.push(item)?;
+        }
+        Ok(())
     }
 
     // One death more.
@@ -139,6 +150,7 @@ impl Reporter {
         ensures { (s : State) → Follows self.old s → OnOk result (Follows self.new (after_down worker s)) }
     {
         self.fail_head(worker)?;
+        self.lose_head(worker)?;
         self.die()?;
         self.leave(worker);
         self.stop_by(self.limit(worker));

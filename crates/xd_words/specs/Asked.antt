@@ -1,4 +1,5 @@
--- What the words of the main command say, option by option. The options are pytest-xdist's, but for SUITE.
+-- What the words of the main command say, option by option. The options are pytest-xdist's, but for SUITE and
+-- --crash-retries.
 use Rattle.std.specs.Prelude.{ℕ, ◌==◌, nat_le, Bool, true, false, ◌&&◌, not, List, [], ◌∷◌, map, length, Option, Some, None, is_some, unwrap_or, option_and_then, if◌then◌else◌, codes}
 use Rattle.std.specs.Str.{bytes_eq, chars, encode_utf8_all}
 use Rattle.clap.specs.Words.{App, Kinds, Row, all_of, fault_of, first_of, matches_of}
@@ -66,12 +67,12 @@ texts_of (Some texts) = map chars texts
 
 -- ---- all of them
 
--- the number of workers, the limit of failures, that of new workers, and that of tests at once
+-- the number of workers, the limit of failures, that of new workers, that of tests at once, and that of retries of a test
 abbrev pub has_numbers : List Row → Bool
 has_numbers rows =
     is_number 32 (first_of (codes "n") rows) && is_number 1000000 (first_of (codes "maxfail") rows)
     && is_number 1000 (first_of (codes "max-worker-restart") rows) && is_number 1000000 (first_of (codes "maxschedchunk") rows)
-    && is_positive (number 1000000 (codes "maxschedchunk") rows)
+    && is_positive (number 1000000 (codes "maxschedchunk") rows) && is_number 100 (first_of (codes "crash-retries") rows)
 
 unfoldable pub is_well_formed : List Row → Bool
 is_well_formed rows = is_mode (first_of (codes "dist") rows) && has_numbers rows
@@ -93,4 +94,5 @@ asked_of rows = record {
   restarts = number 1000 (codes "max-worker-restart") rows;
   chunk = number 1000000 (codes "maxschedchunk") rows;
   reorder = not (flag (codes "no-loadscope-reorder") rows);
+  retries = number 100 (codes "crash-retries") rows;
 }

@@ -36,8 +36,9 @@ abbrev pub long_flag_rule : List ℕ → Rule
 long_flag_rule name = record (new_rule name) { long = Some name; action = Some SetTrue }
 
 -- SUITE -n N --dist MODE -d --tx SPEC --maxfail K -x --max-worker-restart M --maxschedchunk C --no-loadscope-reorder
+-- --crash-retries R
 unfoldable pub main_app : App
-main_app = with_rule (with_rule (with_rule (with_rule (with_rule (with_rule (with_rule (with_rule (with_rule (with_rule plain_app
+main_app = with_rule (with_rule (with_rule (with_rule (with_rule (with_rule (with_rule (with_rule (with_rule (with_rule (with_rule plain_app
     (path_rule (codes "suite")))
     (short_rule (codes "n") 110))
     (long_rule (codes "dist")))
@@ -47,7 +48,8 @@ main_app = with_rule (with_rule (with_rule (with_rule (with_rule (with_rule (wit
     (short_flag_rule (codes "x") 120))
     (long_rule (codes "max-worker-restart")))
     (long_rule (codes "maxschedchunk")))
-    (long_flag_rule (codes "no-loadscope-reorder"))
+    (long_flag_rule (codes "no-loadscope-reorder")))
+    (long_rule (codes "crash-retries"))
 
 -- wire FILE, behind its name
 unfoldable pub wire_app : App

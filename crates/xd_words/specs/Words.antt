@@ -42,9 +42,17 @@ places_of a = if has_places a then tx_of (map encode_utf8_all a.tx) else Ok (rep
 abbrev pub maxfail_of : Asked → ℕ
 maxfail_of a = if a.first then 1 else unwrap_or a.maxfail 0
 
--- mode load where none is named, and four new workers for each where no number is named; no crashed test is tried again
+-- mode load where none is named, four new workers for each where no number is named, and no retry where none is
 abbrev pub settings_of : Asked → ℕ → Settings
-settings_of a workers = record { mode = unwrap_or a.mode Load; workers = workers; maxfail = maxfail_of a; restarts = unwrap_or a.restarts (4 * workers); chunk = a.chunk; reorder = a.reorder; retries = 0 }
+settings_of a workers = record {
+  mode = unwrap_or a.mode Load;
+  workers = workers;
+  maxfail = maxfail_of a;
+  restarts = unwrap_or a.restarts (4 * workers);
+  chunk = a.chunk;
+  reorder = a.reorder;
+  retries = unwrap_or a.retries 0;
+}
 
 -- without workers the tests are run in the program itself
 unfoldable pub run_at : Asked → List Place → Plan
@@ -103,13 +111,15 @@ plan_of words = plan_of_utf8 (map encode_utf8_all words)
 
 -- ---- what a run may rest on
 
--- one to 32 workers, as many as places, a mode of workers, at most 1,000 new workers; a suite's path of at most 65,536 bytes
+-- one to 32 workers, as many as places, a mode of workers, at most 1,000 new workers and 100 retries of a test; a suite's
+-- path of at most 65,536 bytes
 pub record FitsRun (suite : List ℕ) (settings : Settings) (places : List Place) : Type 0 where
   pub some : 1 ≤ settings.workers
   pub few : settings.workers ≤ 32
   pub each : length places ≡ settings.workers
   pub shared : settings.mode ≢ WithoutWorkers
   pub restarts : settings.restarts ≤ 1000
+  pub retries : settings.retries ≤ 100
   pub short : length (encode_utf8_all suite) ≤ 65536
 
 abbrev pub Fits : Plan → Type 0

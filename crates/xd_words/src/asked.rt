@@ -33,6 +33,8 @@ pub struct Asked {
     pub chunk: Option<u32>,
     /// No `--no-loadscope-reorder`.
     pub reorder: bool,
+    /// `--crash-retries R`, at most 100.
+    pub retries: Option<u32>,
 }
 
 /// What well formed words say.
@@ -42,6 +44,7 @@ pub fn asked_of(alloc: Global, matches: &ArgMatches) -> Result<Asked, OutOfMemor
     ensures suite { IfOk result (λ asked. asked.suite ≡ path_of (codes "suite") (rows_of (found_of matches.now))) }
     ensures few { IfOk result (λ asked. IfSome asked.count (λ n. n ≤ 32)) }
     ensures restarts { IfOk result (λ asked. IfSome asked.restarts (λ n. n ≤ 1000)) }
+    ensures retries { IfOk result (λ asked. IfSome asked.retries (λ n. n ≤ 100)) }
     ensures shared { IfOk result (λ asked. IfSome asked.mode (λ m. m ≢ WithoutWorkers)) }
 {
     let suite = path_of(alloc, matches, "suite")?;
@@ -57,6 +60,7 @@ pub fn asked_of(alloc: Global, matches: &ArgMatches) -> Result<Asked, OutOfMemor
         restarts: number(matches, "max-worker-restart", 1_000),
         chunk: number(matches, "maxschedchunk", 1_000_000),
         reorder: !flag(matches, "no-loadscope-reorder"),
+        retries: number(matches, "crash-retries", 100),
     })
 }
 
@@ -76,6 +80,7 @@ fn has_numbers(matches: &ArgMatches) -> bool
         && is_number(value(matches, "max-worker-restart"), 1_000)
         && is_number(value(matches, "maxschedchunk"), 1_000_000)
         && is_positive(number(matches, "maxschedchunk", 1_000_000))
+        && is_number(value(matches, "crash-retries"), 100)
 }
 
 /// A path of at most 65,536 bytes.

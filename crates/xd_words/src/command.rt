@@ -90,6 +90,7 @@ pub fn main_command<'a>(alloc: Global) -> Result<Command<'a>, AllocError>
     let command = with_arg(command, long(alloc, "max-worker-restart"))?;
     let command = with_arg(command, long(alloc, "maxschedchunk"))?;
     let command = with_arg(command, long_flag(alloc, "no-loadscope-reorder"))?;
+    let command = with_arg(command, long(alloc, "crash-retries"))?;
     Ok(command)
 }
 

@@ -182,6 +182,7 @@ fn plan_by(alloc: Global, matches: &ArgMatches) -> Result<Plan, OutOfMemory>
 fn plan_for(alloc: Global, asked: Asked) -> Result<Plan, OutOfMemory>
     requires few { IfSome asked.count (λ n. n ≤ 32) }
     requires restarts { IfSome asked.restarts (λ n. n ≤ 1000) }
+    requires retries { IfSome asked.retries (λ n. n ≤ 100) }
     requires shared { IfSome asked.mode (λ m. m ≢ WithoutWorkers) }
     requires short { length (encode_utf8_all asked.suite) ≤ 65536 }
     ensures plan { IfOk result (λ plan. plan ≡ plan_for asked) }
@@ -281,6 +282,7 @@ fn child(alloc: Global) -> Place
 fn run_at(asked: Asked, places: Places) -> Plan
     requires few { length places ≤ 32 }
     requires restarts { IfSome asked.restarts (λ n. n ≤ 1000) }
+    requires retries { IfSome asked.retries (λ n. n ≤ 100) }
     requires shared { IfSome asked.mode (λ m. m ≢ WithoutWorkers) }
     requires short { length (encode_utf8_all asked.suite) ≤ 65536 }
     ensures plan { result ≡ run_at asked places }
@@ -322,6 +324,6 @@ fn settings_of(asked: &Asked, workers: u32) -> Settings
         restarts: asked.restarts.unwrap_or(4 * workers),
         chunk: asked.chunk,
         reorder: asked.reorder,
-        retries: 0,
+        retries: asked.retries.unwrap_or(0),
     }
 }

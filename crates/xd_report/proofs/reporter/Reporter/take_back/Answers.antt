@@ -19,4 +19,4 @@ returns c = λ s f.
     let now : map seat_of c.take_held.new.rota ≡ at_seat c.args.worker change (map seat_of c.args.self.now.rota.items) =
     c.take_held.ensures ∙ ap (λ (l : List ℕ). at_seat c.args.worker (λ x. record x { held = without l x.held }) (map seat_of c.deref_mut.result.now)) given ∙ ap (λ (ds : List Desk). at_seat c.args.worker change (map seat_of ds)) c.deref_mut.ensures.value in
     let rota_is : (with_items c.args.self.now.rota c.take_held.new.rota).items ≡ c.take_held.new.rota = with_items_is c.args.self.now.rota c.take_held.new.rota (search rules) in
-    record { settings = f.settings; mode = f.mode; crew = f.crew; lists = f.lists; rota = changed_kept c.args.worker change s.books.table.rota c.args.self.now.rota.items c.take_held.new.rota (λ x. refl) f.rota now ∙ ap (map seat_of) (sym rota_is); shared = f.shared; sizes = f.sizes; failures = f.failures; deaths = f.deaths; stop = f.stop }
+    record { settings = f.settings; mode = f.mode; crew = f.crew; lists = f.lists; rota = changed_kept c.args.worker change s.books.table.rota c.args.self.now.rota.items c.take_held.new.rota (λ x. refl) f.rota now ∙ ap (map seat_of) (sym rota_is); shared = f.shared; sizes = f.sizes; failures = f.failures; deaths = f.deaths; lost = f.lost; stop = f.stop }
