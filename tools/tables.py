@@ -18,7 +18,7 @@ import sys
 import model
 
 ROOT = os.path.dirname(os.path.dirname(os.path.abspath(__file__)))
-RUNS = "worked_runs", "worked_modes", "breaches", "random_runs", "other_modes", "retried_runs", "retried_modes"
+RUNS = "worked_runs", "worked_modes", "breaches", "other_breaches", "random_runs", "other_modes", "retried_runs", "retried_modes"
 FAILING = "failing_outputs"
 LINE_END = "\\n\\"
 BAR = " ~ "

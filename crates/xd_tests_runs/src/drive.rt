@@ -6,6 +6,7 @@ ghost use Rattle.xd_drive.specs.Marks.{is_end, is_ready, may_tell};
 
 mod breaches;
 mod failing_outputs;
+mod other_breaches;
 mod other_modes;
 mod random_runs;
 mod retried_modes;
@@ -162,7 +163,8 @@ fn worked_runs_have_their_journals_and_texts(rt: HostRuntime) -> Result<(), Fail
 
 #[test]
 fn breaches_and_their_neighbours_have_their_journals(rt: HostRuntime) -> Result<(), Fail> {
-    expect_runs(&rt, rt.alloc(), breaches::RUNS)
+    expect_runs(&rt, rt.alloc(), breaches::RUNS)?;
+    expect_runs(&rt, rt.alloc(), other_breaches::RUNS)
 }
 
 #[test]
