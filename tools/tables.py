@@ -4,10 +4,10 @@
 Usage: tools/tables.py          says which lines of a table are not the model's, and ends with status 1 where one is not
        tools/tables.py write    puts what the model says in their place; a name, its settings and its news stay
 
-A table stands in a file of crates/xd_tests_runs/src/drive, one run a line (tools/draw.py draws more of them): its name, the settings, the news that
-a hub over lists gives, and what they come to (the calls of the hub, where the output fails; the journal, the status, and the
-text). How it is written stands at the heads of script.rt there and of crates/xd_tests_runs/src/words.rt. The journals of all
-modes in crates/xd_drive/tables have a head of their own.
+A table stands in a file of crates/xd_tests_runs/src/drive, one run a line (tools/draw.py draws more of them): its name, the
+settings, the news that a hub over lists gives, and what they come to (the calls of the hub, where the output fails; the
+journal, the status, and the text). How it is written stands at the heads of script.rt there and of
+crates/xd_tests_runs/src/words.rt.
 
 When a rule of a run changes: change the model, run this with `write`, and look at what changed.
 """
@@ -18,7 +18,8 @@ import sys
 import model
 
 ROOT = os.path.dirname(os.path.dirname(os.path.abspath(__file__)))
-RUNS = "worked_runs", "worked_modes", "breaches", "other_breaches", "random_runs", "other_modes", "retried_runs", "retried_modes"
+RUNS = ["worked_runs", "worked_modes", "breaches", "other_breaches", "random_runs", "other_modes", "retried_runs", "retried_modes"]
+RUNS += ["drawn_load_and_each", "drawn_scopes", "drawn_groups_and_steals"]
 FAILING = "failing_outputs"
 LINE_END = "\\n\\"
 BAR = " ~ "
@@ -249,59 +250,6 @@ def runs_in(path, with_calls):
             yield line, line.replace(body, made)
 
 
-# The journals of all modes.
-
-OUTPUTS = "start", "run", "runall", "steal", "shutdown", "kill"
-
-
-def journal_word(entry):
-    kind, w, *rest = entry
-    words = {"Start": "start", "Run": "run", "RunAll": "runall", "Steal": "steal", "Shutdown": "shutdown", "Kill": "kill"}
-    numbers = rest[0] if rest and isinstance(rest[0], list) else rest
-    return words[kind] + ",".join(map(str, [w, *numbers]))
-
-
-def journal_input(word):
-    """The input that a word tells, or None where it is an output."""
-    kind, worker, rest = re.fullmatch(r"([a-z]+)(\d+)(.*)", word).groups()
-    w = int(worker)
-    if kind in OUTPUTS:
-        return None
-    if kind == "collected":
-        return "Collected", w, model.SAME if rest == "=" else ids(rest[1:])
-    if kind == "done":
-        test, how, ms = rest[1:].split(",")
-        return "Done", w, int(test), {"p": "passed", "s": "skipped", "f": 1}[how], int(ms), b""
-    if kind == "back":
-        return "Back", w, [int(test) for test in rest.split(",")[1:]]
-    if kind == "down":
-        return "Down", w, "Ended", b""
-    if kind == "refused":
-        return "Refused", w, "no"
-    return {"ready": "Ready", "finished": "Finished", "unstarted": "NotStarted"}[kind], w
-
-
-def journal_of(line):
-    """The line as the model has it: each input, and what follows it."""
-    words, *told = line.split(" ")
-    mode, workers, maxfail, restarts, chunk, reorder = words.split(",")
-    settings = model.Settings(mode, int(workers), int(maxfail), int(restarts), None if chunk == "-" else int(chunk), reorder == "1")
-    run, made = model.begin(settings), [words]
-    for word in told:
-        entry = journal_input(word)
-        if entry is not None:
-            before = len(run.entries) + 1
-            model.step(run, entry)
-            made += [word, *map(journal_word, run.entries[before:])]
-    return " ".join(made)
-
-
-def journals_in(path):
-    with open(path, encoding="utf-8") as file:
-        for line in file.read().split("\n"):
-            yield line, line if not line or line.startswith("#") else journal_of(line)
-
-
 def main():
     writes = sys.argv[1:] == ["write"]
     if sys.argv[1:] and not writes:
@@ -309,13 +257,12 @@ def main():
     folder = os.path.join(ROOT, "crates", "xd_tests_runs", "src", "drive")
     tables = [(os.path.join(folder, f"{each}.rt"), lambda path: runs_in(path, False)) for each in RUNS]
     tables.append((os.path.join(folder, f"{FAILING}.rt"), lambda path: runs_in(path, True)))
-    tables.append((os.path.join(ROOT, "crates", "xd_drive", "tables", "journals.txt"), journals_in))
     differ = 0
     for path, lines_in in tables:
         lines = list(lines_in(path))
         changed = [(at, old, new) for at, (old, new) in enumerate(lines, 1) if old != new]
         differ += len(changed)
-        runs = sum(1 for old, _ in lines if BAR in old or (path.endswith(".txt") and old and not old.startswith("#")))
+        runs = sum(1 for old, _ in lines if BAR in old)
         print(f"{os.path.relpath(path, ROOT)}: {runs} runs, {len(changed)} of them not as the model has them")
         for at, old, new in changed[:3]:
             print(f"  line {at} stands as\n    {old.strip()}\n  and is by the model\n    {new.strip()}")

@@ -5,6 +5,9 @@ ghost use Rattle.xd_drive.specs.Listed.{is_among, is_kill_of, marks_by, was_kill
 ghost use Rattle.xd_drive.specs.Marks.{is_end, is_ready, may_tell};
 
 mod breaches;
+mod drawn_groups_and_steals;
+mod drawn_load_and_each;
+mod drawn_scopes;
 mod failing_outputs;
 mod other_breaches;
 mod other_modes;
@@ -174,7 +177,10 @@ fn random_runs_are_those_of_the_model(rt: HostRuntime) -> Result<(), Fail> {
 
 #[test]
 fn random_runs_of_other_modes_are_those_of_the_model(rt: HostRuntime) -> Result<(), Fail> {
-    expect_runs(&rt, rt.alloc(), other_modes::RUNS)
+    expect_runs(&rt, rt.alloc(), other_modes::RUNS)?;
+    expect_runs(&rt, rt.alloc(), drawn_load_and_each::RUNS)?;
+    expect_runs(&rt, rt.alloc(), drawn_scopes::RUNS)?;
+    expect_runs(&rt, rt.alloc(), drawn_groups_and_steals::RUNS)
 }
 
 #[test]
