@@ -54,3 +54,5 @@ pub mod OwingRuns
 pub mod Whole
 mod Rows
 mod WholeRows
+mod RetryRows
+mod OwesRows
