@@ -95,7 +95,7 @@ crew-collected ms n w c =
       below = λ v h. subst (λ (x : ℕ). x < n) (sym (slot v)) (c.below v (sym (member-marked v f ms (λ m. refl)) ∙ h));
     }
 
-was_active : (v w : ℕ) (ms : List Member) → has v (λ m. m.active) (map (made_gone w) ms) ≡ true → ((v == w) ≡ false) × (has v (λ m. m.active) ms ≡ true)
+pub was_active : (v w : ℕ) (ms : List Member) → has v (λ m. m.active) (map (made_gone w) ms) ≡ true → ((v == w) ≡ false) × (has v (λ m. m.active) ms ≡ true)
 was_active v w ms h =
     let p = split-and (not (v == w)) (has v (λ m. m.active) ms) (sym (has-cleared v w (λ m. m.active) (made_gone w) ms (λ m. refl) (λ m. refl)) ∙ h) in
     (not_true (v == w) p.0, p.1)

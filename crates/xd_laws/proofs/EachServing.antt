@@ -1,41 +1,35 @@
 -- What mode each keeps beside its rule, and how its calls leave workers and pool.
 use Rattle.std.proofs.Common.{◌≡◌, ℕ, suc, ◌+◌, ◌-◌, ◌≤◌, ◌<◌, List, [], ◌∷◌, ◌++◌, drop, length, map, take, Bool, true, false, not, ◌&&◌, ◌||◌, refl, ap, sym, ◌∙◌, subst, arith, inl, inr}
-use Rattle.std.specs.Prelude.{if◌then◌else◌, ◌==◌, ◌⊎◌, nat_le, nat_lt, sum, slice_index, Some, None}
+use Rattle.std.specs.Prelude.{◌==◌, ◌⊎◌, nat_le, nat_lt, sum, slice_index, Some, None}
 use Rattle.std.specs.List.{list_any}
 use Rattle.std.proofs.lemmas.Bool.Decides.{nat_tests}
+use Rattle.std.proofs.lemmas.List.{length-map}
 use Rattle.xd_edge.specs.declared.mode.ModeKind.{ModeKind}
 use Rattle.xd_edge.specs.declared.mode.ModeKind.TheVariants.{Each}
 use Rattle.xd_journal.specs.declared.settings.Settings.{Settings}
 use Rattle.xd_journal.specs.declared.entry.Entry.{Entry}
-use Rattle.xd_journal.specs.declared.entry.Entry.TheVariants.{Ready, Collected, Done, Back, Finished, Refused, Down, NotStarted, Start, Run, RunAll, Steal, Shutdown, Kill, Over}
+use Rattle.xd_journal.specs.declared.entry.Entry.TheVariants.{NotStarted, Start, Run, RunAll, Shutdown}
 use Rattle.xd_ledger.specs.declared.member.Member.{Member}
 use Rattle.xd_ledger.specs.declared.seat.Seat.{Seat}
-use Rattle.xd_ledger.specs.Numbers.{all_among, all_distinct, among, times, without}
-use Rattle.xd_ledger.specs.Table.{Table, assigned, at_seat, held, held_in, in_rota, joined, retried_item, seat_shut, shut_down, without_seat, workers_of}
-use Rattle.xd_ledger.specs.Plan.{Plan, base, is_each, items_named, slot_items, total}
+use Rattle.xd_ledger.specs.Numbers.{among, without}
+use Rattle.xd_ledger.specs.Table.{Table, assigned, held, retried_item, seat_shut, shut_down, workers_of}
+use Rattle.xd_ledger.specs.Plan.{Plan, base, is_each, slot_items, total}
 use Rattle.xd_ledger.specs.Turn.{Turn, shut}
 use Rattle.xd_ledger.specs.Each.{give_all, give_of_slot, give_slots, joins, remainder, share}
 use Rattle.xd_ledger.specs.Modes.{Call, each_turn, turned}
 use Rattle.xd_ledger.specs.Modes.Call.{Share, Joined, TestDone, TestsBack, Died}
-use Rattle.xd_ledger.specs.Books.{marked}
-use Rattle.xd_ledger.specs.Collections.{listed, unequal, with_list}
-use Rattle.xd_ledger.specs.Workers.{is_active, made_collected, made_gone, made_ready, made_shut, slot_in, slot_of, started}
+use Rattle.xd_ledger.specs.Workers.{is_active, made_gone, slot_in, slot_of, started}
 use Rattle.xd_ledger.specs.Retry.{is_retry}
-use Rattle.xd_ledger.specs.Sharing.{State, in_books}
-use Rattle.xd_ledger.specs.State.{all_moved, completed_first, moved, no_one}
+use Rattle.xd_ledger.specs.Sharing.{State}
+use Rattle.xd_ledger.specs.State.{all_moved, moved, no_one}
 use Rattle.xd_ledger.specs.Outputs.{acts_of, turn_of}
-use Rattle.xd_ledger.specs.Orderly.{all_orderly, is_orderly, may_run, not_empty}
-use Rattle.xd_ledger.specs.Proper.{may_follow}
-use Rattle.xd_laws.proofs.Logic.{cases_of, clash, differ, in_both, not_true, or-left, or-right, split-and, split-or}
-use Rattle.xd_laws.proofs.Counts.{among-filter, among-in_range, among-times, among_of-all_among, bounds-of_range, times-among, times-append}
-use Rattle.xd_laws.proofs.Rota.{has_seat, seat-among, seat-change, seat-left, told-change, told-shut}
+use Rattle.xd_laws.proofs.Logic.{cases_of, clash, differ, in_both, not_true, or-left, or-right, or-unset, split-and, split-or}
+use Rattle.xd_laws.proofs.Counts.{among-filter, among-in_range, among-times, bounds-of_range, times-among, times-append}
+use Rattle.xd_laws.proofs.Rota.{has_seat, seat-among, seat-change, told-change, told-shut}
 use Rattle.xd_laws.proofs.Crew.{has, has-cleared, has-member, has-more, has-same, is_member}
 use Rattle.xd_laws.proofs.CrewFits.{slot-marked, slot-new, slot-old}
 use Rattle.xd_laws.proofs.Places.{times-apart}
-use Rattle.xd_laws.proofs.Placed.{Placed, no_back, placed-output, shared-of_held}
-use Rattle.xd_laws.proofs.Turns.{InRota, Tidy, all_moved-first}
-use Rattle.xd_laws.proofs.Queue.{held-fewer, held-left, held-more, held-none, held-shut}
-use Rattle.xd_laws.proofs.Inputs.{collecting-keeps}
+use Rattle.xd_laws.proofs.Turns.{InRota, Tidy}
 use Rattle.xd_laws.proofs.Rule.{CallFits, IsFresh, Rule}
 use Rattle.xd_laws.proofs.InMode.{InMode}
 use Rattle.xd_laws.proofs.EachTurns.{base-each, pool-shut, rota-apart, rota-distinct, sum-more}
@@ -44,181 +38,9 @@ use Rattle.xd_laws.proofs.Pigeons.{all-taken, among-image, image-once, none-amon
 use Rattle.xd_laws.proofs.Busy.{told-kept}
 use Rattle.xd_laws.proofs.Later.{plain-acts, tells, untold-outputs}
 use Rattle.xd_laws.proofs.Serving.{Beside, Both, NoSteal, no_steal-input, rule-both}
-use Rattle.xd_laws.proofs.Owing.{Awaited, Awaits, awaits-by, slot_items-same}
+use Rattle.xd_laws.proofs.Slots.{OwnSlot, own-input, own-none, own-outputs, own-shutdown, own-start}
+use Rattle.xd_laws.proofs.Owing.{Awaited, Awaits, awaits-by}
 use Rattle.xd_laws.proofs.Keeping.{Expects, Keeper, OthersTold, buried_acts, later-call, new-untold}
-
--- what each move leaves a worker
-
-some-left : (b : Bool) (m n : ℕ) → m ≡ (if b then 0 else n) → 1 ≤ m → 1 ≤ n
-some-left true m n e h = absurd (omega (arith, e, h))
-some-left false m n e h = omega (arith, e, h)
-
-held-kept : (x v w : ℕ) (items : List ℕ) (ss : List Seat) → among x (held_in v (at_seat w (λ s. record s { held = without items s.held }) ss)) ≡ true → among x (held_in v ss) ≡ true
-held-kept x v w items ss h =
-    let now = held_in v (at_seat w (λ s. record s { held = without items s.held }) ss) in
-    times-among x (held_in v ss) (some-left ((v == w) && among x items) (times x now) (times x (held_in v ss)) (held-fewer x v w items ss) (among-times x now h))
-
-held-either : (x v w : ℕ) (items : List ℕ) (ss : List Seat) → among x (held_in v (at_seat w (λ s. record s { held = s.held ++ items }) ss)) ≡ true
-    → (among x (held_in v ss) ≡ true) ⊎ (((v == w) ≡ true) × (among x items ≡ true))
-held-either x v w items ss h =
-    let f : Seat → Seat = λ s. record s { held = s.held ++ items } in
-    elim (cases_of (has_seat v ss)) [
-      | inr n ↦ absurd (differ (ap (λ (xs : List ℕ). among x xs) (sym (held-none v (at_seat w f ss) (seat-change v w f ss (λ s. refl) ∙ n))) ∙ h))
-      | inl k ↦
-          (let e = held-more x v w items ss k in
-          let some = among-times x (held_in v (at_seat w f ss)) h in
-          elim (cases_of (among x (held_in v ss))) [
-            | inl a ↦ inl a
-            | inr a ↦
-                (let none = none-among x (held_in v ss) a in
-                elim (cases_of (v == w)) [
-                  | inl q ↦ inr (q, times-among x items (grind (arith, nat_tests, e, some, none, q)))
-                  | inr q ↦ absurd (grind (arith, nat_tests, e, some, none, q))
-                ])
-          ])
-    ]
-
-held-went : (x v w : ℕ) (ss : List Seat) → among x (held_in v (without_seat w ss)) ≡ true → among x (held_in v ss) ≡ true
-held-went x v w ss h = elim (cases_of (v == w)) [
-  | inl k ↦ absurd (differ (ap (λ (xs : List ℕ). among x xs) (sym (held-none v (without_seat w ss) (seat-left v w ss ∙ rw k refl))) ∙ h))
-  | inr k ↦ ap (λ (xs : List ℕ). among x xs) (sym (held-left v w ss k)) ∙ h
-]
-
-held-came : (x v w : ℕ) (ss : List Seat) → among x (held_in v (ss ++ record { worker = w; held = []; shut = false } ∷ [])) ≡ true → among x (held_in v ss) ≡ true
-held-came x v w [] h = grind (arith, nat_tests, h)
-held-came x v w (s ∷ ss) h = grind (arith, nat_tests, h, held-came x v w ss)
-
-held-first : (x v w : ℕ) (items : List ℕ) (t : Table) → among x (held v (completed_first w items t)) ≡ true → among x (held v t) ≡ true
-held-first x v w [] t h = h
-held-first x v w (i ∷ is) t h = held-kept x v w (i ∷ []) t.rota h
-
--- whoever holds an item was started, and the item is of its slot
-abbrev pub OwnSlot : State → Type 0
-OwnSlot s = (v x : ℕ) → among x (held v s.books.table) ≡ true → (is_member v s.books.crew ≡ true) × (among x (slot_items (slot_of v s.books) s.plan) ≡ true)
-
--- where nobody gets more, and slots and sizes stay
-own-by : (s t : State) → ((v x : ℕ) → among x (held v t.books.table) ≡ true → among x (held v s.books.table) ≡ true) → ((v : ℕ) → is_member v s.books.crew ≡ true → is_member v t.books.crew ≡ true)
-    → ((v : ℕ) → is_member v s.books.crew ≡ true → slot_in v t.books.crew ≡ slot_in v s.books.crew) → t.plan.sizes ≡ s.plan.sizes → t.plan.mode ≡ s.plan.mode → OwnSlot s → OwnSlot t
-own-by s t less member slot sizes mode k v x h =
-    let o = k v x (less v x h) in (
-      member v o.0,
-      ap (λ (i : ℕ). among x (slot_items i t.plan)) (slot v o.0) ∙ ap (λ (xs : List ℕ). among x xs) (slot_items-same (slot_in v s.books.crew) t.plan s.plan sizes mode) ∙ o.1,
-    )
-
--- so it is where only marks of workers change
-own-marked : (s t : State) (change : Member → Member) → ((m : Member) → (change m).worker ≡ m.worker) → ((m : Member) → (change m).slot ≡ m.slot) → t.books.crew ≡ map change s.books.crew
-    → ((v x : ℕ) → among x (held v t.books.table) ≡ true → among x (held v s.books.table) ≡ true) → t.plan.sizes ≡ s.plan.sizes → t.plan.mode ≡ s.plan.mode → OwnSlot s → OwnSlot t
-own-marked s t change a b crew less sizes mode k =
-    own-by s t less
-    (λ v m. ap (λ (ms : List Member). is_member v ms) crew ∙ has-same v (λ m. true) change s.books.crew a (λ m. refl) ∙ m)
-    (λ v m. ap (λ (ms : List Member). slot_in v ms) crew ∙ slot-marked v change s.books.crew a b) sizes mode k
-
-own-input : (s : State) (e : Entry) → may_follow s e ≡ true → Tidy s → NoSteal s → OwnSlot s → OwnSlot (moved s e)
-own-input s (Ready w) h d n k = own-marked s (moved s (Ready w)) (made_ready w) (λ m. refl) (λ m. refl) refl (λ v x a. a) refl refl k
-own-input s (Collected w g) h d n k =
-    let now = in_books (λ b. marked (made_collected w) (with_list w g b)) s in
-    let j = in_books (λ b. record b { table = joined w b.table }) now in
-    let same : OwnSlot now = own-marked s now (made_collected w) (λ m. refl) (λ m. refl) refl (λ v x a. a) refl refl k in
-    let come : OwnSlot j = own-marked s j (made_collected w) (λ m. refl) (λ m. refl) refl (λ v x a. held-came x v w s.books.table.rota a) refl refl k in
-    collecting-keeps OwnSlot now w (unequal w g (listed w s.books)) same same come
-    (λ z v x a. absurd (differ (sym z ∙ shared-of_held s v x d.placed (held-came x v w s.books.table.rota a))))
-own-input s (Done w i u m o) h d n k =
-    own-by s (moved s (Done w i u m o)) (λ v x a. held-first x v w (items_named (slot_of w s.books) (i ∷ []) s.plan) s.books.table a) (λ v z. z) (λ v z. refl) refl refl k
-own-input s (Back w is) h d n k = absurd (no_back s w is n h)
-own-input s (Finished w) h d n k = own-marked s (moved s (Finished w)) (made_gone w) (λ m. refl) (λ m. refl) refl (λ v x a. held-went x v w s.books.table.rota a) refl refl k
-own-input s (Refused w t) h d n k = own-marked s (moved s (Refused w t)) (made_gone w) (λ m. refl) (λ m. refl) refl (λ v x a. a) refl refl k
-own-input s (Down w c o) h d n k = own-marked s (moved s (Down w c o)) (made_gone w) (λ m. refl) (λ m. refl) refl (λ v x a. held-went x v w s.books.table.rota a) refl refl k
-own-input s (NotStarted w) h d n k = own-marked s (moved s (NotStarted w)) (made_gone w) (λ m. refl) (λ m. refl) refl (λ v x a. held-went x v w s.books.table.rota a) refl refl k
-own-input s (Start w slot) h d n k = absurd (differ h)
-own-input s (Run w is) h d n k = absurd (differ h)
-own-input s (RunAll w) h d n k = absurd (differ h)
-own-input s (Steal w is) h d n k = absurd (differ h)
-own-input s (Shutdown w) h d n k = absurd (differ h)
-own-input s (Kill w) h d n k = absurd (differ h)
-own-input s (Over how) h d n k = absurd (differ h)
-
-own-start : (s : State) (w slot : ℕ) → OwnSlot s → OwnSlot (moved s (Start w slot))
-own-start s w slot k =
-    own-by s (moved s (Start w slot)) (λ v x a. a) (λ v m. has-more v (λ m. true) s.books.crew (started w slot) ∙ or-left (is_member v s.books.crew) (w == v && true) m)
-    (λ v m. slot-old v s.books.crew (started w slot) m) refl refl k
-
-own-shutdown : (s : State) (w : ℕ) → OwnSlot s → OwnSlot (moved s (Shutdown w))
-own-shutdown s w k =
-    own-marked s (moved s (Shutdown w)) (made_shut w) (λ m. refl) (λ m. refl) refl (λ v x a. ap (λ (xs : List ℕ). among x xs) (sym (held-shut v w s.books.table.rota)) ∙ a) refl refl k
-
--- a worker of the rota gets items of its slot
-own-given : (s : State) (w : ℕ) (items : List ℕ) (p : Plan) → p.sizes ≡ s.plan.sizes → p.mode ≡ s.plan.mode → Placed s → in_rota w s.books.table ≡ true
-    → ((x : ℕ) → among x items ≡ true → among x (slot_items (slot_of w s.books) s.plan) ≡ true) → OwnSlot s → OwnSlot (record s { books = record (s.books) { table = assigned w items s.books.table }; plan = p })
-own-given s w items p sizes mode d rota mine k v x h =
-    let same = slot_items-same (slot_in v s.books.crew) p s.plan sizes mode in
-    elim (held-either x v w items s.books.table.rota h) [
-      | inl a ↦ (let o = k v x a in (o.0, ap (λ (xs : List ℕ). among x xs) same ∙ o.1))
-      | inr a ↦
-          (let q : w ≡ v = grind (arith, nat_tests, a.0) in
-          let m : is_member v s.books.crew ≡ true = subst (λ (u : ℕ). is_member u s.books.crew ≡ true) q (has-member w (λ m. m.active) s.books.crew (d.fits.active w rota)) in
-          (m, ap (λ (xs : List ℕ). among x xs) same ∙ subst (λ (u : ℕ). among x (slot_items (slot_in u s.books.crew) s.plan) ≡ true) q (mine x a.1)))
-    ]
-
-chosen : (b : Bool) (u v : Bool) → b ≡ true → (if b then u else v) ≡ true → u ≡ true
-chosen true u v h k = k
-chosen false u v h k = absurd (differ h)
-
-own-run : (s : State) (w : ℕ) (is : List ℕ) → is_orderly s (Run w is) ≡ true → is_each s.plan.mode ≡ true → Placed s → OwnSlot s → OwnSlot (moved s (Run w is))
-own-run s w is h each d k =
-    let slot = slot_of w s.books in
-    let items = items_named slot is s.plan in
-    let a = split-and (may_run w s && not_empty is && all_distinct items && all_among items s.books.table.pool) (if is_each s.plan.mode then all_among items (slot_items slot s.plan) else true) h in
-    let b = split-and (may_run w s && not_empty is && all_distinct items) (all_among items s.books.table.pool) a.0 in
-    let c = split-and (may_run w s && not_empty is) (all_distinct items) b.0 in
-    let e = split-and (may_run w s) (not_empty is) c.0 in
-    let rota = (split-and (in_rota w s.books.table) _ e.0).0 in
-    own-given s w items (moved s (Run w is)).plan refl refl d rota
-    (λ x z. among_of-all_among x items (slot_items slot s.plan) (chosen (is_each s.plan.mode) (all_among items (slot_items slot s.plan)) true each a.1) z) k
-
-own-output : (s : State) (e : Entry) → is_orderly s e ≡ true → is_each s.plan.mode ≡ true → Placed s → OwnSlot s → OwnSlot (moved s e)
-own-output s (Start w slot) h each d k = own-start s w slot k
-own-output s (Run w is) h each d k = own-run s w is h each d k
-own-output s (RunAll w) h each d k =
-    let slot = slot_of w s.books in
-    let a = split-and (is_each s.plan.mode && may_run w s) (all_among (slot_items slot s.plan) s.books.table.pool) h in
-    let b = split-and (is_each s.plan.mode) (may_run w s) a.0 in
-    own-given s w (slot_items slot s.plan) s.plan refl refl d (split-and (in_rota w s.books.table) _ b.1).0 (λ x z. z) k
-own-output s (Steal w is) h each d k = k
-own-output s (Shutdown w) h each d k = own-shutdown s w k
-own-output s (Kill w) h each d k = k
-own-output s (Over how) h each d k = k
-own-output s (Ready w) h each d k = absurd (differ h)
-own-output s (Collected w g) h each d k = absurd (differ h)
-own-output s (Done w i u m o) h each d k = absurd (differ h)
-own-output s (Back w i) h each d k = absurd (differ h)
-own-output s (Finished w) h each d k = absurd (differ h)
-own-output s (Refused w t) h each d k = absurd (differ h)
-own-output s (Down w c o) h each d k = absurd (differ h)
-own-output s (NotStarted w) h each d k = absurd (differ h)
-
-mode-output : (s : State) (e : Entry) → is_orderly s e ≡ true → (moved s e).plan.mode ≡ s.plan.mode
-mode-output s (Start w slot) h = refl
-mode-output s (Run w is) h = refl
-mode-output s (RunAll w) h = refl
-mode-output s (Steal w is) h = refl
-mode-output s (Shutdown w) h = refl
-mode-output s (Kill w) h = refl
-mode-output s (Over how) h = refl
-mode-output s (Ready w) h = absurd (differ h)
-mode-output s (Collected w g) h = absurd (differ h)
-mode-output s (Done w i u m o) h = absurd (differ h)
-mode-output s (Back w i) h = absurd (differ h)
-mode-output s (Finished w) h = absurd (differ h)
-mode-output s (Refused w t) h = absurd (differ h)
-mode-output s (Down w c o) h = absurd (differ h)
-mode-output s (NotStarted w) h = absurd (differ h)
-
-own-outputs : (s : State) (es : List Entry) → all_orderly s es ≡ true → is_each s.plan.mode ≡ true → Placed s → OwnSlot s → OwnSlot (all_moved s es)
-own-outputs s [] o each d k = k
-own-outputs s (e ∷ es) o each d k =
-    let q = split-and (is_orderly s e) (all_orderly (moved s e) es) o in
-    subst OwnSlot (sym (all_moved-first s e es q.0))
-    (own-outputs (moved s e) es q.1 (ap is_each (mode-output s e q.0) ∙ each) (placed-output s e q.0 d) (own-output s e q.0 each d k))
 
 -- the plan stays
 
@@ -365,21 +187,13 @@ none-left s slots e d f full y h =
     (let one = among-image slot x ws a in
     let active = d.placed.fits.active (one.0) (seat-among (one.0) s.books.table.rota ∙ one.1) in
     subst (λ (z : ℕ). z < n) one.2 (d.crew.below (one.0) (has-member (one.0) (λ m. m.active) s.books.crew active))) in
-    let many : length (map slot ws) ≡ n = length-mapped slot ws ∙ length-workers s.books.table.rota ∙ full in
+    let many : length (map slot ws) ≡ n = length-map ws slot ∙ length-map s.books.table.rota (λ (x : Seat). x.worker) ∙ full in
     let here = all-taken (part.0) n (map slot ws) (image-once slot ws (rota-distinct s d) (λ v u a b q. rota-apart s d v u a b q)) below many (omega (arith, part.1, f.sizes e)) in
     let one = among-image slot (part.0) ws here in
     no-other (slot (one.0)) (part.0) one.2 (left.1 (one.0) one.1) part.2
   where
     no-other : (i k : ℕ) → i ≡ k → among y (slot_items i s.plan) ≡ false → among y (slot_items k s.plan) ≡ true → ⊥
     no-other i k same away there = clash (among y (slot_items k s.plan)) (ap (λ (j : ℕ). among y (slot_items j s.plan)) (sym same) ∙ away) there
-
-    length-mapped : (g : ℕ → ℕ) (xs : List ℕ) → length (map g xs) ≡ length xs
-    length-mapped g [] = refl
-    length-mapped g (x ∷ xs) = ap (λ (k : ℕ). suc k) (length-mapped g xs)
-
-    length-workers : (ss : List Seat) → length (map (λ (x : Seat). x.worker) ss) ≡ length ss
-    length-workers [] = refl
-    length-workers (x ∷ ss) = ap (λ (k : ℕ). suc k) (length-workers ss)
 
 -- whoever joins gets what is left of its slot
 pool-joins : (y w slot : ℕ) (t : Turn) → among y (joins w slot t).table.pool ≡ true → (among y t.table.pool ≡ true) × (among y (slot_items slot t.plan) ≡ false)
@@ -437,11 +251,11 @@ each_still = rule-both (InMode Each) NoSteal each_rule each_no_steal
 
 each_own : Beside (Both (InMode Each) NoSteal) OwnSlot
 each_own = record {
-  input = λ s e h d x k. own-input s e h d x.second k;
+  input = λ s e h d x k. own-input s e h d.placed k;
   start = λ s w slot k. own-start s w slot k;
   shutdown = λ s w k. own-shutdown s w k;
   settled = λ s k. k;
-  turns = λ s c d h x k f. own-outputs s (acts_of c s) (each_still.turns s c d h x f).fit.orderly (ap is_each x.first) d.placed k;
+  turns = λ s c d h x k f. own-outputs s (acts_of c s) (each_still.turns s c d h x f).fit.orderly d.placed k;
 }
 
 in_each_rule : Rule InEach
@@ -520,10 +334,10 @@ each-buried s w a d x o z free y h = elim (pool-buried s w y h) [
             let untold : has one.who (λ m. m.shut) now.books.crew ≡ false = has-same one.who (λ m. m.shut) (made_gone w) ms (λ m. refl) (λ m. refl) ∙ one.untold in
             awaits-by s after y one
             (has-more one.who (λ m. m.active) now.books.crew new ∙ or-left (has one.who (λ m. m.active) now.books.crew) (n == one.who && true) active)
-            (has-more one.who (λ m. m.shut) now.books.crew new ∙ no-mark (has one.who (λ m. m.shut) now.books.crew) (n == one.who) ∙ untold)
+            (has-more one.who (λ m. m.shut) now.books.crew new ∙ or-unset (has one.who (λ m. m.shut) now.books.crew) (n == one.who) ∙ untold)
             (slot-old one.who now.books.crew new member ∙ slot-marked one.who (made_gone w) ms (λ m. refl) (λ m. refl)) refl refl)
       ])
-  | inr b ↦ newcomer (x.second w y b).1
+  | inr b ↦ newcomer (x.second (ap is_each x.first.first) w y b).1
 ]
   where
     ms : List Member
@@ -540,11 +354,6 @@ each-buried s w a d x o z free y h = elim (pool-buried s w y h) [
 
     after : State
     after = moved now (Start n (slot_of w now.books))
-
-    no-mark : (b c : Bool) → (b || (c && false)) ≡ b
-    no-mark true c = refl
-    no-mark false true = refl
-    no-mark false false = refl
 
     newcomer : among y (slot_items (slot_of w s.books) s.plan) ≡ true → Awaits after y
     newcomer mine =
@@ -578,4 +387,4 @@ each_keeper = record {
     none-buried now k = in_both (λ (es : List Entry). all_moved now es ≡ now) now.books.shared (acts_of Died now) [] (λ h. none-said now Died k refl) (λ h. refl)
 
 pub each-begins : (settings : Settings) → settings.mode ≡ Each → InEach (no_one settings)
-each-begins settings h = record { first = record { first = h; second = refl }; second = λ v x a. absurd (differ a) }
+each-begins settings h = record { first = record { first = h; second = refl }; second = own-none settings }

@@ -1,12 +1,12 @@
 -- The rota's workers and their marks agree, whatever happens to one of them.
-use Rattle.std.proofs.Common.{◌≡◌, ℕ, ◌≤◌, List, [], ◌∷◌, ◌++◌, map, Bool, true, false, not, ◌&&◌, ◌||◌, refl, ap, sym, ◌∙◌, subst, arith, inl, inr}
+use Rattle.std.proofs.Common.{◌≡◌, ℕ, ◌≤◌, List, [], ◌∷◌, ◌++◌, map, true, false, not, ◌&&◌, refl, ap, sym, ◌∙◌, subst, arith, inl, inr}
 use Rattle.std.specs.Prelude.{if◌then◌else◌, ◌==◌, ◌⊎◌}
 use Rattle.std.proofs.lemmas.Bool.Decides.{nat_tests}
 use Rattle.xd_ledger.specs.declared.seat.Seat.{Seat}
 use Rattle.xd_ledger.specs.declared.member.Member.{Member}
 use Rattle.xd_ledger.specs.Table.{Table, in_rota, seat_shut, at_seat, without_seat, joined, shut_down}
 use Rattle.xd_ledger.specs.Workers.{started, made_ready, made_collected, made_shut, made_gone}
-use Rattle.xd_laws.proofs.Logic.{split-and, split-or, not_true, or-left, and-false}
+use Rattle.xd_laws.proofs.Logic.{split-and, split-or, not_true, or-left, or-unset}
 use Rattle.xd_laws.proofs.Rota.{seats_of, has_seat, is_told, one-of_seat, none-of_seat, untold-of_seat, seats-change, seat-change, told-change, told-shut, seat-left, told-left, seats-left, seat-joined, told-joined, seats-joined}
 use Rattle.xd_laws.proofs.Crew.{has, is_member, has-member, has-same, has-set, has-kept, has-cleared, has-more}
 
@@ -41,7 +41,7 @@ in_left t u v w e h =
     let p = split-and (not (v == w)) (in_rota v t) k in
     (not_true (v == w) p.0, p.1)
 
-still_active : (v w : ℕ) (ms : List Member) → (v == w) ≡ false → has v (λ m. m.active) ms ≡ true → has v (λ m. m.active) (map (made_gone w) ms) ≡ true
+pub still_active : (v w : ℕ) (ms : List Member) → (v == w) ≡ false → has v (λ m. m.active) ms ≡ true → has v (λ m. m.active) (map (made_gone w) ms) ≡ true
 still_active v w ms h k = has-cleared v w (λ m. m.active) (made_gone w) ms (λ m. refl) (λ m. refl) ∙ rw (h, k)
 
 -- a worker of the rota goes
@@ -86,10 +86,6 @@ fits-collected t ms w c = record {
   marks = λ v h. has-same v (λ m. m.shut) (made_collected w) ms (λ m. refl) (λ m. refl) ∙ c.marks v h;
 }
 
-no_mark : (a b : Bool) → (a || (b && false)) ≡ a
-no_mark true b = refl
-no_mark false b = and-false b
-
 pub fits-start : (t : Table) (ms : List Member) (w slot : ℕ) → Fits t ms → Fits t (ms ++ started w slot ∷ [])
 fits-start t ms w slot c =
     let new = started w slot in
@@ -98,7 +94,7 @@ fits-start t ms w slot c =
       active = λ v h. has-more v (λ m. m.active) ms new ∙ or-left (has v (λ m. m.active) ms) (w == v && true) (c.active v h);
       ready = λ v h. has-more v (λ m. m.ready) ms new ∙ or-left (has v (λ m. m.ready) ms) (w == v && false) (c.ready v h);
       collected = λ v h. has-more v (λ m. m.collected) ms new ∙ or-left (has v (λ m. m.collected) ms) (w == v && false) (c.collected v h);
-      marks = λ v h. has-more v (λ m. m.shut) ms new ∙ no_mark (has v (λ m. m.shut) ms) (w == v) ∙ c.marks v h;
+      marks = λ v h. has-more v (λ m. m.shut) ms new ∙ or-unset (has v (λ m. m.shut) ms) (w == v) ∙ c.marks v h;
     }
 
 pub fits-shutdown : (t : Table) (ms : List Member) (w : ℕ) → Fits t ms → Fits (shut_down w t) (map (made_shut w) ms)

@@ -82,7 +82,7 @@ calm-by s t a b stop shut c = record {
 shut-collected : (w v : ℕ) (ms : List Member) → has v (λ m. m.shut) (map (made_collected w) ms) ≡ has v (λ m. m.shut) ms
 shut-collected w v ms = has-same v (λ m. m.shut) (made_collected w) ms (λ m. refl) (λ m. refl)
 
-shut-gone : (w v : ℕ) (ms : List Member) → has v (λ m. m.shut) (map (made_gone w) ms) ≡ has v (λ m. m.shut) ms
+pub shut-gone : (w v : ℕ) (ms : List Member) → has v (λ m. m.shut) (map (made_gone w) ms) ≡ has v (λ m. m.shut) ms
 shut-gone w v ms = has-same v (λ m. m.shut) (made_gone w) ms (λ m. refl) (λ m. refl)
 
 calm-collected : (s : State) (w : ℕ) (g : Ids) → Calm s → Calm (moved s (Collected w g))
@@ -143,7 +143,7 @@ still_shared s w g h = collecting-keeps (λ (u : State). u.books.shared ≡ true
 
 -- a collection that is not told to shut down and stops nothing brings its worker into the rota
 
-some-stop : (a : Option RunStop) (how : RunStop) → is_some (or_stop a (Some how)) ≡ true
+pub some-stop : (a : Option RunStop) (how : RunStop) → is_some (or_stop a (Some how)) ≡ true
 some-stop None how = refl
 some-stop (Some first) how = refl
 

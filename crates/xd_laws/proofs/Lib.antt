@@ -37,6 +37,7 @@ pub mod Placing
 pub mod Calls
 pub mod Laws
 pub mod Unshared
+pub mod Slots
 pub mod Busy
 pub mod LoadBusy
 pub mod StealBusy
@@ -49,8 +50,14 @@ pub mod Owing
 pub mod Keeping
 pub mod EachServing
 pub mod Going
+pub mod OwingEnds
+pub mod OwingCalls
+pub mod OwingJoins
+pub mod OwingDeaths
 pub mod OwingInputs
 pub mod OwingRuns
 pub mod Whole
 mod Rows
 mod WholeRows
+mod RetryRows
+mod OwesRows

@@ -45,6 +45,11 @@ pub not_true : (a : Bool) → not a ≡ true → a ≡ false
 not_true true h = cc
 not_true false h = refl
 
+-- a mark that is not set
+pub or-unset : (a b : Bool) → (a || (b && false)) ≡ a
+or-unset true b = refl
+or-unset false b = and-false b
+
 -- what holds of both branches
 pub in_both : {A : Type 0} (P : A → Type 0) (b : Bool) (x y : A) → (b ≡ true → P x) → (b ≡ false → P y) → P (if b then x else y)
 in_both P true x y p q = p refl

@@ -1,14 +1,14 @@
 -- What holds behind each whole rule of a run, and that someone owes the next step by it.
-use Rattle.std.proofs.Common.{◌≡◌, ℕ, suc, ◌≤◌, ◌<◌, List, [], ◌∷◌, length, map, take, Bool, true, false, not, ◌&&◌, ◌||◌, refl, ap, sym, ◌∙◌, subst, arith, inl, inr}
-use Rattle.std.specs.Prelude.{if◌then◌else◌, ◌==◌, ◌⊎◌, nat_le, nat_lt, sum, slice_index, Option, Some, None, is_none}
-use Rattle.std.specs.List.{list_all, list_any, range_with_len}
+use Rattle.std.proofs.Common.{◌≡◌, ℕ, ◌≤◌, ◌<◌, List, [], ◌∷◌, length, map, Bool, true, false, not, ◌&&◌, ◌||◌, refl, ap, sym, ◌∙◌, subst, arith, inl, inr}
+use Rattle.std.specs.Prelude.{◌==◌, ◌⊎◌, nat_le, nat_lt, Option, Some, None, is_none}
+use Rattle.std.specs.List.{list_all, list_any}
 use Rattle.std.proofs.lemmas.Bool.Decides.{nat_tests}
-use Rattle.xd_edge.specs.declared.mode.ModeKind.{ModeKind}
+use Rattle.std.proofs.lemmas.List.{length-map}
 use Rattle.xd_ledger.specs.declared.member.Member.{Member}
 use Rattle.xd_ledger.specs.declared.seat.Seat.{Seat}
 use Rattle.xd_ledger.specs.Numbers.{all_distinct, among}
 use Rattle.xd_ledger.specs.Table.{held, held_in, in_rota, seat_shut, workers_of}
-use Rattle.xd_ledger.specs.Plan.{Asked, Plan, is_each, slot_items}
+use Rattle.xd_ledger.specs.Plan.{Asked, is_each, slot_items}
 use Rattle.xd_ledger.specs.Workers.{slot_in, slot_of, some_active}
 use Rattle.xd_ledger.specs.Stops.{is_shutting, is_stopped}
 use Rattle.xd_ledger.specs.Sharing.{State}
@@ -20,6 +20,7 @@ use Rattle.xd_laws.proofs.Crew.{distinct-numbered, has, numbers}
 use Rattle.xd_laws.proofs.Rota.{has_seat, one-of_seat, seat-among, seats_of}
 use Rattle.xd_laws.proofs.Turns.{InRota, Tidy}
 use Rattle.xd_laws.proofs.Pigeons.{as-many}
+use Rattle.xd_laws.proofs.Slots.{slot_items-same}
 use Rattle.xd_laws.proofs.Busy.{AllWork}
 
 -- whoever is active and ready was told to shut down
@@ -57,12 +58,6 @@ Seated s = (v : ℕ) → has v (λ m. m.active) s.books.crew ≡ true → has v 
 -- in mode each whoever is in the rota was told
 abbrev pub EachTold : State → Type 0
 EachTold s = is_each s.plan.mode ≡ true → (v : ℕ) → InRota s v → seat_shut v s.books.table ≡ true
-
--- the items of a slot are known by the mode and the sizes
-pub slot_items-same : (slot : ℕ) (p q : Plan) → p.sizes ≡ q.sizes → p.mode ≡ q.mode → slot_items slot p ≡ slot_items slot q
-slot_items-same slot p q a b =
-    ap (λ (k : ModeKind). range_with_len (if is_each k then sum (take slot p.sizes) else 0) (slice_index p.sizes slot)) b
-    ∙ ap (λ (ns : List ℕ). range_with_len (if is_each q.mode then sum (take slot ns) else 0) (slice_index ns slot)) a
 
 -- who waits for an item still waits for it
 pub awaits-by : (s t : State) (x : ℕ) (o : Awaits s x) → has o.who (λ m. m.active) t.books.crew ≡ true → has o.who (λ m. m.shut) t.books.crew ≡ false
@@ -225,15 +220,11 @@ unshared-owes s d g u n = elim (cases_of (someone_owes s)) [
         | inr r ↦ among-mapped (λ w. slot_of w s.books) one.who k ws r one.slot
       ]) in
       let many = as-many s.books.settings.workers (map (λ w. slot_of w s.books) ws) there in
-      let a = length-mapped (λ (w : ℕ). slot_of w s.books) ws in
-      let b = length-mapped (λ (x : Seat). x.worker) s.books.table.rota in
+      let a = length-map ws (λ (w : ℕ). slot_of w s.books) in
+      let b = length-map s.books.table.rota (λ (x : Seat). x.worker) in
       absurd (omega (arith, many, a, b, g.room n)))
 ]
   where
-    length-mapped : {A B : Type 0} (f : A → B) (xs : List A) → length (map f xs) ≡ length xs
-    length-mapped f [] = refl
-    length-mapped f (x ∷ xs) = ap (λ (n : ℕ). suc n) (length-mapped f xs)
-
     among-mapped : (f : ℕ → ℕ) (w k : ℕ) (ws : List ℕ) → among w ws ≡ true → f w ≡ k → among k (map f ws) ≡ true
     among-mapped f w k [] h e = absurd (differ h)
     among-mapped f w k (v ∷ ws) h e = elim (split-or (w == v) (among w ws) h) [

@@ -68,13 +68,13 @@ pub fn place_law()
 {}
 
 /// In every journal each crash among the reports is the entry by which its worker went down, behind the entries of the reports
-/// ahead of it, and its test was the first that the worker held there.
+/// ahead of it, and its test was the first that the worker held there and was not to be tried again.
 pub fn crash_law()
     ensures { (settings : Settings) (es : List Entry) (earlier : List Report) (later : List Report) (worker : ℕ) (item : ℕ) → reports settings es ≡ earlier ++ Crash worker item ∷ later → IsDeath settings es earlier worker item }
 {}
 
-/// In every mode, behind whatever proper inputs, a run that is not over has a worker that owes the next step: it is not ready
-/// yet, has not collected, is to end, has a test that it may start, or has to answer a steal.
+/// In every mode, after whatever proper inputs and their outputs, a run that is not over has a worker that owes the
+/// next step: it is not ready yet, has not collected, is to end, has a test that it may start, or has to answer a steal.
 pub fn owes_law()
     ensures { (settings : Settings) (inputs : List Entry) → IsProper settings inputs → is_over (stepped_all (begun settings) inputs).books ≡ false → someone_owes (stepped_all (begun settings) inputs) ≡ true }
 {}

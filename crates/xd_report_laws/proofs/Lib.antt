@@ -1,4 +1,3 @@
-pub mod Slots
 pub mod Ids
 pub mod Named
 mod Rows

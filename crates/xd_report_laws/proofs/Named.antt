@@ -28,6 +28,7 @@ use Rattle.xd_laws.proofs.Laws.{journal-keeps}
 use Rattle.xd_laws.proofs.Logic.{cases_of, differ, split-and}
 use Rattle.xd_laws.proofs.Placed.{Placed, head_among, one_item, shared-of_held}
 use Rattle.xd_laws.proofs.Shared.{Listing, keeps_listing, listing-none}
+use Rattle.xd_laws.proofs.Slots.{OwnSlot, own-input, own-none, own-output}
 use Rattle.xd_laws.proofs.Turns.{Tidy}
 use Rattle.xd_laws.proofs.Walk.{Keeps}
 use Rattle.xd_laws.proofs.Whole.{state-whole}
@@ -36,12 +37,11 @@ use Rattle.xd_report.specs.Tests.{id_of, item_id}
 use Rattle.xd_report.proofs.Named.{AllRight, Right, blocks-by, lines-by}
 use Rattle.xd_report_laws.specs.ItemIds.{NamesItems, ids_in, item_ids}
 use Rattle.xd_report_laws.proofs.Ids.{id-each, id-other, stays}
-use Rattle.xd_report_laws.proofs.Slots.{InSlots, slots-none, slots-said, slots-told}
 
 -- the id of an item that a worker holds, by the worker's number for it
-held-id : (s : State) (w x : ℕ) → Placed s → Listing s → InSlots s → among x (held w s.books.table) ≡ true → item_id w x s ≡ slice_index_or (item_ids s.books) x []
+held-id : (s : State) (w x : ℕ) → Placed s → Listing s → OwnSlot s → among x (held w s.books.table) ≡ true → item_id w x s ≡ slice_index_or (item_ids s.books) x []
 held-id s w x p k q h = elim (cases_of (is_each s.plan.mode)) [
-  | inl e ↦ id-each s w x k (shared-of_held s w x p h) e (q e w x h)
+  | inl e ↦ id-each s w x k (shared-of_held s w x p h) e (q e w x h).1
   | inr e ↦
       (let slot = slot_of w s.books in
       let none : base slot s.plan ≡ 0 = ap (λ (b : Bool). if b then sum (take slot s.plan.sizes) else 0) e in
@@ -73,7 +73,7 @@ first-among x (y ∷ ys) h = (let same : y ≡ x = cc in grind (arith, nat_tests
 abbrev IsName : (Report → List ℕ) → State → Type 0
 IsName name s = s.books.shared ≡ true → name ≡ id_in (item_ids s.books)
 
-module _ (name : Report → List ℕ) (s : State) (p : Placed s) (k : Listing s) (q : InSlots s) (is : IsName name s) where
+module _ (name : Report → List ℕ) (s : State) (p : Placed s) (k : Listing s) (q : OwnSlot s) (is : IsName name s) where
   named-held : (w x : ℕ) (r : Report) → item_of r ≡ x → among x (held w s.books.table) ≡ true → item_id w x s ≡ name r
   named-held w x r of h =
       held-id s w x p k q h ∙ ap (λ (y : ℕ). slice_index_or (item_ids s.books) y []) (sym of) ∙ ap (λ (f : Report → List ℕ). f r) (sym (is (shared-of_held s w x p h)))
@@ -129,14 +129,14 @@ right-append name s (x ∷ xs) ys a b = (a.0, right-append name (next s x) xs ys
 -- along a journal: where the tests are shared, all entries so far name their items by their ids
 record Named (settings : Settings) (s : State) (es : List Entry) : Type 0 where
   listing : Listing s
-  in_slots : InSlots s
+  in_slots : OwnSlot s
   right : (name : Report → List ℕ) → IsName name s → AllRight name (no_one settings) es
 
 -- a name by the ids behind an entry is one by those before it
 name-before : (name : Report → List ℕ) (s : State) (e : Entry) → Listing s → IsName name (moved s e) → IsName name s
 name-before name s e k is h = (let t = stays s e k h in is t.shared ∙ ap id_in t.ids)
 
-named-more : (settings : Settings) (s : State) (es : List Entry) (e : Entry) → s ≡ reached (all_moved (no_one settings) es) e → Named settings s es → Listing (moved s e) → InSlots (moved s e)
+named-more : (settings : Settings) (s : State) (es : List Entry) (e : Entry) → s ≡ reached (all_moved (no_one settings) es) e → Named settings s es → Listing (moved s e) → OwnSlot (moved s e)
     → ((name : Report → List ℕ) → IsName name s → Right name s e) → Named settings (moved s e) (es ++ e ∷ [])
 named-more settings s es e at k listing in_slots right = record {
   listing = listing;
@@ -148,8 +148,8 @@ named-more settings s es e at k listing in_slots right = record {
 
 keeps_named : (settings : Settings) → Keeps settings (Named settings)
 keeps_named settings = record {
-  said = λ s es e d h at k. named-more settings s es e at k (keeps.said s es e d h at k.listing) (slots-said s e d h k.in_slots) (λ name is. said-right name s d.placed k.listing k.in_slots is e h);
-  told = λ s es e p h at k. named-more settings s es e at k (keeps.told s es e p h at k.listing) (slots-told s e p h k.in_slots) (λ name is. told-right name s e h);
+  said = λ s es e d h at k. named-more settings s es e at k (keeps.said s es e d h at k.listing) (own-input s e h d.placed k.in_slots) (λ name is. said-right name s d.placed k.listing k.in_slots is e h);
+  told = λ s es e p h at k. named-more settings s es e at k (keeps.told s es e p h at k.listing) (own-output s e h p k.in_slots) (λ name is. told-right name s e h);
   settled = λ s es k. record { listing = keeps.settled s es k.listing; in_slots = k.in_slots; right = k.right };
 }
   where
@@ -157,7 +157,7 @@ keeps_named settings = record {
     keeps = keeps_listing settings
 
 named-none : (settings : Settings) → Named settings (no_one settings) []
-named-none settings = record { listing = listing-none settings; in_slots = slots-none settings; right = λ name is. tt }
+named-none settings = record { listing = listing-none settings; in_slots = own-none settings; right = λ name is. tt }
 
 -- the end names nothing
 

@@ -15,7 +15,7 @@ use Rattle.xd_report_laws.specs.ItemIds.{item_ids}
 
 -- mode each with two slots
 abbrev two_slots : Settings
-two_slots = record { mode = Each; workers = 2; maxfail = 0; restarts = 8; chunk = None; reorder = true }
+two_slots = record { mode = Each; workers = 2; maxfail = 0; restarts = 8; chunk = None; reorder = true; retries = 0 }
 
 -- slot 0 has the tests a and b, and slot 1 has c, which passes
 abbrev a_run : List Entry

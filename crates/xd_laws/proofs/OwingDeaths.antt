@@ -1,0 +1,174 @@
+-- After the loss of a worker, at whose slot another comes, someone owes the next step.
+use Rattle.std.proofs.Common.{◌≡◌, ℕ, ◌<◌, List, [], ◌∷◌, length, true, false, ◌&&◌, refl, ap, sym, ◌∙◌, subst, arith, inl, inr}
+use Rattle.std.specs.Prelude.{◌==◌, Option, Some, None, is_some}
+use Rattle.std.proofs.lemmas.Bool.Decides.{nat_tests}
+use Rattle.std.proofs.lemmas.List.{length-map}
+use Rattle.xd_journal.specs.declared.settings.Settings.{Settings}
+use Rattle.xd_journal.specs.declared.entry.Entry.{Entry}
+use Rattle.xd_journal.specs.declared.entry.Entry.TheVariants.{NotStarted, Start}
+use Rattle.xd_journal.specs.declared.entry.RunStop.{RunStop}
+use Rattle.xd_ledger.specs.declared.member.Member.{Member}
+use Rattle.xd_ledger.specs.Numbers.{among}
+use Rattle.xd_ledger.specs.Table.{Table, seat_shut, workers_of}
+use Rattle.xd_ledger.specs.Plan.{Asked, is_each}
+use Rattle.xd_ledger.specs.Modes.{turned}
+use Rattle.xd_ledger.specs.Modes.Call.{TestsBack, Died}
+use Rattle.xd_ledger.specs.Workers.{is_active, made_gone, slot_in, slot_of, started}
+use Rattle.xd_ledger.specs.Stops.{is_stopped}
+use Rattle.xd_ledger.specs.Sharing.{State}
+use Rattle.xd_ledger.specs.State.{all_moved, moved, steal_without}
+use Rattle.xd_ledger.specs.Outputs.{acts_of, after_death, turn_of, unless_stopped}
+use Rattle.xd_laws.proofs.Logic.{cases_of, clash, differ, in_both, or-left, or-right, or-unset, split-or}
+use Rattle.xd_laws.proofs.Crew.{has, has-member, has-more, is_member, none-next}
+use Rattle.xd_laws.proofs.CrewFits.{kin-length, kin-same, slot-marked, slot-new, slot-old}
+use Rattle.xd_laws.proofs.Fits.{still_active}
+use Rattle.xd_laws.proofs.Turns.{InRota, Tidy, all_moved-join}
+use Rattle.xd_laws.proofs.Rule.{Turned, fit-none}
+use Rattle.xd_laws.proofs.Inputs.{down-unstopped, shut-gone}
+use Rattle.xd_laws.proofs.Busy.{AllWork}
+use Rattle.xd_laws.proofs.Later.{Later, later-same}
+use Rattle.xd_laws.proofs.Owing.{AskedOpen, Going, HasSlot, Owing, Seated}
+use Rattle.xd_laws.proofs.Keeping.{Keeper, buried_acts, later-call, replaced}
+use Rattle.xd_laws.proofs.Going.{StillOpen, asked-by, fewer-gone, owing-unless, seated-later, told-fewer}
+use Rattle.xd_laws.proofs.OwingEnds.{fewer-seats, seated-gone, told-gone}
+use Rattle.xd_laws.proofs.OwingCalls.{stays-by}
+
+module _ (X : State → Type 0) (k : Keeper X) where
+  pub down-owing : (s : State) (w : ℕ) → is_active w s.books ≡ true → Tidy s → X s → Tidy (moved s (NotStarted w)) → X (moved s (NotStarted w)) → Owing s
+      → Owing (all_moved (moved s (NotStarted w)) (unless_stopped s.books (moved s (NotStarted w)).books (after_death w (moved s (NotStarted w)))))
+  down-owing s w a d xs t x o =
+      owing-unless X k.rule s now (after_death w now) (λ q. told-fewer s now (fewer-gone s now w refl) (o.told q)) t x
+      (stays-by (is_stopped s.books) (is_stopped now.books) (down-unstopped w s)) goes
+    where
+      ms : List Member
+      ms = s.books.crew
+
+      now : State
+      now = moved s (NotStarted w)
+
+      mid : State
+      mid = all_moved now (buried_acts now)
+
+      after : State
+      after = replaced now w
+
+      n : ℕ
+      n = length now.books.crew
+
+      new : Member
+      new = started n (slot_of w now.books)
+
+      turns : Turned X now (buried_acts now)
+      turns = in_both (λ (es : List Entry). Turned X now es) now.books.shared (acts_of Died now) [] (λ h. k.rule.turns now Died t h x tt)
+          (λ h. record { fit = fit-none X now t x; kin = kin-same now.books.crew; settings = refl })
+
+      later : Later now mid
+      later = in_both (λ (es : List Entry). Later now (all_moved now es)) now.books.shared (acts_of Died now) [] (λ h. later-call X k.rule now Died t h x tt) (λ h. later-same now)
+
+      before_share : s.books.shared ≡ false → mid ≡ now
+      before_share h = in_both (λ (es : List Entry). all_moved now es ≡ now) now.books.shared (acts_of Died now) [] (λ q. absurd (clash s.books.shared h q)) (λ q. refl)
+
+      free : is_member n mid.books.crew ≡ false
+      free = ap (λ (i : ℕ). is_member i mid.books.crew) (sym (kin-length now.books.crew mid.books.crew turns.kin)) ∙ none-next mid.books.crew turns.fit.tidy.crew.numbered
+
+      same : n ≡ length ms
+      same = length-map ms (made_gone w)
+
+      -- the newcomer changes nothing of the others
+      open_after : StillOpen mid after
+      open_after v b q = (has-more v (λ m. m.active) mid.books.crew new ∙ or-left (has v (λ m. m.active) mid.books.crew) (n == v && true) b, has-more v (λ m. m.shut) mid.books.crew new ∙ or-unset (has v (λ m. m.shut) mid.books.crew) (n == v) ∙ q)
+
+      asked_now : Going s → AskedOpen now
+      asked_now g b e =
+          let p = asked-without s.plan.steal e in
+          let open_ = g.asked b p.0 in
+          (still_active b.worker w ms p.1 open_.0, shut-gone w b.worker ms ∙ open_.1)
+        where
+          asked-without : (steal : Option Asked) → steal_without w steal ≡ Some b → (steal ≡ Some b) × ((b.worker == w) ≡ false)
+          asked-without None q = absurd (let z : None ≡ Some b = q in cc)
+          asked-without (Some c) q = elim (cases_of (c.worker == w)) [
+            | inl h ↦ absurd (let z : None ≡ Some b = sym (rw h refl) ∙ q in cc)
+            | inr h ↦ (let z : Some c ≡ Some b = sym (rw h refl) ∙ q in let y : c ≡ b = cc in (ap (λ (u : Asked). Some u) y, ap (λ (u : Asked). u.worker == w) (sym y) ∙ h))
+          ]
+
+      seated_after : Going s → Seated after
+      seated_after g v b c q =
+          let collected : has v (λ m. m.collected) mid.books.crew ≡ true = sym (or-unset (has v (λ m. m.collected) mid.books.crew) (n == v)) ∙ sym (has-more v (λ m. m.collected) mid.books.crew new) ∙ c in
+          let untold : has v (λ m. m.shut) mid.books.crew ≡ false = sym (or-unset (has v (λ m. m.shut) mid.books.crew) (n == v)) ∙ sym (has-more v (λ m. m.shut) mid.books.crew new) ∙ q in
+          let active : has v (λ m. m.active) mid.books.crew ≡ true = elim (split-or (has v (λ m. m.active) mid.books.crew) (n == v && true) (sym (has-more v (λ m. m.active) mid.books.crew new) ∙ b)) [
+            | inl z ↦ z
+            | inr z ↦ (let e : n ≡ v = grind (arith, nat_tests, z) in
+                absurd (clash (is_member v mid.books.crew) (subst (λ (i : ℕ). is_member i mid.books.crew ≡ false) e free) (has-member v (λ m. m.collected) mid.books.crew collected)))
+          ] in
+          seated-later now mid later (seated-gone s now w refl refl g.seated) v active collected untold
+
+      slots_after : Going s → after.books.shared ≡ false → (i : ℕ) → i < after.books.settings.workers → HasSlot after i
+      slots_after g h i l =
+          let unshared : s.books.shared ≡ false = sym later.shared ∙ h in
+          let quiet = before_share unshared in
+          subst (λ (u : State). HasSlot (moved u (Start n (slot_of w now.books))) i) (sym quiet) (here (g.slots unshared i (subst (λ (b : Settings). i < b.workers) later.settings l)))
+        where
+          come : State
+          come = moved now (Start n (slot_of w now.books))
+
+          here : HasSlot s i → HasSlot come i
+          here one = elim (cases_of (one.who == w)) [
+            | inl q ↦
+                (let e : one.who ≡ w = grind (arith, nat_tests, q) in
+                let none : is_member n now.books.crew ≡ false = none-next now.books.crew t.crew.numbered in
+                record {
+                  who = n;
+                  active = has-more n (λ m. m.active) now.books.crew new ∙ or-right (has n (λ m. m.active) now.books.crew) (n == n && true) (grind (arith, nat_tests));
+                  slot = slot-new n now.books.crew new none (grind (arith, nat_tests)) ∙ slot-marked w (made_gone w) ms (λ m. refl) (λ m. refl) ∙ ap (λ (u : ℕ). slot_in u ms) (sym e) ∙ one.slot;
+                })
+            | inr q ↦
+                (let active = still_active one.who w ms q one.active in
+                record {
+                  who = one.who;
+                  active = has-more one.who (λ m. m.active) now.books.crew new ∙ or-left (has one.who (λ m. m.active) now.books.crew) (n == one.who && true) active;
+                  slot = slot-old one.who now.books.crew new (has-member one.who (λ m. m.active) now.books.crew active) ∙ slot-marked one.who (made_gone w) ms (λ m. refl) (λ m. refl) ∙ one.slot;
+                })
+          ]
+
+      room_after : Going s → after.books.shared ≡ false → length after.books.table.rota < after.books.settings.workers
+      room_after g h =
+          let unshared : s.books.shared ≡ false = sym later.shared ∙ h in
+          let below = g.room unshared in
+          let less = fewer-seats w s.books.table.rota in
+          subst (λ (u : State). length u.books.table.rota < u.books.settings.workers) (sym (before_share unshared)) (omega (arith, below, less))
+
+      work_after : Going s → after.books.shared ≡ true → AllWork (workers_of after.books.table) after.books.table
+      work_after g h = in_both (λ (es : List Entry). AllWork (workers_of (all_moved now es).books.table) (all_moved now es).books.table) now.books.shared (acts_of Died now) []
+          (λ q. (let l = later-call X k.rule now Died t q x tt in
+          let z = k.rule.agrees now Died t q x tt in
+          subst (λ (u : Table). AllWork (workers_of (all_moved now (acts_of Died now)).books.table) u) (sym z.table)
+          (subst (λ (ws : List ℕ). AllWork ws (turned now.plan.mode Died (turn_of now)).table) (sym l.rota)
+          (k.work now Died t q x tt (λ e. absurd (let y : Died ≡ TestsBack = e in cc)) tt (λ e v b r. told-gone s now w refl (g.told q e) v b)))))
+          (λ q. absurd (clash s.books.shared q (sym later.shared ∙ h)))
+
+      told_after : Going s → after.books.shared ≡ true → is_each after.plan.mode ≡ true → (v : ℕ) → InRota after v → seat_shut v after.books.table ≡ true
+      told_after g h e v b =
+          let q : s.books.shared ≡ true = sym later.shared ∙ h in
+          later.told v (told-gone s now w refl (g.told q (ap is_each (sym later.mode) ∙ e)) v (ap (λ (ws : List ℕ). among v ws) (sym later.rota) ∙ b))
+
+      asked_mid : Going s → AskedOpen mid
+      asked_mid g = in_both (λ (es : List Entry). AskedOpen (all_moved now es)) now.books.shared (acts_of Died now) [] (λ q. k.asked now Died t q x tt (asked_now g)) (λ q. asked_now g)
+
+      going_after : Going s → Going after
+      going_after g = record {
+        seated = seated_after g;
+        work = work_after g;
+        told = told_after g;
+        awaited = k.buried s w a d xs g.awaited t x (ap (λ (i : ℕ). is_member i mid.books.crew) (sym same) ∙ free) same;
+        asked = asked-by mid after (λ b e. e) open_after (asked_mid g);
+        slots = slots_after g;
+        room = room_after g;
+      }
+
+      goes : is_stopped s.books ≡ false → is_stopped now.books ≡ false → Owing (all_moved now (after_death w now))
+      goes q z =
+          subst Owing (sym (all_moved-join now (buried_acts now) (Start n (slot_of w now.books) ∷ [])))
+          (record {
+            told = λ y. absurd (elim (split-or (is_stopped after.books) false y) [ inl b ↦ clash (is_stopped now.books) z (ap (λ (h : Option RunStop). is_some h) (sym later.stop) ∙ b) | inr b ↦ differ b ]);
+            going = λ y. going_after (o.going q);
+          })
