@@ -70,13 +70,6 @@ pub refill-more : (w : ℕ) (t : Turn) → seat_shut w t.table ≡ false → (le
     → refill w t ≡ (if nat_lt enough (length (held w t.table)) then t else give_more enough w (give_unit w t))
 refill-more w t h k = refill-by w t t.plan.queue h refl k
 
--- some plan that is kept
-abbrev pub kept_plan : Units → Plan
-kept_plan u = record { mode = u.kind; chunk = None; reorder = u.reorder; sizes = []; queue = u.queue.items; given = u.given.items; steal = None }
-
-pub kept_plan-kept : (u : Units) → is_scope u.kind ≡ true → Keeps u (kept_plan u)
-kept_plan-kept u h = record { mode = refl; scope = h; reorder = refl; queue = refl; given = refl; steal = refl }
-
 pub few-gives : (w : ℕ) (t : Turn) → length (held w t.table) < 2 → give_where_few w t ≡ give_unit w t
 few-gives w t h =
     let k : nat_lt (length (held w t.table)) enough ≡ true = grind (arith, nat_tests) in

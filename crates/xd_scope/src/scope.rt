@@ -9,7 +9,7 @@ use crate::refill::{refill_all, refill_one};
 use crate::share::share_all;
 use crate::units::Units;
 use std::alloc::Global;
-use std::collections::VecDeque;
+use std::collections::{BTreeMap, VecDeque};
 use xd_edge::{ModeKind, OutOfMemory, Text, Texts};
 use xd_journal::Entry;
 use xd_ledger::{Ledger, Mode};
@@ -43,7 +43,7 @@ impl Scope {
                 kind,
                 reorder,
                 queue: VecDeque::new(alloc),
-                given: Vec::new(alloc),
+                given: BTreeMap::new(alloc),
             },
         }
     }
