@@ -34,6 +34,7 @@ class Settings:
     restarts: int = 0
     chunk: Optional[int] = None
     reorder: bool = True
+    retries: int = 0  # of a test at whose head a worker is lost
 
 
 @dataclass
@@ -70,6 +71,7 @@ class Run:
     is_shared: bool = False
     failures: int = 0
     deaths: int = 0
+    lost: list = field(default_factory=list)  # the heads of lost workers
     kept: int = 0
     stop: Optional[tuple] = None
     marked: bool = False  # nothing is left to hand out
@@ -164,14 +166,19 @@ class Run:
         if not self.is_shared and len(self.rota) == self.settings.workers:
             self.share()
 
+    def is_retry(self, w):
+        """Whether the head of the worker is tried again if the worker is lost next."""
+        head = self.head(w)
+        is_replaced = self.stop is None and self.deaths + 1 <= self.settings.restarts
+        return head is not None and is_replaced and self.lost.count(head) < self.settings.retries
+
     def lose(self, w):
-        """The worker is lost: its head is a crash, and what it held besides goes to the end of the pool."""
-        held = self.held.pop(w, [])
+        """The worker is lost: its head is a crash, or is tried again; what it held besides goes to the end of the pool."""
+        is_retry, held = self.is_retry(w), self.held.pop(w, [])
         self.gone.add(w)
         self.deaths += 1
         if held:
-            self.reports.append(("Crash", w, held[0]))
-            self.count_failure()
+            self.release(w, held[0], is_retry)
             self.pool += held[1:]
             for unit in self.units[w]:
                 left = [item for item in unit if item in held[1:]]
@@ -183,6 +190,16 @@ class Run:
         self.reach_limit()
         if self.deaths > self.settings.restarts:
             self.halt(("Restarts", w, self.settings.restarts))
+
+    def release(self, w, head, is_retry):
+        """The head of a lost worker: the first of the pool, and a unit of its own, where it is tried again."""
+        self.lost.append(head)
+        if is_retry:
+            self.pool = [head] + self.pool
+            self.queue = [[head]] + self.queue
+        else:
+            self.reports.append(("Crash", w, head))
+            self.count_failure()
 
     def push(self, entry):
         self.entries.append(entry)
@@ -504,6 +521,11 @@ def output_of(run, w):
     return log.output[: min(MOST_OF_ONE, MOST_OF_ALL - run.kept)]
 
 
+def output_of_lost(run, w):
+    """What a Down of the worker keeps of it: nothing where the test is tried again."""
+    return b"" if run.is_retry(w) else output_of(run, w)
+
+
 def is_breach(run, w, what):
     kind, *rest = what
     log = run.logs.get(w)
@@ -534,9 +556,9 @@ def meaning(run, w, what):
     """The entry that a piece of news of an active worker makes, or None."""
     kind, *rest = what
     if kind == "Gone":
-        return "Down", w, rest[0], output_of(run, w)
+        return "Down", w, rest[0], output_of_lost(run, w)
     if is_breach(run, w, what):
-        return "Down", w, "Breach", output_of(run, w)
+        return "Down", w, "Breach", output_of_lost(run, w)
     if kind == "Collected":
         is_same = run.list_key(w) in run.lists and run.difference(w, rest[0]) is None
         return "Collected", w, SAME if is_same else rest[0]
@@ -607,9 +629,9 @@ def lines_of(run, entry):
     if kind == "NotStarted":
         return [f"[{name(w)}] node down: not started"]
     if kind == "Down":
-        head = run.head(w)
-        crashed = [] if head is None else [f"[{name(w)}] CRASHED {id_at(run, w, head - run.base(w))}"]
-        return [f"[{name(w)}] node down: {CAUSES[rest[0]]}", *crashed]
+        head, word = run.head(w), "RETRY" if run.is_retry(w) else "CRASHED"
+        told = [] if head is None else [f"[{name(w)}] {word} {id_at(run, w, head - run.base(w))}"]
+        return [f"[{name(w)}] node down: {CAUSES[rest[0]]}", *told]
     return []
 
 
@@ -619,7 +641,7 @@ def block_of(run, entry):
     head = run.head(w)
     if kind == "Done" and isinstance(rest[1], int):
         test_id, reason, output = id_at(run, w, rest[0]), REASONS.get(rest[1], f"status {rest[1]}"), rest[3]
-    elif kind == "Down" and head is not None:
+    elif kind == "Down" and head is not None and not run.is_retry(w):
         test_id = id_at(run, w, head - run.base(w))
         reason, output = f"worker '{name(w)}' crashed while running '{test_id}'", rest[1]
     else:

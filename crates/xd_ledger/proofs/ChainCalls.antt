@@ -1,12 +1,12 @@
 -- What the calls of the chains read is within the vectors, and what they write is what they promise.
-use Rattle.std.proofs.Common.{◌≡◌, ℕ, zero, suc, append_assoc, take, drop, length-drop, ◌+◌, ◌-◌, ◌≤◌, ◌<◌, List, [], ◌∷◌, ◌++◌, Bool, true, false, length, get_or, set, nat_lt, Some, None, refl, ap, sym, subst, ◌∙◌, arith}
+use Rattle.std.proofs.Common.{◌≡◌, ℕ, zero, suc, append_assoc, take, drop, length-drop, ◌+◌, ◌-◌, ◌≤◌, ◌<◌, List, [], ◌∷◌, ◌++◌, true, false, length, get_or, set, nat_lt, Some, None, refl, ap, sym, subst, ◌∙◌, arith}
 use Rattle.std.specs.Prelude.{◌==◌, ◌||◌, if◌then◌else◌}
 use Rattle.std.proofs.lemmas.Bool.Decides.{nat_tests}
 use Rattle.std.proofs.lemmas.List.{get_or_read, get_or_past, take_more}
 use Rattle.xd_ledger.specs.Numbers.{times, among, without, all_among, all_distinct, first_of}
-use Rattle.xd_ledger.specs.Chains.{Lists, chain_at, chains_of, items_of, is_free, at, owner_of, no_chain, chain, AreChains, Stands, changed, shifted, poured, last_or, first_or, final_of, ahead, behind}
+use Rattle.xd_ledger.specs.Chains.{Lists, chain_at, chains_of, items_of, is_free, at, owner_of, no_chain, chain, AreChains, changed, shifted, poured, last_or, first_or, final_of, ahead, behind}
 use Rattle.xd_ledger.proofs.Links.{same, swapped, without-around, back-of, next-of, times-last, times-first, times-append}
-use Rattle.xd_ledger.proofs.ChainMoves.{Gives, by_cases, equals, changed-here, changed-else, stands-once, take_gives, put_gives, place-fits, stands-few, stands-around, stands-below, chains-long, among-once}
+use Rattle.xd_ledger.proofs.ChainMoves.{Gives, by_cases, equals, changed-here, changed-else, stands-once, take_gives, put_gives, put_first_gives, place-fits, stands-few, stands-around, stands-below, chains-long, among-once}
 
 among-length : (x : ℕ) (xs : List ℕ) → among x xs ≡ true → 1 ≤ length xs
 among-length x [] h = cc
@@ -63,6 +63,7 @@ pub record PutRoom (n p o c : List ℕ) (k x : ℕ) : Type 0 where
   pub end_back : length o + k < length p
   pub small : length o + k < 4294967295
   pub to_last : (v : ℕ) → v ≡ get_or p (length o + k) v → v < length n
+  pub to_first : (v : ℕ) → v ≡ get_or n (length o + k) v → v < length p
   pub next_fits : x < length n
   pub back_fits : x < length p
   pub owner_fits : x < length o
@@ -77,14 +78,19 @@ put_room n p o c k x s h below =
     let f1 = s.few in
     let f2 = s.few_chains in
     let ep : length o + k < length p = omega arith in
+    let en : length o + k < length n = omega arith in
     record {
-      end_next = omega arith;
+      end_next = en;
       end_back = ep;
       small = omega arith;
       to_last = λ v e. (let g : v ≡ at p (length o + k) = get_or_read p (length o + k) v ep e 0 in
           let l = back-of p (length o + k) (chain n o c k) (length o + k) here.backs in
           let t = times-last (length o + k) (chain n o c k) in
           let f = place-fits n p o c (chain n o c) s k h (last_or (length o + k) (chain n o c k)) t in omega arith);
+      to_first = λ v e. (let g : v ≡ at n (length o + k) = get_or_read n (length o + k) v en e 0 in
+          let l = next-of n (length o + k) (chain n o c k) (length o + k) here.nexts in
+          let t = times-first (length o + k) (chain n o c k) in
+          let f = place-fits n p o c (chain n o c) s k h (first_or (length o + k) (chain n o c k)) t in omega arith);
       next_fits = omega arith;
       back_fits = omega arith;
       owner_fits = below;
@@ -110,6 +116,21 @@ put_done n p o c now k x end last ck e s h b f ee el ec =
     (subst (λ i. Gives (set (set n last x) x i) (set (set p x last) i x) (set o x k) (set c k (at c k + 1)) (changed k (chain n o c k ++ x ∷ []) (chain n o c))) ge
     (subst (λ i. Gives (set (set n i x) x (length o + k)) (set (set p x i) (length o + k) x) (set o x k) (set c k (at c k + 1)) (changed k (chain n o c k ++ x ∷ []) (chain n o c))) gl (put_gives n p o c k x s h2 b2 f2))) in
     subst (λ (l : Lists). k < chains_of l → x < items_of l → is_free x l ≡ true → Gives (set (set n last x) x end) (set (set p x last) end x) (set o x k) (set c k (ck + 1)) (changed k (chain_at l k ++ x ∷ []) (chain_at l))) e body h b f
+
+pub put_first_done : (n p o c : List ℕ) (now : Lists) (k x end first ck : ℕ) → record { next = n; owner = o; counts = c } ≡ now → AreChains n p o c (chain n o c) → k < chains_of now → x < items_of now → is_free x now ≡ true
+    → end ≡ length o + k → first ≡ get_or n end first → ck ≡ get_or c k ck
+    → Gives (set (set n end x) x first) (set (set p x end) first x) (set o x k) (set c k (ck + 1)) (changed k (x ∷ chain_at now k) (chain_at now))
+put_first_done n p o c now k x end first ck e s h b f ee ef ec =
+    let r = put_room_at n p o c now k x e s h b in
+    let ge : length o + k ≡ end = sym ee in
+    let fe : first ≡ get_or n (length o + k) first = ef ∙ ap (λ i. get_or n i first) ee in
+    let gf : at n (length o + k) ≡ first = sym (get_or_read n (length o + k) first r.end_next fe 0) in
+    let gc : at c k ≡ ck = sym (get_or_read c k ck r.chain_fits ec 0) in
+    let body : k < length c → x < length o → (owner_of o x == no_chain) ≡ true → Gives (set (set n end x) x first) (set (set p x end) first x) (set o x k) (set c k (ck + 1)) (changed k (x ∷ chain n o c k) (chain n o c)) =
+    λ h2 b2 f2. subst (λ i. Gives (set (set n end x) x first) (set (set p x end) first x) (set o x k) (set c k (i + 1)) (changed k (x ∷ chain n o c k) (chain n o c))) gc
+    (subst (λ i. Gives (set (set n i x) x first) (set (set p x i) first x) (set o x k) (set c k (at c k + 1)) (changed k (x ∷ chain n o c k) (chain n o c))) ge
+    (subst (λ i. Gives (set (set n (length o + k) x) x i) (set (set p x (length o + k)) i x) (set o x k) (set c k (at c k + 1)) (changed k (x ∷ chain n o c k) (chain n o c))) gf (put_first_gives n p o c k x s h2 b2 f2))) in
+    subst (λ (l : Lists). k < chains_of l → x < items_of l → is_free x l ≡ true → Gives (set (set n end x) x first) (set (set p x end) first x) (set o x k) (set c k (ck + 1)) (changed k (x ∷ chain_at l k) (chain_at l))) e body h b f
 
 -- lists behind two changes
 

@@ -1,13 +1,12 @@
--- A number leaves its chain or goes to the end of one, and each chain stands behind it.
-use Rattle.std.proofs.Common.{◌≡◌, ℕ, zero, suc, ◌+◌, ◌-◌, ◌≤◌, ◌<◌, List, [], ◌∷◌, ◌++◌, Bool, true, false, not, length, length-append, get_or, set, nat_lt, refl, ap, sym, subst, ◌∙◌, arith}
-use Rattle.std.specs.Prelude.{◌==◌, if◌then◌else◌}
+-- A number leaves its chain or goes to an end of one, and each chain stands behind it.
+use Rattle.std.proofs.Common.{◌≡◌, ℕ, ◌+◌, ◌-◌, ◌≤◌, ◌<◌, List, [], ◌∷◌, ◌++◌, Bool, true, false, length, length-append, get_or, set, nat_lt, refl, ap, sym, subst, ◌∙◌, arith}
+use Rattle.std.specs.Prelude.{◌==◌}
 use Rattle.std.proofs.lemmas.Bool.Decides.{nat_tests}
-use Rattle.std.proofs.lemmas.Grind.{common_steps}
 use Rattle.std.proofs.lemmas.List.{length-set, get_or_past, get_or-set_same, get_or-set_other}
 use Rattle.xd_ledger.specs.Numbers.{times, among, without}
 use Rattle.xd_ledger.specs.Chains.{at, owner_of, no_chain, walk, chain, Nexts, Backs, Stands, AreChains, changed, first_or, last_or, ahead, behind}
 use Rattle.xd_ledger.proofs.Counts.{few_of-kind}
-use Rattle.xd_ledger.proofs.Links.{SameBut, walked, unlike, later, swapped, same, nexts_else, backs_else, nexts_put, backs_put, nexts_taken, backs_taken, next-at, back-at, next-of, back-of, around, times-append, times-first, times-last, without-around}
+use Rattle.xd_ledger.proofs.Links.{walked, swapped, same, nexts_else, backs_else, nexts_put, backs_put, nexts_first, backs_first, nexts_taken, backs_taken, next-at, back-at, next-of, back-of, around, times-append, times-first, times-last, without-around}
 
 pub by_cases : {P : Type 0} (b : Bool) → (b ≡ true → P) → (b ≡ false → P) → P
 by_cases true f g = f refl
@@ -101,6 +100,42 @@ stands_put n p o b k c x xs s e h u v en ep =
           (λ t. (let q = equals x y t in let r = set-here o x k no_chain xo in let a = times-append x xs (x ∷ []) in grind (arith, nat_tests)))
           (λ d. (let w = s.owns y in let r = set-else o x k no_chain y d in let a = times-append y xs (x ∷ []) in let d2 = swapped x y d in grind (arith, nat_tests)));
       counted = (let w = s.counted in omega (arith, length-append xs (x ∷ [])));
+    }
+
+-- a number goes to the front
+
+pub stands_first : (n p o : List ℕ) (b k c x : ℕ) (xs : List ℕ) → Stands n p o (b + k) k c xs → b ≡ length o → k < 4294967295 → x < b → owner_of o x ≡ no_chain → b + k < length n → b + k < length p → x < length n → first_or (b + k) xs < length p
+    → Stands (set (set n (b + k) x) x (first_or (b + k) xs)) (set (set p x (b + k)) (first_or (b + k) xs) x) (set o x k) (b + k) k (c + 1) (x ∷ xs)
+stands_first n p o b k c x xs s e h u v en ep xn fp =
+    let f = first_or (b + k) xs in
+    let once = stands-once n p o b k c xs s e h in
+    let none : times x xs ≡ 0 = (let w = s.owns x in grind (arith, nat_tests)) in
+    let new : times x ((b + k) ∷ xs) ≡ 0 = grind (arith, nat_tests) in
+    let end : times (b + k) xs ≡ 0 = (let w = once (b + k) in grind (arith, nat_tests)) in
+    let there = times-first (b + k) xs in
+    let apart_f : (x == f) ≡ false = by_cases (x == f) (λ t. (let q = equals x f t in absurd (let m : times x ((b + k) ∷ xs) ≡ times f ((b + k) ∷ xs) = ap (λ i. times i ((b + k) ∷ xs)) q in omega arith))) (λ g. g) in
+    let apart_e : (x == b + k) ≡ false = grind (arith, nat_tests) in
+    let xn2 : x < length (set n (b + k) x) = omega (arith, length-set n (b + k) x) in
+    let xp : x < length p = omega arith in
+    let ff : f < length (set p x (b + k)) = omega (arith, length-set p x (b + k)) in
+    let xo : x < length o = omega arith in
+    record {
+      nexts = (
+        set-else (set n (b + k) x) x f 0 (b + k) apart_e ∙ set-here n (b + k) x 0 en,
+        nexts_first n (set (set n (b + k) x) x f) (b + k) x xs (b + k) none end
+            (set-here (set n (b + k) x) x f 0 xn2)
+            (λ y d g. set-else (set n (b + k) x) x f 0 y g ∙ set-else n (b + k) x 0 y d) s.nexts,
+      );
+      backs = (
+        set-else (set p x (b + k)) f x 0 x (swapped x f apart_f) ∙ set-here p x (b + k) 0 xp,
+        backs_first p (set (set p x (b + k)) f x) (b + k) x xs (b + k) once new
+            (set-here (set p x (b + k)) f x 0 ff)
+            (λ y d g. set-else (set p x (b + k)) f x 0 y g ∙ set-else p x (b + k) 0 y d) s.backs,
+      );
+      owns = λ y. by_cases (x == y)
+          (λ t. (let q = equals x y t in let r = set-here o x k no_chain xo in grind (arith, nat_tests)))
+          (λ d. (let w = s.owns y in let r = set-else o x k no_chain y d in let d2 = swapped x y d in grind (arith, nat_tests)));
+      counted = (let w = s.counted in omega arith);
     }
 
 -- the other chains
@@ -234,51 +269,80 @@ taken_are n p o c lists k x s h a =
           (λ f. subst (λ ys. Stands m q u (b + j) j (at d j) ys) (sym (changed-else k (without (x ∷ []) xs) lists j f)) (subst (λ z. Stands m q u (b + j) j z (lists j)) (sym (set-else c k (at c k - 1) 0 j f)) (other j i2 f)))));
     }
 
+-- a free number that is linked between two places of chain k, which has it then
+pub linked_are : (n p o c : List ℕ) (lists : ℕ → List ℕ) (k x l f : ℕ) (now : List ℕ) → AreChains n p o c lists → k < length c → x < length o → (owner_of o x == no_chain) ≡ true
+    → 1 ≤ times l ((length o + k) ∷ lists k) → 1 ≤ times f ((length o + k) ∷ lists k)
+    → Stands (set (set n l x) x f) (set (set p x l) f x) (set o x k) (length o + k) k (at c k + 1) now
+    → AreChains (set (set n l x) x f) (set (set p x l) f x) (set o x k) (set c k (at c k + 1)) (changed k now lists)
+linked_are n p o c lists k x l f now s h below free l_there f_there put =
+    let b = length o in
+    let e = b + k in
+    let xs = lists k in
+    let here = s.stands k h in
+    let m = set (set n l x) x f in
+    let q = set (set p x l) f x in
+    let u = set o x k in
+    let d = set c k (at c k + 1) in
+    let none = equals (owner_of o x) no_chain free in
+    let long = chains-long n p o c lists s k h in
+    let lu : length u ≡ b = length-set o x k in
+    let ld : length d ≡ length c = length-set c k (at c k + 1) in
+    let other : (j : ℕ) → j < length c → (k == j) ≡ false → Stands m q u (b + j) j (at c j) (lists j) = λ j i g.
+    (let long2 = chains-long n p o c lists s j i in
+    let r = s.stands j i in
+    let off = stands-apart n p o b k (at c k) xs j (at c j) (lists j) here r refl long long2 g in
+    let offx : times x (lists j) ≡ 0 = (let w = r.owns x in grind (arith, nat_tests)) in
+    let offx2 : times x ((b + j) ∷ lists j) ≡ 0 = grind (arith, nat_tests) in
+    let first = stands_else n p o (b + j) j (at c j) (lists j) l x x l (off l l_there) offx2 r in
+    stands_owner m q o (b + j) j (at c j) (lists j) x k offx g below
+    (stands_else (set n l x) (set p x l) o (b + j) j (at c j) (lists j) x f f x offx2 (off f f_there) first)) in
+    record {
+      nexts_fit = (let y = s.nexts_fit in omega (arith, length-set n l x, length-set (set n l x) x f));
+      backs_fit = (let y = s.backs_fit in omega (arith, length-set p x l, length-set (set p x l) f x));
+      few = (let y = s.few in omega arith);
+      few_chains = (let y = s.few_chains in omega arith);
+      owned = λ y g. by_cases (x == y)
+          (λ t. (let w = equals x y t in let r = set-here o x k no_chain below in grind (arith, nat_tests)))
+          (λ f2. (let r = set-else o x k no_chain y f2 in let w2 = s.owned y in grind (arith, nat_tests)));
+      stands = λ j i. (let i2 : j < length c = omega arith in subst (λ z. Stands m q u (z + j) j (at d j) (changed k now lists j)) (sym lu)
+          (by_cases (k == j)
+          (λ t. (let g = equals k j t in subst (λ ys. Stands m q u (b + j) j (at d j) ys) (sym (changed-here k now lists j t)) (subst (λ i3. Stands m q u (b + i3) i3 (at d i3) now) g (subst (λ z. Stands m q u e k z now) (sym (set-here c k (at c k + 1) 0 h)) put))))
+          (λ g. subst (λ ys. Stands m q u (b + j) j (at d j) ys) (sym (changed-else k now lists j g)) (subst (λ z. Stands m q u (b + j) j z (lists j)) (sym (set-else c k (at c k + 1) 0 j g)) (other j i2 g)))));
+    }
+
 pub put_are : (n p o c : List ℕ) (lists : ℕ → List ℕ) (k x : ℕ) → AreChains n p o c lists → k < length c → x < length o → (owner_of o x == no_chain) ≡ true
     → AreChains (set (set n (at p (length o + k)) x) x (length o + k)) (set (set p x (at p (length o + k))) (length o + k) x) (set o x k) (set c k (at c k + 1)) (changed k (lists k ++ x ∷ []) lists)
 put_are n p o c lists k x s h below free =
     let b = length o in
     let e = b + k in
-    let l = at p e in
     let xs = lists k in
-    let now = xs ++ x ∷ [] in
-    let long = chains-long n p o c lists s k h in
     let here = s.stands k h in
-    let m = set (set n l x) x e in
-    let q = set (set p x l) e x in
-    let u = set o x k in
-    let d = set c k (at c k + 1) in
-    let none = equals (owner_of o x) no_chain free in
-    let lu : length u ≡ b = length-set o x k in
-    let ld : length d ≡ length c = length-set c k (at c k + 1) in
     let en : e < length n = (let z = s.nexts_fit in omega arith) in
     let ep : e < length p = (let z = s.backs_fit in omega arith) in
-    let last : l ≡ last_or e xs = back-of p e xs e here.backs in
-    let l_there : 1 ≤ times l (e ∷ xs) = subst (λ i. 1 ≤ times i (e ∷ xs)) (sym last) (times-last e xs) in
+    let last : at p e ≡ last_or e xs = back-of p e xs e here.backs in
     let e_there : 1 ≤ times e (e ∷ xs) = grind (arith, nat_tests) in
-    let put : Stands m q u e k (at c k + 1) now = subst (λ i. Stands (set (set n i x) x e) (set (set p x i) e x) u e k (at c k + 1) now) (sym last) (stands_put n p o b k (at c k) x xs here refl long below none en ep) in
-    let other : (j : ℕ) → j < length c → (k == j) ≡ false → Stands m q u (b + j) j (at c j) (lists j) = λ j i f.
-    (let long2 = chains-long n p o c lists s j i in
-    let r = s.stands j i in
-    let off = stands-apart n p o b k (at c k) xs j (at c j) (lists j) here r refl long long2 f in
-    let offx : times x (lists j) ≡ 0 = (let g = r.owns x in grind (arith, nat_tests)) in
-    let offx2 : times x ((b + j) ∷ lists j) ≡ 0 = grind (arith, nat_tests) in
-    let first = stands_else n p o (b + j) j (at c j) (lists j) l x x l (off l l_there) offx2 r in
-    stands_owner m q o (b + j) j (at c j) (lists j) x k offx f below
-    (stands_else (set n l x) (set p x l) o (b + j) j (at c j) (lists j) x e e x offx2 (off e e_there) first)) in
-    record {
-      nexts_fit = (let y = s.nexts_fit in omega (arith, length-set n l x, length-set (set n l x) x e));
-      backs_fit = (let y = s.backs_fit in omega (arith, length-set p x l, length-set (set p x l) e x));
-      few = (let y = s.few in omega arith);
-      few_chains = (let y = s.few_chains in omega arith);
-      owned = λ y f. by_cases (x == y)
-          (λ t. (let g = equals x y t in let r = set-here o x k no_chain below in grind (arith, nat_tests)))
-          (λ f2. (let r = set-else o x k no_chain y f2 in let w2 = s.owned y in grind (arith, nat_tests)));
-      stands = λ j i. (let i2 : j < length c = omega arith in subst (λ z. Stands m q u (z + j) j (at d j) (changed k now lists j)) (sym lu)
-          (by_cases (k == j)
-          (λ t. (let g = equals k j t in subst (λ ys. Stands m q u (b + j) j (at d j) ys) (sym (changed-here k now lists j t)) (subst (λ i3. Stands m q u (b + i3) i3 (at d i3) now) g (subst (λ z. Stands m q u e k z now) (sym (set-here c k (at c k + 1) 0 h)) put))))
-          (λ f. subst (λ ys. Stands m q u (b + j) j (at d j) ys) (sym (changed-else k now lists j f)) (subst (λ z. Stands m q u (b + j) j z (lists j)) (sym (set-else c k (at c k + 1) 0 j f)) (other j i2 f)))));
-    }
+    let put = stands_put n p o b k (at c k) x xs here refl (chains-long n p o c lists s k h) below (equals (owner_of o x) no_chain free) en ep in
+    linked_are n p o c lists k x (at p e) e (xs ++ x ∷ []) s h below free
+    (subst (λ i. 1 ≤ times i (e ∷ xs)) (sym last) (times-last e xs)) e_there
+    (subst (λ i. Stands (set (set n i x) x e) (set (set p x i) e x) (set o x k) e k (at c k + 1) (xs ++ x ∷ [])) (sym last) put)
+
+pub put_first_are : (n p o c : List ℕ) (lists : ℕ → List ℕ) (k x : ℕ) → AreChains n p o c lists → k < length c → x < length o → (owner_of o x == no_chain) ≡ true
+    → AreChains (set (set n (length o + k) x) x (at n (length o + k))) (set (set p x (length o + k)) (at n (length o + k)) x) (set o x k) (set c k (at c k + 1)) (changed k (x ∷ lists k) lists)
+put_first_are n p o c lists k x s h below free =
+    let b = length o in
+    let e = b + k in
+    let xs = lists k in
+    let here = s.stands k h in
+    let en : e < length n = (let z = s.nexts_fit in omega arith) in
+    let ep : e < length p = (let z = s.backs_fit in omega arith) in
+    let xn : x < length n = omega arith in
+    let first : at n e ≡ first_or e xs = next-of n e xs e here.nexts in
+    let e_there : 1 ≤ times e (e ∷ xs) = grind (arith, nat_tests) in
+    let f_there : 1 ≤ times (at n e) (e ∷ xs) = subst (λ i. 1 ≤ times i (e ∷ xs)) (sym first) (times-first e xs) in
+    let fp : first_or e xs < length p = (let y = place-fits n p o c lists s k h (first_or e xs) (times-first e xs) in let z = s.backs_fit in omega arith) in
+    let put = stands_first n p o b k (at c k) x xs here refl (chains-long n p o c lists s k h) below (equals (owner_of o x) no_chain free) en ep xn fp in
+    linked_are n p o c lists k x e (at n e) (x ∷ xs) s h below free e_there f_there
+    (subst (λ i. Stands (set (set n e x) x i) (set (set p x e) i x) (set o x k) e k (at c k + 1) (x ∷ xs)) (sym first) put)
 
 -- the chains behind the writes are these lists, and they stand
 pub record Gives (n p o c : List ℕ) (lists : ℕ → List ℕ) : Type 0 where
@@ -303,3 +367,7 @@ take_gives n p o c k x s h a = gives _ _ _ _ _ (taken_are n p o c (chain n o c) 
 pub put_gives : (n p o c : List ℕ) (k x : ℕ) → AreChains n p o c (chain n o c) → k < length c → x < length o → (owner_of o x == no_chain) ≡ true
     → Gives (set (set n (at p (length o + k)) x) x (length o + k)) (set (set p x (at p (length o + k))) (length o + k) x) (set o x k) (set c k (at c k + 1)) (changed k (chain n o c k ++ x ∷ []) (chain n o c))
 put_gives n p o c k x s h b f = gives _ _ _ _ _ (put_are n p o c (chain n o c) k x s h b f) (λ j i. past-changed n o c k (chain n o c k ++ x ∷ []) (at c k + 1) j h i)
+
+pub put_first_gives : (n p o c : List ℕ) (k x : ℕ) → AreChains n p o c (chain n o c) → k < length c → x < length o → (owner_of o x == no_chain) ≡ true
+    → Gives (set (set n (length o + k) x) x (at n (length o + k))) (set (set p x (length o + k)) (at n (length o + k)) x) (set o x k) (set c k (at c k + 1)) (changed k (x ∷ chain n o c k) (chain n o c))
+put_first_gives n p o c k x s h b f = gives _ _ _ _ _ (put_first_are n p o c (chain n o c) k x s h b f) (λ j i. past-changed n o c k (x ∷ chain n o c k) (at c k + 1) j h i)

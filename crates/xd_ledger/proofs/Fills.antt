@@ -1,19 +1,18 @@
 -- A death's room, and a ledger that is new, filled or joined.
 use Rattle.std.proofs.Common.{◌≡◌, ℕ, ◌+◌, ◌≤◌, ◌<◌, ◌^◌, List, [], ◌∷◌, ◌++◌, take, drop, length, nat_lt, Bool, true, false, refl, ap, sym, subst, ◌∙◌, arith, Some}
-use Rattle.std.specs.Prelude.{if◌then◌else◌, ◌==◌, unwrap_or}
-use Rattle.std.specs.List.{list_any, range_with_len}
+use Rattle.std.specs.Prelude.{◌==◌, unwrap_or}
+use Rattle.std.specs.List.{range_with_len}
 use Rattle.std.proofs.lemmas.List.{length-map}
 use Rattle.std.proofs.lemmas.Bool.Decides.{nat_tests}
 use Rattle.xd_ledger.specs.declared.post.Post.{Post}
-use Rattle.xd_ledger.specs.declared.seat.Seat.{Seat}
 use Rattle.xd_ledger.specs.Chains.{Lists, chain_at, chains_of, changed}
 use Rattle.xd_ledger.specs.Numbers.{times, without, first_of}
-use Rattle.xd_ledger.specs.Posts.{seat_of, seats, chains_in, chain_in, table_of, IsKept}
+use Rattle.xd_ledger.specs.Posts.{seat_of, seats, chains_in, chain_in, table_of, released, IsKept}
 use Rattle.xd_ledger.specs.Sound.{IsSound}
-use Rattle.xd_ledger.specs.Table.{Table, fresh, held, held_in, held_by_all, all_items, has_joined, joined}
+use Rattle.xd_ledger.specs.Table.{Table, fresh, held_in, held_by_all, all_items, retried_item, has_joined, joined}
 use Rattle.xd_ledger.proofs.ChainMoves.{by_cases, equals, changed-here, changed-else}
 use Rattle.xd_ledger.proofs.Counts.{few_of-kind}
-use Rattle.xd_ledger.proofs.Kept.{Has, kept_again, table-eq}
+use Rattle.xd_ledger.proofs.Kept.{Has, kept_again, table-eq, released-pool, released-else, released-rest}
 use Rattle.xd_ledger.proofs.Links.{same, without-around}
 use Rattle.xd_ledger.proofs.Places.{times-table, held_within}
 use Rattle.xd_ledger.proofs.Posts.{pair, seats-same, seats-joined, chains-joined}
@@ -33,8 +32,8 @@ held_fits w l ps reported who room k h =
     omega (arith, length-table (table_of (chain_at l) ps reported who), length-held w (seats (chain_at l) ps))
 
 -- the rest of a death, as the call tells it
-pub rest_is : (r r2 n : ℕ) (l mid : Lists) → r ≡ r2 → ((j : ℕ) → chain_at mid j ≡ changed r (drop 1 (chain_at l r)) (chain_at l) j) → n ≡ length (chain_at mid r) → n ≡ length (drop 1 (chain_at l r2))
-rest_is r r2 n l mid e a h = h ∙ ap length (a r ∙ changed-here r (drop 1 (chain_at l r)) (chain_at l) r (same r)) ∙ ap (λ i. length (drop 1 (chain_at l i))) e
+pub rest_is : (retry : Bool) (r r2 n : ℕ) (l mid : Lists) → r ≡ r2 → (0 == r) ≡ false → ((j : ℕ) → chain_at mid j ≡ released retry r (chain_at l) j) → n ≡ length (chain_at mid r) → n ≡ length (drop 1 (chain_at l r2))
+rest_is retry r r2 n l mid e d a h = h ∙ ap length (a r ∙ released-rest retry r (chain_at l) d) ∙ ap (λ i. length (drop 1 (chain_at l i))) e
 
 -- a new ledger, and one that is filled
 
@@ -162,3 +161,29 @@ head_cut x [] e h = cc
 head_cut x (y ∷ ys) e h =
     let g : y ≡ x = ap (λ o. unwrap_or o 0) e in
     subst (λ z. times z (y ∷ ys) ≤ 1 → without (z ∷ []) (y ∷ ys) ≡ ys) g (λ k. without-around y [] ys k) h
+
+-- the head of a worker leaves its list
+
+head_one : (x : ℕ) (xs : List ℕ) → first_of xs ≡ Some x → take 1 xs ≡ x ∷ []
+head_one x [] e = cc
+head_one x (y ∷ ys) e = ap (λ (z : ℕ). z ∷ []) (ap (λ o. unwrap_or o 0) e)
+
+-- it is tried again
+pub released_again : (retry : Bool) (k x : ℕ) (old mid now : ℕ → List ℕ) → retry ≡ true → (k == 0) ≡ false → first_of (old k) ≡ Some x → times x (old k) ≤ 1
+    → ((j : ℕ) → mid j ≡ changed k (without (x ∷ []) (old k)) old j) → ((j : ℕ) → now j ≡ changed 0 (x ∷ mid 0) mid j) → (j : ℕ) → now j ≡ released retry k old j
+released_again retry k x old mid now is d h one a b j =
+    let head : retried_item retry (old k) ≡ x ∷ [] = ap (λ (r : Bool). retried_item r (old k)) is ∙ head_one x (old k) h in
+    by_cases (0 == j)
+    (λ t. (let e = equals 0 j t in
+    b j ∙ changed-here 0 (x ∷ mid 0) mid j t ∙ ap (λ (ys : List ℕ). x ∷ ys) (a 0 ∙ changed-else k (without (x ∷ []) (old k)) old 0 d) ∙ ap (λ (ys : List ℕ). ys ++ old 0) (sym head) ∙ sym (released-pool retry k old) ∙ ap (released retry k old) e))
+    (λ f. b j ∙ changed-else 0 (x ∷ mid 0) mid j f ∙ a j ∙ ap (λ (xs : List ℕ). changed k xs old j) (head_cut x (old k) h one) ∙ sym (released-else retry k old j f))
+
+-- it is reported
+pub released_once : (retry : Bool) (k x : ℕ) (old mid : ℕ → List ℕ) → retry ≡ false → (k == 0) ≡ false → first_of (old k) ≡ Some x → times x (old k) ≤ 1
+    → ((j : ℕ) → mid j ≡ changed k (without (x ∷ []) (old k)) old j) → (j : ℕ) → mid j ≡ released retry k old j
+released_once retry k x old mid is d h one a j =
+    let none : retried_item retry (old k) ≡ [] = ap (λ (r : Bool). retried_item r (old k)) is in
+    by_cases (0 == j)
+    (λ t. (let e = equals 0 j t in
+    ap mid (sym e) ∙ a 0 ∙ changed-else k (without (x ∷ []) (old k)) old 0 d ∙ ap (λ (ys : List ℕ). ys ++ old 0) (sym none) ∙ sym (released-pool retry k old) ∙ ap (released retry k old) e))
+    (λ f. a j ∙ ap (λ (xs : List ℕ). changed k xs old j) (head_cut x (old k) h one) ∙ sym (released-else retry k old j f))

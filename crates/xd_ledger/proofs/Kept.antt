@@ -1,20 +1,19 @@
 -- What the ledger's calls make of its lists and posts is what the moves say, and it stays in order.
-use Rattle.std.proofs.Common.{◌≡◌, ℕ, ◌+◌, ◌-◌, ◌≤◌, ◌<◌, ◌^◌, List, [], ◌∷◌, ◌++◌, take, drop, length, get_or, set, Bool, true, false, not, refl, ap, sym, subst, ◌∙◌, arith, Some, None}
-use Rattle.std.specs.Prelude.{if◌then◌else◌, ◌==◌, filter}
+use Rattle.std.proofs.Common.{◌≡◌, ℕ, ◌≤◌, ◌<◌, List, [], ◌∷◌, ◌++◌, append_assoc, take, drop, length, get_or, set, Bool, true, false, not, refl, ap, sym, subst, ◌∙◌, arith}
+use Rattle.std.specs.Prelude.{◌==◌, filter}
 use Rattle.std.specs.List.{list_any}
 use Rattle.std.proofs.lemmas.Bool.Decides.{nat_tests}
-use Rattle.std.proofs.lemmas.Grind.{common_steps}
 use Rattle.xd_ledger.specs.declared.post.Post.{Post}
 use Rattle.xd_ledger.specs.declared.seat.Seat.{Seat}
 use Rattle.xd_ledger.specs.Chains.{Lists, chain_at, chains_of, changed, shifted, poured}
-use Rattle.xd_ledger.specs.Numbers.{among, without, all_among, all_distinct, times, first_of}
-use Rattle.xd_ledger.specs.Posts.{seat_of, seats, chains_in, chain_in, place_in, table_of, IsKept}
+use Rattle.xd_ledger.specs.Numbers.{among, without, all_among, all_distinct, times}
+use Rattle.xd_ledger.specs.Posts.{seats, chains_in, chain_in, place_in, table_of, released, IsKept}
 use Rattle.xd_ledger.specs.Sound.{IsSound, seats_of}
-use Rattle.xd_ledger.specs.Table.{Table, held, held_in, in_rota, assigned, completed, given_back, died, left, shut_down, without_seat, at_seat}
-use Rattle.xd_ledger.proofs.ChainMoves.{by_cases, equals, changed-here, changed-else}
-use Rattle.xd_ledger.proofs.ChainCalls.{shifted-to, shifted-from, shifted-else, poured-to, poured-from, poured-else}
+use Rattle.xd_ledger.specs.Table.{Table, held, retried_item, crash_item, in_rota, assigned, completed, given_back, died, left, shut_down}
+use Rattle.xd_ledger.proofs.ChainMoves.{changed-here, changed-else}
+use Rattle.xd_ledger.proofs.ChainCalls.{shifted-to, shifted-from, shifted-else, poured-to, poured-else}
 use Rattle.xd_ledger.proofs.Links.{same, swapped}
-use Rattle.xd_ledger.proofs.Posts.{any-posts, held-posts, chain-there, Marks, marks, SameOthers, seats-moved, seats-left, seats-same, chains-left, place-in, place-shut, chains-shut}
+use Rattle.xd_ledger.proofs.Posts.{any-posts, held-posts, chain-there, Marks, marks, SameOthers, seats-moved, seats-left, chains-left, place-in, place-shut, chains-shut}
 use Rattle.xd_ledger.proofs.Sizes.{length-table, length-held, length-among, taken_distinct}
 use Rattle.xd_ledger.proofs.Sounds.{assigned_sound, completed_sound, given_back_sound, died_sound, left_sound, shut_sound}
 
@@ -91,14 +90,14 @@ pub leave_table : (w : ℕ) (l : Lists) (ps : List Post) (reported who : List �
 leave_table w l ps reported who h = table-eq _ _ _ _ _ _ who refl (seats-left w (chain_in w ps) (chain_at l) (chain_at l) ps h.marked (λ j d f. refl)) refl
 
 -- behind the worker's head, where it has one, and the pouring of the rest into the pool
-pub die_table : (w : ℕ) (l : Lists) (now : ℕ → List ℕ) (ps : List Post) (reported reported2 who : List ℕ) → Has w l ps reported who → reported2 ≡ reported ++ take 1 (chain_at l (chain_in w ps))
-    → now 0 ≡ chain_at l 0 ++ drop 1 (chain_at l (chain_in w ps)) → SameOthers (chain_in w ps) (chain_at l) now
-    → table_of now (filter (λ q. not (q.worker == w)) ps) reported2 who ≡ died w (table_of (chain_at l) ps reported who)
-die_table w l now ps reported reported2 who h e a o =
+pub die_table : (w : ℕ) (retry : Bool) (l : Lists) (now : ℕ → List ℕ) (ps : List Post) (reported reported2 who : List ℕ) → Has w l ps reported who → reported2 ≡ reported ++ crash_item retry (chain_at l (chain_in w ps))
+    → now 0 ≡ retried_item retry (chain_at l (chain_in w ps)) ++ (chain_at l 0 ++ drop 1 (chain_at l (chain_in w ps))) → SameOthers (chain_in w ps) (chain_at l) now
+    → table_of now (filter (λ q. not (q.worker == w)) ps) reported2 who ≡ died w retry (table_of (chain_at l) ps reported who)
+die_table w retry l now ps reported reported2 who h e a o =
     table-eq _ _ _ _ _ _ who
-    (a ∙ ap (λ (xs : List ℕ). chain_at l 0 ++ drop 1 xs) (sym h.holds))
+    (a ∙ ap (λ (xs : List ℕ). retried_item retry xs ++ (chain_at l 0 ++ drop 1 xs)) (sym h.holds))
     (seats-left w (chain_in w ps) (chain_at l) now ps h.marked o)
-    (e ∙ ap (λ (xs : List ℕ). reported ++ take 1 xs) (sym h.holds))
+    (e ∙ ap (λ (xs : List ℕ). reported ++ crash_item retry xs) (sym h.holds))
 
 pub kept_left : (l now : Lists) (w : ℕ) (ps : List Post) (reported reported2 who : List ℕ) (t : Table) (room room2 : ℕ) → IsKept l ps reported who room → table_of (chain_at now) (filter (λ q. not (q.worker == w)) ps) reported2 who ≡ t → IsSound t room2 → chains_of now ≡ chains_of l
     → IsKept now (filter (λ q. not (q.worker == w)) ps) reported2 who room2
@@ -160,10 +159,10 @@ leave_is w l ps ps2 reported who room t e k h f =
     let h2 = ap (in_rota w) e ∙ h in
     ap (λ qs. table_of (chain_at l) qs reported who) f ∙ leave_table w l ps reported who (has w l ps reported who room k h2) ∙ ap (left w) e
 
--- a death: the head is reported, what is left is poured, and the post goes
-pub record Dies (w : ℕ) (l mid now : Lists) (ps ps2 : List Post) (reported reported2 : List ℕ) : Type 0 where
-  pub reported_is : reported2 ≡ reported ++ take 1 (chain_at l (chain_in w ps))
-  pub head_gone : (j : ℕ) → chain_at mid j ≡ changed (chain_in w ps) (drop 1 (chain_at l (chain_in w ps))) (chain_at l) j
+-- a death: the head leaves the worker's list, what is left is poured, and the post goes
+pub record Dies (w : ℕ) (retry : Bool) (l mid now : Lists) (ps ps2 : List Post) (reported reported2 : List ℕ) : Type 0 where
+  pub reported_is : reported2 ≡ reported ++ crash_item retry (chain_at l (chain_in w ps))
+  pub head_gone : (j : ℕ) → chain_at mid j ≡ released retry (chain_in w ps) (chain_at l) j
   pub poured_is : (j : ℕ) → chain_at now j ≡ poured (length (chain_at mid (chain_in w ps))) (chain_in w ps) 0 (chain_at mid) j
   pub posts_are : ps2 ≡ filter (λ q. not (q.worker == w)) ps
 
@@ -171,22 +170,32 @@ take-whole : (xs : List ℕ) → take (length xs) xs ≡ xs
 take-whole [] = refl
 take-whole (x ∷ xs) = ap (λ (ys : List ℕ). x ∷ ys) (take-whole xs)
 
-pub dies_table : (w : ℕ) (l mid now : Lists) (ps ps2 : List Post) (reported reported2 who : List ℕ) → Has w l ps reported who → Dies w l mid now ps ps2 reported reported2 → table_of (chain_at now) ps2 reported2 who ≡ died w (table_of (chain_at l) ps reported who)
-dies_table w l mid now ps ps2 reported reported2 who h d =
+pub released-pool : (retry : Bool) (k : ℕ) (lists : ℕ → List ℕ) → released retry k lists 0 ≡ retried_item retry (lists k) ++ lists 0
+released-pool retry k lists = changed-here 0 (retried_item retry (lists k) ++ lists 0) (changed k (drop 1 (lists k)) lists) 0 (same 0)
+
+pub released-else : (retry : Bool) (k : ℕ) (lists : ℕ → List ℕ) (j : ℕ) → (0 == j) ≡ false → released retry k lists j ≡ changed k (drop 1 (lists k)) lists j
+released-else retry k lists j d = changed-else 0 (retried_item retry (lists k) ++ lists 0) (changed k (drop 1 (lists k)) lists) j d
+
+pub released-rest : (retry : Bool) (k : ℕ) (lists : ℕ → List ℕ) → (0 == k) ≡ false → released retry k lists k ≡ drop 1 (lists k)
+released-rest retry k lists d = released-else retry k lists k d ∙ changed-here k (drop 1 (lists k)) lists k (same k)
+
+pub dies_table : (w : ℕ) (retry : Bool) (l mid now : Lists) (ps ps2 : List Post) (reported reported2 who : List ℕ) → Has w l ps reported who → Dies w retry l mid now ps ps2 reported reported2 → table_of (chain_at now) ps2 reported2 who ≡ died w retry (table_of (chain_at l) ps reported who)
+dies_table w retry l mid now ps ps2 reported reported2 who h d =
     let r = chain_in w ps in
     let xs = drop 1 (chain_at l r) in
-    let m : chain_at mid r ≡ xs = d.head_gone r ∙ changed-here r xs (chain_at l) r (same r) in
-    let z : chain_at mid 0 ≡ chain_at l 0 = d.head_gone 0 ∙ changed-else r xs (chain_at l) 0 h.ahead in
-    ap (λ qs. table_of (chain_at now) qs reported2 who) d.posts_are ∙ die_table w l (chain_at now) ps reported reported2 who h d.reported_is
-    (d.poured_is 0 ∙ poured-to (length (chain_at mid r)) r 0 (chain_at mid) 0 (same 0) ∙ ap (λ (ys : List ℕ). chain_at mid 0 ++ ys) (take-whole (chain_at mid r)) ∙ ap (λ (ys : List ℕ). ys ++ chain_at mid r) z ∙ ap (λ (ys : List ℕ). chain_at l 0 ++ ys) m)
-    (λ j e f. d.poured_is j ∙ poured-else (length (chain_at mid r)) r 0 (chain_at mid) j (swapped j 0 f) (swapped j r e) ∙ d.head_gone j ∙ changed-else r xs (chain_at l) j (swapped j r e))
+    let head : List ℕ = retried_item retry (chain_at l r) in
+    let m : chain_at mid r ≡ xs = d.head_gone r ∙ released-rest retry r (chain_at l) h.behind_pool in
+    let z : chain_at mid 0 ≡ head ++ chain_at l 0 = d.head_gone 0 ∙ released-pool retry r (chain_at l) in
+    ap (λ qs. table_of (chain_at now) qs reported2 who) d.posts_are ∙ die_table w retry l (chain_at now) ps reported reported2 who h d.reported_is
+    (d.poured_is 0 ∙ poured-to (length (chain_at mid r)) r 0 (chain_at mid) 0 (same 0) ∙ ap (λ (ys : List ℕ). chain_at mid 0 ++ ys) (take-whole (chain_at mid r)) ∙ ap (λ (ys : List ℕ). ys ++ chain_at mid r) z ∙ ap (λ (ys : List ℕ). (head ++ chain_at l 0) ++ ys) m ∙ append_assoc head (chain_at l 0) xs)
+    (λ j e f. d.poured_is j ∙ poured-else (length (chain_at mid r)) r 0 (chain_at mid) j (swapped j 0 f) (swapped j r e) ∙ d.head_gone j ∙ released-else retry r (chain_at l) j (swapped j 0 f) ∙ changed-else r xs (chain_at l) j (swapped j r e))
 
-pub dies_kept : (w : ℕ) (l mid now : Lists) (ps ps2 : List Post) (reported reported2 who : List ℕ) (room room2 : ℕ) (t : Table) → table_of (chain_at l) ps reported who ≡ t → IsKept l ps reported who room → room2 ≡ room → in_rota w t ≡ true → Dies w l mid now ps ps2 reported reported2 → chains_of now ≡ chains_of l → IsKept now ps2 reported2 who room2
-dies_kept w l mid now ps ps2 reported reported2 who room room2 t e k g h d c =
+pub dies_kept : (w : ℕ) (retry : Bool) (l mid now : Lists) (ps ps2 : List Post) (reported reported2 who : List ℕ) (room room2 : ℕ) (t : Table) → table_of (chain_at l) ps reported who ≡ t → IsKept l ps reported who room → room2 ≡ room → in_rota w t ≡ true → Dies w retry l mid now ps ps2 reported reported2 → chains_of now ≡ chains_of l → IsKept now ps2 reported2 who room2
+dies_kept w retry l mid now ps ps2 reported reported2 who room room2 t e k g h d c =
     let h2 = ap (in_rota w) e ∙ h in
-    let b = dies_table w l mid now ps ps2 reported reported2 who (has w l ps reported who room k h2) d in
+    let b = dies_table w retry l mid now ps ps2 reported reported2 who (has w l ps reported who room k h2) d in
     subst (λ qs. IsKept now qs reported2 who room2) (sym d.posts_are)
-    (kept_left l now w ps reported reported2 who (died w (table_of (chain_at l) ps reported who)) room room2 k (ap (λ qs. table_of (chain_at now) qs reported2 who) (sym d.posts_are) ∙ b) (died_sound w (table_of (chain_at l) ps reported who) room room2 k.sound g) c)
+    (kept_left l now w ps reported reported2 who (died w retry (table_of (chain_at l) ps reported who)) room room2 k (ap (λ qs. table_of (chain_at now) qs reported2 who) (sym d.posts_are) ∙ b) (died_sound w retry (table_of (chain_at l) ps reported who) room room2 k.sound g) c)
 
 -- shut
 

@@ -1,6 +1,6 @@
 -- Numbers linked with their neighbours, behind writes.
-use Rattle.std.proofs.Common.{◌≡◌, ℕ, zero, suc, ◌+◌, ◌≤◌, ◌<◌, List, [], ◌∷◌, ◌++◌, Bool, true, false, not, length, get_or, set, refl, ap, sym, subst, ◌∙◌, arith}
-use Rattle.std.specs.Prelude.{◌==◌, if◌then◌else◌}
+use Rattle.std.proofs.Common.{◌≡◌, ℕ, suc, ◌+◌, ◌≤◌, List, [], ◌∷◌, ◌++◌, true, false, length, refl, ap, ◌∙◌, arith}
+use Rattle.std.specs.Prelude.{◌==◌}
 use Rattle.std.proofs.lemmas.Bool.Decides.{nat_tests}
 use Rattle.std.proofs.lemmas.Grind.{common_steps}
 use Rattle.xd_ledger.specs.Numbers.{times, among, without}
@@ -36,6 +36,10 @@ backs_else p q i u (x ∷ xs) e s t h =
     let a : times i (e ∷ xs) ≡ 0 = omega arith in
     let b : (i == x) ≡ false = unlike i x xs (omega arith) in
     (s x b ∙ h.0, backs_else p q i x xs e s a h.1)
+
+absent-other : (x z : ℕ) (xs : List ℕ) → times x xs ≡ 0 → 1 ≤ times z xs → (x == z) ≡ false
+absent-other x z [] a b = absurd (omega arith)
+absent-other x z (y ∷ ys) a b = grind (arith, nat_tests, absent-other x z ys)
 
 -- where a place leads
 
@@ -83,6 +87,29 @@ pub backs_put : (p q : List ℕ) (u x : ℕ) (xs : List ℕ) (e : ℕ) → times
 backs_put p q u x [] e new end comes ends others h = (comes, ends)
 backs_put p q u x (y ∷ ys) e new end comes ends others h =
     (others y (unlike x y ys new) (unlike e y ys end) ∙ h.0, backs_put p q y x ys e (later x y ys new) (later e y ys end) comes ends others h.1)
+
+-- a number goes to the front
+
+pub nexts_same : (n m : List ℕ) (u : ℕ) (xs : List ℕ) (e : ℕ) → ((z : ℕ) → 1 ≤ times z (u ∷ xs) → at m z ≡ at n z) → Nexts n u xs e → Nexts m u xs e
+nexts_same n m u [] e s h = s u (let k = same u in grind (arith, nat_tests)) ∙ h
+nexts_same n m u (x ∷ xs) e s h = (s u (let k = same u in grind (arith, nat_tests)) ∙ h.0, nexts_same n m x xs e (λ z t. s z (omega arith)) h.1)
+
+pub backs_same : (p q : List ℕ) (u : ℕ) (xs : List ℕ) (e : ℕ) → ((z : ℕ) → 1 ≤ times z (e ∷ xs) → at q z ≡ at p z) → Backs p u xs e → Backs q u xs e
+backs_same p q u [] e s h = s e (let k = same e in grind (arith, nat_tests)) ∙ h
+backs_same p q u (x ∷ xs) e s h = (s x (let k = same x in grind (arith, nat_tests)) ∙ h.0, backs_same p q x xs e (λ z t. s z (omega arith)) h.1)
+
+pub nexts_first : (n m : List ℕ) (u x : ℕ) (xs : List ℕ) (e : ℕ) → times x xs ≡ 0 → times u xs ≡ 0
+    → at m x ≡ first_or e xs → ((y : ℕ) → (u == y) ≡ false → (x == y) ≡ false → at m y ≡ at n y) → Nexts n u xs e → Nexts m x xs e
+nexts_first n m u x [] e new start leads others h = leads
+nexts_first n m u x (y ∷ ys) e new start leads others h =
+    (leads, nexts_same n m y ys e (λ z t. others z (absent-other u z (y ∷ ys) start t) (absent-other x z (y ∷ ys) new t)) h.1)
+
+pub backs_first : (p q : List ℕ) (u x : ℕ) (xs : List ℕ) (e : ℕ) → ((z : ℕ) → times z (e ∷ xs) ≤ 1) → times x (e ∷ xs) ≡ 0
+    → at q (first_or e xs) ≡ x → ((y : ℕ) → (x == y) ≡ false → (first_or e xs == y) ≡ false → at q y ≡ at p y) → Backs p u xs e → Backs q x xs e
+backs_first p q u x [] e one new comes others h = comes
+backs_first p q u x (y ∷ ys) e one new comes others h =
+    let none : times y (e ∷ ys) ≡ 0 = (let o = one y in let k = same y in grind (arith, nat_tests)) in
+    (comes, backs_same p q y ys e (λ z t. others z (absent-other x z (e ∷ ys) (omega arith) t) (absent-other y z (e ∷ ys) none t)) h.1)
 
 off_first : (y e : ℕ) (ts : List ℕ) → times y (e ∷ ts) ≡ 0 → (first_or e ts == y) ≡ false
 off_first y e [] h = grind (arith, nat_tests)

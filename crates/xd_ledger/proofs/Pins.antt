@@ -14,7 +14,7 @@ abbrev files_ids : List (List ℕ)
 files_ids = (97 ∷ 58 ∷ 58 ∷ 49 ∷ []) ∷ (98 ∷ 58 ∷ 58 ∷ 49 ∷ []) ∷ (99 ∷ 58 ∷ 58 ∷ 49 ∷ []) ∷ (100 ∷ 58 ∷ 58 ∷ 49 ∷ []) ∷ (101 ∷ 58 ∷ 58 ∷ 49 ∷ []) ∷ (102 ∷ 58 ∷ 58 ∷ 49 ∷ []) ∷ (103 ∷ 58 ∷ 58 ∷ 49 ∷ []) ∷ (104 ∷ 58 ∷ 58 ∷ 49 ∷ []) ∷ (105 ∷ 58 ∷ 58 ∷ 49 ∷ []) ∷ (106 ∷ 58 ∷ 58 ∷ 49 ∷ []) ∷ []
 
 abbrev of_two : Settings
-of_two = record { mode = Load; workers = 2; maxfail = 0; restarts = 8; chunk = None; reorder = true }
+of_two = record { mode = Load; workers = 2; maxfail = 0; restarts = 8; chunk = None; reorder = true; retries = 0 }
 
 -- a test of 99 ms is not slow: the worker is refilled
 pub a_test_of_99_ms_is_not_slow : journal_of of_two (Ready 0 ∷ Collected 0 (ids.List hundred_ids) ∷ Ready 1 ∷ Collected 1 ids.Same ∷ Done 0 0 Passed 5 [] ∷ Done 0 1 Passed 5 [] ∷ Done 0 2 Passed 5 [] ∷ Done 0 3 Passed 99 [] ∷ [])

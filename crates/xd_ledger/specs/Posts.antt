@@ -1,11 +1,11 @@
 -- The seats that the ledger's own posts stand for, and when the ledger is in order.
-use Rattle.std.specs.Prelude.{◌≡◌, ℕ, zero, suc, ◌≤◌, ◌<◌, ◌==◌, List, [], ◌∷◌, map, if◌then◌else◌}
+use Rattle.std.specs.Prelude.{ℕ, zero, suc, ◌≤◌, ◌<◌, ◌==◌, Bool, List, [], ◌∷◌, ◌++◌, drop, map, if◌then◌else◌}
 use Rattle.xd_ledger.specs.declared.post.Post.{Post}
 use Rattle.xd_ledger.specs.declared.seat.Seat.{Seat}
-use Rattle.xd_ledger.specs.Chains.{Lists, chain_at, chains_of}
+use Rattle.xd_ledger.specs.Chains.{Lists, chain_at, chains_of, changed}
 use Rattle.xd_ledger.specs.Numbers.{times}
 use Rattle.xd_ledger.specs.Sound.{IsSound}
-use Rattle.xd_ledger.specs.Table.{Table}
+use Rattle.xd_ledger.specs.Table.{Table, retried_item}
 
 abbrev pub seat_of : (ℕ → List ℕ) → Post → Seat
 seat_of lists q = record { worker = q.worker; held = lists q.chain; shut = q.shut }
@@ -28,6 +28,10 @@ place_in worker (q ∷ posts) = if q.worker == worker then zero else suc (place_
 
 abbrev pub table_of : (ℕ → List ℕ) → List Post → List ℕ → List ℕ → Table
 table_of lists posts reported who_joined = record { pool = lists 0; rota = seats lists posts; reported = reported; who_joined = who_joined }
+
+-- the lists behind the first item of list k, which leaves it: to the pool's front, where it is tried again
+abbrev pub released : Bool → ℕ → (ℕ → List ℕ) → ℕ → List ℕ
+released retry k lists = changed 0 (retried_item retry (lists k) ++ lists 0) (changed k (drop 1 (lists k)) lists)
 
 -- the table is sound, and each post has a list of its own behind the pool's
 pub record IsKept (l : Lists) (posts : List Post) (reported who_joined : List ℕ) (room : ℕ) : Type 0 where

@@ -149,6 +149,25 @@ impl Chains {
         self.counts[chain as usize] += 1;
     }
 
+    // The number, which stands in no list, goes to the front of one.
+    pub(crate) fn put_first(&mut self, chain: u32, item: u32)
+        requires known { chain < chains_of self.old }
+        requires below { item < items_of self.old }
+        requires free { is_free item self.old ≡ true }
+        ensures lists { (j : ℕ) → chain_at self.new j ≡ changed chain (item ∷ chain_at self.old chain) (chain_at self.old) j }
+        ensures items { items_of self.new ≡ items_of self.old }
+        ensures chains { chains_of self.new ≡ chains_of self.old }
+    {
+        let end = self.owner.len() + chain as usize;
+        let first = self.next[end];
+        self.next[end] = item;
+        self.next[item as usize] = first;
+        self.previous[item as usize] = end as u32;
+        self.previous[first as usize] = item;
+        self.owner[item as usize] = chain;
+        self.counts[chain as usize] += 1;
+    }
+
     // The number goes from its list to the end of another.
     pub(crate) fn shift(&mut self, from: u32, to: u32, item: u32)
         requires known { (from < chains_of self.old) × (to < chains_of self.old) }

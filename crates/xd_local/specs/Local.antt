@@ -24,7 +24,7 @@ use Rattle.xd_local.specs.Print.{PrintsReport, failures_in}
 
 -- without workers, and with this limit on failures; 0 is no limit
 abbrev pub local_settings : ℕ → Settings
-local_settings maxfail = record { mode = Local; workers = 0; maxfail = maxfail; restarts = 0; chunk = None; reorder = true }
+local_settings maxfail = record { mode = Local; workers = 0; maxfail = maxfail; restarts = 0; chunk = None; reorder = true; retries = 0 }
 
 -- what is kept of the output of these starts, where those before keep so many bytes
 abbrev pub kept_outputs : ℕ → List ChildRun → List (List ℕ)

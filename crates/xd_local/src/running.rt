@@ -248,6 +248,7 @@ fn local_settings(maxfail: u32) -> Settings
         restarts: 0,
         chunk: None,
         reorder: true,
+        retries: 0,
     }
 }
 

@@ -10,6 +10,7 @@ fn settings(mode: ModeKind) -> Settings {
         restarts: 0,
         chunk: None,
         reorder: true,
+        retries: 0,
     }
 }
 

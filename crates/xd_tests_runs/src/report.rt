@@ -43,6 +43,7 @@ fn settings(words: &str) -> Result<Settings, Fail> {
         restarts: number(words.next().ok_or("the restarts")?)?,
         chunk: None,
         reorder: true,
+        retries: 0,
     })
 }
 

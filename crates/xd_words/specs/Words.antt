@@ -42,9 +42,9 @@ places_of a = if has_places a then tx_of (map encode_utf8_all a.tx) else Ok (rep
 abbrev pub maxfail_of : Asked → ℕ
 maxfail_of a = if a.first then 1 else unwrap_or a.maxfail 0
 
--- mode load where none is named, and four new workers for each where no number is named
+-- mode load where none is named, and four new workers for each where no number is named; no crashed test is tried again
 abbrev pub settings_of : Asked → ℕ → Settings
-settings_of a workers = record { mode = unwrap_or a.mode Load; workers = workers; maxfail = maxfail_of a; restarts = unwrap_or a.restarts (4 * workers); chunk = a.chunk; reorder = a.reorder }
+settings_of a workers = record { mode = unwrap_or a.mode Load; workers = workers; maxfail = maxfail_of a; restarts = unwrap_or a.restarts (4 * workers); chunk = a.chunk; reorder = a.reorder; retries = 0 }
 
 -- without workers the tests are run in the program itself
 unfoldable pub run_at : Asked → List Place → Plan

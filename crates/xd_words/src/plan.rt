@@ -322,5 +322,6 @@ fn settings_of(asked: &Asked, workers: u32) -> Settings
         restarts: asked.restarts.unwrap_or(4 * workers),
         chunk: asked.chunk,
         reorder: asked.reorder,
+        retries: 0,
     }
 }

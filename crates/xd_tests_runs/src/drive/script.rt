@@ -54,6 +54,7 @@ fn settings_of(words: &str) -> Result<Settings, Fail>
         restarts,
         chunk,
         reorder: fields.next().is_none(),
+        retries: 0,
     })
 }
 
