@@ -1,6 +1,6 @@
--- What is left of units, one after another.
-use Rattle.std.proofs.Common.{◌≡◌, ℕ, suc, ◌+◌, ◌-◌, ◌<◌, ◌≤◌, min, List, [], ◌∷◌, ◌++◌, take, drop, length, get_or, filter, Bool, true, false, Option, Some, refl, ap, sym, ◌∙◌, arith, append_assoc, append_nil, cond, nat_lt}
-use Rattle.std.specs.Prelude.{◌==◌, ◌||◌, if◌then◌else◌}
+-- What comes back from a worker that died: what is left of its units, one after another, and the test that is tried again.
+use Rattle.std.proofs.Common.{◌≡◌, ℕ, ◌+◌, ◌-◌, ◌<◌, min, List, [], ◌∷◌, ◌++◌, take, drop, length, get_or, filter, Bool, true, false, Option, Some, None, refl, ap, sym, ◌∙◌, arith, append_assoc, append-nil, cond}
+use Rattle.std.specs.Prelude.{◌==◌, ◌||◌}
 use Rattle.std.specs.BTreeSet.{BTreeSet, contains}
 use Rattle.std.specs.BTreeMap.{is_at}
 use Rattle.std.specs.Ordering.{is_eq, nat_cmp}
@@ -8,8 +8,9 @@ use Rattle.std.proofs.lemmas.Bool.Decides.{nat_tests}
 use Rattle.std.proofs.lemmas.List.{drop_more, take_more}
 use Rattle.xd_ledger.specs.Calls.{last_of}
 use Rattle.xd_ledger.specs.Chains.{ahead, final_of}
-use Rattle.xd_ledger.specs.Numbers.{all_distinct, among}
+use Rattle.xd_ledger.specs.Numbers.{all_distinct, among, first_of}
 use Rattle.xd_ledger.specs.Plan.{Handed}
+use Rattle.xd_ledger.specs.Table.{retried_item}
 use Rattle.xd_ledger.specs.Units.{unless_empty, units_left}
 use Rattle.xd_ledger.proofs.Lists.{ahead-at, among-at, among-append, final-take}
 use Rattle.xd_scope.specs.Stands.{IsSetOf, left_of, left_of_each, units_of}
@@ -84,7 +85,7 @@ left-is rest s tests ts h e =
 
 -- nothing is left of the unit
 pub left-none : (rest : List ℕ) (s : BTreeSet ℕ) (tests ts : List ℕ) (queue : List (List ℕ)) → IsSetOf rest s → ts ≡ filter (λ t. contains nat_cmp s t) tests → length ts ≡ 0 → queue ≡ queue ++ left_of rest tests
-left-none rest s tests ts queue h e z = sym (ap (λ (us : List (List ℕ)). queue ++ us) (left-is rest s tests ts h e ∙ unless-none ts z) ∙ append_nil queue)
+left-none rest s tests ts queue h e z = sym (ap (λ (us : List (List ℕ)). queue ++ us) (left-is rest s tests ts h e ∙ unless-none ts z) ∙ append-nil queue)
 
 -- what is left of the unit goes to the end
 pub left-some : (rest : List ℕ) (s : BTreeSet ℕ) (tests ts : List ℕ) (queue now : List (List ℕ)) → IsSetOf rest s → ts ≡ filter (λ t. contains nat_cmp s t) tests → (length ts ≡ 0 → ⊥) → now ≡ queue ++ ts ∷ [] → now ≡ queue ++ left_of rest tests
@@ -107,3 +108,21 @@ units-left-by w rest u us false h e = rw h e
 pub units-left : (w : ℕ) (rest : List ℕ) (given : List Handed) → units_left w rest given ≡ left_of_each rest (units_of w given)
 units-left w rest [] = refl
 units-left w rest (u ∷ us) = units-left-by w rest u us (u.worker == w) refl (units-left w rest us)
+
+-- the test that is tried again
+
+again-some : (pool : List ℕ) (x : ℕ) → Some x ≡ first_of pool → take 1 pool ≡ x ∷ []
+again-some [] x h = absurd (cc)
+again-some (y ∷ pool) x h = let e : x ≡ y = cc in ap (λ (z : ℕ). z ∷ []) (sym e)
+
+again-none : (pool : List ℕ) → None ≡ first_of pool → take 1 pool ≡ []
+again-none [] h = refl
+again-none (y ∷ pool) h = absurd (cc)
+
+-- it stands in front
+pub again-first : (pool : List ℕ) (x : ℕ) (b : Bool) (queue now : List (List ℕ)) → b ≡ true → Some x ≡ first_of pool → now ≡ (x ∷ []) ∷ queue → now ≡ unless_empty (retried_item b pool) ++ queue
+again-first pool x b queue now e h a = a ∙ sym (rw e (ap (λ (ts : List ℕ). unless_empty ts ++ queue) (again-some pool x h)))
+
+-- there is none
+pub again-empty : (pool : List ℕ) (b : Bool) (queue : List (List ℕ)) → b ≡ true → None ≡ first_of pool → queue ≡ unless_empty (retried_item b pool) ++ queue
+again-empty pool b queue e h = sym (rw e (ap (λ (ts : List ℕ). unless_empty ts ++ queue) (again-none pool h)))

@@ -1,12 +1,12 @@
 -- The turns of the scope modes, one step after another.
-use Rattle.std.proofs.Common.{◌≡◌, ℕ, ◌+◌, ◌<◌, ◌≤◌, nat_lt, List, [], ◌∷◌, take, drop, length, get_or, Bool, true, false, refl, ap, sym, subst, ◌∙◌, arith}
-use Rattle.std.specs.Prelude.{if◌then◌else◌, None}
+use Rattle.std.proofs.Common.{◌≡◌, ℕ, ◌+◌, ◌<◌, ◌≤◌, nat_lt, List, [], ◌∷◌, take, length, get_or, Bool, true, false, refl, ap, sym, subst, ◌∙◌, arith}
+use Rattle.std.specs.Prelude.{if◌then◌else◌}
 use Rattle.std.proofs.lemmas.Bool.Decides.{nat_tests}
 use Rattle.xd_journal.specs.declared.entry.Entry.{Entry}
 use Rattle.xd_ledger.specs.Calls.{turn}
-use Rattle.xd_ledger.specs.Plan.{Plan, is_scope}
+use Rattle.xd_ledger.specs.Plan.{Plan}
 use Rattle.xd_ledger.specs.ScopeModes.{enough, give_more, give_unit, refill}
-use Rattle.xd_ledger.specs.Table.{Table, held, seat_shut, workers_of}
+use Rattle.xd_ledger.specs.Table.{Table, held, seat_shut}
 use Rattle.xd_ledger.specs.Turn.{Turn, in_turn, shut}
 use Rattle.xd_ledger.proofs.Turns.{in_turn-one_more}
 use Rattle.xd_scope.specs.declared.units.Units.{Units}

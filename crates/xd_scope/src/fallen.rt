@@ -1,9 +1,11 @@
-// What is left of the units of a worker that died.
+// What comes back from a worker that died.
 ghost use Rattle.std.specs.Prelude.{◌≡◌, ◌≤◌, ◌++◌, ◌∷◌, ℕ, List, OnOk, IfOk, [], filter, length, true, if◌then◌else◌};
 ghost use Rattle.std.specs.BTreeSet.{contains};
 ghost use Rattle.std.specs.Ordering.{nat_cmp};
 ghost use Rattle.xd_ledger.specs.Calls.{last_of};
 ghost use Rattle.xd_ledger.specs.Numbers.{all_distinct, among};
+ghost use Rattle.xd_ledger.specs.Table.{retried_item};
+ghost use Rattle.xd_ledger.specs.Units.{unless_empty};
 ghost use Rattle.xd_scope.specs.Stands.{IsSetOf, given_to, left_of, left_of_each};
 
 use crate::given::{WorkerUnits, units_of};
@@ -99,5 +101,25 @@ pub(crate) fn keep_rest(
     };
     let items = last_items(alloc, rest.min(ledger.pool_len()), ledger)?;
     keep_each(alloc, &items, &units.items, queue)?;
+    Ok(())
+}
+
+// A test that is tried again is the first of the pool. It goes to the queue's front, as a unit of its own.
+pub(crate) fn keep_retried(
+    alloc: Global,
+    retried: bool,
+    ledger: &Ledger,
+    queue: &mut VecDeque<Indices>,
+) -> Result<(), OutOfMemory>
+    ensures { OnOk result (queue.new.items ≡ unless_empty (retried_item retried ledger.now.pool) ++ queue.old.items) }
+{
+    if !retried {
+        return Ok(());
+    }
+    let Some(test) = ledger.first_pool() else {
+        return Ok(());
+    };
+    let items = Vec::from_slice(alloc, &[test])?;
+    queue.push_front(Indices { items })?;
     Ok(())
 }

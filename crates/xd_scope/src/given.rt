@@ -22,11 +22,7 @@ impl Model for WorkerUnits {
 }
 
 // The worker's units, which leave the map.
-fn taken(
-    alloc: Global,
-    worker: u32,
-    given: &mut BTreeMap<u32, WorkerUnits>,
-) -> WorkerUnits
+fn taken(alloc: Global, worker: u32, given: &mut BTreeMap<u32, WorkerUnits>) -> WorkerUnits
     ensures units { result ≡ given_to worker given.old }
     ensures others { (w : ℕ) → given_to w given.new ≡ (if worker == w then [] else given_to w given.old) }
 {
@@ -54,10 +50,7 @@ pub(crate) fn add_given(
 }
 
 // The worker's units, where it was given some.
-pub(crate) fn units_of(
-    worker: u32,
-    given: &BTreeMap<u32, WorkerUnits>,
-) -> Option<&WorkerUnits>
+pub(crate) fn units_of(worker: u32, given: &BTreeMap<u32, WorkerUnits>) -> Option<&WorkerUnits>
     ensures some { IfSome result (λ u. u.now ≡ given_to worker given.now) }
     ensures none { IfNone result (given_to worker given.now ≡ []) }
 {

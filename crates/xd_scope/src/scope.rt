@@ -3,7 +3,7 @@ ghost use Rattle.std.specs.Prelude.{◌≡◌, [], None, true};
 ghost use Rattle.xd_ledger.specs.Plan.{Plan, is_scope};
 ghost use Rattle.xd_scope.specs.Stands.{Keeps, first_ids};
 
-use crate::fallen::keep_rest;
+use crate::fallen::{keep_rest, keep_retried};
 use crate::groups::units_of;
 use crate::refill::{refill_all, refill_one};
 use crate::share::share_all;
@@ -109,11 +109,13 @@ impl Mode for Scope {
         worker: u32,
         _slot: u32,
         rest: u32,
+        retried: bool,
         ledger: &mut Ledger,
         acts: &mut Vec<Entry>,
     ) -> Result<(), OutOfMemory> {
         let Units { queue, given, .. } = &mut self.units;
         keep_rest(alloc, worker, rest, ledger, given, queue)?;
+        keep_retried(alloc, retried, ledger, queue)?;
         refill_all(alloc, &mut self.units, ledger, acts)?;
         Ok(())
     }
