@@ -1,9 +1,9 @@
 // What comes back from a worker that died.
-ghost use Rattle.std.specs.Prelude.{◌≡◌, ◌≤◌, ◌++◌, ◌∷◌, ℕ, List, OnOk, IfOk, [], filter, length, true, if◌then◌else◌};
+ghost use Rattle.std.specs.Prelude.{◌≡◌, ◌≤◌, ◌++◌, ◌∷◌, ℕ, List, OnOk, IfOk, [], filter, length, true};
 ghost use Rattle.std.specs.BTreeSet.{contains};
 ghost use Rattle.std.specs.Ordering.{nat_cmp};
 ghost use Rattle.xd_ledger.specs.Calls.{last_of};
-ghost use Rattle.xd_ledger.specs.Numbers.{all_distinct, among};
+ghost use Rattle.xd_ledger.specs.Numbers.{all_distinct};
 ghost use Rattle.xd_ledger.specs.Table.{retried_item};
 ghost use Rattle.xd_ledger.specs.Units.{unless_empty};
 ghost use Rattle.xd_scope.specs.Stands.{IsSetOf, given_to, left_of, left_of_each};
@@ -58,7 +58,8 @@ fn keep_one(
     unit: &Indices,
     queue: &mut VecDeque<Indices>,
 ) -> Result<(), OutOfMemory>
-    ensures { OnOk result ((rest : List ℕ) → IsSetOf rest items.now → queue.new.items ≡ queue.old.items ++ left_of rest unit.now) }
+    ensures { OnOk result ((rest : List ℕ) → IsSetOf rest items.now →
+        queue.new.items ≡ queue.old.items ++ left_of rest unit.now) }
 {
     let tests = tests_left(alloc, &unit.items, items)?;
     if tests.items.len() == 0 {
@@ -75,7 +76,8 @@ fn keep_each(
     units: &[Indices],
     queue: &mut VecDeque<Indices>,
 ) -> Result<(), OutOfMemory>
-    ensures { OnOk result ((rest : List ℕ) → IsSetOf rest items.now → queue.new.items ≡ queue.old.items ++ left_of_each rest units.now) }
+    ensures { OnOk result ((rest : List ℕ) → IsSetOf rest items.now →
+        queue.new.items ≡ queue.old.items ++ left_of_each rest units.now) }
 {
     for unit in units {
         keep_one(alloc, items, unit, queue)?;
@@ -94,7 +96,8 @@ pub(crate) fn keep_rest(
     queue: &mut VecDeque<Indices>,
 ) -> Result<(), OutOfMemory>
     requires { all_distinct ledger.now.pool ≡ true }
-    ensures { OnOk result (queue.new.items ≡ queue.old.items ++ left_of_each (last_of rest ledger.now.pool) (given_to worker given.now)) }
+    ensures { OnOk result (
+        queue.new.items ≡ queue.old.items ++ left_of_each (last_of rest ledger.now.pool) (given_to worker given.now)) }
 {
     let Some(units) = units_of(worker, given) else {
         return Ok(());

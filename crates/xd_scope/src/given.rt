@@ -41,7 +41,8 @@ pub(crate) fn add_given(
     tests: Indices,
     given: &mut BTreeMap<u32, WorkerUnits>,
 ) -> Result<(), OutOfMemory>
-    ensures { OnOk result ((w : ℕ) → given_to w given.new ≡ (if worker == w then given_to w given.old ++ tests ∷ [] else given_to w given.old)) }
+    ensures { OnOk result ((w : ℕ) →
+        given_to w given.new ≡ (if worker == w then given_to w given.old ++ tests ∷ [] else given_to w given.old)) }
 {
     let mut units = taken(alloc, worker, given);
     units.items.push(tests)?;
