@@ -84,6 +84,7 @@ impl Mode for Each {
         _worker: u32,
         _slot: u32,
         _rest: u32,
+        _retried: bool,
         _ledger: &mut Ledger,
         _acts: &mut Vec<Entry>,
     ) -> Result<(), OutOfMemory> {

@@ -91,6 +91,7 @@ impl Mode for Load {
         _worker: u32,
         _slot: u32,
         _rest: u32,
+        _retried: bool,
         ledger: &mut Ledger,
         acts: &mut Vec<Entry>,
     ) -> Result<(), OutOfMemory> {

@@ -1,4 +1,5 @@
 pub mod Grouped
+pub mod Handing
 pub mod ModeTurns
 pub mod Queue
 pub mod Remains

@@ -1,21 +1,22 @@
 -- What a call of the mode does, from what its turn is.
-use Rattle.std.proofs.Common.{◌≡◌, ℕ, ◌+◌, ◌≤◌, List, [], ◌∷◌, ◌++◌, length, map, Bool, true, false, refl, ap, sym, subst, ◌∙◌, arith}
-use Rattle.std.specs.Prelude.{fold, sum, if◌then◌else◌, None}
+use Rattle.std.proofs.Common.{◌≡◌, ℕ, ◌+◌, ◌≤◌, List, [], ◌∷◌, ◌++◌, length, map, Bool, true, refl, ap, sym, subst, ◌∙◌, arith}
+use Rattle.std.specs.Prelude.{fold, sum, if◌then◌else◌}
 use Rattle.std.specs.List.{range_with_len}
 use Rattle.std.proofs.lemmas.List.FromFn.{length-range_with_len}
 use Rattle.xd_journal.specs.declared.entry.Entry.{Entry}
 use Rattle.xd_edge.specs.declared.mode.ModeKind.{ModeKind}
 use Rattle.xd_edge.specs.declared.mode.ModeKind.TheVariants.{Local, Each, Load, LoadScope, LoadFile, LoadGroup, WorkSteal}
-use Rattle.xd_ledger.specs.Calls.{Turned, shared_plan, turn}
+use Rattle.xd_ledger.specs.Calls.{Turned, death_plan, last_of, shared_plan, turn}
 use Rattle.xd_ledger.specs.Modes.{Call, scope_turn, turned}
 use Rattle.xd_ledger.specs.Plan.{Plan, is_scope}
 use Rattle.xd_ledger.specs.State.{down_plan}
 use Rattle.xd_ledger.specs.Suits.{AreInPool}
-use Rattle.xd_ledger.specs.Table.{Table}
+use Rattle.xd_ledger.specs.Table.{Table, retried_item}
 use Rattle.xd_ledger.specs.Turn.{Turn}
-use Rattle.xd_ledger.specs.Units.{units, units_left}
+use Rattle.xd_ledger.specs.Units.{unless_empty, units, units_left}
 use Rattle.xd_scope.specs.declared.units.Units.{Units}
-use Rattle.xd_scope.specs.Stands.{IsAt, Keeps, first_ids}
+use Rattle.xd_scope.specs.Stands.{IsAt, Keeps, first_ids, given_to, left_of_each}
+use Rattle.xd_scope.proofs.Remains.{units-left}
 
 turned-scope : (m : ModeKind) (c : Call) (t : Turn) → is_scope m ≡ true → turned m c t ≡ scope_turn c t
 turned-scope Local c t h = absurd (cc)
@@ -40,15 +41,24 @@ fits-of u p pool k h = subst (λ (q : List (List ℕ)). AreInPool q pool) k.queu
 
 -- a worker is down
 
-pub keeps-down : (w : ℕ) (rest : List ℕ) (u v : Units) (p : Plan) → Keeps u p → v.kind ≡ u.kind → v.reorder ≡ u.reorder → v.given.items ≡ u.given.items → v.queue.items ≡ u.queue.items ++ units_left w rest u.given.items → Keeps v (down_plan w rest p)
-keeps-down w rest u v p k a b c d = record {
+keeps-down : (w : ℕ) (retried rest : List ℕ) (u v : Units) (p : Plan) → Keeps u p → v.kind ≡ u.kind → v.reorder ≡ u.reorder → v.given ≡ u.given
+    → v.queue.items ≡ unless_empty retried ++ (u.queue.items ++ left_of_each rest (given_to w u.given)) → Keeps v (down_plan w retried rest p)
+keeps-down w retried rest u v p k a b c d = record {
   mode = k.mode ∙ sym a;
   scope = ap is_scope a ∙ k.scope;
   reorder = k.reorder ∙ sym b;
-  queue = ap (λ (q : Bool). if q then p.queue ++ units_left w rest p.given else p.queue) (scope-mode u p k) ∙ ap (λ (q : List (List ℕ)). q ++ units_left w rest p.given) k.queue ∙ ap (λ g. u.queue.items ++ units_left w rest g) k.given ∙ sym d;
-  given = k.given ∙ sym c;
+  queue = ap (λ (q : Bool). if q then unless_empty retried ++ (p.queue ++ units_left w rest p.given) else p.queue) (scope-mode u p k)
+      ∙ ap (λ (q : List (List ℕ)). unless_empty retried ++ (q ++ units_left w rest p.given)) k.queue
+      ∙ ap (λ (us : List (List ℕ)). unless_empty retried ++ (u.queue.items ++ us)) (units-left w rest p.given ∙ ap (left_of_each rest) (k.given w)) ∙ sym d;
+  given = λ x. (k.given x ∙ ap (given_to x) (sym c));
   steal = rw k.steal;
 }
+
+-- by what came back first: what is left of its units, and then the test that is tried again
+pub keeps-death : (w : ℕ) (retried : Bool) (rest : ℕ) (pool : List ℕ) (u v : Units) (p : Plan) (back : List (List ℕ)) → Keeps u p → v.kind ≡ u.kind → v.reorder ≡ u.reorder → v.given ≡ u.given
+    → back ≡ u.queue.items ++ left_of_each (last_of rest pool) (given_to w u.given) → v.queue.items ≡ unless_empty (retried_item retried pool) ++ back → Keeps v (death_plan w retried rest pool p)
+keeps-death w retried rest pool u v p back k a b c d e =
+    keeps-down w (retried_item retried pool) (last_of rest pool) u v p k a b c (e ∙ ap (λ (us : List (List ℕ)). unless_empty (retried_item retried pool) ++ us) d)
 
 -- the tests are shared
 
@@ -56,13 +66,13 @@ first-is : (lists : List (List (List ℕ))) (p : Plan) → is_scope p.mode ≡ t
 first-is [] p h = rw h
 first-is (ids ∷ lists) p h = rw h
 
-pub keeps-shared : (lists : List (List (List ℕ))) (u v : Units) (p : Plan) → Keeps u p → v.kind ≡ u.kind → v.reorder ≡ u.reorder → v.given.items ≡ u.given.items → v.queue.items ≡ units u.kind u.reorder (first_ids lists) → Keeps v (shared_plan lists p)
+pub keeps-shared : (lists : List (List (List ℕ))) (u v : Units) (p : Plan) → Keeps u p → v.kind ≡ u.kind → v.reorder ≡ u.reorder → v.given ≡ u.given → v.queue.items ≡ units u.kind u.reorder (first_ids lists) → Keeps v (shared_plan lists p)
 keeps-shared lists u v p k a b c d = record {
   mode = k.mode ∙ sym a;
   scope = ap is_scope a ∙ k.scope;
   reorder = k.reorder ∙ sym b;
   queue = first-is lists p (scope-mode u p k) ∙ ap (λ (m : ModeKind). units m p.reorder (first_ids lists)) k.mode ∙ ap (λ (r : Bool). units u.kind r (first_ids lists)) k.reorder ∙ sym d;
-  given = k.given ∙ sym c;
+  given = λ x. (k.given x ∙ ap (given_to x) (sym c));
   steal = k.steal;
 }
 

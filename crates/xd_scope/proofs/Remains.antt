@@ -1,6 +1,6 @@
--- What is left of units, one after another.
-use Rattle.std.proofs.Common.{◌≡◌, ℕ, suc, ◌+◌, ◌-◌, ◌<◌, ◌≤◌, min, List, [], ◌∷◌, ◌++◌, take, drop, length, get_or, filter, Bool, true, false, Option, Some, refl, ap, sym, ◌∙◌, arith, append_assoc, cond, nat_lt}
-use Rattle.std.specs.Prelude.{◌==◌, ◌||◌, if◌then◌else◌}
+-- What comes back from a worker that died: what is left of its units, one after another, and the test that is tried again.
+use Rattle.std.proofs.Common.{◌≡◌, ℕ, ◌+◌, ◌-◌, ◌<◌, min, List, [], ◌∷◌, ◌++◌, take, drop, length, get_or, filter, Bool, true, false, Option, Some, None, refl, ap, sym, ◌∙◌, arith, append_assoc, append-nil, cond}
+use Rattle.std.specs.Prelude.{◌==◌, ◌||◌}
 use Rattle.std.specs.BTreeSet.{BTreeSet, contains}
 use Rattle.std.specs.BTreeMap.{is_at}
 use Rattle.std.specs.Ordering.{is_eq, nat_cmp}
@@ -8,11 +8,12 @@ use Rattle.std.proofs.lemmas.Bool.Decides.{nat_tests}
 use Rattle.std.proofs.lemmas.List.{drop_more, take_more}
 use Rattle.xd_ledger.specs.Calls.{last_of}
 use Rattle.xd_ledger.specs.Chains.{ahead, final_of}
-use Rattle.xd_ledger.specs.Numbers.{all_distinct, among}
+use Rattle.xd_ledger.specs.Numbers.{all_distinct, among, first_of}
 use Rattle.xd_ledger.specs.Plan.{Handed}
+use Rattle.xd_ledger.specs.Table.{retried_item}
 use Rattle.xd_ledger.specs.Units.{unless_empty, units_left}
 use Rattle.xd_ledger.proofs.Lists.{ahead-at, among-at, among-append, final-take}
-use Rattle.xd_scope.specs.Stands.{IsSetOf, left_of}
+use Rattle.xd_scope.specs.Stands.{IsSetOf, left_of, left_of_each, units_of}
 
 -- the set of the last items
 
@@ -68,29 +69,60 @@ pub filter-same : (p q : ℕ → Bool) (xs : List ℕ) → ((x : ℕ) → p x �
 filter-same p q [] h = refl
 filter-same p q (x ∷ xs) h = let e = filter-same p q xs h in let f = h x in grind (arith, nat_tests)
 
-pub unless-none : (ts : List ℕ) → length ts ≡ 0 → unless_empty ts ≡ []
+unless-none : (ts : List ℕ) → length ts ≡ 0 → unless_empty ts ≡ []
 unless-none [] h = refl
 unless-none (t ∷ ts) h = absurd (omega arith)
 
-pub unless-some : (ts : List ℕ) → (length ts ≡ 0 → ⊥) → unless_empty ts ≡ ts ∷ []
+unless-some : (ts : List ℕ) → (length ts ≡ 0 → ⊥) → unless_empty ts ≡ ts ∷ []
 unless-some [] h = absurd (h refl)
 unless-some (t ∷ ts) h = refl
 
 -- one unit after another
 
-pub left-other : (w : ℕ) (rest : List ℕ) (u : Handed) → (u.worker == w) ≡ false → left_of w rest u ≡ []
-left-other w rest u h = rw h
+left-is : (rest : List ℕ) (s : BTreeSet ℕ) (tests ts : List ℕ) → IsSetOf rest s → ts ≡ filter (λ t. contains nat_cmp s t) tests → left_of rest tests ≡ unless_empty ts
+left-is rest s tests ts h e =
+    ap unless_empty (filter-same (λ t. among t rest) (λ t. contains nat_cmp s t) tests (λ x. sym (h x)) ∙ sym e)
 
-pub left-own : (w : ℕ) (rest : List ℕ) (s : BTreeSet ℕ) (u : Handed) (ts : List ℕ) → IsSetOf rest s → (u.worker == w) ≡ true → ts ≡ filter (λ t. contains nat_cmp s t) u.tests → left_of w rest u ≡ unless_empty ts
-left-own w rest s u ts h own e =
-    let same : filter (λ t. among t rest) u.tests ≡ ts = filter-same (λ t. among t rest) (λ t. contains nat_cmp s t) u.tests (λ x. sym (h x)) ∙ sym e in
-    rw own (ap unless_empty same)
+-- nothing is left of the unit
+pub left-none : (rest : List ℕ) (s : BTreeSet ℕ) (tests ts : List ℕ) (queue : List (List ℕ)) → IsSetOf rest s → ts ≡ filter (λ t. contains nat_cmp s t) tests → length ts ≡ 0 → queue ≡ queue ++ left_of rest tests
+left-none rest s tests ts queue h e z = sym (ap (λ (us : List (List ℕ)). queue ++ us) (left-is rest s tests ts h e ∙ unless-none ts z) ∙ append-nil queue)
 
-pub left-one_more : (w : ℕ) (rest : List ℕ) (given : List Handed) (i : ℕ) (u : Handed) (left now all : List (List ℕ))
-    → i < length given → u ≡ get_or given i u → now ≡ left ++ left_of w rest u → left ++ units_left w rest (drop i given) ≡ all
-    → now ++ units_left w rest (drop (i + 1) given) ≡ all
-left-one_more w rest given i u left now all h e a b =
-    ap (λ (xs : List (List ℕ)). xs ++ units_left w rest (drop (i + 1) given)) a
-    ∙ append_assoc left (left_of w rest u) (units_left w rest (drop (i + 1) given))
-    ∙ ap (λ (xs : List (List ℕ)). left ++ xs) (ap (λ (v : Handed). left_of w rest v ++ units_left w rest (drop (i + 1) given)) e ∙ sym (ap (units_left w rest) (drop_more given i u h)))
+-- what is left of the unit goes to the end
+pub left-some : (rest : List ℕ) (s : BTreeSet ℕ) (tests ts : List ℕ) (queue now : List (List ℕ)) → IsSetOf rest s → ts ≡ filter (λ t. contains nat_cmp s t) tests → (length ts ≡ 0 → ⊥) → now ≡ queue ++ ts ∷ [] → now ≡ queue ++ left_of rest tests
+left-some rest s tests ts queue now h e z a = a ∙ ap (λ (us : List (List ℕ)). queue ++ us) (sym (left-is rest s tests ts h e ∙ unless-some ts z))
+
+pub left-one_more : (rest : List ℕ) (units : List (List ℕ)) (i : ℕ) (u : List ℕ) (left now all : List (List ℕ))
+    → i < length units → u ≡ get_or units i u → now ≡ left ++ left_of rest u → left ++ left_of_each rest (drop i units) ≡ all
+    → now ++ left_of_each rest (drop (i + 1) units) ≡ all
+left-one_more rest units i u left now all h e a b =
+    ap (λ (xs : List (List ℕ)). xs ++ left_of_each rest (drop (i + 1) units)) a
+    ∙ append_assoc left (left_of rest u) (left_of_each rest (drop (i + 1) units))
+    ∙ ap (λ (xs : List (List ℕ)). left ++ xs) (ap (λ (v : List ℕ). left_of rest v ++ left_of_each rest (drop (i + 1) units)) e ∙ sym (ap (left_of_each rest) (drop_more units i u h)))
     ∙ b
+
+units-left-by : (w : ℕ) (rest : List ℕ) (u : Handed) (us : List Handed) (b : Bool) → (u.worker == w) ≡ b → units_left w rest us ≡ left_of_each rest (units_of w us) → units_left w rest (u ∷ us) ≡ left_of_each rest (units_of w (u ∷ us))
+units-left-by w rest u us true h e = rw h (ap (λ (xs : List (List ℕ)). left_of rest u.tests ++ xs) e)
+units-left-by w rest u us false h e = rw h e
+
+-- the worker's units alone count
+pub units-left : (w : ℕ) (rest : List ℕ) (given : List Handed) → units_left w rest given ≡ left_of_each rest (units_of w given)
+units-left w rest [] = refl
+units-left w rest (u ∷ us) = units-left-by w rest u us (u.worker == w) refl (units-left w rest us)
+
+-- the test that is tried again
+
+again-some : (pool : List ℕ) (x : ℕ) → Some x ≡ first_of pool → take 1 pool ≡ x ∷ []
+again-some [] x h = absurd (cc)
+again-some (y ∷ pool) x h = let e : x ≡ y = cc in ap (λ (z : ℕ). z ∷ []) (sym e)
+
+again-none : (pool : List ℕ) → None ≡ first_of pool → take 1 pool ≡ []
+again-none [] h = refl
+again-none (y ∷ pool) h = absurd (cc)
+
+-- it stands in front
+pub again-first : (pool : List ℕ) (x : ℕ) (b : Bool) (queue now : List (List ℕ)) → b ≡ true → Some x ≡ first_of pool → now ≡ (x ∷ []) ∷ queue → now ≡ unless_empty (retried_item b pool) ++ queue
+again-first pool x b queue now e h a = a ∙ sym (rw e (ap (λ (ts : List ℕ). unless_empty ts ++ queue) (again-some pool x h)))
+
+-- there is none
+pub again-empty : (pool : List ℕ) (b : Bool) (queue : List (List ℕ)) → b ≡ true → None ≡ first_of pool → queue ≡ unless_empty (retried_item b pool) ++ queue
+again-empty pool b queue e h = sym (rw e (ap (λ (ts : List ℕ). unless_empty ts ++ queue) (again-none pool h)))

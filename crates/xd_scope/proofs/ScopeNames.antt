@@ -1,13 +1,12 @@
 -- Where a text is cut by its bytes is where its characters are.
-use Rattle.std.proofs.Common.{◌≡◌, ℕ, zero, suc, ◌+◌, ◌<◌, ◌≤◌, List, [], ◌∷◌, ◌++◌, take, drop, length, get_or, Bool, true, false, not, ◌&&◌, refl, ap, sym, subst, ◌∙◌, arith, append_assoc, inl, inr, length-append}
-use Rattle.std.specs.Prelude.{◌==◌, ◌||◌, if◌then◌else◌, Option, Some, None, MatchOption}
-use Rattle.std.specs.List.{list_any}
+use Rattle.std.proofs.Common.{◌≡◌, ℕ, zero, suc, ◌+◌, ◌<◌, ◌≤◌, List, [], ◌∷◌, ◌++◌, take, drop, length, get_or, Bool, true, false, ◌&&◌, refl, ap, sym, subst, ◌∙◌, arith, append_assoc, inl, inr, length-append}
+use Rattle.std.specs.Prelude.{◌==◌, Some, None}
 use Rattle.std.specs.Str.{chars, IsCharBoundary, IsUtf8, encode_utf8_all, NonePass, NoCharPasses}
-use Rattle.std.specs.Str.Pattern.{FindsText, RFindsText, FindsChar, RFindsChar, HasTextAt, HasCharAt, SplitsAroundMatch, LacksTextAt}
+use Rattle.std.specs.Str.Pattern.{FindsText, RFindsText, FindsChar, RFindsChar, HasCharAt, SplitsAroundMatch, LacksTextAt}
 use Rattle.std.proofs.lemmas.Bool.{cases_Bool}
 use Rattle.std.proofs.lemmas.Bool.Decides.{nat_tests}
 use Rattle.std.proofs.lemmas.List.{take-append-drop, drop_at, length-take-le}
-use Rattle.std.proofs.lemmas.Str.{chars-append, chars_from_encodes, encodes-append, encodes-chars, encode_ascii, IsUtf8-take, IsUtf8-drop, IsCharBoundary-before_ascii, IsCharBoundary-after_ascii}
+use Rattle.std.proofs.lemmas.Str.{chars-append, chars_from_encodes, encodes-append, encodes-chars, encode_ascii, IsUtf8-take, IsUtf8-drop, IsCharBoundary-before_ascii}
 use Rattle.xd_ledger.specs.Scopes.{before_first, before_last, group_in, has, has_colons}
 
 abbrev pub colons : List ℕ

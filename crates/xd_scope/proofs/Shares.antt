@@ -8,7 +8,7 @@ use Rattle.xd_ledger.specs.Calls.{turn}
 use Rattle.xd_ledger.specs.Plan.{Plan}
 use Rattle.xd_ledger.specs.ScopeModes.{share, shut_where_spent}
 use Rattle.xd_ledger.specs.Table.{Table, workers_of}
-use Rattle.xd_ledger.specs.Turn.{Turn, in_turn, shut, shut_each}
+use Rattle.xd_ledger.specs.Turn.{Turn, shut, shut_each}
 use Rattle.xd_ledger.proofs.Turns.{workers-shut_turn}
 use Rattle.xd_scope.specs.declared.units.Units.{Units}
 use Rattle.xd_scope.specs.Stands.{IsAt, Keeps, served_share}

@@ -1,12 +1,12 @@
 -- The turns of the scope modes, one step after another.
-use Rattle.std.proofs.Common.{◌≡◌, ℕ, ◌+◌, ◌<◌, ◌≤◌, nat_lt, List, [], ◌∷◌, take, drop, length, get_or, Bool, true, false, refl, ap, sym, subst, ◌∙◌, arith}
-use Rattle.std.specs.Prelude.{if◌then◌else◌, None}
+use Rattle.std.proofs.Common.{◌≡◌, ℕ, ◌+◌, ◌<◌, ◌≤◌, nat_lt, List, [], ◌∷◌, take, length, get_or, Bool, true, false, refl, ap, sym, subst, ◌∙◌, arith}
+use Rattle.std.specs.Prelude.{if◌then◌else◌}
 use Rattle.std.proofs.lemmas.Bool.Decides.{nat_tests}
 use Rattle.xd_journal.specs.declared.entry.Entry.{Entry}
 use Rattle.xd_ledger.specs.Calls.{turn}
-use Rattle.xd_ledger.specs.Plan.{Plan, is_scope}
+use Rattle.xd_ledger.specs.Plan.{Plan}
 use Rattle.xd_ledger.specs.ScopeModes.{enough, give_more, give_unit, refill}
-use Rattle.xd_ledger.specs.Table.{Table, held, seat_shut, workers_of}
+use Rattle.xd_ledger.specs.Table.{Table, held, seat_shut}
 use Rattle.xd_ledger.specs.Turn.{Turn, in_turn, shut}
 use Rattle.xd_ledger.proofs.Turns.{in_turn-one_more}
 use Rattle.xd_scope.specs.declared.units.Units.{Units}
@@ -69,13 +69,6 @@ refill-by w t (u ∷ us) h e k = refill-is w t false (u ∷ us) h e
 pub refill-more : (w : ℕ) (t : Turn) → seat_shut w t.table ≡ false → (length t.plan.queue ≡ 0 → ⊥)
     → refill w t ≡ (if nat_lt enough (length (held w t.table)) then t else give_more enough w (give_unit w t))
 refill-more w t h k = refill-by w t t.plan.queue h refl k
-
--- some plan that is kept
-abbrev pub kept_plan : Units → Plan
-kept_plan u = record { mode = u.kind; chunk = None; reorder = u.reorder; sizes = []; queue = u.queue.items; given = u.given.items; steal = None }
-
-pub kept_plan-kept : (u : Units) → is_scope u.kind ≡ true → Keeps u (kept_plan u)
-kept_plan-kept u h = record { mode = refl; scope = h; reorder = refl; queue = refl; given = refl; steal = refl }
 
 pub few-gives : (w : ℕ) (t : Turn) → length (held w t.table) < 2 → give_where_few w t ≡ give_unit w t
 few-gives w t h =

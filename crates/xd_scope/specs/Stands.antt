@@ -1,5 +1,5 @@
 -- What a scope mode keeps of a plan, and the turn that a call leaves it at.
-use Rattle.std.specs.Prelude.{◌≡◌, ℕ, suc, ◌==◌, nat_lt, true, List, [], ◌∷◌, Option, Some, None, option_map, length, take, drop, reverse, map, filter, if◌then◌else◌}
+use Rattle.std.specs.Prelude.{◌≡◌, ℕ, suc, ◌==◌, nat_lt, true, List, [], ◌∷◌, ◌++◌, Option, Some, None, option_map, unwrap_or, length, take, drop, reverse, map, filter, if◌then◌else◌}
 use Rattle.std.specs.BTreeMap.{BTreeMap, get_by}
 use Rattle.std.specs.BTreeSet.{BTreeSet, contains}
 use Rattle.std.specs.Cmp.Lexicographic.{slice_cmp}
@@ -15,13 +15,22 @@ use Rattle.xd_ledger.specs.Plan.{Handed, Plan, is_scope}
 use Rattle.xd_ledger.specs.ScopeModes.{enough, give_unit, refill}
 use Rattle.xd_scope.specs.declared.units.Units.{Units}
 
--- the mode, its order of units, the units that wait and those that were handed out; nobody steals
+-- the units of this worker, in order of assignment
+abbrev pub units_of : ℕ → List Handed → List (List ℕ)
+units_of worker [] = []
+units_of worker (u ∷ us) = if u.worker == worker then u.tests ∷ units_of worker us else units_of worker us
+
+-- the worker's units, none where the map has no list of it
+abbrev pub given_to : ℕ → BTreeMap ℕ (List (List ℕ)) → List (List ℕ)
+given_to worker lists = unwrap_or (get_by (nat_cmp worker) lists) []
+
+-- the mode, its order of units, the units that wait and those that each worker was given; nobody steals
 pub record Keeps (u : Units) (p : Plan) : Type 0 where
   pub mode : p.mode ≡ u.kind
   pub scope : is_scope u.kind ≡ true
   pub reorder : p.reorder ≡ u.reorder
   pub queue : p.queue ≡ u.queue.items
-  pub given : p.given ≡ u.given.items
+  pub given : (worker : ℕ) → units_of worker p.given ≡ given_to worker u.given
   pub steal : p.steal ≡ None
 
 -- the table and the outputs are those of the turn, and its plan is kept
@@ -48,9 +57,14 @@ first_ids (ids ∷ lists) = ids
 abbrev pub IsSetOf : List ℕ → BTreeSet ℕ → Type 0
 IsSetOf xs s = (x : ℕ) → contains nat_cmp s x ≡ among x xs
 
--- what is left of one unit, where it is the worker's
-abbrev pub left_of : ℕ → List ℕ → Handed → List (List ℕ)
-left_of worker rest u = if u.worker == worker then unless_empty (filter (λ t. among t rest) u.tests) else []
+-- what is left of a unit: the tests that are among the rest, where there are any
+abbrev pub left_of : List ℕ → List ℕ → List (List ℕ)
+left_of rest tests = unless_empty (filter (λ t. among t rest) tests)
+
+-- what is left of each of these units, in order
+abbrev pub left_of_each : List ℕ → List (List ℕ) → List (List ℕ)
+left_of_each rest [] = []
+left_of_each rest (u ∷ us) = left_of rest u ++ left_of_each rest us
 
 -- the place of the scope's group, where it has one
 abbrev pub place_in : List ℕ → List Group → Option ℕ

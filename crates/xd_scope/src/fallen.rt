@@ -1,15 +1,16 @@
-// What is left of the units of a worker that died.
-ghost use Rattle.std.specs.Prelude.{◌≡◌, ◌≤◌, ◌++◌, ◌∷◌, ℕ, List, OnOk, IfOk, [], filter, length, true, if◌then◌else◌};
+// What comes back from a worker that died.
+ghost use Rattle.std.specs.Prelude.{◌≡◌, ◌≤◌, ◌++◌, ◌∷◌, ℕ, List, OnOk, IfOk, [], filter, length, true};
 ghost use Rattle.std.specs.BTreeSet.{contains};
 ghost use Rattle.std.specs.Ordering.{nat_cmp};
 ghost use Rattle.xd_ledger.specs.Calls.{last_of};
-ghost use Rattle.xd_ledger.specs.Numbers.{all_distinct, among};
-ghost use Rattle.xd_ledger.specs.Units.{units_left};
-ghost use Rattle.xd_scope.specs.Stands.{IsSetOf, left_of};
+ghost use Rattle.xd_ledger.specs.Numbers.{all_distinct};
+ghost use Rattle.xd_ledger.specs.Table.{retried_item};
+ghost use Rattle.xd_ledger.specs.Units.{unless_empty};
+ghost use Rattle.xd_scope.specs.Stands.{IsSetOf, given_to, left_of, left_of_each};
 
-use crate::units::Given;
+use crate::given::{WorkerUnits, units_of};
 use std::alloc::Global;
-use std::collections::{BTreeSet, VecDeque};
+use std::collections::{BTreeMap, BTreeSet, VecDeque};
 use xd_edge::{Indices, OutOfMemory};
 use xd_ledger::Ledger;
 
@@ -50,20 +51,17 @@ fn tests_left(alloc: Global, tests: &[u32], items: &BTreeSet<u32>) -> Result<Ind
     Ok(Indices { items: left })
 }
 
-// What is left of the unit goes to the queue's end, where it is the worker's.
+// What is left of the unit goes to the queue's end.
 fn keep_one(
     alloc: Global,
-    worker: u32,
     items: &BTreeSet<u32>,
-    unit: &Given,
+    unit: &Indices,
     queue: &mut VecDeque<Indices>,
 ) -> Result<(), OutOfMemory>
-    ensures { OnOk result ((rest : List ℕ) → IsSetOf rest items.now → queue.new.items ≡ queue.old.items ++ left_of worker rest unit.now) }
+    ensures { OnOk result ((rest : List ℕ) → IsSetOf rest items.now →
+        queue.new.items ≡ queue.old.items ++ left_of rest unit.now) }
 {
-    if unit.worker != worker {
-        return Ok(());
-    }
-    let tests = tests_left(alloc, &unit.tests.items, items)?;
+    let tests = tests_left(alloc, &unit.items, items)?;
     if tests.items.len() == 0 {
         return Ok(());
     }
@@ -71,18 +69,18 @@ fn keep_one(
     Ok(())
 }
 
-// What is left of each unit of the worker goes to the queue's end, in order.
+// What is left of each of these units goes to the queue's end, in order.
 fn keep_each(
     alloc: Global,
-    worker: u32,
     items: &BTreeSet<u32>,
-    given: &[Given],
+    units: &[Indices],
     queue: &mut VecDeque<Indices>,
 ) -> Result<(), OutOfMemory>
-    ensures { OnOk result ((rest : List ℕ) → IsSetOf rest items.now → queue.new.items ≡ queue.old.items ++ units_left worker rest given.now) }
+    ensures { OnOk result ((rest : List ℕ) → IsSetOf rest items.now →
+        queue.new.items ≡ queue.old.items ++ left_of_each rest units.now) }
 {
-    for unit in given {
-        keep_one(alloc, worker, items, unit, queue)?;
+    for unit in units {
+        keep_one(alloc, items, unit, queue)?;
     }
     Ok(())
 }
@@ -94,13 +92,37 @@ pub(crate) fn keep_rest(
     worker: u32,
     rest: u32,
     ledger: &Ledger,
-    given: &[Given],
+    given: &BTreeMap<u32, WorkerUnits>,
     queue: &mut VecDeque<Indices>,
 ) -> Result<(), OutOfMemory>
     requires { all_distinct ledger.now.pool ≡ true }
-    ensures { OnOk result (queue.new.items ≡ queue.old.items ++ units_left worker (last_of rest ledger.now.pool) given.now) }
+    ensures { OnOk result (
+        queue.new.items ≡ queue.old.items ++ left_of_each (last_of rest ledger.now.pool) (given_to worker given.now)) }
 {
+    let Some(units) = units_of(worker, given) else {
+        return Ok(());
+    };
     let items = last_items(alloc, rest.min(ledger.pool_len()), ledger)?;
-    keep_each(alloc, worker, &items, given, queue)?;
+    keep_each(alloc, &items, &units.items, queue)?;
+    Ok(())
+}
+
+// A test that is tried again is the first of the pool. It goes to the queue's front, as a unit of its own.
+pub(crate) fn keep_retried(
+    alloc: Global,
+    retried: bool,
+    ledger: &Ledger,
+    queue: &mut VecDeque<Indices>,
+) -> Result<(), OutOfMemory>
+    ensures { OnOk result (queue.new.items ≡ unless_empty (retried_item retried ledger.now.pool) ++ queue.old.items) }
+{
+    if !retried {
+        return Ok(());
+    }
+    let Some(test) = ledger.first_pool() else {
+        return Ok(());
+    };
+    let items = Vec::from_slice(alloc, &[test])?;
+    queue.push_front(Indices { items })?;
     Ok(())
 }

@@ -9,7 +9,7 @@ ghost use Rattle.xd_ledger.specs.Units.{Group, added, grouped, units};
 ghost use Rattle.xd_scope.specs.Stands.{AreGrouped};
 
 use crate::names::scope_of;
-use crate::order::largest_first;
+use crate::order::sort_largest_first;
 use std::alloc::Global;
 use std::collections::{BTreeMap, VecDeque};
 use xd_edge::{Indices, ModeKind, OutOfMemory, Text};
@@ -95,10 +95,9 @@ pub(crate) fn units_of(
     requires few { length ids.now ≤ most }
     ensures { IfOk result (λ r. r.items ≡ units kind reorder ids.now) }
 {
-    let units = grouped(alloc, kind, ids, most)?;
+    let mut units = grouped(alloc, kind, ids, most)?;
     if reorder {
-        let sorted = largest_first(alloc, units)?;
-        return Ok(VecDeque::from(sorted));
+        sort_largest_first(&mut units)?;
     }
     Ok(VecDeque::from(units))
 }

@@ -3,6 +3,7 @@
 #![tactic(auto)]
 
 mod fallen;
+mod given;
 mod groups;
 mod names;
 mod order;

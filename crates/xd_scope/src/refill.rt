@@ -8,7 +8,8 @@ ghost use Rattle.xd_ledger.specs.Table.{in_rota, workers_of};
 ghost use Rattle.xd_ledger.specs.Turn.{in_turn};
 ghost use Rattle.xd_scope.specs.Stands.{IsAt, Keeps, give_where_few};
 
-use crate::units::{Given, Units, copy_of, next_unit};
+use crate::given::add_given;
+use crate::units::{Units, copy_of, next_unit};
 use std::alloc::Global;
 use xd_edge::OutOfMemory;
 use xd_journal::Entry;
@@ -37,7 +38,7 @@ pub(crate) fn give_unit(
     };
     ledger.assign(worker, &unit.items)?;
     let tests = copy_of(alloc, &unit.items)?;
-    units.given.push(Given { worker, tests })?;
+    add_given(alloc, worker, tests, &mut units.given)?;
     acts.push(Entry::Run {
         worker,
         indices: unit,

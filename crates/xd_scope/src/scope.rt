@@ -3,13 +3,13 @@ ghost use Rattle.std.specs.Prelude.{◌≡◌, [], None, true};
 ghost use Rattle.xd_ledger.specs.Plan.{Plan, is_scope};
 ghost use Rattle.xd_scope.specs.Stands.{Keeps, first_ids};
 
-use crate::fallen::keep_rest;
+use crate::fallen::{keep_rest, keep_retried};
 use crate::groups::units_of;
 use crate::refill::{refill_all, refill_one};
 use crate::share::share_all;
 use crate::units::Units;
 use std::alloc::Global;
-use std::collections::VecDeque;
+use std::collections::{BTreeMap, VecDeque};
 use xd_edge::{ModeKind, OutOfMemory, Text, Texts};
 use xd_journal::Entry;
 use xd_ledger::{Ledger, Mode};
@@ -43,7 +43,7 @@ impl Scope {
                 kind,
                 reorder,
                 queue: VecDeque::new(alloc),
-                given: Vec::new(alloc),
+                given: BTreeMap::new(alloc),
             },
         }
     }
@@ -109,11 +109,13 @@ impl Mode for Scope {
         worker: u32,
         _slot: u32,
         rest: u32,
+        retried: bool,
         ledger: &mut Ledger,
         acts: &mut Vec<Entry>,
     ) -> Result<(), OutOfMemory> {
         let Units { queue, given, .. } = &mut self.units;
         keep_rest(alloc, worker, rest, ledger, given, queue)?;
+        keep_retried(alloc, retried, ledger, queue)?;
         refill_all(alloc, &mut self.units, ledger, acts)?;
         Ok(())
     }

@@ -1,33 +1,18 @@
 // The units of a run.
 ghost use Rattle.std.specs.Prelude.{◌≡◌, ◌∷◌, [], IfNone, IfOk, IfSome};
 
+use crate::given::WorkerUnits;
 use std::alloc::Global;
-use std::collections::VecDeque;
-use std::marker::Model;
+use std::collections::{BTreeMap, VecDeque};
 use xd_edge::{Indices, ModeKind, OutOfMemory};
 
-/// A unit that was handed to a worker.
-#[derive(Drop)]
-pub(crate) struct Given {
-    pub(crate) worker: u32,
-    pub(crate) tests: Indices,
-}
-
-impl Model for Given {
-    ghost use Rattle.xd_ledger.specs.Plan.{Handed};
-
-    ghost Value = { Handed };
-
-    ghost view = { λ g. record { worker = g.worker; tests = g.tests } };
-}
-
-/// The units that wait, in the order in which they are handed out, and those that were handed out, in order.
+/// The units that wait, in the order in which they are handed out, and those that each worker was given.
 #[derive(Drop)]
 pub(crate) struct Units {
     pub(crate) kind: ModeKind,
     pub(crate) reorder: bool,
     pub(crate) queue: VecDeque<Indices>,
-    pub(crate) given: Vec<Given>,
+    pub(crate) given: BTreeMap<u32, WorkerUnits>,
 }
 
 // The same numbers.

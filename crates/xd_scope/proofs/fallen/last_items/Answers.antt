@@ -1,6 +1,5 @@
-use Rattle.std.proofs.Common.{◌≡◌, ◌<◌, ◌+◌, ◌-◌, ◌∙◌, ℕ, Option, Some, take, drop, length, get_or, sym, ap, subst, arith, rules, true}
+use Rattle.std.proofs.Common.{◌≡◌, ◌<◌, ◌+◌, ◌-◌, ◌∙◌, ℕ, Option, take, drop, length, sym, ap, subst, arith, rules}
 use Rattle.std.specs.Option.{IsSome}
-use Rattle.std.specs.BTreeSet.{contains}
 use Rattle.xd_ledger.specs.Chains.{final_of}
 use Rattle.xd_ledger.specs.Numbers.{among}
 use Rattle.xd_ledger.specs.Table.{held_by_all}

@@ -1,4 +1,4 @@
-use Rattle.std.proofs.Common.{◌≡◌, ℕ, get_or, refl}
+use Rattle.std.proofs.Common.{ℕ, get_or, refl}
 use Rattle.std.specs.BTreeSet.{contains}
 use Rattle.std.specs.Ordering.{nat_cmp}
 use Rattle.xd_scope.proofs.Remains.{filter-one_more}

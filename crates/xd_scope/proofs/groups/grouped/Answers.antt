@@ -1,4 +1,4 @@
-use Rattle.std.proofs.Common.{[], List, take, ap, ◌∙◌, subst, arith}
+use Rattle.std.proofs.Common.{[], List, take, ap, ◌∙◌, subst}
 use Rattle.std.specs.Str.{chars}
 use Rattle.xd_ledger.specs.Scopes.{scope_of}
 use Rattle.xd_ledger.specs.Units.{Group, grouped}

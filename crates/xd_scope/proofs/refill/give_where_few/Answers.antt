@@ -1,4 +1,4 @@
-use Rattle.std.proofs.Common.{◌<◌, length, sym, ap, arith}
+use Rattle.std.proofs.Common.{◌<◌, length, sym, arith}
 use Rattle.xd_ledger.specs.Calls.{turn}
 use Rattle.xd_ledger.specs.ScopeModes.{give_unit}
 use Rattle.xd_ledger.specs.Table.{held}

@@ -1,4 +1,4 @@
-use Rattle.std.proofs.Common.{◌≡◌, ℕ, List, take, length, ap, arith}
+use Rattle.std.proofs.Common.{ℕ, List, take, ap, arith}
 use Rattle.std.proofs.lemmas.List.{take_all}
 use Rattle.xd_ledger.specs.Calls.{turn}
 use Rattle.xd_ledger.specs.ScopeModes.{refill}

@@ -1,4 +1,4 @@
-use Rattle.std.proofs.Common.{◌≡◌, ◌≤◌, ◌∙◌, ℕ, false, length, sym, ap, arith}
+use Rattle.std.proofs.Common.{◌≡◌, ◌≤◌, ◌∙◌, false, length, sym, ap, arith}
 use Rattle.xd_ledger.specs.Calls.{turn}
 use Rattle.xd_ledger.specs.ScopeModes.{enough, give_more, give_unit, refill}
 use Rattle.xd_ledger.specs.Table.{held, seat_shut, workers_of}

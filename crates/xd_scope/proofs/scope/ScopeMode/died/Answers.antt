@@ -1,19 +1,24 @@
-use Rattle.std.proofs.Common.{◌≡◌, ◌≤◌, ◌∙◌, ◌++◌, ℕ, List, length, refl, ap, sym, subst}
-use Rattle.xd_ledger.specs.Calls.{last_of, shared_plan}
-use Rattle.xd_ledger.specs.Modes.Call.{Share, Joined, TestDone, Died}
-use Rattle.xd_ledger.specs.Plan.{Handed, Plan}
-use Rattle.xd_ledger.specs.State.{down_plan}
-use Rattle.xd_ledger.specs.Units.{units_left}
+use Rattle.std.proofs.Common.{refl}
+use Rattle.xd_ledger.specs.Calls.{death_plan}
+use Rattle.xd_ledger.specs.Modes.Call.{Died}
 use Rattle.xd_scope.specs.declared.units.Units.{Units}
-use Rattle.xd_scope.specs.Stands.{Keeps, first_ids}
-use Rattle.xd_scope.proofs.ModeTurns.{few-ids, fits-of, keeps-down, keeps-shared, turned-at}
+use Rattle.xd_scope.proofs.ModeTurns.{fits-of, keeps-death, turned-at}
 use Rattle.xd_scope.proofs.scope.ScopeMode.died.Goals as goal
+
+pub refill_all-requires : goal.refill_all-requires
+refill_all-requires c =
+    let v : Units = record (c.args.self.now.units) { queue = c.keep_retried.new.queue } in
+    let p = c.requires.suits.plan in
+    let pool = c.args.ledger.now.pool in
+    let kept = keeps-death c.args.worker c.args.retried c.args.rest pool c.args.self.now.units v p c.keep_rest.new.queue.items c.requires.suits.stands_for refl refl refl
+    c.in_ok-keep_rest.ensures c.in_ok-keep_retried.ensures in
+    fits-of v (death_plan c.args.worker c.args.retried c.args.rest pool p) pool kept c.requires.suits.finds.queue
 
 pub returns : goal.returns
 returns c = λ p k.
-    (let u = c.args.self.now.units in
-    let v : Units = record u { queue = c.keep_rest.new.queue } in
-    let rest = last_of c.args.rest c.args.ledger.now.pool in
-    let q = down_plan c.args.worker rest p in
-    let kept = keeps-down c.args.worker rest u v p k refl refl refl (c.in_ok-keep_rest.ensures ∙ ap (λ (g : List Handed). u.queue.items ++ units_left c.args.worker rest g) c.deref.ensures.value) in
+    (let v : Units = record (c.args.self.now.units) { queue = c.keep_retried.new.queue } in
+    let pool = c.args.ledger.now.pool in
+    let q = death_plan c.args.worker c.args.retried c.args.rest pool p in
+    let kept = keeps-death c.args.worker c.args.retried c.args.rest pool c.args.self.now.units v p c.keep_rest.new.queue.items k refl refl refl
+    c.in_ok-keep_rest.ensures c.in_ok-keep_retried.ensures in
     turned-at Died q c.args.ledger.now c.args.acts.now.items c.refill_all.new.ledger c.refill_all.new.acts.items v c.refill_all.new.units kept (c.in_ok-refill_all.ensures q kept))

@@ -1,12 +1,5 @@
-use Rattle.std.proofs.Common.{◌≡◌, ◌≤◌, ◌∙◌, ℕ, List, length, refl, ap, sym, subst}
-use Rattle.xd_ledger.specs.Calls.{last_of, shared_plan}
-use Rattle.xd_ledger.specs.Modes.Call.{Share, Joined, TestDone, Died}
-use Rattle.xd_ledger.specs.Plan.{Plan}
-use Rattle.xd_ledger.specs.State.{down_plan}
-use Rattle.xd_ledger.specs.Units.{units}
-use Rattle.xd_scope.specs.declared.units.Units.{Units}
-use Rattle.xd_scope.specs.Stands.{Keeps, first_ids}
-use Rattle.xd_scope.proofs.ModeTurns.{few-ids, fits-of, keeps-down, keeps-shared, turned-at}
+use Rattle.xd_ledger.specs.Modes.Call.{Joined}
+use Rattle.xd_scope.proofs.ModeTurns.{turned-at}
 use Rattle.xd_scope.proofs.scope.ScopeMode.joined.Goals as goal
 
 pub returns : goal.returns

@@ -1,12 +1,9 @@
-use Rattle.std.proofs.Common.{◌≡◌, ◌≤◌, ◌∙◌, ℕ, List, length, refl, ap, sym, subst}
-use Rattle.xd_ledger.specs.Calls.{last_of, shared_plan}
-use Rattle.xd_ledger.specs.Modes.Call.{Share, Joined, TestDone, Died}
-use Rattle.xd_ledger.specs.Plan.{Plan}
-use Rattle.xd_ledger.specs.State.{down_plan}
+use Rattle.std.proofs.Common.{◌≤◌, ◌∙◌, ℕ, List, length, refl, ap, sym, subst}
+use Rattle.xd_ledger.specs.Calls.{shared_plan}
+use Rattle.xd_ledger.specs.Modes.Call.{Share}
 use Rattle.xd_ledger.specs.Units.{units}
 use Rattle.xd_scope.specs.declared.units.Units.{Units}
-use Rattle.xd_scope.specs.Stands.{Keeps, first_ids}
-use Rattle.xd_scope.proofs.ModeTurns.{few-ids, fits-of, keeps-down, keeps-shared, turned-at}
+use Rattle.xd_scope.proofs.ModeTurns.{few-ids, fits-of, keeps-shared, turned-at}
 use Rattle.xd_scope.proofs.scope.ScopeMode.share.Goals as goal
 
 pub units_of-requires-clause-few : goal.units_of-requires-clause-few
