@@ -1,8 +1,7 @@
-// Each adapter once over the real thing, and the forms in memory.
+// The forms in memory of what is outside.
 use std::alloc::Global;
 use std::sync::Wait;
 use std::test::Fail;
-use std::{env, fs};
 use xd_edge::*;
 
 fn texts(alloc: Global, all: &[&str]) -> Result<Texts, Fail> {
@@ -20,9 +19,9 @@ fn numbers(alloc: Global, all: &[u32]) -> Result<Indices, Fail> {
 }
 
 // What a child wrote, and its end.
-fn output_of<R: Wait + AllocGlobal, K: Children>(
+fn output_of<R: Wait + AllocGlobal>(
     rt: &R,
-    children: &mut K,
+    children: &mut MemChildren,
     args: &Texts,
 ) -> Result<(Vec<u8>, ChildEnd), Fail> {
     let mut output = Vec::new(rt.alloc());
@@ -41,7 +40,7 @@ fn output_of<R: Wait + AllocGlobal, K: Children>(
     unreachable!()
 }
 
-fn starts<K: Children>(alloc: Global, children: &mut K, args: &Texts) -> bool {
+fn starts(alloc: Global, children: &mut MemChildren, args: &Texts) -> bool {
     !args.items.is_empty() && children.start(alloc, &args.items).is_ok()
 }
 
@@ -60,73 +59,11 @@ fn a_text_and_bytes_are_copied(rt: HostRuntime) -> Result<(), Fail> {
 }
 
 #[test]
-fn a_real_program_is_read_and_waited_for(rt: HostRuntime) -> Result<(), Fail> {
-    let mut children = RealChildren::new(&rt);
-    let args = texts(rt.alloc(), &["sh", "-c", "echo hello; exit 3"])?;
-    let (output, end) = output_of(&rt, &mut children, &args)?;
-    assert_eq!(rt; output.as_slice(), "hello\n".as_bytes());
-    assert_eq!(rt; end, ChildEnd::Status(3));
-    let args = texts(rt.alloc(), &["sh", "-c", "kill -9 $$"])?;
-    let (_, end) = output_of(&rt, &mut children, &args)?;
-    assert_eq!(rt; end, ChildEnd::Killed);
-    let args = texts(rt.alloc(), &["a program that is not there"])?;
-    assert!(rt; !starts(rt.alloc(), &mut children, &args));
-    assert_eq!(rt; children.faults, 1);
-    Ok(())
-}
-
-#[test]
-fn a_real_file_is_read_up_to_its_limit(rt: HostRuntime) -> Result<(), Fail> {
-    let folder = env::temp_dir(&rt)?;
-    let path = format!(in rt.alloc();
-        "{}/xd_edge_test_{}",
-        folder.as_path().display(),
-        std::process::id(rt.process())
-    )?;
-    fs::write(&rt, path.as_str(), "12345")?;
-    let mut files = RealFiles::new(&rt);
-    let name = Text::from_string(path);
-    let bytes = files.read_file(rt.alloc(), &name, 5)?;
-    assert_eq!(rt; bytes.as_slice(), "12345".as_bytes());
-    assert!(rt;
-        matches!(
-            files.read_file(rt.alloc(), &name, 4),
-            Err(FileFault::TooLarge)
-        )
-    );
-    fs::remove_file(&rt, name.as_str())?;
-    assert!(rt;
-        matches!(
-            files.read_file(rt.alloc(), &name, 5),
-            Err(FileFault::Failed)
-        )
-    );
-    assert_eq!(rt; files.faults, 1);
-    Ok(())
-}
-
-#[test]
-fn a_real_writer_takes_bytes(rt: HostRuntime) -> Result<(), Fail> {
-    let mut sink = OutSink::new(Vec::new(rt.alloc()));
-    print(&mut sink, "ab".as_bytes())?;
-    sink.close()?;
-    assert_eq!(rt; sink.writer.as_slice(), "ab".as_bytes());
-    let mut full = OutSink::new(fs::create(&rt, "/dev/full")?);
-    assert!(rt; print(&mut full, "ab".as_bytes()).is_err());
-    assert_eq!(rt; full.faults, 1);
-    Ok(())
-}
-
-#[test]
-fn clocks_never_fall(rt: HostRuntime) -> Result<(), Fail> {
-    let mut clock = RealClock::new(&rt);
-    let first = clock.now();
-    assert!(rt; first <= clock.now());
-    let mut listed = MemClock::new(vec![in rt.alloc(); 3, 2, 7]?);
+fn a_listed_clock_never_falls(rt: HostRuntime) -> Result<(), Fail> {
+    let mut clock = MemClock::new(vec![in rt.alloc(); 3, 2, 7]?);
     for moment in [3, 3, 7, 7] {
-        assert_eq!(rt; listed.now(), moment);
+        assert_eq!(rt; clock.now(), moment);
     }
-    assert_eq!(rt; MemClock::new(Vec::new(rt.alloc())).now(), 0);
     Ok(())
 }
 

@@ -1,4 +1,4 @@
-// Sources and starters in memory, and each adapter once over the real thing.
+// Sources and starters in memory.
 use crate::lists::{none, one};
 use std::alloc::Global;
 use std::collections::VecDeque;
@@ -22,21 +22,6 @@ fn a_source_in_memory_gives_its_pieces_and_fails_by_its_plan(rt: HostRuntime) ->
     assert_eq!(rt; source.read(&rt, &mut buffer)?, 0);
     assert!(rt; source.is_ended);
     assert_eq!(rt; source.plan.faults, 1);
-    Ok(())
-}
-
-#[test]
-fn a_real_reader_tells_its_end(rt: HostRuntime) -> Result<(), Fail> {
-    let bytes: &[u8] = &[1, 2, 3];
-    let mut source = InSource::new(bytes);
-    let mut buffer = [0u8; 2];
-    assert_eq!(rt; source.read(&rt, &mut buffer)?, 2);
-    assert_eq!(rt; source.read(&rt, &mut buffer)?, 1);
-    assert_eq!(rt; buffer[0], 3);
-    assert!(rt; !source.is_ended);
-    assert_eq!(rt; source.read(&rt, &mut buffer)?, 0);
-    assert!(rt; source.is_ended);
-    assert_eq!(rt; source.faults, 0);
     Ok(())
 }
 
