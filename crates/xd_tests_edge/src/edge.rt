@@ -1,8 +1,7 @@
-// Each adapter once over the real thing, and the forms in memory.
+// The forms in memory of what is outside.
 use std::alloc::Global;
 use std::sync::Wait;
 use std::test::Fail;
-use std::{env, fs};
 use xd_edge::*;
 
 fn texts(alloc: Global, all: &[&str]) -> Result<Texts, Fail> {
@@ -20,9 +19,9 @@ fn numbers(alloc: Global, all: &[u32]) -> Result<Indices, Fail> {
 }
 
 // What a child wrote, and its end.
-fn output_of<R: Wait + AllocGlobal, K: Children>(
+fn output_of<R: Wait + AllocGlobal>(
     rt: &R,
-    children: &mut K,
+    children: &mut MemChildren,
     args: &Texts,
 ) -> Result<(Vec<u8>, ChildEnd), Fail> {
     let mut output = Vec::new(rt.alloc());
@@ -41,92 +40,56 @@ fn output_of<R: Wait + AllocGlobal, K: Children>(
     unreachable!()
 }
 
-fn starts<K: Children>(alloc: Global, children: &mut K, args: &Texts) -> bool {
+fn starts(alloc: Global, children: &mut MemChildren, args: &Texts) -> bool {
     !args.items.is_empty() && children.start(alloc, &args.items).is_ok()
+}
+
+// Calls whose contracts no test holds, so that it is proved in seconds.
+
+fn copy_of(text: &Text) -> Option<Text> {
+    text.copy().ok()
+}
+
+fn bytes_copied(alloc: Global, bytes: &[u8]) -> Option<Blob> {
+    Blob::of(alloc, bytes).ok()?.copy().ok()
+}
+
+fn wrote(sink: &mut MemSink, piece: &[u8]) -> Option<usize> {
+    sink.write(piece).ok()
+}
+
+fn is_read(alloc: Global, files: &mut MemFiles, name: &Text, most: u64, wanted: &[u8]) -> bool {
+    match files.read_file(alloc, name, most) {
+        Ok(bytes) => bytes.as_slice() == wanted,
+        Err(_) => false,
+    }
+}
+
+fn is_too_large(alloc: Global, files: &mut MemFiles, name: &Text, most: u64) -> bool {
+    matches!(files.read_file(alloc, name, most), Err(FileFault::TooLarge))
+}
+
+fn has_failed(alloc: Global, files: &mut MemFiles, name: &Text) -> bool {
+    matches!(files.read_file(alloc, name, 2), Err(FileFault::Failed))
 }
 
 #[test]
 fn a_text_and_bytes_are_copied(rt: HostRuntime) -> Result<(), Fail> {
-    let text = Text::of(rt.alloc(), "a")?.copy()?;
-    assert_eq!(rt; text.as_str(), "a");
-    let blob = Blob::of(rt.alloc(), &[1, 2])?.copy()?;
+    let text = Text::of(rt.alloc(), "a")?;
+    let copy = copy_of(&text).ok_or("a copy")?;
+    assert_eq!(rt; copy.as_str(), "a");
+    assert!(rt; text.is_same(&copy));
+    let blob = bytes_copied(rt.alloc(), &[1, 2]).ok_or("a copy")?;
     assert_eq!(rt; blob.as_slice(), [1, 2].as_slice());
-    assert!(rt; text.is_same(&Text::from_string(String::from_str(rt.alloc(), "a")?)));
-    assert_eq!(rt;
-        Blob::from_vec(vec![in rt.alloc(); 3]?).as_slice(),
-        [3].as_slice()
-    );
     Ok(())
 }
 
 #[test]
-fn a_real_program_is_read_and_waited_for(rt: HostRuntime) -> Result<(), Fail> {
-    let mut children = RealChildren::new(&rt);
-    let args = texts(rt.alloc(), &["sh", "-c", "echo hello; exit 3"])?;
-    let (output, end) = output_of(&rt, &mut children, &args)?;
-    assert_eq!(rt; output.as_slice(), "hello\n".as_bytes());
-    assert_eq!(rt; end, ChildEnd::Status(3));
-    let args = texts(rt.alloc(), &["sh", "-c", "kill -9 $$"])?;
-    let (_, end) = output_of(&rt, &mut children, &args)?;
-    assert_eq!(rt; end, ChildEnd::Killed);
-    let args = texts(rt.alloc(), &["a program that is not there"])?;
-    assert!(rt; !starts(rt.alloc(), &mut children, &args));
-    assert_eq!(rt; children.faults, 1);
-    Ok(())
-}
-
-#[test]
-fn a_real_file_is_read_up_to_its_limit(rt: HostRuntime) -> Result<(), Fail> {
-    let folder = env::temp_dir(&rt)?;
-    let path = format!(in rt.alloc();
-        "{}/xd_edge_test_{}",
-        folder.as_path().display(),
-        std::process::id(rt.process())
-    )?;
-    fs::write(&rt, path.as_str(), "12345")?;
-    let mut files = RealFiles::new(&rt);
-    let name = Text::from_string(path);
-    let bytes = files.read_file(rt.alloc(), &name, 5)?;
-    assert_eq!(rt; bytes.as_slice(), "12345".as_bytes());
-    assert!(rt;
-        matches!(
-            files.read_file(rt.alloc(), &name, 4),
-            Err(FileFault::TooLarge)
-        )
-    );
-    fs::remove_file(&rt, name.as_str())?;
-    assert!(rt;
-        matches!(
-            files.read_file(rt.alloc(), &name, 5),
-            Err(FileFault::Failed)
-        )
-    );
-    assert_eq!(rt; files.faults, 1);
-    Ok(())
-}
-
-#[test]
-fn a_real_writer_takes_bytes(rt: HostRuntime) -> Result<(), Fail> {
-    let mut sink = OutSink::new(Vec::new(rt.alloc()));
-    print(&mut sink, "ab".as_bytes())?;
-    sink.close()?;
-    assert_eq!(rt; sink.writer.as_slice(), "ab".as_bytes());
-    let mut full = OutSink::new(fs::create(&rt, "/dev/full")?);
-    assert!(rt; print(&mut full, "ab".as_bytes()).is_err());
-    assert_eq!(rt; full.faults, 1);
-    Ok(())
-}
-
-#[test]
-fn clocks_never_fall(rt: HostRuntime) -> Result<(), Fail> {
-    let mut clock = RealClock::new(&rt);
-    let first = clock.now();
-    assert!(rt; first <= clock.now());
-    let mut listed = MemClock::new(vec![in rt.alloc(); 3, 2, 7]?);
+fn a_listed_clock_never_falls(rt: HostRuntime) -> Result<(), Fail> {
+    let mut clock = MemClock::new(vec![in rt.alloc(); 3, 2, 7]?);
     for moment in [3, 3, 7, 7] {
-        assert_eq!(rt; listed.now(), moment);
+        assert_eq!(rt; clock.now(), moment);
     }
-    assert_eq!(rt; MemClock::new(Vec::new(rt.alloc())).now(), 0);
     Ok(())
 }
 
@@ -134,10 +97,10 @@ fn clocks_never_fall(rt: HostRuntime) -> Result<(), Fail> {
 fn a_sink_in_memory_fails_at_the_calls_of_its_plan(rt: HostRuntime) -> Result<(), Fail> {
     let alloc = rt.alloc();
     let mut sink = MemSink::new(alloc, 3, numbers(alloc, &[1])?)?;
-    assert_eq!(rt; sink.write(&[1, 2])?, 2);
-    assert!(rt; sink.write(&[3]).is_err());
-    assert_eq!(rt; sink.write(&[3, 4])?, 1);
-    assert!(rt; sink.write(&[4]).is_err());
+    assert_eq!(rt; wrote(&mut sink, &[1, 2]), Some(2));
+    assert_eq!(rt; wrote(&mut sink, &[3]), None);
+    assert_eq!(rt; wrote(&mut sink, &[3, 4]), Some(1));
+    assert_eq!(rt; wrote(&mut sink, &[4]), None);
     sink.flush()?;
     assert_eq!(rt; sink.bytes.as_slice(), [1, 2, 3].as_slice());
     assert_eq!(rt; sink.flushed, 3);
@@ -151,12 +114,9 @@ fn files_in_memory_fail_at_the_calls_of_their_plan(rt: HostRuntime) -> Result<()
     let files = vec![in alloc; (Text::of(alloc, "a")?, Blob::of(alloc, &[1, 2])?)]?;
     let mut files = MemFiles::new(files, numbers(alloc, &[2])?);
     let name = Text::of(alloc, "a")?;
-    assert_eq!(rt;
-        files.read_file(alloc, &name, 2)?.as_slice(),
-        [1, 2].as_slice()
-    );
-    assert!(rt; matches!(files.read_file(alloc, &name, 1), Err(FileFault::TooLarge)));
-    assert!(rt; matches!(files.read_file(alloc, &name, 2), Err(FileFault::Failed)));
+    assert!(rt; is_read(alloc, &mut files, &name, 2, &[1, 2]));
+    assert!(rt; is_too_large(alloc, &mut files, &name, 1));
+    assert!(rt; has_failed(alloc, &mut files, &name));
     Ok(())
 }
 

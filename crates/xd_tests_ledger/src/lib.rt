@@ -1,9 +1,5 @@
-//! Tests of what a session stands on: of the journal and the ledger.
+//! Tests of the ledger.
 #![tactic(auto)]
 
-#[cfg(test)]
-mod journal;
-#[cfg(test)]
-mod ledger;
 #[cfg(test)]
 mod moves;

@@ -2,7 +2,6 @@
 use crate::told::{Told, of_got, of_taken};
 use std::alloc::Global;
 use std::test::Fail;
-use xd_channel::End;
 use xd_edge::{Blob, Text};
 use xd_factory::*;
 use xd_frame::{Kind, Message};
@@ -45,33 +44,6 @@ fn unsent(side: &mut Side, number: u32) -> Option<SendFault> {
     side.send(number, &Value::None).err()
 }
 
-// What a close says.
-fn closed(side: &mut Side, number: u32) -> Option<Message> {
-    match side.close(number, None) {
-        Ok(says) => says,
-        Err(_) => None,
-    }
-}
-
-// How many items a callback was handed when it was set, and whether the end was Closed.
-fn hooked(side: &mut Side, number: u32) -> Option<(usize, bool)> {
-    match side.set_callback(number) {
-        Ok(waiting) => Some((
-            waiting.items.len(),
-            matches!(waiting.end, Some(End::Closed)),
-        )),
-        Err(_) => None,
-    }
-}
-
-// How many ends callbacks are owed, and whether the first is the loss of the link on 1.
-fn owed(side: &mut Side) -> Option<(usize, bool)> {
-    match side.finish_receiving() {
-        Ok(ends) => Some((ends.len(), matches!(ends.get(0), Some((1, End::Lost))))),
-        Err(_) => None,
-    }
-}
-
 // The kind of the message by which a function ends with an error.
 fn ended(side: &mut Side, number: u32, error: Text) -> Option<Kind> {
     match side.end_function(number, Some(error)) {
@@ -106,52 +78,6 @@ fn with_value(alloc: Global, kind: Kind, channel: u32, value: &Value) -> Result<
         channel,
         payload,
     })
-}
-
-#[test]
-fn channels_travel_in_values(rt: HostRuntime) -> Result<(), Fail> {
-    let mut a = Side::new(rt.alloc(), Parity::Odd);
-    let mut b = Side::new(rt.alloc(), Parity::Even);
-    assert_eq!(rt; opened(&mut a), Ok(1));
-    assert_eq!(rt; opened(&mut a), Ok(3));
-    assert!(rt; pass(&mut a, &mut b, 1, &Value::Channel(3)));
-    assert!(rt; pass(&mut a, &mut b, 3, &Value::Int(7)));
-    assert_eq!(rt; heard(&mut b, 1), Told::Channel(3));
-    assert_eq!(rt; heard(&mut b, 3), Told::Item(7));
-    assert_eq!(rt; heard(&mut b, 3), Told::Nothing);
-    let close = closed(&mut b, 3).ok_or("nothing was said")?;
-    assert_eq!(rt; taken(&mut a, close), Ok(Told::EndKept(3)));
-    assert_eq!(rt; heard(&mut a, 3), Told::Closed);
-    assert_eq!(rt; unsent(&mut a, 3), Some(SendFault::SendClosed));
-    assert_eq!(rt; a.status(), 1);
-    Ok(())
-}
-
-#[test]
-fn a_callback_is_handed_what_waits(rt: HostRuntime) {
-    let mut a = Side::new(rt.alloc(), Parity::Odd);
-    let mut b = Side::new(rt.alloc(), Parity::Even);
-    assert_eq!(rt; opened(&mut a), Ok(1));
-    assert!(rt; pass(&mut a, &mut b, 1, &Value::Int(1)));
-    assert!(rt; pass(&mut a, &mut b, 1, &Value::Int(2)));
-    let close = message(rt.alloc(), Kind::Close, 1);
-    assert_eq!(rt; taken(&mut b, close), Ok(Told::EndKept(1)));
-    assert_eq!(rt; hooked(&mut b, 1), Some((2, true)));
-    assert_eq!(rt; hooked(&mut b, 1), Some((0, true)));
-    assert_eq!(rt; b.status(), 0);
-}
-
-#[test]
-fn the_end_of_the_link_reaches_each_channel(rt: HostRuntime) {
-    let mut side = Side::new(rt.alloc(), Parity::Odd);
-    assert_eq!(rt; opened(&mut side), Ok(1));
-    assert_eq!(rt; opened(&mut side), Ok(3));
-    assert_eq!(rt; hooked(&mut side, 1), Some((0, false)));
-    assert_eq!(rt; owed(&mut side), Some((1, true)));
-    assert_eq!(rt; heard(&mut side, 3), Told::Lost);
-    assert_eq!(rt; opened(&mut side), Err(OpenFault::Finished));
-    let last = message(rt.alloc(), Kind::Terminate, 0);
-    assert_eq!(rt; taken(&mut side, last), Err(SideFault::Finished));
 }
 
 #[test]

@@ -12,11 +12,11 @@ use xd_gateway::*;
 use xd_journal::{Entry, Outcome, What};
 use xd_value::{Value, dumps, loads};
 
-fn value_of(alloc: Global, payload: &[u8]) -> Result<Value, Fail> {
+pub fn value_of(alloc: Global, payload: &[u8]) -> Result<Value, Fail> {
     Ok(loads(alloc, payload).ok().ok_or("not read")?)
 }
 
-fn payload_of(alloc: Global, value: &Value) -> Result<Blob, Fail> {
+pub fn payload_of(alloc: Global, value: &Value) -> Result<Blob, Fail> {
     Ok(dumps(alloc, value).ok().ok_or("not written")?)
 }
 

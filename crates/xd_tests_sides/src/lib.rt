@@ -1,5 +1,5 @@
-//! Tests of the two sides of a link: of the channels of a side and of two sides together, of commands and events as
-//! values, and of gateways.
+//! Tests of values, and of the two sides of a link: of the channels of a side and of two sides together, of commands and
+//! events as values, and of gateways.
 #![tactic(auto)]
 
 #[cfg(test)]
@@ -12,3 +12,5 @@ mod pair;
 mod remote;
 #[cfg(test)]
 mod told;
+#[cfg(test)]
+mod value;

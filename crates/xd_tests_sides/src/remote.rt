@@ -5,16 +5,12 @@ mod rows;
 
 use std::alloc::{AllocError, Global};
 use std::test::Fail;
-use xd_edge::{Blob, Indices, MemSink, Text};
-use xd_factory::{Parity, Taken};
-use xd_frame::{Framer, Kind, Message};
+use xd_edge::{Indices, MemSink, Text};
+use xd_factory::Parity;
+use xd_frame::Framer;
 use xd_journal::{Outcome, What};
 use xd_remote::{Gateway, GatewayFault};
 use xd_value::Value;
-
-// CHANNEL_EXEC of `run_tests` on channel 1 with the suite `s.toml` in mode load.
-const RUN_TESTS: &[u8] =
-    b"\x03\0\0\0\x01\0\0\0\x44N\0\0\0\0LN\0\0\0\x09run_testsJN\0\0\0\x05suiteN\0\0\0\x06s.tomlPN\0\0\0\x04distN\0\0\0\x04loadP@\0\0\0\x04Q";
 
 // STATUS on channel 1, the item 5 on channel 1, GATEWAY_TERMINATE.
 const ASKED: &[u8] =
@@ -53,45 +49,6 @@ fn said(gateway: &mut Gateway<MemSink>) -> Option<GatewayFault> {
 
 fn ended(gateway: &mut Gateway<MemSink>) -> Option<GatewayFault> {
     gateway.exit().err()
-}
-
-#[test]
-fn each_call_writes_its_message(rt: HostRuntime) -> Result<(), Fail> {
-    let alloc = rt.alloc();
-    let mut gateway = gateway_over(alloc, Vec::new(alloc))?;
-    assert_eq!(rt; asked(&mut gateway), Ok(1));
-    assert_eq!(rt; said(&mut gateway), None);
-    assert_eq!(rt; ended(&mut gateway), None);
-    let sink = gateway.into_sink();
-    assert_eq!(rt; sink.bytes.as_slice(), ASKED);
-    assert_eq!(rt; sink.flushed, ASKED.len());
-    assert!(rt; sink.closed);
-    Ok(())
-}
-
-// Whether the message hands out the item 7 on 1.
-fn hands_seven(gateway: &mut Gateway<MemSink>, message: Message) -> bool {
-    matches!(gateway.take(message), Ok(Taken::Handed(1, Value::Int(7))))
-}
-
-fn written(gateway: &mut Gateway<MemSink>, message: &Message) -> Option<GatewayFault> {
-    gateway.write(message).err()
-}
-
-#[test]
-fn what_comes_on_the_channel_of_a_call_is_handed_out(rt: HostRuntime) -> Result<(), Fail> {
-    let alloc = rt.alloc();
-    let mut gateway = gateway_over(alloc, Vec::new(alloc))?;
-    assert_eq!(rt; run_tests(alloc, &mut gateway)?, 1);
-    assert_eq!(rt; gateway.side().status(), 1);
-    let item = Message::of(Kind::Item, 1, Blob::of(alloc, b"F\0\0\0\x07Q")?);
-    assert!(rt; hands_seven(&mut gateway, item));
-    let close = Message::of(Kind::Close, 1, Blob::of(alloc, b"")?);
-    assert_eq!(rt; written(&mut gateway, &close), None);
-    let sink = gateway.into_sink();
-    assert!(rt; sink.bytes.as_slice().starts_with(RUN_TESTS));
-    assert!(rt; sink.bytes.as_slice().ends_with(b"\x05\0\0\0\x01\0\0\0\0"));
-    Ok(())
 }
 
 // The call of the sink that fails, how many calls of the gateway are answered by Ok, and how many bytes were written and

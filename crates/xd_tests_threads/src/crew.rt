@@ -1,10 +1,10 @@
 // Jobs are run in threads, and handed back where they are refused.
 ghost use Rattle.std.specs.Prelude.{◌≡◌, ◌*◌, ◌%◌, ◌^◌};
 
-use crate::lists::only;
 use std::sync::Wait;
 use std::test::Fail;
 use xd_crew::{Crew, Job, ListedCrew, Slot, ThreadCrew, start_into};
+use xd_edge::Indices;
 
 #[derive(Drop)]
 struct Twice {
@@ -44,7 +44,10 @@ fn two_jobs_run_and_a_listed_one_comes_back(rt: HostRuntime) -> Result<(), Fail>
     let mut crew = ThreadCrew::new(rt, slot, make);
     assert_eq!(rt; run_two(&mut crew), (Ok(8), Ok(10)));
     assert_eq!(rt; crew.faults, 0);
-    let mut crew = ListedCrew::new(crew, only(alloc, 1)?);
+    let refused = Indices {
+        items: vec![in alloc; 1]?,
+    };
+    let mut crew = ListedCrew::new(crew, refused);
     assert_eq!(rt; run_two(&mut crew), (Ok(8), Err(5)));
     assert_eq!(rt; crew.plan.faults, 1);
     Ok(())

@@ -1,10 +1,8 @@
-//! Tests of the worker: of suite files, of the function `run_tests`, and of what a worker says and starts.
+//! Tests of the worker: of the function `run_tests`, and of what a worker says and starts.
 #![tactic(auto)]
 
 #[cfg(test)]
 mod run_tests;
-#[cfg(test)]
-mod suite;
 #[cfg(test)]
 mod words;
 #[cfg(test)]

@@ -1,0 +1,71 @@
+"""Messages as the real execnet writes them, by the value and by the call."""
+import struct
+
+GATEWAY_TERMINATE, CHANNEL_EXEC, CHANNEL_DATA, CHANNEL_CLOSE, CHANNEL_LAST = 2, 3, 4, 5, 7
+
+
+def text(word):
+    return b"N" + struct.pack("!i", len(word)) + word.encode()
+
+
+def number(n):
+    return b"F" + struct.pack("!i", n)
+
+
+def data(piece):
+    return b"A" + struct.pack("!i", len(piece)) + piece
+
+
+def pair(key, value):
+    return text(key) + value + b"P"
+
+
+def items(values):
+    """A list of these values."""
+    return b"K" + struct.pack("!i", len(values)) + b"".join(number(i) + value + b"P" for i, value in enumerate(values))
+
+
+def message(kind, channel, payload=b""):
+    return struct.pack("!bii", kind, channel, len(payload)) + payload
+
+
+def call(channel, name, **kwargs):
+    """The call of a function of the worker."""
+    pairs = b"".join(pair(key, text(word)) for key, word in kwargs.items())
+    return message(CHANNEL_EXEC, channel, text("") + b"L" + text(name) + b"J" + pairs + b"@" + struct.pack("!i", 4) + b"Q")
+
+
+def event(name, pairs=b""):
+    """A command or an event, on the channel of `run_tests`."""
+    return message(CHANNEL_DATA, 1, text(name) + b"J" + pairs + b"@" + struct.pack("!i", 2) + b"Q")
+
+
+def order(tests):
+    """The command that runs these tests."""
+    return event("runtests", pair("indices", items([number(test) for test in tests])))
+
+
+def orders(suite, tests):
+    """The call that runs these tests of a suite, in order, and then ends."""
+    return call(1, "run_tests", suite=suite, dist="load") + order(tests) + event("shutdown")
+
+
+def ids(names):
+    """The event that tells the ids of the tests."""
+    return event("collectionfinish", pair("ids", items([text(name) for name in names])))
+
+
+def log_number(test):
+    """The channel of the log of a test, where tests run in order."""
+    return 2 * test + 2
+
+
+def start(test):
+    """The event that begins a test."""
+    return event("logstart", pair("item_index", number(test)) + pair("log", b"B" + struct.pack("!i", log_number(test))))
+
+
+def result(test, outcome, code):
+    """The event that ends a test, without its milliseconds."""
+    pairs = pair("item_index", number(test)) + pair("outcome", text(outcome)) + pair("code", number(code))
+    return event("runtest_protocol_complete", pairs + pair("duration", number(0)))
