@@ -260,15 +260,14 @@ fn served<R: Wait, C: Crew<Reading>, K: Children, D: Crew<Runner<K>>>(
     rt: &R,
     alloc: Global,
     link: Started<HeldSource, ShownSink>,
-    files: MemFiles,
+    files: &mut MemFiles,
     crew: &mut C,
     children: K,
     runner: &mut D,
 ) -> Result<End<K>, Fail> {
-    let mut files = files;
     let mut clock = MemClock::new(Vec::new(alloc));
     let end = serve(
-        rt, alloc, link, &mut files, crew, children, runner, &mut clock,
+        rt, alloc, link, files, crew, children, runner, &mut clock,
     )?;
     Ok(end)
 }
@@ -294,8 +293,8 @@ fn a_steal_is_answered_while_a_child_runs(rt: HostRuntime) -> Result<(), Fail> {
         until: want.len() as u64,
         faults: 0,
     };
-    let files = suite_of(alloc, &["a", "b", "c"])?;
-    let end = served(&rt, alloc, link, files, &mut crew, children, &mut runner)?;
+    let mut files = suite_of(alloc, &["a", "b", "c"])?;
+    let end = served(&rt, alloc, link, &mut files, &mut crew, children, &mut runner)?;
     assert_eq!(rt; end.status, 0);
     assert_eq!(rt; end.children.faults, 0);
     assert!(rt; end.sink.sink.bytes.as_slice().starts_with(want.as_slice()));
@@ -319,12 +318,14 @@ fn what_fails_outside_is_told(rt: HostRuntime) -> Result<(), Fail> {
         let want = joined(alloc, &[ONE_AHEAD, CLOSE_LOG, ended, ONE_BEHIND])?;
         let said = said_none(alloc)?;
         let link = link_of(alloc, &bytes, &said, want.len(), none(alloc), none(alloc))?;
-        let files = suite_of(alloc, &["a"])?;
+        let mut files = suite_of(alloc, &["a"])?;
         let children = programs(alloc, only(alloc, call)?)?;
-        let end = served(&rt, alloc, link, files, &mut crew, children, &mut runner)?;
+        let end = served(&rt, alloc, link, &mut files, &mut crew, children, &mut runner)?;
         assert_eq!(rt; end.status, 0);
         assert_eq!(rt; end.sink.sink.bytes.as_slice(), want.as_slice());
         assert_eq!(rt; end.children.plan.faults, 1);
+        // The suite is read once, since files do not tell how often they were read.
+        assert_eq!(rt; files.plan.calls, 1);
     }
     Ok(())
 }
@@ -368,9 +369,9 @@ fn a_link_ends_by_its_cause(rt: HostRuntime) -> Result<(), Fail> {
         };
         let said = said_none(alloc)?;
         let link = link_of(alloc, bytes, &said, want.len(), reads, writes)?;
-        let files = suite_of(alloc, &[])?;
+        let mut files = suite_of(alloc, &[])?;
         let children = programs(alloc, none(alloc))?;
-        let end = served(&rt, alloc, link, files, &mut crew, children, &mut runner)?;
+        let end = served(&rt, alloc, link, &mut files, &mut crew, children, &mut runner)?;
         assert_eq!(rt; end.status, status);
         assert_eq!(rt; end.sink.sink.bytes.as_slice(), want);
         assert_eq!(rt; end.children.runs.len(), 0);
@@ -395,9 +396,9 @@ fn a_crew_that_refuses_gives_three(rt: HostRuntime) -> Result<(), Fail> {
     for status in [3u8, 3, 0] {
         let said = said_none(alloc)?;
         let link = link_of(alloc, b"", &said, 0, none(alloc), none(alloc))?;
-        let files = suite_of(alloc, &[])?;
+        let mut files = suite_of(alloc, &[])?;
         let children = programs(alloc, none(alloc))?;
-        let end = served(&rt, alloc, link, files, &mut crew, children, &mut runner)?;
+        let end = served(&rt, alloc, link, &mut files, &mut crew, children, &mut runner)?;
         assert_eq!(rt; end.status, status);
         assert!(rt; end.sink.sink.closed);
     }
