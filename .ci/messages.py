@@ -1,8 +1,6 @@
-"""Messages of a worker and of its controller, as the real execnet writes them. The script `worker` compares what is made
-here with bytes of execnet's own."""
+"""Messages as the real execnet writes them, by the value and by the call."""
 import struct
 
-GREETING = b"1"
 GATEWAY_TERMINATE, CHANNEL_EXEC, CHANNEL_DATA, CHANNEL_CLOSE, CHANNEL_CLOSE_ERROR, CHANNEL_LAST = 2, 3, 4, 5, 6, 7
 
 
@@ -42,30 +40,29 @@ def event(name, pairs=b""):
     return message(CHANNEL_DATA, 1, text(name) + b"J" + pairs + b"@" + struct.pack("!i", 2) + b"Q")
 
 
+def order(tests):
+    """The command that runs these tests."""
+    return event("runtests", pair("indices", items([number(test) for test in tests])))
+
+
 def orders(suite, tests):
     """The call that runs these tests of a suite, in order, and then ends."""
-    indices = pair("indices", items([number(test) for test in tests]))
-    return call(1, "run_tests", suite=suite, dist="load") + event("runtests", indices) + event("shutdown")
+    return call(1, "run_tests", suite=suite, dist="load") + order(tests) + event("shutdown")
 
 
-def collected(ids):
-    """The events of a worker that is ready and found these tests."""
-    return event("workerready") + event("collectionfinish", pair("ids", items([text(one) for one in ids])))
+def ids(names):
+    """The event that tells the ids of the tests."""
+    return event("collectionfinish", pair("ids", items([text(name) for name in names])))
 
 
 def log_number(test):
-    """The channel of a test's output, where tests begin in their order."""
+    """The channel of the log of a test, where tests run in order."""
     return 2 * test + 2
 
 
-def log_start(test, log):
-    """The event that begins a test, whose output comes on this channel."""
-    return event("logstart", pair("item_index", number(test)) + pair("log", b"B" + struct.pack("!i", log)))
-
-
-def printed(log, piece):
-    """Some output of a test."""
-    return message(CHANNEL_DATA, log, data(piece) + b"Q")
+def start(test):
+    """The event that begins a test."""
+    return event("logstart", pair("item_index", number(test)) + pair("log", b"B" + struct.pack("!i", log_number(test))))
 
 
 def result(test, outcome, code):
@@ -75,36 +72,5 @@ def result(test, outcome, code):
 
 
 def finished():
-    """The end of `run_tests`."""
+    """What a worker says at the end of `run_tests`."""
     return event("workerfinished") + message(CHANNEL_CLOSE, 1)
-
-
-def said(ids, outcomes):
-    """What has to come on the channel of `run_tests`, where the tests come to these pairs of outcome and code."""
-    told = collected(ids)
-    for test, (outcome, code) in enumerate(outcomes):
-        told += log_start(test, log_number(test)) + result(test, outcome, code)
-    return told + finished()
-
-
-def messages(written):
-    """The messages behind the greeting, as triples of kind, channel and payload."""
-    at, found = len(GREETING), []
-    while at < len(written):
-        kind, channel, size = struct.unpack_from("!bii", written, at)
-        found.append((kind, channel, written[at + 9 : at + 9 + size]))
-        at += 9 + size
-    return found
-
-
-def on_channel(written, channel):
-    """What was written about one channel."""
-    return b"".join(message(kind, number, payload) for kind, number, payload in messages(written) if number == channel)
-
-
-def log_of(written, test):
-    """The output of a test by its log, which has to be closed behind it."""
-    found = [(kind, payload) for kind, number, payload in messages(written) if number == log_number(test)]
-    if not found or found.pop() != (CHANNEL_CLOSE, b""):
-        return None
-    return b"".join(payload[5:-1] for _, payload in found)
