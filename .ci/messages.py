@@ -1,7 +1,7 @@
 """Messages as the real execnet writes them, by the value and by the call."""
 import struct
 
-GATEWAY_TERMINATE, CHANNEL_EXEC, CHANNEL_DATA, CHANNEL_CLOSE, CHANNEL_LAST = 2, 3, 4, 5, 7
+GATEWAY_TERMINATE, CHANNEL_EXEC, CHANNEL_DATA, CHANNEL_CLOSE, CHANNEL_CLOSE_ERROR, CHANNEL_LAST = 2, 3, 4, 5, 6, 7
 
 
 def text(word):
@@ -69,3 +69,8 @@ def result(test, outcome, code):
     """The event that ends a test, without its milliseconds."""
     pairs = pair("item_index", number(test)) + pair("outcome", text(outcome)) + pair("code", number(code))
     return event("runtest_protocol_complete", pairs + pair("duration", number(0)))
+
+
+def finished():
+    """What a worker says at the end of `run_tests`."""
+    return event("workerfinished") + message(CHANNEL_CLOSE, 1)
