@@ -1,6 +1,5 @@
 pub mod EachReport
 pub mod Endings
-mod Heads
 pub mod Kept
 pub mod Loops
 pub mod Moves
@@ -10,3 +9,4 @@ pub mod Prints
 pub mod Rising
 pub mod Rows
 pub mod Texts
+mod Times

@@ -10,7 +10,7 @@ use Rattle.xd_journal.specs.declared.entry.Entry.TheVariants.{Ready, Collected, 
 use Rattle.xd_ledger.specs.Histories.{begun, journal_of, stepped_all}
 use Rattle.xd_ledger.specs.Proper.{IsProper}
 use Rattle.xd_ledger.specs.Reports.{Result, reports}
-use Rattle.xd_report.specs.EachReport.{Names, Of, id_in}
+use Rattle.xd_report.specs.EachReport.{Names, Of, Retried, id_in}
 use Rattle.xd_report_laws.specs.ItemIds.{item_ids}
 
 -- mode each with two slots
@@ -41,5 +41,11 @@ a_run-named = (refl, tt)
 -- its line gives a, which is the first test of the other slot
 of_the_other_slot : Names (id_in the_ids) (Of (Result 1 2 Passed) (97 ∷ []) ∷ []) → ⊥
 of_the_other_slot h =
+    let one : 97 ≡ 99 = ap (λ (id : List ℕ). slice_index id 0) h.0 in
+    omega (one, arith)
+
+-- nor does the line of its retry give that test
+of_the_other_slot_again : Names (id_in the_ids) (Retried 1 2 (97 ∷ []) ∷ []) → ⊥
+of_the_other_slot_again h =
     let one : 97 ≡ 99 = ap (λ (id : List ℕ). slice_index id 0) h.0 in
     omega (one, arith)

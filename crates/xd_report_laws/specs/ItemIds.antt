@@ -23,7 +23,8 @@ item_ids b = ids_from b.lists 0 (slots b.settings)
 abbrev pub ids_in : Journal → List (List ℕ)
 ids_in j = item_ids (state_at j.settings j.entries.items).books
 
--- In the report of the journal the line of each report, and the block of each failed one, gives the id of its item.
+-- In the report of the journal the line of each report and of each test that is tried again, and the block of each failed
+-- report, gives the id of its item.
 pub record NamesItems (j : Journal) : Type 0 where
   pub lines : HasNamedLineEach (id_in (ids_in j)) j.settings.mode (run_lines j.settings j.entries.items) (reports_in j)
   pub blocks : HasNamedBlockEach (id_in (ids_in j)) j.settings.mode (blocks_from (no_one j.settings) j.entries.items) (reports_in j) (kept_outputs j.settings j.entries.items)

@@ -6,8 +6,9 @@ ghost use Rattle.xd_journal.specs.declared.journal.Journal.{Journal};
 ghost use Rattle.xd_laws.specs.Whole.{IsWhole, tests_in};
 ghost use Rattle.xd_report_laws.specs.ItemIds.{NamesItems, ids_in};
 
-/// In every mode, in the report of a whole journal the line of each report and the block of each failed one give the id that
-/// its item has: its place in the first collection, in mode each its place in the first one of its slot.
+/// In every mode, in the report of a whole journal the line of each report and of each test that is tried again, and the
+/// block of each failed report, give the id that its item has: its place in the first collection, in mode each its place in
+/// the first one of its slot.
 pub fn names_law()
     ensures { (j : Journal) → IsWhole j → NamesItems j }
 {}
