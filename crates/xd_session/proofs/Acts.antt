@@ -33,41 +33,41 @@ use Rattle.xd_session.proofs.Orders.{Tells, tells, tells-acts}
 
 -- what a mode says changes of the books the table and the marks, and of what is known the open steal
 
-told-books : (st : Bool) (es : List Entry) (s : State) → Tells st es → (all_moved s es).books ≡ record (s.books) { table = (all_moved s es).books.table; crew = crew_told es s.books.crew }
-told-books st [] s h = refl
-told-books st (Run w is ∷ es) s h = told-books st es (next s (Run w is)) (split-and true (list_all (tells st) es) h).1
-told-books st (RunAll w ∷ es) s h = told-books st es (next s (RunAll w)) (split-and true (list_all (tells st) es) h).1
-told-books st (Steal w is ∷ es) s h = told-books st es (next s (Steal w is)) (split-and st (list_all (tells st) es) h).1
-told-books st (Shutdown w ∷ es) s h = told-books st es (next s (Shutdown w)) (split-and true (list_all (tells st) es) h).1
-told-books st (Start w slot ∷ es) s h = absurd (differ h)
-told-books st (Kill w ∷ es) s h = absurd (differ h)
-told-books st (Over how ∷ es) s h = absurd (differ h)
-told-books st (Ready w ∷ es) s h = absurd (differ h)
-told-books st (Collected w g ∷ es) s h = absurd (differ h)
-told-books st (Done w i u m o ∷ es) s h = absurd (differ h)
-told-books st (Back w i ∷ es) s h = absurd (differ h)
-told-books st (Finished w ∷ es) s h = absurd (differ h)
-told-books st (Refused w t ∷ es) s h = absurd (differ h)
-told-books st (Down w c o ∷ es) s h = absurd (differ h)
-told-books st (NotStarted w ∷ es) s h = absurd (differ h)
+told-books : (es : List Entry) (s : State) → Tells es → (all_moved s es).books ≡ record (s.books) { table = (all_moved s es).books.table; crew = crew_told es s.books.crew }
+told-books [] s h = refl
+told-books (Run w is ∷ es) s h = told-books es (next s (Run w is)) (split-and true (list_all tells es) h).1
+told-books (RunAll w ∷ es) s h = told-books es (next s (RunAll w)) (split-and true (list_all tells es) h).1
+told-books (Steal w is ∷ es) s h = told-books es (next s (Steal w is)) (split-and true (list_all tells es) h).1
+told-books (Shutdown w ∷ es) s h = told-books es (next s (Shutdown w)) (split-and true (list_all tells es) h).1
+told-books (Start w slot ∷ es) s h = absurd (differ h)
+told-books (Kill w ∷ es) s h = absurd (differ h)
+told-books (Over how ∷ es) s h = absurd (differ h)
+told-books (Ready w ∷ es) s h = absurd (differ h)
+told-books (Collected w g ∷ es) s h = absurd (differ h)
+told-books (Done w i u m o ∷ es) s h = absurd (differ h)
+told-books (Back w i ∷ es) s h = absurd (differ h)
+told-books (Finished w ∷ es) s h = absurd (differ h)
+told-books (Refused w t ∷ es) s h = absurd (differ h)
+told-books (Down w c o ∷ es) s h = absurd (differ h)
+told-books (NotStarted w ∷ es) s h = absurd (differ h)
 
-told-known : (st : Bool) (es : List Entry) (s : State) → Tells st es → known_of (all_moved s es).plan ≡ record (known_of s.plan) { steal = steal_told es s.plan.steal }
-told-known st [] s h = refl
-told-known st (Run w is ∷ es) s h = told-known st es (next s (Run w is)) (split-and true (list_all (tells st) es) h).1
-told-known st (RunAll w ∷ es) s h = told-known st es (next s (RunAll w)) (split-and true (list_all (tells st) es) h).1
-told-known st (Steal w is ∷ es) s h = told-known st es (next s (Steal w is)) (split-and st (list_all (tells st) es) h).1
-told-known st (Shutdown w ∷ es) s h = told-known st es (next s (Shutdown w)) (split-and true (list_all (tells st) es) h).1
-told-known st (Start w slot ∷ es) s h = absurd (differ h)
-told-known st (Kill w ∷ es) s h = absurd (differ h)
-told-known st (Over how ∷ es) s h = absurd (differ h)
-told-known st (Ready w ∷ es) s h = absurd (differ h)
-told-known st (Collected w g ∷ es) s h = absurd (differ h)
-told-known st (Done w i u m o ∷ es) s h = absurd (differ h)
-told-known st (Back w i ∷ es) s h = absurd (differ h)
-told-known st (Finished w ∷ es) s h = absurd (differ h)
-told-known st (Refused w t ∷ es) s h = absurd (differ h)
-told-known st (Down w c o ∷ es) s h = absurd (differ h)
-told-known st (NotStarted w ∷ es) s h = absurd (differ h)
+told-known : (es : List Entry) (s : State) → Tells es → known_of (all_moved s es).plan ≡ record (known_of s.plan) { steal = steal_told es s.plan.steal }
+told-known [] s h = refl
+told-known (Run w is ∷ es) s h = told-known es (next s (Run w is)) (split-and true (list_all tells es) h).1
+told-known (RunAll w ∷ es) s h = told-known es (next s (RunAll w)) (split-and true (list_all tells es) h).1
+told-known (Steal w is ∷ es) s h = told-known es (next s (Steal w is)) (split-and true (list_all tells es) h).1
+told-known (Shutdown w ∷ es) s h = told-known es (next s (Shutdown w)) (split-and true (list_all tells es) h).1
+told-known (Start w slot ∷ es) s h = absurd (differ h)
+told-known (Kill w ∷ es) s h = absurd (differ h)
+told-known (Over how ∷ es) s h = absurd (differ h)
+told-known (Ready w ∷ es) s h = absurd (differ h)
+told-known (Collected w g ∷ es) s h = absurd (differ h)
+told-known (Done w i u m o ∷ es) s h = absurd (differ h)
+told-known (Back w i ∷ es) s h = absurd (differ h)
+told-known (Finished w ∷ es) s h = absurd (differ h)
+told-known (Refused w t ∷ es) s h = absurd (differ h)
+told-known (Down w c o ∷ es) s h = absurd (differ h)
+told-known (NotStarted w ∷ es) s h = absurd (differ h)
 
 -- a call of the mode
 
@@ -97,7 +97,6 @@ acted-call c change s b d k j none acts table old new stands stands_now z a t de
     let t2 : Turned c s.plan b.table [] table acts stands_now = subst (λ (es : List Entry). Turned c s.plan b.table es table acts stands_now) z t1 in
     let t3 : Turned c s.plan s.books.table [] table acts stands_now = subst (λ (x : Books). Turned c s.plan x.table [] table acts stands_now) a.at.books_are t2 in
     let m : State = all_moved s (acts_of c s) in
-    let steals = not (is_each s.plan.mode) in
     let acts_are : acts ≡ acts_of c s = t3.acts_are in
     let table_is : table ≡ m.books.table = t3.table_is ∙ sym a.called.table in
     let from : Books → Books = λ x. record x { table = table; crew = crew_told acts x.crew } in
@@ -107,8 +106,8 @@ acted-call c change s b d k j none acts table old new stands stands_now z a t de
     let knows_acts : List Entry → Known = λ es. record (known_of s.plan) { steal = steal_told es s.plan.steal } in
     record {
       at = record {
-        books_are = de ∙ ap from a.at.books_are ∙ ap at_table table_is ∙ ap at_acts acts_are ∙ sym (told-books steals (acts_of c s) s (tells-acts c s));
-        known_is = je ∙ ap knows a.at.known_is ∙ ap knows_acts acts_are ∙ sym (told-known steals (acts_of c s) s (tells-acts c s));
+        books_are = de ∙ ap from a.at.books_are ∙ ap at_table table_is ∙ ap at_acts acts_are ∙ sym (told-books (acts_of c s) s (tells-acts c s));
+        known_is = je ∙ ap knows a.at.known_is ∙ ap knows_acts acts_are ∙ sym (told-known (acts_of c s) s (tells-acts c s));
         stands_for = λ h. subst stands_now (sym a.called.plan) t3.stands_for;
       };
       entries_are = n ∙ ap (λ (es : List Entry). old ++ es) acts_are;

@@ -40,22 +40,22 @@ no_over _ = true
 abbrev pub NoOver : List Entry → Type 0
 NoOver es = list_all no_over es ≡ true
 
-no-over-told : (steals : Bool) (e : Entry) → tells steals e ≡ true → no_over e ≡ true
-no-over-told steals (Run w is) h = refl
-no-over-told steals (RunAll w) h = refl
-no-over-told steals (Steal w is) h = refl
-no-over-told steals (Shutdown w) h = refl
-no-over-told steals (Start w slot) h = refl
-no-over-told steals (Kill w) h = refl
-no-over-told steals (Over how) h = absurd (differ h)
-no-over-told steals (Ready w) h = refl
-no-over-told steals (Collected w g) h = refl
-no-over-told steals (Done w i u m o) h = refl
-no-over-told steals (Back w is) h = refl
-no-over-told steals (Finished w) h = refl
-no-over-told steals (Refused w t) h = refl
-no-over-told steals (Down w c o) h = refl
-no-over-told steals (NotStarted w) h = refl
+no-over-told : (e : Entry) → tells e ≡ true → no_over e ≡ true
+no-over-told (Run w is) h = refl
+no-over-told (RunAll w) h = refl
+no-over-told (Steal w is) h = refl
+no-over-told (Shutdown w) h = refl
+no-over-told (Start w slot) h = refl
+no-over-told (Kill w) h = refl
+no-over-told (Over how) h = absurd (differ h)
+no-over-told (Ready w) h = refl
+no-over-told (Collected w g) h = refl
+no-over-told (Done w i u m o) h = refl
+no-over-told (Back w is) h = refl
+no-over-told (Finished w) h = refl
+no-over-told (Refused w t) h = refl
+no-over-told (Down w c o) h = refl
+no-over-told (NotStarted w) h = refl
 
 no-over-input : (e : Entry) → is_input e ≡ true → no_over e ≡ true
 no-over-input (Run w is) h = refl
@@ -77,12 +77,12 @@ no-over-input (NotStarted w) h = refl
 join : (xs ys : List Entry) → NoOver xs → NoOver ys → NoOver (xs ++ ys)
 join xs ys a b = list_all-append no_over xs ys ∙ and a b
 
-no-over-tells : (steals : Bool) (es : List Entry) → Tells steals es → NoOver es
-no-over-tells steals [] h = refl
-no-over-tells steals (e ∷ es) h = (let p = split-and (tells steals e) (list_all (tells steals) es) h in and (no-over-told steals e p.0) (no-over-tells steals es p.1))
+no-over-tells : (es : List Entry) → Tells es → NoOver es
+no-over-tells [] h = refl
+no-over-tells (e ∷ es) h = (let p = split-and (tells e) (list_all tells es) h in and (no-over-told e p.0) (no-over-tells es p.1))
 
 no-over-acts : (c : _) (s : State) → NoOver (acts_of c s)
-no-over-acts c s = no-over-tells (not (is_each s.plan.mode)) (acts_of c s) (tells-acts c s)
+no-over-acts c s = no-over-tells (acts_of c s) (tells-acts c s)
 
 no-over-shut : (ws : List ℕ) → NoOver (map (λ w. Shutdown w) ws)
 no-over-shut [] = refl
