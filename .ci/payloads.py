@@ -1,8 +1,8 @@
 """Tables of messages and payloads that `.ci/wire` reads.
 
 What stands as bytes was written by the real execnet 1.9, by `Message(code, channel, payload).to_io(..)` and
-`dumps_internal(value)` of execnet.gateway_base, but for what its reader alone knows: the spellings of older versions, and
-bytes that are no payload. The texts are those of docs/USING.md.
+`dumps_internal(value)` of execnet.gateway_base, but for what it does not write: the spellings of older versions, low
+integers, and bytes that are no payload. The texts are those of docs/USING.md.
 """
 
 # Payloads, and their values as they are printed.
@@ -15,9 +15,7 @@ VALUES = [
     (b"F\x7f\xff\xff\xffQ", "2147483647"),
     (b"H\0\0\0\n2147483648Q", "2147483648"),
     (b"F\x80\0\0\0Q", "-2147483648"),
-    (b"H\0\0\0\x0b-2147483649Q", "-2147483649"),
     (b"H\0\0\0'170141183460469231731687303715884105727Q", "170141183460469231731687303715884105727"),
-    (b"H\0\0\0(-170141183460469231731687303715884105728Q", "-170141183460469231731687303715884105728"),
     (b"A\0\0\0\0Q", "bytes()"),
     (b"A\0\0\0\x02\0\xffQ", "bytes(00ff)"),
     (b"N\0\0\0\0Q", "\"\""),
@@ -61,6 +59,12 @@ VALUES = [
     (b"JB\0\0\0\x01F\x7f\xff\xff\xffE\0\0\0\x01PN\0\0\0\x06a\"b\\c\x01CF\0\0\0\xddN\0\0\0\x01\x7fN\0\0\0\x0e\xf4\x84\xbd\x8c\xf2\xb2\x99\x9e[\xf2\xaf\xbb\x94\nL@\0\0\0\x04LF\0\0\0\xfcO\0\0\0\x02JN\0\0\0\x14\xf0\xb1\xb8\xb5\xd2\x8f\xf3\xb0\x90\x8f\xf2\xb4\xbd\x9b\xd5\x84\xf3\x92\xb7\xaa@\0\0\0\x05PQ", "{channel(1): frozenset({2147483647}), \"a\\\"b\\\\c\\x01\": (False, (221, \"\\x7f\", \"􄽌򲙞[򯻔\\x0a\", None), {None, 252}, {}, \"𱸵ҏ󰐏򴽛Մ󒷪\")}"),
     (b"N\0\0\0\x11\xcf\xb1\xf0\x91\x85\xb8\n<\xc6\xb4\xf2\x82\x88\xac\xc4\x8c F\0\0\0\x1fA\0\0\0\x0c\xe1\xc8\x9aYSI\x85m]k\x81\x8cE\0\0\0\x01F\0\0\0\x8bL@\0\0\0\x02@\0\0\0\x04O\0\0\0\x01Q", "{(\"ϱ𑅸\\x0a<ƴ򂈬Č \", 31, frozenset({bytes(e1c89a595349856d5d6b818c)}), (139, None))}"),
     (b"K\0\0\0\x03F\0\0\0\0LPF\0\0\0\x01F\x80\0\0\0PF\0\0\0\x02N\0\0\0\0PQ", "[None, -2147483648, \"\"]"),
+]
+
+# Integers that execnet cannot write; they are spelled as the large ones are.
+LOW_INTEGERS = [
+    (b"H\0\0\0\x0b-2147483649Q", "-2147483649"),
+    (b"H\0\0\0(-170141183460469231731687303715884105728Q", "-170141183460469231731687303715884105728"),
 ]
 
 # Payloads that are read and never written, and what is written in their place.
