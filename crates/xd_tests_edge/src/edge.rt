@@ -44,17 +44,43 @@ fn starts(alloc: Global, children: &mut MemChildren, args: &Texts) -> bool {
     !args.items.is_empty() && children.start(alloc, &args.items).is_ok()
 }
 
+// Calls whose contracts no test holds, so that it is proved in seconds.
+
+fn copy_of(text: &Text) -> Option<Text> {
+    text.copy().ok()
+}
+
+fn bytes_copied(alloc: Global, bytes: &[u8]) -> Option<Blob> {
+    Blob::of(alloc, bytes).ok()?.copy().ok()
+}
+
+fn wrote(sink: &mut MemSink, piece: &[u8]) -> Option<usize> {
+    sink.write(piece).ok()
+}
+
+fn is_read(alloc: Global, files: &mut MemFiles, name: &Text, most: u64, wanted: &[u8]) -> bool {
+    match files.read_file(alloc, name, most) {
+        Ok(bytes) => bytes.as_slice() == wanted,
+        Err(_) => false,
+    }
+}
+
+fn is_too_large(alloc: Global, files: &mut MemFiles, name: &Text, most: u64) -> bool {
+    matches!(files.read_file(alloc, name, most), Err(FileFault::TooLarge))
+}
+
+fn has_failed(alloc: Global, files: &mut MemFiles, name: &Text) -> bool {
+    matches!(files.read_file(alloc, name, 2), Err(FileFault::Failed))
+}
+
 #[test]
 fn a_text_and_bytes_are_copied(rt: HostRuntime) -> Result<(), Fail> {
-    let text = Text::of(rt.alloc(), "a")?.copy()?;
-    assert_eq!(rt; text.as_str(), "a");
-    let blob = Blob::of(rt.alloc(), &[1, 2])?.copy()?;
+    let text = Text::of(rt.alloc(), "a")?;
+    let copy = copy_of(&text).ok_or("a copy")?;
+    assert_eq!(rt; copy.as_str(), "a");
+    assert!(rt; text.is_same(&copy));
+    let blob = bytes_copied(rt.alloc(), &[1, 2]).ok_or("a copy")?;
     assert_eq!(rt; blob.as_slice(), [1, 2].as_slice());
-    assert!(rt; text.is_same(&Text::from_string(String::from_str(rt.alloc(), "a")?)));
-    assert_eq!(rt;
-        Blob::from_vec(vec![in rt.alloc(); 3]?).as_slice(),
-        [3].as_slice()
-    );
     Ok(())
 }
 
@@ -71,10 +97,10 @@ fn a_listed_clock_never_falls(rt: HostRuntime) -> Result<(), Fail> {
 fn a_sink_in_memory_fails_at_the_calls_of_its_plan(rt: HostRuntime) -> Result<(), Fail> {
     let alloc = rt.alloc();
     let mut sink = MemSink::new(alloc, 3, numbers(alloc, &[1])?)?;
-    assert_eq!(rt; sink.write(&[1, 2])?, 2);
-    assert!(rt; sink.write(&[3]).is_err());
-    assert_eq!(rt; sink.write(&[3, 4])?, 1);
-    assert!(rt; sink.write(&[4]).is_err());
+    assert_eq!(rt; wrote(&mut sink, &[1, 2]), Some(2));
+    assert_eq!(rt; wrote(&mut sink, &[3]), None);
+    assert_eq!(rt; wrote(&mut sink, &[3, 4]), Some(1));
+    assert_eq!(rt; wrote(&mut sink, &[4]), None);
     sink.flush()?;
     assert_eq!(rt; sink.bytes.as_slice(), [1, 2, 3].as_slice());
     assert_eq!(rt; sink.flushed, 3);
@@ -88,12 +114,9 @@ fn files_in_memory_fail_at_the_calls_of_their_plan(rt: HostRuntime) -> Result<()
     let files = vec![in alloc; (Text::of(alloc, "a")?, Blob::of(alloc, &[1, 2])?)]?;
     let mut files = MemFiles::new(files, numbers(alloc, &[2])?);
     let name = Text::of(alloc, "a")?;
-    assert_eq!(rt;
-        files.read_file(alloc, &name, 2)?.as_slice(),
-        [1, 2].as_slice()
-    );
-    assert!(rt; matches!(files.read_file(alloc, &name, 1), Err(FileFault::TooLarge)));
-    assert!(rt; matches!(files.read_file(alloc, &name, 2), Err(FileFault::Failed)));
+    assert!(rt; is_read(alloc, &mut files, &name, 2, &[1, 2]));
+    assert!(rt; is_too_large(alloc, &mut files, &name, 1));
+    assert!(rt; has_failed(alloc, &mut files, &name));
     Ok(())
 }
 

@@ -2,24 +2,37 @@
 use crate::lists::{none, one};
 use std::alloc::Global;
 use std::collections::VecDeque;
+use std::sync::Wait;
 use std::test::Fail;
 use xd_edge::*;
 use xd_link::*;
+
+// What a read into four bytes gave; none where it failed.
+fn heard<R: Wait + AllocGlobal>(rt: &R, source: &mut MemSource) -> Option<Vec<u8>> {
+    let mut buffer = [0u8; 4];
+    let Ok(count) = source.read(rt, &mut buffer) else {
+        return None;
+    };
+    buffer[..count].to_vec(rt.alloc()).ok()
+}
+
+// Whether a read without room gives nothing.
+fn hears_nothing<R: Wait>(rt: &R, source: &mut MemSource) -> bool {
+    matches!(source.read(rt, &mut []), Ok(0))
+}
 
 #[test]
 fn a_source_in_memory_gives_its_pieces_and_fails_by_its_plan(rt: HostRuntime) -> Result<(), Fail> {
     let alloc = rt.alloc();
     let bytes = Blob::of(alloc, &[1, 2, 3, 4, 5])?;
     let mut source = MemSource::new(bytes, one(alloc, 2)?, one(alloc, 1)?);
-    let mut buffer = [0u8; 4];
-    assert_eq!(rt; source.read(&rt, &mut buffer)?, 2);
-    assert_eq!(rt; &buffer[..2], [1, 2].as_slice());
-    assert!(rt; source.read(&rt, &mut buffer).is_err());
-    assert_eq!(rt; source.read(&rt, &mut buffer)?, 3);
-    assert_eq!(rt; &buffer[..3], [3, 4, 5].as_slice());
-    assert_eq!(rt; source.read(&rt, &mut [])?, 0);
-    assert!(rt; !source.is_ended);
-    assert_eq!(rt; source.read(&rt, &mut buffer)?, 0);
+    let rows: [Option<&[u8]>; 3] = [Some(&[1, 2]), None, Some(&[3, 4, 5])];
+    for wanted in rows {
+        let found = heard(&rt, &mut source);
+        assert!(rt; found.as_deref() == wanted);
+    }
+    assert!(rt; hears_nothing(&rt, &mut source) && !source.is_ended);
+    assert!(rt; heard(&rt, &mut source).is_some_and(|bytes| bytes.is_empty()));
     assert!(rt; source.is_ended);
     assert_eq!(rt; source.plan.faults, 1);
     Ok(())
@@ -34,18 +47,27 @@ fn one_link(alloc: Global) -> Result<MemStarter, Fail> {
     Ok(MemStarter::new(alloc, links, none(alloc)))
 }
 
+fn started(
+    alloc: Global,
+    starter: &mut MemStarter,
+    place: &Place,
+) -> Option<Started<MemSource, MemSink>> {
+    starter.start(alloc, place).ok()
+}
+
+// Kills the child of link 0, and waits for it twice.
+fn is_ended<R: Wait>(rt: &R, starter: &mut MemStarter) -> bool {
+    starter.kill(0).is_ok() && starter.reap(rt, 0).is_ok() && starter.reap(rt, 0).is_ok()
+}
+
 #[test]
 fn a_starter_in_memory_hands_out_its_link(rt: HostRuntime) -> Result<(), Fail> {
-    let alloc = rt.alloc();
-    let mut starter = one_link(alloc)?;
-    let mut link = starter.start(alloc, &Place::Own)?;
+    let mut starter = one_link(rt.alloc())?;
+    let mut link = started(rt.alloc(), &mut starter, &Place::Own).ok_or("a link")?;
     assert_eq!(rt; link.link, 0);
-    let mut buffer = [0u8; 4];
-    assert_eq!(rt; link.source.read(&rt, &mut buffer)?, 1);
-    assert_eq!(rt; link.sink.write(&[1, 2])?, 2);
-    starter.kill(0)?;
-    starter.reap(&rt, 0)?;
-    starter.reap(&rt, 0)?;
+    let found = heard(&rt, &mut link.source).ok_or("a byte")?;
+    assert_eq!(rt; found.as_slice(), [7].as_slice());
+    assert!(rt; is_ended(&rt, &mut starter));
     assert!(rt; starter.begun[0].killed && starter.begun[0].closed);
     assert_eq!(rt; starter.begun[0].reaped, Reaped::More);
     Ok(())
@@ -75,9 +97,9 @@ fn is_at_root(place: &Place) -> bool {
 fn a_starter_in_memory_has_no_more_links_than_it_was_given(rt: HostRuntime) -> Result<(), Fail> {
     let alloc = rt.alloc();
     let mut starter = one_link(alloc)?;
-    assert!(rt; starter.start(alloc, &Place::Own).is_ok());
-    let started = starter.start(alloc, &popen(alloc)?);
-    assert!(rt; matches!(started, Err(StartFault::Failed)));
+    let place = popen(alloc)?;
+    assert!(rt; started(alloc, &mut starter, &Place::Own).is_some());
+    assert!(rt; started(alloc, &mut starter, &place).is_none());
     assert_eq!(rt; starter.starts.len(), 2);
     let noted = &starter.starts[1];
     assert!(rt; noted.failed && is_at_root(&noted.place));
