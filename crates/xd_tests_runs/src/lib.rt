@@ -1,9 +1,7 @@
-//! Tests of runs: of reports, and of whole runs over a hub that gives listed news.
+//! Tests of runs: whole runs over a hub that gives listed news, with their journals, reports and statuses.
 #![tactic(auto)]
 
 #[cfg(test)]
 mod drive;
-#[cfg(test)]
-mod report;
 #[cfg(test)]
 mod words;

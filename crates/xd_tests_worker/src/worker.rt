@@ -5,8 +5,8 @@ mod rows;
 use std::alloc::Global;
 use std::test::Fail;
 use xd_edge::ModeKind;
-use xd_value::{Value, dumps, loads};
-use xd_worker::{Called, Function, read_call, status_value};
+use xd_value::{Value, loads};
+use xd_worker::{Called, Function, read_call};
 
 /// Payloads of calls, whether `run_tests` was called before, and what becomes of each. The first is the message with
 /// which a controller starts a worker.
@@ -128,16 +128,5 @@ fn calls_are_told_by_their_values(rt: HostRuntime) -> Result<(), Fail> {
         let found = shown(alloc, &called)?;
         assert_eq!(rt; found.as_str(), wanted);
     }
-    Ok(())
-}
-
-#[test]
-fn the_status_is_written_as_execnet_reads_it(rt: HostRuntime) -> Result<(), Fail> {
-    let value = status_value(rt.alloc(), 0, 0)?;
-    let payload = dumps(rt.alloc(), &value).ok().ok_or("not written")?;
-    assert_eq!(rt;
-        payload.as_slice(),
-        b"JN\0\0\0\x0bnumchannelsF\0\0\0\0PN\0\0\0\x0cnumexecutingF\0\0\0\0PN\0\0\0\x09execmodelN\0\0\0\x06threadPQ".as_slice()
-    );
     Ok(())
 }
