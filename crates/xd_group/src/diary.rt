@@ -1,5 +1,5 @@
 // What a hub was called for and what it gave, and who its workers are.
-ghost use Rattle.std.specs.Prelude.{◌≡◌, ◌∷◌, ◌++◌, [], ℕ, All, IfOk, OnOk, IfSome, IfNone, Some, None, true, length, slice_get, option_map, option_to_list};
+ghost use Rattle.std.specs.Prelude.{◌≡◌, ◌<◌, ◌∷◌, ◌++◌, [], ℕ, All, IfOk, OnOk, IfSome, IfNone, Some, None, true, length, slice_get, option_map, option_to_list};
 ghost use Rattle.xd_journal.specs.declared.entry.Entry.TheVariants.{Start};
 ghost use Rattle.xd_note.specs.Noted.{noted};
 ghost use Rattle.xd_group.specs.Fates.{is_linked};
@@ -146,16 +146,11 @@ impl Diary {
     }
 
     /// What became of the start of this number.
-    pub fn fate_at(&self, number: u32) -> Option<Fate>
-        ensures none { IfNone result (slice_get self.now.fates.items number ≡ None) }
-        ensures at { IfSome result (λ f. slice_get self.now.fates.items number ≡ Some f) }
+    pub fn fate_at(&self, number: u32) -> Fate
+        requires { number < length self.now.workers.items }
+        ensures { slice_get self.now.fates.items number ≡ Some result }
     {
-        let at = number as usize;
-        if at < self.fates.len() {
-            Some(self.fates[at])
-        } else {
-            None
-        }
+        self.fates[number as usize]
     }
 
     /// The number of a worker's link.

@@ -19,7 +19,7 @@ ghost use Rattle.xd_group.specs.Kept.{Kept, orders_to, said_by};
 ghost use Rattle.xd_group.specs.Late.{Late, Settled, settled_at};
 ghost use Rattle.xd_group.specs.LinkRun.{link_of};
 ghost use Rattle.xd_group.specs.Children.{all_asked, asked_of, is_buried, is_over, starts_told, told_of};
-ghost use Rattle.xd_group.specs.Fates.{KeptFrom, has_link, is_linked, is_refused, is_unlinked, workers_with};
+ghost use Rattle.xd_group.specs.Fates.{EndedFrom, KeptFrom, has_link, is_linked, is_refused, is_unlinked, workers_with};
 ghost use Rattle.xd_edge.specs.Faults.{RoseBy};
 ghost use Rattle.xd_group.specs.Few.{RoseFor, count_with};
 ghost use Rattle.xd_group.specs.Unsaid.{SaidUnlinked};
@@ -27,7 +27,7 @@ ghost use Rattle.xd_group.specs.InStep.{InStep, all_started};
 ghost use Rattle.xd_group.specs.Returned.{RanSo, end_told};
 ghost use Rattle.xd_group.specs.Pages.{Page};
 ghost use Rattle.xd_group.specs.Kills.{EndKilledSo, KilledSo};
-ghost use Rattle.xd_group.specs.PostView.{losses_of, pages_of};
+ghost use Rattle.xd_group.specs.PostView.{ends_of, losses_of, pages_of};
 ghost use Rattle.xd_group.specs.Tells.{IsStarted, marks_told, workers_started};
 
 use crate::children::{Children, Opened};
@@ -155,8 +155,12 @@ impl<St: Starter, C: Crew<Reader<St::Src>>> GatewayHub<St, C> {
         ends: &mut Vec<LinkEnd<St::Src, St::Snk>>,
     ) -> Result<(), OutOfMemory>
         requires over { self.old.group.is_whole ≡ false }
+        requires there { number < length self.old.group.diary.workers.items }
+        requires late { (first : List (Option Settled)) × ∥ Late first (news_of (mails self.old.group.links.desk)) (pages_of self.old.group.posts.items) ∥₁ }
         requires kept { KeptFrom number (map is_some self.old.group.spares.items) self.old.group.diary.fates.items }
+        requires ended { EndedFrom number (ends_of self.old.group.posts.items) self.old.group.diary.fates.items }
         ensures kept { OnOk result (KeptFrom (number + 1) (map is_some self.new.group.spares.items) self.old.group.diary.fates.items) }
+        ensures ended { OnOk result (EndedFrom (number + 1) (ends_of self.new.group.posts.items) self.old.group.diary.fates.items) }
         ensures runs { (suite : List ℕ) (mode : ModeKind) (taken : List (Option (List LinkNews))) (calls : List Entry) (given : List News) (pages : List (Option Page))
             → ∥ Kept suite mode taken calls given self.old.group.diary.workers.items pages ∥₁
             → ∥ Late (map settled_at pages) (news_of (mails self.old.group.links.desk)) (pages_of self.old.group.posts.items) ∥₁
@@ -182,7 +186,8 @@ impl<St: Starter, C: Crew<Reader<St::Src>>> GatewayHub<St, C> {
         ensures over { self.new.group.is_whole ≡ false }
         ensures diary { self.new.group.diary ≡ self.old.group.diary }
     {
-        if let Some(ended) = self.group.end_link(number)? {
+        let left = self.group.end_link(number);
+        if let Some(ended) = left {
             let Ended {
                 worker,
                 source,

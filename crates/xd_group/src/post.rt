@@ -29,7 +29,7 @@ use xd_reader::{LinkNews, LinkStop};
 use xd_remote::Gateway;
 
 /// One link. Where it is known, what was said of it are the news of what was taken of it, and its sink took what it was
-/// told; it is unknown behind want of memory.
+/// told; it is unknown once memory ran out.
 #[derive(Drop)]
 pub struct Post<N: Sink + Drop> {
     pub gateway: Gateway<N>,

@@ -8,7 +8,7 @@ ghost use Rattle.xd_group.specs.Pages.{HasPage, HeardAt, IsHeardAt, IsToldAt, Pa
 ghost use Rattle.xd_link.specs.FreshLink.{unused};
 ghost use Rattle.xd_group.specs.Late.{IsLateAt, LateAt};
 ghost use Rattle.xd_group.specs.Kills.{KeepsLost, LostAt};
-ghost use Rattle.xd_group.specs.PostView.{has_ended, losses_of, page_by, pages_of};
+ghost use Rattle.xd_group.specs.PostView.{ends_of, has_ended, losses_of, page_by, pages_of};
 ghost use Rattle.std.specs.Bool.{then_some};
 ghost use Rattle.std.specs.List.{list_all};
 
@@ -83,6 +83,7 @@ pub fn hear_late_at<N: Sink + Drop>(
 ) -> Result<(), OutOfMemory>
     requires late { ∥ IsLateAt (pages_of posts.old.items) at ∥₁ }
     ensures late { OnOk result (LateAt item at (pages_of posts.old.items) (pages_of posts.new.items)) }
+    ensures seats { OnOk result (map is_some (pages_of posts.new.items) ≡ map is_some (pages_of posts.old.items)) }
     ensures lost { OnOk result (losses_of posts.new.items ≡ losses_of posts.old.items) }
 {
     if at >= posts.len() {
@@ -150,34 +151,32 @@ pub fn is_without<N: Sink + Drop>(posts: &[Option<Post<N>>], at: usize) -> bool
     posts[at].is_none()
 }
 
-// Takes the post apart, where it is known to have ended.
-fn leave<N: Sink + Drop>(post: Post<N>) -> Option<N>
-    ensures ends { IfSome result (λ sink. ∥ EndsSo (page_by post) (N.sunk sink) (N.faults sink) ∥₁) }
-    ensures lost { IfSome result (λ sink. post.is_lost ≡ true → 0 < N.faults sink) }
+// Takes the post apart when nothing more is to come of its link.
+fn leave<N: Sink + Drop>(post: Post<N>) -> N
+    requires known { post.is_known ≡ true }
+    requires ended { post.is_ended ≡ true }
+    ensures ends { ∥ EndsSo (page_by post) (N.sunk result) (N.faults result) ∥₁ }
+    ensures lost { post.is_lost ≡ true → 0 < N.faults result }
 {
-    if !post.is_known {
-        return None;
-    }
-    if !post.is_ended {
-        return None;
-    }
     let Post { gateway, .. } = post;
-    let sink = gateway.into_sink();
-    Some(sink)
+    gateway.into_sink()
 }
 
-/// Takes the link at the place, where it is known to have ended. Gives its sink.
-pub fn leave_at<N: Sink + Drop>(posts: &mut Vec<Option<Post<N>>>, at: usize) -> Option<N>
-    ensures ends { IfSome result (λ sink. (p : Page) × (slice_get (pages_of posts.old.items) at ≡ Some (Some p)) × ∥ EndsSo p (N.sunk sink) (N.faults sink) ∥₁) }
-    ensures lost { IfSome result (λ sink. slice_get (losses_of posts.old.items) at ≡ Some true → 0 < N.faults sink) }
-    ensures others { IfSome result (λ sink. (k : ℕ) → at < k → slice_get (losses_of posts.old.items) k ≡ Some true → slice_get (losses_of posts.new.items) k ≡ Some true) }
-    ensures gone { IfSome result (λ sink. pages_of posts.new.items ≡ slice_set (pages_of posts.old.items) at None) }
+/// Takes the link at the place when nothing more is to come of it. Gives its sink.
+pub fn leave_at<N: Sink + Drop>(posts: &mut Vec<Option<Post<N>>>, at: usize) -> N
+    requires known { ∥ IsLateAt (pages_of posts.old.items) at ∥₁ }
+    requires ended { slice_get (ends_of posts.old.items) at ≡ Some true }
+    ensures ends { (p : Page) × (slice_get (pages_of posts.old.items) at ≡ Some (Some p)) × ∥ EndsSo p (N.sunk result) (N.faults result) ∥₁ }
+    ensures lost { slice_get (losses_of posts.old.items) at ≡ Some true → 0 < N.faults result }
+    ensures others { (k : ℕ) → at < k → slice_get (losses_of posts.old.items) k ≡ Some true → slice_get (losses_of posts.new.items) k ≡ Some true }
+    ensures ended { (k : ℕ) → at < k → slice_get (ends_of posts.old.items) k ≡ Some true → slice_get (ends_of posts.new.items) k ≡ Some true }
+    ensures gone { pages_of posts.new.items ≡ slice_set (pages_of posts.old.items) at None }
 {
     if at >= posts.len() {
-        return None;
+        unreachable!()
     }
     match posts[at].take() {
         Some(post) => leave(post),
-        None => None,
+        None => unreachable!(),
     }
 }

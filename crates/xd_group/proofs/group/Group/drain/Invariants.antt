@@ -1,4 +1,5 @@
-use Rattle.std.proofs.Common.{◌≡◌, List, Option}
+use Rattle.std.proofs.Common.{◌≡◌, List, Option, map}
+use Rattle.std.specs.Prelude.{is_some}
 use Rattle.xd_links.specs.Runs.{news_of}
 use Rattle.xd_post.specs.Mails.{mails}
 use Rattle.xd_group.specs.Late.{Late, Settled}
@@ -8,6 +9,7 @@ use Rattle.xd_group.proofs.group.Group.drain.Given as goal
 abbrev pub invariant-loop : goal.invariant-loop
 invariant-loop g l = record {
   late : (first : List (Option Settled)) → ∥ Late first (news_of (mails l.fn.links.desk)) (pages_of l.fn.posts.items) ∥₁ → ∥ Late first (news_of (mails l.links.desk)) (pages_of l.posts.items) ∥₁;
+  seats : map is_some (pages_of l.posts.items) ≡ map is_some (pages_of l.fn.posts.items);
   lost : losses_of l.posts.items ≡ losses_of l.fn.posts.items;
   crew : l.links.crew ≡ l.fn.links.crew;
 }
