@@ -1,6 +1,6 @@
 -- The pages of posts.
 use Rattle.std.proofs.Common.{◌≡◌, ℕ, zero, suc, ◌≤◌, length, List, [], ◌∷◌, ◌++◌, Option, Some, None, get_or, refl, sym, ◌∙◌, ap}
-use Rattle.std.specs.Prelude.{Bool, true, false, slice_get, slice_set, is_some, option_map, option_to_list}
+use Rattle.std.specs.Prelude.{Bool, true, false, slice_get, slice_set, option_map, option_to_list}
 use Rattle.std.proofs.lemmas.Option.{slice_get-map}
 use Rattle.std.proofs.lemmas.List.{map-set}
 use Rattle.xd_journal.specs.declared.entry.Entry.{Entry}
@@ -14,7 +14,7 @@ use Rattle.xd_drive.specs.Marks.{is_end}
 use Rattle.xd_note.specs.Noted.{noted}
 use Rattle.xd_reader.specs.declared.news.LinkNews.{LinkNews}
 use Rattle.xd_group.specs.Late.{IsLateAt, late_page}
-use Rattle.xd_group.specs.Pages.{Page, HasPage, IsHeardAt, IsToldAt, is_nothing, told_page, heard_page}
+use Rattle.xd_group.specs.Pages.{Page, IsHeardAt, IsToldAt, is_nothing, told_page, heard_page}
 use Rattle.xd_group.specs.PostView.{page_by, page_of, pages_of}
 use Rattle.xd_group.specs.declared.post.Post.{Post}
 
@@ -62,10 +62,6 @@ module _ {N : Type 0} {g : _} where
       → (b.suite ≡ a.suite) × (b.mode ≡ a.mode) × (noted b.told ≡ noted a.told) → noted b.taken ≡ noted a.taken ++ item ∷ [] → noted b.said ≡ noted a.said ++ option_to_list what → noted b.late ≡ noted a.late → b.is_known ≡ true → slice_get (pages_of xs) k ≡ Some (Some p) → pages_of (slice_set xs k (Some b)) ≡ slice_set (pages_of xs) k (Some (heard_page item what p))
   post_heard xs k was a b item what p at is m t s l h there =
       map-set page_of xs k (Some b) ∙ ap (λ (q : Page). slice_set (pages_of xs) k (Some q)) (same_page _ _ _ _ _ _ _ _ _ _ _ _ _ _ (ap (λ (x : _). x.value) m.0) m.1 t m.2 s l h ∙ ap (heard_page item what) (sym (its_page xs k was a p at is there)))
-
-  pub post_there : (xs : List (Option (Post N g))) (k : ℕ) (was : Option (Post N g)) → slice_get xs k ≡ Some was → is_some was ≡ true → HasPage (pages_of xs) k
-  post_there xs k None at h = absurd (cc h)
-  post_there xs k (Some a) at h = (page a, slice_get-map page_of xs k ∙ ap (option_map page_of) at)
 
   pub post_page : (xs : List (Option (Post N g))) (k : ℕ) (was : Option (Post N g)) (a : Post N g) → was ≡ Some a → slice_get xs k ≡ Some was → slice_get (pages_of xs) k ≡ Some (Some (page_by a))
   post_page xs k was a is at = slice_get-map page_of xs k ∙ ap (option_map page_of) (at ∙ ap Some is)

@@ -1,8 +1,9 @@
 -- What is said of workers whose links are not read.
 use Rattle.std.proofs.Common.{◌≡◌, ℕ, zero, suc, ◌<◌, ◌+◌, List, [], ◌∷◌, ◌++◌, map, length, Bool, true, false, Option, Some, None, refl, sym, ◌∙◌, ap, subst, inl, inr, arith, append-nil, length-append}
-use Rattle.std.specs.Prelude.{◌⊎◌, is_some, option_to_list, slice_get}
+use Rattle.std.specs.Prelude.{◌⊎◌, IfNone, MatchOption, is_some, option_to_list, slice_get}
 use Rattle.std.proofs.lemmas.Option.{slice_get_within}
-use Rattle.std.proofs.lemmas.List.{map-append}
+use Rattle.std.proofs.Math.Logic.{∥∥₁_elim}
+use Rattle.std.proofs.lemmas.List.{map-append, nil_from_length}
 use Rattle.xd_edge.specs.declared.mode.ModeKind.{ModeKind}
 use Rattle.xd_journal.specs.declared.entry.Entry.{Entry}
 use Rattle.xd_journal.specs.declared.news.News.{News}
@@ -14,11 +15,12 @@ use Rattle.xd_drive.specs.Performing.{was_started}
 use Rattle.xd_links.proofs.Places.{push_read}
 use Rattle.xd_group.specs.Fates.{is_linked, workers_with}
 use Rattle.xd_group.specs.Kept.{Kept, said_by}
-use Rattle.xd_group.specs.Pages.{Page, page_opened}
+use Rattle.xd_group.specs.Pages.{HasPage, Page, page_opened}
 use Rattle.xd_group.specs.Unsaid.{SaidUnlinked, Unsaid, wait_one}
 use Rattle.xd_group.specs.declared.fate.Fate.{Fate}
-use Rattle.xd_group.proofs.FateFacts.{among_with}
+use Rattle.xd_group.proofs.FateFacts.{among_with, not_within}
 use Rattle.xd_group.proofs.Keeping.{either_worker, news_of_worker, page_taken, said_more, said_other, said_same, same_some}
+use Rattle.xd_group.proofs.PageFacts.{never}
 
 -- ---- which places have a page
 
@@ -105,33 +107,31 @@ popped rest waiting more i k is e = ap (λ (l : List ℕ). slice_get l i) is ∙
     front (x ∷ xs) ys zero e = e
     front (x ∷ xs) ys (suc i) e = front xs ys i e
 
--- a number waits no more
-pub unsaid_popped : (given : List News) (workers : List ℕ) (pages : List (Option Page)) (waiting rest more : List ℕ) → waiting ≡ rest ++ more → Unsaid given workers pages waiting → Unsaid given workers pages rest
-unsaid_popped given workers pages waiting rest more is u =
-    record {
-      waits = λ i k w e f. u.waits i k w (popped rest waiting more i k is e) f;
-      once = λ i j k e f. u.once i j k (popped rest waiting more i k is e) (popped rest waiting more j k is f);
-      below = λ i k e. u.below i k (popped rest waiting more i k is e);
-      said = u.said;
-    }
-
 last : (xs : List ℕ) (x : ℕ) → slice_get (xs ++ x ∷ []) (length xs) ≡ Some x
 last [] x = refl
 last (y ∷ xs) x = last xs x
 
+waits_last : (waiting rest : List ℕ) (k : ℕ) → waiting ≡ rest ++ k ∷ [] → slice_get waiting (length rest) ≡ Some k
+waits_last waiting rest k is = ap (λ (l : List ℕ). slice_get l (length rest)) is ∙ last rest k
+
 not_in : (rest waiting : List ℕ) (i k j : ℕ) → waiting ≡ rest ++ k ∷ [] → ((i j k : ℕ) → slice_get waiting i ≡ Some k → slice_get waiting j ≡ Some k → i ≡ j) → slice_get rest i ≡ Some j → j ≡ k → ⊥
 not_in rest waiting i k j is once e same =
     let here : slice_get waiting i ≡ Some k = popped rest waiting (k ∷ []) i j is e ∙ ap Some same in
-    let there : slice_get waiting (length rest) ≡ Some k = ap (λ (l : List ℕ). slice_get l (length rest)) is ∙ last rest k in
-    let at = once i (length rest) k here there in
+    let at = once i (length rest) k here (waits_last waiting rest k is) in
     omega (arith, at, slice_get_within rest i j e)
+
+-- the number that waited last is that of a worker whose link is not read
+pub waits_within : (given : List News) (workers : List ℕ) (pages : List (Option Page)) (waiting rest : List ℕ) (k : ℕ) → waiting ≡ rest ++ k ∷ [] → ∥ Unsaid given workers pages waiting ∥₁ → slice_get workers k ≡ None → ⊥
+waits_within given workers pages waiting rest k is u none = ∥∥₁_elim u never (λ v. not_within workers k (v.below (length rest) k (waits_last waiting rest k is)) none)
+
+pub waits_unread : (given : List News) (workers : List ℕ) (pages : List (Option Page)) (waiting rest : List ℕ) (k w : ℕ) → waiting ≡ rest ++ k ∷ [] → slice_get workers k ≡ Some w → Unsaid given workers pages waiting → HasPage pages k → ⊥
+waits_unread given workers pages waiting rest k w is at u has = some_none (slice_get pages k) has.0 has.1 (u.waits (length rest) k w (waits_last waiting rest k is) at).1
 
 -- it is said that a worker was not started
 pub unsaid_said : (given all : List News) (workers : List ℕ) (pages : List (Option Page)) (waiting rest : List ℕ) (k : ℕ) (n : News) → n.what ≡ NotStarted → all ≡ given ++ n ∷ [] → waiting ≡ rest ++ k ∷ [] → slice_get workers k ≡ Some n.worker
     → ((k l v : ℕ) → slice_get workers k ≡ Some v → slice_get workers l ≡ Some v → k ≡ l) → Unsaid given workers pages waiting → Unsaid all workers pages rest
 unsaid_said given all workers pages waiting rest k n not added is at apart u =
-    let here : slice_get waiting (length rest) ≡ Some k = ap (λ (l : List ℕ). slice_get l (length rest)) is ∙ last rest k in
-    let nothing = (u.waits (length rest) k n.worker here at).0 in
+    let nothing = (u.waits (length rest) k n.worker (waits_last waiting rest k is) at).0 in
     let same = λ (i v : ℕ) (wi : slice_get workers i ≡ Some v) (other : i ≡ k → ⊥). said_same v given all n added (λ e. other (apart i k n.worker (wi ∙ ap Some (sym e)) at)) in
     record {
       waits = λ i j v e f. let was = u.waits i j v (popped rest waiting (k ∷ []) i j is e) f in (same j v f (not_in rest waiting i k j is u.once e) ∙ was.0, was.1);
@@ -246,3 +246,8 @@ said_unlinked suite mode taken calls given workers pages fates waiting w matched
     by : (b : Bool) → was_started w calls ≡ b → SaidUnlinked given w
     by false h = inl (kept.new_said w h)
     by true h = let it = kept.placed w h in let f = fate_there workers fates it.0 w matched it.1 in of it.0 it.1 f.0 f.1 (is_linked f.0) refl
+
+-- where nothing comes out of a list, it is empty
+pub none_left : (r : Option ℕ) (n m : ℕ) (xs : List ℕ) (P : ℕ → Type 0) → MatchOption r ((n ≡ 0) × (m ≡ 0)) P → m ≡ length xs → IfNone r (xs ≡ [])
+none_left None n m xs P h e = nil_from_length xs (sym e ∙ h.1)
+none_left (Some x) n m xs P h e = tt

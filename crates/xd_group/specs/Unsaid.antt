@@ -1,5 +1,5 @@
 -- What is said of workers whose links are not read.
-use Rattle.std.specs.Prelude.{◌≡◌, ◌⊎◌, ◌<◌, ℕ, Bool, true, false, List, [], ◌∷◌, Option, Some, None, length, slice_get}
+use Rattle.std.specs.Prelude.{◌≡◌, ◌⊎◌, ◌<◌, ℕ, Bool, true, false, List, [], ◌∷◌, ◌++◌, Option, Some, None, length, slice_get}
 use Rattle.xd_journal.specs.declared.news.News.{News}
 use Rattle.xd_journal.specs.declared.news.What.TheVariants.{NotStarted}
 use Rattle.xd_group.specs.Kept.{said_by}
@@ -21,3 +21,9 @@ pub record Unsaid (given : List News) (workers : List ℕ) (pages : List (Option
 abbrev pub wait_one : Bool → ℕ → List ℕ
 wait_one true k = []
 wait_one false k = k ∷ []
+
+-- Of the number that waited last it is said that its worker was not started, and it waits no more; nothing is said where no
+-- number waited.
+abbrev pub SaysNext : List ℕ → List ℕ → List ℕ → Option News → Type 0
+SaysNext workers waiting rest None = (waiting ≡ []) × (rest ≡ [])
+SaysNext workers waiting rest (Some n) = (k : ℕ) × (waiting ≡ rest ++ k ∷ []) × (slice_get workers k ≡ Some n.worker) × (n.what ≡ NotStarted)

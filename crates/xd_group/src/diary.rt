@@ -106,6 +106,7 @@ impl Diary {
     /// A number whose worker's next news is that it was not started.
     pub fn next_waiting(&mut self) -> Option<u32>
         ensures waiting { self.old.waiting.items ≡ self.new.waiting.items ++ option_to_list result }
+        ensures none { IfNone result (self.new.waiting.items ≡ []) }
         ensures calls { noted self.new.calls ≡ noted self.old.calls }
         ensures given { noted self.new.given ≡ noted self.old.given }
         ensures workers { self.new.workers ≡ self.old.workers }

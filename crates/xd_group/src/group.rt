@@ -14,9 +14,7 @@ ghost use Rattle.xd_group.specs.Unsaid.{Unsaid};
 use crate::diary::Diary;
 use crate::fate::Fate;
 use crate::post::Post;
-use crate::posts::{
-    have_ended, hear_at, hear_late_at, is_without, leave_at, push_none, push_post, tell_at,
-};
+use crate::posts::{have_ended, hear_at, hear_late_at, leave_at, push_none, push_post, tell_at};
 use crate::spare::{Spare, keep, take_kept};
 use std::alloc::Global;
 use std::snapshot::Snapshot;
@@ -93,6 +91,7 @@ impl<S: Source + Drop, N: Sink + Drop, C: Crew<Reader<S>>> Group<S, N, C> {
     ghost use Rattle.xd_group.specs.declared.fate.Fate.TheVariants.{Linked, Refused, Unlinked};
     ghost use Rattle.xd_group.specs.Fates.{EndedFrom, has_link, is_linked};
     ghost use Rattle.xd_group.specs.Pages.{taken_of, page_opened};
+    ghost use Rattle.xd_group.specs.Unsaid.{SaysNext};
     ghost use Rattle.xd_group.specs.Unused.{Unused};
     ghost use Rattle.xd_group.specs.Late.{Late, RanAt, Settled, settled_at};
     ghost use Rattle.xd_group.specs.Kills.{KeepsLost, LostAt};
@@ -303,10 +302,11 @@ impl<S: Source + Drop, N: Sink + Drop, C: Crew<Reader<S>>> Group<S, N, C> {
         self.diary.place_of(worker)
     }
 
-    /// News of a worker that has no link.
+    /// News of a worker whose link is not read, where one is still to be told of.
     pub fn next_unlinked(&mut self) -> Option<News>
         ensures started { IfSome result (λ n. IsStarted (noted self.old.diary.calls) n.worker) }
         ensures no_breach { IfSome result (λ n. is_breach n.what ≡ false) }
+        ensures waited { self.old.is_whole ≡ true → SaysNext self.old.diary.workers.items self.old.diary.waiting.items self.new.diary.waiting.items result }
         ensures given { IfSome result (λ n. noted self.new.diary.given ≡ noted self.old.diary.given ++ n ∷ []) }
         ensures silent { IfNone result (noted self.new.diary.given ≡ noted self.old.diary.given) }
         ensures calls { noted self.new.diary.calls ≡ noted self.old.diary.calls }
@@ -315,15 +315,15 @@ impl<S: Source + Drop, N: Sink + Drop, C: Crew<Reader<S>>> Group<S, N, C> {
         ensures posts { self.new.posts ≡ self.old.posts }
         ensures made { (self.new.suite ≡ self.old.suite) × (self.new.mode ≡ self.old.mode) × (self.new.first ≡ self.old.first) }
     {
+        if !self.is_whole {
+            return None;
+        }
         let Some(number) = self.diary.next_waiting() else {
             return None;
         };
         let Some(worker) = self.diary.worker_at(number) else {
-            return None;
+            unreachable!()
         };
-        if !is_without(&self.posts, number as usize) {
-            return None;
-        }
         let news = News {
             worker,
             what: What::NotStarted,

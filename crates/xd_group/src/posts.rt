@@ -4,7 +4,7 @@ ghost use Rattle.std.specs.Str.{encode_utf8_all};
 ghost use Rattle.xd_drive.specs.Marks.{is_breach};
 ghost use Rattle.xd_gateway.specs.Orders.{order_of};
 ghost use Rattle.xd_group.specs.Ends.{EndsSo};
-ghost use Rattle.xd_group.specs.Pages.{HasPage, HeardAt, IsHeardAt, IsToldAt, Page, ToldAt, page_opened};
+ghost use Rattle.xd_group.specs.Pages.{HeardAt, IsHeardAt, IsToldAt, Page, ToldAt, page_opened};
 ghost use Rattle.xd_link.specs.FreshLink.{unused};
 ghost use Rattle.xd_group.specs.Late.{IsLateAt, LateAt};
 ghost use Rattle.xd_group.specs.Kills.{KeepsLost, LostAt};
@@ -17,16 +17,6 @@ use std::alloc::Global;
 use xd_edge::{ModeKind, OutOfMemory, Sink, Text};
 use xd_journal::Entry;
 use xd_reader::LinkNews;
-
-/// Whether there is a link at the place.
-pub fn has_post<N: Sink + Drop>(posts: &[Option<Post<N>>], at: usize) -> bool
-    ensures { result ≡ true → HasPage (pages_of posts.now) at }
-{
-    if at >= posts.len() {
-        return false;
-    }
-    posts[at].is_some()
-}
 
 /// Tells an order to the link at the place. Says whether a write failed, now or before.
 pub fn tell_at<N: Sink + Drop>(
@@ -139,16 +129,6 @@ pub fn push_none<N: Sink + Drop>(posts: &mut Vec<Option<Post<N>>>) -> Result<(),
 {
     posts.push(None)?;
     Ok(())
-}
-
-/// Whether the place has no link.
-pub fn is_without<N: Sink + Drop>(posts: &[Option<Post<N>>], at: usize) -> bool
-    ensures { result ≡ true → HasPage (pages_of posts.now) at → ⊥ }
-{
-    if at >= posts.len() {
-        return false;
-    }
-    posts[at].is_none()
 }
 
 // Takes the post apart when nothing more is to come of its link.
