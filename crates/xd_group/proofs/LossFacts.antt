@@ -75,10 +75,6 @@ module _ {N : Type 0} {g : _} where
   lost_there xs k b true h e =
       ap (λ (l : List Bool). slice_get l k) (map-set is_lost_at xs k (Some b)) ∙ (set_there (losses_of xs) k b.is_lost (omega (arith, h, map_length is_lost_at xs)) ∙ ap Some (sym e))
 
-  pub lost_same : (xs : List (Option (Post N g))) (k : ℕ) (was : Option (Post N g)) (a b : Post N g) → was ≡ Some a → slice_get xs k ≡ Some was → b.is_lost ≡ a.is_lost → losses_of (slice_set xs k (Some b)) ≡ losses_of xs
-  lost_same xs k was a b is at e =
-      map-set is_lost_at xs k (Some b) ∙ set_same (losses_of xs) k b.is_lost (slice_get-map is_lost_at xs k ∙ (ap (option_map is_lost_at) (at ∙ ap Some is) ∙ ap Some (sym e)))
-
   pub lost_more : (xs all : List (Option (Post N g))) (o : Option (Post N g)) → all ≡ xs ++ o ∷ [] → KeepsLost (losses_of xs) (losses_of all)
   lost_more xs all o is i e = ap (λ (l : List (Option (Post N g))). slice_get (losses_of l) i) is ∙ (ap (λ (l : List Bool). slice_get l i) (map-append is_lost_at xs (o ∷ [])) ∙ front (losses_of xs) (is_lost_at o ∷ []) i e)
 

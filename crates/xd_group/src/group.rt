@@ -342,7 +342,7 @@ impl<S: Source + Drop, N: Sink + Drop, C: Crew<Reader<S>>> Group<S, N, C> {
         ensures late { (first : List (Option Settled)) → ∥ Late first (news_of (mails links.old.desk)) (pages_of posts.old.items) ∥₁
             → OnOk result (∥ Late first (news_of (mails links.new.desk)) (pages_of posts.new.items) ∥₁) }
         ensures seats { OnOk result (map is_some (pages_of posts.new.items) ≡ map is_some (pages_of posts.old.items)) }
-        ensures lost { OnOk result (losses_of posts.new.items ≡ losses_of posts.old.items) }
+        ensures keeps { OnOk result (KeepsLost (losses_of posts.old.items) (losses_of posts.new.items)) }
         ensures crew { links.new.crew ≡ links.old.crew }
     {
         let (number, item) = links.next(rt);
@@ -361,7 +361,7 @@ impl<S: Source + Drop, N: Sink + Drop, C: Crew<Reader<S>>> Group<S, N, C> {
             → OnOk result (∥ Late first (news_of (mails links.new.desk)) (pages_of posts.new.items) ∥₁) }
         ensures ended { OnOk result (list_all has_ended posts.new.items ≡ true) }
         ensures seats { OnOk result (map is_some (pages_of posts.new.items) ≡ map is_some (pages_of posts.old.items)) }
-        ensures lost { OnOk result (losses_of posts.new.items ≡ losses_of posts.old.items) }
+        ensures keeps { OnOk result (KeepsLost (losses_of posts.old.items) (losses_of posts.new.items)) }
         ensures crew { links.new.crew ≡ links.old.crew }
     {
         for _ in rt.forever() {
@@ -377,7 +377,7 @@ impl<S: Source + Drop, N: Sink + Drop, C: Crew<Reader<S>>> Group<S, N, C> {
     pub fn settle<R: Wait>(&mut self, rt: &R) -> Result<(), OutOfMemory>
         ensures late { OnOk result (∥ Late (map settled_at (pages_of self.old.posts.items)) (news_of (mails self.new.links.desk)) (pages_of self.new.posts.items) ∥₁) }
         ensures ended { OnOk result (EndedFrom 0 (ends_of self.new.posts.items) self.old.diary.fates.items) }
-        ensures lost { OnOk result (losses_of self.new.posts.items ≡ losses_of self.old.posts.items) }
+        ensures keeps { OnOk result (KeepsLost (losses_of self.old.posts.items) (losses_of self.new.posts.items)) }
         ensures crew { (self.new.links.crew ≡ self.old.links.crew) × (self.new.first ≡ self.old.first) }
         ensures spares { self.new.spares ≡ self.old.spares }
         ensures whole { OnOk result (self.old.is_whole ≡ true) }

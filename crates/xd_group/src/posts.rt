@@ -74,7 +74,7 @@ pub fn hear_late_at<N: Sink + Drop>(
     requires late { ∥ IsLateAt (pages_of posts.old.items) at ∥₁ }
     ensures late { OnOk result (LateAt item at (pages_of posts.old.items) (pages_of posts.new.items)) }
     ensures seats { OnOk result (map is_some (pages_of posts.new.items) ≡ map is_some (pages_of posts.old.items)) }
-    ensures lost { OnOk result (losses_of posts.new.items ≡ losses_of posts.old.items) }
+    ensures keeps { OnOk result (KeepsLost (losses_of posts.old.items) (losses_of posts.new.items)) }
 {
     if at >= posts.len() {
         unreachable!()

@@ -44,7 +44,7 @@ loop-number-init g c =
       crew = ap g.C.Crew.faults settled.crew.0;
       diary = settled.diary;
       kills = was.kills settled.whole;
-      lost = λ k h e. ap (λ (l : List _). slice_get l k) settled.lost ∙ e;
+      lost = λ k h e. settled.keeps k e;
       killed = λ k d h. absurd (let size : length c.new-ends.result.items ≡ 0 = ap length none in omega (arith, h, size));
     }
 
