@@ -117,10 +117,12 @@ impl<St: Starter, C: Crew<Reader<St::Src>>> GatewayHub<St, C> {
     // Takes an item of a link, where no child that was killed is still to be waited for.
     fn take<R: Wait>(&mut self, rt: &R) -> Result<Option<News>, OutOfMemory>
         requires buried { list_all is_buried self.old.children.children.items ≡ true }
+        requires none_waits { self.old.group.is_whole ≡ true → self.old.group.diary.waiting.items ≡ [] }
         ensures started { IfOk result (λ r. IfSome r (λ n. IsStarted (noted self.old.group.diary.calls) n.worker)) }
         ensures given { IfOk result (λ r. IfSome r (λ n. noted self.new.group.diary.given ≡ noted self.old.group.diary.given ++ n ∷ [])) }
         ensures no_breach { IfOk result (λ r. IfSome r (λ n. is_breach n.what ≡ false)) }
         ensures silent { IfOk result (λ r. IfNone r (noted self.new.group.diary.given ≡ noted self.old.group.diary.given)) }
+        ensures waiting { self.new.group.diary.waiting ≡ self.old.group.diary.waiting }
         ensures calls { noted self.new.group.diary.calls ≡ noted self.old.group.diary.calls }
         ensures whole { OnOk result (self.new.group.is_whole ≡ self.old.group.is_whole) }
         ensures made { (self.new.group.suite ≡ self.old.group.suite) × (self.new.group.mode ≡ self.old.group.mode) }
@@ -133,10 +135,12 @@ impl<St: Starter, C: Crew<Reader<St::Src>>> GatewayHub<St, C> {
 
     // Waits for the children that were killed, and takes an item of a link.
     fn step<R: Wait>(&mut self, rt: &R) -> Result<Option<News>, OutOfMemory>
+        requires none_waits { self.old.group.is_whole ≡ true → self.old.group.diary.waiting.items ≡ [] }
         ensures started { IfOk result (λ r. IfSome r (λ n. IsStarted (noted self.old.group.diary.calls) n.worker)) }
         ensures given { IfOk result (λ r. IfSome r (λ n. noted self.new.group.diary.given ≡ noted self.old.group.diary.given ++ n ∷ [])) }
         ensures no_breach { IfOk result (λ r. IfSome r (λ n. is_breach n.what ≡ false)) }
         ensures silent { IfOk result (λ r. IfNone r (noted self.new.group.diary.given ≡ noted self.old.group.diary.given)) }
+        ensures waiting { self.new.group.diary.waiting ≡ self.old.group.diary.waiting }
         ensures calls { noted self.new.group.diary.calls ≡ noted self.old.group.diary.calls }
         ensures whole { OnOk result (self.new.group.is_whole ≡ self.old.group.is_whole) }
         ensures made { (self.new.group.suite ≡ self.old.group.suite) × (self.new.group.mode ≡ self.old.group.mode) }

@@ -131,12 +131,14 @@ impl<S: Source + Drop, N: Sink + Drop, C: Crew<Reader<S>>> Group<S, N, C> {
         Ok(cut_of(is_cut, number))
     }
 
-    /// Takes an item of a link, and gives its news.
-    pub fn step<R: Wait>(&mut self, rt: &R) -> Result<Step, OutOfMemory>
+    /// Takes an item of a link, and gives its news, where nobody is still to be told of whose link is not read.
+    pub(crate) fn step<R: Wait>(&mut self, rt: &R) -> Result<Step, OutOfMemory>
+        requires none_waits { self.old.is_whole ≡ true → self.old.diary.waiting.items ≡ [] }
         ensures started { IfOk result (λ r. IfSome r.news (λ n. IsStarted (noted self.old.diary.calls) n.worker)) }
         ensures given { IfOk result (λ r. IfSome r.news (λ n. noted self.new.diary.given ≡ noted self.old.diary.given ++ n ∷ [])) }
         ensures silent { IfOk result (λ r. IfNone r.news (noted self.new.diary.given ≡ noted self.old.diary.given)) }
         ensures no_breach { IfOk result (λ r. IfSome r.news (λ n. is_breach n.what ≡ false)) }
+        ensures waiting { self.new.diary.waiting ≡ self.old.diary.waiting }
         ensures calls { noted self.new.diary.calls ≡ noted self.old.diary.calls }
         ensures starts { (self.new.diary.workers ≡ self.old.diary.workers) × (self.new.diary.fates ≡ self.old.diary.fates) }
         ensures whole { OnOk result (self.new.is_whole ≡ self.old.is_whole) }
