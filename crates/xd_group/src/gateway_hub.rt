@@ -177,7 +177,8 @@ impl<St: Starter, C: Crew<Reader<St::Src>>> GatewayHub<St, C> {
         ensures asked { map is_some self.old.children.children.items ≡ map has_link self.old.group.diary.fates.items → all_asked (take number self.old.children.children.items) ≡ map (λ l. end_told l.killed) ends.old.items
             → OnOk result (all_asked (take (number + 1) self.new.children.children.items) ≡ map (λ l. end_told l.killed) ends.new.items) }
         ensures crew { (C.faults self.new.group.links.crew ≡ C.faults self.old.group.links.crew) × (self.new.group.first ≡ self.old.group.first) }
-        ensures killed { (calls : List Entry) (lost : List Bool) → map is_some self.old.children.children.items ≡ map has_link self.old.group.diary.fates.items → ∥ KilledSo self.old.children.children.items calls self.old.group.diary.workers.items self.old.group.diary.fates.items lost ∥₁
+        ensures killed { (suite : List ℕ) (mode : ModeKind) (taken : List (Option (List LinkNews))) (calls : List Entry) (given : List News) (pages : List (Option Page)) (lost : List Bool)
+            → ∥ Kept suite mode taken calls given self.old.group.diary.workers.items pages ∥₁ → map is_some self.old.children.children.items ≡ map has_link self.old.group.diary.fates.items → ∥ KilledSo self.old.children.children.items calls self.old.group.diary.workers.items self.old.group.diary.fates.items lost ∥₁
             → (slice_get lost number ≡ Some true → slice_get (losses_of self.old.group.posts.items) number ≡ Some true)
             → All (λ l. ∥ EndKilledSo calls (workers_with is_refused self.old.group.diary.workers.items self.old.group.diary.fates.items) l.worker l.killed (St.Snk.faults l.sink) ∥₁) ends.old.items
             → OnOk result (All (λ l. ∥ EndKilledSo calls (workers_with is_refused self.old.group.diary.workers.items self.old.group.diary.fates.items) l.worker l.killed (St.Snk.faults l.sink) ∥₁) ends.new.items) }

@@ -1,4 +1,4 @@
-use Rattle.std.proofs.Math.Logic.{∥∥₁_map}
+use Rattle.std.proofs.Math.Logic.{∥∥₁_map, ∥∥₁_map₂}
 use Rattle.xd_group.specs.Kills.{EndKilledSo}
 use Rattle.xd_group.proofs.Killing.{end_killed, kills_reaped}
 use Rattle.std.proofs.Common.{◌≡◌, ◌+◌, ◌++◌, ◌∷◌, [], List, ap, arith, map, rules, sym, ◌∙◌}
@@ -73,7 +73,7 @@ returns-in_default-clause-asked g c linked was =
     asked_past cs c.args.number (c.args.number + 1) (omega arith) (no_child cs c.args.self.now.group.diary.fates.items c.args.number fate.0 linked fate.1 (sym fate.2 ∙ ap is_some (none_of c.end_link-left.result c.in_default.not-Some))) ∙ was
 
 pub returns-in_ok-push-clause-killed : goal.returns-in_ok-push-clause-killed
-returns-in_ok-push-clause-killed g c calls lost linked kills still all =
+returns-in_ok-push-clause-killed g c suite mode taken calls given pages lost kept linked kills still all =
     let diary = c.args.self.now.group.diary in
     let end : LinkEnd g.row.St-Src.Denot g.row.St-Snk.Denot = record { worker = c.in-Some.ended.worker; source = c.in-Some.ended.source; sink = c.in-Some.ended.sink; killed = c.reap-killed.result } in
     let P : LinkEnd g.row.St-Src.Denot g.row.St-Snk.Denot → Type 0 = λ l. ∥ EndKilledSo calls (workers_with is_refused diary.workers.items diary.fates.items) l.worker l.killed (g.St.Snk.Sink.faults l.sink) ∥₁ in
@@ -83,8 +83,8 @@ returns-in_ok-push-clause-killed g c calls lost linked kills still all =
     let link = sym fate.2 ∙ ap is_some c.in-Some.is in
     let kid = child_there cs diary.fates.items c.args.number fate.0 linked fate.1 link in
     let at = some_of _ c.end_link-left.result _ c.in-Some.is left.worker in
-    let so : P end = ∥∥₁_map kills
-    (λ k. end_killed cs calls diary.workers.items diary.fates.items lost c.args.number end.worker kid.0 fate.0 end.killed (g.St.Snk.Sink.faults end.sink) at fate.1 link kid.1 (c.reap-killed.ensures.killed kid.0 kid.1) (λ h l. some_of _ c.end_link-left.result _ c.in-Some.is (left.lost h) (still l)) k) in
+    let so : P end = ∥∥₁_map₂ kept kills
+    (λ kp k. end_killed cs calls diary.workers.items diary.fates.items lost c.args.number end.worker kid.0 fate.0 end.killed (g.St.Snk.Sink.faults end.sink) at fate.1 link kid.1 (c.reap-killed.ensures.killed kid.0 kid.1) (λ h l. some_of _ c.end_link-left.result _ c.in-Some.is (left.lost h) (still l)) kp.apart k) in
     let is : c.push.new.self.items ≡ c.args.ends.now.items ++ end ∷ [] = search rules in
     All-same P _ _ is (All-push P c.args.ends.now.items end all so)
 

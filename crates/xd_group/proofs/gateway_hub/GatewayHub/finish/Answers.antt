@@ -81,7 +81,7 @@ loop-number-preserved g c =
       diary = done.diary ∙ inv.diary;
       kills = rw (inv.diary) at (done.kills calls (losses_of was.posts.items) (rw (inv.diary) inv.kills));
       lost = λ k h e. done.others k (omega (arith, h)) (inv.lost k (omega (arith, h)) e);
-      killed = rw (inv.diary) at (done.killed calls (losses_of was.posts.items) (rw (inv.diary) inv.linked) (rw (inv.diary) inv.kills) (λ e. inv.lost c.loop-number.number (omega arith) e) (rw (inv.diary) inv.killed));
+      killed = rw (inv.diary) at (done.killed was.suite was.mode taken calls given pages (losses_of was.posts.items) (rw (inv.diary) inv.kept) (rw (inv.diary) inv.linked) (rw (inv.diary) inv.kills) (λ e. inv.lost c.loop-number.number (omega arith) e) (rw (inv.diary) inv.killed));
     }
 
 pub returns-clause-workers : goal.returns-clause-workers
