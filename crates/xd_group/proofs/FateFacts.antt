@@ -5,7 +5,7 @@ use Rattle.std.proofs.lemmas.Bool.Decides.{nat_tests}
 use Rattle.std.proofs.lemmas.List.{map-append}
 use Rattle.xd_drive.specs.Listed.{is_among}
 use Rattle.xd_group.specs.Children.{Asked, all_asked, asked, changed_at, failed_starts, reaped_child}
-use Rattle.xd_group.specs.Fates.{KeptFrom, has_link, is_refused, is_unlinked, workers_with}
+use Rattle.xd_group.specs.Fates.{KeptFrom, SoFrom, has_link, is_refused, is_unlinked, workers_with}
 use Rattle.xd_group.specs.Few.{count_with}
 use Rattle.xd_group.specs.Returned.{end_told}
 use Rattle.xd_group.specs.declared.child.Child.{Child}
@@ -215,6 +215,12 @@ worker_there (w ∷ ws) (g ∷ fs) (suc k) f e b = worker_there ws fs k f (omega
 pub with_all : (which : Fate → Bool) (ws : List ℕ) (fs : List Fate) (n : ℕ) → n ≡ length ws → length fs ≡ length ws → workers_with which (take n ws) (take n fs) ≡ workers_with which ws fs
 with_all which ws fs n e m = ap (λ (l : List ℕ). workers_with which l (take n fs)) (take_all ws n e) ∙ ap (workers_with which ws) (take_all fs n (e ∙ sym m))
 
+-- what stands at a place of the list
+pub not_within : {X : Type 0} (xs : List X) (k : ℕ) → k < length xs → slice_get xs k ≡ None → ⊥
+not_within [] k h e = omega (arith, h)
+not_within (x ∷ xs) zero h e = cc e
+not_within (x ∷ xs) (suc k) h e = not_within xs k (omega (arith, h)) e
+
 -- ---- links that are kept
 
 pub spared_more : (spares next : List Bool) (fates fs : List Fate) (f : Fate) → next ≡ spares ++ is_refused f ∷ [] → fs ≡ fates ++ f ∷ [] → spares ≡ map is_refused fates → next ≡ map is_refused fs
@@ -229,5 +235,5 @@ spared_from spares fates e k h f = ap (λ (l : List Bool). slice_get l k) e ∙ 
     at (g ∷ fs) (suc k) f = at fs k f
 
 -- one number further
-pub spared_past : (n : ℕ) (spares next : List Bool) (fates : List Fate) → ((k : ℕ) → n < k → slice_get spares k ≡ Some true → slice_get next k ≡ Some true) → KeptFrom n spares fates → KeptFrom (n + 1) next fates
-spared_past n spares next fates others kept k h f = others k (omega (arith, h)) (kept k (omega (arith, h)) f)
+pub so_past : (f : Fate) (n : ℕ) (so next : List Bool) (fates : List Fate) → ((k : ℕ) → n < k → slice_get so k ≡ Some true → slice_get next k ≡ Some true) → SoFrom f n so fates → SoFrom f (n + 1) next fates
+so_past f n so next fates others was k h e = others k (omega (arith, h)) (was k (omega (arith, h)) e)

@@ -17,7 +17,7 @@ use Rattle.xd_group.specs.Kills.{EndKilledSo, KeepsLost, KilledSo, LostAt}
 use Rattle.xd_group.specs.declared.child.Child.{Child}
 use Rattle.xd_group.specs.declared.fate.Fate.{Fate}
 use Rattle.xd_group.specs.declared.fate.Fate.TheVariants as fate
-use Rattle.xd_group.proofs.FateFacts.{among_with}
+use Rattle.xd_group.proofs.FateFacts.{among_with, not_with}
 use Rattle.xd_group.proofs.Keeping.{either_worker, same_some, started_before}
 
 -- ---- kills among the calls
@@ -97,6 +97,7 @@ pub kills_first : (cs : List (Option Child)) (calls : List Entry) (workers : Lis
 kills_first cs calls workers fates lost a b =
     record {
       wherever = λ k w c wi ci h. let e : slice_get [] k ≡ Some w = ap (λ (l : List ℕ). slice_get l k) (sym b) ∙ wi in absurd (cc e);
+      refused = λ k w c wi ci h. let e : slice_get [] k ≡ Some w = ap (λ (l : List ℕ). slice_get l k) (sym b) ∙ wi in absurd (cc e);
       only = λ k w c wi ci h. let e : slice_get [] k ≡ Some w = ap (λ (l : List ℕ). slice_get l k) (sym b) ∙ wi in absurd (cc e);
       new = λ w f. ap (was_killed w) a;
     }
@@ -106,6 +107,7 @@ pub kills_called : (cs : List (Option Child)) (calls all : List Entry) (workers 
 kills_called cs calls all workers fates lost e is none s =
     record {
       wherever = λ k w c wi ci h. s.wherever k w c wi ci (sym (killed_same w calls all e is (none w)) ∙ h);
+      refused = s.refused;
       only = λ k w c wi ci h. more w (s.only k w c wi ci h);
       new = λ w f. killed_same w calls all e is (none w) ∙ s.new w (started_before w calls all e is f);
     }
@@ -124,6 +126,7 @@ pub kills_cut : (cs cs_all : List (Option Child)) (calls : List Entry) (workers 
 kills_cut cs cs_all calls workers fates lost next cut keeps at is s =
     record {
       wherever = λ k w c wi ci h. always k w c wi h (cut_from cs cut k c (ap (λ (l : List (Option Child)). slice_get l k) (sym is) ∙ ci));
+      refused = λ k w c wi ci f. at_refused k w c wi f (cut_from cs cut k c (ap (λ (l : List (Option Child)). slice_get l k) (sym is) ∙ ci));
       only = λ k w c wi ci h. alone k w c wi h (cut_from cs cut k c (ap (λ (l : List (Option Child)). slice_get l k) (sym is) ∙ ci));
       new = s.new;
     }
@@ -131,6 +134,10 @@ kills_cut cs cs_all calls workers fates lost next cut keeps at is s =
     always : (k w : ℕ) (c : Child) → slice_get workers k ≡ Some w → was_killed w calls ≡ true → CutFrom cs cut k c → c.is_killed ≡ true
     always k w c wi h (AsBefore m e) = s.wherever k w c wi e h
     always k w c wi h (Killed old e n same) = ap (λ (d : Child). d.is_killed) same
+
+    at_refused : (k w : ℕ) (c : Child) → slice_get workers k ≡ Some w → slice_get fates k ≡ Some fate.Refused → CutFrom cs cut k c → c.is_killed ≡ true
+    at_refused k w c wi f (AsBefore m e) = s.refused k w c wi e f
+    at_refused k w c wi f (Killed old e n same) = ap (λ (d : Child). d.is_killed) same
 
     alone : (k w : ℕ) (c : Child) → slice_get workers k ≡ Some w → c.is_killed ≡ true → CutFrom cs cut k c → (was_killed w calls ≡ true) ⊎ ((slice_get fates k ≡ Some fate.Refused) ⊎ (slice_get next k ≡ Some true))
     alone k w c wi h (AsBefore m e) = kept_loss lost next k keeps (s.only k w c wi e h)
@@ -159,6 +166,7 @@ pub kills_kill : (cs cs_all : List (Option Child)) (calls all : List Entry) (wor
 kills_kill cs cs_all calls all workers fates lost w cut is on some none apart then s =
     record {
       wherever = λ k v c wi ci h. always k v c wi h (either_worker v w) (cut_from cs cut k c (ap (λ (l : List (Option Child)). slice_get l k) (sym then) ∙ ci));
+      refused = λ k v c wi ci f. at_refused k v c wi f (cut_from cs cut k c (ap (λ (l : List (Option Child)). slice_get l k) (sym then) ∙ ci));
       only = λ k v c wi ci h. alone k v c wi h (cut_from cs cut k c (ap (λ (l : List (Option Child)). slice_get l k) (sym then) ∙ ci));
       new = λ v f. killed_same v calls all (entry.Kill w) is (other_self w v (λ e. no_way (was_started v calls) (ap (λ (u : ℕ). was_started u calls) (sym e) ∙ on) (started_before v calls all (entry.Kill w) is f))) ∙ s.new v (started_before v calls all (entry.Kill w) is f);
     }
@@ -167,6 +175,10 @@ kills_kill cs cs_all calls all workers fates lost w cut is on some none apart th
     always k v c wi h e (Killed old o n same) = ap (λ (d : Child). d.is_killed) same
     always k v c wi h (inl e) (AsBefore m o) = absurd (m (cut_there workers w cut k apart some none (wi ∙ ap Some e)))
     always k v c wi h (inr n) (AsBefore m o) = s.wherever k v c wi o (sym (killed_same v calls all (entry.Kill w) is (other_self w v (λ e. n (sym e)))) ∙ h)
+
+    at_refused : (k v : ℕ) (c : Child) → slice_get workers k ≡ Some v → slice_get fates k ≡ Some fate.Refused → CutFrom cs cut k c → c.is_killed ≡ true
+    at_refused k v c wi f (AsBefore m o) = s.refused k v c wi o f
+    at_refused k v c wi f (Killed old o n same) = ap (λ (d : Child). d.is_killed) same
 
     by_worker : (k v : ℕ) → slice_get workers k ≡ Some v → (o : Option ℕ) → o ≡ Some k → IfSome o (λ at. slice_get workers at ≡ Some w) → was_killed v all ≡ true
     by_worker k v wi None n some = absurd (cc n)
@@ -238,6 +250,7 @@ pub kills_start : (cs cs_all : List (Option Child)) (calls all : List Entry) (wo
 kills_start cs cs_all calls all workers ws fates fs lost next w slot o f is fresh wis fis cis new count fcount keeps s =
     record {
       wherever = λ k v c wi ci h. always k v c (ap (λ (l : List ℕ). slice_get l k) (sym wis) ∙ wi) (same v h) (from k c ci);
+      refused = λ k v c wi ci r. at_refused k v c (ap (λ (l : List ℕ). slice_get l k) (sym wis) ∙ wi) (push_read fates k f fate.Refused (ap (λ (l : List Fate). slice_get l k) (sym fis) ∙ r)) (cuts k c ci);
       only = λ k v c wi ci h. alone k v c (ap (λ (l : List ℕ). slice_get l k) (sym wis) ∙ wi) h (from k c ci);
       new = λ v n. killed_same v calls all (entry.Start w slot) is refl ∙ s.new v (started_before v calls all (entry.Start w slot) is n);
     }
@@ -245,8 +258,11 @@ kills_start cs cs_all calls all workers ws fates fs lost next w slot o f is fres
     same : (v : ℕ) → was_killed v all ≡ true → was_killed v calls ≡ true
     same v h = sym (killed_same v calls all (entry.Start w slot) is refl) ∙ h
 
+    cuts : (k : ℕ) (c : Child) → slice_get cs_all k ≡ Some (Some c) → CutFrom (cs ++ o ∷ []) (then_some (is_refused f) (length cs)) k c
+    cuts k c ci = cut_from (cs ++ o ∷ []) (then_some (is_refused f) (length cs)) k c (ap (λ (l : List (Option Child)). slice_get l k) (sym cis) ∙ ci)
+
     from : (k : ℕ) (c : Child) → slice_get cs_all k ≡ Some (Some c) → (slice_get cs k ≡ Some (Some c)) ⊎ ((k ≡ length cs) × ((o ≡ Some c) ⊎ (then_some (is_refused f) (length cs) ≡ Some k)))
-    from k c ci = pushed cs o (then_some (is_refused f) (length cs)) k c (cut_from (cs ++ o ∷ []) (then_some (is_refused f) (length cs)) k c (ap (λ (l : List (Option Child)). slice_get l k) (sym cis) ∙ ci)) (cut_kind (is_refused f) (length cs))
+    from k c ci = pushed cs o (then_some (is_refused f) (length cs)) k c (cuts k c ci) (cut_kind (is_refused f) (length cs))
 
     not_killed : (v : ℕ) → was_killed v calls ≡ true → v ≡ w → ⊥
     not_killed v h e = no_way (was_killed v calls) h (s.new v (ap (λ (u : ℕ). was_started u calls) e ∙ fresh))
@@ -257,6 +273,18 @@ kills_start cs cs_all calls all workers ws fates fs lost next w slot o f is fres
     always : (k v : ℕ) (c : Child) → slice_get (workers ++ w ∷ []) k ≡ Some v → was_killed v calls ≡ true → (slice_get cs k ≡ Some (Some c)) ⊎ ((k ≡ length cs) × ((o ≡ Some c) ⊎ (then_some (is_refused f) (length cs) ≡ Some k))) → c.is_killed ≡ true
     always k v c wi h (inl e) = s.wherever k v c (worker_was workers w k v wi (λ n. within cs k (Some c) e (n ∙ count))) e h
     always k v c wi h (inr p) = absurd (not_killed v h (last k v p.0 wi))
+
+    -- a child that stands as it was pushed is one of those before, where the place of the last one is cut
+    not_last : (k : ℕ) (c : Child) → slice_get fates k ≡ Some fate.Refused → ((k ≡ length cs) × (Some c ≡ o)) ⊎ (slice_get cs k ≡ Some (Some c)) → slice_get cs k ≡ Some (Some c)
+    not_last k c r (inl a) = absurd (within fates k fate.Refused r (a.0 ∙ sym fcount))
+    not_last k c r (inr e) = e
+
+    at_refused : (k v : ℕ) (c : Child) → slice_get (workers ++ w ∷ []) k ≡ Some v → ((k ≡ length fates) × (fate.Refused ≡ f)) ⊎ (slice_get fates k ≡ Some fate.Refused) → CutFrom (cs ++ o ∷ []) (then_some (is_refused f) (length cs)) k c → c.is_killed ≡ true
+    at_refused k v c wi r (Killed old e n is_so) = ap (λ (d : Child). d.is_killed) is_so
+    at_refused k v c wi (inl a) (AsBefore m e) = absurd (m (ap (λ (b : Bool). then_some b (length cs)) (ap is_refused (sym a.1)) ∙ ap Some (sym fcount ∙ sym a.0)))
+    at_refused k v c wi (inr r) (AsBefore m e) =
+        let before = not_last k c r (push_read cs k o (Some c) e) in
+        s.refused k v c (worker_was workers w k v wi (λ n. within cs k (Some c) before (n ∙ count))) before r
 
     earlier : (k v : ℕ) → (was_killed v calls ≡ true) ⊎ ((slice_get fates k ≡ Some fate.Refused) ⊎ (slice_get lost k ≡ Some true)) → (was_killed v all ≡ true) ⊎ ((slice_get fs k ≡ Some fate.Refused) ⊎ (slice_get next k ≡ Some true))
     earlier k v (inl h) = inl (killed_more v calls all (entry.Start w slot) is h)
@@ -290,6 +318,7 @@ pub kills_reaped : (cs cs_all : List (Option Child)) (calls : List Entry) (worke
 kills_reaped cs cs_all calls workers fates lost j is s =
     record {
       wherever = λ k w c wi ci h. let it = reaped_from cs j k c (ap (λ (l : List (Option Child)). slice_get l k) (sym is) ∙ ci) in it.2 ∙ s.wherever k w it.0 wi it.1 h;
+      refused = λ k w c wi ci f. let it = reaped_from cs j k c (ap (λ (l : List (Option Child)). slice_get l k) (sym is) ∙ ci) in it.2 ∙ s.refused k w it.0 wi it.1 f;
       only = λ k w c wi ci h. let it = reaped_from cs j k c (ap (λ (l : List (Option Child)). slice_get l k) (sym is) ∙ ci) in s.only k w it.0 wi it.1 (sym it.2 ∙ h);
       new = s.new;
     }
@@ -302,12 +331,19 @@ ends_alone calls workers fates lost k w fate.Unlinked writes wi is link some (in
 ends_alone calls workers fates lost k w fate.Refused writes wi is link some (inr (inr l)) = inr (inl (among_with is_refused workers fates k w fate.Refused wi is refl))
 ends_alone calls workers fates lost k w fate.Linked writes wi is link some (inr (inr l)) = inr (inr (some is l))
 
+-- a worker that is among those whose readers were refused was started once, and so
+ends_refused : (workers : List ℕ) (fates : List Fate) (k w : ℕ) (f : Fate) → ((k l v : ℕ) → slice_get workers k ≡ Some v → slice_get workers l ≡ Some v → k ≡ l) → slice_get workers k ≡ Some w → slice_get fates k ≡ Some f → has_link f ≡ true → is_among w (workers_with is_refused workers fates) ≡ true → slice_get fates k ≡ Some fate.Refused
+ends_refused workers fates k w fate.Unlinked apart wi is link h = absurd (cc link)
+ends_refused workers fates k w fate.Refused apart wi is link h = is
+ends_refused workers fates k w fate.Linked apart wi is link h = absurd (no_way (is_among w (workers_with is_refused workers fates)) h (not_with is_refused workers fates k w fate.Linked apart wi is refl))
+
 -- a link is given back
 pub end_killed : (cs : List (Option Child)) (calls : List Entry) (workers : List ℕ) (fates : List Fate) (lost : List Bool) (k w : ℕ) (c : Child) (f : Fate) (killed : Bool) (writes : ℕ) → slice_get workers k ≡ Some w → slice_get fates k ≡ Some f → has_link f ≡ true → slice_get cs k ≡ Some (Some c) → killed ≡ c.is_killed
-    → (slice_get fates k ≡ Some fate.Linked → slice_get lost k ≡ Some true → 0 < writes) → KilledSo cs calls workers fates lost → EndKilledSo calls (workers_with is_refused workers fates) w killed writes
-end_killed cs calls workers fates lost k w c f killed writes wi is link ci same some s =
+    → (slice_get fates k ≡ Some fate.Linked → slice_get lost k ≡ Some true → 0 < writes) → ((k l v : ℕ) → slice_get workers k ≡ Some v → slice_get workers l ≡ Some v → k ≡ l) → KilledSo cs calls workers fates lost → EndKilledSo calls (workers_with is_refused workers fates) w killed writes
+end_killed cs calls workers fates lost k w c f killed writes wi is link ci same some apart s =
     record {
       wherever = λ h. same ∙ s.wherever k w c wi ci h;
+      at_refused = λ h. same ∙ s.refused k w c wi ci (ends_refused workers fates k w f apart wi is link h);
       only = λ h. ends_alone calls workers fates lost k w f writes wi is link some (s.only k w c wi ci (sym same ∙ h));
     }
 
@@ -327,6 +363,7 @@ pub kills_buried : (cs cs_all : List (Option Child)) (calls : List Entry) (worke
 kills_buried cs cs_all calls workers fates lost is s =
     record {
       wherever = λ k w c wi ci h. let was = buried_from cs k c (ap (λ (l : List (Option Child)). slice_get l k) (sym is) ∙ ci) in was.2 ∙ s.wherever k w was.0 wi was.1 h;
+      refused = λ k w c wi ci f. let was = buried_from cs k c (ap (λ (l : List (Option Child)). slice_get l k) (sym is) ∙ ci) in was.2 ∙ s.refused k w was.0 wi was.1 f;
       only = λ k w c wi ci h. let was = buried_from cs k c (ap (λ (l : List (Option Child)). slice_get l k) (sym is) ∙ ci) in s.only k w was.0 wi was.1 (sym was.2 ∙ h);
       new = s.new;
     }

@@ -1,6 +1,7 @@
 pub mod Asking
 pub mod Calls
 pub mod Counting
+pub mod EndFacts
 pub mod Ending
 pub mod FateFacts
 pub mod Keeping

@@ -1,6 +1,6 @@
--- Links to which a write failed, and links that are kept.
+-- Flags of links, and of those to which a write failed.
 use Rattle.std.proofs.Common.{◌≡◌, ℕ, zero, suc, ◌<◌, ◌≤◌, length, List, [], ◌∷◌, ◌++◌, map, Bool, true, false, Option, Some, None, get_or, refl, sym, ◌∙◌, ap, arith}
-use Rattle.std.specs.Prelude.{IfSome, is_some, option_map, slice_get, slice_set}
+use Rattle.std.specs.Prelude.{is_some, option_map, slice_get, slice_set}
 use Rattle.std.specs.Bool.{then_some}
 use Rattle.std.proofs.Math.ListN.{set}
 use Rattle.std.proofs.lemmas.List.{map-append, map-set}
@@ -75,40 +75,31 @@ module _ {N : Type 0} {g : _} where
   lost_there xs k b true h e =
       ap (λ (l : List Bool). slice_get l k) (map-set is_lost_at xs k (Some b)) ∙ (set_there (losses_of xs) k b.is_lost (omega (arith, h, map_length is_lost_at xs)) ∙ ap Some (sym e))
 
-  pub lost_same : (xs : List (Option (Post N g))) (k : ℕ) (was : Option (Post N g)) (a b : Post N g) → was ≡ Some a → slice_get xs k ≡ Some was → b.is_lost ≡ a.is_lost → losses_of (slice_set xs k (Some b)) ≡ losses_of xs
-  lost_same xs k was a b is at e =
-      map-set is_lost_at xs k (Some b) ∙ set_same (losses_of xs) k b.is_lost (slice_get-map is_lost_at xs k ∙ (ap (option_map is_lost_at) (at ∙ ap Some is) ∙ ap Some (sym e)))
-
   pub lost_more : (xs all : List (Option (Post N g))) (o : Option (Post N g)) → all ≡ xs ++ o ∷ [] → KeepsLost (losses_of xs) (losses_of all)
   lost_more xs all o is i e = ap (λ (l : List (Option (Post N g))). slice_get (losses_of l) i) is ∙ (ap (λ (l : List Bool). slice_get l i) (map-append is_lost_at xs (o ∷ [])) ∙ front (losses_of xs) (is_lost_at o ∷ []) i e)
 
-  pub lost_left : {A : Type 0} (P : A → Type 0) (r : Option A) (xs : List (Option (Post N g))) (k : ℕ) (was : Option (Post N g)) (a : Post N g) → was ≡ get_or xs k was → was ≡ Some a → IfSome r (λ s. a.is_lost ≡ true → P s) → IfSome r (λ s. slice_get (losses_of xs) k ≡ Some true → P s)
-  lost_left P None xs k was a at is h = tt
-  lost_left P (Some s) xs k was a at is h = λ e. h (read_lost xs k was a true at is e)
-
-  pub lost_others : {A : Type 0} (r : Option A) (xs : List (Option (Post N g))) (k : ℕ) (o : Option (Post N g)) → IfSome r (λ s. (i : ℕ) → k < i → slice_get (losses_of xs) i ≡ Some true → slice_get (losses_of (slice_set xs k o)) i ≡ Some true)
-  lost_others None xs k o = tt
-  lost_others (Some s) xs k o = λ i h e. ap (λ (l : List Bool). slice_get l i) (map-set is_lost_at xs k o) ∙ (set_past (losses_of xs) k i (is_lost_at o) h ∙ e)
+  pub lost_left : (P : Type 0) (xs : List (Option (Post N g))) (k : ℕ) (was : Option (Post N g)) (a : Post N g) → was ≡ get_or xs k was → was ≡ Some a → (a.is_lost ≡ true → P) → slice_get (losses_of xs) k ≡ Some true → P
+  lost_left P xs k was a at is h e = h (read_lost xs k was a true at is e)
 
   pub post_count : (xs : List (Option (Post N g))) (n : ℕ) → n ≡ length xs → n ≡ length (pages_of xs)
   post_count xs n e = e ∙ sym (map_length page_of xs)
 
--- ---- links that are kept
+-- ---- flags of links
 
-module _ {X : Type 0} where
-  pub spare_past : (xs : List (Option X)) (k : ℕ) → length xs ≤ k → slice_get (map is_some xs) k ≡ Some true → ⊥
-  spare_past [] k h e = cc e
-  spare_past (x ∷ xs) zero h e = omega (arith, h)
-  spare_past (x ∷ xs) (suc k) h e = spare_past xs k (omega (arith, h)) e
+module _ {X : Type 0} (flag : Option X → Bool) where
+  pub flag_past : (xs : List (Option X)) (k : ℕ) → length xs ≤ k → slice_get (map flag xs) k ≡ Some true → ⊥
+  flag_past [] k h e = cc e
+  flag_past (x ∷ xs) zero h e = omega (arith, h)
+  flag_past (x ∷ xs) (suc k) h e = flag_past xs k (omega (arith, h)) e
 
-  pub spare_there : (xs : List (Option X)) (k : ℕ) (was : Option X) → was ≡ get_or xs k was → slice_get (map is_some xs) k ≡ Some true → was ≡ None → ⊥
-  spare_there xs k was at e n =
-      let there : slice_get (map is_some xs) k ≡ Some (is_some was) = slice_get-map is_some xs k ∙ ap (option_map is_some) (here is_some xs k was true e at) in
-      let both : Some true ≡ Some (is_some was) = sym e ∙ there in
-      let yes : true ≡ is_some was = cc both in
-      let no : is_some was ≡ false = ap is_some n in
-      let z : true ≡ false = yes ∙ no in cc z
+  pub flag_there : (xs : List (Option X)) (k : ℕ) (was : Option X) → was ≡ get_or xs k was → slice_get (map flag xs) k ≡ Some true → flag was ≡ true
+  flag_there xs k was at e =
+      let there : slice_get (map flag xs) k ≡ Some (flag was) = slice_get-map flag xs k ∙ ap (option_map flag) (here flag xs k was true e at) in
+      let both : Some (flag was) ≡ Some true = sym there ∙ e in cc both
 
-  -- another is kept as it was
-  pub spare_taken : (xs : List (Option X)) (k i : ℕ) (o : Option X) → k < i → slice_get (map is_some xs) i ≡ Some true → slice_get (map is_some (slice_set xs k o)) i ≡ Some true
-  spare_taken xs k i o h e = ap (λ (l : List Bool). slice_get l i) (map-set is_some xs k o) ∙ (set_past (map is_some xs) k i (is_some o) h ∙ e)
+  pub flag_none : (xs : List (Option X)) (k : ℕ) (was : Option X) → flag None ≡ false → was ≡ get_or xs k was → slice_get (map flag xs) k ≡ Some true → was ≡ None → ⊥
+  flag_none xs k was unset at e n = let z : true ≡ false = sym (flag_there xs k was at e) ∙ (ap flag n ∙ unset) in cc z
+
+  -- another stays as it was
+  pub flag_kept : (xs : List (Option X)) (k i : ℕ) (o : Option X) → k < i → slice_get (map flag xs) i ≡ Some true → slice_get (map flag (slice_set xs k o)) i ≡ Some true
+  flag_kept xs k i o h e = ap (λ (l : List Bool). slice_get l i) (map-set flag xs k o) ∙ (set_past (map flag xs) k i (flag o) h ∙ e)

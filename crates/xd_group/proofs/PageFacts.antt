@@ -1,6 +1,6 @@
 -- The pages of posts.
 use Rattle.std.proofs.Common.{◌≡◌, ℕ, zero, suc, ◌≤◌, length, List, [], ◌∷◌, ◌++◌, Option, Some, None, get_or, refl, sym, ◌∙◌, ap}
-use Rattle.std.specs.Prelude.{Bool, true, false, slice_get, slice_set, is_some, IfSome, option_map, option_to_list}
+use Rattle.std.specs.Prelude.{Bool, true, false, slice_get, slice_set, option_map, option_to_list}
 use Rattle.std.proofs.lemmas.Option.{slice_get-map}
 use Rattle.std.proofs.lemmas.List.{map-set}
 use Rattle.xd_journal.specs.declared.entry.Entry.{Entry}
@@ -14,7 +14,7 @@ use Rattle.xd_drive.specs.Marks.{is_end}
 use Rattle.xd_note.specs.Noted.{noted}
 use Rattle.xd_reader.specs.declared.news.LinkNews.{LinkNews}
 use Rattle.xd_group.specs.Late.{IsLateAt, late_page}
-use Rattle.xd_group.specs.Pages.{Page, HasPage, IsHeardAt, IsToldAt, is_nothing, told_page, heard_page}
+use Rattle.xd_group.specs.Pages.{Page, IsHeardAt, IsToldAt, is_nothing, told_page, heard_page}
 use Rattle.xd_group.specs.PostView.{page_by, page_of, pages_of}
 use Rattle.xd_group.specs.declared.post.Post.{Post}
 
@@ -63,13 +63,11 @@ module _ {N : Type 0} {g : _} where
   post_heard xs k was a b item what p at is m t s l h there =
       map-set page_of xs k (Some b) ∙ ap (λ (q : Page). slice_set (pages_of xs) k (Some q)) (same_page _ _ _ _ _ _ _ _ _ _ _ _ _ _ (ap (λ (x : _). x.value) m.0) m.1 t m.2 s l h ∙ ap (heard_page item what) (sym (its_page xs k was a p at is there)))
 
-  pub post_there : (xs : List (Option (Post N g))) (k : ℕ) (was : Option (Post N g)) → slice_get xs k ≡ Some was → is_some was ≡ true → HasPage (pages_of xs) k
-  post_there xs k None at h = absurd (cc h)
-  post_there xs k (Some a) at h = (page a, slice_get-map page_of xs k ∙ ap (option_map page_of) at)
+  pub post_page : (xs : List (Option (Post N g))) (k : ℕ) (was : Option (Post N g)) (a : Post N g) → was ≡ Some a → slice_get xs k ≡ Some was → slice_get (pages_of xs) k ≡ Some (Some (page_by a))
+  post_page xs k was a is at = slice_get-map page_of xs k ∙ ap (option_map page_of) (at ∙ ap Some is)
 
-  pub post_gone : {A : Type 0} (r : Option A) (xs : List (Option (Post N g))) (k : ℕ) (o : Option (Post N g)) → o ≡ None → IfSome r (λ l. pages_of (slice_set xs k o) ≡ slice_set (pages_of xs) k None)
-  post_gone None xs k o e = tt
-  post_gone (Some l) xs k o e = map-set page_of xs k o ∙ ap (λ (q : Option (Post N g)). slice_set (pages_of xs) k (page_of q)) e
+  pub post_gone : (xs : List (Option (Post N g))) (k : ℕ) (o : Option (Post N g)) → o ≡ None → pages_of (slice_set xs k o) ≡ slice_set (pages_of xs) k None
+  post_gone xs k o e = map-set page_of xs k o ∙ ap (λ (q : Option (Post N g)). slice_set (pages_of xs) k (page_of q)) e
 
   -- a link that was marked
   pub post_same : (xs : List (Option (Post N g))) (k : ℕ) (was : Option (Post N g)) (a b : Post N g) → was ≡ get_or xs k was → was ≡ Some a → slice_get xs k ≡ Some was

@@ -22,19 +22,19 @@ use Rattle.xd_drive.specs.Marks.{is_breach, is_end}
 use Rattle.xd_factory.specs.Table.{send_refusal}
 use Rattle.xd_factory.specs.View.{slot_of}
 use Rattle.xd_remote.specs.Calls.{terminate_message}
-use Rattle.xd_remote.specs.Line.{Closes, Line, Prints}
+use Rattle.xd_remote.specs.Line.{Closes, ClosesNow, Line, Prints}
 use Rattle.xd_remote.specs.News.{Heard, all_messages, all_news}
 use Rattle.xd_remote.specs.Stands.{HearsMore, IsOfMessage, StandsFor, heard_as}
 use Rattle.xd_remote.specs.Told.{is_last}
 use Rattle.xd_remote.specs.View.{side_of}
 use Rattle.xd_remote.specs.declared.gateway.Gateway.{Gateway}
 use Rattle.xd_remote.proofs.Telling.{can_be_told}
-use Rattle.xd_group.specs.Heard.{HeardSo, IsCause, Tells, is_of_link, of_link}
+use Rattle.xd_group.specs.Heard.{HeardSo, IsCause, StaysEnded, Tells, is_of_link, of_link}
 use Rattle.xd_group.specs.Orders.{WritesOrder}
 use Rattle.xd_group.specs.Pages.{is_nothing}
 use Rattle.xd_group.specs.Sent.{SentAs}
 use Rattle.xd_group.specs.ToLink.{call_message, ending, has_left, is_farewell, order_message, to_link}
-use Rattle.xd_group.proofs.Sending.{sent_last, sent_more, sent_none}
+use Rattle.xd_group.proofs.Sending.{sent_last, sent_more, sent_none, sent_shut}
 
 -- ---- what was told
 
@@ -98,30 +98,79 @@ or_true : (b : Bool) → (b || true) ≡ true
 or_true true = refl
 or_true false = refl
 
-pub left_kept : (said more : List What) (closed : Bool) → closed ≡ has_left said → (closed ≡ true) ⊎ (has_left more ≡ false) → closed ≡ has_left (said ++ more)
-left_kept said more closed e (inl t) = t ∙ sym (list_any-append is_farewell said more ∙ ap (λ (b : Bool). b || has_left more) (sym e ∙ t))
-left_kept said more closed e (inr f) = e ∙ sym (list_any-append is_farewell said more ∙ (ap (λ (b : Bool). has_left said || b) f ∙ or_false (has_left said)))
+either : (a b : Bool) → (a || b) ≡ true → (a ≡ true) ⊎ (b ≡ true)
+either true b h = inl refl
+either false b h = inr h
+
+neither_first : (a b : Bool) → (a || b) ≡ false → a ≡ false
+neither_first true b h = absurd (cc h)
+neither_first false b h = refl
+
+left_more : (said more : List What) → has_left said ≡ true → has_left (said ++ more) ≡ true
+left_more said more h = list_any-append is_farewell said more ∙ ap (λ (b : Bool). b || has_left more) h
+
+left_none : (said more : List What) → has_left said ≡ false → has_left more ≡ false → has_left (said ++ more) ≡ false
+left_none said more h f = list_any-append is_farewell said more ∙ (ap (λ (b : Bool). b || has_left more) h ∙ f)
+
+-- a sink that is closed stays so
+pub closed_still : (said : List What) (news : Option What) (was ended closed : Bool) → StaysEnded was ended news → closed ≡ (has_left said || was) → closed ≡ true → closed ≡ (has_left (said ++ option_to_list news) || ended)
+closed_still said news was ended closed stays is shut = shut ∙ sym (by (either (has_left said) was (sym is ∙ shut)))
+  where
+    by : (has_left said ≡ true) ⊎ (was ≡ true) → (has_left (said ++ option_to_list news) || ended) ≡ true
+    by (inl h) = ap (λ (b : Bool). b || ended) (left_more said (option_to_list news) h)
+    by (inr h) = ap (λ (b : Bool). has_left (said ++ option_to_list news) || b) ((stays h).1) ∙ or_true (has_left (said ++ option_to_list news))
+
+-- one that is open is open still, where the worker does not leave and the link does not end
+pub closed_open : (said : List What) (news : Option What) (was ended closed : Bool) → closed ≡ (has_left said || was) → closed ≡ false → has_left (option_to_list news) ≡ false → ended ≡ false → closed ≡ (has_left (said ++ option_to_list news) || ended)
+closed_open said news was ended closed is unshut f e = unshut ∙ sym (ap (λ (b : Bool). b || ended) (left_none said (option_to_list news) (neither_first (has_left said) was (sym is ∙ unshut)) f) ∙ e)
 
 pub left_now : (said more : List What) → has_left more ≡ true → true ≡ has_left (said ++ more)
 left_now said more t = sym (list_any-append is_farewell said more ∙ (ap (λ (b : Bool). has_left said || b) t ∙ or_true (has_left said)))
 
-pub same_link : (suite : List ℕ) (mode : ModeKind) (told : List Entry) (said more : List What) (closed : Bool) → closed ≡ has_left said → (closed ≡ true) ⊎ (has_left more ≡ false) → to_link suite mode told said ≡ to_link suite mode told (said ++ more)
-same_link suite mode told said more closed e why = ap (λ (b : Bool). call_message suite mode ∷ (filter_map order_message told ++ ending b)) (sym e ∙ left_kept said more closed e why)
+pub closed_left : (said : List What) (news : Option What) (ended : Bool) → has_left (option_to_list news) ≡ true → true ≡ (has_left (said ++ option_to_list news) || ended)
+closed_left said news ended t = ap (λ (b : Bool). b || ended) (left_now said (option_to_list news) t)
+
+pub closed_end : (said : List What) (news : Option What) (ended : Bool) → ended ≡ true → true ≡ (has_left (said ++ option_to_list news) || ended)
+closed_end said news ended e = sym (ap (λ (b : Bool). has_left (said ++ option_to_list news) || b) e ∙ or_true (has_left (said ++ option_to_list news)))
+
+same_link : (suite : List ℕ) (mode : ModeKind) (told : List Entry) (said all : List What) → has_left said ≡ has_left all → to_link suite mode told said ≡ to_link suite mode told all
+same_link suite mode told said all e = ap (λ (b : Bool). call_message suite mode ∷ (filter_map order_message told ++ ending b)) e
 
 link_ended : (suite : List ℕ) (mode : ModeKind) (told : List Entry) (said more : List What) → has_left said ≡ false → has_left more ≡ true → to_link suite mode told (said ++ more) ≡ to_link suite mode told said ++ terminate_message ∷ []
 link_ended suite mode told said more runs t =
     ap (λ (b : Bool). call_message suite mode ∷ (filter_map order_message told ++ ending b)) (sym (left_now said more t)) ∙ ap (λ (l : List MessageView). l ++ terminate_message ∷ []) (sym (open_link suite mode told said runs))
 
-pub sent_ended : (l0 l1 closed : Bool) (a b : Line) (suite : List ℕ) (mode : ModeKind) (told : List Entry) (said more : List What) → l0 ≡ a.broken → l1 ≡ b.broken → closed ≡ has_left said → closed ≡ false → has_left more ≡ true
+pub sent_ended : (l0 l1 closed was : Bool) (a b : Line) (suite : List ℕ) (mode : ModeKind) (told : List Entry) (said more : List What) → l0 ≡ a.broken → l1 ≡ b.broken → closed ≡ (has_left said || was) → closed ≡ false → has_left more ≡ true
     → SentAs l0 closed a.sunk a.faults (to_link suite mode told said) → Closes (frame terminate_message) a b → SentAs l1 true b.sunk b.faults (to_link suite mode told (said ++ more))
-sent_ended l0 l1 closed a b suite mode told said more x y e runs t sent w =
+sent_ended l0 l1 closed was a b suite mode told said more x y e unshut t sent w =
     subst (λ (l : Bool). SentAs l true b.sunk b.faults (to_link suite mode told (said ++ more))) (sym y)
-    (sent_last a.broken b.broken closed a.sunk b.sunk a.faults b.faults (to_link suite mode told said) (to_link suite mode told (said ++ more)) terminate_message (link_ended suite mode told said more (sym e ∙ runs) t)
+    (sent_last a.broken b.broken closed a.sunk b.sunk a.faults b.faults (to_link suite mode told said) (to_link suite mode told (said ++ more)) terminate_message (link_ended suite mode told said more (neither_first (has_left said) was (sym e ∙ unshut)) t)
     (subst (λ (l : Bool). SentAs l closed a.sunk a.faults (to_link suite mode told said)) x sent) w.closes w.count w.later)
 
-pub sent_same : (l0 closed : Bool) (sunk : Option Sunk) (faults : ℕ) (suite : List ℕ) (mode : ModeKind) (told : List Entry) (said more : List What) → closed ≡ has_left said → (closed ≡ true) ⊎ (has_left more ≡ false)
-    → SentAs l0 closed sunk faults (to_link suite mode told said) → SentAs l0 closed sunk faults (to_link suite mode told (said ++ more))
-sent_same l0 closed sunk faults suite mode told said more e why sent = subst (λ (l : List MessageView). SentAs l0 closed sunk faults l) (same_link suite mode told said more closed e why) sent
+-- the sink was closed before
+pub sent_still : (l closed was ended : Bool) (sunk : Option Sunk) (faults : ℕ) (suite : List ℕ) (mode : ModeKind) (told : List Entry) (said : List What) (news : Option What) → StaysEnded was ended news → closed ≡ (has_left said || was) → closed ≡ true
+    → SentAs l closed sunk faults (to_link suite mode told said) → SentAs l closed sunk faults (to_link suite mode told (said ++ option_to_list news))
+sent_still l closed was ended sunk faults suite mode told said news stays is shut sent =
+    subst (λ (m : List MessageView). SentAs l closed sunk faults m) (same_link suite mode told said (said ++ option_to_list news) (by (either (has_left said) was (sym is ∙ shut)))) sent
+  where
+    by : (has_left said ≡ true) ⊎ (was ≡ true) → has_left said ≡ has_left (said ++ option_to_list news)
+    by (inl h) = h ∙ sym (left_more said (option_to_list news) h)
+    by (inr h) = sym (ap (λ (o : Option What). has_left (said ++ option_to_list o)) ((stays h).0) ∙ ap (λ (x : List What). has_left x) (append-nil said))
+
+-- nothing is said by which the worker leaves
+pub sent_same : (l closed was : Bool) (sunk : Option Sunk) (faults : ℕ) (suite : List ℕ) (mode : ModeKind) (told : List Entry) (said more : List What) → closed ≡ (has_left said || was) → closed ≡ false → has_left more ≡ false
+    → SentAs l closed sunk faults (to_link suite mode told said) → SentAs l closed sunk faults (to_link suite mode told (said ++ more))
+sent_same l closed was sunk faults suite mode told said more is unshut f sent =
+    let runs = neither_first (has_left said) was (sym is ∙ unshut) in
+    subst (λ (m : List MessageView). SentAs l closed sunk faults m) (same_link suite mode told said (said ++ more) (runs ∙ sym (left_none said more runs f))) sent
+
+-- and the sink is closed, since the link ended
+pub sent_over : (l0 l1 closed was : Bool) (a b : Line) (suite : List ℕ) (mode : ModeKind) (told : List Entry) (said more : List What) → l0 ≡ a.broken → l1 ≡ b.broken → closed ≡ (has_left said || was) → closed ≡ false → has_left more ≡ false
+    → SentAs l0 closed a.sunk a.faults (to_link suite mode told said) → ClosesNow a b → SentAs l1 true b.sunk b.faults (to_link suite mode told (said ++ more))
+sent_over l0 l1 closed was a b suite mode told said more x y is unshut f sent w =
+    let all = sent_same l0 closed was a.sunk a.faults suite mode told said more is unshut f sent in
+    subst (λ (l : Bool). SentAs l true b.sunk b.faults (to_link suite mode told (said ++ more))) (sym y)
+    (sent_shut a.broken b.broken closed a.sunk b.sunk a.faults b.faults (to_link suite mode told (said ++ more)) (subst (λ (l : Bool). SentAs l closed a.sunk a.faults (to_link suite mode told (said ++ more))) x all) w.closed w.count w.later)
 
 -- ---- a write that failed stays so
 
@@ -135,6 +184,13 @@ order_keeps (Some m) l0 l1 a b x y w e = y ∙ by a.broken b.broken (sym x ∙ e
 
 pub close_keeps : (bytes : List ℕ) (l0 l1 : Bool) (a b : Line) → l0 ≡ a.broken → l1 ≡ b.broken → Closes bytes a b → l0 ≡ true → l1 ≡ true
 close_keeps bytes l0 l1 a b x y w e = y ∙ by a.broken b.broken (sym x ∙ e) w.count
+  where
+    by : (p q : Bool) → p ≡ true → CountBehind p q a.faults b.faults → q ≡ true
+    by true q t c = c.0
+    by false q t c = absurd (cc t)
+
+pub shut_keeps : (l0 l1 : Bool) (a b : Line) → l0 ≡ a.broken → l1 ≡ b.broken → ClosesNow a b → l0 ≡ true → l1 ≡ true
+shut_keeps l0 l1 a b x y w e = y ∙ by a.broken b.broken (sym x ∙ e) w.count
   where
     by : (p q : Bool) → p ≡ true → CountBehind p q a.faults b.faults → q ≡ true
     by true q t c = c.0

@@ -1,7 +1,6 @@
 -- The run of a link that ended, from what its reader put and what its post kept.
 use Rattle.std.proofs.Common.{◌≡◌, ◌<◌, ℕ, zero, suc, List, [], ◌∷◌, ◌++◌, length, take, map, Bool, true, false, Option, Some, None, refl, sym, ◌∙◌, ap, subst, arith, inl, inr, append_assoc}
-use Rattle.std.specs.Prelude.{IfSome}
-use Rattle.std.proofs.Math.Seq.{take-length}
+use Rattle.std.specs.Prelude.{◌||◌, IfSome}
 use Rattle.xd_edge.specs.Sink.{Sunk}
 use Rattle.xd_edge.specs.Faults.{Rose}
 use Rattle.xd_frame.specs.Message.{MessageView, frames}
@@ -24,6 +23,7 @@ use Rattle.xd_group.specs.Heard.{HeardSo, IsCause, plain_cause}
 use Rattle.xd_group.specs.LinkRun.{IsGone, LinkRun, link_of, ReadToStop, SentSo, is_garbled}
 use Rattle.xd_group.specs.Pages.{Page}
 use Rattle.xd_remote.specs.declared.gateway.Gateway.{Gateway}
+use Rattle.xd_group.proofs.Sending.{all_is_part}
 
 -- messages and then an end come apart in one way
 apart : (put ms : List MessageView) (why done : LinkStop) (rest : List LinkNews) → map Message put ++ End done ∷ [] ≡ map Message ms ++ End why ∷ rest → (put ≡ ms) × (done ≡ why)
@@ -60,14 +60,10 @@ is_gone : (why : LinkStop) (broken : Bool) (c : Cause) (bytes : List ℕ) (s0 s1
 is_gone why broken c bytes s0 s1 writes other at w (inl e) = subst (λ (x : Cause). IsGone x bytes s1 writes) (sym e) (plainly_gone why bytes s0 s1 writes other at)
 is_gone why broken c bytes s0 s1 writes other at w (inr p) = subst (λ (x : Cause). IsGone x bytes s1 writes) (sym p.0) (w p.1)
 
-all_is_part : (sunk : Option Sunk) (ms : List MessageView) (closed : Bool) → IfSome sunk (λ s. s ≡ record { bytes = frames ms; flushed = length (frames ms); closed = closed }) → IfSome sunk (λ s. s.bytes ≡ take (length s.bytes) (frames ms))
-all_is_part None ms closed e = tt
-all_is_part (Some s) ms closed e = let is : s.bytes ≡ frames ms = ap (λ (t : Sunk). t.bytes) e in is ∙ (sym (take-length (frames ms)) ∙ ap (λ (l : List ℕ). take (length l) (frames ms)) (sym is))
-
-sent_so : (broken closed : Bool) (sunk : Option Sunk) (writes : ℕ) (ms : List MessageView) → SentAs broken closed sunk writes ms → SentSo ms closed writes sunk
-sent_so true closed sunk writes ms s = inr (s.part refl)
-sent_so false closed sunk zero ms s = inl (refl, s.whole refl)
-sent_so false closed sunk (suc n) ms s = inr (omega arith, all_is_part sunk ms closed (s.whole refl))
+sent_so : (broken : Bool) (sunk : Option Sunk) (writes : ℕ) (ms : List MessageView) → SentAs broken true sunk writes ms → SentSo ms writes sunk
+sent_so true sunk writes ms s = inr (s.part refl)
+sent_so false sunk zero ms s = inl (refl, s.whole refl)
+sent_so false sunk (suc n) ms s = inr (omega arith, all_is_part sunk ms true (s.whole refl))
 
 given_so : (bytes : List ℕ) (old new : Option Supply) → IfSome old (λ s. s.given ≡ []) → Gave bytes old new → IfSome new (λ s. s.given ≡ bytes)
 given_so bytes None new fresh g = subst (λ (o : Option Supply). IfSome o (λ s. s.given ≡ bytes)) (sym g.0) tt
@@ -101,13 +97,17 @@ link_run now sunk writes p read ends =
             first = sym t.said_are;
           };
       read = to_stop all.stop bytes read.first now other at;
-      sent = sent_so ends.broken (has_left p.said) sunk writes (to_link p.suite p.mode p.told p.said) ends.sent;
+      sent = sent_so ends.broken sunk writes (to_link p.suite p.mode p.told p.said) ends.sent;
     }
+
+or_true : (b : Bool) → (b || true) ≡ true
+or_true true = refl
+or_true false = refl
 
 module _ {K : Type 0} where
   -- a post that is known to have ended
-  pub ends_so : (g : Gateway K) (p : Page) (ended lost closed : Bool) (sunk : Option Sunk) (writes : ℕ) → ended ≡ true → closed ≡ has_left p.said → HeardSo g ended lost p.taken (p.said ++ p.late) → SentAs lost closed sunk writes (to_link p.suite p.mode p.told p.said)
+  pub ends_so : (g : Gateway K) (p : Page) (ended lost closed : Bool) (sunk : Option Sunk) (writes : ℕ) → ended ≡ true → closed ≡ (has_left p.said || ended) → HeardSo g ended lost p.taken (p.said ++ p.late) → SentAs lost closed sunk writes (to_link p.suite p.mode p.told p.said)
       → EndsSo p sunk writes
   ends_so g p false lost closed sunk writes e c h s = absurd (cc e)
   ends_so g p true lost closed sunk writes e c h s =
-      record { broken = lost; heard = h.heard; are = h.stands.are; tells = h.tells; sent = subst (λ (b : Bool). SentAs lost b sunk writes (to_link p.suite p.mode p.told p.said)) c s }
+      record { broken = lost; heard = h.heard; are = h.stands.are; tells = h.tells; sent = subst (λ (b : Bool). SentAs lost b sunk writes (to_link p.suite p.mode p.told p.said)) (c ∙ or_true (has_left p.said)) s }

@@ -1,8 +1,9 @@
 -- What is said of workers whose links are not read.
 use Rattle.std.proofs.Common.{◌≡◌, ℕ, zero, suc, ◌<◌, ◌+◌, List, [], ◌∷◌, ◌++◌, map, length, Bool, true, false, Option, Some, None, refl, sym, ◌∙◌, ap, subst, inl, inr, arith, append-nil, length-append}
-use Rattle.std.specs.Prelude.{◌⊎◌, is_some, option_to_list, slice_get}
+use Rattle.std.specs.Prelude.{◌⊎◌, IfNone, MatchOption, is_some, option_to_list, slice_get}
 use Rattle.std.proofs.lemmas.Option.{slice_get_within}
-use Rattle.std.proofs.lemmas.List.{map-append}
+use Rattle.std.proofs.Math.Logic.{∥∥₁_elim}
+use Rattle.std.proofs.lemmas.List.{map-append, nil_from_length}
 use Rattle.xd_edge.specs.declared.mode.ModeKind.{ModeKind}
 use Rattle.xd_journal.specs.declared.entry.Entry.{Entry}
 use Rattle.xd_journal.specs.declared.news.News.{News}
@@ -14,11 +15,12 @@ use Rattle.xd_drive.specs.Performing.{was_started}
 use Rattle.xd_links.proofs.Places.{push_read}
 use Rattle.xd_group.specs.Fates.{is_linked, workers_with}
 use Rattle.xd_group.specs.Kept.{Kept, said_by}
-use Rattle.xd_group.specs.Pages.{Page, page_opened}
-use Rattle.xd_group.specs.Unsaid.{SaidUnlinked, Unsaid, wait_one}
+use Rattle.xd_group.specs.Pages.{HasPage, Page, page_opened}
+use Rattle.xd_group.specs.Unsaid.{IsWaiting, SaidUnlinked, Unsaid, wait_one}
 use Rattle.xd_group.specs.declared.fate.Fate.{Fate}
-use Rattle.xd_group.proofs.FateFacts.{among_with}
+use Rattle.xd_group.proofs.FateFacts.{among_with, not_within}
 use Rattle.xd_group.proofs.Keeping.{either_worker, news_of_worker, page_taken, said_more, said_other, said_same, same_some}
+use Rattle.xd_group.proofs.PageFacts.{never}
 
 -- ---- which places have a page
 
@@ -87,7 +89,7 @@ unsaid_heard given all workers pages next waiting k w p what news added is at ha
       waits = λ i j v e f. let was = u.waits i j v e f in (same j v f was.1 ∙ was.0, none_same next pages j (sym seats) was.1);
       once = u.once;
       below = u.below;
-      said = λ j v e f. let none = none_same pages next j seats f in subst (λ (l : List What). (l ≡ []) ⊎ (l ≡ NotStarted ∷ [])) (sym (same j v e none)) (u.said j v e none);
+      said = λ j v e f. let none = none_same pages next j seats f in subst (λ (l : List What). IsWaiting j waiting ⊎ (l ≡ NotStarted ∷ [])) (sym (same j v e none)) (u.said j v e none);
     }
 
 -- an item was taken of a link
@@ -97,41 +99,47 @@ unsaid_step suite mode taken calls given all workers pages next waiting k w got 
     let it = page_taken pages k got (ap (λ (l : List (Option (List LinkNews))). slice_get l k) kept.takes ∙ was) in
     unsaid_heard given all workers pages next waiting k w it.0 what news added is at it.1 kept.apart seats u
 
-popped : (rest waiting : List ℕ) (more : List ℕ) (i k : ℕ) → waiting ≡ rest ++ more → slice_get rest i ≡ Some k → slice_get waiting i ≡ Some k
-popped rest waiting more i k is e = ap (λ (l : List ℕ). slice_get l i) is ∙ front rest more i e
-  where
-    front : (xs ys : List ℕ) (i : ℕ) → slice_get xs i ≡ Some k → slice_get (xs ++ ys) i ≡ Some k
-    front [] ys i e = absurd (cc e)
-    front (x ∷ xs) ys zero e = e
-    front (x ∷ xs) ys (suc i) e = front xs ys i e
+front : (xs ys : List ℕ) (i k : ℕ) → slice_get xs i ≡ Some k → slice_get (xs ++ ys) i ≡ Some k
+front [] ys i k e = absurd (cc e)
+front (x ∷ xs) ys zero k e = e
+front (x ∷ xs) ys (suc i) k e = front xs ys i k e
 
--- a number waits no more
-pub unsaid_popped : (given : List News) (workers : List ℕ) (pages : List (Option Page)) (waiting rest more : List ℕ) → waiting ≡ rest ++ more → Unsaid given workers pages waiting → Unsaid given workers pages rest
-unsaid_popped given workers pages waiting rest more is u =
-    record {
-      waits = λ i k w e f. u.waits i k w (popped rest waiting more i k is e) f;
-      once = λ i j k e f. u.once i j k (popped rest waiting more i k is e) (popped rest waiting more j k is f);
-      below = λ i k e. u.below i k (popped rest waiting more i k is e);
-      said = u.said;
-    }
+popped : (rest waiting : List ℕ) (more : List ℕ) (i k : ℕ) → waiting ≡ rest ++ more → slice_get rest i ≡ Some k → slice_get waiting i ≡ Some k
+popped rest waiting more i k is e = ap (λ (l : List ℕ). slice_get l i) is ∙ front rest more i k e
 
 last : (xs : List ℕ) (x : ℕ) → slice_get (xs ++ x ∷ []) (length xs) ≡ Some x
 last [] x = refl
 last (y ∷ xs) x = last xs x
 
+waits_last : (waiting rest : List ℕ) (k : ℕ) → waiting ≡ rest ++ k ∷ [] → slice_get waiting (length rest) ≡ Some k
+waits_last waiting rest k is = ap (λ (l : List ℕ). slice_get l (length rest)) is ∙ last rest k
+
 not_in : (rest waiting : List ℕ) (i k j : ℕ) → waiting ≡ rest ++ k ∷ [] → ((i j k : ℕ) → slice_get waiting i ≡ Some k → slice_get waiting j ≡ Some k → i ≡ j) → slice_get rest i ≡ Some j → j ≡ k → ⊥
 not_in rest waiting i k j is once e same =
     let here : slice_get waiting i ≡ Some k = popped rest waiting (k ∷ []) i j is e ∙ ap Some same in
-    let there : slice_get waiting (length rest) ≡ Some k = ap (λ (l : List ℕ). slice_get l (length rest)) is ∙ last rest k in
-    let at = once i (length rest) k here there in
+    let at = once i (length rest) k here (waits_last waiting rest k is) in
     omega (arith, at, slice_get_within rest i j e)
+
+-- another number waits still
+still_waits : (waiting rest : List ℕ) (k j : ℕ) → waiting ≡ rest ++ k ∷ [] → (j ≡ k → ⊥) → IsWaiting j waiting → IsWaiting j rest
+still_waits waiting rest k j is other (i, e) = (i, by (push_read rest i k j (ap (λ (l : List ℕ). slice_get l i) (sym is) ∙ e)))
+  where
+    by : ((i ≡ length rest) × (j ≡ k)) ⊎ (slice_get rest i ≡ Some j) → slice_get rest i ≡ Some j
+    by (inl a) = absurd (other a.1)
+    by (inr b) = b
+
+-- the number that waited last is that of a worker whose link is not read
+pub waits_within : (given : List News) (workers : List ℕ) (pages : List (Option Page)) (waiting rest : List ℕ) (k : ℕ) → waiting ≡ rest ++ k ∷ [] → ∥ Unsaid given workers pages waiting ∥₁ → slice_get workers k ≡ None → ⊥
+waits_within given workers pages waiting rest k is u none = ∥∥₁_elim u never (λ v. not_within workers k (v.below (length rest) k (waits_last waiting rest k is)) none)
+
+pub waits_unread : (given : List News) (workers : List ℕ) (pages : List (Option Page)) (waiting rest : List ℕ) (k w : ℕ) → waiting ≡ rest ++ k ∷ [] → slice_get workers k ≡ Some w → Unsaid given workers pages waiting → HasPage pages k → ⊥
+waits_unread given workers pages waiting rest k w is at u has = some_none (slice_get pages k) has.0 has.1 (u.waits (length rest) k w (waits_last waiting rest k is) at).1
 
 -- it is said that a worker was not started
 pub unsaid_said : (given all : List News) (workers : List ℕ) (pages : List (Option Page)) (waiting rest : List ℕ) (k : ℕ) (n : News) → n.what ≡ NotStarted → all ≡ given ++ n ∷ [] → waiting ≡ rest ++ k ∷ [] → slice_get workers k ≡ Some n.worker
     → ((k l v : ℕ) → slice_get workers k ≡ Some v → slice_get workers l ≡ Some v → k ≡ l) → Unsaid given workers pages waiting → Unsaid all workers pages rest
 unsaid_said given all workers pages waiting rest k n not added is at apart u =
-    let here : slice_get waiting (length rest) ≡ Some k = ap (λ (l : List ℕ). slice_get l (length rest)) is ∙ last rest k in
-    let nothing = (u.waits (length rest) k n.worker here at).0 in
+    let nothing = (u.waits (length rest) k n.worker (waits_last waiting rest k is) at).0 in
     let same = λ (i v : ℕ) (wi : slice_get workers i ≡ Some v) (other : i ≡ k → ⊥). said_same v given all n added (λ e. other (apart i k n.worker (wi ∙ ap Some (sym e)) at)) in
     record {
       waits = λ i j v e f. let was = u.waits i j v (popped rest waiting (k ∷ []) i j is e) f in (same j v f (not_in rest waiting i k j is u.once e) ∙ was.0, was.1);
@@ -140,11 +148,15 @@ unsaid_said given all workers pages waiting rest k n not added is at apart u =
       said = λ j v e f. of j v e f nothing (either_worker j k);
     }
   where
-    of : (j v : ℕ) → slice_get workers j ≡ Some v → slice_get pages j ≡ Some None → said_by n.worker given ≡ [] → (j ≡ k) ⊎ (j ≡ k → ⊥) → SaidUnlinked all v
+    other_said : (j v : ℕ) → slice_get workers j ≡ Some v → (j ≡ k → ⊥) → IsWaiting j waiting ⊎ (said_by v given ≡ NotStarted ∷ []) → IsWaiting j rest ⊎ (said_by v all ≡ NotStarted ∷ [])
+    other_said j v e h (inl i) = inl (still_waits waiting rest k j is h i)
+    other_said j v e h (inr was) = inr (said_same v given all n added (λ w. h (apart j k n.worker (e ∙ ap Some (sym w)) at)) ∙ was)
+
+    of : (j v : ℕ) → slice_get workers j ≡ Some v → slice_get pages j ≡ Some None → said_by n.worker given ≡ [] → (j ≡ k) ⊎ (j ≡ k → ⊥) → IsWaiting j rest ⊎ (said_by v all ≡ NotStarted ∷ [])
     of j v e f nothing (inl h) =
         let its : n.worker ≡ v = same_some (slice_get workers k) n.worker v at (ap (slice_get workers) (sym h) ∙ e) in
         inr (said_more v given all n added its ∙ (ap (λ (l : List What). l ++ n.what ∷ []) (ap (λ (u : ℕ). said_by u given) (sym its) ∙ nothing) ∙ ap (λ (x : What). x ∷ []) not))
-    of j v e f nothing (inr h) = subst (λ (l : List What). (l ≡ []) ⊎ (l ≡ NotStarted ∷ [])) (sym (said_same v given all n added (λ w. h (apart j k n.worker (e ∙ ap Some (sym w)) at)))) (u.said j v e f)
+    of j v e f nothing (inr h) = other_said j v e h (u.said j v e f)
 
 -- ---- a start
 
@@ -172,6 +184,14 @@ page_front : (pages more : List (Option Page)) (k : ℕ) → slice_get pages k �
 page_front [] more k e = absurd (cc e)
 page_front (p ∷ ps) more zero e = e
 page_front (p ∷ ps) more (suc k) e = page_front ps more k e
+
+not_opened : (suite : List ℕ) (mode : ModeKind) (b : Bool) → None ≡ page_opened suite mode b → b ≡ false
+not_opened suite mode true e = absurd (cc e)
+not_opened suite mode false e = refl
+
+waits_new : (waiting : List ℕ) (b : Bool) (n : ℕ) → b ≡ false → slice_get (waiting ++ wait_one b n) (length waiting) ≡ Some n
+waits_new waiting true n h = absurd (cc h)
+waits_new waiting false n h = last waiting n
 
 pub unsaid_started : (suite : List ℕ) (mode : ModeKind) (given : List News) (workers ws : List ℕ) (pages next : List (Option Page)) (waiting waits : List ℕ) (w n : ℕ) (b : Bool) → ws ≡ workers ++ w ∷ [] → next ≡ pages ++ page_opened suite mode b ∷ [] → waits ≡ waiting ++ wait_one b n → n ≡ length pages
     → length workers ≡ length pages → said_by w given ≡ [] → Unsaid given workers pages waiting → Unsaid given ws next waits
@@ -212,10 +232,18 @@ unsaid_started suite mode given workers ws pages next waiting waits w n b wis is
     under i k (inl e) = omega (arith, u.below i k e, size)
     under i k (inr (new, here, same)) = omega (arith, same, at, count, size)
 
-    of : (k v : ℕ) → ((k ≡ length workers) × (v ≡ w)) ⊎ (slice_get workers k ≡ Some v) → ((k ≡ length pages) × (None ≡ page_opened suite mode b)) ⊎ (slice_get pages k ≡ Some None) → SaidUnlinked given v
-    of k v (inl a) p = inl (ap (λ (x : ℕ). said_by x given) a.1 ∙ nothing)
+    in_all : (i k : ℕ) → slice_get (waiting ++ wait_one b n) i ≡ Some k → slice_get waits i ≡ Some k
+    in_all i k e = ap (λ (l : List ℕ). slice_get l i) wait ∙ e
+
+    still : (k v : ℕ) → IsWaiting k waiting ⊎ (said_by v given ≡ NotStarted ∷ []) → IsWaiting k waits ⊎ (said_by v given ≡ NotStarted ∷ [])
+    still k v (inl (i, e)) = inl (i, in_all i k (front waiting (wait_one b n) i k e))
+    still k v (inr was) = inr was
+
+    of : (k v : ℕ) → ((k ≡ length workers) × (v ≡ w)) ⊎ (slice_get workers k ≡ Some v) → ((k ≡ length pages) × (None ≡ page_opened suite mode b)) ⊎ (slice_get pages k ≡ Some None) → IsWaiting k waits ⊎ (said_by v given ≡ NotStarted ∷ [])
+    of k v (inl a) (inl p) = inl (length waiting, in_all (length waiting) k (waits_new waiting b n (not_opened suite mode b p.1) ∙ ap Some (at ∙ sym p.0)))
+    of k v (inl a) (inr p) = absurd (omega (arith, slice_get_within pages k None p, a.0, count))
     of k v (inr c) (inl p) = absurd (omega (arith, slice_get_within workers k v c, p.0, count))
-    of k v (inr c) (inr p) = u.said k v c p
+    of k v (inr c) (inr p) = still k v (u.said k v c p)
 
 pub unsaid_opened : (suite : List ℕ) (mode : ModeKind) (taken : List (Option (List LinkNews))) (calls : List Entry) (given : List News) (workers ws : List ℕ) (pages next : List (Option Page)) (waiting held waits : List ℕ) (w n : ℕ) (l b : Bool) → ws ≡ workers ++ w ∷ [] → next ≡ pages ++ page_opened suite mode b ∷ []
     → waits ≡ held ++ wait_one l n → held ≡ waiting → l ≡ b → n ≡ length pages → was_started w calls ≡ false → Kept suite mode taken calls given workers pages → Unsaid given workers pages waiting → Unsaid given ws next waits
@@ -239,10 +267,19 @@ pub said_unlinked : (suite : List ℕ) (mode : ModeKind) (taken : List (Option (
     → is_among w (workers_with is_linked workers fates) ≡ false → Kept suite mode taken calls given workers pages → Unsaid given workers pages waiting → SaidUnlinked given w
 said_unlinked suite mode taken calls given workers pages fates waiting w matched seats out kept u = by (was_started w calls) refl
   where
+    as_said : (k : ℕ) → slice_get workers k ≡ Some w → IsWaiting k waiting ⊎ (said_by w given ≡ NotStarted ∷ []) → SaidUnlinked given w
+    as_said k at (inl (i, e)) = inl (u.waits i k w e at).0
+    as_said k at (inr was) = inr was
+
     of : (k : ℕ) → slice_get workers k ≡ Some w → (f : Fate) → slice_get fates k ≡ Some f → (b : Bool) → is_linked f ≡ b → SaidUnlinked given w
     of k at f is true h = absurd (no_way (is_among w (workers_with is_linked workers fates)) (among_with is_linked workers fates k w f at is h) out)
-    of k at f is false h = u.said k w at (no_page pages fates k f seats is h)
+    of k at f is false h = as_said k at (u.said k w at (no_page pages fates k f seats is h))
 
     by : (b : Bool) → was_started w calls ≡ b → SaidUnlinked given w
     by false h = inl (kept.new_said w h)
     by true h = let it = kept.placed w h in let f = fate_there workers fates it.0 w matched it.1 in of it.0 it.1 f.0 f.1 (is_linked f.0) refl
+
+-- where nothing comes out of a list, it is empty
+pub none_left : (r : Option ℕ) (n m : ℕ) (xs : List ℕ) (P : ℕ → Type 0) → MatchOption r ((n ≡ 0) × (m ≡ 0)) P → m ≡ length xs → IfNone r (xs ≡ [])
+none_left None n m xs P h e = nil_from_length xs (sym e ∙ h.1)
+none_left (Some x) n m xs P h e = tt

@@ -1,14 +1,14 @@
 -- What a sink took, one write after another.
 use Rattle.std.proofs.Common.{◌≡◌, ℕ, zero, suc, ◌+◌, ◌≤◌, ◌<◌, List, [], ◌∷◌, ◌++◌, length, take, Bool, true, false, Option, Some, None, option_map, refl, sym, ◌∙◌, ap, subst, arith, length-append}
 use Rattle.std.specs.Prelude.{IfSome}
-use Rattle.std.proofs.Math.Seq.{take-append-add}
+use Rattle.std.proofs.Math.Seq.{take-append-add, take-length}
 use Rattle.std.proofs.lemmas.List.{append-nil, take-append-le, length-take, length-take-le}
 use Rattle.std.proofs.lemmas.Grind.{flat_map-append}
 use Rattle.xd_edge.specs.Faults.{Rose}
 use Rattle.xd_edge.specs.Sink.{Sunk, with_bytes, with_flush, with_close, Printed, PrintedPart}
 use Rattle.xd_frame.specs.Message.{MessageView, frame, frames}
 use Rattle.xd_frame.specs.Writing.{CountBehind, WritesMore}
-use Rattle.xd_remote.specs.Line.{ClosesMore}
+use Rattle.xd_remote.specs.Line.{ClosedBy, ClosesMore}
 use Rattle.xd_group.specs.Sent.{SentAs}
 
 open_frames : (ms : List MessageView) (m : MessageView) → frames (ms ++ m ∷ []) ≡ frames ms ++ frame m
@@ -17,6 +17,11 @@ open_frames ms m = flat_map-append frame ms (m ∷ []) ∙ ap (λ (l : List ℕ)
 over_zero : (f0 f1 : ℕ) → Rose f0 f1 → 0 < f1
 over_zero f0 zero r = absurd (omega (arith, r (omega arith)))
 over_zero f0 (suc n) r = omega arith
+
+-- all is a first part
+pub all_is_part : (sunk : Option Sunk) (ms : List MessageView) (closed : Bool) → IfSome sunk (λ s. s ≡ record { bytes = frames ms; flushed = length (frames ms); closed = closed }) → IfSome sunk (λ s. s.bytes ≡ take (length s.bytes) (frames ms))
+all_is_part None ms closed e = tt
+all_is_part (Some s) ms closed e = let is : s.bytes ≡ frames ms = ap (λ (t : Sunk). t.bytes) e in is ∙ (sym (take-length (frames ms)) ∙ ap (λ (l : List ℕ). take (length l) (frames ms)) (sym is))
 
 -- with these bytes, handed on, the sink took all
 whole_more : (s0 s1 : Option Sunk) (all more : List ℕ) (closed : Bool) → IfSome s0 (λ s. s ≡ record { bytes = all; flushed = length all; closed = closed }) → Printed more s0 s1
@@ -99,3 +104,15 @@ sent_last false true closed s0 s1 f0 f1 ms all m is sent w c l =
 
 pub sent_none : (s : Option Sunk) (f : ℕ) → IfSome s (λ t. t ≡ record { bytes = []; flushed = 0; closed = false }) → SentAs false false s f []
 sent_none s f e = record { whole = λ g. e; part = λ g. absurd (cc g) }
+
+whole_shut : (s0 s1 : Option Sunk) (all : List ℕ) (closed : Bool) → IfSome s0 (λ s. s ≡ record { bytes = all; flushed = length all; closed = closed }) → s1 ≡ option_map with_close s0 → IfSome s1 (λ s. s ≡ record { bytes = all; flushed = length all; closed = true })
+whole_shut None s1 all closed w p = subst (λ (o : Option Sunk). IfSome o (λ s. s ≡ record { bytes = all; flushed = length all; closed = true })) (sym p) tt
+whole_shut (Some s) s1 all closed w p = subst (λ (o : Option Sunk). IfSome o (λ s. s ≡ record { bytes = all; flushed = length all; closed = true })) (sym p) (ap with_close w)
+
+-- the sink was closed, and took nothing more
+pub sent_shut : (b0 b1 closed : Bool) (s0 s1 : Option Sunk) (f0 f1 : ℕ) (ms : List MessageView) → SentAs b0 closed s0 f0 ms → ClosedBy b0 b1 s0 s1 → CountBehind b0 b1 f0 f1 → f0 ≤ f1 → SentAs b1 true s1 f1 ms
+sent_shut true true closed s0 s1 f0 f1 ms sent w c l = record { whole = λ e. absurd (cc e); part = λ e. (omega (arith, l, (sent.part refl).0), subst (λ (o : Option Sunk). IfSome o (λ s. s.bytes ≡ take (length s.bytes) (frames ms))) (sym w.1) (sent.part refl).1) }
+sent_shut true false closed s0 s1 f0 f1 ms sent w c l = absurd (let z = w.0 in cc z)
+sent_shut false false closed s0 s1 f0 f1 ms sent w c l = record { whole = λ e. whole_shut s0 s1 (frames ms) closed (sent.whole refl) w; part = λ e. absurd (cc e) }
+sent_shut false true closed s0 s1 f0 f1 ms sent w c l =
+    record { whole = λ e. absurd (cc e); part = λ e. (over_zero f0 f1 c, subst (λ (o : Option Sunk). IfSome o (λ s. s.bytes ≡ take (length s.bytes) (frames ms))) (sym w) (all_is_part s0 ms closed (sent.whole refl))) }

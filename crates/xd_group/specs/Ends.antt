@@ -1,17 +1,17 @@
 -- What is known of a link that ended.
-use Rattle.std.specs.Prelude.{◌++◌, ℕ, Bool, List, Option}
+use Rattle.std.specs.Prelude.{◌++◌, ℕ, Bool, true, List, Option}
 use Rattle.xd_edge.specs.Sink.{Sunk}
 use Rattle.xd_remote.specs.News.{AreHeard, Heard}
 use Rattle.xd_group.specs.Heard.{TellsEnded}
 use Rattle.xd_group.specs.Pages.{Page}
 use Rattle.xd_group.specs.Sent.{SentAs}
-use Rattle.xd_group.specs.ToLink.{has_left, to_link}
+use Rattle.xd_group.specs.ToLink.{to_link}
 
 -- By the page of an ended link, what was said, and heard after that, are the news of what was taken, and the sink took what
--- was told.
+-- was told and was closed.
 pub record EndsSo (p : Page) (sunk : Option Sunk) (writes : ℕ) : Type 0 where
   pub broken : Bool
   pub heard : List Heard
   pub are : AreHeard heard
   pub tells : TellsEnded heard broken p.taken (p.said ++ p.late)
-  pub sent : SentAs broken (has_left p.said) sunk writes (to_link p.suite p.mode p.told p.said)
+  pub sent : SentAs broken true sunk writes (to_link p.suite p.mode p.told p.said)

@@ -33,6 +33,14 @@ workers_with which [] fates = []
 workers_with which (w ∷ ws) [] = []
 workers_with which (w ∷ ws) (f ∷ fs) = if which f then w ∷ workers_with which ws fs else workers_with which ws fs
 
+-- from this number on so it is with each start of this fate
+abbrev pub SoFrom : Fate → ℕ → List Bool → List Fate → Type 0
+SoFrom f n so fates = (k : ℕ) → n ≤ k → slice_get fates k ≡ Some f → slice_get so k ≡ Some true
+
 -- from this number on each link whose reader was refused is kept
 abbrev pub KeptFrom : ℕ → List Bool → List Fate → Type 0
-KeptFrom n kept fates = (k : ℕ) → n ≤ k → slice_get fates k ≡ Some Refused → slice_get kept k ≡ Some true
+KeptFrom n kept fates = SoFrom Refused n kept fates
+
+-- from this number on nothing more is to come of any link that is read
+abbrev pub EndedFrom : ℕ → List Bool → List Fate → Type 0
+EndedFrom n ended fates = SoFrom Linked n ended fates

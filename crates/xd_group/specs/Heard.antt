@@ -1,5 +1,5 @@
 -- What was said for the items that were taken of a link.
-use Rattle.std.specs.Prelude.{◌≡◌, ◌⊎◌, Bool, true, false, List, [], ◌∷◌, ◌++◌, map, filter}
+use Rattle.std.specs.Prelude.{◌≡◌, ◌⊎◌, Bool, true, false, List, [], ◌∷◌, ◌++◌, Option, None, map, filter}
 use Rattle.xd_journal.specs.declared.entry.Cause.{Cause}
 use Rattle.xd_journal.specs.declared.entry.Cause.TheVariants as cause
 use Rattle.xd_journal.specs.declared.news.What.{What}
@@ -24,6 +24,10 @@ plain_cause stop.OutOfMemory = cause.ReadFault
 -- a write that failed before stands over the stop
 abbrev pub IsCause : LinkStop → Bool → Cause → Type 0
 IsCause why broken c = (c ≡ plain_cause why) ⊎ ((c ≡ cause.SendFault) × (broken ≡ true))
+
+-- a link that had ended stays so, and has no more news
+abbrev pub StaysEnded : Bool → Bool → Option What → Type 0
+StaysEnded was ended news = was ≡ true → (news ≡ None) × (ended ≡ true)
 
 -- what a reader puts; the other items come from programs
 abbrev pub is_of_link : LinkNews → Bool

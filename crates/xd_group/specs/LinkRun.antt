@@ -13,7 +13,7 @@ use Rattle.xd_reader.specs.declared.news.LinkStop.{LinkStop}
 use Rattle.xd_reader.specs.declared.news.LinkStop.TheVariants as stop
 use Rattle.xd_reader.specs.Judged.{link_messages, link_stop}
 use Rattle.xd_remote.specs.News.{IsNewsOf}
-use Rattle.xd_group.specs.ToLink.{has_left, to_link}
+use Rattle.xd_group.specs.ToLink.{to_link}
 
 -- the bytes have a header that is refused, or another first byte than the greeting
 abbrev pub is_garbled : LinkStop → Bool
@@ -43,16 +43,16 @@ pub record HeardAll (news : List What) (bytes : List ℕ) (s : Spring) (writes :
 abbrev pub ReadToStop : List ℕ → Spring → Type 0
 ReadToStop bytes s = ReadToEnd s ⊎ ((is_garbled (link_stop true bytes) ≡ true) ⊎ (0 < s.faults))
 
--- What the sink took: all messages to the worker, handed on, and closed where it was told to end; or a first part of them,
--- where it failed.
-abbrev pub SentAll : List MessageView → Bool → Option Sunk → Type 0
-SentAll messages closed sunk = IfSome sunk (λ s. s ≡ record { bytes = frames messages; flushed = length (frames messages); closed = closed })
+-- What the sink took: all messages to the worker, handed on, and then it was closed; or a first part of them, where it
+-- failed.
+abbrev pub SentAll : List MessageView → Option Sunk → Type 0
+SentAll messages sunk = IfSome sunk (λ s. s ≡ record { bytes = frames messages; flushed = length (frames messages); closed = true })
 
 abbrev pub SentPart : List MessageView → Option Sunk → Type 0
 SentPart messages sunk = IfSome sunk (λ s. s.bytes ≡ take (length s.bytes) (frames messages))
 
-abbrev pub SentSo : List MessageView → Bool → ℕ → Option Sunk → Type 0
-SentSo messages closed writes sunk = ((writes ≡ 0) × SentAll messages closed sunk) ⊎ ((0 < writes) × SentPart messages sunk)
+abbrev pub SentSo : List MessageView → ℕ → Option Sunk → Type 0
+SentSo messages writes sunk = ((writes ≡ 0) × SentAll messages sunk) ⊎ ((0 < writes) × SentPart messages sunk)
 
 -- What is seen of a returned link: its source, its sink and their counts.
 pub record Link : Type 0 where
@@ -69,4 +69,4 @@ pub record LinkRun (suite : List ℕ) (mode : ModeKind) (news : List What) (orde
   pub given : IfSome l.spring.supply (λ s. s.given ≡ bytes)
   pub heard : HeardAll news bytes l.spring l.writes
   pub read : ReadToStop bytes l.spring
-  pub sent : SentSo (to_link suite mode orders news) (has_left news) l.writes l.sunk
+  pub sent : SentSo (to_link suite mode orders news) l.writes l.sunk

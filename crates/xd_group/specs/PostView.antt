@@ -20,6 +20,14 @@ module _ {N : Type 0} {g : _} where
   has_ended None = true
   has_ended (Some p) = p.is_ended
 
+  -- there is a link, of which nothing more is to come
+  abbrev pub is_ended_at : Option (Post N g) → Bool
+  is_ended_at None = false
+  is_ended_at (Some p) = p.is_ended
+
+  abbrev pub ends_of : List (Option (Post N g)) → List Bool
+  ends_of posts = map is_ended_at posts
+
   -- a write to the link failed
   abbrev pub is_lost_at : Option (Post N g) → Bool
   is_lost_at None = false

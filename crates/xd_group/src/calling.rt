@@ -9,6 +9,7 @@ ghost use Rattle.xd_factory.specs.View.{slot_of};
 ghost use Rattle.xd_journal.specs.declared.entry.Entry.{Entry};
 ghost use Rattle.xd_gateway.specs.Orders.{order_of, order_tree};
 ghost use Rattle.xd_remote.specs.Calls.{kwargs_of, terminate_message};
+ghost use Rattle.xd_remote.specs.Line.{ClosesNow};
 ghost use Rattle.xd_remote.specs.News.{Heard};
 ghost use Rattle.xd_remote.specs.Stands.{IsNew, StandsFor};
 ghost use Rattle.xd_remote.specs.View.{ClosesOn, PrintsOn, is_broken, line_of, side_of};
@@ -117,4 +118,13 @@ pub(crate) fn end_worker<N: Sink + Drop>(gateway: &mut Gateway<N>) -> bool
     ensures stands { (h : List Heard) → StandsFor gateway.old h → StandsFor gateway.new h }
 {
     gateway.exit().is_err()
+}
+
+// Closes the link to the worker. Says whether the sink failed, now or before.
+pub(crate) fn close_link<N: Sink + Drop>(gateway: &mut Gateway<N>) -> bool
+    ensures lost { result ≡ is_broken gateway.new }
+    ensures closes { ClosesNow (line_of N.sunk N.faults gateway.old) (line_of N.sunk N.faults gateway.new) }
+    ensures stands { (h : List Heard) → StandsFor gateway.old h → StandsFor gateway.new h }
+{
+    gateway.close().is_err()
 }

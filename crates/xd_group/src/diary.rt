@@ -1,5 +1,5 @@
 // What a hub was called for and what it gave, and who its workers are.
-ghost use Rattle.std.specs.Prelude.{◌≡◌, ◌∷◌, ◌++◌, [], ℕ, All, IfOk, OnOk, IfSome, IfNone, Some, None, true, length, slice_get, option_map, option_to_list};
+ghost use Rattle.std.specs.Prelude.{◌≡◌, ◌<◌, ◌∷◌, ◌++◌, [], ℕ, All, IfOk, OnOk, IfSome, IfNone, Some, None, true, length, slice_get, option_map, option_to_list};
 ghost use Rattle.xd_journal.specs.declared.entry.Entry.TheVariants.{Start};
 ghost use Rattle.xd_note.specs.Noted.{noted};
 ghost use Rattle.xd_group.specs.Fates.{is_linked};
@@ -106,6 +106,7 @@ impl Diary {
     /// A number whose worker's next news is that it was not started.
     pub fn next_waiting(&mut self) -> Option<u32>
         ensures waiting { self.old.waiting.items ≡ self.new.waiting.items ++ option_to_list result }
+        ensures none { IfNone result (self.new.waiting.items ≡ []) }
         ensures calls { noted self.new.calls ≡ noted self.old.calls }
         ensures given { noted self.new.given ≡ noted self.old.given }
         ensures workers { self.new.workers ≡ self.old.workers }
@@ -146,16 +147,11 @@ impl Diary {
     }
 
     /// What became of the start of this number.
-    pub fn fate_at(&self, number: u32) -> Option<Fate>
-        ensures none { IfNone result (slice_get self.now.fates.items number ≡ None) }
-        ensures at { IfSome result (λ f. slice_get self.now.fates.items number ≡ Some f) }
+    pub fn fate_at(&self, number: u32) -> Fate
+        requires { number < length self.now.workers.items }
+        ensures { slice_get self.now.fates.items number ≡ Some result }
     {
-        let at = number as usize;
-        if at < self.fates.len() {
-            Some(self.fates[at])
-        } else {
-            None
-        }
+        self.fates[number as usize]
     }
 
     /// The number of a worker's link.

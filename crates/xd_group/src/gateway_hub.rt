@@ -19,7 +19,7 @@ ghost use Rattle.xd_group.specs.Kept.{Kept, orders_to, said_by};
 ghost use Rattle.xd_group.specs.Late.{Late, Settled, settled_at};
 ghost use Rattle.xd_group.specs.LinkRun.{link_of};
 ghost use Rattle.xd_group.specs.Children.{all_asked, asked_of, is_buried, is_over, starts_told, told_of};
-ghost use Rattle.xd_group.specs.Fates.{KeptFrom, has_link, is_linked, is_refused, is_unlinked, workers_with};
+ghost use Rattle.xd_group.specs.Fates.{EndedFrom, KeptFrom, has_link, is_linked, is_refused, is_unlinked, workers_with};
 ghost use Rattle.xd_edge.specs.Faults.{RoseBy};
 ghost use Rattle.xd_group.specs.Few.{RoseFor, count_with};
 ghost use Rattle.xd_group.specs.Unsaid.{SaidUnlinked};
@@ -27,7 +27,7 @@ ghost use Rattle.xd_group.specs.InStep.{InStep, all_started};
 ghost use Rattle.xd_group.specs.Returned.{RanSo, end_told};
 ghost use Rattle.xd_group.specs.Pages.{Page};
 ghost use Rattle.xd_group.specs.Kills.{EndKilledSo, KilledSo};
-ghost use Rattle.xd_group.specs.PostView.{losses_of, pages_of};
+ghost use Rattle.xd_group.specs.PostView.{ends_of, losses_of, pages_of};
 ghost use Rattle.xd_group.specs.Tells.{IsStarted, marks_told, workers_started};
 
 use crate::children::{Children, Opened};
@@ -117,10 +117,12 @@ impl<St: Starter, C: Crew<Reader<St::Src>>> GatewayHub<St, C> {
     // Takes an item of a link, where no child that was killed is still to be waited for.
     fn take<R: Wait>(&mut self, rt: &R) -> Result<Option<News>, OutOfMemory>
         requires buried { list_all is_buried self.old.children.children.items ≡ true }
+        requires none_waits { self.old.group.is_whole ≡ true → self.old.group.diary.waiting.items ≡ [] }
         ensures started { IfOk result (λ r. IfSome r (λ n. IsStarted (noted self.old.group.diary.calls) n.worker)) }
         ensures given { IfOk result (λ r. IfSome r (λ n. noted self.new.group.diary.given ≡ noted self.old.group.diary.given ++ n ∷ [])) }
         ensures no_breach { IfOk result (λ r. IfSome r (λ n. is_breach n.what ≡ false)) }
         ensures silent { IfOk result (λ r. IfNone r (noted self.new.group.diary.given ≡ noted self.old.group.diary.given)) }
+        ensures waiting { self.new.group.diary.waiting ≡ self.old.group.diary.waiting }
         ensures calls { noted self.new.group.diary.calls ≡ noted self.old.group.diary.calls }
         ensures whole { OnOk result (self.new.group.is_whole ≡ self.old.group.is_whole) }
         ensures made { (self.new.group.suite ≡ self.old.group.suite) × (self.new.group.mode ≡ self.old.group.mode) }
@@ -133,10 +135,12 @@ impl<St: Starter, C: Crew<Reader<St::Src>>> GatewayHub<St, C> {
 
     // Waits for the children that were killed, and takes an item of a link.
     fn step<R: Wait>(&mut self, rt: &R) -> Result<Option<News>, OutOfMemory>
+        requires none_waits { self.old.group.is_whole ≡ true → self.old.group.diary.waiting.items ≡ [] }
         ensures started { IfOk result (λ r. IfSome r (λ n. IsStarted (noted self.old.group.diary.calls) n.worker)) }
         ensures given { IfOk result (λ r. IfSome r (λ n. noted self.new.group.diary.given ≡ noted self.old.group.diary.given ++ n ∷ [])) }
         ensures no_breach { IfOk result (λ r. IfSome r (λ n. is_breach n.what ≡ false)) }
         ensures silent { IfOk result (λ r. IfNone r (noted self.new.group.diary.given ≡ noted self.old.group.diary.given)) }
+        ensures waiting { self.new.group.diary.waiting ≡ self.old.group.diary.waiting }
         ensures calls { noted self.new.group.diary.calls ≡ noted self.old.group.diary.calls }
         ensures whole { OnOk result (self.new.group.is_whole ≡ self.old.group.is_whole) }
         ensures made { (self.new.group.suite ≡ self.old.group.suite) × (self.new.group.mode ≡ self.old.group.mode) }
@@ -155,8 +159,12 @@ impl<St: Starter, C: Crew<Reader<St::Src>>> GatewayHub<St, C> {
         ends: &mut Vec<LinkEnd<St::Src, St::Snk>>,
     ) -> Result<(), OutOfMemory>
         requires over { self.old.group.is_whole ≡ false }
+        requires there { number < length self.old.group.diary.workers.items }
+        requires late { (first : List (Option Settled)) × ∥ Late first (news_of (mails self.old.group.links.desk)) (pages_of self.old.group.posts.items) ∥₁ }
         requires kept { KeptFrom number (map is_some self.old.group.spares.items) self.old.group.diary.fates.items }
+        requires ended { EndedFrom number (ends_of self.old.group.posts.items) self.old.group.diary.fates.items }
         ensures kept { OnOk result (KeptFrom (number + 1) (map is_some self.new.group.spares.items) self.old.group.diary.fates.items) }
+        ensures ended { OnOk result (EndedFrom (number + 1) (ends_of self.new.group.posts.items) self.old.group.diary.fates.items) }
         ensures runs { (suite : List ℕ) (mode : ModeKind) (taken : List (Option (List LinkNews))) (calls : List Entry) (given : List News) (pages : List (Option Page))
             → ∥ Kept suite mode taken calls given self.old.group.diary.workers.items pages ∥₁
             → ∥ Late (map settled_at pages) (news_of (mails self.old.group.links.desk)) (pages_of self.old.group.posts.items) ∥₁
@@ -169,7 +177,8 @@ impl<St: Starter, C: Crew<Reader<St::Src>>> GatewayHub<St, C> {
         ensures asked { map is_some self.old.children.children.items ≡ map has_link self.old.group.diary.fates.items → all_asked (take number self.old.children.children.items) ≡ map (λ l. end_told l.killed) ends.old.items
             → OnOk result (all_asked (take (number + 1) self.new.children.children.items) ≡ map (λ l. end_told l.killed) ends.new.items) }
         ensures crew { (C.faults self.new.group.links.crew ≡ C.faults self.old.group.links.crew) × (self.new.group.first ≡ self.old.group.first) }
-        ensures killed { (calls : List Entry) (lost : List Bool) → map is_some self.old.children.children.items ≡ map has_link self.old.group.diary.fates.items → ∥ KilledSo self.old.children.children.items calls self.old.group.diary.workers.items self.old.group.diary.fates.items lost ∥₁
+        ensures killed { (suite : List ℕ) (mode : ModeKind) (taken : List (Option (List LinkNews))) (calls : List Entry) (given : List News) (pages : List (Option Page)) (lost : List Bool)
+            → ∥ Kept suite mode taken calls given self.old.group.diary.workers.items pages ∥₁ → map is_some self.old.children.children.items ≡ map has_link self.old.group.diary.fates.items → ∥ KilledSo self.old.children.children.items calls self.old.group.diary.workers.items self.old.group.diary.fates.items lost ∥₁
             → (slice_get lost number ≡ Some true → slice_get (losses_of self.old.group.posts.items) number ≡ Some true)
             → All (λ l. ∥ EndKilledSo calls (workers_with is_refused self.old.group.diary.workers.items self.old.group.diary.fates.items) l.worker l.killed (St.Snk.faults l.sink) ∥₁) ends.old.items
             → OnOk result (All (λ l. ∥ EndKilledSo calls (workers_with is_refused self.old.group.diary.workers.items self.old.group.diary.fates.items) l.worker l.killed (St.Snk.faults l.sink) ∥₁) ends.new.items) }
@@ -182,7 +191,8 @@ impl<St: Starter, C: Crew<Reader<St::Src>>> GatewayHub<St, C> {
         ensures over { self.new.group.is_whole ≡ false }
         ensures diary { self.new.group.diary ≡ self.old.group.diary }
     {
-        if let Some(ended) = self.group.end_link(number)? {
+        let left = self.group.end_link(number);
+        if let Some(ended) = left {
             let Ended {
                 worker,
                 source,

@@ -14,9 +14,7 @@ ghost use Rattle.xd_group.specs.Unsaid.{Unsaid};
 use crate::diary::Diary;
 use crate::fate::Fate;
 use crate::post::Post;
-use crate::posts::{
-    have_ended, hear_at, hear_late_at, is_without, leave_at, push_none, push_post, tell_at,
-};
+use crate::posts::{have_ended, hear_at, hear_late_at, leave_at, push_none, push_post, tell_at};
 use crate::spare::{Spare, keep, take_kept};
 use std::alloc::Global;
 use std::snapshot::Snapshot;
@@ -28,7 +26,7 @@ use xd_link::Source;
 use xd_links::{Closed, Links};
 use xd_reader::Reader;
 
-/// All links of a hub. It is not whole behind want of memory.
+/// All links of a hub. It is not whole once memory ran out.
 pub struct Group<S: Source + Drop, N: Sink + Drop, C: Crew<Reader<S>>> {
     pub links: Links<S, C>,
     /// The crew as it was at first.
@@ -80,7 +78,7 @@ fn cut_of(is_cut: bool, number: usize) -> Option<usize>
 }
 
 impl<S: Source + Drop, N: Sink + Drop, C: Crew<Reader<S>>> Group<S, N, C> {
-    ghost use Rattle.std.specs.Prelude.{◌≡◌, ◌≤◌, ◌<◌, ◌+◌, ◌∷◌, ◌++◌, [], ℕ, List, Option, Some, true, false, map, length, is_none, is_some, slice_get, OnOk, OnErr, IfOk, IfSome, IfNone, IsSome};
+    ghost use Rattle.std.specs.Prelude.{◌≡◌, ◌≤◌, ◌<◌, ◌+◌, ◌∷◌, ◌++◌, [], ℕ, List, Option, Some, true, false, map, length, is_none, is_some, slice_get, OnOk, OnErr, IfOk, IfSome, IfNone};
     ghost use Rattle.xd_edge.specs.declared.mode.ModeKind.{ModeKind};
     ghost use Rattle.xd_edge.specs.Faults.{Counted};
     ghost use Rattle.xd_drive.specs.Calls.{is_order};
@@ -91,14 +89,16 @@ impl<S: Source + Drop, N: Sink + Drop, C: Crew<Reader<S>>> Group<S, N, C> {
     ghost use Rattle.xd_journal.specs.declared.entry.Entry.TheVariants.{Start, Kill};
     ghost use Rattle.xd_group.specs.declared.fate.Fate.{Fate};
     ghost use Rattle.xd_group.specs.declared.fate.Fate.TheVariants.{Linked, Refused, Unlinked};
-    ghost use Rattle.xd_group.specs.Fates.{has_link, is_linked};
+    ghost use Rattle.xd_group.specs.Fates.{EndedFrom, has_link, is_linked};
     ghost use Rattle.xd_group.specs.Pages.{taken_of, page_opened};
+    ghost use Rattle.xd_group.specs.Unsaid.{SaysNext};
     ghost use Rattle.xd_group.specs.Unused.{Unused};
     ghost use Rattle.xd_group.specs.Late.{Late, RanAt, Settled, settled_at};
     ghost use Rattle.xd_group.specs.Kills.{KeepsLost, LostAt};
     ghost use Rattle.xd_group.specs.LinkRun.{link_of};
-    ghost use Rattle.xd_group.specs.PostView.{losses_of};
+    ghost use Rattle.xd_group.specs.PostView.{ends_of, has_ended, losses_of};
     ghost use Rattle.xd_link.specs.Spring.{spring};
+    ghost use Rattle.std.specs.List.{list_all};
 
     /// Tells a worker. Gives the number of its link, where a write failed and it is to be killed.
     pub fn say(
@@ -131,12 +131,14 @@ impl<S: Source + Drop, N: Sink + Drop, C: Crew<Reader<S>>> Group<S, N, C> {
         Ok(cut_of(is_cut, number))
     }
 
-    /// Takes an item of a link, and gives its news.
-    pub fn step<R: Wait>(&mut self, rt: &R) -> Result<Step, OutOfMemory>
+    /// Takes an item of a link, and gives its news, where nobody is still to be told of whose link is not read.
+    pub(crate) fn step<R: Wait>(&mut self, rt: &R) -> Result<Step, OutOfMemory>
+        requires none_waits { self.old.is_whole ≡ true → self.old.diary.waiting.items ≡ [] }
         ensures started { IfOk result (λ r. IfSome r.news (λ n. IsStarted (noted self.old.diary.calls) n.worker)) }
         ensures given { IfOk result (λ r. IfSome r.news (λ n. noted self.new.diary.given ≡ noted self.old.diary.given ++ n ∷ [])) }
         ensures silent { IfOk result (λ r. IfNone r.news (noted self.new.diary.given ≡ noted self.old.diary.given)) }
         ensures no_breach { IfOk result (λ r. IfSome r.news (λ n. is_breach n.what ≡ false)) }
+        ensures waiting { self.new.diary.waiting ≡ self.old.diary.waiting }
         ensures calls { noted self.new.diary.calls ≡ noted self.old.diary.calls }
         ensures starts { (self.new.diary.workers ≡ self.old.diary.workers) × (self.new.diary.fates ≡ self.old.diary.fates) }
         ensures whole { OnOk result (self.new.is_whole ≡ self.old.is_whole) }
@@ -302,10 +304,11 @@ impl<S: Source + Drop, N: Sink + Drop, C: Crew<Reader<S>>> Group<S, N, C> {
         self.diary.place_of(worker)
     }
 
-    /// News of a worker that has no link.
+    /// News of a worker whose link is not read, where one is still to be told of.
     pub fn next_unlinked(&mut self) -> Option<News>
         ensures started { IfSome result (λ n. IsStarted (noted self.old.diary.calls) n.worker) }
         ensures no_breach { IfSome result (λ n. is_breach n.what ≡ false) }
+        ensures waited { self.old.is_whole ≡ true → SaysNext self.old.diary.workers.items self.old.diary.waiting.items self.new.diary.waiting.items result }
         ensures given { IfSome result (λ n. noted self.new.diary.given ≡ noted self.old.diary.given ++ n ∷ []) }
         ensures silent { IfNone result (noted self.new.diary.given ≡ noted self.old.diary.given) }
         ensures calls { noted self.new.diary.calls ≡ noted self.old.diary.calls }
@@ -314,15 +317,15 @@ impl<S: Source + Drop, N: Sink + Drop, C: Crew<Reader<S>>> Group<S, N, C> {
         ensures posts { self.new.posts ≡ self.old.posts }
         ensures made { (self.new.suite ≡ self.old.suite) × (self.new.mode ≡ self.old.mode) × (self.new.first ≡ self.old.first) }
     {
+        if !self.is_whole {
+            return None;
+        }
         let Some(number) = self.diary.next_waiting() else {
             return None;
         };
         let Some(worker) = self.diary.worker_at(number) else {
-            return None;
+            unreachable!()
         };
-        if !is_without(&self.posts, number as usize) {
-            return None;
-        }
         let news = News {
             worker,
             what: What::NotStarted,
@@ -340,7 +343,8 @@ impl<S: Source + Drop, N: Sink + Drop, C: Crew<Reader<S>>> Group<S, N, C> {
         requires late { (first : List (Option Settled)) × ∥ Late first (news_of (mails links.old.desk)) (pages_of posts.old.items) ∥₁ }
         ensures late { (first : List (Option Settled)) → ∥ Late first (news_of (mails links.old.desk)) (pages_of posts.old.items) ∥₁
             → OnOk result (∥ Late first (news_of (mails links.new.desk)) (pages_of posts.new.items) ∥₁) }
-        ensures lost { OnOk result (losses_of posts.new.items ≡ losses_of posts.old.items) }
+        ensures seats { OnOk result (map is_some (pages_of posts.new.items) ≡ map is_some (pages_of posts.old.items)) }
+        ensures keeps { OnOk result (KeepsLost (losses_of posts.old.items) (losses_of posts.new.items)) }
         ensures crew { links.new.crew ≡ links.old.crew }
     {
         let (number, item) = links.next(rt);
@@ -357,7 +361,9 @@ impl<S: Source + Drop, N: Sink + Drop, C: Crew<Reader<S>>> Group<S, N, C> {
         requires late { (first : List (Option Settled)) × ∥ Late first (news_of (mails links.old.desk)) (pages_of posts.old.items) ∥₁ }
         ensures late { (first : List (Option Settled)) → ∥ Late first (news_of (mails links.old.desk)) (pages_of posts.old.items) ∥₁
             → OnOk result (∥ Late first (news_of (mails links.new.desk)) (pages_of posts.new.items) ∥₁) }
-        ensures lost { OnOk result (losses_of posts.new.items ≡ losses_of posts.old.items) }
+        ensures ended { OnOk result (list_all has_ended posts.new.items ≡ true) }
+        ensures seats { OnOk result (map is_some (pages_of posts.new.items) ≡ map is_some (pages_of posts.old.items)) }
+        ensures keeps { OnOk result (KeepsLost (losses_of posts.old.items) (losses_of posts.new.items)) }
         ensures crew { links.new.crew ≡ links.old.crew }
     {
         for _ in rt.forever() {
@@ -372,7 +378,8 @@ impl<S: Source + Drop, N: Sink + Drop, C: Crew<Reader<S>>> Group<S, N, C> {
     /// Takes from the links until nothing more is to come of any. From now on nothing is told and nothing said.
     pub fn settle<R: Wait>(&mut self, rt: &R) -> Result<(), OutOfMemory>
         ensures late { OnOk result (∥ Late (map settled_at (pages_of self.old.posts.items)) (news_of (mails self.new.links.desk)) (pages_of self.new.posts.items) ∥₁) }
-        ensures lost { OnOk result (losses_of self.new.posts.items ≡ losses_of self.old.posts.items) }
+        ensures ended { OnOk result (EndedFrom 0 (ends_of self.new.posts.items) self.old.diary.fates.items) }
+        ensures keeps { OnOk result (KeepsLost (losses_of self.old.posts.items) (losses_of self.new.posts.items)) }
         ensures crew { (self.new.links.crew ≡ self.old.links.crew) × (self.new.first ≡ self.old.first) }
         ensures spares { self.new.spares ≡ self.old.spares }
         ensures whole { OnOk result (self.old.is_whole ≡ true) }
@@ -393,28 +400,26 @@ impl<S: Source + Drop, N: Sink + Drop, C: Crew<Reader<S>>> Group<S, N, C> {
         posts: &mut Vec<Option<Post<N>>>,
         number: u32,
         worker: u32,
-    ) -> Option<Ended<S, N>>
+    ) -> Ended<S, N>
+        requires late { (first : List (Option Settled)) × ∥ Late first (news_of (mails links.old.desk)) (pages_of posts.old.items) ∥₁ }
+        requires ended { slice_get (ends_of posts.old.items) number ≡ Some true }
         ensures ran { (first : List (Option Settled)) → ∥ Late first (news_of (mails links.old.desk)) (pages_of posts.old.items) ∥₁
-            → IfSome result (λ e. ∥ RanAt first number (link_of (spring (S.supply e.source) (S.is_ended e.source) (S.faults e.source)) (N.sunk e.sink) (N.faults e.sink)) ∥₁) }
+            → ∥ RanAt first number (link_of (spring (S.supply result.source) (S.is_ended result.source) (S.faults result.source)) (N.sunk result.sink) (N.faults result.sink)) ∥₁ }
         ensures late { (first : List (Option Settled)) → ∥ Late first (news_of (mails links.old.desk)) (pages_of posts.old.items) ∥₁
-            → IsSome result → ∥ Late first (news_of (mails links.new.desk)) (pages_of posts.new.items) ∥₁ }
-        ensures lost { IfSome result (λ e. slice_get (losses_of posts.old.items) number ≡ Some true → 0 < N.faults e.sink) }
-        ensures others { IfSome result (λ e. (k : ℕ) → number < k → slice_get (losses_of posts.old.items) k ≡ Some true → slice_get (losses_of posts.new.items) k ≡ Some true) }
+            → ∥ Late first (news_of (mails links.new.desk)) (pages_of posts.new.items) ∥₁ }
+        ensures lost { slice_get (losses_of posts.old.items) number ≡ Some true → 0 < N.faults result.sink }
+        ensures others { ((k : ℕ) → number < k → slice_get (losses_of posts.old.items) k ≡ Some true → slice_get (losses_of posts.new.items) k ≡ Some true)
+            × ((k : ℕ) → number < k → slice_get (ends_of posts.old.items) k ≡ Some true → slice_get (ends_of posts.new.items) k ≡ Some true) }
         ensures crew { C.faults links.new.crew ≡ C.faults links.old.crew }
-        ensures worker { IfSome result (λ e. e.worker ≡ worker) }
+        ensures worker { result.worker ≡ worker }
     {
-        if !links.has_link(number) {
-            return None;
-        }
-        let Some(sink) = leave_at(posts, number as usize) else {
-            return None;
-        };
+        let sink = leave_at(posts, number as usize);
         let Closed { source, rest: _ } = links.close(number);
-        Some(Ended {
+        Ended {
             worker,
             source,
             sink,
-        })
+        }
     }
 
     // Gives the link of this number that was kept and not read.
@@ -433,42 +438,41 @@ impl<S: Source + Drop, N: Sink + Drop, C: Crew<Reader<S>>> Group<S, N, C> {
     }
 
     /// Closes the link of this number, and gives what it left; `None` where the number has none.
-    pub fn end_link(&mut self, number: u32) -> Result<Option<Ended<S, N>>, OutOfMemory>
+    pub(crate) fn end_link(&mut self, number: u32) -> Option<Ended<S, N>>
         requires over { self.old.is_whole ≡ false }
+        requires there { number < length self.old.diary.workers.items }
+        requires late { (first : List (Option Settled)) × ∥ Late first (news_of (mails self.old.links.desk)) (pages_of self.old.posts.items) ∥₁ }
         requires kept { KeptFrom number (map is_some self.old.spares.items) self.old.diary.fates.items }
-        ensures kept { OnOk result (KeptFrom (number + 1) (map is_some self.new.spares.items) self.old.diary.fates.items) }
+        requires ended { EndedFrom number (ends_of self.old.posts.items) self.old.diary.fates.items }
+        ensures kept { KeptFrom (number + 1) (map is_some self.new.spares.items) self.old.diary.fates.items }
+        ensures ended { EndedFrom (number + 1) (ends_of self.new.posts.items) self.old.diary.fates.items }
         ensures ran { (first : List (Option Settled)) → ∥ Late first (news_of (mails self.old.links.desk)) (pages_of self.old.posts.items) ∥₁ → slice_get self.old.diary.fates.items number ≡ Some Linked
-            → IfOk result (λ r. IfSome r (λ e. ∥ RanAt first number (link_of (spring (S.supply e.source) (S.is_ended e.source) (S.faults e.source)) (N.sunk e.sink) (N.faults e.sink)) ∥₁)) }
+            → IfSome result (λ e. ∥ RanAt first number (link_of (spring (S.supply e.source) (S.is_ended e.source) (S.faults e.source)) (N.sunk e.sink) (N.faults e.sink)) ∥₁) }
         ensures unused { slice_get self.old.diary.fates.items number ≡ Some Refused
-            → IfOk result (λ r. IfSome r (λ e. Unused (link_of (spring (S.supply e.source) (S.is_ended e.source) (S.faults e.source)) (N.sunk e.sink) (N.faults e.sink)))) }
+            → IfSome result (λ e. Unused (link_of (spring (S.supply e.source) (S.is_ended e.source) (S.faults e.source)) (N.sunk e.sink) (N.faults e.sink))) }
         ensures late { (first : List (Option Settled)) → ∥ Late first (news_of (mails self.old.links.desk)) (pages_of self.old.posts.items) ∥₁
-            → OnOk result (∥ Late first (news_of (mails self.new.links.desk)) (pages_of self.new.posts.items) ∥₁) }
-        ensures fate { IfOk result (λ r. (f : Fate) × (slice_get self.old.diary.fates.items number ≡ Some f) × (is_some r ≡ has_link f)) }
-        ensures worker { IfOk result (λ r. IfSome r (λ e. slice_get self.old.diary.workers.items number ≡ Some e.worker)) }
-        ensures lost { slice_get self.old.diary.fates.items number ≡ Some Linked → IfOk result (λ r. IfSome r (λ e. slice_get (losses_of self.old.posts.items) number ≡ Some true → 0 < N.faults e.sink)) }
-        ensures others { OnOk result ((k : ℕ) → number < k → slice_get (losses_of self.old.posts.items) k ≡ Some true → slice_get (losses_of self.new.posts.items) k ≡ Some true) }
+            → ∥ Late first (news_of (mails self.new.links.desk)) (pages_of self.new.posts.items) ∥₁ }
+        ensures fate { (f : Fate) × (slice_get self.old.diary.fates.items number ≡ Some f) × (is_some result ≡ has_link f) }
+        ensures worker { IfSome result (λ e. slice_get self.old.diary.workers.items number ≡ Some e.worker) }
+        ensures lost { slice_get self.old.diary.fates.items number ≡ Some Linked → IfSome result (λ e. slice_get (losses_of self.old.posts.items) number ≡ Some true → 0 < N.faults e.sink) }
+        ensures others { (k : ℕ) → number < k → slice_get (losses_of self.old.posts.items) k ≡ Some true → slice_get (losses_of self.new.posts.items) k ≡ Some true }
         ensures crew { (C.faults self.new.links.crew ≡ C.faults self.old.links.crew) × (self.new.first ≡ self.old.first) }
         ensures over { self.new.is_whole ≡ false }
         ensures diary { self.new.diary ≡ self.old.diary }
     {
         let Some(worker) = self.diary.worker_at(number) else {
-            return Err(OutOfMemory);
+            unreachable!()
         };
-        let Some(fate) = self.diary.fate_at(number) else {
-            return Err(OutOfMemory);
-        };
+        let fate = self.diary.fate_at(number);
         match fate {
-            Fate::Unlinked => Ok(None),
+            Fate::Unlinked => None,
             Fate::Refused => {
                 let kept = Self::end_spare(&mut self.spares, number, worker);
-                Ok(Some(kept))
+                Some(kept)
             }
             Fate::Linked => {
-                let Some(closed) = Self::close(&mut self.links, &mut self.posts, number, worker)
-                else {
-                    return Err(OutOfMemory);
-                };
-                Ok(Some(closed))
+                let closed = Self::close(&mut self.links, &mut self.posts, number, worker);
+                Some(closed)
             }
         }
     }

@@ -1,5 +1,5 @@
 // One link: its gateway, and what was taken of it, told to it and said of it.
-ghost use Rattle.std.specs.Prelude.{◌≡◌, ◌≤◌, ◌∷◌, ◌++◌, [], ℕ, List, Bool, true, false, ⊤, IfOk, OnOk, IfSome, IsSome, length, option_to_list};
+ghost use Rattle.std.specs.Prelude.{◌≡◌, ◌≤◌, ◌∷◌, ◌++◌, [], ℕ, ◌||◌, List, Bool, true, false, ⊤, None, IfOk, OnOk, IfSome, IsSome, length, option_to_list};
 ghost use Rattle.std.specs.List.{list_any};
 ghost use Rattle.std.specs.Str.{encode_utf8_all};
 ghost use Rattle.xd_edge.specs.declared.mode.ModeKind.{ModeKind};
@@ -12,12 +12,12 @@ ghost use Rattle.xd_note.specs.Noted.{noted};
 ghost use Rattle.xd_drive.specs.Marks.{is_breach, is_end};
 ghost use Rattle.xd_gateway.specs.Orders.{order_of};
 ghost use Rattle.xd_remote.specs.View.{is_broken, side_of, sink_of};
-ghost use Rattle.xd_group.specs.Heard.{IsCause, HeardSo, plain_cause};
+ghost use Rattle.xd_group.specs.Heard.{IsCause, HeardSo, StaysEnded, plain_cause};
 ghost use Rattle.xd_group.specs.Pages.{is_nothing};
 ghost use Rattle.xd_group.specs.Sent.{SentAs};
 ghost use Rattle.xd_group.specs.ToLink.{has_left, to_link};
 
-use crate::calling::{call_worker, end_worker, write_order};
+use crate::calling::{call_worker, close_link, end_worker, write_order};
 use std::alloc::Global;
 use std::snapshot::Snapshot;
 use xd_edge::{ModeKind, OutOfMemory, Sink, Text};
@@ -29,7 +29,7 @@ use xd_reader::{LinkNews, LinkStop};
 use xd_remote::Gateway;
 
 /// One link. Where it is known, what was said of it are the news of what was taken of it, and its sink took what it was
-/// told; it is unknown behind want of memory.
+/// told; it is unknown once memory ran out.
 #[derive(Drop)]
 pub struct Post<N: Sink + Drop> {
     pub gateway: Gateway<N>,
@@ -44,11 +44,11 @@ pub struct Post<N: Sink + Drop> {
     pub is_lost: bool,
     /// Its reader's end was taken.
     pub is_ended: bool,
-    /// The worker was told to end, and the sink closed.
+    /// The sink was closed: the worker was told to end, or its reader's end was taken.
     pub is_closed: bool,
     pub is_known: bool,
     ghost lost: { is_known ≡ true → is_lost ≡ is_broken gateway },
-    ghost closed: { is_known ≡ true → is_closed ≡ has_left (noted said) },
+    ghost closed: { is_known ≡ true → is_closed ≡ (has_left (noted said) || is_ended) },
     ghost heard: { is_known ≡ true → ∥ HeardSo gateway is_ended is_lost (noted taken) (noted said ++ noted late) ∥₁ },
     ghost sent: { is_known ≡ true → ∥ SentAs is_lost is_closed (N.sunk (sink_of gateway)) (N.faults (sink_of gateway)) (to_link suite.value mode (noted told) (noted said)) ∥₁ },
 }
@@ -91,6 +91,7 @@ fn judge<N: Sink + Drop>(
     ensures no_breach { IfOk result (λ r. IfSome r.news (λ x. is_breach x ≡ false)) }
     ensures sink { sink_of gateway.new ≡ sink_of gateway.old }
     ensures broken { is_broken gateway.new ≡ is_broken gateway.old }
+    ensures past { IfOk result (λ r. StaysEnded is_ended r.is_ended r.news) }
 {
     if is_ended {
         return Ok(Judged {
@@ -139,35 +140,46 @@ fn note_heard(log: &mut Log<What>, news: &Option<What>)
     }
 }
 
-// Whether the worker was told to end, and whether a write failed.
+// Whether the sink was closed, and whether a write failed.
 #[derive(Drop)]
 struct Ended {
     is_closed: bool,
     is_lost: bool,
 }
 
-// Ends the worker behind its last news, once.
+// Ends the worker after its last news, or closes the sink after the end of its link; one of these, once.
 fn end_behind<N: Sink + Drop>(
     gateway: &mut Gateway<N>,
+    is_ended: bool,
     is_closed: bool,
     is_lost: bool,
     news: &Option<What>,
 ) -> Ended
-    ensures closed { (said : List What) → is_closed ≡ has_left said → result.is_closed ≡ has_left (said ++ option_to_list news.now) }
+    ensures closed { (said : List What) (was : Bool) → StaysEnded was is_ended news.now → is_closed ≡ (has_left said || was) → result.is_closed ≡ (has_left (said ++ option_to_list news.now) || is_ended) }
     ensures lost { is_lost ≡ is_broken gateway.old → result.is_lost ≡ is_broken gateway.new }
-    ensures sent { (suite : List ℕ) (mode : ModeKind) (told : List Entry) (said : List What) → is_lost ≡ is_broken gateway.old → is_closed ≡ has_left said → SentAs is_lost is_closed (N.sunk (sink_of gateway.old)) (N.faults (sink_of gateway.old)) (to_link suite mode told said)
+    ensures sent { (suite : List ℕ) (mode : ModeKind) (told : List Entry) (said : List What) (was : Bool) → StaysEnded was is_ended news.now → is_lost ≡ is_broken gateway.old → is_closed ≡ (has_left said || was) → SentAs is_lost is_closed (N.sunk (sink_of gateway.old)) (N.faults (sink_of gateway.old)) (to_link suite mode told said)
         → SentAs result.is_lost result.is_closed (N.sunk (sink_of gateway.new)) (N.faults (sink_of gateway.new)) (to_link suite mode told (said ++ option_to_list news.now)) }
     ensures keeps { is_lost ≡ is_broken gateway.old → is_lost ≡ true → result.is_lost ≡ true }
     ensures heard { (ended : Bool) (taken : List LinkNews) (said : List What) → is_lost ≡ is_broken gateway.old → HeardSo gateway.old ended is_lost taken said → HeardSo gateway.new ended result.is_lost taken said }
 {
-    if is_closed || !is_farewell(news) {
+    if is_closed {
         return Ended { is_closed, is_lost };
     }
-    let is_lost = end_worker(gateway);
-    Ended {
-        is_closed: true,
-        is_lost,
+    if is_farewell(news) {
+        let is_lost = end_worker(gateway);
+        return Ended {
+            is_closed: true,
+            is_lost,
+        };
     }
+    if is_ended {
+        let is_lost = close_link(gateway);
+        return Ended {
+            is_closed: true,
+            is_lost,
+        };
+    }
+    Ended { is_closed, is_lost }
 }
 
 /// What a link's item meant, and whether a write failed behind it.
@@ -263,6 +275,7 @@ impl<N: Sink + Drop> Post<N> {
         note_heard(&mut self.said, &news);
         let Ended { is_closed, is_lost } = end_behind(
             &mut self.gateway,
+            is_ended,
             self.is_closed,
             self.is_lost,
             &news,
@@ -282,7 +295,7 @@ impl<N: Sink + Drop> Post<N> {
         ensures same { (self.new.suite ≡ self.old.suite) × (self.new.mode ≡ self.old.mode) × (noted self.new.told ≡ noted self.old.told) }
         ensures taken { OnOk result (noted self.new.taken ≡ noted self.old.taken ++ item ∷ []) }
         ensures said { noted self.new.said ≡ noted self.old.said }
-        ensures lost { self.new.is_lost ≡ self.old.is_lost }
+        ensures keeps { OnOk result (self.old.is_lost ≡ true → self.new.is_lost ≡ true) }
         ensures known { OnOk result (self.new.is_known ≡ true) }
     {
         self.is_known = false;
@@ -295,6 +308,15 @@ impl<N: Sink + Drop> Post<N> {
         )?;
         self.is_ended = is_ended;
         note_heard(&mut self.late, &news);
+        let Ended { is_closed, is_lost } = end_behind(
+            &mut self.gateway,
+            is_ended,
+            self.is_closed,
+            self.is_lost,
+            &None,
+        );
+        self.is_closed = is_closed;
+        self.is_lost = is_lost;
         self.is_known = true;
         Ok(())
     }

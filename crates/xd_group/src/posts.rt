@@ -4,11 +4,11 @@ ghost use Rattle.std.specs.Str.{encode_utf8_all};
 ghost use Rattle.xd_drive.specs.Marks.{is_breach};
 ghost use Rattle.xd_gateway.specs.Orders.{order_of};
 ghost use Rattle.xd_group.specs.Ends.{EndsSo};
-ghost use Rattle.xd_group.specs.Pages.{HasPage, HeardAt, IsHeardAt, IsToldAt, Page, ToldAt, page_opened};
+ghost use Rattle.xd_group.specs.Pages.{HeardAt, IsHeardAt, IsToldAt, Page, ToldAt, page_opened};
 ghost use Rattle.xd_link.specs.FreshLink.{unused};
 ghost use Rattle.xd_group.specs.Late.{IsLateAt, LateAt};
 ghost use Rattle.xd_group.specs.Kills.{KeepsLost, LostAt};
-ghost use Rattle.xd_group.specs.PostView.{has_ended, losses_of, page_by, pages_of};
+ghost use Rattle.xd_group.specs.PostView.{ends_of, has_ended, losses_of, page_by, pages_of};
 ghost use Rattle.std.specs.Bool.{then_some};
 ghost use Rattle.std.specs.List.{list_all};
 
@@ -17,16 +17,6 @@ use std::alloc::Global;
 use xd_edge::{ModeKind, OutOfMemory, Sink, Text};
 use xd_journal::Entry;
 use xd_reader::LinkNews;
-
-/// Whether there is a link at the place.
-pub fn has_post<N: Sink + Drop>(posts: &[Option<Post<N>>], at: usize) -> bool
-    ensures { result ≡ true → HasPage (pages_of posts.now) at }
-{
-    if at >= posts.len() {
-        return false;
-    }
-    posts[at].is_some()
-}
 
 /// Tells an order to the link at the place. Says whether a write failed, now or before.
 pub fn tell_at<N: Sink + Drop>(
@@ -83,7 +73,8 @@ pub fn hear_late_at<N: Sink + Drop>(
 ) -> Result<(), OutOfMemory>
     requires late { ∥ IsLateAt (pages_of posts.old.items) at ∥₁ }
     ensures late { OnOk result (LateAt item at (pages_of posts.old.items) (pages_of posts.new.items)) }
-    ensures lost { OnOk result (losses_of posts.new.items ≡ losses_of posts.old.items) }
+    ensures seats { OnOk result (map is_some (pages_of posts.new.items) ≡ map is_some (pages_of posts.old.items)) }
+    ensures keeps { OnOk result (KeepsLost (losses_of posts.old.items) (losses_of posts.new.items)) }
 {
     if at >= posts.len() {
         unreachable!()
@@ -140,44 +131,32 @@ pub fn push_none<N: Sink + Drop>(posts: &mut Vec<Option<Post<N>>>) -> Result<(),
     Ok(())
 }
 
-/// Whether the place has no link.
-pub fn is_without<N: Sink + Drop>(posts: &[Option<Post<N>>], at: usize) -> bool
-    ensures { result ≡ true → HasPage (pages_of posts.now) at → ⊥ }
+// Takes the post apart when nothing more is to come of its link.
+fn leave<N: Sink + Drop>(post: Post<N>) -> N
+    requires known { post.is_known ≡ true }
+    requires ended { post.is_ended ≡ true }
+    ensures ends { ∥ EndsSo (page_by post) (N.sunk result) (N.faults result) ∥₁ }
+    ensures lost { post.is_lost ≡ true → 0 < N.faults result }
 {
-    if at >= posts.len() {
-        return false;
-    }
-    posts[at].is_none()
-}
-
-// Takes the post apart, where it is known to have ended.
-fn leave<N: Sink + Drop>(post: Post<N>) -> Option<N>
-    ensures ends { IfSome result (λ sink. ∥ EndsSo (page_by post) (N.sunk sink) (N.faults sink) ∥₁) }
-    ensures lost { IfSome result (λ sink. post.is_lost ≡ true → 0 < N.faults sink) }
-{
-    if !post.is_known {
-        return None;
-    }
-    if !post.is_ended {
-        return None;
-    }
     let Post { gateway, .. } = post;
-    let sink = gateway.into_sink();
-    Some(sink)
+    gateway.into_sink()
 }
 
-/// Takes the link at the place, where it is known to have ended. Gives its sink.
-pub fn leave_at<N: Sink + Drop>(posts: &mut Vec<Option<Post<N>>>, at: usize) -> Option<N>
-    ensures ends { IfSome result (λ sink. (p : Page) × (slice_get (pages_of posts.old.items) at ≡ Some (Some p)) × ∥ EndsSo p (N.sunk sink) (N.faults sink) ∥₁) }
-    ensures lost { IfSome result (λ sink. slice_get (losses_of posts.old.items) at ≡ Some true → 0 < N.faults sink) }
-    ensures others { IfSome result (λ sink. (k : ℕ) → at < k → slice_get (losses_of posts.old.items) k ≡ Some true → slice_get (losses_of posts.new.items) k ≡ Some true) }
-    ensures gone { IfSome result (λ sink. pages_of posts.new.items ≡ slice_set (pages_of posts.old.items) at None) }
+/// Takes the link at the place when nothing more is to come of it. Gives its sink.
+pub fn leave_at<N: Sink + Drop>(posts: &mut Vec<Option<Post<N>>>, at: usize) -> N
+    requires known { ∥ IsLateAt (pages_of posts.old.items) at ∥₁ }
+    requires ended { slice_get (ends_of posts.old.items) at ≡ Some true }
+    ensures ends { (p : Page) × (slice_get (pages_of posts.old.items) at ≡ Some (Some p)) × ∥ EndsSo p (N.sunk result) (N.faults result) ∥₁ }
+    ensures lost { slice_get (losses_of posts.old.items) at ≡ Some true → 0 < N.faults result }
+    ensures others { (k : ℕ) → at < k → slice_get (losses_of posts.old.items) k ≡ Some true → slice_get (losses_of posts.new.items) k ≡ Some true }
+    ensures ended { (k : ℕ) → at < k → slice_get (ends_of posts.old.items) k ≡ Some true → slice_get (ends_of posts.new.items) k ≡ Some true }
+    ensures gone { pages_of posts.new.items ≡ slice_set (pages_of posts.old.items) at None }
 {
     if at >= posts.len() {
-        return None;
+        unreachable!()
     }
     match posts[at].take() {
         Some(post) => leave(post),
-        None => None,
+        None => unreachable!(),
     }
 }

@@ -69,7 +69,18 @@ impl<K: Sink> Gateway<K> {
     {
         let message = Message::of(Kind::Terminate, 0, empty(self.alloc));
         self.print(&message);
-        self.close();
+        self.close_sink();
+        written(self.is_broken)
+    }
+
+    /// Closes the sink, and writes nothing more.
+    pub fn close(&mut self) -> Result<(), GatewayFault>
+        ensures answer { result ≡ written (is_broken self.new) }
+        ensures closes { ClosesNow (line_of K.sunk K.faults self.old) (line_of K.sunk K.faults self.new) }
+        ensures rest { KeepsChannels self.old self.new }
+        ensures stands { (h : List Heard) → StandsFor self.old h → StandsFor self.new h }
+    {
+        self.close_sink();
         written(self.is_broken)
     }
 
@@ -110,7 +121,7 @@ impl<K: Sink> Gateway<K> {
         }
     }
 
-    fn close(&mut self)
+    fn close_sink(&mut self)
         ensures closes { ClosesNow (line_of K.sunk K.faults self.old) (line_of K.sunk K.faults self.new) }
         ensures rest { KeepsChannels self.old self.new }
     {

@@ -1,14 +1,17 @@
 use Rattle.std.proofs.Common.{◌≤◌, ◌<◌, length, refl, rules}
 use Rattle.std.proofs.lemmas.Option.{slice_get_read}
-use Rattle.xd_group.proofs.LossFacts.{lost_same}
+use Rattle.xd_group.proofs.LossFacts.{lost_kept, seats_kept}
 use Rattle.xd_group.proofs.PageFacts.{late_post, none_late, none_of, past_late, post_late}
 use Rattle.xd_group.proofs.posts.hear_late_at.Goals as goal
 
-pub returns-clause-lost : goal.returns-clause-lost
-returns-clause-lost g c =
+pub returns-clause-keeps : goal.returns-clause-keeps
+returns-clause-keeps g c = lost_kept c.args.posts.now.items c.args.at c.index_mut.result.now c.in-Some.post c.hear_late.new.self c.index_mut.ensures.value c.in-Some.is c.in_ok-hear_late.ensures.keeps
+
+pub returns-clause-seats : goal.returns-clause-seats
+returns-clause-seats g c =
     let xs = c.args.posts.now.items in
     let within : c.args.at < length xs = search rules in
-    lost_same xs c.args.at c.index_mut.result.now c.in-Some.post c.hear_late.new.self c.in-Some.is (slice_get_read xs (length xs) c.args.at c.index_mut.result.now refl within c.index_mut.ensures.value) c.in_ok-hear_late.ensures.lost
+    seats_kept xs c.args.at c.index_mut.result.now c.in-Some.post c.hear_late.new.self c.in-Some.is (slice_get_read xs (length xs) c.args.at c.index_mut.result.now refl within c.index_mut.ensures.value)
 
 pub returns-clause-late : goal.returns-clause-late
 returns-clause-late g c p there = (

@@ -7,9 +7,10 @@ use Rattle.xd_group.proofs.posts.leave.Goals as goal
 pub returns-clause-ends : goal.returns-clause-ends
 returns-clause-ends g c =
     let p = c.args.post in
-    ∥∥₁_map₂ (p.heard c.if-not-post.false) (p.sent c.if-not-post.false) (λ h s. ends_so p.gateway (page_by p) p.is_ended p.is_lost p.is_closed _ _ c.if-not-post-2.false (p.closed c.if-not-post.false) h (rw (c.into_sink-sink.ensures) s))
+    let known = c.requires.known in
+    ∥∥₁_map₂ (p.heard known) (p.sent known) (λ h s. ends_so p.gateway (page_by p) p.is_ended p.is_lost p.is_closed _ _ c.requires.ended (p.closed known) h (rw (c.into_sink.ensures) s))
 
 pub returns-clause-lost : goal.returns-clause-lost
 returns-clause-lost g c lost =
     let p = c.args.post in
-    ∥∥₁_elim (p.sent c.if-not-post.false) (hlevel props) (λ s. rw (c.into_sink-sink.ensures) ((s.part lost).0))
+    ∥∥₁_elim (p.sent c.requires.known) (hlevel props) (λ s. rw (c.into_sink.ensures) ((s.part lost).0))

@@ -1,4 +1,4 @@
-use Rattle.std.proofs.Common.{List}
+use Rattle.std.proofs.Common.{◌<◌, List}
 use Rattle.std.specs.Prelude.{slice_get}
 use Rattle.xd_group.specs.PostView.{losses_of}
 use Rattle.std.proofs.Common.{◌≡◌, ◌∙◌, [], ap, arith, length, map, refl, rules, subst, sym}
@@ -33,6 +33,7 @@ loop-number-init g c =
       over = settled.over;
       kept = was.group.kept settled.whole;
       spared = spared_from _ was.group.diary.fates.items (ap (λ (s : _). map is_some s.items) settled.spares ∙ was.group.spared settled.whole);
+      ended = settled.ended;
       late = settled.late;
       runs = λ k d h. absurd (let size : length c.new-ends.result.items ≡ 0 = ap length none in omega (arith, h, size));
       workers = ap (map (λ e. e.worker)) none;
@@ -43,14 +44,17 @@ loop-number-init g c =
       crew = ap g.C.Crew.faults settled.crew.0;
       diary = settled.diary;
       kills = was.kills settled.whole;
-      lost = λ k h e. ap (λ (l : List _). slice_get l k) settled.lost ∙ e;
+      lost = λ k h e. settled.keeps k e;
       killed = λ k d h. absurd (let size : length c.new-ends.result.items ≡ 0 = ap length none in omega (arith, h, size));
     }
 
 pub end_next-requires : goal.end_next-requires
 end_next-requires g c =
     let inv = c.loop-number.invariant in
-    record { over = inv.over; kept = rw (inv.diary) inv.spared }
+    let workers = c.args.self.now.group.diary.workers.items in
+    let size : c.in-Ok.count ≡ length workers = search rules in
+    let there : c.loop-number.number < length workers = omega (arith, c.loop-number-test.true, size) in
+    record { over = inv.over; there = rw (inv.diary) there; late = (map settled_at (pages_of c.args.self.now.group.posts.items), inv.late); kept = rw (inv.diary) inv.spared; ended = rw (inv.diary) inv.ended }
 
 pub loop-number-preserved : goal.loop-number-preserved
 loop-number-preserved g c =
@@ -65,6 +69,7 @@ loop-number-preserved g c =
       over = done.over;
       kept = inv.kept;
       spared = rw (inv.diary) at done.kept;
+      ended = rw (inv.diary) at done.ended;
       late = done.late (map settled_at pages) inv.late;
       runs = rw (inv.diary) at (done.runs was.suite was.mode taken calls given pages (rw (inv.diary) inv.kept) inv.late (rw (inv.diary) inv.runs));
       workers = rw (inv.diary) at (done.workers (rw (inv.diary) inv.workers));
@@ -76,7 +81,7 @@ loop-number-preserved g c =
       diary = done.diary ∙ inv.diary;
       kills = rw (inv.diary) at (done.kills calls (losses_of was.posts.items) (rw (inv.diary) inv.kills));
       lost = λ k h e. done.others k (omega (arith, h)) (inv.lost k (omega (arith, h)) e);
-      killed = rw (inv.diary) at (done.killed calls (losses_of was.posts.items) (rw (inv.diary) inv.linked) (rw (inv.diary) inv.kills) (λ e. inv.lost c.loop-number.number (omega arith) e) (rw (inv.diary) inv.killed));
+      killed = rw (inv.diary) at (done.killed was.suite was.mode taken calls given pages (losses_of was.posts.items) (rw (inv.diary) inv.kept) (rw (inv.diary) inv.linked) (rw (inv.diary) inv.kills) (λ e. inv.lost c.loop-number.number (omega arith) e) (rw (inv.diary) inv.killed));
     }
 
 pub returns-clause-workers : goal.returns-clause-workers

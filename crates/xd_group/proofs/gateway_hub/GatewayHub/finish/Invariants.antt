@@ -1,7 +1,7 @@
 use Rattle.std.proofs.Common.{ℕ, ◌≤◌, Some, true}
 use Rattle.std.specs.Prelude.{slice_get}
 use Rattle.xd_group.specs.Kills.{EndKilledSo, KilledSo}
-use Rattle.xd_group.specs.PostView.{losses_of}
+use Rattle.xd_group.specs.PostView.{ends_of, losses_of}
 use Rattle.std.proofs.Common.{◌≡◌, false, All, map}
 use Rattle.std.specs.Prelude.{is_some, take}
 use Rattle.xd_link.specs.Spring.{spring}
@@ -9,7 +9,7 @@ use Rattle.xd_links.specs.Runs.{news_of}
 use Rattle.xd_note.specs.Noted.{noted}
 use Rattle.xd_post.specs.Mails.{mails}
 use Rattle.xd_group.specs.Children.{all_asked, starts_told}
-use Rattle.xd_group.specs.Fates.{KeptFrom, has_link, is_refused, workers_with}
+use Rattle.xd_group.specs.Fates.{EndedFrom, KeptFrom, has_link, is_refused, workers_with}
 use Rattle.xd_group.specs.Kept.{Kept}
 use Rattle.xd_group.specs.Late.{Late, settled_at}
 use Rattle.xd_group.specs.LinkRun.{link_of}
@@ -22,6 +22,7 @@ invariant-loop-number g l = record {
   over : l.self.group.is_whole ≡ false;
   kept : ∥ Kept l.fn.self.group.suite l.fn.self.group.mode (news_of (mails l.fn.self.group.links.desk)) (noted l.fn.self.group.diary.calls) (noted l.fn.self.group.diary.given) l.fn.self.group.diary.workers.items (pages_of l.fn.self.group.posts.items) ∥₁;
   spared : KeptFrom l.number (map is_some l.self.group.spares.items) l.fn.self.group.diary.fates.items;
+  ended : EndedFrom l.number (ends_of l.self.group.posts.items) l.fn.self.group.diary.fates.items;
   late : ∥ Late (map settled_at (pages_of l.fn.self.group.posts.items)) (news_of (mails l.self.group.links.desk)) (pages_of l.self.group.posts.items) ∥₁;
   runs : All (λ e. ∥ RanSo l.fn.self.group.suite l.fn.self.group.mode (noted l.fn.self.group.diary.given) (noted l.fn.self.group.diary.calls) (workers_with is_refused l.fn.self.group.diary.workers.items l.fn.self.group.diary.fates.items) e.worker (link_of (spring (g.St.Src.Source.supply e.source) (g.St.Src.Source.is_ended e.source) (g.St.Src.Source.faults e.source)) (g.St.Snk.Sink.sunk e.sink) (g.St.Snk.Sink.faults e.sink)) ∥₁) l.ends.items;
   workers : map (λ e. e.worker) l.ends.items ≡ workers_with has_link (take l.number l.fn.self.group.diary.workers.items) (take l.number l.fn.self.group.diary.fates.items);

@@ -37,3 +37,9 @@ returns-in_err-news-clause-first g c =
     let now = c.in_err-news.ensures.first in
     let was = c.bury.ensures in
     (now.0 ∙ was.first.0, now.1 ∙ was.first.1, now.2 ∙ ap (λ (h : _). h.first) was.group)
+
+pub returns-clause-waiting : goal.returns-clause-waiting
+returns-clause-waiting g c = rw (c.bury.ensures.group) at (c.in_ok-news.ensures.waiting)
+
+pub returns-in_err-news-clause-waiting : goal.returns-in_err-news-clause-waiting
+returns-in_err-news-clause-waiting g c = rw (c.bury.ensures.group) at (c.in_err-news.ensures.waiting)

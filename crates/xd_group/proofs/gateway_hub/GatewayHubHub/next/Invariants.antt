@@ -1,4 +1,4 @@
-use Rattle.std.proofs.Common.{◌≡◌}
+use Rattle.std.proofs.Common.{◌≡◌, [], true}
 use Rattle.xd_note.specs.Noted.{noted}
 use Rattle.xd_group.proofs.gateway_hub.GatewayHubHub.next.Given as goal
 
@@ -11,5 +11,6 @@ invariant-loop g l = record {
   crew : l.self.group.first ≡ l.fn.self.group.first;
   suite : l.self.group.suite ≡ l.fn.self.group.suite;
   mode : l.self.group.mode ≡ l.fn.self.group.mode;
+  none_waits : l.self.group.is_whole ≡ true → l.self.group.diary.waiting.items ≡ [];
   whole : l.self.group.is_whole ≡ l.fn.self.group.is_whole;
 }

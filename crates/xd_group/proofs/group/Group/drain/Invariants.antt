@@ -1,13 +1,16 @@
-use Rattle.std.proofs.Common.{◌≡◌, List, Option}
+use Rattle.std.proofs.Common.{◌≡◌, List, Option, map}
+use Rattle.std.specs.Prelude.{is_some}
 use Rattle.xd_links.specs.Runs.{news_of}
 use Rattle.xd_post.specs.Mails.{mails}
 use Rattle.xd_group.specs.Late.{Late, Settled}
+use Rattle.xd_group.specs.Kills.{KeepsLost}
 use Rattle.xd_group.specs.PostView.{losses_of, pages_of}
 use Rattle.xd_group.proofs.group.Group.drain.Given as goal
 
 abbrev pub invariant-loop : goal.invariant-loop
 invariant-loop g l = record {
   late : (first : List (Option Settled)) → ∥ Late first (news_of (mails l.fn.links.desk)) (pages_of l.fn.posts.items) ∥₁ → ∥ Late first (news_of (mails l.links.desk)) (pages_of l.posts.items) ∥₁;
-  lost : losses_of l.posts.items ≡ losses_of l.fn.posts.items;
+  seats : map is_some (pages_of l.posts.items) ≡ map is_some (pages_of l.fn.posts.items);
+  keeps : KeepsLost (losses_of l.fn.posts.items) (losses_of l.posts.items);
   crew : l.links.crew ≡ l.fn.links.crew;
 }

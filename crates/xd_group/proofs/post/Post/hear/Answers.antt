@@ -15,12 +15,12 @@ invariant_of-self-2 g c =
     let still = was.lost known ∙ sym c.in_ok-news.ensures.broken in
     record {
       lost = λ e. c.end_behind-is_closed.ensures.lost still;
-      closed = λ e. rw (c.note_heard.ensures) (c.end_behind-is_closed.ensures.closed said (was.closed known));
+      closed = λ e. rw (c.note_heard.ensures) (c.end_behind-is_closed.ensures.closed said was.is_ended c.in_ok-news.ensures.past (was.closed known));
       heard = λ e. ∥∥₁_map (was.heard known)
           (λ h. rw (c.note.ensures, c.note_heard.ensures)
           (subst (λ (l : List What). HeardSo c.end_behind-is_closed.new.gateway c.in_ok-news.field-0.is_ended c.end_behind-is_closed.result.is_lost (noted was.taken ++ c.args.item ∷ []) l) (on_time said (noted was.late) (option_to_list c.in_ok-news.field-0.news) c.requires.on_time)
           (c.end_behind-is_closed.ensures.heard _ _ _ still (c.in_ok-news.ensures.hears (noted was.taken) (said ++ noted was.late) h))));
-      sent = λ e. ∥∥₁_map (was.sent known) (λ s. rw (c.note_heard.ensures) (c.end_behind-is_closed.ensures.sent _ _ (noted was.told) said still (was.closed known) (rw (c.in_ok-news.ensures.sink) s)));
+      sent = λ e. ∥∥₁_map (was.sent known) (λ s. rw (c.note_heard.ensures) (c.end_behind-is_closed.ensures.sent _ _ (noted was.told) said was.is_ended c.in_ok-news.ensures.past still (was.closed known) (rw (c.in_ok-news.ensures.sink) s)));
     }
 
 pub returns-clause-keeps : goal.returns-clause-keeps

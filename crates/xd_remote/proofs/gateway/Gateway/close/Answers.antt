@@ -1,6 +1,5 @@
-use Rattle.xd_remote.proofs.Lines.{closed}
+use Rattle.xd_remote.proofs.Saying.{kept_stands}
 use Rattle.xd_remote.proofs.gateway.Gateway.close.Goals as goal
 
-pub returns-clause-closes : goal.returns-clause-closes
-returns-clause-closes g c =
-    closed c.close.result _ _ _ _ c.args.self.now.is_broken c.is_err-self.result c.if-self.false c.is_err-self.ensures.value c.close.ensures.closed c.close.ensures.kept c.close.ensures.counted
+pub returns-clause-stands : goal.returns-clause-stands
+returns-clause-stands g c h s = kept_stands c.args.self.now c.close_sink.new.self h c.close_sink.ensures.rest s
