@@ -9,15 +9,20 @@ use Rattle.xd_journal.specs.declared.entry.Entry.{Entry}
 use Rattle.xd_journal.specs.declared.entry.Entry.TheVariants.{Ready, Collected, Done, Back, Finished, Refused, Down, NotStarted, Start, Run, RunAll, Steal, Shutdown, Kill, Over}
 use Rattle.xd_ledger.specs.declared.member.Member.{Member}
 use Rattle.xd_ledger.specs.Numbers.{all_distinct, all_among}
-use Rattle.xd_ledger.specs.Table.{held, in_rota}
+use Rattle.xd_edge.specs.declared.mode.ModeKind.{ModeKind}
+use Rattle.xd_edge.specs.declared.mode.ModeKind.TheVariants.{Local, Each, Load, LoadScope, LoadFile, LoadGroup, WorkSteal}
+use Rattle.xd_ledger.specs.Table.{assigned, held, in_rota, seat_shut, workers_of}
 use Rattle.xd_ledger.specs.Plan.{is_each, items_named, slot_items}
+use Rattle.xd_ledger.specs.Turn.{Turn, shut}
+use Rattle.xd_ledger.specs.Each as each
+use Rattle.xd_ledger.specs.Modes.{Call, turned, each_turn}
 use Rattle.xd_ledger.specs.Modes.Call.{Share, Joined, TestDone, TestsBack, Died}
 use Rattle.xd_ledger.specs.Books.{Books}
 use Rattle.xd_ledger.specs.Workers.{has_member, is_active, was_ready, is_shut, slot_of, started, waiting, made_shut}
 use Rattle.xd_ledger.specs.Stops.{is_stopped, is_shutting}
 use Rattle.xd_ledger.specs.Sharing.{State}
 use Rattle.xd_ledger.specs.State.{moved, all_moved, settles}
-use Rattle.xd_ledger.specs.Outputs.{acts_of, after_death, after_joining, closing, outputs, own_outputs, shut_all, slots_of_rota, unless_stopped}
+use Rattle.xd_ledger.specs.Outputs.{acts_of, after_death, after_joining, closing, outputs, own_outputs, shut_all, slots_of_rota, turn_of, unless_stopped}
 use Rattle.xd_ledger.specs.Proper.{may_follow, most_tests}
 use Rattle.xd_ledger.specs.Orderly.{all_orderly, is_orderly, may_run, not_empty}
 use Rattle.xd_laws.proofs.Logic.{and, cases_of, differ, in_both, not_true, split-and, split-or}
@@ -43,26 +48,26 @@ plain steals limit _ = false
 abbrev pub Plain : Bool → ℕ → List Entry → Type 0
 Plain steals limit es = list_all (plain steals limit) es ≡ true
 
-plain-told : (steals : Bool) (limit : ℕ) (e : Entry) → tells steals e ≡ true → plain steals limit e ≡ true
-plain-told steals limit (Run w is) h = refl
-plain-told steals limit (RunAll w) h = refl
-plain-told steals limit (Steal w is) h = h
-plain-told steals limit (Shutdown w) h = refl
-plain-told steals limit (Start w slot) h = absurd (differ h)
-plain-told steals limit (Kill w) h = absurd (differ h)
-plain-told steals limit (Over how) h = absurd (differ h)
-plain-told steals limit (Ready w) h = absurd (differ h)
-plain-told steals limit (Collected w g) h = absurd (differ h)
-plain-told steals limit (Done w i u m o) h = absurd (differ h)
-plain-told steals limit (Back w is) h = absurd (differ h)
-plain-told steals limit (Finished w) h = absurd (differ h)
-plain-told steals limit (Refused w t) h = absurd (differ h)
-plain-told steals limit (Down w c o) h = absurd (differ h)
-plain-told steals limit (NotStarted w) h = absurd (differ h)
+plain-told : (limit : ℕ) (e : Entry) → tells e ≡ true → plain true limit e ≡ true
+plain-told limit (Run w is) h = refl
+plain-told limit (RunAll w) h = refl
+plain-told limit (Steal w is) h = refl
+plain-told limit (Shutdown w) h = refl
+plain-told limit (Start w slot) h = absurd (differ h)
+plain-told limit (Kill w) h = absurd (differ h)
+plain-told limit (Over how) h = absurd (differ h)
+plain-told limit (Ready w) h = absurd (differ h)
+plain-told limit (Collected w g) h = absurd (differ h)
+plain-told limit (Done w i u m o) h = absurd (differ h)
+plain-told limit (Back w is) h = absurd (differ h)
+plain-told limit (Finished w) h = absurd (differ h)
+plain-told limit (Refused w t) h = absurd (differ h)
+plain-told limit (Down w c o) h = absurd (differ h)
+plain-told limit (NotStarted w) h = absurd (differ h)
 
-plain-all : (steals : Bool) (limit : ℕ) (es : List Entry) → Tells steals es → Plain steals limit es
-plain-all steals limit [] h = refl
-plain-all steals limit (e ∷ es) h = (let p = split-and (tells steals e) (list_all (tells steals) es) h in and (plain-told steals limit e p.0) (plain-all steals limit es p.1))
+plain-all : (limit : ℕ) (es : List Entry) → Tells es → Plain true limit es
+plain-all limit [] h = refl
+plain-all limit (e ∷ es) h = (let p = split-and (tells e) (list_all tells es) h in and (plain-told limit e p.0) (plain-all limit es p.1))
 
 plain-join : (steals : Bool) (limit : ℕ) (xs ys : List Entry) → Plain steals limit xs → Plain steals limit ys → Plain steals limit (xs ++ ys)
 plain-join steals limit xs ys a b = list_all-append (plain steals limit) xs ys ∙ and a b
@@ -82,8 +87,51 @@ plain-unless steals limit b n es h =
 abbrev steals_in : State → Bool
 steals_in s = not (is_each s.plan.mode)
 
-plain-acts : (limit : ℕ) (c : _) (s : State) → Plain (steals_in s) limit (acts_of c s)
-plain-acts limit c s = plain-all (steals_in s) limit (acts_of c s) (tells-acts c s)
+-- mode each asks nobody to give tests back
+
+module _ (limit : ℕ) where
+  abbrev InEach : Turn → Type 0
+  InEach t = Plain false limit t.acts
+
+  each-more : (t : Turn) (e : Entry) → InEach t → plain false limit e ≡ true → Plain false limit (t.acts ++ e ∷ [])
+  each-more t e a b = plain-join false limit t.acts (e ∷ []) a (and b refl)
+
+  each-shut : (w : ℕ) (t : Turn) → InEach t → InEach (shut w t)
+  each-shut w t a = in_both InEach (seat_shut w t.table) t _ (λ h. a) (λ h. each-more t (Shutdown w) a refl)
+
+  each-all : (w slot : ℕ) (t : Turn) → InEach t → InEach (each.give_all w slot t)
+  each-all w slot t a = each-shut w (record t { table = assigned w (slot_items slot t.plan) t.table; acts = t.acts ++ RunAll w ∷ [] }) (each-more t (RunAll w) a refl)
+
+  each-slots : (ws slots : List ℕ) (t : Turn) → InEach t → InEach (each.give_slots ws slots t)
+  each-slots [] slots t a = a
+  each-slots (w ∷ ws) [] t a = a
+  each-slots (w ∷ ws) (s ∷ ss) t a = each-slots ws ss (each.give_all w s t) (each-all w s t a)
+
+  each-left : (w slot : ℕ) (items : List ℕ) (t : Turn) → InEach t → InEach (each.give_of_slot w slot items t)
+  each-left w slot [] t a = a
+  each-left w slot (i ∷ is) t a = each-more t (Run w _) a refl
+
+  each-turn : (c : Call) (t : Turn) → InEach t → InEach (each_turn c t)
+  each-turn (Share slots) t a = each-slots (workers_of t.table) slots t a
+  each-turn (Joined w slot) t a = each-shut w (each.give_of_slot w slot (each.remainder slot t) t) (each-left w slot (each.remainder slot t) t a)
+  each-turn (TestDone w ms) t a = a
+  each-turn TestsBack t a = a
+  each-turn Died t a = a
+
+plain-acts : (limit : ℕ) (c : Call) (s : State) → Plain (steals_in s) limit (acts_of c s)
+plain-acts limit c s = by_mode s.plan.mode refl
+  where
+    others : Plain true limit (acts_of c s)
+    others = plain-all limit (acts_of c s) (tells-acts c s)
+
+    by_mode : (k : ModeKind) → s.plan.mode ≡ k → Plain (not (is_each k)) limit (acts_of c s)
+    by_mode Each e = subst (λ (k : ModeKind). Plain false limit (turned k c (turn_of s)).acts) (sym e) (each-turn limit c (turn_of s) refl)
+    by_mode Local e = others
+    by_mode Load e = others
+    by_mode LoadScope e = others
+    by_mode LoadFile e = others
+    by_mode LoadGroup e = others
+    by_mode WorkSteal e = others
 
 lower : (a b : ℕ) → a < b → nat_lt a b ≡ true
 lower a b h = grind (arith, nat_tests)
