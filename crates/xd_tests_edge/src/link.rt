@@ -68,8 +68,9 @@ fn a_starter_in_memory_hands_out_its_link(rt: HostRuntime) -> Result<(), Fail> {
     let found = heard(&rt, &mut link.source).ok_or("a byte")?;
     assert_eq!(rt; found.as_slice(), [7].as_slice());
     assert!(rt; is_ended(&rt, &mut starter));
-    assert!(rt; starter.begun[0].killed && starter.begun[0].closed);
-    assert_eq!(rt; starter.begun[0].reaped, Reaped::More);
+    let begun = starter.begun.first().ok_or("a start")?;
+    assert!(rt; begun.killed && begun.closed);
+    assert_eq!(rt; begun.reaped, Reaped::More);
     Ok(())
 }
 
