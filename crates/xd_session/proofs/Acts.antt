@@ -1,5 +1,5 @@
 -- The outputs of a rule, put together.
-use Rattle.std.proofs.Common.{◌≡◌, ℕ, ◌-◌, drop, length, List, [], ◌∷◌, ◌++◌, refl, ap, sym, subst, ◌∙◌, arith, Bool, true, false, not, append_assoc, length-append}
+use Rattle.std.proofs.Common.{◌≡◌, ℕ, drop, length, List, [], ◌∷◌, ◌++◌, refl, ap, sym, subst, ◌∙◌, Bool, true, false, append_assoc}
 use Rattle.std.specs.Prelude.{if◌then◌else◌, Option, Some, None, is_some}
 use Rattle.std.specs.List.{list_all}
 use Rattle.xd_journal.specs.declared.entry.Entry.{Entry}
@@ -7,29 +7,28 @@ use Rattle.xd_journal.specs.declared.entry.Entry.TheVariants.{Ready, Collected, 
 use Rattle.xd_journal.specs.declared.entry.Outcome.{Outcome}
 use Rattle.xd_journal.specs.declared.entry.RunStop.{RunStop}
 use Rattle.xd_journal.specs.declared.entry.RunStop.TheVariants.{CollectError}
-use Rattle.xd_ledger.specs.declared.member.Member.{Member}
 use Rattle.xd_ledger.specs.Books.{Books, on_table}
-use Rattle.xd_ledger.specs.Table.{Table, given_back, held}
-use Rattle.xd_ledger.specs.Plan.{Plan, Asked, is_each, items_named}
-use Rattle.xd_ledger.specs.Calls.{Turned, last_of}
+use Rattle.xd_ledger.specs.Table.{Table, given_back, held, retried_item}
+use Rattle.xd_ledger.specs.Plan.{Plan, items_named}
+use Rattle.xd_ledger.specs.Calls.{Turned, death_plan}
 use Rattle.xd_ledger.specs.Modes.{Call}
-use Rattle.xd_ledger.specs.Modes.Call.{Died, TestDone, TestsBack}
+use Rattle.xd_ledger.specs.Modes.Call.{Died}
 use Rattle.xd_ledger.specs.Workers.{waiting, slot_of}
+use Rattle.xd_ledger.specs.Retry.{is_retry}
 use Rattle.xd_ledger.specs.Stops.{is_stopped, or_stop}
 use Rattle.xd_ledger.specs.Sharing.{State, in_books}
 use Rattle.xd_ledger.specs.State.{after_back, after_down, all_moved, done_books, down_books, down_plan, moved, next, steal_without}
 use Rattle.xd_ledger.specs.Suits.{Finds, Suits}
 use Rattle.xd_ledger.specs.Outputs.{acts_of, own_outputs, shut_all}
-use Rattle.xd_ledger.specs.Proper.{may_follow}
-use Rattle.xd_laws.specs.Called.{Called, Reached}
-use Rattle.xd_laws.proofs.Calls.{back-called, died-called, done-called}
+use Rattle.xd_laws.specs.Called.{Called}
+use Rattle.xd_laws.proofs.Calls.{died-called}
 use Rattle.xd_laws.proofs.Inputs.{done-unstopped, down-unstopped, unstopped-before}
 use Rattle.xd_laws.proofs.Logic.{differ, split-and}
-use Rattle.xd_laws.proofs.Unshared.{down-unshared}
 use Rattle.xd_session.specs.Known.{Known, known_of, steal_told}
 use Rattle.xd_session.specs.Rules.{Acted, At, Before, Calls, Closed, Comes, MayDie, Ruled, begun_at, crew_told, told_all}
 use Rattle.xd_session.proofs.Closing.{all_moved-append, append-nil, ruled, stop-told_all, told-moved}
 use Rattle.xd_session.proofs.Orders.{Tells, tells, tells-acts}
+use Rattle.xd_session.proofs.Retrying.{plan-by-pool, plan-unshared}
 
 -- what a mode says changes of the books the table and the marks, and of what is known the open steal
 
@@ -218,34 +217,25 @@ back-at s w is items b c k j stands a named e d =
     let h : Known → Known = λ x. record x { steal = None } in
     record { books_are = e ∙ ap f a.books_are ∙ ap g named; known_is = d ∙ ap h a.known_is; stands_for = λ q. (s.plan, (a.stands_for q, refl)) }
 
-drop-front : (xs ys : List ℕ) → drop (length xs) (xs ++ ys) ≡ ys
-drop-front [] ys = refl
-drop-front (x ∷ xs) ys = drop-front xs ys
-
--- what came to the pool's end are its last items
-last-of-pool : (xs ys : List ℕ) → last_of (length ys) (xs ++ ys) ≡ ys
-last-of-pool xs ys =
-    let e : length (xs ++ ys) - length ys ≡ length xs = (let l = length-append xs ys in omega (arith, l)) in
-    ap (λ n. drop n (xs ++ ys)) e ∙ drop-front xs ys
-
 -- the mode stands for the plan as it was before what the dead worker held came back
-pub down-at : (s : State) (w rest : ℕ) (b c : Books) (k j : Known) (stands : Plan → Type 0) → At s b k stands → rest ≡ length (drop 1 (held w b.table)) → c ≡ down_books w b
-    → j ≡ record k { steal = steal_without w k.steal } → At (after_down w s) c j (Before (down_plan w (last_of rest c.table.pool)) stands)
-down-at s w rest b c k j stands a r e d =
-    let f : Books → Books = λ x. down_books w x in
+pub down-at : (s : State) (w rest : ℕ) (retry : Bool) (b c : Books) (k j : Known) (stands : Plan → Type 0) → At s b k stands → retry ≡ is_retry w b → rest ≡ length (drop 1 (held w b.table)) → c ≡ down_books w retry b
+    → j ≡ record k { steal = steal_without w k.steal } → At (after_down w s) c j (Before (death_plan w retry rest c.table.pool) stands)
+down-at s w rest retry b c k j stands a r n e d =
+    let f : Books → Books = λ x. down_books w (is_retry w x) x in
     let g : Known → Known = λ x. record x { steal = steal_without w x.steal } in
-    let behind : Books → List ℕ = λ x. drop 1 (held w x.table) in
-    let last : last_of rest c.table.pool ≡ behind s.books =
-    ap (λ n. last_of n c.table.pool) r ∙ ap (λ (x : Books). last_of (length (behind b)) x.table.pool) e ∙ last-of-pool b.table.pool (behind b) ∙ ap behind a.books_are in
+    let plans : Books → Plan = λ x. down_plan w (retried_item (is_retry w x) (held w x.table)) (drop 1 (held w x.table)) s.plan in
+    let plan : death_plan w retry rest c.table.pool s.plan ≡ plans s.books =
+    ap (λ (x : Books). death_plan w retry rest x.table.pool s.plan) e ∙ plan-by-pool w retry rest b s.plan r n
+    ∙ ap (λ q. down_plan w (retried_item q (held w b.table)) (drop 1 (held w b.table)) s.plan) r ∙ ap plans a.books_are in
     record {
-      books_are = e ∙ ap f a.books_are;
+      books_are = e ∙ ap (λ q. down_books w q b) r ∙ ap f a.books_are;
       known_is = d ∙ ap g a.known_is;
-      stands_for = λ h. (s.plan, (a.stands_for (down-unstopped w s h), ap (λ xs. down_plan w xs s.plan) (sym last)));
+      stands_for = λ h. (s.plan, (a.stands_for (down-unstopped w s h), sym plan));
     }
 
 -- a death takes no stop back
-pub still-stopped : (w : ℕ) (b : Books) → is_stopped b ≡ true → is_stopped (down_books w b) ≡ true
-still-stopped w b h = still b.stop _ h
+pub still-stopped : (w : ℕ) (retry : Bool) (b : Books) → is_stopped b ≡ true → is_stopped (down_books w retry b) ≡ true
+still-stopped w retry b h = still b.stop _ h
   where
     still : (a how : Option RunStop) → is_some a ≡ true → is_some (or_stop a how) ≡ true
     still None how h = absurd (differ h)
@@ -256,7 +246,7 @@ pub may-die : (s : State) (e : Entry) (w : ℕ) (b : Books) (k : Known) (stands 
 may-die s e w b k stands a m h = record {
   going = h;
   hears = λ q. subst (λ (u : State). Called Died u) m (died-called s e a.reached a.follows (ap (λ (u : State). u.books.shared) m ∙ q));
-  stays = λ q. subst stands (sym (down-unshared s w (drop 1 (held w s.books.table)) a.reached q)) (a.at.stands_for (down-unstopped w s h));
+  stays = λ q. subst stands (sym (plan-unshared s w a.reached q)) (a.at.stands_for (down-unstopped w s h));
 }
 
 pub acted-kill : (s : State) (w : ℕ) (b : Books) (k : Known) (es fs : List Entry) (st : Plan → Type 0) → At s b k st → fs ≡ es ++ Kill w ∷ [] → Acted (Kill w ∷ []) s b k es fs st

@@ -21,6 +21,7 @@ use Rattle.xd_ledger.specs.Meaning.{Log, any_open, given_ids, head_bytes, is_of,
 use Rattle.xd_ledger.specs.Orderly.{all_orderly, is_orderly}
 use Rattle.xd_ledger.specs.Outputs.{outputs}
 use Rattle.xd_ledger.specs.Proper.{IsProper, may_follow, names_head}
+use Rattle.xd_ledger.specs.Retry.{is_retry}
 use Rattle.xd_ledger.specs.Sharing.{State}
 use Rattle.xd_ledger.specs.State.{moved}
 use Rattle.xd_ledger.specs.Workers.{is_active}
@@ -47,14 +48,18 @@ cut-room : (m n : ℕ) (bs : List ℕ) → length (take (min m n) bs) + 0 ≤ n
 cut-room m n bs = (let e = length-take (min m n) bs in omega (arith, e))
 
 down-fits : (w : ℕ) (c : Cause) (log : Option Log) (spent : ℕ) (s : State) → Fits spent (Down w c (kept w log spent s))
-down-fits w c log spent s = record {
-  few = few-of most_of_one (kept w log spent s) (cut-few most_of_one (most_of_all - spent) (head_bytes w log s));
-  room = cut-room most_of_one (most_of_all - spent) (head_bytes w log s);
-}
+down-fits w c log spent s = by-retry (is_retry w s.books)
+  where
+    by-retry : (retry : Bool) → Fits spent (Down w c (if retry then [] else take (min most_of_one (most_of_all - spent)) (head_bytes w log s)))
+    by-retry true = record { few = refl; room = omega arith }
+    by-retry false = record {
+      few = few-of most_of_one (take (min most_of_one (most_of_all - spent)) (head_bytes w log s)) (cut-few most_of_one (most_of_all - spent) (head_bytes w log s));
+      room = cut-room most_of_one (most_of_all - spent) (head_bytes w log s);
+    }
 
 done-fits : (w i : ℕ) (o : Outcome) (m : ℕ) (log : Option Log) (spent : ℕ) (s : State) → Fits spent (Done w i o m (output_of w o log spent s))
 done-fits w i (Failed code) m log spent s = record {
-  few = few-of most_of_one (kept w log spent s) (cut-few most_of_one (most_of_all - spent) (head_bytes w log s));
+  few = few-of most_of_one (output_of w (Failed code) log spent s) (cut-few most_of_one (most_of_all - spent) (head_bytes w log s));
   room = cut-room most_of_one (most_of_all - spent) (head_bytes w log s);
 }
 done-fits w i Passed m log spent s = record { few = refl; room = omega arith }

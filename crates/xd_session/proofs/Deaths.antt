@@ -1,13 +1,11 @@
 -- Deaths of workers that have no seat, and changes of seats.
-use Rattle.std.proofs.Common.{◌≡◌, ℕ, take, drop, List, [], ◌∷◌, ◌++◌, length, refl, ap, sym, ◌∙◌, arith, Bool, true, false}
-use Rattle.std.specs.Prelude.{if◌then◌else◌, ◌==◌, Option, Some, None, is_some}
+use Rattle.std.proofs.Common.{◌≡◌, ℕ, drop, List, [], ◌∷◌, ◌++◌, length, refl, ap, sym, ◌∙◌, arith, Bool, true, false}
+use Rattle.std.specs.Prelude.{if◌then◌else◌, ◌==◌}
 use Rattle.std.specs.List.{list_any}
 use Rattle.std.proofs.lemmas.Bool.Decides.{nat_tests}
-use Rattle.xd_journal.specs.declared.entry.RunStop.{RunStop}
 use Rattle.xd_ledger.specs.declared.seat.Seat.{Seat}
-use Rattle.xd_ledger.specs.Numbers.{all_among, among, first_of, without}
-use Rattle.xd_ledger.specs.Stops.{or_stop}
-use Rattle.xd_ledger.specs.Table.{Table, at_seat, died, given_back, held, held_in, in_rota}
+use Rattle.xd_ledger.specs.Numbers.{all_among, among, without}
+use Rattle.xd_ledger.specs.Table.{Table, at_seat, crash_item, died, given_back, held, held_in, in_rota, retried_item}
 use Rattle.xd_laws.proofs.Logic.{differ, split-and}
 use Rattle.xd_laws.proofs.Rota.{seat-of_held}
 use Rattle.xd_ledger.proofs.Seats.{no_seat-kept, no_seat-of_any}
@@ -20,24 +18,24 @@ pub no_seat-held : (w : ℕ) (ss : List Seat) → list_any (λ s. s.worker == w)
 no_seat-held w [] h = refl
 no_seat-held w (s ∷ ss) h = grind (arith, nat_tests, no_seat-held w ss)
 
-pub no_seat-dead : (w : ℕ) (t : Table) → in_rota w t ≡ false → t ≡ died w t
-no_seat-dead w t h =
-    let none = no_seat-held w t.rota h in
-    let k = no_seat-kept w t.rota (no_seat-of_any w t.rota h) in
-    let f : List ℕ → Table = λ hs. record t { pool = t.pool ++ drop 1 hs; reported = t.reported ++ take 1 hs } in
-    let g : List Seat → Table = λ ss. record t { pool = t.pool ++ drop 1 (held w t); rota = ss; reported = t.reported ++ take 1 (held w t) } in
+-- a death of whoever held nothing moves nothing
+none-dead : (retry : Bool) (t : Table) → t ≡ record t { pool = retried_item retry [] ++ (t.pool ++ []); reported = t.reported ++ crash_item retry [] }
+none-dead true t =
     let pools : List ℕ → Table = λ xs. record t { pool = xs } in
     let reports : List ℕ → Table = λ xs. record t { pool = t.pool ++ []; reported = xs } in
-    let z : t ≡ f [] = ap pools (append-none t.pool) ∙ ap reports (append-none t.reported) in
-    z ∙ ap f (sym none) ∙ ap g (sym k)
+    ap pools (append-none t.pool) ∙ ap reports (append-none t.reported)
+none-dead false t =
+    let pools : List ℕ → Table = λ xs. record t { pool = xs } in
+    let reports : List ℕ → Table = λ xs. record t { pool = t.pool ++ []; reported = xs } in
+    ap pools (append-none t.pool) ∙ ap reports (append-none t.reported)
 
-pub head-count : (hs : List ℕ) (o : Option ℕ) → o ≡ first_of hs → length (take 1 hs) ≡ (if is_some o then 1 else 0)
-head-count [] o h = ap (λ (q : Option ℕ). if is_some q then 1 else 0) (sym h)
-head-count (x ∷ xs) o h = ap (λ (q : Option ℕ). if is_some q then 1 else 0) (sym h)
-
-pub stops-twice : (x y z : Option RunStop) → or_stop (or_stop z x) y ≡ or_stop z (or_stop x y)
-stops-twice x y None = refl
-stops-twice x y (Some v) = refl
+pub no_seat-dead : (w : ℕ) (retry : Bool) (t : Table) → in_rota w t ≡ false → t ≡ died w retry t
+no_seat-dead w retry t h =
+    let none = no_seat-held w t.rota h in
+    let k = no_seat-kept w t.rota (no_seat-of_any w t.rota h) in
+    let f : List ℕ → Table = λ hs. record t { pool = retried_item retry hs ++ (t.pool ++ drop 1 hs); reported = t.reported ++ crash_item retry hs } in
+    let g : List Seat → Table = λ ss. record (f (held w t)) { rota = ss } in
+    none-dead retry t ∙ ap f (sym none) ∙ ap g (sym k)
 
 pub rota-changed : (w v : ℕ) (f : Seat → Seat) (ss : List Seat) → ((s : Seat) → (f s).worker ≡ s.worker) → list_any (λ s. s.worker == w) (at_seat v f ss) ≡ list_any (λ s. s.worker == w) ss
 rota-changed w v f [] h = refl

@@ -20,12 +20,13 @@ use Rattle.xd_ledger.specs.Books.{Books, marked}
 use Rattle.xd_ledger.specs.Workers.{is_shut, made_collected, slot_of, waiting}
 use Rattle.xd_ledger.specs.Collections.{differ_at, listed, unequal, with_list}
 use Rattle.xd_ledger.specs.Stops.{at_limit, is_shutting, is_stopped, or_stop, out_of_restarts}
+use Rattle.xd_ledger.specs.Retry.{is_retry}
 use Rattle.xd_ledger.specs.Sharing.{State, in_books}
 use Rattle.xd_ledger.specs.State.{all_moved, buried, completed_first, done_books, done_stop, down_books, failing, gone, is_input, moved, next, no_one, settled, settles, state_at}
 use Rattle.xd_ledger.specs.Outputs.{acts_of, after_death, after_joining, closing, outputs, own_outputs, shut_all, slots_of_rota, stepped, unless_stopped}
 use Rattle.xd_ledger.specs.Histories.{begun, first_starts, grown, journal_of, starts_from}
 use Rattle.xd_ledger.specs.Ending.{ending, kills, over_in}
-use Rattle.xd_ledger.specs.Plan.{is_each, items_named}
+use Rattle.xd_ledger.specs.Plan.{items_named}
 use Rattle.xd_laws.proofs.Inputs.{collecting-keeps}
 use Rattle.xd_laws.proofs.Logic.{and, differ, in_both, not_true, split-and}
 use Rattle.xd_session.specs.Ends.{is_out_fault, last_stop}
@@ -213,9 +214,9 @@ fine-result w items u b h =
     let c : Books = record b { table = completed_first w items b.table; failures = b.failures + failing u } in
     fine-or b.stop (done_stop u c) h (fine-done u c)
 
-fine-death : (w : ℕ) (b : Books) → fine b.stop ≡ true → fine (down_books w b).stop ≡ true
-fine-death w b h =
-    let c : Books = gone w (buried w b) in
+fine-death : (w : ℕ) (retry : Bool) (b : Books) → fine b.stop ≡ true → fine (down_books w retry b).stop ≡ true
+fine-death w retry b h =
+    let c : Books = gone w (buried w retry b) in
     fine-or b.stop (or_stop (at_limit c) (out_of_restarts w c)) h (fine-or (at_limit c) (out_of_restarts w c) (fine-limit c) (fine-restarts w c))
 
 fine-moved : (s : State) (e : Entry) → Fine s → Fine (moved s e)
@@ -234,8 +235,8 @@ fine-moved s (Done w i u m o) h = fine-result w (items_named (slot_of w s.books)
 fine-moved s (Back w is) h = h
 fine-moved s (Finished w) h = h
 fine-moved s (Refused w t) h = fine-or s.books.stop (Some (CollectError w)) h refl
-fine-moved s (Down w c o) h = fine-death w s.books h
-fine-moved s (NotStarted w) h = fine-death w s.books h
+fine-moved s (Down w c o) h = fine-death w (is_retry w s.books) s.books h
+fine-moved s (NotStarted w) h = fine-death w (is_retry w s.books) s.books h
 
 fine-next : (s : State) (e : Entry) → Fine s → Fine (next s e)
 fine-next s e h = in_both (λ (u : State). Fine (moved u e)) (is_input e) (settled s) s (λ k. fine-moved (settled s) e h) (λ k. fine-moved s e h)

@@ -15,6 +15,7 @@ pub mod Loops
 pub mod Orders
 pub mod Part
 pub mod Places
+pub mod Retrying
 mod Rows
 pub mod Shares
 pub mod Steady

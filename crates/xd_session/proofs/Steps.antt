@@ -13,12 +13,13 @@ use Rattle.xd_journal.specs.declared.entry.Outcome.TheVariants.{Failed, Passed, 
 use Rattle.xd_journal.specs.declared.news.News.{News}
 use Rattle.xd_journal.specs.declared.news.What.{What}
 use Rattle.xd_journal.specs.declared.news.What.TheVariants as what
-use Rattle.xd_journal.specs.Kept.{most_of_all, most_of_one}
+use Rattle.xd_journal.specs.Kept.{room_behind, most_of_all, most_of_one}
 use Rattle.xd_ledger.specs.Histories.{begun, first_starts, grown, journal_of, stepped_all}
-use Rattle.xd_ledger.specs.Meaning.{Log, given_ids, is_of, any_open, kept, log_of, may_start_log, meaning_of, output_of, is_open_log, spent_by, with_news}
+use Rattle.xd_ledger.specs.Meaning.{Log, given_ids, head_bytes, is_of, any_open, kept, log_of, may_start_log, meaning_of, output_of, is_open_log, spent_by, with_news}
 use Rattle.xd_ledger.specs.Orderly.{all_orderly, is_orderly, is_orderly_run}
 use Rattle.xd_ledger.specs.Outputs.{outputs, stepped}
 use Rattle.xd_ledger.specs.Proper.{IsProper, all_may_follow, may_follow, names_head}
+use Rattle.xd_ledger.specs.Retry.{is_retry}
 use Rattle.xd_ledger.specs.Sharing.{State}
 use Rattle.xd_ledger.specs.State.{all_moved, is_input, moved, no_one, settled, state_at}
 use Rattle.xd_ledger.specs.Workers.{is_active}
@@ -204,9 +205,12 @@ take-within : (m n : ℕ) (b : Bool) (bs : List ℕ) → m ≤ n → take m (if 
 take-within m n true bs h = take-shorter m n bs h
 take-within m n false bs h = refl
 
+head-short : (w spent : ℕ) (log : Option Log) (s : State) → take (room_behind spent) (head_bytes w (shortened log) s) ≡ take (room_behind spent) (head_bytes w log s)
+head-short w spent None s = refl
+head-short w spent (Some l) s = take-within (min most_of_one (most_of_all - spent)) most_of_one (names_head w l.index s) l.bytes (omega arith)
+
 pub kept-short : (w spent : ℕ) (log : Option Log) (s : State) → kept w (shortened log) spent s ≡ kept w log spent s
-kept-short w spent None s = refl
-kept-short w spent (Some l) s = take-within (min most_of_one (most_of_all - spent)) most_of_one (names_head w l.index s) l.bytes (omega arith)
+kept-short w spent log s = ap (λ (bs : List ℕ). if is_retry w s.books then [] else bs) (head-short w spent log s)
 
 pub meaning-short : (w : ℕ) (log : Option Log) (spent : ℕ) (s : State) (n : What) → meaning_of w (shortened log) spent s n ≡ meaning_of w log spent s n
 meaning-short w log spent s what.Ready = ap (λ k. if may_follow s (Ready w) then Some (Ready w) else Some (Down w Breach k)) (kept-short w spent log s)
@@ -218,7 +222,10 @@ meaning-short w (Some l) spent s (what.Piece n bs) = ap (λ k. if is_open_log n 
 meaning-short w None spent s (what.LogClosed n) = refl
 meaning-short w (Some l) spent s (what.LogClosed n) = ap (λ k. if is_open_log n (Some l) then None else Some (Down w Breach k)) (kept-short w spent (Some l) s)
 meaning-short w None spent s (what.Done i o m) = refl
-meaning-short w (Some l) spent s (what.Done i (Failed c) m) = ap (λ k. if names_head w i s && is_of i (Some l) && not (any_open (Some l)) then Some (Done w i (Failed c) m k) else Some (Down w Breach k)) (kept-short w spent (Some l) s)
+meaning-short w (Some l) spent s (what.Done i (Failed c) m) =
+    let fine = names_head w i s && is_of i (Some l) && not (any_open (Some l)) in
+    ap (λ o. if fine then Some (Done w i (Failed c) m o) else Some (Down w Breach (kept w (shortened (Some l)) spent s))) (head-short w spent (Some l) s)
+    ∙ ap (λ k. if fine then Some (Done w i (Failed c) m (output_of w (Failed c) (Some l) spent s)) else Some (Down w Breach k)) (kept-short w spent (Some l) s)
 meaning-short w (Some l) spent s (what.Done i Passed m) = ap (λ k. if names_head w i s && is_of i (Some l) && not (any_open (Some l)) then Some (Done w i Passed m []) else Some (Down w Breach k)) (kept-short w spent (Some l) s)
 meaning-short w (Some l) spent s (what.Done i Skipped m) = ap (λ k. if names_head w i s && is_of i (Some l) && not (any_open (Some l)) then Some (Done w i Skipped m []) else Some (Down w Breach k)) (kept-short w spent (Some l) s)
 meaning-short w log spent s (what.Back is) = ap (λ k. if may_follow s (Back w is) then Some (Back w is) else Some (Down w Breach k)) (kept-short w spent log s)

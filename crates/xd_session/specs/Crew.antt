@@ -17,6 +17,7 @@ books_of b = record {
   shared = b.shared;
   failures = b.failures;
   deaths = b.deaths;
+  lost = b.lost.items;
   stop = b.stop;
   shutting = b.shutting;
 }

@@ -7,7 +7,8 @@ use xd_journal::{RunStop, Settings};
 use xd_ledger::{Ledger, Listed, Member};
 
 // Whoever was started, the collections that others are compared with, where the tests stand, the counts of failures and
-// deaths, the first stop, and the marks that the tests were shared and that nothing is left to hand out.
+// deaths, the items at whose head a worker went down, the first stop, and the marks that the tests were shared and that
+// nothing is left to hand out.
 #[derive(Drop)]
 pub struct RunBooks {
     pub settings: Settings,
@@ -17,6 +18,7 @@ pub struct RunBooks {
     pub shared: bool,
     pub failures: u32,
     pub deaths: u32,
+    pub lost: Vec<u32>,
     pub stop: Option<RunStop>,
     pub shutting: bool,
     ghost few: { list_all (λ l. nat_le (length l.ids) most_tests) lists.items ≡ true },

@@ -13,6 +13,7 @@ mod logs;
 mod marks;
 mod outputs;
 mod plan;
+mod retries;
 mod rules;
 mod seats;
 mod session;

@@ -129,6 +129,7 @@ impl RunBooks {
             shared: false,
             failures: 0,
             deaths: 0,
+            lost: Vec::new(alloc),
             stop: None,
             shutting: false,
         })

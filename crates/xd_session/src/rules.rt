@@ -1,14 +1,14 @@
 // The rules of the session: what each input changes, and what is said behind it.
-ghost use Rattle.std.specs.Prelude.{◌≡◌, ◌+◌, ◌^◌, nat_lt, map, length, drop, not, ◌&&◌, ℕ, true, false, [], IfOk, OnOk, if◌then◌else◌, is_some, Some, None};
+ghost use Rattle.std.specs.Prelude.{◌≡◌, ◌+◌, ◌^◌, nat_lt, map, not, ◌&&◌, ℕ, true, false, [], IfOk, OnOk, if◌then◌else◌, is_some, Some, None};
 ghost use Rattle.std.specs.List.{list_all};
 ghost use Rattle.xd_journal.specs.declared.entry.Entry.TheVariants as entry;
-ghost use Rattle.xd_ledger.specs.Calls.{last_of};
+ghost use Rattle.xd_ledger.specs.Calls.{death_plan};
 ghost use Rattle.xd_ledger.specs.Modes.Call.{Died, TestDone, TestsBack};
 ghost use Rattle.xd_ledger.specs.Numbers.{first_of};
 ghost use Rattle.xd_ledger.specs.Outputs.{acts_of, after_death, shut_all};
 ghost use Rattle.xd_ledger.specs.Proper.{names_head};
 ghost use Rattle.xd_ledger.specs.Sharing.{State};
-ghost use Rattle.xd_ledger.specs.State.{down_plan, settles};
+ghost use Rattle.xd_ledger.specs.State.{settles};
 ghost use Rattle.xd_ledger.specs.Stops.{is_stopped};
 ghost use Rattle.xd_ledger.specs.Table.{held, in_rota};
 ghost use Rattle.xd_ledger.specs.Workers.{slot_of};
@@ -261,16 +261,17 @@ impl<M: Mode> RunState<M> {
         worker: u32,
         slot: u32,
         rest: u32,
+        retried: bool,
         entries: &mut Vec<Entry>,
     ) -> Result<(), OutOfMemory>
-        requires { self.old.books.shared ≡ true → (s : State) × Calls Died s (books_of self.old.books) (known_by self.old.known) (Before (down_plan worker (last_of rest self.old.books.ledger.pool)) (M.stands self.old.mode)) }
-        ensures { OnOk result ((s : State) → At s (books_of self.old.books) (known_by self.old.known) (Before (down_plan worker (last_of rest self.old.books.ledger.pool)) (M.stands self.old.mode)) → MayDie s (M.stands self.old.mode) →
+        requires { self.old.books.shared ≡ true → (s : State) × Calls Died s (books_of self.old.books) (known_by self.old.known) (Before (death_plan worker retried rest self.old.books.ledger.pool) (M.stands self.old.mode)) }
+        ensures { OnOk result ((s : State) → At s (books_of self.old.books) (known_by self.old.known) (Before (death_plan worker retried rest self.old.books.ledger.pool) (M.stands self.old.mode)) → MayDie s (M.stands self.old.mode) →
             Acted (if s.books.shared then acts_of Died s else []) s (books_of self.new.books) (known_by self.new.known) entries.old.items entries.new.items (M.stands self.new.mode)) }
     {
         if !self.books.shared {
             return Ok(());
         }
-        self.call_died(alloc, worker, slot, rest, entries)?;
+        self.call_died(alloc, worker, slot, rest, retried, entries)?;
         Ok(())
     }
 
@@ -280,15 +281,16 @@ impl<M: Mode> RunState<M> {
         alloc: Global,
         worker: u32,
         rest: u32,
+        retried: bool,
         entries: &mut Vec<Entry>,
     ) -> Result<(), OutOfMemory>
-        requires { self.old.books.shared ≡ true → (s : State) × Calls Died s (books_of self.old.books) (known_by self.old.known) (Before (down_plan worker (last_of rest self.old.books.ledger.pool)) (M.stands self.old.mode)) }
-        ensures { OnOk result ((s : State) → At s (books_of self.old.books) (known_by self.old.known) (Before (down_plan worker (last_of rest self.old.books.ledger.pool)) (M.stands self.old.mode)) → MayDie s (M.stands self.old.mode) →
+        requires { self.old.books.shared ≡ true → (s : State) × Calls Died s (books_of self.old.books) (known_by self.old.known) (Before (death_plan worker retried rest self.old.books.ledger.pool) (M.stands self.old.mode)) }
+        ensures { OnOk result ((s : State) → At s (books_of self.old.books) (known_by self.old.known) (Before (death_plan worker retried rest self.old.books.ledger.pool) (M.stands self.old.mode)) → MayDie s (M.stands self.old.mode) →
             Acted (after_death worker s) s (books_of self.new.books) (known_by self.new.known) entries.old.items entries.new.items (M.stands self.new.mode)) }
     {
         let slot = self.books.slot_of(worker);
         let number = self.books.next_worker()?;
-        self.hear_of_death(alloc, worker, slot, rest, entries)?;
+        self.hear_of_death(alloc, worker, slot, rest, retried, entries)?;
         self.books.start(number, slot)?;
         note(
             Entry::Start {
@@ -307,12 +309,13 @@ impl<M: Mode> RunState<M> {
         before: bool,
         worker: u32,
         rest: u32,
+        retried: bool,
         entries: &mut Vec<Entry>,
     ) -> Result<(), OutOfMemory>
         requires late { before ≡ true → is_stopped (books_of self.old.books) ≡ true }
         requires at { is_stopped (books_of self.old.books) ≡ false → self.old.books.shared ≡ true →
-            (s : State) × Calls Died s (books_of self.old.books) (known_by self.old.known) (Before (down_plan worker (last_of rest self.old.books.ledger.pool)) (M.stands self.old.mode)) }
-        ensures { OnOk result ((s : State) → At s (books_of self.old.books) (known_by self.old.known) (Before (down_plan worker (last_of rest self.old.books.ledger.pool)) (M.stands self.old.mode)) →
+            (s : State) × Calls Died s (books_of self.old.books) (known_by self.old.known) (Before (death_plan worker retried rest self.old.books.ledger.pool) (M.stands self.old.mode)) }
+        ensures { OnOk result ((s : State) → At s (books_of self.old.books) (known_by self.old.known) (Before (death_plan worker retried rest self.old.books.ledger.pool) (M.stands self.old.mode)) →
             (is_stopped s.books ≡ false → MayDie s (M.stands self.old.mode)) →
             Acted (if before then [] else if is_stopped s.books then shut_all s.books.crew else after_death worker s) s (books_of self.new.books) (known_by self.new.known) entries.old.items entries.new.items (M.stands self.new.mode)) }
     {
@@ -320,11 +323,12 @@ impl<M: Mode> RunState<M> {
             self.stop_outputs(alloc, before, entries)?;
             return Ok(());
         }
-        self.restart(alloc, worker, rest, entries)?;
+        self.restart(alloc, worker, rest, retried, entries)?;
         Ok(())
     }
 
-    // A worker went down: it is killed, its head is reported, what it held behind it goes to the pool's end.
+    // A worker went down: it is killed, its head is reported, or goes to the pool's front where it is tried again, and what it
+    // held behind it goes to the pool's end.
     pub(crate) fn down(
         &mut self,
         alloc: Global,
@@ -338,6 +342,7 @@ impl<M: Mode> RunState<M> {
             Ruled s (entry.Down worker cause output) (books_of self.new.books) (known_by self.new.known) entries.old.items entries.new.items (M.stands self.new.mode)) }
     {
         let before = self.books.is_stopped();
+        let retried = self.books.is_retry(worker);
         note(
             Entry::Down {
                 worker,
@@ -346,10 +351,10 @@ impl<M: Mode> RunState<M> {
             },
             entries,
         )?;
-        let rest = self.books.bury(alloc, worker)?;
+        let rest = self.books.bury(worker, retried)?;
         self.known.forget_steal_of(worker);
         note(Entry::Kill { worker }, entries)?;
-        self.death_outputs(alloc, before, worker, rest, entries)?;
+        self.death_outputs(alloc, before, worker, rest, retried, entries)?;
         self.finish(alloc, entries)?;
         Ok(())
     }
@@ -366,10 +371,11 @@ impl<M: Mode> RunState<M> {
             Ruled s (entry.NotStarted worker) (books_of self.new.books) (known_by self.new.known) entries.old.items entries.new.items (M.stands self.new.mode)) }
     {
         let before = self.books.is_stopped();
+        let retried = self.books.is_retry(worker);
         note(Entry::NotStarted { worker }, entries)?;
-        let rest = self.books.bury(alloc, worker)?;
+        let rest = self.books.bury(worker, retried)?;
         self.known.forget_steal_of(worker);
-        self.death_outputs(alloc, before, worker, rest, entries)?;
+        self.death_outputs(alloc, before, worker, rest, retried, entries)?;
         self.finish(alloc, entries)?;
         Ok(())
     }

@@ -1,14 +1,13 @@
 // The rota of a run: who holds which tests.
-ghost use Rattle.std.specs.Prelude.{◌≡◌, ◌+◌, ◌==◌, Some, None, true, [], ◌∷◌, length, take, drop, OnOk, IfOk, if◌then◌else◌};
+ghost use Rattle.std.specs.Prelude.{◌≡◌, ◌==◌, Some, None, true, [], ◌∷◌, length, drop, OnOk, IfOk, if◌then◌else◌};
 ghost use Rattle.xd_ledger.specs.Books.{on_table};
 ghost use Rattle.xd_ledger.specs.Numbers.{all_among, all_distinct, first_of};
 ghost use Rattle.xd_ledger.specs.State.{failing, done_books, down_books};
-ghost use Rattle.xd_ledger.specs.Table.{held, in_rota, left, completed, died, given_back};
+ghost use Rattle.xd_ledger.specs.Table.{held, in_rota, left, died, given_back};
 ghost use Rattle.xd_session.specs.Crew.{books_of};
 
 use crate::books::RunBooks;
 use crate::marks::Mark;
-use std::alloc::Global;
 use xd_edge::OutOfMemory;
 use xd_journal::Outcome;
 use xd_ledger::{Death, Ledger};
@@ -24,19 +23,18 @@ fn leave_seat(ledger: &mut Ledger, worker: u32)
 }
 
 // What a worker held goes, as at the death of one of the rota.
-fn die_where(alloc: Global, ledger: &mut Ledger, worker: u32) -> Result<Death, OutOfMemory>
-    ensures moved { OnOk result (ledger.new ≡ died worker ledger.old) }
-    ensures head { IfOk result (λ d. d.head ≡ first_of (held worker ledger.old)) }
-    ensures rest { IfOk result (λ d. d.rest ≡ length (drop 1 (held worker ledger.old))) }
+fn die_where(ledger: &mut Ledger, worker: u32, retry: bool) -> Death
+    ensures moved { ledger.new ≡ died worker retry ledger.old }
+    ensures head { result.head ≡ first_of (held worker ledger.old) }
+    ensures rest { result.rest ≡ length (drop 1 (held worker ledger.old)) }
 {
     if !ledger.in_rota(worker) {
-        return Ok(Death {
+        return Death {
             head: None,
             rest: 0,
-        });
+        };
     }
-    let death = ledger.die(alloc, worker)?;
-    Ok(death)
+    ledger.die(worker, retry)
 }
 
 // These items go from the worker to the end of the pool, where there are any.
@@ -111,13 +109,14 @@ impl RunBooks {
         Ok(())
     }
 
-    // The worker died. Gives how many tests came back.
-    pub(crate) fn bury(&mut self, alloc: Global, worker: u32) -> Result<u32, OutOfMemory>
-        ensures buried { OnOk result (books_of self.new ≡ down_books worker (books_of self.old)) }
+    // The worker died; a head that is not tried again counts as a failure. Gives how many tests came back behind the head.
+    pub(crate) fn bury(&mut self, worker: u32, retry: bool) -> Result<u32, OutOfMemory>
+        ensures buried { OnOk result (books_of self.new ≡ down_books worker retry (books_of self.old)) }
         ensures rest { IfOk result (λ n. n ≡ length (drop 1 (held worker self.old.ledger))) }
     {
-        let death = die_where(alloc, &mut self.ledger, worker)?;
-        self.count_failure(death.head.is_some())?;
+        let death = die_where(&mut self.ledger, worker, retry);
+        self.note_lost(death.head)?;
+        self.count_failure(death.head.is_some() && !retry)?;
         self.count_death()?;
         self.mark(worker, Mark::Gone);
         self.stop_at_limit();

@@ -1,11 +1,9 @@
 // The state of a run as the session keeps it, and its calls of the mode.
-ghost use Rattle.std.specs.Prelude.{◌≡◌, ◌++◌, length, drop, OnOk, true};
-ghost use Rattle.xd_ledger.specs.Calls.{last_of};
+ghost use Rattle.std.specs.Prelude.{◌≡◌, ◌++◌, OnOk, true};
+ghost use Rattle.xd_ledger.specs.Calls.{death_plan};
 ghost use Rattle.xd_ledger.specs.Modes.Call.{Died, Joined, TestDone, TestsBack};
 ghost use Rattle.xd_ledger.specs.Outputs.{acts_of};
-ghost use Rattle.xd_ledger.specs.Plan.{Plan};
 ghost use Rattle.xd_ledger.specs.Sharing.{State};
-ghost use Rattle.xd_ledger.specs.State.{down_plan};
 ghost use Rattle.xd_ledger.specs.Table.{in_rota};
 ghost use Rattle.xd_ledger.specs.Workers.{slot_of};
 ghost use Rattle.xd_session.specs.Crew.{books_of};
@@ -108,21 +106,31 @@ impl<M: Mode> RunState<M> {
         Ok(())
     }
 
-    // The mode hears of a death behind the share. The last items of the pool are those that the worker held behind its head.
+    // The mode hears of a death behind the share. The last items of the pool are those that the worker held behind its head,
+    // which is the first one where it was retried.
     pub(crate) fn call_died(
         &mut self,
         alloc: Global,
         worker: u32,
         slot: u32,
         rest: u32,
+        retried: bool,
         entries: &mut Vec<Entry>,
     ) -> Result<(), OutOfMemory>
-        requires { (s : State) × Calls Died s (books_of self.old.books) (known_by self.old.known) (Before (down_plan worker (last_of rest self.old.books.ledger.pool)) (M.stands self.old.mode)) }
-        ensures { OnOk result ((s : State) → Calls Died s (books_of self.old.books) (known_by self.old.known) (Before (down_plan worker (last_of rest self.old.books.ledger.pool)) (M.stands self.old.mode)) →
+        requires { (s : State) × Calls Died s (books_of self.old.books) (known_by self.old.known) (Before (death_plan worker retried rest self.old.books.ledger.pool) (M.stands self.old.mode)) }
+        ensures { OnOk result ((s : State) → Calls Died s (books_of self.old.books) (known_by self.old.known) (Before (death_plan worker retried rest self.old.books.ledger.pool) (M.stands self.old.mode)) →
             Acted (acts_of Died s) s (books_of self.new.books) (known_by self.new.known) entries.old.items entries.new.items (M.stands self.new.mode)) }
     {
         let mut acts = Vec::new(alloc);
-        self.mode.died(alloc, worker, slot, rest, &mut self.books.ledger, &mut acts)?;
+        self.mode.died(
+            alloc,
+            worker,
+            slot,
+            rest,
+            retried,
+            &mut self.books.ledger,
+            &mut acts,
+        )?;
         take_acts(alloc, &mut acts, &mut self.books, &mut self.known, entries)?;
         Ok(())
     }

@@ -2,8 +2,8 @@
 ghost use Rattle.std.specs.Prelude.{◌≡◌, ◌≤◌, ◌+◌, ℕ, length, take, true, false, IfOk, OnOk, Some};
 ghost use Rattle.xd_journal.specs.declared.entry.Entry.TheVariants as entry;
 ghost use Rattle.xd_journal.specs.declared.news.What.TheVariants as what;
-ghost use Rattle.xd_journal.specs.Kept.{most_of_all};
-ghost use Rattle.xd_ledger.specs.Meaning.{kept, meaning_of, output_of};
+ghost use Rattle.xd_journal.specs.Kept.{most_of_all, room_behind};
+ghost use Rattle.xd_ledger.specs.Meaning.{head_bytes, kept, meaning_of, output_of};
 ghost use Rattle.xd_ledger.specs.Sharing.{State};
 ghost use Rattle.xd_ledger.specs.Workers.{has_collected, is_active, was_ready};
 ghost use Rattle.xd_session.specs.Crew.{books_of};
@@ -46,10 +46,10 @@ fn first_bytes(alloc: Global, bytes: &[u8], count: u32) -> Result<Blob, OutOfMem
 }
 
 impl<M: Mode> Core<M> {
-    // What is kept of the output so far of the test at the worker's head.
-    fn kept_output(&self, alloc: Global, worker: u32) -> Result<Blob, OutOfMemory>
+    // The first bytes of the output so far of the test at the worker's head, as many as there is room for.
+    fn head_output(&self, alloc: Global, worker: u32) -> Result<Blob, OutOfMemory>
         requires { self.now.spent ≤ most_of_all }
-        ensures kept { IfOk result (λ b. (s : State) → At s (books_of self.now.state.books) (known_by self.now.state.known) (M.stands self.now.state.mode) → b ≡ kept worker (log_in worker self.now.logs) self.now.spent s) }
+        ensures first { IfOk result (λ b. (s : State) → At s (books_of self.now.state.books) (known_by self.now.state.known) (M.stands self.now.state.mode) → b ≡ take (room_behind self.now.spent) (head_bytes worker (log_in worker self.now.logs) s)) }
         ensures low { IfOk result (λ b. self.now.spent + length b ≤ most_of_all) }
     {
         let count = MOST_OF_ONE.min(MOST_OF_ALL - self.spent);
@@ -65,6 +65,19 @@ impl<M: Mode> Core<M> {
         }
     }
 
+    // What is kept where the worker goes down: none of a test that is tried again.
+    fn kept_output(&self, alloc: Global, worker: u32) -> Result<Blob, OutOfMemory>
+        requires { self.now.spent ≤ most_of_all }
+        ensures kept { IfOk result (λ b. (s : State) → At s (books_of self.now.state.books) (known_by self.now.state.known) (M.stands self.now.state.mode) → b ≡ kept worker (log_in worker self.now.logs) self.now.spent s) }
+        ensures low { IfOk result (λ b. self.now.spent + length b ≤ most_of_all) }
+    {
+        if self.state.books.is_retry(worker) {
+            return Ok(Blob::from_vec(Vec::new(alloc)));
+        }
+        let output = self.head_output(alloc, worker)?;
+        Ok(output)
+    }
+
     // What is kept of a test that ended: output of a failed one alone.
     fn output_of(&self, alloc: Global, worker: u32, outcome: Outcome) -> Result<Blob, OutOfMemory>
         requires { self.now.spent ≤ most_of_all }
@@ -73,14 +86,14 @@ impl<M: Mode> Core<M> {
     {
         match outcome {
             Outcome::Failed(_) => {
-                let output = self.kept_output(alloc, worker)?;
+                let output = self.head_output(alloc, worker)?;
                 Ok(output)
             }
             Outcome::Passed | Outcome::Skipped => Ok(Blob::from_vec(Vec::new(alloc))),
         }
     }
 
-    // A worker went down, with the output so far of its head.
+    // A worker went down, with what is kept of the output so far of its head.
     fn go_down(
         &mut self,
         alloc: Global,

@@ -1,18 +1,11 @@
-use Rattle.std.proofs.Common.{◌≡◌, ap, subst, sym, ◌∙◌, ℕ}
-use Rattle.xd_ledger.specs.Books.{Books}
-use Rattle.xd_ledger.specs.Calls.{Turned, last_of}
-use Rattle.xd_ledger.specs.Modes.Call.{Died, Joined, TestDone, TestsBack}
-use Rattle.xd_ledger.specs.Plan.{Plan}
-use Rattle.xd_ledger.specs.State.{down_plan}
-use Rattle.xd_ledger.specs.Suits.{Suits}
-use Rattle.xd_ledger.specs.Workers.{slot_of}
-use Rattle.std.specs.Prelude.{None}
+use Rattle.xd_ledger.specs.Calls.{death_plan}
+use Rattle.xd_ledger.specs.Modes.Call.{Died}
 use Rattle.xd_session.specs.Crew.{books_of}
 use Rattle.xd_session.specs.Known.{known_by}
-use Rattle.xd_session.proofs.Acts.{acted-call, as-before, suits-by}
+use Rattle.xd_session.proofs.Acts.{acted-call}
 use Rattle.xd_session.proofs.state.RunState.call_died.Goals as goal
 
 pub returns : goal.returns
 returns g c = λ s a.
-    acted-call Died (down_plan c.args.worker (last_of c.args.rest c.args.self.now.books.ledger.pool)) s (books_of c.args.self.now.books) _ (known_by c.args.self.now.known) _ c.new-acts.result.items c.died.new.acts.items c.died.new.ledger c.args.entries.now.items _ _ _
+    acted-call Died (death_plan c.args.worker c.args.retried c.args.rest c.args.self.now.books.ledger.pool) s (books_of c.args.self.now.books) _ (known_by c.args.self.now.known) _ c.new-acts.result.items c.died.new.acts.items c.died.new.ledger c.args.entries.now.items _ _ _
     c.new-acts.ensures.items a (λ p h. c.in_ok-died.ensures p h) c.in_ok-take_acts.ensures.books c.in_ok-take_acts.ensures.known c.in_ok-take_acts.ensures.entries
