@@ -6,9 +6,10 @@ use Rattle.xd_journal.specs.declared.entry.Entry.{Entry}
 use Rattle.xd_journal.specs.declared.news.News.{News}
 use Rattle.xd_journal.specs.declared.news.What.{What}
 use Rattle.xd_ledger.specs.Books.{Books}
-use Rattle.xd_ledger.specs.Histories.{begun, journal_of, stepped_all}
+use Rattle.xd_ledger.specs.Histories.{begun, is_over, journal_of, stepped_all}
 use Rattle.xd_ledger.specs.Meaning.{Log, log_of, meaning_of, spent_by, with_news}
 use Rattle.xd_ledger.specs.Outputs.{outputs}
+use Rattle.xd_ledger.specs.Owes.{someone_owes}
 use Rattle.xd_ledger.specs.Plan.{Plan, total}
 use Rattle.xd_ledger.specs.Proper.{may_follow}
 use Rattle.xd_ledger.specs.Sharing.{State}
@@ -20,6 +21,7 @@ use Rattle.xd_laws.proofs.Calls.{tidy-reached}
 use Rattle.xd_laws.proofs.Counts.{empty-of_times}
 use Rattle.xd_laws.proofs.Crew.{distinct-numbered}
 use Rattle.xd_laws.proofs.Logic.{cases_of, differ}
+use Rattle.xd_laws.proofs.OwingRuns.{owed}
 use Rattle.xd_laws.proofs.Placed.{due_times}
 use Rattle.xd_laws.proofs.Turns.{Tidy}
 use Rattle.xd_session.specs.declared.logs.WorkerLog.{WorkerLog}
@@ -50,6 +52,10 @@ module _ (settings : Settings) (entries : List Entry) (logs : List WorkerLog) (s
 
   all-told : AllTold (state_at settings entries)
   all-told = subst (λ (u : State). AllTold u) (sym behind) (told-behind settings k.inputs k.proper)
+
+  -- where it is not over some worker owes the next step
+  pub owed-behind : is_over (state_at settings entries).books ≡ false → someone_owes (state_at settings entries) ≡ true
+  owed-behind = subst (λ (u : State). is_over u.books ≡ false → someone_owes u ≡ true) (sym behind) (owed settings k.inputs k.proper)
 
 new-seat : (s : State) (w : ℕ) → AllCollected s → has_collected w s.books ≡ false → has_joined w s.books.table ≡ false
 new-seat s w d h = elim (cases_of (has_joined w s.books.table)) [

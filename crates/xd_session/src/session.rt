@@ -2,6 +2,7 @@
 ghost use Rattle.std.specs.Prelude.{◌≡◌, List, ◌++◌, ◌∷◌, [], length, true, false, OnOk, OnErr, IfOk};
 ghost use Rattle.xd_journal.specs.declared.news.News.{News};
 ghost use Rattle.xd_ledger.specs.Histories.{is_over, starts_from};
+ghost use Rattle.xd_ledger.specs.Owes.{someone_owes};
 ghost use Rattle.xd_ledger.specs.Plan.{Plan};
 ghost use Rattle.xd_ledger.specs.State.{no_one, all_moved};
 ghost use Rattle.xd_ledger.specs.Workers.{is_active};
@@ -72,6 +73,7 @@ impl<M: Mode> Session<M> {
         requires settings { CanBegin settings }
         requires fresh { M.stands mode (no_one settings).plan }
         ensures stands { IfOk result (λ s. StandsFor [] s) }
+        ensures owes { IfOk result (λ s. is_over (state_of s).books ≡ false → someone_owes (state_of s) ≡ true) }
         ensures settings { IfOk result (λ s. s.settings ≡ settings) }
     {
         let mut books = RunBooks::new(alloc, settings)?;
@@ -93,13 +95,14 @@ impl<M: Mode> Session<M> {
         })
     }
 
-    /// One piece of news of an active worker. Gives the places of the entries that it added to the journal. Behind an
-    /// error the session is given up.
+    /// One piece of news of an active worker. Gives the places of the entries that it added to the journal. Where the run
+    /// is not over then, some worker owes the next step. Behind an error the session is given up.
     pub fn step(&mut self, alloc: Global, news: News) -> Result<Step, OutOfMemory>
         requires whole { self.old.whole ≡ true }
         requires active { is_active news.worker (state_of self.old).books ≡ true }
         ensures stands { OnOk result ((taken : List News) → StandsFor taken self.old → StandsFor (taken ++ news ∷ []) self.new) }
         ensures whole { OnOk result (self.new.whole ≡ true) }
+        ensures owes { OnOk result (is_over (state_of self.new).books ≡ false → someone_owes (state_of self.new) ≡ true) }
         ensures places { IfOk result (λ p. (p.from ≡ length self.old.entries) × (p.to ≡ length self.new.entries)) }
         ensures settings { self.new.settings ≡ self.old.settings }
         ensures given_up { OnErr result (self.new.whole ≡ false) }

@@ -3,7 +3,7 @@ use Rattle.xd_ledger.specs.Books.{Books}
 use Rattle.xd_ledger.specs.Workers.{is_active}
 use Rattle.xd_session.specs.Crew.{books_of}
 use Rattle.xd_session.specs.Stands.{Seen, state_of}
-use Rattle.xd_session.proofs.Steady.{stands-inside, stands-next, steady, step-new, step-next}
+use Rattle.xd_session.proofs.Steady.{owed-behind, stands-inside, stands-next, steady, step-new, step-next}
 use Rattle.xd_session.proofs.session.Session.step.Goals as goal
 
 pub take-requires-clause-low : goal.take-requires-clause-low
@@ -39,3 +39,10 @@ returns-clause-stands g c = λ taken f.
     ap (λ (b : Books). is_active c.args.news.worker b) k.at.books_are ∙ ap (λ (v : Seen). is_active c.args.news.worker (state_of v).books) c.self.view_is ∙ c.requires.active in
     stands-next _ _ _ _ _ _ _ _ _ _ _ _ _ c.args.news taken k act (c.in_ok-take.ensures _ (steady _ _ _ _ _ _ _ k) k.short)
     (stands-inside _ _ _ _ c.args.self.now taken c.self.view_is c.requires.whole f))
+
+pub returns-clause-owes : goal.returns-clause-owes
+returns-clause-owes g c = λ h.
+    (let k = c.self.invariant (ap (λ (v : Seen). v.whole) c.self.view_is ∙ c.requires.whole) in
+    let act : is_active c.args.news.worker (books_of c.self.inside.core.state.books) ≡ true =
+    ap (λ (b : Books). is_active c.args.news.worker b) k.at.books_are ∙ ap (λ (v : Seen). is_active c.args.news.worker (state_of v).books) c.self.view_is ∙ c.requires.active in
+    owed-behind _ _ _ _ _ _ _ (step-next _ _ _ _ _ _ _ _ _ _ _ _ _ c.args.news.worker c.args.news.what k act (c.in_ok-take.ensures _ (steady _ _ _ _ _ _ _ k) k.short)) h)
