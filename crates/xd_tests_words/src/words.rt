@@ -34,15 +34,15 @@ fn plan(alloc: Global, line: &str) -> Result<String, Fail> {
     Ok(text)
 }
 
-// The mode, how many workers, failures, restarts and tests at once, and whether scopes are sorted.
+// The mode, how many workers, failures, restarts and tests at once, whether scopes are sorted, and how many retries.
 fn put_settings(text: &mut String, settings: &Settings) -> Result<(), Fail> {
     let mode = name_of_mode(settings.mode);
     let order = if settings.reorder { "sorted" } else { "kept" };
     let chunk = settings.chunk.unwrap_or(0);
     Ok(write!(
         text,
-        "{mode} {} {} {} {chunk} {order}",
-        settings.workers, settings.maxfail, settings.restarts
+        "{mode} {} {} {} {chunk} {order} {}",
+        settings.workers, settings.maxfail, settings.restarts, settings.retries
     )?)
 }
 
@@ -70,43 +70,56 @@ fn words_that_are_accepted(rt: HostRuntime) -> Result<(), Fail> {
             "s.toml -n 0 --maxfail 1000000 --max-worker-restart 7",
             "local s.toml 1000000",
         ),
-        ("s.toml -n 2", "load 2 0 8 0 sorted s.toml: popen; popen"),
-        ("s.toml -dn2", "load 2 0 8 0 sorted s.toml: popen; popen"),
+        ("s.toml -n 2", "load 2 0 8 0 sorted 0 s.toml: popen; popen"),
+        ("s.toml -dn2", "load 2 0 8 0 sorted 0 s.toml: popen; popen"),
         (
             "s.toml -n 2 --dist each",
-            "each 2 0 8 0 sorted s.toml: popen; popen",
+            "each 2 0 8 0 sorted 0 s.toml: popen; popen",
         ),
         (
             "s.toml -n 1 --dist loadscope --maxschedchunk 1",
-            "scopes 1 0 4 1 sorted s.toml: popen",
+            "scopes 1 0 4 1 sorted 0 s.toml: popen",
         ),
         (
             "s.toml -n 1 --dist loadfile --max-worker-restart 0",
-            "files 1 0 0 0 sorted s.toml: popen",
+            "files 1 0 0 0 sorted 0 s.toml: popen",
         ),
         (
             "s.toml --dist loadgroup --tx popen",
-            "groups 1 0 4 0 sorted s.toml: popen",
+            "groups 1 0 4 0 sorted 0 s.toml: popen",
         ),
         (
             "s.toml --dist worksteal --maxfail 0 --tx 1*popen",
-            "stealing 1 0 4 0 sorted s.toml: popen",
+            "stealing 1 0 4 0 sorted 0 s.toml: popen",
         ),
         (
             "s.toml -n=1 --dist=load --maxfail 1000000",
-            "load 1 1000000 4 0 sorted s.toml: popen",
+            "load 1 1000000 4 0 sorted 0 s.toml: popen",
         ),
         (
             "s.toml -n 1 --max-worker-restart 1000 --maxschedchunk 1000000 --no-loadscope-reorder",
-            "load 1 0 1000 1000000 kept s.toml: popen",
+            "load 1 0 1000 1000000 kept 0 s.toml: popen",
         ),
         (
             "s.toml --tx 2*popen --tx socket=h:7",
-            "load 3 0 12 0 sorted s.toml: popen; popen; socket h 7",
+            "load 3 0 12 0 sorted 0 s.toml: popen; popen; socket h 7",
         ),
         (
             "s.toml -x --tx popen//chdir=/tmp -d",
-            "load 1 1 4 0 sorted s.toml: popen in /tmp",
+            "load 1 1 4 0 sorted 0 s.toml: popen in /tmp",
+        ),
+        ("s.toml --crash-retries 1", "local s.toml 0"),
+        (
+            "s.toml -n 1 --crash-retries 0",
+            "load 1 0 4 0 sorted 0 s.toml: popen",
+        ),
+        (
+            "s.toml -n 1 --crash-retries=100",
+            "load 1 0 4 0 sorted 100 s.toml: popen",
+        ),
+        (
+            "s.toml -n 1 --maxschedchunk 7 --crash-retries 3",
+            "load 1 0 4 7 sorted 3 s.toml: popen",
         ),
         ("-n 0 -- -s.toml", "local -s.toml 0"),
         ("-", "local - 0"),
@@ -147,7 +160,18 @@ fn words_that_are_refused_by_their_first_cause(rt: HostRuntime) -> Result<(), Fa
         ("s.toml --max-worker-restart 1001", "xdrun: bad words\n"),
         ("s.toml --maxschedchunk 0", "xdrun: bad words\n"),
         ("s.toml --maxschedchunk 1000001", "xdrun: bad words\n"),
-        ("s.toml --crash-retries 1", "xdrun: bad words\n"),
+        ("s.toml -n 1 --crash-retries", "xdrun: bad words\n"),
+        ("s.toml -n 1 --crash-retries 101", "xdrun: bad words\n"),
+        ("s.toml -n 1 --crash-retries 01", "xdrun: bad words\n"),
+        ("s.toml -n 1 --crash-retries -1", "xdrun: bad words\n"),
+        (
+            "s.toml --crash-retries 1 --crash-retries 1",
+            "xdrun: bad words\n",
+        ),
+        (
+            "s.toml -n 2 --tx popen --crash-retries 101",
+            "xdrun: bad words\n",
+        ),
         ("s.toml -n 33 --tx _x", "xdrun: bad words\n"),
         ("worker s.toml", "xdrun: bad words\n"),
         ("wire", "xdrun: bad words\n"),
