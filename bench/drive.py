@@ -36,7 +36,7 @@ PROGRAM = """//! Times a run by a file, or counts the memory of its news alone. 
 //! or, after the word back, the tests that it gives back.
 #![tactic(auto)]
 
-ghost use Rattle.std.specs.Prelude.{◌≡◌, IfSome};
+ghost use Rattle.std.specs.Prelude.{◌≡◌, IfSome, None};
 ghost use Rattle.xd_ledger.specs.State.{no_one};
 ghost use Rattle.xd_session.specs.Stands.{CanBegin};
 
