@@ -59,8 +59,8 @@ def threads(pid):
 
 
 def sleeps(pid):
-    """How often each thread of a process has left its processor, where all of them sleep or have ended; else None. Where it
-    is the same twice, none has been awake in between."""
+    """How often each thread of a process has left its processor, where all of them sleep or have ended; else None. Where
+    it is the same twice, none has been awake in between."""
     found = {}
     try:
         for thread in os.listdir(f"/proc/{pid}/task"):
