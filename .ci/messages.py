@@ -40,9 +40,14 @@ def event(name, pairs=b""):
     return message(CHANNEL_DATA, 1, text(name) + b"J" + pairs + b"@" + struct.pack("!i", 2) + b"Q")
 
 
+def of_tests(name, tests):
+    """A command or an event that names tests."""
+    return event(name, pair("indices", items([number(test) for test in tests])))
+
+
 def order(tests):
     """The command that runs these tests."""
-    return event("runtests", pair("indices", items([number(test) for test in tests])))
+    return of_tests("runtests", tests)
 
 
 def orders(suite, tests):
@@ -60,15 +65,16 @@ def log_number(test):
     return 2 * test + 2
 
 
-def start(test):
-    """The event that begins a test."""
-    return event("logstart", pair("item_index", number(test)) + pair("log", b"B" + struct.pack("!i", log_number(test))))
+def start(test, log=None):
+    """The event that begins a test, with the channel of its log, which is that of tests in order where none is named."""
+    channel = b"B" + struct.pack("!i", log or log_number(test))
+    return event("logstart", pair("item_index", number(test)) + pair("log", channel))
 
 
-def result(test, outcome, code):
-    """The event that ends a test, without its milliseconds."""
+def result(test, outcome, code, milliseconds=0):
+    """The event that ends a test."""
     pairs = pair("item_index", number(test)) + pair("outcome", text(outcome)) + pair("code", number(code))
-    return event("runtest_protocol_complete", pairs + pair("duration", number(0)))
+    return event("runtest_protocol_complete", pairs + pair("duration", number(milliseconds)))
 
 
 def finished():

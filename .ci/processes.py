@@ -4,7 +4,7 @@ import collections
 import os
 import time
 
-ENDED = "Z"
+SLEEPS, ENDED = "S", "Z"
 
 Process = collections.namedtuple("Process", "pid parent state start")
 
@@ -58,6 +58,22 @@ def threads(pid):
     return len(os.listdir(f"/proc/{pid}/task"))
 
 
+def sleeps(pid):
+    """How often each thread of a process has left its processor, where all of them sleep or have ended; else None. Where
+    it is the same twice, none has been awake in between."""
+    found = {}
+    try:
+        for thread in os.listdir(f"/proc/{pid}/task"):
+            with open(f"/proc/{pid}/task/{thread}/status", encoding="utf-8", errors="replace") as file:
+                lines = dict(line.split(":", 1) for line in file if ":" in line)
+            if lines["State"].split()[0] not in (SLEEPS, ENDED):
+                return None
+            found[thread] = lines["voluntary_ctxt_switches"], lines["nonvoluntary_ctxt_switches"]
+    except OSError:
+        return None
+    return found
+
+
 def descriptors(pid):
     """What a process has open, by the numbers of its descriptors."""
     folder = f"/proc/{pid}/fd"
@@ -70,11 +86,11 @@ def descriptors(pid):
     return found
 
 
-def wait_until(is_so, seconds):
-    """Looks again and again until it is so; whether it was so within these seconds."""
+def wait_until(is_so, seconds, pause=0.01):
+    """Looks again and again, with pauses, until it is so; whether it was so within these seconds."""
     end = time.monotonic() + seconds
     while not is_so():
         if time.monotonic() > end:
             return False
-        time.sleep(0.01)
+        time.sleep(pause)
     return True
