@@ -9,7 +9,7 @@ ghost use Rattle.xd_child.specs.Running.{CameTo, Drained, DrainedPart, RanChild}
 use crate::ending::wait_for;
 use std::alloc::Global;
 use std::sync::Wait;
-use xd_edge::{Blob, ChildFault, Children, OutOfMemory, Text};
+use xd_edge::{Blob, ChildFault, Children, MAX_PIECE_BYTES, OutOfMemory, Text};
 use xd_journal::Outcome;
 
 /// What the program of a test came to.
@@ -110,7 +110,7 @@ fn drain<R: Wait, K: Children>(
         (K.runs children.old) (K.runs children.new)) }
     ensures counted { Counted result (K.faults children.old) (K.faults children.new) }
 {
-    let mut buffer = [0u8; 4096];
+    let mut buffer = [0u8; MAX_PIECE_BYTES];
     for _ in rt.forever() {
         match children.read(rt, child, &mut buffer) {
             Ok(0) => return true,

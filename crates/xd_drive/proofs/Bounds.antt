@@ -20,7 +20,8 @@ use Rattle.xd_ledger.specs.Workers.{is_active, was_ready, has_collected, made_co
 use Rattle.xd_ledger.specs.Collections.{ids_of, key, listed, listed_in, lists_with, unequal, with_list}
 use Rattle.xd_ledger.specs.Sharing.{State, in_books, ids_at, shared_now, sizes_from}
 use Rattle.xd_ledger.specs.State.{moved}
-use Rattle.xd_ledger.specs.Proper.{are_ids, is_id, may_follow, most_tests, no_text_twice}
+use Rattle.xd_edge.specs.Limits.{most_tests}
+use Rattle.xd_ledger.specs.Proper.{are_ids, is_id, may_follow, no_text_twice}
 use Rattle.xd_laws.proofs.Logic.{cases_of, differ, split-and}
 use Rattle.xd_laws.proofs.Counts.{among-filter, among-times, among_of-all_among, all_among-of, times-among}
 use Rattle.xd_laws.proofs.Inputs.{collecting-keeps}

@@ -23,7 +23,8 @@ use Rattle.xd_ledger.specs.Stops.{is_stopped, is_shutting}
 use Rattle.xd_ledger.specs.Sharing.{State}
 use Rattle.xd_ledger.specs.State.{moved, all_moved, settles}
 use Rattle.xd_ledger.specs.Outputs.{acts_of, after_death, after_joining, closing, outputs, own_outputs, shut_all, slots_of_rota, turn_of, unless_stopped}
-use Rattle.xd_ledger.specs.Proper.{may_follow, most_tests}
+use Rattle.xd_edge.specs.Limits.{most_tests}
+use Rattle.xd_ledger.specs.Proper.{may_follow}
 use Rattle.xd_ledger.specs.Orderly.{all_orderly, is_orderly, may_run, not_empty}
 use Rattle.xd_laws.proofs.Logic.{and, cases_of, differ, in_both, not_true, split-and, split-or}
 use Rattle.xd_laws.proofs.Crew.{has, has-more, has-same}

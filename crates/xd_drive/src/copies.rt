@@ -3,25 +3,8 @@ ghost use Rattle.std.specs.Prelude.{◌≡◌, IfOk, true};
 ghost use Rattle.xd_drive.specs.Calls.{is_order};
 
 use std::alloc::Global;
-use xd_edge::{Indices, OutOfMemory, Text, Texts};
+use xd_edge::{OutOfMemory, Text, copy_indices, copy_texts};
 use xd_journal::{Entry, News, What};
-
-fn copy_indices(alloc: Global, indices: &Indices) -> Result<Indices, OutOfMemory>
-    ensures { IfOk result (λ copy. copy ≡ indices.now) }
-{
-    let items = indices.items.as_slice().to_vec(alloc)?;
-    Ok(Indices { items })
-}
-
-fn copy_texts(alloc: Global, texts: &Texts) -> Result<Texts, OutOfMemory>
-    ensures { IfOk result (λ copy. copy ≡ texts.now) }
-{
-    let mut items = Vec::with_capacity(alloc, texts.items.len())?;
-    for text in &texts.items {
-        items.push(text.copy()?)?;
-    }
-    Ok(Texts { items })
-}
 
 fn copy_text(text: &Option<Text>) -> Result<Option<Text>, OutOfMemory>
     ensures { IfOk result (λ copy. copy ≡ text.now) }
@@ -41,7 +24,7 @@ fn copy_what(alloc: Global, what: &What) -> Result<What, OutOfMemory>
     match what {
         What::Ready => Ok(What::Ready),
         What::Collected(ids) => {
-            let ids = copy_texts(alloc, ids)?;
+            let ids = copy_texts(alloc, &ids.items)?;
             Ok(What::Collected(ids))
         }
         What::LogStart { index, log } => Ok(What::LogStart {
@@ -59,7 +42,7 @@ fn copy_what(alloc: Global, what: &What) -> Result<What, OutOfMemory>
             ms: *ms,
         }),
         What::Back(indices) => {
-            let indices = copy_indices(alloc, indices)?;
+            let indices = copy_indices(alloc, &indices.items)?;
             Ok(What::Back(indices))
         }
         What::Finished => Ok(What::Finished),
@@ -91,7 +74,7 @@ pub(crate) fn copy_order(alloc: Global, worker: u32, order: &Entry) -> Result<En
 {
     match order {
         Entry::Run { worker, indices } => {
-            let indices = copy_indices(alloc, indices)?;
+            let indices = copy_indices(alloc, &indices.items)?;
             Ok(Entry::Run {
                 worker: *worker,
                 indices,
@@ -99,7 +82,7 @@ pub(crate) fn copy_order(alloc: Global, worker: u32, order: &Entry) -> Result<En
         }
         Entry::RunAll { worker } => Ok(Entry::RunAll { worker: *worker }),
         Entry::Steal { worker, indices } => {
-            let indices = copy_indices(alloc, indices)?;
+            let indices = copy_indices(alloc, &indices.items)?;
             Ok(Entry::Steal {
                 worker: *worker,
                 indices,

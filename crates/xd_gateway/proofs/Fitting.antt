@@ -6,6 +6,7 @@ use Rattle.std.specs.Str.{encode_utf8_all}
 use Rattle.std.specs.Fmt.{decimal}
 use Rattle.std.proofs.lemmas.Fmt.{length-decimal-le}
 use Rattle.std.proofs.lemmas.Bool.{le-ltb}
+use Rattle.xd_edge.specs.Limits.{most_tests}
 use Rattle.xd_value.specs.declared.writing.DumpFault.TheVariants as fault
 use Rattle.xd_value.specs.Tree.{Tree, Trees, Pairs, none, int, text, list, dict, tuple, no_trees, tree, no_pairs, pair, depth, trees_depth}
 use Rattle.xd_value.specs.View.{trees_of}
@@ -108,13 +109,13 @@ shutdown_length : length (encode_utf8_all (codes "shutdown")) ≡ 8
 unfolding lib.Utf8.encode
 shutdown_length = refl
 
-fits : (name ns : List ℕ) → length (encode_utf8_all name) ≤ 100 → AreIndices ns → length ns ≤ 50000 → nat_lt 16777216 (length (canonical (numbered name ns))) ≡ false
+fits : (name ns : List ℕ) → length (encode_utf8_all name) ≤ 100 → AreIndices ns → length ns ≤ most_tests → nat_lt 16777216 (length (canonical (numbered name ns))) ≡ false
 fits name ns short h few =
     let all = numbered_length name ns in
     let items = items_length 0 ns h (omega arith) in
     le-ltb 16777216 _ (omega (arith, all, items, key_length))
 
-numbers_dumped : (name ns : List ℕ) → length (encode_utf8_all name) ≤ 100 → AreIndices ns → length ns ≤ 50000 → dumped (numbered name ns) ≡ Ok (canonical (numbered name ns))
+numbers_dumped : (name ns : List ℕ) → length (encode_utf8_all name) ≤ 100 → AreIndices ns → length ns ≤ most_tests → dumped (numbered name ns) ≡ Ok (canonical (numbered name ns))
 numbers_dumped name ns short h few =
     dumped_is (numbered name ns) (depth_is name ns) (passes_all Hashable name ns) (passes_all Distinct name ns) (passes_all Channels name ns) (fits name ns short h few)
 

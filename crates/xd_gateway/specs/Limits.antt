@@ -1,14 +1,15 @@
 -- Which commands fit a payload.
 use Rattle.std.specs.Prelude.{ℕ, ◌≤◌, List, [], length, codes}
+use Rattle.xd_edge.specs.Limits.{most_tests}
 use Rattle.xd_value.specs.Tree.{Tree, none, text, dict, tuple, tree, no_trees, pair, no_pairs}
 use Rattle.xd_gateway.specs.declared.order.Order.{Order}
 use Rattle.xd_gateway.specs.declared.order.Order.TheVariants.{RunTests, RunAll, Steal, Shutdown}
 
 -- an order names at most as many tests as a suite has (a limit of this project)
 abbrev pub IsFew : Order → Type 0
-IsFew (RunTests ns) = length ns ≤ 50000
+IsFew (RunTests ns) = length ns ≤ most_tests
 IsFew RunAll = Unit {0}
-IsFew (Steal ns) = length ns ≤ 50000
+IsFew (Steal ns) = length ns ≤ most_tests
 IsFew Shutdown = Unit {0}
 
 -- the call of the function that runs the tests of a suite file by a mode: no source text, no file name, the function's

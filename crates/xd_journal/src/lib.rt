@@ -3,10 +3,12 @@
 
 mod entry;
 mod journal;
+mod kept;
 mod news;
 mod settings;
 
 pub use entry::{Cause, Entry, Ids, Outcome, RunStop};
 pub use journal::Journal;
+pub use kept::{MOST_OF_ALL, MOST_OF_ONE};
 pub use news::{News, What};
 pub use settings::Settings;

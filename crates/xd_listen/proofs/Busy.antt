@@ -12,8 +12,8 @@ use Rattle.xd_gateway.specs.declared.order.Order.{Order}
 use Rattle.xd_gateway.specs.declared.order.Order.TheVariants.{RunTests, RunAll, Steal, Shutdown}
 use Rattle.xd_gateway.specs.Orders.{tree_order}
 use Rattle.xd_journal.specs.declared.news.What.TheVariants.{Back}
-use Rattle.xd_run_tests.specs.declared.place.Place.{Place}
-use Rattle.xd_run_tests.specs.declared.place.Place.TheVariants.{Test, Mark}
+use Rattle.xd_run_tests.specs.declared.line_entry.LineEntry.{LineEntry}
+use Rattle.xd_run_tests.specs.declared.line_entry.LineEntry.TheVariants.{Test, Mark}
 use Rattle.xd_run_tests.specs.declared.phase.Ending.{Ending}
 use Rattle.xd_run_tests.specs.declared.phase.Ending.TheVariants.{BadCommand, ReceivingEnded}
 use Rattle.xd_run_tests.specs.declared.phase.Phase.{Phase}
@@ -63,14 +63,14 @@ settled_busy n room t f = go t.call.running (running_some t.call n f.test)
     go true h = f
     go false h = cc
 
-head_more : (e : ℕ) (l more : List Place) (n : ℕ) → head_test (drop e l) ≡ Some n → head_test (drop e (l ++ more)) ≡ Some n
+head_more : (e : ℕ) (l more : List LineEntry) (n : ℕ) → head_test (drop e l) ≡ Some n → head_test (drop e (l ++ more)) ≡ Some n
 head_more zero [] more n h = cc
 head_more zero (Test k ∷ l) more n h = h
 head_more zero (Mark ∷ l) more n h = cc
 head_more (suc e) [] more n h = cc
 head_more (suc e) (p ∷ l) more n h = head_more e l more n h
 
-head_front : (e k : ℕ) (l more : List Place) (n : ℕ) → e < k → head_test (drop e l) ≡ Some n → head_test (drop e (take k l ++ more)) ≡ Some n
+head_front : (e k : ℕ) (l more : List LineEntry) (n : ℕ) → e < k → head_test (drop e l) ≡ Some n → head_test (drop e (take k l ++ more)) ≡ Some n
 head_front e zero l more n lt h = absurd (omega (arith, lt))
 head_front zero (suc k) [] more n lt h = cc
 head_front zero (suc k) (Test m ∷ l) more n lt h = h
@@ -78,7 +78,7 @@ head_front zero (suc k) (Mark ∷ l) more n lt h = cc
 head_front (suc e) (suc k) [] more n lt h = cc
 head_front (suc e) (suc k) (p ∷ l) more n lt h = head_front e k l more n (omega (arith, lt)) h
 
-abbrev lined : List Place → Act → Act
+abbrev lined : List LineEntry → Act → Act
 lined ps t = record t { call = record (t.call) { line = ps } }
 
 run_if : (b : Bool) (x : Option ℕ) (n : ℕ) → (if b then x else None) ≡ Some n → x ≡ Some n
@@ -89,17 +89,17 @@ then_run : (b : Bool) (x : Option ℕ) (n : ℕ) → b ≡ true → x ≡ Some n
 then_run true x n h e = e
 then_run false x n h e = cc
 
-lined_busy : (n : ℕ) (t : Act) (ps : List Place) → Busy n t → (head_test (left t.call) ≡ Some n → head_test (drop t.call.ended ps) ≡ Some n) → Busy n (lined ps t)
+lined_busy : (n : ℕ) (t : Act) (ps : List LineEntry) → Busy n t → (head_test (left t.call) ≡ Some n → head_test (drop t.call.ended ps) ≡ Some n) → Busy n (lined ps t)
 lined_busy n t ps f keeps = record {
   test = then_run t.call.running (head_test (drop t.call.ended ps)) n (running_some t.call n f.test) (keeps (run_if t.call.running (head_test (left t.call)) n f.test));
   run = f.run;
   busy = f.busy;
 }
 
-longer_busy : (n : ℕ) (t : Act) (ps : List Place) → Busy n t → Busy n (lined (t.call.line ++ ps) t)
+longer_busy : (n : ℕ) (t : Act) (ps : List LineEntry) → Busy n t → Busy n (lined (t.call.line ++ ps) t)
 longer_busy n t ps f = lined_busy n t (t.call.line ++ ps) f (λ h. head_more t.call.ended t.call.line ps n h)
 
-front_busy : (n : ℕ) (t : Act) (ps : List Place) → Busy n t → Busy n (lined (front t.call ++ ps) t)
+front_busy : (n : ℕ) (t : Act) (ps : List LineEntry) → Busy n t → Busy n (lined (front t.call ++ ps) t)
 front_busy n t ps f = lined_busy n t (front t.call ++ ps) f (λ h. go t.call.running (running_some t.call n f.test) h)
   where
     go : (b : Bool) → b ≡ true → head_test (left t.call) ≡ Some n → head_test (drop t.call.ended (take (t.call.ended + (if b then 2 else 1)) t.call.line ++ ps)) ≡ Some n

@@ -7,8 +7,8 @@ use Rattle.xd_gateway.specs.declared.order.Order.{Order}
 use Rattle.xd_gateway.specs.declared.order.Order.TheVariants.{RunTests, RunAll, Steal, Shutdown}
 use Rattle.xd_journal.specs.declared.entry.Outcome.{Outcome}
 use Rattle.xd_journal.specs.declared.news.What.TheVariants.{Back, Collected}
-use Rattle.xd_run_tests.specs.declared.place.Place.{Place}
-use Rattle.xd_run_tests.specs.declared.place.Place.TheVariants.{Test, Mark}
+use Rattle.xd_run_tests.specs.declared.line_entry.LineEntry.{LineEntry}
+use Rattle.xd_run_tests.specs.declared.line_entry.LineEntry.TheVariants.{Test, Mark}
 use Rattle.xd_run_tests.specs.declared.phase.Ending.{Ending}
 use Rattle.xd_run_tests.specs.declared.phase.Ending.TheVariants.{BadCommand, ReceivingEnded}
 use Rattle.xd_run_tests.specs.declared.phase.Phase.{Phase}
@@ -52,7 +52,7 @@ early_fresh t e f = go t.call.running refl
 asking_fresh : (t : Turn) (asks : List Ask) → Fresh t → Fresh (asking asks t)
 asking_fresh t asks f = record { test = f.test; some = f.some; busy = f.busy }
 
-moved_fresh : (room : Bool) (ps : List Place) (t : Turn) → left t.call ≡ ps → t.call.running ≡ false → t.run ≡ None → rests t.call.phase ≡ false → Fresh (moved_on room ps t)
+moved_fresh : (room : Bool) (ps : List LineEntry) (t : Turn) → left t.call ≡ ps → t.call.running ≡ false → t.run ≡ None → rests t.call.phase ≡ false → Fresh (moved_on room ps t)
 moved_fresh room [] t l e n r = idle t e n
 moved_fresh room (Mark ∷ ps) t l e n r = idle (finished t) e n
 moved_fresh room (Test k ∷ []) t l e n r = idle t e n
@@ -70,14 +70,14 @@ settled_fresh room t f r = go t.call.running refl
     go false h = moved_fresh room (left t.call) t refl h (no_run t f h) r
 
 -- the running test stays where the line grows behind it
-head_more : (e : ℕ) (l more : List Place) (n : ℕ) → head_test (drop e l) ≡ Some n → head_test (drop e (l ++ more)) ≡ Some n
+head_more : (e : ℕ) (l more : List LineEntry) (n : ℕ) → head_test (drop e l) ≡ Some n → head_test (drop e (l ++ more)) ≡ Some n
 head_more zero [] more n h = cc
 head_more zero (Test k ∷ l) more n h = h
 head_more zero (Mark ∷ l) more n h = cc
 head_more (suc e) [] more n h = cc
 head_more (suc e) (p ∷ l) more n h = head_more e l more n h
 
-head_front : (e k : ℕ) (l more : List Place) (n : ℕ) → e < k → head_test (drop e l) ≡ Some n → head_test (drop e (take k l ++ more)) ≡ Some n
+head_front : (e k : ℕ) (l more : List LineEntry) (n : ℕ) → e < k → head_test (drop e l) ≡ Some n → head_test (drop e (take k l ++ more)) ≡ Some n
 head_front e zero l more n lt h = absurd (omega (arith, lt))
 head_front zero (suc k) [] more n lt h = cc
 head_front zero (suc k) (Test m ∷ l) more n lt h = h
@@ -86,10 +86,10 @@ head_front (suc e) (suc k) [] more n lt h = cc
 head_front (suc e) (suc k) (p ∷ l) more n lt h = head_front e k l more n (omega (arith, lt)) h
 
 -- the line changed behind what runs
-abbrev lined : List Place → Turn → Turn
+abbrev lined : List LineEntry → Turn → Turn
 lined ps t = record t { call = record (t.call) { line = ps } }
 
-lined_fresh : (t : Turn) (ps : List Place) → Fresh t → ((n : ℕ) → t.call.running ≡ true → head_test (left t.call) ≡ Some n → head_test (drop t.call.ended ps) ≡ Some n) → Fresh (lined ps t)
+lined_fresh : (t : Turn) (ps : List LineEntry) → Fresh t → ((n : ℕ) → t.call.running ≡ true → head_test (left t.call) ≡ Some n → head_test (drop t.call.ended ps) ≡ Some n) → Fresh (lined ps t)
 lined_fresh t ps f keeps = record { test = go t.call.running refl t.run f.test f.some; some = f.some; busy = f.busy }
   where
     go : (b : Bool) → t.call.running ≡ b → (r : Option ℕ) → (if b then head_test (left t.call) else None) ≡ r → (r ≡ None → b ≡ false) → (if b then head_test (drop t.call.ended ps) else None) ≡ r
@@ -97,10 +97,10 @@ lined_fresh t ps f keeps = record { test = go t.call.running refl t.run f.test f
     go true h (Some n) e s = keeps n h e
     go false h r e s = e
 
-longer_fresh : (t : Turn) (ps : List Place) → Fresh t → Fresh (lined (t.call.line ++ ps) t)
+longer_fresh : (t : Turn) (ps : List LineEntry) → Fresh t → Fresh (lined (t.call.line ++ ps) t)
 longer_fresh t ps f = lined_fresh t (t.call.line ++ ps) f (λ n r h. head_more t.call.ended t.call.line ps n h)
 
-front_fresh : (t : Turn) (ps : List Place) → Fresh t → Fresh (lined (front t.call ++ ps) t)
+front_fresh : (t : Turn) (ps : List LineEntry) → Fresh t → Fresh (lined (front t.call ++ ps) t)
 front_fresh t ps f = lined_fresh t (front t.call ++ ps) f (λ n r h. go t.call.running r n h)
   where
     go : (b : Bool) → b ≡ true → (n : ℕ) → head_test (left t.call) ≡ Some n → head_test (drop t.call.ended (take (t.call.ended + (if b then 2 else 1)) t.call.line ++ ps)) ≡ Some n

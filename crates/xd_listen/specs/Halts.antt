@@ -1,5 +1,6 @@
 -- Why a worker listens no more.
 use Rattle.std.specs.Prelude.{◌≡◌, ◌⊎◌, ◌<◌, ◌≤◌, ℕ, zero, suc, ◌+◌, Bool, true, false, List, [], ◌∷◌, ◌++◌, length, map, Option, Some, None}
+use Rattle.xd_edge.specs.Limits.{most_piece_bytes}
 use Rattle.xd_edge.specs.Sink.{Sunk}
 use Rattle.xd_post.specs.Post.{Ring}
 use Rattle.xd_reader.specs.declared.news.LinkNews.{LinkNews}
@@ -112,7 +113,7 @@ IsUncalled running (news.End (link.Garbled fault)) = Unit {0}
 IsUncalled running (news.End (link.BadGreeting b)) = Unit {0}
 IsUncalled running (news.End link.ReadFault) = Unit {0}
 IsUncalled running (news.End link.OutOfMemory) = ⊥
-IsUncalled running (news.Output b) = (running ≡ 0) ⊎ (4096 < length b)
+IsUncalled running (news.Output b) = (running ≡ 0) ⊎ (most_piece_bytes < length b)
 IsUncalled running (news.ChildDone outcome) = running ≡ 0
 
 -- An item was taken that could not come.

@@ -1,5 +1,6 @@
 -- What came to a worker while it served its link. The last that came stands first.
 use Rattle.std.specs.Prelude.{◌≡◌, ◌≤◌, List, [], ◌∷◌, ◌++◌, length, Bool, true, false, ◌||◌, IsSome}
+use Rattle.xd_edge.specs.Limits.{most_piece_bytes}
 use Rattle.xd_frame.specs.declared.kind.Kind.{Kind}
 use Rattle.xd_frame.specs.declared.kind.Kind.TheVariants as kind
 use Rattle.xd_frame.specs.Message.{MessageView}
@@ -16,7 +17,7 @@ IsDue w (Message m) = Unit {0}
 IsDue w (SuiteBytes b) = w.duties.owed ≡ true
 IsDue w SuiteTooLarge = w.duties.owed ≡ true
 IsDue w SuiteUnread = w.duties.owed ≡ true
-IsDue w (Output b) = IsSome (running_in w.duties.service) × (length b ≤ 4096)
+IsDue w (Output b) = IsSome (running_in w.duties.service) × (length b ≤ most_piece_bytes)
 IsDue w (ChildDone outcome ms) = IsSome (running_in w.duties.service)
 IsDue w LinkEnd = Unit {0}
 

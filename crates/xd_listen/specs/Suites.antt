@@ -1,13 +1,10 @@
 -- The suite that a worker asks for, and what the files give.
 use Rattle.std.specs.Prelude.{◌≡◌, ◌≤◌, ℕ, List, [], ◌∷◌, length, Bool, true, false, Option, Some, None}
 use Rattle.xd_edge.specs.Files.{Held, HasFile, HasLarger}
+use Rattle.xd_edge.specs.Limits.{most_suite_bytes}
 use Rattle.xd_worker.specs.declared.input.WorkerInput.{WorkerInput}
 use Rattle.xd_worker.specs.declared.input.WorkerInput.TheVariants.{Message, SuiteBytes, SuiteTooLarge, SuiteUnread, Output, ChildDone, LinkEnd}
 use Rattle.xd_worker.specs.History.{Heard, turn_by, worker_after}
-
--- how many bytes a suite file has at most
-abbrev pub max_suite : ℕ
-max_suite = 4194304
 
 -- the path that the last input asked for
 abbrev pub asked_path : List Heard → Option (List ℕ)
@@ -17,8 +14,8 @@ asked_path (g ∷ h) = (turn_by (worker_after h) g).suite
 -- What the files gave for a path, as far as they tell; `rose` says that their count of faults rose.
 abbrev pub FilesGave : Option Held → Type 0 → List ℕ → WorkerInput → Type 0
 FilesGave held rose path (Message m) = ⊥
-FilesGave held rose path (SuiteBytes b) = HasFile held path b × (length b ≤ max_suite)
-FilesGave held rose path SuiteTooLarge = HasLarger held path max_suite
+FilesGave held rose path (SuiteBytes b) = HasFile held path b × (length b ≤ most_suite_bytes)
+FilesGave held rose path SuiteTooLarge = HasLarger held path most_suite_bytes
 FilesGave held rose path SuiteUnread = rose
 FilesGave held rose path (Output b) = ⊥
 FilesGave held rose path (ChildDone outcome ms) = ⊥

@@ -1,5 +1,6 @@
 // What a server takes, one item after another.
 ghost use Rattle.std.specs.Prelude.{◌≡◌, ◌≤◌, ℕ, ◌+◌, false, Some, None, length, IfOk, IfErr, IfSome, OnOk, IsSome};
+ghost use Rattle.xd_edge.specs.Limits.{most_piece_bytes};
 ghost use Rattle.xd_listen.specs.Halts.{CeasesBy, Goes, door_behind, over_by};
 ghost use Rattle.xd_listen.specs.Inputs.{is_last};
 ghost use Rattle.xd_listen.specs.Seen.{seen};
@@ -15,7 +16,7 @@ use crate::stop::Stop;
 use crate::suite::read_suite;
 use std::alloc::Global;
 use std::sync::Wait;
-use xd_edge::{Blob, Clock, Files, OutOfMemory, Sink, Text, Texts};
+use xd_edge::{Blob, Clock, Files, OutOfMemory, Sink, Text, copy_texts};
 use xd_frame::{Kind, Message};
 use xd_journal::Outcome;
 use xd_reader::{LinkNews, LinkStop};
@@ -56,7 +57,7 @@ impl<N: Sink> Server<N> {
     /// Steps the worker with a piece of the running test's output.
     pub fn hear_output(&mut self, piece: Blob) -> Result<(), OutOfMemory>
         requires runs { IsSome self.old.started }
-        requires few { length piece ≤ 4096 }
+        requires few { length piece ≤ most_piece_bytes }
         ensures heard { (a : Setting) (now : Beside) → Serves a now (of_program (news.Output piece)) (seen N.sunk N.faults self.old) →
             OnOk result (Serves a now (to_start None) (seen N.sunk N.faults self.new)) }
         ensures stood { Stood self.old.speaker.core → OnOk result (Stood self.new.speaker.core) }
@@ -180,14 +181,4 @@ fn door_behind(message: &Message, door: Door) -> Door
         | Kind::CloseError
         | Kind::LastMessage => door,
     }
-}
-
-fn copy_texts(alloc: Global, texts: &[Text]) -> Result<Texts, OutOfMemory>
-    ensures { IfOk result (λ copy. copy ≡ texts.now) }
-{
-    let mut items = Vec::with_capacity(alloc, texts.len())?;
-    for text in texts {
-        items.push(text.copy()?)?;
-    }
-    Ok(Texts { items })
 }

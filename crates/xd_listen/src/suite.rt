@@ -4,10 +4,8 @@ ghost use Rattle.xd_edge.specs.Faults.{Rose};
 ghost use Rattle.xd_listen.specs.Suites.{FilesGave};
 
 use std::alloc::Global;
-use xd_edge::{FileFault, Files, OutOfMemory, Text};
+use xd_edge::{FileFault, Files, MAX_SUITE_BYTES, OutOfMemory, Text};
 use xd_worker::WorkerInput;
-
-const MAX_SUITE_BYTES: u64 = 4_194_304;
 
 /// What the files give for the path of a suite.
 pub fn read_suite<F: Files>(

@@ -11,14 +11,11 @@ ghost use Rattle.xd_worker.specs.Stands.{Stood};
 use crate::server::{Halt, Server};
 use crate::stop::Stop;
 use std::sync::Wait;
-use xd_edge::{Blob, Clock, Files, OutOfMemory, Sink, Text};
+use xd_edge::{Blob, Clock, Files, MAX_PIECE_BYTES, OutOfMemory, Sink, Text};
 use xd_frame::Message;
 use xd_journal::Outcome;
 use xd_reader::{LinkNews, LinkStop};
 use xd_worker::WorkerFault;
-
-// How many bytes a piece of output has at most.
-const MAX_PIECE: usize = 4096;
 
 impl<N: Sink> Server<N> {
     /// Takes what comes, until no more is to be taken; `Astray` where an item came that no job puts.
@@ -248,7 +245,7 @@ impl<N: Sink> Server<N> {
         if self.started.is_none() {
             return Ok(Some(Halt::Astray));
         }
-        if piece.as_slice().len() > MAX_PIECE {
+        if piece.as_slice().len() > MAX_PIECE_BYTES {
             return Ok(Some(Halt::Astray));
         }
         self.hear_output(piece)?;

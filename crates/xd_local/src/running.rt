@@ -20,15 +20,9 @@ use std::marker::Model;
 use std::sync::Wait;
 use xd_child::{ChildResult, run_child};
 use xd_edge::{Children, Clock, Indices, ModeKind, OutOfMemory, Sink};
-use xd_journal::{Entry, Ids, Journal, RunStop, Settings};
+use xd_journal::{Entry, Ids, Journal, MOST_OF_ALL, MOST_OF_ONE, RunStop, Settings};
 use xd_report::{PrintFault, Reporter, print_lines, print_tail};
 use xd_suite::Suite;
-
-/// Of the output of one failed test so many bytes are kept.
-const MOST_OF_ONE: usize = 8192;
-
-/// Of the output of all failed tests of a run so many bytes are kept, in the order of the tests.
-const MOST_OF_ALL: usize = 67_108_864;
 
 // A run without workers, as far as it came.
 #[derive(Drop)]
@@ -267,7 +261,7 @@ fn room_behind(spent: usize) -> usize
     requires { spent ≤ most_of_all }
     ensures { result ≡ room_behind spent }
 {
-    MOST_OF_ONE.min(MOST_OF_ALL - spent)
+    (MOST_OF_ONE as usize).min(MOST_OF_ALL as usize - spent)
 }
 
 // Notes that a test was run, and its result.

@@ -4,7 +4,7 @@ ghost use Rattle.xd_ledger.specs.Collections.{differ_at, listed_in, ids_of};
 ghost use Rattle.xd_ledger.specs.Sharing.{ids_at, sizes_from};
 
 use std::alloc::Global;
-use xd_edge::{OutOfMemory, Text, Texts};
+use xd_edge::{OutOfMemory, Text, Texts, copy_texts};
 use xd_journal::Ids;
 use xd_ledger::Listed;
 
@@ -51,16 +51,6 @@ pub fn copy_of(alloc: Global, ids: &Ids) -> Result<Texts, OutOfMemory>
             items: Vec::new(alloc),
         }),
     }
-}
-
-fn copy_texts(alloc: Global, texts: &[Text]) -> Result<Texts, OutOfMemory>
-    ensures { IfOk result (λ copy. copy ≡ texts.now) }
-{
-    let mut items = Vec::new(alloc);
-    for text in texts {
-        items.push(text.copy()?)?;
-    }
-    Ok(Texts { items })
 }
 
 /// The first place where two lists differ, from 0; the shorter length where one is a part of the other.

@@ -8,16 +8,16 @@ use Rattle.std.proofs.lemmas.Bool.{lt-ltb, ltb-true}
 use Rattle.std.proofs.lemmas.List.{get_or_default}
 use Rattle.std.proofs.Math.ListN.{get_or-eq_default}
 use Rattle.std.proofs.lemmas.Grind.{common_steps}
-use Rattle.xd_run_tests.specs.declared.place.Place.{Place}
-use Rattle.xd_run_tests.specs.declared.place.Place.TheVariants.{Test, Mark}
-use Rattle.xd_run_tests.specs.declared.place.Standing.{Standing}
-use Rattle.xd_run_tests.specs.declared.place.Standing.TheVariants.{Free}
+use Rattle.xd_run_tests.specs.declared.line_entry.LineEntry.{LineEntry}
+use Rattle.xd_run_tests.specs.declared.line_entry.LineEntry.TheVariants.{Test, Mark}
+use Rattle.xd_run_tests.specs.declared.line_entry.Standing.{Standing}
+use Rattle.xd_run_tests.specs.declared.line_entry.Standing.TheVariants.{Free}
 use Rattle.xd_run_tests.specs.Line.{has_test, kept, taken, is_asked, is_among, can_ask, all_queued}
 use Rattle.xd_run_tests.specs.Stands.{once, StandsAt, standing_by, TakenOut, freed_at, AreMarked, all_queued_at, queued_at, is_queued, is_true}
 use Rattle.xd_run_tests.proofs.Cut.{has_test-append}
 use Rattle.xd_run_tests.proofs.Once.{once_apart}
 
-taken-append : (ns : List ℕ) (a b : List Place) → taken ns (a ++ b) ≡ taken ns a ++ taken ns b
+taken-append : (ns : List ℕ) (a b : List LineEntry) → taken ns (a ++ b) ≡ taken ns a ++ taken ns b
 taken-append ns [] b = refl
 taken-append ns (Mark ∷ a) b = taken-append ns a b
 taken-append ns (Test n ∷ a) b = go (is_among n ns) (taken-append ns a b)
@@ -26,15 +26,15 @@ taken-append ns (Test n ∷ a) b = go (is_among n ns) (taken-append ns a b)
     go true e = ap (λ (l : List ℕ). n ∷ l) e
     go false e = e
 
-kept-append : (ns : List ℕ) (a b : List Place) → kept ns (a ++ b) ≡ kept ns a ++ kept ns b
+kept-append : (ns : List ℕ) (a b : List LineEntry) → kept ns (a ++ b) ≡ kept ns a ++ kept ns b
 kept-append ns [] b = refl
 kept-append ns (p ∷ a) b = go (is_asked ns p) (kept-append ns a b)
   where
     go : (t : Bool) → kept ns (a ++ b) ≡ kept ns a ++ kept ns b → (if t then kept ns (a ++ b) else p ∷ kept ns (a ++ b)) ≡ (if t then kept ns a else p ∷ kept ns a) ++ kept ns b
     go true e = e
-    go false e = ap (λ (l : List Place). p ∷ l) e
+    go false e = ap (λ (l : List LineEntry). p ∷ l) e
 
-one_more : (a : List Place) (p : Place) (q : List Place) → a ++ p ∷ q ≡ (a ++ p ∷ []) ++ q
+one_more : (a : List LineEntry) (p : LineEntry) (q : List LineEntry) → a ++ p ∷ q ≡ (a ++ p ∷ []) ++ q
 one_more a p q = grind (arith, common_steps)
 
 or_none : (a : Bool) → (a || false) ≡ a
@@ -49,12 +49,12 @@ and_right : (a b : Bool) → b ≡ false → (a && b) ≡ false
 and_right true b e = e
 and_right false b e = refl
 
-pub out_mark : (ns : List ℕ) (before : List Standing) (queue : List Place) (st : List Standing) (rest : List Place) (back : List ℕ) (l m : List Place) → m ≡ l ++ Mark ∷ [] → TakenOut ns before queue st (Mark ∷ rest) back l → TakenOut ns before queue st rest back m
+pub out_mark : (ns : List ℕ) (before : List Standing) (queue : List LineEntry) (st : List Standing) (rest : List LineEntry) (back : List ℕ) (l m : List LineEntry) → m ≡ l ++ Mark ∷ [] → TakenOut ns before queue st (Mark ∷ rest) back l → TakenOut ns before queue st rest back m
 out_mark ns before queue st rest back l m e h = record {
   done = h.done ++ Mark ∷ [];
   queue_is = h.queue_is ∙ one_more h.done Mark rest;
   back_is = h.back_is ∙ sym (taken-append ns h.done (Mark ∷ []) ∙ no_more (taken ns h.done));
-  left_is = e ∙ ap (λ (x : List Place). x ++ Mark ∷ []) h.left_is ∙ sym (kept-append ns h.done (Mark ∷ []));
+  left_is = e ∙ ap (λ (x : List LineEntry). x ++ Mark ∷ []) h.left_is ∙ sym (kept-append ns h.done (Mark ∷ []));
   size = h.size;
   freed = λ n lt. h.freed n lt ∙ ap (λ (v : Bool). freed_at (v && is_among n ns) (slice_index_or before n Free)) (sym (has_test-append n h.done (Mark ∷ []) ∙ or_none (has_test n h.done)));
 }
@@ -62,12 +62,12 @@ out_mark ns before queue st rest back l m e h = record {
     no_more : (a : List ℕ) → a ++ [] ≡ a
     no_more a = grind (arith, common_steps)
 
-pub out_kept : (ns : List ℕ) (before : List Standing) (queue : List Place) (st : List Standing) (k : ℕ) (rest : List Place) (back : List ℕ) (l m : List Place) → is_among k ns ≡ false → m ≡ l ++ Test k ∷ [] → TakenOut ns before queue st (Test k ∷ rest) back l → TakenOut ns before queue st rest back m
+pub out_kept : (ns : List ℕ) (before : List Standing) (queue : List LineEntry) (st : List Standing) (k : ℕ) (rest : List LineEntry) (back : List ℕ) (l m : List LineEntry) → is_among k ns ≡ false → m ≡ l ++ Test k ∷ [] → TakenOut ns before queue st (Test k ∷ rest) back l → TakenOut ns before queue st rest back m
 out_kept ns before queue st k rest back l m out e h = record {
   done = h.done ++ Test k ∷ [];
   queue_is = h.queue_is ∙ one_more h.done (Test k) rest;
   back_is = h.back_is ∙ sym (taken-append ns h.done (Test k ∷ []) ∙ ap (λ (v : Bool). taken ns h.done ++ (if v then k ∷ [] else [])) out ∙ no_more (taken ns h.done));
-  left_is = e ∙ ap (λ (x : List Place). x ++ Test k ∷ []) h.left_is ∙ sym (kept-append ns h.done (Test k ∷ []) ∙ ap (λ (v : Bool). kept ns h.done ++ (if v then [] else Test k ∷ [])) out);
+  left_is = e ∙ ap (λ (x : List LineEntry). x ++ Test k ∷ []) h.left_is ∙ sym (kept-append ns h.done (Test k ∷ []) ∙ ap (λ (v : Bool). kept ns h.done ++ (if v then [] else Test k ∷ [])) out);
   size = h.size;
   freed = λ n lt. h.freed n lt ∙ ap (λ (v : Bool). freed_at v (slice_index_or before n Free)) (same n (k == n) refl);
 }
@@ -81,7 +81,7 @@ out_kept ns before queue st k rest back l m out e h = record {
         and_right (has_test n h.done) (is_among n ns) not_in ∙ sym (and_right (has_test n (h.done ++ Test k ∷ [])) (is_among n ns) not_in)
     same n false z = ap (λ (v : Bool). v && is_among n ns) (sym (has_test-append n h.done (Test k ∷ []) ∙ ap (λ (v : Bool). has_test n h.done || (v || false)) z ∙ or_none (has_test n h.done)))
 
-pub out_taken : (ns : List ℕ) (before : List Standing) (queue : List Place) (st r : List Standing) (k : ℕ) (rest : List Place) (back b : List ℕ) (l : List Place) → is_among k ns ≡ true → b ≡ back ++ k ∷ [] → r ≡ slice_set st k Free → TakenOut ns before queue st (Test k ∷ rest) back l → TakenOut ns before queue r rest b l
+pub out_taken : (ns : List ℕ) (before : List Standing) (queue : List LineEntry) (st r : List Standing) (k : ℕ) (rest : List LineEntry) (back b : List ℕ) (l : List LineEntry) → is_among k ns ≡ true → b ≡ back ++ k ∷ [] → r ≡ slice_set st k Free → TakenOut ns before queue st (Test k ∷ rest) back l → TakenOut ns before queue r rest b l
 out_taken ns before queue st r k rest back b l in_ e s h = record {
   done = h.done ++ Test k ∷ [];
   queue_is = h.queue_is ∙ one_more h.done (Test k) rest;
@@ -91,7 +91,7 @@ out_taken ns before queue st r k rest back b l in_ e s h = record {
   freed = λ n lt. ap (λ (x : List Standing). slice_index_or x n Free) s ∙ go n lt (k == n) refl;
 }
   where
-    no_more : (a : List Place) → a ++ [] ≡ a
+    no_more : (a : List LineEntry) → a ++ [] ≡ a
     no_more a = grind (arith, common_steps)
 
     go : (n : ℕ) → n < length before → (t : Bool) → (k == n) ≡ t → slice_index_or (slice_set st k Free) n Free ≡ freed_at (has_test n (h.done ++ Test k ∷ []) && is_among n ns) (slice_index_or before n Free)
@@ -106,7 +106,7 @@ out_taken ns before queue st r k rest back b l in_ e s h = record {
         let ne : n ≢ k = λ w. eqb-false k n z (sym w) in
         get_or-set_other st k n Free Free ne ∙ h.freed n lt ∙ ap (λ (v : Bool). freed_at (v && is_among n ns) (slice_index_or before n Free)) (sym (has_test-append n h.done (Test k ∷ []) ∙ ap (λ (v : Bool). has_test n h.done || (v || false)) z ∙ or_none (has_test n h.done)))
 
-pub out_none : (ns : List ℕ) (before : List Standing) (queue : List Place) → TakenOut ns before queue before queue [] []
+pub out_none : (ns : List ℕ) (before : List Standing) (queue : List LineEntry) → TakenOut ns before queue before queue [] []
 out_none ns before queue = record { done = []; queue_is = refl; back_is = refl; left_is = refl; size = refl; freed = λ n lt. refl }
 
 -- the tests that a list of marks marks
@@ -189,17 +189,17 @@ right_false false b e = refl
 pub is_marked_in : (v w : List Bool) (r : Bool) (n : ℕ) (ns : List ℕ) (t : Bool) → w ≡ v → r ≡ is_true (slice_get w n) → r ≡ t → AreMarked v ns → is_among n ns ≡ t
 is_marked_in v w r n ns t e f g h = sym (h.at n) ∙ ap (λ (x : List Bool). is_true (slice_get x n)) (sym e) ∙ sym f ∙ g
 
-pub out_mark_at : (ns : List ℕ) (before : List Standing) (queue : List Place) (st : List Standing) (p : Place) (rest : List Place) (back : List ℕ) (l m : List Place) → p ≡ Mark → m ≡ l ++ p ∷ [] → TakenOut ns before queue st (p ∷ rest) back l → TakenOut ns before queue st rest back m
-out_mark_at ns before queue st p rest back l m is e h = out_mark ns before queue st rest back l m (e ∙ ap (λ (x : Place). l ++ x ∷ []) is) (subst (λ (x : Place). TakenOut ns before queue st (x ∷ rest) back l) is h)
+pub out_mark_at : (ns : List ℕ) (before : List Standing) (queue : List LineEntry) (st : List Standing) (p : LineEntry) (rest : List LineEntry) (back : List ℕ) (l m : List LineEntry) → p ≡ Mark → m ≡ l ++ p ∷ [] → TakenOut ns before queue st (p ∷ rest) back l → TakenOut ns before queue st rest back m
+out_mark_at ns before queue st p rest back l m is e h = out_mark ns before queue st rest back l m (e ∙ ap (λ (x : LineEntry). l ++ x ∷ []) is) (subst (λ (x : LineEntry). TakenOut ns before queue st (x ∷ rest) back l) is h)
 
-pub out_kept_at : (ns : List ℕ) (before : List Standing) (queue : List Place) (st : List Standing) (p : Place) (k : ℕ) (rest : List Place) (back : List ℕ) (l m : List Place) → p ≡ Test k → is_among k ns ≡ false → m ≡ l ++ Test k ∷ [] → TakenOut ns before queue st (p ∷ rest) back l → TakenOut ns before queue st rest back m
-out_kept_at ns before queue st p k rest back l m is out e h = out_kept ns before queue st k rest back l m out e (subst (λ (x : Place). TakenOut ns before queue st (x ∷ rest) back l) is h)
+pub out_kept_at : (ns : List ℕ) (before : List Standing) (queue : List LineEntry) (st : List Standing) (p : LineEntry) (k : ℕ) (rest : List LineEntry) (back : List ℕ) (l m : List LineEntry) → p ≡ Test k → is_among k ns ≡ false → m ≡ l ++ Test k ∷ [] → TakenOut ns before queue st (p ∷ rest) back l → TakenOut ns before queue st rest back m
+out_kept_at ns before queue st p k rest back l m is out e h = out_kept ns before queue st k rest back l m out e (subst (λ (x : LineEntry). TakenOut ns before queue st (x ∷ rest) back l) is h)
 
-pub out_taken_at : (ns : List ℕ) (before : List Standing) (queue : List Place) (st r : List Standing) (p : Place) (k : ℕ) (rest : List Place) (back b : List ℕ) (l : List Place) → p ≡ Test k → is_among k ns ≡ true → b ≡ back ++ k ∷ [] → r ≡ slice_set st k Free → TakenOut ns before queue st (p ∷ rest) back l → TakenOut ns before queue r rest b l
-out_taken_at ns before queue st r p k rest back b l is in_ e s h = out_taken ns before queue st r k rest back b l in_ e s (subst (λ (x : Place). TakenOut ns before queue st (x ∷ rest) back l) is h)
+pub out_taken_at : (ns : List ℕ) (before : List Standing) (queue : List LineEntry) (st r : List Standing) (p : LineEntry) (k : ℕ) (rest : List LineEntry) (back b : List ℕ) (l : List LineEntry) → p ≡ Test k → is_among k ns ≡ true → b ≡ back ++ k ∷ [] → r ≡ slice_set st k Free → TakenOut ns before queue st (p ∷ rest) back l → TakenOut ns before queue r rest b l
+out_taken_at ns before queue st r p k rest back b l is in_ e s h = out_taken ns before queue st r k rest back b l in_ e s (subst (λ (x : LineEntry). TakenOut ns before queue st (x ∷ rest) back l) is h)
 
-pub out_next : (ns : List ℕ) (before : List Standing) (queue : List Place) (st : List Standing) (q r : List Place) (back : List ℕ) (l : List Place) → q ≡ r → TakenOut ns before queue st q back l → TakenOut ns before queue st r back l
-out_next ns before queue st q r back l e h = subst (λ (x : List Place). TakenOut ns before queue st x back l) e h
+pub out_next : (ns : List ℕ) (before : List Standing) (queue : List LineEntry) (st : List Standing) (q r : List LineEntry) (back : List ℕ) (l : List LineEntry) → q ≡ r → TakenOut ns before queue st q back l → TakenOut ns before queue st r back l
+out_next ns before queue st q r back l e h = subst (λ (x : List LineEntry). TakenOut ns before queue st x back l) e h
 
 pub by_then : (a q r x : Bool) → a ≡ true → x ≡ r → r ≡ q → x ≡ (a && q)
 by_then a q r x e f g = rw (e, f, g) refl
@@ -208,7 +208,7 @@ pub by_else : (a q x : Bool) → a ≡ false → x ≡ false → x ≡ (a && q)
 by_else a q x e f = rw (e, f) refl
 
 -- where the asked tests stand
-pub queued_is : (st : List Standing) (ahead q : List Place) (n : ℕ) → n < length st → StandsAt st ahead q → once (ahead ++ q) ≡ true → queued_at st n ≡ has_test n q
+pub queued_is : (st : List Standing) (ahead q : List LineEntry) (n : ℕ) → n < length st → StandsAt st ahead q → once (ahead ++ q) ≡ true → queued_at st n ≡ has_test n q
 queued_is st ahead q n lt h o = go (slice_get_cases st n).1
   where
     seen : (a b : Bool) → (a ≡ true → b ≡ false) → is_queued (Some (standing_by a b)) ≡ b
@@ -220,7 +220,7 @@ queued_is st ahead q n lt h o = go (slice_get_cases st n).1
     go (inl (x, l, s, g)) = ap is_queued (s ∙ ap Some (sym g ∙ get_or_default st n x Free lt ∙ h.at n lt)) ∙ seen (has_test n ahead) (has_test n q) (once_apart n ahead q o)
     go (inr (le, s)) = absurd (omega arith)
 
-pub all_queued_is : (st : List Standing) (ahead q : List Place) (before ns : List ℕ) → StandsAt st ahead q → once (ahead ++ q) ≡ true → can_ask (length st) before ns ≡ true → all_queued_at st ns ≡ all_queued q ns
+pub all_queued_is : (st : List Standing) (ahead q : List LineEntry) (before ns : List ℕ) → StandsAt st ahead q → once (ahead ++ q) ≡ true → can_ask (length st) before ns ≡ true → all_queued_at st ns ≡ all_queued q ns
 all_queued_is st ahead q before [] h o e = refl
 all_queued_is st ahead q before (n ∷ ns) h o e =
     ap (λ (v : Bool). v && all_queued_at st ns) (queued_is st ahead q n (ltb-true _ _ (first (nat_lt n (length st)) (is_among n before) (can_ask (length st) (before ++ n ∷ []) ns) e)) h o)
@@ -234,7 +234,7 @@ all_queued_is st ahead q before (n ∷ ns) h o e =
     last true b e = e
     last false b e = let z : false ≡ true = e in cc
 
-has_kept : (n : ℕ) (ns : List ℕ) (q : List Place) → has_test n (kept ns q) ≡ (has_test n q && not (is_among n ns))
+has_kept : (n : ℕ) (ns : List ℕ) (q : List LineEntry) → has_test n (kept ns q) ≡ (has_test n q && not (is_among n ns))
 has_kept n ns [] = refl
 has_kept n ns (Mark ∷ q) = has_kept n ns q
 has_kept n ns (Test m ∷ q) = step (m == n) refl (is_among m ns) refl (has_kept n ns q)
@@ -245,21 +245,21 @@ has_kept n ns (Test m ∷ q) = step (m == n) refl (is_among m ns) refl (has_kept
     step false z true y h = h
     step false z false y h = ap (λ (v : Bool). v || has_test n (kept ns q)) z ∙ h
 
-pub kept_stands : (ns : List ℕ) (before after : List Standing) (ahead q left : List Place) (back : List ℕ) → TakenOut ns before q after [] back left → StandsAt before ahead q → once (ahead ++ q) ≡ true → (StandsAt after ahead left) × (back ≡ taken ns q) × (left ≡ kept ns q)
+pub kept_stands : (ns : List ℕ) (before after : List Standing) (ahead q left : List LineEntry) (back : List ℕ) → TakenOut ns before q after [] back left → StandsAt before ahead q → once (ahead ++ q) ≡ true → (StandsAt after ahead left) × (back ≡ taken ns q) × (left ≡ kept ns q)
 kept_stands ns before after ahead q left back h st o =
     let all : q ≡ h.done = h.queue_is ∙ no_more h.done in
     let is_left : left ≡ kept ns q = h.left_is ∙ ap (kept ns) (sym all) in (
       record {
         at = λ n lt.
             let lt' : n < length before = subst (λ (i : ℕ). n < i) h.size lt in
-            h.freed n lt' ∙ ap (λ (l : List Place). freed_at (has_test n l && is_among n ns) (slice_index_or before n Free)) (sym all) ∙ ap (freed_at (has_test n q && is_among n ns)) (st.at n lt')
+            h.freed n lt' ∙ ap (λ (l : List LineEntry). freed_at (has_test n l && is_among n ns) (slice_index_or before n Free)) (sym all) ∙ ap (freed_at (has_test n q && is_among n ns)) (st.at n lt')
             ∙ mixed (has_test n ahead) (has_test n q) (is_among n ns) (once_apart n ahead q o) ∙ ap (standing_by (has_test n ahead)) (sym (ap (has_test n) is_left ∙ has_kept n ns q));
       },
       h.back_is ∙ ap (taken ns) (sym all),
       is_left,
     )
   where
-    no_more : (a : List Place) → a ++ [] ≡ a
+    no_more : (a : List LineEntry) → a ++ [] ≡ a
     no_more a = grind (arith, common_steps)
 
     mixed : (a b m : Bool) → (a ≡ true → b ≡ false) → freed_at (b && m) (standing_by a b) ≡ standing_by a (b && not m)

@@ -4,15 +4,15 @@ use Rattle.std.specs.Prelude.{◌==◌, option_to_list, slice_index_or, slice_se
 use borrow.Author.Tests.{eqb-true, eqb-false}
 use Rattle.std.proofs.Math.ListN.{length-set}
 use Rattle.std.proofs.lemmas.Grind.{common_steps}
-use Rattle.xd_run_tests.specs.declared.place.Place.{Place}
-use Rattle.xd_run_tests.specs.declared.place.Place.TheVariants.{Test, Mark}
-use Rattle.xd_run_tests.specs.declared.place.Standing.{Standing}
-use Rattle.xd_run_tests.specs.declared.place.Standing.TheVariants.{Free, Passed}
+use Rattle.xd_run_tests.specs.declared.line_entry.LineEntry.{LineEntry}
+use Rattle.xd_run_tests.specs.declared.line_entry.LineEntry.TheVariants.{Test, Mark}
+use Rattle.xd_run_tests.specs.declared.line_entry.Standing.{Standing}
+use Rattle.xd_run_tests.specs.declared.line_entry.Standing.TheVariants.{Free, Passed}
 use Rattle.xd_run_tests.specs.declared.run_tests.Running.{Running}
 use Rattle.xd_run_tests.specs.Line.{has_test}
 use Rattle.xd_run_tests.specs.Stands.{StandsAt, IsCut, standing_of, standing_by, passing, passing_some, running_places}
 
-pub has_test-append : (n : ℕ) (a b : List Place) → has_test n (a ++ b) ≡ (has_test n a || has_test n b)
+pub has_test-append : (n : ℕ) (a b : List LineEntry) → has_test n (a ++ b) ≡ (has_test n a || has_test n b)
 has_test-append n [] b = refl
 has_test-append n (Test m ∷ a) b = elim (m == n) as (λ (v : Bool). (v || has_test n (a ++ b)) ≡ ((v || has_test n a) || has_test n b)) [ true ↦ refl | false ↦ has_test-append n a b ]
 has_test-append n (Mark ∷ a) b = has_test-append n a b
@@ -28,11 +28,11 @@ or_last false = refl
 same_by : (a b c d : Bool) (s : Standing) → s ≡ standing_by a b → a ≡ c → b ≡ d → s ≡ standing_by c d
 same_by a b c d s e h k = rw (← h, ← k) e
 
-other_passes : (n : ℕ) (ahead q : List Place) (m : ℕ) (t : Bool) (s : Standing) → (m == n) ≡ t → t ≡ false → s ≡ standing_by (has_test n ahead) (t || has_test n q) → s ≡ standing_of n (ahead ++ Test m ∷ []) q
+other_passes : (n : ℕ) (ahead q : List LineEntry) (m : ℕ) (t : Bool) (s : Standing) → (m == n) ≡ t → t ≡ false → s ≡ standing_by (has_test n ahead) (t || has_test n q) → s ≡ standing_of n (ahead ++ Test m ∷ []) q
 other_passes n ahead q m true s e z h = cc
 other_passes n ahead q m false s e z h = same_by (has_test n ahead) (has_test n q) _ _ s h (or_none _ ∙ ap (λ (v : Bool). has_test n ahead || (v || false)) (sym e) ∙ sym (has_test-append n ahead (Test m ∷ []))) refl
 
-pub passed_one : (stands : List Standing) (ahead q : List Place) (p : Place) → StandsAt stands ahead (p ∷ q) → StandsAt (passing stands p) (ahead ++ p ∷ []) q
+pub passed_one : (stands : List Standing) (ahead q : List LineEntry) (p : LineEntry) → StandsAt stands ahead (p ∷ q) → StandsAt (passing stands p) (ahead ++ p ∷ []) q
 passed_one stands ahead q (Test m) h = record { at = λ n lt. go n (rw length-set at lt) (m == n) refl }
   where
     go : (n : ℕ) → n < length stands → (t : Bool) → (m == n) ≡ t → slice_index_or (slice_set stands m Passed) n Free ≡ standing_of n (ahead ++ Test m ∷ []) q
@@ -45,41 +45,41 @@ passed_one stands ahead q (Test m) h = record { at = λ n lt. go n (rw length-se
         get_or-set_other stands m n Passed Free ne ∙ other_passes n ahead q m (m == n) (get_or stands n Free) refl e (h.at n lt)
 passed_one stands ahead q Mark h = record { at = λ n lt. same_by (has_test n ahead) (has_test n q) _ _ _ (h.at n lt) (or_none _ ∙ sym (has_test-append n ahead (Mark ∷ []))) refl }
 
-pub cut_next : (next : Option Place) (queue rest : List Place) (stands : List Standing) (line : List Place) (ended : ℕ) → IsCut None None queue stands line ended → queue ≡ option_to_list next ++ rest → (next ≡ None → rest ≡ []) → IsCut None next rest (passing_some stands next) line ended
-cut_next None queue rest stands line ended h e z = subst (λ (r : List Place). IsCut None None r stands line ended) e h
+pub cut_next : (next : Option LineEntry) (queue rest : List LineEntry) (stands : List Standing) (line : List LineEntry) (ended : ℕ) → IsCut None None queue stands line ended → queue ≡ option_to_list next ++ rest → (next ≡ None → rest ≡ []) → IsCut None next rest (passing_some stands next) line ended
+cut_next None queue rest stands line ended h e z = subst (λ (r : List LineEntry). IsCut None None r stands line ended) e h
 cut_next (Some p) queue rest stands line ended h e z = record {
   done = h.done;
   count = h.count;
-  line_is = h.line_is ∙ ap (λ (r : List Place). (h.done ++ []) ++ r) e ∙ shift h.done p rest;
+  line_is = h.line_is ∙ ap (λ (r : List LineEntry). (h.done ++ []) ++ r) e ∙ shift h.done p rest;
   idle = λ n. cc;
-  standing = subst (λ (a : List Place). StandsAt (passing stands p) a rest) (ap (λ (a : List Place). a ++ p ∷ []) (no_more h.done)) (passed_one stands (h.done ++ []) rest p (subst (λ (r : List Place). StandsAt stands (h.done ++ []) r) e h.standing));
+  standing = subst (λ (a : List LineEntry). StandsAt (passing stands p) a rest) (ap (λ (a : List LineEntry). a ++ p ∷ []) (no_more h.done)) (passed_one stands (h.done ++ []) rest p (subst (λ (r : List LineEntry). StandsAt stands (h.done ++ []) r) e h.standing));
 }
   where
-    no_more : (a : List Place) → a ++ [] ≡ a
+    no_more : (a : List LineEntry) → a ++ [] ≡ a
     no_more a = grind (arith, common_steps)
 
-    shift : (a : List Place) (p : Place) (rest : List Place) → (a ++ []) ++ (p ∷ rest) ≡ (a ++ p ∷ []) ++ rest
+    shift : (a : List LineEntry) (p : LineEntry) (rest : List LineEntry) → (a ++ []) ++ (p ∷ rest) ≡ (a ++ p ∷ []) ++ rest
     shift a p rest = grind (arith, common_steps)
 
-pub cut_start : (n log : ℕ) (p : Place) (q : List Place) (stands : List Standing) (line : List Place) (ended : ℕ) → IsCut None (Some (Test n)) (p ∷ q) stands line ended → IsCut (Some (record { test = n; log = log })) (Some p) q (passing stands p) line ended
+pub cut_start : (n log : ℕ) (p : LineEntry) (q : List LineEntry) (stands : List Standing) (line : List LineEntry) (ended : ℕ) → IsCut None (Some (Test n)) (p ∷ q) stands line ended → IsCut (Some (record { test = n; log = log })) (Some p) q (passing stands p) line ended
 cut_start n log p q stands line ended h = record {
   done = h.done;
   count = h.count;
   line_is = h.line_is ∙ shift h.done (Test n) p q;
   idle = λ n. cc;
-  standing = subst (λ (a : List Place). StandsAt (passing stands p) a q) (joined h.done (Test n) p) (passed_one stands (h.done ++ Test n ∷ []) q p h.standing);
+  standing = subst (λ (a : List LineEntry). StandsAt (passing stands p) a q) (joined h.done (Test n) p) (passed_one stands (h.done ++ Test n ∷ []) q p h.standing);
 }
   where
-    joined : (a : List Place) (x y : Place) → (a ++ x ∷ []) ++ y ∷ [] ≡ a ++ (x ∷ y ∷ [])
+    joined : (a : List LineEntry) (x y : LineEntry) → (a ++ x ∷ []) ++ y ∷ [] ≡ a ++ (x ∷ y ∷ [])
     joined a x y = append_assoc a (x ∷ []) (y ∷ [])
 
-    shift : (a : List Place) (x y : Place) (q : List Place) → (a ++ x ∷ []) ++ (y ∷ q) ≡ (a ++ (x ∷ y ∷ [])) ++ q
+    shift : (a : List LineEntry) (x y : LineEntry) (q : List LineEntry) → (a ++ x ∷ []) ++ (y ∷ q) ≡ (a ++ (x ∷ y ∷ [])) ++ q
     shift a x y q = grind (arith, common_steps)
 
 -- what is left of the line
-pub cut_left : (running : Option Running) (next : Option Place) (queue : List Place) (stands : List Standing) (line : List Place) (ended : ℕ) → IsCut running next queue stands line ended → drop ended line ≡ running_places running ++ (option_to_list next ++ queue)
+pub cut_left : (running : Option Running) (next : Option LineEntry) (queue : List LineEntry) (stands : List Standing) (line : List LineEntry) (ended : ℕ) → IsCut running next queue stands line ended → drop ended line ≡ running_places running ++ (option_to_list next ++ queue)
 cut_left running next queue stands line ended h =
     rw (h.line_is) (behind h.done (running_places running) (option_to_list next) queue ended h.count)
   where
-    behind : (a b c d : List Place) (n : ℕ) → length a ≡ n → drop n ((a ++ (b ++ c)) ++ d) ≡ b ++ (c ++ d)
+    behind : (a b c d : List LineEntry) (n : ℕ) → length a ≡ n → drop n ((a ++ (b ++ c)) ++ d) ≡ b ++ (c ++ d)
     behind a b c d n e = grind (arith, common_steps)

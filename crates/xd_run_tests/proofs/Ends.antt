@@ -5,10 +5,10 @@ use Rattle.std.proofs.Math.ListN.{get_or-replicate}
 use Rattle.std.proofs.lemmas.Grind.{common_steps}
 use Rattle.xd_journal.specs.declared.entry.Outcome.{Outcome}
 use Rattle.xd_journal.specs.declared.news.What.TheVariants.{Done}
-use Rattle.xd_run_tests.specs.declared.place.Place.{Place}
-use Rattle.xd_run_tests.specs.declared.place.Place.TheVariants.{Test}
-use Rattle.xd_run_tests.specs.declared.place.Standing.{Standing}
-use Rattle.xd_run_tests.specs.declared.place.Standing.TheVariants.{Free}
+use Rattle.xd_run_tests.specs.declared.line_entry.LineEntry.{LineEntry}
+use Rattle.xd_run_tests.specs.declared.line_entry.LineEntry.TheVariants.{Test}
+use Rattle.xd_run_tests.specs.declared.line_entry.Standing.{Standing}
+use Rattle.xd_run_tests.specs.declared.line_entry.Standing.TheVariants.{Free}
 use Rattle.xd_run_tests.specs.declared.ask.Ask.{Ask}
 use Rattle.xd_run_tests.specs.declared.ask.Ask.TheVariants.{Tell, CloseLog}
 use Rattle.xd_run_tests.specs.declared.run_tests.Running.{Running}
@@ -51,19 +51,19 @@ opened_call s r c size ph wa si st qu ne ru lo se h = record {
     empty : IsCut None None [] r.stands.items [] 0
     empty = record { done = []; count = refl; line_is = refl; idle = λ _. refl; standing = free_all size r.stands.items st }
 
-cut_done : (run : Running) (next : Option Place) (q : List Place) (st : List Standing) (line : List Place) (ended : ℕ) → IsCut (Some run) next q st line ended → IsCut None next q st line (ended + 1)
+cut_done : (run : Running) (next : Option LineEntry) (q : List LineEntry) (st : List Standing) (line : List LineEntry) (ended : ℕ) → IsCut (Some run) next q st line ended → IsCut None next q st line (ended + 1)
 cut_done run next q st line ended h = record {
   done = h.done ++ Test run.test ∷ [];
   count = longer h.done (Test run.test) ended h.count;
-  line_is = h.line_is ∙ ap (λ (l : List Place). l ++ q) (regroup h.done (Test run.test) (option_to_list next));
+  line_is = h.line_is ∙ ap (λ (l : List LineEntry). l ++ q) (regroup h.done (Test run.test) (option_to_list next));
   idle = λ _. refl;
-  standing = subst (λ (l : List Place). StandsAt st l q) (regroup h.done (Test run.test) (option_to_list next)) h.standing;
+  standing = subst (λ (l : List LineEntry). StandsAt st l q) (regroup h.done (Test run.test) (option_to_list next)) h.standing;
 }
   where
-    longer : (a : List Place) (p : Place) (n : ℕ) → length a ≡ n → length (a ++ p ∷ []) ≡ n + 1
+    longer : (a : List LineEntry) (p : LineEntry) (n : ℕ) → length a ≡ n → length (a ++ p ∷ []) ≡ n + 1
     longer a p n e = grind (arith, common_steps)
 
-    regroup : (a : List Place) (p : Place) (b : List Place) → a ++ (p ∷ b) ≡ (a ++ p ∷ []) ++ b
+    regroup : (a : List LineEntry) (p : LineEntry) (b : List LineEntry) → a ++ (p ∷ b) ≡ (a ++ p ∷ []) ++ b
     regroup a p b = grind (arith, common_steps)
 
 pub done_call : (s r : RunTests) (c : Call) (run : Running) → s.running ≡ Some run → r ≡ record s { running = None } → IsCall s c → IsCall r (without_run c)

@@ -6,10 +6,10 @@ use Rattle.std.proofs.Math.ListN.{length-set}
 use Rattle.std.proofs.lemmas.Bool.Decides.{nat_tests}
 use Rattle.std.proofs.lemmas.Grind.{common_steps}
 use Rattle.std.proofs.lemmas.List.{take_more, get_or_default}
-use Rattle.xd_run_tests.specs.declared.place.Place.{Place}
-use Rattle.xd_run_tests.specs.declared.place.Place.TheVariants.{Test}
-use Rattle.xd_run_tests.specs.declared.place.Standing.{Standing}
-use Rattle.xd_run_tests.specs.declared.place.Standing.TheVariants.{Free, Queued, Passed}
+use Rattle.xd_run_tests.specs.declared.line_entry.LineEntry.{LineEntry}
+use Rattle.xd_run_tests.specs.declared.line_entry.LineEntry.TheVariants.{Test}
+use Rattle.xd_run_tests.specs.declared.line_entry.Standing.{Standing}
+use Rattle.xd_run_tests.specs.declared.line_entry.Standing.TheVariants.{Free, Queued, Passed}
 use Rattle.xd_run_tests.specs.Line.{has_test, can_give}
 use Rattle.xd_run_tests.specs.Stands.{StandsAt, standing_of, standing_by, Appends, free_at, is_free}
 use Rattle.std.proofs.lemmas.Option.{slice_get_cases}
@@ -45,7 +45,7 @@ right_false true b e = e
 right_false false b e = refl
 
 -- a free test is put behind the queue
-pub queued_one : (stands : List Standing) (ahead q : List Place) (m : ℕ) → m < length stands → get_or stands m Free ≡ Free → StandsAt stands ahead q → StandsAt (slice_set stands m Queued) ahead (q ++ Test m ∷ [])
+pub queued_one : (stands : List Standing) (ahead q : List LineEntry) (m : ℕ) → m < length stands → get_or stands m Free ≡ Free → StandsAt stands ahead q → StandsAt (slice_set stands m Queued) ahead (q ++ Test m ∷ [])
 queued_one stands ahead q m in_suite free h = record { at = λ n lt. go n (rw length-set at lt) (m == n) refl }
   where
     go : (n : ℕ) → n < length stands → (t : Bool) → (m == n) ≡ t → slice_index_or (slice_set stands m Queued) n Free ≡ standing_of n ahead (q ++ Test m ∷ [])
@@ -60,36 +60,36 @@ queued_one stands ahead q m in_suite free h = record { at = λ n lt. go n (rw le
         let ne : n ≢ m = λ z. eqb-false m n e (sym z) in
         get_or-set_other stands m n Queued Free ne ∙ same_by (has_test n ahead) (has_test n q) _ _ _ (h.at n lt) refl (or_none _ ∙ ap (λ (v : Bool). has_test n q || (v || false)) (sym e) ∙ sym (has_test-append n q (Test m ∷ [])))
 
-can_give-append : (size : ℕ) (line : List Place) (a b : List ℕ) → can_give size line (a ++ b) ≡ (can_give size line a && can_give size (line ++ map Test a) b)
-can_give-append size line [] b = ap (λ (l : List Place). can_give size l b) (sym (no_more line))
+can_give-append : (size : ℕ) (line : List LineEntry) (a b : List ℕ) → can_give size line (a ++ b) ≡ (can_give size line a && can_give size (line ++ map Test a) b)
+can_give-append size line [] b = ap (λ (l : List LineEntry). can_give size l b) (sym (no_more line))
   where
-    no_more : (a : List Place) → a ++ [] ≡ a
+    no_more : (a : List LineEntry) → a ++ [] ≡ a
     no_more a = grind (arith, common_steps)
 can_give-append size line (n ∷ a) b =
     ap (λ (v : Bool). (nat_lt n size && not (has_test n line)) && v) (can_give-append size (line ++ Test n ∷ []) a b
-    ∙ ap (λ (l : List Place). can_give size (line ++ Test n ∷ []) a && can_give size l b) (append_assoc line (Test n ∷ []) (map Test a)))
+    ∙ ap (λ (l : List LineEntry). can_give size (line ++ Test n ∷ []) a && can_give size l b) (append_assoc line (Test n ∷ []) (map Test a)))
     ∙ sym (and_assoc (nat_lt n size && not (has_test n line)) (can_give size (line ++ Test n ∷ []) a) _)
   where
     and_assoc : (a b c : Bool) → ((a && b) && c) ≡ (a && (b && c))
     and_assoc true b c = refl
     and_assoc false b c = refl
 
-pub appends_both : (s s1 s2 : List Standing) (q q1 q2 : List Place) (a b : List ℕ) (v : Bool) → Appends s q s1 q1 a true → Appends s1 q1 s2 q2 b v → Appends s q s2 q2 (a ++ b) v
+pub appends_both : (s s1 s2 : List Standing) (q q1 q2 : List LineEntry) (a b : List ℕ) (v : Bool) → Appends s q s1 q1 a true → Appends s1 q1 s2 q2 b v → Appends s q s2 q2 (a ++ b) v
 appends_both s s1 s2 q q1 q2 a b v f g = record {
   size = g.size ∙ f.size;
   gives = λ ahead h.
       g.gives ahead (f.standing ahead refl h)
       ∙ ap (λ (n : ℕ). can_give n (ahead ++ q1) b) f.size
-      ∙ ap (λ (l : List Place). can_give (length s) l b) (ap (λ (l : List Place). ahead ++ l) (f.queue_is refl) ∙ sym (append_assoc ahead q (map Test a)))
+      ∙ ap (λ (l : List LineEntry). can_give (length s) l b) (ap (λ (l : List LineEntry). ahead ++ l) (f.queue_is refl) ∙ sym (append_assoc ahead q (map Test a)))
       ∙ sym (can_give-append (length s) (ahead ++ q) a b ∙ ap (λ (x : Bool). x && can_give (length s) ((ahead ++ q) ++ map Test a) b) (sym (f.gives ahead h)));
-  queue_is = λ e. g.queue_is e ∙ ap (λ (l : List Place). l ++ map Test b) (f.queue_is refl) ∙ joined q a b;
+  queue_is = λ e. g.queue_is e ∙ ap (λ (l : List LineEntry). l ++ map Test b) (f.queue_is refl) ∙ joined q a b;
   standing = λ ahead e h. g.standing ahead e (f.standing ahead refl h);
 }
   where
-    joined : (q : List Place) (a b : List ℕ) → (q ++ map Test a) ++ map Test b ≡ q ++ map Test (a ++ b)
+    joined : (q : List LineEntry) (a b : List ℕ) → (q ++ map Test a) ++ map Test b ≡ q ++ map Test (a ++ b)
     joined q a b = grind (arith, common_steps)
 
-pub appends_stop : (s s1 : List Standing) (q q1 : List Place) (a b : List ℕ) → Appends s q s1 q1 a false → Appends s q s1 q1 (a ++ b) false
+pub appends_stop : (s s1 : List Standing) (q q1 : List LineEntry) (a b : List ℕ) → Appends s q s1 q1 a false → Appends s q s1 q1 (a ++ b) false
 appends_stop s s1 q q1 a b f = record {
   size = f.size;
   gives = λ ahead h. sym (can_give-append (length s) (ahead ++ q) a b ∙ ap (λ (x : Bool). x && can_give (length s) ((ahead ++ q) ++ map Test a) b) (sym (f.gives ahead h)));
@@ -97,10 +97,10 @@ appends_stop s s1 q q1 a b f = record {
   standing = λ ahead e h. let no : true ≡ false = sym e in cc;
 }
 
-pub appends_none : (s : List Standing) (q : List Place) → Appends s q s q [] true
+pub appends_none : (s : List Standing) (q : List LineEntry) → Appends s q s q [] true
 appends_none s q = record { size = refl; gives = λ ahead h. refl; queue_is = λ e. no_more q; standing = λ ahead e h. h }
   where
-    no_more : (a : List Place) → a ≡ a ++ []
+    no_more : (a : List LineEntry) → a ≡ a ++ []
     no_more a = grind (arith, common_steps)
 
 -- a free test is one of the suite
@@ -116,7 +116,7 @@ free_within stands n e = go (slice_get_cases stands n).1
 pub le_not_below : (a b : ℕ) → b ≤ a → nat_lt a b ≡ false
 le_not_below a b le = grind (arith, nat_tests)
 
-pub free_gives : (stands : List Standing) (ahead q : List Place) (n : ℕ) → StandsAt stands ahead q → free_at stands n ≡ can_give (length stands) (ahead ++ q) (n ∷ [])
+pub free_gives : (stands : List Standing) (ahead q : List LineEntry) (n : ℕ) → StandsAt stands ahead q → free_at stands n ≡ can_give (length stands) (ahead ++ q) (n ∷ [])
 free_gives stands ahead q n h = go (slice_get_cases stands n).1
   where
     out : (a b c v : Bool) → a ≡ true → b ≡ c → v ≡ not c → v ≡ ((a && not b) && true)
@@ -142,7 +142,7 @@ free_gives stands ahead q n h = go (slice_get_cases stands n).1
     go (inl (Passed, lt, s, g)) = out (nat_lt n (length stands)) _ true _ (lt-ltb _ _ lt) (has_test-append n ahead q ∙ not_free_is _ _ (λ z. let w : Passed ≡ Free = seen Passed (same Passed lt g) lt ∙ sym z in cc)) (ap is_free s)
     go (inr (le, s)) = far (nat_lt n (length stands)) _ _ (le_not_below n (length stands) le) (ap is_free s)
 
-pub appends_one : (stands : List Standing) (q : List Place) (n : ℕ) → free_at stands n ≡ true → Appends stands q (slice_set stands n Queued) (q ++ Test n ∷ []) (n ∷ []) true
+pub appends_one : (stands : List Standing) (q : List LineEntry) (n : ℕ) → free_at stands n ≡ true → Appends stands q (slice_set stands n Queued) (q ++ Test n ∷ []) (n ∷ []) true
 appends_one stands q n e = record {
   size = length-set stands n Queued;
   gives = λ ahead h. sym e ∙ free_gives stands ahead q n h;
@@ -150,7 +150,7 @@ appends_one stands q n e = record {
   standing = λ ahead z h. queued_one stands ahead q n (free_within stands n e).0 (free_within stands n e).1 h;
 }
 
-pub appends_not : (stands : List Standing) (q : List Place) (n : ℕ) → free_at stands n ≡ false → Appends stands q stands q (n ∷ []) false
+pub appends_not : (stands : List Standing) (q : List LineEntry) (n : ℕ) → free_at stands n ≡ false → Appends stands q stands q (n ∷ []) false
 appends_not stands q n e = record {
   size = refl;
   gives = λ ahead h. sym e ∙ free_gives stands ahead q n h;

@@ -4,10 +4,11 @@ use Rattle.std.specs.Prelude.{◌-◌, map, if◌then◌else◌}
 use Rattle.std.specs.List.{range_with_len}
 use Rattle.xd_gateway.specs.declared.order.Order.{Order}
 use Rattle.xd_gateway.specs.declared.order.Order.TheVariants.{RunTests, RunAll, Steal, Shutdown}
+use Rattle.xd_journal.specs.Kept.{most_of_one}
 use Rattle.xd_journal.specs.declared.entry.Outcome.{Outcome}
 use Rattle.xd_journal.specs.declared.news.What.TheVariants.{Back, Finished, Collected, LogStart, Done}
-use Rattle.xd_run_tests.specs.declared.place.Place.{Place}
-use Rattle.xd_run_tests.specs.declared.place.Place.TheVariants.{Test, Mark}
+use Rattle.xd_run_tests.specs.declared.line_entry.LineEntry.{LineEntry}
+use Rattle.xd_run_tests.specs.declared.line_entry.LineEntry.TheVariants.{Test, Mark}
 use Rattle.xd_run_tests.specs.declared.phase.Ending.{Ending}
 use Rattle.xd_run_tests.specs.declared.phase.Ending.TheVariants.{BadCommand, ReceivingEnded}
 use Rattle.xd_run_tests.specs.declared.phase.Phase.{Phase}
@@ -70,7 +71,7 @@ started_logged room l t n space number idle serves w =
       awaits = λ e. absurd (serves e);
     }
 
-moved_logged : (room : Bool) (l : Logs) (t : Turn) (ps : List Place) → t.call.running ≡ false → (t.call.phase ≡ Awaiting → ⊥) → Logged room l t → Logged room l (moved_on room ps t)
+moved_logged : (room : Bool) (l : Logs) (t : Turn) (ps : List LineEntry) → t.call.running ≡ false → (t.call.phase ≡ Awaiting → ⊥) → Logged room l t → Logged room l (moved_on room ps t)
 moved_logged room l t [] idle serves w = w
 moved_logged room l t (Mark ∷ ps) idle serves w = finished_logged room l t idle w
 moved_logged room l t (Test n ∷ []) idle serves w = w
@@ -169,7 +170,7 @@ pieces_step room log (x ∷ b) l runs e = (l, (runs, e, refl), refl)
 put_logged : (room : Bool) (l : Logs) (bytes : List ℕ) (t : Turn) → t.call.running ≡ true → Logged room l t → Logged room l (put_out bytes t)
 put_logged room l bytes t runs w =
     let log = log_of t.call.ended in
-    let piece = take (8192 - t.call.sent) bytes in
+    let piece = take (most_of_one - t.call.sent) bytes in
     record {
       steps = more_steps room t.asks (piece_asks log piece) l (logs_of t.call) (logs_of t.call) w.steps (pieces_step room log piece (logs_of t.call) runs (last_log t.call runs));
       awaits = w.awaits;

@@ -2,9 +2,9 @@
 use Rattle.std.proofs.Common.{◌≡◌, ℕ, ◌+◌, ◌≤◌, List, [], ◌∷◌, ◌++◌, length, drop, Bool, true, false, ◌||◌, ◌&&◌, Option, Some, None, refl, ap, sym, subst, ◌∙◌, append_assoc, arith}
 use Rattle.std.specs.Prelude.{option_to_list, if◌then◌else◌, map, is_some, not}
 use Rattle.std.proofs.Math.ListN.{length-set}
-use Rattle.xd_run_tests.specs.declared.place.Place.{Place}
-use Rattle.xd_run_tests.specs.declared.place.Place.TheVariants.{Test, Mark}
-use Rattle.xd_run_tests.specs.declared.place.Standing.{Standing}
+use Rattle.xd_run_tests.specs.declared.line_entry.LineEntry.{LineEntry}
+use Rattle.xd_run_tests.specs.declared.line_entry.LineEntry.TheVariants.{Test, Mark}
+use Rattle.xd_run_tests.specs.declared.line_entry.Standing.{Standing}
 use Rattle.xd_run_tests.specs.declared.phase.Phase.TheVariants.{Serving}
 use Rattle.xd_run_tests.specs.declared.run_tests.Running.{Running}
 use Rattle.xd_run_tests.specs.declared.run_tests.RunTests.{RunTests}
@@ -19,7 +19,7 @@ use Rattle.xd_run_tests.specs.Stands.{StandsAt, IsCut, IsCall, IsHeld, IsLog, St
 use Rattle.xd_run_tests.proofs.Once.{once_given}
 use Rattle.xd_run_tests.proofs.Cut.{cut_next, cut_start, cut_left, has_test-append}
 
-pub length-passing : (stands : List Standing) (next : Option Place) → length (passing_some stands next) ≡ length stands
+pub length-passing : (stands : List Standing) (next : Option LineEntry) → length (passing_some stands next) ≡ length stands
 length-passing stands None = refl
 length-passing stands (Some (Test n)) = length-set stands n _
 length-passing stands (Some Mark) = refl
@@ -44,7 +44,7 @@ moved_parts s r c o size cut h = record {
   cut = cut;
 }
 
-pub cut_at : {run run' : Option Running} {next next' : Option Place} {q q' : List Place} {st st' : List Standing} (line : List Place) (ended : ℕ) → IsCut run next q st line ended → run ≡ run' → next ≡ next' → q ≡ q' → st ≡ st' → IsCut run' next' q' st' line ended
+pub cut_at : {run run' : Option Running} {next next' : Option LineEntry} {q q' : List LineEntry} {st st' : List Standing} (line : List LineEntry) (ended : ℕ) → IsCut run next q st line ended → run ≡ run' → next ≡ next' → q ≡ q' → st ≡ st' → IsCut run' next' q' st' line ended
 cut_at line ended h a b c d = rw (← a, ← b, ← c, ← d) h
 
 pub advanced : (s r : RunTests) (c : Call) → c.phase ≡ Serving → s.running ≡ None → s.next ≡ None → s.queue.items ≡ option_to_list r.next ++ r.queue.items → (r.next ≡ None → r.queue.items ≡ []) → r.stands.items ≡ passing_some s.stands.items r.next → r ≡ record s { queue = r.queue; next = r.next; stands = r.stands } → IsCall s c → IsCall r c
@@ -57,20 +57,20 @@ advanced s r c serves idle no_next q none st o h =
 pub left_is : (s : RunTests) (c : Call) → c.phase ≡ Serving → s.running ≡ None → IsCall s c → left c ≡ option_to_list s.next ++ s.queue.items
 left_is s c serves idle h = cut_left None s.next s.queue.items s.stands.items c.line c.ended (cut_at c.line c.ended (h.cut serves) idle refl refl refl)
 
-pub moved_at : (room : Bool) (t : Turn) (s : RunTests) (a : Acts) (l : List Place) → left t.call ≡ l → Stands s a (moved_on room l t) → Stands s a (moved_on room (left t.call) t)
-moved_at room t s a l e h = subst (λ (x : List Place). Stands s a (moved_on room x t)) (sym e) h
+pub moved_at : (room : Bool) (t : Turn) (s : RunTests) (a : Acts) (l : List LineEntry) → left t.call ≡ l → Stands s a (moved_on room l t) → Stands s a (moved_on room (left t.call) t)
+moved_at room t s a l e h = subst (λ (x : List LineEntry). Stands s a (moved_on room x t)) (sym e) h
 
 pub idle_log : (run : Option Running) (next ended : ℕ) → run ≡ None → IsLog run next ended → next ≡ log_of ended
 idle_log run next ended e h = let g = subst (λ (x : Option Running). IsLog x next ended) e h in g
 
-front_is : (next : Option Place) (rest : List Place) (p : Place) (q : List Place) → p ∷ q ≡ option_to_list next ++ rest → (next ≡ None → rest ≡ []) → (next ≡ Some p) × (rest ≡ q)
+front_is : (next : Option LineEntry) (rest : List LineEntry) (p : LineEntry) (q : List LineEntry) → p ∷ q ≡ option_to_list next ++ rest → (next ≡ None → rest ≡ []) → (next ≡ Some p) × (rest ≡ q)
 front_is None rest p q e none = let z : rest ≡ [] = none refl in cc
 front_is (Some x) rest p q e none = (cc, cc)
 
-pub left_test : (s : RunTests) (c : Call) (n : ℕ) (p : Place) (q : List Place) → c.phase ≡ Serving → s.running ≡ None → s.next ≡ Some (Test n) → s.queue.items ≡ p ∷ q → IsCall s c → left c ≡ Test n ∷ (p ∷ q)
-left_test s c n p q serves idle nx qu h = left_is s c serves idle h ∙ ap (λ (x : Option Place). option_to_list x ++ s.queue.items) nx ∙ ap (λ (x : List Place). Test n ∷ x) qu
+pub left_test : (s : RunTests) (c : Call) (n : ℕ) (p : LineEntry) (q : List LineEntry) → c.phase ≡ Serving → s.running ≡ None → s.next ≡ Some (Test n) → s.queue.items ≡ p ∷ q → IsCall s c → left c ≡ Test n ∷ (p ∷ q)
+left_test s c n p q serves idle nx qu h = left_is s c serves idle h ∙ ap (λ (x : Option LineEntry). option_to_list x ++ s.queue.items) nx ∙ ap (λ (x : List LineEntry). Test n ∷ x) qu
 
-pub started_is : (s r : RunTests) (t : Turn) (n : ℕ) (p : Place) (q : List Place) → t.call.phase ≡ Serving → s.running ≡ None → s.next ≡ Some (Test n) → s.queue.items ≡ p ∷ q
+pub started_is : (s r : RunTests) (t : Turn) (n : ℕ) (p : LineEntry) (q : List LineEntry) → t.call.phase ≡ Serving → s.running ≡ None → s.next ≡ Some (Test n) → s.queue.items ≡ p ∷ q
     → r.phase ≡ s.phase → r.size ≡ s.size → r.waiting.items ≡ s.waiting.items → r.running ≡ Some (record { test = n; log = s.next_log }) → r.next_log ≡ s.next_log + 2 → r.sent ≡ 0
     → s.queue.items ≡ option_to_list r.next ++ r.queue.items → (r.next ≡ None → r.queue.items ≡ []) → r.stands.items ≡ passing_some s.stands.items r.next
     → IsCall s t.call → IsCall r (started n t).call
@@ -108,21 +108,21 @@ started_if room t n s a r le h = subst (λ (v : Bool). Stands s a (if v then sta
 pub start_asks : (n log m : ℕ) (old new before : List Ask) → log ≡ m → new ≡ old ++ Tell (LogStart n log) ∷ [] → old ≡ before → new ≡ before ++ Tell (LogStart n m) ∷ []
 start_asks n log m old new before e f g = rw (← e, ← g) f
 
-pub none_is : (o : Option Place) (r : Bool) → is_some o ≡ not r → r ≡ true → o ≡ None
+pub none_is : (o : Option LineEntry) (r : Bool) → is_some o ≡ not r → r ≡ true → o ≡ None
 none_is None r e h = refl
 none_is (Some p) r e h = let z : true ≡ not true = e ∙ ap not h in cc
 
 -- the running test is the first of what is left
-pub test_from_left : (run : Option Running) (b : Bool) (l x : List Place) → is_some run ≡ b → l ≡ running_places run ++ x → test_of run ≡ (if b then head_test l else None)
+pub test_from_left : (run : Option Running) (b : Bool) (l x : List LineEntry) → is_some run ≡ b → l ≡ running_places run ++ x → test_of run ≡ (if b then head_test l else None)
 test_from_left None b l x e h = subst (λ (v : Bool). None ≡ (if v then head_test l else None)) e refl
 test_from_left (Some r) b l x e h = subst (λ (v : Bool). Some r.test ≡ (if v then head_test l else None)) e (sym (ap head_test h))
 
 pub same_next : (s r : RunTests) → r ≡ record s { queue = r.queue; stands = r.stands } → r ≡ record s { queue = r.queue; next = r.next; stands = r.stands }
-same_next s r o = o ∙ ap (λ (n : Option Place). record s { queue = r.queue; next = n; stands = r.stands }) (sym (ap (λ (x : RunTests). x.next) o))
+same_next s r o = o ∙ ap (λ (n : Option LineEntry). record s { queue = r.queue; next = n; stands = r.stands }) (sym (ap (λ (x : RunTests). x.next) o))
 
 -- places are put behind the line
-pub lined_call : (s r : RunTests) (c : Call) (ps : List Place) → c.phase ≡ Serving → r ≡ record s { queue = r.queue; stands = r.stands } → length r.stands.items ≡ length s.stands.items → r.queue.items ≡ s.queue.items ++ ps
-    → ((ahead : List Place) → StandsAt s.stands.items ahead s.queue.items → StandsAt r.stands.items ahead r.queue.items) → once (c.line ++ ps) ≡ true → IsCall s c → IsCall r (record c { line = c.line ++ ps })
+pub lined_call : (s r : RunTests) (c : Call) (ps : List LineEntry) → c.phase ≡ Serving → r ≡ record s { queue = r.queue; stands = r.stands } → length r.stands.items ≡ length s.stands.items → r.queue.items ≡ s.queue.items ++ ps
+    → ((ahead : List LineEntry) → StandsAt s.stands.items ahead s.queue.items → StandsAt r.stands.items ahead r.queue.items) → once (c.line ++ ps) ≡ true → IsCall s c → IsCall r (record c { line = c.line ++ ps })
 lined_call s r c ps serves o size qu st once_more h =
     let old = h.cut serves in
     let run : r.running ≡ s.running = ap (λ (x : RunTests). x.running) o in
@@ -130,9 +130,9 @@ lined_call s r c ps serves o size qu st once_more h =
     let new : IsCut s.running s.next (s.queue.items ++ ps) r.stands.items (c.line ++ ps) c.ended = record {
       done = old.done;
       count = old.count;
-      line_is = ap (λ (l : List Place). l ++ ps) old.line_is ∙ append_assoc (old.done ++ (running_places s.running ++ option_to_list s.next)) s.queue.items ps;
+      line_is = ap (λ (l : List LineEntry). l ++ ps) old.line_is ∙ append_assoc (old.done ++ (running_places s.running ++ option_to_list s.next)) s.queue.items ps;
       idle = old.idle;
-      standing = subst (λ (l : List Place). StandsAt r.stands.items (old.done ++ (running_places s.running ++ option_to_list s.next)) l) qu (st (old.done ++ (running_places s.running ++ option_to_list s.next)) old.standing);
+      standing = subst (λ (l : List LineEntry). StandsAt r.stands.items (old.done ++ (running_places s.running ++ option_to_list s.next)) l) qu (st (old.done ++ (running_places s.running ++ option_to_list s.next)) old.standing);
     } in
     let held = held_parts s r c (same_next s r o) size h.held in
     record {
@@ -155,7 +155,7 @@ can_is s r c ns b serves h a =
     let old = h.cut serves in
     a.gives (old.done ++ (running_places s.running ++ option_to_list s.next)) old.standing
     ∙ ap (λ (n : ℕ). can_give n ((old.done ++ (running_places s.running ++ option_to_list s.next)) ++ s.queue.items) ns) h.held.size_is
-    ∙ ap (λ (l : List Place). can_give c.size l ns) (sym old.line_is)
+    ∙ ap (λ (l : List LineEntry). can_give c.size l ns) (sym old.line_is)
 
 pub given_call : (s r : RunTests) (c : Call) (ns : List ℕ) → c.phase ≡ Serving → r ≡ record s { queue = r.queue; stands = r.stands } → Appends s.stands.items s.queue.items r.stands.items r.queue.items ns true → IsCall s c → IsCall r (record c { line = c.line ++ map Test ns })
 given_call s r c ns serves o a h = lined_call s r c (map Test ns) serves o a.size (a.queue_is refl) (λ ahead. a.standing ahead refl) (once_given c.size c.line ns (sym (can_is s r c ns true serves h a)) h.held.once_is) h
@@ -164,12 +164,12 @@ pub bad_held : (s r : RunTests) (c : Call) → r ≡ record s { queue = r.queue;
 bad_held s r c o size h = held_parts s r c (same_next s r o) size h
 
 -- a mark does not change where tests stand
-pub marked_stands : (stands : List Standing) (ahead q : List Place) → StandsAt stands ahead q → StandsAt stands ahead (q ++ Mark ∷ [])
+pub marked_stands : (stands : List Standing) (ahead q : List LineEntry) → StandsAt stands ahead q → StandsAt stands ahead (q ++ Mark ∷ [])
 marked_stands stands ahead q h = record { at = λ n lt. h.at n lt ∙ ap (λ (v : Bool). standing_by (has_test n ahead) v) (none (has_test n q) ∙ sym (has_test-append n q (Mark ∷ []))) }
   where
     none : (a : Bool) → a ≡ (a || false)
     none true = refl
     none false = refl
 
-pub marked_both : (stands st : List Standing) (q r ahead : List Place) → st ≡ stands → r ≡ q ++ Mark ∷ [] → StandsAt stands ahead q → StandsAt st ahead r
+pub marked_both : (stands st : List Standing) (q r ahead : List LineEntry) → st ≡ stands → r ≡ q ++ Mark ∷ [] → StandsAt stands ahead q → StandsAt st ahead r
 marked_both stands st q r ahead e f h = rw (e, f) (marked_stands stands ahead q h)

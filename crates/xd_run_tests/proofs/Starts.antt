@@ -8,8 +8,8 @@ use Rattle.std.proofs.Math.Seq.{take-append-add}
 use Rattle.xd_gateway.specs.declared.order.Order.{Order}
 use Rattle.xd_gateway.specs.declared.order.Order.TheVariants.{RunTests, RunAll, Steal, Shutdown}
 use Rattle.xd_journal.specs.declared.entry.Outcome.{Outcome}
-use Rattle.xd_run_tests.specs.declared.place.Place.{Place}
-use Rattle.xd_run_tests.specs.declared.place.Place.TheVariants.{Test, Mark}
+use Rattle.xd_run_tests.specs.declared.line_entry.LineEntry.{LineEntry}
+use Rattle.xd_run_tests.specs.declared.line_entry.LineEntry.TheVariants.{Test, Mark}
 use Rattle.xd_run_tests.specs.declared.phase.Ending.{Ending}
 use Rattle.xd_run_tests.specs.declared.phase.Ending.TheVariants.{BadCommand, ReceivingEnded}
 use Rattle.xd_run_tests.specs.declared.phase.Phase.{Phase}
@@ -27,17 +27,17 @@ use Rattle.xd_run_tests.specs.Stands.{once}
 use Rattle.xd_run_tests.proofs.Cut.{has_test-append}
 use Rattle.xd_run_tests.proofs.Once.{once_given, once_mark, once_kept, not_true}
 
-abbrev tests_in : List Place → List ℕ
+abbrev tests_in : List LineEntry → List ℕ
 tests_in [] = []
 tests_in (Test n ∷ ps) = n ∷ tests_in ps
 tests_in (Mark ∷ ps) = tests_in ps
 
-tests_in-append : (a b : List Place) → tests_in (a ++ b) ≡ tests_in a ++ tests_in b
+tests_in-append : (a b : List LineEntry) → tests_in (a ++ b) ≡ tests_in a ++ tests_in b
 tests_in-append [] b = refl
 tests_in-append (Test n ∷ a) b = ap (λ (l : List ℕ). n ∷ l) (tests_in-append a b)
 tests_in-append (Mark ∷ a) b = tests_in-append a b
 
-among_is : (n : ℕ) (l : List Place) → is_among n (tests_in l) ≡ has_test n l
+among_is : (n : ℕ) (l : List LineEntry) → is_among n (tests_in l) ≡ has_test n l
 among_is n [] = refl
 among_is n (Test m ∷ l) = ap (λ (v : Bool). (m == n) || v) (among_is n l)
 among_is n (Mark ∷ l) = among_is n l
@@ -57,12 +57,12 @@ neither : (a b : Bool) → (a || b) ≡ false → a ≡ false
 neither true b e = e
 neither false b e = refl
 
-distinct_of : (l : List Place) → once l ≡ true → distinct (tests_in l) ≡ true
+distinct_of : (l : List LineEntry) → once l ≡ true → distinct (tests_in l) ≡ true
 distinct_of [] h = refl
 distinct_of (Test m ∷ l) h = both (not (is_among m (tests_in l))) (distinct (tests_in l)) (ap not (among_is m l) ∙ first (not (has_test m l)) (once l) h) (distinct_of l (last (not (has_test m l)) (once l) h))
 distinct_of (Mark ∷ l) h = distinct_of l h
 
-once_first : (a b : List Place) → once (a ++ b) ≡ true → once a ≡ true
+once_first : (a b : List LineEntry) → once (a ++ b) ≡ true → once a ≡ true
 once_first [] b h = refl
 once_first (Test m ∷ a) b h =
     let fresh : has_test m (a ++ b) ≡ false = not_true _ (first (not (has_test m (a ++ b))) (once (a ++ b)) h) in
@@ -75,8 +75,8 @@ gone_by c = c.ended + (if c.running then 1 else 0)
 
 -- the tests that were started, those of a turn behind these, are those that are gone through
 record Begun (s : List ℕ) (t : Turn) : Type 0 where
-  gone : List Place
-  rest : List Place
+  gone : List LineEntry
+  rest : List LineEntry
   line_is : t.call.line ≡ gone ++ rest
   count : length gone ≡ gone_by t.call
   starts : s ++ option_to_list t.run ≡ tests_in gone
@@ -120,17 +120,17 @@ finished_begun s t b = same_line s t (finished t) refl refl refl refl (λ e. cc)
 left_rest : (s : List ℕ) (t : Turn) (b : Begun s t) → t.call.running ≡ false → left t.call ≡ b.rest
 left_rest s t b idle = ap (drop t.call.ended) b.line_is ∙ behind b.gone b.rest t.call.ended (b.count ∙ none t.call.ended t.call.running idle)
   where
-    behind : (a c : List Place) (n : ℕ) → length a ≡ n → drop n (a ++ c) ≡ c
+    behind : (a c : List LineEntry) (n : ℕ) → length a ≡ n → drop n (a ++ c) ≡ c
     behind a c n e = grind (arith, common_steps)
 
     none : (a : ℕ) (x : Bool) → x ≡ false → a + (if x then 1 else 0) ≡ a
     none a x e = rw e (omega arith)
 
-started_begun : (s : List ℕ) (t : Turn) (n : ℕ) (l : List Place) → t.call.running ≡ false → left t.call ≡ Test n ∷ l → (t.call.phase ≡ Awaiting → ⊥) → Begun s t → Begun s (started n t)
+started_begun : (s : List ℕ) (t : Turn) (n : ℕ) (l : List LineEntry) → t.call.running ≡ false → left t.call ≡ Test n ∷ l → (t.call.phase ≡ Awaiting → ⊥) → Begun s t → Begun s (started n t)
 started_begun s t n l idle is serves b = record {
   gone = b.gone ++ Test n ∷ [];
   rest = l;
-  line_is = b.line_is ∙ ap (λ (x : List Place). b.gone ++ x) (sym (left_rest s t b idle) ∙ is) ∙ sym (append_assoc b.gone (Test n ∷ []) l);
+  line_is = b.line_is ∙ ap (λ (x : List LineEntry). b.gone ++ x) (sym (left_rest s t b idle) ∙ is) ∙ sym (append_assoc b.gone (Test n ∷ []) l);
   count = longer b.gone (Test n) t.call.ended (b.count ∙ none t.call.ended t.call.running idle);
   starts = more s t.run b.gone n (b.idle idle) b.starts ∙ sym (tests_in-append b.gone (Test n ∷ []));
   once_is = b.once_is;
@@ -138,19 +138,19 @@ started_begun s t n l idle is serves b = record {
   awaits = λ e. absurd (serves e);
 }
   where
-    longer : (a : List Place) (p : Place) (k : ℕ) → length a ≡ k → length (a ++ p ∷ []) ≡ k + 1
+    longer : (a : List LineEntry) (p : LineEntry) (k : ℕ) → length a ≡ k → length (a ++ p ∷ []) ≡ k + 1
     longer a p k e = grind (arith, common_steps)
 
     none : (a : ℕ) (x : Bool) → x ≡ false → a + (if x then 1 else 0) ≡ a
     none a x e = rw e (omega arith)
 
-    more : (s : List ℕ) (r : Option ℕ) (gone : List Place) (n : ℕ) → r ≡ None → s ++ option_to_list r ≡ tests_in gone → s ++ n ∷ [] ≡ tests_in gone ++ n ∷ []
+    more : (s : List ℕ) (r : Option ℕ) (gone : List LineEntry) (n : ℕ) → r ≡ None → s ++ option_to_list r ≡ tests_in gone → s ++ n ∷ [] ≡ tests_in gone ++ n ∷ []
     more s r gone n e h = ap (λ (l : List ℕ). l ++ n ∷ []) (sym (no_more s) ∙ ap (λ (o : Option ℕ). s ++ option_to_list o) (sym e) ∙ h)
       where
         no_more : (a : List ℕ) → a ++ [] ≡ a
         no_more a = grind (arith, common_steps)
 
-moved_begun : (s : List ℕ) (room : Bool) (t : Turn) (l : List Place) → t.call.running ≡ false → left t.call ≡ l → (t.call.phase ≡ Awaiting → ⊥) → Begun s t → Begun s (moved_on room l t)
+moved_begun : (s : List ℕ) (room : Bool) (t : Turn) (l : List LineEntry) → t.call.running ≡ false → left t.call ≡ l → (t.call.phase ≡ Awaiting → ⊥) → Begun s t → Begun s (moved_on room l t)
 moved_begun s room t [] idle is serves b = b
 moved_begun s room t (Mark ∷ l) idle is serves b = finished_begun s t b
 moved_begun s room t (Test n ∷ []) idle is serves b = b
@@ -168,11 +168,11 @@ settled_begun s room t serves b = go t.call.running refl
     go false e = moved_begun s room t (left t.call) e refl serves b
 
 -- places are put behind the line
-longer_begun : (s : List ℕ) (t : Turn) (ps : List Place) → once (t.call.line ++ ps) ≡ true → (t.call.phase ≡ Awaiting → ⊥) → Begun s t → Begun s (record t { call = record (t.call) { line = t.call.line ++ ps } })
+longer_begun : (s : List ℕ) (t : Turn) (ps : List LineEntry) → once (t.call.line ++ ps) ≡ true → (t.call.phase ≡ Awaiting → ⊥) → Begun s t → Begun s (record t { call = record (t.call) { line = t.call.line ++ ps } })
 longer_begun s t ps once_more serves b = record {
   gone = b.gone;
   rest = b.rest ++ ps;
-  line_is = ap (λ (l : List Place). l ++ ps) b.line_is ∙ append_assoc b.gone b.rest ps;
+  line_is = ap (λ (l : List LineEntry). l ++ ps) b.line_is ∙ append_assoc b.gone b.rest ps;
   count = b.count;
   starts = b.starts;
   once_is = once_more;
@@ -194,7 +194,7 @@ taken_begun s ns t serves b =
     record {
       gone = b.gone;
       rest = take 1 b.rest ++ kept ns (queue t.call);
-      line_is = ap (λ (l : List Place). l ++ kept ns (queue t.call)) split ∙ append_assoc b.gone (take 1 b.rest) (kept ns (queue t.call));
+      line_is = ap (λ (l : List LineEntry). l ++ kept ns (queue t.call)) split ∙ append_assoc b.gone (take 1 b.rest) (kept ns (queue t.call));
       count = b.count;
       starts = b.starts;
       once_is = once_kept ns (front t.call) (queue t.call) (ap once (whole t.call.line (passed t.call)) ∙ b.once_is);
@@ -202,11 +202,11 @@ taken_begun s ns t serves b =
       awaits = λ e. absurd (serves e);
     }
   where
-    cut : (gone rest line : List Place) (ended : ℕ) (running : Bool) → line ≡ gone ++ rest → length gone ≡ ended + (if running then 1 else 0) → take (ended + (if running then 2 else 1)) line ≡ gone ++ take 1 rest
-    cut gone rest line ended true e h = ap (λ (k : ℕ). take k line) (omega (arith, h)) ∙ ap (λ (l : List Place). take (length gone + 1) l) e ∙ take-append-add gone rest 1
-    cut gone rest line ended false e h = ap (λ (k : ℕ). take k line) (omega (arith, h)) ∙ ap (λ (l : List Place). take (length gone + 1) l) e ∙ take-append-add gone rest 1
+    cut : (gone rest line : List LineEntry) (ended : ℕ) (running : Bool) → line ≡ gone ++ rest → length gone ≡ ended + (if running then 1 else 0) → take (ended + (if running then 2 else 1)) line ≡ gone ++ take 1 rest
+    cut gone rest line ended true e h = ap (λ (k : ℕ). take k line) (omega (arith, h)) ∙ ap (λ (l : List LineEntry). take (length gone + 1) l) e ∙ take-append-add gone rest 1
+    cut gone rest line ended false e h = ap (λ (k : ℕ). take k line) (omega (arith, h)) ∙ ap (λ (l : List LineEntry). take (length gone + 1) l) e ∙ take-append-add gone rest 1
 
-    whole : (l : List Place) (n : ℕ) → take n l ++ drop n l ≡ l
+    whole : (l : List LineEntry) (n : ℕ) → take n l ++ drop n l ≡ l
     whole l n = grind (arith, common_steps)
 
 stolen_begun : (s : List ℕ) (ns : List ℕ) (t : Turn) → (t.call.phase ≡ Awaiting → ⊥) → Begun s t → Begun s (stolen_if ns t)
@@ -252,7 +252,7 @@ collected_begun s Awaiting room ids t e b =
       awaits = λ z. cc;
     })
   where
-    nothing : (a c : List Place) → a ++ c ≡ [] → a ≡ []
+    nothing : (a c : List LineEntry) → a ++ c ≡ [] → a ≡ []
     nothing [] c e = refl
     nothing (x ∷ a) c e = cc
 collected_begun s Serving room ids t e b = b

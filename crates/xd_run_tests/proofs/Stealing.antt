@@ -3,9 +3,9 @@ use Rattle.std.proofs.Common.{◌≡◌, ℕ, ◌+◌, ◌≤◌, List, [], ◌�
 use Rattle.std.specs.Prelude.{option_to_list, is_some, if◌then◌else◌}
 use Rattle.std.proofs.Common.{Vec, Global}
 use Rattle.std.proofs.lemmas.Grind.{common_steps}
-use Rattle.xd_run_tests.specs.declared.place.Place.{Place}
-use Rattle.xd_run_tests.specs.declared.place.Place.TheVariants.{Test}
-use Rattle.xd_run_tests.specs.declared.place.Standing.{Standing}
+use Rattle.xd_run_tests.specs.declared.line_entry.LineEntry.{LineEntry}
+use Rattle.xd_run_tests.specs.declared.line_entry.LineEntry.TheVariants.{Test}
+use Rattle.xd_run_tests.specs.declared.line_entry.Standing.{Standing}
 use Rattle.xd_run_tests.specs.declared.run_tests.Running.{Running}
 use Rattle.xd_run_tests.specs.declared.run_tests.RunTests.{RunTests}
 use Rattle.xd_run_tests.specs.declared.phase.Phase.TheVariants.{Serving}
@@ -24,45 +24,45 @@ use Rattle.xd_run_tests.proofs.Once.{once_kept}
 use Rattle.xd_run_tests.proofs.Moves.{cut_at, held_parts, same_next, test_from_left}
 use Rattle.xd_run_tests.proofs.Asking.{all_queued_is, kept_stands}
 
-cut_two : (a b l : List Place) (n : ℕ) → l ≡ a ++ b → length a ≡ n → (take n l ≡ a) × (drop n l ≡ b)
+cut_two : (a b l : List LineEntry) (n : ℕ) → l ≡ a ++ b → length a ≡ n → (take n l ≡ a) × (drop n l ≡ b)
 cut_two a b l n e h = (rw e (first a b n h), rw e (second a b n h))
   where
-    first : (a b : List Place) (n : ℕ) → length a ≡ n → take n (a ++ b) ≡ a
+    first : (a b : List LineEntry) (n : ℕ) → length a ≡ n → take n (a ++ b) ≡ a
     first a b n h = grind (arith, common_steps)
 
-    second : (a b : List Place) (n : ℕ) → length a ≡ n → drop n (a ++ b) ≡ b
+    second : (a b : List LineEntry) (n : ℕ) → length a ≡ n → drop n (a ++ b) ≡ b
     second a b n h = grind (arith, common_steps)
 
-cut_short : (a l : List Place) (n : ℕ) → l ≡ a → length a ≤ n → (take n l ≡ a) × (drop n l ≡ [])
+cut_short : (a l : List LineEntry) (n : ℕ) → l ≡ a → length a ≤ n → (take n l ≡ a) × (drop n l ≡ [])
 cut_short a l n e h = (rw e (first a n h), rw e (second a n h))
   where
-    first : (a : List Place) (n : ℕ) → length a ≤ n → take n a ≡ a
+    first : (a : List LineEntry) (n : ℕ) → length a ≤ n → take n a ≡ a
     first a n h = grind (arith, common_steps)
 
-    second : (a : List Place) (n : ℕ) → length a ≤ n → drop n a ≡ []
+    second : (a : List LineEntry) (n : ℕ) → length a ≤ n → drop n a ≡ []
     second a n h = grind (arith, common_steps)
 
 -- the front and the queue are where the parts are cut
-pub cut_is : (run : Option Running) (next : Option Place) (q : List Place) (st : List Standing) (line : List Place) (ended : ℕ) (running : Bool) (h : IsCut run next q st line ended) → (next ≡ None → q ≡ []) → is_some run ≡ running
+pub cut_is : (run : Option Running) (next : Option LineEntry) (q : List LineEntry) (st : List Standing) (line : List LineEntry) (ended : ℕ) (running : Bool) (h : IsCut run next q st line ended) → (next ≡ None → q ≡ []) → is_some run ≡ running
     → (take (ended + (if running then 2 else 1)) line ≡ h.done ++ (running_places run ++ option_to_list next)) × (drop (ended + (if running then 2 else 1)) line ≡ q)
 cut_is None None q st line ended running h z e = subst (λ (v : Bool). (take (ended + (if v then 2 else 1)) line ≡ h.done ++ []) × (drop (ended + (if v then 2 else 1)) line ≡ q)) e
-    (let short = cut_short (h.done ++ []) line (ended + 1) (h.line_is ∙ ap (λ (l : List Place). (h.done ++ []) ++ l) (z refl) ∙ no_more (h.done ++ [])) (long h.done ended h.count) in (short.0, short.1 ∙ sym (z refl)))
+    (let short = cut_short (h.done ++ []) line (ended + 1) (h.line_is ∙ ap (λ (l : List LineEntry). (h.done ++ []) ++ l) (z refl) ∙ no_more (h.done ++ [])) (long h.done ended h.count) in (short.0, short.1 ∙ sym (z refl)))
   where
-    no_more : (a : List Place) → a ++ [] ≡ a
+    no_more : (a : List LineEntry) → a ++ [] ≡ a
     no_more a = grind (arith, common_steps)
 
-    long : (a : List Place) (n : ℕ) → length a ≡ n → length (a ++ []) ≤ n + 1
+    long : (a : List LineEntry) (n : ℕ) → length a ≡ n → length (a ++ []) ≤ n + 1
     long a n e = grind (arith, common_steps)
 cut_is None (Some p) q st line ended running h z e = subst (λ (v : Bool). (take (ended + (if v then 2 else 1)) line ≡ h.done ++ p ∷ []) × (drop (ended + (if v then 2 else 1)) line ≡ q)) e
     (cut_two (h.done ++ p ∷ []) q line (ended + 1) h.line_is (long h.done p ended h.count))
   where
-    long : (a : List Place) (p : Place) (n : ℕ) → length a ≡ n → length (a ++ p ∷ []) ≡ n + 1
+    long : (a : List LineEntry) (p : LineEntry) (n : ℕ) → length a ≡ n → length (a ++ p ∷ []) ≡ n + 1
     long a p n e = grind (arith, common_steps)
 cut_is (Some r) None q st line ended running h z e = let no : Some r ≡ None = h.idle refl in cc
 cut_is (Some r) (Some p) q st line ended running h z e = subst (λ (v : Bool). (take (ended + (if v then 2 else 1)) line ≡ h.done ++ (Test r.test ∷ p ∷ [])) × (drop (ended + (if v then 2 else 1)) line ≡ q)) e
     (cut_two (h.done ++ (Test r.test ∷ p ∷ [])) q line (ended + 2) h.line_is (long h.done (Test r.test) p ended h.count))
   where
-    long : (a : List Place) (o p : Place) (n : ℕ) → length a ≡ n → length (a ++ (o ∷ p ∷ [])) ≡ n + 2
+    long : (a : List LineEntry) (o p : LineEntry) (n : ℕ) → length a ≡ n → length (a ++ (o ∷ p ∷ [])) ≡ n + 2
     long a o p n e = grind (arith, common_steps)
 
 -- whether all asked tests are in the queue
@@ -71,7 +71,7 @@ asked_is s c ns serves ready can h =
     let cut = h.cut serves in
     let both = cut_is s.running s.next s.queue.items s.stands.items c.line c.ended c.running cut (ready serves) h.held.runs_is in
     all_queued_is s.stands.items (cut.done ++ (running_places s.running ++ option_to_list s.next)) s.queue.items [] ns cut.standing (ap once (sym cut.line_is) ∙ h.held.once_is) can
-    ∙ ap (λ (q : List Place). all_queued q ns) (sym both.1)
+    ∙ ap (λ (q : List LineEntry). all_queued q ns) (sym both.1)
 
 pub asks_can : (s : RunTests) (c : Call) (ns : List ℕ) (b : Bool) → IsCall s c → can_ask (length s.stands.items) [] ns ≡ b → can_ask c.size [] ns ≡ b
 asks_can s c ns b h e = ap (λ (n : ℕ). can_ask n [] ns) (sym h.held.size_is) ∙ e
@@ -96,7 +96,7 @@ stolen_call s r c ns back serves ready o out h =
           sent_is = held.sent_is;
           runs_is = held.runs_is;
           log_is = held.log_is;
-          once_is = ap once (is_line ∙ ap (λ (l : List Place). (old.done ++ (running_places s.running ++ option_to_list s.next)) ++ l) ok.2) ∙ once_kept ns (old.done ++ (running_places s.running ++ option_to_list s.next)) s.queue.items (ap once (sym old.line_is) ∙ h.held.once_is);
+          once_is = ap once (is_line ∙ ap (λ (l : List LineEntry). (old.done ++ (running_places s.running ++ option_to_list s.next)) ++ l) ok.2) ∙ once_kept ns (old.done ++ (running_places s.running ++ option_to_list s.next)) s.queue.items (ap once (sym old.line_is) ∙ h.held.once_is);
           test_is = ap test_of run ∙ test_from_left s.running c.running (drop c.ended (front c ++ kept ns (queue c))) _ h.held.runs_is (cut_left s.running s.next r.queue.items r.stands.items (front c ++ kept ns (queue c)) c.ended new);
         };
         cut = λ _. cut_at (front c ++ kept ns (queue c)) c.ended new (sym run) (sym nx) refl refl;
@@ -105,7 +105,7 @@ stolen_call s r c ns back serves ready o out h =
       λ z. ok.2 ∙ ap (kept ns) (ready serves (sym nx ∙ z)),
     )
   where
-    joined : (a b x q : List Place) → a ≡ x → b ≡ q → a ++ b ≡ x ++ q
+    joined : (a b x q : List LineEntry) → a ≡ x → b ≡ q → a ++ b ≡ x ++ q
     joined a b x q e f = rw (e, f) refl
 
 pub on_ok : (r : Result (Unit {0}) OutOfMemory) (P Q : Type 0) → (P → Q) → OnOk r P → OnOk r Q

@@ -7,8 +7,8 @@ use Rattle.xd_gateway.specs.declared.order.Order.{Order}
 use Rattle.xd_gateway.specs.declared.order.Order.TheVariants.{RunTests, RunAll, Steal, Shutdown}
 use Rattle.xd_journal.specs.declared.entry.Outcome.{Outcome}
 use Rattle.xd_journal.specs.declared.news.What.TheVariants.{Back}
-use Rattle.xd_run_tests.specs.declared.place.Place.{Place}
-use Rattle.xd_run_tests.specs.declared.place.Place.TheVariants.{Test, Mark}
+use Rattle.xd_run_tests.specs.declared.line_entry.LineEntry.{LineEntry}
+use Rattle.xd_run_tests.specs.declared.line_entry.LineEntry.TheVariants.{Test, Mark}
 use Rattle.xd_run_tests.specs.declared.phase.Ending.{Ending}
 use Rattle.xd_run_tests.specs.declared.phase.Ending.TheVariants.{BadCommand, ReceivingEnded}
 use Rattle.xd_run_tests.specs.declared.phase.Phase.{Phase}
@@ -23,7 +23,7 @@ use Rattle.xd_run_tests.specs.Turns.{Turn, turn_of, answered, over, ended_early,
 use Rattle.xd_run_tests.specs.History.{Given, call_after, turn_after, size_opened, size_behind, KnownTests}
 use Rattle.xd_run_tests.proofs.Once.{and_first, and_last, and_both}
 
-abbrev within : ℕ → List Place → Bool
+abbrev within : ℕ → List LineEntry → Bool
 within size [] = true
 within size (Test n ∷ ps) = nat_lt n size && within size ps
 within size (Mark ∷ ps) = within size ps
@@ -32,47 +32,47 @@ abbrev is_below : ℕ → Option ℕ → Bool
 is_below size None = true
 is_below size (Some n) = nat_lt n size
 
-both_in : (size : ℕ) (a b : List Place) → within size a ≡ true → within size b ≡ true → within size (a ++ b) ≡ true
+both_in : (size : ℕ) (a b : List LineEntry) → within size a ≡ true → within size b ≡ true → within size (a ++ b) ≡ true
 both_in size [] b e f = f
 both_in size (Test n ∷ a) b e f = and_both (nat_lt n size) (within size (a ++ b)) (and_first (nat_lt n size) (within size a) e) (both_in size a b (and_last (nat_lt n size) (within size a) e) f)
 both_in size (Mark ∷ a) b e f = both_in size a b e f
 
-first_in : (size : ℕ) (a b : List Place) → within size (a ++ b) ≡ true → within size a ≡ true
+first_in : (size : ℕ) (a b : List LineEntry) → within size (a ++ b) ≡ true → within size a ≡ true
 first_in size [] b e = refl
 first_in size (Test n ∷ a) b e = and_both (nat_lt n size) (within size a) (and_first (nat_lt n size) (within size (a ++ b)) e) (first_in size a b (and_last (nat_lt n size) (within size (a ++ b)) e))
 first_in size (Mark ∷ a) b e = first_in size a b e
 
-last_in : (size : ℕ) (a b : List Place) → within size (a ++ b) ≡ true → within size b ≡ true
+last_in : (size : ℕ) (a b : List LineEntry) → within size (a ++ b) ≡ true → within size b ≡ true
 last_in size [] b e = e
 last_in size (Test n ∷ a) b e = last_in size a b (and_last (nat_lt n size) (within size (a ++ b)) e)
 last_in size (Mark ∷ a) b e = last_in size a b e
 
-halves : (l : List Place) (n : ℕ) → take n l ++ drop n l ≡ l
+halves : (l : List LineEntry) (n : ℕ) → take n l ++ drop n l ≡ l
 halves l n = grind (arith, common_steps)
 
-rest_in : (size : ℕ) (l : List Place) (n : ℕ) → within size l ≡ true → within size (drop n l) ≡ true
+rest_in : (size : ℕ) (l : List LineEntry) (n : ℕ) → within size l ≡ true → within size (drop n l) ≡ true
 rest_in size l n e = last_in size (take n l) (drop n l) (ap (within size) (halves l n) ∙ e)
 
-start_in : (size : ℕ) (l : List Place) (n : ℕ) → within size l ≡ true → within size (take n l) ≡ true
+start_in : (size : ℕ) (l : List LineEntry) (n : ℕ) → within size l ≡ true → within size (take n l) ≡ true
 start_in size l n e = first_in size (take n l) (drop n l) (ap (within size) (halves l n) ∙ e)
 
-kept_if : (t : Bool) (size n : ℕ) (ps : List Place) → nat_lt n size ≡ true → within size ps ≡ true → within size (if t then ps else Test n ∷ ps) ≡ true
+kept_if : (t : Bool) (size n : ℕ) (ps : List LineEntry) → nat_lt n size ≡ true → within size ps ≡ true → within size (if t then ps else Test n ∷ ps) ≡ true
 kept_if true size n ps e f = f
 kept_if false size n ps e f = and_both (nat_lt n size) (within size ps) e f
 
-kept_in : (size : ℕ) (ns : List ℕ) (q : List Place) → within size q ≡ true → within size (kept ns q) ≡ true
+kept_in : (size : ℕ) (ns : List ℕ) (q : List LineEntry) → within size q ≡ true → within size (kept ns q) ≡ true
 kept_in size ns [] e = refl
 kept_in size ns (Test n ∷ q) e = kept_if (is_among n ns) size n (kept ns q) (and_first (nat_lt n size) (within size q) e) (kept_in size ns q (and_last (nat_lt n size) (within size q) e))
 kept_in size ns (Mark ∷ q) e = kept_in size ns q e
 
-given_in : (size : ℕ) (l : List Place) (ns : List ℕ) → can_give size l ns ≡ true → within size (map Test ns) ≡ true
+given_in : (size : ℕ) (l : List LineEntry) (ns : List ℕ) → can_give size l ns ≡ true → within size (map Test ns) ≡ true
 given_in size l [] e = refl
 given_in size l (n ∷ ns) e =
     let free = nat_lt n size && not (has_test n l) in
     let rest = can_give size (l ++ Test n ∷ []) ns in
     and_both (nat_lt n size) (within size (map Test ns)) (and_first (nat_lt n size) (not (has_test n l)) (and_first free rest e)) (given_in size (l ++ Test n ∷ []) ns (and_last free rest e))
 
-head_in : (size : ℕ) (l : List Place) (n : ℕ) → head_test l ≡ Some n → within size l ≡ true → nat_lt n size ≡ true
+head_in : (size : ℕ) (l : List LineEntry) (n : ℕ) → head_test l ≡ Some n → within size l ≡ true → nat_lt n size ≡ true
 head_in size [] n e h = cc
 head_in size (Test m ∷ l) n e h = let same : m ≡ n = (let z = e in cc) in subst (λ (x : ℕ). nat_lt x size ≡ true) same (and_first (nat_lt m size) (within size l) h)
 head_in size (Mark ∷ l) n e h = cc
@@ -93,14 +93,14 @@ early_within k t e w = go t.call.running
     go true = record { size_is = w.size_is; line_in = w.line_in; run_in = w.run_in }
     go false = ended_within k t (ending_text e) w
 
-started_within : (k : ℕ) (t : Turn) (n : ℕ) (l : List Place) → left t.call ≡ Test n ∷ l → Within k t → Within k (started n t)
+started_within : (k : ℕ) (t : Turn) (n : ℕ) (l : List LineEntry) → left t.call ≡ Test n ∷ l → Within k t → Within k (started n t)
 started_within k t n l is w = record {
   size_is = w.size_is;
   line_in = w.line_in;
   run_in = and_first (nat_lt n t.call.size) (within t.call.size l) (ap (within t.call.size) (sym is) ∙ rest_in t.call.size t.call.line t.call.ended w.line_in);
 }
 
-moved_within : (k : ℕ) (room : Bool) (t : Turn) (l : List Place) → left t.call ≡ l → Within k t → Within k (moved_on room l t)
+moved_within : (k : ℕ) (room : Bool) (t : Turn) (l : List LineEntry) → left t.call ≡ l → Within k t → Within k (moved_on room l t)
 moved_within k room t [] is w = w
 moved_within k room t (Mark ∷ l) is w = record { size_is = w.size_is; line_in = w.line_in; run_in = w.run_in }
 moved_within k room t (Test n ∷ []) is w = w

@@ -4,8 +4,8 @@
 -- what a steal takes, are choices of this project.
 use Rattle.std.specs.Prelude.{ℕ, ◌+◌, ◌*◌, ◌==◌, ◌&&◌, ◌||◌, not, nat_lt, List, [], ◌∷◌, ◌++◌, take, drop, Bool, true, false, Option, Some, None, if◌then◌else◌}
 use Rattle.xd_gateway.specs.declared.order.Order.{Order}
-use Rattle.xd_run_tests.specs.declared.place.Place.{Place}
-use Rattle.xd_run_tests.specs.declared.place.Place.TheVariants.{Test, Mark}
+use Rattle.xd_run_tests.specs.declared.line_entry.LineEntry.{LineEntry}
+use Rattle.xd_run_tests.specs.declared.line_entry.LineEntry.TheVariants.{Test, Mark}
 use Rattle.xd_run_tests.specs.declared.phase.Phase.{Phase}
 use Rattle.xd_run_tests.specs.declared.phase.Phase.TheVariants.{Awaiting}
 
@@ -14,7 +14,7 @@ pub record Call : Type 0 where
   pub phase : Phase
   pub waiting : List (Option Order)
   pub size : ℕ
-  pub line : List Place
+  pub line : List LineEntry
   pub ended : ℕ
   pub running : Bool
   pub sent : ℕ
@@ -23,20 +23,20 @@ abbrev pub called : Call
 called = record { phase = Awaiting; waiting = []; size = 0; line = []; ended = 0; running = false; sent = 0 }
 
 -- the line without the tests that ended
-abbrev pub left : Call → List Place
+abbrev pub left : Call → List LineEntry
 left c = drop c.ended c.line
 
 -- the ended tests, the running one and the next
 abbrev pub passed : Call → ℕ
 passed c = c.ended + (if c.running then 2 else 1)
 
-abbrev pub front : Call → List Place
+abbrev pub front : Call → List LineEntry
 front c = take (passed c) c.line
 
-abbrev pub queue : Call → List Place
+abbrev pub queue : Call → List LineEntry
 queue c = drop (passed c) c.line
 
-abbrev pub head_test : List Place → Option ℕ
+abbrev pub head_test : List LineEntry → Option ℕ
 head_test [] = None
 head_test (Test n ∷ ps) = Some n
 head_test (Mark ∷ ps) = None
@@ -48,7 +48,7 @@ running_test c = if c.running then head_test (left c) else None
 abbrev pub log_of : ℕ → ℕ
 log_of m = 2 * m + 2
 
-abbrev pub has_test : ℕ → List Place → Bool
+abbrev pub has_test : ℕ → List LineEntry → Bool
 has_test n [] = false
 has_test n (Test m ∷ ps) = (m == n) || has_test n ps
 has_test n (Mark ∷ ps) = has_test n ps
@@ -57,12 +57,12 @@ abbrev pub is_among : ℕ → List ℕ → Bool
 is_among n [] = false
 is_among n (m ∷ ms) = (m == n) || is_among n ms
 
-abbrev pub is_asked : List ℕ → Place → Bool
+abbrev pub is_asked : List ℕ → LineEntry → Bool
 is_asked ns (Test n) = is_among n ns
 is_asked ns Mark = false
 
 -- each is a test of the suite that does not stand in the line yet
-abbrev pub can_give : ℕ → List Place → List ℕ → Bool
+abbrev pub can_give : ℕ → List LineEntry → List ℕ → Bool
 can_give size line [] = true
 can_give size line (n ∷ ns) = nat_lt n size && not (has_test n line) && can_give size (line ++ Test n ∷ []) ns
 
@@ -71,16 +71,16 @@ abbrev pub can_ask : ℕ → List ℕ → List ℕ → Bool
 can_ask size before [] = true
 can_ask size before (n ∷ ns) = nat_lt n size && not (is_among n before) && can_ask size (before ++ n ∷ []) ns
 
-abbrev pub all_queued : List Place → List ℕ → Bool
+abbrev pub all_queued : List LineEntry → List ℕ → Bool
 all_queued q [] = true
 all_queued q (n ∷ ns) = has_test n q && all_queued q ns
 
 -- what a steal leaves of a queue, and what it takes from it
-abbrev pub kept : List ℕ → List Place → List Place
+abbrev pub kept : List ℕ → List LineEntry → List LineEntry
 kept ns [] = []
 kept ns (p ∷ ps) = if is_asked ns p then kept ns ps else p ∷ kept ns ps
 
-abbrev pub taken : List ℕ → List Place → List ℕ
+abbrev pub taken : List ℕ → List LineEntry → List ℕ
 taken ns [] = []
 taken ns (Test n ∷ ps) = if is_among n ns then n ∷ taken ns ps else taken ns ps
 taken ns (Mark ∷ ps) = taken ns ps

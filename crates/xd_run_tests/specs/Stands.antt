@@ -1,9 +1,9 @@
 -- How the parts of a `RunTests` stand for a call of the function.
 use Rattle.std.specs.Prelude.{◌≡◌, ℕ, ◌+◌, ◌<◌, List, [], ◌∷◌, ◌++◌, length, Bool, true, false, Option, Some, None, is_some, option_to_list, slice_index_or, slice_set, slice_get, not, ◌&&◌, map, if◌then◌else◌}
-use Rattle.xd_run_tests.specs.declared.place.Place.{Place}
-use Rattle.xd_run_tests.specs.declared.place.Place.TheVariants.{Test, Mark}
-use Rattle.xd_run_tests.specs.declared.place.Standing.{Standing}
-use Rattle.xd_run_tests.specs.declared.place.Standing.TheVariants.{Free, Queued, Passed}
+use Rattle.xd_run_tests.specs.declared.line_entry.LineEntry.{LineEntry}
+use Rattle.xd_run_tests.specs.declared.line_entry.LineEntry.TheVariants.{Test, Mark}
+use Rattle.xd_run_tests.specs.declared.line_entry.Standing.{Standing}
+use Rattle.xd_run_tests.specs.declared.line_entry.Standing.TheVariants.{Free, Queued, Passed}
 use Rattle.xd_run_tests.specs.declared.phase.Phase.TheVariants.{Serving}
 use Rattle.xd_run_tests.specs.declared.run_tests.Running.{Running}
 use Rattle.xd_run_tests.specs.declared.ask.Acts.{Acts}
@@ -13,7 +13,7 @@ use Rattle.xd_run_tests.specs.declared.run_tests.RunTests.{RunTests}
 use Rattle.xd_run_tests.specs.Line.{Call, running_test, log_of, has_test, can_give, can_ask, is_among, taken, kept}
 use Rattle.xd_run_tests.specs.Turns.{Turn}
 
-abbrev pub running_places : Option Running → List Place
+abbrev pub running_places : Option Running → List LineEntry
 running_places None = []
 running_places (Some r) = Test r.test ∷ []
 
@@ -22,11 +22,11 @@ test_of None = None
 test_of (Some r) = Some r.test
 
 -- the tests that stand, with this place ahead of the queue
-abbrev pub passing : List Standing → Place → List Standing
+abbrev pub passing : List Standing → LineEntry → List Standing
 passing stands (Test n) = slice_set stands n Passed
 passing stands Mark = stands
 
-abbrev pub passing_some : List Standing → Option Place → List Standing
+abbrev pub passing_some : List Standing → Option LineEntry → List Standing
 passing_some stands None = stands
 passing_some stands (Some p) = passing stands p
 
@@ -42,11 +42,11 @@ free_at stands n = is_free (slice_get stands n)
 abbrev pub standing_by : Bool → Bool → Standing
 standing_by is_ahead is_queued = if is_ahead then Passed else (if is_queued then Queued else Free)
 
-abbrev pub standing_of : ℕ → List Place → List Place → Standing
+abbrev pub standing_of : ℕ → List LineEntry → List LineEntry → Standing
 standing_of n ahead queue = standing_by (has_test n ahead) (has_test n queue)
 
 -- no test stands twice
-abbrev pub once : List Place → Bool
+abbrev pub once : List LineEntry → Bool
 once [] = true
 once (Test n ∷ ps) = not (has_test n ps) && once ps
 once (Mark ∷ ps) = once ps
@@ -86,8 +86,8 @@ abbrev pub freed_at : Bool → Standing → Standing
 freed_at b s = if b then Free else s
 
 -- of a queue some first places were gone through, and the asked tests among them taken out
-pub record TakenOut (ns : List ℕ) (before : List Standing) (queue : List Place) (after : List Standing) (rest : List Place) (back : List ℕ) (left : List Place) : Type 0 where
-  pub done : List Place
+pub record TakenOut (ns : List ℕ) (before : List Standing) (queue : List LineEntry) (after : List Standing) (rest : List LineEntry) (back : List ℕ) (left : List LineEntry) : Type 0 where
+  pub done : List LineEntry
   pub queue_is : queue ≡ done ++ rest
   pub back_is : back ≡ taken ns done
   pub left_is : left ≡ kept ns done
@@ -95,12 +95,12 @@ pub record TakenOut (ns : List ℕ) (before : List Standing) (queue : List Place
   pub freed : (n : ℕ) → n < length before → slice_index_or after n Free ≡ freed_at (has_test n done && is_among n ns) (slice_index_or before n Free)
 
 -- where each test of the suite stands
-pub record StandsAt (stands : List Standing) (ahead queue : List Place) : Type 0 where
+pub record StandsAt (stands : List Standing) (ahead queue : List LineEntry) : Type 0 where
   pub at : (n : ℕ) → n < length stands → slice_index_or stands n Free ≡ standing_of n ahead queue
 
 -- the line is cut into the ended tests, the running one, the next entry and the queue
-pub record IsCut (running : Option Running) (next : Option Place) (queue : List Place) (stands : List Standing) (line : List Place) (ended : ℕ) : Type 0 where
-  pub done : List Place
+pub record IsCut (running : Option Running) (next : Option LineEntry) (queue : List LineEntry) (stands : List Standing) (line : List LineEntry) (ended : ℕ) : Type 0 where
+  pub done : List LineEntry
   pub count : length done ≡ ended
   pub line_is : line ≡ (done ++ (running_places running ++ option_to_list next)) ++ queue
   -- behind a running test there is a next entry
@@ -151,8 +151,8 @@ pub record Stands (s : RunTests) (a : Acts) (t : Turn) : Type 0 where
   pub acted : HasActed a t
 
 -- tests were put behind a queue, or one of them cannot be
-pub record Appends (stands : List Standing) (queue : List Place) (stands' : List Standing) (queue' : List Place) (ns : List ℕ) (b : Bool) : Type 0 where
+pub record Appends (stands : List Standing) (queue : List LineEntry) (stands' : List Standing) (queue' : List LineEntry) (ns : List ℕ) (b : Bool) : Type 0 where
   pub size : length stands' ≡ length stands
-  pub gives : (ahead : List Place) → StandsAt stands ahead queue → b ≡ can_give (length stands) (ahead ++ queue) ns
+  pub gives : (ahead : List LineEntry) → StandsAt stands ahead queue → b ≡ can_give (length stands) (ahead ++ queue) ns
   pub queue_is : b ≡ true → queue' ≡ queue ++ map Test ns
-  pub standing : (ahead : List Place) → b ≡ true → StandsAt stands ahead queue → StandsAt stands' ahead queue'
+  pub standing : (ahead : List LineEntry) → b ≡ true → StandsAt stands ahead queue → StandsAt stands' ahead queue'

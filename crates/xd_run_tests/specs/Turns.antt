@@ -3,10 +3,11 @@ use Rattle.std.specs.Prelude.{ℕ, ◌<◌, ◌^◌, ◌+◌, ◌-◌, ◌&&◌,
 use Rattle.std.specs.List.{range_with_len}
 use Rattle.xd_gateway.specs.declared.order.Order.{Order}
 use Rattle.xd_gateway.specs.declared.order.Order.TheVariants.{RunTests, RunAll, Steal, Shutdown}
+use Rattle.xd_journal.specs.Kept.{most_of_one}
 use Rattle.xd_journal.specs.declared.entry.Outcome.{Outcome}
 use Rattle.xd_journal.specs.declared.news.What.TheVariants.{Collected, LogStart, Done, Back, Finished}
-use Rattle.xd_run_tests.specs.declared.place.Place.{Place}
-use Rattle.xd_run_tests.specs.declared.place.Place.TheVariants.{Test, Mark}
+use Rattle.xd_run_tests.specs.declared.line_entry.LineEntry.{LineEntry}
+use Rattle.xd_run_tests.specs.declared.line_entry.LineEntry.TheVariants.{Test, Mark}
 use Rattle.xd_run_tests.specs.declared.phase.Ending.{Ending}
 use Rattle.xd_run_tests.specs.declared.phase.Ending.TheVariants.{BadCommand, ReceivingEnded}
 use Rattle.xd_run_tests.specs.declared.phase.Phase.{Phase}
@@ -57,7 +58,7 @@ started n t = record {
 }
 
 -- what the line's left part lets happen where nothing runs: a mark is reached, or a test with an entry behind it
-abbrev pub moved_on : Bool → List Place → Turn → Turn
+abbrev pub moved_on : Bool → List LineEntry → Turn → Turn
 moved_on room [] t = t
 moved_on room (Mark ∷ ps) t = finished t
 moved_on room (Test n ∷ []) t = t
@@ -143,8 +144,8 @@ piece_asks log (b ∷ bs) = Piece log (b ∷ bs) ∷ []
 -- a piece of output, of which the log takes 8,192 bytes in all
 abbrev pub put_out : List ℕ → Turn → Turn
 put_out bytes t = record {
-  call = record (t.call) { sent = t.call.sent + length (take (8192 - t.call.sent) bytes) };
-  asks = t.asks ++ piece_asks (log_of t.call.ended) (take (8192 - t.call.sent) bytes);
+  call = record (t.call) { sent = t.call.sent + length (take (most_of_one - t.call.sent) bytes) };
+  asks = t.asks ++ piece_asks (log_of t.call.ended) (take (most_of_one - t.call.sent) bytes);
   run = t.run;
 }
 

@@ -8,13 +8,13 @@
 mod ask;
 mod input;
 mod laws;
+mod line_entry;
 mod phase;
-mod place;
 mod run_tests;
 
 pub use ask::{Acts, Ask};
 pub use input::Input;
 pub use laws::{a_test_is_of_the_suite, a_test_starts_once, one_log_is_open, two_steals};
+pub use line_entry::{LineEntry, Standing};
 pub use phase::{Ending, Phase};
-pub use place::{Place, Standing};
 pub use run_tests::{RunTests, Running};

@@ -10,7 +10,7 @@ mod suite;
 use crate::ask::{Acts, Ask};
 use crate::input::Input;
 use crate::phase::Phase;
-use crate::place::{Place, Standing};
+use crate::line_entry::{LineEntry, Standing};
 use std::alloc::Global;
 use std::collections::VecDeque;
 use xd_edge::OutOfMemory;
@@ -34,8 +34,8 @@ pub struct RunTests {
     waiting: VecDeque<Option<Order>>,
     size: u32,
     stands: Vec<Standing>,
-    queue: VecDeque<Place>,
-    next: Option<Place>,
+    queue: VecDeque<LineEntry>,
+    next: Option<LineEntry>,
     running: Option<Running>,
     next_log: u32,
     sent: usize,

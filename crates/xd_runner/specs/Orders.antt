@@ -1,5 +1,6 @@
 -- Orders that a runner takes, and what it puts.
 use Rattle.std.specs.Prelude.{◌≡◌, ℕ, ◌<◌, ◌≤◌, ◌⊎◌, List, [], ◌∷◌, ◌++◌, Option, Some, map, length, All}
+use Rattle.xd_edge.specs.Limits.{most_piece_bytes}
 use Rattle.xd_edge.specs.Children.{ChildRun}
 use Rattle.xd_edge.specs.Faults.{RoseBy}
 use Rattle.xd_edge.specs.MemChildren.{whole_output}
@@ -42,7 +43,7 @@ all_news (t ∷ ts) = told_news t ++ all_news ts
 
 -- a piece of output: a choice of this project
 abbrev pub IsPiece : List ℕ → Type 0
-IsPiece bytes = (1 ≤ length bytes) × (length bytes ≤ 4096)
+IsPiece bytes = (1 ≤ length bytes) × (length bytes ≤ most_piece_bytes)
 
 abbrev pub ArePieces : Told → Type 0
 ArePieces t = All IsPiece t.pieces

@@ -12,13 +12,10 @@ ghost use Rattle.xd_runner.specs.Running.{Heard, HeardPart, RunsOne, RunsPart, R
 use std::alloc::Global;
 use std::sync::Wait;
 use xd_child::wait_for;
-use xd_edge::{Blob, ChildFault, Children, OutOfMemory, Text, Texts};
+use xd_edge::{Blob, ChildFault, Children, MAX_PIECE_BYTES, OutOfMemory, Text, Texts};
 use xd_journal::Outcome;
 use xd_post::{Desk, Sender};
 use xd_reader::{LinkNews, LinkStop};
-
-/// How many bytes a piece of output has at most.
-const PIECE: usize = 4096;
 
 /// Takes orders and runs them, to the empty one or to want of memory.
 pub fn carry_out<R: Wait, K: Children>(
@@ -121,7 +118,7 @@ fn hear_output<R: Wait, K: Children>(
     ensures later { K.faults children.old ≤ K.faults children.new }
     ensures ring { ring_of_sender sender.new ≡ ring_of_sender sender.old }
 {
-    let mut buffer = [0u8; PIECE];
+    let mut buffer = [0u8; MAX_PIECE_BYTES];
     for _ in rt.forever() {
         match children.read(rt, child, &mut buffer) {
             Ok(0) => return Ok(true),
@@ -155,7 +152,7 @@ fn drop_output<R: Wait, K: Children>(rt: &R, children: &mut K, child: &mut K::Ch
     ensures gave { (output : List ℕ) × ChangesRun (K.place child.old) (read_so result output) (K.runs children.old) (K.runs children.new) }
     ensures later { K.faults children.old ≤ K.faults children.new }
 {
-    let mut buffer = [0u8; PIECE];
+    let mut buffer = [0u8; MAX_PIECE_BYTES];
     for _ in rt.forever() {
         match children.read(rt, child, &mut buffer) {
             Ok(0) => return true,

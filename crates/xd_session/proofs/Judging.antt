@@ -18,7 +18,8 @@ use Rattle.xd_ledger.specs.State.{done_books, moved}
 use Rattle.xd_ledger.specs.Stops.{is_stopped, or_stop}
 use Rattle.xd_ledger.specs.Numbers.{all_among, all_distinct, among, first_of, times}
 use Rattle.xd_ledger.specs.Plan.{Asked, Plan, is_each, items_named, total}
-use Rattle.xd_ledger.specs.Proper.{is_id, may_follow, may_give_back, most_tests, names_head, no_text_twice}
+use Rattle.xd_edge.specs.Limits.{most_tests}
+use Rattle.xd_ledger.specs.Proper.{is_id, may_follow, may_give_back, names_head, no_text_twice}
 use Rattle.xd_ledger.specs.Sharing.{State}
 use Rattle.xd_ledger.specs.Sound.{most_items}
 use Rattle.xd_ledger.specs.Table.{Table, all_items, held, held_by_all, in_rota}

@@ -20,7 +20,8 @@ use Rattle.xd_ledger.specs.Meaning.{given_ids}
 use Rattle.xd_ledger.specs.Modes.Call.{Joined, Share}
 use Rattle.xd_ledger.specs.Outputs.{acts_of, after_joining, own_outputs, shut_all, slots_of_rota, unless_stopped}
 use Rattle.xd_ledger.specs.Plan.{Plan, is_each}
-use Rattle.xd_ledger.specs.Proper.{may_follow, most_tests, most_workers}
+use Rattle.xd_edge.specs.Limits.{most_tests}
+use Rattle.xd_ledger.specs.Proper.{may_follow, most_workers}
 use Rattle.xd_ledger.specs.Sharing.{State, ids_at, in_books, is_full, joining, planned, shared_now, sizes_from}
 use Rattle.xd_ledger.specs.State.{collecting, moved}
 use Rattle.xd_ledger.specs.Sound.{most_items}

@@ -1,7 +1,8 @@
 // What the session keeps of a run beside its mode.
 ghost use Rattle.std.specs.Prelude.{◌≡◌, ◌&&◌, true, nat_le, length};
 ghost use Rattle.std.specs.List.{list_all};
-ghost use Rattle.xd_ledger.specs.Proper.{is_id, most_tests, most_workers, no_text_twice};
+ghost use Rattle.xd_edge.specs.Limits.{most_tests};
+ghost use Rattle.xd_ledger.specs.Proper.{is_id, most_workers, no_text_twice};
 
 use xd_journal::{RunStop, Settings};
 use xd_ledger::{Ledger, Listed, Member};

@@ -3,7 +3,8 @@ ghost use Rattle.std.specs.Prelude.{◌≡◌, ◌≤◌, ◌==◌, ◌&&◌, �
 ghost use Rattle.std.specs.List.{list_all};
 ghost use Rattle.std.specs.Str.{chars};
 ghost use Rattle.xd_ledger.specs.Collections.{differ_at, listed, key, with_list};
-ghost use Rattle.xd_ledger.specs.Proper.{is_plain, is_id, no_text_twice, most_tests};
+ghost use Rattle.xd_edge.specs.Limits.{most_tests};
+ghost use Rattle.xd_ledger.specs.Proper.{is_plain, is_id, no_text_twice};
 ghost use Rattle.xd_ledger.specs.Sharing.{ids_at};
 ghost use Rattle.xd_session.specs.Compared.{compared, comparison, given, place_in_lists};
 ghost use Rattle.xd_session.specs.Crew.{books_of};
@@ -12,7 +13,7 @@ use crate::books::RunBooks;
 use crate::known::is_each;
 use std::alloc::Global;
 use std::collections::BTreeSet;
-use xd_edge::{OutOfMemory, Text, Texts};
+use xd_edge::{MAX_TESTS, OutOfMemory, Text, Texts};
 use xd_journal::Ids;
 use xd_ledger::Listed;
 
@@ -74,7 +75,7 @@ fn are_distinct(alloc: Global, texts: &[Text]) -> Result<bool, OutOfMemory>
 pub(crate) fn are_in_order(alloc: Global, ids: &Texts) -> Result<bool, OutOfMemory>
     ensures { IfOk result (λ b. b ≡ (nat_le (length ids.now) most_tests && list_all is_id ids.now && no_text_twice ids.now)) }
 {
-    if ids.items.len() > 50_000 || !are_all_ids(&ids.items) {
+    if ids.items.len() > MAX_TESTS as usize || !are_all_ids(&ids.items) {
         return Ok(false);
     }
     let distinct = are_distinct(alloc, &ids.items)?;

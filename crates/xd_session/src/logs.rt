@@ -8,10 +8,7 @@ ghost use Rattle.xd_session.specs.Kept.{log_in, shortened, log_of_item, place_of
 use std::alloc::Global;
 use std::marker::Model;
 use xd_edge::{Blob, OutOfMemory};
-use xd_journal::What;
-
-// So many bytes of a log can be asked for.
-const MOST_OF_ONE: usize = 8192;
+use xd_journal::{MOST_OF_ONE, What};
 
 /// The last log that a worker started: the number of its channel, the test that it is of, whether it is open, and the
 /// first bytes of it.
@@ -55,10 +52,10 @@ fn place_of(logs: &[WorkerLog], worker: u32) -> usize
 fn add_first(bytes: &mut Blob, piece: &[u8]) -> Result<(), OutOfMemory>
     ensures { OnOk result (bytes.new ≡ take most_of_one (bytes.old ++ piece.now)) }
 {
-    let room = MOST_OF_ONE.saturating_sub(bytes.bytes.len());
+    let room = (MOST_OF_ONE as usize).saturating_sub(bytes.bytes.len());
     let count = room.min(piece.len());
     bytes.bytes.extend_from_slice(&piece[..count])?;
-    bytes.bytes.truncate(MOST_OF_ONE);
+    bytes.bytes.truncate(MOST_OF_ONE as usize);
     Ok(())
 }
 

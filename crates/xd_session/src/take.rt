@@ -20,13 +20,8 @@ use crate::logs::Logs;
 use crate::state::RunState;
 use std::alloc::Global;
 use xd_edge::{Blob, OutOfMemory};
-use xd_journal::{Cause, Entry, Outcome, What};
+use xd_journal::{Cause, Entry, MOST_OF_ALL, MOST_OF_ONE, Outcome, What};
 use xd_ledger::Mode;
-
-// Of the output of one test so many bytes are kept, and so many of all tests of a run together.
-const MOST_OF_ONE: u32 = 8192;
-
-const MOST_OF_ALL: u32 = 67_108_864;
 
 // What decides: the state of the run, the logs, and how many bytes the entries so far keep.
 #[derive(Drop)]

@@ -5,6 +5,7 @@ use Rattle.std.specs.Option.{option_or}
 use Rattle.std.specs.Str.{bytes_eq, chars}
 use Rattle.toml.specs.Data.{Data, table, Items, no_items, item, Members, no_members, member, get_member, as_str, as_table}
 use Rattle.xd_edge.specs.declared.mode.ModeKind.TheVariants.{Load, LoadGroup}
+use Rattle.xd_edge.specs.Limits.{most_tests}
 use Rattle.xd_suite.specs.declared.test.Test.{Test}
 use Rattle.xd_suite.specs.declared.fault.SuiteWhat.{SuiteWhat}
 use Rattle.xd_suite.specs.declared.fault.SuiteWhat.TheVariants.{UnknownKey, WrongKind, TooMany, Missing, BadId, Repeated}
@@ -128,5 +129,5 @@ abbrev pub fault_of : Members → Option SuiteFault
 fault_of ms =
     if not (has_only_keys is_suite_key ms) then Some (of_file UnknownKey)
     else if not (has_test_kind ms) then Some (of_file WrongKind)
-    else if not (nat_le (count_items (listed ms)) 50000) then Some (of_file TooMany)
+    else if not (nat_le (count_items (listed ms)) most_tests) then Some (of_file TooMany)
     else option_or (fault_of_tests 0 (listed ms)) (fault_of_ids (tests_of (listed ms)))

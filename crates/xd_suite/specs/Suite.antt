@@ -3,6 +3,7 @@ use Rattle.std.specs.Prelude.{ℕ, ◌≡◌, ◌<◌, ◌≤◌, ◌⊎◌, Lis
 use Rattle.std.specs.Str.{IsUtf8}
 use Rattle.toml.specs.Data.{Members}
 use Rattle.toml.specs.Parse.{parse_document}
+use Rattle.xd_edge.specs.Limits.{most_suite_bytes}
 use Rattle.xd_suite.specs.declared.test.Test.{Test}
 use Rattle.xd_suite.specs.declared.fault.SuiteWhat.TheVariants.{TooLarge, NotToml}
 use Rattle.xd_suite.specs.declared.fault.SuiteFault.{SuiteFault}
@@ -13,7 +14,7 @@ use Rattle.xd_suite.specs.Tests.{listed, tests_of}
 
 -- The bytes are those of a TOML file that is small enough, with this data.
 pub record HasData (bytes : List ℕ) (ms : Members) : Type 0 where
-  pub small : length bytes ≤ 4194304
+  pub small : length bytes ≤ most_suite_bytes
   pub utf8 : IsUtf8 bytes
   pub parsed : parse_document bytes ≡ Some ms
 
@@ -32,13 +33,13 @@ pub record HasFault (bytes : List ℕ) (fault : SuiteFault) : Type 0 where
 
 -- These bytes are small enough, and no TOML.
 pub record IsNotToml (bytes : List ℕ) : Type 0 where
-  pub small : length bytes ≤ 4194304
+  pub small : length bytes ≤ most_suite_bytes
   pub not_toml : IsUtf8 bytes → parse_document bytes ≡ None
 
 -- why these bytes are no suite file: there are too many, they are no TOML, or their data breaks a rule
 abbrev pub IsFaulty : List ℕ → SuiteFault → Type 0
 IsFaulty bytes fault =
-    ((4194304 < length bytes) × (fault ≡ of_file TooLarge)) ⊎ ((IsNotToml bytes × (fault ≡ of_file NotToml)) ⊎ HasFault bytes fault)
+    ((most_suite_bytes < length bytes) × (fault ≡ of_file TooLarge)) ⊎ ((IsNotToml bytes × (fault ≡ of_file NotToml)) ⊎ HasFault bytes fault)
 
 -- These bytes are refused so; want of memory has no cause in them.
 abbrev pub IsRefused : List ℕ → SuiteRefusal → Type 0

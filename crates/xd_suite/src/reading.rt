@@ -3,6 +3,7 @@ ghost use Rattle.std.specs.Prelude.{◌≡◌, ◌<◌, ◌≤◌, Some, None, l
 ghost use Rattle.std.specs.Str.{chars};
 ghost use Rattle.toml.specs.Data.{no_items};
 ghost use Rattle.toml.specs.View.{view, array_view, table_view};
+ghost use Rattle.xd_edge.specs.Limits.{most_tests};
 ghost use Rattle.xd_suite.specs.Faults.{fault_of, fault_of_ids, fault_of_test, fault_of_tests};
 ghost use Rattle.xd_suite.specs.Suite.{Names};
 ghost use Rattle.xd_suite.specs.Tests.{array_at, listed, members_of, test_of, tests_of, text_at, texts_of};
@@ -15,16 +16,14 @@ use crate::{SuiteRefusal, SuiteWhat, Test};
 use std::alloc::Global;
 use toml::value::Array;
 use toml::{Table, Value};
-use xd_edge::{OutOfMemory, Text, Texts};
-
-const MAX_TESTS: usize = 50_000;
+use xd_edge::{MAX_TESTS, OutOfMemory, Text, Texts};
 
 /// The tests of a file, or its first fault.
 pub fn read_suite(alloc: Global, table: &Table) -> Result<Vec<Test>, SuiteRefusal>
     ensures good { IfOk result (λ _. fault_of (table_view table.now) ≡ None) }
     ensures tests { IfOk result (λ tests. tests.items ≡ tests_of (listed (table_view table.now))) }
     ensures runs { IfOk result (λ tests. All (λ t. 0 < length t.run) tests.items) }
-    ensures few { IfOk result (λ tests. length tests.items ≤ 50000) }
+    ensures few { IfOk result (λ tests. length tests.items ≤ most_tests) }
     ensures new_ids { IfOk result (λ tests. fault_of_ids tests.items ≡ None) }
     ensures refused { IfErr result (Names (fault_of (table_view table.now))) }
 {
@@ -40,7 +39,7 @@ pub fn read_suite(alloc: Global, table: &Table) -> Result<Vec<Test>, SuiteRefusa
     if !are_tables(array) {
         return Err(of_file(SuiteWhat::WrongKind));
     }
-    if count(array) > MAX_TESTS {
+    if count(array) > MAX_TESTS as usize {
         return Err(of_file(SuiteWhat::TooMany));
     }
     let tests = read_tests(alloc, array)?;
@@ -51,11 +50,11 @@ pub fn read_suite(alloc: Global, table: &Table) -> Result<Vec<Test>, SuiteRefusa
 }
 
 fn read_tests(alloc: Global, array: &Array) -> Result<Vec<Test>, SuiteRefusal>
-    requires { length array.now.items ≤ 50000 }
+    requires { length array.now.items ≤ most_tests }
     ensures good { IfOk result (λ _. fault_of_tests 0 (array_view array.now) ≡ None) }
     ensures tests { IfOk result (λ tests. tests.items ≡ tests_of (array_view array.now)) }
     ensures runs { IfOk result (λ tests. All (λ t. 0 < length t.run) tests.items) }
-    ensures few { IfOk result (λ tests. length tests.items ≤ 50000) }
+    ensures few { IfOk result (λ tests. length tests.items ≤ most_tests) }
     ensures refused { IfErr result (Names (fault_of_tests 0 (array_view array.now))) }
 {
     let mut tests = Vec::new(alloc);

@@ -1,5 +1,6 @@
 // Whether an id stands twice.
 ghost use Rattle.std.specs.Prelude.{◌≡◌, ◌≤◌, length, IfOk};
+ghost use Rattle.xd_edge.specs.Limits.{most_tests};
 ghost use Rattle.xd_suite.specs.Faults.{earlier, fault_of_ids, repeat_of};
 
 use crate::test::ids_in;
@@ -10,7 +11,7 @@ use xd_edge::{ModeKind, OutOfMemory, Text};
 
 /// The first test whose id, alone or by its group, stood before.
 pub fn fault_of_ids(alloc: Global, tests: &[Test]) -> Result<Option<SuiteFault>, OutOfMemory>
-    requires { length tests.now ≤ 50000 }
+    requires { length tests.now ≤ most_tests }
     ensures { IfOk result (λ fault. fault ≡ fault_of_ids tests.now) }
 {
     let ids = ids_in(alloc, tests, ModeKind::Load)?;
@@ -38,7 +39,7 @@ fn earlier(one: Option<u32>, other: Option<u32>) -> Option<u32>
 
 // The number of the first text that stood before. The cost of a text grows with the logarithm of their number.
 fn repeat_of(alloc: Global, texts: &[Text]) -> Result<Option<u32>, OutOfMemory>
-    requires { length texts.now ≤ 50000 }
+    requires { length texts.now ≤ most_tests }
     ensures { IfOk result (λ number. number ≡ repeat_of texts.now) }
 {
     let mut seen = BTreeSet::new(alloc);

@@ -10,9 +10,7 @@ use crate::test::ids_in;
 use crate::{SuiteRefusal, SuiteWhat, Test};
 use std::alloc::Global;
 use std::marker::Model;
-use xd_edge::{ModeKind, OutOfMemory, Text, Texts};
-
-const MAX_BYTES: usize = 4_194_304;
+use xd_edge::{MAX_SUITE_BYTES, ModeKind, OutOfMemory, Text, Texts};
 
 /// The tests of a suite file, in order: at most 50,000, and each runs a program.
 #[derive(Drop)]
@@ -22,6 +20,7 @@ pub struct Suite {
 
 impl Model for Suite {
     ghost use Rattle.std.specs.Prelude.{List, None, length, ◌≡◌, ◌≤◌, ◌<◌, All};
+    ghost use Rattle.xd_edge.specs.Limits.{most_tests};
     ghost use Rattle.xd_suite.specs.Faults.{fault_of_ids};
     ghost use Rattle.xd_suite.specs.declared.test.Test.{Test};
 
@@ -29,7 +28,7 @@ impl Model for Suite {
 
     ghost view = { λ s. s.tests.items };
 
-    ghost invariant = { λ s. (length s.tests.items ≤ 50000) × All (λ t. 0 < length t.run) s.tests.items × (fault_of_ids s.tests.items ≡ None) };
+    ghost invariant = { λ s. (length s.tests.items ≤ most_tests) × All (λ t. 0 < length t.run) s.tests.items × (fault_of_ids s.tests.items ≡ None) };
 }
 
 impl Suite {
@@ -38,7 +37,7 @@ impl Suite {
         ensures ok { IfOk result (IsSuiteOf bytes.now) }
         ensures refused { IfErr result (IsRefused bytes.now) }
     {
-        if bytes.len() > MAX_BYTES {
+        if bytes.len() as u64 > MAX_SUITE_BYTES {
             return Err(of_file(SuiteWhat::TooLarge));
         }
         let table = match toml::table_from_slice(alloc, bytes) {

@@ -1,6 +1,7 @@
 -- A suite that is told is refused only where a fault of the files shows.
 use Rattle.std.proofs.Common.{◌≡◌, ℕ, ◌<◌, inl, inr, List, [], length, Option, Some, None, sym, ◌∙◌, ap, subst, arith}
 use Rattle.std.specs.Prelude.{IsSomeAnd, unwrap_or}
+use Rattle.xd_edge.specs.Limits.{most_suite_bytes}
 use Rattle.xd_edge.specs.Faults.{Rose, StoodStill}
 use Rattle.xd_edge.specs.Files.{Held, HasFile, HasLarger}
 use Rattle.xd_suite.specs.declared.fault.SuiteFault.{SuiteFault}
@@ -29,7 +30,7 @@ not_risen before now calm rose = let more = rose calm.1 in let same = calm.0 in 
 module _ (held : Option Held) (suite : List ℕ) (tests : List Test) (told : TellsTests held suite tests) where
   not_refused : (fault : SuiteFault) → HasRefused held suite fault → ⊥
   not_refused fault (inl larger) =
-      let more = told_larger held suite told.bytes 4194304 told.told larger.1 in
+      let more = told_larger held suite told.bytes most_suite_bytes told.told larger.1 in
       let small = told.is.toml.small in
       omega (arith, more, small)
   not_refused fault (inr faulty) =

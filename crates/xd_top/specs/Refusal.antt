@@ -1,5 +1,6 @@
 -- Why nothing is run or printed, and the line that says so. A choice of this project.
 use Rattle.std.specs.Prelude.{ℕ, ◌≡◌, ◌≤◌, ◌⊎◌, Bool, false, List, [], ◌∷◌, ◌++◌, length, Option, Some, IsSomeAnd, codes}
+use Rattle.xd_edge.specs.Limits.{most_suite_bytes}
 use Rattle.xd_edge.specs.Faults.{Rose, StoodStill}
 use Rattle.xd_edge.specs.Files.{Held, HasFile, HasLarger}
 use Rattle.xd_edge.specs.Printing.{Shows}
@@ -36,12 +37,12 @@ pub record HasSuite (held : Option Held) (suite : List ℕ) (tests : List Test) 
 pub record HasFaulty (held : Option Held) (suite : List ℕ) (fault : SuiteFault) : Type 0 where
   pub bytes : List ℕ
   pub file : HasFile held suite bytes
-  pub small : length bytes ≤ 4194304
+  pub small : length bytes ≤ most_suite_bytes
   pub faulty : IsFaulty bytes fault
 
 -- The suite file of this name is larger than what is read, or has this fault.
 abbrev pub HasRefused : Option Held → List ℕ → SuiteFault → Type 0
-HasRefused held suite fault = ((fault ≡ of_file TooLarge) × HasLarger held suite 4194304) ⊎ HasFaulty held suite fault
+HasRefused held suite fault = ((fault ≡ of_file TooLarge) × HasLarger held suite most_suite_bytes) ⊎ HasFaulty held suite fault
 
 -- why there is no suite; `rose` says that the count of faults of the files rose. A suite that is too large is refused
 -- by the files.

@@ -12,6 +12,10 @@ use Rattle.xd_top.specs.declared.refusal.Refusal.TheVariants.{FileUnread, FileTo
 use Rattle.xd_top.specs.Outside.{Streams}
 use Rattle.xd_top.specs.Refusal.{Refuses}
 
+-- a file of messages has at most so many bytes
+abbrev pub most_file_bytes : ℕ
+most_file_bytes = 67108864
+
 -- the exit status
 abbrev pub wire_status : WireEnd → ℕ
 wire_status Whole = 0
@@ -23,7 +27,7 @@ wire_status OutFailed = 3
 pub record PrintsFile (path : List ℕ) (held : Option Held) (rose : Type 0) (how : WireEnd) (out_old out_new : Option Sunk) : Type 0 where
   pub bytes : List ℕ
   pub file : HasFile held path bytes
-  pub small : length bytes ≤ 67108864
+  pub small : length bytes ≤ most_file_bytes
   pub text : HasText bytes how
   pub prints : (text : List ℕ) (faulty : Bool) → IsWireText bytes text faulty → Prints (Ok how) text faulty out_old out_new
   pub cause : how ≡ OutFailed → rose
@@ -31,7 +35,7 @@ pub record PrintsFile (path : List ℕ) (held : Option Held) (rose : Type 0) (ho
 -- why a file of messages is refused
 abbrev pub WhyFileRefused : List ℕ → Option Held → Type 0 → Refusal → Type 0
 WhyFileRefused path held rose FileUnread = rose
-WhyFileRefused path held rose FileTooLarge = HasLarger held path 67108864
+WhyFileRefused path held rose FileTooLarge = HasLarger held path most_file_bytes
 WhyFileRefused path held rose _ = ⊥
 
 -- the status of a file that was printed, by whether it has a fault
@@ -41,7 +45,7 @@ status_by faulty = if faulty then 1 else 0
 -- The files tell these bytes of the file of this name, which are few enough to be read.
 pub record TellsMessages (held : Option Held) (path bytes : List ℕ) : Type 0 where
   pub told : IsSomeAnd held (λ file. file path ≡ Some bytes)
-  pub small : length bytes ≤ 67108864
+  pub small : length bytes ≤ most_file_bytes
 
 -- The text of the file of this name was printed, with this status.
 pub record PrintsMessages (path : List ℕ) (status : ℕ) (old new : Streams) : Type 0 where

@@ -7,13 +7,11 @@ ghost use Rattle.xd_top.specs.Refusal.{FilesCount, HasSuite, WhySuiteRefused};
 use crate::refusal::{Refusal, refuse};
 use std::alloc::Global;
 use std::sync::Wait;
-use xd_edge::{Children, Clock, FileFault, Files, OutOfMemory, Sink, Text};
+use xd_edge::{Children, Clock, FileFault, Files, MAX_SUITE_BYTES, OutOfMemory, Sink, Text};
 use xd_journal::Journal;
 use xd_local::{LocalSuite, run_suite};
 use xd_report::status_of;
 use xd_suite::{Suite, SuiteFault, SuiteRefusal, SuiteWhat};
-
-const MAX_SUITE_BYTES: u64 = 4_194_304;
 
 const TOO_LARGE: SuiteFault = SuiteFault {
     test: None,

@@ -20,8 +20,8 @@ use Rattle.xd_gateway.specs.Events.{event_tree}
 use Rattle.xd_run_tests.specs.declared.run_tests.RunTests.{RunTests}
 use Rattle.xd_run_tests.specs.History.{turn_after, StandsFor as Follows}
 use Rattle.xd_worker.specs.declared.input.WorkerActions.{WorkerActions}
-use Rattle.xd_worker.specs.declared.runner.Runner.{Runner}
-use Rattle.xd_worker.specs.declared.runner.Fed.{Fed}
+use Rattle.xd_worker.specs.declared.tests_call.TestsCall.{TestsCall}
+use Rattle.xd_worker.specs.declared.tests_call.Fed.{Fed}
 use Rattle.xd_worker.specs.declared.worker.WorkerCore.{WorkerCore}
 use Rattle.xd_worker.specs.Talk.{Talk, talk_of, told, opening, saying, item_says, sent, sent_how, payload_on, function_ended}
 use Rattle.xd_value.specs.declared.value.Value.{Value}
@@ -88,7 +88,7 @@ announced c side a say t n event g h k = record {
 }
 
 -- what `run_tests` asks for
-pub fed_by : (r : Runner) (function : RunTests) (s : Service) (i : Input) (room : Bool) (n : ℕ) (acts : Acts) → IsService r s → room ≡ (given_in s i n).room
+pub fed_by : (r : TestsCall) (function : RunTests) (s : Service) (i : Input) (room : Bool) (n : ℕ) (acts : Acts) → IsService r s → room ≡ (given_in s i n).room
     → Follows function (record { input = i; room = room } ∷ s.given) → acts.asks.items ≡ (turn_after s.given (record { input = i; room = room })).asks → acts.run ≡ (turn_after s.given (record { input = i; room = room })).run
     → FedBy (Some (record r { function = function })) s (given_in s i n) (record { channel = r.channel; acts = acts })
 fed_by r function s i room n acts h e f a b =
@@ -105,11 +105,11 @@ pub given_to : Option Service → Input → ℕ → Option Service
 given_to None i n = None
 given_to (Some s) i n = Some (record s { given = given_in s i n ∷ s.given })
 
-pub fed_nothing : (r : Option Runner) (s : Option Service) (i : Input) (n : ℕ) (t : Turn) → HasFed r s i n None → (fed_to s i n t ≡ t) × AreServices r s
+pub fed_nothing : (r : Option TestsCall) (s : Option Service) (i : Input) (n : ℕ) (t : Turn) → HasFed r s i n None → (fed_to s i n t ≡ t) × AreServices r s
 fed_nothing r None i n t h = (refl, h)
 fed_nothing r (Some s) i n t h = absurd h
 
-pub fed_something : (r : Option Runner) (s : Option Service) (i : Input) (n : ℕ) (t : Turn) (f : Fed) → HasFed r s i n (Some f)
+pub fed_something : (r : Option TestsCall) (s : Option Service) (i : Input) (n : ℕ) (t : Turn) (f : Fed) → HasFed r s i n (Some f)
     → (v : Option Service) × AreServices r v × (fed_to s i n t ≡ all_asked f.channel f.acts.asks.items (record t { duties = record (t.duties) { service = v }; run = f.acts.run }))
 fed_something r None i n t f h = absurd h
 fed_something r (Some s) i n t f h =
@@ -120,7 +120,7 @@ all_asked_more c [] a t = refl
 all_asked_more c (b ∷ asks) a t = all_asked_more c asks a (asked c b t)
 
 -- `run_tests` has ended
-pub ended_some : (r : Runner) (s : Option Service) → AreServices (Some r) s → AreServices (Some (record r { ended = true })) (ended_call s)
+pub ended_some : (r : TestsCall) (s : Option Service) → AreServices (Some r) s → AreServices (Some (record r { ended = true })) (ended_call s)
 ended_some r None h = absurd h
 ended_some r (Some s) h = record { channel_is = h.channel_is; mode_is = h.mode_is; ended_is = refl; follows = h.follows }
 
@@ -161,7 +161,7 @@ echoed_long c a t n v u h =
 
 -- ---- calls
 
-pub called_is : (r : Option Runner) (s : Option Service) → AreServices r s → is_some r ≡ is_called s
+pub called_is : (r : Option TestsCall) (s : Option Service) → AreServices r s → is_some r ≡ is_called s
 called_is None None h = refl
 called_is None (Some s) h = absurd h
 called_is (Some r) None h = absurd h

@@ -12,8 +12,8 @@ use Rattle.xd_factory.specs.declared.taken.Taken.{Taken}
 use Rattle.xd_factory.specs.declared.taken.Taken.TheVariants.{Kept, Handed, EndKept, EndHanded, Dropped, Status, Exec, Terminate}
 use Rattle.xd_factory.specs.Said.{Said, Means}
 use Rattle.xd_factory.specs.Trees.{taken_tree}
-use Rattle.xd_worker.specs.declared.runner.Runner.{Runner}
-use Rattle.xd_worker.specs.declared.runner.Fed.{Fed}
+use Rattle.xd_worker.specs.declared.tests_call.TestsCall.{TestsCall}
+use Rattle.xd_worker.specs.declared.tests_call.Fed.{Fed}
 use Rattle.xd_worker.specs.declared.input.WorkerInput.{WorkerInput}
 use Rattle.xd_worker.specs.declared.input.WorkerActions.{WorkerActions}
 use Rattle.xd_worker.specs.declared.input.WorkerFault.{WorkerFault}
@@ -27,13 +27,13 @@ use Rattle.xd_worker.specs.Turns.{given_in}
 use Rattle.xd_factory.specs.SideTable.{RefusedBy, MustRefuse}
 use Rattle.xd_worker.specs.History.{Heard, Is, table_behind, turn_by, worker_after, is_over, Refuses}
 
-pub record IsService (r : Runner) (s : Service) : Type 0 where
+pub record IsService (r : TestsCall) (s : Service) : Type 0 where
   pub channel_is : r.channel ≡ s.channel
   pub mode_is : r.mode ≡ s.mode
   pub ended_is : r.ended ≡ s.ended
   pub follows : Follows r.function s.given
 
-abbrev pub AreServices : Option Runner → Option Service → Type 0
+abbrev pub AreServices : Option TestsCall → Option Service → Type 0
 AreServices None None = Unit {0}
 AreServices (Some r) (Some s) = IsService r s
 AreServices None (Some s) = ⊥
@@ -46,7 +46,7 @@ tests_of (Some tests) = tests
 pub record AreDuties (c : WorkerCore) (d : Duties) : Type 0 where
   pub good : c.fault ≡ None
   pub stopped_is : c.stopped ≡ d.stopped
-  pub services_are : AreServices c.runner d.service
+  pub services_are : AreServices c.tests_call d.service
   pub echoes_are : c.echoes.items ≡ d.echoes
   pub owed_is : c.owed ≡ d.owed
   pub tests_are : tests_of c.suite ≡ d.tests
@@ -119,14 +119,14 @@ pub record AskedAtFault (c : WorkerCore) (w : Worker) : Type 0 where
   pub asked_is : c.before ≡ Some (asked_of w)
 
 -- what `run_tests` asks for behind one more input
-pub record FedBy (r : Option Runner) (s : Service) (g : Given) (f : Fed) : Type 0 where
+pub record FedBy (r : Option TestsCall) (s : Service) (g : Given) (f : Fed) : Type 0 where
   pub services_are : AreServices r (Some (record s { given = g ∷ s.given }))
   pub channel_is : f.channel ≡ s.channel
   pub asks_are : f.acts.asks.items ≡ (turn_after s.given g).asks
   pub run_is : f.acts.run ≡ (turn_after s.given g).run
 
 -- the same, where it was called
-abbrev pub HasFed : Option Runner → Option Service → Input → ℕ → Option Fed → Type 0
+abbrev pub HasFed : Option TestsCall → Option Service → Input → ℕ → Option Fed → Type 0
 HasFed r None i n None = AreServices r None
 HasFed r (Some s) i n (Some f) = FedBy r s (given_in s i n) f
 HasFed r None i n (Some f) = ⊥

@@ -5,16 +5,16 @@
 mod function;
 mod input;
 mod laws;
-mod runner;
 mod status;
 mod talk;
+mod tests_call;
 mod words;
 mod worker;
 
 pub use function::{CallFault, Called, Function, read_call};
 pub use input::{WorkerActions, WorkerFault, WorkerInput};
 pub use laws::{a_test_is_of_the_suite, each_log_opens};
-pub use runner::{Fed, Runner};
 pub use status::status_value;
 pub use talk::Sent;
+pub use tests_call::{Fed, TestsCall};
 pub use worker::{Asked, WorkerCore};

@@ -6,7 +6,7 @@ mod messages;
 mod suites;
 
 use crate::input::{WorkerActions, WorkerFault, WorkerInput};
-use crate::runner::{Fed, Runner, feed};
+use crate::tests_call::{Fed, TestsCall, feed};
 use crate::talk::{announce, close_log, end_function, send_piece};
 use std::alloc::Global;
 use xd_edge::{OutOfMemory, Text};
@@ -32,7 +32,7 @@ pub struct WorkerCore {
     // What was asked for when the fault came.
     before: Option<Asked>,
     stopped: bool,
-    runner: Option<Runner>,
+    tests_call: Option<TestsCall>,
     echoes: Vec<u32>,
     owed: bool,
     suite: Option<Suite>,
@@ -62,7 +62,7 @@ impl WorkerCore {
             fault: None,
             before: None,
             stopped: false,
-            runner: None,
+            tests_call: None,
             echoes: Vec::new(alloc),
             owed: false,
             suite: None,
@@ -200,11 +200,11 @@ impl WorkerCore {
     }
 
     fn running(&self) -> Option<u32>
-        ensures { (s : Option Service) → AreServices self.now.runner s → result ≡ running_in s }
+        ensures { (s : Option Service) → AreServices self.now.tests_call s → result ≡ running_in s }
     {
-        match &self.runner {
+        match &self.tests_call {
             None => None,
-            Some(runner) => runner.runs(),
+            Some(tests_call) => tests_call.runs(),
         }
     }
 
@@ -231,8 +231,8 @@ impl WorkerCore {
     fn end_service(&mut self)
         ensures { (a : WorkerActions) (t : Turn) → Stands self.old a t → Stands self.new a (ended_service t) }
     {
-        if let Some(runner) = &mut self.runner {
-            runner.ended = true;
+        if let Some(tests_call) = &mut self.tests_call {
+            tests_call.ended = true;
         }
     }
 
@@ -285,7 +285,7 @@ impl WorkerCore {
         requires { CanTake input }
         ensures { (t : Turn) → Stands self.old acts.old t → AllOpen (fed input channels t).logs → OnOk result (Stands self.new acts.new (fed input channels t)) }
     {
-        let Some(fed) = feed(&mut self.runner, input, channels)? else {
+        let Some(fed) = feed(&mut self.tests_call, input, channels)? else {
             return Ok(());
         };
         acts.run = fed.acts.run;

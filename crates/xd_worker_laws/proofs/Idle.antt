@@ -7,8 +7,8 @@ use Rattle.xd_gateway.specs.declared.order.Order.{Order}
 use Rattle.xd_gateway.specs.declared.order.Order.TheVariants.{RunTests, RunAll, Steal, Shutdown}
 use Rattle.xd_journal.specs.declared.entry.Outcome.{Outcome}
 use Rattle.xd_journal.specs.declared.news.What.TheVariants.{Back}
-use Rattle.xd_run_tests.specs.declared.place.Place.{Place}
-use Rattle.xd_run_tests.specs.declared.place.Place.TheVariants.{Test, Mark}
+use Rattle.xd_run_tests.specs.declared.line_entry.LineEntry.{LineEntry}
+use Rattle.xd_run_tests.specs.declared.line_entry.LineEntry.TheVariants.{Test, Mark}
 use Rattle.xd_run_tests.specs.declared.phase.Ending.{Ending}
 use Rattle.xd_run_tests.specs.declared.phase.Ending.TheVariants.{BadCommand, ReceivingEnded}
 use Rattle.xd_run_tests.specs.declared.phase.Phase.{Phase}
@@ -36,7 +36,7 @@ early t e = go t.call.running
     go false = ended t (ending_text e)
 
 -- where nothing runs, what is left lets a test start, or is one test at most
-moved : (room : Bool) (t : Turn) (l : List Place) → left t.call ≡ l → Waits (moved_on room l t)
+moved : (room : Bool) (t : Turn) (l : List LineEntry) → left t.call ≡ l → Waits (moved_on room l t)
 moved room t [] is = λ serving idle. inl is
 moved room t (Mark ∷ l) is = λ serving idle. absurd (cc serving)
 moved room t (Test n ∷ []) is = λ serving idle. inr (n, is)
@@ -62,23 +62,23 @@ gave room ns t = go (can_give t.call.size t.call.line ns)
 
 -- where nothing runs, nothing is queued, so a steal takes nothing
 
-one_more : (l : List Place) (n : ℕ) → drop (suc n) l ≡ drop 1 (drop n l)
+one_more : (l : List LineEntry) (n : ℕ) → drop (suc n) l ≡ drop 1 (drop n l)
 one_more [] zero = refl
 one_more [] (suc n) = refl
 one_more (p ∷ l) zero = refl
 one_more (p ∷ l) (suc n) = one_more l n
 
-none_behind : (l : List Place) (n : ℕ) → IsIdle (drop n l) → drop (n + 1) l ≡ []
+none_behind : (l : List LineEntry) (n : ℕ) → IsIdle (drop n l) → drop (n + 1) l ≡ []
 none_behind l n idle = ap (λ (k : ℕ). drop k l) (let e : n + 1 ≡ suc n = omega arith in e) ∙ (one_more l n ∙ rest (drop n l) idle)
   where
-    rest : (ps : List Place) → IsIdle ps → drop 1 ps ≡ []
+    rest : (ps : List LineEntry) → IsIdle ps → drop 1 ps ≡ []
     rest ps (inl e) = ap (drop 1) e
     rest ps (inr (n, e)) = ap (drop 1) e
 
-same_line : (ns : List ℕ) (l : List Place) (n : ℕ) → drop n l ≡ [] → take n l ++ kept ns (drop n l) ≡ l
+same_line : (ns : List ℕ) (l : List LineEntry) (n : ℕ) → drop n l ≡ [] → take n l ++ kept ns (drop n l) ≡ l
 same_line ns l n none =
     let halves : take n l ++ drop n l ≡ l = grind (arith, common_steps) in
-    ap (λ (q : List Place). take n l ++ kept ns q) none ∙ sym (ap (λ (q : List Place). take n l ++ q) none) ∙ halves
+    ap (λ (q : List LineEntry). take n l ++ kept ns q) none ∙ sym (ap (λ (q : List LineEntry). take n l ++ q) none) ∙ halves
 
 taken_back : (ns : List ℕ) (t : Turn) → Waits t → Waits (record t { call = record (t.call) { line = front t.call ++ kept ns (queue t.call) } })
 taken_back ns t w serving idle =
@@ -86,7 +86,7 @@ taken_back ns t w serving idle =
     let same : front t.call ++ kept ns (queue t.call) ≡ t.call.line =
     subst (λ (b : Bool). take (t.call.ended + (if b then 2 else 1)) t.call.line ++ kept ns (drop (t.call.ended + (if b then 2 else 1)) t.call.line) ≡ t.call.line) (sym idle)
     (same_line ns t.call.line (t.call.ended + 1) (none_behind t.call.line t.call.ended was)) in
-    subst (λ (l : List Place). IsIdle (drop t.call.ended l)) (sym same) was
+    subst (λ (l : List LineEntry). IsIdle (drop t.call.ended l)) (sym same) was
 
 stole : (ns : List ℕ) (t : Turn) → Waits t → Waits (stolen_if ns t)
 stole ns t w = ask (can_ask t.call.size [] ns)

@@ -3,7 +3,7 @@ use Rattle.std.proofs.Common.{◌≡◌, ℕ, List, [], ◌∷◌, true, false, 
 use Rattle.xd_gateway.specs.declared.order.Order.TheVariants.{RunTests}
 use Rattle.xd_run_tests.specs.declared.input.Input.TheVariants as input
 use Rattle.xd_run_tests.specs.declared.phase.Phase.TheVariants.{Serving}
-use Rattle.xd_run_tests.specs.declared.place.Place.TheVariants.{Test, Mark}
+use Rattle.xd_run_tests.specs.declared.line_entry.LineEntry.TheVariants.{Test, Mark}
 use Rattle.xd_run_tests.specs.History.{Given, call_after}
 use Rattle.xd_run_tests.specs.Line.{called, left}
 use Rattle.xd_worker_laws.specs.Idle.{WaitsForNext}

@@ -2,13 +2,13 @@
 -- pytest-xdist's `remote.py`.
 use Rattle.std.specs.Prelude.{◌≡◌, ◌⊎◌, ℕ, List, [], ◌∷◌, false}
 use Rattle.xd_run_tests.specs.declared.phase.Phase.TheVariants.{Serving}
-use Rattle.xd_run_tests.specs.declared.place.Place.{Place}
-use Rattle.xd_run_tests.specs.declared.place.Place.TheVariants.{Test}
+use Rattle.xd_run_tests.specs.declared.line_entry.LineEntry.{LineEntry}
+use Rattle.xd_run_tests.specs.declared.line_entry.LineEntry.TheVariants.{Test}
 use Rattle.xd_run_tests.specs.History.{Given, call_after}
 use Rattle.xd_run_tests.specs.Line.{Call, left}
 
 -- nothing, or one test
-abbrev pub IsIdle : List Place → Type 0
+abbrev pub IsIdle : List LineEntry → Type 0
 IsIdle ps = (ps ≡ []) ⊎ ((n : ℕ) × (ps ≡ Test n ∷ []))
 
 -- a call that serves its suite and runs nothing has no more left

@@ -4,13 +4,13 @@ ghost use Rattle.std.specs.Prelude.{◌≡◌, ◌++◌, ◌∷◌, [], IfOk, On
 use super::RunTests;
 use crate::ask::Acts;
 use crate::phase::{Ending, Phase};
-use crate::place::{Place, Standing};
+use crate::line_entry::{LineEntry, Standing};
 use std::collections::VecDeque;
 use xd_edge::OutOfMemory;
 use xd_gateway::Order;
 
 impl RunTests {
-    ghost use Rattle.xd_run_tests.specs.declared.place.Place.TheVariants.{Mark};
+    ghost use Rattle.xd_run_tests.specs.declared.line_entry.LineEntry.TheVariants.{Mark};
     ghost use Rattle.xd_run_tests.specs.declared.phase.Phase.TheVariants.{Serving};
     ghost use Rattle.std.specs.List.{range_with_len};
     ghost use Rattle.xd_gateway.specs.declared.order.Order.TheVariants.{Shutdown};
@@ -35,7 +35,7 @@ impl RunTests {
         if !self.is_free(test) {
             return Ok(false);
         }
-        self.queue.push_back(Place::Test(test))?;
+        self.queue.push_back(LineEntry::Test(test))?;
         self.stands[test as usize] = Standing::Queued;
         Ok(true)
     }
@@ -69,7 +69,7 @@ impl RunTests {
         ensures stands { self.new.stands.items ≡ self.old.stands.items }
         ensures queue { OnOk result (self.new.queue.items ≡ self.old.queue.items ++ Mark ∷ []) }
     {
-        self.queue.push_back(Place::Mark)?;
+        self.queue.push_back(LineEntry::Mark)?;
         Ok(())
     }
 

@@ -4,13 +4,13 @@ ghost use Rattle.std.specs.Prelude.{◌≡◌, ◌++◌, ◌∷◌, [], IfOk, On
 use super::{RunTests, Running};
 use crate::ask::{Acts, Ask, request};
 use crate::phase::{Ending, Phase};
-use crate::place::{Place, Standing};
+use crate::line_entry::{LineEntry, Standing};
 use xd_edge::{OutOfMemory, Text};
 use xd_journal::What;
 
 impl RunTests {
-    ghost use Rattle.xd_run_tests.specs.declared.place.Place.{Place};
-    ghost use Rattle.xd_run_tests.specs.declared.place.Place.TheVariants.{Test};
+    ghost use Rattle.xd_run_tests.specs.declared.line_entry.LineEntry.{LineEntry};
+    ghost use Rattle.xd_run_tests.specs.declared.line_entry.LineEntry.TheVariants.{Test};
     ghost use Rattle.xd_run_tests.specs.declared.phase.Phase.TheVariants.{Serving};
     ghost use Rattle.xd_run_tests.specs.Line.{Call, left};
     ghost use Rattle.xd_run_tests.specs.Turns.{Turn, over, ended_early, settled, moved_on, too_many_channels, ending_text};
@@ -55,7 +55,7 @@ impl RunTests {
         ensures others { self.new ≡ record self.old { queue = self.new.queue; next = self.new.next; stands = self.new.stands } }
     {
         self.next = self.queue.pop_front();
-        if let Some(Place::Test(test)) = self.next {
+        if let Some(LineEntry::Test(test)) = self.next {
             if let Some(standing) = self.stands.get_mut(test as usize) {
                 *standing = Standing::Passed;
             }
@@ -81,7 +81,7 @@ impl RunTests {
 
     /// The next test runs, where the side has a channel for its log.
     fn start(&mut self, acts: &mut Acts, test: u32, room: bool) -> Result<(), OutOfMemory>
-        ensures { (t : Turn) (p : Place) (q : List Place) → t.call.phase ≡ Serving → self.old.running ≡ None → self.old.next ≡ Some (Test test) → self.old.queue.items ≡ p ∷ q → Moves self.old acts.old t → OnOk result (Stands self.new acts.new (moved_on room (Test test ∷ (p ∷ q)) t)) }
+        ensures { (t : Turn) (p : LineEntry) (q : List LineEntry) → t.call.phase ≡ Serving → self.old.running ≡ None → self.old.next ≡ Some (Test test) → self.old.queue.items ≡ p ∷ q → Moves self.old acts.old t → OnOk result (Stands self.new acts.new (moved_on room (Test test ∷ (p ∷ q)) t)) }
     {
         if room && self.next_log <= 2147483647 {
             let log = self.next_log;
@@ -104,11 +104,11 @@ impl RunTests {
     {
         match self.next {
             None => Ok(()),
-            Some(Place::Mark) => {
+            Some(LineEntry::Mark) => {
                 request(acts, Ask::Tell(What::Finished))?;
                 self.finish(acts, None)
             }
-            Some(Place::Test(test)) => {
+            Some(LineEntry::Test(test)) => {
                 if self.queue.is_empty() {
                     Ok(())
                 } else {

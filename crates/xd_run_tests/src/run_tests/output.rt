@@ -5,7 +5,7 @@ use super::{RunTests, Running};
 use crate::ask::{Acts, Ask, request};
 use crate::phase::Phase;
 use xd_edge::{Blob, OutOfMemory};
-use xd_journal::{Outcome, What};
+use xd_journal::{MOST_OF_ONE, Outcome, What};
 
 impl RunTests {
     ghost use Rattle.xd_run_tests.specs.Turns.{Turn, done_of, told_done, put_out, output_of};
@@ -73,7 +73,7 @@ impl RunTests {
         ensures { (t : Turn) → self.old.running ≡ Some running → Stands self.old acts.old t → OnOk result (Stands self.new acts.new (put_out bytes t)) }
     {
         let all = bytes.as_slice();
-        let left = 8192usize.saturating_sub(self.sent);
+        let left = (MOST_OF_ONE as usize).saturating_sub(self.sent);
         let piece = if all.len() < left { all } else { &all[..left] };
         if piece.is_empty() {
             return Ok(());

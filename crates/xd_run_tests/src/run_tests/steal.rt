@@ -5,7 +5,7 @@ ghost use Rattle.std.specs.Prelude.{ℕ, slice_get, slice_set, ◌≡◌, ◌∷
 use super::RunTests;
 use crate::ask::{Acts, Ask, request};
 use crate::phase::Ending;
-use crate::place::{Place, Standing};
+use crate::line_entry::{LineEntry, Standing};
 use std::collections::VecDeque;
 use xd_edge::{Indices, OutOfMemory};
 use xd_journal::What;
@@ -31,10 +31,10 @@ fn is_marked(marks: &[bool], test: u32) -> bool
 }
 
 impl RunTests {
-    ghost use Rattle.xd_run_tests.specs.declared.place.Place.{Place};
+    ghost use Rattle.xd_run_tests.specs.declared.line_entry.LineEntry.{LineEntry};
     ghost use Rattle.xd_run_tests.specs.declared.phase.Phase.TheVariants.{Serving};
-    ghost use Rattle.xd_run_tests.specs.declared.place.Standing.{Standing};
-    ghost use Rattle.xd_run_tests.specs.declared.place.Standing.TheVariants.{Free};
+    ghost use Rattle.xd_run_tests.specs.declared.line_entry.Standing.{Standing};
+    ghost use Rattle.xd_run_tests.specs.declared.line_entry.Standing.TheVariants.{Free};
     ghost use Rattle.xd_run_tests.specs.Line.{left};
     ghost use Rattle.xd_run_tests.specs.Turns.{Turn, stolen_if};
     ghost use Rattle.xd_run_tests.specs.Stands.{Stands, queued_at, IsAsked, AreMarked, TakenOut};
@@ -82,27 +82,27 @@ impl RunTests {
         }
     }
 
-    /// A place of the queue is taken out where it is marked, and else kept.
+    /// An entry of the queue is taken out where it is marked, and else kept.
     fn sort_out(
         &mut self,
         marks: &[bool],
-        place: Place,
+        entry: LineEntry,
         back: &mut Vec<u32>,
-        left: &mut VecDeque<Place>,
+        left: &mut VecDeque<LineEntry>,
     ) -> Result<(), OutOfMemory>
         ensures others { self.new ≡ record self.old { stands = self.new.stands } }
-        ensures sorted { (ns : List ℕ) (before : List Standing) (queue rest : List Place) → AreMarked marks.now ns → TakenOut ns before queue self.old.stands.items (place ∷ rest) back.old.items left.old.items → OnOk result (TakenOut ns before queue self.new.stands.items rest back.new.items left.new.items) }
+        ensures sorted { (ns : List ℕ) (before : List Standing) (queue rest : List LineEntry) → AreMarked marks.now ns → TakenOut ns before queue self.old.stands.items (entry ∷ rest) back.old.items left.old.items → OnOk result (TakenOut ns before queue self.new.stands.items rest back.new.items left.new.items) }
     {
-        match place {
-            Place::Test(test) => {
+        match entry {
+            LineEntry::Test(test) => {
                 if is_marked(marks, test) {
                     back.push(test)?;
                     self.free(test);
                 } else {
-                    left.push_back(place)?;
+                    left.push_back(entry)?;
                 }
             }
-            Place::Mark => left.push_back(place)?,
+            LineEntry::Mark => left.push_back(entry)?,
         }
         Ok(())
     }
@@ -114,8 +114,8 @@ impl RunTests {
     {
         let mut back = Vec::new(self.alloc);
         let mut left = VecDeque::new(self.alloc);
-        while let Some(place) = self.queue.pop_front() {
-            self.sort_out(marks, place, &mut back, &mut left)?;
+        while let Some(entry) = self.queue.pop_front() {
+            self.sort_out(marks, entry, &mut back, &mut left)?;
         }
         self.queue = left;
         Ok(back)

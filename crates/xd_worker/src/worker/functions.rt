@@ -5,7 +5,7 @@ ghost use Rattle.xd_value.specs.View.{view};
 use super::WorkerCore;
 use crate::function::{CallFault, Called, Function, read_call};
 use crate::input::WorkerActions;
-use crate::runner::Runner;
+use crate::tests_call::TestsCall;
 use crate::talk::{Sent, begin_function, end_function, send, tell};
 use crate::words::{fail_word, long_item_word};
 use xd_edge::{ModeKind, OutOfMemory, Text};
@@ -97,7 +97,7 @@ impl WorkerCore {
             number,
             &What::Ready,
         )?;
-        self.runner = Some(Runner {
+        self.tests_call = Some(TestsCall {
             channel: number,
             mode,
             function: RunTests::new(self.alloc),
@@ -161,7 +161,7 @@ impl WorkerCore {
     ) -> Result<(), OutOfMemory>
         ensures { (t : Turn) → Stands self.old acts.old t → OnOk result (Stands self.new acts.new (called number (called_in (is_called t.duties.service) (view value.now)) t)) }
     {
-        let call = read_call(value, self.runner.is_some())?;
+        let call = read_call(value, self.tests_call.is_some())?;
         self.begin(acts, number, call)?;
         Ok(())
     }

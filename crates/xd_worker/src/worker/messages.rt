@@ -32,20 +32,20 @@ impl WorkerCore {
     fn functions(&self) -> usize
         ensures { (d : Duties) → AreDuties self.now d → result ≡ executing d }
     {
-        let serving = match &self.runner {
+        let serving = match &self.tests_call {
             None => 0,
-            Some(runner) => { if runner.ended { 0 } else { 1 } }
+            Some(tests_call) => { if tests_call.ended { 0 } else { 1 } }
         };
         self.echoes.len() + serving
     }
 
     // The channel is that of `run_tests`.
     fn is_service(&self, number: u32) -> bool
-        ensures { (s : Option Service) → AreServices self.now.runner s → result ≡ is_service s number }
+        ensures { (s : Option Service) → AreServices self.now.tests_call s → result ≡ is_service s number }
     {
-        match &self.runner {
+        match &self.tests_call {
             None => false,
-            Some(runner) => runner.channel == number,
+            Some(tests_call) => tests_call.channel == number,
         }
     }
 

@@ -22,16 +22,16 @@ impl WorkerCore {
 
     // The ids of a suite, in the mode of the call.
     fn ids(&self, suite: &Suite) -> Result<Texts, OutOfMemory>
-        ensures ids { (s : Option Service) → AreServices self.now.runner s → IfOk result (λ ids. ids ≡ ids_of s suite.now) }
+        ensures ids { (s : Option Service) → AreServices self.now.tests_call s → IfOk result (λ ids. ids ≡ ids_of s suite.now) }
         ensures few { IfOk result (λ ids. length ids < 2 ^ 32) }
     {
-        match &self.runner {
+        match &self.tests_call {
             None => Ok(Texts {
                 items: Vec::new(self.alloc),
             }),
-            Some(runner) => {
+            Some(tests_call) => {
                 prove!(suite.len() <= u32::MAX);
-                let ids = suite.ids(self.alloc, runner.mode)?;
+                let ids = suite.ids(self.alloc, tests_call.mode)?;
                 Ok(ids)
             }
         }

@@ -2,7 +2,7 @@ use Rattle.std.proofs.Common.{◌≡◌, ◌≤◌, [], ap, sym, ◌∙◌, subs
 use Rattle.std.specs.Prelude.{Some, None}
 use Rattle.xd_ledger.specs.declared.member.Listed.{Listed}
 use Rattle.xd_ledger.specs.Collections.{listed_in}
-use Rattle.xd_ledger.specs.Proper.{most_tests}
+use Rattle.xd_edge.specs.Limits.{most_tests}
 use Rattle.xd_ledger.specs.Sharing.{ids_at}
 use Rattle.xd_session.proofs.Compares.{list-found, list-missing}
 use Rattle.xd_session.proofs.Shares.{few-at}

@@ -1,7 +1,7 @@
 use Rattle.std.proofs.Common.{rules, ◌<◌, length, List, ◌∷◌, [], sym, subst, ◌∙◌, true}
 use Rattle.std.specs.Prelude.{slice_set}
-use Rattle.xd_run_tests.specs.declared.place.Place.{Place}
-use Rattle.xd_run_tests.specs.declared.place.Standing.TheVariants.{Queued}
+use Rattle.xd_run_tests.specs.declared.line_entry.LineEntry.{LineEntry}
+use Rattle.xd_run_tests.specs.declared.line_entry.Standing.TheVariants.{Queued}
 use Rattle.xd_run_tests.specs.Stands.{Appends}
 use Rattle.xd_run_tests.proofs.Giving.{appends_one, appends_not, free_within}
 use Rattle.xd_run_tests.proofs.run_tests.RunTests.append.Goals as goal
@@ -15,5 +15,5 @@ index_mut-requires c = let h = free_within c.args.self.now.stands.items c.args.t
 pub returns-clause-appends : goal.returns-clause-appends
 returns-clause-appends c =
     let s = c.args.self.now in
-    subst (λ (q : List Place). Appends s.stands.items s.queue.items (slice_set s.stands.items c.args.test Queued) q (c.args.test ∷ []) true) (sym c.in_ok-push_back.ensures.items)
+    subst (λ (q : List LineEntry). Appends s.stands.items s.queue.items (slice_set s.stands.items c.args.test Queued) q (c.args.test ∷ []) true) (sym c.in_ok-push_back.ensures.items)
     (appends_one s.stands.items s.queue.items c.args.test (sym c.is_free.ensures ∙ c.if-not-is_free.false))

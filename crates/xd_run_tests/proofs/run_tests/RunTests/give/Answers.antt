@@ -1,6 +1,6 @@
 use Rattle.std.proofs.Common.{◌++◌, Bool, true, false, subst, OnOk}
 use Rattle.std.specs.Prelude.{map, if◌then◌else◌}
-use Rattle.xd_run_tests.specs.declared.place.Place.TheVariants.{Test}
+use Rattle.xd_run_tests.specs.declared.line_entry.LineEntry.TheVariants.{Test}
 use Rattle.xd_run_tests.specs.declared.phase.Ending.TheVariants.{BadCommand}
 use Rattle.xd_run_tests.specs.Turns.{settled, ended_early}
 use Rattle.xd_run_tests.specs.Stands.{Stands, Appends}

@@ -1,6 +1,6 @@
 use Rattle.std.proofs.Common.{◌≡◌, refl, ap, ◌∙◌, rules, [], None}
 use Rattle.std.specs.Prelude.{replicate}
-use Rattle.xd_run_tests.specs.declared.place.Standing.TheVariants.{Free}
+use Rattle.xd_run_tests.specs.declared.line_entry.Standing.TheVariants.{Free}
 use Rattle.xd_run_tests.specs.declared.phase.Phase.TheVariants.{Serving}
 use Rattle.xd_run_tests.proofs.Ends.{opened_call}
 use Rattle.xd_run_tests.proofs.run_tests.RunTests.open.Goals as goal

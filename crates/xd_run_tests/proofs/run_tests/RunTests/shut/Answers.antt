@@ -1,5 +1,5 @@
 use Rattle.std.proofs.Common.{◌++◌, ◌∷◌, [], ◌∙◌, ap, length}
-use Rattle.xd_run_tests.specs.declared.place.Place.TheVariants.{Mark}
+use Rattle.xd_run_tests.specs.declared.line_entry.LineEntry.TheVariants.{Mark}
 use Rattle.xd_run_tests.proofs.Moves.{lined_call, marked_both}
 use Rattle.xd_run_tests.proofs.Once.{once_mark}
 use Rattle.xd_run_tests.proofs.run_tests.RunTests.shut.Goals as goal

@@ -10,5 +10,5 @@ use Rattle.xd_worker.proofs.worker.WorkerCore.call.Goals as goal
 pub returns : goal.returns
 returns c = λ t h.
     subst (λ (x : Called). Stands c.begin.new.self c.begin.new.acts (called c.args.number x t))
-    (c.in_ok-call.ensures ∙ ap (λ (b : Bool). called_in b (view c.args.value.now)) (c.is_some.ensures ∙ called_is c.args.self.now.runner t.duties.service h.duties_are.services_are))
+    (c.in_ok-call.ensures ∙ ap (λ (b : Bool). called_in b (view c.args.value.now)) (c.is_some.ensures ∙ called_is c.args.self.now.tests_call t.duties.service h.duties_are.services_are))
     (c.in_ok-begin.ensures t h)

@@ -1,5 +1,5 @@
 use Rattle.std.proofs.Common.{Option, sym, subst, refl}
-use Rattle.xd_worker.specs.declared.runner.Fed.{Fed}
+use Rattle.xd_worker.specs.declared.tests_call.Fed.{Fed}
 use Rattle.xd_worker.specs.Worker.{Turn}
 use Rattle.xd_worker.specs.Logs.{AllOpen}
 use Rattle.xd_worker.specs.Stands.{Stands, HasFed}
@@ -9,8 +9,8 @@ use Rattle.xd_worker.proofs.worker.WorkerCore.feed.Goals as goal
 pub returns : goal.returns
 returns c = λ t h l.
     let s = t.duties.service in
-    let k = subst (λ (o : Option Fed). HasFed c.feed.new.runner s c.args.input c.args.channels o) c.in-Some.is (c.in_ok-fed.ensures s h.duties_are.services_are) in
-    let r = fed_something c.feed.new.runner s c.args.input c.args.channels t c.in-Some.fed k in
+    let k = subst (λ (o : Option Fed). HasFed c.feed.new.tests_call s c.args.input c.args.channels o) c.in-Some.is (c.in_ok-fed.ensures s h.duties_are.services_are) in
+    let r = fed_something c.feed.new.tests_call s c.args.input c.args.channels t c.in-Some.fed k in
     subst (λ (x : Turn). Stands c.carry_all.new.self c.carry_all.new.acts x) (sym r.2)
     (c.in_ok-carry_all.ensures (record t { duties = record (t.duties) { service = r.0 }; run = c.in-Some.fed.acts.run })
     (record {

@@ -1,5 +1,5 @@
 use Rattle.xd_worker.proofs.Standing.{fed_by}
-use Rattle.xd_worker.proofs.runner.Runner.feed.Goals as goal
+use Rattle.xd_worker.proofs.tests_call.TestsCall.feed.Goals as goal
 
 pub returns : goal.returns
 returns c = λ s h.

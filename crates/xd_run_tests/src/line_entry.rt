@@ -1,8 +1,8 @@
-// The places of the line of orders.
+// The entries of the line of orders.
 
 /// An entry of the line of orders: a test, counted from 0 in the order of the suite, or a shutdown mark.
 #[derive(Clone, Copy)]
-pub enum Place {
+pub enum LineEntry {
     Test(u32),
     Mark,
 }

@@ -11,7 +11,7 @@ use xd_run_tests::{Acts, Input, RunTests};
 
 /// The call of `run_tests` on a link: its channel, the mode whose ids it sends, and whether it has ended.
 #[derive(Drop)]
-pub struct Runner {
+pub struct TestsCall {
     pub channel: u32,
     pub mode: ModeKind,
     pub function: RunTests,
@@ -25,7 +25,7 @@ pub struct Fed {
     pub acts: Acts,
 }
 
-impl Runner {
+impl TestsCall {
     ghost use Rattle.xd_worker.specs.Worker.{Service, running_in};
     ghost use Rattle.xd_worker.specs.Turns.{given_in};
     ghost use Rattle.xd_worker.specs.Stands.{IsService, FedBy};
@@ -66,17 +66,17 @@ ghost use Rattle.xd_worker.specs.Stands.{AreServices, HasFed};
 
 /// Something comes to the function, where it was called. So many channels are in the table.
 pub fn feed(
-    runner: &mut Option<Runner>,
+    tests_call: &mut Option<TestsCall>,
     input: Input,
     channels: u32,
 ) -> Result<Option<Fed>, OutOfMemory>
     requires { CanTake input }
-    ensures { (s : Option Service) → AreServices runner.old s → IfOk result (HasFed runner.new s input channels) }
+    ensures { (s : Option Service) → AreServices tests_call.old s → IfOk result (HasFed tests_call.new s input channels) }
 {
-    match runner {
+    match tests_call {
         None => Ok(None),
-        Some(runner) => {
-            let fed = runner.feed(input, channels)?;
+        Some(tests_call) => {
+            let fed = tests_call.feed(input, channels)?;
             Ok(Some(fed))
         }
     }
