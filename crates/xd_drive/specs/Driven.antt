@@ -1,5 +1,5 @@
 -- How a session was driven to its end.
-use Rattle.std.specs.Prelude.{◌≡◌, ℕ, Bool, true, false, List, ◌++◌, take, drop}
+use Rattle.std.specs.Prelude.{◌≡◌, ◌-◌, ℕ, Bool, true, false, List, ◌++◌, length, take, drop, Option}
 use Rattle.xd_edge.specs.Sink.{PrintedPart}
 use Rattle.xd_journal.specs.declared.settings.Settings.{Settings}
 use Rattle.xd_journal.specs.declared.journal.Journal.{Journal}
@@ -10,10 +10,11 @@ use Rattle.xd_laws.specs.Whole.{NamesEach}
 use Rattle.xd_report.specs.Text.{text_of}
 use Rattle.xd_report_laws.specs.ItemIds.{NamesItems}
 use Rattle.xd_session.specs.Bounded.{IsBounded}
-use Rattle.xd_session.specs.Ends.{last_stop}
+use Rattle.xd_session.specs.Ends.{is_out_fault, last_stop}
 use Rattle.xd_session.specs.History.{Run, run_of}
 use Rattle.xd_drive.specs.Failing.{FailedAt}
 use Rattle.xd_drive.specs.Going.{Scene}
+use Rattle.xd_drive.specs.Moments.{ToldInOrder}
 use Rattle.xd_drive.specs.Performing.{AddsAll, Performs, kills_of_started}
 use Rattle.xd_report.specs.Printing.{ShowsEnd}
 use Rattle.xd_drive.specs.Taken.{taken_of}
@@ -54,3 +55,13 @@ pub record IsJournalOf (run : Settings) (j : Journal) : Type 0 where
   pub kept : IsBounded j.entries.items
   pub each : NamesEach j
   pub ids : NamesItems j
+
+-- What a session came to that was driven to its end, by what was seen of the hub and the output before and after it, and at
+-- the moments between, where these are told: its journal, by whether the output failed, and each entry performed after its
+-- lines.
+pub record Drove (run : Settings) (j : Journal) (old new : Scene) (seen : Option (List Scene)) : Type 0 where
+  pub journal : IsJournalOf run j
+  pub whole : is_out_fault (stop_of j) ≡ false → (given : List News) × Whole given j old new
+  pub broken : is_out_fault (stop_of j) ≡ true → (count : ℕ) × (given : List News) × Broken count given j old new
+      × ToldInOrder j.settings count j.entries.items old seen
+  pub in_order : is_out_fault (stop_of j) ≡ false → ToldInOrder j.settings (length j.entries.items - 1) j.entries.items old seen

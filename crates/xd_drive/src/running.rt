@@ -1,12 +1,11 @@
 // The loop that runs a session over a hub.
-ghost use Rattle.std.specs.Prelude.{◌≡◌, ◌≤◌, ◌-◌, ℕ, List, [], length, true, false, Ok, IfOk, IfSome, OnOk};
-ghost use Rattle.xd_edge.specs.Faults.{Counted, Rose};
-ghost use Rattle.xd_journal.specs.declared.news.News.{News};
+ghost use Rattle.std.specs.Prelude.{◌≡◌, ◌≤◌, [], not, IfOk, OnOk};
+ghost use Rattle.xd_edge.specs.Faults.{Counted};
 ghost use Rattle.xd_ledger.specs.Ending.{stop_of};
 ghost use Rattle.xd_ledger.specs.Proper.{IsProper};
 ghost use Rattle.xd_session.specs.Ends.{is_out_fault};
 ghost use Rattle.xd_session.specs.Stands.{StandsFor};
-ghost use Rattle.xd_drive.specs.Driven.{Broken, IsJournalOf, Whole};
+ghost use Rattle.xd_drive.specs.Driven.{Drove};
 ghost use Rattle.xd_drive.specs.Going.{EndsRun, EndsTail, IsFresh};
 ghost use Rattle.xd_drive.specs.Moments.{ToldInOrder, performed_of};
 ghost use Rattle.xd_drive.specs.Written.{is_whole};
@@ -107,21 +106,24 @@ pub fn drive<R: Wait, M: Mode, H: Hub, O: Sink, W: Witness<H, O>>(
     requires begins { StandsFor [] session }
     requires slots { session.settings.workers ≤ H.slots hub.old }
     requires fresh { IsFresh (H.marks hub.old) }
-    ensures journal { IfOk result (IsJournalOf session.settings) }
-    ensures whole { IfOk result (λ j. is_out_fault (stop_of j) ≡ false → (given : List News) × Whole given j
-        (record { marks = H.marks hub.old; starts = H.starts hub.old; calls = H.calls hub.old; given = H.given hub.old; sunk = O.sunk out.old })
-        (record { marks = H.marks hub.new; starts = H.starts hub.new; calls = H.calls hub.new; given = H.given hub.new; sunk = O.sunk out.new })) }
-    ensures broken { IfOk result (λ j. is_out_fault (stop_of j) ≡ true → (count : ℕ) × (given : List News) × Broken count given j
-        (record { marks = H.marks hub.old; starts = H.starts hub.old; calls = H.calls hub.old; given = H.given hub.old; sunk = O.sunk out.old })
-        (record { marks = H.marks hub.new; starts = H.starts hub.new; calls = H.calls hub.new; given = H.given hub.new; sunk = O.sunk out.new })
-        × ToldInOrder j.settings count j.entries.items
-        (record { marks = H.marks hub.old; starts = H.starts hub.old; calls = H.calls hub.old; given = H.given hub.old; sunk = O.sunk out.old })
+    ensures drove { IfOk result (λ j. Drove session.settings j
+        (record {
+          marks = H.marks hub.old;
+          starts = H.starts hub.old;
+          calls = H.calls hub.old;
+          given = H.given hub.old;
+          sunk = O.sunk out.old;
+        })
+        (record {
+          marks = H.marks hub.new;
+          starts = H.starts hub.new;
+          calls = H.calls hub.new;
+          given = H.given hub.new;
+          sunk = O.sunk out.new;
+        })
         (W.seen witness.new)) }
-    ensures in_order { IfOk result (λ j. is_out_fault (stop_of j) ≡ false → ToldInOrder j.settings (length j.entries.items - 1) j.entries.items
-        (record { marks = H.marks hub.old; starts = H.starts hub.old; calls = H.calls hub.old; given = H.given hub.old; sunk = O.sunk out.old })
-        (W.seen witness.new)) }
-    ensures out_fault { IfOk result (λ j. is_out_fault (stop_of j) ≡ true → Rose (O.faults out.old) (O.faults out.new)) }
-    ensures still { IfOk result (λ j. is_out_fault (stop_of j) ≡ false → O.faults out.new ≡ O.faults out.old) }
+    ensures counted { IfOk result (λ j.
+        Counted (not (is_out_fault (stop_of j))) (O.faults out.old) (O.faults out.new)) }
     ensures later { O.faults out.old ≤ O.faults out.new }
     ensures made { H.made hub.new ≡ H.made hub.old }
 {

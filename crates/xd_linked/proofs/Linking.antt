@@ -3,8 +3,8 @@ use Rattle.std.specs.Prelude.{Result, Ok, Err, IfOk, OnOk, option_map}
 use Rattle.std.proofs.lemmas.List.Elements.{All-map}
 use Rattle.std.proofs.lemmas.Result.{IfOk-at_ok}
 use Rattle.std.proofs.lemmas.Simd.{map-map}
-use Rattle.std.proofs.Common.{◌≡◌, ℕ, List, [], ◌++◌, map, true, false, Option, Some, None, refl, sym, ◌∙◌, ap, subst, All}
-use Rattle.xd_edge.specs.Faults.{Rose, RoseBy}
+use Rattle.std.proofs.Common.{◌≡◌, ℕ, List, [], ◌++◌, map, true, false, not, Option, Some, None, refl, sym, ◌∙◌, ap, subst, All}
+use Rattle.xd_edge.specs.Faults.{Counted, RoseBy}
 use Rattle.xd_edge.specs.Sink.{Sunk}
 use Rattle.xd_edge.specs.declared.mode.ModeKind.{ModeKind}
 use Rattle.xd_link.specs.Starter.{Begun}
@@ -94,12 +94,11 @@ seen_as (Err e) seen setup old f before after same runs = tt
 pub linked_run : {Ends E : Type 0} (ended : Result (Journal × Ends) E) (seen : Ends → List EndedLink) (now setup : Setup) (old new : Seen) (j : Journal) (ends : Ends) (code : ℕ)
     → now ≡ setup → ended ≡ Ok (j, ends) → code ≡ status_of j
     → IfOk ended (λ r. IsJournalOf now.settings r.0) → IfOk ended (λ r. RunsLinked now r.0 (seen r.1) old new)
-    → IfOk ended (λ r. is_out_fault (stop_of r.0) ≡ true → Rose old.out_faults new.out_faults) → IfOk ended (λ r. is_out_fault (stop_of r.0) ≡ false → new.out_faults ≡ old.out_faults)
+    → IfOk ended (λ r. Counted (not (is_out_fault (stop_of r.0))) old.out_faults new.out_faults)
     → LinkedRun setup j code (seen ends) old new
-linked_run {Ends} {E} ended seen now setup old new j ends code same e status journal runs rose still = record {
+linked_run {Ends} {E} ended seen now setup old new j ends code same e status journal runs counted = record {
   journal = subst (λ (s : Setup). IsJournalOf s.settings j) same (IfOk-at_ok (λ (r : Journal × Ends). IsJournalOf now.settings r.0) e journal);
   status = status;
   runs = subst (λ (s : Setup). RunsLinked s j (seen ends) old new) same (IfOk-at_ok (λ (r : Journal × Ends). RunsLinked now r.0 (seen r.1) old new) e runs);
-  out_fault = IfOk-at_ok (λ (r : Journal × Ends). is_out_fault (stop_of r.0) ≡ true → Rose old.out_faults new.out_faults) e rose;
-  still = IfOk-at_ok (λ (r : Journal × Ends). is_out_fault (stop_of r.0) ≡ false → new.out_faults ≡ old.out_faults) e still;
+  counted = IfOk-at_ok (λ (r : Journal × Ends). Counted (not (is_out_fault (stop_of r.0))) old.out_faults new.out_faults) e counted;
 }

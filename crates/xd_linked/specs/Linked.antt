@@ -1,6 +1,6 @@
 -- A run with workers.
-use Rattle.std.specs.Prelude.{◌≡◌, ℕ, ◌++◌, Bool, true, false, List, [], All, map, Option, Some, option_map}
-use Rattle.xd_edge.specs.Faults.{Rose, RoseBy}
+use Rattle.std.specs.Prelude.{◌≡◌, ℕ, ◌++◌, Bool, true, false, not, List, [], All, map, Option, Some, option_map}
+use Rattle.xd_edge.specs.Faults.{Counted, RoseBy}
 use Rattle.xd_edge.specs.Sink.{Sunk}
 use Rattle.xd_link.specs.Spring.{Spring}
 use Rattle.xd_link.specs.declared.place.Place.{Place}
@@ -84,5 +84,4 @@ pub record LinkedRun (setup : Setup) (j : Journal) (code : ℕ) (links : List En
   pub journal : IsJournalOf setup.settings j
   pub status : code ≡ status_of j
   pub runs : RunsLinked setup j links old new
-  pub out_fault : is_out_fault (stop_of j) ≡ true → Rose old.out_faults new.out_faults
-  pub still : is_out_fault (stop_of j) ≡ false → new.out_faults ≡ old.out_faults
+  pub counted : Counted (not (is_out_fault (stop_of j))) old.out_faults new.out_faults

@@ -1,7 +1,7 @@
 // A suite is run on workers.
-ghost use Rattle.std.specs.Prelude.{◌≡◌, ◌≤◌, [], true, false, map, length, option_map, vec_len, Ok, IfOk, OnOk, OnErr};
+ghost use Rattle.std.specs.Prelude.{◌≡◌, ◌≤◌, [], true, not, map, length, option_map, vec_len, Ok, IfOk, OnOk, OnErr};
 ghost use Rattle.std.specs.Str.{encode_utf8_all};
-ghost use Rattle.xd_edge.specs.Faults.{Rose};
+ghost use Rattle.xd_edge.specs.Faults.{Counted};
 ghost use Rattle.xd_link.specs.Spring.{spring};
 ghost use Rattle.xd_session.specs.Ends.{is_out_fault};
 ghost use Rattle.xd_ledger.specs.Ending.{stop_of};
@@ -68,9 +68,15 @@ fn run_over<R: Wait, M: Mode, St: Starter, C: Crew<Reader<St::Src>>, O: Sink>(
     requires mode { hub.old.group.mode ≡ session.settings.mode }
     ensures journal { IfOk result (λ r. IsJournalOf session.settings r.0) }
     ensures runs { IfOk result (λ r. RunsLinked
-        (record { suite = hub.old.group.suite; settings = session.settings; places = hub.old.places.items })
+        (record {
+          suite = hub.old.group.suite;
+          settings = session.settings;
+          places = hub.old.places.items;
+        })
         r.0
-        (map (λ l. ended_link l.worker l.killed (spring (St.Src.supply l.source) (St.Src.is_ended l.source) (St.Src.faults l.source)) (St.Snk.sunk l.sink) (St.Snk.faults l.sink)) r.1.items)
+        (map (λ l. ended_link l.worker l.killed
+        (spring (St.Src.supply l.source) (St.Src.is_ended l.source) (St.Src.faults l.source))
+        (St.Snk.sunk l.sink) (St.Snk.faults l.sink)) r.1.items)
         (record {
           begun = option_map told_of (St.begun hub.old.children.first.value);
           starter_faults = St.faults hub.old.children.first.value;
@@ -85,8 +91,8 @@ fn run_over<R: Wait, M: Mode, St: Starter, C: Crew<Reader<St::Src>>, O: Sink>(
           sunk = O.sunk out.new;
           out_faults = O.faults out.new;
         })) }
-    ensures out_fault { IfOk result (λ r. is_out_fault (stop_of r.0) ≡ true → Rose (O.faults out.old) (O.faults out.new)) }
-    ensures still { IfOk result (λ r. is_out_fault (stop_of r.0) ≡ false → O.faults out.new ≡ O.faults out.old) }
+    ensures counted { IfOk result (λ r.
+        Counted (not (is_out_fault (stop_of r.0))) (O.faults out.old) (O.faults out.new)) }
     ensures later { O.faults out.old ≤ O.faults out.new }
 {
     let journal = drive(rt, alloc, session, hub, out, &mut NoWitness)?;
@@ -146,7 +152,9 @@ pub fn run_linked<R: Wait, St: Starter, C: Crew<Reader<St::Src>>, O: Sink>(
     ensures ran { IfOk result (λ e. LinkedRun
         (record { suite = suite.path; settings = suite.settings; places = suite.places.items })
         e.journal e.status
-        (map (λ l. ended_link l.worker l.killed (spring (St.Src.supply l.source) (St.Src.is_ended l.source) (St.Src.faults l.source)) (St.Snk.sunk l.sink) (St.Snk.faults l.sink)) e.links.items)
+        (map (λ l. ended_link l.worker l.killed
+        (spring (St.Src.supply l.source) (St.Src.is_ended l.source) (St.Src.faults l.source))
+        (St.Snk.sunk l.sink) (St.Snk.faults l.sink)) e.links.items)
         (record {
           begun = option_map told_of (St.begun starter);
           starter_faults = St.faults starter;
@@ -205,7 +213,9 @@ fn run_in<R: Wait, M: Mode, St: Starter, C: Crew<Reader<St::Src>>, O: Sink>(
     ensures ran { IfOk result (λ e. LinkedRun
         (record { suite = suite.path; settings = suite.settings; places = suite.places.items })
         e.journal e.status
-        (map (λ l. ended_link l.worker l.killed (spring (St.Src.supply l.source) (St.Src.is_ended l.source) (St.Src.faults l.source)) (St.Snk.sunk l.sink) (St.Snk.faults l.sink)) e.links.items)
+        (map (λ l. ended_link l.worker l.killed
+        (spring (St.Src.supply l.source) (St.Src.is_ended l.source) (St.Src.faults l.source))
+        (St.Snk.sunk l.sink) (St.Snk.faults l.sink)) e.links.items)
         (record {
           begun = option_map told_of (St.begun starter);
           starter_faults = St.faults starter;

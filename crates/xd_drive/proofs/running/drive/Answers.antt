@@ -8,18 +8,19 @@ use Rattle.xd_drive.proofs.running.drive.Goals as goal
 pub run-requires-clause-proper : goal.run-requires-clause-proper
 run-requires-clause-proper g c = stands-proper [] c.args.session c.requires.begins
 
-pub returns-in_default-clause-whole : goal.returns-in_default-clause-whole
-returns-in_default-clause-whole g c = λ h.
-    drive-whole c.args.session.settings c.run.new.session c.in_ok-journal.journal (stands-proper [] c.args.session c.requires.begins) c.in_ok-written.ensures.settings c.in_ok-journal.ensures.settings c.in_ok-written.written
-    (record { marks = g.H.Hub.marks c.args.hub.now; starts = g.H.Hub.starts c.args.hub.now; calls = g.H.Hub.calls c.args.hub.now; given = g.H.Hub.given c.args.hub.now; sunk = g.O.Sink.sunk c.args.out.now })
-    (record { marks = g.H.Hub.marks c.run.new.hub; starts = g.H.Hub.starts c.run.new.hub; calls = g.H.Hub.calls c.run.new.hub; given = g.H.Hub.given c.run.new.hub; sunk = g.O.Sink.sunk c.run.new.out })
-    c.in_default.not-Broken c.in_ok-journal.ensures.entries c.in_ok-journal.ensures.stop c.in_ok-written.ensures.ends
-
-pub returns-in_default-clause-broken : goal.returns-in_default-clause-broken
-returns-in_default-clause-broken g c = λ h. absurd (differ (sym c.in_ok-journal.ensures.told ∙ h))
-
-pub returns-in_default-clause-out_fault : goal.returns-in_default-clause-out_fault
-returns-in_default-clause-out_fault g c = λ h. absurd (differ (sym c.in_ok-journal.ensures.told ∙ h))
+pub returns-in_default-clause-drove : goal.returns-in_default-clause-drove
+returns-in_default-clause-drove g c = record {
+  journal = drive-journal c.args.session.settings c.run.new.session c.in_ok-journal.journal (stands-proper [] c.args.session c.requires.begins) c.in_ok-written.ensures.settings c.in_ok-journal.ensures.settings c.in_ok-written.written
+      _ _ c.in_default.not-Broken c.in_ok-journal.ensures.entries c.in_ok-journal.ensures.legal c.in_ok-written.ensures.ends;
+  whole = λ h.
+      drive-whole c.args.session.settings c.run.new.session c.in_ok-journal.journal (stands-proper [] c.args.session c.requires.begins) c.in_ok-written.ensures.settings c.in_ok-journal.ensures.settings c.in_ok-written.written
+      (record { marks = g.H.Hub.marks c.args.hub.now; starts = g.H.Hub.starts c.args.hub.now; calls = g.H.Hub.calls c.args.hub.now; given = g.H.Hub.given c.args.hub.now; sunk = g.O.Sink.sunk c.args.out.now })
+      (record { marks = g.H.Hub.marks c.run.new.hub; starts = g.H.Hub.starts c.run.new.hub; calls = g.H.Hub.calls c.run.new.hub; given = g.H.Hub.given c.run.new.hub; sunk = g.O.Sink.sunk c.run.new.out })
+      c.in_default.not-Broken c.in_ok-journal.ensures.entries c.in_ok-journal.ensures.stop c.in_ok-written.ensures.ends;
+  broken = λ h. absurd (differ (sym c.in_ok-journal.ensures.told ∙ h));
+  in_order = λ h.
+      order-whole c.in_ok-journal.journal c.run.new.session _ _ c.in_ok-written.written c.in_default.not-Broken c.in_ok-journal.ensures.settings c.in_ok-journal.ensures.entries c.in_ok-written.ensures.in_order;
+}
 
 pub kill_started-requires : goal.kill_started-requires
 kill_started-requires g c =
@@ -28,30 +29,16 @@ kill_started-requires g c =
     (record { marks = g.H.Hub.marks c.run.new.hub; starts = g.H.Hub.starts c.run.new.hub; calls = g.H.Hub.calls c.run.new.hub; given = g.H.Hub.given c.run.new.hub; sunk = g.O.Sink.sunk c.run.new.out })
     (g.H.Hub.slots c.run.new.hub) c.in_ok-written.ensures.ends
 
-pub returns-clause-whole : goal.returns-clause-whole
-returns-clause-whole g c = λ h. absurd (differ (sym h ∙ c.in_ok-journal-2.ensures.told))
-
-pub returns-clause-broken : goal.returns-clause-broken
-returns-clause-broken g c = λ h.
-    drive-broken c.args.session.settings c.run.new.session c.in_ok-journal-2.journal (stands-proper [] c.args.session c.requires.begins) c.in_ok-written.ensures.settings c.in_ok-journal-2.ensures.settings c.in_ok-written.written c.in-Broken.performed c.in-Broken.is c.in_ok-journal-2.ensures.entries c.deref.result.now c.deref-2.result.now c.deref.ensures.value c.deref-2.ensures.value
-    (record { marks = g.H.Hub.marks c.args.hub.now; starts = g.H.Hub.starts c.args.hub.now; calls = g.H.Hub.calls c.args.hub.now; given = g.H.Hub.given c.args.hub.now; sunk = g.O.Sink.sunk c.args.out.now })
-    (record { marks = g.H.Hub.marks c.run.new.hub; starts = g.H.Hub.starts c.run.new.hub; calls = g.H.Hub.calls c.run.new.hub; given = g.H.Hub.given c.run.new.hub; sunk = g.O.Sink.sunk c.run.new.out })
-    (record { marks = g.H.Hub.marks c.kill_started.new.hub; starts = g.H.Hub.starts c.kill_started.new.hub; calls = g.H.Hub.calls c.kill_started.new.hub; given = g.H.Hub.given c.kill_started.new.hub; sunk = g.O.Sink.sunk c.run.new.out })
-    _ c.in_ok-journal-2.ensures.stop c.in_ok-written.ensures.ends c.in_ok-kill_started.ensures.performs c.in_ok-kill_started.ensures.given refl c.in_ok-written.ensures.in_order
-
-pub returns-in_default-clause-journal : goal.returns-in_default-clause-journal
-returns-in_default-clause-journal g c =
-    drive-journal c.args.session.settings c.run.new.session c.in_ok-journal.journal (stands-proper [] c.args.session c.requires.begins) c.in_ok-written.ensures.settings c.in_ok-journal.ensures.settings c.in_ok-written.written
-    _ _ c.in_default.not-Broken c.in_ok-journal.ensures.entries c.in_ok-journal.ensures.legal c.in_ok-written.ensures.ends
-
-pub returns-clause-journal : goal.returns-clause-journal
-returns-clause-journal g c =
-    drive-journal-broken c.args.session.settings c.run.new.session c.in_ok-journal-2.journal (stands-proper [] c.args.session c.requires.begins) c.in_ok-written.ensures.settings c.in_ok-journal-2.ensures.settings c.in_ok-written.written
-    c.in-Broken.performed c.in-Broken.is _ _ c.in_ok-journal-2.ensures.entries c.in_ok-journal-2.ensures.legal c.in_ok-written.ensures.ends
-
-pub returns-in_default-clause-in_order : goal.returns-in_default-clause-in_order
-returns-in_default-clause-in_order g c = λ h.
-    order-whole c.in_ok-journal.journal c.run.new.session _ _ c.in_ok-written.written c.in_default.not-Broken c.in_ok-journal.ensures.settings c.in_ok-journal.ensures.entries c.in_ok-written.ensures.in_order
-
-pub returns-clause-in_order : goal.returns-clause-in_order
-returns-clause-in_order g c = λ h. absurd (differ (sym h ∙ c.in_ok-journal-2.ensures.told))
+pub returns-clause-drove : goal.returns-clause-drove
+returns-clause-drove g c = record {
+  journal = drive-journal-broken c.args.session.settings c.run.new.session c.in_ok-journal-2.journal (stands-proper [] c.args.session c.requires.begins) c.in_ok-written.ensures.settings c.in_ok-journal-2.ensures.settings c.in_ok-written.written
+      c.in-Broken.performed c.in-Broken.is _ _ c.in_ok-journal-2.ensures.entries c.in_ok-journal-2.ensures.legal c.in_ok-written.ensures.ends;
+  whole = λ h. absurd (differ (sym h ∙ c.in_ok-journal-2.ensures.told));
+  broken = λ h.
+      drive-broken c.args.session.settings c.run.new.session c.in_ok-journal-2.journal (stands-proper [] c.args.session c.requires.begins) c.in_ok-written.ensures.settings c.in_ok-journal-2.ensures.settings c.in_ok-written.written c.in-Broken.performed c.in-Broken.is c.in_ok-journal-2.ensures.entries c.deref.result.now c.deref-2.result.now c.deref.ensures.value c.deref-2.ensures.value
+      (record { marks = g.H.Hub.marks c.args.hub.now; starts = g.H.Hub.starts c.args.hub.now; calls = g.H.Hub.calls c.args.hub.now; given = g.H.Hub.given c.args.hub.now; sunk = g.O.Sink.sunk c.args.out.now })
+      (record { marks = g.H.Hub.marks c.run.new.hub; starts = g.H.Hub.starts c.run.new.hub; calls = g.H.Hub.calls c.run.new.hub; given = g.H.Hub.given c.run.new.hub; sunk = g.O.Sink.sunk c.run.new.out })
+      (record { marks = g.H.Hub.marks c.kill_started.new.hub; starts = g.H.Hub.starts c.kill_started.new.hub; calls = g.H.Hub.calls c.kill_started.new.hub; given = g.H.Hub.given c.kill_started.new.hub; sunk = g.O.Sink.sunk c.run.new.out })
+      _ c.in_ok-journal-2.ensures.stop c.in_ok-written.ensures.ends c.in_ok-kill_started.ensures.performs c.in_ok-kill_started.ensures.given refl c.in_ok-written.ensures.in_order;
+  in_order = λ h. absurd (differ (sym h ∙ c.in_ok-journal-2.ensures.told));
+}

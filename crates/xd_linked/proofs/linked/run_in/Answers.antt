@@ -29,4 +29,4 @@ returns-clause-ran g c =
       out_faults = g.O.Sink.faults c.run_over-ended.new.out;
     })
     c.run_over-ended.new.hub c.end_workers.new.hub c.end_workers.ensures.same (rw (hub.starter.1, hub.crew.1) at run.runs)))
-    run.out_fault run.still)
+    run.counted)

@@ -21,7 +21,7 @@ returns-clause-runs g c =
     _ _ _ _ _ _ _ _ _ _
     (ap (λ p. p.0) made) (ap (λ p. p.1) made ∙ c.requires.mode) done.listed (ap (λ p. p.2.items) made)
     (record {
-      whole = λ e. whole_from c.in_ok-journal.journal (noted was.group.diary.calls) calls (noted was.group.diary.given) given _ _ c.requires.no_calls c.requires.no_news (c.in_ok-journal.ensures.whole e);
-      broken = λ e. let b = c.in_ok-journal.ensures.broken e in broken_from c.in_ok-journal.journal (noted was.group.diary.calls) calls (noted was.group.diary.given) given _ _ c.requires.no_calls c.requires.no_news (b.0, b.1, b.2);
+      whole = λ e. whole_from c.in_ok-journal.journal (noted was.group.diary.calls) calls (noted was.group.diary.given) given _ _ c.requires.no_calls c.requires.no_news (c.in_ok-journal.ensures.drove.whole e);
+      broken = λ e. let b = c.in_ok-journal.ensures.drove.broken e in broken_from c.in_ok-journal.journal (noted was.group.diary.calls) calls (noted was.group.diary.given) given _ _ c.requires.no_calls c.requires.no_news (b.0, b.1, b.2);
     })
     done.workers done.runs (rw (first) at done.begun) done.killed done.unlinked (rw (crew) at done.few_refused) (rw (first) at done.few_unlinked)
