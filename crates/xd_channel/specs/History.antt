@@ -59,16 +59,18 @@ arrived (Give_up ∷ h) = arrived h
 arrived (Set_callback r ∷ h) = arrived h
 arrived (Receive r ∷ h) = arrived h
 
--- the items that one answer hands out
+-- the item that is handed to a callback as it comes
 abbrev pub handed : {V : Type 0} → Arrived V → List V
 handed (Handed v) = v ∷ []
 handed Kept = []
 handed Dropped = []
 
+-- the items that a callback was handed as it was set; a refused one has none
 abbrev pub waited : {V : Type 0} → Result (List V × Option End) HasCallback → List V
 waited (Ok w) = w.0
 waited (Err e) = []
 
+-- the item that a receive gave, if it gave one
 abbrev pub received : {V : Type 0} → Result (Got V) HasCallback → List V
 received (Ok (Item v)) = v ∷ []
 received (Ok (Ended end)) = []
@@ -99,12 +101,14 @@ send_open (Arrive v a ∷ h) = send_open h
 send_open (Set_callback r ∷ h) = send_open h
 send_open (Receive r ∷ h) = send_open h
 
+-- a receive gave the end marker
 abbrev pub gives_end : {V : Type 0} → Result (Got V) HasCallback → Bool
 gives_end (Ok (Ended end)) = true
 gives_end (Ok (Item v)) = false
 gives_end (Ok NotYet) = false
 gives_end (Err e) = false
 
+-- a callback was handed the end marker as it was set
 abbrev pub hands_end : {V : Type 0} → Result (List V × Option End) HasCallback → Bool
 hands_end (Ok w) = is_some w.1
 hands_end (Err e) = false
@@ -130,7 +134,7 @@ marker_left true (Some end) = Some (once_given end)
 -- what a history left, by its parts: the items delivered and arrived, the first marker, whether sending is open,
 -- whether a callback is set, whether the marker was told
 pub record StandsAt {V : Type 0} (s : EndState V) (done came : List V) (first : Option End) (open_ hook told : Bool) : Type 0 where
-  -- what was delivered, and behind it what waits, is what arrived before the first end marker
+  -- what was delivered, and after it what waits, is what arrived before the first end marker
   pub items_are : done ++ s.waiting ≡ came
   pub marker_is : s.marker ≡ marker_left told first
   pub sending_is : s.sending ≡ open_

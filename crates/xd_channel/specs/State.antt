@@ -15,7 +15,7 @@ use Rattle.xd_channel.specs.declared.answers.GivenUp.{GivenUp}
 use Rattle.xd_channel.specs.declared.answers.GivenUp.TheVariants as given_up
 use Rattle.xd_channel.specs.declared.answers.Waiting.{Waiting}
 
--- an end, as contracts see it: the items that wait, the end marker behind them, whether sending is open, whether a
+-- an end, as contracts see it: the items that wait, the end marker after them, whether sending is open, whether a
 -- callback is set, and whether the marker was given by a receive or handed to a callback
 pub record EndState (V : Type 0) : Type 0 where
   pub waiting : List V
@@ -32,13 +32,15 @@ fresh = record { waiting = []; marker = None; sending = true; callback = false; 
 abbrev pub is_done : {V : Type 0} → EndState V → Bool
 is_done s = not s.sending && s.given
 
+-- sending is refused where it is closed
 abbrev pub may_send_gives : {V : Type 0} → EndState V → Result (Unit {0}) SendClosed
 may_send_gives s = if s.sending then Ok tt else Err (record {})
 
--- an item that comes is dropped behind an end marker, else handed to a callback, else kept behind those that wait
+-- an item that comes is dropped after an end marker, else handed to a callback, else kept after those that wait
 abbrev pub arrive_gives : {V : Type 0} → EndState V → V → Arrived V
 arrive_gives s item = if is_some s.marker then Dropped else (if s.callback then Handed item else Kept)
 
+-- the end after an item came: an item that is kept waits after the others
 abbrev pub after_arrive : {V : Type 0} → EndState V → V → EndState V
 after_arrive s item = record s { waiting = if is_some s.marker || s.callback then s.waiting else s.waiting ++ item ∷ [] }
 
@@ -63,6 +65,7 @@ marker_or (Some m) end = Some m
 abbrev pub put_gives : {V : Type 0} → EndState V → End → Option End
 put_gives s end = if is_some s.marker then None else (if s.callback then Some end else None)
 
+-- the end after an end marker came: the first one stands, and counts as given where a callback is set
 abbrev pub after_put : {V : Type 0} → EndState V → End → EndState V
 after_put s end = record s {
   marker = marker_or s.marker (if s.callback then once_given end else end);
@@ -87,6 +90,7 @@ give_up_gives s =
     if s.sending && is_none s.marker then (if s.callback then given_up.SayLast else given_up.SayClose)
     else given_up.Nothing
 
+-- the end after letting go: it sends no more, and one that still sent and has no callback has an end marker then
 abbrev pub after_give_up : {V : Type 0} → EndState V → EndState V
 after_give_up s = record s { sending = false; marker = if s.sending && not s.callback then marker_or s.marker Closed else s.marker }
 
@@ -95,6 +99,7 @@ abbrev pub given_marker : Option End → Option End
 given_marker None = None
 given_marker (Some m) = Some (once_given m)
 
+-- the end after its marker, if there is one, was given
 abbrev pub after_given : {V : Type 0} → EndState V → EndState V
 after_given s = record s { marker = given_marker s.marker; given = is_some s.marker || s.given }
 
@@ -103,10 +108,11 @@ abbrev pub waiting_of : {V : Type 0} → Result (Waiting V) HasCallback → Resu
 waiting_of (Ok w) = Ok (w.items.items, w.end)
 waiting_of (Err e) = Err e
 
--- setting a callback hands over the items that wait and the marker behind them; a second one is refused
+-- setting a callback hands over the items that wait and the marker after them; a second one is refused
 abbrev pub hook_gives : {V : Type 0} → EndState V → Result (List V × Option End) HasCallback
 hook_gives s = if s.callback then Err (record {}) else Ok (s.waiting, s.marker)
 
+-- the end after a callback was set: nothing waits, and a marker that stood was given
 abbrev pub after_hook : {V : Type 0} → EndState V → EndState V
 after_hook s = if s.callback then s else record (after_given s) { waiting = []; callback = true }
 
@@ -116,12 +122,15 @@ got_of (x ∷ xs) m = Item x
 got_of [] (Some end) = Ended end
 got_of [] None = NotYet
 
+-- a receive gives what comes next, and is refused where a callback is set
 abbrev pub receive_gives : {V : Type 0} → EndState V → Result (Got V) HasCallback
 receive_gives s = if s.callback then Err (record {}) else Ok (got_of s.waiting s.marker)
 
+-- the end after a receive, where these items waited: the first one is taken, or without any the marker was given
 abbrev pub after_got : {V : Type 0} → EndState V → List V → EndState V
 after_got s (x ∷ xs) = record s { waiting = xs }
 after_got s [] = after_given s
 
+-- the end after a receive; a refused one changes nothing
 abbrev pub after_receive : {V : Type 0} → EndState V → EndState V
 after_receive s = if s.callback then s else after_got s s.waiting

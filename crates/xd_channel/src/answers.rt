@@ -30,7 +30,7 @@ pub enum Arrived<V = Value> {
 pub struct Waiting<V = Value> {
     /// The items, in the order in which they came.
     pub items: VecDeque<V>,
-    /// The end, where it stood behind them.
+    /// The end, where it stood after them.
     pub end: Option<End>,
 }
 

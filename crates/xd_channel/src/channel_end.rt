@@ -75,7 +75,7 @@ impl<V: Drop> ChannelEnd<V> {
         !self.sending && self.given
     }
 
-    /// An item comes from the peer. After want of memory the item is dropped and the end is as it was.
+    /// An item comes from the peer. Where memory runs out the item is dropped and the end is as it was.
     pub fn arrive(&mut self, item: V) -> Result<Arrived<V>, OutOfMemory>
         ensures gives { IfOk result (λ arrived. arrived ≡ arrive_gives self.old item) }
         ensures after { IfOk result (λ _. self.new ≡ after_arrive self.old item) }

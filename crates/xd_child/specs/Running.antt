@@ -5,8 +5,8 @@ use Rattle.xd_journal.specs.Kept.{kept_of}
 use Rattle.xd_child.specs.Ending.{outcome_of}
 use Rattle.xd_child.specs.declared.running.ChildResult.{ChildResult}
 
--- Where it is told, one start more of these arguments was asked for, and it came to this result, with room for so many
--- bytes of what it gave.
+-- Where it is told, one start more of these arguments was asked for, and it came to this result, with room for that
+-- many bytes of what it gave.
 pub record RanChild (args : List (List ℕ)) (room : ℕ) (result : ChildResult) (old new : Option (List ChildRun)) : Type 0 where
   pub run : ChildRun
   pub args_are : run.args ≡ args

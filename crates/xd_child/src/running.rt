@@ -21,7 +21,7 @@ pub struct ChildResult {
     pub output: Blob,
 }
 
-/// Runs a program to its end. Of its output so many bytes are kept as there is room for. A program that was started is
+/// Runs a program to its end. Of its output as many bytes are kept as there is room for. A program that was started is
 /// waited for.
 pub fn run_child<R: Wait, K: Children>(
     rt: &R,

@@ -15,7 +15,7 @@ pub trait Crew<J: Job>: Drop {
     /// The job that was started.
     ghost job_of: { Self.Handle → J };
 
-    /// Starts the job, or hands it back: a refusal, for want of memory too, is a fault.
+    /// Starts the job, or hands it back: a refusal, also one because memory ran out, is a fault.
     fn start(&mut self, job: J) -> Result<Self::Handle, J>
         ensures started { IfOk result (λ handle. job_of handle ≡ job) }
         ensures back { IfErr result (λ back. back ≡ job) }

@@ -45,6 +45,7 @@ calls (On k ∷ d) = k ∷ calls d
 calls (Opens ∷ d) = calls d
 calls (Shuts ∷ d) = calls d
 
+-- the number was shut: its function ended, or the peer ended it before it had opened here
 abbrev pub was_shut : List Deed → Bool
 was_shut [] = false
 was_shut (Shuts ∷ d) = true
@@ -60,6 +61,7 @@ abbrev pub is_open : List Deed → Bool
 is_open [] = false
 is_open (x ∷ d) = not (was_shut (x ∷ d)) && not (has_left (x ∷ d))
 
+-- nothing happened to the number
 abbrev pub is_untouched : List Deed → Bool
 is_untouched [] = true
 is_untouched (x ∷ d) = false
@@ -78,6 +80,7 @@ abbrev pub ended_deeds : Bool → Call Tree → List Deed → List Deed
 ended_deeds mine k [] = if mine then [] else Shuts ∷ []
 ended_deeds mine k (x ∷ d) = on_end k (x ∷ d)
 
+-- the end of a function shuts a number that is open
 abbrev pub function_deeds : List Deed → List Deed
 function_deeds d = if is_open d then Shuts ∷ d else d
 
@@ -92,7 +95,7 @@ arrived_of (taken.Status n) = arrived.Dropped
 arrived_of (taken.Exec n v) = arrived.Dropped
 arrived_of taken.Terminate = arrived.Dropped
 
--- a message at a number, behind the opening of what it names
+-- a message at a number, after the opening of what it names
 abbrev pub told_deeds : Bool → ℕ → Said → Taken Tree → List Deed → List Deed
 told_deeds mine c (message.Data n v) t d = if n == c then on_end (call.Arrive v (arrived_of t)) d else d
 told_deeds mine c (message.Close n e) t d = if n == c then ended_deeds mine (call.Peer_close e) d else d
@@ -101,6 +104,7 @@ told_deeds mine c (message.Status n) t d = d
 told_deeds mine c (message.Exec n v) t d = d
 told_deeds mine c message.Terminate t d = d
 
+-- a message at a number: it opens where the message names it, then the item or the end comes on it
 abbrev pub took_deeds : Bool → ℕ → Said → Taken Tree → List Deed → List Deed
 took_deeds mine c said t d = told_deeds mine c said t (if is_in c (names_of said) then named_deeds mine d else d)
 
@@ -122,6 +126,7 @@ pub record HereStands (s : EndState Tree) (d : List Deed) : Type 0 where
   pub open_still : is_open d ≡ true
   pub end_stands : Stands s (calls d)
 
+-- no entry is open, and something happened to the number
 pub record GoneStands (d : List Deed) : Type 0 where
   pub closed : is_open d ≡ false
   pub touched : is_untouched d ≡ false
@@ -132,6 +137,7 @@ SlotStands Unseen d = d ≡ []
 SlotStands (Here s) d = HereStands s d
 SlotStands Gone d = GoneStands d
 
+-- what stands at each number is what its history leaves
 abbrev pub AllStand : (ℕ → Slot Tree) → Parity → List Act → Type 0
 AllStand slot parity h = (c : ℕ) → SlotStands (slot c) (deeds parity c h)
 

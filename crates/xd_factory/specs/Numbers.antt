@@ -6,6 +6,7 @@ use Rattle.xd_factory.specs.declared.parity.Parity.TheVariants.{Odd, Even}
 use Rattle.xd_factory.specs.declared.seen.Seen.{Seen}
 use Rattle.xd_factory.specs.Seen.{was_seen}
 
+-- the number is odd
 abbrev pub is_odd : ℕ → Bool
 is_odd c = c % 2 == 1
 
@@ -23,6 +24,7 @@ first_number Even = 2
 abbrev pub is_known : Parity → ℕ → Seen → ℕ → Bool
 is_known parity next seen c = if is_mine parity c then nat_lt 0 c && nat_lt c next else was_seen seen c
 
+-- the number is in the list
 abbrev pub is_in : ℕ → List ℕ → Bool
 is_in c [] = false
 is_in c (n ∷ ns) = (n == c) || is_in c ns

@@ -27,6 +27,7 @@ IsUnread b fault.Unsupported = ⊥
 IsUnread b fault.NotText = ⊥
 IsUnread b fault.TooManyOpen = ⊥
 
+-- bytes are read as the value that they are the payload of, and as no other, or refused for their first fault
 pub record ValueReads (b : List ℕ) (r : Result Value SideFault) : Type 0 where
   pub read : IfOk r (λ v. IsPayload (view v) b)
   pub only : (v : Tree) → IsPayload v b → IsReadAs v r
@@ -38,6 +39,7 @@ abbrev pub IsReadText : List ℕ → Result (List ℕ) SideFault → Type 0
 IsReadText cs (Ok t) = t ≡ cs
 IsReadText cs (Err f) = f ≡ fault.OutOfMemory
 
+-- why bytes were not read as a text
 abbrev pub IsNoText : List ℕ → SideFault → Type 0
 IsNoText b (fault.BadPayload what) = (at : ℕ) × FirstFault b at what
 IsNoText b fault.NotText = (v : Tree) × IsPayload v b × (is_text v ≡ false)
@@ -47,6 +49,7 @@ IsNoText b fault.BadNumber = ⊥
 IsNoText b fault.Unsupported = ⊥
 IsNoText b fault.TooManyOpen = ⊥
 
+-- bytes are read as the text that they are the payload of, and as no other, or refused for the reason why they are none
 pub record TextReads (b : List ℕ) (r : Result (List ℕ) SideFault) : Type 0 where
   pub read : IfOk r (λ cs. IsPayload (text cs) b)
   pub only : (cs : List ℕ) → IsPayload (text cs) b → IsReadText cs r
@@ -59,6 +62,8 @@ abbrev pub IsSaid : Said → Result Word SideFault → Type 0
 IsSaid said (Ok w) = said ≡ said_of w
 IsSaid said (Err f) = f ≡ fault.OutOfMemory
 
+-- a message is read as what it says, and as nothing else, or refused for why it says nothing;
+-- the numbers that are read are at most 2,147,483,647
 pub record MessageReads (m : MessageView) (r : Result Word SideFault) : Type 0 where
   pub read : IfOk r (λ w. Means m (said_of w))
   pub only : (said : Said) → Means m said → IsSaid said r

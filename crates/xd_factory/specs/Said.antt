@@ -48,11 +48,12 @@ SaysBy kind.Close c b said = said ≡ Close c None
 SaysBy kind.CloseError c b said = (cs : List ℕ) × IsPayload (text cs) b × (said ≡ Close c (Some cs))
 SaysBy kind.LastMessage c b said = said ≡ Last c
 
+-- the message says this, and has a channel's number where it needs one
 pub record Means (m : MessageView) (said : Said) : Type 0 where
   pub numbered : is_unnumbered m ≡ false
   pub says : SaysBy m.kind m.channel m.payload said
 
--- the payload of such a message is read
+-- the payload of a message of this kind is read
 abbrev pub is_read : Kind → Bool
 is_read kind.Exec = true
 is_read kind.Item = true
@@ -63,6 +64,7 @@ is_read kind.Terminate = false
 is_read kind.Close = false
 is_read kind.LastMessage = false
 
+-- the value is a text
 abbrev pub is_text : Tree → Bool
 is_text (text cs) = true
 is_text none = false
@@ -76,12 +78,14 @@ is_text (frozenset ts) = false
 is_text (dict ps) = false
 is_text (channel n) = false
 
+-- the payload of the message is read, and this is its first fault
 pub record BadPayload (m : MessageView) (what : LoadWhat) : Type 0 where
   pub numbered : is_unnumbered m ≡ false
   pub reads : is_read m.kind ≡ true
   pub at : ℕ
   pub first : FirstFault m.payload at what
 
+-- the message closes a channel with an error, and the payload is a value other than a text
 pub record NotText (m : MessageView) : Type 0 where
   pub numbered : is_unnumbered m ≡ false
   pub error : m.kind ≡ kind.CloseError
@@ -99,7 +103,7 @@ Misread m fault.Finished = ⊥
 Misread m fault.TooManyOpen = ⊥
 Misread m fault.OutOfMemory = ⊥
 
--- a refusal names its reason; want of memory needs none
+-- a refusal names its reason; one because memory ran out needs none
 abbrev pub IsMisread : MessageView → SideFault → Type 0
 IsMisread m fault.OutOfMemory = Unit {0}
 IsMisread m fault.BadNumber = Misread m fault.BadNumber
@@ -109,7 +113,7 @@ IsMisread m fault.NotText = Misread m fault.NotText
 IsMisread m fault.Finished = ⊥
 IsMisread m fault.TooManyOpen = ⊥
 
--- the answer is this fault, or want of memory
+-- the answer is this fault, or memory ran out
 abbrev pub IsFault : {X : Type 0} → SideFault → Result X SideFault → Type 0
 IsFault f (Ok x) = ⊥
 IsFault f (Err fault.OutOfMemory) = Unit {0}
@@ -120,6 +124,7 @@ IsFault f (Err (fault.BadPayload what)) = fault.BadPayload what ≡ f
 IsFault f (Err fault.NotText) = fault.NotText ≡ f
 IsFault f (Err fault.TooManyOpen) = fault.TooManyOpen ≡ f
 
+-- what a message that was read says
 abbrev pub said_of : Word → Said
 said_of (word.Status c) = Status c
 said_of (word.Exec c v) = Exec c (view v)

@@ -29,6 +29,7 @@ pub record Table : Type 0 where
 abbrev pub new_table : Parity → Table
 new_table parity = record { slot = λ c. Unseen; parity = parity; next = first_number parity; fault = None; finished = false }
 
+-- the channels of a side as one value
 abbrev pub table_of : Side → Table
 table_of s = record { slot = slot_of s; parity = parity_of s; next = next_of s; fault = fault_of s; finished = is_finished s }
 
@@ -52,7 +53,7 @@ answer said t = answer_of t.parity t.slot said
 abbrev pub lost : Table → Table
 lost t = record t { slot = λ c. lost_slot (t.slot c); fault = fault_or t.fault Finished; finished = true }
 
--- so many numbers are in the table
+-- n numbers are in the table
 pub record Counts (slot : ℕ → Slot Tree) (n : ℕ) : Type 0 where
   pub numbers : List ℕ
   pub rising : IsStrictlySortedBy nat_cmp numbers

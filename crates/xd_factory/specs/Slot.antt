@@ -19,11 +19,13 @@ pub data Slot (V : Type 0) : Type 0 where
   Here : EndState V → Slot V
   Gone : Slot V
 
+-- the number is in the table, or closed for good
 abbrev pub is_seen : {V : Type 0} → Slot V → Bool
 is_seen Unseen = false
 is_seen (Here s) = true
 is_seen Gone = true
 
+-- the number is in the table
 abbrev pub is_here : {V : Type 0} → Slot V → Bool
 is_here Unseen = false
 is_here (Here s) = true
@@ -33,6 +35,7 @@ is_here Gone = false
 abbrev pub settled : {V : Type 0} → EndState V → Slot V
 settled s = if is_done s then Gone else Here s
 
+-- an entry leaves the table for good where it is done
 abbrev pub left_slot : {V : Type 0} → Bool → Slot V → Slot V
 left_slot done Unseen = Unseen
 left_slot done (Here s) = if done then Gone else Here s
@@ -44,12 +47,13 @@ opened_slot Unseen = Here fresh
 opened_slot (Here s) = Here s
 opened_slot Gone = Gone
 
--- a message names the number: it opens where it is the peer's and was never seen
+-- a message that names the number opens it: it is the peer's and was never seen
 abbrev pub is_new : {V : Type 0} → Bool → Slot V → Bool
 is_new mine Unseen = not mine
 is_new mine (Here s) = false
 is_new mine Gone = false
 
+-- a message names the number: one of the peer's that was never seen opens
 abbrev pub named_slot : {V : Type 0} → Bool → Slot V → Slot V
 named_slot mine Unseen = if mine then Unseen else Here fresh
 named_slot mine (Here s) = Here s
@@ -61,6 +65,7 @@ item_slot Unseen v = Unseen
 item_slot (Here s) v = Here (after_arrive s v)
 item_slot Gone v = Gone
 
+-- what becomes of an item that comes on the number; without an entry it is dropped
 abbrev pub item_gives : {V : Type 0} → Slot V → V → Arrived V
 item_gives Unseen v = Dropped
 item_gives (Here s) v = arrive_gives s v
@@ -96,6 +101,7 @@ lost_slot Unseen = Unseen
 lost_slot (Here s) = settled (after_put s Lost)
 lost_slot Gone = Gone
 
+-- the end that a callback at the number is handed where the link is lost
 abbrev pub lost_gives : {V : Type 0} → Slot V → Option End
 lost_gives s = end_gives s Lost
 
@@ -111,6 +117,7 @@ given_up_slot Unseen = Unseen
 given_up_slot (Here s) = settled (after_give_up s)
 given_up_slot Gone = Gone
 
+-- what the peer is told where the owner lets go of the channel
 abbrev pub give_up_says : {V : Type 0} → Slot V → GivenUp
 give_up_says Unseen = given_up.Nothing
 give_up_says (Here s) = give_up_gives s
@@ -122,12 +129,13 @@ function_ended_slot Unseen = Unseen
 function_ended_slot (Here s) = Gone
 function_ended_slot Gone = Gone
 
--- a receive; a closed channel gives its end again and again
+-- a receive
 abbrev pub received_slot : {V : Type 0} → Slot V → Slot V
 received_slot Unseen = Unseen
 received_slot (Here s) = settled (after_receive s)
 received_slot Gone = Gone
 
+-- what a receive gives; a closed channel gives its end again and again
 abbrev pub receive_answer : {V : Type 0} → Slot V → Result (Got V) HookFault
 receive_answer Unseen = Err Unknown
 receive_answer (Here s) = if s.callback then Err HasCallback else Ok (got_of s.waiting s.marker)
@@ -145,11 +153,13 @@ hook_fault Unseen = Some Unknown
 hook_fault (Here s) = if s.callback then Some HasCallback else None
 hook_fault Gone = None
 
+-- the items that a callback is handed as it is set
 abbrev pub hook_items : {V : Type 0} → Slot V → List V
 hook_items Unseen = []
 hook_items (Here s) = if s.callback then [] else s.waiting
 hook_items Gone = []
 
+-- the end that a callback is handed as it is set; a channel that is closed for good has the end Closed
 abbrev pub hook_end : {V : Type 0} → Slot V → Option End
 hook_end Unseen = None
 hook_end (Here s) = if s.callback then None else s.marker

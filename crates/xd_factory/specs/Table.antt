@@ -33,7 +33,7 @@ use Rattle.xd_factory.specs.Slot.{Slot, Unseen, Here, Gone, is_new, named_slot, 
 abbrev pub named_in : Bool → Bool → Slot Tree → Slot Tree
 named_in mine named s = if named then named_slot mine s else s
 
--- what a message does at a number: its names open, then its item or its end comes on its own number
+-- an item or an end comes on the number of its message; at other numbers nothing changes
 abbrev pub told_slot : Bool → ℕ → Said → Slot Tree → Slot Tree
 told_slot mine c (Status n) s = s
 told_slot mine c (Exec n v) s = s
@@ -42,6 +42,7 @@ told_slot mine c (Close n e) s = if n == c then peer_closed_slot mine s (end_of 
 told_slot mine c (Last n) s = if n == c then peer_last_slot mine s else s
 told_slot mine c Terminate s = s
 
+-- what a message does at a number: its names open, then its item or its end comes on its own number
 abbrev pub heard_slot : Parity → Said → ℕ → Slot Tree → Slot Tree
 heard_slot parity said c s = told_slot (is_mine parity c) c said (named_in (is_mine parity c) (is_in c (names_of said)) s)
 
@@ -50,7 +51,7 @@ abbrev pub opened_count : (ℕ → Bool) → List ℕ → ℕ
 opened_count new [] = 0
 opened_count new (n ∷ ns) = if new n then suc (opened_count (λ c. new c && not (n == c)) ns) else opened_count new ns
 
--- what the message answers, where slot gives what stands at each number before it
+-- what a message with an item answers, by what became of the item
 abbrev pub arrived_answer : ℕ → Arrived Tree → Taken Tree
 arrived_answer n arrived.Kept = taken.Kept n
 arrived_answer n (arrived.Handed v) = taken.Handed n v
@@ -61,14 +62,17 @@ abbrev pub handed_answer : ℕ → Option End → Taken Tree
 handed_answer n None = taken.Dropped
 handed_answer n (Some end) = taken.EndHanded n end
 
+-- what an end answers that comes on an entry: a callback is handed it, or it is kept
 abbrev pub ended_answer : ℕ → Bool → Option End → Taken Tree
 ended_answer n hooked handed = if hooked then handed_answer n handed else taken.EndKept n
 
+-- what an end answers that comes on a number; without an entry it is dropped
 abbrev pub end_answer : ℕ → Slot Tree → End → Taken Tree
 end_answer n Unseen end = taken.Dropped
 end_answer n (Here s) end = ended_answer n s.callback (put_gives s end)
 end_answer n Gone end = taken.Dropped
 
+-- what a message answers, where `slot` gives what stands at each number before it
 abbrev pub answer_of : Parity → (ℕ → Slot Tree) → Said → Taken Tree
 answer_of parity slot (Status n) = taken.Status n
 answer_of parity slot (Exec n v) = if is_new (is_mine parity n) (slot n) then taken.Exec n v else taken.Dropped
@@ -77,7 +81,7 @@ answer_of parity slot (Close n e) = end_answer n (slot n) (end_of e)
 answer_of parity slot (Last n) = end_answer n (slot n) LastMessage
 answer_of parity slot Terminate = taken.Terminate
 
--- behind a refusal, a number that the message named may be open
+-- after a refusal, a number that the message named may be open
 abbrev pub OpensAtMost : Bool → Slot Tree → Slot Tree → Type 0
 OpensAtMost mine old new = (new ≡ old) ⊎ (new ≡ named_slot mine old)
 
@@ -86,6 +90,7 @@ abbrev pub closing_message : ℕ → Option (List ℕ) → MessageView
 closing_message n None = record { kind = kind.Close; channel = n; payload = [] }
 closing_message n (Some cs) = record { kind = kind.CloseError; channel = n; payload = canonical (text cs) }
 
+-- the message by which an end sends no more: CHANNEL_LAST_MESSAGE
 abbrev pub last_message : ℕ → MessageView
 last_message n = record { kind = kind.LastMessage; channel = n; payload = [] }
 
@@ -94,10 +99,12 @@ abbrev pub is_long : Option (List ℕ) → Bool
 is_long None = false
 is_long (Some cs) = nat_lt 16777216 (length (canonical (text cs)))
 
+-- the message of a close that the peer is to be told, if it is
 abbrev pub closing_says : ℕ → Option (List ℕ) → Closing → Option MessageView
 closing_says n e closing.Nothing = None
 closing_says n e closing.Say = Some (closing_message n e)
 
+-- whether the peer is told where the owner closes the number
 abbrev pub close_gives_at : Slot Tree → Closing
 close_gives_at Unseen = closing.Nothing
 close_gives_at (Here s) = close_gives s
@@ -108,19 +115,21 @@ abbrev pub HasErrorPayload : Option (List ℕ) → Type 0
 HasErrorPayload None = Unit {0}
 HasErrorPayload (Some cs) = IsPayload (text cs) (canonical (text cs))
 
--- what a close has to say, and why it is refused
+-- what a close at a number has to say
 abbrev pub close_says : ℕ → Option (List ℕ) → Slot Tree → Option MessageView
 close_says n e s = closing_says n e (close_gives_at s)
 
+-- why a close is refused, if it is: the number was never seen, or the text of the error is too long
 abbrev pub close_refusal : Bool → Bool → Option CloseFault
 close_refusal seen long = if not seen then Some close.Unknown else (if long then Some close.TooLong else None)
 
--- a refusal is this one, or want of memory
+-- a refusal is this one, or memory ran out
 abbrev pub IsRefusal : Option CloseFault → CloseFault → Type 0
 IsRefusal wanted close.OutOfMemory = Unit {0}
 IsRefusal wanted close.Unknown = wanted ≡ Some close.Unknown
 IsRefusal wanted close.TooLong = wanted ≡ Some close.TooLong
 
+-- why a close is refused whose text got no payload
 abbrev pub close_fault_of : DumpFault → CloseFault
 close_fault_of dump.OutOfMemory = close.OutOfMemory
 close_fault_of dump.TooDeep = close.TooLong
@@ -141,11 +150,13 @@ send_refusal Unseen = Some send.Unknown
 send_refusal (Here s) = if s.sending then None else Some send.SendClosed
 send_refusal Gone = Some send.SendClosed
 
+-- what a send comes to: the reason against it, the payload of the value, or why the value has none
 abbrev pub sent_gives : Option SendFault → Result (List ℕ) DumpFault → Result (List ℕ) SendFault
 sent_gives (Some f) r = Err f
 sent_gives None (Ok b) = Ok b
 sent_gives None (Err f) = Err (send.Dump f)
 
+-- the answer to a send is the CHANNEL_DATA with the payload that is wanted, or the refusal that is, or memory ran out
 abbrev pub IsSent : ℕ → Result MessageView SendFault → Result (List ℕ) SendFault → Type 0
 IsSent n (Ok m) wanted = (b : List ℕ) × (wanted ≡ Ok b) × (m ≡ record { kind = kind.Item; channel = n; payload = b })
 IsSent n (Err send.OutOfMemory) wanted = Unit {0}
@@ -153,16 +164,17 @@ IsSent n (Err send.Unknown) wanted = wanted ≡ Err send.Unknown
 IsSent n (Err send.SendClosed) wanted = wanted ≡ Err send.SendClosed
 IsSent n (Err (send.Dump f)) wanted = wanted ≡ Err (send.Dump f)
 
--- the ends that the callbacks at these numbers are owed when the link is lost
+-- the end that the callback at this number is owed, if there is one
 abbrev pub owed_at : ℕ → Option End → List (ℕ × End)
 owed_at n None = []
 owed_at n (Some end) = (n, end) ∷ []
 
+-- the ends that the callbacks at these numbers are owed when the link is lost
 abbrev pub owed_of : (ℕ → Slot Tree) → List ℕ → List (ℕ × End)
 owed_of slot [] = []
 owed_of slot (n ∷ ns) = owed_at n (lost_gives (slot n)) ++ owed_of slot ns
 
--- why a side refuses a message, where it has so many entries and a number is new
+-- why a side refuses a message, where it has this many entries and `new` tells which numbers open when they are named
 abbrev pub Refused : ℕ → (ℕ → Bool) → MessageView → SideFault → Type 0
 Refused entries new m fault.TooManyOpen = (said : Said) × Means m said × (4096 < entries + opened_count new (names_of said))
 Refused entries new m fault.BadNumber = Misread m fault.BadNumber
@@ -172,7 +184,7 @@ Refused entries new m fault.NotText = Misread m fault.NotText
 Refused entries new m fault.Finished = ⊥
 Refused entries new m fault.OutOfMemory = ⊥
 
--- a refusal names its reason; want of memory needs none
+-- a refusal names its reason; one because memory ran out needs none
 abbrev pub IsRefused : ℕ → (ℕ → Bool) → MessageView → SideFault → Type 0
 IsRefused entries new m fault.OutOfMemory = Unit {0}
 IsRefused entries new m fault.TooManyOpen = Refused entries new m fault.TooManyOpen
@@ -182,7 +194,7 @@ IsRefused entries new m (fault.BadPayload what) = Misread m (fault.BadPayload wh
 IsRefused entries new m fault.NotText = Misread m fault.NotText
 IsRefused entries new m fault.Finished = ⊥
 
--- why the numbers of a message did not open, where the table would have so many entries
+-- why the numbers of a message did not open, where the table would have this many entries
 abbrev pub IsHearFault : ℕ → SideFault → Type 0
 IsHearFault entries fault.OutOfMemory = Unit {0}
 IsHearFault entries fault.TooManyOpen = 4096 < entries
@@ -202,6 +214,7 @@ IsNameFault entries new fault.Unsupported = ⊥
 IsNameFault entries new (fault.BadPayload what) = ⊥
 IsNameFault entries new fault.NotText = ⊥
 
+-- the fault is that memory ran out
 abbrev pub IsNoMemory : SideFault → Type 0
 IsNoMemory f = f ≡ fault.OutOfMemory
 

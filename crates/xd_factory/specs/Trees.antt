@@ -15,23 +15,28 @@ use Rattle.xd_factory.specs.declared.taken.Taken.{Taken}
 use Rattle.xd_factory.specs.declared.taken.Taken.TheVariants as taken
 use Rattle.xd_factory.specs.declared.faults.HookFault.{HookFault}
 
+-- an end with its items seen as trees
 abbrev pub end_trees : EndState Value → EndState Tree
 end_trees s = record { waiting = map view s.waiting; marker = s.marker; sending = s.sending; callback = s.callback; given = s.given }
 
+-- an end, where there is one, with its items seen as trees
 abbrev pub trees_at : Option (EndState Value) → Option (EndState Tree)
 trees_at None = None
 trees_at (Some s) = Some (end_trees s)
 
+-- what became of an item, which is seen as a tree
 abbrev pub arrived_tree : Arrived Value → Arrived Tree
 arrived_tree arrived.Kept = arrived.Kept
 arrived_tree (arrived.Handed v) = arrived.Handed (view v)
 arrived_tree arrived.Dropped = arrived.Dropped
 
+-- what a receive gave, its item seen as a tree
 abbrev pub got_tree : Got Value → Got Tree
 got_tree (Item v) = Item (view v)
 got_tree (Ended end) = Ended end
 got_tree NotYet = NotYet
 
+-- what a message did, its value seen as a tree
 abbrev pub taken_tree : Taken Value → Taken Tree
 taken_tree (taken.Kept n) = taken.Kept n
 taken_tree (taken.Handed n v) = taken.Handed n (view v)
@@ -47,11 +52,12 @@ abbrev pub IsGot : Result (Got Value) HookFault → Result (Got Tree) HookFault 
 IsGot (Ok got) answer = answer ≡ Ok (got_tree got)
 IsGot (Err fault) answer = answer ≡ Err fault
 
--- what a receive and a callback were given, seen as trees, for the history of their number
+-- what a receive gave, its item seen as a tree, for the history of its number
 abbrev pub received_trees : Result (Got Value) HookFault → Result (Got Tree) HasCallback
 received_trees (Ok got) = Ok (got_tree got)
 received_trees (Err fault) = Err (record {})
 
+-- what a callback was handed as it was set, the items seen as trees, for the history of its number
 abbrev pub hooked_trees : Result (Waiting Value) HookFault → Result (List Tree × Option End) HasCallback
 hooked_trees (Ok w) = Ok (map view w.items.items, w.end)
 hooked_trees (Err fault) = Err (record {})

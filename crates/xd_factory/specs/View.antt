@@ -11,6 +11,7 @@ use Rattle.xd_factory.specs.Numbers.{is_known, is_mine}
 use Rattle.xd_factory.specs.Slot.{Slot, Unseen, Here, Gone, is_new}
 use Rattle.xd_factory.specs.Trees.{trees_at}
 
+-- what stands at a number: its entry, or without one closed for good where the number is known, else never opened
 abbrev pub slot_at : {V : Type 0} → Option (EndState V) → Bool → Slot V
 slot_at (Some s) known = Here s
 slot_at None true = Gone
@@ -40,10 +41,11 @@ fault_of s = s.fault
 abbrev pub is_finished : Side → Bool
 is_finished s = s.finished
 
--- the numbers in the table, in rising order, and how many they are
+-- the numbers in the table, in rising order
 abbrev pub numbers_of : Side → List ℕ
 numbers_of s = tree.keys s.ends
 
+-- how many numbers are in the table
 abbrev pub entry_count : Side → ℕ
 entry_count s = tree.btree_map_len s.ends
 

@@ -19,7 +19,7 @@ use Rattle.xd_frame.specs.Framer.{FramerView, StandsFor}
 abbrev pub block : ℕ
 block = 65536
 
--- how many bytes are missing of the message of a header, where so many are there
+-- how many bytes are missing of the message of a header, where `size` of them are there
 abbrev pub missing_by : Result Header FrameFault → ℕ → ℕ
 missing_by (Ok h) size = (9 + h.length) - size
 missing_by (Err fault) size = 0

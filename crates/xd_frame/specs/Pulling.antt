@@ -13,7 +13,7 @@ use Rattle.xd_frame.specs.declared.pull.PullFault.TheVariants.{Bad, ReadFault, O
 use Rattle.xd_frame.specs.Stream.{AreBytes, header_in_front, message_of}
 use Rattle.xd_frame.specs.Pull.{CountsSo, block, missing}
 
--- The source gave so many bytes, at most this size, and they stand behind the old ones.
+-- The source gave n bytes, at most this size, and they stand after the old ones.
 pub record ReadsOn (n size : ℕ) (old new : List ℕ) (before after : Spring) : Type 0 where
   pub piece : List ℕ
   pub gave : Gave piece before.supply after.supply
@@ -30,7 +30,7 @@ Unread (Bad fault) old new before after = ⊥
 Unread ReadFault old new before after = (new ≡ old) × (after.supply ≡ before.supply) × Rose before.faults after.faults
 Unread OutOfMemory old new before after = (new ≡ old) × (after ≡ before)
 
--- what the end of the source means behind these bytes
+-- what the end of the source means after these bytes
 abbrev pub ended_by : List ℕ → Result Pulled PullFault
 ended_by [] = Ok Ended
 ended_by (b ∷ bytes) = Err (Bad Cut)
@@ -69,6 +69,7 @@ pub record Draws (result : Result Pulled PullFault) (old new : List ℕ) (before
   pub bytes : piece ≢ [] → AreBytes (old ++ piece)
   pub so : DrawsSo result old piece new after
 
+-- the fault is that the bytes end inside a message
 abbrev pub is_cut_fault : FrameFault → Bool
 is_cut_fault Cut = true
 is_cut_fault (BadKind code) = false

@@ -9,7 +9,7 @@ abbrev pub Writes : Bool → List ℕ → Option Sunk → Option Sunk → Type 0
 Writes true bytes old new = Printed bytes old new
 Writes false bytes old new = PrintedPart bytes old new
 
--- Behind a fault of the sink nothing more is written.
+-- After a fault of the sink nothing more is written.
 abbrev pub WritesMore : Bool → Bool → List ℕ → Option Sunk → Option Sunk → Type 0
 WritesMore true broken bytes old new = (broken ≡ true) × (new ≡ old)
 WritesMore false broken bytes old new = Writes (not broken) bytes old new
@@ -19,7 +19,7 @@ abbrev pub CountAfter : Bool → ℕ → ℕ → Type 0
 CountAfter true before now = now ≡ before
 CountAfter false before now = Rose before now
 
--- Behind a fault of the sink it is asked no more, and the count stays.
+-- After a fault of the sink it is asked no more, and the count stays.
 abbrev pub CountBehind : Bool → Bool → ℕ → ℕ → Type 0
 CountBehind true broken before now = (broken ≡ true) × (now ≡ before)
 CountBehind false broken before now = CountAfter (not broken) before now

@@ -83,7 +83,7 @@ fn missing(held: &[u8]) -> usize
     }
 }
 
-/// Reads at most so many bytes, behind those that are held.
+/// Reads at most that many bytes, after those that are held.
 fn read_on<R: Wait, S: Source>(
     rt: &R,
     held: &mut Vec<u8>,
@@ -110,7 +110,7 @@ fn read_on<R: Wait, S: Source>(
     }
 }
 
-/// What it means that the source ends behind these bytes.
+/// What it means that the source ends after these bytes.
 fn meet_end(held: &[u8]) -> Result<Pulled, PullFault>
     ensures { result ≡ ended_by held.now }
 {

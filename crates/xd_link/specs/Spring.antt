@@ -1,4 +1,4 @@
--- What is seen of a source that is read, at one moment.
+-- What is seen of a source that is read, at one moment. A choice of this project.
 use Rattle.std.specs.Prelude.{◌≡◌, ℕ, Bool, true, [], Option, IfSome}
 use Rattle.xd_link.specs.Source.{Supply}
 
@@ -8,6 +8,7 @@ pub record Spring : Type 0 where
   pub ended : Bool
   pub faults : ℕ
 
+-- a source that tells this, whose end a read met or did not, and whose count of faults is this
 abbrev pub spring : Option Supply → Bool → ℕ → Spring
 spring supply ended faults = record { supply = supply; ended = ended; faults = faults }
 

@@ -5,6 +5,7 @@ use Rattle.xd_reader.specs.Reads.{PutsAll}
 use Rattle.xd_reader.specs.declared.news.LinkNews.{LinkNews}
 use Rattle.xd_post.specs.Post.{Ring}
 
+-- what was taken of an inbox; a closed one is None
 abbrev pub news_of_mail : Option (Ring × List LinkNews) → Option (List LinkNews)
 news_of_mail None = None
 news_of_mail (Some mail) = Some mail.1
@@ -13,7 +14,7 @@ news_of_mail (Some mail) = Some mail.1
 abbrev pub news_of : List (Option (Ring × List LinkNews)) → List (Option (List LinkNews))
 news_of inboxes = map news_of_mail inboxes
 
--- What was taken of a link begins what its reader put: the messages of its source's bytes behind the greeting, in order,
+-- What was taken of a link begins what its reader put: the messages of its source's bytes after the greeting, in order,
 -- and then one stop. The source had given nothing before.
 pub record LinkRead (now : Spring) (got : List LinkNews) : Type 0 where
   pub first : Spring

@@ -10,7 +10,7 @@ AllMean [] (w ∷ ws) = ⊥
 AllMean (m ∷ ms) [] = ⊥
 AllMean (m ∷ ms) (w ∷ ws) = Means m w × AllMean ms ws
 
--- behind the old messages come some that mean these words
+-- after the old messages come some that mean these words
 pub record Adds (old new : List MessageView) (words : List Said) : Type 0 where
   pub more : List MessageView
   pub behind : new ≡ old ++ more

@@ -7,11 +7,12 @@ use Rattle.xd_factory.specs.Said.{Said, Status, Exec, Data, Close, Last, Termina
 use Rattle.xd_factory.specs.declared.parity.Parity.{Parity}
 use Rattle.xd_factory.specs.declared.parity.Parity.TheVariants as parity
 
--- the parity of a side, and the numbers that it opens
+-- the parity of a side
 abbrev pub side_parity : Bool → Parity
 side_parity true = parity.Odd
 side_parity false = parity.Even
 
+-- the number is one that the side opens itself
 abbrev pub owns : Bool → ℕ → Bool
 owns odd c = is_mine (side_parity odd) c
 
@@ -50,7 +51,7 @@ items (Ends e ∷ ns) = items ns
 items (Lasts ∷ ns) = items ns
 items (Asked ∷ ns) = items ns
 
--- the items ahead of the first end
+-- the items before the first end
 abbrev pub before_end : List Note → List Tree
 before_end [] = []
 before_end (Item v ∷ ns) = v ∷ before_end ns

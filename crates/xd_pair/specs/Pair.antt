@@ -94,7 +94,7 @@ abbrev pub is_told : ℕ → List Said → Bool
 is_told c [] = false
 is_told c (m ∷ ms) = has_notes (notes c m)
 
--- a number opens behind which a message was refused
+-- a number opens before the message that names it is refused
 abbrev pub named_part : Bool → Part → Slot Tree → Part
 named_part mine p s = record p { slot = named_slot mine s }
 
@@ -115,7 +115,7 @@ says odd a Take_message = []
 says odd a (Refuse names) = []
 says odd a Finish_receiving = []
 
--- the side behind a move; a move whose premise fails changes nothing, as a call that finds no memory
+-- the side after a move; a move whose premise fails changes nothing, as a call that finds no memory
 abbrev pub after : Bool → Actor → List Said → Move → Actor
 after odd a wire Open_channel = if can_open odd a then record (at a.next (λ p. opened_in p p.slot) a) { next = a.next + 2 } else a
 after odd a wire (Send n v) = if can_send a n v then adds n v a else a
@@ -132,7 +132,7 @@ after odd a wire Take_message = if a.failed || a.finished then a else takes odd 
 after odd a wire (Refuse names) = record a { failed = true; part = λ c. if is_in c names && is_told c wire then named_part (owns odd c) (a.part c) (a.part c).slot else a.part c }
 after odd a wire Finish_receiving = record a { part = λ c. lost_in (a.part c) (a.part c).slot; finished = true }
 
--- what is on the way to the side behind its move
+-- what is on the way to the side after its move
 abbrev pub wire_after : Actor → List Said → Move → List Said
 wire_after a wire Take_message = if a.failed || a.finished then wire else rest wire
 wire_after a wire Open_channel = wire
@@ -186,7 +186,7 @@ beginning n = record { part = λ c. untouched; sent = λ c. []; next = n; finish
 abbrev pub start : World
 start = record { odd = beginning 1; even = beginning 2; to_odd = []; to_even = [] }
 
--- the second list is the first with more behind it
+-- the second list is the first with more after it
 abbrev pub IsPrefixOf : List Tree → List Tree → Type 0
 IsPrefixOf xs ys = (more : List Tree) × (xs ++ more ≡ ys)
 

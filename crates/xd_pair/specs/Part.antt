@@ -83,7 +83,7 @@ end_in (Ok (got_.Item v)) = None
 end_in (Ok got_.NotYet) = None
 end_in (Err e) = None
 
--- the owner's calls on one number: opening it
+-- opening the number
 abbrev pub opened_in : Part → Slot Tree → Part
 opened_in p s = record p { slot = opened_slot s }
 
@@ -128,12 +128,13 @@ function_end_words n e Unseen = []
 function_end_words n e (Here s) = Close n e ∷ []
 function_end_words n e Gone = Close n e ∷ []
 
+-- what letting go says to the peer
 abbrev pub giving_words : ℕ → GivenUp → List Said
 giving_words n given_up.Nothing = []
 giving_words n given_up.SayClose = Close n (None) ∷ []
 giving_words n given_up.SayLast = Last n ∷ []
 
--- letting go says what the end says
+-- letting go says what the end says, and nothing where there is no entry
 abbrev pub give_up_words : ℕ → Slot Tree → List Said
 give_up_words n (Here s) = giving_words n (give_up_gives s)
 give_up_words n Unseen = []

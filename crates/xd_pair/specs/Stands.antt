@@ -1,4 +1,5 @@
--- When a side of the program stands for an actor of the law, and when a call of it is a move of the law.
+-- When a side of the program stands for an actor of the law, and when a call of it is a move of the law. A choice of
+-- this project.
 use Rattle.std.specs.Prelude.{◌≡◌, ℕ, ◌||◌, is_some, List, Bool, true, false, Option}
 use Rattle.xd_value.specs.Tree.{Tree}
 use Rattle.xd_value.specs.Channels.{channels}
@@ -43,6 +44,7 @@ abbrev pub IsMoveIf : (Actor → Bool) → LinkedSide → LinkedSide → Move �
 IsMoveIf test old new move =
     (odd : Bool) (a : Actor) (wire : List Said) → IsNumbered odd a → test a ≡ true → StandsFor odd old.side a → Makes odd old new a wire move
 
+-- from old to new the side makes the move of each actor that it stands for
 abbrev pub IsMove : LinkedSide → LinkedSide → Move → Type 0
 IsMove old new move = IsMoveIf (λ a. true) old new move
 
@@ -85,6 +87,7 @@ pub record IsTake (old new peer left : LinkedSide) (items : ℕ → List Tree) (
   pub quiet : SaysNothing old new peer left
   pub takes : (odd : Bool) (a : Actor) (wire : List Said) → StandsFor odd old.side a → Carries a peer wire → Takes odd new left a wire items end
 
+-- from old to new a side refused the next message of its peer, and left is the peer then
 pub record IsRefusal (old new peer left : LinkedSide) : Type 0 where
   pub quiet : SaysNothing old new peer left
   pub refuses : (odd : Bool) (a : Actor) (wire : List Said) → StandsFor odd old.side a → Carries a peer wire → Refuses odd new a wire

@@ -9,7 +9,7 @@ ghost use Rattle.xd_pair.specs.TwoSides.{PairStands};
 ghost use Rattle.xd_pair.specs.declared.linked.LinkedSide.{LinkedSide};
 
 /// In each history of two sides, each channel hands out a prefix of what was sent on it, in both directions. Where a
-/// receiver that did not let go of its end gets an orderly end, all that was sent ahead of the peer's first end was
+/// receiver that did not let go of its end gets an orderly end, all that was sent before the peer's first end was
 /// handed out before.
 pub fn pair_law()
     ensures { (steps : List Step) → PairLaw (run steps start) }

@@ -50,7 +50,7 @@ impl LinkedSide {
     }
 }
 
-// The message is on the way, behind those that were said before.
+// The message is on the way, after those that were said before.
 fn say(said: &mut VecDeque<Message>, message: Message)
     requires { deque_len said.old < deque_capacity said.old }
     ensures items { said.new.items ≡ said.old.items ++ message ∷ [] }

@@ -43,11 +43,11 @@ module _ {T : Type 0} where
   abbrev pub NoneKnown : List (List T) → Type 0
   NoneKnown known = (number : ℕ) → slice_index_or known number [] ≡ []
 
-  -- no inbox from one number up to another is
+  -- no inbox from one number up to another is known to hold an item
   abbrev pub NoneFrom : List (List T) → ℕ → ℕ → Type 0
   NoneFrom known from to = (number : ℕ) → from ≤ number → number < to → slice_index_or known number [] ≡ []
 
-  -- no inbox is that is ahead of this number, where they are gone through from the first one
+  -- no inbox that comes before this number, where they are gone through from the first one, is known to hold an item
   abbrev pub NoneAhead : List (List T) → ℕ → ℕ → Type 0
   NoneAhead known first number = (k : ℕ) → IsAhead first number k → slice_index_or known k [] ≡ []
 

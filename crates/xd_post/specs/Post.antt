@@ -13,6 +13,7 @@ abbrev pub Ring : Type 0
 Ring = Ptr × Ptr × Names × Global
 
 module _ {T : Type 0} where
+  -- the ring that one of its ends is of
   abbrev pub ring_of_end : {P : Type 0} → End T Global P → Ring
   ring_of_end e = (e.words, e.slots, e.names, e.heap)
 
@@ -20,10 +21,11 @@ module _ {T : Type 0} where
   abbrev pub put : Sender T → List T
   put sender = sent sender.to
 
+  -- the ring that the sender puts into
   abbrev pub ring_of_sender : Sender T → Ring
   ring_of_sender sender = ring_of_end sender.to.end
 
-  -- how many items may be put ahead of the takes
+  -- how many items may be put before one is taken
   abbrev pub room_of : Sender T → ℕ
   room_of sender = producer_capacity sender.to
 
@@ -35,10 +37,12 @@ module _ {T : Type 0} where
   abbrev pub known : Inbox T → List T
   known inbox = known_items inbox.from
 
+  -- the ring that the inbox takes from
   abbrev pub ring_of_inbox : Inbox T → Ring
   ring_of_inbox inbox = ring_of_end inbox.from.end
 
-  -- What was taken, and the next item behind it, begin what was put. Where there is no next item, what was taken is what was put.
+  -- What was taken, and the next item after it, begin what was put. Where there is no next item, what was taken is all
+  -- that was put.
   abbrev pub Empties : Option T → List T → List T → Type 0
   Empties None got sent_all = got ≡ sent_all
   Empties (Some next) got sent_all = (later : List T) × (sent_all ≡ got ++ next ∷ later)

@@ -12,7 +12,7 @@ pub struct Desk<T: Drop> {
     bell: Bell,
     // A closed inbox is `None`.
     inboxes: Vec<Option<Inbox<T>>>,
-    // The inbox that is looked at first: the one behind the last that gave an item.
+    // The inbox that is looked at first: the one after the last that gave an item.
     turn: usize,
     ghost few: { vec_len inboxes ≤ 4294967295 },
     ghost started: { turn ≤ vec_len inboxes },

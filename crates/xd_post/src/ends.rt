@@ -13,7 +13,7 @@ use xd_edge::OutOfMemory;
 #[derive(Drop)]
 pub struct Sender<T: Drop> {
     to: Producer<T>,
-    // Where the sender sleeps while the ring is full. Each take unparks it, and an unpark ahead of the sleep is kept.
+    // Where the sender sleeps while the ring is full. Each take unparks it, and an unpark before the sleep is kept.
     space: Arc<Parker>,
     bell: Bell,
 }
@@ -28,11 +28,11 @@ pub struct Inbox<T: Drop> {
 /// What was left of a mailbox.
 #[derive(Drop)]
 pub struct Emptied<T> {
-    /// The next item that was not taken. What was put behind it was dropped.
+    /// The next item that was not taken. What was put after it was dropped.
     pub rest: Option<T>,
 }
 
-/// A mailbox with room for so many items, whose sender rings this bell.
+/// A mailbox with room for that many items, whose sender rings this bell.
 pub fn mailbox<T: Drop>(
     alloc: Global,
     room: usize,

@@ -20,13 +20,13 @@ StopsAt (stop.BadGreeting b) greeted bytes s0 s1 = (link_stop greeted bytes ≡ 
 StopsAt stop.ReadFault greeted bytes s0 s1 = Rose s0.faults s1.faults
 StopsAt stop.OutOfMemory greeted bytes s0 s1 = s1.faults ≡ s0.faults
 
--- Behind the frames of these messages the bytes go less than a message further.
+-- After the frames of these messages the bytes go less than a message further.
 pub record GoLess (bytes : List ℕ) (put : List MessageView) : Type 0 where
   pub behind : List ℕ
   pub bytes_are : bytes ≡ frames put ++ behind
   pub less : IsLess behind
 
--- And so they do behind their first byte, where a greeting is wanted.
+-- And so they do after their first byte, where a greeting is wanted.
 abbrev pub GoLessSo : Bool → List ℕ → List MessageView → Type 0
 GoLessSo false bytes put = GoLess bytes put
 GoLessSo true [] put = put ≡ []
@@ -41,7 +41,7 @@ pub record Reads (greeted : Bool) (s0 s1 : Spring) (put : List MessageView) (sto
   pub less : GoLessSo greeted bytes put
   pub cause : StopsAt stop greeted bytes s0 s1
 
--- what was put behind what stood there, without the end
+-- what was put after what stood there, without the end
 pub record Puts (greeted : Bool) (s0 s1 : Spring) (before after : List LinkNews) (stop : LinkStop) : Type 0 where
   pub put : List MessageView
   pub comes : after ≡ before ++ map Message put

@@ -12,7 +12,7 @@ use xd_crew::Job;
 use xd_link::Source;
 use xd_post::Sender;
 
-/// A job that reads a source to its stop, and puts its messages in order and then the stop. It reads no byte behind the
+/// A job that reads a source to its stop, and puts its messages in order and then the stop. It reads no byte after the
 /// message that has begun, and holds no more than that message.
 #[derive(Drop)]
 pub struct Reader<S: Source + Drop> {

@@ -3,6 +3,7 @@ use Rattle.std.specs.Prelude.{ℕ, List, Option, Some, None}
 use Rattle.std.specs.Process.{var_after}
 use Rattle.std.specs.Str.{encode_utf8_all}
 
+-- a text as the system takes it: in UTF-8, which each text has
 abbrev pub utf8 : List ℕ → Option (List ℕ)
 utf8 text = Some (encode_utf8_all text)
 

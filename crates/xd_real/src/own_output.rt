@@ -6,7 +6,7 @@ use std::io::{self, BufWriter, ErrorKind, PipeReader, PipeWriter, Write};
 use std::os::fd::AsRawFd;
 use std::process::ChildStdin;
 
-// How many bytes are written at once: a pipe that can be written to takes so many without a wait.
+// How many bytes are written at once: a pipe that can be written to takes that many without a wait.
 const PART: usize = 4096;
 
 /// The program's own output, which is closed where this is dropped, and with it the reading of its own input. Where
@@ -39,7 +39,7 @@ impl OwnOutput {
         }
     }
 
-    // Fails behind a kill, also where a write would only be kept.
+    // Fails after a kill, also where a write would only be kept.
     fn check(&self) -> io::Result<()> {
         if is_left(ready_for(self.writer.get_ref().killed.as_raw_fd(), POLLIN)) {
             return Err(killed());

@@ -3,8 +3,8 @@ use libc::net::poll;
 use libc::types::pollfd;
 use std::os::fd::RawFd;
 
-/// Waits for the first of these, or that nobody holds the other end of one of the pipes behind it any more; whether it is
-/// the latter.
+/// Waits for the first of these, or that nobody holds the other end of one of the pipes after it any more; whether it
+/// is the latter.
 pub fn is_stopped(all: &mut [pollfd]) -> bool {
     let _count = poll(all, -1);
     all.iter().skip(1).any(|stop| stop.revents != 0)

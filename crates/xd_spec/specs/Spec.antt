@@ -12,7 +12,7 @@ use Rattle.xd_spec.specs.Numbers.{number_in}
 
 -- ---- how a spec is cut
 
--- a byte ahead of the first part
+-- a byte in front of the first part
 abbrev pub begin_with : ℕ → List (List ℕ) → List (List ℕ)
 begin_with b [] = (b ∷ []) ∷ []
 begin_with b (part ∷ rest) = (b ∷ part) ∷ rest
@@ -23,15 +23,16 @@ parts [] = [] ∷ []
 parts (b ∷ []) = (b ∷ []) ∷ []
 parts (b ∷ c ∷ rest) = if b == 47 && c == 47 then [] ∷ parts rest else begin_with b (parts (c ∷ rest))
 
--- the text before the first such byte and that behind it
+-- the text before the first such byte and that after it
 abbrev pub cut_at : ℕ → List ℕ → Option (List ℕ × List ℕ)
 cut_at mark text = if nat_lt (position_or_len (λ b. b == mark) text) (length text) then Some (before_first (λ b. b == mark) text, after_first (λ b. b == mark) text) else None
 
--- the text before the last such byte and that behind it
+-- the cut of a text that begins with this byte, where its rest is cut so: a mark in the rest stands later
 abbrev pub last_cut_with : ℕ → ℕ → List ℕ → Option (List ℕ × List ℕ) → Option (List ℕ × List ℕ)
 last_cut_with mark b bs (Some p) = Some (b ∷ p.0, p.1)
 last_cut_with mark b bs None = if b == mark then Some ([], bs) else None
 
+-- the text before the last such byte and that after it
 abbrev pub last_cut : ℕ → List ℕ → Option (List ℕ × List ℕ)
 last_cut mark [] = None
 last_cut mark (b ∷ bs) = last_cut_with mark b bs (last_cut mark bs)
@@ -47,10 +48,11 @@ is_bad_key (b ∷ bs) = b == 95
 abbrev pub port_in : List ℕ → Option ℕ
 port_in digits = if nat_le (length digits) 5 then option_and_then (λ n. if n == 0 then None else Some n) (number_in 65535 digits) else None
 
--- HOST:PORT, with a host that is not empty
+-- a host that is not empty, and its port
 abbrev pub with_host : List ℕ → Option ℕ → Option (List ℕ × ℕ)
 with_host host port = if length host == 0 then None else option_map (λ n. (chars host, n)) port
 
+-- HOST:PORT, whose host may have a `:` in it, too
 abbrev pub address_in : List ℕ → Option (List ℕ × ℕ)
 address_in value = option_and_then (λ p. with_host p.0 (port_in p.1)) (last_cut 58 value)
 
@@ -58,20 +60,22 @@ address_in value = option_and_then (λ p. with_host p.0 (port_in p.1)) (last_cut
 abbrev pub is_set : List ℕ → List (List ℕ × List ℕ) → Bool
 is_set name env = list_any (λ v. bytes_eq v.0 name) env
 
--- what is known so far, with one part more: its key has to be known, to have a value exactly where it takes one, and not to
--- have stood before
+-- what is known so far, with `popen`: it takes no value, and stands at most once
 abbrev pub with_popen : Draft → Option (List ℕ) → Result Draft SpecFault
 with_popen d (Some value) = Err BadKey
 with_popen d None = if d.popen then Err Twice else Ok (record d { popen = true })
 
+-- with the address of `socket`, which stands at most once; without an address it is refused
 abbrev pub with_socket : Draft → Option (List ℕ × ℕ) → Result Draft SpecFault
 with_socket d None = Err BadKey
 with_socket d (Some address) = if is_some d.socket then Err Twice else Ok (record d { socket = Some address })
 
+-- with the folder of `chdir`, which has to have a value and stands at most once
 abbrev pub with_folder : Draft → Option (List ℕ) → Result Draft SpecFault
 with_folder d None = Err BadKey
 with_folder d (Some value) = if is_some d.chdir then Err Twice else Ok (record d { chdir = Some (chars value) })
 
+-- with a variable of `env:NAME`, which has to have a value; each name stands at most once
 abbrev pub with_variable : Draft → List ℕ → Option (List ℕ) → Result Draft SpecFault
 with_variable d name None = Err BadKey
 with_variable d name (Some value) = if is_set (chars name) d.env then Err Twice else Ok (record d { env = d.env ++ (chars name, chars value) ∷ [] })
@@ -81,6 +85,8 @@ abbrev pub with_pair : Draft → Option (List ℕ × List ℕ) → Option (List 
 with_pair d None value = Err Unsupported
 with_pair d (Some key) value = if bytes_eq key.0 (codes "env") && not (length key.1 == 0) then with_variable d key.1 value else Err Unsupported
 
+-- what is known so far, with one part more: its key has to be known, to have a value exactly where it takes one, and
+-- not to have stood before; the keys are execnet's, what is refused is a choice of this project
 abbrev pub with_key : Draft → List ℕ → Option (List ℕ) → Result Draft SpecFault
 with_key d key value =
     if is_bad_key key then Err BadKey
@@ -112,10 +118,12 @@ place true None chdir env = Ok (Popen chdir env)
 place false (Some address) None [] = Ok (Socket address.0 address.1)
 place _ _ _ _ = Err Unsupported
 
+-- the place that all parts name together, or the first fault of one
 abbrev pub place_of : Result Draft SpecFault → Result Place SpecFault
 place_of (Err fault) = Err fault
 place_of (Ok d) = place d.popen d.socket d.chdir d.env
 
+-- what is known before the first part
 abbrev pub nothing : Draft
 nothing = record { popen = false; socket = None; chdir = None; env = [] }
 

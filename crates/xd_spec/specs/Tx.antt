@@ -1,4 +1,5 @@
--- The words of `--tx`: each is a spec, or a number of workers, `*` and a spec.
+-- The words of pytest-xdist's `--tx`: each is a spec, or a number of workers, `*` and a spec. The limits are a choice
+-- of this project.
 use Rattle.std.specs.Prelude.{ℕ, ◌==◌, nat_le, List, [], ◌++◌, ◌∷◌, length, replicate, Option, Some, None, Result, Ok, Err, if◌then◌else◌}
 use Rattle.xd_link.specs.declared.place.Place.{Place}
 use Rattle.xd_spec.specs.declared.fault.SpecFault.{SpecFault}
@@ -6,23 +7,26 @@ use Rattle.xd_spec.specs.declared.fault.SpecFault.TheVariants.{BadCount}
 use Rattle.xd_spec.specs.Numbers.{all_digits, number_in}
 use Rattle.xd_spec.specs.Spec.{cut_at, spec_of}
 
--- how many workers a word is for, and its spec
+-- that many workers of a spec; 0, and a number over the limit, which is None, are refused
 abbrev pub counted_by : Option ℕ → List ℕ → Result (ℕ × List ℕ) SpecFault
 counted_by None spec = Err BadCount
 counted_by (Some n) spec = if n == 0 then Err BadCount else Ok (n, spec)
 
+-- how many workers a word is for, and its spec, by its cut at the first `*`: digits before that are a count
 abbrev pub counted_at : List ℕ → Option (List ℕ × List ℕ) → Result (ℕ × List ℕ) SpecFault
 counted_at word None = Ok (1, word)
 counted_at word (Some p) = if all_digits p.0 then counted_by (number_in 32 p.0) p.1 else Ok (1, word)
 
+-- how many workers a word is for, and its spec; one where it has no count
 abbrev pub counted : List ℕ → Result (ℕ × List ℕ) SpecFault
 counted word = counted_at word (cut_at 42 word)
 
--- so many workers at this place behind those before
+-- n workers at this place after those before
 abbrev pub with_copies : List Place → ℕ → Result Place SpecFault → Result (List Place) SpecFault
 with_copies before n (Err fault) = Err fault
 with_copies before n (Ok place) = Ok (before ++ replicate n place)
 
+-- the workers of one word after those before
 abbrev pub with_counted : List Place → Result (ℕ × List ℕ) SpecFault → Result (List Place) SpecFault
 with_counted before (Err fault) = Err fault
 with_counted before (Ok p) = with_copies before p.0 (spec_of p.1)

@@ -47,7 +47,7 @@ fn places_of(alloc: Global, texts: &[Text]) -> Result<Result<Vec<Place>, SpecFau
     Ok(Ok(places))
 }
 
-// The places of one word behind those before.
+// The places of one word after those before.
 fn add_places(
     alloc: Global,
     places: &mut Vec<Place>,

@@ -12,10 +12,11 @@ use Rattle.xd_suite.specs.declared.fault.SuiteWhat.TheVariants.{UnknownKey, Wron
 use Rattle.xd_suite.specs.declared.fault.SuiteFault.{SuiteFault}
 use Rattle.xd_suite.specs.Tests.{array_at, ids_in, listed, members_of, tests_of, text_at}
 
--- a fault of the whole file, and one of a test, counted from 0
+-- a fault of the whole file
 abbrev pub of_file : SuiteWhat → SuiteFault
 of_file what = record { test = None; what = what }
 
+-- a fault of one test, counted from 0
 abbrev pub of_test : ℕ → SuiteWhat → SuiteFault
 of_test number what = record { test = Some number; what = what }
 
@@ -24,10 +25,11 @@ abbrev pub has_only_keys : (List ℕ → Bool) → Members → Bool
 has_only_keys known no_members = true
 has_only_keys known (member k d ms) = known k && has_only_keys known ms
 
--- the keys of the file, and those of a test
+-- a key that the file may have
 abbrev pub is_suite_key : List ℕ → Bool
 is_suite_key k = bytes_eq k (codes "test")
 
+-- a key that the table of a test may have
 abbrev pub is_test_key : List ℕ → Bool
 is_test_key k = bytes_eq k (codes "id") || bytes_eq k (codes "run") || bytes_eq k (codes "group")
 
@@ -41,14 +43,15 @@ abbrev pub count_items : Items → ℕ
 count_items no_items = 0
 count_items (item d ds) = count_items ds + 1
 
--- a value is a text, or a table
+-- the value is a text
 abbrev pub is_text : Data → Bool
 is_text d = is_some (as_str d)
 
+-- the value is a table
 abbrev pub is_table : Data → Bool
 is_table d = is_some (as_table d)
 
--- an array that is there holds this of its items
+-- there is an array, and this holds of its items
 abbrev pub is_array_with : (Items → Bool) → Option Items → Bool
 is_array_with holds None = false
 is_array_with holds (Some ds) = holds ds

@@ -41,12 +41,12 @@ abbrev pub IsFaulty : List ℕ → SuiteFault → Type 0
 IsFaulty bytes fault =
     ((most_suite_bytes < length bytes) × (fault ≡ of_file TooLarge)) ⊎ ((IsNotToml bytes × (fault ≡ of_file NotToml)) ⊎ HasFault bytes fault)
 
--- These bytes are refused so; want of memory has no cause in them.
+-- These bytes are refused so; where memory ran out the cause is not in them.
 abbrev pub IsRefused : List ℕ → SuiteRefusal → Type 0
 IsRefused bytes (Bad fault) = IsFaulty bytes fault
 IsRefused bytes OutOfMemory = Unit {0}
 
--- a refusal for the fault that is there, or for want of memory
+-- a refusal for the fault that is there, or because memory ran out
 abbrev pub Names : Option SuiteFault → SuiteRefusal → Type 0
 Names found (Bad fault) = found ≡ Some fault
 Names found OutOfMemory = Unit {0}

@@ -6,10 +6,11 @@ use Rattle.xd_edge.specs.declared.mode.ModeKind.{ModeKind}
 use Rattle.xd_edge.specs.declared.mode.ModeKind.TheVariants.{LoadGroup}
 use Rattle.xd_suite.specs.declared.test.Test.{Test}
 
--- what stands under a key as a text, and as an array
+-- the text that stands under a key, if one does
 abbrev pub text_at : List ℕ → Members → Option (List ℕ)
 text_at key ms = option_and_then as_str (get_member key ms)
 
+-- the array that stands under a key, if one does
 abbrev pub array_at : List ℕ → Members → Option Items
 array_at key ms = option_and_then as_array (get_member key ms)
 
@@ -49,11 +50,12 @@ with_group id (Some group) = id ++ 64 ∷ group
 abbrev pub group_id : Test → List ℕ
 group_id t = with_group t.id t.group
 
--- the ids of a mode: those by group in loadgroup, else the ids alone
+-- the id of a test in a mode: that by its group in loadgroup, else the id alone
 abbrev pub id_in : ModeKind → Test → List ℕ
 id_in LoadGroup t = group_id t
 id_in _ t = t.id
 
+-- the ids of tests in a mode, in order
 abbrev pub ids_in : ModeKind → List Test → List (List ℕ)
 ids_in mode ts = map (id_in mode) ts
 

@@ -25,7 +25,7 @@ pub enum SuiteWhat {
     Missing,
     /// The id or the group of the test is empty or has a control character of ASCII.
     BadId,
-    /// The id of the test, alone or with `@` and its group behind it, stood before.
+    /// The id of the test, alone or with `@` and its group after it, stood before.
     Repeated,
 }
 

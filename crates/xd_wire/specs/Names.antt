@@ -7,6 +7,7 @@ use Rattle.xd_frame.specs.declared.fault.FrameFault.TheVariants as frame_fault
 use Rattle.xd_value.specs.declared.fault.LoadWhat.{LoadWhat}
 use Rattle.xd_value.specs.declared.fault.LoadWhat.TheVariants as what
 
+-- the name of a kind of message
 abbrev pub kind_name : Kind → List ℕ
 kind_name kind.Status = codes "STATUS"
 kind_name kind.Reconfigure = codes "RECONFIGURE"
@@ -17,12 +18,14 @@ kind_name kind.Close = codes "CHANNEL_CLOSE"
 kind_name kind.CloseError = codes "CHANNEL_CLOSE_ERROR"
 kind_name kind.LastMessage = codes "CHANNEL_LAST_MESSAGE"
 
+-- the name of a fault of a header, or of the cut of a message
 abbrev pub frame_fault_name : FrameFault → List ℕ
 frame_fault_name (frame_fault.BadKind code) = codes "BadKind"
 frame_fault_name (frame_fault.BadChannel number) = codes "BadChannel"
 frame_fault_name (frame_fault.BadLength number) = codes "BadLength"
 frame_fault_name frame_fault.Cut = codes "Cut"
 
+-- the name of a fault of a payload
 abbrev pub what_name : LoadWhat → List ℕ
 what_name what.UnknownOpcode = codes "UnknownOpcode"
 what_name what.FloatOpcode = codes "FloatOpcode"

@@ -43,12 +43,13 @@ value_line k channel size printed = line_start k channel size ++ (32 ∷ (printe
 abbrev pub fault_line : List ℕ → ℕ → List ℕ
 fault_line name place = codes "fault " ++ (name ++ (codes " at " ++ (decimal place ++ (10 ∷ []))))
 
--- the line of a message: its payload is a value, which is printed in UTF-8, or is not read
+-- the line of a message whose payload is a value, which is printed in UTF-8, or whose payload is not read
 abbrev pub LineBy : Bool → MessageView → List ℕ → Type 0
 LineBy true m line =
     (v : Tree) × IsPayload v m.payload × (line ≡ value_line m.kind m.channel (length m.payload) (encode_utf8_all (shown v)))
 LineBy false m line = line ≡ plain_line m.kind m.channel (length m.payload)
 
+-- the line of a message, whose kind tells whether its payload is read
 abbrev pub IsLine : MessageView → List ℕ → Type 0
 IsLine m line = LineBy (has_value m.kind) m line
 
@@ -57,6 +58,7 @@ abbrev pub FaultBy : Bool → MessageView → ℕ → LoadWhat → Type 0
 FaultBy true m place what = FirstFault m.payload place what
 FaultBy false m place what = ⊥
 
+-- the first fault of a message's payload and its place there; a kind whose payload is not read has none
 abbrev pub IsPayloadFault : MessageView → ℕ → LoadWhat → Type 0
 IsPayloadFault m place what = FaultBy (has_value m.kind) m place what
 

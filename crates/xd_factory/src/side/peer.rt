@@ -307,7 +307,7 @@ impl Side {
         }
     }
 
-    // An item comes on a number, behind the opening of what it names.
+    // An item comes on a number, after the opening of what it names.
     fn deliver(&mut self, number: u32, item: Value) -> Result<Arrived, SideFault>
         ensures answer { IfOk result (λ arrived. arrived_tree arrived ≡ item_gives (slot_of self.old number) (view item)) }
         ensures ok { OnOk result ((c : ℕ) → slot_of self.new c ≡ (if number == c then item_slot (slot_of self.old c) (view item) else slot_of self.old c)) }
