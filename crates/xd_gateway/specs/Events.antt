@@ -60,6 +60,7 @@ abbrev pub is_failure_code : ℤ → Bool
 is_failure_code (pos n) = nat_lt 0 n && (nat_lt n 256 && not (n == 77))
 is_failure_code (negsuc n) = nat_lt n 3
 
+-- the code of an outcome that is no failure
 abbrev pub is_zero : ℤ → Bool
 is_zero (pos n) = n == 0
 is_zero (negsuc n) = false

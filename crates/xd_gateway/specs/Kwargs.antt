@@ -26,18 +26,22 @@ abbrev pub number_below : ℕ → ℤ → Option ℕ
 number_below limit (pos n) = if nat_lt n limit then Some n else None
 number_below limit (negsuc n) = None
 
+-- the integer that a value is, if it is one
 abbrev pub integer_of : Tree → Option ℤ
 integer_of (int z) = Some z
 integer_of _ = None
 
+-- the text that a value is, if it is one
 abbrev pub text_of : Tree → Option (List ℕ)
 text_of (text cs) = Some cs
 text_of _ = None
 
+-- the number of the channel that a value is, if it is one
 abbrev pub channel_of : Tree → Option ℕ
 channel_of (channel n) = Some n
 channel_of _ = None
 
+-- the items of the list that a value is, if it is one
 abbrev pub items_of : Tree → Option Trees
 items_of (list ts) = Some ts
 items_of _ = None

@@ -15,8 +15,8 @@ use Rattle.xd_listen.specs.Inputs.{has_end, has_last, messages_in}
 use Rattle.xd_listen.specs.Spoke.{Spoke, voice}
 use Rattle.xd_listen.specs.Took.{TookToRefused}
 
--- A worker that took the messages ahead of it, and what the outside tells beside them, refuses one of the messages of
--- these bytes; a program may run then, of which the worker did not hear to the end. GATEWAY_TERMINATE is not ahead of it.
+-- A worker that took the messages before it, and what the outside tells beside them, refuses one of the messages of
+-- these bytes; a program may run then, of which the worker did not hear to the end. GATEWAY_TERMINATE is not before it.
 pub record RefusesOne (held : Option Held) (bytes : List ℕ) (fault : SideFault) (old new : Scene) : Type 0 where
   pub inputs : List WorkerInput
   pub history : List Heard
@@ -45,7 +45,7 @@ abbrev pub GoesWrong : Option Held → List ℕ → ℕ → ℕ → Scene → Sc
 GoesWrong held bytes before now old new = (why : Stop) × IsWrong why held bytes before now old new
 
 -- Nothing is wrong with these bytes: they end at a message's edge, or GATEWAY_TERMINATE is among their messages, and no
--- message that comes ahead of it is refused.
+-- message that comes before it is refused.
 pub record AreGood (held : Option Held) (bytes : List ℕ) (old new : Scene) : Type 0 where
   pub edge : (rest bytes ≡ Clean) ⊎ (has_last (messages bytes) ≡ true)
   pub accepted : (fault : SideFault) → RefusesOne held bytes fault old new → ⊥

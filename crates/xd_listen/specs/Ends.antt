@@ -35,6 +35,7 @@ pub record Scene : Type 0 where
   pub runner_refusals : ℕ
   pub clock : Ticking
 
+-- the outside, where this is seen of each of its parts
 abbrev pub scene : Option Sunk → ℕ → Option (List ChildRun) → ℕ → ℕ → ℕ → ℕ → Ticking → Scene
 scene sunk sink_faults runs child_faults file_faults reader_refusals runner_refusals clock = record {
   sunk = sunk;
@@ -47,6 +48,7 @@ scene sunk sink_faults runs child_faults file_faults reader_refusals runner_refu
   clock = clock;
 }
 
+-- the sink and the files of a scene
 abbrev pub voice_of : Scene → Voice
 voice_of s = voice s.sunk s.sink_faults s.file_faults
 

@@ -51,7 +51,7 @@ is_whole (stop.Message fault) = true
 is_whole stop.ReadFault = true
 is_whole stop.WriteFault = false
 
--- what is known of the messages that the worker heard, and of the item behind them, where it listens no more
+-- what is known of the messages that the worker heard, and of the item after them, where it listens no more
 abbrev pub Ceases : Stop → List WorkerInput → List Heard → List LinkNews → Type 0
 Ceases stop.NotRun inputs h ahead = ⊥
 Ceases stop.Terminated inputs h ahead = TookToLast (messages_in inputs) × (has_end inputs ≡ false) × (is_over (worker_after h) ≡ true)
@@ -103,8 +103,8 @@ IsStrange (news.End link.OutOfMemory) = ⊥
 IsStrange (news.Output b) = Unit {0}
 IsStrange (news.ChildDone outcome) = Unit {0}
 
--- An item that no runner puts while so many programs run: a message, any but one end, and what comes of a program where
--- none runs, or in pieces that are too large.
+-- An item that no runner puts while that many programs run: a message, any end but OutOfMemory, and what comes of a
+-- program where none runs, or in pieces that are too large.
 abbrev pub IsUncalled : ℕ → LinkNews → Type 0
 IsUncalled running (news.Message m) = Unit {0}
 IsUncalled running (news.End link.Ended) = Unit {0}
@@ -131,17 +131,17 @@ pub record Strayed (a : Setting) (s : Seen) : Type 0 where
   pub drained : s.short ≡ false → length s.orders ≤ dones of_runner + one_if s.started
   pub strays : ((later : List LinkNews) × (of_reader ≡ map news.Message messages ++ item ∷ later) × IsStrange item) ⊎ ((later : List LinkNews) × (of_runner ≡ heard ++ item ∷ later) × IsUncalled running item)
 
--- a message was refused, or memory was
+-- a message was refused for this reason, or memory ran out, of which nothing is said
 abbrev pub CeasesBy : WorkerFault → Setting → Beside → Seen → Type 0
 CeasesBy (fault.Link f) a now s = Ceased a now (stop.Message f) s
 CeasesBy fault.OutOfMemory a now s = Unit {0}
 
--- behind a message that is GATEWAY_TERMINATE, or is not
+-- whether messages are still taken after one that is GATEWAY_TERMINATE, or is not
 abbrev pub door_behind : Bool → Door → Door
 door_behind true d = door.Terminated
 door_behind false d = d
 
--- behind GATEWAY_TERMINATE and the link's end
+-- why no more is taken, where GATEWAY_TERMINATE or the link's end came
 abbrev pub over_by : Door → Option Halt
 over_by door.Open = None
 over_by door.Terminated = Some (halt.At stop.Terminated)
@@ -152,7 +152,7 @@ abbrev pub unless_shut : Bool → Halt → Option Halt
 unless_shut true h = None
 unless_shut false h = Some h
 
--- ---- items that are dropped behind that
+-- ---- items that are dropped after that
 
 -- the reader's end, where this item of this inbox is one
 abbrev pub noted_end : ℕ → LinkNews → Option LinkStop → Option LinkStop
@@ -165,12 +165,13 @@ still_started (suc k) (news.End why) old = None
 still_started (suc k) (news.ChildDone outcome) old = None
 still_started n item old = old
 
--- the runner's end comes, or that of a reader for want of memory
+-- a job ran out of memory: it did so before, or the runner's end comes, or this end of the reader
 abbrev pub is_short_by : ℕ → LinkNews → Bool → Bool
 is_short_by (suc k) (news.End why) old = true
 is_short_by zero (news.End link.OutOfMemory) old = true
 is_short_by n item old = old
 
+-- what is seen of a server that took this item of this inbox and dropped it
 abbrev pub without : ℕ → LinkNews → List (Option (Ring × List LinkNews)) → Seen → Seen
 without n item mails s = record s {
   mails = mails;
@@ -179,7 +180,7 @@ without n item mails s = record s {
   short = is_short_by n item s.short;
 }
 
--- a sink that took this, with this count of faults
+-- what is seen of a server whose sink took this, with this count of faults
 abbrev pub at_sink : Option Sunk → ℕ → Seen → Seen
 at_sink sunk faults s = record s { sunk = sunk; sink_faults = faults }
 

@@ -34,6 +34,7 @@ AreHeard [] (g ∷ h) = ⊥
 AreHeard (i ∷ is) [] = ⊥
 AreHeard (i ∷ is) (g ∷ h) = IsHeard (worker_after h) i g × AreHeard is h
 
+-- the message that an input is, if it is one
 abbrev pub message_in : WorkerInput → List MessageView
 message_in (Message m) = m ∷ []
 message_in (SuiteBytes b) = []
@@ -48,6 +49,7 @@ abbrev pub messages_in : List WorkerInput → List MessageView
 messages_in [] = []
 messages_in (i ∷ is) = messages_in is ++ message_in i
 
+-- an input is the link's end
 abbrev pub is_link_end : WorkerInput → Bool
 is_link_end (Message m) = false
 is_link_end (SuiteBytes b) = false
@@ -62,6 +64,7 @@ abbrev pub has_end : List WorkerInput → Bool
 has_end [] = false
 has_end (i ∷ is) = is_link_end i || has_end is
 
+-- an input that comes of the link: a message, or its end
 abbrev pub is_of_link : WorkerInput → Bool
 is_of_link (Message m) = true
 is_of_link (SuiteBytes b) = false
@@ -71,7 +74,7 @@ is_of_link (Output b) = false
 is_of_link (ChildDone outcome ms) = false
 is_of_link LinkEnd = true
 
--- Behind the link's end no message comes, and no second end.
+-- After the link's end no message comes, and no second end.
 abbrev pub EndsOnce : List WorkerInput → Type 0
 EndsOnce [] = Unit {0}
 EndsOnce (i ∷ is) = (is_of_link i ≡ true → has_end is ≡ false) × EndsOnce is

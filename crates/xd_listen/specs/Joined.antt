@@ -24,6 +24,7 @@ pub record Back : Type 0 where
   pub runner_put : List LinkNews
   pub mails : Mails
 
+-- two jobs gave back these parts
 abbrev pub back : Spring → Programs → Ring → List LinkNews → Ring → List LinkNews → Mails → Back
 back source programs reader_ring reader_put runner_ring runner_put mails = record {
   source = source;
@@ -35,7 +36,7 @@ back source programs reader_ring reader_put runner_ring runner_put mails = recor
   mails = mails;
 }
 
--- Both jobs came to their end: the reader at this stop, which was taken, and the runner behind the empty order, with no
+-- Both jobs came to their end: the reader at this stop, which was taken, and the runner after the empty order, with no
 -- program running.
 pub record Joined (a : Setting) (before : Sources) (s : Seen) (stop : LinkStop) (ring : Ring) (ordered : List (List (List ℕ))) (back : Back) : Type 0 where
   pub noted : s.link_stop ≡ Some stop

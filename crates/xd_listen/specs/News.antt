@@ -5,6 +5,7 @@ use Rattle.xd_reader.specs.declared.news.LinkNews.TheVariants as news
 use Rattle.xd_worker.specs.declared.input.WorkerInput.{WorkerInput}
 use Rattle.xd_worker.specs.declared.input.WorkerInput.TheVariants.{Message, SuiteBytes, SuiteTooLarge, SuiteUnread, Output, ChildDone, LinkEnd}
 
+-- the item of the runner that an input is: a piece of output, or the end of a program
 abbrev pub news_by : WorkerInput → List LinkNews
 news_by (Message m) = []
 news_by (SuiteBytes b) = []

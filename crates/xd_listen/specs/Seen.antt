@@ -10,8 +10,8 @@ use Rattle.xd_listen.specs.declared.server.Door.{Door}
 use Rattle.xd_listen.specs.declared.server.Door.TheVariants.{Open, Terminated, Ended}
 use Rattle.xd_listen.specs.declared.server.Server.{Server}
 
--- the worker and its sink, the items that were taken by their inboxes, the orders that were put and their ring, when the running test
--- was started, whether messages are still taken, the reader's end, and whether memory was refused to a job
+-- the worker and its sink, the items that were taken by their inboxes, the orders that were put and their ring, when
+-- the running test was started, whether messages are still taken, the reader's end, and whether a job ran out of memory
 pub record Seen : Type 0 where
   pub core : WorkerCore
   pub broken : Bool
@@ -32,6 +32,7 @@ is_shut Terminated = true
 is_shut Ended = true
 
 module _ {N : Type 0} where
+  -- what is seen of a server whose sink tells this of what it took and of its faults
   abbrev pub seen : (N → Option Sunk) → (N → ℕ) → Server N → Seen
   seen sunk faults s = record {
     core = s.speaker.core;

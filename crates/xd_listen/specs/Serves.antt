@@ -36,6 +36,7 @@ pub record Setting : Type 0 where
   pub runner : Ring
   pub orders : Ring
 
+-- a link that is served with these rings, where the outside before it is seen so
 abbrev pub setting : Option Held → Option Sunk → ℕ → ℕ → Ticking → Ring → Ring → Ring → Setting
 setting held sunk sink_faults file_faults clock reader runner orders = record { held = held; first = voice sunk sink_faults file_faults; clock = clock; reader = reader; runner = runner; orders = orders }
 
@@ -44,6 +45,7 @@ pub record Beside : Type 0 where
   pub file_faults : ℕ
   pub clock : Ticking
 
+-- the files' faults and the clock, where they are seen so
 abbrev pub beside : ℕ → Ticking → Beside
 beside file_faults clock = record { file_faults = file_faults; clock = clock }
 
@@ -55,17 +57,19 @@ pub record Owed : Type 0 where
   pub program : Option LinkNews
   pub starts : Bool
 
+-- nothing is to be done
 abbrev pub nothing : Owed
 nothing = record { path = None; link = None; program = None; starts = false }
 
--- an item of the reader, and one of the runner
+-- an item that was taken of the reader is to be done
 abbrev pub of_link : LinkNews → Owed
 of_link n = record { path = None; link = Some n; program = None; starts = false }
 
+-- an item that was taken of the runner is to be done
 abbrev pub of_program : LinkNews → Owed
 of_program n = record { path = None; link = None; program = Some n; starts = false }
 
--- an item of the inbox of this number
+-- an item that was taken of the inbox of this number is to be done: 0 is the reader's, the other the runner's
 abbrev pub of_inbox : ℕ → LinkNews → Owed
 of_inbox zero n = of_link n
 of_inbox (suc k) n = of_program n
@@ -74,6 +78,7 @@ of_inbox (suc k) n = of_program n
 abbrev pub to_start : Option (List ℕ) → Owed
 to_start path = record { path = path; link = None; program = None; starts = true }
 
+-- these items, and after them the one that is still to be done, if any
 abbrev pub with_item : Option LinkNews → List LinkNews → List LinkNews
 with_item None ns = ns
 with_item (Some n) ns = ns ++ n ∷ []
@@ -82,25 +87,28 @@ with_item (Some n) ns = ns ++ n ∷ []
 abbrev pub two : Setting → List LinkNews → List LinkNews → List (Option (Ring × List LinkNews))
 two a of_reader of_runner = Some (a.reader, of_reader) ∷ Some (a.runner, of_runner) ∷ []
 
--- The items of the reader are the messages that the worker heard; behind GATEWAY_TERMINATE and the link's end more may
--- have been taken.
+-- The items of the reader are the messages that the worker heard; neither GATEWAY_TERMINATE nor the link's end is among
+-- them.
 pub record IsListening (inputs : List WorkerInput) (got : List LinkNews) : Type 0 where
   pub got_is : got ≡ map Message (messages_in inputs)
   pub none_last : has_last (messages_in inputs) ≡ false
   pub no_end : has_end inputs ≡ false
 
+-- The worker heard GATEWAY_TERMINATE as the last message; more items of the reader may have been taken since.
 pub record HeardLast (inputs : List WorkerInput) (got : List LinkNews) : Type 0 where
   pub later : List LinkNews
   pub got_is : got ≡ map Message (messages_in inputs) ++ later
   pub last : TookToLast (messages_in inputs)
   pub no_end : has_end inputs ≡ false
 
+-- The worker heard the link's end after all messages; more items of the reader may have been taken since.
 pub record HeardEnd (inputs : List WorkerInput) (got : List LinkNews) : Type 0 where
   pub later : List LinkNews
   pub got_is : got ≡ map Message (messages_in inputs) ++ End link.Ended ∷ later
   pub none_last : has_last (messages_in inputs) ≡ false
   pub end : has_end inputs ≡ true
 
+-- What was taken of the reader is what the worker heard, by whether messages are still taken.
 abbrev pub FromLink : Door → List WorkerInput → List LinkNews → Type 0
 FromLink door.Open inputs got = IsListening inputs got
 FromLink door.Terminated inputs got = HeardLast inputs got

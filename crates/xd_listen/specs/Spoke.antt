@@ -17,6 +17,7 @@ pub record Voice : Type 0 where
   pub sink_faults : ℕ
   pub file_faults : ℕ
 
+-- the sink and the files, where this is seen of them
 abbrev pub voice : Option Sunk → ℕ → ℕ → Voice
 voice sunk sink_faults file_faults = record { sunk = sunk; sink_faults = sink_faults; file_faults = file_faults }
 

@@ -21,6 +21,7 @@ FilesGave held rose path (Output b) = ⊥
 FilesGave held rose path (ChildDone outcome ms) = ⊥
 FilesGave held rose path LinkEnd = ⊥
 
+-- an input that the files gave: the bytes of a suite file, or why there are none
 abbrev pub is_of_files : WorkerInput → Bool
 is_of_files (Message m) = false
 is_of_files (SuiteBytes b) = true
@@ -35,7 +36,7 @@ abbrev pub Follows : Option Held → Type 0 → Option (List ℕ) → WorkerInpu
 Follows held rose None i = is_of_files i ≡ false
 Follows held rose (Some path) i = FilesGave held rose path i
 
--- Directly behind each input that asked for a path stands what the files gave for it, and nowhere else.
+-- Directly after each input that asked for a path stands what the files gave for it, and nowhere else.
 abbrev pub AreAnswered : Option Held → Type 0 → List WorkerInput → List Heard → Type 0
 AreAnswered held rose [] h = Unit {0}
 AreAnswered held rose (i ∷ is) [] = ⊥

@@ -9,6 +9,7 @@ pub record Ticking : Type 0 where
   pub moment : ℕ
   pub coming : Option (List ℕ)
 
+-- a clock that gave this moment last, and is to give these
 abbrev pub ticking : ℕ → Option (List ℕ) → Ticking
 ticking moment coming = record { moment = moment; coming = coming }
 
@@ -19,7 +20,7 @@ pub record Ticks (moment : ℕ) (old new : Ticking) : Type 0 where
   pub told : IfSome old.coming (λ ms. moment ≡ next_moment old.moment ms)
   pub next : new.coming ≡ option_map (drop 1) old.coming
 
--- The clock gave a moment, and then one that lies so far behind it.
+-- The clock gave a moment, and then one that is that many milliseconds later.
 pub record Lasts (ms : ℕ) (old new : Ticking) : Type 0 where
   pub start : ℕ
   pub mid : Ticking
@@ -27,12 +28,12 @@ pub record Lasts (ms : ℕ) (old new : Ticking) : Type 0 where
   pub ends : Ticks (start + ms) mid new
 
 -- For each of these durations, of which the last stands first, the clock gave the moments of its begin and its end, one
--- duration behind the other, and no other moment.
+-- duration after the other, and no other moment.
 abbrev pub AreMeasured : List ℕ → Ticking → Ticking → Type 0
 AreMeasured [] old new = new ≡ old
 AreMeasured (ms ∷ durations) old new = (mid : Ticking) × AreMeasured durations old mid × Lasts ms mid new
 
--- Where a program runs that began at this moment, the clock gave that moment behind all others.
+-- Where a program runs that began at this moment, the clock gave that moment after all others.
 abbrev pub AreTimed : Option ℕ → List ℕ → Ticking → Ticking → Type 0
 AreTimed None durations old new = AreMeasured durations old new
 AreTimed (Some start) durations old new = (mid : Ticking) × AreMeasured durations old mid × Ticks start mid new
@@ -48,6 +49,7 @@ durations_in (Output b ∷ is) = durations_in is
 durations_in (ChildDone outcome ms ∷ is) = ms ∷ durations_in is
 durations_in (LinkEnd ∷ is) = durations_in is
 
+-- how many programs run, by the moment at which one began: one or none
 abbrev pub one_if : Option ℕ → ℕ
 one_if None = 0
 one_if (Some moment) = 1

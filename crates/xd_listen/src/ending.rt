@@ -80,7 +80,7 @@ fn still_started(inbox: u32, news: &LinkNews, old: Option<u64>) -> Option<u64>
     }
 }
 
-// Whether a job met want of memory.
+// Whether a job ran out of memory.
 fn is_short_by(inbox: u32, news: &LinkNews, old: bool) -> bool
     ensures { result ≡ is_short_by inbox news.now old }
 {

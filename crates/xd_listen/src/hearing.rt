@@ -129,8 +129,8 @@ impl<N: Sink> Server<N> {
         Ok(())
     }
 
-    /// Behind an input: orders the program of a test that is to be started, or says why no more is taken. Behind a fault of
-    /// the sink no test is started.
+    /// After an input: orders the program of a test that is to be started, or says why no more is taken. After a fault
+    /// of the sink no test is started.
     pub fn settle<R: Wait, T: Clock>(
         &mut self,
         rt: &R,
@@ -155,7 +155,7 @@ impl<N: Sink> Server<N> {
         }
     }
 
-    // Where nothing runs: no more is taken behind GATEWAY_TERMINATE and the link's end.
+    // Where nothing runs: no more is taken after GATEWAY_TERMINATE and the link's end.
     fn over(&self) -> Option<Halt>
         ensures { result ≡ over_by self.now.door }
     {
@@ -167,7 +167,7 @@ impl<N: Sink> Server<N> {
     }
 }
 
-// Behind GATEWAY_TERMINATE no message is taken.
+// After GATEWAY_TERMINATE no message is taken.
 fn door_behind(message: &Message, door: Door) -> Door
     ensures { result ≡ door_behind (is_last message.now.kind) door }
 {

@@ -55,6 +55,6 @@ pub struct Server<N: Sink> {
     pub door: Door,
     /// The end that the reader put.
     pub link_stop: Option<LinkStop>,
-    /// A job met want of memory.
+    /// A job ran out of memory.
     pub is_short: bool,
 }

@@ -12,7 +12,7 @@ use xd_worker::{WorkerActions, WorkerCore, WorkerFault, WorkerInput};
 // The byte by which a worker is known to the other side.
 const GREETING: &[u8] = b"1";
 
-/// A worker whose messages are written to its link. Behind a fault of the sink it goes on, and writes nothing more.
+/// A worker whose messages are written to its link. After a fault of the sink it goes on, and writes nothing more.
 #[derive(Drop)]
 pub struct Speaker<N: Sink> {
     pub core: WorkerCore,

@@ -126,7 +126,8 @@ impl<N: Sink> Server<N> {
         }
     }
 
-    // Behind a message: reads the suite of a path, if there is one, and settles. Behind a fault of the sink it does neither.
+    // After a message: reads the suite of a path, if there is one, and settles. After a fault of the sink it does
+    // neither.
     fn follow<R: Wait, F: Files, T: Clock>(
         &mut self,
         rt: &R,
@@ -217,7 +218,7 @@ impl<N: Sink> Server<N> {
         }
     }
 
-    // A runner puts no end but for want of memory, and then its program runs no more.
+    // A runner puts an end only where memory ran out, and then its program runs no more.
     fn take_runner_end(&mut self, stop: LinkStop) -> Result<Halt, OutOfMemory>
         ensures goes { (a : Setting) (now : Beside) → Serves a now (of_program (news.End stop)) (seen N.sunk N.faults self.old) →
             IfOk result (λ halt. Goes (Some halt) a now (seen N.sunk N.faults self.new)) }

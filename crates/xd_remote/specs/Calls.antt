@@ -26,15 +26,19 @@ Wanted = Result MessageView GatewayFault
 
 -- ---- the messages
 
+-- CHANNEL_DATA: an item on a channel
 abbrev pub item_message : ℕ → List ℕ → MessageView
 item_message n b = record { kind = kind.Item; channel = n; payload = b }
 
+-- STATUS: the other side is asked how it is, and answers on this channel
 abbrev pub status_message : ℕ → MessageView
 status_message n = record { kind = kind.Status; channel = n; payload = [] }
 
+-- CHANNEL_EXEC: the call in the payload is made on this channel
 abbrev pub exec_message : ℕ → List ℕ → MessageView
 exec_message n b = record { kind = kind.Exec; channel = n; payload = b }
 
+-- GATEWAY_TERMINATE: the other side is to end
 abbrev pub terminate_message : MessageView
 terminate_message = record { kind = kind.Terminate; channel = 0; payload = [] }
 
@@ -53,6 +57,7 @@ call_tree name kwargs = parts_tree (text []) (text name) (dict kwargs)
 
 -- ---- what is said, or why nothing is
 
+-- the item with this payload is said, or why there is none
 abbrev pub item_wanted : ℕ → Result (List ℕ) SendFault → Wanted
 item_wanted n (Ok b) = Ok (item_message n b)
 item_wanted n (Err f) = Err (Channel f)
@@ -68,6 +73,7 @@ open_refusal s =
     else (if entry_count s == 4096 then Some open_fault.TooManyOpen
     else (if nat_lt 2147483647 (next_of s) then Some open_fault.NumbersSpent else None))
 
+-- a message on a channel that opens is said, or why none opens
 abbrev pub opening_wanted : Option OpenFault → MessageView → Wanted
 opening_wanted None m = Ok m
 opening_wanted (Some f) m = Err (Opening f)

@@ -24,6 +24,7 @@ ClosesMore true broken bytes old new = (broken ≡ true) × (new ≡ old)
 ClosesMore false true bytes old new = PrintedPart bytes old new
 ClosesMore false false bytes old new = new ≡ option_map (λ s. with_close (with_flush (with_bytes bytes s))) old
 
+-- A close with these last bytes: what the sink took of them, and its count of faults, which rose where it failed now.
 pub record Closes (bytes : List ℕ) (old new : Line) : Type 0 where
   pub closes : ClosesMore old.broken new.broken bytes old.sunk new.sunk
   pub count : CountBehind old.broken new.broken old.faults new.faults
@@ -35,6 +36,7 @@ ClosedBy true broken old new = (broken ≡ true) × (new ≡ old)
 ClosedBy false true old new = new ≡ old
 ClosedBy false false old new = new ≡ option_map with_close old
 
+-- A close without last bytes: whether the sink is closed, and its count of faults, which rose where it failed now.
 pub record ClosesNow (old new : Line) : Type 0 where
   pub closed : ClosedBy old.broken new.broken old.sunk new.sunk
   pub count : CountBehind old.broken new.broken old.faults new.faults

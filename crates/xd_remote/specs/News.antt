@@ -60,6 +60,7 @@ abbrev pub log_hooked : Option What → Table → Table
 log_hooked (Some (what.LogStart index log)) t = if log % 2 == 0 then changed_at log hooked_slot t else t
 log_hooked _ t = t
 
+-- the news is that the worker has finished: `workerfinished` of pytest-xdist's remote.py
 abbrev pub is_finish : Option What → Bool
 is_finish (Some what.Finished) = true
 is_finish _ = false
@@ -69,10 +70,12 @@ pub data Came : Type 0 where
   Said : Word → Came
   Refused : Came
 
+-- the news of a message, by what it was; one that the side refuses is stray
 abbrev pub came_news : Ear → Came → Option What
 came_news e (Said said) = news_by e.finished (answer said e.table)
 came_news e Refused = Some what.Stray
 
+-- the ear after one message more
 abbrev pub ear_with : Ear → Came → Ear
 ear_with e (Said said) =
     let news = came_news e (Said said) in
@@ -84,15 +87,17 @@ pub record Heard : Type 0 where
   pub message : MessageView
   pub came : Came
 
--- after these messages, of which the last stands first
+-- the ear after these messages, of which the last stands first
 abbrev pub ear_after : List Heard → Ear
 ear_after [] = first_ear
 ear_after (g ∷ h) = ear_with (ear_after h) g.came
 
+-- the messages alone, in the order in which they came
 abbrev pub all_messages : List Heard → List MessageView
 all_messages [] = []
 all_messages (g ∷ h) = all_messages h ++ g.message ∷ []
 
+-- the news of all these messages, in order
 abbrev pub all_news : List Heard → List What
 all_news [] = []
 all_news (g ∷ h) = all_news h ++ option_to_list (came_news (ear_after h) g.came)
@@ -112,6 +117,7 @@ abbrev pub IsRefused : Bool → Table → MessageView → Type 0
 IsRefused true t m = Unit {0}
 IsRefused false t m = (fault : SideFault) × RefusedBy None t m fault
 
+-- a message is what it is said to be: the side takes it and it says this, or the side refuses it
 abbrev pub IsCame : Ear → MessageView → Came → Type 0
 IsCame e m (Said said) = Takes e m said
 IsCame e m Refused = IsRefused e.failed e.table m

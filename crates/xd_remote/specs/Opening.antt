@@ -9,7 +9,7 @@ use Rattle.xd_remote.specs.declared.fault.GatewayFault.{GatewayFault}
 use Rattle.xd_remote.specs.declared.fault.GatewayFault.TheVariants.{SendFault, Channel, Opening, OutOfMemory}
 use Rattle.xd_remote.specs.Calls.{Wanted}
 
--- the message that is wanted, or why there is none, or memory was refused
+-- the message that is wanted, or why there is none, or memory ran out
 abbrev pub IsMessage : Wanted → Result MessageView GatewayFault → Type 0
 IsMessage wanted (Ok m) = wanted ≡ Ok m
 IsMessage wanted (Err (Channel f)) = wanted ≡ Err (Channel f)
@@ -17,7 +17,7 @@ IsMessage wanted (Err (Opening f)) = wanted ≡ Err (Opening f)
 IsMessage wanted (Err SendFault) = ⊥
 IsMessage wanted (Err OutOfMemory) = Unit {0}
 
--- the payload that is wanted, or why there is none, or memory was refused
+-- the payload that is wanted, or why there is none, or memory ran out
 abbrev pub IsPayloadOf : Result (List ℕ) DumpFault → Result (List ℕ) GatewayFault → Type 0
 IsPayloadOf wanted (Ok b) = wanted ≡ Ok b
 IsPayloadOf wanted (Err (Channel (send_fault.Dump f))) = wanted ≡ Err f

@@ -19,16 +19,19 @@ log_start = Data 1 (called (codes "logstart") (pair (text (codes "item_index")) 
 abbrev finished : Word
 finished = Data 1 (called (codes "workerfinished") no_pairs)
 
--- a close of channel 1 is told; after workerfinished it is not; an end that is no close is stray
+-- a close of channel 1 is told
 pub close_is_told : all_news (at (Close 1 None) ∷ []) ≡ what.Closed None ∷ []
 close_is_told = refl
 
+-- a close of channel 1 with an error is told with its text
 pub error_is_told : all_news (at (Close 1 (Some (codes "fail"))) ∷ []) ≡ what.Closed (Some (codes "fail")) ∷ []
 error_is_told = refl
 
+-- a close of channel 1 after workerfinished is no news
 pub close_after_finished : all_news (at (Close 1 None) ∷ at finished ∷ []) ≡ what.Finished ∷ []
 close_after_finished = refl
 
+-- an end of channel 1 that is no close is stray
 pub last_is_stray : all_news (at (Last 1) ∷ []) ≡ what.Stray ∷ []
 last_is_stray = refl
 
@@ -40,5 +43,6 @@ log_is_told = refl
 pub bytes_are_stray : all_news (at (Data 2 (bytes (7 ∷ []))) ∷ []) ≡ what.Stray ∷ []
 bytes_are_stray = refl
 
+-- each message from the first refused one on is stray
 pub refusals_are_stray : all_news (refused ∷ refused ∷ []) ≡ what.Stray ∷ what.Stray ∷ []
 refusals_are_stray = refl

@@ -19,7 +19,7 @@ pub record IsTaken (m : MessageView) (old new : Table) (taken : Taken Value) : T
   pub answer_is : taken_tree taken ≡ answer said old
   pub table_is : new ≡ heard said old
 
--- a refusal has its reason; want of memory needs none
+-- a refusal has its reason; running out of memory needs none
 abbrev pub IsFaultOf : Table → MessageView → SideFault → Type 0
 IsFaultOf t m fault.OutOfMemory = Unit {0}
 IsFaultOf t m fault.Finished = RefusedBy t.fault t m fault.Finished

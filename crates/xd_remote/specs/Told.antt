@@ -11,5 +11,6 @@ is_last (Closed text) = true
 is_last Stray = true
 is_last _ = false
 
+-- with one of these news the worker has ended, or broke the rules
 abbrev pub has_last : List What → Bool
 has_last news = list_any is_last news

@@ -18,6 +18,7 @@ module _ {K : Type 0} where
   abbrev pub side_of : Gateway K → Side
   side_of g = g.side
 
+  -- the table of its channels
   abbrev pub channels_of : Gateway K → Table
   channels_of g = table_of g.side
 
@@ -47,6 +48,7 @@ module _ {K : Type 0} where
   abbrev pub PrintsOn : (K → Option Sunk) → (K → ℕ) → Gateway K → Gateway K → List ℕ → Type 0
   PrintsOn sunk faults old new bytes = Prints bytes (line_of sunk faults old) (line_of sunk faults new)
 
+  -- these last bytes were written and the sink was closed, or not, as the line says
   abbrev pub ClosesOn : (K → Option Sunk) → (K → ℕ) → Gateway K → Gateway K → List ℕ → Type 0
   ClosesOn sunk faults old new bytes = Closes bytes (line_of sunk faults old) (line_of sunk faults new)
 

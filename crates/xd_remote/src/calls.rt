@@ -155,7 +155,7 @@ fn pairs_of(alloc: Global, kwargs: Vec<(Text, Value)>) -> Result<Vec<(Value, Val
     Ok(pairs)
 }
 
-// One more keyword argument, behind the others.
+// One more keyword argument, after the others.
 fn add_pair(pairs: &mut Vec<(Value, Value)>, item: (Text, Value)) -> Result<(), OutOfMemory>
     ensures { OnOk result (pair_views pairs.new.items
         ≡ snoc_pair (pair_views pairs.old.items) (text item.0) (view item.1)) }

@@ -16,12 +16,12 @@ pub record Given : Type 0 where
   pub input : Input
   pub room : Bool
 
--- the call behind these inputs
+-- the call after these inputs
 abbrev pub call_after : List Given → Call
 call_after [] = called
 call_after (g ∷ h) = (answered g.room g.input (turn_of (call_after h))).call
 
--- what an input does behind these
+-- what an input does after these
 abbrev pub turn_after : List Given → Given → Turn
 turn_after h g = answered g.room g.input (turn_of (call_after h))
 
@@ -44,7 +44,7 @@ distinct (n ∷ ns) = not (is_among n ns) && distinct ns
 abbrev pub StartsOnce : Type 0
 StartsOnce = (h : List Given) → distinct (started_tests h) ≡ true
 
--- how many tests the suite has behind an input: as many as the one that was taken
+-- how many tests the suite has after a collection: the first one counts, which the function waits for
 abbrev pub size_opened : Phase → List (List ℕ) → ℕ → ℕ
 size_opened Awaiting ids n = length ids
 size_opened Serving ids n = n
@@ -52,6 +52,7 @@ size_opened (phase.Ending e) ids n = n
 size_opened Stopped ids n = n
 size_opened Over ids n = n
 
+-- how many tests the suite has after an input
 abbrev pub size_behind : Phase → Input → ℕ → ℕ
 size_behind p (input.Command o) n = n
 size_behind p input.ReceivingEnded n = n
@@ -67,7 +68,7 @@ pub record KnownTests : Type 0 where
   pub runs : (h : List Given) (n : ℕ) → running_test (call_after h) ≡ Some n → n < (call_after h).size
   pub starts : (h : List Given) (g : Given) (n : ℕ) → (turn_after h g).run ≡ Some n → n < (turn_after h g).call.size
 
--- this call of the function is behind these inputs
+-- the parts are those of the call after these inputs
 pub record StandsFor (s : RunTests) (h : List Given) : Type 0 where
   pub call : IsCall s (call_after h)
   pub ready : IsReady s (call_after h)

@@ -13,10 +13,11 @@ pub record Logs : Type 0 where
   pub count : ℕ
   pub is_open : Bool
 
--- a test has one log, which is open while it runs
+-- how many tests were started
 abbrev pub begun : Call → ℕ
 begun c = c.ended + (if c.running then 1 else 0)
 
+-- each test that was started has one log, which is open while the test runs
 abbrev pub logs_of : Call → Logs
 logs_of c = record { count = begun c; is_open = c.running }
 
@@ -32,12 +33,13 @@ LogStep room (Piece log b) l k = (l.is_open ≡ true) × (log + 2 ≡ log_of l.c
 LogStep room (CloseLog log) l k = (l.is_open ≡ true) × (log + 2 ≡ log_of l.count) × (k ≡ record { count = l.count; is_open = false })
 LogStep room (End text) l k = (l.is_open ≡ false) × (k ≡ l)
 
+-- all of these asks, one after another
 abbrev pub LogSteps : Bool → List Ask → Logs → Logs → Type 0
 LogSteps room [] l k = k ≡ l
 LogSteps room (a ∷ asks) l k = (m : Logs) × LogStep room a l m × LogSteps room asks m k
 
 -- Whatever comes, one log is open at a time: it is that of the running test, and has the number that its start named.
--- Behind GATEWAY_TERMINATE and the link's end nothing is asked for.
+-- After GATEWAY_TERMINATE and the link's end nothing is asked for.
 pub record OneLog : Type 0 where
   pub steps : (h : List Given) (g : Given) → ((call_after h).phase ≡ Stopped → ⊥) → LogSteps g.room (turn_after h g).asks (logs_of (call_after h)) (logs_of (turn_after h g).call)
   pub silent : (h : List Given) (g : Given) → (call_after h).phase ≡ Stopped → ((turn_after h g).asks ≡ []) × (begun (turn_after h g).call ≡ begun (call_after h)) × ((turn_after h g).call.phase ≡ Stopped)

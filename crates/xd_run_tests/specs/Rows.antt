@@ -7,9 +7,11 @@ use Rattle.xd_run_tests.specs.declared.input.Input.{Input}
 use Rattle.xd_run_tests.specs.declared.input.Input.TheVariants as input
 use Rattle.xd_run_tests.specs.History.{Given, asked, started_tests}
 
+-- the ids of a suite of five
 abbrev pub five : List (List ℕ)
 five = codes "a" ∷ codes "b" ∷ codes "c" ∷ codes "d" ∷ codes "e" ∷ []
 
+-- an input that comes while the table of channels has room
 abbrev pub with_room : Input → Given
 with_room i = record { input = i; room = true }
 
@@ -22,6 +24,7 @@ steals =
     ∷ with_room (input.Suite five)
     ∷ []
 
+-- The first steal is answered by both of its tests and the second by none, as test 1 is the next; test 0 alone starts.
 pub record StealRow : Type 0 where
   pub asks : asked steals ≡ Tell (Collected five) ∷ Tell (LogStart 0 2) ∷ Tell (Back (3 ∷ 4 ∷ [])) ∷ Tell (Back []) ∷ []
   pub runs : started_tests steals ≡ 0 ∷ []

@@ -13,35 +13,42 @@ use Rattle.xd_run_tests.specs.declared.run_tests.RunTests.{RunTests}
 use Rattle.xd_run_tests.specs.Line.{Call, running_test, log_of, has_test, can_give, can_ask, is_among, taken, kept}
 use Rattle.xd_run_tests.specs.Turns.{Turn}
 
+-- the running test as an entry of the line, if one runs
 abbrev pub running_places : Option Running → List LineEntry
 running_places None = []
 running_places (Some r) = Test r.test ∷ []
 
+-- the number of the running test, if one runs
 abbrev pub test_of : Option Running → Option ℕ
 test_of None = None
 test_of (Some r) = Some r.test
 
--- the tests that stand, with this place ahead of the queue
+-- where the tests stand once this entry is before the queue
 abbrev pub passing : List Standing → LineEntry → List Standing
 passing stands (Test n) = slice_set stands n Passed
 passing stands Mark = stands
 
+-- the same of the next entry, where there is one
 abbrev pub passing_some : List Standing → Option LineEntry → List Standing
 passing_some stands None = stands
 passing_some stands (Some p) = passing stands p
 
+-- a test of the suite that does not stand in the line
 abbrev pub is_free : Option Standing → Bool
 is_free None = false
 is_free (Some Free) = true
 is_free (Some Queued) = false
 is_free (Some Passed) = false
 
+-- the test of this number is one of the suite, and does not stand in the line
 abbrev pub free_at : List Standing → ℕ → Bool
 free_at stands n = is_free (slice_get stands n)
 
+-- where a test stands that is before the queue, or in it, or neither
 abbrev pub standing_by : Bool → Bool → Standing
 standing_by is_ahead is_queued = if is_ahead then Passed else (if is_queued then Queued else Free)
 
+-- where a test stands, by the entries before the queue and those in it
 abbrev pub standing_of : ℕ → List LineEntry → List LineEntry → Standing
 standing_of n ahead queue = standing_by (has_test n ahead) (has_test n queue)
 
@@ -51,19 +58,23 @@ once [] = true
 once (Test n ∷ ps) = not (has_test n ps) && once ps
 once (Mark ∷ ps) = once ps
 
+-- a test of the suite that stands in the queue
 abbrev pub is_queued : Option Standing → Bool
 is_queued None = false
 is_queued (Some Free) = false
 is_queued (Some Queued) = true
 is_queued (Some Passed) = false
 
+-- the test of this number stands in the queue
 abbrev pub queued_at : List Standing → ℕ → Bool
 queued_at stands n = is_queued (slice_get stands n)
 
+-- the test of each of these numbers stands in the queue
 abbrev pub all_queued_at : List Standing → List ℕ → Bool
 all_queued_at stands [] = true
 all_queued_at stands (n ∷ ns) = queued_at stands n && all_queued_at stands ns
 
+-- there is a mark, and it is set
 abbrev pub is_true : Option Bool → Bool
 is_true None = false
 is_true (Some b) = b
@@ -72,16 +83,19 @@ is_true (Some b) = b
 pub record AreMarked (marks : List Bool) (ns : List ℕ) : Type 0 where
   pub at : (n : ℕ) → is_true (slice_get marks n) ≡ is_among n ns
 
+-- A steal asks for these tests, none of them twice; all are in the queue, and they are marked.
 pub record Asks (size : ℕ) (stands : List Standing) (ns : List ℕ) (marks : List Bool) : Type 0 where
   pub can : can_ask size [] ns ≡ true
   pub queued : all_queued_at stands ns ≡ true
   pub marked : AreMarked marks ns
 
+-- what becomes of a steal of these tests: the command is bad, one of them is not in the queue, or they are marked
 abbrev pub IsAsked : List Standing → List ℕ → Asked → Type 0
 IsAsked stands ns Bad = can_ask (length stands) [] ns ≡ false
 IsAsked stands ns Missing = (can_ask (length stands) [] ns ≡ true) × (all_queued_at stands ns ≡ false)
 IsAsked stands ns (Marked v) = Asks (length stands) stands ns v.items
 
+-- where a test stands that has left the queue, or has not
 abbrev pub freed_at : Bool → Standing → Standing
 freed_at b s = if b then Free else s
 
@@ -103,10 +117,11 @@ pub record IsCut (running : Option Running) (next : Option LineEntry) (queue : L
   pub done : List LineEntry
   pub count : length done ≡ ended
   pub line_is : line ≡ (done ++ (running_places running ++ option_to_list next)) ++ queue
-  -- behind a running test there is a next entry
+  -- after a running test there is a next entry
   pub idle : next ≡ None → running ≡ None
   pub standing : StandsAt stands (done ++ (running_places running ++ option_to_list next)) queue
 
+-- the number of the running test's log, if one runs, and that of the log which opens next
 abbrev pub IsLog : Option Running → ℕ → ℕ → Type 0
 IsLog None next ended = next ≡ log_of ended
 IsLog (Some r) next ended = (r.log ≡ log_of ended) × (next ≡ log_of (ended + 1))
@@ -122,6 +137,7 @@ pub record IsHeld (s : RunTests) (c : Call) : Type 0 where
   pub test_is : test_of s.running ≡ running_test c
   pub log_is : IsLog s.running s.next_log c.ended
 
+-- The parts are those of this call; while it serves, they hold its line, cut into pieces.
 pub record IsCall (s : RunTests) (c : Call) : Type 0 where
   pub held : IsHeld s c
   pub phase_is : s.phase ≡ c.phase
@@ -131,10 +147,12 @@ pub record IsCall (s : RunTests) (c : Call) : Type 0 where
 abbrev pub IsReady : RunTests → Call → Type 0
 IsReady s c = c.phase ≡ Serving → s.next ≡ None → s.queue.items ≡ []
 
+-- what was asked for so far, and the test to start, are those of a turn
 pub record HasActed (a : Acts) (t : Turn) : Type 0 where
   pub asks_are : a.asks.items ≡ t.asks
   pub run_is : a.run ≡ t.run
 
+-- a turn of which only what holds in every phase is known
 pub record Holds (s : RunTests) (a : Acts) (t : Turn) : Type 0 where
   pub held : IsHeld s t.call
   pub acted : HasActed a t
@@ -150,7 +168,7 @@ pub record Stands (s : RunTests) (a : Acts) (t : Turn) : Type 0 where
   pub ready : IsReady s t.call
   pub acted : HasActed a t
 
--- tests were put behind a queue, or one of them cannot be
+-- tests were put at a queue's end, or one of them cannot be
 pub record Appends (stands : List Standing) (queue : List LineEntry) (stands' : List Standing) (queue' : List LineEntry) (ns : List ℕ) (b : Bool) : Type 0 where
   pub size : length stands' ≡ length stands
   pub gives : (ahead : List LineEntry) → StandsAt stands ahead queue → b ≡ can_give (length stands) (ahead ++ queue) ns

@@ -25,12 +25,15 @@ pub record Turn : Type 0 where
   pub asks : List Ask
   pub run : Option ℕ
 
+-- this is asked for too, after the rest
 abbrev pub asking : List Ask → Turn → Turn
 asking asks t = record t { asks = t.asks ++ asks }
 
+-- the error of a function for whose next log there is no channel: a choice of this project
 abbrev pub too_many_channels : List ℕ
 too_many_channels = codes "too many channels"
 
+-- the error of an early end: a bad command has one, and the end of the receiving direction none
 abbrev pub ending_text : Ending → Option (List ℕ)
 ending_text BadCommand = Some (codes "bad command")
 ending_text ReceivingEnded = None
@@ -44,12 +47,15 @@ abbrev pub ended_early : Ending → Turn → Turn
 ended_early e t =
     if t.call.running then record t { call = record (t.call) { phase = phase.Ending e } } else over (ending_text e) t
 
+-- a mark was reached: the function tells `workerfinished`, and ends
 abbrev pub finished : Turn → Turn
 finished t = over None (asking (Tell Finished ∷ []) t)
 
+-- the number of the log of the test that starts after m others is one that a channel may have
 abbrev pub has_log : ℕ → Bool
 has_log m = nat_le (log_of m) 2147483647
 
+-- a test starts, and `logstart` names its log
 abbrev pub started : ℕ → Turn → Turn
 started n t = record {
   call = record (t.call) { running = true; sent = 0 };
@@ -57,23 +63,25 @@ started n t = record {
   run = Some n;
 }
 
--- what the line's left part lets happen where nothing runs: a mark is reached, or a test with an entry behind it
+-- what the line's left part lets happen where nothing runs: a mark is reached, or a test with an entry after it
 abbrev pub moved_on : Bool → List LineEntry → Turn → Turn
 moved_on room [] t = t
 moved_on room (Mark ∷ ps) t = finished t
 moved_on room (Test n ∷ []) t = t
 moved_on room (Test n ∷ (p ∷ ps)) t = if room && has_log t.call.ended then started n t else over (Some too_many_channels) t
 
+-- where no test runs, the line moves on
 abbrev pub settled : Bool → Turn → Turn
 settled room t = if t.call.running then t else moved_on room (left t.call) t
 
--- the orders
+-- `runtests`: these tests stand at the line's end, or the command is bad
 abbrev pub given : Bool → List ℕ → Turn → Turn
 given room ns t =
     if can_give t.call.size t.call.line ns
     then settled room (record t { call = record (t.call) { line = t.call.line ++ map Test ns } })
     else ended_early BadCommand t
 
+-- `steal` of good numbers: all of these tests go back where all stand in the queue, and else none
 abbrev pub stolen : List ℕ → Turn → Turn
 stolen ns t =
     if all_queued (queue t.call) ns
@@ -81,9 +89,11 @@ stolen ns t =
     (record t { call = record (t.call) { line = front t.call ++ kept ns (queue t.call) } })
     else asking (Tell (Back []) ∷ []) t
 
+-- `steal`: tests are asked back, or the command is bad
 abbrev pub stolen_if : List ℕ → Turn → Turn
 stolen_if ns t = if can_ask t.call.size [] ns then stolen ns t else ended_early BadCommand t
 
+-- an item while the function serves: one of the four orders, or a bad command
 abbrev pub told : Bool → Option Order → Turn → Turn
 told room None t = ended_early BadCommand t
 told room (Some (RunTests ns)) t = given room ns t
@@ -91,7 +101,7 @@ told room (Some RunAll) t = given room (range_with_len 0 t.call.size) t
 told room (Some (Steal ns)) t = stolen_if ns t
 told room (Some Shutdown) t = settled room (record t { call = record (t.call) { line = t.call.line ++ Mark ∷ [] } })
 
--- an item: ahead of the collection it waits, and behind an end it is left out
+-- an item in a phase: before the collection it waits, and after an end it is left out
 abbrev pub heard_in : Phase → Bool → Option Order → Turn → Turn
 heard_in Awaiting room o t = record t { call = record (t.call) { waiting = t.call.waiting ++ o ∷ [] } }
 heard_in Serving room o t = told room o t
@@ -99,14 +109,16 @@ heard_in (phase.Ending e) room o t = t
 heard_in Stopped room o t = t
 heard_in Over room o t = t
 
+-- an item of the function's channel
 abbrev pub heard : Bool → Option Order → Turn → Turn
 heard room o t = heard_in t.call.phase room o t
 
+-- these items, one after another
 abbrev pub all_heard : Bool → List (Option Order) → Turn → Turn
 all_heard room [] t = t
 all_heard room (o ∷ os) t = all_heard room os (heard room o t)
 
--- the function serves a suite of so many tests from now on
+-- the function serves a suite of that many tests from now on
 abbrev pub opened : ℕ → Call → Call
 opened size c = record c { phase = Serving; size = size; waiting = []; line = []; ended = 0; running = false }
 
@@ -123,6 +135,7 @@ collected_in (phase.Ending e) room ids t = t
 collected_in Stopped room ids t = t
 collected_in Over room ids t = t
 
+-- there is no suite: where the function waits for one it ends with this reason
 abbrev pub suite_refused_in : Phase → List ℕ → Turn → Turn
 suite_refused_in Awaiting text t = over (Some text) t
 suite_refused_in Serving text t = t
@@ -130,6 +143,7 @@ suite_refused_in (phase.Ending e) text t = t
 suite_refused_in Stopped text t = t
 suite_refused_in Over text t = t
 
+-- the controller says nothing more on the channel: an early end, where the function has not come to one
 abbrev pub receiving_ended_in : Phase → Turn → Turn
 receiving_ended_in Awaiting t = ended_early ReceivingEnded t
 receiving_ended_in Serving t = ended_early ReceivingEnded t
@@ -137,6 +151,7 @@ receiving_ended_in (phase.Ending e) t = t
 receiving_ended_in Stopped t = t
 receiving_ended_in Over t = t
 
+-- output of a log, where there is any
 abbrev pub piece_asks : ℕ → List ℕ → List Ask
 piece_asks log [] = []
 piece_asks log (b ∷ bs) = Piece log (b ∷ bs) ∷ []
@@ -149,6 +164,7 @@ put_out bytes t = record {
   run = t.run;
 }
 
+-- output of the running test in a phase; where the worker is to end, it is left out
 abbrev pub output_in : Phase → List ℕ → Turn → Turn
 output_in Stopped bytes t = t
 output_in Awaiting bytes t = put_out bytes t
@@ -160,6 +176,7 @@ output_in Over bytes t = put_out bytes t
 abbrev pub without_run : Call → Call
 without_run c = record c { running = false; ended = c.ended + 1 }
 
+-- the running test's log is closed, and its end is told: `runtest_protocol_complete`
 abbrev pub told_done : ℕ → Outcome → ℕ → Turn → Turn
 told_done n outcome ms t = record {
   call = without_run t.call;
@@ -167,6 +184,7 @@ told_done n outcome ms t = record {
   run = t.run;
 }
 
+-- the running test ended in a phase: the line moves on, or an early end that waited comes
 abbrev pub done_in : Phase → Bool → ℕ → Outcome → ℕ → Turn → Turn
 done_in Serving room n outcome ms t = settled room (told_done n outcome ms t)
 done_in (phase.Ending e) room n outcome ms t = over (ending_text e) (told_done n outcome ms t)
@@ -174,6 +192,7 @@ done_in Stopped room n outcome ms t = record t { call = without_run t.call }
 done_in Awaiting room n outcome ms t = t
 done_in Over room n outcome ms t = t
 
+-- the end of the running test's program, where a test runs
 abbrev pub done_of : Option ℕ → Phase → Bool → Outcome → ℕ → Turn → Turn
 done_of None phase room outcome ms t = t
 done_of (Some n) phase room outcome ms t = done_in phase room n outcome ms t
@@ -182,6 +201,7 @@ done_of (Some n) phase room outcome ms t = done_in phase room n outcome ms t
 abbrev pub stopped : Turn → Turn
 stopped t = record t { call = record (t.call) { phase = Stopped } }
 
+-- output of the running test's program, where a test runs
 abbrev pub output_of : Option ℕ → Phase → List ℕ → Turn → Turn
 output_of None phase bytes t = t
 output_of (Some n) phase bytes t = output_in phase bytes t
@@ -200,6 +220,7 @@ answered_in phase test room input.Stop t = stopped t
 abbrev pub answered : Bool → Input → Turn → Turn
 answered room f t = answered_in t.call.phase (running_test t.call) room f t
 
+-- a call before anything was done in this turn
 abbrev pub turn_of : Call → Turn
 turn_of c = record { call = c; asks = []; run = None }
 

@@ -15,7 +15,7 @@ pub enum Input {
     SuiteRefused(Text),
     /// A piece of the running test's output.
     Output(Blob),
-    /// The running test ended, after so many milliseconds.
+    /// The running test ended, after that many milliseconds.
     Done { outcome: Outcome, ms: u64 },
     /// GATEWAY_TERMINATE, or the end of the link.
     Stop,

@@ -7,7 +7,7 @@ pub enum LineEntry {
     Mark,
 }
 
-/// Where a test of the suite stands: not in the line, in the queue, or ahead of the queue.
+/// Where a test of the suite stands: not in the line, in the queue, or before the queue.
 #[derive(Clone, Copy)]
 pub enum Standing {
     Free,

@@ -25,7 +25,7 @@ pub struct Running {
 
 /// A call of `run_tests`. Contracts see the inputs that came to it.
 ///
-/// Of the orders it keeps a queue, the next entry and the running test. A test runs only once an entry stands behind
+/// Of the orders it keeps a queue, the next entry and the running test. A test runs only once an entry stands after
 /// it, so the last one waits for a shutdown mark.
 #[derive(Drop)]
 pub struct RunTests {

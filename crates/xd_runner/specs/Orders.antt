@@ -45,9 +45,11 @@ all_news (t ∷ ts) = told_news t ++ all_news ts
 abbrev pub IsPiece : List ℕ → Type 0
 IsPiece bytes = (1 ≤ length bytes) × (length bytes ≤ most_piece_bytes)
 
+-- what a program printed was put in pieces of the sizes that they may have
 abbrev pub ArePieces : Told → Type 0
 ArePieces t = All IsPiece t.pieces
 
+-- an order that names a program, and does not end the orders
 abbrev pub IsCommand : Order → Type 0
 IsCommand order = 0 < length order
 
@@ -56,6 +58,7 @@ pub record Seen : Type 0 where
   pub runs : Option (List ChildRun)
   pub faults : ℕ
 
+-- the programs, of which these starts and this count of faults are seen
 abbrev pub seen : Option (List ChildRun) → ℕ → Seen
 seen runs faults = record { runs = runs; faults = faults }
 
@@ -91,7 +94,7 @@ pub record EndsCut (orders : List Order) (old new : Mails) (s0 s1 : Seen) (befor
   pub left : ((pieces ≡ []) × (s1 ≡ s0)) ⊎ IsLeft order pieces s0.runs s1.runs
   pub later : s0.faults ≤ s1.faults
 
--- Orders were taken and run, to the empty one or to want of memory.
+-- Orders were taken and run, up to the empty one, or until memory ran out.
 pub record RunsOrders (old new : Mails) (s0 s1 : Seen) (before after : List LinkNews) : Type 0 where
   pub orders : List Order
   pub told : List Told

@@ -17,7 +17,7 @@ use xd_journal::Outcome;
 use xd_post::{Desk, Sender};
 use xd_reader::{LinkNews, LinkStop};
 
-/// Takes orders and runs them, to the empty one or to want of memory.
+/// Takes orders and runs them, up to the empty one, or until memory runs out.
 pub fn carry_out<R: Wait, K: Children>(
     rt: &R,
     alloc: Global,

@@ -1,4 +1,4 @@
-// The channels of a side. Each call has a helper that gives what is compared, so that no test holds its contract.
+// The channels of a side. Each call has a function that gives what is compared, so that no test holds its contract.
 use crate::told::{Told, of_got, of_taken};
 use std::alloc::Global;
 use std::test::Fail;

@@ -25,7 +25,7 @@ impl Promise<Sender<u32>> for SameRing {
     ghost kept_by = { λ promise sender. ring_of_sender sender ≡ ring_of_sender promise.0.value };
 }
 
-// Puts the numbers below `count`, and sleeps a moment ahead of every `pause` of them.
+// Puts the numbers below `count`, and sleeps a moment before every `pause` of them.
 fn put_numbers<R: Wait + Clock>(rt: &R, sender: Sender<u32>, count: u32, pause: u32) -> Sender<u32>
     requires { 1 ≤ pause }
     ensures { ring_of_sender result ≡ ring_of_sender sender }
@@ -40,7 +40,7 @@ fn put_numbers<R: Wait + Clock>(rt: &R, sender: Sender<u32>, count: u32, pause: 
     sender
 }
 
-// A thread puts the numbers below `count`, and they are taken here, with a moment's sleep ahead of every `pause` of
+// A thread puts the numbers below `count`, and they are taken here, with a moment's sleep before every `pause` of
 // them. Gives how many came in their place, or `None` where one was left.
 fn carry<R: Threads + Wait + Clock + Copy + Send + 'static>(
     rt: R,

@@ -23,7 +23,7 @@ pub fn put_place(text: &mut String, place: &Place) -> Result<(), Fail> {
     Ok(())
 }
 
-/// The places as text, one behind the other.
+/// The places as text, one after the other.
 pub fn all_places(alloc: Global, places: &[Place]) -> Result<String, Fail> {
     let mut text = String::new(alloc);
     for place in places {

@@ -43,7 +43,7 @@ const CALLS: [(&[u8], bool, &str); 20] = [
         false,
         "bad call",
     ),
-    // A second call is told so ahead of its arguments, and behind a value that is no call.
+    // A second call is told so before its arguments are looked at, but after a value that is no call.
     (
         b"N\0\0\0\0LN\0\0\0\x09run_testsJ@\0\0\0\x04Q",
         true,
@@ -71,7 +71,7 @@ const CALLS: [(&[u8], bool, &str); 20] = [
         false,
         "unknown function",
     ),
-    // An unknown name is told ahead of arguments of another shape.
+    // An unknown name is told before arguments of another shape.
     (
         b"N\0\0\0\0LN\0\0\0\x04nopeL@\0\0\0\x04Q",
         false,

@@ -8,21 +8,23 @@ use Rattle.xd_edge.specs.declared.mode.ModeKind.TheVariants.{Each, Load, LoadSco
 use Rattle.xd_spec.specs.Numbers.{number_in}
 use Rattle.xd_words.specs.declared.asked.Asked.{Asked}
 
--- what clap finds among the words, where it does not refuse them
+-- these rows, where no fault stands among the words
 abbrev pub unless_fault : Kinds → List Row → Option (List Row)
 unless_fault [] rows = Some rows
 unless_fault (k ∷ ks) rows = None
 
+-- what clap finds among these words, or nothing where it refuses them
 unfoldable pub rows_in : App → List (List ℕ) → Option (List Row)
 rows_in app words = unless_fault (fault_of app words) (matches_of app words)
 
 -- ---- one value
 
--- a number in decimal digits, without a sign or a leading zero
+-- a leading zero: more digits stand after it
 abbrev pub starts_with_zero : List ℕ → Bool
 starts_with_zero [] = false
 starts_with_zero (b ∷ bs) = b == 48 && not (length bs == 0)
 
+-- a number in decimal digits, up to a limit, without a sign or a leading zero
 abbrev pub plain_number : ℕ → List ℕ → Option ℕ
 plain_number limit text = if starts_with_zero text then None else number_in limit text
 
@@ -42,11 +44,12 @@ abbrev pub is_number : ℕ → Option (List ℕ) → Bool
 is_number limit None = true
 is_number limit (Some text) = is_some (plain_number limit text)
 
--- the same of a number over 0
+-- an option that does not stand, or whose number is over 0
 abbrev pub is_positive : Option ℕ → Bool
 is_positive None = true
 is_positive (Some n) = not (n == 0)
 
+-- an option that does not stand, or whose value is the name of a mode
 abbrev pub is_mode : Option (List ℕ) → Bool
 is_mode None = true
 is_mode (Some text) = is_some (mode_named text)
@@ -55,12 +58,15 @@ is_mode (Some text) = is_some (mode_named text)
 abbrev pub is_path : List ℕ → Bool
 is_path path = nat_le (length (encode_utf8_all path)) 65536
 
+-- the number that an option has, if it stands
 abbrev pub number : ℕ → List ℕ → List Row → Option ℕ
 number limit id rows = option_and_then (plain_number limit) (first_of id rows)
 
+-- an option without a value stands among the words
 abbrev pub flag : List ℕ → List Row → Bool
 flag id rows = bytes_eq (unwrap_or (first_of id rows) []) (codes "true")
 
+-- the values of an option that may stand several times, by their characters
 abbrev pub texts_of : Option (List (List ℕ)) → List (List ℕ)
 texts_of None = []
 texts_of (Some texts) = map chars texts
@@ -74,6 +80,7 @@ has_numbers rows =
     && is_number 1000 (first_of (codes "max-worker-restart") rows) && is_number 1000000 (first_of (codes "maxschedchunk") rows)
     && is_positive (number 1000000 (codes "maxschedchunk") rows) && is_number 100 (first_of (codes "crash-retries") rows)
 
+-- each value is one that its option takes
 unfoldable pub is_well_formed : List Row → Bool
 is_well_formed rows = is_mode (first_of (codes "dist") rows) && has_numbers rows
 

@@ -8,6 +8,7 @@ use Rattle.clap.specs.declared.builder.action.ArgAction.TheVariants.{Append, Set
 abbrev pub with_own_words : App → App
 with_own_words a = on_top (λ s. record s { no_binary_name = true; disable_help_flag = true; disable_version_flag = true }) a
 
+-- a command that takes no words yet
 abbrev pub plain_app : App
 plain_app = with_own_words (new_app (codes "xdrun"))
 
@@ -23,7 +24,7 @@ short_rule id letter = record (new_rule id) { short = Some letter }
 abbrev pub long_rule : List ℕ → Rule
 long_rule name = record (new_rule name) { long = Some name }
 
--- the same, any number of times
+-- an option of a word, with a value, that may stand any number of times
 abbrev pub repeated_rule : List ℕ → Rule
 repeated_rule name = record (new_rule name) { long = Some name; action = Some Append }
 
@@ -51,11 +52,11 @@ main_app = with_rule (with_rule (with_rule (with_rule (with_rule (with_rule (wit
     (long_flag_rule (codes "no-loadscope-reorder")))
     (long_rule (codes "crash-retries"))
 
--- wire FILE, behind its name
+-- wire FILE, after its name
 unfoldable pub wire_app : App
 wire_app = with_rule plain_app (path_rule (codes "file"))
 
--- worker, behind its name
+-- worker, which has no words after its name
 unfoldable pub worker_app : App
 worker_app = plain_app
 

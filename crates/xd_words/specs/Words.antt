@@ -1,4 +1,4 @@
--- What the words behind the program's name ask for, or why they are refused.
+-- What the words after the program's name ask for, or why they are refused.
 use Rattle.std.specs.Prelude.{ℕ, ◌*◌, ◌==◌, ◌≡◌, ◌≢◌, ◌≤◌, Bool, ◌&&◌, ◌||◌, not, List, [], ◌∷◌, map, length, replicate, Option, Some, None, is_some, unwrap_or, Result, Ok, Err, if◌then◌else◌, codes}
 use Rattle.std.specs.Str.{bytes_eq, encode_utf8_all}
 use Rattle.clap.specs.Words.{Row, first_of}
@@ -19,9 +19,11 @@ use Rattle.xd_words.specs.declared.refusal.WordsRefusal.TheVariants.{BadWords, C
 
 -- ---- the main command
 
+-- --tx stands
 abbrev pub has_places : Asked → Bool
 has_places a = not (length a.tx == 0)
 
+-- a mode is named, by --dist or by -d, which stands for load
 abbrev pub names_mode : Asked → Bool
 names_mode a = a.load || is_some a.mode
 
@@ -34,11 +36,11 @@ exclusion a =
     else if names_mode a && not (is_some a.count) && not (has_places a) then Some NoWorkers
     else None
 
--- the places of the words of --tx, or so many children of the program
+-- the places of the words of --tx, or as many children of the program as -n says
 unfoldable pub places_of : Asked → Result (List Place) SpecFault
 places_of a = if has_places a then tx_of (map encode_utf8_all a.tx) else Ok (replicate (unwrap_or a.count 0) (Popen None []))
 
--- the first failure stops the run, or so many do; 0 is no limit
+-- how many failures stop the run: one by -x, else as many as --maxfail says; 0 is no limit
 abbrev pub maxfail_of : Asked → ℕ
 maxfail_of a = if a.first then 1 else unwrap_or a.maxfail 0
 
@@ -58,30 +60,37 @@ settings_of a workers = record {
 unfoldable pub run_at : Asked → List Place → Plan
 run_at a places = if length places == 0 then Local a.suite (maxfail_of a) else Linked a.suite (settings_of a (length places)) places
 
+-- a run at these places, or the refusal of the words of --tx
 abbrev pub run_where : Asked → Result (List Place) SpecFault → Plan
 run_where a (Err fault) = Refused BadSpec
 run_where a (Ok places) = run_at a places
 
+-- the refusal, where there is one, and else the plan
 abbrev pub refused_or : Option WordsRefusal → Plan → Plan
 refused_or (Some why) plan = Refused why
 refused_or None plan = plan
 
+-- what well formed words ask for; options that exclude each other are refused first
 unfoldable pub plan_for : Asked → Plan
 plan_for a = refused_or (exclusion a) (run_where a (places_of a))
 
+-- what the main command is to do, by what stands among its words
 unfoldable pub plan_by : List Row → Plan
 plan_by rows = if is_well_formed rows && is_path (path_of (codes "suite") rows) then plan_for (asked_of rows) else Refused BadWords
 
+-- what the main command is to do; words that clap refuses are bad
 abbrev pub main_plan : Option (List Row) → Plan
 main_plan None = Refused BadWords
 main_plan (Some rows) = plan_by rows
 
 -- ---- the other commands
 
+-- what `worker` is to do, which takes no words after its name
 abbrev pub worker_plan : Option (List Row) → Plan
 worker_plan None = Refused BadWords
 worker_plan (Some rows) = Worker
 
+-- what `wire FILE` is to do
 abbrev pub wire_plan : Option (List Row) → Plan
 wire_plan None = Refused BadWords
 wire_plan (Some rows) = if is_path (path_of (codes "file") rows) then Wire (path_of (codes "file") rows) else Refused BadWords
@@ -91,6 +100,7 @@ abbrev pub serve_at : Option (List ℕ × ℕ) → Plan
 serve_at None = Refused BadWords
 serve_at (Some address) = SocketServer address.0 address.1
 
+-- what `socketserver HOST:PORT` is to do
 abbrev pub socketserver_plan : Option (List Row) → Plan
 socketserver_plan None = Refused BadWords
 socketserver_plan (Some rows) = serve_at (address_in (unwrap_or (first_of (codes "address") rows) []))
@@ -106,6 +116,7 @@ plan_of_utf8 (w ∷ ws) =
     else if bytes_eq w (codes "socketserver") then socketserver_plan (rows_in socketserver_app ws)
     else main_plan (rows_in main_app (w ∷ ws))
 
+-- what all words after the program's name ask for, by their characters
 abbrev pub plan_of : List (List ℕ) → Plan
 plan_of words = plan_of_utf8 (map encode_utf8_all words)
 
@@ -122,6 +133,7 @@ pub record FitsRun (suite : List ℕ) (settings : Settings) (places : List Place
   pub retries : settings.retries ≤ 100
   pub short : length (encode_utf8_all suite) ≤ 65536
 
+-- a run on workers keeps these limits; the other plans have none
 abbrev pub Fits : Plan → Type 0
 Fits (Linked suite settings places) = FitsRun suite settings places
 Fits _ = Unit {0}

@@ -41,7 +41,7 @@ fn long<'a>(alloc: Global, name: &'a str) -> Arg<'a>
     Arg::new(alloc, name).long(name)
 }
 
-// The same, any number of times.
+// An option of a word, with a value, that may stand any number of times.
 fn repeated<'a>(alloc: Global, name: &'a str) -> Arg<'a>
     ensures rule { rule_of result ≡ repeated_rule name.now }
     ensures local { result.global ≡ false }
@@ -94,7 +94,7 @@ pub fn main_command<'a>(alloc: Global) -> Result<Command<'a>, AllocError>
     Ok(command)
 }
 
-/// `wire FILE`, behind its name.
+/// `wire FILE`, after its name.
 #[tactic(auto, unfolding(crate::specs::Command::wire_app))]
 pub fn wire_command<'a>(alloc: Global) -> Result<Command<'a>, AllocError>
     ensures app { IfOk result (λ c. app_of c ≡ wire_app) }
@@ -104,7 +104,7 @@ pub fn wire_command<'a>(alloc: Global) -> Result<Command<'a>, AllocError>
     Ok(command)
 }
 
-/// `worker`, behind its name.
+/// `worker`, which has no words after its name.
 #[tactic(auto, unfolding(crate::specs::Command::worker_app))]
 pub fn worker_command<'a>(alloc: Global) -> Command<'a>
     ensures app { app_of result ≡ worker_app }

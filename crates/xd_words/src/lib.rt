@@ -1,5 +1,5 @@
-//! The words behind the program's name: what they ask for, or why they are refused. clap reads them as texts; numbers, modes
-//! and what excludes what are read here.
+//! The words after the program's name: what they ask for, or why they are refused. clap reads them as texts; numbers,
+//! modes and what excludes what are read here.
 #![tactic(auto)]
 
 mod asked;

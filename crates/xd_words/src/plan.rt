@@ -1,4 +1,4 @@
-// What the words behind the program's name ask for.
+// What the words after the program's name ask for.
 ghost use Rattle.std.specs.Prelude.{◌≡◌, ◌≢◌, ◌≤◌, IfOk, IfSome, map, length, replicate, None, [], false};
 ghost use Rattle.std.specs.Str.{encode_utf8_all};
 ghost use Rattle.clap.specs.Words.{found_of, rows_of};
@@ -25,7 +25,7 @@ use xd_spec::{SpecFault, address_in, expand_tx};
 /// What the words ask for.
 #[derive(Drop)]
 pub enum Plan {
-    /// The tests of a suite file are run in this program, one after another, up to so many failures; 0 is no limit.
+    /// The tests of a suite file are run in this program, one after another, up to that many failures; 0 is no limit.
     Local {
         suite: Text,
         maxfail: u32,
@@ -217,7 +217,7 @@ fn exclusion(asked: &Asked) -> Option<WordsRefusal>
     }
 }
 
-// The places of the words of `--tx`, or so many children of this program.
+// The places of the words of `--tx`, or as many children of this program as `-n` says.
 #[tactic(auto, unfolding(crate::specs::Words::places_of))]
 fn places_of(alloc: Global, asked: &Asked) -> Result<Result<Places, SpecFault>, OutOfMemory>
     requires few { IfSome asked.now.count (λ n. n ≤ 32) }

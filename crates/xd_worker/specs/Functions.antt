@@ -57,6 +57,7 @@ running started ps =
 abbrev pub failing : Pairs → Called
 failing ps = Runs (function.Fail (option_and_then text_of (value_at (codes "text") ps)))
 
+-- a function with keyword arguments whose keys are texts: what becomes of its call
 abbrev pub function_of : Bool → Name → Pairs → Called
 function_of started name.Echo ps = Runs function.Echo
 function_of started name.Fail ps = failing ps
@@ -66,6 +67,7 @@ function_of started name.RunTests ps = running started ps
 abbrev pub with_kwargs : Bool → Name → Pairs → Called
 with_kwargs started f ps = if has_text_keys ps then function_of started f ps else Refused BadCall
 
+-- the function of a name, if there is one, with its keyword arguments, which have to be a dict
 abbrev pub with_value : Bool → Option Name → Tree → Called
 with_value started None kwargs = Refused Unknown
 with_value started (Some f) (dict ps) = with_kwargs started f ps
@@ -76,6 +78,7 @@ abbrev pub named : Bool → Tree → Tree → Called
 named started (text n) kwargs = with_value started (name_of n) kwargs
 named started _ kwargs = Refused BadCall
 
+-- a value is None
 abbrev pub is_none : Tree → Bool
 is_none none = true
 is_none _ = false
@@ -84,6 +87,7 @@ is_none _ = false
 abbrev pub is_plain : Tree → Tree → Bool
 is_plain source file = is_key [] source && is_none file
 
+-- the four parts of a call; the source and the file are looked at first
 abbrev pub call_of : Bool → Tree → Tree → Tree → Tree → Called
 call_of started source file name kwargs = if is_plain source file then named started name kwargs else Refused SourceText
 

@@ -16,15 +16,16 @@ use Rattle.xd_factory.specs.SideTable.{Table, RefusedBy, MustRefuse, heard, lost
 use Rattle.xd_worker.specs.Worker.{Worker, Turn, new_worker, turn_of, behind, running_in}
 use Rattle.xd_worker.specs.Turns.{Came, Told, SuiteRead, NoSuite, Printed, ChildEnded, LinkEnded, turned}
 
--- an input, and how many channels are in the table behind it, before anything is done
+-- an input, and how many channels are in the table after it came, before anything is done
 pub record Heard : Type 0 where
   pub came : Came
   pub channels : ℕ
 
+-- what an input makes a worker do
 abbrev pub turn_by : Worker → Heard → Turn
 turn_by w g = turned g.came g.channels (turn_of w)
 
--- the worker behind these inputs
+-- the worker after these inputs
 abbrev pub worker_after : List Heard → Worker
 worker_after [] = new_worker
 worker_after (g ∷ h) = behind (turn_by (worker_after h) g)
@@ -47,24 +48,28 @@ is_over w = w.duties.stopped && is_none (running_in w.duties.service)
 abbrev pub IsFaultText : List ℕ → List ℕ → Type 0
 IsFaultText b text = (fault : SuiteFault) × IsFaulty b fault × (encode_utf8_all text ≡ fault_text fault)
 
--- what an input of the code is
+-- what a message is: it says this
 abbrev pub IsMessage : MessageView → Came → Type 0
 IsMessage m (Told said) = Means m said
 IsMessage m _ = ⊥
 
+-- what the bytes of a suite file are for the worker: its tests, or why there are none
 abbrev pub IsSuite : List ℕ → Came → Type 0
 IsSuite b (SuiteRead tests) = IsSuiteOf b tests
 IsSuite b (NoSuite text) = IsFaultText b text
 IsSuite b _ = ⊥
 
+-- what the reading of these bytes gives: the tests of a suite, or in words why they are none
 abbrev pub IsRead : List ℕ → Result (List Test) (List ℕ) → Type 0
 IsRead b (Ok tests) = IsSuiteOf b tests
 IsRead b (Err text) = IsFaultText b text
 
+-- the event that tells a collection: `collectionfinish` of pytest-xdist's remote.py
 abbrev pub IsCollected : What → Type 0
 IsCollected (Collected ids) = Unit {0}
 IsCollected _ = ⊥
 
+-- what an input of the code is among the inputs of the definitions
 abbrev pub Is : WorkerInput → Came → Type 0
 Is (Message m) came = IsMessage m came
 Is (SuiteBytes b) came = IsSuite b came

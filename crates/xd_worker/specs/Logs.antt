@@ -15,6 +15,7 @@ pub record CanOpen (number : ℕ) (t : Table) : Type 0 where
   pub linked : t.finished ≡ false
   pub room : (n : ℕ) → Counts t.slot n → n < 4096
 
+-- each of these logs can open in its table
 abbrev pub AllOpen : List Opening → Type 0
 AllOpen [] = Unit {0}
 AllOpen (o ∷ os) = CanOpen o.number o.table × AllOpen os

@@ -27,22 +27,26 @@ use Rattle.xd_worker.specs.Turns.{given_in}
 use Rattle.xd_factory.specs.SideTable.{RefusedBy, MustRefuse}
 use Rattle.xd_worker.specs.History.{Heard, Is, table_behind, turn_by, worker_after, is_over, Refuses}
 
+-- the parts are those of this call of `run_tests`
 pub record IsService (r : TestsCall) (s : Service) : Type 0 where
   pub channel_is : r.channel ≡ s.channel
   pub mode_is : r.mode ≡ s.mode
   pub ended_is : r.ended ≡ s.ended
   pub follows : Follows r.function s.given
 
+-- both are the same call of `run_tests`, or it was not called
 abbrev pub AreServices : Option TestsCall → Option Service → Type 0
 AreServices None None = Unit {0}
 AreServices (Some r) (Some s) = IsService r s
 AreServices None (Some s) = ⊥
 AreServices (Some r) None = ⊥
 
+-- the tests of the suite that was read, none before
 abbrev pub tests_of : Option (List Test) → List Test
 tests_of None = []
 tests_of (Some tests) = tests
 
+-- the parts beside the channels are these duties, and no fault came
 pub record AreDuties (c : WorkerCore) (d : Duties) : Type 0 where
   pub good : c.fault ≡ None
   pub stopped_is : c.stopped ≡ d.stopped
@@ -63,11 +67,11 @@ pub record IsWorker (c : WorkerCore) (w : Worker) : Type 0 where
   pub table_is : table_of c.side ≡ w.table
   pub duties_are : AreDuties c w.duties
 
--- this worker is behind these inputs
+-- the parts are those of the worker after these inputs
 abbrev pub StandsFor : WorkerCore → List Heard → Type 0
 StandsFor c h = IsWorker c (worker_after h)
 
--- it is behind some inputs
+-- they are those of the worker after some inputs
 abbrev pub Stood : WorkerCore → Type 0
 Stood c = (h : List Heard) × StandsFor c h
 
@@ -93,12 +97,12 @@ pub record Answers (c : WorkerCore) (w : Worker) (input : WorkerInput) (a : Work
   pub over : a.over ≡ is_over (behind (turn_by w heard))
   pub worker : IsWorker c (behind (turn_by w heard))
 
--- a fault names its reason; want of memory needs none
+-- a fault names its reason; running out of memory needs none
 abbrev pub IsFault : Worker → WorkerInput → WorkerFault → Type 0
 IsFault w input (Link fault) = Refuses w input fault
 IsFault w input OutOfMemory = Unit {0}
 
--- the answer is this fault, or want of memory
+-- the answer is this fault, or that memory ran out
 abbrev pub IsRefusal : {X : Type 0} → SideFault → Result X WorkerFault → Type 0
 IsRefusal fault (Ok a) = ⊥
 IsRefusal fault (Err (Link other)) = other ≡ fault
@@ -112,13 +116,13 @@ fault_in c = c.fault
 abbrev pub asked_of : Worker → Asked
 asked_of w = record { test = running_in w.duties.service; suite = w.duties.owed }
 
--- a fault came, behind what this worker asked for
+-- a fault came, and what this worker had asked for before it is kept
 pub record AskedAtFault (c : WorkerCore) (w : Worker) : Type 0 where
   pub fault : WorkerFault
   pub fault_is : c.fault ≡ Some fault
   pub asked_is : c.before ≡ Some (asked_of w)
 
--- what `run_tests` asks for behind one more input
+-- what `run_tests` asks for after one more input
 pub record FedBy (r : Option TestsCall) (s : Service) (g : Given) (f : Fed) : Type 0 where
   pub services_are : AreServices r (Some (record s { given = g ∷ s.given }))
   pub channel_is : f.channel ≡ s.channel
@@ -151,10 +155,12 @@ pub record IsHeard (m : MessageView) (old new : Table) (a : Taken Value) : Type 
   pub table_is : new ≡ heard said old
   pub small : IsSmall (taken_tree a)
 
+-- the side refuses a message for this reason, or memory ran out, which needs none
 abbrev pub IsFaultAt : Table → MessageView → WorkerFault → Type 0
 IsFaultAt t m (Link fault) = RefusedBy t.fault t m fault
 IsFaultAt t m OutOfMemory = Unit {0}
 
+-- the side has to refuse a message for this reason
 abbrev pub RefusedAt : Table → MessageView → SideFault → Type 0
 RefusedAt t m fault = MustRefuse t.fault t m fault
 

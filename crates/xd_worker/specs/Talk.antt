@@ -22,9 +22,11 @@ pub record Talk : Type 0 where
   pub table : Table
   pub says : List MessageView
 
+-- the channels of this side, and these messages that were said
 abbrev pub talk_of : Side → List MessageView → Talk
 talk_of side says = record { table = table_of side; says = says }
 
+-- these messages are said too, after the rest
 abbrev pub saying : List MessageView → Talk → Talk
 saying ms d = record d { says = d.says ++ ms }
 
@@ -32,6 +34,7 @@ saying ms d = record d { says = d.says ++ ms }
 abbrev pub item : ℕ → List ℕ → MessageView
 item n b = record { kind = kind.Item; channel = n; payload = b }
 
+-- the item with this payload, or nothing where there is none
 abbrev pub item_says : {F : Type 0} → ℕ → Result (List ℕ) F → List MessageView
 item_says n (Ok b) = item n b ∷ []
 item_says n (Err f) = []
@@ -44,6 +47,7 @@ payload_on n v t = sent_gives (send_refusal (t.slot n)) (dumped v)
 abbrev pub sent : ℕ → Tree → Talk → Talk
 sent n v d = saying (item_says n (payload_on n v d.table)) d
 
+-- what becomes of a value that is sent, by its payload: said, left out where sending is closed, or not to be written
 abbrev pub sent_how : Result (List ℕ) SendFault → Sent
 sent_how (Ok b) = Said
 sent_how (Err Unknown) = LeftOut
@@ -51,11 +55,12 @@ sent_how (Err SendClosed) = LeftOut
 sent_how (Err (Dump f)) = Unwritten
 sent_how (Err OutOfMemory) = LeftOut
 
--- an event is sent; news that are no event are not
+-- the value of an event is sent, where there is one
 abbrev pub told_tree : ℕ → Option Tree → Talk → Talk
 told_tree n None d = d
 told_tree n (Some v) d = sent n v d
 
+-- news are sent as the event that they are; news that are no event are not sent
 abbrev pub told : ℕ → What → Talk → Talk
 told n event d = told_tree n (event_tree event) d
 

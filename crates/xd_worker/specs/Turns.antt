@@ -40,36 +40,43 @@ pub data Came : Type 0 where
   ChildEnded : Outcome → ℕ → Came
   LinkEnded : Came
 
+-- a step of a turn that changes the channels and what is said, and nothing else
 abbrev pub at_talk : (Talk → Talk) → Turn → Turn
 at_talk f t = record t { talk = f t.talk }
 
 -- ---- what `run_tests` asks for
 
+-- the call of `run_tests`, if it was called, of which the function has ended
 abbrev pub ended_call : Option Service → Option Service
 ended_call None = None
 ended_call (Some s) = Some (record s { ended = true })
 
+-- the function of `run_tests` has ended
 abbrev pub ended_service : Turn → Turn
 ended_service t = record t { duties = record (t.duties) { service = ended_call t.duties.service } }
 
+-- `run_tests` on this channel asks for this: an event, output on a log, a log's close, or its end
 abbrev pub asked : ℕ → Ask → Turn → Turn
 asked c (Tell event) t = record t { talk = told c event (opening event t.talk); logs = t.logs ++ opened_by event t.talk.table }
 asked c (Piece log b) t = at_talk (sent log (bytes b)) t
 asked c (CloseLog log) t = at_talk (log_closed log) t
 asked c (End text) t = ended_service (at_talk (function_ended c text None) t)
 
+-- all that `run_tests` asks for, in order
 abbrev pub all_asked : ℕ → List Ask → Turn → Turn
 all_asked c [] t = t
 all_asked c (a ∷ asks) t = all_asked c asks (asked c a t)
 
--- the table of so many channels is not full, the log of the running test apart
+-- how many of n channels are there beside the log of the running test
 abbrev pub others : Option ℕ → ℕ → ℕ
 others None n = n
 others (Some test) n = n - 1
 
+-- what comes to `run_tests`; there is room where n channels, the log of the running test apart, are fewer than 4,096
 abbrev pub given_in : Service → Input → ℕ → Given
 given_in s i n = record { input = i; room = nat_lt (others (running_in (Some s)) n) 4096 }
 
+-- `run_tests` took this: what its own turn asks for is done, and the test of that turn is to start
 abbrev pub acted : Service → Given → Act → Turn → Turn
 acted s g act t =
     all_asked s.channel act.asks (record t {
@@ -77,6 +84,7 @@ acted s g act t =
       run = act.run;
     })
 
+-- something comes to this call of `run_tests`, if it was called
 abbrev pub fed_to : Option Service → Input → ℕ → Turn → Turn
 fed_to None i n t = t
 fed_to (Some s) i n t = acted s (given_in s i n) (turn_after s.given (given_in s i n)) t
@@ -87,18 +95,22 @@ fed i n t = fed_to t.duties.service i n t
 
 -- ---- calls
 
+-- a refused call ends with the error of its reason
 abbrev pub refused : ℕ → CallFault → Turn → Turn
 refused n fault t = at_talk (function_ended n (Some (fault_text fault)) None) t
 
+-- `fail` ends at once with its text, or with `fail` where it has none or one that no message can hold
 abbrev pub failed : ℕ → Option (List ℕ) → Turn → Turn
 failed n text t = at_talk (function_ended n (Some (unwrap_or text (codes "fail"))) (Some (codes "fail"))) t
 
+-- `echo` begins: what comes on its channel is handed to it
 abbrev pub echo_begun : ℕ → Turn → Turn
 echo_begun n t = record t {
   talk = function_begun n t.talk;
   duties = record (t.duties) { echoes = t.duties.echoes ++ n ∷ [] };
 }
 
+-- `run_tests` begins: it tells `workerready`, and asks for its suite file
 abbrev pub tests_begun : ℕ → List ℕ → ModeKind → Turn → Turn
 tests_begun n path mode t = record t {
   talk = told n Ready (function_begun n t.talk);
@@ -109,6 +121,7 @@ tests_begun n path mode t = record t {
   suite = Some path;
 }
 
+-- what becomes of a CHANNEL_EXEC on this channel: a function begins, or the call is refused
 abbrev pub called : ℕ → Called → Turn → Turn
 called n (Runs function.Echo) t = echo_begun n t
 called n (Runs (function.Fail text)) t = failed n text t
@@ -122,9 +135,11 @@ is_called (Some s) = true
 
 -- ---- `echo`
 
+-- these numbers without one
 abbrev pub without : ℕ → List ℕ → List ℕ
 without n ns = filter (λ m. not (m == n)) ns
 
+-- `echo` ends, with the text of an error or without one
 abbrev pub echo_ended : ℕ → Option (List ℕ) → Turn → Turn
 echo_ended n text t = record t {
   talk = function_ended n text None t.talk;
@@ -137,6 +152,7 @@ echoed_how how.Said n v t = at_talk (sent n v) t
 echoed_how how.LeftOut n v t = t
 echoed_how how.Unwritten n v t = echo_ended n (Some (codes "item is too long")) t
 
+-- an item comes to `echo`, which sends it back
 abbrev pub echoed : ℕ → Tree → Turn → Turn
 echoed n v t = echoed_how (sent_how (payload_on n v t.talk.table)) n v t
 
@@ -151,7 +167,7 @@ is_service (Some s) n = s.channel == n
 abbrev pub stopped : ℕ → Turn → Turn
 stopped n t = fed input.Stop n (record t { duties = record (t.duties) { stopped = true } })
 
--- a message that did this; so many channels are in the table
+-- what a message does that the side took so; n channels are in the table
 abbrev pub did : Taken Tree → ℕ → Turn → Turn
 did (Status k) n t = at_talk (status_told k n (executing t.duties)) t
 did (Exec k v) n t = called k (called_in (is_called t.duties.service) v) t
@@ -162,21 +178,24 @@ did (Kept k) n t = t
 did (EndKept k) n t = t
 did Dropped n t = t
 
--- behind GATEWAY_TERMINATE and the link's end nothing is said
+-- after GATEWAY_TERMINATE and the link's end a message does nothing
 abbrev pub did_unless : Bool → Taken Tree → ℕ → Turn → Turn
 did_unless true a n t = t
 did_unless false a n t = did a n t
 
+-- a message is taken: first the channels change, and then it does what it asks for
 abbrev pub took : Said → ℕ → Turn → Turn
 took said n t =
     did_unless t.duties.stopped (answer said t.talk.table) n (at_talk (λ d. record d { table = heard said d.table }) t)
 
 -- ---- the suite
 
+-- there is a payload
 abbrev pub is_ok : {F : Type 0} → Result (List ℕ) F → Bool
 is_ok (Ok b) = true
 is_ok (Err f) = false
 
+-- a value that is there and has a payload
 abbrev pub is_written : Option Tree → Bool
 is_written None = false
 is_written (Some v) = is_ok (dumped v)
@@ -185,18 +204,21 @@ is_written (Some v) = is_ok (dumped v)
 abbrev pub suite_input : List (List ℕ) → Input
 suite_input ids = if is_written (event_tree (Collected ids)) then input.Suite ids else input.SuiteRefused (codes "suite is too large")
 
+-- the ids of these tests in the mode that `run_tests` was called with
 abbrev pub ids_of : Option Service → List Test → List (List ℕ)
 ids_of None ts = []
 ids_of (Some s) ts = ids_in s.mode ts
 
+-- the suite that was owed came: `run_tests` gets the ids of its tests
 abbrev pub suite_read : List Test → ℕ → Turn → Turn
 suite_read ts n t =
     fed (suite_input (ids_of t.duties.service ts)) n (record t { duties = record (t.duties) { owed = false; tests = ts } })
 
+-- no suite came of what was owed: `run_tests` gets the reason
 abbrev pub suite_refused : List ℕ → ℕ → Turn → Turn
 suite_refused text n t = fed (input.SuiteRefused text) n (record t { duties = record (t.duties) { owed = false } })
 
--- ---- one input, behind which so many channels are in the table
+-- what one input does, after which n channels are in the table
 abbrev pub turned : Came → ℕ → Turn → Turn
 turned (Told said) n t = took said n t
 turned (SuiteRead ts) n t = if t.duties.owed then suite_read ts n t else t

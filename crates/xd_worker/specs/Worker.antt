@@ -26,6 +26,7 @@ pub record Duties : Type 0 where
   pub owed : Bool
   pub tests : List Test
 
+-- a worker between two inputs: its channels, and what it does beside them
 pub record Worker : Type 0 where
   pub table : Table
   pub duties : Duties
@@ -43,19 +44,24 @@ pub record Turn : Type 0 where
   pub run : Option ℕ
   pub logs : List Opening
 
+-- the log that an event opens: `logstart` names one, the other events none
 abbrev pub opened_by : What → Table → List Opening
 opened_by (LogStart n log) t = record { number = log; table = t } ∷ []
 opened_by _ t = []
 
+-- nothing was called and nothing is to be done
 abbrev pub idle : Duties
 idle = record { stopped = false; service = None; echoes = []; owed = false; tests = [] }
 
+-- a worker to which nothing has come yet
 abbrev pub new_worker : Worker
 new_worker = record { table = empty; duties = idle }
 
+-- a worker before anything was done in this turn
 abbrev pub turn_of : Worker → Turn
 turn_of w = record { talk = record { table = w.table; says = [] }; duties = w.duties; suite = None; run = None; logs = [] }
 
+-- the worker after a turn
 abbrev pub behind : Turn → Worker
 behind t = record { table = t.talk.table; duties = t.duties }
 
@@ -64,6 +70,7 @@ abbrev pub running_in : Option Service → Option ℕ
 running_in None = None
 running_in (Some s) = running_test (call_after s.given)
 
+-- 1 where `run_tests` was called and its function has not ended, and else 0
 abbrev pub serving : Option Service → ℕ
 serving None = 0
 serving (Some s) = if s.ended then 0 else 1

@@ -20,7 +20,7 @@ pub enum WorkerInput {
     SuiteUnread,
     /// A piece of the running test's output.
     Output(Blob),
-    /// The running test ended, after so many milliseconds.
+    /// The running test ended, after that many milliseconds.
     ChildDone { outcome: Outcome, ms: u64 },
     /// No more messages come.
     LinkEnd,

@@ -37,7 +37,7 @@ impl TestsCall {
         self.function.runs()
     }
 
-    // The table of so many channels is not full, the log of the running test apart.
+    // A table with that many channels is not full, the log of the running test apart.
     fn has_room(&self, channels: u32) -> bool
         ensures { (s : Service) (i : Input) → IsService self.now s → result ≡ (given_in s i channels).room }
     {
@@ -64,7 +64,7 @@ impl TestsCall {
 ghost use Rattle.xd_worker.specs.Worker.{Service};
 ghost use Rattle.xd_worker.specs.Stands.{AreServices, HasFed};
 
-/// Something comes to the function, where it was called. So many channels are in the table.
+/// Something comes to the function, where it was called; `channels` says how many channels are in the table.
 pub fn feed(
     tests_call: &mut Option<TestsCall>,
     input: Input,

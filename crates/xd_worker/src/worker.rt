@@ -158,7 +158,8 @@ impl WorkerCore {
         }
     }
 
-    /// A suite file was asked for, and neither its bytes nor a refusal came yet. Behind a fault it says what it said before.
+    /// A suite file was asked for, and neither its bytes nor a refusal came yet. After a fault it says what it said
+    /// before.
     pub fn awaits_suite(&self) -> bool
         ensures owed { (h : List Heard) → StandsFor self.now h → result ≡ (worker_after h).duties.owed }
         ensures at_fault { (w : Worker) → AskedAtFault self.now w → result ≡ w.duties.owed }
@@ -169,7 +170,7 @@ impl WorkerCore {
         }
     }
 
-    /// The test that runs. Behind a fault it says what it said before.
+    /// The test that runs. After a fault it says what it said before.
     pub fn runs(&self) -> Option<u32>
         ensures running { (h : List Heard) → StandsFor self.now h → result ≡ running_in (worker_after h).duties.service }
         ensures command { (h : List Heard) (test : ℕ) → StandsFor self.now h → result ≡ Some test → HasTest self.now test }

@@ -1,5 +1,5 @@
--- What is left of the line of a call that runs nothing. That a test waits until another entry stands behind it is the rule of
--- pytest-xdist's `remote.py`.
+-- What is left of the line of a call that runs nothing. That a test waits until another entry stands after it is the
+-- rule of pytest-xdist's `remote.py`.
 use Rattle.std.specs.Prelude.{◌≡◌, ◌⊎◌, ℕ, List, [], ◌∷◌, false}
 use Rattle.xd_run_tests.specs.declared.phase.Phase.TheVariants.{Serving}
 use Rattle.xd_run_tests.specs.declared.line_entry.LineEntry.{LineEntry}
@@ -15,6 +15,6 @@ IsIdle ps = (ps ≡ []) ⊎ ((n : ℕ) × (ps ≡ Test n ∷ []))
 abbrev pub WaitsForNext : Call → Type 0
 WaitsForNext c = c.phase ≡ Serving → c.running ≡ false → IsIdle (left c)
 
--- Whatever comes.
+-- Whatever comes, a call that serves and runs nothing has no more than one test left.
 abbrev pub IdleLaw : Type 0
 IdleLaw = (h : List Given) → WaitsForNext (call_after h)

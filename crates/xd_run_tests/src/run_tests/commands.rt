@@ -27,7 +27,7 @@ impl RunTests {
         }
     }
 
-    /// Puts a test behind the queue. The answer is false where it is beyond the suite or stands in the line.
+    /// Puts a test at the queue's end. The answer is false where it is beyond the suite or stands in the line.
     fn append(&mut self, test: u32) -> Result<bool, OutOfMemory>
         ensures others { self.new ≡ record self.old { queue = self.new.queue; stands = self.new.stands } }
         ensures appends { IfOk result (Appends self.old.stands.items self.old.queue.items self.new.stands.items self.new.queue.items (test ∷ [])) }
@@ -40,7 +40,7 @@ impl RunTests {
         Ok(true)
     }
 
-    /// Puts tests behind the queue. Where the answer is false the queue is of no use from then on.
+    /// Puts tests at the queue's end. Where the answer is false the queue is of no use from then on.
     fn append_all(&mut self, tests: &[u32]) -> Result<bool, OutOfMemory>
         ensures others { OnOk result (self.new ≡ record self.old { queue = self.new.queue; stands = self.new.stands }) }
         ensures appends { IfOk result (Appends self.old.stands.items self.old.queue.items self.new.stands.items self.new.queue.items tests.now) }
@@ -53,7 +53,7 @@ impl RunTests {
         Ok(true)
     }
 
-    /// Tests are given: they stand behind the line, or the command is bad.
+    /// Tests are given: they stand at the line's end, or the command is bad.
     fn give(&mut self, acts: &mut Acts, tests: &[u32], room: bool) -> Result<(), OutOfMemory>
         ensures { (t : Turn) → t.call.phase ≡ Serving → Stands self.old acts.old t → OnOk result (Stands self.new acts.new (given room tests.now t)) }
     {
@@ -73,7 +73,7 @@ impl RunTests {
         Ok(())
     }
 
-    /// A shutdown mark stands behind the line.
+    /// A shutdown mark stands at the line's end.
     fn shut(&mut self, acts: &mut Acts, room: bool) -> Result<(), OutOfMemory>
         ensures { (t : Turn) → t.call.phase ≡ Serving → Stands self.old acts.old t → OnOk result (Stands self.new acts.new (told room (Some Shutdown) t)) }
     {
@@ -108,7 +108,7 @@ impl RunTests {
         }
     }
 
-    /// An item of the channel. Ahead of the collection it waits, and behind an end it is left out.
+    /// An item of the channel. Before the collection it waits, and after an end it is left out.
     pub(super) fn hear(
         &mut self,
         acts: &mut Acts,

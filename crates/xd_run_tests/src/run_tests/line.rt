@@ -98,7 +98,7 @@ impl RunTests {
         }
     }
 
-    /// Where nothing runs, a mark that is reached ends the function, and a test with an entry behind it starts.
+    /// Where nothing runs, a mark that is reached ends the function, and a test with an entry after it starts.
     fn move_on(&mut self, acts: &mut Acts, room: bool) -> Result<(), OutOfMemory>
         ensures { (t : Turn) → t.call.phase ≡ Serving → self.old.running ≡ None → Stands self.old acts.old t → OnOk result (Stands self.new acts.new (moved_on room (left t.call) t)) }
     {

@@ -62,7 +62,7 @@ impl RunTests {
         }
     }
 
-    /// The function serves a suite of so many tests from now on. What waited is handed out.
+    /// The function serves a suite of that many tests from now on. What waited is handed out.
     fn open(&mut self, size: u32) -> Result<VecDeque<Option<Order>>, OutOfMemory>
         ensures waited { IfOk result (λ w. w.items ≡ self.old.waiting.items) }
         ensures opened { (c : Call) → IsCall self.old c → OnOk result (IsCall self.new (opened size c)) }

@@ -2,11 +2,11 @@
 // crate. Most were drawn at random, some are of kinds that chance draws seldom.
 //
 // A line is one list, its steps parted by `|`. A step is an input, `=`, what is asked for parted by `;`, and `!` with
-// the test that starts. A `~` ahead of an input says that the table of channels is full.
+// the test that starts. A `~` before an input says that the table of channels is full.
 //
 // Inputs: R, S with numbers are `runtests` and `steal`, A `runtests_all`, M `shutdown`, N no command, H the end of the
-// receiving direction, I a suite of so many tests `t0`, `t1`, .., U no suite with the reason, O so many bytes of output,
-// D the end of the test (p, s or f with a code, then milliseconds), Q the end of the worker.
+// receiving direction, I a suite of that many tests `t0`, `t1`, .., U no suite with the reason, O that many bytes of
+// output, D the end of the test (p, s or f with a code, then milliseconds), Q the end of the worker.
 //
 // Asks: C with ids, L a start with its log, P output of a log with its count of bytes, X the close of a log, D the end
 // of a test, B with the tests given back, F finished, E the end with its error or without one.

@@ -6,14 +6,14 @@
 // Inputs: a message ends in `@` with its channel where that is not 1. R, S with tests are `runtests` and `steal`, A
 // `runtests_all`, M `shutdown`; c and i with a letter are a CHANNEL_EXEC and an item with that one of the payloads
 // below; s is a STATUS, r a RECONFIGURE, x a CHANNEL_CLOSE, e a CHANNEL_CLOSE_ERROR with a text, n one without, l a
-// CHANNEL_LAST_MESSAGE, G a GATEWAY_TERMINATE. I is the bytes of a suite of so many tests `t0`, `t1`, .., Y bytes that
-// are no TOML, U and Z a suite that cannot be read or is too large, O so many bytes of output, D the end of the test (p,
-// s or f with a code, then milliseconds), Q the end of the link.
+// CHANNEL_LAST_MESSAGE, G a GATEWAY_TERMINATE. I is the bytes of a suite of that many tests `t0`, `t1`, .., Y bytes
+// that are no TOML, U and Z a suite that cannot be read or is too large, O that many bytes of output, D the end of the
+// test (p, s or f with a code, then milliseconds), Q the end of the link.
 //
 // What is said begins with its channel where that is not 1: W ready, C the collection, L a start with its log, D the end
-// of a test, B the tests given back, F finished, P so many bytes, T the answer to a STATUS, V an integer, N a text, K a
-// list of channels, X a close, E a close with an error. `?` is a suite file to read, `!` a test to start, `.` that the
-// worker is to end, and `#` the refusal of a message.
+// of a test, B the tests given back, F finished, P that many bytes, T the answer to a STATUS, V an integer, N a text, K
+// a list of channels, X a close, E a close with an error. `?` is a suite file to read, `!` a test to start, `.` that
+// the worker is to end, and `#` the refusal of a message.
 pub(crate) const HISTORIES: &str = "\
      ca=W;?s.toml|R1,2,0=|I3=Ct0,t1,t2;L1@2;!1|O4096=2P4096|M=|Df1:5=2X;D1:f1:5;L2@4;!2|O4096=4P4096|O4096=4P4096|M=|O4095=|M=|l@4=|Dp:1=D2:p:1;L0@6;!0|ia@6=|Dp:7=6X;D0:p:7;F;X\n\
      ca=W;?s.toml|R0,3,2=|I4=Ct0,t1,t2,t3;L0@2;!0|Df-1:1=2X;D0:f-1:1;L3@4;!3|Dp:0=4X;D3:p:0|S=B|s@0=#BadNumber|e@4=#BadNumber\n\

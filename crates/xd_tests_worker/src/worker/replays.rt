@@ -233,7 +233,7 @@ fn what_is_said_and_started_is_what_the_model_says(rt: HostRuntime) -> Result<()
     Ok(())
 }
 
-// So many channels more are in the table.
+// Puts that many channels more into the table.
 fn fill(alloc: Global, worker: &mut WorkerCore, count: u32) -> Result<(), Fail> {
     if count > 5000 {
         return Err(Fail::from("few channels"));

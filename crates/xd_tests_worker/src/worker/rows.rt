@@ -158,7 +158,7 @@ fn two_steals_are_answered(rt: HostRuntime) -> Result<(), Fail> {
     Ok(())
 }
 
-// Takes an input; the worker stands for some inputs, and so it does behind it.
+// Takes an input; the worker stands for some inputs, and so it does after it.
 fn take(worker: &mut WorkerCore, input: WorkerInput) -> Result<(), Fail>
     ensures { Stood worker.old → OnOk result (Stood worker.new) }
 {

@@ -136,7 +136,7 @@ impl WorkerCore {
         }
     }
 
-    // Behind GATEWAY_TERMINATE nothing is done.
+    // After GATEWAY_TERMINATE and the link's end nothing is done.
     fn act_unless_stopped(
         &mut self,
         acts: &mut WorkerActions,
