@@ -37,7 +37,7 @@ pub record Whole (given : List News) (j : Journal) (old new : Scene) : Type 0 wh
   pub performed : Performs j.entries.items old.starts new.starts old.calls new.calls
   pub shows : ShowsEnd true (text_of j) old.sunk new.sunk
 
--- The output failed: so many entries were performed, each behind its lines, and of the others the kills of the workers
+-- The output failed: `count` entries were performed, each after its lines, and of the others the kills of the workers
 -- that these had started; of the report a first part was taken.
 pub record Broken (count : ℕ) (given : List News) (j : Journal) (old new : Scene) : Type 0 where
   pub ended : Ended true given j

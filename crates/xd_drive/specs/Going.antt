@@ -42,7 +42,7 @@ pub record Going (given : List News) (s : Seen) (old new : Scene) : Type 0 where
   pub started : (w : ℕ) → (new.marks w).started ≡ was_started w s.entries
   pub shows : ShowsSome (run_lines s.settings s.entries) old.sunk new.sunk
 
--- The output failed: so many entries were performed, and of what is left, and of the end, the kills of the workers that
+-- The output failed: `count` entries were performed, and of what is left, and of the end, the kills of the workers that
 -- were started can be asked for.
 pub record Stopped (given : List News) (count : ℕ) (s : Seen) (old new : Scene) : Type 0 where
   pub stands : StandsFor (taken_of s.settings given) s
@@ -58,7 +58,7 @@ abbrev pub added : State → Option Entry → List Entry
 added s None = []
 added s (Some e) = e ∷ outputs s e
 
--- what a piece of news adds to the journal of the run behind these
+-- what a piece of news adds to the journal of the run after these
 abbrev pub added_by : Settings → List News → News → List Entry
 added_by settings taken n = added (run_of settings taken).state (input_of (run_of settings taken) n)
 
@@ -90,6 +90,7 @@ pub record Untold (n : News) (count : ℕ) (more : List Entry) (s_old s_new : Se
       → (slots : ℕ) → all_possible slots new.marks (kills_of_started done (more ++ ending true (state_of s_new).books)) ≡ true
   pub shows : TookPart (lines_from (all_moved (no_one s_old.settings) s_old.entries) more) old.sunk new.sunk
 
+-- What one piece of news adds was printed and performed, or the output failed at its lines.
 abbrev pub TellsNews : News → Written → Seen → Seen → Scene → Scene → Type 0
 TellsNews n Whole s_old s_new old new = (more : List Entry) × Told more s_old s_new old new
 TellsNews n (Broken count) s_old s_new old new = (more : List Entry) × Untold n count more s_old s_new old new
@@ -109,12 +110,12 @@ pub record Finished (given : List News) (s : Seen) (old new : Scene) : Type 0 wh
   pub over : is_over (state_of s).books ≡ true
   pub shows : ShowsEnd true (run_text s.settings s.entries) old.sunk new.sunk
 
--- How the run came to its end, where the output failed with so many entries performed.
+-- How the run came to its end: it is over, or the output failed with `count` entries performed.
 abbrev pub EndsRun : Written → Seen → Scene → Scene → Type 0
 EndsRun Whole s old new = (given : List News) × Finished given s old new
 EndsRun (Broken count) s old new = (given : List News) × Stopped given count s old new
 
--- The tail of the journal was printed and the output closed; or, where it failed, so many entries had been performed.
+-- The tail of the journal was printed and the output closed; or, where it failed, all entries had been performed.
 abbrev pub EndsTail : Written → Journal → Option Sunk → Option Sunk → Type 0
 EndsTail Whole j old new = ShowsEnd true (tail_text j) old new
 EndsTail (Broken count) j old new = (count ≡ length j.entries.items) × ShowsEnd false (tail_text j) old new

@@ -37,8 +37,8 @@ abbrev pub NotesNews : Written → Seen → Seen → Scene → Scene → Option 
 NotesNews Whole s_old s_new old new before after = NotesTurn true old new before after ⊎ ((s_new.entries ≡ s_old.entries) × (after ≡ before))
 NotesNews (Broken count) s_old s_new old new before after = after ≡ before
 
--- At this moment the hub had been called for no more than entries ahead of the one at this place, and the output had taken and
--- handed on the lines of that entry and of all ahead of it.
+-- At this moment the hub had been called for no more than entries before the one at this place, and the output had taken and
+-- handed on the lines of that entry and of all before it.
 pub record IsBetween (settings : Settings) (es : List Entry) (place : ℕ) (old m : Scene) : Type 0 where
   pub called : ℕ
   pub ahead : called ≤ place
@@ -48,7 +48,7 @@ pub record IsBetween (settings : Settings) (es : List Entry) (place : ℕ) (old 
   pub within : told ≤ length es
   pub shows : ShowsSome (run_lines settings (take told es)) old.sunk m.sunk
 
--- Each of the first so many entries had such a moment ahead of it.
+-- Each of the first `count` entries had such a moment before it.
 abbrev pub InOrder : Settings → ℕ → List Entry → Scene → List Scene → Type 0
 InOrder settings count es old moments = (place : ℕ) → place < count → Any (λ m. IsBetween settings es place old m) moments
 
@@ -56,7 +56,7 @@ InOrder settings count es old moments = (place : ℕ) → place < count → Any 
 abbrev pub ToldInOrder : Settings → ℕ → List Entry → Scene → Option (List Scene) → Type 0
 ToldInOrder settings count es old seen = IfSome seen (InOrder settings count es old)
 
--- how many entries were performed: all, or where the output failed so many
+-- how many entries were performed: all, or `count` where the output failed
 abbrev pub performed_of : Written → List Entry → ℕ
 performed_of Whole es = length es
 performed_of (Broken count) es = count

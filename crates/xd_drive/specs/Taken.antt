@@ -5,7 +5,7 @@ use Rattle.xd_journal.specs.declared.news.News.{News}
 use Rattle.xd_ledger.specs.Workers.{is_active}
 use Rattle.xd_session.specs.History.{run_of}
 
--- behind these news a further one is taken where its worker is active
+-- after these news a further one is taken where its worker is active
 abbrev pub taken_with : Settings → List News → News → List News
 taken_with settings taken n = if is_active n.worker (run_of settings taken).state.books then taken ++ n ∷ [] else taken
 

@@ -91,7 +91,7 @@ fn run<R: Wait, M: Mode, H: Hub, O: Sink, W: Witness<H, O>>(
 ///
 /// The hub is made of what it was made of before.
 ///
-/// The witness looks at the hub and the output at moments: for each entry once behind its lines and ahead of its performing,
+/// The witness looks at the hub and the output at moments: for each entry once after its lines and before its performing,
 /// which the two as they stand at the end could not show. Clauses alone read what it saw.
 ///
 /// Where memory is refused it returns as it stands: the workers that the hub started are left to the hub's owner to end.

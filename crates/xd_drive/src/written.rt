@@ -5,6 +5,6 @@
 pub enum Written {
     /// All of it.
     Whole,
-    /// The output failed. So many entries of the journal had been performed.
+    /// The output failed. That many entries of the journal had been performed.
     Broken { performed: usize },
 }

@@ -12,6 +12,7 @@ pub record Asked : Type 0 where
   pub killed : Bool
   pub reaped : Reaped
 
+-- what was asked of a link, as the starter tells it
 abbrev pub asked_of : LinkRun → Asked
 asked_of l = record { killed = l.killed; reaped = l.reaped }
 
@@ -20,6 +21,7 @@ pub record Told : Type 0 where
   pub starts : List StartRun
   pub links : List Asked
 
+-- these two, of all that a starter tells
 abbrev pub told_of : Begun → Told
 told_of b = record { starts = b.starts; links = map asked_of b.links }
 
@@ -61,9 +63,11 @@ starts_told o = option_map (λ b. b.starts) o
 abbrev pub fresh_child : ℕ → Child
 fresh_child link = record { link = link; is_killed = false; is_reaped = false }
 
+-- the child once its kill was asked for
 abbrev pub killed_child : Child → Child
 killed_child c = record { link = c.link; is_killed = true; is_reaped = c.is_reaped }
 
+-- the child once it was waited for
 abbrev pub reaped_child : Child → Child
 reaped_child c = record { link = c.link; is_killed = c.is_killed; is_reaped = true }
 

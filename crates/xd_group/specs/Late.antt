@@ -14,9 +14,11 @@ pub record Settled : Type 0 where
   pub told : List Entry
   pub said : List What
 
+-- what stays of this page
 abbrev pub settled_of : Page → Settled
 settled_of p = record { suite = p.suite; mode = p.mode; told = p.told; said = p.said }
 
+-- what stays of the page, where there is one
 abbrev pub settled_at : Option Page → Option Settled
 settled_at None = None
 settled_at (Some p) = Some (settled_of p)
@@ -26,6 +28,7 @@ pub record Late (first : List (Option Settled)) (taken : List (Option (List Link
   pub takes : map taken_of pages ≡ taken
   pub same : (k : ℕ) (p : Page) → slice_get pages k ≡ Some (Some p) → (slice_get first k ≡ Some (Some (settled_of p))) × (p.known ≡ true)
 
+-- the page after one more item of its link, with all that was heard late by then
 abbrev pub late_page : LinkNews → List What → Page → Page
 late_page item late p = record { suite = p.suite; mode = p.mode; taken = p.taken ++ item ∷ []; told = p.told; said = p.said; late = late; known = true }
 

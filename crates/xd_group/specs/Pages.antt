@@ -7,6 +7,7 @@ use Rattle.xd_journal.specs.declared.news.What.{What}
 use Rattle.xd_reader.specs.declared.news.LinkNews.{LinkNews}
 use Rattle.xd_drive.specs.Marks.{is_end}
 
+-- there are no news
 abbrev pub is_nothing : List What → Bool
 is_nothing [] = true
 is_nothing (x ∷ xs) = false
@@ -22,15 +23,19 @@ pub record Page : Type 0 where
   pub late : List What
   pub known : Bool
 
+-- the page of a worker that was called with this suite and mode: nothing was taken, told or said yet
 abbrev pub first_page : List ℕ → ModeKind → Page
 first_page suite mode = record { suite = suite; mode = mode; taken = []; told = []; said = []; late = []; known = true }
 
+-- the page after one more order to its worker
 abbrev pub told_page : Entry → Page → Page
 told_page e p = record { suite = p.suite; mode = p.mode; taken = p.taken; told = p.told ++ e ∷ []; said = p.said; late = p.late; known = true }
 
+-- the page after one more item of its link, and the news that the item is, if any
 abbrev pub heard_page : LinkNews → Option What → Page → Page
 heard_page item what p = record { suite = p.suite; mode = p.mode; taken = p.taken ++ item ∷ []; told = p.told; said = p.said ++ option_to_list what; late = p.late; known = true }
 
+-- what was taken of the link, where it has a page
 abbrev pub taken_of : Option Page → Option (List LinkNews)
 taken_of None = None
 taken_of (Some p) = Some p.taken
@@ -43,6 +48,7 @@ ToldAt e k old new = (p : Page) → slice_get old k ≡ Some (Some p) → new �
 abbrev pub HeardAt : LinkNews → Option What → ℕ → List (Option Page) → List (Option Page) → Type 0
 HeardAt item what k old new = (p : Page) → slice_get old k ≡ Some (Some p) → new ≡ slice_set old k (Some (heard_page item what p))
 
+-- the link at the place has a page
 abbrev pub HasPage : List (Option Page) → ℕ → Type 0
 HasPage pages k = (p : Page) × (slice_get pages k ≡ Some (Some p))
 

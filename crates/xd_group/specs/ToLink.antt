@@ -41,7 +41,7 @@ is_farewell _ = false
 abbrev pub has_left : List What → Bool
 has_left news = list_any is_farewell news
 
--- GATEWAY_TERMINATE is sent once, behind that
+-- GATEWAY_TERMINATE is sent once, after that
 abbrev pub ending : Bool → List MessageView
 ending true = terminate_message ∷ []
 ending false = []

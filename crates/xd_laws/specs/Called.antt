@@ -16,7 +16,7 @@ pub record Called (c : Call) (s : State) : Type 0 where
   pub table : (all_moved s (acts_of c s)).books.table ≡ (turned s.plan.mode c (turn_of s)).table
   pub plan : (all_moved s (acts_of c s)).plan ≡ (turned s.plan.mode c (turn_of s)).plan
 
--- the state is one behind the inputs of a proper run and all that follows them
+-- the state is that after the inputs of a proper run and all that follows them
 pub record Reached (s : State) : Type 0 where
   pub settings : Settings
   pub inputs : List Entry

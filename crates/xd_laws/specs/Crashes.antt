@@ -11,7 +11,7 @@ use Rattle.xd_ledger.specs.State.{state_at}
 use Rattle.xd_ledger.specs.Reports.{Report, reports}
 
 -- At a place of the journal the worker went down, the item was the first that it held there, it was not to be tried again,
--- and the reports of the entries ahead of that place are these.
+-- and the reports of the entries before that place are these.
 pub record IsDeath (settings : Settings) (es : List Entry) (earlier : List Report) (worker item : ℕ) : Type 0 where
   pub before : List Entry
   pub cause : Cause

@@ -4,6 +4,7 @@ use Rattle.std.specs.List.{list_any}
 use Rattle.xd_journal.specs.declared.entry.Entry.{Entry}
 use Rattle.xd_journal.specs.declared.entry.Entry.TheVariants.{Collected}
 
+-- the entry is a worker's collection
 abbrev pub is_collection : Entry → Bool
 is_collection (Collected worker given) = true
 is_collection _ = false

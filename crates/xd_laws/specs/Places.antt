@@ -11,6 +11,7 @@ use Rattle.xd_ledger.specs.Retry.{is_retry}
 use Rattle.xd_ledger.specs.Sharing.{State}
 use Rattle.xd_ledger.specs.State.{moved, next, no_one, reached}
 
+-- where an item stands: in the pool, with a worker, or among the reported ones
 pub data Place : Type 0 where
   InPool : Place
   HeldBy : (worker : ℕ) → Place
@@ -21,7 +22,7 @@ abbrev pub brings_share : State → Entry → Bool
 brings_share s e = not s.books.shared && (moved s e).books.shared
 
 -- where the entry puts the item, where it moves it: a Run or a RunAll gives it to a worker, its result and the death of
--- the worker at whose head it stands report it, and the share, its return, the death of a worker that holds it behind the
+-- the worker at whose head it stands report it, and the share, its return, the death of a worker that holds it after the
 -- head, and that of a worker at whose head it stands where it is tried again bring it to the pool
 abbrev pub puts : State → Entry → ℕ → Option Place
 puts s (Run w indices) x = if among x (items_named (slot_of w s.books) indices s.plan) then Some (HeldBy w) else None
@@ -39,7 +40,7 @@ abbrev pub or_before : Option Place → Option Place → Option Place
 or_before None before = before
 or_before (Some later) before = Some later
 
--- where the last of these entries behind a state puts the item, else this place
+-- where the last of these entries after a state puts the item, else this place
 abbrev pub put_last : State → List Entry → ℕ → Option Place → Option Place
 put_last s [] x place = place
 put_last s (e ∷ es) x place = put_last (next s e) es x (or_before (puts (reached s e) e x) place)

@@ -27,6 +27,7 @@ is_death (Down worker cause output) = true
 is_death (NotStarted worker) = true
 is_death _ = false
 
+-- this worker went down, or could not be started
 abbrev pub is_death_of : ℕ → Entry → Bool
 is_death_of worker (Down w cause output) = w == worker
 is_death_of worker (NotStarted w) = w == worker
@@ -67,7 +68,7 @@ pub record IsRefusal (last : Entry) (worker : ℕ) : Type 0 where
   pub text : List ℕ
   pub last_is : last ≡ Refused worker text
 
--- the entry brings this stop, behind these entries
+-- the entry brings this stop, after these entries
 abbrev pub Brings : Settings → List Entry → Entry → RunStop → Type 0
 Brings settings before last (MaxFail count) = ReachesLimit settings before last count
 Brings settings before last (Restarts worker limit) = IsTooMany settings before last worker limit

@@ -20,13 +20,13 @@ ghost use Rattle.xd_laws.specs.Once.{IsOnce};
 ghost use Rattle.xd_laws.specs.Reported.{AreOnce};
 ghost use Rattle.xd_laws.specs.Whole.{EndsRightly, IsWhole, NamesEach};
 
-/// In every mode, whatever proper inputs come, what is told behind them is in order: each output asks for what is
+/// In every mode, whatever proper inputs come, what is told after them is in order: each output asks for what is
 /// possible where it stands.
 pub fn order_law()
     ensures { (settings : Settings) (inputs : List Entry) → IsProper settings inputs → is_orderly_run (begun settings) inputs ≡ true }
 {}
 
-/// In every mode, behind whatever proper inputs, each test of the run stands in one place: in the pool, held by a
+/// In every mode, after whatever proper inputs, each test of the run stands in one place: in the pool, held by a
 /// worker, or reported.
 pub fn one_place_law()
     ensures { (settings : Settings) (inputs : List Entry) → IsProper settings inputs → IsOnce (stepped_all (begun settings) inputs) }
@@ -61,14 +61,14 @@ pub fn early_law()
     ensures { (settings : Settings) (inputs : List Entry) → IsProper settings inputs → (before : List Entry) (after : List Entry) → journal_of settings inputs ≡ before ++ after → has_collection before ≡ false → reports settings before ≡ [] }
 {}
 
-/// In every mode, behind each part of a journal, an item stands where the last entry of that part that moves it put it, and
+/// In every mode, after each part of a journal, an item stands where the last entry of that part that moves it put it, and
 /// nowhere where none did.
 pub fn place_law()
     ensures { (settings : Settings) (inputs : List Entry) → IsProper settings inputs → (before : List Entry) (after : List Entry) → journal_of settings inputs ≡ before ++ after → (item : ℕ) → StandsAt (state_at settings before).books.table item (place_by settings before item) }
 {}
 
-/// In every journal each crash among the reports is the entry by which its worker went down, behind the entries of the reports
-/// ahead of it, and its test was the first that the worker held there and was not to be tried again.
+/// In every journal each crash among the reports is the entry by which its worker went down, after the entries of the reports
+/// before it, and its test was the first that the worker held there and was not to be tried again.
 pub fn crash_law()
     ensures { (settings : Settings) (es : List Entry) (earlier : List Report) (later : List Report) (worker : ℕ) (item : ℕ) → reports settings es ≡ earlier ++ Crash worker item ∷ later → IsDeath settings es earlier worker item }
 {}

@@ -1,9 +1,10 @@
 -- Lists of the numbers below some number, each in one of them at most, kept by their neighbours: for each place the one
--- behind it and the one before it. The places are the numbers, and behind them an end for each list, which stands before
--- its first number and behind its last.
+-- after it and the one before it. The places are the numbers, and after them an end for each list, which stands before
+-- its first number and after its last.
 use Rattle.std.specs.Prelude.{◌≡◌, ℕ, zero, suc, ◌+◌, ◌==◌, ◌≤◌, ◌<◌, Bool, true, false, List, [], ◌∷◌, ◌++◌, take, drop, length, get_or, Option, Some, None, if◌then◌else◌}
 use Rattle.xd_ledger.specs.Numbers.{times, without}
 
+-- the number that stands at the place; 0 where none does
 abbrev pub at : List ℕ → ℕ → ℕ
 at xs i = get_or xs i 0
 
@@ -11,10 +12,11 @@ at xs i = get_or xs i 0
 abbrev pub no_chain : ℕ
 no_chain = 4294967295
 
+-- the list in which the number stands; `no_chain` where it stands in none
 abbrev pub owner_of : List ℕ → ℕ → ℕ
 owner_of owner x = get_or owner x no_chain
 
--- so many numbers, from this one on
+-- n numbers that follow one another, from this one on
 abbrev pub walk : List ℕ → ℕ → ℕ → List ℕ
 walk next i zero = []
 walk next i (suc n) = i ∷ walk next (at next i) n
@@ -45,7 +47,7 @@ items_of l = length l.owner
 abbrev pub chains_of : Lists → ℕ
 chains_of l = length l.counts
 
--- the lists behind a change of one
+-- the lists after a change of one
 abbrev pub changed : ℕ → List ℕ → (ℕ → List ℕ) → ℕ → List ℕ
 changed k xs lists j = if k == j then xs else lists j
 
@@ -54,6 +56,7 @@ abbrev pub Nexts : List ℕ → ℕ → List ℕ → ℕ → Type 0
 Nexts next u [] end = at next u ≡ end
 Nexts next u (x ∷ xs) end = (at next u ≡ x) × Nexts next x xs end
 
+-- from the end the numbers lead back, one after another, to the place `u`
 abbrev pub Backs : List ℕ → ℕ → List ℕ → ℕ → Type 0
 Backs previous u [] end = at previous end ≡ u
 Backs previous u (x ∷ xs) end = (at previous x ≡ u) × Backs previous x xs end
@@ -65,6 +68,7 @@ pub record Stands (next previous owner : List ℕ) (end k count : ℕ) (xs : Lis
   pub owns : (x : ℕ) → times x xs ≡ (if owner_of owner x == k then 1 else 0)
   pub counted : length xs ≡ count
 
+-- the neighbours, the owners and the counts are those of these lists, and each number has one owner at most
 pub record AreChains (next previous owner counts : List ℕ) (lists : ℕ → List ℕ) : Type 0 where
   pub nexts_fit : length next ≡ length owner + length counts
   pub backs_fit : length previous ≡ length owner + length counts
@@ -77,7 +81,7 @@ pub record AreChains (next previous owner counts : List ℕ) (lists : ℕ → Li
 abbrev pub shifted : ℕ → ℕ → List ℕ → (ℕ → List ℕ) → ℕ → List ℕ
 shifted from to items lists = changed to (lists to ++ items) (changed from (without items (lists from)) lists)
 
--- the first so many numbers of the one do
+-- the first n numbers of one list go to the end of another
 abbrev pub poured : ℕ → ℕ → ℕ → (ℕ → List ℕ) → ℕ → List ℕ
 poured n from to lists = changed to (lists to ++ take n (lists from)) (changed from (drop n (lists from)) lists)
 
@@ -87,19 +91,22 @@ final_of [] = None
 final_of (x ∷ []) = Some x
 final_of (x ∷ y ∷ xs) = final_of (y ∷ xs)
 
--- the part of the list ahead of the number, and the part behind it
+-- the part of the list before the number; the whole list where the number does not stand there
 abbrev pub ahead : ℕ → List ℕ → List ℕ
 ahead x [] = []
 ahead x (y ∷ ys) = if x == y then [] else y ∷ ahead x ys
 
+-- the part of the list after the number; empty where the number does not stand there
 abbrev pub behind : ℕ → List ℕ → List ℕ
 behind x [] = []
 behind x (y ∷ ys) = if x == y then ys else behind x ys
 
+-- the first number of the list; the other one where it is empty
 abbrev pub first_or : ℕ → List ℕ → ℕ
 first_or other [] = other
 first_or other (x ∷ xs) = x
 
+-- the last number of the list; the other one where it is empty
 abbrev pub last_or : ℕ → List ℕ → ℕ
 last_or other [] = other
 last_or other (x ∷ xs) = last_or x xs

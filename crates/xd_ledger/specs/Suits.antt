@@ -26,6 +26,7 @@ pub record CanShare (slots : List ℕ) (p : Plan) (t : Table) : Type 0 where
   pub distinct : all_distinct slots ≡ true
   pub known : is_each p.mode ≡ true → list_all (λ s. nat_lt s (length p.sizes)) slots ≡ true
 
+-- what a call finds of its own: the share finds tests that can be shared, and any other call nothing
 abbrev pub CallSuits : Call → Plan → Table → Type 0
 CallSuits (Share slots) p t = CanShare slots p t
 CallSuits _ p t = Unit {0}

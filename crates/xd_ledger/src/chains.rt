@@ -12,7 +12,7 @@ use xd_edge::{Indices, OutOfMemory};
 const NO_CHAIN: u32 = u32::MAX;
 
 /// Lists of the numbers below some number, each in one list at most. The places of `next` and `previous` are the
-/// numbers, and behind them an end for each list, which stands ahead of its first number and behind its last one: so no
+/// numbers, and after them an end for each list, which stands before its first number and after its last one: so no
 /// number is without neighbours, and each call costs what it moves.
 #[derive(Drop)]
 pub(crate) struct Chains {
@@ -34,7 +34,7 @@ impl Model for Chains {
     ghost invariant = { λ l. AreChains l.next.items l.previous.items l.owner.items l.counts.items (chain l.next.items l.owner.items l.counts.items) };
 }
 
-// These numbers, in order, behind the others.
+// These numbers, in order, after the others.
 fn add_range(list: &mut Vec<u32>, start: u32, len: u32) -> Result<(), AllocError>
     requires { start + len ≤ 1600001 }
     ensures { OnOk result (list.new.items ≡ list.old.items ++ range_with_len start len) }
@@ -45,7 +45,7 @@ fn add_range(list: &mut Vec<u32>, start: u32, len: u32) -> Result<(), AllocError
     Ok(())
 }
 
-// So many numbers, each in the first list.
+// That many numbers, each in the first list.
 fn all_in_first(alloc: Global, len: u32) -> Result<Vec<u32>, AllocError>
     ensures { IfOk result (λ v. v.items ≡ replicate len 0) }
 {
@@ -57,7 +57,7 @@ fn all_in_first(alloc: Global, len: u32) -> Result<Vec<u32>, AllocError>
 }
 
 impl Chains {
-    // One list with so many numbers, in order.
+    // One list with `items` numbers, in order.
     fn one(alloc: Global, items: u32) -> Result<Chains, AllocError>
         requires { items ≤ 1600000 }
         ensures first { IfOk result (λ l. chain_at l 0 ≡ range_with_len 0 items) }
@@ -81,7 +81,7 @@ impl Chains {
         })
     }
 
-    // So many lists: the first has so many numbers, in order, and the others are empty.
+    // `chains` lists: the first has `items` numbers, in order, and the others are empty.
     pub(crate) fn new(alloc: Global, items: u32, chains: u32) -> Result<Chains, AllocError>
         requires few { items ≤ 1600000 }
         requires some { (1 ≤ chains) × (chains ≤ 4000000000) }
@@ -248,7 +248,7 @@ impl Chains {
         self.item_at(self.previous[self.owner.len() + chain as usize])
     }
 
-    // The number behind this one in its list.
+    // The number after this one in its list.
     pub(crate) fn next(&self, item: u32) -> Option<u32>
         ensures { (k : ℕ) → k < chains_of self.now → among item (chain_at self.now k) ≡ true → result ≡ first_of (behind item (chain_at self.now k)) }
     {
@@ -259,7 +259,7 @@ impl Chains {
         }
     }
 
-    // The number ahead of this one in its list.
+    // The number before this one in its list.
     pub(crate) fn previous(&self, item: u32) -> Option<u32>
         ensures { (k : ℕ) → k < chains_of self.now → among item (chain_at self.now k) ≡ true → result ≡ final_of (ahead item (chain_at self.now k)) }
     {
@@ -270,7 +270,7 @@ impl Chains {
         }
     }
 
-    // The first so many numbers of the list, which has as many.
+    // The first `count` numbers of the list, which has as many.
     pub(crate) fn copy_first(
         &self,
         alloc: Global,
@@ -290,7 +290,7 @@ impl Chains {
         Ok(Indices { items })
     }
 
-    // The last so many numbers of the list, which has as many.
+    // The last `count` numbers of the list, which has as many.
     pub(crate) fn copy_last(
         &self,
         alloc: Global,

@@ -18,7 +18,7 @@ fn act(entry: Entry, acts: &mut Vec<Entry>) -> Result<(), OutOfMemory>
     Ok(())
 }
 
-/// The worker gets so many items from the pool's front in one batch, or all that it has. No batch is empty.
+/// The worker gets that many items from the pool's front in one batch, or all that it has. No batch is empty.
 pub fn give_front(
     alloc: Global,
     worker: u32,

@@ -141,7 +141,7 @@ impl Ledger {
         self.chains.last(chain_of(&self.rota, worker))
     }
 
-    /// The item behind this one in the list in which it stands: the pool, or what a worker of the rota holds.
+    /// The item after this one in the list in which it stands: the pool, or what a worker of the rota holds.
     pub fn next_item(&self, item: u32) -> Option<u32>
         requires stands { among item (self.now.pool ++ held_by_all self.now.rota) ≡ true }
         ensures pool { among item self.now.pool ≡ true → result ≡ first_of (behind item self.now.pool) }
@@ -150,7 +150,7 @@ impl Ledger {
         self.chains.next(item)
     }
 
-    /// The item ahead of this one in the list in which it stands: the pool, or what a worker of the rota holds.
+    /// The item before this one in the list in which it stands: the pool, or what a worker of the rota holds.
     pub fn previous_item(&self, item: u32) -> Option<u32>
         requires stands { among item (self.now.pool ++ held_by_all self.now.rota) ≡ true }
         ensures pool { among item self.now.pool ≡ true → result ≡ final_of (ahead item self.now.pool) }
@@ -159,7 +159,7 @@ impl Ledger {
         self.chains.previous(item)
     }
 
-    /// The last so many items that the worker of the rota holds, in their order. It holds as many. Costs what it gives.
+    /// The last `count` items that the worker of the rota holds, in their order. It holds as many. Costs what it gives.
     pub fn last_items(&self, alloc: Global, worker: u32, count: u32) -> Result<Indices, OutOfMemory>
         requires seated { in_rota worker self.now ≡ true }
         requires enough { count ≤ length (held worker self.now) }

@@ -36,7 +36,7 @@ abbrev pub scene_told : List Entry → List News → Option Sunk → Scene
 scene_told calls given sunk = record { marks = marks_told calls given; starts = Some (starts_of calls); calls = Some (others_of calls); given = Some given; sunk = sunk }
 
 -- The journal is what the hub's news made of the run, what it asks for was told to the hub, and its report was printed; or the
--- output failed, and then what was told to the hub stands behind its lines.
+-- output failed, and then what was told to the hub stands after its lines.
 pub record DrivesTo (j : Journal) (calls : List Entry) (given : List News) (old new : Option Sunk) : Type 0 where
   pub whole : is_out_fault (stop_of j) ≡ false → (taken : List News) × Whole taken j (scene_told [] [] old) (scene_told calls given new)
   pub broken : is_out_fault (stop_of j) ≡ true → (count : ℕ) × (taken : List News) × Broken count taken j (scene_told [] [] old) (scene_told calls given new)
@@ -47,6 +47,7 @@ pub record EndedLink : Type 0 where
   pub killed : Bool
   pub link : Link
 
+-- the link of this worker, by what its source and its sink tell
 abbrev pub ended_link : ℕ → Bool → Spring → Option Sunk → ℕ → EndedLink
 ended_link worker killed s sunk writes = record { worker = worker; killed = killed; link = link_of s sunk writes }
 

@@ -1,4 +1,4 @@
-//! A run with workers: children of the program at the end of links, told and heard by a hub, in the mode of
+//! A run with workers: they are at the end of links, told and heard by a hub, and run in the mode of
 //! the settings.
 #![tactic(auto)]
 

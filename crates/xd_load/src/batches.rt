@@ -12,10 +12,10 @@ use xd_edge::OutOfMemory;
 use xd_journal::Entry;
 use xd_ledger::{Ledger, give_front, shut, shut_rota};
 
-// A worker starts a test when another stands behind it, so it needs two.
+// A worker starts a test when another stands after it, so it needs two.
 const ENOUGH: u32 = 2;
 
-// A test that took so many milliseconds is slow.
+// A test that took that many milliseconds, or more, is slow.
 const SLOW_MS: u64 = 100;
 
 // How many more tests a worker gets.
@@ -37,7 +37,7 @@ fn due(pool: u32, workers: u32, holds: u32, ms: u64) -> bool
     holds < low && !(ms >= SLOW_MS && holds >= ENOUGH)
 }
 
-// A worker that isn't shut gets these many from the pool's front.
+// A worker that isn't shut gets that many from the pool's front.
 fn give(
     alloc: Global,
     count: u32,
@@ -101,7 +101,7 @@ pub(crate) fn refill_each(
     Ok(())
 }
 
-// Every worker gets these many.
+// Every worker that isn't shut gets that many.
 fn give_each(
     alloc: Global,
     count: u32,

@@ -23,7 +23,7 @@ impl Model for Sizes {
     ghost invariant = { λ s. sum s.items.items < 2 ^ 32 };
 }
 
-// So many numbers, from this one on.
+// That many numbers, from this one on.
 #[tactic(auto, using(xd_ledger::proofs::Counts::range_more))]
 fn range(alloc: Global, start: u32, len: u32) -> Result<Indices, OutOfMemory>
     requires { start + len < 2 ^ 32 }
@@ -87,7 +87,7 @@ impl Sizes {
         }
     }
 
-    /// The lengths of these collections, which have so many ids together.
+    /// The lengths of these collections, which have `_total` ids together.
     pub(crate) fn of(
         alloc: Global,
         collections: &[Texts],

@@ -76,7 +76,7 @@ pub(crate) fn share(
     Ok(())
 }
 
-// The item too, where it is one of so many from the first on.
+// The item too, where it is one of the `size` items from the first on.
 fn add_within(item: u32, first: u32, size: u32, items: &mut Vec<u32>) -> Result<(), OutOfMemory>
     requires { first + size < 2 ^ 32 }
     ensures { OnOk result (items.new.items ≡ items.old.items ++ filter (λ i. among i (range_with_len first size)) (item ∷ [])) }
@@ -109,7 +109,7 @@ fn remainder(
     Ok(Indices { items })
 }
 
-// The places of these items behind the first one.
+// The places of these items, counted from the first one.
 fn places_of(alloc: Global, first: u32, items: &[u32]) -> Result<Indices, OutOfMemory>
     ensures { IfOk result (λ r. r ≡ map (λ item. item - first) items.now) }
 {
@@ -145,7 +145,7 @@ fn give_of_slot(
     Ok(())
 }
 
-// A worker that joins behind the share gets what is left of its slot.
+// A worker that joins after the share gets what is left of its slot.
 pub(crate) fn join(
     alloc: Global,
     sizes: &Sizes,

@@ -26,7 +26,7 @@ use Rattle.xd_local.specs.Print.{PrintsReport, failures_in}
 abbrev pub local_settings : ℕ → Settings
 local_settings maxfail = record { mode = Local; workers = 0; maxfail = maxfail; restarts = 0; chunk = None; reorder = true; retries = 0 }
 
--- what is kept of the output of these starts, where those before keep so many bytes
+-- what is kept of the output of these starts, where those before keep `spent` bytes
 abbrev pub kept_outputs : ℕ → List ChildRun → List (List ℕ)
 kept_outputs spent [] = []
 kept_outputs spent (r ∷ rs) =
@@ -61,11 +61,11 @@ abbrev pub stop_after : Bool → Option RunStop → RunStop
 stop_after true first = unwrap_or first Completed
 stop_after false first = OutFault
 
--- how a run with this limit ends behind so many failures
+-- how a run with this limit ends after that many failures
 abbrev pub stop_at : ℕ → ℕ → RunStop
 stop_at limit failures = if reaches limit failures then MaxFail failures else Completed
 
--- No test was run behind the one whose failure reached this limit. Where the output did not fail, the run ended by the
+-- No test was run after the one whose failure reached this limit. Where the output did not fail, the run ended by the
 -- limit exactly where its failures reached it, with their number.
 pub record KeepsLimit (limit : ℕ) (j : Journal) : Type 0 where
   pub none_behind : (k : ℕ) → k < length (reports_in j) → reaches limit (failures_in (take k (reports_in j))) ≡ false
@@ -76,6 +76,7 @@ abbrev pub report_faults : Report → ℕ
 report_faults (Result w item outcome) = fault_count outcome
 report_faults (Crash w item) = 0
 
+-- how many faults of the outside these reports stand for together
 abbrev pub faults_of : List Report → ℕ
 faults_of rs = sum_by report_faults rs
 

@@ -46,7 +46,7 @@ abbrev pub DidAll : Journal → Type 0
 DidAll j = (length (reports_in j) ≡ length (collected_in j)) ⊎ (reaches j.settings.maxfail (failures_in (reports_in j)) ≡ true)
 
 -- The output failed at the last step of the run, or at the end of a run that did all that it had to do; of the report a
--- first part was taken. The entries are those ahead of the journal's end.
+-- first part was taken. The entries are those before the journal's end.
 pub record BreaksReport (j : Journal) (old new : Option Sunk) : Type 0 where
   pub es : List Entry
   pub entries : j.entries.items ≡ es ++ Over OutFault ∷ []

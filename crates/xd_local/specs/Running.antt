@@ -38,10 +38,11 @@ pub record Scene : Type 0 where
   pub run : Running
   pub sunk : Option Sunk
 
+-- these two as one value
 abbrev pub scene : Running → Option Sunk → Scene
 scene run sunk = record { run = run; sunk = sunk }
 
--- the state behind a journal
+-- the state after a journal
 abbrev pub behind : Journal → State
 behind j = all_moved (no_one j.settings) j.entries.items
 
@@ -49,6 +50,7 @@ behind j = all_moved (no_one j.settings) j.entries.items
 abbrev pub Told : Running → Type 0
 Told r = Follows r.reporter (behind r.journal)
 
+-- the ids of these tests, in order
 abbrev pub ids_of : List Test → List (List ℕ)
 ids_of tests = map (λ t. t.id) tests
 
@@ -110,7 +112,7 @@ abbrev pub failed_of : List TestResult → ℕ
 failed_of [] = 0
 failed_of (r ∷ rs) = failing r.outcome + failed_of rs
 
--- ahead of each of these tests the failures, with so many before them, had not reached the limit
+-- before each of these tests the failures, with `before` earlier ones, had not reached the limit
 abbrev pub BelowLimit : ℕ → ℕ → List TestResult → Type 0
 BelowLimit limit before [] = ⊤
 BelowLimit limit before (r ∷ rs) = (reaches limit before ≡ false) × BelowLimit limit (before + failing r.outcome) rs
@@ -135,7 +137,7 @@ pub record SoFar (results : List TestResult) (tests : List Test) (old new : Runn
   pub below : BelowLimit old.journal.settings.maxfail 0 results
   pub within : length results ≤ length tests
 
--- so many tests were run, and all lines so far were printed
+-- `count` tests were run, and all lines so far were printed
 pub record Progress (count : ℕ) (tests : List Test) (old new : Scene) : Type 0 where
   pub results : List TestResult
   pub so_far : SoFar results tests old.run new.run
@@ -154,7 +156,7 @@ abbrev pub ShowsReport : Bool → Type 0 → Journal → Option Sunk → Option 
 ShowsReport true did_all j old new = ShowsEnd true (text_of j) old new
 ShowsReport false did_all j old new = FailedAt did_all j.settings j.entries.items old new
 
--- the run came to its end and its lines were printed, or the output failed at the collection or behind a test
+-- the run came to its end and its lines were printed, or the output failed at the collection or after a test
 pub record RanAll (shown : Bool) (tests : List Test) (old new : Scene) : Type 0 where
   pub results : List TestResult
   pub so_far : SoFar results tests old.run new.run

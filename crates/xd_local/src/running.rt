@@ -256,7 +256,7 @@ fn stop_after(shown: bool, first: Option<RunStop>) -> RunStop
     }
 }
 
-// How many bytes may be kept of the next test's output, where so many are kept.
+// How many bytes may be kept of the next test's output, where `spent` are kept.
 fn room_behind(spent: usize) -> usize
     requires { spent ≤ most_of_all }
     ensures { result ≡ room_behind spent }

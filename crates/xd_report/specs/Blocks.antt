@@ -20,6 +20,7 @@ reason_of (negsuc (suc zero)) = codes "could not be started"
 reason_of (negsuc (suc (suc zero))) = codes "could not be read"
 reason_of s = codes "status " ++ signed_decimal s
 
+-- why a test failed in which a worker went down, in the words of pytest-xdist's `handle_crashitem`
 unfoldable pub crash_reason : ModeKind → ℕ → List ℕ → List ℕ
 crash_reason mode worker id = codes "worker '" ++ (name mode worker ++ (codes "' crashed while running '" ++ (plain id ++ codes "'")))
 
@@ -31,6 +32,7 @@ ends_line bytes = slice_index_or bytes (length bytes - 1) 0 == 10
 abbrev pub line_end : List ℕ → List ℕ
 line_end bytes = if ends_line bytes then [] else 10 ∷ []
 
+-- the line that says how many bytes of output follow
 abbrev pub count_line : ℕ → List ℕ
 count_line n = codes "---- output: " ++ decimal n ++ codes " bytes ----" ++ 10 ∷ []
 
@@ -38,9 +40,11 @@ count_line n = codes "---- output: " ++ decimal n ++ codes " bytes ----" ++ 10 �
 unfoldable pub output_text : List ℕ → List ℕ
 output_text output = if length output == 0 then [] else (count_line (length output) ++ output ++ line_end output)
 
+-- the first line of a block: the worker's name and the test's id
 unfoldable pub heading_line : ModeKind → ℕ → List ℕ → List ℕ
 heading_line mode worker id = codes "==== " ++ (tag mode worker ++ (plain id ++ (codes " ====" ++ 10 ∷ [])))
 
+-- the block of a test that failed on a worker: its heading, the reason, and its kept output
 abbrev pub block : ModeKind → ℕ → List ℕ → List ℕ → List ℕ → List ℕ
 block mode worker id reason output = heading_line mode worker id ++ (reason ++ (10 ∷ [] ++ output_text output))
 
@@ -51,7 +55,7 @@ crash_block worker output s = elim (crash_of worker s) [
   | Some item ↦ block (mode_of s) worker (item_id worker item s) (crash_reason (mode_of s) worker (item_id worker item s)) output
 ]
 
--- the block of one entry behind the state s, where it is a failed report
+-- the block of one entry after the state s, where it is a failed report
 abbrev pub block_of : State → Entry → List ℕ
 block_of s (Done worker index (Failed code) ms output) = block (mode_of s) worker (id_of worker index s) (reason_of code) output
 block_of s (Down worker cause output) = crash_block worker output s
@@ -63,12 +67,12 @@ is_failed_report s (Done worker index (Failed code) ms output) = true
 is_failed_report s (Down worker cause output) = is_some (crash_of worker s)
 is_failed_report s _ = false
 
--- the blocks of these entries behind a state
+-- the blocks of these entries after a state
 abbrev pub blocks_from : State → List Entry → List ℕ
 blocks_from s [] = []
 blocks_from s (e ∷ es) = block_of (reached s e) e ++ blocks_from (next s e) es
 
--- the state behind the entries ahead of a place
+-- the state after the entries before a place
 abbrev pub ahead : Journal → ℕ → State
 ahead j at = all_moved (no_one j.settings) (take at j.entries.items)
 

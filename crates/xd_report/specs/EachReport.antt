@@ -32,6 +32,7 @@ abbrev pub why_text : Option Cause → List ℕ
 why_text (Some cause) = cause_text cause
 why_text None = codes "not started"
 
+-- the text of a line in the report, with its newline
 abbrev pub text_of_line : ModeKind → Line → List ℕ
 text_of_line mode (Tests tests workers) = tests_line mode tests workers
 text_of_line mode (Of (Result worker item outcome) id) = result_line mode worker outcome id
@@ -40,6 +41,7 @@ text_of_line mode (NodeDown worker why) = down_line mode worker (why_text why)
 text_of_line mode (Retried worker item id) = lost_line true mode worker id
 text_of_line mode (Replaces old) = replacing mode (Some old)
 
+-- the text of these lines, one after another
 abbrev pub text_of_lines : ModeKind → List Line → List ℕ
 text_of_lines mode [] = []
 text_of_lines mode (l ∷ ls) = text_of_line mode l ++ text_of_lines mode ls
@@ -59,11 +61,12 @@ pub record HasLineEach (mode : ModeKind) (text : List ℕ) (rs : List Report) : 
   pub text_is : text ≡ text_of_lines mode lines
   pub each_once : reports_told lines ≡ rs
 
--- the items that are tried again by one entry behind a state
+-- the items that are tried again by one entry after a state
 abbrev pub retried_of : State → Entry → List ℕ
 retried_of s (Down worker cause output) = retried_item (is_retry worker s.books) (held worker s.books.table)
 retried_of s _ = []
 
+-- the items that are tried again by these entries after a state, in order
 abbrev pub retried_from : State → List Entry → List ℕ
 retried_from s [] = []
 retried_from s (e ∷ es) = retried_of (reached s e) e ++ retried_from (next s e) es
@@ -98,6 +101,7 @@ is_passed (Result worker item Skipped) = false
 is_passed (Result worker item (Failed code)) = false
 is_passed (Crash worker item) = false
 
+-- a test that was skipped
 abbrev pub is_skipped : Report → Bool
 is_skipped (Result worker item Passed) = false
 is_skipped (Result worker item Skipped) = true
@@ -117,12 +121,14 @@ pub record Block : Type 0 where
   pub id : List ℕ
   pub output : List ℕ
 
+-- the block of a failed report, with the id of its test and what was kept of its output; nothing of another report
 abbrev pub text_of_report : ModeKind → Report → List ℕ → List ℕ → List ℕ
 text_of_report mode (Result worker item (Failed code)) id output = block mode worker id (reason_of code) output
 text_of_report mode (Crash worker item) id output = block mode worker id (crash_reason mode worker id) output
 text_of_report mode (Result worker item Passed) id output = []
 text_of_report mode (Result worker item Skipped) id output = []
 
+-- the text of these blocks, one after another
 abbrev pub text_of_blocks : ModeKind → List Block → List ℕ
 text_of_blocks mode [] = []
 text_of_blocks mode (b ∷ bs) = text_of_report mode b.report b.id b.output ++ text_of_blocks mode bs
@@ -133,6 +139,7 @@ outputs_of s (Done worker index (Failed code) ms output) = output ∷ []
 outputs_of s (Down worker cause output) = map (λ _. output) (crash_item (is_retry worker s.books) (held worker s.books.table))
 outputs_of s _ = []
 
+-- what the failed reports of these entries after a state keep of their outputs, in order
 abbrev pub outputs_from : State → List Entry → List (List ℕ)
 outputs_from s [] = []
 outputs_from s (e ∷ es) = outputs_of (reached s e) e ++ outputs_from (next s e) es

@@ -18,10 +18,11 @@ bare m = record m { active = false; ready = false; collected = false }
 abbrev pub bare_seat : Seat → Seat
 bare_seat s = record s { shut = false }
 
+-- the bare seat that a desk of the reporter stands for
 abbrev pub seat_of : Desk → Seat
 seat_of d = record { worker = d.worker; held = d.held; shut = false }
 
--- the books behind the count of a result
+-- the books after the count of a result
 abbrev pub judged : Outcome → Books → Books
 judged outcome b = let c = record b { failures = b.failures + failing outcome } in stopped_by (done_stop outcome c) c
 

@@ -1,5 +1,5 @@
--- The lines of a journal's entries, each behind the state in which its entry stands. The words of a result are those of
--- pytest-xdist's verbose report; the rest is a choice of this project.
+-- The lines of a journal's entries, each by the state in which its entry stands. The words of a result are those of
+-- pytest-xdist's verbose report, as those of lost workers are; the rest is a choice of this project.
 use Rattle.std.specs.Prelude.{ℕ, ◌-◌, ◌==◌, Bool, not, ◌&&◌, ◌||◌, List, [], ◌∷◌, ◌++◌, take, drop, Option, Some, None, codes, if◌then◌else◌}
 use Rattle.std.specs.Fmt.{decimal}
 use Rattle.xd_edge.specs.declared.mode.ModeKind.{ModeKind}
@@ -16,13 +16,13 @@ use Rattle.xd_ledger.specs.State.{after_collected, reached, next, all_moved, no_
 use Rattle.xd_report.specs.Names.{name, tag, plain, outcome_text, lost_text, mode_text, cause_text}
 use Rattle.xd_report.specs.Tests.{mode_of, id_of, head, item_id, tests}
 
--- so many tests, and on whom they run
+-- how many tests there are, and on whom they run
 unfoldable pub tests_line : ModeKind → ℕ → ℕ → List ℕ
 tests_line mode n workers =
     if is_local_mode mode then (decimal n ++ (codes " tests" ++ 10 ∷ []))
     else (decimal n ++ (codes " tests on " ++ (decimal workers ++ (codes " workers, " ++ (mode_text mode ++ 10 ∷ [])))))
 
--- behind a collection: it tells how many tests there are where they are shared now and were not before; without workers
+-- after a collection: it tells how many tests there are where they are shared now and were not before; without workers
 -- each collection does
 abbrev pub collected_line : Bool → State → List ℕ
 collected_line was_shared s =
@@ -34,6 +34,7 @@ collected_line was_shared s =
 abbrev pub result_line : ModeKind → ℕ → Outcome → List ℕ → List ℕ
 result_line mode worker outcome id = tag mode worker ++ (outcome_text outcome ++ (plain id ++ 10 ∷ []))
 
+-- that a worker went down, and why: the words are those of pytest-xdist's `pytest_testnodedown`
 abbrev pub down_line : ModeKind → ℕ → List ℕ → List ℕ
 down_line mode worker why = tag mode worker ++ (codes "node down: " ++ (why ++ 10 ∷ []))
 
@@ -55,7 +56,7 @@ abbrev pub replacing : ModeKind → Option ℕ → List ℕ
 replacing mode None = []
 replacing mode (Some old) = codes "replacing crashed worker " ++ (name mode old ++ 10 ∷ [])
 
--- the lines of an entry that the state ahead of it tells
+-- the lines of an entry that the state before it tells
 abbrev pub told : State → Entry → List ℕ
 told s (Done worker index outcome ms output) = result_line (mode_of s) worker outcome (id_of worker index s)
 told s (Down worker cause output) = down_line (mode_of s) worker (cause_text cause) ++ lost worker s
@@ -63,12 +64,12 @@ told s (NotStarted worker) = down_line (mode_of s) worker (codes "not started")
 told s (Start worker slot) = replacing (mode_of s) (last_of_slot slot s.books.crew None)
 told s _ = []
 
--- the lines of one entry behind the state s
+-- the lines of one entry after the state s
 abbrev pub lines_of : State → Entry → List ℕ
 lines_of s (Collected worker given) = collected_line s.books.shared (after_collected worker given s)
 lines_of s e = told s e
 
--- the lines of these entries behind a state
+-- the lines of these entries after a state
 abbrev pub lines_from : State → List Entry → List ℕ
 lines_from s [] = []
 lines_from s (e ∷ es) = lines_of (reached s e) e ++ lines_from (next s e) es

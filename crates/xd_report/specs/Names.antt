@@ -12,6 +12,7 @@ use Rattle.xd_journal.specs.declared.entry.Outcome.{Outcome}
 use Rattle.xd_journal.specs.declared.entry.Outcome.TheVariants.{Passed, Skipped, Failed}
 use Rattle.xd_journal.specs.Local.{is_local_mode}
 
+-- the text with a newline at its end
 abbrev pub line : List ℕ → List ℕ
 line text = text ++ 10 ∷ []
 
@@ -31,6 +32,7 @@ printable c = if nat_lt c 32 || (c == 127) then 63 else c
 unfoldable pub plain : List ℕ → List ℕ
 plain text = encode_utf8_all (map printable text)
 
+-- the word for how a test went
 abbrev pub outcome_text : Outcome → List ℕ
 outcome_text Passed = codes "PASSED "
 outcome_text Skipped = codes "SKIPPED "
@@ -41,6 +43,7 @@ abbrev pub lost_text : Bool → List ℕ
 lost_text true = codes "RETRY "
 lost_text false = codes "CRASHED "
 
+-- the word for a mode, as `--dist` takes it; none for a run without workers
 abbrev pub mode_text : ModeKind → List ℕ
 mode_text Each = codes "each"
 mode_text Load = codes "load"
@@ -50,6 +53,7 @@ mode_text LoadGroup = codes "loadgroup"
 mode_text WorkSteal = codes "worksteal"
 mode_text Local = []
 
+-- the words for why a worker went down
 abbrev pub cause_text : Cause → List ℕ
 cause_text Ended = codes "Not properly terminated"
 cause_text Cut = codes "message cut short"

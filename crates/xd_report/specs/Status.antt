@@ -13,7 +13,7 @@ use Rattle.xd_ledger.specs.Ending.{stop_in}
 use Rattle.xd_report.specs.Summary.{counts}
 use Rattle.xd_report.specs.Tests.{tests}
 
--- of a run that completed, with so many tests and failures
+-- of a run that completed, by how many tests there are and how many failed
 abbrev pub completed_status : ℕ → ℕ → ℕ
 completed_status collected failures = if collected == 0 then 5 else (if failures == 0 then 0 else 1)
 
@@ -26,8 +26,10 @@ stop_status mode (Unequal worker other place) _ _ = 1
 stop_status mode (CollectError worker) _ _ = 2
 stop_status mode OutFault _ _ = 3
 
+-- of a run with these settings and entries; without its end by the stop so far
 abbrev pub run_status : Settings → List Entry → ℕ
 run_status settings es = stop_status settings.mode (stop_in settings es) (tests (state_at settings es)) (counts settings es).failed
 
+-- of the run of a journal
 abbrev pub status_of : Journal → ℕ
 status_of j = run_status j.settings j.entries.items

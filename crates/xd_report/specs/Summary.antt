@@ -16,6 +16,7 @@ counted s (Done worker index Passed ms output) n = record n { passed = n.passed 
 counted s (Done worker index Skipped ms output) n = record n { skipped = n.skipped + 1 }
 counted s e n = record n { failed = n.failed + (if is_failed_report s e then 1 else 0) }
 
+-- the counts with these entries more, which come after a state
 abbrev pub counted_from : State → List Entry → Counts → Counts
 counted_from s [] n = n
 counted_from s (e ∷ es) n = counted_from (next s e) es (counted (reached s e) e n)
@@ -24,12 +25,14 @@ counted_from s (e ∷ es) n = counted_from (next s e) es (counted (reached s e) 
 abbrev pub counts : Settings → List Entry → Counts
 counts settings entries = counted_from (no_one settings) entries (record { failed = 0; passed = 0; skipped = 0 })
 
--- a count and its word behind the earlier ones, where it is not 0
+-- a count and its word after the earlier ones, where it is not 0
 abbrev pub with_part : List ℕ → ℕ → List ℕ → List ℕ
 with_part text n word = if n == 0 then text else ((if length text == 0 then [] else text ++ codes ", ") ++ decimal n ++ word)
 
+-- the counts that are not 0, each with its word
 abbrev pub counts_text : Counts → List ℕ
 counts_text n = with_part (with_part (with_part [] n.failed (codes " failed")) n.passed (codes " passed")) n.skipped (codes " skipped")
 
+-- the words of the last line: the counts, or that no test ran
 abbrev pub summary_text : Counts → List ℕ
 summary_text n = if length (counts_text n) == 0 then codes "no tests ran" else counts_text n

@@ -1,4 +1,4 @@
--- The tests that an entry speaks of, behind the state in which it stands.
+-- The tests that an entry speaks of, by the state in which it stands.
 use Rattle.std.specs.Prelude.{ℕ, ◌-◌, List, [], length, slice_index_or, Option, if◌then◌else◌}
 use Rattle.xd_edge.specs.declared.mode.ModeKind.{ModeKind}
 use Rattle.xd_journal.specs.Local.{is_local_mode}
@@ -10,6 +10,7 @@ use Rattle.xd_ledger.specs.Sharing.{State, ids_at}
 use Rattle.xd_ledger.specs.Table.{crash_item, held}
 use Rattle.xd_ledger.specs.Workers.{slot_of}
 
+-- the mode of the run
 abbrev pub mode_of : State → ModeKind
 mode_of s = s.books.settings.mode
 

@@ -19,8 +19,10 @@ run_tail settings es =
 abbrev pub run_text : Settings → List Entry → List ℕ
 run_text settings es = run_lines settings es ++ run_tail settings es
 
+-- what is printed of a journal after the lines of its entries
 abbrev pub tail_text : Journal → List ℕ
 tail_text j = run_tail j.settings j.entries.items
 
+-- all that is printed of a journal
 abbrev pub text_of : Journal → List ℕ
 text_of j = run_text j.settings j.entries.items

@@ -18,7 +18,7 @@ ghost use Rattle.xd_report.specs.LocalLines.{test_lines};
 ghost use Rattle.xd_report.specs.Summary.{counts};
 
 /// The lines of a journal with workers begin those of each longer one; what follows are the lines of the entries that
-/// were added, behind the state that the earlier ones left.
+/// were added, after the state that the earlier ones left.
 pub fn lines_law()
     ensures { (settings : Settings) (entries : List Entry) (more : List Entry) → run_lines settings (entries ++ more) ≡ run_lines settings entries ++ lines_from (all_moved (no_one settings) entries) more }
 {}
@@ -30,7 +30,7 @@ pub fn line_law()
     ensures { (settings : Settings) (entries : List Entry) → HasLineEach settings.mode (run_lines settings entries) (reports settings entries) }
 {}
 
-/// Where no report stands ahead of the first collection, and no test is tried again there, the line of each report and of
+/// Where no report stands before the first collection, and no test is tried again there, the line of each report and of
 /// each test that is tried again gives the id that this collection has at the place of the test; and so does the block of
 /// each failed report. In mode each, of which nothing is said, each slot has a collection of its own.
 pub fn id_law()

@@ -11,7 +11,7 @@ use Rattle.xd_report.specs.Blocks.{blocks_from}
 use Rattle.xd_report.specs.EachReport.{HasNamedBlockEach, HasNamedLineEach, id_in, kept_outputs}
 use Rattle.xd_report.specs.Lines.{run_lines}
 
--- the ids of so many slots, one slot behind the other, from this slot on
+-- the ids of n slots, one slot after the other, from this slot on
 abbrev pub ids_from : List Listed → ℕ → ℕ → List (List ℕ)
 ids_from ls slot zero = []
 ids_from ls slot (suc n) = ids_at slot ls ++ ids_from ls (slot + 1) n
@@ -20,6 +20,7 @@ ids_from ls slot (suc n) = ids_at slot ls ++ ids_from ls (slot + 1) n
 abbrev pub item_ids : Books → List (List ℕ)
 item_ids b = ids_from b.lists 0 (slots b.settings)
 
+-- the ids of the items of a journal, in order
 abbrev pub ids_in : Journal → List (List ℕ)
 ids_in j = item_ids (state_at j.settings j.entries.items).books
 

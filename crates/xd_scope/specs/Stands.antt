@@ -43,7 +43,7 @@ pub record IsAt (t : Turn) (table : Table) (acts : List Entry) (u : Units) : Typ
 abbrev pub give_where_few : ℕ → Turn → Turn
 give_where_few worker t = if nat_lt (length (held worker t.table)) enough then give_unit worker t else t
 
--- the first so many of these workers get a unit each, and then each of them is refilled; the others are shut down, the
+-- the first k of these workers get a unit each, and then each of them is refilled; the others are shut down, the
 -- last one first
 abbrev pub served_share : ℕ → List ℕ → Turn → Turn
 served_share k ws t = in_turn refill (take k ws) (in_turn give_unit (take k ws) (shut_each (reverse (drop k ws)) t))

@@ -14,7 +14,7 @@ use std::collections::{BTreeMap, BTreeSet, VecDeque};
 use xd_edge::{Indices, OutOfMemory};
 use xd_ledger::Ledger;
 
-// The last so many items of the pool.
+// The last `rest` items of the pool.
 fn last_items(alloc: Global, rest: u32, ledger: &Ledger) -> Result<BTreeSet<u32>, OutOfMemory>
     requires distinct { all_distinct ledger.now.pool ≡ true }
     requires within { rest ≤ length ledger.now.pool }
@@ -85,7 +85,7 @@ fn keep_each(
     Ok(())
 }
 
-// The tests of the worker's units that are among the last so many items of the pool wait again, those of a unit
+// The tests of the worker's units that are among the last `rest` items of the pool wait again, those of a unit
 // together, in order of assignment.
 pub(crate) fn keep_rest(
     alloc: Global,

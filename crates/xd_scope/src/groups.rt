@@ -63,7 +63,7 @@ fn add<'a>(
     }
 }
 
-// The tests of each scope, in order of first appearance; there are at most so many ids.
+// The tests of each scope, in order of first appearance; there are at most `_most` ids.
 fn grouped(
     alloc: Global,
     kind: ModeKind,
@@ -83,7 +83,7 @@ fn grouped(
     Ok(units)
 }
 
-/// The units of a collection, in the order in which they are handed out; it has at most so many ids.
+/// The units of a collection, in the order in which they are handed out; it has at most `most` ids.
 pub(crate) fn units_of(
     alloc: Global,
     kind: ModeKind,

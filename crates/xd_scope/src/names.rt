@@ -26,7 +26,7 @@ fn before_last(id: &str) -> &str
     }
 }
 
-// What stands behind the last '@' where no ']' stands behind it, else all.
+// What stands after the last '@' where no ']' stands after it, else all.
 fn group(id: &str) -> &str
     ensures { chars result.now ≡ group_in (chars id.now) (chars id.now) }
 {
@@ -37,7 +37,7 @@ fn group(id: &str) -> &str
 }
 
 /// The scope of the test with this id: in mode loadscope what stands before the id's last `::`, in mode loadfile what
-/// stands before its first `::`, in mode loadgroup what stands behind its last `@` where no `]` stands behind that, and
+/// stands before its first `::`, in mode loadgroup what stands after its last `@` where no `]` stands after that, and
 /// the whole id where there is no such place.
 pub fn scope_of(kind: ModeKind, id: &str) -> &str
     requires { is_scope kind ≡ true }

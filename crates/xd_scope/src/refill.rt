@@ -15,7 +15,7 @@ use xd_edge::OutOfMemory;
 use xd_journal::Entry;
 use xd_ledger::{Ledger, shut};
 
-// A worker starts a test when another stands behind it, so it needs two.
+// A worker starts a test when another stands after it, so it needs two.
 const ENOUGH: u32 = 2;
 
 // The unit at the queue's front goes to the worker.
@@ -118,7 +118,7 @@ pub(crate) fn refill_one(
     Ok(())
 }
 
-// The first so many workers of the rota get a unit each.
+// The first `count` workers of the rota get a unit each.
 pub(crate) fn give_each(
     alloc: Global,
     count: u32,
@@ -140,7 +140,7 @@ pub(crate) fn give_each(
     Ok(())
 }
 
-// The first so many workers of the rota are refilled.
+// The first `count` workers of the rota are refilled.
 pub(crate) fn refill_each(
     alloc: Global,
     count: u32,

@@ -15,7 +15,7 @@ use xd_edge::OutOfMemory;
 use xd_journal::Entry;
 use xd_ledger::{Ledger, shut, shut_rota};
 
-// The workers behind the first so many are told to shut down, the last one first.
+// The workers after the first `count` are told to shut down, the last one first.
 fn shut_surplus(count: u32, ledger: &mut Ledger, acts: &mut Vec<Entry>) -> Result<(), OutOfMemory>
     requires { count ≤ length (workers_of ledger.old) }
     ensures { OnOk result ((p : Plan) →
@@ -29,7 +29,7 @@ fn shut_surplus(count: u32, ledger: &mut Ledger, acts: &mut Vec<Entry>) -> Resul
     Ok(())
 }
 
-// The first so many workers get a unit each, and then each of these is refilled.
+// The first `count` workers get a unit each, and then each of these is refilled.
 fn serve(
     alloc: Global,
     count: u32,

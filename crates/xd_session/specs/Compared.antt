@@ -9,6 +9,7 @@ use Rattle.xd_ledger.specs.Collections.{differ_at}
 use Rattle.xd_session.specs.declared.lists.Comparison.{Comparison}
 use Rattle.xd_session.specs.declared.lists.Comparison.TheVariants.{First, Same, Differs}
 
+-- how a collection compares with the other worker's, by the first place where they differ, if any
 abbrev pub compared : ℕ → Option ℕ → Comparison
 compared other None = Same
 compared other (Some place) = Differs other place

@@ -25,15 +25,17 @@ said_by worker taken = map (λ n. n.what) (filter (λ n. n.worker == worker) tak
 abbrev pub begun_run : Settings → Run
 begun_run settings = record { entries = first_starts settings; state = begun settings; inputs = []; taken = [] }
 
--- the input comes into the journal, with its outputs behind it
+-- the input comes into the journal, with its outputs after it
 abbrev pub entries_with : Option Entry → List Entry → State → List Entry
 entries_with None entries s = entries
 entries_with (Some e) entries s = entries ++ (e ∷ outputs s e)
 
+-- the state after the input and its outputs, where there is an input
 abbrev pub state_with : Option Entry → State → State
 state_with None s = s
 state_with (Some e) s = stepped s e
 
+-- the inputs with this one at their end, where there is one
 abbrev pub inputs_with : Option Entry → List Entry → List Entry
 inputs_with None inputs = inputs
 inputs_with (Some e) inputs = inputs ++ e ∷ []
@@ -42,7 +44,7 @@ inputs_with (Some e) inputs = inputs ++ e ∷ []
 abbrev pub input_of : Run → News → Option Entry
 input_of r n = meaning n.worker r.entries r.state (said_by n.worker r.taken) n.what
 
--- the run behind one more piece of news
+-- the run after one more piece of news
 abbrev pub after_news : Run → News → Run
 after_news r n = record {
   entries = entries_with (input_of r n) r.entries r.state;
@@ -51,7 +53,7 @@ after_news r n = record {
   taken = r.taken ++ n ∷ [];
 }
 
--- the run behind these news
+-- the run after these news
 abbrev pub run_of : Settings → List News → Run
 run_of settings taken = fold after_news (begun_run settings) taken
 

@@ -19,14 +19,14 @@ use Rattle.xd_session.specs.Rules.{Acted}
 abbrev pub IsBare : Table → Type 0
 IsBare t = all_items t ≡ []
 
--- what holds of a worker that gives its collection: it has not joined, before the share no item stands anywhere, and behind a
+-- what holds of a worker that gives its collection: it has not joined, before the share no item stands anywhere, and after a
 -- stop it was told to shut down
 pub record IsNew (worker : ℕ) (b : Books) : Type 0 where
   pub absent : has_joined worker b.table ≡ false
   pub bare : b.shared ≡ false → IsBare b.table
   pub told : is_stopped b ≡ true → is_shut worker b ≡ true
 
--- the ids that stand for each of so many slots, from this one on
+-- the ids that stand for each of n slots, from this one on
 abbrev pub lists_from : List Listed → ℕ → ℕ → List (List (List ℕ))
 lists_from ls slot zero = []
 lists_from ls slot (suc n) = ids_at slot ls ∷ lists_from ls (slot + 1) n
@@ -39,7 +39,7 @@ collections_of mode workers ls = lists_from ls 0 (if is_each mode then workers e
 abbrev pub collections_in : ModeKind → Books → List (List (List ℕ))
 collections_in mode b = collections_of mode b.settings.workers b.lists
 
--- all items of collections with so many tests come into the pool, in order
+-- all items of collections of these sizes come into the pool, in order
 abbrev pub filled : List ℕ → Table → Table
 filled sizes t = record t { pool = range_with_len 0 (sum sizes) }
 

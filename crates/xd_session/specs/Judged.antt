@@ -9,9 +9,11 @@ use Rattle.xd_ledger.specs.Sharing.{State}
 use Rattle.xd_session.specs.declared.judge.Verdict.{Verdict}
 use Rattle.xd_session.specs.declared.judge.Verdict.TheVariants.{Silent, Follows, Breach}
 
+-- its input follows where it breaks no rule, else it is a breach
 abbrev pub follows_where : Bool → Verdict
 follows_where fine = if fine then Follows else Breach
 
+-- no input follows where it breaks no rule, else it is a breach
 abbrev pub silent_where : Bool → Verdict
 silent_where fine = if fine then Silent else Breach
 

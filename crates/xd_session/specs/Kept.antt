@@ -9,14 +9,17 @@ abbrev pub place_of : ℕ → List WorkerLog → ℕ
 place_of worker [] = zero
 place_of worker (l ∷ ls) = if l.worker == worker then zero else suc (place_of worker ls)
 
+-- the test that the log is of, where there is a log
 abbrev pub index_of : Option Log → Option ℕ
 index_of None = None
 index_of (Some log) = Some log.index
 
+-- the bytes of the log; none where there is no log
 abbrev pub bytes_of : Option Log → List ℕ
 bytes_of None = []
 bytes_of (Some log) = log.bytes
 
+-- the log of the definitions for which the session's own one stands
 abbrev pub log_of_item : WorkerLog → Log
 log_of_item l = record { number = l.number; index = l.index; is_open = l.is_open; bytes = l.bytes }
 

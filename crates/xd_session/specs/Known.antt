@@ -8,6 +8,7 @@ use Rattle.xd_ledger.specs.Plan.{Plan, Asked, is_each}
 use Rattle.xd_session.specs.declared.plan.OpenSteal.{OpenSteal}
 use Rattle.xd_session.specs.declared.plan.KnownPlan.{KnownPlan}
 
+-- the mode, how many tests each slot has, and the open steal
 pub record Known : Type 0 where
   pub mode : ModeKind
   pub sizes : List ℕ
@@ -17,6 +18,7 @@ pub record Known : Type 0 where
 abbrev pub known_of : Plan → Known
 known_of p = record { mode = p.mode; sizes = p.sizes; steal = p.steal }
 
+-- the open steal of the definitions for which the session's own one stands
 abbrev pub asked_of : Option OpenSteal → Option Asked
 asked_of None = None
 asked_of (Some a) = Some (record { worker = a.worker; tests = a.tests })
@@ -34,15 +36,16 @@ abbrev pub where_is : ℕ → Option ℕ → Option ℕ
 where_is item None = None
 where_is item (Some head) = if head == item then Some head else None
 
--- the item is held behind the head, by what a ledger tells of it: it is a number that the ledger has, it is held, and it
+-- the item is held after the head, by what a ledger tells of it: it is a number that the ledger has, it is held, and it
 -- is not the head
 abbrev pub is_behind : ℕ → List ℕ → Bool
 is_behind item held = nat_lt item (2 ^ 32) && among item held && is_none (where_is item (first_of held))
 
--- the open steal behind an output of a mode
+-- the open steal after an output of a mode
 abbrev pub asked_by : Option Asked → Entry → Option Asked
 asked_by a (Steal w tests) = Some (record { worker = w; tests = tests })
 asked_by a _ = a
 
+-- the open steal after these outputs of a mode
 abbrev pub steal_told : List Entry → Option Asked → Option Asked
 steal_told es a = fold asked_by a es

@@ -35,11 +35,12 @@ inputs_by worker es = filter (is_said_by worker) es
 abbrev pub is_ended : ℕ → List Entry → Bool
 is_ended worker es = list_any (is_end_of worker) es
 
+-- the entry alone, or none where there is none
 abbrev pub as_list : Option Entry → List Entry
 as_list None = []
 as_list (Some e) = e ∷ []
 
--- the inputs that the worker's news mean which come behind the news before them, each by all that came ahead of it
+-- the inputs that the worker's news mean which come after those of `before`, each by all that came before it
 abbrev pub meant_behind : Settings → ℕ → List News → List News → List Entry
 meant_behind settings worker before [] = []
 meant_behind settings worker before (n ∷ ns) =

@@ -23,7 +23,7 @@ use Rattle.xd_session.specs.declared.logs.WorkerLog.{WorkerLog}
 use Rattle.xd_session.specs.Kept.{log_in, shortened}
 use Rattle.xd_session.specs.Known.{Known, known_of}
 
--- what is kept of a run and its mode stand for the state; behind a stop the mode is not called, and stands for nothing
+-- what is kept of a run and its mode stand for the state; after a stop the mode is not called, and stands for nothing
 pub record At (s : State) (b : Books) (k : Known) (stands : Plan → Type 0) : Type 0 where
   pub books_are : b ≡ s.books
   pub known_is : k ≡ known_of s.plan
@@ -85,6 +85,7 @@ begun_at worker slot b = record b { crew = b.crew ++ started worker slot ∷ [];
 abbrev pub told : ℕ → Books → Books
 told worker b = marked (made_shut worker) (on_table (shut_down worker) b)
 
+-- each of these workers was told to shut down, in order
 abbrev pub told_all : List ℕ → Books → Books
 told_all [] b = b
 told_all (w ∷ ws) b = told_all ws (told w b)
@@ -93,11 +94,12 @@ told_all (w ∷ ws) b = told_all ws (told w b)
 abbrev pub shutdowns : List ℕ → List Entry
 shutdowns ws = map (λ w. Shutdown w) ws
 
--- the marks of the workers behind an output of a mode
+-- the marks of the workers after an output of a mode
 abbrev pub told_by : List Member → Entry → List Member
 told_by ms (Shutdown w) = map (made_shut w) ms
 told_by ms _ = ms
 
+-- the marks of the workers after these outputs of a mode
 abbrev pub crew_told : List Entry → List Member → List Member
 crew_told es ms = fold told_by ms es
 

@@ -11,13 +11,14 @@ use Rattle.xd_session.specs.declared.logs.WorkerLog.{WorkerLog}
 use Rattle.xd_session.specs.Kept.{log_in, shortened}
 use Rattle.xd_session.specs.History.{run_of, said_by}
 
+-- what callers see of a session
 pub record Seen : Type 0 where
   pub settings : Settings
   pub entries : List Entry  -- the journal so far
   pub logs : List WorkerLog  -- the last log of each worker that started one
   pub whole : Bool  -- no call of it wanted memory
 
--- the state behind the journal so far
+-- the state after the journal so far
 abbrev pub state_of : Seen → State
 state_of s = state_at s.settings s.entries
 

@@ -60,7 +60,7 @@ fn are_same(these: &[u32], those: &[u32]) -> bool
 }
 
 impl<M: Mode> RunState<M> {
-    // The worker holds the item of its slot behind its head.
+    // The worker holds the item of its slot after its head.
     #[tactic(auto, using(crate::proofs::Judging::unseated, crate::proofs::Judging::none_past))]
     fn is_behind_head(&self, worker: u32, first: u32, index: u32) -> bool
         ensures { result ≡ is_behind (first + index) (held worker self.now.books.ledger) }
@@ -75,7 +75,7 @@ impl<M: Mode> RunState<M> {
             && named(first, index, self.books.ledger.head(worker)).is_none()
     }
 
-    // The worker holds each of these tests behind its head.
+    // The worker holds each of these tests after its head.
     fn are_behind_head(&self, worker: u32, indices: &[u32]) -> bool
         ensures { result ≡ list_all (λ i. is_behind (first_item (slot_of worker (books_of self.now.books)) (known_by self.now.known) + i) (held worker self.now.books.ledger)) indices.now }
     {

@@ -19,7 +19,7 @@ fn copy_of(alloc: Global, numbers: &[u32]) -> Result<Indices, OutOfMemory>
     Ok(Indices { items })
 }
 
-// The open steal behind an output of the mode.
+// The open steal after an output of the mode.
 fn ask_one(alloc: Global, act: &Entry, steal: &mut Option<OpenSteal>) -> Result<(), OutOfMemory>
     ensures { OnOk result (asked_of steal.new ≡ asked_by (asked_of steal.old) act.now) }
 {
@@ -33,7 +33,7 @@ fn ask_one(alloc: Global, act: &Entry, steal: &mut Option<OpenSteal>) -> Result<
     Ok(())
 }
 
-// The open steal behind these outputs of the mode.
+// The open steal after these outputs of the mode.
 pub(crate) fn ask(
     alloc: Global,
     acts: &[Entry],

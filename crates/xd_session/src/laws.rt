@@ -8,7 +8,7 @@ ghost use Rattle.xd_session.specs.History.{IsProperRun, run_of};
 ghost use Rattle.xd_session.specs.Part.{HasPart};
 
 /// In every mode, whatever news come, what they mean are proper inputs of a run, the journal is the one that these inputs make, and its
-/// state is the one behind them. So whatever holds of proper runs holds of each session.
+/// state is the one after them. So whatever holds of proper runs holds of each session.
 pub fn session_law()
     ensures { (settings : Settings) (taken : List News) → IsProper settings [] → IsProperRun settings (run_of settings taken) }
 {}

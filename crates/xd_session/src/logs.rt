@@ -48,7 +48,7 @@ fn place_of(logs: &[WorkerLog], worker: u32) -> usize
     logs.len()
 }
 
-// The bytes with the piece behind them, but no more than can be asked for.
+// The bytes with the piece after them, but no more than can be asked for.
 fn add_first(bytes: &mut Blob, piece: &[u8]) -> Result<(), OutOfMemory>
     ensures { OnOk result (bytes.new ≡ take most_of_one (bytes.old ++ piece.now)) }
 {
@@ -196,7 +196,7 @@ impl Logs {
         }
     }
 
-    // The worker's last log behind its news.
+    // The worker's last log after its news.
     pub(crate) fn hear(
         &mut self,
         alloc: Global,

@@ -1,4 +1,4 @@
-// What is said behind an input.
+// What is said after an input.
 ghost use Rattle.std.specs.Prelude.{◌≡◌, [], ◌∷◌, ◌++◌, OnOk, if◌then◌else◌};
 ghost use Rattle.xd_journal.specs.declared.entry.Entry.TheVariants as entry;
 ghost use Rattle.xd_ledger.specs.Outputs.{shut_all};
@@ -80,7 +80,7 @@ pub(crate) fn tell_where_shutting(
     Ok(())
 }
 
-// The marks of the workers behind an output of the mode.
+// The marks of the workers after an output of the mode.
 fn follow_one(act: &Entry, crew: &mut Vec<Member>)
     ensures { crew.new.items ≡ told_by crew.old.items act.now }
 {
@@ -89,7 +89,7 @@ fn follow_one(act: &Entry, crew: &mut Vec<Member>)
     }
 }
 
-// The marks of the workers behind these outputs of the mode.
+// The marks of the workers after these outputs of the mode.
 pub(crate) fn follow(acts: &[Entry], crew: &mut Vec<Member>)
     ensures { crew.new.items ≡ crew_told acts.now crew.old.items }
 {

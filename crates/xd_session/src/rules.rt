@@ -1,4 +1,4 @@
-// The rules of the session: what each input changes, and what is said behind it.
+// The rules of the session: what each input changes, and what is said after it.
 ghost use Rattle.std.specs.Prelude.{◌≡◌, ◌+◌, ◌^◌, nat_lt, map, not, ◌&&◌, ℕ, true, false, [], IfOk, OnOk, if◌then◌else◌, is_some, Some, None};
 ghost use Rattle.std.specs.List.{list_all};
 ghost use Rattle.xd_journal.specs.declared.entry.Entry.TheVariants as entry;
@@ -37,7 +37,7 @@ impl<M: Mode> RunState<M> {
         self.books.shared && self.mode.finished(&self.books.ledger)
     }
 
-    // Behind each rule: where nothing is left to hand out, all are shut.
+    // After each rule: where nothing is left to hand out, all are shut.
     pub(crate) fn finish(
         &mut self,
         alloc: Global,
@@ -70,7 +70,7 @@ impl<M: Mode> RunState<M> {
         named(first, index, self.books.ledger.head(worker))
     }
 
-    // What a stop brings: nothing behind an earlier one, else all are shut.
+    // What a stop brings: nothing after an earlier one, else all are shut.
     fn stop_outputs(
         &mut self,
         alloc: Global,
@@ -105,7 +105,7 @@ impl<M: Mode> RunState<M> {
         Ok(())
     }
 
-    // What a Done brings: nothing behind a stop, at a stop all are shut, else what the mode says.
+    // What a Done brings: nothing after a stop, at a stop all are shut, else what the mode says.
     fn done_outputs(
         &mut self,
         alloc: Global,
@@ -177,7 +177,7 @@ impl<M: Mode> RunState<M> {
         Ok(Indices { items })
     }
 
-    // What an answer to a steal brings: nothing behind a stop, else what the mode says.
+    // What an answer to a steal brings: nothing after a stop, else what the mode says.
     fn back_outputs(
         &mut self,
         alloc: Global,
@@ -328,7 +328,7 @@ impl<M: Mode> RunState<M> {
     }
 
     // A worker went down: it is killed, its head is reported, or goes to the pool's front where it is tried again, and what it
-    // held behind it goes to the pool's end.
+    // held after it goes to the pool's end.
     pub(crate) fn down(
         &mut self,
         alloc: Global,

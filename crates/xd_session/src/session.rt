@@ -26,7 +26,7 @@ use xd_journal::{Entry, Journal, News, Settings};
 use xd_ledger::Mode;
 
 /// The part of the controller that decides. It stands for the news that it took: its journal is the one that they make.
-/// Behind want of memory it is given up.
+/// Once it runs out of memory it is given up.
 #[derive(Drop)]
 pub struct Session<M: Mode> {
     core: Core<M>,
@@ -96,7 +96,7 @@ impl<M: Mode> Session<M> {
     }
 
     /// One piece of news of an active worker. Gives the places of the entries that it added to the journal. Where the run
-    /// is not over then, some worker owes the next step. Behind an error the session is given up.
+    /// is not over then, some worker owes the next step. After an error the session is given up.
     pub fn step(&mut self, alloc: Global, news: News) -> Result<Step, OutOfMemory>
         requires whole { self.old.whole ≡ true }
         requires active { is_active news.worker (state_of self.old).books ≡ true }

@@ -47,7 +47,7 @@ pub(crate) fn take_acts(
 }
 
 impl<M: Mode> RunState<M> {
-    // The mode hears of a worker that joined behind the share.
+    // The mode hears of a worker that joined after the share.
     pub(crate) fn call_joined(
         &mut self,
         alloc: Global,
@@ -106,7 +106,7 @@ impl<M: Mode> RunState<M> {
         Ok(())
     }
 
-    // The mode hears of a death behind the share. The last items of the pool are those that the worker held behind its head,
+    // The mode hears of a death after the share. The last items of the pool are those that the worker held after its head,
     // which is the first one where it was retried.
     pub(crate) fn call_died(
         &mut self,

@@ -18,7 +18,7 @@ use xd_ledger::{Ledger, give_front, shut};
 // A victim keeps at least this part of what it holds.
 const KEPT_PART: u32 = 2;
 
-// How many are asked of a worker that holds so many.
+// How many tests a worker is asked for, by how many it holds.
 fn number_of(held: u32) -> u32
     ensures { result ≡ min (held / kept_part) (held - enough) }
 {
@@ -56,7 +56,7 @@ fn shut_all(workers: &[u32], ledger: &mut Ledger, acts: &mut Vec<Entry>) -> Resu
     Ok(())
 }
 
-// The worker is asked for its last so many tests.
+// The worker is asked for its last `count` tests.
 fn ask(
     alloc: Global,
     worker: u32,

@@ -58,7 +58,7 @@ fn most(ledger: &Ledger) -> u32
     most
 }
 
-// The worker may be told and holds so many.
+// The worker may be told and holds that many.
 fn holds_open(worker: u32, count: u32, ledger: &Ledger) -> bool
     requires { in_rota worker ledger.now ≡ true }
     ensures { result ≡ (not (seat_shut worker ledger.now) && (length (held worker ledger.now) == count)) }

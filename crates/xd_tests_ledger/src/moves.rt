@@ -5,7 +5,7 @@ use std::test::Fail;
 use xd_edge::Indices;
 use xd_ledger::{Death, Ledger, Seat};
 
-// So many runs, each of so many moves and with so few items that each list is empty at times.
+// How many runs there are, of how many moves, and with how many items: so few that each list is empty at times.
 const RUNS: u32 = 200;
 
 const MOVES: u32 = 50;
@@ -34,7 +34,7 @@ fn start(alloc: Global) -> Result<Run, Fail> {
     })
 }
 
-// A number below so many, by a linear congruence; 0 where there is none.
+// A number below `sides`, by a linear congruence; 0 where there is none.
 fn roll(state: &mut u32, sides: usize) -> usize {
     *state = state.wrapping_mul(1_664_525).wrapping_add(1_013_904_223);
     if sides == 0 {

@@ -435,7 +435,7 @@ fn show_told(text: &mut String, entry: &Entry) -> Result<(), Fail> {
     Ok(())
 }
 
-/// Each entry, and a space behind it.
+/// Each entry, and a space after it.
 pub fn show_entries(alloc: Global, text: &mut String, entries: &[Entry]) -> Result<(), Fail> {
     for entry in entries {
         show_input(alloc, text, entry)?;

@@ -23,9 +23,11 @@ pub record Around : Type 0 where
   pub streams : Streams
   pub programs : Programs
 
+-- these, of all that is outside
 abbrev pub around : Outside → Around
 around o = record { streams = o.streams; programs = o.programs }
 
+-- what the run of the tests sees of these
 abbrev pub reach_of : Around → Reach
 reach_of a = record { out = a.streams.out; programs = a.programs }
 
@@ -43,5 +45,6 @@ abbrev pub DidBy : Asked → Option Journal → ℕ → Around → Around → Ty
 DidBy asked (Some j) status old new = RunsNamed asked j status old new
 DidBy asked None status old new = RefusesSuite asked.suite status old.streams new.streams
 
+-- The same, by the journal and the status that it came to.
 abbrev pub DidLocal : Asked → Came → Around → Around → Type 0
 DidLocal asked came old new = DidBy asked came.journal came.status old new

@@ -42,5 +42,6 @@ pub record Outside : Type 0 where
   pub crews : Crews
   pub clock : Ticking
 
+-- what a worker works on, of all that is outside
 abbrev pub workplace : Outside → Workplace
 workplace o = record { files = o.streams.files; programs = o.programs; starter = o.starter; crews = o.crews; clock = o.clock }

@@ -12,7 +12,7 @@ use Rattle.xd_top.specs.declared.refusal.Refusal.TheVariants.{FileUnread, FileTo
 use Rattle.xd_top.specs.Outside.{Streams}
 use Rattle.xd_top.specs.Refusal.{Refuses}
 
--- a file of messages has at most so many bytes
+-- a file of messages has at most that many bytes
 abbrev pub most_file_bytes : ℕ
 most_file_bytes = 67108864
 

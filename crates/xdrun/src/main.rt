@@ -11,7 +11,7 @@ use xd_edge::{OutSink, RealChildren, RealClock, RealFiles, Text, Texts};
 use xd_real::RealStarter;
 use xd_top::xdrun;
 
-// The name that the program was started by, and the words behind it.
+// The name that the program was started by, and the words after it.
 fn words_of(rt: &(impl Env + AllocGlobal), alloc: Global) -> io::Result<(Text, Texts)> {
     let mut args = env::args(rt)?;
     let program = match args.next() {

@@ -1,4 +1,4 @@
-// One run whose output fails at one call or another. The words are those of `script`; behind the news stand the calls that
+// One run whose output fails at one call or another. The words are those of `script`; after the news stand the calls that
 // the hub took. All of it was made by a model of the rules that was written apart from them.
 pub(crate) const RUNS: &str = "\
      the first write ~ 2,0,8,-,0 ~ R0 C0:a|b|c R1 C1:a|b|c G0,e R2 C2:a|b|c T1,1,p,5 F1 T2,2,p,5 F2 ~ s0,0 s1,1 k0 k1 ~ s0,0 s1,1 R0 C0:a|b|c R1 C1= r0,0 r1,1 r0,2 h0 h1 k0 k1 o:out ~ 3 ~ \n\
