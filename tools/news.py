@@ -508,7 +508,7 @@ def main():
         rows.append(chance(rng))
     print("// Message lists of a worker's link, with the news that they mean. Written by tools/news.py.")
     print("")
-    print("/// A line for each list: its messages, as hexadecimal bytes with spaces between them, and behind ` ~ ` their news in")
+    print("/// A line for each list: its messages, as hexadecimal bytes with spaces between them, and after ` ~ ` their news in")
     print("/// words, each followed by a semicolon. A message that makes no news has a dash.")
     print('pub const ROWS: &str = "\\')
     for messages in rows:

@@ -24,7 +24,7 @@ use Rattle.xd_factory.specs.View.{slot_of, parity_of}
 pub data Act : Type 0 where
   Open_channel : ℕ → Act  -- `open_channel` gave the number
   Take_message : Said → Taken Tree → Act  -- a message, and what it did
-  Refuse : (ℕ → Bool) → Act  -- a message was refused behind the opening of these numbers
+  Refuse : (ℕ → Bool) → Act  -- a message was refused after the opening of these numbers
   Close : ℕ → Act
   Give_up : ℕ → Act
   End_function : ℕ → Act

@@ -9,8 +9,8 @@ mod suite;
 
 use crate::ask::{Acts, Ask};
 use crate::input::Input;
-use crate::phase::Phase;
 use crate::line_entry::{LineEntry, Standing};
+use crate::phase::Phase;
 use std::alloc::Global;
 use std::collections::VecDeque;
 use xd_edge::OutOfMemory;

@@ -13,7 +13,7 @@ use Rattle.xd_ledger.specs.Proper.{IsProper}
 -- a run so far
 pub record Run : Type 0 where
   pub entries : List Entry  -- its journal
-  pub state : State  -- behind these entries
+  pub state : State  -- after these entries
   pub inputs : List Entry  -- what the news meant, in order
   pub taken : List News  -- the news themselves, in order
 

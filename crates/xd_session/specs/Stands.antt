@@ -16,7 +16,7 @@ pub record Seen : Type 0 where
   pub settings : Settings
   pub entries : List Entry  -- the journal so far
   pub logs : List WorkerLog  -- the last log of each worker that started one
-  pub whole : Bool  -- no call of it wanted memory
+  pub whole : Bool  -- no call of it ran out of memory
 
 -- the state after the journal so far
 abbrev pub state_of : Seen → State

@@ -6,8 +6,8 @@ mod messages;
 mod suites;
 
 use crate::input::{WorkerActions, WorkerFault, WorkerInput};
-use crate::tests_call::{Fed, TestsCall, feed};
 use crate::talk::{announce, close_log, end_function, send_piece};
+use crate::tests_call::{Fed, TestsCall, feed};
 use std::alloc::Global;
 use xd_edge::{OutOfMemory, Text};
 use xd_factory::{Parity, Side};

@@ -3,8 +3,8 @@ ghost use Rattle.std.specs.Prelude.{◌≡◌, ◌++◌, ◌∷◌, [], IfOk, On
 
 use super::RunTests;
 use crate::ask::Acts;
-use crate::phase::{Ending, Phase};
 use crate::line_entry::{LineEntry, Standing};
+use crate::phase::{Ending, Phase};
 use std::collections::VecDeque;
 use xd_edge::OutOfMemory;
 use xd_gateway::Order;

@@ -3,8 +3,8 @@ ghost use Rattle.std.specs.Prelude.{◌≡◌, ◌++◌, ◌∷◌, [], IfOk, On
 
 use super::{RunTests, Running};
 use crate::ask::{Acts, Ask, request};
-use crate::phase::{Ending, Phase};
 use crate::line_entry::{LineEntry, Standing};
+use crate::phase::{Ending, Phase};
 use xd_edge::{OutOfMemory, Text};
 use xd_journal::What;
 

@@ -4,8 +4,8 @@ ghost use Rattle.std.specs.Prelude.{ℕ, slice_get, slice_set, ◌≡◌, ◌∷
 
 use super::RunTests;
 use crate::ask::{Acts, Ask, request};
-use crate::phase::Ending;
 use crate::line_entry::{LineEntry, Standing};
+use crate::phase::Ending;
 use std::collections::VecDeque;
 use xd_edge::{Indices, OutOfMemory};
 use xd_journal::What;

@@ -3,8 +3,8 @@ ghost use Rattle.std.specs.Prelude.{◌^◌, ◌≡◌, [], ◌<◌, IfOk, OnOk,
 
 use super::RunTests;
 use crate::ask::{Acts, Ask, request};
-use crate::phase::{Ending, Phase};
 use crate::line_entry::Standing;
+use crate::phase::{Ending, Phase};
 use std::collections::VecDeque;
 use xd_edge::{OutOfMemory, Text, Texts};
 use xd_gateway::Order;

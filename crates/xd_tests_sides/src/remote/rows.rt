@@ -1,6 +1,6 @@
 // Message lists of a worker's link, with the news that they mean. Written by tools/news.py.
 
-/// A line for each list: its messages, as hexadecimal bytes with spaces between them, and behind ` ~ ` their news in
+/// A line for each list: its messages, as hexadecimal bytes with spaces between them, and after ` ~ ` their news in
 /// words, each followed by a semicolon. A message that makes no news has a dash.
 pub const ROWS: &str = "\
      0400000001000000174e0000000b776f726b657272656164794a400000000251 ~ Ready;\n\
