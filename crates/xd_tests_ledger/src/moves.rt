@@ -1,4 +1,7 @@
-// Random moves of a ledger, against plain lists.
+// Moves of a ledger, against plain lists.
+ghost use Rattle.std.specs.Prelude.{◌≤◌};
+ghost use Rattle.xd_ledger.specs.Sound.{most_items};
+
 use std::alloc::Global;
 use std::process::Abort;
 use std::test::Fail;
@@ -21,13 +24,15 @@ struct Run {
     joined: u32,
 }
 
-fn start(alloc: Global) -> Result<Run, Fail> {
+fn start(alloc: Global, items: u32) -> Result<Run, Fail>
+    requires { items ≤ most_items }
+{
     let mut pool = Vec::new(alloc);
-    for item in 0..ITEMS {
+    for item in 0..items {
         pool.push(item)?;
     }
     Ok(Run {
-        ledger: Ledger::new(alloc, ITEMS)?,
+        ledger: Ledger::new(alloc, items)?,
         pool,
         rota: Vec::new(alloc),
         joined: 0,
@@ -150,9 +155,10 @@ fn die(
     pool: &mut Vec<u32>,
     seat: &Seat,
     retry: bool,
-) -> Result<(), Fail> {
+) -> Result<Death, Fail> {
     assert!(rt; ledger.in_rota(seat.worker));
-    let Death { head, rest } = ledger.die(seat.worker, retry);
+    let death = ledger.die(seat.worker, retry);
+    let Death { head, rest } = death;
     let held = seat.held.items.as_slice();
     assert!(rt; head == held.first().copied());
     assert!(rt; rest as usize == held.len().saturating_sub(1));
@@ -164,7 +170,7 @@ fn die(
     for item in held.iter().skip(1) {
         pool.push(*item)?;
     }
-    Ok(())
+    Ok(death)
 }
 
 // The worker leaves where it holds nothing, and dies where it does.
@@ -295,11 +301,36 @@ fn ten_thousand_moves_leave_the_lists_of_a_plain_model(rt: HostRuntime) -> Resul
     let alloc = rt.alloc();
     let mut state = 1;
     for _ in 0..RUNS {
-        let mut run = start(alloc)?;
+        let mut run = start(alloc, ITEMS)?;
         for _ in 0..MOVES {
             make_move(&rt, alloc, &mut run, &mut state)?;
             assert!(rt; is_same(&run));
         }
     }
+    Ok(())
+}
+
+// Worker 0 holds this list, and the pool is that one.
+fn expect(rt: &impl Abort, ledger: &Ledger, held: &[u32], pool: &[u32]) {
+    assert!(rt; holds_all(ledger, 0, held));
+    assert!(rt; is_pool(ledger, pool));
+}
+
+// Of a batch of three the last comes back, the first is reported, and its worker dies at the second.
+#[test]
+fn a_batch_given_back_in_part_and_a_death_leave_their_lists(rt: HostRuntime) -> Result<(), Fail> {
+    let alloc = rt.alloc();
+    let mut run = start(alloc, 4)?;
+    join(&rt, alloc, &mut run)?;
+    let mut seat = run.rota.pop().ok_or("the worker's seat")?;
+    assign_front(&rt, alloc, &mut run.ledger, &mut run.pool, &mut seat)?;
+    expect(&rt, &run.ledger, &[0, 1, 2], &[3]);
+    give_back(&rt, &mut run.ledger, &mut run.pool, &mut seat, (2, 2))?;
+    expect(&rt, &run.ledger, &[0, 1], &[3, 2]);
+    complete(&rt, &mut run.ledger, &mut seat);
+    expect(&rt, &run.ledger, &[1], &[3, 2]);
+    let death = die(&rt, &mut run.ledger, &mut run.pool, &seat, false)?;
+    assert!(rt; death.head == Some(1) && death.rest == 0);
+    assert!(rt; is_pool(&run.ledger, &[3, 2]));
     Ok(())
 }
