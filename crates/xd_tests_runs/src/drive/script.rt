@@ -7,9 +7,11 @@
 // News and entries are those of `words`; in the text, too, more than eight of one character are written x*9, and / is a
 // newline.
 ghost use Rattle.std.specs.Prelude.{◌≡◌, [], IfOk};
+ghost use Rattle.xd_edge.specs.declared.mode.ModeKind.TheVariants.{Load as InModeLoad};
 ghost use Rattle.xd_ledger.specs.State.{no_one};
 ghost use Rattle.xd_session.specs.Stands.{CanBegin};
 
+use crate::drive::own_load::OwnLoad;
 use crate::words::{news_of, number, show_bytes, show_entries};
 use std::alloc::Global;
 use std::sync::Wait;
@@ -83,6 +85,13 @@ fn output_that_fails(alloc: Global, words: &str) -> Result<MemSink, Fail> {
     Ok(out)
 }
 
+/// Whose mode load a run is in: the library's, or one of the tests' own.
+#[derive(Clone, Copy)]
+pub enum LoadBy {
+    Library,
+    Tests,
+}
+
 /// What a run came to: the calls that its hub took; and its journal, its status and its text. In words.
 #[derive(Drop)]
 pub struct Ran {
@@ -100,7 +109,13 @@ fn rest_of(alloc: Global, journal: &Journal, out: &MemSink) -> Result<String, Fa
 }
 
 /// What the run with these settings and news comes to.
-pub fn run_of<R: Wait>(rt: &R, alloc: Global, words: &str, news: &str) -> Result<Ran, Fail> {
+pub fn run_of<R: Wait>(
+    rt: &R,
+    alloc: Global,
+    load_by: LoadBy,
+    words: &str,
+    news: &str,
+) -> Result<Ran, Fail> {
     let settings = settings_of(words)?;
     let kind = settings.mode;
     match kind {
@@ -110,11 +125,32 @@ pub fn run_of<R: Wait>(rt: &R, alloc: Global, words: &str, news: &str) -> Result
             run_in(rt, alloc, settings, mode, words, news)
         }
         ModeKind::WorkSteal => run_in(rt, alloc, settings, Steal::new(), words, news),
-        ModeKind::Load => {
+        ModeKind::Load => run_load(rt, alloc, load_by, settings, words, news),
+        ModeKind::Local => Err(Fail::from("a mode with workers")),
+    }
+}
+
+// The same in mode load.
+fn run_load<R: Wait>(
+    rt: &R,
+    alloc: Global,
+    load_by: LoadBy,
+    settings: Settings,
+    words: &str,
+    news: &str,
+) -> Result<Ran, Fail>
+    requires begins { CanBegin settings }
+    requires load { settings.mode ≡ InModeLoad }
+{
+    match load_by {
+        LoadBy::Library => {
             let mode = Load::new(settings.chunk);
             run_in(rt, alloc, settings, mode, words, news)
         }
-        ModeKind::Local => Err(Fail::from("a mode with workers")),
+        LoadBy::Tests => {
+            let mode = OwnLoad::new(settings.chunk);
+            run_in(rt, alloc, settings, mode, words, news)
+        }
     }
 }
 

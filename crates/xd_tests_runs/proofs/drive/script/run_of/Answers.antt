@@ -9,6 +9,3 @@ run_in-requires-in-LoadScope-clause-fresh g c = c.new-mode.ensures _ refl refl r
 
 pub run_in-requires-in-WorkSteal-clause-fresh : goal.run_in-requires-in-WorkSteal-clause-fresh
 run_in-requires-in-WorkSteal-clause-fresh g c = c.new-in-WorkSteal.ensures _ c.in-WorkSteal.is refl
-
-pub run_in-requires-in-Load-clause-fresh : goal.run_in-requires-in-Load-clause-fresh
-run_in-requires-in-Load-clause-fresh g c = c.new-mode-in-Load.ensures _ c.in-Load.is refl refl refl
