@@ -155,7 +155,7 @@ dealt-work s t plain g k =
     let l = twice tests (length ws) h in
     inl (singly (ws ++ ws) t (omega (arith, two, l)) (λ v a. k v (among-twice v ws ws a (λ u b. b))))))
     (λ h. work-through (Good s) (give_unless_shut n) (workers_of s.books.table) (λ w u a x. good-guarded s n w u plain a x)
-    (λ w u a x. guarded-employs n w u (batch-enough (tests / length ws / 4) (chunk_of t.plan)) (in_rota-of s u w x a)) ws t (rota-all s t g) g)
+    (λ w u a x. guarded-employs n w u (batch-enough _ (chunk_of t.plan)) (in_rota-of s u w x a)) ws t (rota-all s t g) g)
 
 pub share-work : (s : State) (t : Turn) → IsPlain s.plan.mode → Good s t → ((v : ℕ) → among v (workers_of t.table) ≡ true → seat_shut v t.table ≡ false) → AllWork (workers_of t.table) (share t).table
 share-work s t plain g k = by (dealt t).table.pool refl
