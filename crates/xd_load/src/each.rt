@@ -7,7 +7,7 @@ ghost use Rattle.xd_load.specs.Slots.{InSlots};
 use crate::sizes::Sizes;
 use crate::slots::{join, share};
 use std::alloc::Global;
-use xd_edge::{OutOfMemory, Texts};
+use xd_edge::{OutOfMemory, Text};
 use xd_journal::Entry;
 use xd_ledger::{Ledger, Mode};
 
@@ -35,11 +35,12 @@ impl Mode for Each {
         &mut self,
         alloc: Global,
         slots: &[u32],
-        collections: &[Texts],
+        sizes: &[u32],
+        _ids: &[Text],
         ledger: &mut Ledger,
         acts: &mut Vec<Entry>,
     ) -> Result<(), OutOfMemory> {
-        self.sizes = Sizes::of(alloc, collections, ledger.pool_len())?;
+        self.sizes = Sizes::of(alloc, sizes, ledger.pool_len())?;
         share(alloc, &self.sizes, slots, ledger, acts)?;
         Ok(())
     }

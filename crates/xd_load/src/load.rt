@@ -6,7 +6,7 @@ ghost use Rattle.xd_load.specs.Stands.{StandsFor};
 
 use crate::batches::{refill_each, refill_one, share_all};
 use std::alloc::Global;
-use xd_edge::{OutOfMemory, Texts};
+use xd_edge::{OutOfMemory, Text};
 use xd_journal::Entry;
 use xd_ledger::{Ledger, Mode};
 
@@ -41,7 +41,8 @@ impl Mode for Load {
         &mut self,
         alloc: Global,
         _slots: &[u32],
-        _collections: &[Texts],
+        _sizes: &[u32],
+        _ids: &[Text],
         ledger: &mut Ledger,
         acts: &mut Vec<Entry>,
     ) -> Result<(), OutOfMemory> {

@@ -1,11 +1,11 @@
 // How many tests each slot has.
-ghost use Rattle.std.specs.Prelude.{◌≡◌, ◌+◌, ◌<◌, ◌≤◌, ◌^◌, [], map, length, sum, take, slice_index, IfOk};
+ghost use Rattle.std.specs.Prelude.{◌≡◌, ◌+◌, ◌<◌, ◌^◌, [], sum, slice_index, IfOk};
 ghost use Rattle.std.specs.List.{range_with_len};
 ghost use Rattle.xd_load.specs.Slots.{first_in, items_in};
 
 use std::alloc::Global;
 use std::marker::Model;
-use xd_edge::{Indices, OutOfMemory, Texts};
+use xd_edge::{Indices, OutOfMemory};
 
 /// How many tests each slot has, in order of slots.
 #[derive(Drop)]
@@ -34,25 +34,6 @@ fn range(alloc: Global, start: u32, len: u32) -> Result<Indices, OutOfMemory>
         items.push(start + i)?;
     }
     Ok(Indices { items })
-}
-
-// How many ids these are.
-fn len_of(ids: &Texts) -> usize
-    ensures { result ≡ length ids.now }
-{
-    ids.items.len()
-}
-
-// The lengths of these collections.
-fn lengths(alloc: Global, collections: &[Texts]) -> Result<Vec<u32>, OutOfMemory>
-    requires { sum (map length collections.now) < 2 ^ 32 }
-    ensures { IfOk result (λ r. r.items ≡ map length collections.now) }
-{
-    let mut items = Vec::with_capacity(alloc, collections.len())?;
-    for ids in collections {
-        items.push(len_of(ids) as u32)?;
-    }
-    Ok(items)
 }
 
 // The first item of the slot, where the slots have these sizes.
@@ -87,16 +68,12 @@ impl Sizes {
         }
     }
 
-    /// The lengths of these collections, which have `_total` ids together.
-    pub(crate) fn of(
-        alloc: Global,
-        collections: &[Texts],
-        _total: u32,
-    ) -> Result<Sizes, OutOfMemory>
-        requires { sum (map length collections.now) ≡ _total }
-        ensures { IfOk result (λ r. r ≡ map length collections.now) }
+    /// These numbers, which have this sum.
+    pub(crate) fn of(alloc: Global, sizes: &[u32], _total: u32) -> Result<Sizes, OutOfMemory>
+        requires { sum sizes.now ≡ _total }
+        ensures { IfOk result (λ r. r ≡ sizes.now) }
     {
-        let items = lengths(alloc, collections)?;
+        let items = Vec::from_slice(alloc, sizes)?;
         Ok(Sizes { items })
     }
 

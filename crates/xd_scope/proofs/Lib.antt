@@ -1,3 +1,4 @@
+pub mod Amounts
 pub mod Grouped
 pub mod Handing
 pub mod ModeTurns

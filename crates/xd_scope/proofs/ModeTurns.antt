@@ -1,21 +1,23 @@
 -- What a call of the mode does, from what its turn is.
-use Rattle.std.proofs.Common.{◌≡◌, ℕ, ◌+◌, ◌≤◌, List, [], ◌∷◌, ◌++◌, length, map, Bool, true, refl, ap, sym, subst, ◌∙◌, arith}
-use Rattle.std.specs.Prelude.{fold, sum, if◌then◌else◌}
+use Rattle.std.proofs.Common.{◌≡◌, ℕ, ◌≤◌, List, ◌++◌, length, Bool, true, refl, ap, sym, subst, ◌∙◌, arith}
+use Rattle.std.specs.Prelude.{sum, if◌then◌else◌}
 use Rattle.std.specs.List.{range_with_len}
 use Rattle.std.proofs.lemmas.List.FromFn.{length-range_with_len}
 use Rattle.xd_journal.specs.declared.entry.Entry.{Entry}
 use Rattle.xd_edge.specs.declared.mode.ModeKind.{ModeKind}
 use Rattle.xd_edge.specs.declared.mode.ModeKind.TheVariants.{Local, Each, Load, LoadScope, LoadFile, LoadGroup, WorkSteal}
-use Rattle.xd_ledger.specs.Calls.{Turned, death_plan, last_of, shared_plan, turn}
+use Rattle.xd_ledger.specs.Calls.{Turned, death_plan, last_of, turn}
 use Rattle.xd_ledger.specs.Modes.{Call, scope_turn, turned}
 use Rattle.xd_ledger.specs.Plan.{Plan, is_scope}
+use Rattle.xd_ledger.specs.Sharing.{shared_plan}
 use Rattle.xd_ledger.specs.State.{down_plan}
 use Rattle.xd_ledger.specs.Suits.{AreInPool}
 use Rattle.xd_ledger.specs.Table.{Table, retried_item}
 use Rattle.xd_ledger.specs.Turn.{Turn}
 use Rattle.xd_ledger.specs.Units.{unless_empty, units, units_left}
 use Rattle.xd_scope.specs.declared.units.Units.{Units}
-use Rattle.xd_scope.specs.Stands.{IsAt, Keeps, first_ids, given_to, left_of_each}
+use Rattle.xd_scope.specs.Stands.{IsAt, Keeps, given_to, left_of_each}
+use Rattle.xd_scope.proofs.Amounts.{few-units}
 use Rattle.xd_scope.proofs.Remains.{units-left}
 
 turned-scope : (m : ModeKind) (c : Call) (t : Turn) → is_scope m ≡ true → turned m c t ≡ scope_turn c t
@@ -62,31 +64,24 @@ keeps-death w retried rest pool u v p back k a b c d e =
 
 -- the tests are shared
 
-first-is : (lists : List (List (List ℕ))) (p : Plan) → is_scope p.mode ≡ true → (shared_plan lists p).queue ≡ units p.mode p.reorder (first_ids lists)
-first-is [] p h = rw h
-first-is (ids ∷ lists) p h = rw h
+queue-is : (sizes : List ℕ) (ids : List (List ℕ)) (p : Plan) → is_scope p.mode ≡ true → (shared_plan sizes ids p).queue ≡ units p.mode p.reorder ids
+queue-is sizes ids p h = rw h
 
-pub keeps-shared : (lists : List (List (List ℕ))) (u v : Units) (p : Plan) → Keeps u p → v.kind ≡ u.kind → v.reorder ≡ u.reorder → v.given ≡ u.given → v.queue.items ≡ units u.kind u.reorder (first_ids lists) → Keeps v (shared_plan lists p)
-keeps-shared lists u v p k a b c d = record {
+pub keeps-shared : (sizes : List ℕ) (ids : List (List ℕ)) (u v : Units) (p : Plan) → Keeps u p → v.kind ≡ u.kind → v.reorder ≡ u.reorder → v.given ≡ u.given → v.queue.items ≡ units u.kind u.reorder ids → Keeps v (shared_plan sizes ids p)
+keeps-shared sizes ids u v p k a b c d = record {
   mode = k.mode ∙ sym a;
   scope = ap is_scope a ∙ k.scope;
   reorder = k.reorder ∙ sym b;
-  queue = first-is lists p (scope-mode u p k) ∙ ap (λ (m : ModeKind). units m p.reorder (first_ids lists)) k.mode ∙ ap (λ (r : Bool). units u.kind r (first_ids lists)) k.reorder ∙ sym d;
+  queue = queue-is sizes ids p (scope-mode u p k) ∙ ap (λ (m : ModeKind). units m p.reorder ids) k.mode ∙ ap (λ (r : Bool). units u.kind r ids) k.reorder ∙ sym d;
   given = λ x. (k.given x ∙ ap (given_to x) (sym c));
   steal = k.steal;
 }
 
-fold-plus : (a : ℕ) (xs : List ℕ) → fold ◌+◌ a xs ≡ a + fold ◌+◌ 0 xs
-fold-plus a [] = omega arith
-fold-plus a (x ∷ xs) =
-    let p : fold ◌+◌ (a + x) xs ≡ (a + x) + fold ◌+◌ 0 xs = fold-plus (a + x) xs in
-    let q : fold ◌+◌ (0 + x) xs ≡ (0 + x) + fold ◌+◌ 0 xs = fold-plus (0 + x) xs in
-    p ∙ omega (arith, q)
-
-first-few : (lists : List (List (List ℕ))) → length (first_ids lists) ≤ sum (map length lists)
-first-few [] = omega arith
-first-few (ids ∷ lists) = let e = fold-plus (0 + length ids) (map length lists) in omega (arith, e)
-
 -- there are no more ids than tests in the pool
-pub few-ids : (lists : List (List (List ℕ))) (pool : List ℕ) (n : ℕ) → pool ≡ range_with_len 0 (sum (map length lists)) → n ≡ length pool → length (first_ids lists) ≤ n
-few-ids lists pool n e len = omega (arith, first-few lists, len, ap length e, length-range_with_len 0 (sum (map length lists)))
+pub few-ids : (u : Units) (p : Plan) (sizes pool : List ℕ) (ids : List (List ℕ)) (n : ℕ) → Keeps u p → pool ≡ range_with_len 0 (sum sizes) → n ≡ length pool
+    → (is_scope p.mode ≡ true → AreInPool (shared_plan sizes ids p).queue pool) → length ids ≤ n
+few-ids u p sizes pool ids n k e len fits =
+    let scope = scope-mode u p k in
+    let queue : AreInPool (units p.mode p.reorder ids) pool = subst (λ (q : List (List ℕ)). AreInPool q pool) (queue-is sizes ids p scope) (fits scope) in
+    let few = few-units p.mode p.reorder ids (sum sizes) (subst (λ (xs : List ℕ). AreInPool (units p.mode p.reorder ids) xs) e queue) in
+    omega (arith, few, len, ap length e, length-range_with_len 0 (sum sizes))

@@ -48,11 +48,6 @@ give_where_few worker t = if nat_lt (length (held worker t.table)) enough then g
 abbrev pub served_share : ℕ → List ℕ → Turn → Turn
 served_share k ws t = in_turn refill (take k ws) (in_turn give_unit (take k ws) (shut_each (reverse (drop k ws)) t))
 
--- the ids of the first collection, which stands for all
-abbrev pub first_ids : List (List (List ℕ)) → List (List ℕ)
-first_ids [] = []
-first_ids (ids ∷ lists) = ids
-
 -- the set has these numbers
 abbrev pub IsSetOf : List ℕ → BTreeSet ℕ → Type 0
 IsSetOf xs s = (x : ℕ) → contains nat_cmp s x ≡ among x xs

@@ -1,7 +1,7 @@
 // The mode.
 ghost use Rattle.std.specs.Prelude.{◌≡◌, [], None, true};
 ghost use Rattle.xd_ledger.specs.Plan.{Plan, is_scope};
-ghost use Rattle.xd_scope.specs.Stands.{Keeps, first_ids};
+ghost use Rattle.xd_scope.specs.Stands.{Keeps};
 
 use crate::fallen::{keep_rest, keep_retried};
 use crate::groups::units_of;
@@ -10,7 +10,7 @@ use crate::share::share_all;
 use crate::units::Units;
 use std::alloc::Global;
 use std::collections::{BTreeMap, VecDeque};
-use xd_edge::{ModeKind, OutOfMemory, Text, Texts};
+use xd_edge::{ModeKind, OutOfMemory, Text};
 use xd_journal::Entry;
 use xd_ledger::{Ledger, Mode};
 
@@ -18,17 +18,6 @@ use xd_ledger::{Ledger, Mode};
 #[derive(Drop)]
 pub struct Scope {
     units: Units,
-}
-
-// The ids of the first collection, which stands for all.
-fn first_ids(collections: &[Texts]) -> &[Text]
-    ensures { result.now ≡ first_ids collections.now }
-{
-    if collections.len() == 0 {
-        return &[];
-    }
-    let ids = &collections[0];
-    &ids.items
 }
 
 impl Scope {
@@ -56,11 +45,11 @@ impl Mode for Scope {
         &mut self,
         alloc: Global,
         _slots: &[u32],
-        collections: &[Texts],
+        _sizes: &[u32],
+        ids: &[Text],
         ledger: &mut Ledger,
         acts: &mut Vec<Entry>,
     ) -> Result<(), OutOfMemory> {
-        let ids = first_ids(collections);
         let tests = ledger.pool_len();
         let queue = units_of(alloc, self.units.kind, self.units.reorder, ids, tests)?;
         self.units.queue = queue;

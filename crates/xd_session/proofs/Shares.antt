@@ -1,11 +1,10 @@
 -- A collection, a worker that joins, and the share.
-use Rattle.std.proofs.Common.{◌≡◌, ℕ, zero, suc, ◌+◌, ◌*◌, ◌≤◌, List, [], ◌∷◌, ◌++◌, map, take, length, refl, ap, sym, subst, ◌∙◌, arith, Bool, true, false, not, ◌&&◌, inl, inr}
+use Rattle.std.proofs.Common.{◌≡◌, ℕ, zero, suc, ◌+◌, ◌*◌, ◌≤◌, List, [], ◌∷◌, ◌++◌, take, length, refl, ap, sym, subst, ◌∙◌, arith, Bool, true, false, not, ◌&&◌, inl, inr}
 use Rattle.std.specs.Prelude.{if◌then◌else◌, ◌==◌, Option, Some, None, is_none, sum, nat_le}
 use Rattle.std.specs.List.{list_all}
 use Rattle.std.proofs.lemmas.Bool.Decides.{nat_tests}
 use Rattle.std.proofs.lemmas.Grind.{common_steps}
 use Rattle.xd_edge.specs.declared.mode.ModeKind.{ModeKind}
-use Rattle.xd_edge.specs.declared.mode.ModeKind.TheVariants.{Local, Each, Load, LoadScope, LoadFile, LoadGroup, WorkSteal}
 use Rattle.xd_journal.specs.declared.entry.Entry.{Entry}
 use Rattle.xd_journal.specs.declared.entry.Entry.TheVariants.{Collected}
 use Rattle.xd_journal.specs.declared.entry.Ids.{Ids}
@@ -14,7 +13,6 @@ use Rattle.xd_journal.specs.declared.entry.RunStop.{RunStop}
 use Rattle.xd_journal.specs.declared.entry.RunStop.TheVariants.{Unequal}
 use Rattle.xd_ledger.specs.declared.member.Listed.{Listed}
 use Rattle.xd_ledger.specs.Books.{Books, marked, on_table}
-use Rattle.xd_ledger.specs.Calls.{shared_plan}
 use Rattle.xd_ledger.specs.Collections.{differ_at, listed, unequal, with_list}
 use Rattle.xd_ledger.specs.Meaning.{given_ids}
 use Rattle.xd_ledger.specs.Modes.Call.{Joined, Share}
@@ -22,7 +20,7 @@ use Rattle.xd_ledger.specs.Outputs.{acts_of, after_joining, own_outputs, shut_al
 use Rattle.xd_ledger.specs.Plan.{Plan, is_each}
 use Rattle.xd_edge.specs.Limits.{most_tests}
 use Rattle.xd_ledger.specs.Proper.{may_follow, most_workers}
-use Rattle.xd_ledger.specs.Sharing.{State, ids_at, in_books, is_full, joining, planned, shared_now, sizes_from}
+use Rattle.xd_ledger.specs.Sharing.{State, ids_at, in_books, is_full, joining, shared_now, sizes_from}
 use Rattle.xd_ledger.specs.State.{collecting, moved}
 use Rattle.xd_ledger.specs.Sound.{most_items}
 use Rattle.xd_ledger.specs.Stops.{is_stopped}
@@ -31,10 +29,10 @@ use Rattle.xd_ledger.specs.Workers.{is_shut, made_collected, slot_of}
 use Rattle.xd_laws.specs.Called.{Called, Reached}
 use Rattle.xd_laws.proofs.Calls.{Joins, joined-called, shared-called}
 use Rattle.xd_laws.proofs.Crew.{has-same}
-use Rattle.xd_laws.proofs.Logic.{and, cases_of, differ, in_both, split-and}
+use Rattle.xd_laws.proofs.Logic.{cases_of, differ, in_both}
 use Rattle.xd_session.specs.declared.lists.Comparison.{Comparison}
 use Rattle.xd_session.specs.Compared.{compared, comparison, given, stop_of}
-use Rattle.xd_session.specs.Joining.{TakenIn, collections_of, filled, lists_from, taken_in}
+use Rattle.xd_session.specs.Joining.{TakenIn, filled, shared_in, sizes_in, taken_in}
 use Rattle.xd_session.specs.Known.{Known, known_of}
 use Rattle.xd_session.specs.Rules.{Acted, At, Before, Calls, Comes, MayJoin, MayShare}
 use Rattle.xd_session.proofs.Acts.{acted-by, acted-none, choose-third}
@@ -49,65 +47,25 @@ take-end (suc n) [] h = refl
 take-end zero (x ∷ xs) h = absurd (omega arith)
 take-end (suc n) (x ∷ xs) h = ap (λ ys. x ∷ ys) (take-end n xs (omega arith))
 
--- the plan that the mode makes of the collections is the one of the run
-
-sizes-same : (ls : List Listed) (slot n : ℕ) → map length (lists_from ls slot n) ≡ sizes_from ls slot n
-sizes-same ls slot zero = refl
-sizes-same ls slot (suc n) = ap (λ (ns : List ℕ). length (ids_at slot ls) ∷ ns) (sizes-same ls (slot + 1) n)
-
-queue-same : (m : ModeKind) (ls : List Listed) (workers : ℕ) (p : Plan) → (shared_plan (collections_of m workers ls) (record p { mode = m })).queue ≡ (planned ls workers (record p { mode = m })).queue
-queue-same Local ls workers p = refl
-queue-same Each ls workers p = refl
-queue-same Load ls workers p = refl
-queue-same LoadScope ls workers p = refl
-queue-same LoadFile ls workers p = refl
-queue-same LoadGroup ls workers p = refl
-queue-same WorkSteal ls workers p = refl
-
-pub plans-same : (ls : List Listed) (workers : ℕ) (p : Plan) → shared_plan (collections_of p.mode workers ls) p ≡ planned ls workers p
-plans-same ls workers p =
-    let at_sizes : List ℕ → Plan = λ ns. record p { sizes = ns; queue = (shared_plan (collections_of p.mode workers ls) p).queue } in
-    let at_queue : List (List ℕ) → Plan = λ us. record p { sizes = (planned ls workers p).sizes; queue = us } in
-    ap at_sizes (sizes-same ls 0 (if is_each p.mode then workers else 1)) ∙ ap at_queue (queue-same p.mode ls workers p)
-
 -- few tests
 
-pub few-lists : (ls : List Listed) (slot n : ℕ) → list_all (λ l. nat_le (length l.ids) most_tests) ls ≡ true → list_all (λ ids. nat_le (length ids) most_tests) (lists_from ls slot n) ≡ true
-few-lists ls slot zero h = refl
-few-lists ls slot (suc n) h =
+sum-few : (ls : List Listed) (slot n : ℕ) → list_all (λ l. nat_le (length l.ids) most_tests) ls ≡ true → sum (sizes_from ls slot n) ≤ most_tests * n
+sum-few ls slot zero h = omega arith
+sum-few ls slot (suc n) h =
     let one : length (ids_at slot ls) ≤ most_tests = few-at most_tests slot ls h in
-    let r = few-lists ls (slot + 1) n h in
-    and (grind (arith, nat_tests, one)) r
-
-sum-few : (lists : List (List (List ℕ))) → list_all (λ ids. nat_le (length ids) most_tests) lists ≡ true → sum (map length lists) ≤ most_tests * length lists
-sum-few [] h = omega arith
-sum-few (ids ∷ lists) h =
-    let p = split-and (nat_le (length ids) most_tests) (list_all (λ is. nat_le (length is) most_tests) lists) h in
-    let one : length ids ≤ most_tests = grind (arith, nat_tests, p.0) in
-    let r = sum-few lists p.1 in
-    let all : sum (map length (ids ∷ lists)) ≡ length ids + sum (map length lists) = grind (arith, common_steps) in
-    let more : length (ids ∷ lists) ≡ 1 + length lists = grind (arith, common_steps) in
-    omega (arith, one, r, all, more)
-
-length-lists : (ls : List Listed) (slot n : ℕ) → length (lists_from ls slot n) ≡ n
-length-lists ls slot zero = refl
-length-lists ls slot (suc n) = ap suc (length-lists ls (slot + 1) n)
+    let r = sum-few ls (slot + 1) n h in
+    let all : sum (sizes_from ls slot (suc n)) ≡ length (ids_at slot ls) + sum (sizes_from ls (slot + 1) n) = grind (arith, common_steps) in
+    omega (arith, one, r, all)
 
 slots-few : (b : Bool) (workers : ℕ) → nat_le workers most_workers ≡ true → (if b then workers else 1) ≤ most_workers
 slots-few true workers h = grind (arith, nat_tests, h)
 slots-few false workers h = omega arith
 
-pub few_in_all : (mode : ModeKind) (workers : ℕ) (ls : List Listed) → nat_le workers most_workers ≡ true → list_all (λ l. nat_le (length l.ids) most_tests) ls ≡ true → sum (map length (collections_of mode workers ls)) ≤ most_items
+pub few_in_all : (mode : ModeKind) (workers : ℕ) (ls : List Listed) → nat_le workers most_workers ≡ true → list_all (λ l. nat_le (length l.ids) most_tests) ls ≡ true → sum (sizes_from ls 0 (if is_each mode then workers else 1)) ≤ most_items
 few_in_all mode workers ls w h =
-    let n = (if is_each mode then workers else 1) in
-    let a = sum-few (collections_of mode workers ls) (few-lists ls 0 n h) in
-    let b = length-lists ls 0 n in
+    let a = sum-few ls 0 (if is_each mode then workers else 1) h in
     let c = slots-few (is_each mode) workers w in
-    omega (arith, a, b, c)
-
--- in every mode but each there is one
-pub one_list : (mode : ModeKind) (workers : ℕ) (ls : List Listed) → is_each mode ≡ false → ids_at 0 ls ∷ [] ≡ collections_of mode workers ls
-one_list mode workers ls h = sym (ap (λ b. lists_from ls 0 (if b then workers else 1)) h)
+    omega (arith, a, c)
 
 -- the share
 
@@ -116,17 +74,16 @@ abbrev pub with_pool : List ℕ → Books → Books
 with_pool sizes b = record b { table = filled sizes b.table; shared = true }
 
 pub calls-share : (s : State) (b : Books) (k : Known) (stands : Plan → Type 0) → At s b k stands → MayShare s
-    → (let lists = collections_of k.mode b.settings.workers b.lists in
-    Calls (Share (slots_of_rota s.books)) (shared_now s) (with_pool (map length lists) b) (record k { sizes = map length lists }) (Before (shared_plan lists) stands))
+    → (let sizes = sizes_in k.mode b in
+    Calls (Share (slots_of_rota s.books)) (shared_now s) (with_pool sizes b) (record k { sizes = sizes }) (Before (shared_in k.mode b) stands))
 calls-share s b k stands a m =
-    let collections : Known → Books → List (List (List ℕ)) = λ x d. collections_of x.mode d.settings.workers d.lists in
-    let lists = collections k b in
-    let lists_are : lists ≡ collections (known_of s.plan) s.books = ap (λ (x : Known). collections x b) a.known_is ∙ ap (λ (d : Books). collections (known_of s.plan) d) a.books_are in
-    let plan : shared_plan lists s.plan ≡ (shared_now s).plan = ap (λ (xs : List (List (List ℕ))). shared_plan xs s.plan) lists_are ∙ plans-same s.books.lists s.books.settings.workers s.plan in
-    let sizes : map length lists ≡ (shared_now s).plan.sizes = ap (λ (p : Plan). p.sizes) plan in
-    let pooled : Books → Books = λ d. with_pool (map length lists) d in
+    let counts : Known → Books → List ℕ = λ x d. sizes_in x.mode d in
+    let plan_in : Known → Books → Plan = λ x d. shared_in x.mode d s.plan in
+    let sizes : counts k b ≡ (shared_now s).plan.sizes = ap (λ (x : Known). counts x b) a.known_is ∙ ap (λ (d : Books). counts (known_of s.plan) d) a.books_are in
+    let plan : plan_in k b ≡ (shared_now s).plan = ap (λ (x : Known). plan_in x b) a.known_is ∙ ap (λ (d : Books). plan_in (known_of s.plan) d) a.books_are in
+    let pooled : Books → Books = λ d. with_pool (counts k b) d in
     let sized : List ℕ → Books = λ ns. with_pool ns s.books in
-    let known : Known → Known = λ x. record x { sizes = map length lists } in
+    let known : Known → Known = λ x. record x { sizes = counts k b } in
     let known_sizes : List ℕ → Known = λ ns. record (known_of s.plan) { sizes = ns } in
     record {
       at = record {
@@ -302,16 +259,9 @@ acted-shut-off w own s b k es st sh a =
     subst (λ v. Acted (if is_shut w s.books then [] else outs v) v b k es es st) (sym (collecting-is w (unequal w g o) m)) a3
 
 -- one slot more
-lists-more : (ls : List Listed) (slot n : ℕ) → lists_from ls slot (n + 1) ≡ lists_from ls slot n ++ ids_at (slot + n) ls ∷ []
-lists-more ls slot zero = grind (arith, common_steps)
-lists-more ls slot (suc n) = let k = lists-more ls (slot + 1) n in grind (arith, common_steps)
+sizes-more : (ls : List Listed) (slot n : ℕ) → sizes_from ls slot (n + 1) ≡ sizes_from ls slot n ++ length (ids_at (slot + n) ls) ∷ []
+sizes-more ls slot zero = grind (arith, common_steps)
+sizes-more ls slot (suc n) = let k = sizes-more ls (slot + 1) n in grind (arith, common_steps)
 
-pub lists_next : (ls : List Listed) (n : ℕ) → lists_from ls 0 (n + 1) ≡ lists_from ls 0 n ++ ids_at n ls ∷ []
-lists_next ls n = lists-more ls 0 n ∙ ap (λ k. lists_from ls 0 n ++ ids_at k ls ∷ []) (omega arith)
-
-map-more : (xs : List (List (List ℕ))) (x : List (List ℕ)) → map length (xs ++ x ∷ []) ≡ map length xs ++ length x ∷ []
-map-more [] x = refl
-map-more (y ∷ ys) x = ap (λ (ns : List ℕ). length y ∷ ns) (map-more ys x)
-
-pub sizes_next : (ls : List Listed) (n : ℕ) → map length (lists_from ls 0 (n + 1)) ≡ map length (lists_from ls 0 n) ++ length (ids_at n ls) ∷ []
-sizes_next ls n = ap (λ (xs : List (List (List ℕ))). map length xs) (lists_next ls n) ∙ map-more (lists_from ls 0 n) (ids_at n ls)
+pub sizes_next : (ls : List Listed) (n : ℕ) → sizes_from ls 0 (n + 1) ≡ sizes_from ls 0 n ++ length (ids_at n ls) ∷ []
+sizes_next ls n = sizes-more ls 0 n ∙ ap (λ k. sizes_from ls 0 n ++ length (ids_at k ls) ∷ []) (omega arith)

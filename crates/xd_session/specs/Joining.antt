@@ -1,14 +1,13 @@
 -- A worker joins, and the tests are shared.
-use Rattle.std.specs.Prelude.{◌≡◌, ℕ, zero, suc, ◌+◌, true, false, List, [], ◌∷◌, sum, Option, Some, None, if◌then◌else◌}
+use Rattle.std.specs.Prelude.{◌≡◌, ℕ, true, false, List, [], sum, Option, Some, None, if◌then◌else◌}
 use Rattle.std.specs.List.{range_with_len}
 use Rattle.xd_edge.specs.declared.mode.ModeKind.{ModeKind}
 use Rattle.xd_journal.specs.declared.entry.Entry.{Entry}
 use Rattle.xd_journal.specs.declared.entry.RunStop.{RunStop}
-use Rattle.xd_ledger.specs.declared.member.Listed.{Listed}
 use Rattle.xd_ledger.specs.Books.{Books}
 use Rattle.xd_ledger.specs.Outputs.{after_joining, unless_stopped}
 use Rattle.xd_ledger.specs.Plan.{Plan, is_each}
-use Rattle.xd_ledger.specs.Sharing.{State, ids_at, in_books, joining}
+use Rattle.xd_ledger.specs.Sharing.{State, ids_at, in_books, joining, shared_plan, sizes_from}
 use Rattle.xd_ledger.specs.Stops.{is_stopped, stopped_by}
 use Rattle.xd_ledger.specs.Table.{Table, all_items, has_joined}
 use Rattle.xd_ledger.specs.Workers.{has_collected, is_shut, was_ready}
@@ -26,18 +25,13 @@ pub record IsNew (worker : ℕ) (b : Books) : Type 0 where
   pub bare : b.shared ≡ false → IsBare b.table
   pub told : is_stopped b ≡ true → is_shut worker b ≡ true
 
--- the ids that stand for each of n slots, from this one on
-abbrev pub lists_from : List Listed → ℕ → ℕ → List (List (List ℕ))
-lists_from ls slot zero = []
-lists_from ls slot (suc n) = ids_at slot ls ∷ lists_from ls (slot + 1) n
+-- how many tests each slot has in mode each, and else how many the run has
+abbrev pub sizes_in : ModeKind → Books → List ℕ
+sizes_in mode b = sizes_from b.lists 0 (if is_each mode then b.settings.workers else 1)
 
--- the collections that are shared: in mode each one of each slot, else a single one
-abbrev pub collections_of : ModeKind → ℕ → List Listed → List (List (List ℕ))
-collections_of mode workers ls = lists_from ls 0 (if is_each mode then workers else 1)
-
--- those of the books
-abbrev pub collections_in : ModeKind → Books → List (List (List ℕ))
-collections_in mode b = collections_of mode b.settings.workers b.lists
+-- the plan once the tests of these books are shared
+abbrev pub shared_in : ModeKind → Books → Plan → Plan
+shared_in mode b p = shared_plan (sizes_in mode b) (ids_at 0 b.lists) p
 
 -- all items of collections of these sizes come into the pool, in order
 abbrev pub filled : List ℕ → Table → Table

@@ -1,13 +1,13 @@
 // A worker collected: it joins, and the last one that was missing brings the share.
-ghost use Rattle.std.specs.Prelude.{◌≡◌, ◌&&◌, ◌≤◌, nat_le, length, map, sum, true, false, None, [], ◌∷◌, ℕ, List, OnOk, IfOk, if◌then◌else◌};
+ghost use Rattle.std.specs.Prelude.{◌≡◌, ◌&&◌, ◌≤◌, nat_le, length, sum, true, false, None, [], ◌∷◌, ℕ, List, OnOk, IfOk, if◌then◌else◌};
 ghost use Rattle.std.specs.List.{list_all};
-ghost use Rattle.xd_ledger.specs.Calls.{Turned, shared_plan};
+ghost use Rattle.xd_ledger.specs.Calls.{Turned};
 ghost use Rattle.xd_ledger.specs.Meaning.{given_ids};
 ghost use Rattle.xd_ledger.specs.Modes.Call.{Share};
 ghost use Rattle.xd_ledger.specs.Outputs.{acts_of, after_joining, slots_of_rota};
 ghost use Rattle.xd_edge.specs.Limits.{most_tests};
 ghost use Rattle.xd_ledger.specs.Proper.{is_id, no_text_twice};
-ghost use Rattle.xd_ledger.specs.Sharing.{State, ids_at, is_full, joining, shared_now};
+ghost use Rattle.xd_ledger.specs.Sharing.{State, ids_at, is_full, joining, shared_now, shared_plan, sizes_from};
 ghost use Rattle.xd_ledger.specs.Plan.{Plan, is_each};
 ghost use Rattle.xd_ledger.specs.Sound.{most_items};
 ghost use Rattle.xd_ledger.specs.Suits.{Suits};
@@ -18,19 +18,18 @@ ghost use Rattle.xd_ledger.specs.Workers.{is_shut, slot_of};
 ghost use Rattle.xd_laws.specs.Called.{Called};
 ghost use Rattle.xd_session.specs.Compared.{stop_of};
 ghost use Rattle.xd_session.specs.Crew.{books_of};
-ghost use Rattle.xd_session.specs.Joining.{IsBare, IsNew, TakenIn, collections_in, filled, lists_from};
+ghost use Rattle.xd_session.specs.Joining.{IsBare, IsNew, TakenIn, filled, shared_in, sizes_in};
 ghost use Rattle.xd_session.specs.Known.{known_by};
 ghost use Rattle.xd_session.specs.Rules.{Acted, At, Comes, MayJoin, MayShare, Ruled};
 
 use crate::books::RunBooks;
 use crate::known::{is_each, total_of};
-use crate::lists::{Comparison, copy_of, place_of};
+use crate::lists::{Comparison, place_of};
 use crate::marks::Mark;
 use crate::outputs::{note, shut_everyone};
 use crate::state::{RunState, take_acts};
 use std::alloc::Global;
-use std::slice;
-use xd_edge::{Indices, ModeKind, OutOfMemory, Texts};
+use xd_edge::{Indices, ModeKind, OutOfMemory, Text, Texts};
 use xd_journal::{Entry, RunStop};
 use xd_ledger::{Ledger, Listed, Mode};
 
@@ -48,26 +47,6 @@ fn ids_of<'a>(slot: u32, lists: &'a [Listed], none: &'a Texts) -> &'a Texts
     none
 }
 
-// The ids that stand for each of so many slots, in order.
-#[tactic(auto, using(crate::proofs::Shares::lists_next))]
-fn ids_of_slots(
-    alloc: Global,
-    slots: u32,
-    lists: &[Listed],
-    none: &Texts,
-) -> Result<Vec<Texts>, OutOfMemory>
-    requires none { none.now ≡ [] }
-    requires few { list_all (λ l. nat_le (length l.ids) most_tests) lists.now ≡ true }
-    ensures { IfOk result (λ all. all.items ≡ lists_from lists.now 0 slots) }
-{
-    let mut all = Vec::new(alloc);
-    for slot in 0..slots {
-        let ids = copy_of(alloc, &ids_of(slot, lists, none).items)?;
-        all.push(ids)?;
-    }
-    Ok(all)
-}
-
 // How many tests each of so many slots has, in order.
 #[tactic(auto, using(crate::proofs::Shares::sizes_next))]
 fn sizes_of_slots(
@@ -78,7 +57,7 @@ fn sizes_of_slots(
 ) -> Result<Indices, OutOfMemory>
     requires none { none.now ≡ [] }
     requires few { list_all (λ l. nat_le (length l.ids) most_tests) lists.now ≡ true }
-    ensures { IfOk result (λ sizes. sizes ≡ map length (lists_from lists.now 0 slots)) }
+    ensures { IfOk result (λ sizes. sizes ≡ sizes_from lists.now 0 slots) }
 {
     let mut items = Vec::new(alloc);
     for slot in 0..slots {
@@ -128,30 +107,32 @@ fn seat(alloc: Global, worker: u32, books: &mut RunBooks) -> Result<(), OutOfMem
     Ok(())
 }
 
-// All tests of these collections come into the pool, and the mode deals them.
+// So many tests of each slot come into the pool, and the mode deals them.
 fn deal<M: Mode>(
     alloc: Global,
     slots: &[u32],
-    collections: &[Texts],
-    total: u32,
+    sizes: &[u32],
+    ids: &[Text],
     mode: &mut M,
     ledger: &mut Ledger,
     acts: &mut Vec<Entry>,
 ) -> Result<(), OutOfMemory>
-    requires few { total ≤ most_items }
-    requires total { total ≡ sum (map length collections.now) }
+    requires few { sum sizes.now ≤ most_items }
     requires bare { IsBare ledger.old }
-    requires suits { Suits (Share slots.now) (shared_plan collections.now) (filled (map length collections.now) ledger.old) (M.stands mode.old) }
+    requires suits { let pooled = filled sizes.now ledger.old in
+        Suits (Share slots.now) (shared_plan sizes.now ids.now) pooled (M.stands mode.old) }
     ensures { OnOk result ((p : Plan) → M.stands mode.old p →
-        Turned (Share slots.now) (shared_plan collections.now p) (filled (map length collections.now) ledger.old) acts.old.items ledger.new acts.new.items (M.stands mode.new)) }
+        let pooled = filled sizes.now ledger.old in
+        Turned (Share slots.now) (shared_plan sizes.now ids.now p) pooled acts.old.items
+        ledger.new acts.new.items (M.stands mode.new)) }
 {
-    ledger.fill(alloc, total)?;
-    mode.share(alloc, slots, collections, ledger, acts)?;
+    ledger.fill(alloc, total_of(sizes))?;
+    mode.share(alloc, slots, sizes, ids, ledger, acts)?;
     Ok(())
 }
 
 // The mode deals the tests: in mode each those of each slot, else those of the run. Gives how many each slot has.
-#[tactic(auto, using(crate::proofs::Shares::few_in_all, crate::proofs::Shares::one_list))]
+#[tactic(auto, using(crate::proofs::Shares::few_in_all))]
 fn deal_all<M: Mode>(
     alloc: Global,
     kind: ModeKind,
@@ -160,12 +141,17 @@ fn deal_all<M: Mode>(
     acts: &mut Vec<Entry>,
 ) -> Result<Indices, OutOfMemory>
     requires bare { IsBare books.old.ledger }
-    requires suits { Suits (Share (slots_of_rota (books_of books.old))) (shared_plan (collections_in kind (books_of books.old))) (filled (map length (collections_in kind (books_of books.old))) books.old.ledger) (M.stands mode.old) }
-    ensures sizes { IfOk result (λ sizes. (sizes ≡ map length (collections_in kind (books_of books.old))) × (sum sizes ≤ most_items)) }
+    requires suits { let b = books_of books.old in
+        let pooled = filled (sizes_in kind b) books.old.ledger in
+        Suits (Share (slots_of_rota b)) (shared_in kind b) pooled (M.stands mode.old) }
+    ensures sizes { IfOk result (λ sizes. sizes ≡ sizes_in kind (books_of books.old)) }
+    ensures few { IfOk result (λ sizes. sum sizes ≤ most_items) }
     ensures books { OnOk result (books_of books.new ≡ on_table (λ t. books.new.ledger) (books_of books.old)) }
     ensures dealt { OnOk result ((p : Plan) → M.stands mode.old p →
-        Turned (Share (slots_of_rota (books_of books.old))) (shared_plan (collections_in kind (books_of books.old)) p)
-        (filled (map length (collections_in kind (books_of books.old))) books.old.ledger) acts.old.items books.new.ledger acts.new.items (M.stands mode.new)) }
+        let b = books_of books.old in
+        let pooled = filled (sizes_in kind b) books.old.ledger in
+        Turned (Share (slots_of_rota b)) (shared_in kind b p) pooled acts.old.items
+        books.new.ledger acts.new.items (M.stands mode.new)) }
 {
     let none = Texts {
         items: Vec::new(alloc),
@@ -173,26 +159,12 @@ fn deal_all<M: Mode>(
     let slots = slots_of(alloc, books)?;
     let count = slots_shared(kind, books.settings.workers);
     let sizes = sizes_of_slots(alloc, count, &books.lists, &none)?;
-    let total = total_of(&sizes.items);
-    if is_each(kind) {
-        let all = ids_of_slots(alloc, count, &books.lists, &none)?;
-        deal(
-            alloc,
-            &slots.items,
-            &all,
-            total,
-            mode,
-            &mut books.ledger,
-            acts,
-        )?;
-        return Ok(sizes);
-    }
-    let first = ids_of(0, &books.lists, &none);
+    let ids = ids_of(0, &books.lists, &none);
     deal(
         alloc,
         &slots.items,
-        slice::from_ref(first),
-        total,
+        &sizes.items,
+        &ids.items,
         mode,
         &mut books.ledger,
         acts,

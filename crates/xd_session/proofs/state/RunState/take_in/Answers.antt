@@ -8,7 +8,7 @@ use Rattle.xd_journal.specs.declared.entry.Ids.{Ids}
 use Rattle.xd_journal.specs.declared.entry.RunStop.TheVariants.{Unequal}
 use Rattle.xd_ledger.specs.declared.member.Listed.{Listed}
 use Rattle.xd_ledger.specs.Books.{Books}
-use Rattle.xd_ledger.specs.Calls.{Turned, shared_plan}
+use Rattle.xd_ledger.specs.Calls.{Turned}
 use Rattle.xd_ledger.specs.Collections.{listed}
 use Rattle.xd_ledger.specs.Modes.Call.{Joined, Share}
 use Rattle.xd_ledger.specs.Outputs.{after_joining, shut_all, slots_of_rota}
@@ -20,7 +20,7 @@ use Rattle.xd_ledger.specs.Workers.{is_shut, slot_of}
 use Rattle.xd_session.specs.declared.lists.Comparison.{Comparison}
 use Rattle.xd_session.specs.Compared.{comparison, given, stop_of}
 use Rattle.xd_session.specs.Crew.{books_of}
-use Rattle.xd_session.specs.Joining.{TakenIn, collections_in, filled, taken_in}
+use Rattle.xd_session.specs.Joining.{TakenIn, filled, taken_in}
 use Rattle.xd_session.specs.Known.{Known, known_by}
 use Rattle.xd_session.specs.Rules.{At, Ruled}
 use Rattle.xd_session.proofs.Acts.{acted-by, acted-shut, choose-second, is_stopped-by, stopped-at}
