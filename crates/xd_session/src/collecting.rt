@@ -47,7 +47,7 @@ fn ids_of<'a>(slot: u32, lists: &'a [Listed], none: &'a Texts) -> &'a Texts
     none
 }
 
-// How many tests each of so many slots has, in order.
+// How many tests each of n slots has, in order.
 #[tactic(auto, using(crate::proofs::Shares::sizes_next))]
 fn sizes_of_slots(
     alloc: Global,

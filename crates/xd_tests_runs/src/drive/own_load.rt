@@ -9,7 +9,7 @@ ghost use Rattle.xd_ledger.specs.Table.{in_rota, workers_of};
 ghost use Rattle.xd_ledger.specs.Turn.{in_turn};
 
 use std::alloc::Global;
-use xd_edge::{OutOfMemory, Texts};
+use xd_edge::{OutOfMemory, Text};
 use xd_journal::Entry;
 use xd_ledger::{Ledger, Mode, give_front, shut, shut_rota};
 
@@ -34,7 +34,7 @@ impl OwnLoad {
     }
 }
 
-// Whether a worker that holds so many gets more, behind a test that took so many milliseconds.
+// Whether a worker that holds n tests gets more, after a test that took this many milliseconds.
 fn lacks(pool: u32, workers: u32, holds: u32, ms: u64) -> bool
     requires { 0 < workers }
     ensures { result ≡ is_due pool workers holds ms }
@@ -84,7 +84,7 @@ fn refill(
     give_front(alloc, worker, count, ledger, acts)
 }
 
-// The worker gets so many tests where a number is given, and else what it lacks.
+// The worker gets that many tests where a number is given, and else what it lacks.
 fn hand(
     alloc: Global,
     count: Option<u32>,
@@ -175,7 +175,8 @@ impl Mode for OwnLoad {
         &mut self,
         alloc: Global,
         _slots: &[u32],
-        _collections: &[Texts],
+        _sizes: &[u32],
+        _ids: &[Text],
         ledger: &mut Ledger,
         acts: &mut Vec<Entry>,
     ) -> Result<(), OutOfMemory> {
