@@ -2,7 +2,7 @@ use Rattle.std.proofs.Common.{rules, map, ap, ◌∙◌, not, ◌==◌}
 use Rattle.std.proofs.lemmas.Fn.{filter_same}
 use Rattle.xd_report.specs.Follows.{seat_of}
 use Rattle.xd_report.proofs.Loops.{left-seats}
-use Rattle.xd_report.proofs.desk.leave.Goals as goal
+use Rattle.xd_report.proofs.holder.leave.Goals as goal
 
 pub returns : goal.returns
 returns c =
