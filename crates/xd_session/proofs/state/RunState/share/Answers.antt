@@ -43,6 +43,6 @@ returns g c = λ s a m.
     let shares : Books → Books = λ d. record d { shared = true } in
     acted-call (Share (slots_of_rota s.books)) (shared_plan lists) _ _ _ _ _ c.new-acts.result.items c.deal_all.new.acts.items c.deal_all.new.books.ledger c.args.entries.now.items _ _ _
     c.new-acts.ensures.items (calls-share s b (known_by c.args.self.now.known) _ a m) turned
-    (c.in_ok-take_acts.ensures.books ∙ ap (λ (d : Books). record d { shared = true; crew = Rattle.xd_session.specs.Rules.crew_told c.deal_all.new.acts.items d.crew }) c.in_ok-sizes.ensures.books)
+    (c.in_ok-take_acts.ensures.books ∙ ap (λ (d : Books). record d { crew = Rattle.xd_session.specs.Rules.crew_told c.deal_all.new.acts.items d.crew }) c.share.ensures ∙ ap (λ (d : Books). record d { shared = true; crew = Rattle.xd_session.specs.Rules.crew_told c.deal_all.new.acts.items d.crew }) c.in_ok-sizes.ensures.books)
     (c.in_ok-take_acts.ensures.known ∙ ap (λ (xs : List ℕ). record (known_by c.args.self.now.known) { sizes = xs; steal = Rattle.xd_session.specs.Known.steal_told c.deal_all.new.acts.items (known_by c.args.self.now.known).steal }) c.in_ok-sizes.ensures.sizes.0)
     c.in_ok-take_acts.ensures.entries)
