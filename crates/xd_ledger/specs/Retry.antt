@@ -1,5 +1,5 @@
 -- Which crashed tests are tried again. A choice of this project: pytest-xdist reports each of them as failed.
-use Rattle.std.specs.Prelude.{ℕ, ◌+◌, Bool, false, not, ◌&&◌, nat_le, nat_lt, [], ◌∷◌}
+use Rattle.std.specs.Prelude.{ℕ, ◌+◌, Bool, false, not, ◌&&◌, nat_le, nat_lt, List, [], ◌∷◌}
 use Rattle.xd_ledger.specs.Numbers.{times}
 use Rattle.xd_ledger.specs.Table.{held}
 use Rattle.xd_ledger.specs.Books.{Books}
@@ -13,6 +13,10 @@ may_restart b = not (is_stopped b) && nat_le (b.deaths + 1) b.settings.restarts
 abbrev pub has_retries : ℕ → Books → Bool
 has_retries item b = nat_lt (times item b.lost) b.settings.retries
 
--- a Down of the worker behind these books is a retry: it has a head, which has retries left, and a new worker follows
+-- the first of these items, which a worker holds that goes down, is tried again: it has retries left, and a new worker follows
+abbrev pub retries_first : List ℕ → Books → Bool
+retries_first items b = elim items [ [] ↦ false | item ∷ rest ↦ may_restart b && has_retries item b ]
+
+-- a Down of the worker behind these books is a retry
 abbrev pub is_retry : ℕ → Books → Bool
-is_retry worker b = elim (held worker b.table) [ [] ↦ false | item ∷ items ↦ may_restart b && has_retries item b ]
+is_retry worker b = retries_first (held worker b.table) b

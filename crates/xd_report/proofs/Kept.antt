@@ -1,35 +1,10 @@
 -- What is read of the parts that a reporter keeps is what is read of the state.
-use Rattle.std.proofs.Common.{◌≡◌, ℕ, ◌+◌, ◌==◌, true, false, not, ◌&&◌, List, [], ◌∷◌, map, take, sum, Option, Some, refl, sym, ◌∙◌, ap, zero-add, if◌then◌else◌}
-use Rattle.std.specs.List.{list_any}
-use Rattle.xd_ledger.specs.declared.member.Member.{Member}
+use Rattle.std.proofs.Common.{◌≡◌, ℕ, ◌+◌, ◌==◌, true, false, not, List, [], ◌∷◌, map, take, sum, refl, sym, ◌∙◌, ap, zero-add, if◌then◌else◌}
 use Rattle.xd_ledger.specs.declared.seat.Seat.{Seat}
 use Rattle.xd_ledger.specs.Plan.{Plan, base, is_each, items_named}
 use Rattle.xd_ledger.specs.Table.{at_seat, held_in, without_seat}
-use Rattle.xd_ledger.specs.Workers.{slot_in, made_shut}
-use Rattle.xd_report.specs.declared.desk.Desk.{Desk}
-use Rattle.xd_report.specs.Follows.{bare, bare_seat, seat_of}
-use Rattle.xd_report.specs.Lines.{last_of_slot}
-
-pub slot_kept : (w : ℕ) (ms : List Member) → slot_in w (map bare ms) ≡ slot_in w ms
-slot_kept w [] = refl
-slot_kept w (m ∷ ms) = ap (λ n. if m.worker == w then m.slot else n) (slot_kept w ms)
-
-pub shut_kept : (w : ℕ) (ms : List Member) → list_any (λ m. m.worker == w && m.shut) (map bare ms) ≡ list_any (λ m. m.worker == w && m.shut) ms
-shut_kept w [] = refl
-shut_kept w (m ∷ ms) = rw (shut_kept w ms) refl
-
-pub last_kept : (slot : ℕ) (ms : List Member) (found : Option ℕ) → last_of_slot slot (map bare ms) found ≡ last_of_slot slot ms found
-last_kept slot [] found = refl
-last_kept slot (m ∷ ms) found = last_kept slot ms (if m.slot == slot then Some m.worker else found)
-
--- a mark that is not kept changes nothing
-pub not_kept : (mark : Member → Member) (ms : List Member) → ((m : Member) → bare (mark m) ≡ bare m) → map bare (map mark ms) ≡ map bare ms
-not_kept mark [] same = refl
-not_kept mark (m ∷ ms) same = ap (λ (x : Member). x ∷ map bare (map mark ms)) (same m) ∙ ap (λ (l : List Member). bare m ∷ l) (not_kept mark ms same)
-
-pub mark_kept : (w : ℕ) (ms : List Member) → map bare (map (made_shut w) ms) ≡ map (made_shut w) (map bare ms)
-mark_kept w [] = refl
-mark_kept w (m ∷ ms) = ap (λ l. bare (made_shut w m) ∷ l) (mark_kept w ms)
+use Rattle.xd_report.specs.declared.holder.Holder.{Holder}
+use Rattle.xd_report.specs.Follows.{bare_seat, seat_of}
 
 pub held_kept : (w : ℕ) (ss : List Seat) → held_in w (map bare_seat ss) ≡ held_in w ss
 held_kept w [] = refl
@@ -65,10 +40,10 @@ without_kept w (s ∷ ss) =
     ]
 
 -- what stands of the seats behind a change
-pub changed_kept : (w : ℕ) (change : Seat → Seat) (ss : List Seat) (old new : List Desk) → ((s : Seat) → bare_seat (change s) ≡ change (bare_seat s)) → map bare_seat ss ≡ map seat_of old → map seat_of new ≡ at_seat w change (map seat_of old) → map bare_seat (at_seat w change ss) ≡ map seat_of new
+pub changed_kept : (w : ℕ) (change : Seat → Seat) (ss : List Seat) (old new : List Holder) → ((s : Seat) → bare_seat (change s) ≡ change (bare_seat s)) → map bare_seat ss ≡ map seat_of old → map seat_of new ≡ at_seat w change (map seat_of old) → map bare_seat (at_seat w change ss) ≡ map seat_of new
 changed_kept w change ss old new same before now = change_kept w change ss same ∙ ap (at_seat w change) before ∙ sym now
 
-pub left_kept : (w : ℕ) (ss : List Seat) (old new : List Desk) → map bare_seat ss ≡ map seat_of old → map seat_of new ≡ without_seat w (map seat_of old) → map bare_seat (without_seat w ss) ≡ map seat_of new
+pub left_kept : (w : ℕ) (ss : List Seat) (old new : List Holder) → map bare_seat ss ≡ map seat_of old → map seat_of new ≡ without_seat w (map seat_of old) → map bare_seat (without_seat w ss) ≡ map seat_of new
 left_kept w ss old new before now = without_kept w ss ∙ ap (without_seat w) before ∙ sym now
 
 none_more : (xs : List ℕ) → map (λ n. 0 + n) xs ≡ xs

@@ -9,4 +9,3 @@ pub mod Prints
 pub mod Rising
 pub mod Rows
 pub mod Texts
-mod Times

@@ -1,23 +1,16 @@
 -- What a reporter keeps of a state, it keeps of each state that differs in other parts alone.
-use Rattle.std.proofs.Common.{◌≡◌, ℕ, true, false, Option, Some, None, is_some, refl, ◌∙◌, if◌then◌else◌}
+use Rattle.std.proofs.Common.{◌≡◌, ℕ, true, false, Option, Some, None, is_some, refl, if◌then◌else◌}
 use Rattle.xd_journal.specs.declared.entry.Entry.{Entry}
 use Rattle.xd_journal.specs.declared.entry.RunStop.{RunStop}
-use Rattle.xd_ledger.specs.declared.member.Member.{Member}
-use Rattle.xd_ledger.specs.Books.{marked}
 use Rattle.xd_ledger.specs.Sharing.{State, in_books, joining}
 use Rattle.xd_ledger.specs.State.{collecting, is_input, reached, settled}
 use Rattle.xd_ledger.specs.Stops.{stopped_by}
 use Rattle.xd_ledger.specs.Workers.{is_shut}
 use Rattle.xd_report.specs.declared.reporter.Reporter.{Reporter}
-use Rattle.xd_report.specs.Follows.{Follows, bare}
-use Rattle.xd_report.proofs.Kept.{not_kept}
+use Rattle.xd_report.specs.Follows.{Follows}
 
 pub settle : (r : Reporter) (s : State) → Follows r s → Follows r (settled s)
-settle r s f = record { settings = f.settings; mode = f.mode; crew = f.crew; lists = f.lists; rota = f.rota; shared = f.shared; sizes = f.sizes; failures = f.failures; deaths = f.deaths; lost = f.lost; stop = f.stop }
-
--- a mark that is not kept
-pub mark : (r : Reporter) (s : State) (change : Member → Member) → ((m : Member) → bare (change m) ≡ bare m) → Follows r s → Follows r (in_books (marked change) s)
-mark r s change same f = record { settings = f.settings; mode = f.mode; crew = not_kept change s.books.crew same ∙ f.crew; lists = f.lists; rota = f.rota; shared = f.shared; sizes = f.sizes; failures = f.failures; deaths = f.deaths; lost = f.lost; stop = f.stop }
+settle r s f = record { books = f.books; mode = f.mode; rota = f.rota; sizes = f.sizes }
 
 -- a worker that was told to shut down does not join
 pub stays : (w : ℕ) (how : Option RunStop) (s : State) → is_shut w s.books ≡ true → collecting w how s ≡ s

@@ -58,7 +58,7 @@ impl Reporter {
                 ..
             } => {
                 let id = self.id_of(*worker, *index as u64);
-                add_heading(alloc, out, self.settings.mode, *worker, id)?;
+                add_heading(alloc, out, self.mode(), *worker, id)?;
                 add_reason(alloc, out, *status)?;
                 add_end(alloc, out, output.as_slice())
             }
@@ -82,7 +82,7 @@ impl Reporter {
         let Some(item) = self.crash_of(worker) else {
             return Ok(());
         };
-        let mode = self.settings.mode;
+        let mode = self.mode();
         let id = self.item_id(worker, item)?;
         add_heading(alloc, out, mode, worker, id)?;
         add_crash_reason(alloc, out, mode, worker, id)?;

@@ -1,22 +1,41 @@
 // Collections, and the share.
-ghost use Rattle.std.specs.Prelude.{◌≡◌, List, IfOk, OnOk, Some};
-ghost use Rattle.xd_journal.specs.declared.entry.RunStop.TheVariants.{Unequal};
-ghost use Rattle.xd_ledger.specs.Collections.{key, unequal, listed, with_list};
-ghost use Rattle.xd_ledger.specs.Books.{on_table};
-ghost use Rattle.xd_ledger.specs.Table.{joined};
+ghost use Rattle.std.specs.Prelude.{◌≡◌, List, IfOk, OnOk, if◌then◌else◌};
+ghost use Rattle.xd_ledger.specs.Books.{marked, on_table};
+ghost use Rattle.xd_ledger.specs.Collections.{ids_of, unequal, listed, with_list};
 ghost use Rattle.xd_ledger.specs.Plan.{is_each};
-ghost use Rattle.xd_ledger.specs.Sharing.{State, joining, planned, share_where_full, in_books};
+ghost use Rattle.xd_ledger.specs.Sharing.{State, joining, planned, share_where_full, sizes_from, in_books};
 ghost use Rattle.xd_ledger.specs.State.{after_collected};
-ghost use Rattle.xd_ledger.specs.Workers.{is_shut};
+ghost use Rattle.xd_ledger.specs.Table.{joined};
+ghost use Rattle.xd_ledger.specs.Workers.{made_collected};
 ghost use Rattle.xd_report.specs.Follows.{Follows};
-ghost use Rattle.xd_report.specs.Tests.{tests};
 
+use crate::holder;
 use crate::reporter::Reporter;
-use crate::{desk, lists};
 use std::alloc::Global;
-use xd_edge::OutOfMemory;
+use xd_edge::{OutOfMemory, Text};
 use xd_journal::{Ids, RunStop};
-use xd_ledger::Listed;
+use xd_ledger::{Books, Mark, differ_at, is_each};
+
+// The ids that a collection lists.
+fn ids_of(given: &Ids) -> &[Text]
+    ensures { result.now ≡ ids_of given.now }
+{
+    match given {
+        Ids::List(own) => &own.items,
+        Ids::Same => &[],
+    }
+}
+
+// How many tests each of so many slots has, from slot 0 on.
+fn sizes_of(alloc: Global, books: &Books, slots: u32) -> Result<Vec<u64>, OutOfMemory>
+    ensures { IfOk result (λ sizes. sizes.items ≡ sizes_from books.now.lists 0 slots) }
+{
+    let mut sizes = Vec::new(alloc);
+    for slot in 0..slots {
+        sizes.push(books.ids_at(slot).len() as u64)?;
+    }
+    Ok(sizes)
+}
 
 impl Reporter {
     // A worker collected.
@@ -33,11 +52,13 @@ impl Reporter {
         if self.is_shut(worker) {
             return Ok(());
         }
-        if differs.is_some() {
-            self.stop_by(differs);
-            return Ok(());
+        match differs {
+            Some(how) => {
+                self.stop_by(how);
+                Ok(())
+            }
+            None => self.join(alloc, worker),
         }
-        self.join(alloc, worker)
     }
 
     // The stop of a collection that differs from the one that it is compared with.
@@ -47,25 +68,25 @@ impl Reporter {
         let Ids::List(own) = given else {
             return Ok(None);
         };
-        let Some(listed) = lists::listed_in(&self.lists, self.key(worker)) else {
+        let Some(first) = self.books.listed(worker) else {
             return Ok(None);
         };
-        match lists::differ_at(&listed.ids.items, &own.items) {
-            Some(place) => unequal_at(worker, listed.worker, place),
+        match differ_at(&first.ids.items, &own.items)? {
+            Some(place) => Ok(Some(RunStop::Unequal {
+                worker,
+                other: first.worker,
+                place,
+            })),
             None => Ok(None),
         }
     }
 
-    // A collection that is the first of its slot is kept.
+    // A collection that is the first of its slot is kept, and the worker has collected.
     fn list(&mut self, alloc: Global, worker: u32, given: &Ids) -> Result<(), OutOfMemory>
-        ensures { (s : State) → Follows self.old s → OnOk result (Follows self.new (in_books (with_list worker given.now) s)) }
+        ensures { (s : State) → Follows self.old s → OnOk result (Follows self.new (in_books (λ b. marked (made_collected worker) (with_list worker given.now b)) s)) }
     {
-        let slot = self.key(worker);
-        if lists::listed_in(&self.lists, slot).is_some() {
-            return Ok(());
-        }
-        let ids = lists::copy_of(alloc, given)?;
-        self.lists.push(Listed { slot, worker, ids })?;
+        self.books.list(alloc, worker, ids_of(given))?;
+        self.books.mark(worker, Mark::Collected);
         Ok(())
     }
 
@@ -81,16 +102,17 @@ impl Reporter {
     fn sit(&mut self, alloc: Global, worker: u32) -> Result<(), OutOfMemory>
         ensures { (s : State) → Follows self.old s → OnOk result (Follows self.new (in_books (on_table (joined worker)) s)) }
     {
-        desk::join(alloc, &mut self.rota, worker)?;
+        holder::join(alloc, &mut self.rota, worker)?;
         Ok(())
     }
 
     fn share_where_full(&mut self, alloc: Global) -> Result<(), OutOfMemory>
         ensures { (s : State) → Follows self.old s → OnOk result (Follows self.new (share_where_full s)) }
     {
-        if !self.shared && self.rota.len() == self.settings.workers as usize {
+        let workers = self.books.settings().workers;
+        if !self.books.is_shared() && self.rota.len() == workers as usize {
             self.sizes = self.sizes_now(alloc)?;
-            self.shared = true;
+            self.books.share();
         }
         Ok(())
     }
@@ -99,24 +121,12 @@ impl Reporter {
     fn sizes_now(&self, alloc: Global) -> Result<Vec<u64>, OutOfMemory>
         ensures { (s : State) → Follows self.now s → IfOk result (λ sizes. sizes.items ≡ (planned s.books.lists s.books.settings.workers s.plan).sizes) }
     {
-        let slots = if self.is_each() {
-            self.settings.workers
+        let settings = self.books.settings();
+        let slots = if is_each(settings.mode) {
+            settings.workers
         } else {
             1
         };
-        lists::sizes_of(alloc, &self.lists, slots)
-    }
-}
-
-fn unequal_at(worker: u32, other: u32, place: usize) -> Result<Option<RunStop>, OutOfMemory>
-    ensures { IfOk result (λ stop. stop ≡ Some (Unequal worker other place)) }
-{
-    match u32::try_from(place) {
-        Ok(place) => Ok(Some(RunStop::Unequal {
-            worker,
-            other,
-            place,
-        })),
-        Err(_) => Err(OutOfMemory),
+        sizes_of(alloc, &self.books, slots)
     }
 }

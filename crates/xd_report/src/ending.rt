@@ -22,7 +22,8 @@ pub fn tail(alloc: Global, journal: &Journal) -> Result<Blob, OutOfMemory>
     let mut reporter = Reporter::new(alloc, journal.settings);
     reporter.add_blocks(alloc, &mut bytes, &journal.entries)?;
     let mode = journal.settings.mode;
-    add_line_of_stop(alloc, &mut bytes, mode, &journal.entries, reporter.stop)?;
+    let stop = reporter.first_stop();
+    add_line_of_stop(alloc, &mut bytes, mode, &journal.entries, stop)?;
     let summary = summary(alloc, counts_of(alloc, journal)?)?;
     add(&mut bytes, summary.as_bytes())?;
     add(&mut bytes, &[b'\n'])?;

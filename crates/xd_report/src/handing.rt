@@ -1,33 +1,33 @@
 // What is told to workers.
 ghost use Rattle.std.specs.Prelude.{OnOk};
-ghost use Rattle.xd_journal.specs.declared.entry.Entry.TheVariants.{Start, Shutdown};
+ghost use Rattle.xd_journal.specs.declared.entry.Entry.TheVariants.{Ready, Start, Shutdown};
 ghost use Rattle.xd_ledger.specs.Plan.{base};
 ghost use Rattle.xd_ledger.specs.Sharing.{State};
 ghost use Rattle.xd_ledger.specs.State.{moved, after_back, after_run, after_run_all};
 ghost use Rattle.xd_report.specs.Follows.{Follows};
 ghost use Rattle.xd_report.specs.Tests.{tests};
 
+use crate::holder;
 use crate::numbers::numbers_from;
 use crate::reporter::Reporter;
-use crate::{crew, desk};
 use std::alloc::Global;
 use xd_edge::OutOfMemory;
-use xd_ledger::Member;
+use xd_ledger::Mark;
 
 impl Reporter {
     // A worker was started.
     pub(crate) fn start(&mut self, worker: u32, slot: u32) -> Result<(), OutOfMemory>
         ensures { (s : State) → Follows self.old s → OnOk result (Follows self.new (moved s (Start worker slot))) }
     {
-        self.crew.push(Member {
-            worker,
-            slot,
-            active: false,
-            ready: false,
-            collected: false,
-            shut: false,
-        })?;
+        self.books.start(worker, slot)?;
         Ok(())
+    }
+
+    // A worker is there.
+    pub(crate) fn ready(&mut self, worker: u32)
+        ensures { (s : State) → Follows self.old s → Follows self.new (moved s (Ready worker)) }
+    {
+        self.books.mark(worker, Mark::Ready);
     }
 
     // A worker is given tests.
@@ -40,7 +40,7 @@ impl Reporter {
         ensures { (s : State) → Follows self.old s → OnOk result (Follows self.new (after_run worker indices.now s)) }
     {
         let items = self.items(alloc, worker, indices)?;
-        desk::add_held(&mut self.rota, worker, &items)?;
+        holder::add_held(&mut self.rota, worker, &items)?;
         Ok(())
     }
 
@@ -50,7 +50,7 @@ impl Reporter {
     {
         let base = self.base(worker)?;
         let items = numbers_from(alloc, base, self.size(worker))?;
-        desk::add_held(&mut self.rota, worker, &items)?;
+        holder::add_held(&mut self.rota, worker, &items)?;
         Ok(())
     }
 
@@ -64,7 +64,7 @@ impl Reporter {
         ensures { (s : State) → Follows self.old s → OnOk result (Follows self.new (after_back worker indices.now s)) }
     {
         let items = self.items(alloc, worker, indices)?;
-        desk::take_held(&mut self.rota, worker, &items);
+        holder::take_held(&mut self.rota, worker, &items);
         Ok(())
     }
 
@@ -72,6 +72,6 @@ impl Reporter {
     pub(crate) fn tell(&mut self, worker: u32)
         ensures { (s : State) → Follows self.old s → Follows self.new (moved s (Shutdown worker)) }
     {
-        crew::mark_shut(&mut self.crew, worker);
+        self.books.mark(worker, Mark::Shut);
     }
 }

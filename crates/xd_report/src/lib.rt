@@ -4,14 +4,12 @@
 mod blocks;
 mod collecting;
 mod counts;
-mod crew;
-mod desk;
 mod ending;
 mod handing;
 mod held;
+mod holder;
 mod laws;
 mod lines;
-mod lists;
 mod names;
 mod numbers;
 mod printing;

@@ -9,13 +9,13 @@ ghost use Rattle.xd_report.specs.Lines.{collected_line, down_line, last_of_slot,
 ghost use Rattle.xd_report.specs.Names.{cause_text};
 ghost use Rattle.xd_report.specs.Tests.{id_of, mode_of};
 
-use crate::crew;
 use crate::names::{add_name, add_plain, add_tag, cause_text, lost_text, mode_text, outcome_text};
 use crate::reporter::Reporter;
 use crate::writing::{add, add_number, add_text};
 use std::alloc::Global;
 use xd_edge::{Blob, ModeKind, OutOfMemory};
 use xd_journal::{Cause, Entry, Journal, Outcome};
+use xd_ledger::Member;
 
 /// The lines of the entries from one place up to another, each ended by a newline. It goes over the entries ahead too;
 /// whoever prints a journal while it grows keeps a `Reporter`.
@@ -69,7 +69,7 @@ impl Reporter {
         ensures lines { (s : State) → Follows self.old s → OnOk result (out.new.items ≡ out.old.items ++ lines_of (reached s entry.now) entry.now) }
         ensures follows { (s : State) → Follows self.old s → OnOk result (Follows self.new (next s entry.now)) }
     {
-        let was_shared = self.shared;
+        let was_shared = self.books.is_shared();
         self.add_told(alloc, out, entry)?;
         self.note(alloc, entry)?;
         if let Entry::Collected { .. } = entry {
@@ -92,7 +92,7 @@ impl Reporter {
             Entry::Down { worker, cause, .. } => self.add_end(alloc, out, *worker, *cause),
             Entry::NotStarted { worker } => self.add_down(alloc, out, *worker, "not started"),
             Entry::Start { slot, .. } => {
-                add_replacing(alloc, out, self.settings.mode, self.last_of_slot(*slot))
+                add_replacing(alloc, out, self.mode(), self.last_of_slot(*slot))
             }
             _ => Ok(()),
         }
@@ -107,10 +107,10 @@ impl Reporter {
     ) -> Result<(), OutOfMemory>
         ensures { (s : State) → Follows self.now s → OnOk result (out.new.items ≡ out.old.items ++ collected_line was_shared s) }
     {
-        let mode = self.settings.mode;
-        if is_local(mode) || (self.shared && !was_shared) {
+        let mode = self.mode();
+        if is_local(mode) || (self.books.is_shared() && !was_shared) {
             let tests = self.tests()?;
-            add_tests(alloc, out, mode, tests, self.settings.workers)?;
+            add_tests(alloc, out, mode, tests, self.books.settings().workers)?;
         }
         Ok(())
     }
@@ -125,7 +125,7 @@ impl Reporter {
     ) -> Result<(), OutOfMemory>
         ensures { (s : State) → Follows self.now s → OnOk result (out.new.items ≡ out.old.items ++ result_line (mode_of s) worker outcome (id_of worker index s)) }
     {
-        add_tag(alloc, out, self.settings.mode, worker)?;
+        add_tag(alloc, out, self.mode(), worker)?;
         add_text(out, outcome_text(outcome))?;
         add_plain(alloc, out, self.id_of(worker, index as u64))?;
         add(out, &[b'\n'])
@@ -140,7 +140,7 @@ impl Reporter {
     ) -> Result<(), OutOfMemory>
         ensures { (s : State) → Follows self.now s → OnOk result (out.new.items ≡ out.old.items ++ down_line (mode_of s) worker why.now) }
     {
-        add_tag(alloc, out, self.settings.mode, worker)?;
+        add_tag(alloc, out, self.mode(), worker)?;
         add_text(out, "node down: ")?;
         add_text(out, why)?;
         add(out, &[b'\n'])
@@ -155,7 +155,7 @@ impl Reporter {
         };
         let id = self.item_id(worker, item)?;
         let retry = self.is_retry(worker);
-        add_lost_line(alloc, out, retry, self.settings.mode, worker, id)
+        add_lost_line(alloc, out, retry, self.mode(), worker, id)
     }
 
     // A worker went down, with a test at its head or without.
@@ -177,8 +177,21 @@ impl Reporter {
     fn last_of_slot(&self, slot: u32) -> Option<u32>
         ensures { (s : State) → Follows self.now s → result ≡ last_of_slot slot s.books.crew None }
     {
-        crew::last_of_slot(&self.crew, slot)
+        last_of_slot(self.books.crew(), slot)
     }
+}
+
+// The last worker of a slot.
+fn last_of_slot(crew: &[Member], slot: u32) -> Option<u32>
+    ensures { result ≡ last_of_slot slot crew.now None }
+{
+    let mut found = None;
+    for member in crew {
+        if member.slot == slot {
+            found = Some(member.worker);
+        }
+    }
+    found
 }
 
 fn add_lost_line(

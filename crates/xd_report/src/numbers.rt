@@ -1,7 +1,6 @@
 // Numbers and lists of them. What has no room in a number has none in memory either.
 ghost use Rattle.std.specs.Prelude.{◌≡◌, ◌+◌, ◌==◌, ◌++◌, ◌∷◌, IfOk, map, sum, OnOk};
 ghost use Rattle.std.specs.List.{range_with_len, list_any};
-ghost use Rattle.xd_ledger.specs.Numbers.{times};
 
 use std::alloc::Global;
 use xd_edge::OutOfMemory;
@@ -10,15 +9,6 @@ pub fn plus(a: u64, b: u64) -> Result<u64, OutOfMemory>
     ensures { IfOk result (λ n. n ≡ a + b) }
 {
     match a.checked_add(b) {
-        Some(n) => Ok(n),
-        None => Err(OutOfMemory),
-    }
-}
-
-pub fn one_more(n: u32) -> Result<u32, OutOfMemory>
-    ensures { IfOk result (λ more. more ≡ n + 1) }
-{
-    match n.checked_add(1) {
         Some(n) => Ok(n),
         None => Err(OutOfMemory),
     }
@@ -60,11 +50,4 @@ pub fn is_among(item: u64, items: &[u64]) -> bool
     ensures { result ≡ list_any (λ y. item == y) items.now }
 {
     items.iter().any(|&y| item == y)
-}
-
-/// How often an item stands there.
-pub fn times(item: u64, items: &[u64]) -> usize
-    ensures { result ≡ times item items.now }
-{
-    items.iter().filter(|&&y| item == y).count()
 }

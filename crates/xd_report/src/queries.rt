@@ -2,58 +2,45 @@
 ghost use Rattle.std.specs.Prelude.{◌≡◌, [], IfOk, Some, slice_index, slice_index_or};
 ghost use Rattle.std.specs.Str.{chars};
 ghost use Rattle.xd_ledger.specs.Collections.{key};
-ghost use Rattle.xd_ledger.specs.Plan.{base, is_each, items_named};
-ghost use Rattle.xd_ledger.specs.Retry.{has_retries, is_retry, may_restart};
+ghost use Rattle.xd_ledger.specs.Plan.{base, items_named};
+ghost use Rattle.xd_ledger.specs.Retry.{is_retry};
 ghost use Rattle.xd_ledger.specs.Sharing.{State, ids_at};
 ghost use Rattle.xd_ledger.specs.Workers.{is_shut, slot_of};
 ghost use Rattle.xd_report.specs.Follows.{Follows};
-ghost use Rattle.xd_report.specs.Tests.{crash_of, head, id_of, item_id, tests};
+ghost use Rattle.xd_report.specs.Tests.{crash_of, head, id_of, item_id, mode_of, tests};
 
-use crate::numbers::{each_more, sum_of, times};
+use crate::holder;
+use crate::numbers::{each_more, sum_of};
 use crate::reporter::Reporter;
-use crate::{crew, desk, lists};
 use std::alloc::Global;
 use xd_edge::{ModeKind, OutOfMemory, Text};
+use xd_ledger::is_each;
 
 impl Reporter {
-    // The slot of a worker, or 0 where it was not started.
-    pub(crate) fn slot_of(&self, worker: u32) -> u32
-        ensures { (s : State) → Follows self.now s → result ≡ slot_of worker s.books }
+    pub(crate) fn mode(&self) -> ModeKind
+        ensures { (s : State) → Follows self.now s → result ≡ mode_of s }
     {
-        crew::slot_in(&self.crew, worker)
+        self.books.settings().mode
     }
 
     pub(crate) fn is_shut(&self, worker: u32) -> bool
         ensures { (s : State) → Follows self.now s → result ≡ is_shut worker s.books }
     {
-        crew::is_shut(&self.crew, worker)
+        self.books.is_shut(worker)
     }
 
-    pub(crate) fn is_each(&self) -> bool
-        ensures { result ≡ is_each self.now.settings.mode }
+    // The slot of a worker, or 0 where it was not started.
+    fn slot_of(&self, worker: u32) -> u32
+        ensures { (s : State) → Follows self.now s → result ≡ slot_of worker s.books }
     {
-        match self.settings.mode {
-            ModeKind::Each => true,
-            _ => false,
-        }
-    }
-
-    // Under which slot a worker's collection is kept.
-    pub(crate) fn key(&self, worker: u32) -> u32
-        ensures { (s : State) → Follows self.now s → result ≡ key worker s.books }
-    {
-        if self.is_each() {
-            self.slot_of(worker)
-        } else {
-            0
-        }
+        self.books.slot_of(worker)
     }
 
     // The ids of a worker's tests.
     pub(crate) fn ids(&self, worker: u32) -> &[Text]
         ensures { (s : State) → Follows self.now s → result.now ≡ ids_at (key worker s.books) s.books.lists }
     {
-        lists::ids_at(&self.lists, self.key(worker))
+        self.books.ids_at(self.books.key(worker))
     }
 
     // The id of the test that a worker calls by this number.
@@ -75,31 +62,14 @@ impl Reporter {
     pub(crate) fn head(&self, worker: u32) -> Option<u64>
         ensures { (s : State) → Follows self.now s → result ≡ head worker s }
     {
-        desk::head_in(&self.rota, worker)
+        holder::head_in(&self.rota, worker)
     }
 
     // Where the worker goes down, the test at its head is tried again.
     pub(crate) fn is_retry(&self, worker: u32) -> bool
         ensures { (s : State) → Follows self.now s → result ≡ is_retry worker s.books }
     {
-        match self.head(worker) {
-            Some(item) => self.may_restart() && self.has_retries(item),
-            None => false,
-        }
-    }
-
-    // One death more is made good by a new worker.
-    fn may_restart(&self) -> bool
-        ensures { (s : State) → Follows self.now s → result ≡ may_restart s.books }
-    {
-        self.stop.is_none() && self.deaths < self.settings.restarts
-    }
-
-    // Workers went down at the item's head fewer times than the retries say.
-    fn has_retries(&self, item: u64) -> bool
-        ensures { (s : State) → Follows self.now s → result ≡ has_retries item s.books }
-    {
-        times(item, &self.lost) < self.settings.retries as usize
+        self.books.retries_head(self.head(worker))
     }
 
     // The item that is reported where the worker goes down.
@@ -117,7 +87,7 @@ impl Reporter {
     pub(crate) fn base(&self, worker: u32) -> Result<u64, OutOfMemory>
         ensures { (s : State) → Follows self.now s → IfOk result (λ n. n ≡ base (slot_of worker s.books) s.plan) }
     {
-        if !self.is_each() {
+        if !is_each(self.books.settings().mode) {
             return Ok(0);
         }
         let slot = (self.slot_of(worker) as usize).min(self.sizes.len());
@@ -153,8 +123,8 @@ impl Reporter {
     pub(crate) fn tests(&self) -> Result<u64, OutOfMemory>
         ensures { (s : State) → Follows self.now s → IfOk result (λ n. n ≡ tests s) }
     {
-        match self.settings.mode {
-            ModeKind::Local => Ok(lists::ids_at(&self.lists, 0).len() as u64),
+        match self.mode() {
+            ModeKind::Local => Ok(self.books.ids_at(0).len() as u64),
             _ => sum_of(&self.sizes),
         }
     }

@@ -4,26 +4,19 @@ ghost use Rattle.xd_ledger.specs.Sharing.{State};
 ghost use Rattle.xd_ledger.specs.State.{next, no_one};
 ghost use Rattle.xd_report.specs.Follows.{Follows};
 
-use crate::desk::Desk;
+use crate::holder::Holder;
 use std::alloc::Global;
 use xd_edge::OutOfMemory;
 use xd_journal::{Entry, RunStop, Settings};
-use xd_ledger::{Listed, Member};
+use xd_ledger::Books;
 
-/// Follows a journal entry by entry, and keeps of it what the report of the next entry needs: the workers, the ids of
-/// each slot, what each worker holds, and at which items workers went down.
+/// Follows a journal entry by entry, and keeps of it what the report of the next entry needs: the books of the run, what
+/// each worker holds, and how many tests each slot has.
 #[derive(Drop)]
 pub struct Reporter {
-    pub(crate) settings: Settings,
-    pub(crate) crew: Vec<Member>,
-    pub(crate) lists: Vec<Listed>,
-    pub(crate) rota: Vec<Desk>,
-    pub(crate) shared: bool,
+    pub(crate) books: Books,
+    pub(crate) rota: Vec<Holder>,
     pub(crate) sizes: Vec<u64>,
-    pub(crate) failures: u32,
-    pub(crate) deaths: u32,
-    pub(crate) lost: Vec<u64>,
-    pub(crate) stop: Option<RunStop>,
 }
 
 impl Reporter {
@@ -32,16 +25,9 @@ impl Reporter {
         ensures { Follows result (no_one settings) }
     {
         Reporter {
-            settings,
-            crew: Vec::new(alloc),
-            lists: Vec::new(alloc),
+            books: Books::new(alloc, settings),
             rota: Vec::new(alloc),
-            shared: false,
             sizes: Vec::new(alloc),
-            failures: 0,
-            deaths: 0,
-            lost: Vec::new(alloc),
-            stop: None,
         }
     }
 
@@ -49,7 +35,7 @@ impl Reporter {
     pub fn first_stop(&self) -> Option<RunStop>
         ensures { (s : State) → Follows self.now s → result ≡ s.books.stop }
     {
-        self.stop
+        self.books.first_stop()
     }
 
     // One entry more.
@@ -58,6 +44,10 @@ impl Reporter {
     {
         match entry {
             Entry::Start { worker, slot } => self.start(*worker, *slot),
+            Entry::Ready { worker } => {
+                self.ready(*worker);
+                Ok(())
+            }
             Entry::Collected { worker, ids } => self.collect(alloc, *worker, ids),
             Entry::Done {
                 worker,
@@ -71,7 +61,7 @@ impl Reporter {
                 Ok(())
             }
             Entry::Refused { worker, .. } => {
-                self.stop_by(Some(RunStop::CollectError { worker: *worker }));
+                self.refuse(*worker);
                 Ok(())
             }
             Entry::Down { worker, .. } | Entry::NotStarted { worker } => self.bury(*worker),
@@ -81,7 +71,6 @@ impl Reporter {
                 self.tell(*worker);
                 Ok(())
             }
-            Entry::Ready { .. } => Ok(()),
             Entry::Steal { .. } | Entry::Kill { .. } | Entry::Over { .. } => Ok(()),
         }
     }

@@ -19,7 +19,7 @@ pub fn status_of(alloc: Global, journal: &Journal) -> Result<u8, OutOfMemory>
     let mut reporter = Reporter::new(alloc, journal.settings);
     let mut counts = Counts::none();
     reporter.count_all(alloc, &mut counts, &journal.entries)?;
-    let so_far = reporter.stop.unwrap_or(RunStop::Completed);
+    let so_far = reporter.first_stop().unwrap_or(RunStop::Completed);
     let how = over_in(&journal.entries, so_far);
     let tests = reporter.tests()?;
     Ok(stop_status(journal.settings.mode, how, tests, counts.failed))

@@ -9,9 +9,9 @@ ghost use Rattle.xd_ledger.specs.Turn.{in_turn};
 ghost use Rattle.xd_scope.specs.Stands.{IsAt, Keeps, give_where_few};
 
 use crate::given::add_given;
-use crate::units::{Units, copy_of, next_unit};
+use crate::units::{Units, next_unit};
 use std::alloc::Global;
-use xd_edge::OutOfMemory;
+use xd_edge::{OutOfMemory, copy_indices};
 use xd_journal::Entry;
 use xd_ledger::{Ledger, shut};
 
@@ -37,7 +37,7 @@ pub(crate) fn give_unit(
         return Ok(());
     };
     ledger.assign(worker, &unit.items)?;
-    let tests = copy_of(alloc, &unit.items)?;
+    let tests = copy_indices(alloc, &unit.items)?;
     add_given(alloc, worker, tests, &mut units.given)?;
     acts.push(Entry::Run {
         worker,

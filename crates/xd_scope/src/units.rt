@@ -15,14 +15,6 @@ pub(crate) struct Units {
     pub(crate) given: BTreeMap<u32, WorkerUnits>,
 }
 
-// The same numbers.
-pub(crate) fn copy_of(alloc: Global, items: &[u32]) -> Result<Indices, OutOfMemory>
-    ensures { IfOk result (λ r. r ≡ items.now) }
-{
-    let items = Vec::from_slice(alloc, items)?;
-    Ok(Indices { items })
-}
-
 // The unit at the queue's front, which leaves it.
 pub(crate) fn next_unit(queue: &mut VecDeque<Indices>) -> Option<Indices>
     ensures some { IfSome result (λ u. queue.old.items ≡ u ∷ queue.new.items) }

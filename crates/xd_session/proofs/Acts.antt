@@ -13,7 +13,7 @@ use Rattle.xd_ledger.specs.Plan.{Plan, items_named}
 use Rattle.xd_ledger.specs.Calls.{Turned, death_plan}
 use Rattle.xd_ledger.specs.Modes.{Call}
 use Rattle.xd_ledger.specs.Modes.Call.{Died}
-use Rattle.xd_ledger.specs.Workers.{waiting, slot_of}
+use Rattle.xd_ledger.specs.Workers.{begun_at, waiting, slot_of}
 use Rattle.xd_ledger.specs.Retry.{is_retry}
 use Rattle.xd_ledger.specs.Stops.{is_stopped, or_stop}
 use Rattle.xd_ledger.specs.Sharing.{State, in_books}
@@ -25,7 +25,7 @@ use Rattle.xd_laws.proofs.Calls.{died-called}
 use Rattle.xd_laws.proofs.Inputs.{done-unstopped, down-unstopped, unstopped-before}
 use Rattle.xd_laws.proofs.Logic.{differ, split-and}
 use Rattle.xd_session.specs.Known.{Known, known_of, steal_told}
-use Rattle.xd_session.specs.Rules.{Acted, At, Before, Calls, Closed, Comes, MayDie, Ruled, begun_at, crew_told, told_all}
+use Rattle.xd_session.specs.Rules.{Acted, At, Before, Calls, Closed, Comes, MayDie, Ruled, crew_told, told_all}
 use Rattle.xd_session.proofs.Closing.{all_moved-append, append-nil, ruled, stop-told_all, told-moved}
 use Rattle.xd_session.proofs.Orders.{Tells, tells, tells-acts}
 use Rattle.xd_session.proofs.Retrying.{plan-by-pool, plan-unshared}

@@ -12,10 +12,10 @@ use Rattle.xd_ledger.specs.State.{all_moved, next, no_one, settled, state_at}
 use Rattle.xd_ledger.specs.Histories.{starts_from, first_starts}
 use Rattle.xd_ledger.specs.Proper.{IsProper}
 use Rattle.xd_ledger.specs.Meaning.{spent_by}
-use Rattle.xd_ledger.specs.Workers.{started}
+use Rattle.xd_ledger.specs.Workers.{begun_at, started}
 use Rattle.std.proofs.lemmas.List.{append-nil}
 use Rattle.xd_session.specs.Known.{Known, known_of}
-use Rattle.xd_session.specs.Rules.{At, InStep, begun_at}
+use Rattle.xd_session.specs.Rules.{At, InStep}
 use Rattle.xd_session.specs.Stands.{CanBegin}
 
 -- the start with these workers

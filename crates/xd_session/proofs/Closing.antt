@@ -97,9 +97,9 @@ closed-shut s b kn es stands a h k =
     let t : (not (is_shutting s.books) && settles s) ≡ false = ap (λ x. not x && settles s) k in
     closed-none s b kn es stands a (pick-no (not (is_shutting s.books) && settles s) (shut_all s.books.crew) [] t) (shutting-of (is_stopped s.books) s.books.shutting s.books.shared (is_finished s.books.table s.plan) h k)
 
-pub closed-now : (s : State) (b c : Books) (kn : Known) (es fs : List Entry) (stands : Plan → Type 0) → At s b kn stands → settles s ≡ true → is_shutting s.books ≡ false
-    → c ≡ told_all (waiting b.crew) b → fs ≡ es ++ shutdowns (waiting b.crew) → Closed s (record c { shutting = true }) kn es fs stands
-closed-now s b c kn es fs stands a h k told_is notes =
+pub closed-now : (s : State) (b c d : Books) (kn : Known) (es fs : List Entry) (stands : Plan → Type 0) → At s b kn stands → settles s ≡ true → is_shutting s.books ≡ false
+    → c ≡ told_all (waiting b.crew) b → d ≡ record c { shutting = true } → fs ≡ es ++ shutdowns (waiting b.crew) → Closed s d kn es fs stands
+closed-now s b c d kn es fs stands a h k told_is shut_is notes =
     let ws : List ℕ = waiting s.books.crew in
     let t : (not (is_shutting s.books) && settles s) ≡ true = ap (λ x. not x && settles s) k ∙ h in
     let out : closing s ≡ shutdowns ws = pick-yes (not (is_shutting s.books) && settles s) (shutdowns ws) [] t in
@@ -107,9 +107,9 @@ closed-now s b c kn es fs stands a h k told_is notes =
     let mark : ((told_all ws s.books).shutting || settles (in_books (told_all ws) s)) ≡ true = ap (λ x. (told_all ws s.books).shutting || x) (settles-told_all ws s ∙ h) ∙ or-true (told_all ws s.books).shutting in
     let e : c ≡ told_all ws s.books = told_is ∙ ap (λ d. told_all (waiting d.crew) d) a.books_are in
     let on : Books → Books = λ d. record d { shutting = true } in
-    let fin : record c { shutting = true } ≡ (settled (in_books (told_all ws) s)).books = ap on e ∙ ap (λ x. record (told_all ws s.books) { shutting = x }) (sym mark) in
+    let fin : d ≡ (settled (in_books (told_all ws) s)).books = shut_is ∙ ap on e ∙ ap (λ x. record (told_all ws s.books) { shutting = x }) (sym mark) in
     record {
-      at = subst (λ u. At (settled u) (record c { shutting = true }) kn stands) (sym after) (record { books_are = fin; known_is = a.known_is; stands_for = λ q. a.stands_for (sym (stop-told_all ws s.books) ∙ q) });
+      at = subst (λ u. At (settled u) d kn stands) (sym after) (record { books_are = fin; known_is = a.known_is; stands_for = λ q. a.stands_for (sym (stop-told_all ws s.books) ∙ q) });
       entries_are = notes ∙ ap (λ d. es ++ shutdowns (waiting d.crew)) a.books_are ∙ ap (λ gs. es ++ gs) (sym out);
     }
 

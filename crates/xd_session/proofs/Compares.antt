@@ -1,13 +1,13 @@
 -- Collections: where they differ, and which one is kept for a slot.
-use Rattle.std.proofs.Common.{◌≡◌, ℕ, zero, suc, ◌+◌, ◌<◌, ◌≤◌, List, [], ◌∷◌, ◌++◌, take, drop, length, get_or, refl, ap, sym, ◌∙◌, arith, Bool, true, false, not, ◌&&◌, ◌||◌, cond, add-one, drop-cons, length-append}
-use Rattle.std.specs.Prelude.{if◌then◌else◌, ◌==◌, encode_utf8, Option, Some, None}
+use Rattle.std.proofs.Common.{◌≡◌, ℕ, zero, suc, ◌+◌, ◌<◌, ◌≤◌, List, [], ◌∷◌, ◌++◌, take, drop, length, get_or, refl, ap, sym, ◌∙◌, arith, Bool, true, false, not, ◌&&◌, ◌||◌, cond, add-one, drop-cons, length-append, Result, Ok, Err}
+use Rattle.std.specs.Prelude.{if◌then◌else◌, ◌==◌, encode_utf8, Option, Some, None, OnOk, OnErr}
 use Rattle.std.proofs.lemmas.Bool.Decides.{nat_tests, same_from_decides}
 use Rattle.std.proofs.lemmas.List.{take_more, take-append-drop}
-use Rattle.std.proofs.lemmas.List.Folds.{list_any-append}
+use Rattle.std.proofs.lemmas.List.Folds.{list_all-append, list_any-append}
 use Rattle.std.proofs.lemmas.Str.{encodes_same, encodes-chars, length-encode, len_utf8_bounds}
 use Rattle.std.proofs.lemmas.Slice.Eq.{bytes_eq-Decides}
 use Rattle.std.proofs.lemmas.Map.Text.{is_eq-slice_cmp}
-use Rattle.std.specs.List.{list_any}
+use Rattle.std.specs.List.{list_all, list_any}
 use Rattle.std.specs.Borrow.{Bor}
 use Rattle.std.specs.BTreeSet.{BTreeSet, contains, Updates}
 use Rattle.std.specs.Cmp.Lexicographic.{slice_cmp}
@@ -15,62 +15,32 @@ use Rattle.std.specs.declared.cmp.Ordering.{Ordering}
 use Rattle.std.specs.Ordering.{is_eq, nat_cmp}
 use Rattle.std.specs.Str.{bytes_eq, chars, IsUtf8, encode_utf8_all}
 use Rattle.xd_ledger.specs.declared.member.Listed.{Listed}
-use Rattle.xd_ledger.specs.Collections.{differ_at, listed_in}
+use Rattle.xd_journal.specs.declared.entry.Ids.TheVariants as ids
+use Rattle.xd_ledger.specs.Books.{Books}
+use Rattle.xd_ledger.specs.Collections.{ids_of, key, listed, listed_in, lists_with, with_list}
 use Rattle.xd_ledger.specs.Proper.{no_text_twice}
-use Rattle.xd_session.specs.Compared.{place_in_lists}
+use Rattle.xd_session.specs.Compared.{comparison, given, place_in_lists}
 
--- a place so much further on
-abbrev pub further : ℕ → Option ℕ → Option ℕ
-further n None = None
-further n (Some k) = Some (n + k)
+-- a collection that is kept is as all others are
+pub all_with : (p : Listed → Bool) (o : Option Listed) (l : Listed) (ls : List Listed) → list_all p ls ≡ true → p l ≡ true → list_all p (lists_with o l ls) ≡ true
+all_with p (Some first) l ls all one = all
+all_with p None l ls all one = list_all-append p ls (l ∷ []) ∙ rw (all, one) refl
 
-further-suc : (i : ℕ) (o : Option ℕ) → further i (elim o as (λ _. Option ℕ) [ None ↦ None | Some n ↦ Some (suc n) ]) ≡ further (i + 1) o
-further-suc i None = refl
-further-suc i (Some k) = ap (λ n. Some n) (omega arith)
+-- where memory runs out none is kept
+pub all_listed : {A B : Type 0} → (r : Result A B) (p : Listed → Bool) (b c : Books) (w : ℕ) (own : List (List ℕ)) → OnOk r (c ≡ with_list w (ids.List own) b) → OnErr r (c ≡ b)
+    → list_all p b.lists ≡ true → p (record { slot = key w b; worker = w; ids = own }) ≡ true → list_all p c.lists ≡ true
+all_listed (Ok x) p b c w own ok err all one = ap (λ (d : Books). list_all p d.lists) ok ∙ all_with p (listed w b) (record { slot = key w b; worker = w; ids = own }) b.lists all one
+all_listed (Err x) p b c w own ok err all one = ap (λ (d : Books). list_all p d.lists) err ∙ all
 
-pub further-none : (o : Option ℕ) → further 0 o ≡ o
-further-none None = refl
-further-none (Some k) = ap (λ n. Some n) (omega arith)
+pub settings_stay : {A B : Type 0} → (r : Result A B) (b c : Books) (w : ℕ) (own : List (List ℕ)) → OnOk r (c ≡ with_list w (ids.List own) b) → OnErr r (c ≡ b) → c.settings ≡ b.settings
+settings_stay (Ok x) b c w own ok err = ap (λ (d : Books). d.settings) ok
+settings_stay (Err x) b c w own ok err = ap (λ (d : Books). d.settings) err
 
--- they are the same at this place
-pub differ-next : (xs ys : List (List ℕ)) (i : ℕ) (d : List ℕ) → i < length xs → i < length ys → bytes_eq (get_or xs i d) (get_or ys i d) ≡ true
-    → further (i + 1) (differ_at (drop (i + 1) xs) (drop (i + 1) ys)) ≡ further i (differ_at (drop i xs) (drop i ys))
-differ-next xs ys i d h k e =
-    let a : drop i xs ≡ get_or xs i d ∷ drop (i + 1) xs = rw add-one (drop-cons xs i d h) in
-    let b : drop i ys ≡ get_or ys i d ∷ drop (i + 1) ys = rw add-one (drop-cons ys i d k) in
-    let o = differ_at (drop (i + 1) xs) (drop (i + 1) ys) in
-    let more : Bool → Option ℕ = λ q. if q then (elim o as (λ _. Option ℕ) [ None ↦ None | Some n ↦ Some (suc n) ]) else Some 0 in
-    sym (ap (λ us. further i (differ_at us (drop i ys))) a ∙ ap (λ us. further i (differ_at (get_or xs i d ∷ drop (i + 1) xs) us)) b ∙ ap (λ q. further i (more q)) e ∙ further-suc i o)
-
-pub differ-here : (xs ys : List (List ℕ)) (i : ℕ) (d : List ℕ) → i < length xs → i < length ys → bytes_eq (get_or xs i d) (get_or ys i d) ≡ false → Some i ≡ further i (differ_at (drop i xs) (drop i ys))
-differ-here xs ys i d h k e =
-    let a : drop i xs ≡ get_or xs i d ∷ drop (i + 1) xs = rw add-one (drop-cons xs i d h) in
-    let b : drop i ys ≡ get_or ys i d ∷ drop (i + 1) ys = rw add-one (drop-cons ys i d k) in
-    let o = differ_at (drop (i + 1) xs) (drop (i + 1) ys) in
-    let more : Bool → Option ℕ = λ q. if q then (elim o as (λ _. Option ℕ) [ None ↦ None | Some n ↦ Some (suc n) ]) else Some 0 in
-    sym (ap (λ us. further i (differ_at us (drop i ys))) a ∙ ap (λ us. further i (differ_at (get_or xs i d ∷ drop (i + 1) xs) us)) b ∙ ap (λ q. further i (more q)) e ∙ ap (λ n. Some n) (omega arith))
-
-drop-end : (xs : List (List ℕ)) (i : ℕ) → length xs ≤ i → drop i xs ≡ []
-drop-end [] zero h = refl
-drop-end [] (suc i) h = refl
-drop-end (x ∷ xs) zero h = absurd (omega arith)
-drop-end (x ∷ xs) (suc i) h = drop-end xs i (omega arith)
-
--- the second one ends here
-pub differ-short : (xs ys : List (List ℕ)) (i : ℕ) (d : List ℕ) → i < length xs → length ys ≤ i → Some i ≡ further i (differ_at (drop i xs) (drop i ys))
-differ-short xs ys i d h k =
-    let a : drop i xs ≡ get_or xs i d ∷ drop (i + 1) xs = rw add-one (drop-cons xs i d h) in
-    sym (ap (λ us. further i (differ_at us (drop i ys))) a ∙ ap (λ us. further i (differ_at (get_or xs i d ∷ drop (i + 1) xs) us)) (drop-end ys i k) ∙ ap (λ n. Some n) (omega arith))
-
--- the first one ends here
-pub differ-long : (xs ys : List (List ℕ)) (i n : ℕ) (d : List ℕ) → length xs ≤ i → i < length ys → n ≡ i → Some n ≡ further i (differ_at (drop i xs) (drop i ys))
-differ-long xs ys i n d h k e =
-    let b : drop i ys ≡ get_or ys i d ∷ drop (i + 1) ys = rw add-one (drop-cons ys i d k) in
-    sym (ap (λ us. further i (differ_at us (drop i ys))) (drop-end xs i h) ∙ ap (λ us. further i (differ_at [] us)) b ∙ ap (λ m. Some m) (omega arith))
-
--- both end here
-pub differ-none : (xs ys : List (List ℕ)) (i : ℕ) → length xs ≤ i → length ys ≤ i → None ≡ further i (differ_at (drop i xs) (drop i ys))
-differ-none xs ys i h k = sym (ap (λ us. further i (differ_at us (drop i ys))) (drop-end xs i h) ∙ ap (λ us. further i (differ_at [] us)) (drop-end ys i k))
+-- an equal collection is kept by no one
+pub given-list : (o : Option Listed) (slot worker : ℕ) (own : List (List ℕ)) (ls : List Listed)
+    → lists_with o (record { slot = slot; worker = worker; ids = own }) ls ≡ lists_with o (record { slot = slot; worker = worker; ids = ids_of (given (comparison own o) own) }) ls
+given-list None slot worker own ls = refl
+given-list (Some first) slot worker own ls = refl
 
 -- the collection of a slot
 

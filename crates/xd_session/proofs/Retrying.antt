@@ -1,12 +1,11 @@
 -- Retries of crashed tests, and the plan behind a death.
 use Rattle.std.proofs.Common.{◌≡◌, ℕ, ◌+◌, ◌-◌, List, [], ◌∷◌, ◌++◌, drop, length, refl, ap, sym, ◌∙◌, arith, cond, Bool, true, false, ◌&&◌, append_assoc, length-append}
 use Rattle.std.specs.Prelude.{◌==◌, count_by, if◌then◌else◌}
-use Rattle.std.proofs.lemmas.List.Recursion.{is_count_by}
 use Rattle.xd_ledger.specs.Books.{Books}
 use Rattle.xd_ledger.specs.Calls.{death_plan, last_of}
 use Rattle.xd_ledger.specs.Numbers.{times}
 use Rattle.xd_ledger.specs.Plan.{Plan, total}
-use Rattle.xd_ledger.specs.Retry.{has_retries, is_retry, may_restart}
+use Rattle.xd_ledger.specs.Retry.{is_retry, retries_first}
 use Rattle.xd_ledger.specs.Sharing.{State}
 use Rattle.xd_ledger.specs.State.{after_down, down_books, down_plan}
 use Rattle.xd_ledger.specs.Table.{all_items, held, retried_item}
@@ -18,17 +17,9 @@ use Rattle.xd_laws.proofs.Placed.{due_times}
 use Rattle.xd_laws.proofs.Places.{held-within, no-retried, times-table}
 use Rattle.xd_laws.proofs.Unshared.{down-unshared}
 
-one-where : (b : Bool) (n : ℕ) → (if b then 1 else 0) + n ≡ cond b (1 + n) n
-one-where true n = refl
-one-where false n = omega arith
-
--- how often a number stands there is how many are equal to it
-pub times_counted : (x : ℕ) (ys : List ℕ) → count_by (λ y. x == y) ys ≡ times x ys
-times_counted x ys = sym (is_count_by (times x) (λ y. x == y) refl (λ y zs. one-where (x == y) (times x zs)) ys)
-
 -- whoever holds nothing brings no retry
 pub no-retry : (w : ℕ) (b : Books) → held w b.table ≡ [] → is_retry w b ≡ false
-no-retry w b h = ap (λ (hs : List ℕ). elim hs as (λ _. Bool) [ [] ↦ false | x ∷ xs ↦ may_restart b && has_retries x b ]) h
+no-retry w b h = ap (λ (hs : List ℕ). retries_first hs b) h
 
 -- of the pool behind a death the first item is the one that was retried, where one was
 

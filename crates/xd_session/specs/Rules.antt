@@ -10,7 +10,7 @@ use Rattle.xd_ledger.specs.Plan.{Plan}
 use Rattle.xd_ledger.specs.Modes.{Call}
 use Rattle.xd_ledger.specs.Modes.Call.{Died, Joined, Share}
 use Rattle.xd_ledger.specs.Books.{Books, marked, on_table}
-use Rattle.xd_ledger.specs.Workers.{started, made_shut, slot_of}
+use Rattle.xd_ledger.specs.Workers.{made_shut, slot_of}
 use Rattle.xd_ledger.specs.Stops.{is_stopped}
 use Rattle.xd_ledger.specs.Sharing.{State, joining, shared_now}
 use Rattle.xd_ledger.specs.State.{settled, all_moved, state_at}
@@ -76,10 +76,6 @@ pub record Closed (s : State) (b : Books) (k : Known) (old new : List Entry) (st
 pub record Ruled (s : State) (e : Entry) (b : Books) (k : Known) (old new : List Entry) (stands : Plan → Type 0) : Type 0 where
   pub at : At (stepped s e) b k stands
   pub entries_are : new ≡ old ++ e ∷ outputs s e
-
--- a worker was started
-abbrev pub begun_at : ℕ → ℕ → Books → Books
-begun_at worker slot b = record b { crew = b.crew ++ started worker slot ∷ []; shutting = false }
 
 -- a worker was told to shut down
 abbrev pub told : ℕ → Books → Books

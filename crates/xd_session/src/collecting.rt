@@ -23,15 +23,14 @@ ghost use Rattle.xd_session.specs.Known.{known_by};
 ghost use Rattle.xd_session.specs.Rules.{Acted, At, Comes, MayJoin, MayShare, Ruled};
 
 use crate::books::RunBooks;
-use crate::known::{is_each, total_of};
+use crate::known::total_of;
 use crate::lists::{Comparison, place_of};
-use crate::marks::Mark;
 use crate::outputs::{note, shut_everyone};
 use crate::state::{RunState, take_acts};
 use std::alloc::Global;
 use xd_edge::{Indices, ModeKind, OutOfMemory, Text, Texts};
 use xd_journal::{Entry, RunStop};
-use xd_ledger::{Ledger, Listed, Mode};
+use xd_ledger::{Ledger, Listed, Mark, Mode, is_each};
 
 // The ids that stand for the slot.
 fn ids_of<'a>(slot: u32, lists: &'a [Listed], none: &'a Texts) -> &'a Texts
@@ -84,7 +83,7 @@ fn slots_of(alloc: Global, books: &RunBooks) -> Result<Indices, OutOfMemory>
     let mut items = Vec::new(alloc);
     for place in 0..books.ledger.rota_len() {
         let worker = books.ledger.rota_at(place);
-        items.push(books.slot_of(worker))?;
+        items.push(books.kept.slot_of(worker))?;
     }
     Ok(Indices { items })
 }
@@ -93,7 +92,7 @@ fn slots_of(alloc: Global, books: &RunBooks) -> Result<Indices, OutOfMemory>
 fn is_full(books: &RunBooks) -> bool
     ensures { result ≡ is_full (books_of books.now) }
 {
-    !books.shared && books.ledger.rota_len() == books.settings.workers
+    !books.kept.is_shared() && books.ledger.rota_len() == books.kept.settings().workers
 }
 
 // The worker joins the rota.
@@ -157,9 +156,9 @@ fn deal_all<M: Mode>(
         items: Vec::new(alloc),
     };
     let slots = slots_of(alloc, books)?;
-    let count = slots_shared(kind, books.settings.workers);
-    let sizes = sizes_of_slots(alloc, count, &books.lists, &none)?;
-    let ids = ids_of(0, &books.lists, &none);
+    let count = slots_shared(kind, books.kept.settings().workers);
+    let sizes = sizes_of_slots(alloc, count, books.kept.lists(), &none)?;
+    let ids = ids_of(0, books.kept.lists(), &none);
     deal(
         alloc,
         &slots.items,
@@ -188,7 +187,7 @@ impl<M: Mode> RunState<M> {
             &mut self.books,
             &mut acts,
         )?;
-        self.books.shared = true;
+        self.books.share();
         self.known.sizes = sizes;
         take_acts(alloc, &mut acts, &mut self.books, &mut self.known, entries)?;
         Ok(())
@@ -202,13 +201,13 @@ impl<M: Mode> RunState<M> {
         entries: &mut Vec<Entry>,
     ) -> Result<(), OutOfMemory>
         requires new { has_joined worker self.old.books.ledger ≡ false }
-        requires bare { self.old.books.shared ≡ false → IsBare self.old.books.ledger }
+        requires bare { (books_of self.old.books).shared ≡ false → IsBare self.old.books.ledger }
         requires at { (s : State) × (At s (books_of self.old.books) (known_by self.old.known) (M.stands self.old.mode) × MayJoin worker s) }
         ensures { OnOk result ((s : State) → At s (books_of self.old.books) (known_by self.old.known) (M.stands self.old.mode) → MayJoin worker s →
             Acted (after_joining worker s.books (joining worker s)) (joining worker s) (books_of self.new.books) (known_by self.new.known) entries.old.items entries.new.items (M.stands self.new.mode)) }
     {
         seat(alloc, worker, &mut self.books)?;
-        if self.books.shared {
+        if self.books.kept.is_shared() {
             self.call_joined(alloc, worker, entries)?;
             return Ok(());
         }
@@ -228,7 +227,7 @@ impl<M: Mode> RunState<M> {
         entries: &mut Vec<Entry>,
     ) -> Result<(), OutOfMemory>
         requires new { has_joined worker self.old.books.ledger ≡ false }
-        requires bare { self.old.books.shared ≡ false → IsBare self.old.books.ledger }
+        requires bare { (books_of self.old.books).shared ≡ false → IsBare self.old.books.ledger }
         requires going { is_stopped (books_of self.old.books) ≡ false }
         requires at { stop_of worker comparison ≡ None → (s : State) × (At s (books_of self.old.books) (known_by self.old.known) (M.stands self.old.mode) × MayJoin worker s) }
         ensures { OnOk result ((s : State) → At s (books_of self.old.books) (known_by self.old.known) (M.stands self.old.mode) → (stop_of worker comparison ≡ None → MayJoin worker s) →
@@ -266,7 +265,7 @@ impl<M: Mode> RunState<M> {
         ensures { OnOk result ((s : State) → Comes (given_ids worker own s) s (books_of self.old.books) (known_by self.old.known) (M.stands self.old.mode) →
             Ruled s (given_ids worker own s) (books_of self.new.books) (known_by self.new.known) entries.old.items entries.new.items (M.stands self.new.mode)) }
     {
-        let shut = self.books.is_shut(worker);
+        let shut = self.books.kept.is_shut(worker);
         let taken = self.books.take_list(alloc, worker, own)?;
         note(
             Entry::Collected {

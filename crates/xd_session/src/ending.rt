@@ -42,11 +42,11 @@ pub(crate) fn end(
     ensures { OnOk result (entries.new.items ≡ entries.old.items ++ ending out_failed (books_of books.now)) }
 {
     if !out_failed {
-        let how = books.stop.unwrap_or(RunStop::Completed);
+        let how = books.kept.first_stop().unwrap_or(RunStop::Completed);
         note(Entry::Over { how }, entries)?;
         return Ok(());
     }
-    kill_all(&books.crew, entries)?;
+    kill_all(books.kept.crew(), entries)?;
     note(
         Entry::Over {
             how: RunStop::OutFault,

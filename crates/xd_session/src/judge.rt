@@ -79,7 +79,7 @@ impl<M: Mode> RunState<M> {
     fn are_behind_head(&self, worker: u32, indices: &[u32]) -> bool
         ensures { result ≡ list_all (λ i. is_behind (first_item (slot_of worker (books_of self.now.books)) (known_by self.now.known) + i) (held worker self.now.books.ledger)) indices.now }
     {
-        let first = self.known.first_item(self.books.slot_of(worker));
+        let first = self.known.first_item(self.books.kept.slot_of(worker));
         indices
             .iter()
             .all(|index| self.is_behind_head(worker, first, *index))
@@ -127,7 +127,9 @@ impl<M: Mode> RunState<M> {
         requires { is_active worker (books_of self.now.books) ≡ true }
         ensures { (s : State) → At s (books_of self.now.books) (known_by self.now.known) (M.stands self.now.mode) → result ≡ may_follow s (entry.Finished worker) }
     {
-        self.books.is_shut(worker) && self.books.has_collected(worker) && self.books.is_idle(worker)
+        self.books.kept.is_shut(worker)
+            && self.books.kept.has_collected(worker)
+            && self.books.is_idle(worker)
     }
 
     // The worker was ready, has not collected, and the collection is in order.
@@ -136,7 +138,7 @@ impl<M: Mode> RunState<M> {
         requires { is_active worker (books_of self.now.books) ≡ true }
         ensures { IfOk result (λ b. (s : State) → At s (books_of self.now.books) (known_by self.now.known) (M.stands self.now.mode) → b ≡ may_follow s (given_ids worker own.now s)) }
     {
-        if !self.books.was_ready(worker) || self.books.has_collected(worker) {
+        if !self.books.kept.was_ready(worker) || self.books.kept.has_collected(worker) {
             return Ok(false);
         }
         let fine = are_in_order(alloc, own)?;
@@ -155,7 +157,7 @@ impl<M: Mode> RunState<M> {
         ensures { IfOk result (λ v. (s : State) → At s (books_of self.now.books) (known_by self.now.known) (M.stands self.now.mode) → Reached s → v ≡ judged worker (log_in worker logs.now) s what.now) }
     {
         let verdict = match what {
-            What::Ready | What::NotStarted => follows_where(!self.books.was_ready(worker)),
+            What::Ready | What::NotStarted => follows_where(!self.books.kept.was_ready(worker)),
             What::Collected(own) => follows_where(self.may_collect(alloc, worker, own)?),
             What::LogStart { index, log } => {
                 silent_where(self.may_start(worker, *index, *log, logs))
@@ -166,7 +168,7 @@ impl<M: Mode> RunState<M> {
             What::Done { index, .. } => follows_where(self.may_end(worker, *index, logs)),
             What::Back(indices) => follows_where(self.may_give_back(worker, &indices.items)),
             What::Finished => follows_where(self.may_finish(worker)),
-            What::Closed(Some(_)) => follows_where(!self.books.has_collected(worker)),
+            What::Closed(Some(_)) => follows_where(!self.books.kept.has_collected(worker)),
             What::Closed(None) | What::Stray => Verdict::Breach,
             What::Gone(_) => Verdict::Follows,
         };

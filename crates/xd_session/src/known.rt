@@ -1,30 +1,22 @@
 // What the session itself knows of the plan of a run.
 ghost use Rattle.std.specs.Prelude.{◌≡◌, ◌+◌, ◌≤◌, ◌==◌, ℕ, [], None, Some, OnOk, IfOk, sum, true, if◌then◌else◌};
 ghost use Rattle.std.specs.Str.{bytes_eq};
-ghost use Rattle.xd_ledger.specs.Plan.{is_each};
 ghost use Rattle.xd_ledger.specs.Sound.{most_items};
 ghost use Rattle.xd_ledger.specs.State.{steal_without};
 ghost use Rattle.xd_session.specs.Known.{asked_by, asked_of, first_item, known_by, steal_told, where_is};
 
 use crate::plan::{KnownPlan, OpenSteal};
 use std::alloc::Global;
-use xd_edge::{Indices, ModeKind, OutOfMemory};
+use xd_edge::{Indices, ModeKind, OutOfMemory, copy_indices};
 use xd_journal::Entry;
-
-fn copy_of(alloc: Global, numbers: &[u32]) -> Result<Indices, OutOfMemory>
-    ensures { IfOk result (λ n. n ≡ numbers.now) }
-{
-    let mut items = Vec::with_capacity(alloc, numbers.len())?;
-    items.extend_from_slice(numbers)?;
-    Ok(Indices { items })
-}
+use xd_ledger::is_each;
 
 // The open steal after an output of the mode.
 fn ask_one(alloc: Global, act: &Entry, steal: &mut Option<OpenSteal>) -> Result<(), OutOfMemory>
     ensures { OnOk result (asked_of steal.new ≡ asked_by (asked_of steal.old) act.now) }
 {
     if let Entry::Steal { worker, indices } = act {
-        let tests = copy_of(alloc, &indices.items)?;
+        let tests = copy_indices(alloc, &indices.items)?;
         *steal = Some(OpenSteal {
             worker: *worker,
             tests,
@@ -45,15 +37,6 @@ pub(crate) fn ask(
         ask_one(alloc, &acts[i], steal)?;
     }
     Ok(())
-}
-
-pub(crate) fn is_each(mode: ModeKind) -> bool
-    ensures { result ≡ is_each mode }
-{
-    match mode {
-        ModeKind::Each => true,
-        _ => false,
-    }
 }
 
 // The item at the head, where the index names it in a slot that begins with this item.

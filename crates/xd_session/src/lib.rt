@@ -13,13 +13,11 @@ mod logs;
 mod marks;
 mod outputs;
 mod plan;
-mod retries;
 mod rules;
 mod seats;
 mod session;
 mod state;
 mod step;
-mod stops;
 mod take;
 
 pub use laws::{kept_law, part_law, session_law};

@@ -1,21 +1,20 @@
 // Collections: whether one is in order, and how it compares with an earlier one.
-ghost use Rattle.std.specs.Prelude.{◌≡◌, ◌≤◌, ◌==◌, ◌&&◌, ◌∷◌, ◌++◌, [], length, nat_le, IfOk, OnOk, true, false};
+ghost use Rattle.std.specs.Prelude.{◌≡◌, ◌≤◌, ◌==◌, ◌&&◌, length, nat_le, IfOk, OnOk, true, false};
 ghost use Rattle.std.specs.List.{list_all};
 ghost use Rattle.std.specs.Str.{chars};
-ghost use Rattle.xd_ledger.specs.Collections.{differ_at, listed, key, with_list};
 ghost use Rattle.xd_edge.specs.Limits.{most_tests};
+ghost use Rattle.xd_journal.specs.declared.entry.Ids.TheVariants as ids;
+ghost use Rattle.xd_ledger.specs.Collections.{listed, with_list};
 ghost use Rattle.xd_ledger.specs.Proper.{is_plain, is_id, no_text_twice};
-ghost use Rattle.xd_ledger.specs.Sharing.{ids_at};
 ghost use Rattle.xd_session.specs.Compared.{compared, comparison, given, place_in_lists};
 ghost use Rattle.xd_session.specs.Crew.{books_of};
 
 use crate::books::RunBooks;
-use crate::known::is_each;
 use std::alloc::Global;
 use std::collections::BTreeSet;
 use xd_edge::{MAX_TESTS, OutOfMemory, Text, Texts};
 use xd_journal::Ids;
-use xd_ledger::Listed;
+use xd_ledger::{Listed, differ_at};
 
 // How a collection compares with the one that it is compared with: there is none, they are equal, or they differ at a
 // place.
@@ -82,36 +81,6 @@ pub(crate) fn are_in_order(alloc: Global, ids: &Texts) -> Result<bool, OutOfMemo
     Ok(distinct)
 }
 
-// The first place where two collections differ.
-fn differ_at(one: &[Text], other: &[Text]) -> Option<u32>
-    requires { length one.now ≤ most_tests }
-    ensures { result ≡ differ_at one.now other.now }
-{
-    for i in 0..one.len() {
-        if i >= other.len() {
-            return Some(i as u32);
-        }
-        if !one[i].is_same(&other[i]) {
-            return Some(i as u32);
-        }
-    }
-    if other.len() > one.len() {
-        return Some(one.len() as u32);
-    }
-    None
-}
-
-pub(crate) fn copy_of(alloc: Global, texts: &[Text]) -> Result<Texts, OutOfMemory>
-    ensures { IfOk result (λ t. t ≡ texts.now) }
-{
-    let mut items = Vec::new(alloc);
-    for i in 0..texts.len() {
-        let text = texts[i].copy()?;
-        items.push(text)?;
-    }
-    Ok(Texts { items })
-}
-
 // The place of the collection that is kept for the slot, or the count of all.
 pub(crate) fn place_of(lists: &[Listed], slot: u32) -> usize
     ensures { result ≡ place_in_lists slot lists.now }
@@ -143,37 +112,24 @@ fn given(comparison: Comparison, own: Texts) -> Ids
 }
 
 impl RunBooks {
-    // Under which slot the worker's collection is kept.
-    fn key(&self, worker: u32) -> u32
-        ensures { result ≡ key worker (books_of self.now) }
-    {
-        if is_each(self.settings.mode) {
-            return self.slot_of(worker);
-        }
-        0
-    }
-
     // How the worker's collection compares.
-    fn compare(&self, worker: u32, own: &[Text]) -> Comparison
-        ensures { result ≡ comparison own.now (listed worker (books_of self.now)) }
+    fn compare(&self, worker: u32, own: &[Text]) -> Result<Comparison, OutOfMemory>
+        ensures { IfOk result (λ c. c ≡ comparison own.now (listed worker (books_of self.now))) }
     {
-        let slot = self.key(worker);
-        let place = place_of(&self.lists, slot);
-        if place < self.lists.len() {
-            let first = &self.lists[place];
-            return judged(first.worker, differ_at(&first.ids.items, own));
-        }
-        Comparison::First
+        let Some(first) = self.kept.listed(worker) else {
+            return Ok(Comparison::First);
+        };
+        let place = differ_at(&first.ids.items, own)?;
+        Ok(judged(first.worker, place))
     }
 
-    // The worker's collection is kept for others to be compared with.
-    fn keep(&mut self, worker: u32, ids: Texts) -> Result<(), OutOfMemory>
-        requires few { length ids ≤ most_tests }
-        requires ordered { (list_all is_id ids && no_text_twice ids) ≡ true }
-        ensures { OnOk result (books_of self.new ≡ record (books_of self.old) { lists = self.old.lists.items ++ record { slot = key worker (books_of self.old); worker = worker; ids = ids } ∷ [] }) }
+    // The worker's collection is kept for others to be compared with, where it is the first.
+    fn list(&mut self, alloc: Global, worker: u32, own: &[Text]) -> Result<(), OutOfMemory>
+        requires few { length own.now ≤ most_tests }
+        requires ordered { (list_all is_id own.now && no_text_twice own.now) ≡ true }
+        ensures { OnOk result (books_of self.new ≡ with_list worker (ids.List own.now) (books_of self.old)) }
     {
-        let slot = self.key(worker);
-        self.lists.push(Listed { slot, worker, ids })?;
+        self.kept.list(alloc, worker, own)?;
         Ok(())
     }
 
@@ -190,11 +146,8 @@ impl RunBooks {
         ensures ids { IfOk result (λ t. t.ids ≡ given (comparison own (listed worker (books_of self.old))) own) }
         ensures books { OnOk result (books_of self.new ≡ with_list worker (given (comparison own (listed worker (books_of self.old))) own) (books_of self.old)) }
     {
-        let comparison = self.compare(worker, &own.items);
-        if let Comparison::First = comparison {
-            let copy = copy_of(alloc, &own.items)?;
-            self.keep(worker, copy)?;
-        }
+        let comparison = self.compare(worker, &own.items)?;
+        self.list(alloc, worker, &own.items)?;
         Ok(TakenList {
             ids: given(comparison, own),
             comparison,

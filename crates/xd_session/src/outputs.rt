@@ -8,11 +8,10 @@ ghost use Rattle.xd_session.specs.Crew.{books_of};
 ghost use Rattle.xd_session.specs.Rules.{crew_told, told, told_all, told_by, shutdowns};
 
 use crate::books::RunBooks;
-use crate::marks::{Mark, remake};
 use std::alloc::Global;
 use xd_edge::OutOfMemory;
 use xd_journal::Entry;
-use xd_ledger::Member;
+use xd_ledger::Mark;
 
 // One more entry.
 pub(crate) fn note(entry: Entry, entries: &mut Vec<Entry>) -> Result<(), OutOfMemory>
@@ -72,7 +71,7 @@ pub(crate) fn tell_where_shutting(
     ensures told { OnOk result (books_of books.new ≡ (if is_shutting (books_of books.old) then told worker (books_of books.old) else books_of books.old)) }
     ensures noted { OnOk result (entries.new.items ≡ entries.old.items ++ (if is_shutting (books_of books.old) then entry.Shutdown worker ∷ [] else [])) }
 {
-    if !books.is_shutting() {
+    if !books.kept.is_shutting() {
         return Ok(());
     }
     books.tell(worker);
@@ -81,19 +80,19 @@ pub(crate) fn tell_where_shutting(
 }
 
 // The marks of the workers after an output of the mode.
-fn follow_one(act: &Entry, crew: &mut Vec<Member>)
-    ensures { crew.new.items ≡ told_by crew.old.items act.now }
+fn follow_one(act: &Entry, books: &mut RunBooks)
+    ensures { books_of books.new ≡ record (books_of books.old) { crew = told_by (books_of books.old).crew act.now } }
 {
     if let Entry::Shutdown { worker } = act {
-        remake(crew, *worker, Mark::Shut);
+        books.mark(*worker, Mark::Shut);
     }
 }
 
 // The marks of the workers after these outputs of the mode.
-pub(crate) fn follow(acts: &[Entry], crew: &mut Vec<Member>)
-    ensures { crew.new.items ≡ crew_told acts.now crew.old.items }
+pub(crate) fn follow(acts: &[Entry], books: &mut RunBooks)
+    ensures { books_of books.new ≡ record (books_of books.old) { crew = crew_told acts.now (books_of books.old).crew } }
 {
     for i in 0..acts.len() {
-        follow_one(&acts[i], crew);
+        follow_one(&acts[i], books);
     }
 }

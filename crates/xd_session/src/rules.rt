@@ -18,23 +18,22 @@ ghost use Rattle.xd_session.specs.Known.{first_item, known_by, known_of, where_i
 ghost use Rattle.xd_session.specs.Rules.{Acted, At, Before, Calls, Closed, Comes, MayDie, Ruled};
 
 use crate::known::named;
-use crate::marks::Mark;
 use crate::outputs::{note, shut_everyone, tell_where_shutting};
 use crate::state::RunState;
 use std::alloc::Global;
 use xd_edge::{Blob, Indices, OutOfMemory, Text};
 use xd_journal::{Cause, Entry, Outcome, RunStop};
-use xd_ledger::Mode;
+use xd_ledger::{Mark, Mode};
 
 impl<M: Mode> RunState<M> {
     // Nothing is left to hand out.
     fn settles(&self) -> bool
         ensures { (s : State) → At s (books_of self.now.books) (known_by self.now.known) (M.stands self.now.mode) → result ≡ settles s }
     {
-        if self.books.is_stopped() {
+        if self.books.kept.is_stopped() {
             return false;
         }
-        self.books.shared && self.mode.finished(&self.books.ledger)
+        self.books.kept.is_shared() && self.mode.finished(&self.books.ledger)
     }
 
     // After each rule: where nothing is left to hand out, all are shut.
@@ -49,11 +48,11 @@ impl<M: Mode> RunState<M> {
         if !self.settles() {
             return Ok(());
         }
-        if self.books.is_shutting() {
+        if self.books.kept.is_shutting() {
             return Ok(());
         }
         shut_everyone(alloc, &mut self.books, entries)?;
-        self.books.shutting = true;
+        self.books.shut();
         Ok(())
     }
 
@@ -66,7 +65,7 @@ impl<M: Mode> RunState<M> {
         if !self.books.ledger.in_rota(worker) {
             return None;
         }
-        let first = self.known.first_item(self.books.slot_of(worker));
+        let first = self.known.first_item(self.books.kept.slot_of(worker));
         named(first, index, self.books.ledger.head(worker))
     }
 
@@ -121,7 +120,7 @@ impl<M: Mode> RunState<M> {
         ensures { OnOk result ((s : State) → At s (books_of self.old.books) (known_by self.old.known) (M.stands self.old.mode) → (is_stopped s.books ≡ false → Called (TestDone worker ms) s) →
             Acted (if before then [] else if is_stopped s.books then shut_all s.books.crew else acts_of (TestDone worker ms) s) s (books_of self.new.books) (known_by self.new.known) entries.old.items entries.new.items (M.stands self.new.mode)) }
     {
-        if self.books.is_stopped() {
+        if self.books.kept.is_stopped() {
             self.stop_outputs(alloc, before, entries)?;
             return Ok(());
         }
@@ -144,7 +143,7 @@ impl<M: Mode> RunState<M> {
         ensures { OnOk result ((s : State) → Comes (entry.Done worker index outcome ms output) s (books_of self.old.books) (known_by self.old.known) (M.stands self.old.mode) →
             Ruled s (entry.Done worker index outcome ms output) (books_of self.new.books) (known_by self.new.known) entries.old.items entries.new.items (M.stands self.new.mode)) }
     {
-        let before = self.books.is_stopped();
+        let before = self.books.kept.is_stopped();
         let Some(item) = self.head_named(worker, index) else {
             return Ok(());
         };
@@ -169,7 +168,7 @@ impl<M: Mode> RunState<M> {
         requires { list_all (λ i. nat_lt (first_item (slot_of worker (books_of self.now.books)) (known_by self.now.known) + i) (2 ^ 32)) indices.now ≡ true }
         ensures { IfOk result (λ items. items ≡ map (λ i. first_item (slot_of worker (books_of self.now.books)) (known_by self.now.known) + i) indices.now) }
     {
-        let first = self.known.first_item(self.books.slot_of(worker));
+        let first = self.known.first_item(self.books.kept.slot_of(worker));
         let mut items = Vec::new(alloc);
         for i in 0..indices.len() {
             items.push(first + indices[i])?;
@@ -188,7 +187,7 @@ impl<M: Mode> RunState<M> {
         ensures { OnOk result ((s : State) → At s (books_of self.old.books) (known_by self.old.known) (Before (λ p. record p { steal = None }) (M.stands self.old.mode)) → (is_stopped s.books ≡ false → Called TestsBack s) →
             Acted (if is_stopped s.books then [] else acts_of TestsBack s) s (books_of self.new.books) (known_by self.new.known) entries.old.items entries.new.items (M.stands self.new.mode)) }
     {
-        if self.books.is_stopped() {
+        if self.books.kept.is_stopped() {
             return Ok(());
         }
         self.call_back(alloc, worker, entries)?;
@@ -245,7 +244,7 @@ impl<M: Mode> RunState<M> {
         ensures { OnOk result ((s : State) → At s (books_of self.old.books) (known_by self.old.known) (M.stands self.old.mode) →
             Ruled s (entry.Refused worker text) (books_of self.new.books) (known_by self.new.known) entries.old.items entries.new.items (M.stands self.new.mode)) }
     {
-        let before = self.books.is_stopped();
+        let before = self.books.kept.is_stopped();
         note(Entry::Refused { worker, text }, entries)?;
         self.books.mark(worker, Mark::Gone);
         self.books.stop_by(RunStop::CollectError { worker });
@@ -264,11 +263,11 @@ impl<M: Mode> RunState<M> {
         retried: bool,
         entries: &mut Vec<Entry>,
     ) -> Result<(), OutOfMemory>
-        requires { self.old.books.shared ≡ true → (s : State) × Calls Died s (books_of self.old.books) (known_by self.old.known) (Before (death_plan worker retried rest self.old.books.ledger.pool) (M.stands self.old.mode)) }
+        requires { (books_of self.old.books).shared ≡ true → (s : State) × Calls Died s (books_of self.old.books) (known_by self.old.known) (Before (death_plan worker retried rest self.old.books.ledger.pool) (M.stands self.old.mode)) }
         ensures { OnOk result ((s : State) → At s (books_of self.old.books) (known_by self.old.known) (Before (death_plan worker retried rest self.old.books.ledger.pool) (M.stands self.old.mode)) → MayDie s (M.stands self.old.mode) →
             Acted (if s.books.shared then acts_of Died s else []) s (books_of self.new.books) (known_by self.new.known) entries.old.items entries.new.items (M.stands self.new.mode)) }
     {
-        if !self.books.shared {
+        if !self.books.kept.is_shared() {
             return Ok(());
         }
         self.call_died(alloc, worker, slot, rest, retried, entries)?;
@@ -284,11 +283,11 @@ impl<M: Mode> RunState<M> {
         retried: bool,
         entries: &mut Vec<Entry>,
     ) -> Result<(), OutOfMemory>
-        requires { self.old.books.shared ≡ true → (s : State) × Calls Died s (books_of self.old.books) (known_by self.old.known) (Before (death_plan worker retried rest self.old.books.ledger.pool) (M.stands self.old.mode)) }
+        requires { (books_of self.old.books).shared ≡ true → (s : State) × Calls Died s (books_of self.old.books) (known_by self.old.known) (Before (death_plan worker retried rest self.old.books.ledger.pool) (M.stands self.old.mode)) }
         ensures { OnOk result ((s : State) → At s (books_of self.old.books) (known_by self.old.known) (Before (death_plan worker retried rest self.old.books.ledger.pool) (M.stands self.old.mode)) → MayDie s (M.stands self.old.mode) →
             Acted (after_death worker s) s (books_of self.new.books) (known_by self.new.known) entries.old.items entries.new.items (M.stands self.new.mode)) }
     {
-        let slot = self.books.slot_of(worker);
+        let slot = self.books.kept.slot_of(worker);
         let number = self.books.next_worker()?;
         self.hear_of_death(alloc, worker, slot, rest, retried, entries)?;
         self.books.start(number, slot)?;
@@ -313,13 +312,13 @@ impl<M: Mode> RunState<M> {
         entries: &mut Vec<Entry>,
     ) -> Result<(), OutOfMemory>
         requires late { before ≡ true → is_stopped (books_of self.old.books) ≡ true }
-        requires at { is_stopped (books_of self.old.books) ≡ false → self.old.books.shared ≡ true →
+        requires at { is_stopped (books_of self.old.books) ≡ false → (books_of self.old.books).shared ≡ true →
             (s : State) × Calls Died s (books_of self.old.books) (known_by self.old.known) (Before (death_plan worker retried rest self.old.books.ledger.pool) (M.stands self.old.mode)) }
         ensures { OnOk result ((s : State) → At s (books_of self.old.books) (known_by self.old.known) (Before (death_plan worker retried rest self.old.books.ledger.pool) (M.stands self.old.mode)) →
             (is_stopped s.books ≡ false → MayDie s (M.stands self.old.mode)) →
             Acted (if before then [] else if is_stopped s.books then shut_all s.books.crew else after_death worker s) s (books_of self.new.books) (known_by self.new.known) entries.old.items entries.new.items (M.stands self.new.mode)) }
     {
-        if self.books.is_stopped() {
+        if self.books.kept.is_stopped() {
             self.stop_outputs(alloc, before, entries)?;
             return Ok(());
         }
@@ -341,7 +340,7 @@ impl<M: Mode> RunState<M> {
         ensures { OnOk result ((s : State) → Comes (entry.Down worker cause output) s (books_of self.old.books) (known_by self.old.known) (M.stands self.old.mode) →
             Ruled s (entry.Down worker cause output) (books_of self.new.books) (known_by self.new.known) entries.old.items entries.new.items (M.stands self.new.mode)) }
     {
-        let before = self.books.is_stopped();
+        let before = self.books.kept.is_stopped();
         let retried = self.books.is_retry(worker);
         note(
             Entry::Down {
@@ -370,7 +369,7 @@ impl<M: Mode> RunState<M> {
         ensures { OnOk result ((s : State) → Comes (entry.NotStarted worker) s (books_of self.old.books) (known_by self.old.known) (M.stands self.old.mode) →
             Ruled s (entry.NotStarted worker) (books_of self.new.books) (known_by self.new.known) entries.old.items entries.new.items (M.stands self.new.mode)) }
     {
-        let before = self.books.is_stopped();
+        let before = self.books.kept.is_stopped();
         let retried = self.books.is_retry(worker);
         note(Entry::NotStarted { worker }, entries)?;
         let rest = self.books.bury(worker, retried)?;

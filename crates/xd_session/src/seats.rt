@@ -2,12 +2,12 @@
 ghost use Rattle.std.specs.Prelude.{◌≡◌, ◌==◌, Some, None, true, [], ◌∷◌, length, drop, OnOk, IfOk, if◌then◌else◌};
 ghost use Rattle.xd_ledger.specs.Books.{on_table};
 ghost use Rattle.xd_ledger.specs.Numbers.{all_among, all_distinct, first_of};
-ghost use Rattle.xd_ledger.specs.State.{failing, done_books, down_books};
+ghost use Rattle.xd_ledger.specs.Retry.{is_retry};
+ghost use Rattle.xd_ledger.specs.State.{done_books, down_books};
 ghost use Rattle.xd_ledger.specs.Table.{held, in_rota, left, died, given_back};
 ghost use Rattle.xd_session.specs.Crew.{books_of};
 
 use crate::books::RunBooks;
-use crate::marks::Mark;
 use xd_edge::OutOfMemory;
 use xd_journal::Outcome;
 use xd_ledger::{Death, Ledger};
@@ -50,12 +50,23 @@ fn give_where(ledger: &mut Ledger, worker: u32, items: &[u32]) -> Result<(), Out
     Ok(())
 }
 
-fn is_failed(outcome: Outcome) -> bool
-    ensures { (if result then 1 else 0) ≡ failing outcome }
+// What the worker runs first, where it holds any.
+fn head_of(ledger: &Ledger, worker: u32) -> Option<u32>
+    ensures { result ≡ first_of (held worker ledger.now) }
 {
-    match outcome {
-        Outcome::Failed(_) => true,
-        Outcome::Passed | Outcome::Skipped => false,
+    if !ledger.in_rota(worker) {
+        return None;
+    }
+    ledger.head(worker)
+}
+
+// The same item, as the books count it.
+fn widened(item: Option<u32>) -> Option<u64>
+    ensures { result ≡ item }
+{
+    match item {
+        Some(item) => Some(item as u64),
+        None => None,
     }
 }
 
@@ -101,12 +112,16 @@ impl RunBooks {
         ensures seated { OnOk result (in_rota worker self.new.ledger ≡ true) }
     {
         self.ledger.complete(worker, item);
-        let failed = is_failed(outcome);
-        self.count_failure(failed)?;
-        if failed {
-            self.stop_at_limit();
-        }
+        self.kept.score(outcome)?;
         Ok(())
+    }
+
+    // Where the worker goes down now, the test at its head is tried again.
+    pub(crate) fn is_retry(&self, worker: u32) -> bool
+        ensures { result ≡ is_retry worker (books_of self.now) }
+    {
+        let head = head_of(&self.ledger, worker);
+        self.kept.retries_head(widened(head))
     }
 
     // The worker died; a head that is not tried again counts as a failure. Gives how many tests came back behind the head.
@@ -115,12 +130,7 @@ impl RunBooks {
         ensures rest { IfOk result (λ n. n ≡ length (drop 1 (held worker self.old.ledger))) }
     {
         let death = die_where(&mut self.ledger, worker, retry);
-        self.note_lost(death.head)?;
-        self.count_failure(death.head.is_some() && !retry)?;
-        self.count_death()?;
-        self.mark(worker, Mark::Gone);
-        self.stop_at_limit();
-        self.stop_at_restarts(worker);
+        self.kept.bury(worker, widened(death.head), retry)?;
         Ok(death.rest)
     }
 }

@@ -50,9 +50,9 @@ impl<M: Mode> Model for Session<M> {
 
 // The first workers are started, each at the slot of its number.
 fn start_all(workers: u32, books: &mut RunBooks, journal: &mut Journal) -> Result<(), OutOfMemory>
-    requires started { books_of books.old ≡ (no_one books.old.settings).books }
+    requires started { books_of books.old ≡ (no_one (books_of books.old).settings).books }
     requires empty { journal.old.entries.items ≡ [] }
-    ensures books { OnOk result (books_of books.new ≡ (all_moved (no_one books.old.settings) (starts_from 0 workers)).books) }
+    ensures books { OnOk result (books_of books.new ≡ (all_moved (no_one (books_of books.old).settings) (starts_from 0 workers)).books) }
     ensures entries { OnOk result (journal.new.entries.items ≡ starts_from 0 workers) }
     ensures settings { journal.new.settings ≡ journal.old.settings }
 {
@@ -124,7 +124,7 @@ impl<M: Mode> Session<M> {
         requires { self.now.whole ≡ true }
         ensures { result ≡ is_active worker (state_of self.now).books }
     {
-        self.core.state.books.is_active(worker)
+        self.core.state.books.kept.is_active(worker)
     }
 
     /// The run is shutting and no worker is active.
@@ -132,7 +132,7 @@ impl<M: Mode> Session<M> {
         requires { self.now.whole ≡ true }
         ensures { result ≡ is_over (state_of self.now).books }
     {
-        self.core.state.books.is_over()
+        self.core.state.books.kept.is_over()
     }
 
     /// The journal so far.

@@ -36,11 +36,11 @@ pub(crate) fn take_acts(
     known: &mut KnownPlan,
     entries: &mut Vec<Entry>,
 ) -> Result<(), OutOfMemory>
-    ensures books { OnOk result (books_of books.new ≡ record (books_of books.old) { crew = crew_told acts.old.items books.old.crew.items }) }
+    ensures books { OnOk result (books_of books.new ≡ record (books_of books.old) { crew = crew_told acts.old.items (books_of books.old).crew }) }
     ensures known { OnOk result (known_by known.new ≡ record (known_by known.old) { steal = steal_told acts.old.items (known_by known.old).steal }) }
     ensures entries { OnOk result (entries.new.items ≡ entries.old.items ++ acts.old.items) }
 {
-    follow(acts, &mut books.crew);
+    follow(acts, books);
     ask(alloc, acts, &mut known.steal)?;
     note_all(acts, entries)?;
     Ok(())
@@ -59,7 +59,7 @@ impl<M: Mode> RunState<M> {
         ensures { OnOk result ((s : State) → Calls (Joined worker (slot_of worker s.books)) s (books_of self.old.books) (known_by self.old.known) (M.stands self.old.mode) →
             Acted (acts_of (Joined worker (slot_of worker s.books)) s) s (books_of self.new.books) (known_by self.new.known) entries.old.items entries.new.items (M.stands self.new.mode)) }
     {
-        let slot = self.books.slot_of(worker);
+        let slot = self.books.kept.slot_of(worker);
         let mut acts = Vec::new(alloc);
         self.mode
             .joined(alloc, worker, slot, &mut self.books.ledger, &mut acts)?;

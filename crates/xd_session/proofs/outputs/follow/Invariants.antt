@@ -1,6 +1,7 @@
 use Rattle.std.proofs.Common.{◌≡◌, take}
+use Rattle.xd_session.specs.Crew.{books_of}
 use Rattle.xd_session.specs.Rules.{crew_told}
 use Rattle.xd_session.proofs.outputs.follow.Given as goal
 
 abbrev pub invariant-loop-i : goal.invariant-loop-i
-invariant-loop-i l = l.crew.items ≡ crew_told (take l.i l.acts) l.fn.crew.items
+invariant-loop-i l = books_of l.books ≡ record (books_of l.fn.books) { crew = crew_told (take l.i l.acts) (books_of l.fn.books).crew }

@@ -1,13 +1,19 @@
-use Rattle.std.proofs.Common.{sym, ◌∙◌, ap}
-use Rattle.xd_ledger.specs.Stops.{or_stop}
+use Rattle.std.proofs.Common.{Bool, List, ℕ, sym, ◌∙◌, ap}
+use Rattle.xd_ledger.specs.Books.{Books}
+use Rattle.xd_ledger.specs.Retry.{is_retry}
+use Rattle.xd_ledger.specs.State.{gone, limited, lost_with}
+use Rattle.xd_ledger.specs.Table.{held}
+use Rattle.xd_report.proofs.Kept.{left_kept}
 use Rattle.xd_report.proofs.reporter.Reporter.bury.Goals as goal
 
 pub returns : goal.returns
 returns c = λ s f.
-    let failed = c.in_ok-fail_head.ensures s f in
-    let once_more = c.in_ok-lose_head.ensures _ failed in
-    let dead = c.in_ok-die.ensures _ once_more in
-    let gone = c.leave.ensures _ dead in
-    let how = c.limit.ensures _ gone in
-    let h = c.stop_by.ensures _ gone in
-    record { settings = h.settings; mode = h.mode; crew = h.crew; lists = h.lists; rota = h.rota; shared = h.shared; sizes = h.sizes; failures = h.failures; deaths = h.deaths; lost = h.lost; stop = ap (or_stop s.books.stop) (sym how) ∙ h.stop }
+    let items : List ℕ = held c.args.worker s.books.table in
+    let ends : Bool → Books → Books = λ r b. limited c.args.worker (gone c.args.worker (lost_with r items b)) in
+    let dead = c.in_ok-bury.ensures.buried items (c.head-head.ensures s f) in
+    record {
+      books = ap (ends (is_retry c.args.worker s.books)) f.books ∙ ap (λ (r : Bool). ends r c.args.self.now.books) (sym (c.is_retry-retry.ensures s f)) ∙ sym dead;
+      mode = f.mode ∙ sym (ap (λ (b : Books). b.settings.mode) dead);
+      rota = left_kept c.args.worker s.books.table.rota c.args.self.now.rota.items c.leave.new.rota.items f.rota c.leave.ensures;
+      sizes = f.sizes;
+    }

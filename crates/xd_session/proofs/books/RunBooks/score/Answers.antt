@@ -1,16 +1,10 @@
 use Rattle.std.proofs.Common.{ap, refl, ◌∙◌, [], ◌∷◌}
-use Rattle.xd_ledger.specs.Books.{Books}
 use Rattle.xd_ledger.specs.Numbers.{without}
 use Rattle.xd_ledger.specs.Table.{Table, in_rota}
 use Rattle.xd_session.proofs.Deaths.{rota-changed}
 use Rattle.xd_session.proofs.books.RunBooks.score.Goals as goal
 
-pub returns-then-failed-clause-seated : goal.returns-then-failed-clause-seated
-returns-then-failed-clause-seated c =
+pub returns-clause-seated : goal.returns-clause-seated
+returns-clause-seated c =
     let k = rota-changed c.args.worker c.args.worker (λ s. record s { held = without (c.args.item ∷ []) s.held }) c.args.self.now.ledger.rota (λ s. refl) in
-    ap (λ (d : Books). in_rota c.args.worker d.table) (c.stop_at_limit.ensures) ∙ ap (λ (d : Books). in_rota c.args.worker d.table) c.in_ok-count_failure.ensures ∙ ap (λ (t : Table). in_rota c.args.worker t) c.complete.ensures ∙ k ∙ c.requires.seated
-
-pub returns-else-failed-clause-seated : goal.returns-else-failed-clause-seated
-returns-else-failed-clause-seated c =
-    let k = rota-changed c.args.worker c.args.worker (λ s. record s { held = without (c.args.item ∷ []) s.held }) c.args.self.now.ledger.rota (λ s. refl) in
-    ap (λ (d : Books). in_rota c.args.worker d.table) c.in_ok-count_failure.ensures ∙ ap (λ (t : Table). in_rota c.args.worker t) c.complete.ensures ∙ k ∙ c.requires.seated
+    ap (λ (t : Table). in_rota c.args.worker t) c.complete.ensures ∙ k ∙ c.requires.seated

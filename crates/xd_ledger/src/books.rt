@@ -1,0 +1,92 @@
+// What is kept of a run beside where its tests stand.
+ghost use Rattle.std.specs.Prelude.{◌≡◌, true};
+ghost use Rattle.xd_ledger.specs.State.{no_one};
+
+use crate::member::{Listed, Member};
+use std::alloc::Global;
+use std::marker::Model;
+use xd_journal::{RunStop, Settings};
+
+/// What the state of a run has beside where its tests stand: whoever was started, the collections that others are
+/// compared with, the counts of failures and deaths, the items at whose head a worker went down, the first stop, and the
+/// marks that the tests were shared and that nothing is left to hand out. Contracts see the books of a run in which no
+/// test stands anywhere.
+#[derive(Drop)]
+pub struct Books {
+    pub(crate) settings: Settings,
+    pub(crate) crew: Vec<Member>,
+    pub(crate) lists: Vec<Listed>,
+    pub(crate) shared: bool,
+    pub(crate) failures: u32,
+    pub(crate) deaths: u32,
+    pub(crate) lost: Vec<u64>,
+    pub(crate) stop: Option<RunStop>,
+    pub(crate) shutting: bool,
+}
+
+impl Model for Books {
+    ghost use Rattle.std.specs.Prelude.{[]};
+    ghost use Rattle.xd_ledger.specs.Books.{Books};
+    ghost use Rattle.xd_ledger.specs.Table.{fresh};
+
+    ghost Value = { Books };
+
+    ghost view = { λ b. record {
+      settings = b.settings;
+      crew = b.crew.items;
+      lists = b.lists.items;
+      table = fresh [];
+      shared = b.shared;
+      failures = b.failures;
+      deaths = b.deaths;
+      lost = b.lost.items;
+      stop = b.stop;
+      shutting = b.shutting;
+    } };
+}
+
+impl Books {
+    /// Nobody was started yet.
+    pub fn new(alloc: Global, settings: Settings) -> Books
+        ensures { result ≡ (no_one settings).books }
+    {
+        Books {
+            settings,
+            crew: Vec::new(alloc),
+            lists: Vec::new(alloc),
+            shared: false,
+            failures: 0,
+            deaths: 0,
+            lost: Vec::new(alloc),
+            stop: None,
+            shutting: false,
+        }
+    }
+
+    pub fn settings(&self) -> Settings
+        ensures { result ≡ self.now.settings }
+    {
+        self.settings
+    }
+
+    /// The tests were shared.
+    pub fn is_shared(&self) -> bool
+        ensures { result ≡ self.now.shared }
+    {
+        self.shared
+    }
+
+    /// The tests are shared now.
+    pub fn share(&mut self)
+        ensures { self.new ≡ record self.old { shared = true } }
+    {
+        self.shared = true;
+    }
+
+    /// Nothing is left to hand out.
+    pub fn shut(&mut self)
+        ensures { self.new ≡ record self.old { shutting = true } }
+    {
+        self.shutting = true;
+    }
+}
