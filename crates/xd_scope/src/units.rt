@@ -1,10 +1,9 @@
 // The units of a run.
-ghost use Rattle.std.specs.Prelude.{◌≡◌, ◌∷◌, [], IfNone, IfOk, IfSome};
+ghost use Rattle.std.specs.Prelude.{◌≡◌, ◌∷◌, [], IfNone, IfSome};
 
 use crate::given::WorkerUnits;
-use std::alloc::Global;
 use std::collections::{BTreeMap, VecDeque};
-use xd_edge::{Indices, ModeKind, OutOfMemory};
+use xd_edge::{Indices, ModeKind};
 
 /// The units that wait, in the order in which they are handed out, and those that each worker was given.
 #[derive(Drop)]
