@@ -1,21 +1,27 @@
 -- Links of which nothing more is to come.
 use Rattle.std.proofs.Common.{◌≡◌, ℕ, zero, suc, List, [], ◌∷◌, map, Bool, true, false, Option, Some, None, refl, sym, ◌∙◌, ap}
 use Rattle.std.specs.Prelude.{◌&&◌, is_some, slice_get}
-use Rattle.std.specs.List.{list_all}
+use Rattle.std.specs.List.{list_all, list_any}
 use Rattle.std.proofs.Math.Logic.{∥∥₁_elim, ∥∥₁_map}
+use Rattle.xd_edge.specs.declared.mode.ModeKind.{ModeKind}
+use Rattle.xd_journal.specs.declared.entry.Entry.{Entry}
+use Rattle.xd_journal.specs.declared.news.News.{News}
 use Rattle.xd_reader.specs.declared.news.LinkNews.{LinkNews}
 use Rattle.xd_reader.specs.declared.reader.Reader.{Reader}
 use Rattle.xd_post.specs.Post.{Ring}
 use Rattle.xd_links.specs.Links.{ring_of_link, ring_of_mail, sources_of}
 use Rattle.xd_links.specs.Runs.{news_of}
 use Rattle.xd_group.specs.Fates.{EndedFrom, is_linked}
+use Rattle.xd_group.specs.Heard.{says_send_fault}
+use Rattle.xd_group.specs.Kept.{Kept, said_by}
 use Rattle.xd_group.specs.Late.{IsLateAt, Late, Settled}
 use Rattle.xd_group.specs.Pages.{HasPage, Page, taken_of}
-use Rattle.xd_group.specs.PostView.{ends_of, has_ended, page_by, pages_of}
+use Rattle.xd_group.specs.PostView.{ends_of, has_ended, losses_of, page_by, pages_of}
 use Rattle.xd_group.specs.declared.fate.Fate.{Fate}
 use Rattle.xd_group.specs.declared.fate.Fate.TheVariants as fate
 use Rattle.xd_group.specs.declared.post.Post.{Post}
 use Rattle.xd_group.proofs.Keeping.{map_read}
+use Rattle.xd_group.proofs.LossFacts.{fault_lost}
 use Rattle.xd_group.proofs.PageFacts.{never}
 
 and_left : (a b : Bool) → (a && b) ≡ true → a ≡ true
@@ -41,6 +47,25 @@ module _ {N : Type 0} {g : _} where
           let z : false ≡ true = unread ∙ ap is_linked it in absurd (cc z)
       at (Some p ∷ xs) (t ∷ fs) zero s a f = ap Some (and_left p.is_ended (list_all has_ended xs) a)
       at (o ∷ xs) (t ∷ fs) (suc k) s a f = let rest : map is_some (pages_of xs) ≡ map is_linked fs = cc s in at xs fs k rest (and_right (has_ended o) (list_all has_ended xs) a) f
+
+  -- where its reader was started a link has a page
+  page_read : (xs : List (Option (Post N g))) (fates : List Fate) (k : ℕ) → map is_some (pages_of xs) ≡ map is_linked fates → slice_get fates k ≡ Some fate.Linked → HasPage (pages_of xs) k
+  page_read [] [] k s f = absurd (cc f)
+  page_read [] (t ∷ fs) k s f = absurd (cc s)
+  page_read (o ∷ xs) [] k s f = absurd (cc f)
+  page_read (None ∷ xs) (t ∷ fs) zero s f =
+      let unread : false ≡ is_linked t = cc s in
+      let it : t ≡ fate.Linked = cc f in
+      let z : false ≡ true = unread ∙ ap is_linked it in absurd (cc z)
+  page_read (Some p ∷ xs) (t ∷ fs) zero s f = (page_by p, refl)
+  page_read (o ∷ xs) (t ∷ fs) (suc k) s f = let rest : map is_some (pages_of xs) ≡ map is_linked fs = cc s in page_read xs fs k rest f
+
+  -- where the news of a worker whose link is read say that a send failed, a write to its link failed
+  pub said_lost : (suite : List ℕ) (mode : ModeKind) (taken : List (Option (List LinkNews))) (calls : List Entry) (given : List News) (workers : List ℕ) (xs : List (Option (Post N g))) (fates : List Fate) (k w : ℕ) → Kept suite mode taken calls given workers (pages_of xs) → map is_some (pages_of xs) ≡ map is_linked fates
+      → slice_get workers k ≡ Some w → slice_get fates k ≡ Some fate.Linked → list_any says_send_fault (said_by w given) ≡ true → slice_get (losses_of xs) k ≡ Some true
+  said_lost suite mode taken calls given workers xs fates k w kept seats at is h =
+      let it = page_read xs fates k seats is in
+      fault_lost xs k it.0 it.1 ((kept.own k it.0 it.1).known) (ap (list_any says_send_fault) (kept.said k w it.0 at it.1) ∙ h)
 
   page_ended : (xs : List (Option (Post N g))) (k : ℕ) → slice_get (ends_of xs) k ≡ Some true → HasPage (pages_of xs) k
   page_ended [] k e = absurd (cc e)

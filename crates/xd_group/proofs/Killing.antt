@@ -7,13 +7,16 @@ use Rattle.std.proofs.lemmas.Bool.Decides.{nat_tests}
 use Rattle.std.proofs.lemmas.List.Folds.{list_any-append}
 use Rattle.xd_journal.specs.declared.entry.Entry.{Entry}
 use Rattle.xd_journal.specs.declared.entry.Entry.TheVariants as entry
+use Rattle.xd_journal.specs.declared.news.News.{News}
 use Rattle.xd_drive.specs.Calls.{is_order}
 use Rattle.xd_drive.specs.Listed.{is_among, is_kill_of, was_killed}
 use Rattle.xd_drive.specs.Performing.{was_started}
 use Rattle.xd_links.proofs.Places.{push_read}
 use Rattle.xd_group.specs.Children.{all_buried, buried_child, changed_at, cut_by, fresh_child, killed_child, reaped_child}
 use Rattle.xd_group.specs.Fates.{has_link, is_refused, workers_with}
-use Rattle.xd_group.specs.Kills.{EndKilledSo, KeepsLost, KilledSo, LostAt}
+use Rattle.xd_group.specs.Heard.{says_send_fault}
+use Rattle.xd_group.specs.Kept.{said_by}
+use Rattle.xd_group.specs.Kills.{EndKilledSo, KeepsLost, KilledSo, Loses, LostAt}
 use Rattle.xd_group.specs.declared.child.Child.{Child}
 use Rattle.xd_group.specs.declared.fate.Fate.{Fate}
 use Rattle.xd_group.specs.declared.fate.Fate.TheVariants as fate
@@ -98,6 +101,7 @@ kills_first cs calls workers fates lost a b =
     record {
       wherever = λ k w c wi ci h. let e : slice_get [] k ≡ Some w = ap (λ (l : List ℕ). slice_get l k) (sym b) ∙ wi in absurd (cc e);
       refused = λ k w c wi ci h. let e : slice_get [] k ≡ Some w = ap (λ (l : List ℕ). slice_get l k) (sym b) ∙ wi in absurd (cc e);
+      unsent = λ k w c wi ci h. let e : slice_get [] k ≡ Some w = ap (λ (l : List ℕ). slice_get l k) (sym b) ∙ wi in absurd (cc e);
       only = λ k w c wi ci h. let e : slice_get [] k ≡ Some w = ap (λ (l : List ℕ). slice_get l k) (sym b) ∙ wi in absurd (cc e);
       new = λ w f. ap (was_killed w) a;
     }
@@ -108,6 +112,7 @@ kills_called cs calls all workers fates lost e is none s =
     record {
       wherever = λ k w c wi ci h. s.wherever k w c wi ci (sym (killed_same w calls all e is (none w)) ∙ h);
       refused = s.refused;
+      unsent = s.unsent;
       only = λ k w c wi ci h. more w (s.only k w c wi ci h);
       new = λ w f. killed_same w calls all e is (none w) ∙ s.new w (started_before w calls all e is f);
     }
@@ -122,11 +127,12 @@ kept_loss lost next k keeps (inr (inl q)) = inr (inl q)
 kept_loss lost next k keeps (inr (inr r)) = inr (inr (keeps k r))
 
 -- a child was killed, since a write failed
-pub kills_cut : (cs cs_all : List (Option Child)) (calls : List Entry) (workers : List ℕ) (fates : List Fate) (lost next : List Bool) (cut : Option ℕ) → KeepsLost lost next → LostAt cut next → cs_all ≡ cut_by cut cs → KilledSo cs calls workers fates lost → KilledSo cs_all calls workers fates next
-kills_cut cs cs_all calls workers fates lost next cut keeps at is s =
+pub kills_cut : (cs cs_all : List (Option Child)) (calls : List Entry) (workers : List ℕ) (fates : List Fate) (lost next : List Bool) (cut : Option ℕ) → Loses cut lost next → cs_all ≡ cut_by cut cs → KilledSo cs calls workers fates lost → KilledSo cs_all calls workers fates next
+kills_cut cs cs_all calls workers fates lost next cut lose is s =
     record {
       wherever = λ k w c wi ci h. always k w c wi h (cut_from cs cut k c (ap (λ (l : List (Option Child)). slice_get l k) (sym is) ∙ ci));
       refused = λ k w c wi ci f. at_refused k w c wi f (cut_from cs cut k c (ap (λ (l : List (Option Child)). slice_get l k) (sym is) ∙ ci));
+      unsent = λ k w c wi ci l. at_lost k w c wi (lose.only k l) (cut_from cs cut k c (ap (λ (l : List (Option Child)). slice_get l k) (sym is) ∙ ci));
       only = λ k w c wi ci h. alone k w c wi h (cut_from cs cut k c (ap (λ (l : List (Option Child)). slice_get l k) (sym is) ∙ ci));
       new = s.new;
     }
@@ -139,9 +145,14 @@ kills_cut cs cs_all calls workers fates lost next cut keeps at is s =
     at_refused k w c wi f (AsBefore m e) = s.refused k w c wi e f
     at_refused k w c wi f (Killed old e n same) = ap (λ (d : Child). d.is_killed) same
 
+    at_lost : (k w : ℕ) (c : Child) → slice_get workers k ≡ Some w → (slice_get lost k ≡ Some true) ⊎ (cut ≡ Some k) → CutFrom cs cut k c → c.is_killed ≡ true
+    at_lost k w c wi l (Killed old e n same) = ap (λ (d : Child). d.is_killed) same
+    at_lost k w c wi (inl l) (AsBefore m e) = s.unsent k w c wi e l
+    at_lost k w c wi (inr n) (AsBefore m e) = absurd (m n)
+
     alone : (k w : ℕ) (c : Child) → slice_get workers k ≡ Some w → c.is_killed ≡ true → CutFrom cs cut k c → (was_killed w calls ≡ true) ⊎ ((slice_get fates k ≡ Some fate.Refused) ⊎ (slice_get next k ≡ Some true))
-    alone k w c wi h (AsBefore m e) = kept_loss lost next k keeps (s.only k w c wi e h)
-    alone k w c wi h (Killed old e n same) = inr (inr (subst (λ (o : Option ℕ). LostAt o next) n at))
+    alone k w c wi h (AsBefore m e) = kept_loss lost next k lose.keeps (s.only k w c wi e h)
+    alone k w c wi h (Killed old e n same) = inr (inr (subst (λ (o : Option ℕ). LostAt o next) n lose.at))
 
 equal_self : (v : ℕ) → (v == v) ≡ true
 equal_self v = grind (arith, nat_tests)
@@ -167,6 +178,7 @@ kills_kill cs cs_all calls all workers fates lost w cut is on some none apart th
     record {
       wherever = λ k v c wi ci h. always k v c wi h (either_worker v w) (cut_from cs cut k c (ap (λ (l : List (Option Child)). slice_get l k) (sym then) ∙ ci));
       refused = λ k v c wi ci f. at_refused k v c wi f (cut_from cs cut k c (ap (λ (l : List (Option Child)). slice_get l k) (sym then) ∙ ci));
+      unsent = λ k v c wi ci l. at_lost k v c wi l (cut_from cs cut k c (ap (λ (l : List (Option Child)). slice_get l k) (sym then) ∙ ci));
       only = λ k v c wi ci h. alone k v c wi h (cut_from cs cut k c (ap (λ (l : List (Option Child)). slice_get l k) (sym then) ∙ ci));
       new = λ v f. killed_same v calls all (entry.Kill w) is (other_self w v (λ e. no_way (was_started v calls) (ap (λ (u : ℕ). was_started u calls) (sym e) ∙ on) (started_before v calls all (entry.Kill w) is f))) ∙ s.new v (started_before v calls all (entry.Kill w) is f);
     }
@@ -179,6 +191,10 @@ kills_kill cs cs_all calls all workers fates lost w cut is on some none apart th
     at_refused : (k v : ℕ) (c : Child) → slice_get workers k ≡ Some v → slice_get fates k ≡ Some fate.Refused → CutFrom cs cut k c → c.is_killed ≡ true
     at_refused k v c wi f (AsBefore m o) = s.refused k v c wi o f
     at_refused k v c wi f (Killed old o n same) = ap (λ (d : Child). d.is_killed) same
+
+    at_lost : (k v : ℕ) (c : Child) → slice_get workers k ≡ Some v → slice_get lost k ≡ Some true → CutFrom cs cut k c → c.is_killed ≡ true
+    at_lost k v c wi l (AsBefore m o) = s.unsent k v c wi o l
+    at_lost k v c wi l (Killed old o n same) = ap (λ (d : Child). d.is_killed) same
 
     by_worker : (k v : ℕ) → slice_get workers k ≡ Some v → (o : Option ℕ) → o ≡ Some k → IfSome o (λ at. slice_get workers at ≡ Some w) → was_killed v all ≡ true
     by_worker k v wi None n some = absurd (cc n)
@@ -245,12 +261,17 @@ worker_was workers w k v e n = by (push_read workers k w v e)
     by (inl a) = absurd (n a.0)
     by (inr b) = b
 
-pub kills_start : (cs cs_all : List (Option Child)) (calls all : List Entry) (workers ws : List ℕ) (fates fs : List Fate) (lost next : List Bool) (w slot : ℕ) (o : Option Child) (f : Fate) → all ≡ calls ++ entry.Start w slot ∷ [] → was_started w calls ≡ false → ws ≡ workers ++ w ∷ [] → fs ≡ fates ++ f ∷ []
-    → cs_all ≡ cut_by (then_some (is_refused f) (length cs)) (cs ++ o ∷ []) → IfSome o (λ c. c.is_killed ≡ false) → length workers ≡ length cs → length fates ≡ length cs → KeepsLost lost next → KilledSo cs calls workers fates lost → KilledSo cs_all all ws fs next
-kills_start cs cs_all calls all workers ws fates fs lost next w slot o f is fresh wis fis cis new count fcount keeps s =
+either : (a b : Bool) → (a || b) ≡ true → (a ≡ true) ⊎ (b ≡ true)
+either true b h = inl refl
+either false b h = inr h
+
+pub kills_start : (cs cs_all : List (Option Child)) (calls all : List Entry) (workers ws : List ℕ) (fates fs : List Fate) (lost next : List Bool) (w slot : ℕ) (o : Option Child) (f : Fate) (cut failed : Bool) → all ≡ calls ++ entry.Start w slot ∷ [] → was_started w calls ≡ false → ws ≡ workers ++ w ∷ [] → fs ≡ fates ++ f ∷ []
+    → next ≡ lost ++ failed ∷ [] → cut ≡ (is_refused f || failed) → cs_all ≡ cut_by (then_some cut (length cs)) (cs ++ o ∷ []) → IfSome o (λ c. c.is_killed ≡ false) → length workers ≡ length cs → length fates ≡ length cs → length lost ≡ length cs → KilledSo cs calls workers fates lost → KilledSo cs_all all ws fs next
+kills_start cs cs_all calls all workers ws fates fs lost next w slot o f cut failed is fresh wis fis nis cut_is cis new count fcount lcount s =
     record {
       wherever = λ k v c wi ci h. always k v c (ap (λ (l : List ℕ). slice_get l k) (sym wis) ∙ wi) (same v h) (from k c ci);
       refused = λ k v c wi ci r. at_refused k v c (ap (λ (l : List ℕ). slice_get l k) (sym wis) ∙ wi) (push_read fates k f fate.Refused (ap (λ (l : List Fate). slice_get l k) (sym fis) ∙ r)) (cuts k c ci);
+      unsent = λ k v c wi ci l. at_lost k v c (ap (λ (l : List ℕ). slice_get l k) (sym wis) ∙ wi) (push_read lost k failed true (ap (λ (l : List Bool). slice_get l k) (sym nis) ∙ l)) (cuts k c ci);
       only = λ k v c wi ci h. alone k v c (ap (λ (l : List ℕ). slice_get l k) (sym wis) ∙ wi) h (from k c ci);
       new = λ v n. killed_same v calls all (entry.Start w slot) is refl ∙ s.new v (started_before v calls all (entry.Start w slot) is n);
     }
@@ -258,11 +279,11 @@ kills_start cs cs_all calls all workers ws fates fs lost next w slot o f is fres
     same : (v : ℕ) → was_killed v all ≡ true → was_killed v calls ≡ true
     same v h = sym (killed_same v calls all (entry.Start w slot) is refl) ∙ h
 
-    cuts : (k : ℕ) (c : Child) → slice_get cs_all k ≡ Some (Some c) → CutFrom (cs ++ o ∷ []) (then_some (is_refused f) (length cs)) k c
-    cuts k c ci = cut_from (cs ++ o ∷ []) (then_some (is_refused f) (length cs)) k c (ap (λ (l : List (Option Child)). slice_get l k) (sym cis) ∙ ci)
+    cuts : (k : ℕ) (c : Child) → slice_get cs_all k ≡ Some (Some c) → CutFrom (cs ++ o ∷ []) (then_some cut (length cs)) k c
+    cuts k c ci = cut_from (cs ++ o ∷ []) (then_some cut (length cs)) k c (ap (λ (l : List (Option Child)). slice_get l k) (sym cis) ∙ ci)
 
-    from : (k : ℕ) (c : Child) → slice_get cs_all k ≡ Some (Some c) → (slice_get cs k ≡ Some (Some c)) ⊎ ((k ≡ length cs) × ((o ≡ Some c) ⊎ (then_some (is_refused f) (length cs) ≡ Some k)))
-    from k c ci = pushed cs o (then_some (is_refused f) (length cs)) k c (cuts k c ci) (cut_kind (is_refused f) (length cs))
+    from : (k : ℕ) (c : Child) → slice_get cs_all k ≡ Some (Some c) → (slice_get cs k ≡ Some (Some c)) ⊎ ((k ≡ length cs) × ((o ≡ Some c) ⊎ (then_some cut (length cs) ≡ Some k)))
+    from k c ci = pushed cs o (then_some cut (length cs)) k c (cuts k c ci) (cut_kind cut (length cs))
 
     not_killed : (v : ℕ) → was_killed v calls ≡ true → v ≡ w → ⊥
     not_killed v h e = no_way (was_killed v calls) h (s.new v (ap (λ (u : ℕ). was_started u calls) e ∙ fresh))
@@ -270,7 +291,7 @@ kills_start cs cs_all calls all workers ws fates fs lost next w slot o f is fres
     last : (k v : ℕ) → k ≡ length cs → slice_get (workers ++ w ∷ []) k ≡ Some v → v ≡ w
     last k v at wi = same_some (slice_get (workers ++ w ∷ []) k) v w wi (ap (slice_get (workers ++ w ∷ [])) (at ∙ sym count) ∙ last_read workers w)
 
-    always : (k v : ℕ) (c : Child) → slice_get (workers ++ w ∷ []) k ≡ Some v → was_killed v calls ≡ true → (slice_get cs k ≡ Some (Some c)) ⊎ ((k ≡ length cs) × ((o ≡ Some c) ⊎ (then_some (is_refused f) (length cs) ≡ Some k))) → c.is_killed ≡ true
+    always : (k v : ℕ) (c : Child) → slice_get (workers ++ w ∷ []) k ≡ Some v → was_killed v calls ≡ true → (slice_get cs k ≡ Some (Some c)) ⊎ ((k ≡ length cs) × ((o ≡ Some c) ⊎ (then_some cut (length cs) ≡ Some k))) → c.is_killed ≡ true
     always k v c wi h (inl e) = s.wherever k v c (worker_was workers w k v wi (λ n. within cs k (Some c) e (n ∙ count))) e h
     always k v c wi h (inr p) = absurd (not_killed v h (last k v p.0 wi))
 
@@ -279,29 +300,42 @@ kills_start cs cs_all calls all workers ws fates fs lost next w slot o f is fres
     not_last k c r (inl a) = absurd (within fates k fate.Refused r (a.0 ∙ sym fcount))
     not_last k c r (inr e) = e
 
-    at_refused : (k v : ℕ) (c : Child) → slice_get (workers ++ w ∷ []) k ≡ Some v → ((k ≡ length fates) × (fate.Refused ≡ f)) ⊎ (slice_get fates k ≡ Some fate.Refused) → CutFrom (cs ++ o ∷ []) (then_some (is_refused f) (length cs)) k c → c.is_killed ≡ true
+    at_refused : (k v : ℕ) (c : Child) → slice_get (workers ++ w ∷ []) k ≡ Some v → ((k ≡ length fates) × (fate.Refused ≡ f)) ⊎ (slice_get fates k ≡ Some fate.Refused) → CutFrom (cs ++ o ∷ []) (then_some cut (length cs)) k c → c.is_killed ≡ true
     at_refused k v c wi r (Killed old e n is_so) = ap (λ (d : Child). d.is_killed) is_so
-    at_refused k v c wi (inl a) (AsBefore m e) = absurd (m (ap (λ (b : Bool). then_some b (length cs)) (ap is_refused (sym a.1)) ∙ ap Some (sym fcount ∙ sym a.0)))
+    at_refused k v c wi (inl a) (AsBefore m e) = absurd (m (ap (λ (b : Bool). then_some b (length cs)) (cut_is ∙ ap (λ (x : Fate). is_refused x || failed) (sym a.1)) ∙ ap Some (sym fcount ∙ sym a.0)))
     at_refused k v c wi (inr r) (AsBefore m e) =
         let before = not_last k c r (push_read cs k o (Some c) e) in
         s.refused k v c (worker_was workers w k v wi (λ n. within cs k (Some c) before (n ∙ count))) before r
 
+    still_lost : (k : ℕ) (c : Child) → slice_get lost k ≡ Some true → ((k ≡ length cs) × (Some c ≡ o)) ⊎ (slice_get cs k ≡ Some (Some c)) → slice_get cs k ≡ Some (Some c)
+    still_lost k c r (inl a) = absurd (within lost k true r (a.0 ∙ sym lcount))
+    still_lost k c r (inr e) = e
+
+    at_lost : (k v : ℕ) (c : Child) → slice_get (workers ++ w ∷ []) k ≡ Some v → ((k ≡ length lost) × (true ≡ failed)) ⊎ (slice_get lost k ≡ Some true) → CutFrom (cs ++ o ∷ []) (then_some cut (length cs)) k c → c.is_killed ≡ true
+    at_lost k v c wi r (Killed old e n is_so) = ap (λ (d : Child). d.is_killed) is_so
+    at_lost k v c wi (inl a) (AsBefore m e) = absurd (m (ap (λ (b : Bool). then_some b (length cs)) (cut_is ∙ or_right (is_refused f) failed (sym a.1)) ∙ ap Some (sym lcount ∙ sym a.0)))
+    at_lost k v c wi (inr r) (AsBefore m e) =
+        let before = still_lost k c r (push_read cs k o (Some c) e) in
+        s.unsent k v c (worker_was workers w k v wi (λ n. within cs k (Some c) before (n ∙ count))) before r
+
     earlier : (k v : ℕ) → (was_killed v calls ≡ true) ⊎ ((slice_get fates k ≡ Some fate.Refused) ⊎ (slice_get lost k ≡ Some true)) → (was_killed v all ≡ true) ⊎ ((slice_get fs k ≡ Some fate.Refused) ⊎ (slice_get next k ≡ Some true))
     earlier k v (inl h) = inl (killed_more v calls all (entry.Start w slot) is h)
     earlier k v (inr (inl r)) = inr (inl (ap (λ (l : List Fate). slice_get l k) fis ∙ front_read fates (f ∷ []) k fate.Refused r))
-    earlier k v (inr (inr l)) = inr (inr (keeps k l))
+    earlier k v (inr (inr l)) = inr (inr (ap (λ (l : List Bool). slice_get l k) nis ∙ front_read lost (failed ∷ []) k true l))
 
     fresh_child : (p : Option Child) (c : Child) → p ≡ Some c → IfSome p (λ d. d.is_killed ≡ false) → c.is_killed ≡ false
     fresh_child None c e n = absurd (cc e)
     fresh_child (Some d) c e n = let same : d ≡ c = cc e in ap (λ (x : Child). x.is_killed) (sym same) ∙ n
 
-    alone : (k v : ℕ) (c : Child) → slice_get (workers ++ w ∷ []) k ≡ Some v → c.is_killed ≡ true → (slice_get cs k ≡ Some (Some c)) ⊎ ((k ≡ length cs) × ((o ≡ Some c) ⊎ (then_some (is_refused f) (length cs) ≡ Some k)))
+    last_cut : (k : ℕ) → k ≡ length cs → (is_refused f ≡ true) ⊎ (failed ≡ true) → (slice_get fs k ≡ Some fate.Refused) ⊎ (slice_get next k ≡ Some true)
+    last_cut k at (inl r) = inl (ap (λ (l : List Fate). slice_get l k) fis ∙ (ap (slice_get (fates ++ f ∷ [])) (at ∙ sym fcount) ∙ (last_read fates f ∙ ap Some (refused_is f r))))
+    last_cut k at (inr l) = inr (ap (λ (x : List Bool). slice_get x k) nis ∙ (ap (slice_get (lost ++ failed ∷ [])) (at ∙ sym lcount) ∙ (last_read lost failed ∙ ap Some l)))
+
+    alone : (k v : ℕ) (c : Child) → slice_get (workers ++ w ∷ []) k ≡ Some v → c.is_killed ≡ true → (slice_get cs k ≡ Some (Some c)) ⊎ ((k ≡ length cs) × ((o ≡ Some c) ⊎ (then_some cut (length cs) ≡ Some k)))
         → (was_killed v all ≡ true) ⊎ ((slice_get fs k ≡ Some fate.Refused) ⊎ (slice_get next k ≡ Some true))
     alone k v c wi h (inl e) = earlier k v (s.only k v c (worker_was workers w k v wi (λ n. within cs k (Some c) e (n ∙ count))) e h)
     alone k v c wi h (inr (at, inl e)) = absurd (no_way c.is_killed h (fresh_child o c e new))
-    alone k v c wi h (inr (at, inr n)) =
-        let is_last : slice_get (fates ++ f ∷ []) k ≡ Some f = ap (slice_get (fates ++ f ∷ [])) (at ∙ sym fcount) ∙ last_read fates f in
-        inr (inl (ap (λ (l : List Fate). slice_get l k) fis ∙ (is_last ∙ ap Some (refused_is f (cut_so (is_refused f) (length cs) k n)))))
+    alone k v c wi h (inr (at, inr n)) = inr (last_cut k at (either (is_refused f) failed (sym cut_is ∙ cut_so cut (length cs) k n)))
 
 -- ---- in the end
 
@@ -319,6 +353,7 @@ kills_reaped cs cs_all calls workers fates lost j is s =
     record {
       wherever = λ k w c wi ci h. let it = reaped_from cs j k c (ap (λ (l : List (Option Child)). slice_get l k) (sym is) ∙ ci) in it.2 ∙ s.wherever k w it.0 wi it.1 h;
       refused = λ k w c wi ci f. let it = reaped_from cs j k c (ap (λ (l : List (Option Child)). slice_get l k) (sym is) ∙ ci) in it.2 ∙ s.refused k w it.0 wi it.1 f;
+      unsent = λ k w c wi ci l. let it = reaped_from cs j k c (ap (λ (l : List (Option Child)). slice_get l k) (sym is) ∙ ci) in it.2 ∙ s.unsent k w it.0 wi it.1 l;
       only = λ k w c wi ci h. let it = reaped_from cs j k c (ap (λ (l : List (Option Child)). slice_get l k) (sym is) ∙ ci) in s.only k w it.0 wi it.1 (sym it.2 ∙ h);
       new = s.new;
     }
@@ -337,13 +372,22 @@ ends_refused workers fates k w fate.Unlinked apart wi is link h = absurd (cc lin
 ends_refused workers fates k w fate.Refused apart wi is link h = is
 ends_refused workers fates k w fate.Linked apart wi is link h = absurd (no_way (is_among w (workers_with is_refused workers fates)) h (not_with is_refused workers fates k w fate.Linked apart wi is refl))
 
+-- a worker of whose link it is said that a send failed was killed
+ends_fault : (cs : List (Option Child)) (calls : List Entry) (workers : List ℕ) (fates : List Fate) (lost : List Bool) (k w : ℕ) (c : Child) (f : Fate) → slice_get workers k ≡ Some w → slice_get fates k ≡ Some f → has_link f ≡ true → slice_get cs k ≡ Some (Some c)
+    → (slice_get fates k ≡ Some fate.Linked → slice_get lost k ≡ Some true) → KilledSo cs calls workers fates lost → c.is_killed ≡ true
+ends_fault cs calls workers fates lost k w c fate.Unlinked wi is link ci said s = absurd (cc link)
+ends_fault cs calls workers fates lost k w c fate.Refused wi is link ci said s = s.refused k w c wi ci is
+ends_fault cs calls workers fates lost k w c fate.Linked wi is link ci said s = s.unsent k w c wi ci (said is)
+
 -- a link is given back
-pub end_killed : (cs : List (Option Child)) (calls : List Entry) (workers : List ℕ) (fates : List Fate) (lost : List Bool) (k w : ℕ) (c : Child) (f : Fate) (killed : Bool) (writes : ℕ) → slice_get workers k ≡ Some w → slice_get fates k ≡ Some f → has_link f ≡ true → slice_get cs k ≡ Some (Some c) → killed ≡ c.is_killed
-    → (slice_get fates k ≡ Some fate.Linked → slice_get lost k ≡ Some true → 0 < writes) → ((k l v : ℕ) → slice_get workers k ≡ Some v → slice_get workers l ≡ Some v → k ≡ l) → KilledSo cs calls workers fates lost → EndKilledSo calls (workers_with is_refused workers fates) w killed writes
-end_killed cs calls workers fates lost k w c f killed writes wi is link ci same some apart s =
+pub end_killed : (cs : List (Option Child)) (calls : List Entry) (given : List News) (workers : List ℕ) (fates : List Fate) (lost : List Bool) (k w : ℕ) (c : Child) (f : Fate) (killed : Bool) (writes : ℕ) → slice_get workers k ≡ Some w → slice_get fates k ≡ Some f → has_link f ≡ true → slice_get cs k ≡ Some (Some c) → killed ≡ c.is_killed
+    → (slice_get fates k ≡ Some fate.Linked → slice_get lost k ≡ Some true → 0 < writes) → ((v : ℕ) → slice_get workers k ≡ Some v → slice_get fates k ≡ Some fate.Linked → list_any says_send_fault (said_by v given) ≡ true → slice_get lost k ≡ Some true)
+    → ((k l v : ℕ) → slice_get workers k ≡ Some v → slice_get workers l ≡ Some v → k ≡ l) → KilledSo cs calls workers fates lost → EndKilledSo calls given (workers_with is_refused workers fates) w killed writes
+end_killed cs calls given workers fates lost k w c f killed writes wi is link ci same some said apart s =
     record {
       wherever = λ h. same ∙ s.wherever k w c wi ci h;
       at_refused = λ h. same ∙ s.refused k w c wi ci (ends_refused workers fates k w f apart wi is link h);
+      at_send_fault = λ h. same ∙ ends_fault cs calls workers fates lost k w c f wi is link ci (λ r. said w wi r h) s;
       only = λ h. ends_alone calls workers fates lost k w f writes wi is link some (s.only k w c wi ci (sym same ∙ h));
     }
 
@@ -364,6 +408,7 @@ kills_buried cs cs_all calls workers fates lost is s =
     record {
       wherever = λ k w c wi ci h. let was = buried_from cs k c (ap (λ (l : List (Option Child)). slice_get l k) (sym is) ∙ ci) in was.2 ∙ s.wherever k w was.0 wi was.1 h;
       refused = λ k w c wi ci f. let was = buried_from cs k c (ap (λ (l : List (Option Child)). slice_get l k) (sym is) ∙ ci) in was.2 ∙ s.refused k w was.0 wi was.1 f;
+      unsent = λ k w c wi ci l. let was = buried_from cs k c (ap (λ (l : List (Option Child)). slice_get l k) (sym is) ∙ ci) in was.2 ∙ s.unsent k w was.0 wi was.1 l;
       only = λ k w c wi ci h. let was = buried_from cs k c (ap (λ (l : List (Option Child)). slice_get l k) (sym is) ∙ ci) in s.only k w was.0 wi was.1 (sym was.2 ∙ h);
       new = s.new;
     }

@@ -1,13 +1,18 @@
 -- Flags of links, and of those to which a write failed.
-use Rattle.std.proofs.Common.{◌≡◌, ℕ, zero, suc, ◌<◌, ◌≤◌, length, List, [], ◌∷◌, ◌++◌, map, Bool, true, false, Option, Some, None, get_or, refl, sym, ◌∙◌, ap, arith}
-use Rattle.std.specs.Prelude.{is_some, option_map, slice_get, slice_set}
+use Rattle.std.proofs.Common.{◌≡◌, ℕ, zero, suc, ◌<◌, ◌≤◌, length, List, [], ◌∷◌, ◌++◌, map, Bool, true, false, Option, Some, None, get_or, refl, sym, ◌∙◌, ap, arith, inl, inr}
+use Rattle.std.specs.Prelude.{◌⊎◌, is_some, option_map, slice_get, slice_set}
 use Rattle.std.specs.Bool.{then_some}
+use Rattle.std.specs.List.{list_any}
 use Rattle.std.proofs.Math.ListN.{set}
 use Rattle.std.proofs.lemmas.List.{map-append, map-set}
 use Rattle.std.proofs.lemmas.Option.{slice_get-map}
 use Rattle.xd_links.proofs.HubFacts.{here}
-use Rattle.xd_group.specs.Kills.{KeepsLost, LostAt}
-use Rattle.xd_group.specs.PostView.{is_lost_at, losses_of, page_of, pages_of}
+use Rattle.xd_group.specs.Fates.{is_linked}
+use Rattle.xd_group.specs.Heard.{says_send_fault}
+use Rattle.xd_group.specs.Kills.{KeepsLost, Loses, LostAt}
+use Rattle.xd_group.specs.Pages.{Page}
+use Rattle.xd_group.specs.PostView.{is_lost_at, losses_of, page_by, page_of, pages_of}
+use Rattle.xd_group.specs.declared.fate.Fate.{Fate}
 use Rattle.xd_group.specs.declared.post.Post.{Post}
 
 -- ---- lists of flags
@@ -36,10 +41,16 @@ set_same [] k v e = refl
 set_same (l ∷ ls) zero v e = let same : l ≡ v = cc e in ap (λ (x : Bool). x ∷ ls) (sym same)
 set_same (l ∷ ls) (suc k) v e = ap (λ (xs : List Bool). l ∷ xs) (set_same ls k v e)
 
-front : (ls more : List Bool) (i : ℕ) → slice_get ls i ≡ Some true → slice_get (ls ++ more) i ≡ Some true
-front [] more i e = absurd (cc e)
-front (l ∷ ls) more zero e = e
-front (l ∷ ls) more (suc i) e = front ls more i e
+set_only : (ls : List Bool) (k i : ℕ) (v : Bool) → slice_get (set ls k v) i ≡ Some true → (slice_get ls i ≡ Some true) ⊎ ((v ≡ true) × (k ≡ i))
+set_only [] k i v e = inl e
+set_only (l ∷ ls) zero zero v e = inr (cc e, refl)
+set_only (l ∷ ls) zero (suc i) v e = inl e
+set_only (l ∷ ls) (suc k) zero v e = inl e
+set_only (l ∷ ls) (suc k) (suc i) v e = next (set_only ls k i v e)
+  where
+    next : (slice_get ls i ≡ Some true) ⊎ ((v ≡ true) × (k ≡ i)) → (slice_get ls i ≡ Some true) ⊎ ((v ≡ true) × (suc k ≡ suc i))
+    next (inl h) = inl h
+    next (inr p) = inr (p.0, ap suc p.1)
 
 map_length : {X Y : Type 0} (f : X → Y) (xs : List X) → length (map f xs) ≡ length xs
 map_length f [] = refl
@@ -70,13 +81,34 @@ module _ {N : Type 0} {g : _} where
   lost_kept xs k was a b at is more i e =
       ap (λ (l : List Bool). slice_get l i) (map-set is_lost_at xs k (Some b)) ∙ set_keeps (losses_of xs) k i b.is_lost (λ h. more (read_lost xs k was a true at is h)) e
 
-  pub lost_there : (xs : List (Option (Post N g))) (k : ℕ) (b : Post N g) (c : Bool) → k < length xs → c ≡ b.is_lost → LostAt (then_some c k) (losses_of (slice_set xs k (Some b)))
+  lost_there : (xs : List (Option (Post N g))) (k : ℕ) (b : Post N g) (c : Bool) → k < length xs → c ≡ b.is_lost → LostAt (then_some c k) (losses_of (slice_set xs k (Some b)))
   lost_there xs k b false h e = tt
   lost_there xs k b true h e =
       ap (λ (l : List Bool). slice_get l k) (map-set is_lost_at xs k (Some b)) ∙ (set_there (losses_of xs) k b.is_lost (omega (arith, h, map_length is_lost_at xs)) ∙ ap Some (sym e))
 
-  pub lost_more : (xs all : List (Option (Post N g))) (o : Option (Post N g)) → all ≡ xs ++ o ∷ [] → KeepsLost (losses_of xs) (losses_of all)
-  lost_more xs all o is i e = ap (λ (l : List (Option (Post N g))). slice_get (losses_of l) i) is ∙ (ap (λ (l : List Bool). slice_get l i) (map-append is_lost_at xs (o ∷ [])) ∙ front (losses_of xs) (is_lost_at o ∷ []) i e)
+  lost_only : (xs : List (Option (Post N g))) (k i : ℕ) (b : Post N g) (c : Bool) → c ≡ b.is_lost → slice_get (losses_of (slice_set xs k (Some b))) i ≡ Some true → (slice_get (losses_of xs) i ≡ Some true) ⊎ (then_some c k ≡ Some i)
+  lost_only xs k i b c same e = by (set_only (losses_of xs) k i b.is_lost (sym (ap (λ (l : List Bool). slice_get l i) (map-set is_lost_at xs k (Some b))) ∙ e))
+    where
+      by : (slice_get (losses_of xs) i ≡ Some true) ⊎ ((b.is_lost ≡ true) × (k ≡ i)) → (slice_get (losses_of xs) i ≡ Some true) ⊎ (then_some c k ≡ Some i)
+      by (inl h) = inl h
+      by (inr p) = inr (ap (λ (x : Bool). then_some x k) (same ∙ p.0) ∙ ap Some p.1)
+
+  -- a write may have failed to the one link that is set
+  pub lost_set : (xs : List (Option (Post N g))) (k : ℕ) (was : Option (Post N g)) (a b : Post N g) (c : Bool) → was ≡ get_or xs k was → was ≡ Some a → k < length xs → (a.is_lost ≡ true → b.is_lost ≡ true) → c ≡ b.is_lost → Loses (then_some c k) (losses_of xs) (losses_of (slice_set xs k (Some b)))
+  lost_set xs k was a b c at is within more same = record { keeps = lost_kept xs k was a b at is more; at = lost_there xs k b c within same; only = λ i e. lost_only xs k i b c same e }
+
+  pub lost_more : (xs all : List (Option (Post N g))) (o : Option (Post N g)) → all ≡ xs ++ o ∷ [] → losses_of all ≡ losses_of xs ++ is_lost_at o ∷ []
+  lost_more xs all o is = ap losses_of is ∙ map-append is_lost_at xs (o ∷ [])
+
+  pub lost_count : (xs : List (Option (Post N g))) (fates : List Fate) → map is_some (pages_of xs) ≡ map is_linked fates → length (losses_of xs) ≡ length fates
+  lost_count xs fates seats = omega (arith, map_length is_lost_at xs, map_length page_of xs, map_length is_some (pages_of xs), ap length seats, map_length is_linked fates)
+
+  -- where it is said of a link that a send failed, a write to it failed
+  pub fault_lost : (xs : List (Option (Post N g))) (k : ℕ) (p : Page) → slice_get (pages_of xs) k ≡ Some (Some p) → p.known ≡ true → list_any says_send_fault p.said ≡ true → slice_get (losses_of xs) k ≡ Some true
+  fault_lost [] k p e known h = absurd (cc e)
+  fault_lost (None ∷ xs) zero p e known h = absurd (cc e)
+  fault_lost (Some q ∷ xs) zero p e known h = let same : page_by q ≡ p = cc e in ap Some (q.faults (ap (λ (r : Page). r.known) same ∙ known) (ap (λ (r : Page). list_any says_send_fault r.said) same ∙ h))
+  fault_lost (o ∷ xs) (suc k) p e known h = fault_lost xs k p e known h
 
   pub lost_left : (P : Type 0) (xs : List (Option (Post N g))) (k : ℕ) (was : Option (Post N g)) (a : Post N g) → was ≡ get_or xs k was → was ≡ Some a → (a.is_lost ≡ true → P) → slice_get (losses_of xs) k ≡ Some true → P
   lost_left P xs k was a at is h e = h (read_lost xs k was a true at is e)

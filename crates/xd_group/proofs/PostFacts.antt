@@ -2,6 +2,7 @@
 use Rattle.std.proofs.Common.{◌≡◌, ℕ, List, [], ◌∷◌, ◌++◌, Bool, true, false, ◌||◌, Option, Some, None, map, option_to_list, refl, sym, ◌∙◌, ap, subst, append_assoc, append-nil, inl, inr}
 use Rattle.std.specs.Prelude.{◌⊎◌, IfSome}
 use Rattle.std.specs.List.{list_any, filter_map}
+use Rattle.std.proofs.Math.Logic.{∥∥₁_map}
 use Rattle.std.proofs.lemmas.List.{map-append}
 use Rattle.std.proofs.lemmas.List.Elements.{filter-append, filter_map-append}
 use Rattle.std.proofs.lemmas.List.Folds.{list_any-append}
@@ -29,12 +30,12 @@ use Rattle.xd_remote.specs.Told.{is_last}
 use Rattle.xd_remote.specs.View.{side_of}
 use Rattle.xd_remote.specs.declared.gateway.Gateway.{Gateway}
 use Rattle.xd_remote.proofs.Telling.{can_be_told}
-use Rattle.xd_group.specs.Heard.{HeardSo, IsCause, StaysEnded, Tells, is_of_link, of_link}
+use Rattle.xd_group.specs.Heard.{EndsNow, HeardSo, StaysEnded, Tells, cause_by, is_of_link, is_send_fault, of_link, plain_cause, says_send_fault}
 use Rattle.xd_group.specs.Orders.{WritesOrder}
 use Rattle.xd_group.specs.Pages.{is_nothing}
-use Rattle.xd_group.specs.Sent.{SentAs}
+use Rattle.xd_group.specs.Sent.{EndsWhole, HandedOn, SentAs}
 use Rattle.xd_group.specs.ToLink.{call_message, ending, has_left, is_farewell, order_message, to_link}
-use Rattle.xd_group.proofs.Sending.{sent_last, sent_more, sent_none, sent_shut}
+use Rattle.xd_group.proofs.Sending.{all_handed, sent_last, sent_more, sent_none, sent_shut, shut_handed}
 
 -- ---- what was told
 
@@ -198,13 +199,9 @@ shut_keeps l0 l1 a b x y w e = y ∙ by a.broken b.broken (sym x ∙ e) w.count
 
 -- ---- what was said
 
-cause_kept : (why : LinkStop) (b0 b1 : Bool) (c : Cause) → (b0 ≡ true → b1 ≡ true) → IsCause why b0 c → IsCause why b1 c
-cause_kept why b0 b1 c more (inl e) = inl e
-cause_kept why b0 b1 c more (inr p) = inr (p.0, more p.1)
-
 tells_kept : (ended : Bool) (h : List Heard) (b0 b1 : Bool) (taken : List LinkNews) (said : List What) → (b0 ≡ true → b1 ≡ true) → Tells ended h b0 taken said → Tells ended h b1 taken said
 tells_kept false h b0 b1 taken said more t = t
-tells_kept true h b0 b1 taken said more t = record { why = t.why; cause = t.cause; later = t.later; is_cause = cause_kept t.why b0 b1 t.cause more t.is_cause; no_want = t.no_want; taken_are = t.taken_are; said_are = t.said_are }
+tells_kept true h b0 b1 taken said more t = record { why = t.why; failed = t.failed; later = t.later; still = λ f. more (t.still f); no_want = t.no_want; taken_are = t.taken_are; said_are = t.said_are }
 
 of_more : (taken : List LinkNews) (item : LinkNews) → is_of_link item ≡ true → of_link (taken ++ item ∷ []) ≡ of_link taken ++ item ∷ []
 of_more taken item h = filter-append is_of_link taken (item ∷ []) ∙ ap (λ (l : List LinkNews). of_link taken ++ l) (rw h refl)
@@ -286,6 +283,109 @@ of_message (Some what.Stray) k = refl
 of_message (Some (what.Gone cause)) k = absurd k
 of_message (Some what.NotStarted) k = absurd k
 
+-- ---- a send that failed
+
+-- a close leaves what was handed on
+pub over_handed : (a b : Line) (ms : List MessageView) → ClosesNow a b → IfSome a.sunk (HandedOn ms) → IfSome b.sunk (HandedOn ms)
+over_handed a b ms w h = shut_handed a.broken b.broken a.sunk b.sunk ms w.closed h
+
+plain_is_none : (why : LinkStop) → is_send_fault (plain_cause why) ≡ false
+plain_is_none stop.Ended = refl
+plain_is_none stop.Cut = refl
+plain_is_none (stop.Garbled fault) = refl
+plain_is_none (stop.BadGreeting b) = refl
+plain_is_none stop.ReadFault = refl
+plain_is_none stop.OutOfMemory = refl
+
+-- that is the cause where a write had failed, and only there
+pub fault_is : (why : LinkStop) (lost : Bool) → is_send_fault (cause_by why lost) ≡ lost
+fault_is why true = refl
+fault_is why false = plain_is_none why
+
+-- no message's news say so
+pub message_faults : (o : Option What) (lost : Bool) → IsOfMessage o → list_any says_send_fault (option_to_list o) ≡ true → lost ≡ true
+message_faults None lost k h = absurd (cc h)
+message_faults (Some what.Ready) lost k h = absurd (cc h)
+message_faults (Some (what.Collected ids)) lost k h = absurd (cc h)
+message_faults (Some (what.LogStart n log)) lost k h = absurd (cc h)
+message_faults (Some (what.Piece log b)) lost k h = absurd (cc h)
+message_faults (Some (what.LogClosed log)) lost k h = absurd (cc h)
+message_faults (Some (what.Done n outcome ms)) lost k h = absurd (cc h)
+message_faults (Some (what.Back ns)) lost k h = absurd (cc h)
+message_faults (Some what.Finished) lost k h = absurd (cc h)
+message_faults (Some (what.Closed text)) lost k h = absurd (cc h)
+message_faults (Some what.Stray) lost k h = absurd (cc h)
+message_faults (Some (what.Gone cause)) lost k h = absurd k
+message_faults (Some what.NotStarted) lost k h = absurd k
+
+-- the news of an end say so where a write had failed
+pub end_faults : (why : LinkStop) (lost : Bool) (c : Cause) → c ≡ cause_by why lost → list_any says_send_fault (what.Gone c ∷ []) ≡ true → lost ≡ true
+end_faults why lost c is h = sym (fault_is why lost) ∙ (ap is_send_fault (sym is) ∙ (sym (or_false (is_send_fault c)) ∙ h))
+
+-- what was said and is said now says so only where a write failed
+pub faults_more : (said all : List What) (news : Option What) (l0 l1 : Bool) → all ≡ said ++ option_to_list news → (list_any says_send_fault said ≡ true → l0 ≡ true) → (list_any says_send_fault (option_to_list news) ≡ true → l0 ≡ true) → (l0 ≡ true → l1 ≡ true) → list_any says_send_fault all ≡ true → l1 ≡ true
+faults_more said all news l0 l1 is before now keeps h =
+    keeps (by (either (list_any says_send_fault said) (list_any says_send_fault (option_to_list news)) (sym (list_any-append says_send_fault said (option_to_list news)) ∙ (sym (ap (list_any says_send_fault) is) ∙ h))))
+  where
+    by : (list_any says_send_fault said ≡ true) ⊎ (list_any says_send_fault (option_to_list news) ≡ true) → l0 ≡ true
+    by (inl e) = before e
+    by (inr e) = now e
+
+not_empty : (ys : List What) (b : What) → [] ≡ ys ++ b ∷ [] → ⊥
+not_empty [] b h = cc h
+not_empty (y ∷ ys) b h = cc h
+
+last_same : (xs ys : List What) (a b : What) → xs ++ a ∷ [] ≡ ys ++ b ∷ [] → a ≡ b
+last_same [] [] a b h = cc h
+last_same [] (y ∷ ys) a b h = absurd (not_empty ys b (cc h))
+last_same (x ∷ xs) [] a b h = absurd (not_empty xs a (sym (cc h)))
+last_same (x ∷ xs) (y ∷ ys) a b h = last_same xs ys a b (cc h)
+
+whole_end : (before : List What) (why : LinkStop) (lost : Bool) (ms : List MessageView) (sunk : Option Sunk) → (lost ≡ false → IfSome sunk (HandedOn ms)) → EndsWhole (before ++ what.Gone (cause_by why lost) ∷ []) ms sunk
+whole_end before why lost ms sunk handed all c e f =
+    let last : what.Gone (cause_by why lost) ≡ what.Gone c = last_same before all (what.Gone (cause_by why lost)) (what.Gone c) e in
+    let same : cause_by why lost ≡ c = cc last in
+    handed (sym (fault_is why lost) ∙ (ap is_send_fault same ∙ f))
+
+-- with an item of the link: where it has ended, by another cause than a failed send, all was handed on
+pub whole_taken : (was ended lost closed : Bool) (before : List What) (news : Option What) (ms : List MessageView) (s0 s1 : Option Sunk) (faults : ℕ) → StaysEnded was ended news
+    → EndsNow was ended lost news → (was ≡ true → ∥ EndsWhole before ms s0 ∥₁) → ∥ SentAs lost closed s0 faults ms ∥₁ → (IfSome s0 (HandedOn ms) → IfSome s1 (HandedOn ms))
+    → ended ≡ true → ∥ EndsWhole (before ++ option_to_list news) ms s1 ∥₁
+whole_taken true ended lost closed before news ms s0 s1 faults stays ends whole sent more over =
+    let same : before ++ option_to_list news ≡ before = ap (λ (o : Option What). before ++ option_to_list o) ((stays refl).0) ∙ append-nil before in
+    ∥∥₁_map (whole refl) (λ w all c e f. more (w all c (sym same ∙ e) f))
+whole_taken false ended lost closed before news ms s0 s1 faults stays ends whole sent more over =
+    let it = ends refl over in
+    ∥∥₁_map sent
+    (λ s. subst (λ (o : Option What). EndsWhole (before ++ option_to_list o) ms s1) (sym it.1) (whole_end before it.0 lost ms s1 (λ f. more (all_handed s0 ms closed (s.whole f)))))
+
+-- a worker does not leave with the end of its link
+pub end_leaves : (was ended lost : Bool) (news : Option What) → StaysEnded was ended news → EndsNow was ended lost news → ended ≡ true → has_left (option_to_list news) ≡ false
+end_leaves true ended lost news stays ends over = ap (λ (o : Option What). has_left (option_to_list o)) ((stays refl).0)
+end_leaves false ended lost news stays ends over = ap (λ (o : Option What). has_left (option_to_list o)) ((ends refl over).1)
+
+pub same_still : (suite : List ℕ) (mode : ModeKind) (told : List Entry) (said more : List What) → has_left more ≡ false → to_link suite mode told said ≡ to_link suite mode told (said ++ more)
+same_still suite mode told said more f = same_link suite mode told said (said ++ more) (sym (list_any-append is_farewell said more ∙ (ap (λ (b : Bool). has_left said || b) f ∙ or_false (has_left said))))
+
+-- so it is where an item was heard
+pub still_whole : (was ended lost closed : Bool) (suite : List ℕ) (mode : ModeKind) (told : List Entry) (said late : List What) (news : Option What) (s0 s1 : Option Sunk) (faults : ℕ) → is_nothing late ≡ true → StaysEnded was ended news
+    → EndsNow was ended lost news → (was ≡ true → ∥ EndsWhole (said ++ late) (to_link suite mode told said) s0 ∥₁) → ∥ SentAs lost closed s0 faults (to_link suite mode told said) ∥₁
+    → ((m : List MessageView) → has_left (option_to_list news) ≡ false → IfSome s0 (HandedOn m) → IfSome s1 (HandedOn m)) → ended ≡ true
+    → ∥ EndsWhole ((said ++ option_to_list news) ++ late) (to_link suite mode told (said ++ option_to_list news)) s1 ∥₁
+still_whole was ended lost closed suite mode told said late news s0 s1 faults nothing stays ends whole sent more over =
+    let left = end_leaves was ended lost news stays ends over in
+    subst (λ (l : List What). ∥ EndsWhole l (to_link suite mode told (said ++ option_to_list news)) s1 ∥₁) (on_time said late (option_to_list news) nothing)
+    (subst (λ (m : List MessageView). ∥ EndsWhole ((said ++ late) ++ option_to_list news) m s1 ∥₁) (same_still suite mode told said (option_to_list news) left)
+    (whole_taken was ended lost closed (said ++ late) news (to_link suite mode told said) s0 s1 faults stays ends whole sent (more (to_link suite mode told said) left) over))
+
+-- and where one was heard late
+pub late_whole : (was ended lost closed : Bool) (said late : List What) (news : Option What) (ms : List MessageView) (s0 s1 : Option Sunk) (faults : ℕ) → StaysEnded was ended news
+    → EndsNow was ended lost news → (was ≡ true → ∥ EndsWhole (said ++ late) ms s0 ∥₁) → ∥ SentAs lost closed s0 faults ms ∥₁
+    → (IfSome s0 (HandedOn ms) → IfSome s1 (HandedOn ms)) → ended ≡ true → ∥ EndsWhole (said ++ (late ++ option_to_list news)) ms s1 ∥₁
+late_whole was ended lost closed said late news ms s0 s1 faults stays ends whole sent more over =
+    subst (λ (l : List What). ∥ EndsWhole l ms s1 ∥₁) (append_assoc said late (option_to_list news))
+    (whole_taken was ended lost closed (said ++ late) news ms s0 s1 faults stays ends whole sent more over)
+
 module _ {K : Type 0} where
   pub heard_kept : (g k : Gateway K) (ended b0 b1 : Bool) (taken : List LinkNews) (said : List What) → ((h : List Heard) → StandsFor g h → StandsFor k h) → (b0 ≡ true → b1 ≡ true) → HeardSo g ended b0 taken said → HeardSo k ended b1 taken said
   heard_kept g k ended b0 b1 taken said f more s = record { heard = s.heard; stands = f s.heard s.stands; tells = tells_kept ended s.heard b0 b1 taken said more s.tells }
@@ -301,7 +401,7 @@ module _ {K : Type 0} where
       record {
         heard = s.heard;
         stands = s.stands;
-        tells = record { why = t.why; cause = t.cause; later = more.0; is_cause = t.is_cause; no_want = t.no_want; taken_are = more.1; said_are = append-nil said ∙ t.said_are };
+        tells = record { why = t.why; failed = t.failed; later = more.0; still = t.still; no_want = t.no_want; taken_are = more.1; said_are = append-nil said ∙ t.said_are };
       }
   heard_past g false b taken item said e s = absurd (cc e)
 
@@ -321,7 +421,7 @@ module _ {K : Type 0} where
             };
       }
 
-  pub heard_end : (g : Gateway K) (ended b : Bool) (taken : List LinkNews) (why : LinkStop) (item : LinkNews) (said : List What) (c : Cause) → ended ≡ false → item ≡ End why → (why ≡ stop.OutOfMemory → ⊥) → IsCause why b c
+  pub heard_end : (g : Gateway K) (ended b : Bool) (taken : List LinkNews) (why : LinkStop) (item : LinkNews) (said : List What) (c : Cause) → ended ≡ false → item ≡ End why → (why ≡ stop.OutOfMemory → ⊥) → c ≡ cause_by why b
       → HeardSo g ended b taken said → HeardSo g true b (taken ++ item ∷ []) (said ++ what.Gone c ∷ [])
   heard_end g true b taken why item said c e is other cause s = absurd (cc e)
   heard_end g false b taken why item said c e is other cause s =
@@ -332,12 +432,12 @@ module _ {K : Type 0} where
         tells =
             record {
               why = why;
-              cause = c;
+              failed = b;
               later = [];
-              is_cause = cause;
+              still = λ f. f;
               no_want = other;
               taken_are = ap (λ (x : LinkNews). of_link (taken ++ x ∷ [])) is ∙ (of_more taken (End why) refl ∙ ap (λ (l : List LinkNews). l ++ End why ∷ []) t.taken_are);
-              said_are = ap (λ (l : List What). l ++ what.Gone c ∷ []) t.said_are;
+              said_are = ap (λ (l : List What). l ++ what.Gone c ∷ []) t.said_are ∙ ap (λ (x : Cause). all_news s.heard ++ what.Gone x ∷ []) cause;
             };
       }
 
@@ -348,12 +448,18 @@ module _ {K : Type 0} where
       let t = s.tells in
       record { heard = s.heard; stands = s.stands; tells = record { taken_are = of_same taken item other ∙ t.taken_are; said_are = append-nil said ∙ t.said_are } }
 
+  -- a link of which no end was said has not ended
+  pub still_open : (g : Gateway K) (ended b : Bool) (taken : List LinkNews) (said late : List What) → is_nothing late ≡ true → list_any is_end said ≡ false → HeardSo g ended b taken (said ++ late) → ended ≡ false
+  still_open g false b taken said late z going s = refl
+  still_open g true b taken said late z going s =
+      let c = cause_by s.tells.why s.tells.failed in
+      let all : said ≡ all_news s.heard ++ what.Gone c ∷ [] = sym (said_alone said late z) ∙ s.tells.said_are in
+      sym (ends_here (all_news s.heard) c) ∙ (sym (ap (list_any is_end) all) ∙ going)
+
   -- until a worker is heard to have ended, channel 1 can be sent on
   pub can_tell : (g : Gateway K) (ended b : Bool) (taken : List LinkNews) (said late : List What) → is_nothing late ≡ true → list_any is_end said ≡ false → HeardSo g ended b taken (said ++ late) → send_refusal (slot_of (side_of g) 1) ≡ None
   can_tell g false b taken said late z going s =
       let all : said ≡ all_news s.heard = sym (said_alone said late z) ∙ s.tells.said_are in
       can_be_told g s.heard s.stands (none_of is_end is_last not_last (all_news s.heard) (sym (ap (list_any is_end) all) ∙ going))
   can_tell g true b taken said late z going s =
-      let all : said ≡ all_news s.heard ++ what.Gone s.tells.cause ∷ [] = sym (said_alone said late z) ∙ s.tells.said_are in
-      let both : true ≡ false = sym (ends_here (all_news s.heard) s.tells.cause) ∙ (sym (ap (list_any is_end) all) ∙ going) in
-      absurd (cc both)
+      let ended = still_open g true b taken said late z going s in absurd (cc ended)

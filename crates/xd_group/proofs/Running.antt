@@ -1,9 +1,9 @@
 -- The run of a link that ended, from what its reader put and what its post kept.
 use Rattle.std.proofs.Common.{◌≡◌, ◌<◌, ℕ, zero, suc, List, [], ◌∷◌, ◌++◌, length, take, map, Bool, true, false, Option, Some, None, refl, sym, ◌∙◌, ap, subst, arith, inl, inr, append_assoc}
-use Rattle.std.specs.Prelude.{◌||◌, IfSome}
+use Rattle.std.specs.Prelude.{◌||◌, IfSome, MatchBool}
 use Rattle.xd_edge.specs.Sink.{Sunk}
 use Rattle.xd_edge.specs.Faults.{Rose}
-use Rattle.xd_frame.specs.Message.{MessageView, frames}
+use Rattle.xd_frame.specs.Message.{MessageView}
 use Rattle.xd_link.specs.Source.{Supply, Gave}
 use Rattle.xd_journal.specs.declared.entry.Cause.{Cause}
 use Rattle.xd_links.specs.Runs.{LinkRead}
@@ -15,15 +15,15 @@ use Rattle.xd_link.specs.Spring.{Spring}
 use Rattle.xd_reader.specs.Reads.{StopsAt}
 use Rattle.xd_remote.specs.News.{all_messages, all_news}
 use Rattle.xd_group.specs.ToLink.{has_left, to_link}
-use Rattle.xd_group.specs.Sent.{SentAs}
+use Rattle.xd_group.specs.Sent.{EndsWhole, HandedOn, SentAs}
 use Rattle.xd_group.specs.Heard.{is_of_link, of_link}
 use Rattle.std.proofs.lemmas.List.Elements.{filter-append}
 use Rattle.xd_group.specs.Ends.{EndsSo}
-use Rattle.xd_group.specs.Heard.{HeardSo, IsCause, plain_cause}
-use Rattle.xd_group.specs.LinkRun.{IsGone, LinkRun, link_of, ReadToStop, SentSo, is_garbled}
+use Rattle.xd_group.specs.Heard.{HeardSo, cause_by, is_send_fault, plain_cause}
+use Rattle.xd_group.specs.LinkRun.{IsGone, LinkRun, link_of, ReadToStop, SentAll, SentPart, SentSo, is_garbled}
 use Rattle.xd_group.specs.Pages.{Page}
 use Rattle.xd_remote.specs.declared.gateway.Gateway.{Gateway}
-use Rattle.xd_group.proofs.Sending.{all_is_part}
+use Rattle.xd_group.proofs.PostFacts.{fault_is}
 
 -- messages and then an end come apart in one way
 apart : (put ms : List MessageView) (why done : LinkStop) (rest : List LinkNews) → map Message put ++ End done ∷ [] ≡ map Message ms ++ End why ∷ rest → (put ≡ ms) × (done ≡ why)
@@ -56,14 +56,21 @@ plainly_gone (stop.BadGreeting b) bytes s0 s1 writes other c = ap is_garbled c.0
 plainly_gone stop.ReadFault bytes s0 s1 writes other c = over_zero s0.faults s1.faults c
 plainly_gone stop.OutOfMemory bytes s0 s1 writes other c = absurd (other refl)
 
-is_gone : (why : LinkStop) (broken : Bool) (c : Cause) (bytes : List ℕ) (s0 s1 : Spring) (writes : ℕ) → (why ≡ stop.OutOfMemory → ⊥) → StopsAt why true bytes s0 s1 → (broken ≡ true → 0 < writes) → IsCause why broken c → IsGone c bytes s1 writes
-is_gone why broken c bytes s0 s1 writes other at w (inl e) = subst (λ (x : Cause). IsGone x bytes s1 writes) (sym e) (plainly_gone why bytes s0 s1 writes other at)
-is_gone why broken c bytes s0 s1 writes other at w (inr p) = subst (λ (x : Cause). IsGone x bytes s1 writes) (sym p.0) (w p.1)
+is_gone : (why : LinkStop) (failed : Bool) (bytes : List ℕ) (s0 s1 : Spring) (writes : ℕ) → (why ≡ stop.OutOfMemory → ⊥) → StopsAt why true bytes s0 s1 → (failed ≡ true → 0 < writes) → IsGone (cause_by why failed) bytes s1 writes
+is_gone why true bytes s0 s1 writes other at w = w refl
+is_gone why false bytes s0 s1 writes other at w = plainly_gone why bytes s0 s1 writes other at
 
-sent_so : (broken : Bool) (sunk : Option Sunk) (writes : ℕ) (ms : List MessageView) → SentAs broken true sunk writes ms → SentSo ms writes sunk
-sent_so true sunk writes ms s = inr (s.part refl)
-sent_so false sunk zero ms s = inl (refl, s.whole refl)
-sent_so false sunk (suc n) ms s = inr (omega arith, all_is_part sunk ms true (s.whole refl))
+closed_so : (broken : Bool) (s : Sunk) (writes : ℕ) (ms : List MessageView) → SentAs broken true (Some s) writes ms → writes ≡ 0 → s.closed ≡ true
+closed_so true s writes ms sent z = absurd (omega (arith, (sent.part refl).0, z))
+closed_so false s writes ms sent z = ap (λ (t : Sunk). t.closed) (sent.whole refl)
+
+sent_so : (why : Cause) (broken : Bool) (sunk : Option Sunk) (writes : ℕ) (ms : List MessageView) → (is_send_fault why ≡ true → broken ≡ true) → SentAs broken true sunk writes ms → (is_send_fault why ≡ false → IfSome sunk (HandedOn ms)) → IfSome sunk (SentSo why ms writes)
+sent_so why broken None writes ms lost sent handed = tt
+sent_so why broken (Some s) writes ms lost sent handed = by (is_send_fault why) refl
+  where
+    by : (fault : Bool) → is_send_fault why ≡ fault → MatchBool fault (SentPart ms s) (SentAll ms writes s)
+    by true e = (sent.part (lost e)).1
+    by false e = record { handed_on = handed e; closed = closed_so broken s writes ms sent }
 
 given_so : (bytes : List ℕ) (old new : Option Supply) → IfSome old (λ s. s.given ≡ []) → Gave bytes old new → IfSome new (λ s. s.given ≡ bytes)
 given_so bytes None new fresh g = subst (λ (o : Option Supply). IfSome o (λ s. s.given ≡ bytes)) (sym g.0) tt
@@ -84,20 +91,21 @@ link_run now sunk writes p read ends =
     let other = λ (e : all.stop ≡ stop.OutOfMemory). t.no_want (sym same.1 ∙ e) in
     let at = all.reads.cause in
     let bytes = all.reads.bytes in
+    let why = cause_by t.why t.failed in
     record {
       bytes = bytes;
+      why = why;
       given = given_so bytes read.first.supply now.supply read.fresh all.reads.gave;
       heard =
           record {
             all = all_news ends.heard;
-            why = t.cause;
             are = record { heard = ends.heard; are = ends.are; messages_are = sym same.0 ∙ all.reads.all; news_are = refl };
-            gone = is_gone t.why ends.broken t.cause bytes read.first now writes t.no_want (subst (λ (w : LinkStop). StopsAt w true bytes read.first now) same.1 at) (λ b. (ends.sent.part b).0) t.is_cause;
             later = p.late;
             first = sym t.said_are;
           };
+      gone = is_gone t.why t.failed bytes read.first now writes t.no_want (subst (λ (w : LinkStop). StopsAt w true bytes read.first now) same.1 at) (λ f. (ends.sent.part (t.still f)).0);
       read = to_stop all.stop bytes read.first now other at;
-      sent = sent_so ends.broken sunk writes (to_link p.suite p.mode p.told p.said) ends.sent;
+      sent = sent_so why ends.broken sunk writes (to_link p.suite p.mode p.told p.said) (λ f. t.still (sym (fault_is t.why t.failed) ∙ f)) ends.sent (ends.handed (all_news ends.heard) why t.said_are);
     }
 
 or_true : (b : Bool) → (b || true) ≡ true
@@ -106,8 +114,8 @@ or_true false = refl
 
 module _ {K : Type 0} where
   -- a post that is known to have ended
-  pub ends_so : (g : Gateway K) (p : Page) (ended lost closed : Bool) (sunk : Option Sunk) (writes : ℕ) → ended ≡ true → closed ≡ (has_left p.said || ended) → HeardSo g ended lost p.taken (p.said ++ p.late) → SentAs lost closed sunk writes (to_link p.suite p.mode p.told p.said)
+  pub ends_so : (g : Gateway K) (p : Page) (ended lost closed : Bool) (sunk : Option Sunk) (writes : ℕ) → ended ≡ true → closed ≡ (has_left p.said || ended) → HeardSo g ended lost p.taken (p.said ++ p.late) → SentAs lost closed sunk writes (to_link p.suite p.mode p.told p.said) → EndsWhole (p.said ++ p.late) (to_link p.suite p.mode p.told p.said) sunk
       → EndsSo p sunk writes
-  ends_so g p false lost closed sunk writes e c h s = absurd (cc e)
-  ends_so g p true lost closed sunk writes e c h s =
-      record { broken = lost; heard = h.heard; are = h.stands.are; tells = h.tells; sent = subst (λ (b : Bool). SentAs lost b sunk writes (to_link p.suite p.mode p.told p.said)) (c ∙ or_true (has_left p.said)) s }
+  ends_so g p false lost closed sunk writes e c h s w = absurd (cc e)
+  ends_so g p true lost closed sunk writes e c h s w =
+      record { broken = lost; heard = h.heard; are = h.stands.are; tells = h.tells; sent = subst (λ (b : Bool). SentAs lost b sunk writes (to_link p.suite p.mode p.told p.said)) (c ∙ or_true (has_left p.said)) s; handed = w }

@@ -9,7 +9,7 @@ use Rattle.xd_edge.specs.Sink.{Sunk, with_bytes, with_flush, with_close, Printed
 use Rattle.xd_frame.specs.Message.{MessageView, frame, frames}
 use Rattle.xd_frame.specs.Writing.{CountBehind, WritesMore}
 use Rattle.xd_remote.specs.Line.{ClosedBy, ClosesMore}
-use Rattle.xd_group.specs.Sent.{SentAs}
+use Rattle.xd_group.specs.Sent.{HandedOn, SentAs}
 
 open_frames : (ms : List MessageView) (m : MessageView) → frames (ms ++ m ∷ []) ≡ frames ms ++ frame m
 open_frames ms m = flat_map-append frame ms (m ∷ []) ∙ ap (λ (l : List ℕ). frames ms ++ l) (append-nil (frame m))
@@ -22,6 +22,21 @@ over_zero f0 (suc n) r = omega arith
 pub all_is_part : (sunk : Option Sunk) (ms : List MessageView) (closed : Bool) → IfSome sunk (λ s. s ≡ record { bytes = frames ms; flushed = length (frames ms); closed = closed }) → IfSome sunk (λ s. s.bytes ≡ take (length s.bytes) (frames ms))
 all_is_part None ms closed e = tt
 all_is_part (Some s) ms closed e = let is : s.bytes ≡ frames ms = ap (λ (t : Sunk). t.bytes) e in is ∙ (sym (take-length (frames ms)) ∙ ap (λ (l : List ℕ). take (length l) (frames ms)) (sym is))
+
+-- and it was handed on
+pub all_handed : (sunk : Option Sunk) (ms : List MessageView) (closed : Bool) → IfSome sunk (λ s. s ≡ record { bytes = frames ms; flushed = length (frames ms); closed = closed }) → IfSome sunk (HandedOn ms)
+all_handed None ms closed e = tt
+all_handed (Some s) ms closed e = record { bytes = ap (λ (t : Sunk). t.bytes) e; flushed = ap (λ (t : Sunk). t.flushed) e }
+
+closed_handed : (s0 s1 : Option Sunk) (ms : List MessageView) → s1 ≡ option_map with_close s0 → IfSome s0 (HandedOn ms) → IfSome s1 (HandedOn ms)
+closed_handed None s1 ms e h = subst (λ (o : Option Sunk). IfSome o (HandedOn ms)) (sym e) tt
+closed_handed (Some s) s1 ms e h = subst (λ (o : Option Sunk). IfSome o (HandedOn ms)) (sym e) (record { bytes = h.bytes; flushed = h.flushed })
+
+-- a close leaves it so
+pub shut_handed : (b0 b1 : Bool) (s0 s1 : Option Sunk) (ms : List MessageView) → ClosedBy b0 b1 s0 s1 → IfSome s0 (HandedOn ms) → IfSome s1 (HandedOn ms)
+shut_handed true b1 s0 s1 ms c h = subst (λ (o : Option Sunk). IfSome o (HandedOn ms)) (sym c.1) h
+shut_handed false true s0 s1 ms c h = subst (λ (o : Option Sunk). IfSome o (HandedOn ms)) (sym c) h
+shut_handed false false s0 s1 ms c h = closed_handed s0 s1 ms c h
 
 -- with these bytes, handed on, the sink took all
 whole_more : (s0 s1 : Option Sunk) (all more : List ℕ) (closed : Bool) → IfSome s0 (λ s. s ≡ record { bytes = all; flushed = length all; closed = closed }) → Printed more s0 s1

@@ -12,7 +12,7 @@ use Rattle.xd_link.specs.declared.place.Place.{Place}
 use Rattle.xd_link.specs.declared.starter.StartRun.{StartRun}
 use Rattle.xd_drive.specs.Listed.{starts_of}
 use Rattle.xd_drive.specs.Performing.{is_start}
-use Rattle.xd_group.specs.Children.{Asked, TellsLinks, Told, all_asked, all_buried, asked_of, buried_child, told_of, cut_by, fresh_child, killed_child, starts_told}
+use Rattle.xd_group.specs.Children.{Asked, TellsLinks, Told, all_asked, all_buried, asked_of, told_of, cut_by, fresh_child, killed_child, starts_told}
 use Rattle.xd_group.specs.Fates.{has_link}
 use Rattle.xd_group.specs.InStep.{InStep, all_started, start_told}
 use Rattle.xd_group.specs.declared.child.Child.{Child}

@@ -1,5 +1,5 @@
 -- What was said for the items that were taken of a link.
-use Rattle.std.specs.Prelude.{◌≡◌, ◌⊎◌, Bool, true, false, List, [], ◌∷◌, ◌++◌, Option, None, map, filter}
+use Rattle.std.specs.Prelude.{◌≡◌, Bool, true, false, List, [], ◌∷◌, ◌++◌, Option, Some, None, map, filter}
 use Rattle.xd_journal.specs.declared.entry.Cause.{Cause}
 use Rattle.xd_journal.specs.declared.entry.Cause.TheVariants as cause
 use Rattle.xd_journal.specs.declared.news.What.{What}
@@ -21,13 +21,28 @@ plain_cause (stop.BadGreeting b) = cause.Garbled
 plain_cause stop.ReadFault = cause.ReadFault
 plain_cause stop.OutOfMemory = cause.ReadFault
 
--- a write that failed before stands over the stop
-abbrev pub IsCause : LinkStop → Bool → Cause → Type 0
-IsCause why broken c = (c ≡ plain_cause why) ⊎ ((c ≡ cause.SendFault) × (broken ≡ true))
+-- the cause by which a link is said to be gone: a write that had failed when its end was taken stands over the stop
+abbrev pub cause_by : LinkStop → Bool → Cause
+cause_by why true = cause.SendFault
+cause_by why false = plain_cause why
+
+-- the cause is that a send failed
+abbrev pub is_send_fault : Cause → Bool
+is_send_fault cause.SendFault = true
+is_send_fault _ = false
+
+-- a link is said to be gone by that cause
+abbrev pub says_send_fault : What → Bool
+says_send_fault (Gone c) = is_send_fault c
+says_send_fault _ = false
 
 -- a link that had ended stays so, and has no more news
 abbrev pub StaysEnded : Bool → Bool → Option What → Type 0
 StaysEnded was ended news = was ≡ true → (news ≡ None) × (ended ≡ true)
+
+-- a link that ends now is said to be gone, by whether a write had failed
+abbrev pub EndsNow : Bool → Bool → Bool → Option What → Type 0
+EndsNow was ended lost news = was ≡ false → ended ≡ true → (why : LinkStop) × (news ≡ Some (Gone (cause_by why lost)))
 
 -- what a reader puts; the other items come from programs
 abbrev pub is_of_link : LinkNews → Bool
@@ -44,15 +59,16 @@ pub record TellsOpen (h : List Heard) (taken : List LinkNews) (said : List What)
   pub taken_are : of_link taken ≡ map Message (all_messages h)
   pub said_are : said ≡ all_news h
 
--- The items are these messages, an end, and maybe more; what was said are the messages' news and that the link is gone.
+-- The items are these messages, an end, and maybe more; what was said are the messages' news and that the link is gone, by
+-- whether a write had failed when its end was taken.
 pub record TellsEnded (h : List Heard) (broken : Bool) (taken : List LinkNews) (said : List What) : Type 0 where
   pub why : LinkStop
-  pub cause : Cause
+  pub failed : Bool
   pub later : List LinkNews
-  pub is_cause : IsCause why broken cause
+  pub still : failed ≡ true → broken ≡ true
   pub no_want : why ≡ stop.OutOfMemory → ⊥
   pub taken_are : of_link taken ≡ map Message (all_messages h) ++ End why ∷ later
-  pub said_are : said ≡ all_news h ++ Gone cause ∷ []
+  pub said_are : said ≡ all_news h ++ Gone (cause_by why failed) ∷ []
 
 abbrev pub Tells : Bool → List Heard → Bool → List LinkNews → List What → Type 0
 Tells false h broken taken said = TellsOpen h taken said

@@ -1,5 +1,5 @@
 -- The run of one link of a worker, from its start to its end.
-use Rattle.std.specs.Prelude.{◌≡◌, ◌<◌, ◌⊎◌, ℕ, Bool, true, false, List, [], ◌∷◌, ◌++◌, take, length, Option, IfSome}
+use Rattle.std.specs.Prelude.{◌≡◌, ◌<◌, ◌⊎◌, ℕ, Bool, true, false, List, [], ◌∷◌, ◌++◌, take, length, Option, IfSome, MatchBool}
 use Rattle.xd_edge.specs.declared.mode.ModeKind.{ModeKind}
 use Rattle.xd_edge.specs.Sink.{Sunk}
 use Rattle.xd_frame.specs.Message.{MessageView, frames}
@@ -13,6 +13,8 @@ use Rattle.xd_reader.specs.declared.news.LinkStop.{LinkStop}
 use Rattle.xd_reader.specs.declared.news.LinkStop.TheVariants as stop
 use Rattle.xd_reader.specs.Judged.{link_messages, link_stop}
 use Rattle.xd_remote.specs.News.{IsNewsOf}
+use Rattle.xd_group.specs.Heard.{is_send_fault}
+use Rattle.xd_group.specs.Sent.{HandedOn}
 use Rattle.xd_group.specs.ToLink.{to_link}
 
 -- the bytes have a header that is refused, or another first byte than the greeting
@@ -31,11 +33,9 @@ IsGone cause.SendFault bytes s writes = 0 < writes
 IsGone cause.Breach bytes s writes = ⊥
 
 -- The news are first ones of those of the link's messages, with the link's end behind them.
-pub record HeardAll (news : List What) (bytes : List ℕ) (s : Spring) (writes : ℕ) : Type 0 where
+pub record HeardAll (news : List What) (bytes : List ℕ) (why : Cause) : Type 0 where
   pub all : List What
-  pub why : Cause
   pub are : IsNewsOf (link_messages true bytes) all
-  pub gone : IsGone why bytes s writes
   pub later : List What
   pub first : all ++ Gone why ∷ [] ≡ news ++ later
 
@@ -43,16 +43,18 @@ pub record HeardAll (news : List What) (bytes : List ℕ) (s : Spring) (writes :
 abbrev pub ReadToStop : List ℕ → Spring → Type 0
 ReadToStop bytes s = ReadToEnd s ⊎ ((is_garbled (link_stop true bytes) ≡ true) ⊎ (0 < s.faults))
 
--- What the sink took: all messages to the worker, handed on, and then it was closed; or a first part of them, where it
--- failed.
-abbrev pub SentAll : List MessageView → Option Sunk → Type 0
-SentAll messages sunk = IfSome sunk (λ s. s ≡ record { bytes = frames messages; flushed = length (frames messages); closed = true })
+-- The sink took a first part of the messages.
+abbrev pub SentPart : List MessageView → Sunk → Type 0
+SentPart messages s = s.bytes ≡ take (length s.bytes) (frames messages)
 
-abbrev pub SentPart : List MessageView → Option Sunk → Type 0
-SentPart messages sunk = IfSome sunk (λ s. s.bytes ≡ take (length s.bytes) (frames messages))
+-- It took all of them, handed them on, and was then closed, unless its count rose.
+pub record SentAll (messages : List MessageView) (writes : ℕ) (s : Sunk) : Type 0 where
+  pub handed_on : HandedOn messages s
+  pub closed : writes ≡ 0 → s.closed ≡ true
 
-abbrev pub SentSo : List MessageView → ℕ → Option Sunk → Type 0
-SentSo messages writes sunk = ((writes ≡ 0) × SentAll messages sunk) ⊎ ((0 < writes) × SentPart messages sunk)
+-- What the sink took of the messages to the worker, by the cause of the link's end: all of them, unless a send failed.
+abbrev pub SentSo : Cause → List MessageView → ℕ → Sunk → Type 0
+SentSo why messages writes s = MatchBool (is_send_fault why) (SentPart messages s) (SentAll messages writes s)
 
 -- What is seen of a returned link: its source, its sink and their counts.
 pub record Link : Type 0 where
@@ -66,7 +68,9 @@ link_of s sunk writes = record { spring = s; sunk = sunk; writes = writes }
 -- A link of a worker that gave these news and took these orders.
 pub record LinkRun (suite : List ℕ) (mode : ModeKind) (news : List What) (orders : List Entry) (l : Link) : Type 0 where
   pub bytes : List ℕ
+  pub why : Cause
   pub given : IfSome l.spring.supply (λ s. s.given ≡ bytes)
-  pub heard : HeardAll news bytes l.spring l.writes
+  pub heard : HeardAll news bytes why
+  pub gone : IsGone why bytes l.spring l.writes
   pub read : ReadToStop bytes l.spring
-  pub sent : SentSo (to_link suite mode orders news) l.writes l.sunk
+  pub sent : IfSome l.sunk (SentSo why (to_link suite mode orders news) l.writes)

@@ -1,8 +1,7 @@
 // The hub over the links that a starter starts and a crew reads.
 ghost use Rattle.std.specs.Prelude.{◌≡◌, ◌≤◌, ◌<◌, ◌+◌, ◌∷◌, ◌++◌, [], ℕ, Some, All, true, false, take, length, is_some, vec_len, IfOk, IfSome, IfNone, OnOk, OnErr, List, Option, Bool, map, option_map, slice_get};
 ghost use Rattle.std.specs.Str.{encode_utf8_all};
-ghost use Rattle.std.specs.Bool.{then_some};
-ghost use Rattle.std.specs.List.{list_all};
+ghost use Rattle.std.specs.List.{list_all, list_any};
 ghost use Rattle.xd_journal.specs.declared.entry.Entry.TheVariants.{Start, Kill};
 ghost use Rattle.xd_link.specs.Spring.{spring};
 ghost use Rattle.xd_drive.specs.Calls.{is_order};
@@ -22,6 +21,8 @@ ghost use Rattle.xd_group.specs.Children.{all_asked, asked_of, is_buried, is_ove
 ghost use Rattle.xd_group.specs.Fates.{EndedFrom, KeptFrom, has_link, is_linked, is_refused, is_unlinked, workers_with};
 ghost use Rattle.xd_edge.specs.Faults.{RoseBy};
 ghost use Rattle.xd_group.specs.Few.{RoseFor, count_with};
+ghost use Rattle.xd_group.specs.Heard.{says_send_fault};
+ghost use Rattle.xd_group.specs.declared.fate.Fate.TheVariants.{Linked};
 ghost use Rattle.xd_group.specs.Unsaid.{SaidUnlinked};
 ghost use Rattle.xd_group.specs.InStep.{InStep, all_started};
 ghost use Rattle.xd_group.specs.Returned.{RanSo, end_told};
@@ -32,8 +33,7 @@ ghost use Rattle.xd_group.specs.Tells.{IsStarted, marks_told, workers_started};
 
 use crate::children::{Children, Opened};
 use crate::diary::Diary;
-use crate::fate::Fate;
-use crate::group::{Ended, Group, LinkEnd, Step};
+use crate::group::{Ended, Group, LinkEnd, Step, cut_of};
 use std::alloc::Global;
 use std::snapshot::Snapshot;
 use std::sync::Wait;
@@ -53,16 +53,6 @@ pub struct GatewayHub<St: Starter, C: Crew<Reader<St::Src>>> {
     pub group: Group<St::Src, St::Snk, C>,
     ghost in_step: { group.is_whole ≡ true → ∥ InStep places.items (starts_told (St.begun children.first.value)) (starts_told (St.begun children.starter)) children.children.items (noted group.diary.calls) group.diary.fates.items ∥₁ },
     ghost kills: { group.is_whole ≡ true → ∥ KilledSo children.children.items (noted group.diary.calls) group.diary.workers.items group.diary.fates.items (losses_of group.posts.items) ∥₁ },
-}
-
-// The number, where the start of it was refused.
-fn refused_at(fate: Fate, number: usize) -> Option<usize>
-    ensures { result ≡ then_some (is_refused fate) number }
-{
-    match fate {
-        Fate::Refused => Some(number),
-        Fate::Unlinked | Fate::Linked => None,
-    }
 }
 
 impl<St: Starter, C: Crew<Reader<St::Src>>> GatewayHub<St, C> {
@@ -180,8 +170,9 @@ impl<St: Starter, C: Crew<Reader<St::Src>>> GatewayHub<St, C> {
         ensures killed { (suite : List ℕ) (mode : ModeKind) (taken : List (Option (List LinkNews))) (calls : List Entry) (given : List News) (pages : List (Option Page)) (lost : List Bool)
             → ∥ Kept suite mode taken calls given self.old.group.diary.workers.items pages ∥₁ → map is_some self.old.children.children.items ≡ map has_link self.old.group.diary.fates.items → ∥ KilledSo self.old.children.children.items calls self.old.group.diary.workers.items self.old.group.diary.fates.items lost ∥₁
             → (slice_get lost number ≡ Some true → slice_get (losses_of self.old.group.posts.items) number ≡ Some true)
-            → All (λ l. ∥ EndKilledSo calls (workers_with is_refused self.old.group.diary.workers.items self.old.group.diary.fates.items) l.worker l.killed (St.Snk.faults l.sink) ∥₁) ends.old.items
-            → OnOk result (All (λ l. ∥ EndKilledSo calls (workers_with is_refused self.old.group.diary.workers.items self.old.group.diary.fates.items) l.worker l.killed (St.Snk.faults l.sink) ∥₁) ends.new.items) }
+            → ((w : ℕ) → slice_get self.old.group.diary.workers.items number ≡ Some w → slice_get self.old.group.diary.fates.items number ≡ Some Linked → list_any says_send_fault (said_by w given) ≡ true → slice_get lost number ≡ Some true)
+            → All (λ l. ∥ EndKilledSo calls given (workers_with is_refused self.old.group.diary.workers.items self.old.group.diary.fates.items) l.worker l.killed (St.Snk.faults l.sink) ∥₁) ends.old.items
+            → OnOk result (All (λ l. ∥ EndKilledSo calls given (workers_with is_refused self.old.group.diary.workers.items self.old.group.diary.fates.items) l.worker l.killed (St.Snk.faults l.sink) ∥₁) ends.new.items) }
         ensures kills { (calls : List Entry) (lost : List Bool) → ∥ KilledSo self.old.children.children.items calls self.old.group.diary.workers.items self.old.group.diary.fates.items lost ∥₁
             → OnOk result (∥ KilledSo self.new.children.children.items calls self.old.group.diary.workers.items self.old.group.diary.fates.items lost ∥₁) }
         ensures others { OnOk result ((k : ℕ) → number < k → slice_get (losses_of self.old.group.posts.items) k ≡ Some true → slice_get (losses_of self.new.group.posts.items) k ≡ Some true) }
@@ -224,7 +215,7 @@ impl<St: Starter, C: Crew<Reader<St::Src>>> GatewayHub<St, C> {
           starts = b.starts ++ all_started self.old.places.items (starts_of (noted self.old.group.diary.calls)) self.old.group.diary.fates.items;
           links = map asked_of b.links ++ map (λ l. end_told l.killed) ends.items;
         }) (St.begun self.old.children.first.value)) }
-        ensures killed { IfOk result (λ ends. All (λ l. ∥ EndKilledSo (noted self.old.group.diary.calls) (workers_with is_refused self.old.group.diary.workers.items self.old.group.diary.fates.items) l.worker l.killed (St.Snk.faults l.sink) ∥₁) ends.items) }
+        ensures killed { IfOk result (λ ends. All (λ l. ∥ EndKilledSo (noted self.old.group.diary.calls) (noted self.old.group.diary.given) (workers_with is_refused self.old.group.diary.workers.items self.old.group.diary.fates.items) l.worker l.killed (St.Snk.faults l.sink) ∥₁) ends.items) }
         ensures unlinked { OnOk result ((w : ℕ) → is_among w (workers_with is_linked self.old.group.diary.workers.items self.old.group.diary.fates.items) ≡ false → ∥ SaidUnlinked (noted self.old.group.diary.given) w ∥₁) }
         ensures few_refused { OnOk result (RoseFor (count_with is_refused self.old.group.diary.fates.items) (C.faults self.old.group.first.value) (C.faults self.new.group.links.crew)) }
         ensures few_unlinked { OnOk result (RoseBy (count_with is_unlinked self.old.group.diary.fates.items) (St.faults self.old.children.first.value) (St.faults self.new.children.starter)) }
@@ -279,8 +270,8 @@ impl<St: Starter, C: Crew<Reader<St::Src>>> Hub for GatewayHub<St, C> {
         match self.children.start(alloc, &self.places[slot as usize])? {
             Some(opened) => {
                 let Opened { source, sink } = opened;
-                let fate = self.group.open(alloc, worker, slot, source, sink)?;
-                self.children.cut(refused_at(fate, number));
+                let seat = self.group.open(alloc, worker, slot, source, sink)?;
+                self.children.cut(cut_of(seat.is_cut, number));
                 Ok(())
             }
             None => {

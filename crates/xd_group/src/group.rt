@@ -70,8 +70,15 @@ pub struct Step {
     pub cut: Option<usize>,
 }
 
-// The number of the link, where it is to be killed.
-fn cut_of(is_cut: bool, number: usize) -> Option<usize>
+/// What became of a start that has a link, and whether its child is to be killed.
+#[derive(Clone, Copy, Debug)]
+pub(crate) struct Seat {
+    pub fate: Fate,
+    pub is_cut: bool,
+}
+
+/// The number of the link, where it is to be killed.
+pub(crate) fn cut_of(is_cut: bool, number: usize) -> Option<usize>
     ensures { result ≡ then_some is_cut number }
 {
     if is_cut { Some(number) } else { None }
@@ -94,7 +101,7 @@ impl<S: Source + Drop, N: Sink + Drop, C: Crew<Reader<S>>> Group<S, N, C> {
     ghost use Rattle.xd_group.specs.Unsaid.{SaysNext};
     ghost use Rattle.xd_group.specs.Unused.{Unused};
     ghost use Rattle.xd_group.specs.Late.{Late, RanAt, Settled, settled_at};
-    ghost use Rattle.xd_group.specs.Kills.{KeepsLost, LostAt};
+    ghost use Rattle.xd_group.specs.Kills.{CutsLast, KeepsLost, Loses};
     ghost use Rattle.xd_group.specs.LinkRun.{link_of};
     ghost use Rattle.xd_group.specs.PostView.{ends_of, has_ended, losses_of};
     ghost use Rattle.xd_link.specs.Spring.{spring};
@@ -114,8 +121,7 @@ impl<S: Source + Drop, N: Sink + Drop, C: Crew<Reader<S>>> Group<S, N, C> {
         ensures starts { (self.new.diary.workers ≡ self.old.diary.workers) × (self.new.diary.fates ≡ self.old.diary.fates) }
         ensures whole { OnOk result (self.new.is_whole ≡ self.old.is_whole) }
         ensures over { OnErr result (self.new.is_whole ≡ false) }
-        ensures keeps { OnOk result (KeepsLost (losses_of self.old.posts.items) (losses_of self.new.posts.items)) }
-        ensures cut { IfOk result (λ cut. LostAt cut (losses_of self.new.posts.items)) }
+        ensures cut { IfOk result (λ cut. Loses cut (losses_of self.old.posts.items) (losses_of self.new.posts.items)) }
         ensures made { (self.new.suite ≡ self.old.suite) × (self.new.mode ≡ self.old.mode) × (self.new.first ≡ self.old.first) }
     {
         if !self.is_whole {
@@ -143,8 +149,7 @@ impl<S: Source + Drop, N: Sink + Drop, C: Crew<Reader<S>>> Group<S, N, C> {
         ensures starts { (self.new.diary.workers ≡ self.old.diary.workers) × (self.new.diary.fates ≡ self.old.diary.fates) }
         ensures whole { OnOk result (self.new.is_whole ≡ self.old.is_whole) }
         ensures over { OnErr result (self.new.is_whole ≡ false) }
-        ensures keeps { OnOk result (KeepsLost (losses_of self.old.posts.items) (losses_of self.new.posts.items)) }
-        ensures cut { IfOk result (λ r. LostAt r.cut (losses_of self.new.posts.items)) }
+        ensures cut { IfOk result (λ r. Loses r.cut (losses_of self.old.posts.items) (losses_of self.new.posts.items)) }
         ensures made { (self.new.suite ≡ self.old.suite) × (self.new.mode ≡ self.old.mode) × (self.new.first ≡ self.old.first) }
     {
         if !self.is_whole {
@@ -180,7 +185,8 @@ impl<S: Source + Drop, N: Sink + Drop, C: Crew<Reader<S>>> Group<S, N, C> {
         }
     }
 
-    // Calls the worker where its link is read, and keeps the link where its source came back.
+    // Calls the worker where its link is read, and keeps the link where its source came back. The link is to be killed where
+    // nobody reads it, and where the call could not be written.
     fn seat(
         posts: &mut Vec<Option<Post<N>>>,
         spares: &mut Vec<Option<Spare<S, N>>>,
@@ -189,33 +195,39 @@ impl<S: Source + Drop, N: Sink + Drop, C: Crew<Reader<S>>> Group<S, N, C> {
         sink: N,
         suite: &Text,
         mode: ModeKind,
-    ) -> Result<Fate, OutOfMemory>
+    ) -> Result<Seat, OutOfMemory>
         requires nothing_given { IfSome back (λ source. IfSome (S.supply source) (λ s. s.given ≡ [])) }
         requires no_reads { IfSome back (λ source. S.faults source ≡ 0) }
         requires nothing_taken { IfSome (N.sunk sink) (λ s. s ≡ unused) }
         requires no_writes { N.faults sink ≡ 0 }
         requires short { length (encode_utf8_all suite.now) ≤ 65536 }
-        ensures linked { IfOk result (λ fate. is_linked fate ≡ is_none back) }
-        ensures started { IfOk result (λ fate. has_link fate ≡ true) }
+        ensures linked { IfOk result (λ r. is_linked r.fate ≡ is_none back) }
+        ensures started { IfOk result (λ r. has_link r.fate ≡ true) }
         ensures pages { OnOk result (pages_of posts.new.items ≡ pages_of posts.old.items ++ page_opened suite.now mode (is_none back) ∷ []) }
-        ensures keeps { OnOk result (KeepsLost (losses_of posts.old.items) (losses_of posts.new.items)) }
-        ensures kept { IfOk result (λ fate. map is_some spares.new.items ≡ map is_some spares.old.items ++ is_refused fate ∷ []) }
+        ensures cut { IfOk result (λ r. CutsLast r.fate r.is_cut (losses_of posts.old.items) (losses_of posts.new.items)) }
+        ensures kept { IfOk result (λ r. map is_some spares.new.items ≡ map is_some spares.old.items ++ is_refused r.fate ∷ []) }
     {
         match back {
             None => {
                 keep(spares, None)?;
-                push_post(posts, alloc, sink, suite, mode)?;
-                Ok(Fate::Linked)
+                let is_cut = push_post(posts, alloc, sink, suite, mode)?;
+                Ok(Seat {
+                    fate: Fate::Linked,
+                    is_cut,
+                })
             }
             Some(source) => {
                 keep(spares, Some(Spare { source, sink }))?;
                 push_none(posts)?;
-                Ok(Fate::Refused)
+                Ok(Seat {
+                    fate: Fate::Refused,
+                    is_cut: true,
+                })
             }
         }
     }
 
-    /// Starts a worker at a link that was started and not used. Says whether the link is read.
+    /// Starts a worker at a link that was started and not used. Says whether the link is read, and whether it is to be killed.
     pub(crate) fn open(
         &mut self,
         alloc: Global,
@@ -223,7 +235,7 @@ impl<S: Source + Drop, N: Sink + Drop, C: Crew<Reader<S>>> Group<S, N, C> {
         slot: u32,
         source: S,
         sink: N,
-    ) -> Result<Fate, OutOfMemory>
+    ) -> Result<Seat, OutOfMemory>
         requires new { was_started worker (noted self.old.diary.calls) ≡ false }
         requires nothing_given { IfSome (S.supply source) (λ s. s.given ≡ []) }
         requires no_reads { S.faults source ≡ 0 }
@@ -232,11 +244,11 @@ impl<S: Source + Drop, N: Sink + Drop, C: Crew<Reader<S>>> Group<S, N, C> {
         ensures called { OnOk result (noted self.new.diary.calls ≡ noted self.old.diary.calls ++ Start worker slot ∷ []) }
         ensures given { OnOk result (noted self.new.diary.given ≡ noted self.old.diary.given) }
         ensures workers { OnOk result (self.new.diary.workers.items ≡ self.old.diary.workers.items ++ worker ∷ []) }
-        ensures fates { IfOk result (λ fate. self.new.diary.fates.items ≡ self.old.diary.fates.items ++ fate ∷ []) }
-        ensures started { IfOk result (λ fate. has_link fate ≡ true) }
+        ensures fates { IfOk result (λ r. self.new.diary.fates.items ≡ self.old.diary.fates.items ++ r.fate ∷ []) }
+        ensures started { IfOk result (λ r. has_link r.fate ≡ true) }
         ensures whole { OnOk result (self.new.is_whole ≡ self.old.is_whole) }
         ensures over { OnErr result (self.new.is_whole ≡ false) }
-        ensures keeps { OnOk result (KeepsLost (losses_of self.old.posts.items) (losses_of self.new.posts.items)) }
+        ensures cut { IfOk result (λ r. CutsLast r.fate r.is_cut (losses_of self.old.posts.items) (losses_of self.new.posts.items)) }
         ensures made { (self.new.suite ≡ self.old.suite) × (self.new.mode ≡ self.old.mode) × (self.new.first ≡ self.old.first) }
     {
         let was_whole = self.is_whole;
@@ -245,7 +257,7 @@ impl<S: Source + Drop, N: Sink + Drop, C: Crew<Reader<S>>> Group<S, N, C> {
             return Err(OutOfMemory);
         };
         let back = Self::read(&mut self.links, source)?;
-        let fate = Self::seat(
+        let seat = Self::seat(
             &mut self.posts,
             &mut self.spares,
             alloc,
@@ -254,10 +266,10 @@ impl<S: Source + Drop, N: Sink + Drop, C: Crew<Reader<S>>> Group<S, N, C> {
             &self.suite,
             self.mode,
         )?;
-        self.diary.note_start(worker, slot, fate)?;
-        self.diary.note_unlinked(number, fate)?;
+        self.diary.note_start(worker, slot, seat.fate)?;
+        self.diary.note_unlinked(number, seat.fate)?;
         self.is_whole = was_whole;
-        Ok(fate)
+        Ok(seat)
     }
 
     /// Starts a worker whose link was not started.
@@ -269,7 +281,7 @@ impl<S: Source + Drop, N: Sink + Drop, C: Crew<Reader<S>>> Group<S, N, C> {
         ensures fates { OnOk result (self.new.diary.fates.items ≡ self.old.diary.fates.items ++ Unlinked ∷ []) }
         ensures whole { OnOk result (self.new.is_whole ≡ self.old.is_whole) }
         ensures over { OnErr result (self.new.is_whole ≡ false) }
-        ensures keeps { OnOk result (KeepsLost (losses_of self.old.posts.items) (losses_of self.new.posts.items)) }
+        ensures lost { OnOk result (losses_of self.new.posts.items ≡ losses_of self.old.posts.items ++ false ∷ []) }
         ensures made { (self.new.suite ≡ self.old.suite) × (self.new.mode ≡ self.old.mode) × (self.new.first ≡ self.old.first) }
     {
         let was_whole = self.is_whole;

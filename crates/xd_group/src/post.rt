@@ -6,15 +6,16 @@ ghost use Rattle.xd_edge.specs.declared.mode.ModeKind.{ModeKind};
 ghost use Rattle.xd_journal.specs.declared.entry.Entry.{Entry};
 ghost use Rattle.xd_journal.specs.declared.news.What.{What};
 ghost use Rattle.xd_journal.specs.declared.news.What.TheVariants.{Gone};
+ghost use Rattle.xd_frame.specs.Message.{MessageView};
 ghost use Rattle.xd_link.specs.FreshLink.{unused};
 ghost use Rattle.xd_reader.specs.declared.news.LinkNews.{LinkNews};
 ghost use Rattle.xd_note.specs.Noted.{noted};
 ghost use Rattle.xd_drive.specs.Marks.{is_breach, is_end};
 ghost use Rattle.xd_gateway.specs.Orders.{order_of};
 ghost use Rattle.xd_remote.specs.View.{is_broken, side_of, sink_of};
-ghost use Rattle.xd_group.specs.Heard.{IsCause, HeardSo, StaysEnded, plain_cause};
+ghost use Rattle.xd_group.specs.Heard.{EndsNow, HeardSo, StaysEnded, cause_by, plain_cause, says_send_fault};
 ghost use Rattle.xd_group.specs.Pages.{is_nothing};
-ghost use Rattle.xd_group.specs.Sent.{SentAs};
+ghost use Rattle.xd_group.specs.Sent.{EndsWhole, HandedOn, SentAs};
 ghost use Rattle.xd_group.specs.ToLink.{has_left, to_link};
 
 use crate::calling::{call_worker, close_link, end_worker, write_order};
@@ -29,7 +30,7 @@ use xd_reader::{LinkNews, LinkStop};
 use xd_remote::Gateway;
 
 /// One link. Where it is known, what was said of it are the news of what was taken of it, and its sink took what it was
-/// told; it is unknown once memory ran out.
+/// told, all of it where nothing was said of a failed send at its end; it is unknown once memory ran out.
 #[derive(Drop)]
 pub struct Post<N: Sink + Drop> {
     pub gateway: Gateway<N>,
@@ -51,6 +52,9 @@ pub struct Post<N: Sink + Drop> {
     ghost closed: { is_known ≡ true → is_closed ≡ (has_left (noted said) || is_ended) },
     ghost heard: { is_known ≡ true → ∥ HeardSo gateway is_ended is_lost (noted taken) (noted said ++ noted late) ∥₁ },
     ghost sent: { is_known ≡ true → ∥ SentAs is_lost is_closed (N.sunk (sink_of gateway)) (N.faults (sink_of gateway)) (to_link suite.value mode (noted told) (noted said)) ∥₁ },
+    ghost faults: { is_known ≡ true → list_any says_send_fault (noted said) ≡ true → is_lost ≡ true },
+    ghost whole: { is_known ≡ true → is_ended ≡ true
+        → ∥ EndsWhole (noted said ++ noted late) (to_link suite.value mode (noted told) (noted said)) (N.sunk (sink_of gateway)) ∥₁ },
 }
 
 #[derive(Drop)]
@@ -60,7 +64,7 @@ struct Judged {
 }
 
 fn cause_of(stop: LinkStop, is_lost: bool) -> Cause
-    ensures cause { IsCause stop is_lost result }
+    ensures cause { result ≡ cause_by stop is_lost }
     ensures no_breach { is_breach (Gone result) ≡ false }
 {
     if is_lost {
@@ -92,6 +96,9 @@ fn judge<N: Sink + Drop>(
     ensures sink { sink_of gateway.new ≡ sink_of gateway.old }
     ensures broken { is_broken gateway.new ≡ is_broken gateway.old }
     ensures past { IfOk result (λ r. StaysEnded is_ended r.is_ended r.news) }
+    ensures ends { IfOk result (λ r. EndsNow is_ended r.is_ended is_lost r.news) }
+    ensures faults { IfOk result (λ r. list_any says_send_fault (option_to_list r.news) ≡ true
+        → is_lost ≡ true) }
 {
     if is_ended {
         return Ok(Judged {
@@ -160,6 +167,9 @@ fn end_behind<N: Sink + Drop>(
     ensures sent { (suite : List ℕ) (mode : ModeKind) (told : List Entry) (said : List What) (was : Bool) → StaysEnded was is_ended news.now → is_lost ≡ is_broken gateway.old → is_closed ≡ (has_left said || was) → SentAs is_lost is_closed (N.sunk (sink_of gateway.old)) (N.faults (sink_of gateway.old)) (to_link suite mode told said)
         → SentAs result.is_lost result.is_closed (N.sunk (sink_of gateway.new)) (N.faults (sink_of gateway.new)) (to_link suite mode told (said ++ option_to_list news.now)) }
     ensures keeps { is_lost ≡ is_broken gateway.old → is_lost ≡ true → result.is_lost ≡ true }
+    ensures whole { (messages : List MessageView) → has_left (option_to_list news.now) ≡ false
+        → IfSome (N.sunk (sink_of gateway.old)) (HandedOn messages)
+        → IfSome (N.sunk (sink_of gateway.new)) (HandedOn messages) }
     ensures heard { (ended : Bool) (taken : List LinkNews) (said : List What) → is_lost ≡ is_broken gateway.old → HeardSo gateway.old ended is_lost taken said → HeardSo gateway.new ended result.is_lost taken said }
 {
     if is_closed {

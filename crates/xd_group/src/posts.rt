@@ -7,7 +7,7 @@ ghost use Rattle.xd_group.specs.Ends.{EndsSo};
 ghost use Rattle.xd_group.specs.Pages.{HeardAt, IsHeardAt, IsToldAt, Page, ToldAt, page_opened};
 ghost use Rattle.xd_link.specs.FreshLink.{unused};
 ghost use Rattle.xd_group.specs.Late.{IsLateAt, LateAt};
-ghost use Rattle.xd_group.specs.Kills.{KeepsLost, LostAt};
+ghost use Rattle.xd_group.specs.Kills.{KeepsLost, Loses};
 ghost use Rattle.xd_group.specs.PostView.{ends_of, has_ended, losses_of, page_by, pages_of};
 ghost use Rattle.std.specs.Bool.{then_some};
 ghost use Rattle.std.specs.List.{list_all};
@@ -29,8 +29,7 @@ pub fn tell_at<N: Sink + Drop>(
     requires told { ∥ IsToldAt (pages_of posts.old.items) at ∥₁ }
     ensures told { OnOk result (ToldAt order.now at (pages_of posts.old.items) (pages_of posts.new.items)) }
     ensures seats { OnOk result (map is_some (pages_of posts.new.items) ≡ map is_some (pages_of posts.old.items)) }
-    ensures keeps { OnOk result (KeepsLost (losses_of posts.old.items) (losses_of posts.new.items)) }
-    ensures lost { IfOk result (λ b. LostAt (then_some b at) (losses_of posts.new.items)) }
+    ensures lost { IfOk result (λ b. Loses (then_some b at) (losses_of posts.old.items) (losses_of posts.new.items)) }
 {
     if at >= posts.len() {
         unreachable!()
@@ -52,8 +51,7 @@ pub fn hear_at<N: Sink + Drop>(
     ensures heard { IfOk result (λ r. HeardAt item r.what at (pages_of posts.old.items) (pages_of posts.new.items)) }
     ensures no_breach { IfOk result (λ r. IfSome r.what (λ x. is_breach x ≡ false)) }
     ensures seats { OnOk result (map is_some (pages_of posts.new.items) ≡ map is_some (pages_of posts.old.items)) }
-    ensures keeps { OnOk result (KeepsLost (losses_of posts.old.items) (losses_of posts.new.items)) }
-    ensures lost { IfOk result (λ r. LostAt (then_some r.is_cut at) (losses_of posts.new.items)) }
+    ensures lost { IfOk result (λ r. Loses (then_some r.is_cut at) (losses_of posts.old.items) (losses_of posts.new.items)) }
 {
     if at >= posts.len() {
         unreachable!()
@@ -103,29 +101,30 @@ pub fn have_ended<N: Sink + Drop>(posts: &[Option<Post<N>>]) -> bool
     posts.iter().all(|post| has_ended(post))
 }
 
-/// Adds a link that was called.
+/// Adds a link that was called. Says whether the call could not be written.
 pub fn push_post<N: Sink + Drop>(
     posts: &mut Vec<Option<Post<N>>>,
     alloc: Global,
     sink: N,
     suite: &Text,
     mode: ModeKind,
-) -> Result<(), OutOfMemory>
+) -> Result<bool, OutOfMemory>
     requires nothing_taken { IfSome (N.sunk sink) (λ s. s ≡ unused) }
     requires short { length (encode_utf8_all suite.now) ≤ 65536 }
     ensures pages { OnOk result (pages_of posts.new.items ≡ pages_of posts.old.items ++ page_opened suite.now mode true ∷ []) }
-    ensures keeps { OnOk result (KeepsLost (losses_of posts.old.items) (losses_of posts.new.items)) }
+    ensures lost { IfOk result (λ b. losses_of posts.new.items ≡ losses_of posts.old.items ++ b ∷ []) }
 {
     posts.reserve(1)?;
     let post = Post::begin(alloc, sink, suite, mode)?;
+    let is_lost = post.is_lost;
     posts.push_reserved(Some(post));
-    Ok(())
+    Ok(is_lost)
 }
 
 /// Adds a number that has no link.
 pub fn push_none<N: Sink + Drop>(posts: &mut Vec<Option<Post<N>>>) -> Result<(), OutOfMemory>
     ensures pages { OnOk result (pages_of posts.new.items ≡ pages_of posts.old.items ++ None ∷ []) }
-    ensures keeps { OnOk result (KeepsLost (losses_of posts.old.items) (losses_of posts.new.items)) }
+    ensures lost { OnOk result (losses_of posts.new.items ≡ losses_of posts.old.items ++ false ∷ []) }
 {
     posts.push(None)?;
     Ok(())

@@ -60,7 +60,7 @@ pub runs_linked : {A : Type 0} (seen : A → EndedLink) (ends : List A) (setup :
     → map (λ a. (seen a).worker) ends ≡ workers_with has_link workers fates
     → All (λ a. ∥ RanSo now mode given calls (workers_with is_refused workers fates) (seen a).worker (seen a).link ∥₁) ends
     → last ≡ option_map (λ b. record { starts = b.starts ++ all_started places (starts_of calls) fates; links = map asked_of b.links ++ map (λ a. end_told (seen a).killed) ends }) first
-    → All (λ a. ∥ EndKilledSo calls (workers_with is_refused workers fates) (seen a).worker (seen a).killed (seen a).link.writes ∥₁) ends
+    → All (λ a. ∥ EndKilledSo calls given (workers_with is_refused workers fates) (seen a).worker (seen a).killed (seen a).link.writes ∥₁) ends
     → ((w : ℕ) → is_among w (workers_with is_linked workers fates) ≡ false → ∥ SaidUnlinked given w ∥₁)
     → RoseFor (count_with is_refused fates) crew_old crew_new → RoseBy (count_with is_unlinked fates) starter_old starter_new
     → RunsLinked setup j (map seen ends) (record { begun = option_map told_of first; starter_faults = starter_old; crew_faults = crew_old; sunk = s0; out_faults = out_old }) (record { begun = last; starter_faults = starter_new; crew_faults = crew_new; sunk = s1; out_faults = out_new })
@@ -77,8 +77,8 @@ runs_linked {A} seen ends setup now mode j calls given workers fates places firs
   begun = subst (λ (ps : List Place). last ≡ option_map (λ b. record { starts = b.starts ++ all_started ps (starts_of calls) fates; links = b.links ++ map (λ l. end_told l.killed) (map seen ends) }) (option_map told_of first)) at
       (subst (λ (asked : List Asked). last ≡ option_map (λ b. record { starts = b.starts ++ all_started places (starts_of calls) fates; links = b.links ++ asked }) (option_map told_of first)) (sym (map-map (λ l. end_told l.killed) seen ends))
       (begun_from first last (all_started places (starts_of calls) fates) (map (λ a. end_told (seen a).killed) ends) begun));
-  killed = All-map (λ l. ∥ EndKilledSo calls (workers_with is_refused (workers_started calls) fates) l.worker l.killed l.link.writes ∥₁) seen ends
-      (subst (λ (ws : List ℕ). All (λ a. ∥ EndKilledSo calls (workers_with is_refused ws fates) (seen a).worker (seen a).killed (seen a).link.writes ∥₁) ends) listed killed);
+  killed = All-map (λ l. ∥ EndKilledSo calls given (workers_with is_refused (workers_started calls) fates) l.worker l.killed l.link.writes ∥₁) seen ends
+      (subst (λ (ws : List ℕ). All (λ a. ∥ EndKilledSo calls given (workers_with is_refused ws fates) (seen a).worker (seen a).killed (seen a).link.writes ∥₁) ends) listed killed);
   unlinked = λ w out. unlinked w (ap (λ (ws : List ℕ). is_among w (workers_with is_linked ws fates)) listed ∙ out);
   few_refused = refused;
   few_unlinked = failed;

@@ -75,7 +75,7 @@ pub record RunsLinked (setup : Setup) (j : Journal) (links : List EndedLink) (ol
   pub all : map (λ l. l.worker) links ≡ workers_with has_link (workers_started calls) fates
   pub each : All (λ l. ∥ RanSo setup.suite setup.settings.mode given calls (workers_with is_refused (workers_started calls) fates) l.worker l.link ∥₁) links
   pub begun : AddsBegun setup.places calls fates links old.begun new.begun
-  pub killed : All (λ l. ∥ EndKilledSo calls (workers_with is_refused (workers_started calls) fates) l.worker l.killed l.link.writes ∥₁) links
+  pub killed : All (λ l. ∥ EndKilledSo calls given (workers_with is_refused (workers_started calls) fates) l.worker l.killed l.link.writes ∥₁) links
   pub unlinked : (w : ℕ) → is_among w (workers_with is_linked (workers_started calls) fates) ≡ false → ∥ SaidUnlinked given w ∥₁
   pub few_refused : RoseFor (count_with is_refused fates) old.crew_faults new.crew_faults
   pub few_unlinked : RoseBy (count_with is_unlinked fates) old.starter_faults new.starter_faults

@@ -1,6 +1,7 @@
 use Rattle.std.proofs.Common.{sym, ◌∙◌}
 use Rattle.xd_remote.specs.View.{line_of}
-use Rattle.xd_group.proofs.PostFacts.{closed_end, closed_left, closed_open, closed_still, close_keeps, heard_kept, sent_ended, sent_over, sent_same, sent_still, shut_keeps}
+use Rattle.xd_group.proofs.PageFacts.{no_way}
+use Rattle.xd_group.proofs.PostFacts.{closed_end, closed_left, closed_open, closed_still, close_keeps, heard_kept, over_handed, sent_ended, sent_over, sent_same, sent_still, shut_keeps}
 use Rattle.xd_group.proofs.post.end_behind.Goals as goal
 
 pub returns-then-is_closed-clause-closed : goal.returns-then-is_closed-clause-closed
@@ -44,3 +45,9 @@ returns-clause-closed g c said was stays is = closed_open said c.args.news.now w
 
 pub returns-clause-sent : goal.returns-clause-sent
 returns-clause-sent g c suite mode told said was stays lost is s = sent_same _ c.args.is_closed was _ _ suite mode told said _ is c.if-is_closed.false (sym c.is_farewell.ensures ∙ c.if-is_farewell.false) s
+
+pub returns-then-is_farewell-clause-whole : goal.returns-then-is_farewell-clause-whole
+returns-then-is_farewell-clause-whole g c m left h = absurd (no_way _ (sym c.is_farewell.ensures ∙ c.if-is_farewell.true) left)
+
+pub returns-then-is_ended-clause-whole : goal.returns-then-is_ended-clause-whole
+returns-then-is_ended-clause-whole g c m left h = over_handed (line_of g.N.Sink.sunk g.N.Sink.faults c.args.gateway.now) (line_of g.N.Sink.sunk g.N.Sink.faults c.close_link-is_lost.new.gateway) m c.close_link-is_lost.ensures.closes h

@@ -8,7 +8,8 @@ pub returns-clause-ends : goal.returns-clause-ends
 returns-clause-ends g c =
     let p = c.args.post in
     let known = c.requires.known in
-    ∥∥₁_map₂ (p.heard known) (p.sent known) (λ h s. ends_so p.gateway (page_by p) p.is_ended p.is_lost p.is_closed _ _ c.requires.ended (p.closed known) h (rw (c.into_sink.ensures) s))
+    ∥∥₁_elim (p.whole known c.requires.ended) (hlevel props)
+    (λ w. ∥∥₁_map₂ (p.heard known) (p.sent known) (λ h s. ends_so p.gateway (page_by p) p.is_ended p.is_lost p.is_closed _ _ c.requires.ended (p.closed known) h (rw (c.into_sink.ensures) s) (rw (c.into_sink.ensures) w)))
 
 pub returns-clause-lost : goal.returns-clause-lost
 returns-clause-lost g c lost =

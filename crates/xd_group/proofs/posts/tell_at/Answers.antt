@@ -1,6 +1,6 @@
 use Rattle.std.proofs.Common.{◌≤◌, ◌<◌, length, refl, rules}
 use Rattle.std.proofs.lemmas.Option.{slice_get_read}
-use Rattle.xd_group.proofs.LossFacts.{lost_kept, lost_there, seats_kept}
+use Rattle.xd_group.proofs.LossFacts.{lost_set, seats_kept}
 use Rattle.xd_group.proofs.PageFacts.{post_told, told_post, past_told, none_told, none_of}
 use Rattle.xd_group.proofs.posts.tell_at.Goals as goal
 
@@ -14,14 +14,11 @@ returns-clause-seats g c =
     let within : c.args.at < length xs = search rules in
     seats_kept xs c.args.at c.index_mut.result.now c.in-Some.post c.tell.new.self c.in-Some.is (slice_get_read xs (length xs) c.args.at c.index_mut.result.now refl within c.index_mut.ensures.value)
 
-pub returns-clause-keeps : goal.returns-clause-keeps
-returns-clause-keeps g c = lost_kept c.args.posts.now.items c.args.at c.index_mut.result.now c.in-Some.post c.tell.new.self c.index_mut.ensures.value c.in-Some.is c.in_ok-is_lost.ensures.keeps
-
 pub returns-clause-lost : goal.returns-clause-lost
 returns-clause-lost g c =
     let xs = c.args.posts.now.items in
     let within : c.args.at < length xs = search rules in
-    lost_there xs c.args.at c.tell.new.self c.in_ok-is_lost.is_lost within c.in_ok-is_lost.ensures.lost
+    lost_set xs c.args.at c.index_mut.result.now c.in-Some.post c.tell.new.self c.in_ok-is_lost.is_lost c.index_mut.ensures.value c.in-Some.is within c.in_ok-is_lost.ensures.keeps c.in_ok-is_lost.ensures.lost
 
 pub unreachable-requires : goal.unreachable-requires
 unreachable-requires g c =

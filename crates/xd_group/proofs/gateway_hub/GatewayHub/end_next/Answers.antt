@@ -73,10 +73,10 @@ returns-in_default-clause-asked g c linked was =
     asked_past cs c.args.number (c.args.number + 1) (omega arith) (no_child cs c.args.self.now.group.diary.fates.items c.args.number fate.0 linked fate.1 (sym fate.2 ∙ ap is_some (none_of c.end_link-left.result c.in_default.not-Some))) ∙ was
 
 pub returns-in_ok-push-clause-killed : goal.returns-in_ok-push-clause-killed
-returns-in_ok-push-clause-killed g c suite mode taken calls given pages lost kept linked kills still all =
+returns-in_ok-push-clause-killed g c suite mode taken calls given pages lost kept linked kills still said all =
     let diary = c.args.self.now.group.diary in
     let end : LinkEnd g.row.St-Src.Denot g.row.St-Snk.Denot = record { worker = c.in-Some.ended.worker; source = c.in-Some.ended.source; sink = c.in-Some.ended.sink; killed = c.reap-killed.result } in
-    let P : LinkEnd g.row.St-Src.Denot g.row.St-Snk.Denot → Type 0 = λ l. ∥ EndKilledSo calls (workers_with is_refused diary.workers.items diary.fates.items) l.worker l.killed (g.St.Snk.Sink.faults l.sink) ∥₁ in
+    let P : LinkEnd g.row.St-Src.Denot g.row.St-Snk.Denot → Type 0 = λ l. ∥ EndKilledSo calls given (workers_with is_refused diary.workers.items diary.fates.items) l.worker l.killed (g.St.Snk.Sink.faults l.sink) ∥₁ in
     let cs = c.args.self.now.children.children.items in
     let left = c.end_link-left.ensures in
     let fate = left.fate in
@@ -84,7 +84,7 @@ returns-in_ok-push-clause-killed g c suite mode taken calls given pages lost kep
     let kid = child_there cs diary.fates.items c.args.number fate.0 linked fate.1 link in
     let at = some_of _ c.end_link-left.result _ c.in-Some.is left.worker in
     let so : P end = ∥∥₁_map₂ kept kills
-    (λ kp k. end_killed cs calls diary.workers.items diary.fates.items lost c.args.number end.worker kid.0 fate.0 end.killed (g.St.Snk.Sink.faults end.sink) at fate.1 link kid.1 (c.reap-killed.ensures.killed kid.0 kid.1) (λ h l. some_of _ c.end_link-left.result _ c.in-Some.is (left.lost h) (still l)) kp.apart k) in
+    (λ kp k. end_killed cs calls given diary.workers.items diary.fates.items lost c.args.number end.worker kid.0 fate.0 end.killed (g.St.Snk.Sink.faults end.sink) at fate.1 link kid.1 (c.reap-killed.ensures.killed kid.0 kid.1) (λ h l. some_of _ c.end_link-left.result _ c.in-Some.is (left.lost h) (still l)) said kp.apart k) in
     let is : c.push.new.self.items ≡ c.args.ends.now.items ++ end ∷ [] = search rules in
     All-same P _ _ is (All-push P c.args.ends.now.items end all so)
 

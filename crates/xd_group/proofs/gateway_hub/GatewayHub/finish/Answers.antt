@@ -1,5 +1,4 @@
-use Rattle.std.proofs.Common.{◌<◌, List}
-use Rattle.std.specs.Prelude.{slice_get}
+use Rattle.std.proofs.Common.{◌<◌}
 use Rattle.xd_group.specs.PostView.{losses_of}
 use Rattle.std.proofs.Common.{◌≡◌, ◌∙◌, [], ap, arith, length, map, refl, rules, subst, sym}
 use Rattle.std.proofs.Math.Logic.{∥∥₁_elim, ∥∥₁_map₂}
@@ -15,6 +14,7 @@ use Rattle.xd_group.specs.Late.{settled_at}
 use Rattle.xd_group.specs.PostView.{pages_of}
 use Rattle.xd_group.specs.Returned.{end_told}
 use Rattle.std.specs.Prelude.{is_some}
+use Rattle.xd_group.proofs.EndFacts.{said_lost}
 use Rattle.xd_group.proofs.FateFacts.{failed_count, linked_length, spared_from, take_all, with_all}
 use Rattle.xd_group.proofs.PageFacts.{no_way}
 use Rattle.xd_group.proofs.Saying.{said_unlinked}
@@ -81,7 +81,8 @@ loop-number-preserved g c =
       diary = done.diary ∙ inv.diary;
       kills = rw (inv.diary) at (done.kills calls (losses_of was.posts.items) (rw (inv.diary) inv.kills));
       lost = λ k h e. done.others k (omega (arith, h)) (inv.lost k (omega (arith, h)) e);
-      killed = rw (inv.diary) at (done.killed was.suite was.mode taken calls given pages (losses_of was.posts.items) (rw (inv.diary) inv.kept) (rw (inv.diary) inv.linked) (rw (inv.diary) inv.kills) (λ e. inv.lost c.loop-number.number (omega arith) e) (rw (inv.diary) inv.killed));
+      killed = rw (inv.diary) at (done.killed was.suite was.mode taken calls given pages (losses_of was.posts.items) (rw (inv.diary) inv.kept) (rw (inv.diary) inv.linked) (rw (inv.diary) inv.kills) (λ e. inv.lost c.loop-number.number (omega arith) e)
+          (λ w wi is h. ∥∥₁_elim inv.kept (hlevel props) (λ k. said_lost was.suite was.mode taken calls given was.diary.workers.items was.posts.items was.diary.fates.items c.loop-number.number w k (was.seats c.in_ok-settle.ensures.whole) (rw (inv.diary) at wi) (rw (inv.diary) at is) h)) (rw (inv.diary) inv.killed));
     }
 
 pub returns-clause-workers : goal.returns-clause-workers

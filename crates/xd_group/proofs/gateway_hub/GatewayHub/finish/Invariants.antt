@@ -34,5 +34,5 @@ invariant-loop-number g l = record {
   diary : l.self.group.diary ≡ l.fn.self.group.diary;
   kills : ∥ KilledSo l.self.children.children.items (noted l.fn.self.group.diary.calls) l.fn.self.group.diary.workers.items l.fn.self.group.diary.fates.items (losses_of l.fn.self.group.posts.items) ∥₁;
   lost : (k : ℕ) → l.number ≤ k → slice_get (losses_of l.fn.self.group.posts.items) k ≡ Some true → slice_get (losses_of l.self.group.posts.items) k ≡ Some true;
-  killed : All (λ e. ∥ EndKilledSo (noted l.fn.self.group.diary.calls) (workers_with is_refused l.fn.self.group.diary.workers.items l.fn.self.group.diary.fates.items) e.worker e.killed (g.St.Snk.Sink.faults e.sink) ∥₁) l.ends.items;
+  killed : All (λ e. ∥ EndKilledSo (noted l.fn.self.group.diary.calls) (noted l.fn.self.group.diary.given) (workers_with is_refused l.fn.self.group.diary.workers.items l.fn.self.group.diary.fates.items) e.worker e.killed (g.St.Snk.Sink.faults e.sink) ∥₁) l.ends.items;
 }

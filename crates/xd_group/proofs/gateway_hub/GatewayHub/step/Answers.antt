@@ -1,5 +1,4 @@
 use Rattle.std.proofs.Common.{ap, ◌∙◌}
-use Rattle.xd_note.specs.Noted.{noted}
 use Rattle.xd_group.proofs.gateway_hub.GatewayHub.step.Goals as goal
 
 pub returns-clause-started : goal.returns-clause-started

@@ -19,7 +19,7 @@ invariant_of-self-2 g c =
     let none = is_none c.in_ok-back.back in
     let told = c.in_ok-note_start.ensures in
     let last = c.in_ok-note_unlinked.ensures in
-    let seat = c.in_ok-fate.ensures in
+    let seat = c.in_ok-seat.ensures in
     let at : c.in-Ok.number ≡ length was.posts.items = search rules in
     record {
       short = was.short;
@@ -27,11 +27,11 @@ invariant_of-self-2 g c =
           (λ k. rw (last.calls, last.given, last.workers, told.given)
           (kept_started was.suite was.mode (news_of (mails was.links.desk)) _ (noted was.diary.calls) _ (noted was.diary.given) was.diary.workers.items _ (pages_of was.posts.items) _ c.args.worker c.args.slot none
           told.calls c.requires.new was.diary.known told.workers (c.in_ok-back.ensures.news was.suite was.mode) seat.pages k));
-      few = λ e. rw (last.fates) (few_opened was.diary.fates.items _ c.in_ok-fate.fate none _ _ _ told.fates seat.linked seat.started c.in_ok-back.ensures.crew (was.few e));
-      seats = λ e. rw (last.fates) (opened_seats was.suite was.mode none (pages_of was.posts.items) _ was.diary.fates.items _ c.in_ok-fate.fate seat.pages told.fates seat.linked (was.seats e));
-      spared = λ e. rw (last.fates) (spared_more (map is_some was.spares.items) _ was.diary.fates.items _ c.in_ok-fate.fate seat.kept told.fates (was.spared e));
+      few = λ e. rw (last.fates) (few_opened was.diary.fates.items _ c.in_ok-seat.seat.fate none _ _ _ told.fates seat.linked seat.started c.in_ok-back.ensures.crew (was.few e));
+      seats = λ e. rw (last.fates) (opened_seats was.suite was.mode none (pages_of was.posts.items) _ was.diary.fates.items _ c.in_ok-seat.seat.fate seat.pages told.fates seat.linked (was.seats e));
+      spared = λ e. rw (last.fates) (spared_more (map is_some was.spares.items) _ was.diary.fates.items _ c.in_ok-seat.seat.fate seat.kept told.fates (was.spared e));
       unsaid = λ e. ∥∥₁_map₂ (was.kept e) (was.unsaid e)
           (λ k u. rw (last.given, last.workers, told.given)
-          (unsaid_opened was.suite was.mode (news_of (mails was.links.desk)) (noted was.diary.calls) (noted was.diary.given) was.diary.workers.items _ (pages_of was.posts.items) _ was.diary.waiting.items _ _ c.args.worker c.in-Ok.number (is_linked c.in_ok-fate.fate) none
+          (unsaid_opened was.suite was.mode (news_of (mails was.links.desk)) (noted was.diary.calls) (noted was.diary.given) was.diary.workers.items _ (pages_of was.posts.items) _ was.diary.waiting.items _ _ c.args.worker c.in-Ok.number (is_linked c.in_ok-seat.seat.fate) none
           told.workers seat.pages last.waiting (ap (λ (v : _). v.items) told.waiting) seat.linked (post_count was.posts.items c.in-Ok.number at) c.requires.new k u));
     }

@@ -7,6 +7,7 @@ use Rattle.xd_remote.specs.View.{sink_of}
 use Rattle.xd_group.specs.Heard.{HeardSo, StaysEnded}
 use Rattle.xd_group.specs.Sent.{SentAs}
 use Rattle.xd_group.specs.ToLink.{has_left, to_link}
+use Rattle.xd_group.proofs.PostFacts.{late_whole}
 use Rattle.xd_group.proofs.post.Post.hear_late.Goals as goal
 
 pub invariant_of-self-2 : goal.invariant_of-self-2
@@ -27,6 +28,9 @@ invariant_of-self-2 g c =
       sent = λ e. ∥∥₁_map (was.sent known)
           (λ s. subst (λ (l : List What). SentAs over.result.is_lost over.result.is_closed (g.N.Sink.sunk (sink_of over.new.gateway)) (g.N.Sink.faults (sink_of over.new.gateway)) (to_link was.suite.value was.mode (noted was.told) l)) (append-nil said)
           (over.ensures.sent _ _ (noted was.told) said was.is_ended stays still (was.closed known) (rw (c.in_ok-news.ensures.sink) s)));
+      faults = λ e h. over.ensures.keeps still (was.faults known h);
+      whole = λ e ended. rw (c.note_heard.ensures) (late_whole was.is_ended c.in_ok-news.field-0.is_ended was.is_lost was.is_closed said (noted was.late) c.in_ok-news.field-0.news _ _ _ _ c.in_ok-news.ensures.past c.in_ok-news.ensures.ends (was.whole known) (was.sent known)
+          (λ h. over.ensures.whole _ refl (rw (c.in_ok-news.ensures.sink) h)) ended);
     }
 
 pub returns-clause-keeps : goal.returns-clause-keeps
