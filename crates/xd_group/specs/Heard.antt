@@ -51,6 +51,7 @@ is_of_link (End why) = true
 is_of_link (Output bytes) = false
 is_of_link (ChildDone outcome) = false
 
+-- the items that are a link's
 abbrev pub of_link : List LinkNews → List LinkNews
 of_link items = filter is_of_link items
 
@@ -70,6 +71,7 @@ pub record TellsEnded (h : List Heard) (broken : Bool) (taken : List LinkNews) (
   pub taken_are : of_link taken ≡ map Message (all_messages h) ++ End why ∷ later
   pub said_are : said ≡ all_news h ++ Gone (cause_by why failed) ∷ []
 
+-- What was said of a link tells what was taken of it, by whether it has ended.
 abbrev pub Tells : Bool → List Heard → Bool → List LinkNews → List What → Type 0
 Tells false h broken taken said = TellsOpen h taken said
 Tells true h broken taken said = TellsEnded h broken taken said

@@ -32,7 +32,7 @@ IsGone cause.ReadFault bytes s writes = 0 < s.faults
 IsGone cause.SendFault bytes s writes = 0 < writes
 IsGone cause.Breach bytes s writes = ⊥
 
--- The news are first ones of those of the link's messages, with the link's end behind them.
+-- The news are first ones of those of the link's messages, with the link's end after them.
 pub record HeardAll (news : List What) (bytes : List ℕ) (why : Cause) : Type 0 where
   pub all : List What
   pub are : IsNewsOf (link_messages true bytes) all
@@ -62,6 +62,7 @@ pub record Link : Type 0 where
   pub sunk : Option Sunk
   pub writes : ℕ
 
+-- what is seen of a link with this source and sink, whose writes failed this often
 abbrev pub link_of : Spring → Option Sunk → ℕ → Link
 link_of s sunk writes = record { spring = s; sunk = sunk; writes = writes }
 

@@ -192,7 +192,7 @@ fn end_behind<N: Sink + Drop>(
     Ended { is_closed, is_lost }
 }
 
-/// What a link's item meant, and whether a write failed behind it.
+/// What a link's item meant, and whether a write failed after it.
 #[derive(Drop)]
 pub struct HeardNews {
     pub what: Option<What>,

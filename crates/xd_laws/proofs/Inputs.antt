@@ -19,7 +19,10 @@ use Rattle.xd_ledger.specs.Collections.{unequal, listed, with_list}
 use Rattle.xd_ledger.specs.Stops.{is_stopped, or_stop, stopped_by, at_limit, out_of_restarts}
 use Rattle.xd_ledger.specs.Retry.{is_retry}
 use Rattle.xd_ledger.specs.Sharing.{State, in_books, joining, share_where_full, shared_now, sizes_from, is_full}
-use Rattle.xd_ledger.specs.State.{moved, collecting, completed_first, failing, done_stop, gone, buried}
+use Rattle.xd_ledger.specs.Collecting.{collecting}
+use Rattle.xd_ledger.specs.Deaths.{gone, buried}
+use Rattle.xd_ledger.specs.Results.{completed_first, failing, done_stop}
+use Rattle.xd_ledger.specs.State.{moved}
 use Rattle.xd_ledger.specs.Proper.{may_follow}
 use Rattle.xd_laws.proofs.Logic.{differ, in_both, split-and, not_true}
 use Rattle.xd_laws.proofs.Rota.{seat-among, seat-joined}

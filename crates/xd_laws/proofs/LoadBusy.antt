@@ -6,7 +6,8 @@ use Rattle.xd_ledger.specs.Numbers.{among, without}
 use Rattle.xd_ledger.specs.Table.{held, seat_shut, workers_of}
 use Rattle.xd_ledger.specs.Plan.{chunk_of}
 use Rattle.xd_ledger.specs.Turn.{Turn, give, give_front, shut, in_turn, shut_each}
-use Rattle.xd_ledger.specs.Load.{enough, is_due, more, topped_up, refill, refill_all, first_batch, give_unless_shut, dealt, share}
+use Rattle.xd_ledger.specs.Load.{is_due, more, topped_up, refill, refill_all, first_batch, give_unless_shut, dealt, share}
+use Rattle.xd_ledger.specs.Turn.{enough}
 use Rattle.xd_ledger.specs.Sharing.{State}
 use Rattle.xd_laws.proofs.Logic.{cases_of, or-left, or-right, in_both}
 use Rattle.xd_laws.proofs.Rota.{has_seat, told-change}

@@ -4,7 +4,8 @@ use Rattle.std.specs.Prelude.{nat_lt, ◌*◌}
 use Rattle.xd_ledger.specs.Table.{seat_shut, held, workers_of}
 use Rattle.xd_ledger.specs.Plan.{chunk_of}
 use Rattle.xd_ledger.specs.Turn.{Turn, give_front, shut, in_turn}
-use Rattle.xd_ledger.specs.Load.{enough, is_due, more, topped_up, refill, refill_all, first_batch, give_unless_shut, dealt, share}
+use Rattle.xd_ledger.specs.Load.{is_due, more, topped_up, refill, refill_all, first_batch, give_unless_shut, dealt, share}
+use Rattle.xd_ledger.specs.Turn.{enough}
 use Rattle.xd_ledger.specs.Sharing.{State}
 use Rattle.xd_laws.proofs.Logic.{in_both}
 use Rattle.xd_laws.proofs.Counts.{all_among-append}

@@ -16,7 +16,8 @@ use Rattle.xd_ledger.specs.Workers.{is_active, was_ready, is_shut, slot_of, made
 use Rattle.xd_ledger.specs.Collections.{unequal, listed, with_list}
 use Rattle.xd_ledger.specs.Stops.{is_stopped, is_shutting}
 use Rattle.xd_ledger.specs.Sharing.{State, in_books, joining}
-use Rattle.xd_ledger.specs.State.{is_finished, moved, all_moved, settles, completed_first}
+use Rattle.xd_ledger.specs.Results.{completed_first}
+use Rattle.xd_ledger.specs.State.{is_finished, moved, all_moved, settles}
 use Rattle.xd_ledger.specs.Outputs.{shut_all, acts_of, unless_stopped, slots_of_rota, after_joining, after_death, own_outputs, closing, outputs}
 use Rattle.xd_ledger.specs.Proper.{may_follow, is_head}
 use Rattle.xd_ledger.specs.Orderly.{is_orderly}

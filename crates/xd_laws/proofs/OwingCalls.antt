@@ -16,7 +16,8 @@ use Rattle.xd_ledger.specs.Modes.Call.{TestDone, TestsBack}
 use Rattle.xd_ledger.specs.Workers.{is_active, slot_of}
 use Rattle.xd_ledger.specs.Stops.{is_shutting, is_stopped}
 use Rattle.xd_ledger.specs.Sharing.{State}
-use Rattle.xd_ledger.specs.State.{all_moved, completed_first, moved}
+use Rattle.xd_ledger.specs.Results.{completed_first}
+use Rattle.xd_ledger.specs.State.{all_moved, moved}
 use Rattle.xd_ledger.specs.Outputs.{acts_of, own_outputs}
 use Rattle.xd_ledger.specs.Proper.{is_head, may_follow, may_give_back}
 use Rattle.xd_laws.proofs.Logic.{clash, differ, split-and}

@@ -16,7 +16,8 @@ use Rattle.xd_ledger.specs.Modes.Call.{TestsBack, Died}
 use Rattle.xd_ledger.specs.Workers.{is_active, made_gone, slot_in, slot_of, started}
 use Rattle.xd_ledger.specs.Stops.{is_stopped}
 use Rattle.xd_ledger.specs.Sharing.{State}
-use Rattle.xd_ledger.specs.State.{all_moved, moved, steal_without}
+use Rattle.xd_ledger.specs.Deaths.{steal_without}
+use Rattle.xd_ledger.specs.State.{all_moved, moved}
 use Rattle.xd_ledger.specs.Outputs.{acts_of, after_death, turn_of, unless_stopped}
 use Rattle.xd_laws.proofs.Logic.{cases_of, clash, differ, in_both, or-left, or-right, or-unset, split-or}
 use Rattle.xd_laws.proofs.Crew.{has, has-member, has-more, is_member, none-next}

@@ -14,7 +14,8 @@ use Rattle.xd_ledger.specs.Collections.{listed, unequal, with_list}
 use Rattle.xd_ledger.specs.Workers.{is_shut, made_collected, slot_of}
 use Rattle.xd_ledger.specs.Stops.{is_shutting, is_stopped, or_stop}
 use Rattle.xd_ledger.specs.Sharing.{State, in_books, is_full, joining, shared_now}
-use Rattle.xd_ledger.specs.State.{all_moved, collecting, moved}
+use Rattle.xd_ledger.specs.Collecting.{collecting}
+use Rattle.xd_ledger.specs.State.{all_moved, moved}
 use Rattle.xd_ledger.specs.Outputs.{acts_of, after_joining, own_outputs, slots_of_rota, unless_stopped}
 use Rattle.xd_laws.proofs.Logic.{cases_of, clash, differ, in_both, not_true, or-left, or-right, split-and, split-or}
 use Rattle.xd_laws.proofs.Crew.{has, has-same, has-set}

@@ -20,7 +20,10 @@ use Rattle.xd_ledger.specs.Collections.{unequal, listed, with_list}
 use Rattle.xd_ledger.specs.Stops.{stopped_by}
 use Rattle.xd_ledger.specs.Retry.{is_retry}
 use Rattle.xd_ledger.specs.Sharing.{State, in_books, joining, share_where_full, shared_now, is_full}
-use Rattle.xd_ledger.specs.State.{moved, collecting, completed_first, steal_without}
+use Rattle.xd_ledger.specs.Collecting.{collecting}
+use Rattle.xd_ledger.specs.Deaths.{steal_without}
+use Rattle.xd_ledger.specs.Results.{completed_first}
+use Rattle.xd_ledger.specs.State.{moved}
 use Rattle.xd_ledger.specs.Proper.{may_follow, may_give_back, is_head, are_ids}
 use Rattle.xd_ledger.specs.Orderly.{is_orderly, may_run, not_empty}
 use Rattle.xd_laws.proofs.Logic.{differ, cases_of, split-and, not_true, or-false, in_both}

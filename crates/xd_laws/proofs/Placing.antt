@@ -16,7 +16,8 @@ use Rattle.xd_ledger.specs.Workers.{has_collected, is_active, is_shut, made_coll
 use Rattle.xd_ledger.specs.Collections.{listed, unequal, with_list}
 use Rattle.xd_ledger.specs.Retry.{is_retry}
 use Rattle.xd_ledger.specs.Sharing.{State, in_books, shared_now}
-use Rattle.xd_ledger.specs.State.{all_moved, completed_first, moved, next, no_one, reached}
+use Rattle.xd_ledger.specs.Results.{completed_first}
+use Rattle.xd_ledger.specs.State.{all_moved, moved, next, no_one, reached}
 use Rattle.xd_ledger.specs.Proper.{may_follow}
 use Rattle.xd_ledger.specs.Orderly.{is_orderly, may_run, not_empty}
 use Rattle.xd_laws.specs.Places.{HeldBy, InPool, Place, Reported, StandsAt, or_before, place_by, put_last, puts}

@@ -8,7 +8,8 @@ use Rattle.xd_ledger.specs.Numbers.{among, all_among, times, without}
 use Rattle.xd_ledger.specs.Table.{Table, held, seat_shut, shut_down, workers_of}
 use Rattle.xd_ledger.specs.Plan.{Plan}
 use Rattle.xd_ledger.specs.Turn.{Turn, shut, in_turn, shut_each}
-use Rattle.xd_ledger.specs.ScopeModes.{enough, give_unit, give_more, refill, shut_where_spent, share}
+use Rattle.xd_ledger.specs.ScopeModes.{give_unit, give_more, refill, shut_where_spent, share}
+use Rattle.xd_ledger.specs.Turn.{enough}
 use Rattle.xd_ledger.specs.Sharing.{State}
 use Rattle.xd_ledger.specs.Outputs.{turn_of}
 use Rattle.xd_ledger.specs.Orderly.{not_empty}

@@ -16,7 +16,9 @@ use Rattle.xd_ledger.specs.Workers.{is_active, was_ready, has_collected, slot_of
 use Rattle.xd_ledger.specs.Collections.{unequal, listed, with_list}
 use Rattle.xd_ledger.specs.Retry.{is_retry}
 use Rattle.xd_ledger.specs.Sharing.{State, in_books, ids_at, planned, shared_now}
-use Rattle.xd_ledger.specs.State.{moved, completed_first, down_plan}
+use Rattle.xd_ledger.specs.Deaths.{down_plan}
+use Rattle.xd_ledger.specs.Results.{completed_first}
+use Rattle.xd_ledger.specs.State.{moved}
 use Rattle.xd_ledger.specs.Proper.{may_follow, are_ids}
 use Rattle.xd_ledger.specs.Suits.{tests_of}
 use Rattle.xd_laws.proofs.Logic.{differ, cases_of, split-and, not_true}

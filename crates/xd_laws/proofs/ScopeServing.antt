@@ -22,7 +22,9 @@ use Rattle.xd_ledger.specs.Workers.{made_collected, slot_of}
 use Rattle.xd_ledger.specs.Collections.{listed, unequal, with_list}
 use Rattle.xd_ledger.specs.Retry.{is_retry}
 use Rattle.xd_ledger.specs.Sharing.{State, ids_at, in_books, planned, shared_now}
-use Rattle.xd_ledger.specs.State.{moved, all_moved, completed_first, down_plan, no_one}
+use Rattle.xd_ledger.specs.Deaths.{down_plan}
+use Rattle.xd_ledger.specs.Results.{completed_first}
+use Rattle.xd_ledger.specs.State.{moved, all_moved, no_one}
 use Rattle.xd_ledger.specs.Outputs.{acts_of, turn_of}
 use Rattle.xd_ledger.specs.Proper.{may_follow}
 use Rattle.xd_ledger.specs.Suits.{tests_of}

@@ -11,10 +11,12 @@ use Rattle.xd_ledger.specs.Table.{Table, held, seat_shut, workers_of, assigned, 
 use Rattle.xd_ledger.specs.Plan.{Plan, is_each, is_scope}
 use Rattle.xd_ledger.specs.Turn.{Turn, shut, in_turn, shut_each}
 use Rattle.xd_ledger.specs.Units.{without_unit}
-use Rattle.xd_ledger.specs.ScopeModes.{enough, give_unit, give_more, refill, refill_all, shut_where_spent, share}
+use Rattle.xd_ledger.specs.ScopeModes.{give_unit, give_more, refill, refill_all, shut_where_spent, share}
+use Rattle.xd_ledger.specs.Turn.{enough}
 use Rattle.xd_ledger.specs.Workers.{slot_of}
 use Rattle.xd_ledger.specs.Sharing.{State}
-use Rattle.xd_ledger.specs.State.{all_moved, run_plan}
+use Rattle.xd_ledger.specs.Handing.{run_plan}
+use Rattle.xd_ledger.specs.State.{all_moved}
 use Rattle.xd_ledger.specs.Outputs.{turn_of}
 use Rattle.xd_ledger.specs.Orderly.{not_empty}
 use Rattle.xd_ledger.specs.Suits.{tests_of}

@@ -17,7 +17,8 @@ use Rattle.xd_ledger.specs.Books.{marked}
 use Rattle.xd_ledger.specs.Workers.{slot_in, slot_of, started, made_ready, made_collected, made_shut, made_gone}
 use Rattle.xd_ledger.specs.Collections.{ids_of, key, listed, listed_in, lists_with, unequal, with_list}
 use Rattle.xd_ledger.specs.Sharing.{State, ids_at, in_books, shared_now, sizes_from}
-use Rattle.xd_ledger.specs.State.{completed_first, moved, no_one}
+use Rattle.xd_ledger.specs.Results.{completed_first}
+use Rattle.xd_ledger.specs.State.{moved, no_one}
 use Rattle.xd_ledger.specs.Proper.{may_follow}
 use Rattle.xd_ledger.specs.Orderly.{is_orderly}
 use Rattle.xd_laws.specs.Collected.{slots}

@@ -16,7 +16,8 @@ use Rattle.xd_ledger.specs.Books.{marked}
 use Rattle.xd_ledger.specs.Collections.{listed, unequal, with_list}
 use Rattle.xd_ledger.specs.Workers.{made_collected, made_gone, made_ready, made_shut, slot_in, slot_of, started}
 use Rattle.xd_ledger.specs.Sharing.{State, in_books}
-use Rattle.xd_ledger.specs.State.{all_moved, completed_first, moved, no_one}
+use Rattle.xd_ledger.specs.Results.{completed_first}
+use Rattle.xd_ledger.specs.State.{all_moved, moved, no_one}
 use Rattle.xd_ledger.specs.Orderly.{all_orderly, is_orderly, may_run, not_empty}
 use Rattle.xd_ledger.specs.Proper.{may_follow}
 use Rattle.xd_laws.proofs.Logic.{cases_of, differ, or-left, split-and}

@@ -19,7 +19,8 @@ use Rattle.xd_ledger.specs.Workers.{slot_of, made_collected, waiting}
 use Rattle.xd_ledger.specs.Collections.{unequal, listed, with_list}
 use Rattle.xd_ledger.specs.Stops.{is_stopped}
 use Rattle.xd_ledger.specs.Sharing.{State, in_books}
-use Rattle.xd_ledger.specs.State.{moved, all_moved, settled, settles, is_finished, completed_first, no_one}
+use Rattle.xd_ledger.specs.Results.{completed_first}
+use Rattle.xd_ledger.specs.State.{moved, all_moved, settled, settles, is_finished, no_one}
 use Rattle.xd_ledger.specs.Outputs.{acts_of, after_death, closing, own_outputs, shut_all, stepped, unless_stopped}
 use Rattle.xd_ledger.specs.Modes.Call.{Died}
 use Rattle.xd_ledger.specs.Histories.{begun, first_starts, starts_from, stepped_all}

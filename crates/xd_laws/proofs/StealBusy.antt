@@ -7,7 +7,8 @@ use Rattle.xd_ledger.specs.Numbers.{among}
 use Rattle.xd_ledger.specs.Table.{held_in, workers_of}
 use Rattle.xd_ledger.specs.Plan.{Asked}
 use Rattle.xd_ledger.specs.Turn.{Turn, give_front, shut_each}
-use Rattle.xd_ledger.specs.Worksteal.{enough, idle, dealt, victim, number, asks, asks_or_shuts, after_dealing, rule, share}
+use Rattle.xd_ledger.specs.Worksteal.{idle, dealt, victim, number, asks, asks_or_shuts, after_dealing, rule, share}
+use Rattle.xd_ledger.specs.Turn.{enough}
 use Rattle.xd_laws.proofs.Logic.{differ, cases_of, in_both}
 use Rattle.xd_laws.proofs.Rota.{is_told}
 use Rattle.xd_laws.proofs.Busy.{AllWork, give-all, shut_each-pool, taken-all}

@@ -8,7 +8,8 @@ use Rattle.xd_ledger.specs.Numbers.{among, all_distinct, all_among}
 use Rattle.xd_ledger.specs.Table.{Table, held, held_in, in_rota, workers_of}
 use Rattle.xd_ledger.specs.Plan.{Plan, Asked}
 use Rattle.xd_ledger.specs.Turn.{Turn, give, give_front, shut_each}
-use Rattle.xd_ledger.specs.Worksteal.{enough, idle, dealt, open_seats, most, first_with, victim, number, asks, asks_or_shuts, after_dealing, rule, share}
+use Rattle.xd_ledger.specs.Worksteal.{idle, dealt, open_seats, most, first_with, victim, number, asks, asks_or_shuts, after_dealing, rule, share}
+use Rattle.xd_ledger.specs.Turn.{enough}
 use Rattle.xd_ledger.specs.Workers.{is_shut}
 use Rattle.xd_ledger.specs.Sharing.{State}
 use Rattle.xd_ledger.specs.State.{all_moved}

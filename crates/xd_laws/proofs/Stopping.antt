@@ -22,7 +22,9 @@ use Rattle.xd_ledger.specs.Collections.{differ_at, ids_of, key, listed, listed_i
 use Rattle.xd_ledger.specs.Stops.{at_limit, or_stop, out_of_restarts, stopped_by}
 use Rattle.xd_ledger.specs.Retry.{is_retry}
 use Rattle.xd_ledger.specs.Sharing.{State, in_books, shared_now}
-use Rattle.xd_ledger.specs.State.{buried, completed_first, done_stop, failing, gone, moved, no_one}
+use Rattle.xd_ledger.specs.Deaths.{buried, gone}
+use Rattle.xd_ledger.specs.Results.{completed_first, done_stop, failing}
+use Rattle.xd_ledger.specs.State.{moved, no_one}
 use Rattle.xd_ledger.specs.Proper.{are_ids, may_follow}
 use Rattle.xd_ledger.specs.Orderly.{is_orderly}
 use Rattle.xd_ledger.specs.Reports.{Report, Result, Crash, reports, reports_of}

@@ -13,7 +13,8 @@ use Rattle.xd_ledger.specs.Workers.{is_active, was_ready, slot_of, made_collecte
 use Rattle.xd_ledger.specs.Collections.{unequal, listed, with_list}
 use Rattle.xd_ledger.specs.Retry.{is_retry}
 use Rattle.xd_ledger.specs.Sharing.{State, in_books}
-use Rattle.xd_ledger.specs.State.{moved, all_moved, settled, no_one, completed_first}
+use Rattle.xd_ledger.specs.Results.{completed_first}
+use Rattle.xd_ledger.specs.State.{moved, all_moved, settled, no_one}
 use Rattle.xd_ledger.specs.Outputs.{outputs, stepped}
 use Rattle.xd_ledger.specs.Histories.{starts_from, first_starts, begun, grown, journal_of, stepped_all}
 use Rattle.xd_ledger.specs.Proper.{may_follow, all_may_follow}

@@ -10,7 +10,8 @@ use Rattle.xd_ledger.specs.Plan.{Plan, items_named, is_each, is_scope}
 use Rattle.xd_ledger.specs.Turn.{Turn, give, give_front, shut, in_turn, shut_each, shut_where_empty}
 use Rattle.xd_ledger.specs.Workers.{is_active, was_ready, is_shut, slot_of}
 use Rattle.xd_ledger.specs.Sharing.{State}
-use Rattle.xd_ledger.specs.State.{moved, next, all_moved, run_plan}
+use Rattle.xd_ledger.specs.Handing.{run_plan}
+use Rattle.xd_ledger.specs.State.{moved, next, all_moved}
 use Rattle.xd_ledger.specs.Outputs.{turn_of}
 use Rattle.xd_ledger.specs.Orderly.{is_orderly, all_orderly, not_empty}
 use Rattle.xd_ledger.specs.Stops.{is_stopped}

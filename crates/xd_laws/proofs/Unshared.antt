@@ -13,7 +13,8 @@ use Rattle.xd_ledger.specs.Collections.{listed, unequal, with_list}
 use Rattle.xd_ledger.specs.Workers.{made_collected, slot_of}
 use Rattle.xd_ledger.specs.Retry.{is_retry}
 use Rattle.xd_ledger.specs.Sharing.{State, in_books}
-use Rattle.xd_ledger.specs.State.{down_plan, moved, no_one}
+use Rattle.xd_ledger.specs.Deaths.{down_plan}
+use Rattle.xd_ledger.specs.State.{moved, no_one}
 use Rattle.xd_ledger.specs.Proper.{may_follow}
 use Rattle.xd_ledger.specs.Orderly.{is_orderly, may_run, not_empty}
 use Rattle.xd_laws.specs.Called.{Reached}

@@ -17,6 +17,6 @@ has_retries item b = nat_lt (times item b.lost) b.settings.retries
 abbrev pub retries_first : List ℕ → Books → Bool
 retries_first items b = elim items [ [] ↦ false | item ∷ rest ↦ may_restart b && has_retries item b ]
 
--- a Down of the worker behind these books is a retry
+-- a Down of the worker after these books is a retry
 abbrev pub is_retry : ℕ → Books → Bool
 is_retry worker b = retries_first (held worker b.table) b

@@ -3,7 +3,8 @@ ghost use Rattle.std.specs.Prelude.{◌≡◌, ◌+◌, ℕ, List, Some, OnOk, I
 ghost use Rattle.xd_ledger.specs.Histories.{is_over};
 ghost use Rattle.xd_ledger.specs.Numbers.{first_of, times};
 ghost use Rattle.xd_ledger.specs.Retry.{has_retries, may_restart, retries_first};
-ghost use Rattle.xd_ledger.specs.State.{gone, limited, lost_with, scored};
+ghost use Rattle.xd_ledger.specs.Deaths.{gone, limited, lost_with};
+ghost use Rattle.xd_ledger.specs.Results.{scored};
 ghost use Rattle.xd_ledger.specs.Stops.{at_limit, is_shutting, is_stopped, out_of_restarts, stopped_by};
 
 use crate::books::Books;
@@ -11,7 +12,7 @@ use crate::crew::Mark;
 use xd_edge::OutOfMemory;
 use xd_journal::{Outcome, RunStop};
 
-// One more. A journal with so many entries would have found no room before.
+// One more. A journal with that many entries would have found no room before.
 fn one_more(count: u32) -> Result<u32, OutOfMemory>
     ensures { IfOk result (λ n. n ≡ count + 1) }
 {

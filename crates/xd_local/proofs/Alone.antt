@@ -18,7 +18,8 @@ use Rattle.xd_ledger.specs.Plan.{Plan, base, is_each, items_named}
 use Rattle.xd_ledger.specs.Reports.{Report, item_of, reports_from}
 use Rattle.xd_ledger.specs.Reports.Report.{Result}
 use Rattle.xd_ledger.specs.Sharing.{State}
-use Rattle.xd_ledger.specs.State.{all_moved, done_books, failing, moved, settled}
+use Rattle.xd_ledger.specs.Results.{done_books, failing}
+use Rattle.xd_ledger.specs.State.{all_moved, moved, settled}
 use Rattle.xd_ledger.specs.Workers.{slot_of}
 use Rattle.xd_child.specs.Ending.{fault_count}
 use Rattle.xd_local.specs.Local.{faults_of, report_faults, stop_at}

@@ -13,7 +13,8 @@ use Rattle.xd_journal.specs.Kept.{most_of_one, most_of_all, room_behind}
 use Rattle.xd_journal.specs.Local.{TestResult, round, local_entries}
 use Rattle.xd_journal.specs.Stop.{reaches}
 use Rattle.xd_ledger.specs.Sharing.{State}
-use Rattle.xd_ledger.specs.State.{all_moved, failing, no_one}
+use Rattle.xd_ledger.specs.Results.{failing}
+use Rattle.xd_ledger.specs.State.{all_moved, no_one}
 use Rattle.xd_report.specs.declared.reporter.Reporter.{Reporter}
 use Rattle.xd_report.specs.Follows.{Follows}
 use Rattle.xd_report.specs.Lines.{lines_from, run_lines}

@@ -17,7 +17,8 @@ use Rattle.xd_ledger.specs.Plan.{base, is_each}
 use Rattle.xd_ledger.specs.Reports.{Report, Result, Crash, reports_of, reports_from}
 use Rattle.xd_ledger.specs.Retry.{is_retry}
 use Rattle.xd_ledger.specs.Sharing.{State, in_books, is_full, shared_now}
-use Rattle.xd_ledger.specs.State.{after_collected, collecting, is_input, moved, next, reached, settled}
+use Rattle.xd_ledger.specs.Collecting.{after_collected, collecting}
+use Rattle.xd_ledger.specs.State.{is_input, moved, next, reached, settled}
 use Rattle.xd_ledger.specs.Stops.{stopped_by}
 use Rattle.xd_ledger.specs.Table.{crash_item, held, joined}
 use Rattle.xd_ledger.specs.Workers.{is_shut, made_collected, slot_of}

@@ -14,7 +14,8 @@ use Rattle.xd_ledger.specs.Sharing.{State, ids_at, in_books, is_full, shared_now
 use Rattle.xd_ledger.specs.Table.{joined}
 use Rattle.xd_ledger.specs.Plan.{is_each}
 use Rattle.xd_ledger.specs.Workers.{made_collected, slot_of}
-use Rattle.xd_ledger.specs.State.{after_collected, all_moved, next, no_one, settled}
+use Rattle.xd_ledger.specs.Collecting.{after_collected}
+use Rattle.xd_ledger.specs.State.{all_moved, next, no_one, settled}
 use Rattle.xd_report.specs.Lines.{collected_line, lines_from, result_line, run_lines, tests_line}
 use Rattle.xd_report.specs.LocalLines.{test_lines}
 use Rattle.xd_report.specs.Tests.{id_of, mode_of}

@@ -3,7 +3,8 @@ use Rattle.std.proofs.Common.{◌≡◌, ℕ, true, false, Option, Some, None, i
 use Rattle.xd_journal.specs.declared.entry.Entry.{Entry}
 use Rattle.xd_journal.specs.declared.entry.RunStop.{RunStop}
 use Rattle.xd_ledger.specs.Sharing.{State, in_books, joining}
-use Rattle.xd_ledger.specs.State.{collecting, is_input, reached, settled}
+use Rattle.xd_ledger.specs.Collecting.{collecting}
+use Rattle.xd_ledger.specs.State.{is_input, reached, settled}
 use Rattle.xd_ledger.specs.Stops.{stopped_by}
 use Rattle.xd_ledger.specs.Workers.{is_shut}
 use Rattle.xd_report.specs.declared.reporter.Reporter.{Reporter}

@@ -17,7 +17,8 @@ use Rattle.xd_ledger.specs.Plan.{Plan, base, is_each, items_named}
 use Rattle.xd_ledger.specs.Reports.{Report, Result, Crash, reports, reports_from, reports_of}
 use Rattle.xd_ledger.specs.Retry.{is_retry}
 use Rattle.xd_ledger.specs.Sharing.{State, ids_at, in_books, is_full, shared_now}
-use Rattle.xd_ledger.specs.State.{after_collected, all_moved, collecting, is_input, moved, next, no_one, reached, settled}
+use Rattle.xd_ledger.specs.Collecting.{after_collected, collecting}
+use Rattle.xd_ledger.specs.State.{all_moved, is_input, moved, next, no_one, reached, settled}
 use Rattle.xd_ledger.specs.Stops.{stopped_by}
 use Rattle.xd_ledger.specs.Table.{crash_item, held, joined, retried_item}
 use Rattle.xd_ledger.specs.Workers.{is_shut, made_collected, slot_of}

@@ -9,7 +9,8 @@ use Rattle.xd_journal.specs.declared.entry.RunStop.TheVariants.{Completed, MaxFa
 use Rattle.xd_journal.specs.declared.entry.Entry.TheVariants.{Ready, Collected, Done, Back, Finished, Refused, Down, NotStarted, Start, Run, RunAll, Steal, Shutdown, Kill, Over}
 use Rattle.xd_journal.specs.declared.entry.Ids.{Ids}
 use Rattle.xd_ledger.specs.Sharing.{State}
-use Rattle.xd_ledger.specs.State.{after_collected, all_moved, next, no_one, reached, settled, state_at}
+use Rattle.xd_ledger.specs.Collecting.{after_collected}
+use Rattle.xd_ledger.specs.State.{all_moved, next, no_one, reached, settled, state_at}
 use Rattle.xd_report.specs.declared.counts.Counts.{Counts}
 use Rattle.xd_report.specs.Blocks.{block_of, blocks_from}
 use Rattle.xd_report.specs.Lines.{collected_line, lines_from, lines_of, run_lines, told}

@@ -12,7 +12,8 @@ use Rattle.xd_journal.specs.Local.{is_local_mode}
 use Rattle.xd_ledger.specs.declared.member.Member.{Member}
 use Rattle.xd_ledger.specs.Retry.{is_retry}
 use Rattle.xd_ledger.specs.Sharing.{State}
-use Rattle.xd_ledger.specs.State.{after_collected, reached, next, all_moved, no_one}
+use Rattle.xd_ledger.specs.Collecting.{after_collected}
+use Rattle.xd_ledger.specs.State.{reached, next, all_moved, no_one}
 use Rattle.xd_report.specs.Names.{name, tag, plain, outcome_text, lost_text, mode_text, cause_text}
 use Rattle.xd_report.specs.Tests.{mode_of, id_of, head, item_id, tests}
 

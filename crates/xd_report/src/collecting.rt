@@ -4,7 +4,7 @@ ghost use Rattle.xd_ledger.specs.Books.{marked, on_table};
 ghost use Rattle.xd_ledger.specs.Collections.{ids_of, unequal, listed, with_list};
 ghost use Rattle.xd_ledger.specs.Plan.{is_each};
 ghost use Rattle.xd_ledger.specs.Sharing.{State, joining, planned, share_where_full, sizes_from, in_books};
-ghost use Rattle.xd_ledger.specs.State.{after_collected};
+ghost use Rattle.xd_ledger.specs.Collecting.{after_collected};
 ghost use Rattle.xd_ledger.specs.Table.{joined};
 ghost use Rattle.xd_ledger.specs.Workers.{made_collected};
 ghost use Rattle.xd_report.specs.Follows.{Follows};
@@ -26,7 +26,7 @@ fn ids_of(given: &Ids) -> &[Text]
     }
 }
 
-// How many tests each of so many slots has, from slot 0 on.
+// How many tests each of n slots has, from slot 0 on.
 fn sizes_of(alloc: Global, books: &Books, slots: u32) -> Result<Vec<u64>, OutOfMemory>
     ensures { IfOk result (λ sizes. sizes.items ≡ sizes_from books.now.lists 0 slots) }
 {

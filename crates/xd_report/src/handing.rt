@@ -3,7 +3,8 @@ ghost use Rattle.std.specs.Prelude.{OnOk};
 ghost use Rattle.xd_journal.specs.declared.entry.Entry.TheVariants.{Ready, Start, Shutdown};
 ghost use Rattle.xd_ledger.specs.Plan.{base};
 ghost use Rattle.xd_ledger.specs.Sharing.{State};
-ghost use Rattle.xd_ledger.specs.State.{moved, after_back, after_run, after_run_all};
+ghost use Rattle.xd_ledger.specs.Handing.{after_back, after_run, after_run_all};
+ghost use Rattle.xd_ledger.specs.State.{moved};
 ghost use Rattle.xd_report.specs.Follows.{Follows};
 ghost use Rattle.xd_report.specs.Tests.{tests};
 

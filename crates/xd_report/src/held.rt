@@ -12,7 +12,7 @@ use xd_edge::OutOfMemory;
 /// The items that a worker holds, the one that runs first in front. Contracts see the list.
 ///
 /// A worker mostly gets items in rising order and completes the first. Where the list rises, its first item stands
-/// nowhere behind, so it is taken without a walk over the others.
+/// nowhere after it, so it is taken without a walk over the others.
 #[derive(Drop)]
 pub struct Held {
     items: VecDeque<u64>,
@@ -48,7 +48,7 @@ impl Held {
         self.items.front().copied()
     }
 
-    /// These come behind the others.
+    /// These come after the others.
     pub fn add(&mut self, items: &[u64]) -> Result<(), OutOfMemory>
         ensures { OnOk result (self.new ≡ self.old ++ items.now) }
     {
@@ -58,7 +58,7 @@ impl Held {
         Ok(())
     }
 
-    // One more behind the others.
+    // One more after the others.
     fn push(&mut self, item: u64) -> Result<(), OutOfMemory>
         ensures { OnOk result (self.new ≡ self.old ++ item ∷ []) }
     {
@@ -68,7 +68,7 @@ impl Held {
         Ok(())
     }
 
-    // Whether the list rises with this item behind it.
+    // Whether the list rises with this item after it.
     fn rises_with(&self, item: u64) -> bool
         ensures { (result ≡ true) ↔ IsStrictlyIncreasing (self.now ++ item ∷ []) }
     {

@@ -27,7 +27,7 @@ pub fn head_in(rota: &[Holder], worker: u32) -> Option<u64>
     None
 }
 
-/// The worker gets these behind what it holds.
+/// The worker gets these after what it holds.
 pub fn add_held(rota: &mut [Holder], worker: u32, items: &[u64]) -> Result<(), OutOfMemory>
     ensures { OnOk result (map seat_of rota.new ≡ at_seat worker (λ s. record s { held = s.held ++ items.now }) (map seat_of rota.old)) }
 {

@@ -37,7 +37,7 @@ pub fn report_lines(
 
 impl Reporter {
     /// The lines of the entries that come next, each ended by a newline. The cost of a result does not grow with what
-    /// came before. Behind want of memory the reporter is given up.
+    /// came before. After it ran out of memory the reporter is given up.
     pub fn lines(&mut self, alloc: Global, entries: &[Entry]) -> Result<Blob, OutOfMemory>
         ensures lines { (s : State) → Follows self.old s → IfOk result (λ lines. lines ≡ lines_from s entries.now) }
         ensures follows { (s : State) → Follows self.old s → OnOk result (Follows self.new (all_moved s entries.now)) }
@@ -49,7 +49,7 @@ impl Reporter {
         Ok(Blob { bytes })
     }
 
-    /// Goes over the entries that come next. Behind want of memory the reporter is given up.
+    /// Goes over the entries that come next. After it ran out of memory the reporter is given up.
     pub fn follow(&mut self, alloc: Global, entries: &[Entry]) -> Result<(), OutOfMemory>
         ensures { (s : State) → Follows self.old s → OnOk result (Follows self.new (all_moved s entries.now)) }
     {
@@ -78,7 +78,7 @@ impl Reporter {
         Ok(())
     }
 
-    // The lines that the state ahead of an entry tells; those of a collection are told by the state behind it.
+    // The lines that the state before an entry tells; those of a collection are told by the state after it.
     fn add_told(&self, alloc: Global, out: &mut Vec<u8>, entry: &Entry) -> Result<(), OutOfMemory>
         ensures { (s : State) → Follows self.now s → OnOk result (out.new.items ≡ out.old.items ++ told s entry.now) }
     {

@@ -4,7 +4,9 @@ ghost use Rattle.xd_journal.specs.declared.entry.Entry.TheVariants.{Done, Finish
 ghost use Rattle.xd_ledger.specs.Books.{on_table};
 ghost use Rattle.xd_ledger.specs.Plan.{base, items_named};
 ghost use Rattle.xd_ledger.specs.Sharing.{State, in_books};
-ghost use Rattle.xd_ledger.specs.State.{moved, after_down, completed_first};
+ghost use Rattle.xd_ledger.specs.Deaths.{after_down};
+ghost use Rattle.xd_ledger.specs.Results.{completed_first};
+ghost use Rattle.xd_ledger.specs.State.{moved};
 ghost use Rattle.xd_ledger.specs.Stops.{stopped_by};
 ghost use Rattle.xd_ledger.specs.Workers.{slot_of};
 ghost use Rattle.xd_report.specs.Follows.{Follows};

@@ -1,4 +1,4 @@
-// Bytes, texts and numbers behind what was written so far.
+// Bytes, texts and numbers after what was written so far.
 ghost use Rattle.std.specs.Prelude.{◌≡◌, ◌++◌, OnOk};
 ghost use Rattle.std.specs.Fmt.{decimal};
 

@@ -10,7 +10,7 @@ use Rattle.xd_ledger.specs.Calls.{Turned, death_plan, last_of, turn}
 use Rattle.xd_ledger.specs.Modes.{Call, scope_turn, turned}
 use Rattle.xd_ledger.specs.Plan.{Plan, is_scope}
 use Rattle.xd_ledger.specs.Sharing.{shared_plan}
-use Rattle.xd_ledger.specs.State.{down_plan}
+use Rattle.xd_ledger.specs.Deaths.{down_plan}
 use Rattle.xd_ledger.specs.Suits.{AreInPool}
 use Rattle.xd_ledger.specs.Table.{Table, retried_item}
 use Rattle.xd_ledger.specs.Turn.{Turn}

@@ -5,7 +5,8 @@ use Rattle.std.proofs.lemmas.Bool.Decides.{nat_tests}
 use Rattle.xd_journal.specs.declared.entry.Entry.{Entry}
 use Rattle.xd_ledger.specs.Calls.{turn}
 use Rattle.xd_ledger.specs.Plan.{Plan}
-use Rattle.xd_ledger.specs.ScopeModes.{enough, give_more, give_unit, refill}
+use Rattle.xd_ledger.specs.ScopeModes.{give_more, give_unit, refill}
+use Rattle.xd_ledger.specs.Turn.{enough}
 use Rattle.xd_ledger.specs.Table.{Table, held, seat_shut}
 use Rattle.xd_ledger.specs.Turn.{Turn, in_turn, shut}
 use Rattle.xd_ledger.proofs.Turns.{in_turn-one_more}

@@ -12,7 +12,8 @@ use Rattle.xd_journal.specs.declared.entry.Entry.{Entry}
 use Rattle.xd_ledger.specs.Table.{Table, held}
 use Rattle.xd_ledger.specs.Turn.{Turn, in_turn, shut_each}
 use Rattle.xd_ledger.specs.Plan.{Handed, Plan, is_scope}
-use Rattle.xd_ledger.specs.ScopeModes.{enough, give_unit, refill}
+use Rattle.xd_ledger.specs.ScopeModes.{give_unit, refill}
+use Rattle.xd_ledger.specs.Turn.{enough}
 use Rattle.xd_scope.specs.declared.units.Units.{Units}
 
 -- the units of this worker, in order of assignment

@@ -2,7 +2,8 @@
 ghost use Rattle.std.specs.Prelude.{◌≡◌, ◌≤◌, OnOk, length, take, true};
 ghost use Rattle.xd_ledger.specs.Calls.{turn};
 ghost use Rattle.xd_ledger.specs.Plan.{Plan};
-ghost use Rattle.xd_ledger.specs.ScopeModes.{enough, give_more, give_unit, refill, refill_all};
+ghost use Rattle.xd_ledger.specs.ScopeModes.{give_more, give_unit, refill, refill_all};
+ghost use Rattle.xd_ledger.specs.Turn.{enough};
 ghost use Rattle.xd_ledger.specs.Suits.{AreInPool};
 ghost use Rattle.xd_ledger.specs.Table.{in_rota, workers_of};
 ghost use Rattle.xd_ledger.specs.Turn.{in_turn};

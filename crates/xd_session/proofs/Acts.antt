@@ -17,7 +17,10 @@ use Rattle.xd_ledger.specs.Workers.{begun_at, waiting, slot_of}
 use Rattle.xd_ledger.specs.Retry.{is_retry}
 use Rattle.xd_ledger.specs.Stops.{is_stopped, or_stop}
 use Rattle.xd_ledger.specs.Sharing.{State, in_books}
-use Rattle.xd_ledger.specs.State.{after_back, after_down, all_moved, done_books, down_books, down_plan, moved, next, steal_without}
+use Rattle.xd_ledger.specs.Deaths.{after_down, down_books, down_plan, steal_without}
+use Rattle.xd_ledger.specs.Handing.{after_back}
+use Rattle.xd_ledger.specs.Results.{done_books}
+use Rattle.xd_ledger.specs.State.{all_moved, moved, next}
 use Rattle.xd_ledger.specs.Suits.{Finds, Suits}
 use Rattle.xd_ledger.specs.Outputs.{acts_of, own_outputs, shut_all}
 use Rattle.xd_laws.specs.Called.{Called}

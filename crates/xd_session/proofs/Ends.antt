@@ -22,7 +22,9 @@ use Rattle.xd_ledger.specs.Collections.{differ_at, listed, unequal, with_list}
 use Rattle.xd_ledger.specs.Stops.{at_limit, is_shutting, is_stopped, or_stop, out_of_restarts}
 use Rattle.xd_ledger.specs.Retry.{is_retry}
 use Rattle.xd_ledger.specs.Sharing.{State, in_books}
-use Rattle.xd_ledger.specs.State.{all_moved, buried, completed_first, done_books, done_stop, down_books, failing, gone, is_input, moved, next, no_one, settled, settles, state_at}
+use Rattle.xd_ledger.specs.Deaths.{buried, down_books, gone}
+use Rattle.xd_ledger.specs.Results.{completed_first, done_books, done_stop, failing}
+use Rattle.xd_ledger.specs.State.{all_moved, is_input, moved, next, no_one, settled, settles, state_at}
 use Rattle.xd_ledger.specs.Outputs.{acts_of, after_death, after_joining, closing, outputs, own_outputs, shut_all, slots_of_rota, stepped, unless_stopped}
 use Rattle.xd_ledger.specs.Histories.{begun, first_starts, grown, journal_of, starts_from}
 use Rattle.xd_ledger.specs.Ending.{ending, kills, over_in}

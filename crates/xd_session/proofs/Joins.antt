@@ -15,7 +15,9 @@ use Rattle.xd_ledger.specs.Table.{Table}
 use Rattle.xd_ledger.specs.Books.{marked}
 use Rattle.xd_ledger.specs.Workers.{has_collected, is_active, is_shut, made_collected, made_gone, made_ready, made_shut, slot_of, started, was_ready}
 use Rattle.xd_ledger.specs.Sharing.{State, in_books, is_full, joining}
-use Rattle.xd_ledger.specs.State.{all_moved, collecting, completed_first, moved, no_one}
+use Rattle.xd_ledger.specs.Collecting.{collecting}
+use Rattle.xd_ledger.specs.Results.{completed_first}
+use Rattle.xd_ledger.specs.State.{all_moved, moved, no_one}
 use Rattle.xd_ledger.specs.Outputs.{outputs, stepped}
 use Rattle.xd_ledger.specs.Histories.{begun, starts_from, stepped_all}
 use Rattle.xd_ledger.specs.Orderly.{all_orderly, is_orderly, is_orderly_run}

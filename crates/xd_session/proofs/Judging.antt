@@ -14,7 +14,8 @@ use Rattle.xd_ledger.specs.Meaning.{given_ids}
 use Rattle.xd_journal.specs.declared.entry.Outcome.{Outcome}
 use Rattle.xd_journal.specs.declared.entry.RunStop.{RunStop}
 use Rattle.xd_ledger.specs.Books.{Books}
-use Rattle.xd_ledger.specs.State.{done_books, moved}
+use Rattle.xd_ledger.specs.Results.{done_books}
+use Rattle.xd_ledger.specs.State.{moved}
 use Rattle.xd_ledger.specs.Stops.{is_stopped, or_stop}
 use Rattle.xd_ledger.specs.Numbers.{all_among, all_distinct, among, first_of, times}
 use Rattle.xd_ledger.specs.Plan.{Asked, Plan, is_each, items_named, total}

@@ -7,7 +7,7 @@ use Rattle.xd_ledger.specs.Numbers.{times}
 use Rattle.xd_ledger.specs.Plan.{Plan, total}
 use Rattle.xd_ledger.specs.Retry.{is_retry, retries_first}
 use Rattle.xd_ledger.specs.Sharing.{State}
-use Rattle.xd_ledger.specs.State.{after_down, down_books, down_plan}
+use Rattle.xd_ledger.specs.Deaths.{after_down, down_books, down_plan}
 use Rattle.xd_ledger.specs.Table.{all_items, held, retried_item}
 use Rattle.xd_laws.specs.Called.{Reached}
 use Rattle.xd_laws.proofs.Calls.{tidy-reached}

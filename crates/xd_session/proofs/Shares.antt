@@ -21,7 +21,8 @@ use Rattle.xd_ledger.specs.Plan.{Plan, is_each}
 use Rattle.xd_edge.specs.Limits.{most_tests}
 use Rattle.xd_ledger.specs.Proper.{may_follow, most_workers}
 use Rattle.xd_ledger.specs.Sharing.{State, ids_at, in_books, is_full, joining, shared_now, sizes_from}
-use Rattle.xd_ledger.specs.State.{collecting, moved}
+use Rattle.xd_ledger.specs.Collecting.{collecting}
+use Rattle.xd_ledger.specs.State.{moved}
 use Rattle.xd_ledger.specs.Sound.{most_items}
 use Rattle.xd_ledger.specs.Stops.{is_stopped}
 use Rattle.xd_ledger.specs.Table.{joined}

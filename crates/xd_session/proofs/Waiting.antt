@@ -18,7 +18,8 @@ use Rattle.xd_ledger.specs.Orderly.{all_orderly, is_orderly, is_orderly_run}
 use Rattle.xd_ledger.specs.Outputs.{acts_of, after_death, after_joining, closing, outputs, own_outputs, shut_all, stepped, unless_stopped}
 use Rattle.xd_ledger.specs.Proper.{IsProper, all_may_follow, may_follow}
 use Rattle.xd_ledger.specs.Sharing.{State, in_books}
-use Rattle.xd_ledger.specs.State.{all_moved, collecting, moved, no_one}
+use Rattle.xd_ledger.specs.Collecting.{collecting}
+use Rattle.xd_ledger.specs.State.{all_moved, moved, no_one}
 use Rattle.xd_ledger.specs.Stops.{is_shutting, is_stopped}
 use Rattle.xd_ledger.specs.Workers.{is_shut, is_waiting, made_collected, made_gone, made_ready, made_shut, started}
 use Rattle.xd_laws.proofs.Crew.{has, has-cleared, has-more, has-same, numbers}

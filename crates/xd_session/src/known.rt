@@ -2,7 +2,7 @@
 ghost use Rattle.std.specs.Prelude.{◌≡◌, ◌+◌, ◌≤◌, ◌==◌, ℕ, [], None, Some, OnOk, IfOk, sum, true, if◌then◌else◌};
 ghost use Rattle.std.specs.Str.{bytes_eq};
 ghost use Rattle.xd_ledger.specs.Sound.{most_items};
-ghost use Rattle.xd_ledger.specs.State.{steal_without};
+ghost use Rattle.xd_ledger.specs.Deaths.{steal_without};
 ghost use Rattle.xd_session.specs.Known.{asked_by, asked_of, first_item, known_by, steal_told, where_is};
 
 use crate::plan::{KnownPlan, OpenSteal};

@@ -3,7 +3,8 @@ ghost use Rattle.std.specs.Prelude.{◌≡◌, ◌==◌, Some, None, true, [], �
 ghost use Rattle.xd_ledger.specs.Books.{on_table};
 ghost use Rattle.xd_ledger.specs.Numbers.{all_among, all_distinct, first_of};
 ghost use Rattle.xd_ledger.specs.Retry.{is_retry};
-ghost use Rattle.xd_ledger.specs.State.{done_books, down_books};
+ghost use Rattle.xd_ledger.specs.Deaths.{down_books};
+ghost use Rattle.xd_ledger.specs.Results.{done_books};
 ghost use Rattle.xd_ledger.specs.Table.{held, in_rota, left, died, given_back};
 ghost use Rattle.xd_session.specs.Crew.{books_of};
 
@@ -124,7 +125,7 @@ impl RunBooks {
         self.kept.retries_head(widened(head))
     }
 
-    // The worker died; a head that is not tried again counts as a failure. Gives how many tests came back behind the head.
+    // The worker died; a head that is not tried again counts as a failure. Gives how many tests came back after the head.
     pub(crate) fn bury(&mut self, worker: u32, retry: bool) -> Result<u32, OutOfMemory>
         ensures buried { OnOk result (books_of self.new ≡ down_books worker retry (books_of self.old)) }
         ensures rest { IfOk result (λ n. n ≡ length (drop 1 (held worker self.old.ledger))) }

@@ -12,7 +12,8 @@ use Rattle.xd_ledger.specs.Calls.{turn, Turned}
 use Rattle.xd_ledger.specs.Modes.{turned}
 use Rattle.xd_ledger.specs.Modes.Call.{Share}
 use Rattle.xd_ledger.specs.Turn.{Turn, give_front, shut, shut_each}
-use Rattle.xd_ledger.specs.Worksteal.{enough, kept_part, idle, most, open_seats, dealt, victim, number, asks, asks_or_shuts, after_dealing, rule}
+use Rattle.xd_ledger.specs.Worksteal.{kept_part, idle, most, open_seats, dealt, victim, number, asks, asks_or_shuts, after_dealing, rule}
+use Rattle.xd_ledger.specs.Turn.{enough}
 use Rattle.xd_steal.specs.Stands.{StandsFor, Follows}
 use Rattle.xd_steal.proofs.Rota.{first_is}
 

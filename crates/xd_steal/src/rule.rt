@@ -6,7 +6,8 @@ ghost use Rattle.xd_ledger.specs.Numbers.{all_among, all_distinct};
 ghost use Rattle.xd_ledger.specs.Plan.{Plan};
 ghost use Rattle.xd_ledger.specs.Table.{held, in_rota, workers_of};
 ghost use Rattle.xd_ledger.specs.Turn.{shut_each};
-ghost use Rattle.xd_ledger.specs.Worksteal.{enough, kept_part, dealt, victim, asks_or_shuts, after_dealing, rule};
+ghost use Rattle.xd_ledger.specs.Worksteal.{kept_part, dealt, victim, asks_or_shuts, after_dealing, rule};
+ghost use Rattle.xd_ledger.specs.Turn.{enough};
 ghost use Rattle.xd_steal.specs.Stands.{Follows, StandsFor};
 
 use crate::workers::{ENOUGH, idle, victim};

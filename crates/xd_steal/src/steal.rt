@@ -2,7 +2,7 @@
 ghost use Rattle.std.specs.Prelude.{◌≡◌, None, Option, option_map};
 ghost use Rattle.xd_edge.specs.declared.mode.ModeKind.TheVariants.{WorkSteal};
 ghost use Rattle.xd_ledger.specs.Plan.{Asked, Plan};
-ghost use Rattle.xd_ledger.specs.State.{steal_without};
+ghost use Rattle.xd_ledger.specs.Deaths.{steal_without};
 ghost use Rattle.xd_steal.specs.Stands.{StandsFor};
 
 use crate::rule::rule;

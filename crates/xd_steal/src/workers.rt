@@ -2,7 +2,8 @@
 ghost use Rattle.std.specs.Prelude.{◌≡◌, true, not, ◌&&◌, ◌==◌, nat_lt, length, IfOk, option_map, if◌then◌else◌};
 ghost use Rattle.xd_ledger.specs.Numbers.{all_distinct};
 ghost use Rattle.xd_ledger.specs.Table.{held, in_rota, seat_shut, workers_of};
-ghost use Rattle.xd_ledger.specs.Worksteal.{enough, idle, open_seats, most, victim};
+ghost use Rattle.xd_ledger.specs.Worksteal.{idle, open_seats, most, victim};
+ghost use Rattle.xd_ledger.specs.Turn.{enough};
 
 use std::alloc::Global;
 use xd_edge::{Indices, OutOfMemory};

@@ -1,6 +1,7 @@
 use Rattle.std.proofs.Common.{◌≡◌, ◌≤◌, ◌∙◌, false, length, sym, ap, arith}
 use Rattle.xd_ledger.specs.Calls.{turn}
-use Rattle.xd_ledger.specs.ScopeModes.{enough, give_more, give_unit, refill}
+use Rattle.xd_ledger.specs.ScopeModes.{give_more, give_unit, refill}
+use Rattle.xd_ledger.specs.Turn.{enough}
 use Rattle.xd_ledger.specs.Table.{held, seat_shut, workers_of}
 use Rattle.xd_ledger.specs.Turn.{Turn}
 use Rattle.xd_ledger.proofs.Turns.{some_plan, workers-shut_turn}

@@ -4,7 +4,7 @@ use Rattle.std.proofs.lemmas.List.{with_items_is}
 use Rattle.xd_ledger.specs.declared.seat.Seat.{Seat}
 use Rattle.xd_ledger.specs.Numbers.{without}
 use Rattle.xd_ledger.specs.Plan.{base}
-use Rattle.xd_ledger.specs.State.{completed_first}
+use Rattle.xd_ledger.specs.Results.{completed_first}
 use Rattle.xd_ledger.specs.Table.{at_seat}
 use Rattle.xd_ledger.specs.Workers.{slot_of}
 use Rattle.xd_report.specs.declared.holder.Holder.{Holder}

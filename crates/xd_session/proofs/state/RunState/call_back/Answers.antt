@@ -3,7 +3,7 @@ use Rattle.xd_ledger.specs.Books.{Books}
 use Rattle.xd_ledger.specs.Calls.{Turned, last_of}
 use Rattle.xd_ledger.specs.Modes.Call.{Died, Joined, TestDone, TestsBack}
 use Rattle.xd_ledger.specs.Plan.{Plan}
-use Rattle.xd_ledger.specs.State.{down_plan}
+use Rattle.xd_ledger.specs.Deaths.{down_plan}
 use Rattle.xd_ledger.specs.Suits.{Suits}
 use Rattle.xd_ledger.specs.Workers.{slot_of}
 use Rattle.std.specs.Prelude.{None}
