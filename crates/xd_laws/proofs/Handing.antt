@@ -8,7 +8,7 @@ use Rattle.xd_ledger.specs.declared.seat.Seat.{Seat}
 use Rattle.xd_ledger.specs.Numbers.{among, without}
 use Rattle.xd_ledger.specs.Table.{held, seat_shut, shut_down, workers_of}
 use Rattle.xd_ledger.specs.Plan.{Plan, Asked, chunk_of}
-use Rattle.xd_ledger.specs.Turn.{Turn, give, give_front, shut, in_turn, shut_each}
+use Rattle.xd_ledger.specs.Turn.{Turn, enough, give, give_front, shut, in_turn, shut_each}
 use Rattle.xd_ledger.specs.Load as load
 use Rattle.xd_ledger.specs.Worksteal as steal
 use Rattle.xd_ledger.specs.Sharing.{State}
@@ -93,7 +93,7 @@ fair-dealt t f =
     let tests = length t.table.pool in
     let ws = workers_of t.table in
     let n = load.first_batch tests (length ws) (chunk_of t.plan) in
-    in_both Fair (nat_lt tests (load.enough * length ws)) (in_turn (load.give_unless_shut 1) (ws ++ ws) t) (in_turn (load.give_unless_shut n) ws t)
+    in_both Fair (nat_lt tests (enough * length ws)) (in_turn (load.give_unless_shut 1) (ws ++ ws) t) (in_turn (load.give_unless_shut n) ws t)
     (λ h. in_turn-all Fair (load.give_unless_shut 1) (λ w u g. fair-guarded 1 w u g) (ws ++ ws) t f)
     (λ h. in_turn-all Fair (load.give_unless_shut n) (λ w u g. fair-guarded n w u g) ws t f)
 

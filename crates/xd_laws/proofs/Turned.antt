@@ -7,7 +7,7 @@ use Rattle.xd_journal.specs.declared.entry.Entry.TheVariants.{RunAll, Shutdown}
 use Rattle.xd_ledger.specs.declared.seat.Seat.{Seat}
 use Rattle.xd_ledger.specs.Table.{seat_shut, workers_of, held, assigned, shut_down}
 use Rattle.xd_ledger.specs.Plan.{Asked, chunk_of, slot_items}
-use Rattle.xd_ledger.specs.Turn.{Turn, give, shut, in_turn, shut_each, shut_where_empty}
+use Rattle.xd_ledger.specs.Turn.{Turn, enough, give, shut, in_turn, shut_each, shut_where_empty}
 use Rattle.xd_ledger.specs.Load as load
 use Rattle.xd_ledger.specs.Each as each
 use Rattle.xd_ledger.specs.Worksteal as worksteal
@@ -60,7 +60,7 @@ module _ (T : Turn → Type 0) (k : Kept T) where
   t-dealt : (t : Turn) → T t → T (load.dealt t)
   t-dealt t a =
       let ws = workers_of t.table in
-      in_both T (nat_lt (length t.table.pool) (load.enough * length ws)) _ _
+      in_both T (nat_lt (length t.table.pool) (enough * length ws)) _ _
       (λ h. t-in_turn (load.give_unless_shut 1) (t-give_unless_shut 1) (ws ++ ws) t a)
       (λ h. t-in_turn (load.give_unless_shut (load.first_batch (length t.table.pool) (length ws) (chunk_of t.plan))) (t-give_unless_shut _) ws t a)
 
@@ -127,11 +127,11 @@ module _ (T : Turn → Type 0) (k : Kept T) where
 
   t-give_more : (n w : ℕ) (t : Turn) → T t → T (scopes.give_more n w t)
   t-give_more zero w t a = a
-  t-give_more (suc n) w t a = in_both T (nat_lt (length (held w t.table)) scopes.enough) (scopes.give_more n w (scopes.give_unit w t)) t (λ h. t-give_more n w (scopes.give_unit w t) (t-give_unit w t a)) (λ h. a)
+  t-give_more (suc n) w t a = in_both T (nat_lt (length (held w t.table)) enough) (scopes.give_more n w (scopes.give_unit w t)) t (λ h. t-give_more n w (scopes.give_unit w t) (t-give_unit w t a)) (λ h. a)
 
   t-scope_refill : (w : ℕ) (t : Turn) → T t → T (scopes.refill w t)
   t-scope_refill w t a = in_both T (seat_shut w t.table) t _ (λ h. a) (λ h. by_list t.plan.queue (shut w t) _ (t-shut w t a)
-      (λ u us. in_both T (nat_lt scopes.enough (length (held w t.table))) t (scopes.give_more scopes.enough w (scopes.give_unit w t)) (λ h2. a) (λ h2. t-give_more scopes.enough w (scopes.give_unit w t) (t-give_unit w t a))))
+      (λ u us. in_both T (nat_lt enough (length (held w t.table))) t (scopes.give_more enough w (scopes.give_unit w t)) (λ h2. a) (λ h2. t-give_more enough w (scopes.give_unit w t) (t-give_unit w t a))))
 
   t-shut_where_spent : (t : Turn) → T t → T (scopes.shut_where_spent t)
   t-shut_where_spent t a = by_list t.plan.queue (shut_each (workers_of t.table) t) (λ u us. t) (t-shut_each (workers_of t.table) t a) (λ u us. a)
