@@ -1,4 +1,5 @@
 use Rattle.std.proofs.Common.{ℕ, ◌<◌, List, length, subst, inl, inr}
+use Rattle.xd_edge.specs.Limits.{most_piece_bytes}
 use Rattle.xd_reader.specs.declared.news.LinkNews.TheVariants as news
 use Rattle.xd_listen.specs.Seen.{seen}
 use Rattle.xd_listen.proofs.Items.{none_runs}
@@ -8,5 +9,5 @@ use Rattle.xd_listen.proofs.server.Server.take_output.Goals as goal
 pub returns-then-is_none-clause-goes : goal.returns-then-is_none-clause-goes
 returns-then-is_none-clause-goes g c = λ a files s. uncalled a _ (seen g.N.Sink.sunk g.N.Sink.faults c.args.self.now) (news.Output c.args.piece) (inl (none_runs c.args.self.now.started c.is_none.result c.is_none.ensures c.if-is_none.true)) s
 
-pub returns-then-as_slice-gt-MAX_PIECE-clause-goes : goal.returns-then-as_slice-gt-MAX_PIECE-clause-goes
-returns-then-as_slice-gt-MAX_PIECE-clause-goes g c = λ a files s. uncalled a _ (seen g.N.Sink.sunk g.N.Sink.faults c.args.self.now) (news.Output c.args.piece) (inr (subst (λ (x : List ℕ). 4096 < length x) c.as_slice.ensures c.if-as_slice-gt-MAX_PIECE.true)) s
+pub returns-then-as_slice-gt-MAX_PIECE_BYTES-clause-goes : goal.returns-then-as_slice-gt-MAX_PIECE_BYTES-clause-goes
+returns-then-as_slice-gt-MAX_PIECE_BYTES-clause-goes g c = λ a files s. uncalled a _ (seen g.N.Sink.sunk g.N.Sink.faults c.args.self.now) (news.Output c.args.piece) (inr (subst (λ (x : List ℕ). most_piece_bytes < length x) c.as_slice.ensures c.if-as_slice-gt-MAX_PIECE_BYTES.true)) s
