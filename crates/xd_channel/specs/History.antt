@@ -11,18 +11,18 @@ use Rattle.xd_channel.specs.declared.answers.HasCallback.{HasCallback}
 use Rattle.xd_channel.specs.State.{EndState, once_given, end_of, marker_or}
 
 -- a call that changes an end, with its answer where that hands something out
-pub data Call (V : Type 0) : Type 0 where
-  Arrive : V → Arrived V → Call V
-  Peer_close : Option (List ℕ) → Call V
-  Peer_last : Call V
-  Lose : Call V
-  Close : Call V
-  Give_up : Call V
-  Set_callback : Result (List V × Option End) HasCallback → Call V
-  Receive : Result (Got V) HasCallback → Call V
+pub data EndCall (V : Type 0) : Type 0 where
+  Arrive : V → Arrived V → EndCall V
+  Peer_close : Option (List ℕ) → EndCall V
+  Peer_last : EndCall V
+  Lose : EndCall V
+  Close : EndCall V
+  Give_up : EndCall V
+  Set_callback : Result (List V × Option End) HasCallback → EndCall V
+  Receive : Result (Got V) HasCallback → EndCall V
 
 -- a callback was set
-abbrev pub hooked : {V : Type 0} → List (Call V) → Bool
+abbrev pub hooked : {V : Type 0} → List (EndCall V) → Bool
 hooked [] = false
 hooked (Set_callback (Ok w) ∷ h) = true
 hooked (Set_callback (Err e) ∷ h) = hooked h
@@ -36,7 +36,7 @@ hooked (Receive r ∷ h) = hooked h
 
 -- the first end marker: the peer's close, its last message, the loss of the link, an own close, or letting go
 -- without a callback
-abbrev pub marker : {V : Type 0} → List (Call V) → Option End
+abbrev pub marker : {V : Type 0} → List (EndCall V) → Option End
 marker [] = None
 marker (Peer_close e ∷ h) = marker_or (marker h) (end_of e)
 marker (Peer_last ∷ h) = marker_or (marker h) LastMessage
@@ -48,7 +48,7 @@ marker (Set_callback r ∷ h) = marker h
 marker (Receive r ∷ h) = marker h
 
 -- the items that arrived before the first end marker
-abbrev pub arrived : {V : Type 0} → List (Call V) → List V
+abbrev pub arrived : {V : Type 0} → List (EndCall V) → List V
 arrived [] = []
 arrived (Arrive v a ∷ h) = if is_some (marker h) then arrived h else arrived h ++ v ∷ []
 arrived (Peer_close e ∷ h) = arrived h
@@ -78,7 +78,7 @@ received (Ok NotYet) = []
 received (Err e) = []
 
 -- the items that were handed out
-abbrev pub delivered : {V : Type 0} → List (Call V) → List V
+abbrev pub delivered : {V : Type 0} → List (EndCall V) → List V
 delivered [] = []
 delivered (Arrive v a ∷ h) = delivered h ++ handed a
 delivered (Set_callback r ∷ h) = delivered h ++ waited r
@@ -90,7 +90,7 @@ delivered (Close ∷ h) = delivered h
 delivered (Give_up ∷ h) = delivered h
 
 -- sending is open until the peer closes, the owner closes, or the owner lets go
-abbrev pub send_open : {V : Type 0} → List (Call V) → Bool
+abbrev pub send_open : {V : Type 0} → List (EndCall V) → Bool
 send_open [] = true
 send_open (Peer_close e ∷ h) = false
 send_open (Close ∷ h) = false
@@ -114,16 +114,16 @@ hands_end (Ok w) = is_some w.1
 hands_end (Err e) = false
 
 -- the end marker was given by a receive, or handed to a callback
-abbrev pub given : {V : Type 0} → List (Call V) → Bool
-given [] = false
-given (Receive r ∷ h) = gives_end r || given h
-given (Set_callback r ∷ h) = hands_end r || given h
-given (Peer_close e ∷ h) = hooked h || given h
-given (Peer_last ∷ h) = hooked h || given h
-given (Lose ∷ h) = hooked h || given h
-given (Close ∷ h) = hooked h || given h
-given (Give_up ∷ h) = given h
-given (Arrive v a ∷ h) = given h
+abbrev pub end_given : {V : Type 0} → List (EndCall V) → Bool
+end_given [] = false
+end_given (Receive r ∷ h) = gives_end r || end_given h
+end_given (Set_callback r ∷ h) = hands_end r || end_given h
+end_given (Peer_close e ∷ h) = hooked h || end_given h
+end_given (Peer_last ∷ h) = hooked h || end_given h
+end_given (Lose ∷ h) = hooked h || end_given h
+end_given (Close ∷ h) = hooked h || end_given h
+end_given (Give_up ∷ h) = end_given h
+end_given (Arrive v a ∷ h) = end_given h
 
 -- the marker that stands: the first one, where an error that was told is Closed
 abbrev pub marker_left : Bool → Option End → Option End
@@ -133,7 +133,7 @@ marker_left true (Some end) = Some (once_given end)
 
 -- what a history left, by its parts: the items delivered and arrived, the first marker, whether sending is open,
 -- whether a callback is set, whether the marker was told
-pub record StandsAt {V : Type 0} (s : EndState V) (done came : List V) (first : Option End) (open_ hook told : Bool) : Type 0 where
+pub record StandsByParts {V : Type 0} (s : EndState V) (done came : List V) (first : Option End) (open_ hook told : Bool) : Type 0 where
   -- what was delivered, and after it what waits, is what arrived before the first end marker
   pub items_are : done ++ s.waiting ≡ came
   pub marker_is : s.marker ≡ marker_left told first
@@ -150,5 +150,5 @@ pub record StandsAt {V : Type 0} (s : EndState V) (done came : List V) (first : 
   pub one_open : open_ ≡ false → hook ≡ false → is_some first ≡ true
 
 -- the end is as this list of calls leaves it
-abbrev pub Stands : {V : Type 0} → EndState V → List (Call V) → Type 0
-Stands s h = StandsAt s (delivered h) (arrived h) (marker h) (send_open h) (hooked h) (given h)
+abbrev pub Stands : {V : Type 0} → EndState V → List (EndCall V) → Type 0
+Stands s h = StandsByParts s (delivered h) (arrived h) (marker h) (send_open h) (hooked h) (end_given h)

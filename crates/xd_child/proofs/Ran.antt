@@ -8,7 +8,7 @@ use Rattle.std.specs.Bool.{OnTrue, OnFalse}
 use Rattle.xd_edge.specs.Children.{ChildRun, AddsRun, ChangesRun, IsNext, change_at, not_started, running, with_last, with_output, with_read_fault}
 use Rattle.xd_edge.proofs.ChildLemmas.{change_at_end, change_at_not, change_at_twice}
 use Rattle.xd_child.specs.Ending.{Waited}
-use Rattle.xd_child.specs.Running.{CameTo, Drained, DrainedPart, RanChild}
+use Rattle.xd_child.specs.Running.{RanChildFirst, Drained, DrainedPart, RanChild}
 use Rattle.xd_journal.specs.declared.entry.Outcome.{Outcome}
 use Rattle.xd_journal.specs.declared.entry.Outcome.TheVariants.{Passed, Skipped, Failed}
 use Rattle.xd_journal.specs.Kept.{kept_of}
@@ -24,7 +24,7 @@ module _ (args : List (List ℕ)) (room k : ℕ) (first : List ℕ) (old mid : O
   then_changed f g read new a b = changed k g (f (running args)) old read new next (changed k f (running args) old mid read next added a) b
 
   -- read to its end, or else until a read failed, and waited for
-  pub came_to : (whole : Bool) (outcome : Outcome) (read new : Option (List ChildRun)) → OnTrue whole (Drained room k first mid read) → OnFalse whole (DrainedPart room k first mid read) → Waited whole k outcome read new → CameTo args room (record { outcome = outcome; output = first }) old new
+  pub came_to : (whole : Bool) (outcome : Outcome) (read new : Option (List ChildRun)) → OnTrue whole (Drained room k first mid read) → OnFalse whole (DrainedPart room k first mid read) → Waited whole k outcome read new → RanChildFirst args room (record { outcome = outcome; output = first }) old new
   came_to true outcome read new d part w = record {
     run = with_last w.last (with_output d.gave (running args));
     args_are = refl;
@@ -41,11 +41,11 @@ module _ (args : List (List ℕ)) (room k : ℕ) (first : List ℕ) (old mid : O
   }
 
 -- never started
-pub never_started : (args : List (List ℕ)) (room : ℕ) (first : List ℕ) (old new : Option (List ChildRun)) → first ≡ [] → AddsRun (not_started args) old new → CameTo args room (record { outcome = Failed (negsuc 1); output = first }) old new
+pub never_started : (args : List (List ℕ)) (room : ℕ) (first : List ℕ) (old new : Option (List ChildRun)) → first ≡ [] → AddsRun (not_started args) old new → RanChildFirst args room (record { outcome = Failed (negsuc 1); output = first }) old new
 never_started args room first old new none added = record { run = not_started args; args_are = refl; came_to = refl; first_is = none ∙ grind (arith, common_steps); added = added }
 
 -- what is kept of it
-pub kept : (args : List (List ℕ)) (room : ℕ) (o : Outcome) (first bytes : List ℕ) (old new : Option (List ChildRun)) → CameTo args room (record { outcome = o; output = first }) old new → ((r : ℕ) → length first ≤ r → bytes ≡ kept_of o r first) → RanChild args room (record { outcome = o; output = bytes }) old new
+pub kept : (args : List (List ℕ)) (room : ℕ) (o : Outcome) (first bytes : List ℕ) (old new : Option (List ChildRun)) → RanChildFirst args room (record { outcome = o; output = first }) old new → ((r : ℕ) → length first ≤ r → bytes ≡ kept_of o r first) → RanChild args room (record { outcome = o; output = bytes }) old new
 kept args room o first bytes old new c k = record { run = c.run; args_are = c.args_are; came_to = c.came_to; kept_is = by_outcome o k; added = c.added }
   where
     short : length first ≤ room

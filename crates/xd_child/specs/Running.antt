@@ -15,7 +15,7 @@ pub record RanChild (args : List (List ℕ)) (room : ℕ) (result : ChildResult)
   pub added : AddsRun run old new
 
 -- The same, with the first bytes of what it gave, up to the room, however its test went.
-pub record CameTo (args : List (List ℕ)) (room : ℕ) (first : ChildResult) (old new : Option (List ChildRun)) : Type 0 where
+pub record RanChildFirst (args : List (List ℕ)) (room : ℕ) (first : ChildResult) (old new : Option (List ChildRun)) : Type 0 where
   pub run : ChildRun
   pub args_are : run.args ≡ args
   pub came_to : outcome_of run.fate ≡ Some first.outcome

@@ -4,7 +4,7 @@ ghost use Rattle.std.specs.Bool.{OnTrue, OnFalse};
 ghost use Rattle.xd_edge.specs.Faults.{Counted, RoseBy};
 ghost use Rattle.xd_journal.specs.Kept.{kept_of};
 ghost use Rattle.xd_child.specs.Ending.{fault_count};
-ghost use Rattle.xd_child.specs.Running.{CameTo, Drained, DrainedPart, RanChild};
+ghost use Rattle.xd_child.specs.Running.{RanChildFirst, Drained, DrainedPart, RanChild};
 
 use crate::ending::wait_for;
 use std::alloc::Global;
@@ -74,7 +74,7 @@ fn run_to_end<R: Wait, K: Children>(
     requires room { room ≤ vec_capacity output.old }
     requires empty { output.old.items ≡ [] }
     ensures ran { IfOk result (λ o.
-        CameTo args.now room (record { outcome = o; output = output.new.items })
+        RanChildFirst args.now room (record { outcome = o; output = output.new.items })
         (K.runs children.old) (K.runs children.new)) }
     ensures later { K.faults children.old ≤ K.faults children.new }
     ensures faults { IfOk result (λ o.

@@ -19,7 +19,7 @@ use Rattle.xd_ledger.specs.Books.{marked}
 use Rattle.xd_ledger.specs.Workers.{is_active, was_ready, has_collected, made_collected}
 use Rattle.xd_ledger.specs.Collections.{ids_of, key, listed, listed_in, lists_with, unequal, with_list}
 use Rattle.xd_ledger.specs.Sharing.{State, in_books, ids_at, shared_now, sizes_from}
-use Rattle.xd_ledger.specs.State.{moved}
+use Rattle.xd_ledger.specs.State.{after_effect}
 use Rattle.xd_edge.specs.Limits.{most_tests}
 use Rattle.xd_ledger.specs.Proper.{are_ids, is_id, may_follow, no_text_twice}
 use Rattle.xd_laws.proofs.Logic.{cases_of, differ, split-and}
@@ -78,7 +78,7 @@ bounded-shared settings s k = record {
   lists = k.lists;
 }
 
-bounded-collected : (settings : Settings) (s : State) (w : ℕ) (g : Ids) → may_follow s (Collected w g) ≡ true → Bounded settings s → Bounded settings (moved s (Collected w g))
+bounded-collected : (settings : Settings) (s : State) (w : ℕ) (g : Ids) → may_follow s (Collected w g) ≡ true → Bounded settings s → Bounded settings (after_effect s (Collected w g))
 bounded-collected settings s w g h k =
     let now = in_books (λ b. marked (made_collected w) (with_list w g b)) s in
     let few = ids-few g w s (split-and (is_active w s.books && was_ready w s.books && not (has_collected w s.books)) (are_ids g w s) h).1 in
@@ -92,7 +92,7 @@ bounded-collected settings s w g h k =
     collecting-keeps (Bounded settings) now w (unequal w g (listed w s.books)) one
     (record { settings_are = one.settings_are; sizes = one.sizes; whole = one.whole; lists = one.lists }) joined (λ n. bounded-shared settings _ joined)
 
-pub bounded-input : (settings : Settings) (s : State) (e : Entry) → may_follow s e ≡ true → Bounded settings s → Bounded settings (moved s e)
+pub bounded-input : (settings : Settings) (s : State) (e : Entry) → may_follow s e ≡ true → Bounded settings s → Bounded settings (after_effect s e)
 bounded-input settings s (Ready w) h k = record { settings_are = k.settings_are; sizes = k.sizes; whole = k.whole; lists = k.lists }
 bounded-input settings s (Collected w g) h k = bounded-collected settings s w g h k
 bounded-input settings s (Done w i u m o) h k = record { settings_are = k.settings_are; sizes = k.sizes; whole = k.whole; lists = k.lists }

@@ -10,7 +10,7 @@ use Rattle.xd_journal.specs.declared.entry.Entry.{Entry}
 use Rattle.xd_journal.specs.declared.entry.Entry.TheVariants.{Over}
 use Rattle.xd_ledger.specs.Books.{Books}
 use Rattle.xd_ledger.specs.Ending.{ending, may_close, stop_of}
-use Rattle.xd_ledger.specs.Histories.{begun, end_of, journal_of, stepped_all}
+use Rattle.xd_ledger.specs.Histories.{after_starts, run_end_of, journal_of, after_inputs}
 use Rattle.xd_ledger.specs.Legal.{IsLegal}
 use Rattle.xd_ledger.specs.Proper.{IsProper}
 use Rattle.xd_ledger.specs.Sharing.{State}
@@ -43,8 +43,8 @@ use Rattle.xd_drive.proofs.Texts.{silent-ending, text-behind, text-is}
 -- the end asks for no start and no call where the run is over
 over-performs : (es : List Entry) (b : Books) (s0 s1 c0 c1 : _) → Performs es s0 s1 c0 c1 → Performs (es ++ ending false b) s0 s1 c0 c1
 over-performs es b s0 s1 c0 c1 p = record {
-  starts = subst (λ (l : List Entry). AddsAll l s0 s1) (sym (filter-append is_start es (Over (end_of b) ∷ []) ∙ append-nil (filter is_start es))) p.starts;
-  calls = subst (λ (l : List Entry). AddsAll l c0 c1) (sym (filter-append is_call es (Over (end_of b) ∷ []) ∙ append-nil (filter is_call es))) p.calls;
+  starts = subst (λ (l : List Entry). AddsAll l s0 s1) (sym (filter-append is_start es (Over (run_end_of b) ∷ []) ∙ append-nil (filter is_start es))) p.starts;
+  calls = subst (λ (l : List Entry). AddsAll l c0 c1) (sym (filter-append is_call es (Over (run_end_of b) ∷ []) ∙ append-nil (filter is_call es))) p.calls;
 }
 
 module _ (failed : Bool) (s : Seen) (given : List News) (j : Journal) (p : IsProper s.settings []) (same : j.settings ≡ s.settings) (entries_are : j.entries.items ≡ s.entries ++ ending failed (state_of s).books) (st : StandsFor (taken_of s.settings given) s) where
@@ -107,14 +107,14 @@ whole-by : (failed : Bool) (s : Seen) (j : Journal) (taken : List News) → IsPr
 whole-by failed s j taken p same is may st =
     let k = sound-run s.settings taken p in
     let ins = (run_of s.settings taken).inputs in
-    let behind : state_of s ≡ stepped_all (begun s.settings) ins = state-is s taken p st ∙ k.state in
+    let behind : state_of s ≡ after_inputs (after_starts s.settings) ins = state-is s taken p st ∙ k.state in
     record {
       inputs = ins;
       proper = subst (λ (x : Settings). IsProper x ins) (sym same) k.proper;
       out_failed = failed;
-      may = ap (λ (x : Settings). may_close failed (stepped_all (begun x) ins).books) same ∙ ap (λ (x : State). may_close failed x.books) (sym behind) ∙ may;
+      may = ap (λ (x : Settings). may_close failed (after_inputs (after_starts x) ins).books) same ∙ ap (λ (x : State). may_close failed x.books) (sym behind) ∙ may;
       entries = is ∙ ap (λ (es : List Entry). es ++ ending failed (state_of s).books) (st.entries ∙ k.journal) ∙ ap (λ (x : State). journal_of s.settings ins ++ ending failed x.books) behind
-          ∙ ap (λ (x : Settings). journal_of x ins ++ ending failed (stepped_all (begun x) ins).books) (sym same);
+          ∙ ap (λ (x : Settings). journal_of x ins ++ ending failed (after_inputs (after_starts x) ins).books) (sym same);
     }
 
 journal-by : (failed : Bool) (s : Seen) (j : Journal) (taken : List News) → IsProper s.settings [] → j.settings ≡ s.settings → j.entries.items ≡ s.entries ++ ending failed (state_of s).books

@@ -8,7 +8,7 @@ use Rattle.xd_edge.proofs.SinkLemmas.{printed_part_of_more}
 use Rattle.xd_journal.specs.declared.settings.Settings.{Settings}
 use Rattle.xd_journal.specs.declared.entry.Entry.{Entry}
 use Rattle.xd_journal.specs.declared.news.News.{News}
-use Rattle.xd_ledger.specs.State.{all_moved, no_one}
+use Rattle.xd_ledger.specs.State.{after_entries, no_one}
 use Rattle.xd_report.specs.Lines.{lines_from, run_lines}
 use Rattle.xd_report.specs.Text.{run_tail, run_text}
 use Rattle.xd_session.specs.History.{run_of}
@@ -24,10 +24,10 @@ module _ (x : Settings) (taken : List News) (count : ℕ) (es : List Entry) (old
     first-are : take count (es ++ ys) ≡ take count es
     first-are = take-append-le count es ys within
 
-    lines-are : lines_from (all_moved (no_one x) (take count (es ++ ys))) (drop count (es ++ ys)) ≡ lines_from (all_moved (no_one x) (take count es)) (drop count es)
+    lines-are : lines_from (after_entries (no_one x) (take count (es ++ ys))) (drop count (es ++ ys)) ≡ lines_from (after_entries (no_one x) (take count es)) (drop count es)
     lines-are =
-        ap (λ (l : List Entry). lines_from (all_moved (no_one x) l) (drop count (es ++ ys))) first-are
-        ∙ ap (lines_from (all_moved (no_one x) (take count es))) (drop-append-le count es ys within) ∙ lines-behind ys quiet (all_moved (no_one x) (take count es)) (drop count es)
+        ap (λ (l : List Entry). lines_from (after_entries (no_one x) l) (drop count (es ++ ys))) first-are
+        ∙ ap (lines_from (after_entries (no_one x) (take count es))) (drop-append-le count es ys within) ∙ lines-behind ys quiet (after_entries (no_one x) (take count es)) (drop count es)
 
     breaks-behind : (a b : List ℕ) → a ≡ b → BreaksOff (run_lines x (take count es)) a old new → BreaksOff (run_lines x (take count (es ++ ys))) b old new
     breaks-behind a b same h = subst (λ (l : List ℕ). BreaksOff (run_lines x (take count (es ++ ys))) l old new) same (subst (λ (l : List Entry). BreaksOff (run_lines x l) a old new) (sym first-are) h)
@@ -44,7 +44,7 @@ module _ (x : Settings) (taken : List News) (count : ℕ) (es : List Entry) (old
     })
     failed-behind (inr f) = inr (record { over = f.over; all = first-are ∙ f.all; shows = shows-behind f.shows })
 
-  lines-whole : run_lines x (take count es) ++ lines_from (all_moved (no_one x) (take count es)) (drop count es) ≡ run_lines x es
+  lines-whole : run_lines x (take count es) ++ lines_from (after_entries (no_one x) (take count es)) (drop count es) ≡ run_lines x es
   lines-whole = sym (lines-join (no_one x) (take count es) (drop count es)) ∙ ap (run_lines x) (take-append-drop count es)
 
   part-by : take count es ≡ es → BreaksOff (run_lines x (take count es)) (run_tail x es) old new ⊎ Printed (run_text x es) old new → PrintedPart (run_text x es) old new

@@ -10,7 +10,7 @@ use Rattle.xd_ledger.specs.Books.{Books, marked}
 use Rattle.xd_ledger.specs.Workers.{is_active, made_ready, made_collected, made_gone}
 use Rattle.xd_ledger.specs.Collections.{unequal, listed, with_list}
 use Rattle.xd_ledger.specs.Sharing.{State, in_books}
-use Rattle.xd_ledger.specs.State.{moved}
+use Rattle.xd_ledger.specs.State.{after_effect}
 use Rattle.xd_ledger.specs.Proper.{may_follow}
 use Rattle.xd_laws.proofs.Logic.{differ, split-and, split-or, cases_of}
 use Rattle.xd_laws.proofs.Crew.{has, is_member, has-member, has-same, has-set, has-cleared}
@@ -66,7 +66,7 @@ behind-gone ms w e k = record {
   ready = λ v h. inl (sym (has-same v (λ m. m.ready) (made_gone w) ms (λ m. refl) (λ m. refl)) ∙ h);
 }
 
-pub crew-behind : (s : State) (e : Entry) → may_follow s e ≡ true → CrewBehind s.books.crew e (moved s e).books.crew
+pub crew-behind : (s : State) (e : Entry) → may_follow s e ≡ true → CrewBehind s.books.crew e (after_effect s e).books.crew
 crew-behind s (Ready w) h = behind-ready s.books.crew w
 crew-behind s (Collected w g) h =
     let ms = s.books.crew in
@@ -105,10 +105,10 @@ same_of : (v w : ℕ) → (v == w) ≡ true → v ≡ w
 same_of v w h = grind (arith, nat_tests)
 
 -- an input keeps the agreement
-pub agrees-meant : (s : State) (marks : ℕ → Marks) (n : News) (e : Entry) → is_active n.worker s.books ≡ true → Meant s n.worker n.what e → Agrees s.books marks → Agrees (moved s e).books (λ w. marked_heard n w (marks w))
+pub agrees-meant : (s : State) (marks : ℕ → Marks) (n : News) (e : Entry) → is_active n.worker s.books ≡ true → Meant s n.worker n.what e → Agrees s.books marks → Agrees (after_effect s e).books (λ w. marked_heard n w (marks w))
 agrees-meant s marks n e here m a =
     let k = crew-behind s e m.follow in
-    let still : (w : ℕ) → is_active w s.books ≡ false → is_active w (moved s e).books ≡ false = λ w h. k.active w ∙ ap (λ (b : Bool). b && not (leaves w e)) h in
+    let still : (w : ℕ) → is_active w s.books ≡ false → is_active w (after_effect s e).books ≡ false = λ w h. k.active w ∙ ap (λ (b : Bool). b && not (leaves w e)) h in
     record {
       started = λ w. a.started w ∙ sym (k.members w);
       killed = λ w h. (let p = a.killed w h in (k.members w ∙ p.0, still w p.1));
@@ -118,8 +118,8 @@ agrees-meant s marks n e here m a =
             (let p = split-and (n.worker == w) (is_end n.what) new in
             let same = same_of n.worker w p.0 in
             let member : is_member n.worker s.books.crew ≡ true = has-member n.worker (λ m. m.active) s.books.crew here in
-            let out : is_active n.worker (moved s e).books ≡ false = k.active n.worker ∙ ap (λ (b : Bool). active n.worker s.books.crew && not b) (m.left p.1) ∙ and-no (active n.worker s.books.crew) in
-            subst (λ (v : ℕ). (is_member v (moved s e).books.crew ≡ true) × (is_active v (moved s e).books ≡ false)) same (k.members n.worker ∙ member, out))
+            let out : is_active n.worker (after_effect s e).books ≡ false = k.active n.worker ∙ ap (λ (b : Bool). active n.worker s.books.crew && not b) (m.left p.1) ∙ and-no (active n.worker s.books.crew) in
+            subst (λ (v : ℕ). (is_member v (after_effect s e).books.crew ≡ true) × (is_active v (after_effect s e).books ≡ false)) same (k.members n.worker ∙ member, out))
       ];
       ready = λ w h. elim (k.ready w h) [
         | inl old ↦ or-first (marks w).ready (n.worker == w && is_ready n.what) (a.ready w old)

@@ -17,16 +17,16 @@ use Rattle.xd_laws.proofs.Logic.{and, cases_of, differ, not_true, or-left, or-ri
 use Rattle.xd_laws.proofs.Crew.{distinct-numbered, has, has-member, numbers}
 use Rattle.xd_drive.specs.Agrees.{Agrees}
 use Rattle.xd_drive.specs.Marks.{Marks}
-use Rattle.xd_drive.specs.Performing.{after_all, after_entry, all_possible, kills_of_started, possible, was_started}
+use Rattle.xd_drive.specs.Performing.{marks_after, marks_after_entry, all_possible, kills_of_started, possible, was_started}
 use Rattle.xd_drive.proofs.Runs.{tidy}
 use Rattle.xd_drive.proofs.Turns.{unkilled}
 
 same_number : (w : ℕ) → (w == w) ≡ true
 same_number w = grind (arith, nat_tests)
 
-pub possible-both : (slots : ℕ) (marks : ℕ → Marks) (xs ys : List Entry) → all_possible slots marks xs ≡ true → all_possible slots (after_all xs marks) ys ≡ true → all_possible slots marks (xs ++ ys) ≡ true
+pub possible-both : (slots : ℕ) (marks : ℕ → Marks) (xs ys : List Entry) → all_possible slots marks xs ≡ true → all_possible slots (marks_after xs marks) ys ≡ true → all_possible slots marks (xs ++ ys) ≡ true
 possible-both slots marks [] ys a b = b
-possible-both slots marks (x ∷ xs) ys a b = (let p = split-and (possible slots marks x) (all_possible slots (after_entry x marks) xs) a in and p.0 (possible-both slots (after_entry x marks) xs ys p.1 b))
+possible-both slots marks (x ∷ xs) ys a b = (let p = split-and (possible slots marks x) (all_possible slots (marks_after_entry x marks) xs) a in and p.0 (possible-both slots (marks_after_entry x marks) xs ys p.1 b))
 
 -- those who are active can be killed, one after another
 
@@ -52,7 +52,7 @@ ending-goes : (slots : ℕ) (marks : ℕ → Marks) (ms : List Member) → all_d
 ending-goes slots marks [] d k = refl
 ending-goes slots marks (m ∷ ms) d k = elim (cases_of m.active) [
   | inl on ↦ subst (EndGoes slots marks m (filter (λ (x : Member). x.active) ms)) (sym on)
-      (and (k m.worker (or-left (m.worker == m.worker && m.active) (has m.worker (λ x. x.active) ms) (and (same_number m.worker) on))) (ending-goes slots (after_entry (Kill m.worker) marks) ms apart.1 later))
+      (and (k m.worker (or-left (m.worker == m.worker && m.active) (has m.worker (λ x. x.active) ms) (and (same_number m.worker) on))) (ending-goes slots (marks_after_entry (Kill m.worker) marks) ms apart.1 later))
   | inr off ↦ subst (EndGoes slots marks m (filter (λ (x : Member). x.active) ms)) (sym off) (ending-goes slots marks ms apart.1 (λ v h. k v (or-right (m.worker == v && m.active) (has v (λ x. x.active) ms) h)))
 ]
   where
@@ -88,26 +88,26 @@ pub kills-go : (done : List Entry) (s0 s1 : ℕ) (es : List Entry) (marks m : �
 kills-go done s0 s1 [] marks m f k h = refl
 kills-go done s0 s1 (Kill w ∷ es) marks m f k h = elim (cases_of (was_started w done)) [
   | inl was ↦ subst (KillsGo s1 m w (kills_of_started done es)) (sym was) (and (and (f w was) (ap not alive))
-      (kills-go done s0 s1 es (after_entry (Kill w) marks) (after_entry (Kill w) m) f (λ v x. (let p = not_either (marks v).killed (w == v) x in neither (m v).killed (w == v) (k v p.0) p.1)) now.1))
-  | inr not_so ↦ subst (KillsGo s1 m w (kills_of_started done es)) (sym not_so) (kills-go done s0 s1 es (after_entry (Kill w) marks) m f (λ v x. k v (not_either (marks v).killed (w == v) x).0) now.1)
+      (kills-go done s0 s1 es (marks_after_entry (Kill w) marks) (marks_after_entry (Kill w) m) f (λ v x. (let p = not_either (marks v).killed (w == v) x in neither (m v).killed (w == v) (k v p.0) p.1)) now.1))
+  | inr not_so ↦ subst (KillsGo s1 m w (kills_of_started done es)) (sym not_so) (kills-go done s0 s1 es (marks_after_entry (Kill w) marks) m f (λ v x. k v (not_either (marks v).killed (w == v) x).0) now.1)
 ]
   where
-    now : (possible s0 marks (Kill w) ≡ true) × (all_possible s0 (after_entry (Kill w) marks) es ≡ true)
-    now = split-and (possible s0 marks (Kill w)) (all_possible s0 (after_entry (Kill w) marks) es) h
+    now : (possible s0 marks (Kill w) ≡ true) × (all_possible s0 (marks_after_entry (Kill w) marks) es ≡ true)
+    now = split-and (possible s0 marks (Kill w)) (all_possible s0 (marks_after_entry (Kill w) marks) es) h
 
     alive : (m w).killed ≡ false
     alive = k w (not_true (marks w).killed (split-and (marks w).started (not (marks w).killed) now.0).1)
-kills-go done s0 s1 (Ready w ∷ es) marks m f k h = kills-go done s0 s1 es (after_entry (Ready w) marks) m f k (split-and (possible s0 marks (Ready w)) (all_possible s0 (after_entry (Ready w) marks) es) h).1
-kills-go done s0 s1 (Collected w g ∷ es) marks m f k h = kills-go done s0 s1 es (after_entry (Collected w g) marks) m f k (split-and (possible s0 marks (Collected w g)) (all_possible s0 (after_entry (Collected w g) marks) es) h).1
-kills-go done s0 s1 (Done w i u o out ∷ es) marks m f k h = kills-go done s0 s1 es (after_entry (Done w i u o out) marks) m f k (split-and (possible s0 marks (Done w i u o out)) (all_possible s0 (after_entry (Done w i u o out) marks) es) h).1
-kills-go done s0 s1 (Back w is ∷ es) marks m f k h = kills-go done s0 s1 es (after_entry (Back w is) marks) m f k (split-and (possible s0 marks (Back w is)) (all_possible s0 (after_entry (Back w is) marks) es) h).1
-kills-go done s0 s1 (Finished w ∷ es) marks m f k h = kills-go done s0 s1 es (after_entry (Finished w) marks) m f k (split-and (possible s0 marks (Finished w)) (all_possible s0 (after_entry (Finished w) marks) es) h).1
-kills-go done s0 s1 (Refused w x ∷ es) marks m f k h = kills-go done s0 s1 es (after_entry (Refused w x) marks) m f k (split-and (possible s0 marks (Refused w x)) (all_possible s0 (after_entry (Refused w x) marks) es) h).1
-kills-go done s0 s1 (Down w c o ∷ es) marks m f k h = kills-go done s0 s1 es (after_entry (Down w c o) marks) m f k (split-and (possible s0 marks (Down w c o)) (all_possible s0 (after_entry (Down w c o) marks) es) h).1
-kills-go done s0 s1 (NotStarted w ∷ es) marks m f k h = kills-go done s0 s1 es (after_entry (NotStarted w) marks) m f k (split-and (possible s0 marks (NotStarted w)) (all_possible s0 (after_entry (NotStarted w) marks) es) h).1
-kills-go done s0 s1 (Start w slot ∷ es) marks m f k h = kills-go done s0 s1 es (after_entry (Start w slot) marks) m f k (split-and (possible s0 marks (Start w slot)) (all_possible s0 (after_entry (Start w slot) marks) es) h).1
-kills-go done s0 s1 (Run w is ∷ es) marks m f k h = kills-go done s0 s1 es (after_entry (Run w is) marks) m f k (split-and (possible s0 marks (Run w is)) (all_possible s0 (after_entry (Run w is) marks) es) h).1
-kills-go done s0 s1 (RunAll w ∷ es) marks m f k h = kills-go done s0 s1 es (after_entry (RunAll w) marks) m f k (split-and (possible s0 marks (RunAll w)) (all_possible s0 (after_entry (RunAll w) marks) es) h).1
-kills-go done s0 s1 (Steal w is ∷ es) marks m f k h = kills-go done s0 s1 es (after_entry (Steal w is) marks) m f k (split-and (possible s0 marks (Steal w is)) (all_possible s0 (after_entry (Steal w is) marks) es) h).1
-kills-go done s0 s1 (Shutdown w ∷ es) marks m f k h = kills-go done s0 s1 es (after_entry (Shutdown w) marks) m f k (split-and (possible s0 marks (Shutdown w)) (all_possible s0 (after_entry (Shutdown w) marks) es) h).1
-kills-go done s0 s1 (Over how ∷ es) marks m f k h = kills-go done s0 s1 es (after_entry (Over how) marks) m f k (split-and (possible s0 marks (Over how)) (all_possible s0 (after_entry (Over how) marks) es) h).1
+kills-go done s0 s1 (Ready w ∷ es) marks m f k h = kills-go done s0 s1 es (marks_after_entry (Ready w) marks) m f k (split-and (possible s0 marks (Ready w)) (all_possible s0 (marks_after_entry (Ready w) marks) es) h).1
+kills-go done s0 s1 (Collected w g ∷ es) marks m f k h = kills-go done s0 s1 es (marks_after_entry (Collected w g) marks) m f k (split-and (possible s0 marks (Collected w g)) (all_possible s0 (marks_after_entry (Collected w g) marks) es) h).1
+kills-go done s0 s1 (Done w i u o out ∷ es) marks m f k h = kills-go done s0 s1 es (marks_after_entry (Done w i u o out) marks) m f k (split-and (possible s0 marks (Done w i u o out)) (all_possible s0 (marks_after_entry (Done w i u o out) marks) es) h).1
+kills-go done s0 s1 (Back w is ∷ es) marks m f k h = kills-go done s0 s1 es (marks_after_entry (Back w is) marks) m f k (split-and (possible s0 marks (Back w is)) (all_possible s0 (marks_after_entry (Back w is) marks) es) h).1
+kills-go done s0 s1 (Finished w ∷ es) marks m f k h = kills-go done s0 s1 es (marks_after_entry (Finished w) marks) m f k (split-and (possible s0 marks (Finished w)) (all_possible s0 (marks_after_entry (Finished w) marks) es) h).1
+kills-go done s0 s1 (Refused w x ∷ es) marks m f k h = kills-go done s0 s1 es (marks_after_entry (Refused w x) marks) m f k (split-and (possible s0 marks (Refused w x)) (all_possible s0 (marks_after_entry (Refused w x) marks) es) h).1
+kills-go done s0 s1 (Down w c o ∷ es) marks m f k h = kills-go done s0 s1 es (marks_after_entry (Down w c o) marks) m f k (split-and (possible s0 marks (Down w c o)) (all_possible s0 (marks_after_entry (Down w c o) marks) es) h).1
+kills-go done s0 s1 (NotStarted w ∷ es) marks m f k h = kills-go done s0 s1 es (marks_after_entry (NotStarted w) marks) m f k (split-and (possible s0 marks (NotStarted w)) (all_possible s0 (marks_after_entry (NotStarted w) marks) es) h).1
+kills-go done s0 s1 (Start w slot ∷ es) marks m f k h = kills-go done s0 s1 es (marks_after_entry (Start w slot) marks) m f k (split-and (possible s0 marks (Start w slot)) (all_possible s0 (marks_after_entry (Start w slot) marks) es) h).1
+kills-go done s0 s1 (Run w is ∷ es) marks m f k h = kills-go done s0 s1 es (marks_after_entry (Run w is) marks) m f k (split-and (possible s0 marks (Run w is)) (all_possible s0 (marks_after_entry (Run w is) marks) es) h).1
+kills-go done s0 s1 (RunAll w ∷ es) marks m f k h = kills-go done s0 s1 es (marks_after_entry (RunAll w) marks) m f k (split-and (possible s0 marks (RunAll w)) (all_possible s0 (marks_after_entry (RunAll w) marks) es) h).1
+kills-go done s0 s1 (Steal w is ∷ es) marks m f k h = kills-go done s0 s1 es (marks_after_entry (Steal w is) marks) m f k (split-and (possible s0 marks (Steal w is)) (all_possible s0 (marks_after_entry (Steal w is) marks) es) h).1
+kills-go done s0 s1 (Shutdown w ∷ es) marks m f k h = kills-go done s0 s1 es (marks_after_entry (Shutdown w) marks) m f k (split-and (possible s0 marks (Shutdown w)) (all_possible s0 (marks_after_entry (Shutdown w) marks) es) h).1
+kills-go done s0 s1 (Over how ∷ es) marks m f k h = kills-go done s0 s1 es (marks_after_entry (Over how) marks) m f k (split-and (possible s0 marks (Over how)) (all_possible s0 (marks_after_entry (Over how) marks) es) h).1

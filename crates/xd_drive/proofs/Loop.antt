@@ -16,9 +16,9 @@ use Rattle.xd_journal.specs.declared.entry.Entry.TheVariants.{Start}
 use Rattle.xd_journal.specs.declared.journal.Journal.{Journal}
 use Rattle.xd_ledger.specs.Workers.{started, is_active}
 use Rattle.xd_ledger.specs.Sharing.{State}
-use Rattle.xd_ledger.specs.State.{all_moved, moved, next, no_one, reached, settled}
+use Rattle.xd_ledger.specs.State.{after_entries, after_effect, after_entry, no_one, reached, settled}
 use Rattle.xd_ledger.specs.Ending.{ending}
-use Rattle.xd_ledger.specs.Histories.{begun, first_starts, is_over, starts_from}
+use Rattle.xd_ledger.specs.Histories.{after_starts, first_starts, is_over, starts_from}
 use Rattle.xd_ledger.specs.Proper.{IsProper}
 use Rattle.xd_report.specs.Lines.{lines_from, lines_of, run_lines}
 use Rattle.xd_report.specs.Text.{run_tail, run_text, tail_text}
@@ -29,9 +29,9 @@ use Rattle.xd_laws.proofs.Crew.{has}
 use Rattle.xd_drive.specs.declared.written.Written.{Written}
 use Rattle.xd_drive.specs.declared.written.Written.TheVariants.{Whole, Broken}
 use Rattle.xd_drive.specs.Agrees.{Agrees}
-use Rattle.xd_drive.specs.Going.{EndsRun, EndsTail, Finished, Going, IsFresh, Scene, Stopped, TakesNews, Untold}
+use Rattle.xd_drive.specs.Going.{EndsRun, EndsTail, Finished, Going, HasNoMarks, Scene, Stopped, TakesNews, Untold}
 use Rattle.xd_drive.specs.Marks.{Marks}
-use Rattle.xd_drive.specs.Performing.{AddsAll, Performs, after_all, after_entry, all_possible, is_start_of, kills_of_started, was_started}
+use Rattle.xd_drive.specs.Performing.{AddsAll, Performs, marks_after, marks_after_entry, all_possible, is_start_of, kills_of_started, was_started}
 use Rattle.xd_edge.specs.Printing.{BreaksOff, ShowsSome}
 use Rattle.xd_report.specs.Printing.{ShowsEnd}
 use Rattle.xd_drive.specs.Taken.{taken_of, taken_with}
@@ -45,7 +45,7 @@ use Rattle.xd_drive.proofs.Texts.{first-lines, tail-is}
 
 -- the first starts
 
-agrees-none : (settings : Settings) (marks : ℕ → Marks) → IsFresh marks → Agrees (no_one settings).books marks
+agrees-none : (settings : Settings) (marks : ℕ → Marks) → HasNoMarks marks → Agrees (no_one settings).books marks
 agrees-none settings marks f = record {
   started = λ w. ap (λ (m : Marks). m.started) (f w);
   killed = λ w h. absurd (differ (sym (ap (λ (m : Marks). m.killed) (f w)) ∙ h));
@@ -55,15 +55,15 @@ agrees-none settings marks f = record {
 
 pub record Starts (slots : ℕ) (marks : ℕ → Marks) (es : List Entry) (behind : State) : Type 0 where
   pub possible : all_possible slots marks es ≡ true
-  pub agrees : Agrees behind.books (after_all es marks)
+  pub agrees : Agrees behind.books (marks_after es marks)
 
-starts-go : (slots : ℕ) (k w : ℕ) (s : State) (marks : ℕ → Marks) → ((v : ℕ) → has v (λ m. true) s.books.crew ≡ true → v < w) → Agrees s.books marks → w + k ≤ slots → Starts slots marks (starts_from w k) (all_moved s (starts_from w k))
+starts-go : (slots : ℕ) (k w : ℕ) (s : State) (marks : ℕ → Marks) → ((v : ℕ) → has v (λ m. true) s.books.crew ≡ true → v < w) → Agrees s.books marks → w + k ≤ slots → Starts slots marks (starts_from w k) (after_entries s (starts_from w k))
 starts-go slots zero w s marks below a l = record { possible = refl; agrees = a }
 starts-go slots (suc k) w s marks below a l =
     let new : has w (λ m. true) s.books.crew ≡ false = elim (cases_of (has w (λ m. true) s.books.crew)) [ inl h ↦ (let x = below w h in absurd (omega (arith, x))) | inr h ↦ h ] in
     let room : nat_lt w slots ≡ true = lower w slots (omega (arith, l)) in
     let one = goes-start slots marks s w w room (ap not new) a in
-    let more = starts-go slots k (w + 1) (moved s (Start w w)) (after_entry (Start w w) marks) (λ v h. below-next v h) one.agrees (omega (arith, l)) in
+    let more = starts-go slots k (w + 1) (after_effect s (Start w w)) (marks_after_entry (Start w w) marks) (λ v h. below-next v h) one.agrees (omega (arith, l)) in
     record { possible = and one.possible more.possible; agrees = more.agrees }
   where
     lower : (x y : ℕ) → x < y → nat_lt x y ≡ true
@@ -76,14 +76,14 @@ starts-go slots (suc k) w s marks below a l =
     below-next : (v : ℕ) → has v (λ m. true) (s.books.crew ++ started w w ∷ []) ≡ true → v < w + 1
     below-next v h = by_either (has v (λ m. true) s.books.crew) v (sym (started-more s.books.crew w w v) ∙ h) (below v)
 
-pub starts : (settings : Settings) (slots : ℕ) (marks : ℕ → Marks) → settings.workers ≤ slots → IsFresh marks → Starts slots marks (first_starts settings) (all_moved (no_one settings) (first_starts settings))
+pub starts : (settings : Settings) (slots : ℕ) (marks : ℕ → Marks) → settings.workers ≤ slots → HasNoMarks marks → Starts slots marks (first_starts settings) (after_entries (no_one settings) (first_starts settings))
 starts settings slots marks l f = starts-go slots settings.workers 0 (no_one settings) marks (λ v h. absurd (differ h)) (agrees-none settings marks f) (omega (arith, l))
 
 -- lines
 
-pub lines-join : (s : State) (xs ys : List Entry) → lines_from s (xs ++ ys) ≡ lines_from s xs ++ lines_from (all_moved s xs) ys
+pub lines-join : (s : State) (xs ys : List Entry) → lines_from s (xs ++ ys) ≡ lines_from s xs ++ lines_from (after_entries s xs) ys
 lines-join s [] ys = refl
-lines-join s (x ∷ xs) ys = ap (λ (l : List ℕ). lines_of (reached s x) x ++ l) (lines-join (next s x) xs ys) ∙ sym (append_assoc (lines_of (reached s x) x) (lines_from (next s x) xs) (lines_from (all_moved (next s x) xs) ys))
+lines-join s (x ∷ xs) ys = ap (λ (l : List ℕ). lines_of (reached s x) x ++ l) (lines-join (after_entry s x) xs ys) ∙ sym (append_assoc (lines_of (reached s x) x) (lines_from (after_entry s x) xs) (lines_from (after_entries (after_entry s x) xs) ys))
 
 -- one more
 
@@ -94,7 +94,7 @@ stands-more : (given : List News) (n : News) (s0 s1 : Seen) → s1.settings ≡ 
 stands-more given n s0 s1 same st = subst (λ (t : List News). StandsFor t s1) (sym (taken-more s0.settings given n) ∙ ap (λ (x : Settings). taken_of x (given ++ n ∷ [])) (sym same)) st
 
 module _ (given : List News) (n : News) (s0 s1 : Seen) (old mid new : Scene) (g : Going given s0 old mid) where
-  lines-more : (more : List Entry) → s1.settings ≡ s0.settings → s1.entries ≡ s0.entries ++ more → run_lines s1.settings s1.entries ≡ run_lines s0.settings s0.entries ++ lines_from (all_moved (no_one s0.settings) s0.entries) more
+  lines-more : (more : List Entry) → s1.settings ≡ s0.settings → s1.entries ≡ s0.entries ++ more → run_lines s1.settings s1.entries ≡ run_lines s0.settings s0.entries ++ lines_from (after_entries (no_one s0.settings) s0.entries) more
   lines-more more same is = ap (λ (x : Settings). run_lines x s1.entries) same ∙ ap (run_lines s0.settings) is ∙ lines-join (no_one s0.settings) s0.entries more
 
   pub going-next : TakesNews n Whole s0 s1 mid new → Going (given ++ n ∷ []) s1 old new
@@ -133,12 +133,12 @@ module _ (given : List News) (n : News) (s0 s1 : Seen) (old mid new : Scene) (g 
     lines-before : run_lines s1.settings (take count s1.entries) ≡ run_lines s0.settings s0.entries
     lines-before = ap (λ (x : Settings). run_lines x (take count s1.entries)) t.settings ∙ ap (run_lines s0.settings) before-is
 
-    lines-left : lines_from (all_moved (no_one s1.settings) (take count s1.entries)) (drop count s1.entries) ≡ lines_from (all_moved (no_one s0.settings) s0.entries) more
+    lines-left : lines_from (after_entries (no_one s1.settings) (take count s1.entries)) (drop count s1.entries) ≡ lines_from (after_entries (no_one s0.settings) s0.entries) more
     lines-left =
-        ap (λ (x : Settings). lines_from (all_moved (no_one x) (take count s1.entries)) (drop count s1.entries)) t.settings
-        ∙ ap (λ (es : List Entry). lines_from (all_moved (no_one s0.settings) es) (drop count s1.entries)) before-is ∙ ap (lines_from (all_moved (no_one s0.settings) s0.entries)) left-is
+        ap (λ (x : Settings). lines_from (after_entries (no_one x) (take count s1.entries)) (drop count s1.entries)) t.settings
+        ∙ ap (λ (es : List Entry). lines_from (after_entries (no_one s0.settings) es) (drop count s1.entries)) before-is ∙ ap (lines_from (after_entries (no_one s0.settings) s0.entries)) left-is
 
-    breaks : BreaksOff (run_lines s1.settings (take count s1.entries)) (lines_from (all_moved (no_one s1.settings) (take count s1.entries)) (drop count s1.entries)) old.sunk new.sunk
+    breaks : BreaksOff (run_lines s1.settings (take count s1.entries)) (lines_from (after_entries (no_one s1.settings) (take count s1.entries)) (drop count s1.entries)) old.sunk new.sunk
     breaks = (mid.sunk, subst (λ (l : List ℕ). ShowsSome l old.sunk mid.sunk) (sym lines-before) g.shows, subst (λ (l : List ℕ). TookPart l mid.sunk new.sunk) (sym lines-left) u.shows)
 
     pub going-stop : Stopped (given ++ n ∷ []) count s1 old new
@@ -207,22 +207,22 @@ module _ (given : List News) (s : Seen) (old mid new : Scene) (g : Going given s
 
 -- the beginning
 
-pub going-first : (s : Seen) (slots : ℕ) (old new : Scene) → s.settings.workers ≤ slots → StandsFor [] s → IsFresh old.marks → Performs s.entries old.starts new.starts old.calls new.calls
-    → ((w : ℕ) → new.marks w ≡ after_all s.entries old.marks w) → new.given ≡ old.given → new.sunk ≡ old.sunk → Going [] s old new
+pub going-first : (s : Seen) (slots : ℕ) (old new : Scene) → s.settings.workers ≤ slots → StandsFor [] s → HasNoMarks old.marks → Performs s.entries old.starts new.starts old.calls new.calls
+    → ((w : ℕ) → new.marks w ≡ marks_after s.entries old.marks w) → new.given ≡ old.given → new.sunk ≡ old.sunk → Going [] s old new
 going-first s slots old new l st fresh performed marks given sunk =
     let b = starts s.settings slots old.marks l fresh in
-    let m : new.marks ≡ after_all (first_starts s.settings) old.marks = fun_ext marks ∙ ap (λ (es : List Entry). after_all es old.marks) st.entries in
+    let m : new.marks ≡ marks_after (first_starts s.settings) old.marks = fun_ext marks ∙ ap (λ (es : List Entry). marks_after es old.marks) st.entries in
     record {
       stands = st;
       gave = subst (λ (x : Option (List News)). AddsAll [] old.given x) (sym given) (adds-none old.given);
       performed = performed;
-      agrees = subst (λ (es : List Entry). Agrees (Rattle.xd_ledger.specs.State.state_at s.settings es).books new.marks) (sym st.entries) (subst (λ (f : ℕ → Marks). Agrees (begun s.settings).books f) (sym m)
+      agrees = subst (λ (es : List Entry). Agrees (Rattle.xd_ledger.specs.State.state_at s.settings es).books new.marks) (sym st.entries) (subst (λ (f : ℕ → Marks). Agrees (after_starts s.settings).books f) (sym m)
           (record { started = b.agrees.started; killed = b.agrees.killed; ended = b.agrees.ended; ready = b.agrees.ready }));
       started = λ w. ap (λ (x : Marks). x.started) (marks w) ∙ started-by s.entries old.marks w ∙ ap (λ (x : Marks). x.started || was_started w s.entries) (fresh w);
       shows = inl (ap (run_lines s.settings) st.entries ∙ first-lines s.settings, sunk);
     }
 
-pub first-possible : (s : Seen) (slots : ℕ) (marks : ℕ → Marks) (es : List Entry) → s.settings.workers ≤ slots → StandsFor [] s → IsFresh marks → es ≡ s.entries → all_possible slots marks es ≡ true
+pub first-possible : (s : Seen) (slots : ℕ) (marks : ℕ → Marks) (es : List Entry) → s.settings.workers ≤ slots → StandsFor [] s → HasNoMarks marks → es ≡ s.entries → all_possible slots marks es ≡ true
 first-possible s slots marks es l st fresh is = ap (all_possible slots marks) (is ∙ st.entries) ∙ (starts s.settings slots marks l fresh).possible
 
 -- someone was started
@@ -239,10 +239,10 @@ someone-still n s0 s1 mid new t w = (w.0, t.told.1.started w.0 ∙ ap (λ (b : B
 
 -- what the last step of the loop comes to
 
-pub begins : (s : Seen) (slots : ℕ) (old new : Scene) (es : List Entry) → es ≡ s.entries → s.settings.workers ≤ slots → StandsFor [] s → IsFresh old.marks → Performs es old.starts new.starts old.calls new.calls
-    → ((w : ℕ) → new.marks w ≡ after_all es old.marks w) → new.given ≡ old.given → new.sunk ≡ old.sunk → Going [] s old new
+pub begins : (s : Seen) (slots : ℕ) (old new : Scene) (es : List Entry) → es ≡ s.entries → s.settings.workers ≤ slots → StandsFor [] s → HasNoMarks old.marks → Performs es old.starts new.starts old.calls new.calls
+    → ((w : ℕ) → new.marks w ≡ marks_after es old.marks w) → new.given ≡ old.given → new.sunk ≡ old.sunk → Going [] s old new
 begins s slots old new es is l st fresh performed marks given sunk =
-    going-first s slots old new l st fresh (subst (λ (x : List Entry). Performs x old.starts new.starts old.calls new.calls) is performed) (λ w. marks w ∙ ap (λ (x : List Entry). after_all x old.marks w) is) given sunk
+    going-first s slots old new l st fresh (subst (λ (x : List Entry). Performs x old.starts new.starts old.calls new.calls) is performed) (λ w. marks w ∙ ap (λ (x : List Entry). marks_after x old.marks w) is) given sunk
 
 pub over-ends : (given : List News) (s : Seen) (old mid new : Scene) (g : Going given s old mid) (starts_same : new.starts ≡ mid.starts) (calls_same : new.calls ≡ mid.calls) (given_same : new.given ≡ mid.given) (marks_same : (w : ℕ) → new.marks w ≡ mid.marks w)
     (j : Journal) → j.settings ≡ s.settings → j.entries.items ≡ s.entries → is_over (state_of s).books ≡ true → IsProper s.settings [] → (written : Written) → EndsTail written j mid.sunk new.sunk → EndsRun written s old new

@@ -15,14 +15,14 @@ use Rattle.xd_ledger.specs.Table.{assigned, held, in_rota, seat_shut, workers_of
 use Rattle.xd_ledger.specs.Plan.{is_each, items_named, slot_items}
 use Rattle.xd_ledger.specs.Turn.{Turn, shut}
 use Rattle.xd_ledger.specs.Each as each
-use Rattle.xd_ledger.specs.Modes.{Call, turned, each_turn}
-use Rattle.xd_ledger.specs.Modes.Call.{Share, Joined, TestDone, TestsBack, Died}
+use Rattle.xd_ledger.specs.Modes.{ModeCall, turned, each_turn}
+use Rattle.xd_ledger.specs.Modes.ModeCall.{Share, Joined, TestDone, TestsBack, Died}
 use Rattle.xd_ledger.specs.Books.{Books}
 use Rattle.xd_ledger.specs.Workers.{has_member, is_active, was_ready, is_shut, slot_of, started, waiting, made_shut}
 use Rattle.xd_ledger.specs.Stops.{is_stopped, is_shutting}
 use Rattle.xd_ledger.specs.Sharing.{State}
-use Rattle.xd_ledger.specs.State.{moved, all_moved, settles}
-use Rattle.xd_ledger.specs.Outputs.{acts_of, after_death, after_joining, closing, outputs, own_outputs, shut_all, slots_of_rota, turn_of, unless_stopped}
+use Rattle.xd_ledger.specs.State.{after_effect, after_entries, settles}
+use Rattle.xd_ledger.specs.Outputs.{acts_of, outputs_of_death, outputs_of_joining, closing, outputs, own_outputs, shut_all, slots_of_rota, turn_of, unless_stopped}
 use Rattle.xd_edge.specs.Limits.{most_tests}
 use Rattle.xd_ledger.specs.Proper.{may_follow}
 use Rattle.xd_ledger.specs.Orderly.{all_orderly, is_orderly, may_run, not_empty}
@@ -30,10 +30,10 @@ use Rattle.xd_laws.proofs.Logic.{and, cases_of, differ, in_both, not_true, split
 use Rattle.xd_laws.proofs.Crew.{has, has-more, has-same}
 use Rattle.xd_laws.proofs.Counts.{all_among-drop}
 use Rattle.xd_laws.proofs.Placed.{Placed, placed-output}
-use Rattle.xd_laws.proofs.Turns.{all_moved-first}
+use Rattle.xd_laws.proofs.Turns.{after_entries-first}
 use Rattle.xd_drive.specs.Agrees.{Agrees}
 use Rattle.xd_drive.specs.Marks.{Marks, may_tell}
-use Rattle.xd_drive.specs.Performing.{after_all, after_entry, all_possible, possible}
+use Rattle.xd_drive.specs.Performing.{marks_after, marks_after_entry, all_possible, possible}
 use Rattle.xd_drive.proofs.Bounds.{Bounded, few-of_held, few-of_pool, few-of_slot, named-few}
 use Rattle.xd_session.proofs.Orders.{Tells, tells, tells-acts}
 
@@ -112,14 +112,14 @@ module _ (limit : ℕ) where
   each-left w slot [] t a = a
   each-left w slot (i ∷ is) t a = each-more t (Run w _) a refl
 
-  each-turn : (c : Call) (t : Turn) → InEach t → InEach (each_turn c t)
+  each-turn : (c : ModeCall) (t : Turn) → InEach t → InEach (each_turn c t)
   each-turn (Share slots) t a = each-slots (workers_of t.table) slots t a
   each-turn (Joined w slot) t a = each-shut w (each.give_of_slot w slot (each.remainder slot t) t) (each-left w slot (each.remainder slot t) t a)
   each-turn (TestDone w ms) t a = a
   each-turn TestsBack t a = a
   each-turn Died t a = a
 
-plain-acts : (limit : ℕ) (c : Call) (s : State) → Plain (steals_in s) limit (acts_of c s)
+plain-acts : (limit : ℕ) (c : ModeCall) (s : State) → Plain (steals_in s) limit (acts_of c s)
 plain-acts limit c s = by_mode s.plan.mode refl
   where
     others : Plain true limit (acts_of c s)
@@ -137,13 +137,13 @@ plain-acts limit c s = by_mode s.plan.mode refl
 lower : (a b : ℕ) → a < b → nat_lt a b ≡ true
 lower a b h = grind (arith, nat_tests)
 
-plain-death : (limit w : ℕ) (t : State) → slot_of w t.books < limit → Plain (steals_in t) limit (after_death w t)
+plain-death : (limit w : ℕ) (t : State) → slot_of w t.books < limit → Plain (steals_in t) limit (outputs_of_death w t)
 plain-death limit w t low =
     plain-join (steals_in t) limit (if t.books.shared then acts_of Died t else []) (Start (length t.books.crew) (slot_of w t.books) ∷ [])
     (in_both (Plain (steals_in t) limit) t.books.shared (acts_of Died t) [] (λ h. plain-acts limit Died t) (λ h. refl))
     (and (lower (slot_of w t.books) limit low) refl)
 
-plain-joining : (limit w : ℕ) (b : Books) (t : State) → Plain (steals_in t) limit (after_joining w b t)
+plain-joining : (limit w : ℕ) (b : Books) (t : State) → Plain (steals_in t) limit (outputs_of_joining w b t)
 plain-joining limit w b t =
     let joined = acts_of (Joined w (slot_of w t.books)) t in
     let shared = acts_of (Share (slots_of_rota t.books)) t in
@@ -158,40 +158,40 @@ kills_first _ = []
 pub record Follow (s : State) (e : Entry) (limit : ℕ) : Type 0 where
   pub rest : List Entry
   pub outs : outputs s e ≡ kills_first e ++ rest
-  pub plain_rest : Plain (steals_in (moved s e)) limit rest
+  pub plain_rest : Plain (steals_in (after_effect s e)) limit rest
 
-follow-plain : (s : State) (e : Entry) (limit : ℕ) → kills_first e ≡ [] → Plain (steals_in (moved s e)) limit (own_outputs s e (moved s e)) → Follow s e limit
+follow-plain : (s : State) (e : Entry) (limit : ℕ) → kills_first e ≡ [] → Plain (steals_in (after_effect s e)) limit (own_outputs s e (after_effect s e)) → Follow s e limit
 follow-plain s e limit none own = record {
   rest = outputs s e;
   outs = ap (λ (k : List Entry). k ++ outputs s e) (sym none);
-  plain_rest = plain-join (steals_in (moved s e)) limit (own_outputs s e (moved s e)) (closing (all_moved (moved s e) (own_outputs s e (moved s e)))) own (plain-closing (steals_in (moved s e)) limit (all_moved (moved s e) (own_outputs s e (moved s e))));
+  plain_rest = plain-join (steals_in (after_effect s e)) limit (own_outputs s e (after_effect s e)) (closing (after_entries (after_effect s e) (own_outputs s e (after_effect s e)))) own (plain-closing (steals_in (after_effect s e)) limit (after_entries (after_effect s e) (own_outputs s e (after_effect s e))));
 }
 
-pub follow : (s : State) (e : Entry) (limit : ℕ) → may_follow s e ≡ true → ((w : ℕ) → is_active w s.books ≡ true → slot_of w (moved s e).books < limit) → Follow s e limit
-follow s (Ready w) limit h low = follow-plain s (Ready w) limit refl (in_both (Plain (steals_in (moved s (Ready w))) limit) (is_shutting (moved s (Ready w)).books) (Shutdown w ∷ []) [] (λ k. refl) (λ k. refl))
+pub follow : (s : State) (e : Entry) (limit : ℕ) → may_follow s e ≡ true → ((w : ℕ) → is_active w s.books ≡ true → slot_of w (after_effect s e).books < limit) → Follow s e limit
+follow s (Ready w) limit h low = follow-plain s (Ready w) limit refl (in_both (Plain (steals_in (after_effect s (Ready w))) limit) (is_shutting (after_effect s (Ready w)).books) (Shutdown w ∷ []) [] (λ k. refl) (λ k. refl))
 follow s (Collected w g) limit h low =
-    let t = moved s (Collected w g) in
-    follow-plain s (Collected w g) limit refl (in_both (Plain (steals_in t) limit) (is_shut w s.books) [] (unless_stopped s.books t.books (after_joining w s.books t)) (λ k. refl)
-    (λ k. plain-unless (steals_in t) limit s.books t.books (after_joining w s.books t) (plain-joining limit w s.books t)))
+    let t = after_effect s (Collected w g) in
+    follow-plain s (Collected w g) limit refl (in_both (Plain (steals_in t) limit) (is_shut w s.books) [] (unless_stopped s.books t.books (outputs_of_joining w s.books t)) (λ k. refl)
+    (λ k. plain-unless (steals_in t) limit s.books t.books (outputs_of_joining w s.books t) (plain-joining limit w s.books t)))
 follow s (Done w i u m o) limit h low =
-    let t = moved s (Done w i u m o) in
+    let t = after_effect s (Done w i u m o) in
     follow-plain s (Done w i u m o) limit refl (plain-unless (steals_in t) limit s.books t.books (acts_of (TestDone w m) t) (plain-acts limit (TestDone w m) t))
 follow s (Back w is) limit h low =
-    let t = moved s (Back w is) in
+    let t = after_effect s (Back w is) in
     follow-plain s (Back w is) limit refl (plain-unless (steals_in t) limit s.books t.books (acts_of TestsBack t) (plain-acts limit TestsBack t))
 follow s (Finished w) limit h low = follow-plain s (Finished w) limit refl refl
-follow s (Refused w x) limit h low = (let t = moved s (Refused w x) in follow-plain s (Refused w x) limit refl (plain-unless (steals_in t) limit s.books t.books [] refl))
+follow s (Refused w x) limit h low = (let t = after_effect s (Refused w x) in follow-plain s (Refused w x) limit refl (plain-unless (steals_in t) limit s.books t.books [] refl))
 follow s (Down w c o) limit h low =
-    let t = moved s (Down w c o) in
-    let own = unless_stopped s.books t.books (after_death w t) in
+    let t = after_effect s (Down w c o) in
+    let own = unless_stopped s.books t.books (outputs_of_death w t) in
     record {
-      rest = own ++ closing (all_moved t (Kill w ∷ own));
+      rest = own ++ closing (after_entries t (Kill w ∷ own));
       outs = refl;
-      plain_rest = plain-join (steals_in t) limit own (closing (all_moved t (Kill w ∷ own))) (plain-unless (steals_in t) limit s.books t.books (after_death w t) (plain-death limit w t (low w h))) (plain-closing (steals_in t) limit (all_moved t (Kill w ∷ own)));
+      plain_rest = plain-join (steals_in t) limit own (closing (after_entries t (Kill w ∷ own))) (plain-unless (steals_in t) limit s.books t.books (outputs_of_death w t) (plain-death limit w t (low w h))) (plain-closing (steals_in t) limit (after_entries t (Kill w ∷ own)));
     }
 follow s (NotStarted w) limit h low =
-    let t = moved s (NotStarted w) in
-    follow-plain s (NotStarted w) limit refl (plain-unless (steals_in t) limit s.books t.books (after_death w t) (plain-death limit w t (low w (split-and (is_active w s.books) (not (was_ready w s.books)) h).0)))
+    let t = after_effect s (NotStarted w) in
+    follow-plain s (NotStarted w) limit refl (plain-unless (steals_in t) limit s.books t.books (outputs_of_death w t) (plain-death limit w t (low w (split-and (is_active w s.books) (not (was_ready w s.books)) h).0)))
 follow s (Start w slot) limit h low = absurd (differ h)
 follow s (Run w is) limit h low = absurd (differ h)
 follow s (RunAll w) limit h low = absurd (differ h)
@@ -246,9 +246,9 @@ rota-tell t marks w k a r = tell-of t.books marks w a (k.fits.active w r) (k.fit
 -- what is performed, and what it leaves
 pub record Goes (slots : ℕ) (marks : ℕ → Marks) (e : Entry) (behind : State) : Type 0 where
   pub possible : possible slots marks e ≡ true
-  pub agrees : Agrees behind.books (after_entry e marks)
+  pub agrees : Agrees behind.books (marks_after_entry e marks)
 
-goes-same : (slots : ℕ) (marks : ℕ → Marks) (e : Entry) (t u : State) → u.books.crew ≡ t.books.crew → ((w : ℕ) → after_entry e marks w ≡ marks w) → possible slots marks e ≡ true → Agrees t.books marks → Goes slots marks e u
+goes-same : (slots : ℕ) (marks : ℕ → Marks) (e : Entry) (t u : State) → u.books.crew ≡ t.books.crew → ((w : ℕ) → marks_after_entry e marks w ≡ marks w) → possible slots marks e ≡ true → Agrees t.books marks → Goes slots marks e u
 goes-same slots marks e t u c m p a = record {
   possible = p;
   agrees = record {
@@ -259,7 +259,7 @@ goes-same slots marks e t u c m p a = record {
   };
 }
 
-goes-shutdown : (slots : ℕ) (marks : ℕ → Marks) (t : State) (w : ℕ) → may_tell (marks w) ≡ true → Agrees t.books marks → Goes slots marks (Shutdown w) (moved t (Shutdown w))
+goes-shutdown : (slots : ℕ) (marks : ℕ → Marks) (t : State) (w : ℕ) → may_tell (marks w) ≡ true → Agrees t.books marks → Goes slots marks (Shutdown w) (after_effect t (Shutdown w))
 goes-shutdown slots marks t w p a =
     let ms = t.books.crew in
     let f = made_shut w in
@@ -293,7 +293,7 @@ old-member ms w slot v new old =
       has-more v (λ m. m.active) ms (started w slot) ∙ ap (λ (b : Bool). b || (w == v && true)) old.1 ∙ ap (λ (b : Bool). b && true) other,
     )
 
-pub goes-start : (slots : ℕ) (marks : ℕ → Marks) (t : State) (w slot : ℕ) → nat_lt slot slots ≡ true → is_orderly t (Start w slot) ≡ true → Agrees t.books marks → Goes slots marks (Start w slot) (moved t (Start w slot))
+pub goes-start : (slots : ℕ) (marks : ℕ → Marks) (t : State) (w slot : ℕ) → nat_lt slot slots ≡ true → is_orderly t (Start w slot) ≡ true → Agrees t.books marks → Goes slots marks (Start w slot) (after_effect t (Start w slot))
 goes-start slots marks t w slot low h a =
     let ms = t.books.crew in
     let new : has w (λ m. true) ms ≡ false = not_true (has w (λ m. true) ms) h in
@@ -313,15 +313,15 @@ goes-start slots marks t w slot low h a =
     no-ready false false k = k
 
 goes : (settings : Settings) (slots limit : ℕ) (marks : ℕ → Marks) (t : State) (e : Entry) → limit ≤ slots → plain (steals_in t) limit e ≡ true → is_orderly t e ≡ true → Bounded settings t → Placed t → Agrees t.books marks
-    → Goes slots marks e (moved t e)
-goes settings slots limit marks t (Run w is) l p h b k a = (let r = run-few settings t w is b k h in goes-same slots marks (Run w is) t (moved t (Run w is)) refl (λ v. refl) (and (rota-tell t marks w k a r.0) (few (length is) r.1)) a)
+    → Goes slots marks e (after_effect t e)
+goes settings slots limit marks t (Run w is) l p h b k a = (let r = run-few settings t w is b k h in goes-same slots marks (Run w is) t (after_effect t (Run w is)) refl (λ v. refl) (and (rota-tell t marks w k a r.0) (few (length is) r.1)) a)
 goes settings slots limit marks t (RunAll w) l p h b k a =
     let d = split-and (is_each t.plan.mode && may_run w t) (all_among (slot_items (slot_of w t.books) t.plan) t.books.table.pool) h in
     let c = split-and (is_each t.plan.mode) (may_run w t) d.0 in
     let r = split-and (in_rota w t.books.table) (not (is_shut w t.books)) c.1 in
-    goes-same slots marks (RunAll w) t (moved t (RunAll w)) refl (λ v. refl) (rota-tell t marks w k a r.0) a
+    goes-same slots marks (RunAll w) t (after_effect t (RunAll w)) refl (λ v. refl) (rota-tell t marks w k a r.0) a
 goes settings slots limit marks t (Steal w is) l p h b k a =
-    (let r = steal-few settings t w is b k (not_true (is_each t.plan.mode) p) h in goes-same slots marks (Steal w is) t (moved t (Steal w is)) refl (λ v. refl) (and (rota-tell t marks w k a r.0) (few (length is) r.1)) a)
+    (let r = steal-few settings t w is b k (not_true (is_each t.plan.mode) p) h in goes-same slots marks (Steal w is) t (after_effect t (Steal w is)) refl (λ v. refl) (and (rota-tell t marks w k a r.0) (few (length is) r.1)) a)
 goes settings slots limit marks t (Shutdown w) l p h b k a =
     let q = split-and (is_active w t.books && was_ready w t.books) (not (is_shut w t.books)) h in
     let r = split-and (is_active w t.books) (was_ready w t.books) q.0 in
@@ -341,7 +341,7 @@ goes settings slots limit marks t (Refused w x) l p h b k a = absurd (differ p)
 goes settings slots limit marks t (Down w c o) l p h b k a = absurd (differ p)
 goes settings slots limit marks t (NotStarted w) l p h b k a = absurd (differ p)
 
-pub bounded-output : (settings : Settings) (t : State) (e : Entry) → is_orderly t e ≡ true → Bounded settings t → Bounded settings (moved t e)
+pub bounded-output : (settings : Settings) (t : State) (e : Entry) → is_orderly t e ≡ true → Bounded settings t → Bounded settings (after_effect t e)
 bounded-output settings t (Start w slot) h k = record { settings_are = k.settings_are; sizes = k.sizes; whole = k.whole; lists = k.lists }
 bounded-output settings t (Run w is) h k = record { settings_are = k.settings_are; sizes = k.sizes; whole = k.whole; lists = k.lists }
 bounded-output settings t (RunAll w) h k = record { settings_are = k.settings_are; sizes = k.sizes; whole = k.whole; lists = k.lists }
@@ -358,13 +358,13 @@ bounded-output settings t (Refused w x) h k = absurd (differ h)
 bounded-output settings t (Down w c o) h k = absurd (differ h)
 bounded-output settings t (NotStarted w) h k = absurd (differ h)
 
-pub bounded-all : (settings : Settings) (t : State) (es : List Entry) → all_orderly t es ≡ true → Bounded settings t → Bounded settings (all_moved t es)
+pub bounded-all : (settings : Settings) (t : State) (es : List Entry) → all_orderly t es ≡ true → Bounded settings t → Bounded settings (after_entries t es)
 bounded-all settings t [] h k = k
 bounded-all settings t (e ∷ es) h k =
-    let p = split-and (is_orderly t e) (all_orderly (moved t e) es) h in
-    subst (Bounded settings) (sym (all_moved-first t e es p.0)) (bounded-all settings (moved t e) es p.1 (bounded-output settings t e p.0 k))
+    let p = split-and (is_orderly t e) (all_orderly (after_effect t e) es) h in
+    subst (Bounded settings) (sym (after_entries-first t e es p.0)) (bounded-all settings (after_effect t e) es p.1 (bounded-output settings t e p.0 k))
 
-plain-same : (t : State) (e : Entry) → is_orderly t e ≡ true → steals_in (moved t e) ≡ steals_in t
+plain-same : (t : State) (e : Entry) → is_orderly t e ≡ true → steals_in (after_effect t e) ≡ steals_in t
 plain-same t (Start w slot) h = refl
 plain-same t (Run w is) h = refl
 plain-same t (RunAll w) h = refl
@@ -384,17 +384,17 @@ plain-same t (NotStarted w) h = absurd (differ h)
 -- one output after another
 pub record AllGo (slots : ℕ) (marks : ℕ → Marks) (es : List Entry) (behind : State) : Type 0 where
   pub possible : all_possible slots marks es ≡ true
-  pub agrees : Agrees behind.books (after_all es marks)
+  pub agrees : Agrees behind.books (marks_after es marks)
 
 pub all-go : (settings : Settings) (slots limit : ℕ) (marks : ℕ → Marks) (t : State) (es : List Entry) → limit ≤ slots → Plain (steals_in t) limit es → all_orderly t es ≡ true → Bounded settings t → Placed t → Agrees t.books marks
-    → AllGo slots marks es (all_moved t es)
+    → AllGo slots marks es (after_entries t es)
 all-go settings slots limit marks t [] l p h b k a = record { possible = refl; agrees = a }
 all-go settings slots limit marks t (e ∷ es) l p h b k a =
-    let q = split-and (is_orderly t e) (all_orderly (moved t e) es) h in
+    let q = split-and (is_orderly t e) (all_orderly (after_effect t e) es) h in
     let r = split-and (plain (steals_in t) limit e) (list_all (plain (steals_in t) limit) es) p in
     let one = goes settings slots limit marks t e l r.0 q.0 b k a in
-    let more = all-go settings slots limit (after_entry e marks) (moved t e) es l (ap (λ (st : Bool). list_all (plain st limit) es) (plain-same t e q.0) ∙ r.1) q.1 (bounded-output settings t e q.0 b) (placed-output t e q.0 k) one.agrees in
-    record { possible = and one.possible more.possible; agrees = subst (λ (u : State). Agrees u.books (after_all es (after_entry e marks))) (sym (all_moved-first t e es q.0)) more.agrees }
+    let more = all-go settings slots limit (marks_after_entry e marks) (after_effect t e) es l (ap (λ (st : Bool). list_all (plain st limit) es) (plain-same t e q.0) ∙ r.1) q.1 (bounded-output settings t e q.0 b) (placed-output t e q.0 k) one.agrees in
+    record { possible = and one.possible more.possible; agrees = subst (λ (u : State). Agrees u.books (marks_after es (marks_after_entry e marks))) (sym (after_entries-first t e es q.0)) more.agrees }
 
 -- the kill of a worker that is not active, and then the rest
 pub kill-goes : (slots : ℕ) (marks : ℕ → Marks) (t : State) (w : ℕ) → has_member w (λ m. true) t.books ≡ true → is_active w t.books ≡ false → (marks w).killed ≡ false → Agrees t.books marks → Goes slots marks (Kill w) t

@@ -7,7 +7,7 @@ use Rattle.std.proofs.lemmas.List.Elements.{filter-append}
 use Rattle.xd_journal.specs.declared.entry.Entry.{Entry}
 use Rattle.xd_laws.proofs.Logic.{split-and}
 use Rattle.xd_drive.specs.Marks.{Marks}
-use Rattle.xd_drive.specs.Performing.{AddsAll, Performs, after_all, after_entry, all_possible, calls_in, is_call, is_start, possible, starts_in}
+use Rattle.xd_drive.specs.Performing.{AddsAll, Performs, marks_after, marks_after_entry, all_possible, calls_in, is_call, is_start, possible, starts_in}
 
 -- lists that are told
 
@@ -30,21 +30,21 @@ performs-more xs ys s0 s1 s2 c0 c1 c2 a b = record {
 
 -- marks
 
-pub after_all-join : (xs ys : List Entry) (marks : ℕ → Marks) → after_all (xs ++ ys) marks ≡ after_all ys (after_all xs marks)
+pub after_all-join : (xs ys : List Entry) (marks : ℕ → Marks) → marks_after (xs ++ ys) marks ≡ marks_after ys (marks_after xs marks)
 after_all-join [] ys marks = refl
-after_all-join (x ∷ xs) ys marks = after_all-join xs ys (after_entry x marks)
+after_all-join (x ∷ xs) ys marks = after_all-join xs ys (marks_after_entry x marks)
 
-pub possible-join : (slots : ℕ) (marks : ℕ → Marks) (xs ys : List Entry) → all_possible slots marks (xs ++ ys) ≡ true → (all_possible slots marks xs ≡ true) × (all_possible slots (after_all xs marks) ys ≡ true)
+pub possible-join : (slots : ℕ) (marks : ℕ → Marks) (xs ys : List Entry) → all_possible slots marks (xs ++ ys) ≡ true → (all_possible slots marks xs ≡ true) × (all_possible slots (marks_after xs marks) ys ≡ true)
 possible-join slots marks [] ys h = (refl, h)
 possible-join slots marks (x ∷ xs) ys h =
-    let p = split-and (possible slots marks x) (all_possible slots (after_entry x marks) (xs ++ ys)) h in
-    let q = possible-join slots (after_entry x marks) xs ys p.1 in
+    let p = split-and (possible slots marks x) (all_possible slots (marks_after_entry x marks) (xs ++ ys)) h in
+    let q = possible-join slots (marks_after_entry x marks) xs ys p.1 in
     (cc, q.1)
 
-pub possible-at : (slots : ℕ) (marks : ℕ → Marks) (es : List Entry) (i : ℕ) (e : Entry) → i < length es → e ≡ get_or es i e → all_possible slots marks es ≡ true → possible slots (after_all (take i es) marks) e ≡ true
+pub possible-at : (slots : ℕ) (marks : ℕ → Marks) (es : List Entry) (i : ℕ) (e : Entry) → i < length es → e ≡ get_or es i e → all_possible slots marks es ≡ true → possible slots (marks_after (take i es) marks) e ≡ true
 possible-at slots marks [] i e l is h = absurd (omega (arith, l))
-possible-at slots marks (x ∷ xs) zero e l is h = subst (λ (y : Entry). possible slots marks y ≡ true) (sym is) (split-and (possible slots marks x) (all_possible slots (after_entry x marks) xs) h).0
-possible-at slots marks (x ∷ xs) (suc i) e l is h = possible-at slots (after_entry x marks) xs i e (omega (arith, l)) is (split-and (possible slots marks x) (all_possible slots (after_entry x marks) xs) h).1
+possible-at slots marks (x ∷ xs) zero e l is h = subst (λ (y : Entry). possible slots marks y ≡ true) (sym is) (split-and (possible slots marks x) (all_possible slots (marks_after_entry x marks) xs) h).0
+possible-at slots marks (x ∷ xs) (suc i) e l is h = possible-at slots (marks_after_entry x marks) xs i e (omega (arith, l)) is (split-and (possible slots marks x) (all_possible slots (marks_after_entry x marks) xs) h).1
 
 pub possible-same : (slots0 slots1 : ℕ) (a b : ℕ → Marks) (e : Entry) → slots1 ≡ slots0 → ((w : ℕ) → b w ≡ a w) → possible slots0 a e ≡ true → possible slots1 b e ≡ true
 possible-same slots0 slots1 a b e s m h = ap (λ (k : ℕ). possible k b e) s ∙ ap (λ (f : ℕ → Marks). possible slots0 f e) (fun_ext m) ∙ h
@@ -57,10 +57,10 @@ module _ (es : List Entry) (i : ℕ) (e : Entry) (l : i < length es) (is : e ≡
   next_entry : take (i + 1) es ≡ take i es ++ e ∷ []
   next_entry = take_more es i e l ∙ ap (λ (x : Entry). take i es ++ x ∷ []) (sym is)
 
-  pub marks-next : (a b c : ℕ → Marks) → ((w : ℕ) → b w ≡ after_all (take i es) a w) → ((w : ℕ) → c w ≡ after_entry e b w) → (w : ℕ) → c w ≡ after_all (take (i + 1) es) a w
+  pub marks-next : (a b c : ℕ → Marks) → ((w : ℕ) → b w ≡ marks_after (take i es) a w) → ((w : ℕ) → c w ≡ marks_after_entry e b w) → (w : ℕ) → c w ≡ marks_after (take (i + 1) es) a w
   marks-next a b c before behind w =
-      behind w ∙ ap (λ (f : ℕ → Marks). after_entry e f w) (fun_ext before)
-      ∙ sym (ap (λ (xs : List Entry). after_all xs a w) next_entry ∙ ap (λ (f : ℕ → Marks). f w) (after_all-join (take i es) (e ∷ []) a))
+      behind w ∙ ap (λ (f : ℕ → Marks). marks_after_entry e f w) (fun_ext before)
+      ∙ sym (ap (λ (xs : List Entry). marks_after xs a w) next_entry ∙ ap (λ (f : ℕ → Marks). f w) (after_all-join (take i es) (e ∷ []) a))
 
   pub performs-next : (s0 s1 s2 c0 c1 c2 : Option (List Entry)) → Performs (take i es) s0 s1 c0 c1 → Performs (e ∷ []) s1 s2 c1 c2 → Performs (take (i + 1) es) s0 s2 c0 c2
   performs-next s0 s1 s2 c0 c1 c2 a b = subst (λ (xs : List Entry). Performs xs s0 s2 c0 c2) (sym next_entry) (performs-more (take i es) (e ∷ []) s0 s1 s2 c0 c1 c2 a b)
@@ -73,15 +73,15 @@ module _ (f : Entry → Bool) (es : List Entry) (i : ℕ) (e : Entry) (l : i < l
   kept_all : filter f es ≡ (filter f (take i es) ++ filter f (e ∷ [])) ++ filter f (drop (i + 1) es)
   kept_all = ap (filter f) (sym (take-append-drop (i + 1) es)) ∙ filter-append f (take (i + 1) es) (drop (i + 1) es) ∙ ap (λ (xs : List Entry). xs ++ filter f (drop (i + 1) es)) kept_next
 
-  pub kept-possible : (slots : ℕ) (marks : ℕ → Marks) → all_possible slots marks (filter f es) ≡ true → all_possible slots (after_all (filter f (take i es)) marks) (filter f (e ∷ [])) ≡ true
+  pub kept-possible : (slots : ℕ) (marks : ℕ → Marks) → all_possible slots marks (filter f es) ≡ true → all_possible slots (marks_after (filter f (take i es)) marks) (filter f (e ∷ [])) ≡ true
   kept-possible slots marks h =
       (possible-join slots marks (filter f (take i es)) (filter f (e ∷ []))
       (possible-join slots marks (filter f (take i es) ++ filter f (e ∷ [])) (filter f (drop (i + 1) es)) (sym (ap (all_possible slots marks) kept_all) ∙ h)).0).1
 
-  pub kept-marks : (a b c : ℕ → Marks) → ((w : ℕ) → b w ≡ after_all (filter f (take i es)) a w) → ((w : ℕ) → c w ≡ after_all (filter f (e ∷ [])) b w) → (w : ℕ) → c w ≡ after_all (filter f (take (i + 1) es)) a w
+  pub kept-marks : (a b c : ℕ → Marks) → ((w : ℕ) → b w ≡ marks_after (filter f (take i es)) a w) → ((w : ℕ) → c w ≡ marks_after (filter f (e ∷ [])) b w) → (w : ℕ) → c w ≡ marks_after (filter f (take (i + 1) es)) a w
   kept-marks a b c before behind w =
-      behind w ∙ ap (λ (g : ℕ → Marks). after_all (filter f (e ∷ [])) g w) (fun_ext before)
-      ∙ sym (ap (λ (xs : List Entry). after_all xs a w) kept_next ∙ ap (λ (g : ℕ → Marks). g w) (after_all-join (filter f (take i es)) (filter f (e ∷ [])) a))
+      behind w ∙ ap (λ (g : ℕ → Marks). marks_after (filter f (e ∷ [])) g w) (fun_ext before)
+      ∙ sym (ap (λ (xs : List Entry). marks_after xs a w) kept_next ∙ ap (λ (g : ℕ → Marks). g w) (after_all-join (filter f (take i es)) (filter f (e ∷ [])) a))
 
   pub kept-performs : (s0 s1 s2 c0 c1 c2 : Option (List Entry)) → Performs (filter f (take i es)) s0 s1 c0 c1 → Performs (filter f (e ∷ [])) s1 s2 c1 c2 → Performs (filter f (take (i + 1) es)) s0 s2 c0 c2
   kept-performs s0 s1 s2 c0 c1 c2 a b = subst (λ (xs : List Entry). Performs xs s0 s2 c0 c2) (sym kept_next) (performs-more (filter f (take i es)) (filter f (e ∷ [])) s0 s1 s2 c0 c1 c2 a b)

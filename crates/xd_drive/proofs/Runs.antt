@@ -18,9 +18,9 @@ use Rattle.xd_ledger.specs.Plan.{is_scope}
 use Rattle.xd_ledger.specs.Workers.{is_active}
 use Rattle.xd_ledger.specs.Collections.{listed, differ_at}
 use Rattle.xd_ledger.specs.Sharing.{State}
-use Rattle.xd_ledger.specs.State.{settled, next, moved, all_moved, no_one, state_at}
-use Rattle.xd_ledger.specs.Outputs.{outputs, stepped}
-use Rattle.xd_ledger.specs.Histories.{begun, stepped_all}
+use Rattle.xd_ledger.specs.State.{settled, after_entry, after_effect, after_entries, no_one, state_at}
+use Rattle.xd_ledger.specs.Outputs.{outputs, after_input}
+use Rattle.xd_ledger.specs.Histories.{after_starts, after_inputs}
 use Rattle.xd_ledger.specs.Proper.{IsProper, may_follow, all_may_follow, names_head, has_workers}
 use Rattle.xd_ledger.specs.Orderly.{all_orderly}
 use Rattle.xd_ledger.specs.Meaning.{Log, log_of, spent_by, is_of, any_open, output_of, given_ids, breach, or_breach, silent_or_breach, meaning_of}
@@ -126,18 +126,18 @@ input-none r n a = ap (λ (b : Bool). if b then meaning_of n.worker (log_of (sai
 
 pub record InRun (settings : Settings) (r : TheRun) : Type 0 where
   pub proper : IsProper settings r.inputs
-  pub state : r.state ≡ stepped_all (begun settings) r.inputs
+  pub state : r.state ≡ after_inputs (after_starts settings) r.inputs
   pub behind : state_at settings r.entries ≡ r.state
 
-follow-more : (s : State) (es : List Entry) (e : Entry) → all_may_follow s es ≡ true → may_follow (stepped_all s es) e ≡ true → all_may_follow s (es ++ e ∷ []) ≡ true
+follow-more : (s : State) (es : List Entry) (e : Entry) → all_may_follow s es ≡ true → may_follow (after_inputs s es) e ≡ true → all_may_follow s (es ++ e ∷ []) ≡ true
 follow-more s [] e a b = and b refl
-follow-more s (x ∷ xs) e a b = (let p = split-and (may_follow s x) (all_may_follow (stepped s x) xs) a in and p.0 (follow-more (stepped s x) xs e p.1 b))
+follow-more s (x ∷ xs) e a b = (let p = split-and (may_follow s x) (all_may_follow (after_input s x) xs) a in and p.0 (follow-more (after_input s x) xs e p.1 b))
 
-stepped-more : (s : State) (es : List Entry) (e : Entry) → stepped_all s (es ++ e ∷ []) ≡ stepped (stepped_all s es) e
-stepped-more s [] e = refl
-stepped-more s (x ∷ xs) e = stepped-more (stepped s x) xs e
+after_input-more : (s : State) (es : List Entry) (e : Entry) → after_inputs s (es ++ e ∷ []) ≡ after_input (after_inputs s es) e
+after_input-more s [] e = refl
+after_input-more s (x ∷ xs) e = after_input-more (after_input s x) xs e
 
-next-input : (x : State) (e : Entry) → may_follow (settled x) e ≡ true → next x e ≡ moved (settled x) e
+next-input : (x : State) (e : Entry) → may_follow (settled x) e ≡ true → after_entry x e ≡ after_effect (settled x) e
 next-input x (Ready w) h = refl
 next-input x (Collected w g) h = refl
 next-input x (Done w i u m o) h = refl
@@ -154,9 +154,9 @@ next-input x (Shutdown w) h = absurd (differ h)
 next-input x (Kill w) h = absurd (differ h)
 next-input x (Over how) h = absurd (differ h)
 
-pub state-more : (settings : Settings) (es : List Entry) (e : Entry) (outs : List Entry) → may_follow (state_at settings es) e ≡ true → state_at settings (es ++ e ∷ outs) ≡ settled (all_moved (moved (state_at settings es) e) outs)
+pub state-more : (settings : Settings) (es : List Entry) (e : Entry) (outs : List Entry) → may_follow (state_at settings es) e ≡ true → state_at settings (es ++ e ∷ outs) ≡ settled (after_entries (after_effect (state_at settings es) e) outs)
 state-more settings es e outs h =
-    ap settled (fold-append next (no_one settings) es (e ∷ outs) ∙ ap (λ (u : State). all_moved u outs) (next-input (all_moved (no_one settings) es) e h))
+    ap settled (fold-append after_entry (no_one settings) es (e ∷ outs) ∙ ap (λ (u : State). after_entries u outs) (next-input (after_entries (no_one settings) es) e h))
 
 -- the run with an input, or none
 run_with : TheRun → News → Option Entry → TheRun
@@ -175,10 +175,10 @@ in_run-with settings r n (Some e) i h = record {
     some_worker = i.proper.some_worker;
     few_workers = i.proper.few_workers;
     few_restarts = i.proper.few_restarts;
-    follow = follow-more (begun settings) r.inputs e i.proper.follow (ap (λ (s : State). may_follow s e) (sym i.state) ∙ h);
+    follow = follow-more (after_starts settings) r.inputs e i.proper.follow (ap (λ (s : State). may_follow s e) (sym i.state) ∙ h);
   };
-  state = ap (λ (s : State). stepped s e) i.state ∙ sym (stepped-more (begun settings) r.inputs e);
-  behind = state-more settings r.entries e (outputs r.state e) (ap (λ (s : State). may_follow s e) i.behind ∙ h) ∙ ap (λ (s : State). settled (all_moved (moved s e) (outputs r.state e))) i.behind;
+  state = ap (λ (s : State). after_input s e) i.state ∙ sym (after_input-more (after_starts settings) r.inputs e);
+  behind = state-more settings r.entries e (outputs r.state e) (ap (λ (s : State). may_follow s e) i.behind ∙ h) ∙ ap (λ (s : State). settled (after_entries (after_effect s e) (outputs r.state e))) i.behind;
 }
 
 means-follows : (s : State) (w : ℕ) (n : What) (o : Option Entry) → Means s w n o → Follows s o
@@ -209,17 +209,17 @@ run-more settings taken n = fold-append after_news (begun_run settings) taken (n
 
 pub record Lawful (s : State) (e : Entry) : Type 0 where
   pub tidy : Tidy s
-  pub orderly : all_orderly (moved s e) (outputs s e) ≡ true
+  pub orderly : all_orderly (after_effect s e) (outputs s e) ≡ true
 
-by_rule : (X : State → Type 0) → Rule X → (settings : Settings) (inputs : List Entry) (e : Entry) → X (no_one settings) → IsProper settings inputs → may_follow (stepped_all (begun settings) inputs) e ≡ true
-    → Lawful (stepped_all (begun settings) inputs) e
+by_rule : (X : State → Type 0) → Rule X → (settings : Settings) (inputs : List Entry) (e : Entry) → X (no_one settings) → IsProper settings inputs → may_follow (after_inputs (after_starts settings) inputs) e ≡ true
+    → Lawful (after_inputs (after_starts settings) inputs) e
 by_rule X rule settings inputs e x p h =
     let b = begun-holds X rule settings x in
-    let all = all-hold X rule (begun settings) inputs p.follow b in
-    record { tidy = all.tidy; orderly = (outputs-fit X rule (stepped_all (begun settings) inputs) e h all.tidy all.also).orderly }
+    let all = all-hold X rule (after_starts settings) inputs p.follow b in
+    record { tidy = all.tidy; orderly = (outputs-fit X rule (after_inputs (after_starts settings) inputs) e h all.tidy all.also).orderly }
 
-by_mode : (k : ModeKind) (settings : Settings) (inputs : List Entry) (e : Entry) → settings.mode ≡ k → IsProper settings inputs → may_follow (stepped_all (begun settings) inputs) e ≡ true
-    → Lawful (stepped_all (begun settings) inputs) e
+by_mode : (k : ModeKind) (settings : Settings) (inputs : List Entry) (e : Entry) → settings.mode ≡ k → IsProper settings inputs → may_follow (after_inputs (after_starts settings) inputs) e ≡ true
+    → Lawful (after_inputs (after_starts settings) inputs) e
 by_mode Local settings inputs e m p h = absurd (differ (ap has_workers (sym m) ∙ p.mode))
 by_mode Each settings inputs e m p h = by_rule (InMode Each) each_rule settings inputs e m p h
 by_mode Load settings inputs e m p h = by_rule (InMode Load) load_rule settings inputs e m p h
@@ -231,10 +231,10 @@ by_mode WorkSteal settings inputs e m p h = by_rule (InMode WorkSteal) steal_rul
 pub lawful : (settings : Settings) (r : TheRun) (e : Entry) → InRun settings r → may_follow r.state e ≡ true → Lawful r.state e
 lawful settings r e i h = subst (λ (s : State). Lawful s e) (sym i.state) (by_mode settings.mode settings r.inputs e refl i.proper (ap (λ (s : State). may_follow s e) (sym i.state) ∙ h))
 
-tidy-rule : (X : State → Type 0) → Rule X → (settings : Settings) (inputs : List Entry) → X (no_one settings) → IsProper settings inputs → Tidy (stepped_all (begun settings) inputs)
-tidy-rule X rule settings inputs x p = (all-hold X rule (begun settings) inputs p.follow (begun-holds X rule settings x)).tidy
+tidy-rule : (X : State → Type 0) → Rule X → (settings : Settings) (inputs : List Entry) → X (no_one settings) → IsProper settings inputs → Tidy (after_inputs (after_starts settings) inputs)
+tidy-rule X rule settings inputs x p = (all-hold X rule (after_starts settings) inputs p.follow (begun-holds X rule settings x)).tidy
 
-tidy-mode : (k : ModeKind) (settings : Settings) (inputs : List Entry) → settings.mode ≡ k → IsProper settings inputs → Tidy (stepped_all (begun settings) inputs)
+tidy-mode : (k : ModeKind) (settings : Settings) (inputs : List Entry) → settings.mode ≡ k → IsProper settings inputs → Tidy (after_inputs (after_starts settings) inputs)
 tidy-mode Local settings inputs m p = absurd (differ (ap has_workers (sym m) ∙ p.mode))
 tidy-mode Each settings inputs m p = tidy-rule (InMode Each) each_rule settings inputs m p
 tidy-mode Load settings inputs m p = tidy-rule (InMode Load) load_rule settings inputs m p

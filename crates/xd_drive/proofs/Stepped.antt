@@ -14,7 +14,7 @@ use Rattle.xd_ledger.specs.Books.{Books}
 use Rattle.xd_ledger.specs.Ending.{ending}
 use Rattle.xd_ledger.specs.Workers.{has_member, is_active}
 use Rattle.xd_ledger.specs.Sharing.{State}
-use Rattle.xd_ledger.specs.State.{all_moved, no_one, state_at}
+use Rattle.xd_ledger.specs.State.{after_entries, no_one, state_at}
 use Rattle.xd_ledger.specs.Proper.{IsProper}
 use Rattle.xd_report.specs.declared.reporter.Reporter.{Reporter}
 use Rattle.xd_report.specs.Follows.{Follows}
@@ -26,7 +26,7 @@ use Rattle.xd_drive.specs.declared.written.Written.TheVariants.{Whole, Broken}
 use Rattle.xd_drive.specs.Agrees.{Agrees}
 use Rattle.xd_drive.specs.Going.{Scene, TakesNews, TellsEntries, added_by}
 use Rattle.xd_drive.specs.Marks.{Marks, is_end, marked_heard}
-use Rattle.xd_drive.specs.Performing.{AddsAll, Performs, after_all, after_entry, all_possible, between, is_start_of, was_started}
+use Rattle.xd_drive.specs.Performing.{AddsAll, Performs, marks_after, marks_after_entry, all_possible, entries_between, is_start_of, was_started}
 use Rattle.xd_report.specs.Printing.{ShowsLines}
 use Rattle.xd_drive.specs.Taken.{taken_with}
 use Rattle.xd_drive.proofs.Follow.{follows-same}
@@ -60,23 +60,23 @@ module _ (s0 s1 : Seen) (taken : List News) (n : News) (st0 : StandsFor taken s0
     pub in_order : from ≤ to
     in_order = omega (arith, first, last, ap length entries-more, length-append s0.entries more)
 
-    pub between-is : between from to j.entries.items ≡ more
+    pub between-is : entries_between from to j.entries.items ≡ more
     between-is =
         ap (λ (k : ℕ). take (to - k) (drop k j.entries.items)) first ∙ ap (λ (k : ℕ). take (k - length s0.entries) (drop (length s0.entries) j.entries.items)) last
         ∙ ap (λ (es : List Entry). take (length s1.entries - length s0.entries) (drop (length s0.entries) es)) entries_are ∙ new_ones s0.entries more s1.entries entries-more
 
-    pub lines-are : lines_between j from to ≡ lines_from (all_moved (no_one s0.settings) s0.entries) more
+    pub lines-are : lines_between j from to ≡ lines_from (after_entries (no_one s0.settings) s0.entries) more
     lines-are =
         let before : take from j.entries.items ≡ s0.entries =
         ap (λ (k : ℕ). take k j.entries.items) first ∙ ap (take (length s0.entries)) entries_are ∙ old_ones s0.entries more s1.entries entries-more in
-        ap (λ (es : List Entry). lines_from (all_moved (no_one j.settings) (take from j.entries.items)) es) between-is
-        ∙ ap (λ (es : List Entry). lines_from (all_moved (no_one j.settings) es) more) before ∙ ap (λ (x : Settings). lines_from (all_moved (no_one x) s0.entries) more) (settings_are ∙ same)
+        ap (λ (es : List Entry). lines_from (after_entries (no_one j.settings) (take from j.entries.items)) es) between-is
+        ∙ ap (λ (es : List Entry). lines_from (after_entries (no_one j.settings) es) more) before ∙ ap (λ (x : Settings). lines_from (after_entries (no_one x) s0.entries) more) (settings_are ∙ same)
 
-    pub follows-before : (r : Reporter) → Follows r (all_moved (no_one s0.settings) s0.entries) → Follows r (all_moved (no_one j.settings) (take from j.entries.items))
+    pub follows-before : (r : Reporter) → Follows r (after_entries (no_one s0.settings) s0.entries) → Follows r (after_entries (no_one j.settings) (take from j.entries.items))
     follows-before r f = follows-same r s0.settings j.settings s0.entries (take from j.entries.items) (sym (settings_are ∙ same))
         (sym (ap (λ (k : ℕ). take k j.entries.items) first ∙ ap (take (length s0.entries)) entries_are ∙ old_ones s0.entries more s1.entries entries-more)) f
 
-    pub follows-behind : (r : Reporter) → Follows r (all_moved (no_one j.settings) (take to j.entries.items)) → Follows r (all_moved (no_one s1.settings) s1.entries)
+    pub follows-behind : (r : Reporter) → Follows r (after_entries (no_one j.settings) (take to j.entries.items)) → Follows r (after_entries (no_one s1.settings) s1.entries)
     follows-behind r f = follows-same r j.settings s1.settings (take to j.entries.items) s1.entries settings_are
         (ap (λ (k : ℕ). take k j.entries.items) last ∙ ap (take (length s1.entries)) entries_are ∙ take_all (length s1.entries) s1.entries (omega arith)) f
 
@@ -102,13 +102,13 @@ agrees-inactive b marks n member off a = record {
     same_of v w h = grind (arith, nat_tests)
 
 -- who is started by these
-pub started-by : (es : List Entry) (marks : ℕ → Marks) (w : ℕ) → (after_all es marks w).started ≡ ((marks w).started || was_started w es)
+pub started-by : (es : List Entry) (marks : ℕ → Marks) (w : ℕ) → (marks_after es marks w).started ≡ ((marks w).started || was_started w es)
 started-by [] marks w = or-none (marks w).started
   where
     or-none : (b : Bool) → b ≡ (b || false)
     or-none true = refl
     or-none false = refl
-started-by (e ∷ es) marks w = started-by es (after_entry e marks) w ∙ ap (λ (b : Bool). b || was_started w es) (one e) ∙ or-join (marks w).started (is_start_of w e) (was_started w es)
+started-by (e ∷ es) marks w = started-by es (marks_after_entry e marks) w ∙ ap (λ (b : Bool). b || was_started w es) (one e) ∙ or-join (marks w).started (is_start_of w e) (was_started w es)
   where
     or-join : (a b c : Bool) → ((a || b) || c) ≡ (a || (b || c))
     or-join true b c = refl
@@ -118,7 +118,7 @@ started-by (e ∷ es) marks w = started-by es (after_entry e marks) w ∙ ap (λ
     or-none true = refl
     or-none false = refl
 
-    one : (x : Entry) → (after_entry x marks w).started ≡ ((marks w).started || is_start_of w x)
+    one : (x : Entry) → (marks_after_entry x marks w).started ≡ ((marks w).started || is_start_of w x)
     one (Start v slot) = refl
     one (Kill v) = or-none (marks w).started
     one _ = or-none (marks w).started
@@ -180,23 +180,23 @@ module _ (s : Seen) (proper : IsProper s.settings []) (n : News) (old mid : Scen
       es = added_by s.settings taken n
 
       abbrev lines : List ℕ
-      lines = lines_from (all_moved (no_one s.settings) s.entries) es
+      lines = lines_from (after_entries (no_one s.settings) s.entries) es
 
       stands-with : (t : List News) → StandsFor t s → StandsFor (taken_with s.settings t n) s1
       stands-with t k = subst (λ (x : List News). StandsFor x s1) (sym (taken-is true t k on)) (stands t k)
 
-      behind : Agrees (state_of s1).books (after_all es (heard_by n old.marks))
+      behind : Agrees (state_of s1).books (marks_after es (heard_by n old.marks))
       behind =
           let p1 : IsProper s1.settings [] = subst (λ (x : Settings). IsProper x []) (sym same) proper in
-          subst (λ (x : State). Agrees x.books (after_all es (heard_by n old.marks))) (sym (state-is s1 (taken ++ n ∷ []) p1 (stands taken st) ∙ ap (λ (x : Settings). (run_of x (taken ++ n ∷ [])).state) same))
+          subst (λ (x : State). Agrees x.books (marks_after es (heard_by n old.marks))) (sym (state-is s1 (taken ++ n ∷ []) p1 (stands taken st) ∙ ap (λ (x : Settings). (run_of x (taken ++ n ∷ [])).state) same))
           (step-agrees s.settings proper slots old.marks taken n room (bounded s.settings proper taken) (agrees-run taken st) (on-run taken st))
 
       rest-possible : all_possible slots mid.marks (es ++ ending true (state_of s1).books) ≡ true
       rest-possible =
           let p1 : IsProper s1.settings [] = subst (λ (x : Settings). IsProper x []) (sym same) proper in
           possible-both slots mid.marks es (ending true (state_of s1).books) (tellable slots refl taken st)
-          (ending-possible s1.settings (taken ++ n ∷ []) slots (state_of s1).books (after_all es mid.marks) p1 (ap (λ (x : State). x.books) (state-is s1 (taken ++ n ∷ []) p1 (stands taken st)))
-          (subst (λ (f : ℕ → Marks). Agrees (state_of s1).books (after_all es f)) (sym marks-are) behind))
+          (ending-possible s1.settings (taken ++ n ∷ []) slots (state_of s1).books (marks_after es mid.marks) p1 (ap (λ (x : State). x.books) (state-is s1 (taken ++ n ∷ []) p1 (stands taken st)))
+          (subst (λ (f : ℕ → Marks). Agrees (state_of s1).books (marks_after es f)) (sym marks-are) behind))
 
       pub told : TellsEntries true es lines mid new → (m : News) × TakesNews m Whole s s1 old new
       told t = (
@@ -210,7 +210,7 @@ module _ (s : Seen) (proper : IsProper s.settings []) (n : News) (old mid : Scen
             record {
               entries = entries-more s s1 taken n st (stands taken st) same;
               performed = subst (λ (x : Option (List Entry)). Performs es x new.starts old.calls new.calls) starts (subst (λ (x : Option (List Entry)). Performs es mid.starts new.starts x new.calls) calls t.performed);
-              agrees = subst (λ (f : ℕ → Marks). Agrees (state_of s1).books f) (sym (fun_ext t.marks ∙ ap (after_all es) marks-are)) behind;
+              agrees = subst (λ (f : ℕ → Marks). Agrees (state_of s1).books f) (sym (fun_ext t.marks ∙ ap (marks_after es) marks-are)) behind;
               started = λ w. ap (λ (x : Marks). x.started) (t.marks w) ∙ started-by es mid.marks w ∙ ap (λ (x : Marks). x.started || was_started w es) (heard w);
               shows = subst (λ (x : Option Sunk). ShowsLines true lines x new.sunk) sunk t.shows;
             },

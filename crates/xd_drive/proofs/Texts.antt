@@ -13,7 +13,7 @@ use Rattle.xd_journal.specs.declared.entry.Entry.TheVariants.{Ready, Collected, 
 use Rattle.xd_ledger.specs.declared.member.Member.{Member}
 use Rattle.xd_ledger.specs.Books.{Books}
 use Rattle.xd_ledger.specs.Sharing.{State}
-use Rattle.xd_ledger.specs.State.{all_moved, next, no_one, reached, settled, state_at}
+use Rattle.xd_ledger.specs.State.{after_entries, after_entry, no_one, reached, settled, state_at}
 use Rattle.xd_ledger.specs.Workers.{started}
 use Rattle.xd_ledger.specs.Ending.{ending}
 use Rattle.xd_ledger.specs.Histories.{first_starts, starts_from}
@@ -40,7 +40,7 @@ silent (Over how) = true
 silent _ = false
 
 record Silent (s : State) (e : Entry) : Type 0 where
-  next_is : next s e ≡ s
+  next_is : after_entry s e ≡ s
   lines_are : lines_of (reached s e) e ≡ []
   block_is : block_of (reached s e) e ≡ []
   counted_is : (n : Counts) → counted (reached s e) e n ≡ n
@@ -68,21 +68,21 @@ silent-one s (Shutdown w) h = absurd (differ h)
 
 -- such entries alone
 
-moved-silent : (s : State) (ys : List Entry) → list_all silent ys ≡ true → all_moved s ys ≡ s
-moved-silent s [] h = refl
-moved-silent s (y ∷ ys) h = (let p = split-and (silent y) (list_all silent ys) h in ap (λ (u : State). all_moved u ys) (silent-one s y p.0).next_is ∙ moved-silent s ys p.1)
+after_effect-silent : (s : State) (ys : List Entry) → list_all silent ys ≡ true → after_entries s ys ≡ s
+after_effect-silent s [] h = refl
+after_effect-silent s (y ∷ ys) h = (let p = split-and (silent y) (list_all silent ys) h in ap (λ (u : State). after_entries u ys) (silent-one s y p.0).next_is ∙ after_effect-silent s ys p.1)
 
 lines-silent : (s : State) (ys : List Entry) → list_all silent ys ≡ true → lines_from s ys ≡ []
 lines-silent s [] h = refl
-lines-silent s (y ∷ ys) h = (let p = split-and (silent y) (list_all silent ys) h in let k = silent-one s y p.0 in ap (λ (l : List ℕ). l ++ lines_from (next s y) ys) k.lines_are ∙ ap (λ (u : State). lines_from u ys) k.next_is ∙ lines-silent s ys p.1)
+lines-silent s (y ∷ ys) h = (let p = split-and (silent y) (list_all silent ys) h in let k = silent-one s y p.0 in ap (λ (l : List ℕ). l ++ lines_from (after_entry s y) ys) k.lines_are ∙ ap (λ (u : State). lines_from u ys) k.next_is ∙ lines-silent s ys p.1)
 
 blocks-silent : (s : State) (ys : List Entry) → list_all silent ys ≡ true → blocks_from s ys ≡ []
 blocks-silent s [] h = refl
-blocks-silent s (y ∷ ys) h = (let p = split-and (silent y) (list_all silent ys) h in let k = silent-one s y p.0 in ap (λ (l : List ℕ). l ++ blocks_from (next s y) ys) k.block_is ∙ ap (λ (u : State). blocks_from u ys) k.next_is ∙ blocks-silent s ys p.1)
+blocks-silent s (y ∷ ys) h = (let p = split-and (silent y) (list_all silent ys) h in let k = silent-one s y p.0 in ap (λ (l : List ℕ). l ++ blocks_from (after_entry s y) ys) k.block_is ∙ ap (λ (u : State). blocks_from u ys) k.next_is ∙ blocks-silent s ys p.1)
 
 counted-silent : (s : State) (ys : List Entry) (n : Counts) → list_all silent ys ≡ true → counted_from s ys n ≡ n
 counted-silent s [] n h = refl
-counted-silent s (y ∷ ys) n h = (let p = split-and (silent y) (list_all silent ys) h in let k = silent-one s y p.0 in ap (counted_from (next s y) ys) (k.counted_is n) ∙ ap (λ (u : State). counted_from u ys n) k.next_is ∙ counted-silent s ys n p.1)
+counted-silent s (y ∷ ys) n h = (let p = split-and (silent y) (list_all silent ys) h in let k = silent-one s y p.0 in ap (counted_from (after_entry s y) ys) (k.counted_is n) ∙ ap (λ (u : State). counted_from u ys n) k.next_is ∙ counted-silent s ys n p.1)
 
 refusal-silent : (w : ℕ) (ys : List Entry) → list_all silent ys ≡ true → refusal w ys ≡ []
 refusal-silent w [] h = refl
@@ -105,21 +105,21 @@ refusal-silent w (Shutdown v ∷ ys) h = absurd (differ h)
 -- behind others
 
 module _ (ys : List Entry) (h : list_all silent ys ≡ true) where
-  moved-behind : (s : State) (xs : List Entry) → all_moved s (xs ++ ys) ≡ all_moved s xs
-  moved-behind s [] = moved-silent s ys h
-  moved-behind s (x ∷ xs) = moved-behind (next s x) xs
+  after_effect-behind : (s : State) (xs : List Entry) → after_entries s (xs ++ ys) ≡ after_entries s xs
+  after_effect-behind s [] = after_effect-silent s ys h
+  after_effect-behind s (x ∷ xs) = after_effect-behind (after_entry s x) xs
 
   pub lines-behind : (s : State) (xs : List Entry) → lines_from s (xs ++ ys) ≡ lines_from s xs
   lines-behind s [] = lines-silent s ys h
-  lines-behind s (x ∷ xs) = ap (λ (l : List ℕ). lines_of (reached s x) x ++ l) (lines-behind (next s x) xs)
+  lines-behind s (x ∷ xs) = ap (λ (l : List ℕ). lines_of (reached s x) x ++ l) (lines-behind (after_entry s x) xs)
 
   blocks-behind : (s : State) (xs : List Entry) → blocks_from s (xs ++ ys) ≡ blocks_from s xs
   blocks-behind s [] = blocks-silent s ys h
-  blocks-behind s (x ∷ xs) = ap (λ (l : List ℕ). block_of (reached s x) x ++ l) (blocks-behind (next s x) xs)
+  blocks-behind s (x ∷ xs) = ap (λ (l : List ℕ). block_of (reached s x) x ++ l) (blocks-behind (after_entry s x) xs)
 
   counted-behind : (s : State) (xs : List Entry) (n : Counts) → counted_from s (xs ++ ys) n ≡ counted_from s xs n
   counted-behind s [] n = counted-silent s ys n h
-  counted-behind s (x ∷ xs) n = counted-behind (next s x) xs (counted (reached s x) x n)
+  counted-behind s (x ∷ xs) n = counted-behind (after_entry s x) xs (counted (reached s x) x n)
 
   refusal-behind : (w : ℕ) (xs : List Entry) → refusal w (xs ++ ys) ≡ refusal w xs
   refusal-behind w [] = refusal-silent w ys h
@@ -151,7 +151,7 @@ module _ (ys : List Entry) (h : list_all silent ys ≡ true) where
   pub tail-behind : (x : Settings) (xs : List Entry) → run_tail x (xs ++ ys) ≡ run_tail x xs
   tail-behind x xs =
       let blocks = blocks-behind (no_one x) xs in
-      let state : state_at x (xs ++ ys) ≡ state_at x xs = ap settled (moved-behind (no_one x) xs) in
+      let state : state_at x (xs ++ ys) ≡ state_at x xs = ap settled (after_effect-behind (no_one x) xs) in
       let stops : line_of_stop x.mode (xs ++ ys) (state_at x (xs ++ ys)).books.stop ≡ line_of_stop x.mode xs (state_at x xs).books.stop =
       stop-behind x.mode xs (state_at x (xs ++ ys)).books.stop ∙ ap (λ (s : State). line_of_stop x.mode xs s.books.stop) state in
       let sums : summary_text (counts x (xs ++ ys)) ≡ summary_text (counts x xs) = ap summary_text (counted-behind (no_one x) xs (record { failed = 0; passed = 0; skipped = 0 })) in
@@ -182,8 +182,8 @@ last-more v (x ∷ xs) m found = last-more v xs m (if x.slot == v then Some x.wo
 starts-silent : (k w : ℕ) (s : State) → ((v : ℕ) → w ≤ v → last_of_slot v s.books.crew None ≡ None) → lines_from s (starts_from w k) ≡ []
 starts-silent zero w s f = refl
 starts-silent (suc k) w s f =
-    ap (λ (o : Option ℕ). replacing (mode_of s) o ++ lines_from (next s (Start w w)) (starts_from (w + 1) k)) (f w (omega arith))
-    ∙ starts-silent k (w + 1) (next s (Start w w)) (λ v l. last-more v s.books.crew (started w w) None ∙ ap (λ (b : Bool). if b then Some w else last_of_slot v s.books.crew None) (other v l) ∙ f v (omega (arith, l)))
+    ap (λ (o : Option ℕ). replacing (mode_of s) o ++ lines_from (after_entry s (Start w w)) (starts_from (w + 1) k)) (f w (omega arith))
+    ∙ starts-silent k (w + 1) (after_entry s (Start w w)) (λ v l. last-more v s.books.crew (started w w) None ∙ ap (λ (b : Bool). if b then Some w else last_of_slot v s.books.crew None) (other v l) ∙ f v (omega (arith, l)))
   where
     other : (v : ℕ) → w + 1 ≤ v → (w == v) ≡ false
     other v l = grind (arith, nat_tests)

@@ -10,7 +10,7 @@ use Rattle.xd_journal.specs.declared.entry.Entry.{Entry}
 use Rattle.xd_journal.specs.declared.entry.Entry.TheVariants.{Ready, Collected, Done, Back, Finished, Refused, Down, NotStarted, Start, Run, RunAll, Steal, Shutdown, Kill, Over}
 use Rattle.xd_ledger.specs.Workers.{has_member, is_active, slot_of}
 use Rattle.xd_ledger.specs.Sharing.{State}
-use Rattle.xd_ledger.specs.State.{moved, all_moved, no_one, settled}
+use Rattle.xd_ledger.specs.State.{after_effect, after_entries, no_one, settled}
 use Rattle.xd_ledger.specs.Outputs.{outputs}
 use Rattle.xd_ledger.specs.Histories.{first_starts, starts_from}
 use Rattle.xd_ledger.specs.Proper.{IsProper, may_follow}
@@ -19,17 +19,17 @@ use Rattle.xd_session.specs.History.{Run as TheRun, begun_run, after_news, input
 use Rattle.xd_laws.proofs.Logic.{and, cases_of, differ}
 use Rattle.xd_laws.proofs.Crew.{has-member, is_member}
 use Rattle.xd_laws.proofs.Inputs.{tidy-input}
-use Rattle.xd_laws.proofs.Turns.{Tidy, all_moved-first}
+use Rattle.xd_laws.proofs.Turns.{Tidy, after_entries-first}
 use Rattle.xd_drive.specs.Agrees.{Agrees}
-use Rattle.xd_drive.specs.Going.{added, added_by}
+use Rattle.xd_drive.specs.Going.{entries_added, added_by}
 use Rattle.xd_drive.specs.Marks.{Marks, marked_heard}
-use Rattle.xd_drive.specs.Performing.{after_all, after_entry, all_possible, is_start_of, possible}
+use Rattle.xd_drive.specs.Performing.{marks_after, marks_after_entry, all_possible, is_start_of, possible}
 use Rattle.xd_drive.proofs.Bounds.{Bounded, bounded-input}
 use Rattle.xd_drive.proofs.Heard.{agrees-meant, agrees-silent, crew-behind}
 use Rattle.xd_drive.proofs.Outs.{AllGo, Plain, all-go, bounded-all, follow, kill-goes}
 use Rattle.xd_drive.proofs.Runs.{Follows, InRun, Lawful, Means, in_run, in_run-next, input-follows, input-means, lawful, run-more}
 
-pub entries-added : (r : TheRun) (o : Option Entry) → entries_with o r.entries r.state ≡ r.entries ++ added r.state o
+pub entries-added : (r : TheRun) (o : Option Entry) → entries_with o r.entries r.state ≡ r.entries ++ entries_added r.state o
 entries-added r None = sym (append-nil r.entries)
 entries-added r (Some e) = refl
 
@@ -40,7 +40,7 @@ heard_by n marks = λ w. marked_heard n w (marks w)
 
 record NotPerformed (slots : ℕ) (marks : ℕ → Marks) (e : Entry) : Type 0 where
   possible : possible slots marks e ≡ true
-  same : (w : ℕ) → after_entry e marks w ≡ marks w
+  same : (w : ℕ) → marks_after_entry e marks w ≡ marks w
   starts_no_one : (w : ℕ) → is_start_of w e ≡ false
 
 not-performed : (slots : ℕ) (marks : ℕ → Marks) (s : State) (e : Entry) → may_follow s e ≡ true → NotPerformed slots marks e
@@ -68,38 +68,38 @@ bounded-settled settings u b = record { settings_are = b.settings_are; sizes = b
 
 -- the outputs of an input
 
-slots-low : (settings : Settings) (s : State) (e : Entry) → may_follow s e ≡ true → Tidy s → Bounded settings s → (w : ℕ) → is_active w s.books ≡ true → slot_of w (moved s e).books < settings.workers
+slots-low : (settings : Settings) (s : State) (e : Entry) → may_follow s e ≡ true → Tidy s → Bounded settings s → (w : ℕ) → is_active w s.books ≡ true → slot_of w (after_effect s e).books < settings.workers
 slots-low settings s e h d b w a =
     let t = tidy-input s e h d in
     let k = crew-behind s e h in
-    let member : is_member w (moved s e).books.crew ≡ true = k.members w ∙ has-member w (λ m. m.active) s.books.crew a in
-    subst (λ (x : Settings). slot_of w (moved s e).books < x.workers) (bounded-input settings s e h b).settings_are (t.crew.below w member)
+    let member : is_member w (after_effect s e).books.crew ≡ true = k.members w ∙ has-member w (λ m. m.active) s.books.crew a in
+    subst (λ (x : Settings). slot_of w (after_effect s e).books < x.workers) (bounded-input settings s e h b).settings_are (t.crew.below w member)
 
-module _ (settings : Settings) (slots : ℕ) (marks : ℕ → Marks) (s : State) (e : Entry) (l : settings.workers ≤ slots) (h : may_follow s e ≡ true) (d : Lawful s e) (b : Bounded settings s) (a : Agrees (moved s e).books marks) where
+module _ (settings : Settings) (slots : ℕ) (marks : ℕ → Marks) (s : State) (e : Entry) (l : settings.workers ≤ slots) (h : may_follow s e ≡ true) (d : Lawful s e) (b : Bounded settings s) (a : Agrees (after_effect s e).books marks) where
   abbrev t : State
-  t = moved s e
+  t = after_effect s e
 
-  outs-plain : (rest : List Entry) → outputs s e ≡ rest → Plain (not (Rattle.xd_ledger.specs.Plan.is_each t.plan.mode)) settings.workers rest → AllGo slots marks (outputs s e) (all_moved t (outputs s e))
+  outs-plain : (rest : List Entry) → outputs s e ≡ rest → Plain (not (Rattle.xd_ledger.specs.Plan.is_each t.plan.mode)) settings.workers rest → AllGo slots marks (outputs s e) (after_entries t (outputs s e))
   outs-plain rest is p =
-      subst (λ (es : List Entry). AllGo slots marks es (all_moved t es)) (sym is)
+      subst (λ (es : List Entry). AllGo slots marks es (after_entries t es)) (sym is)
       (all-go settings slots settings.workers marks t rest l p (sym (ap (all_orderly t) is) ∙ d.orderly) (bounded-input settings s e h b) (tidy-input s e h d.tidy).placed a)
 
   outs-kill : (w : ℕ) (rest : List Entry) → outputs s e ≡ Kill w ∷ rest → has_member w (λ m. true) t.books ≡ true → is_active w t.books ≡ false → (marks w).killed ≡ false
-      → Plain (not (Rattle.xd_ledger.specs.Plan.is_each t.plan.mode)) settings.workers rest → AllGo slots marks (outputs s e) (all_moved t (outputs s e))
+      → Plain (not (Rattle.xd_ledger.specs.Plan.is_each t.plan.mode)) settings.workers rest → AllGo slots marks (outputs s e) (after_entries t (outputs s e))
   outs-kill w rest is m n k p =
       let one = kill-goes slots marks t w m n k a in
-      let more = all-go settings slots settings.workers (after_entry (Kill w) marks) t rest l p (sym (ap (all_orderly t) is) ∙ d.orderly) (bounded-input settings s e h b) (tidy-input s e h d.tidy).placed one.agrees in
-      subst (λ (es : List Entry). AllGo slots marks es (all_moved t es)) (sym is) (record {
+      let more = all-go settings slots settings.workers (marks_after_entry (Kill w) marks) t rest l p (sym (ap (all_orderly t) is) ∙ d.orderly) (bounded-input settings s e h b) (tidy-input s e h d.tidy).placed one.agrees in
+      subst (λ (es : List Entry). AllGo slots marks es (after_entries t es)) (sym is) (record {
         possible = and one.possible more.possible;
-        agrees = subst (λ (u : State). Agrees u.books (after_all rest (after_entry (Kill w) marks))) (sym (all_moved-first t (Kill w) rest refl)) more.agrees;
+        agrees = subst (λ (u : State). Agrees u.books (marks_after rest (marks_after_entry (Kill w) marks))) (sym (after_entries-first t (Kill w) rest refl)) more.agrees;
       })
 
   abbrev low : (w : ℕ) → is_active w s.books ≡ true → slot_of w t.books < settings.workers
   low = slots-low settings s e h d.tidy b
 
 pub outs-go : (settings : Settings) (slots : ℕ) (marks : ℕ → Marks) (s : State) (e : Entry) → settings.workers ≤ slots → may_follow s e ≡ true → Lawful s e → Bounded settings s
-    → Agrees (moved s e).books marks → ((w : ℕ) → is_active w s.books ≡ true → (marks w).killed ≡ false)
-    → AllGo slots marks (outputs s e) (all_moved (moved s e) (outputs s e))
+    → Agrees (after_effect s e).books marks → ((w : ℕ) → is_active w s.books ≡ true → (marks w).killed ≡ false)
+    → AllGo slots marks (outputs s e) (after_entries (after_effect s e) (outputs s e))
 outs-go settings slots marks s (Down w c o) l h d b a u =
     let f = follow s (Down w c o) settings.workers h (low settings slots marks s (Down w c o) l h d b a) in
     let k = crew-behind s (Down w c o) h in
@@ -135,7 +135,7 @@ unkilled b marks a w h = elim (cases_of (marks w).killed) [ inl k ↦ absurd (di
 
 -- the whole step
 step-with : (settings : Settings) (slots : ℕ) (marks : ℕ → Marks) (r : TheRun) (n : News) (o : Option Entry) → settings.workers ≤ slots → InRun settings r → Bounded settings r.state → Agrees r.state.books marks → is_active n.worker r.state.books ≡ true → Means r.state n.worker n.what o
-    → (all_possible slots (heard_by n marks) (added r.state o) ≡ true) × (Agrees (state_with o r.state).books (after_all (added r.state o) (heard_by n marks))) × (Bounded settings (state_with o r.state))
+    → (all_possible slots (heard_by n marks) (entries_added r.state o) ≡ true) × (Agrees (state_with o r.state).books (marks_after (entries_added r.state o) (heard_by n marks))) × (Bounded settings (state_with o r.state))
 step-with settings slots marks r n None l i b a here m = (refl, agrees-silent r.state.books marks n m.0 m.1 a, b)
 step-with settings slots marks r n (Some e) l i b a here m =
     let s = r.state in
@@ -143,12 +143,12 @@ step-with settings slots marks r n (Some e) l i b a here m =
     let heard = heard_by n marks in
     let input = not-performed slots heard s e m.follow in
     let g = outs-go settings slots heard s e l m.follow d b (agrees-meant s marks n e here m a) (unkilled s.books marks a) in
-    let same : (λ w. after_entry e heard w) ≡ heard = fun_ext input.same in
-    let first : after_entry e heard ≡ heard = same in (
+    let same : (λ w. marks_after_entry e heard w) ≡ heard = fun_ext input.same in
+    let first : marks_after_entry e heard ≡ heard = same in (
       and input.possible (ap (λ (f : ℕ → Marks). all_possible slots f (outputs s e)) first ∙ g.possible),
-      agrees-settled (all_moved (moved s e) (outputs s e)) (after_all (outputs s e) (after_entry e heard))
-          (subst (λ (f : ℕ → Marks). Agrees (all_moved (moved s e) (outputs s e)).books (after_all (outputs s e) f)) (sym first) g.agrees),
-      bounded-settled settings (all_moved (moved s e) (outputs s e)) (bounded-all settings (moved s e) (outputs s e) d.orderly (bounded-input settings s e m.follow b)),
+      agrees-settled (after_entries (after_effect s e) (outputs s e)) (marks_after (outputs s e) (marks_after_entry e heard))
+          (subst (λ (f : ℕ → Marks). Agrees (after_entries (after_effect s e) (outputs s e)).books (marks_after (outputs s e) f)) (sym first) g.agrees),
+      bounded-settled settings (after_entries (after_effect s e) (outputs s e)) (bounded-all settings (after_effect s e) (outputs s e) d.orderly (bounded-input settings s e m.follow b)),
     )
 
 -- in the words of a session
@@ -160,8 +160,8 @@ module _ (settings : Settings) (proper : IsProper settings []) (slots : ℕ) (ma
   step-possible l b a here = (step-with settings slots marks r n (input_of r n) l (in_run settings proper taken) b a here (input-means r n here)).0
 
   pub step-agrees : settings.workers ≤ slots → Bounded settings r.state → Agrees r.state.books marks → is_active n.worker r.state.books ≡ true
-      → Agrees (run_of settings (taken ++ n ∷ [])).state.books (after_all (added_by settings taken n) (heard_by n marks))
-  step-agrees l b a here = subst (λ (q : TheRun). Agrees q.state.books (after_all (added_by settings taken n) (heard_by n marks))) (sym (run-more settings taken n))
+      → Agrees (run_of settings (taken ++ n ∷ [])).state.books (marks_after (added_by settings taken n) (heard_by n marks))
+  step-agrees l b a here = subst (λ (q : TheRun). Agrees q.state.books (marks_after (added_by settings taken n) (heard_by n marks))) (sym (run-more settings taken n))
       (step-with settings slots marks r n (input_of r n) l (in_run settings proper taken) b a here (input-means r n here)).1
 
   pub step-entries : (run_of settings (taken ++ n ∷ [])).entries ≡ r.entries ++ added_by settings taken n
@@ -174,18 +174,18 @@ bounded-with settings r None i b f = b
 bounded-with settings r (Some e) i b f =
     let s = r.state in
     let d = lawful settings r e i f in
-    bounded-settled settings (all_moved (moved s e) (outputs s e)) (bounded-all settings (moved s e) (outputs s e) d.orderly (bounded-input settings s e f b))
+    bounded-settled settings (after_entries (after_effect s e) (outputs s e)) (bounded-all settings (after_effect s e) (outputs s e) d.orderly (bounded-input settings s e f b))
 
 bounded-news : (settings : Settings) (taken : List News) (r : TheRun) → InRun settings r → Bounded settings r.state → Bounded settings (fold after_news r taken).state
 bounded-news settings [] r i b = b
 bounded-news settings (n ∷ ns) r i b = bounded-news settings ns (after_news r n) (in_run-next settings r n i) (bounded-with settings r (input_of r n) i b (input-follows r n))
 
-bounded-starts : (settings : Settings) (s : State) (w k : ℕ) → Bounded settings s → Bounded settings (all_moved s (starts_from w k))
+bounded-starts : (settings : Settings) (s : State) (w k : ℕ) → Bounded settings s → Bounded settings (after_entries s (starts_from w k))
 bounded-starts settings s w zero b = b
-bounded-starts settings s w (suc k) b = bounded-starts settings (moved s (Start w w)) (w + 1) k (record { settings_are = b.settings_are; sizes = b.sizes; whole = b.whole; lists = b.lists })
+bounded-starts settings s w (suc k) b = bounded-starts settings (after_effect s (Start w w)) (w + 1) k (record { settings_are = b.settings_are; sizes = b.sizes; whole = b.whole; lists = b.lists })
 
 pub bounded : (settings : Settings) → IsProper settings [] → (taken : List News) → Bounded settings (run_of settings taken).state
 bounded settings p taken =
     let none : Bounded settings (no_one settings) = record { settings_are = refl; sizes = λ slot. omega arith; whole = λ h. omega arith; lists = λ slot. omega arith } in
     bounded-news settings taken (begun_run settings) (in_run settings p [])
-    (bounded-settled settings (all_moved (no_one settings) (first_starts settings)) (bounded-starts settings (no_one settings) 0 settings.workers none))
+    (bounded-settled settings (after_entries (no_one settings) (first_starts settings)) (bounded-starts settings (no_one settings) 0 settings.workers none))

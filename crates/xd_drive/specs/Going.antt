@@ -9,7 +9,7 @@ use Rattle.xd_ledger.specs.Ending.{ending}
 use Rattle.xd_ledger.specs.Histories.{is_over}
 use Rattle.xd_ledger.specs.Outputs.{outputs}
 use Rattle.xd_ledger.specs.Sharing.{State}
-use Rattle.xd_ledger.specs.State.{all_moved, no_one}
+use Rattle.xd_ledger.specs.State.{after_entries, no_one}
 use Rattle.xd_ledger.specs.Workers.{is_active}
 use Rattle.xd_report.specs.Lines.{lines_from, run_lines}
 use Rattle.xd_report.specs.Text.{run_text, tail_text}
@@ -20,7 +20,7 @@ use Rattle.xd_drive.specs.declared.written.Written.TheVariants.{Whole, Broken}
 use Rattle.xd_drive.specs.Agrees.{Agrees}
 use Rattle.xd_drive.specs.Failing.{FailedAt}
 use Rattle.xd_drive.specs.Marks.{Marks, no_marks}
-use Rattle.xd_drive.specs.Performing.{AddsAll, Performs, after_all, all_possible, kills_of_started, was_started}
+use Rattle.xd_drive.specs.Performing.{AddsAll, Performs, marks_after, all_possible, kills_of_started, was_started}
 use Rattle.xd_edge.specs.Printing.{ShowsSome}
 use Rattle.xd_report.specs.Printing.{ShowsEnd, ShowsLines}
 use Rattle.xd_drive.specs.Taken.{taken_of, taken_with}
@@ -54,29 +54,29 @@ pub record Stopped (given : List News) (count : ℕ) (s : Seen) (old new : Scene
   pub failed : FailedAt s.settings (taken_of s.settings given) count s.entries old.sunk new.sunk
 
 -- what the input adds to the journal
-abbrev pub added : State → Option Entry → List Entry
-added s None = []
-added s (Some e) = e ∷ outputs s e
+abbrev pub entries_added : State → Option Entry → List Entry
+entries_added s None = []
+entries_added s (Some e) = e ∷ outputs s e
 
 -- what a piece of news adds to the journal of the run after these
 abbrev pub added_by : Settings → List News → News → List Entry
-added_by settings taken n = added (run_of settings taken).state (input_of (run_of settings taken) n)
+added_by settings taken n = entries_added (run_of settings taken).state (input_of (run_of settings taken) n)
 
 -- These entries were performed and their lines printed, or nothing of it was performed and a first part of the lines
 -- taken.
 pub record TellsEntries (shown : Bool) (es : List Entry) (lines : List ℕ) (old new : Scene) : Type 0 where
   pub performed : Performs (if shown then es else []) old.starts new.starts old.calls new.calls
-  pub marks : (w : ℕ) → new.marks w ≡ after_all (if shown then es else []) old.marks w
+  pub marks : (w : ℕ) → new.marks w ≡ marks_after (if shown then es else []) old.marks w
   pub given : new.given ≡ old.given
   pub shows : ShowsLines shown lines old.sunk new.sunk
 
 -- What one piece of news adds: it was printed and performed.
-pub record Told (more : List Entry) (s_old s_new : Seen) (old new : Scene) : Type 0 where
+pub record PerformsNews (more : List Entry) (s_old s_new : Seen) (old new : Scene) : Type 0 where
   pub entries : s_new.entries ≡ s_old.entries ++ more
   pub performed : Performs more old.starts new.starts old.calls new.calls
   pub agrees : Agrees (state_of s_new).books new.marks
   pub started : (w : ℕ) → (new.marks w).started ≡ ((old.marks w).started || was_started w more)
-  pub shows : ShowsSome (lines_from (all_moved (no_one s_old.settings) s_old.entries) more) old.sunk new.sunk
+  pub shows : ShowsSome (lines_from (after_entries (no_one s_old.settings) s_old.entries) more) old.sunk new.sunk
 
 -- Of the lines of what one piece of news adds a first part was taken, and nothing of it was performed.
 pub record Untold (n : News) (count : ℕ) (more : List Entry) (s_old s_new : Seen) (old new : Scene) : Type 0 where
@@ -88,11 +88,11 @@ pub record Untold (n : News) (count : ℕ) (more : List Entry) (s_old s_new : Se
   pub started : (w : ℕ) → (new.marks w).started ≡ (old.marks w).started
   pub kills : (done : List Entry) → ((w : ℕ) → was_started w done ≡ true → (new.marks w).started ≡ true)
       → (slots : ℕ) → all_possible slots new.marks (kills_of_started done (more ++ ending true (state_of s_new).books)) ≡ true
-  pub shows : TookPart (lines_from (all_moved (no_one s_old.settings) s_old.entries) more) old.sunk new.sunk
+  pub shows : TookPart (lines_from (after_entries (no_one s_old.settings) s_old.entries) more) old.sunk new.sunk
 
 -- What one piece of news adds was printed and performed, or the output failed at its lines.
 abbrev pub TellsNews : News → Written → Seen → Seen → Scene → Scene → Type 0
-TellsNews n Whole s_old s_new old new = (more : List Entry) × Told more s_old s_new old new
+TellsNews n Whole s_old s_new old new = (more : List Entry) × PerformsNews more s_old s_new old new
 TellsNews n (Broken count) s_old s_new old new = (more : List Entry) × Untold n count more s_old s_new old new
 
 -- One piece of news was given; where its worker is active it was taken.
@@ -121,5 +121,5 @@ EndsTail Whole j old new = ShowsEnd true (tail_text j) old new
 EndsTail (Broken count) j old new = (count ≡ length j.entries.items) × ShowsEnd false (tail_text j) old new
 
 -- No worker has a mark.
-abbrev pub IsFresh : (ℕ → Marks) → Type 0
-IsFresh marks = (w : ℕ) → marks w ≡ no_marks
+abbrev pub HasNoMarks : (ℕ → Marks) → Type 0
+HasNoMarks marks = (w : ℕ) → marks w ≡ no_marks

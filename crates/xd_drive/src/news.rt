@@ -3,7 +3,7 @@ ghost use Rattle.std.specs.Prelude.{◌≡◌, ◌≤◌, ℕ, List, [], ◌∷�
 ghost use Rattle.xd_edge.specs.Faults.{Counted};
 ghost use Rattle.xd_journal.specs.declared.news.News.{News};
 ghost use Rattle.xd_ledger.specs.Proper.{IsProper};
-ghost use Rattle.xd_ledger.specs.State.{all_moved, no_one};
+ghost use Rattle.xd_ledger.specs.State.{after_entries, no_one};
 ghost use Rattle.xd_ledger.specs.Workers.{is_active};
 ghost use Rattle.xd_report.specs.Follows.{Follows};
 ghost use Rattle.xd_report.specs.Lines.{lines_between, lines_from};
@@ -11,7 +11,7 @@ ghost use Rattle.xd_session.specs.Stands.{StandsFor, state_of};
 ghost use Rattle.xd_drive.specs.Agrees.{Agrees};
 ghost use Rattle.xd_drive.specs.Going.{TakesNews, TellsEntries, added_by};
 ghost use Rattle.xd_drive.specs.Moments.{NotesNews, NotesTurn};
-ghost use Rattle.xd_drive.specs.Performing.{all_possible, between};
+ghost use Rattle.xd_drive.specs.Performing.{all_possible, entries_between};
 ghost use Rattle.xd_drive.specs.Written.{is_whole};
 
 use crate::moment::Witness;
@@ -40,12 +40,12 @@ fn tell_entries<H: Hub, O: Sink, W: Witness<H, O>>(
 ) -> Result<bool, OutOfMemory>
     requires order { from ≤ to }
     requires within { to ≤ length journal.now.entries.items }
-    requires follows { Follows reporter.old (all_moved (no_one journal.now.settings) (take from journal.now.entries.items)) }
-    requires possible { all_possible (H.slots hub.old) (H.marks hub.old) (between from to journal.now.entries.items) ≡ true }
-    ensures tells { IfOk result (λ shown. TellsEntries shown (between from to journal.now.entries.items) (lines_between journal.now from to)
+    requires follows { Follows reporter.old (after_entries (no_one journal.now.settings) (take from journal.now.entries.items)) }
+    requires possible { all_possible (H.slots hub.old) (H.marks hub.old) (entries_between from to journal.now.entries.items) ≡ true }
+    ensures tells { IfOk result (λ shown. TellsEntries shown (entries_between from to journal.now.entries.items) (lines_between journal.now from to)
         (record { marks = H.marks hub.old; starts = H.starts hub.old; calls = H.calls hub.old; given = H.given hub.old; sunk = O.sunk out.old })
         (record { marks = H.marks hub.new; starts = H.starts hub.new; calls = H.calls hub.new; given = H.given hub.new; sunk = O.sunk out.new })) }
-    ensures follows { OnOk result (Follows reporter.new (all_moved (no_one journal.now.settings) (take to journal.now.entries.items))) }
+    ensures follows { OnOk result (Follows reporter.new (after_entries (no_one journal.now.settings) (take to journal.now.entries.items))) }
     ensures notes { IfOk result (λ shown. NotesTurn shown
         (record { marks = H.marks hub.old; starts = H.starts hub.old; calls = H.calls hub.old; given = H.given hub.old; sunk = O.sunk out.old })
         (record { marks = H.marks hub.new; starts = H.starts hub.new; calls = H.calls hub.new; given = H.given hub.new; sunk = O.sunk out.new })
@@ -83,19 +83,19 @@ fn tell_news<M: Mode, H: Hub, O: Sink, W: Witness<H, O>>(
     witness: &mut W,
 ) -> Result<bool, OutOfMemory>
     requires stands { (taken : List News) × StandsFor taken session.old }
-    requires follows { Follows reporter.old (all_moved (no_one session.old.settings) session.old.entries) }
+    requires follows { Follows reporter.old (after_entries (no_one session.old.settings) session.old.entries) }
     requires active { is_active news.worker (state_of session.old).books ≡ true }
     requires possible { (taken : List News) → StandsFor taken session.old → all_possible (H.slots hub.old) (H.marks hub.old) (added_by session.old.settings taken news) ≡ true }
     ensures stands { OnOk result ((taken : List News) → StandsFor taken session.old → StandsFor (taken ++ news ∷ []) session.new) }
     ensures settings { session.new.settings ≡ session.old.settings }
-    ensures tells { IfOk result (λ shown. (taken : List News) → StandsFor taken session.old → TellsEntries shown (added_by session.old.settings taken news) (lines_from (all_moved (no_one session.old.settings) session.old.entries) (added_by session.old.settings taken news))
+    ensures tells { IfOk result (λ shown. (taken : List News) → StandsFor taken session.old → TellsEntries shown (added_by session.old.settings taken news) (lines_from (after_entries (no_one session.old.settings) session.old.entries) (added_by session.old.settings taken news))
         (record { marks = H.marks hub.old; starts = H.starts hub.old; calls = H.calls hub.old; given = H.given hub.old; sunk = O.sunk out.old })
         (record { marks = H.marks hub.new; starts = H.starts hub.new; calls = H.calls hub.new; given = H.given hub.new; sunk = O.sunk out.new })) }
     ensures notes { IfOk result (λ shown. NotesTurn shown
         (record { marks = H.marks hub.old; starts = H.starts hub.old; calls = H.calls hub.old; given = H.given hub.old; sunk = O.sunk out.old })
         (record { marks = H.marks hub.new; starts = H.starts hub.new; calls = H.calls hub.new; given = H.given hub.new; sunk = O.sunk out.new })
         (W.seen witness.old) (W.seen witness.new)) }
-    ensures follows { OnOk result (Follows reporter.new (all_moved (no_one session.new.settings) session.new.entries)) }
+    ensures follows { OnOk result (Follows reporter.new (after_entries (no_one session.new.settings) session.new.entries)) }
     ensures slots { H.slots hub.new ≡ H.slots hub.old }
     ensures made { H.made hub.new ≡ H.made hub.old }
     ensures later { O.faults out.old ≤ O.faults out.new }
@@ -128,7 +128,7 @@ pub(crate) fn take_news<R: Wait, M: Mode, H: Hub, O: Sink, W: Witness<H, O>>(
 ) -> Result<Written, OutOfMemory>
     requires proper { IsProper session.old.settings [] }
     requires stands { (taken : List News) × StandsFor taken session.old }
-    requires follows { Follows reporter.old (all_moved (no_one session.old.settings) session.old.entries) }
+    requires follows { Follows reporter.old (after_entries (no_one session.old.settings) session.old.entries) }
     requires slots { session.old.settings.workers ≤ H.slots hub.old }
     requires agrees { Agrees (state_of session.old).books (H.marks hub.old) }
     requires someone { (w : ℕ) × ((H.marks hub.old w).started ≡ true) }
@@ -139,7 +139,7 @@ pub(crate) fn take_news<R: Wait, M: Mode, H: Hub, O: Sink, W: Witness<H, O>>(
         (record { marks = H.marks hub.old; starts = H.starts hub.old; calls = H.calls hub.old; given = H.given hub.old; sunk = O.sunk out.old })
         (record { marks = H.marks hub.new; starts = H.starts hub.new; calls = H.calls hub.new; given = H.given hub.new; sunk = O.sunk out.new })
         (W.seen witness.old) (W.seen witness.new)) }
-    ensures follows { OnOk result (Follows reporter.new (all_moved (no_one session.new.settings) session.new.entries)) }
+    ensures follows { OnOk result (Follows reporter.new (after_entries (no_one session.new.settings) session.new.entries)) }
     ensures slots { H.slots hub.new ≡ H.slots hub.old }
     ensures made { H.made hub.new ≡ H.made hub.old }
     ensures later { O.faults out.old ≤ O.faults out.new }

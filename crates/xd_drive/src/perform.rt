@@ -1,6 +1,6 @@
 // The outputs of a journal, performed at a hub.
 ghost use Rattle.std.specs.Prelude.{◌≡◌, ◌∷◌, [], ◌++◌, ℕ, true, OnOk};
-ghost use Rattle.xd_drive.specs.Performing.{Performs, after_all, after_entry, all_possible, is_kill_of_started, is_start_of, kills_of_started, possible, was_started};
+ghost use Rattle.xd_drive.specs.Performing.{Performs, marks_after, marks_after_entry, all_possible, is_kill_of_started, is_start_of, kills_of_started, possible, was_started};
 
 use crate::Hub;
 use std::alloc::Global;
@@ -11,7 +11,7 @@ use xd_journal::Entry;
 fn perform_one<H: Hub>(alloc: Global, hub: &mut H, entry: &Entry) -> Result<(), OutOfMemory>
     requires { possible (H.slots hub.old) (H.marks hub.old) entry.now ≡ true }
     ensures performs { OnOk result (Performs (entry.now ∷ []) (H.starts hub.old) (H.starts hub.new) (H.calls hub.old) (H.calls hub.new)) }
-    ensures marks { OnOk result ((w : ℕ) → H.marks hub.new w ≡ after_entry entry.now (H.marks hub.old) w) }
+    ensures marks { OnOk result ((w : ℕ) → H.marks hub.new w ≡ marks_after_entry entry.now (H.marks hub.old) w) }
     ensures given { OnOk result (H.given hub.new ≡ H.given hub.old) }
     ensures slots { H.slots hub.new ≡ H.slots hub.old }
     ensures made { H.made hub.new ≡ H.made hub.old }
@@ -38,7 +38,7 @@ pub(crate) fn perform<H: Hub>(
 ) -> Result<(), OutOfMemory>
     requires { all_possible (H.slots hub.old) (H.marks hub.old) entries.now ≡ true }
     ensures performs { OnOk result (Performs entries.now (H.starts hub.old) (H.starts hub.new) (H.calls hub.old) (H.calls hub.new)) }
-    ensures marks { OnOk result ((w : ℕ) → H.marks hub.new w ≡ after_all entries.now (H.marks hub.old) w) }
+    ensures marks { OnOk result ((w : ℕ) → H.marks hub.new w ≡ marks_after entries.now (H.marks hub.old) w) }
     ensures given { OnOk result (H.given hub.new ≡ H.given hub.old) }
     ensures slots { H.slots hub.new ≡ H.slots hub.old }
     ensures made { H.made hub.new ≡ H.made hub.old }
@@ -82,7 +82,7 @@ fn kill_one<H: Hub>(
 ) -> Result<(), OutOfMemory>
     requires { all_possible (H.slots hub.old) (H.marks hub.old) (kills_of_started done.now (entry.now ∷ [])) ≡ true }
     ensures performs { OnOk result (Performs (kills_of_started done.now (entry.now ∷ [])) (H.starts hub.old) (H.starts hub.new) (H.calls hub.old) (H.calls hub.new)) }
-    ensures marks { OnOk result ((w : ℕ) → H.marks hub.new w ≡ after_all (kills_of_started done.now (entry.now ∷ [])) (H.marks hub.old) w) }
+    ensures marks { OnOk result ((w : ℕ) → H.marks hub.new w ≡ marks_after (kills_of_started done.now (entry.now ∷ [])) (H.marks hub.old) w) }
     ensures given { OnOk result (H.given hub.new ≡ H.given hub.old) }
     ensures slots { H.slots hub.new ≡ H.slots hub.old }
     ensures made { H.made hub.new ≡ H.made hub.old }

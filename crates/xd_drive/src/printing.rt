@@ -1,7 +1,7 @@
 // What is printed of a run.
 ghost use Rattle.std.specs.Prelude.{◌≡◌, ◌≤◌, length, take, true, false, Ok, IfOk, OnOk};
 ghost use Rattle.xd_edge.specs.Faults.{Counted};
-ghost use Rattle.xd_ledger.specs.State.{all_moved, no_one};
+ghost use Rattle.xd_ledger.specs.State.{after_entries, no_one};
 ghost use Rattle.xd_report.specs.Follows.{Follows};
 ghost use Rattle.xd_report.specs.Lines.{lines_between};
 ghost use Rattle.xd_report.specs.Text.{tail_text};
@@ -14,7 +14,7 @@ use xd_report::{Reporter, print_lines, print_tail, was_printed};
 
 /// A reporter that went over the journal so far.
 pub(crate) fn reporter_of(alloc: Global, journal: &Journal) -> Result<Reporter, OutOfMemory>
-    ensures { IfOk result (λ r. Follows r (all_moved (no_one journal.now.settings) journal.now.entries.items)) }
+    ensures { IfOk result (λ r. Follows r (after_entries (no_one journal.now.settings) journal.now.entries.items)) }
 {
     let mut reporter = Reporter::new(alloc, journal.settings);
     reporter.follow(alloc, &journal.entries)?;
@@ -33,9 +33,9 @@ pub(crate) fn print_between<O: Sink>(
 ) -> Result<bool, OutOfMemory>
     requires order { from ≤ to }
     requires within { to ≤ length journal.now.entries.items }
-    requires follows { Follows reporter.old (all_moved (no_one journal.now.settings) (take from journal.now.entries.items)) }
+    requires follows { Follows reporter.old (after_entries (no_one journal.now.settings) (take from journal.now.entries.items)) }
     ensures shows { IfOk result (λ shown. ShowsLines shown (lines_between journal.now from to) (O.sunk out.old) (O.sunk out.new)) }
-    ensures follows { OnOk result (Follows reporter.new (all_moved (no_one journal.now.settings) (take to journal.now.entries.items))) }
+    ensures follows { OnOk result (Follows reporter.new (after_entries (no_one journal.now.settings) (take to journal.now.entries.items))) }
     ensures later { O.faults out.old ≤ O.faults out.new }
     ensures counted { IfOk result (λ shown. Counted shown (O.faults out.old) (O.faults out.new)) }
 {

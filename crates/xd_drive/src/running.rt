@@ -6,7 +6,7 @@ ghost use Rattle.xd_ledger.specs.Proper.{IsProper};
 ghost use Rattle.xd_session.specs.Ends.{is_out_fault};
 ghost use Rattle.xd_session.specs.Stands.{StandsFor};
 ghost use Rattle.xd_drive.specs.Driven.{Drove};
-ghost use Rattle.xd_drive.specs.Going.{EndsRun, EndsTail, IsFresh};
+ghost use Rattle.xd_drive.specs.Going.{EndsRun, EndsTail, HasNoMarks};
 ghost use Rattle.xd_drive.specs.Moments.{ToldInOrder, performed_of};
 ghost use Rattle.xd_drive.specs.Written.{is_whole};
 
@@ -49,7 +49,7 @@ fn run<R: Wait, M: Mode, H: Hub, O: Sink, W: Witness<H, O>>(
     requires proper { IsProper session.old.settings [] }
     requires begins { StandsFor [] session.old }
     requires slots { session.old.settings.workers ≤ H.slots hub.old }
-    requires fresh { IsFresh (H.marks hub.old) }
+    requires fresh { HasNoMarks (H.marks hub.old) }
     ensures ends { IfOk result (λ written. EndsRun written session.new
         (record { marks = H.marks hub.old; starts = H.starts hub.old; calls = H.calls hub.old; given = H.given hub.old; sunk = O.sunk out.old })
         (record { marks = H.marks hub.new; starts = H.starts hub.new; calls = H.calls hub.new; given = H.given hub.new; sunk = O.sunk out.new })) }
@@ -105,7 +105,7 @@ pub fn drive<R: Wait, M: Mode, H: Hub, O: Sink, W: Witness<H, O>>(
 ) -> Result<Journal, OutOfMemory>
     requires begins { StandsFor [] session }
     requires slots { session.settings.workers ≤ H.slots hub.old }
-    requires fresh { IsFresh (H.marks hub.old) }
+    requires fresh { HasNoMarks (H.marks hub.old) }
     ensures drove { IfOk result (λ j. Drove session.settings j
         (record {
           marks = H.marks hub.old;

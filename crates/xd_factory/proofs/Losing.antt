@@ -10,7 +10,7 @@ use Rattle.xd_channel.specs.State.{EndState}
 use Rattle.xd_factory.specs.declared.side.Side.{Side}
 use Rattle.xd_value.specs.declared.value.Value.{Value}
 use Rattle.xd_value.specs.Tree.{Tree}
-use Rattle.xd_factory.specs.View.{slot_of, slot_at}
+use Rattle.xd_factory.specs.View.{slot_of_number, slot_at}
 use Rattle.std.proofs.lemmas.Map.Keys.{IsDistinct-from_sorted, apart_from_distinct}
 use Rattle.std.proofs.lemmas.List.{take_more, append-nil}
 use Rattle.std.proofs.lemmas.Bool.{eqb-true}
@@ -81,7 +81,7 @@ none_lost : (b : Bool) → lost_slot (slot_at {V = Tree} None b) ≡ slot_at Non
 none_lost true = refl
 none_lost false = refl
 
-pub unheld : (s : Side) (q : ℕ) → is_in q (keys s.ends) ≡ false → lost_slot (slot_of s q) ≡ slot_of s q
+pub unheld : (s : Side) (q : ℕ) → is_in q (keys s.ends) ≡ false → lost_slot (slot_of_number s q) ≡ slot_of_number s q
 unheld s q h = subst (λ (x : Option (EndState Value)). lost_slot (slot_at (trees_at x) (is_known s.parity s.next s.seen q)) ≡ slot_at (trees_at x) (is_known s.parity s.next s.seen q)) (sym (absent s.ends.entries q h)) (none_lost (is_known s.parity s.next s.seen q))
 
 pub all_lost : (s0 s1 : Slot Tree) (xs : List ℕ) (i q : ℕ) → length xs ≤ i → s1 ≡ (if is_in q (take i xs) then lost_slot s0 else s0) → (is_in q xs ≡ false → lost_slot s0 ≡ s0) → s1 ≡ lost_slot s0

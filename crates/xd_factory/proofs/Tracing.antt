@@ -3,34 +3,34 @@ use Rattle.std.proofs.Common.{◌≡◌, ℕ, List, [], ◌∷◌, Bool, true, f
 use Rattle.std.specs.Prelude.{◌&&◌, not, if◌then◌else◌}
 use Rattle.xd_value.specs.Tree.{Tree}
 use Rattle.xd_channel.specs.State.{EndState, fresh, is_done, end_of, arrive_gives, after_arrive, after_put, after_peer_close, after_close, after_give_up, after_hook, hook_gives, receive_gives, after_receive}
-use Rattle.xd_channel.specs.History.{Call, Arrive, Peer_close, Peer_last, Lose, Close as Close_end, Give_up, Set_callback, Receive, send_open, given, Stands}
+use Rattle.xd_channel.specs.History.{EndCall, Arrive, Peer_close, Peer_last, Lose, Close as Close_end, Give_up, Set_callback, Receive, send_open, end_given, Stands}
 use Rattle.xd_channel.specs.declared.end.End.{End}
 use Rattle.xd_channel.specs.declared.end.End.TheVariants.{LastMessage, Lost}
 use Rattle.xd_channel.specs.declared.answers.Got.{Got}
 use Rattle.xd_channel.specs.declared.answers.Arrived.TheVariants as arrived
 use Rattle.xd_channel.specs.declared.answers.HasCallback.{HasCallback}
 use Rattle.xd_channel.proofs.Ends.{stands-fresh, stands-arrive, stands-peer_close, stands-peer_last, stands-lost, stands-close, stands-give_up, stands-hook, stands-receive}
-use Rattle.xd_factory.specs.Slot.{Slot, Unseen, Here, Gone, settled, named_slot, item_slot, item_gives, peer_closed_slot, peer_last_slot, lost_slot, closed_slot, given_up_slot, function_ended_slot, received_slot, hooked_slot}
-use Rattle.xd_factory.specs.History.{Deed, Opens, On, Shuts, calls, was_shut, has_left, is_open, named_deeds, on_end, ended_deeds, function_deeds, HereStands, GoneStands, SlotStands}
+use Rattle.xd_factory.specs.Slot.{Slot, Unseen, Here, Gone, gone_where_done, named_slot, item_slot, item_gives, peer_closed_slot, peer_last_slot, lost_slot, closed_slot, given_up_slot, function_ended_slot, received_slot, hooked_slot}
+use Rattle.xd_factory.specs.History.{Deed, Opens, On, Shuts, calls, was_shut, has_left_table, is_open, named_deeds, on_end, ended_deeds, function_deeds, HereStands, GoneStands, SlotStands}
 
 -- a call on an end that is in the table
-on_open : (k : Call Tree) (d : List Deed) → is_open d ≡ true → on_end k d ≡ On k ∷ d
+on_open : (k : EndCall Tree) (d : List Deed) → is_open d ≡ true → on_end k d ≡ On k ∷ d
 on_open k d h = rw h refl
 
-on_closed : (k : Call Tree) (d : List Deed) → is_open d ≡ false → on_end k d ≡ d
+on_closed : (k : EndCall Tree) (d : List Deed) → is_open d ≡ false → on_end k d ≡ d
 on_closed k d h = rw h refl
 
 not_shut : (d : List Deed) → is_open d ≡ true → was_shut d ≡ false
 not_shut [] h = refl
-not_shut (x ∷ d) h = by_test (was_shut (x ∷ d)) (has_left (x ∷ d)) h
+not_shut (x ∷ d) h = by_test (was_shut (x ∷ d)) (has_left_table (x ∷ d)) h
   where
     by_test : (a b : Bool) → not a && not b ≡ true → a ≡ false
     by_test true b h = absurd (let z = h in cc)
     by_test false b h = refl
 
-not_left : (d : List Deed) → is_open d ≡ true → has_left d ≡ false
+not_left : (d : List Deed) → is_open d ≡ true → has_left_table d ≡ false
 not_left [] h = absurd (let z = h in cc)
-not_left (x ∷ d) h = by_test (was_shut (x ∷ d)) (has_left (x ∷ d)) h
+not_left (x ∷ d) h = by_test (was_shut (x ∷ d)) (has_left_table (x ∷ d)) h
   where
     by_test : (a b : Bool) → not a && not b ≡ true → b ≡ false
     by_test true b h = absurd (let z = h in cc)
@@ -38,27 +38,27 @@ not_left (x ∷ d) h = by_test (was_shut (x ∷ d)) (has_left (x ∷ d)) h
     by_test false false h = refl
 
 -- the number left with this call exactly where its end is done
-open_after : (k : Call Tree) (d : List Deed) (b : Bool) → was_shut d ≡ false → has_left (On k ∷ d) ≡ b → is_open (On k ∷ d) ≡ not b
+open_after : (k : EndCall Tree) (d : List Deed) (b : Bool) → was_shut d ≡ false → has_left_table (On k ∷ d) ≡ b → is_open (On k ∷ d) ≡ not b
 open_after k d b h e = rw (h, e) refl
 
-done_is : (t : EndState Tree) (h : List (Call Tree)) → Stands t h → is_done t ≡ (not (send_open h) && given h)
+done_is : (t : EndState Tree) (h : List (EndCall Tree)) → Stands t h → is_done t ≡ (not (send_open h) && end_given h)
 done_is t h k = rw (k.sending_is, k.given_is) refl
 
-settles : (t : EndState Tree) (k : Call Tree) (d : List Deed) (b : Bool) → is_open d ≡ true → Stands t (k ∷ calls d) → has_left (On k ∷ d) ≡ b → SlotStands (if b then Gone else Here t) (On k ∷ d)
+settles : (t : EndState Tree) (k : EndCall Tree) (d : List Deed) (b : Bool) → is_open d ≡ true → Stands t (k ∷ calls d) → has_left_table (On k ∷ d) ≡ b → SlotStands (if b then Gone else Here t) (On k ∷ d)
 settles t k d true o s e = record { closed = open_after k d true (not_shut d o) e; touched = refl }
 settles t k d false o s e = record { open_still = open_after k d false (not_shut d o) e; end_stands = s }
 
 -- a call on the end of an entry
-called : (t : EndState Tree) (k : Call Tree) (d : List Deed) → is_open d ≡ true → Stands t (k ∷ calls d) → SlotStands (settled t) (on_end k d)
+called : (t : EndState Tree) (k : EndCall Tree) (d : List Deed) → is_open d ≡ true → Stands t (k ∷ calls d) → SlotStands (gone_where_done t) (on_end k d)
 called t k d o s =
-    subst (λ (x : List Deed). SlotStands (settled t) x) (sym (on_open k d o))
+    subst (λ (x : List Deed). SlotStands (gone_where_done t) x) (sym (on_open k d o))
     (settles t k d (is_done t) o s (sym (done_is t (k ∷ calls d) s)))
 
 -- and one on a number that is not in the table
-uncalled : (k : Call Tree) (d : List Deed) → d ≡ [] → on_end k d ≡ []
+uncalled : (k : EndCall Tree) (d : List Deed) → d ≡ [] → on_end k d ≡ []
 uncalled k d h = ap (on_end k) h
 
-gone_called : (k : Call Tree) (d : List Deed) → GoneStands d → GoneStands (on_end k d)
+gone_called : (k : EndCall Tree) (d : List Deed) → GoneStands d → GoneStands (on_end k d)
 gone_called k d g = subst GoneStands (sym (on_closed k d g.closed)) g
 
 pub closed_stands : (s : Slot Tree) (d : List Deed) → SlotStands s d → SlotStands (closed_slot s) (on_end Close_end d)
@@ -95,7 +95,7 @@ told_got Gone r = Unit {0}
 
 pub received_stands : (s : Slot Tree) (d : List Deed) (r : Result (Got Tree) HasCallback) → told_got s r → SlotStands s d → SlotStands (received_slot s) (on_end (Receive r) d)
 received_stands Unseen d r e k = uncalled (Receive r) d k
-received_stands (Here s) d r e k = subst (λ (x : Result (Got Tree) HasCallback). SlotStands (settled (after_receive s)) (on_end (Receive x) d)) (sym e)
+received_stands (Here s) d r e k = subst (λ (x : Result (Got Tree) HasCallback). SlotStands (gone_where_done (after_receive s)) (on_end (Receive x) d)) (sym e)
     (called (after_receive s) (Receive (receive_gives s)) d k.open_still (stands-receive s (calls d) k.end_stands))
 received_stands Gone d r e k = gone_called (Receive r) d k
 
@@ -111,7 +111,7 @@ hooked_stands Gone d r e k = gone_called (Set_callback r) d k
 hooked_stands (Here s) d r e k = subst (λ (x : Result (List Tree × Option End) HasCallback). SlotStands (hooked_slot (Here s)) (on_end (Set_callback x) d)) (sym e)
     (by_callback s.callback refl)
   where
-    all : SlotStands (settled (after_hook s)) (on_end (Set_callback (hook_gives s)) d)
+    all : SlotStands (gone_where_done (after_hook s)) (on_end (Set_callback (hook_gives s)) d)
     all = called (after_hook s) (Set_callback (hook_gives s)) d k.open_still (stands-hook s (calls d) k.end_stands)
 
     open_done : is_done s ≡ false
@@ -124,9 +124,9 @@ hooked_stands (Here s) d r e k = subst (λ (x : Result (List Tree × Option End)
     kept false h k = k
     kept true h k = absurd (let z = h in cc)
 
-    by_callback : (b : Bool) → s.callback ≡ b → SlotStands (if b then Here s else settled (after_hook s)) (on_end (Set_callback (hook_gives s)) d)
+    by_callback : (b : Bool) → s.callback ≡ b → SlotStands (if b then Here s else gone_where_done (after_hook s)) (on_end (Set_callback (hook_gives s)) d)
     by_callback false h = all
-    by_callback true h = kept (is_done s) open_done (subst (λ (t : EndState Tree). SlotStands (settled t) (on_end (Set_callback (hook_gives s)) d)) (same h) all)
+    by_callback true h = kept (is_done s) open_done (subst (λ (t : EndState Tree). SlotStands (gone_where_done t) (on_end (Set_callback (hook_gives s)) d)) (same h) all)
 
 -- a number opens
 pub opened_stands : (d : List Deed) → d ≡ [] → SlotStands (Here fresh) (Opens ∷ d)

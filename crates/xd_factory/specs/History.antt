@@ -3,7 +3,7 @@
 use Rattle.std.specs.Prelude.{◌≡◌, ℕ, ◌==◌, ◌&&◌, not, List, [], ◌∷◌, Bool, true, false, Option, Result, if◌then◌else◌}
 use Rattle.xd_value.specs.Tree.{Tree}
 use Rattle.xd_channel.specs.State.{EndState}
-use Rattle.xd_channel.specs.History.{Call, send_open, given, Stands}
+use Rattle.xd_channel.specs.History.{EndCall, send_open, end_given, Stands}
 use Rattle.xd_channel.specs.History as call
 use Rattle.xd_channel.specs.declared.end.End.{End}
 use Rattle.xd_channel.specs.declared.answers.Got.{Got}
@@ -18,7 +18,7 @@ use Rattle.xd_factory.specs.Numbers.{is_mine, is_in}
 use Rattle.xd_factory.specs.Said.{Said, names_of}
 use Rattle.xd_factory.specs.Said as message
 use Rattle.xd_factory.specs.Slot.{Slot, Unseen, Here, Gone}
-use Rattle.xd_factory.specs.View.{slot_of, parity_of}
+use Rattle.xd_factory.specs.View.{slot_of_number, parity_of}
 
 -- a call of a side, named as the call is, with what it handed out, or a message that it took or refused
 pub data Act : Type 0 where
@@ -35,11 +35,11 @@ pub data Act : Type 0 where
 -- what happened to one number
 pub data Deed : Type 0 where
   Opens : Deed  -- it opened
-  On : Call Tree → Deed  -- a call on its end
+  On : EndCall Tree → Deed  -- a call on its end
   Shuts : Deed  -- its function ended, or the peer ended it before it had opened here
 
 -- the calls on the end
-abbrev pub calls : List Deed → List (Call Tree)
+abbrev pub calls : List Deed → List (EndCall Tree)
 calls [] = []
 calls (On k ∷ d) = k ∷ calls d
 calls (Opens ∷ d) = calls d
@@ -53,13 +53,13 @@ was_shut (On k ∷ d) = was_shut d
 was_shut (Opens ∷ d) = was_shut d
 
 -- sending is closed and the end marker was given
-abbrev pub has_left : List Deed → Bool
-has_left d = not (send_open (calls d)) && given (calls d)
+abbrev pub has_left_table : List Deed → Bool
+has_left_table d = not (send_open (calls d)) && end_given (calls d)
 
 -- something happened, and the number has not left the table
 abbrev pub is_open : List Deed → Bool
 is_open [] = false
-is_open (x ∷ d) = not (was_shut (x ∷ d)) && not (has_left (x ∷ d))
+is_open (x ∷ d) = not (was_shut (x ∷ d)) && not (has_left_table (x ∷ d))
 
 -- nothing happened to the number
 abbrev pub is_untouched : List Deed → Bool
@@ -72,11 +72,11 @@ named_deeds mine [] = if mine then [] else Opens ∷ []
 named_deeds mine (x ∷ d) = x ∷ d
 
 -- a call on the end, where the number is in the table
-abbrev pub on_end : Call Tree → List Deed → List Deed
+abbrev pub on_end : EndCall Tree → List Deed → List Deed
 on_end k d = if is_open d then On k ∷ d else d
 
 -- an end from the peer; a number of the peer's that had not opened is closed for good
-abbrev pub ended_deeds : Bool → Call Tree → List Deed → List Deed
+abbrev pub ended_deeds : Bool → EndCall Tree → List Deed → List Deed
 ended_deeds mine k [] = if mine then [] else Shuts ∷ []
 ended_deeds mine k (x ∷ d) = on_end k (x ∷ d)
 
@@ -143,4 +143,4 @@ AllStand slot parity h = (c : ℕ) → SlotStands (slot c) (deeds parity c h)
 
 -- the side is as this list of calls and messages leaves it
 abbrev pub SideStands : Side → List Act → Type 0
-SideStands s h = AllStand (slot_of s) (parity_of s) h
+SideStands s h = AllStand (slot_of_number s) (parity_of s) h

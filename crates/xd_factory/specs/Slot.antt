@@ -32,8 +32,8 @@ is_here (Here s) = true
 is_here Gone = false
 
 -- an entry that is done leaves the table
-abbrev pub settled : {V : Type 0} → EndState V → Slot V
-settled s = if is_done s then Gone else Here s
+abbrev pub gone_where_done : {V : Type 0} → EndState V → Slot V
+gone_where_done s = if is_done s then Gone else Here s
 
 -- an entry leaves the table for good where it is done
 abbrev pub left_slot : {V : Type 0} → Bool → Slot V → Slot V
@@ -80,13 +80,13 @@ shut_slot mine Gone = Gone
 -- the peer closes the channel; a number of the peer's that was never seen is closed from then on
 abbrev pub peer_closed_slot : {V : Type 0} → Bool → Slot V → End → Slot V
 peer_closed_slot mine Unseen end = if mine then Unseen else Gone
-peer_closed_slot mine (Here s) end = settled (after_peer_close s end)
+peer_closed_slot mine (Here s) end = gone_where_done (after_peer_close s end)
 peer_closed_slot mine Gone end = Gone
 
 -- the peer sends no more
 abbrev pub peer_last_slot : {V : Type 0} → Bool → Slot V → Slot V
 peer_last_slot mine Unseen = if mine then Unseen else Gone
-peer_last_slot mine (Here s) = settled (after_put s LastMessage)
+peer_last_slot mine (Here s) = gone_where_done (after_put s LastMessage)
 peer_last_slot mine Gone = Gone
 
 -- the end that a callback at the number is handed
@@ -98,7 +98,7 @@ end_gives Gone end = None
 -- the link is lost
 abbrev pub lost_slot : {V : Type 0} → Slot V → Slot V
 lost_slot Unseen = Unseen
-lost_slot (Here s) = settled (after_put s Lost)
+lost_slot (Here s) = gone_where_done (after_put s Lost)
 lost_slot Gone = Gone
 
 -- the end that a callback at the number is handed where the link is lost
@@ -108,13 +108,13 @@ lost_gives s = end_gives s Lost
 -- the owner closes the channel
 abbrev pub closed_slot : {V : Type 0} → Slot V → Slot V
 closed_slot Unseen = Unseen
-closed_slot (Here s) = settled (after_close s)
+closed_slot (Here s) = gone_where_done (after_close s)
 closed_slot Gone = Gone
 
 -- the owner lets go of the channel
 abbrev pub given_up_slot : {V : Type 0} → Slot V → Slot V
 given_up_slot Unseen = Unseen
-given_up_slot (Here s) = settled (after_give_up s)
+given_up_slot (Here s) = gone_where_done (after_give_up s)
 given_up_slot Gone = Gone
 
 -- what the peer is told where the owner lets go of the channel
@@ -132,7 +132,7 @@ function_ended_slot Gone = Gone
 -- a receive
 abbrev pub received_slot : {V : Type 0} → Slot V → Slot V
 received_slot Unseen = Unseen
-received_slot (Here s) = settled (after_receive s)
+received_slot (Here s) = gone_where_done (after_receive s)
 received_slot Gone = Gone
 
 -- what a receive gives; a closed channel gives its end again and again
@@ -144,7 +144,7 @@ receive_answer Gone = Ok (Ended Closed)
 -- a callback is set: it is handed the items and the end that wait
 abbrev pub hooked_slot : {V : Type 0} → Slot V → Slot V
 hooked_slot Unseen = Unseen
-hooked_slot (Here s) = if s.callback then Here s else settled (after_hook s)
+hooked_slot (Here s) = if s.callback then Here s else gone_where_done (after_hook s)
 hooked_slot Gone = Gone
 
 -- why no callback is set, if there is a reason

@@ -18,12 +18,12 @@ slot_at None true = Gone
 slot_at None false = Unseen
 
 -- what the side has at a number
-abbrev pub slot_of : Side → ℕ → Slot Tree
-slot_of s c = slot_at (trees_at (tree.get nat_cmp s.ends c)) (is_known s.parity s.next s.seen c)
+abbrev pub slot_of_number : Side → ℕ → Slot Tree
+slot_of_number s c = slot_at (trees_at (tree.get nat_cmp s.ends c)) (is_known s.parity s.next s.seen c)
 
 -- a message that names the number opens it
 abbrev pub new_at : Side → ℕ → Bool
-new_at s c = is_new (is_mine s.parity c) (slot_of s c)
+new_at s c = is_new (is_mine s.parity c) (slot_of_number s c)
 
 -- which numbers are its own to open
 abbrev pub parity_of : Side → Parity

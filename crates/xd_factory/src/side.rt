@@ -47,11 +47,11 @@ pub struct Side {
 
 impl Side {
     ghost use Rattle.xd_factory.specs.History.{SideStands};
-    ghost use Rattle.xd_factory.specs.View.{slot_of, parity_of, next_of, fault_of, is_finished, numbers_of, entry_count, KeepsRest};
+    ghost use Rattle.xd_factory.specs.View.{slot_of_number, parity_of, next_of, fault_of, is_finished, numbers_of, entry_count, KeepsRest};
 
     /// A side that has opened nothing, and on which nothing came.
     pub fn new(alloc: Global, parity: Parity) -> Side
-        ensures slots { (c : ℕ) → slot_of result c ≡ Unseen }
+        ensures slots { (c : ℕ) → slot_of_number result c ≡ Unseen }
         ensures parity { parity_of result ≡ parity }
         ensures next { next_of result ≡ first_number parity }
         ensures good { fault_of result ≡ None }
@@ -77,7 +77,7 @@ impl Side {
     pub fn status(&self) -> u32
         ensures count { result ≡ entry_count self.now }
         ensures numbers { result ≡ length (numbers_of self.now) }
-        ensures entries { (c : ℕ) → is_here (slot_of self.now c) ≡ is_in c (numbers_of self.now) }
+        ensures entries { (c : ℕ) → is_here (slot_of_number self.now c) ≡ is_in c (numbers_of self.now) }
         ensures once { IsStrictlySortedBy nat_cmp (numbers_of self.now) }
     {
         self.ends.len() as u32
@@ -106,7 +106,7 @@ impl Side {
 
     // An entry that is done leaves the table.
     fn settle(&mut self, number: u32, done: bool)
-        ensures slots { (c : ℕ) → slot_of self.new c ≡ (if number == c then left_slot done (slot_of self.old c) else slot_of self.old c) }
+        ensures slots { (c : ℕ) → slot_of_number self.new c ≡ (if number == c then left_slot done (slot_of_number self.old c) else slot_of_number self.old c) }
         ensures rest { KeepsRest self.old self.new }
     {
         if done {

@@ -13,9 +13,9 @@ use Rattle.xd_frame.specs.declared.pull.PullFault.{PullFault}
 use Rattle.xd_frame.specs.declared.pull.PullFault.TheVariants.{Bad, ReadFault, OutOfMemory}
 use Rattle.xd_frame.specs.Message.{MessageView, frame, frames}
 use Rattle.xd_frame.specs.Header.{header_read}
-use Rattle.xd_frame.specs.Stream.{AreBytes, Clean, Rest, Refused, Unfinished, behind, end_of, header_in_front, message_of, messages, parts, parts_within, rest, rest_by, rest_of}
+use Rattle.xd_frame.specs.Stream.{AreBytes, Clean, Rest, Refused, Unfinished, behind, end_meaning, header_in_front, message_of, messages, parts, parts_within, rest, rest_by, rest_of}
 use Rattle.xd_frame.specs.Framer.{FramerView, Holds, fresh, StandsFor, feed_gives}
-use Rattle.xd_frame.specs.Pull.{AnswersTo, CountsSo, HoldsLess, IsLess, Pulls, few, begun, refused, missing, refusal_by, stopped, whole_of}
+use Rattle.xd_frame.specs.Pull.{AnswersTo, CountsSo, HoldsLess, IsLess, Pulls, few, begun, refused, missing, refusal_by, pull_fault_of, whole_of}
 use Rattle.xd_frame.specs.Pulling.{Draws, DrawsSo, is_out_of_memory}
 use Rattle.xd_frame.proofs.Front.{some_front}
 use Rattle.xd_frame.proofs.Framers.{feed_takes, front_says, held_is, next_moves, refused_rest}
@@ -47,7 +47,7 @@ readable_by Clean e = refl
 readable_by Unfinished e = refl
 readable_by (Refused f) e = cc
 
-goes_on : (s : FramerView) → stopped s ≡ None → GoesOn s
+goes_on : (s : FramerView) → pull_fault_of s ≡ None → GoesOn s
 goes_on s e =
     let n = not_stopped s.failed s.cut (rest_of s.held) e in
     record { failed = n.0; refusal = n.1; readable = readable_by (rest_of s.held) n.1 }
@@ -143,7 +143,7 @@ open_end : (a : List ℕ) → a ≢ [] → header_in_front a ≡ Ok None → res
 open_end [] some e = absurd (some refl)
 open_end (b ∷ a) some e = ap rest_by e
 
-module _ (s t : FramerView) (before after : Spring) (waits : s.waiting ≡ []) (goes : stopped s ≡ None) (none_waits : t.waiting ≡ []) where
+module _ (s t : FramerView) (before after : Spring) (waits : s.waiting ≡ []) (goes : pull_fault_of s ≡ None) (none_waits : t.waiting ≡ []) where
   same_waiting : t.waiting ≡ s.waiting
   same_waiting = none_waits ∙ sym waits
 
@@ -201,10 +201,10 @@ module _ (s t : FramerView) (before after : Spring) (waits : s.waiting ≡ []) (
         by (Ok Ended) f so l = (ends_at given (taken ++ []) Clean f (ap rest_of (so.1.kept ∙ so.0)) l, so.1.none, so.1.end (missing_some s.held front))
         by (Err (Bad fault)) f (inl so) l =
             let ends : rest (given ++ d.piece) ≡ Refused fault = ends_at given (taken ++ []) (Refused fault) f (ap rest_of so.1 ∙ refused_rest (s.held ++ d.piece) fault so.2) l in
-            (ap end_of ends, λ open_so. let wrong : Refused fault ≡ Unfinished = sym ends ∙ open_so in cc)
+            (ap end_meaning ends, λ open_so. let wrong : Refused fault ≡ Unfinished = sym ends ∙ open_so in cc)
         by (Err (Bad fault)) f (inr so) l =
             let ends : rest (given ++ d.piece) ≡ Unfinished = ends_at given (taken ++ []) Unfinished f (ap rest_of so.2.kept ∙ open_end s.held so.1 front) l in
-            (ap end_of ends ∙ ap err (sym so.0), λ _. (so.2.none, so.2.end (missing_some s.held front)))
+            (ap end_meaning ends ∙ ap err (sym so.0), λ _. (so.2.none, so.2.end (missing_some s.held front)))
         by (Err ReadFault) f so l = so.0
         by (Err OutOfMemory) f so l = so.0
 
@@ -235,12 +235,12 @@ never_read false false Clean x = cc
 never_read false false Unfinished x = cc
 never_read false false (Refused f) x = cc
 
-none_counts : (fault : PullFault) (s : FramerView) → stopped s ≡ Some fault → (n : ℕ) → CountsSo (Err fault) n n
+none_counts : (fault : PullFault) (s : FramerView) → pull_fault_of s ≡ Some fault → (n : ℕ) → CountsSo (Err fault) n n
 none_counts (Bad fault) s e n = refl
 none_counts ReadFault s e n = absurd (never_read s.failed s.cut (rest_of s.held) e)
 none_counts OutOfMemory s e n = refl
 
-pub pulls_nothing : (fault : PullFault) (s : FramerView) (before : Spring) → stopped s ≡ Some fault → Pulls (Err fault) s s before before
+pub pulls_nothing : (fault : PullFault) (s : FramerView) (before : Spring) → pull_fault_of s ≡ Some fault → Pulls (Err fault) s s before before
 pulls_nothing fault s before e = record {
   piece = [];
   gave = gave_none before.supply;

@@ -12,12 +12,12 @@ use Rattle.xd_frame.specs.declared.pull.PullFault.{PullFault}
 use Rattle.xd_frame.specs.declared.pull.PullFault.TheVariants.{Bad, ReadFault, OutOfMemory}
 use Rattle.xd_frame.specs.Message.{MessageView, frames}
 use Rattle.xd_frame.specs.Header.{header_read}
-use Rattle.xd_frame.specs.Stream.{Rest, Clean, Unfinished, Refused, end_of, rest, rest_of}
+use Rattle.xd_frame.specs.Stream.{Rest, Clean, Unfinished, Refused, end_meaning, rest, rest_of}
 use Rattle.xd_frame.specs.Framer.{FramerView, StandsFor}
 
 -- how many bytes one read asks for at most: a choice of this project
-abbrev pub block : ℕ
-block = 65536
+abbrev pub read_size : ℕ
+read_size = 65536
 
 -- how many bytes are missing of the message of a header, where `size` of them are there
 abbrev pub missing_by : Result Header FrameFault → ℕ → ℕ
@@ -40,7 +40,7 @@ abbrev pub AnswersTo : Result Pulled PullFault → Rest → List ℕ → Spring 
 AnswersTo (Ok More) ends piece after = (ends ≡ Unfinished) × (piece ≢ [])
 AnswersTo (Ok (Whole m)) ends piece after = (ends ≡ Clean) × (piece ≢ [])
 AnswersTo (Ok Ended) ends piece after = (ends ≡ Clean) × (piece ≡ []) × ReadToEnd after
-AnswersTo (Err (Bad fault)) ends piece after = (end_of ends ≡ Err fault) × (ends ≡ Unfinished → (piece ≡ []) × ReadToEnd after)
+AnswersTo (Err (Bad fault)) ends piece after = (end_meaning ends ≡ Err fault) × (ends ≡ Unfinished → (piece ≡ []) × ReadToEnd after)
 AnswersTo (Err ReadFault) ends piece after = piece ≡ []
 AnswersTo (Err OutOfMemory) ends piece after = piece ≡ []
 
@@ -73,8 +73,8 @@ refusal_by Unfinished = None
 refusal_by (Refused fault) = Some (Bad fault)
 
 -- why a framer is pulled no further, where it is not
-abbrev pub stopped : FramerView → Option PullFault
-stopped s = if s.failed then Some OutOfMemory else (if s.cut then Some (Bad Cut) else refusal_by (rest_of s.held))
+abbrev pub pull_fault_of : FramerView → Option PullFault
+pull_fault_of s = if s.failed then Some OutOfMemory else (if s.cut then Some (Bad Cut) else refusal_by (rest_of s.held))
 
 -- the answer that each later pull gives too, where there is one
 abbrev pub lasting : Result Pulled PullFault → Option PullFault
@@ -87,8 +87,8 @@ lasting (Err OutOfMemory) = Some OutOfMemory
 pub record Pulls (result : Result Pulled PullFault) (old new : FramerView) (before after : Spring) : Type 0 where
   pub piece : List ℕ
   pub gave : Gave piece before.supply after.supply
-  pub asked : length piece ≤ min block (missing old.held)
+  pub asked : length piece ≤ min read_size (missing old.held)
   pub count : CountsSo result before.faults after.faults
   pub stands : (given : List ℕ) (taken : List MessageView) → StandsFor old given taken → StandsFor new (given ++ piece) (taken ++ whole_of result)
-  pub answer : stopped old ≡ None → (given : List ℕ) (taken : List MessageView) → StandsFor old given taken → AnswersTo result (rest (given ++ piece)) piece after
+  pub answer : pull_fault_of old ≡ None → (given : List ℕ) (taken : List MessageView) → StandsFor old given taken → AnswersTo result (rest (given ++ piece)) piece after
   pub less : (given : List ℕ) (taken : List MessageView) → HoldsLess old given taken → HoldsLess new (given ++ piece) (taken ++ whole_of result)

@@ -11,7 +11,7 @@ use Rattle.xd_frame.specs.declared.pull.Pulled.TheVariants.{More, Whole, Ended}
 use Rattle.xd_frame.specs.declared.pull.PullFault.{PullFault}
 use Rattle.xd_frame.specs.declared.pull.PullFault.TheVariants.{Bad, ReadFault, OutOfMemory}
 use Rattle.xd_frame.specs.Stream.{AreBytes, header_in_front, message_of}
-use Rattle.xd_frame.specs.Pull.{CountsSo, block, missing}
+use Rattle.xd_frame.specs.Pull.{CountsSo, read_size, missing}
 
 -- The source gave n bytes, at most this size, and they stand after the old ones.
 pub record ReadsOn (n size : ℕ) (old new : List ℕ) (before after : Spring) : Type 0 where
@@ -64,7 +64,7 @@ DrawsSo (Err OutOfMemory) old piece new after = (piece ≡ []) × (new ≡ old)
 pub record Draws (result : Result Pulled PullFault) (old new : List ℕ) (before after : Spring) : Type 0 where
   pub piece : List ℕ
   pub gave : Gave piece before.supply after.supply
-  pub asked : length piece ≤ min block (missing old)
+  pub asked : length piece ≤ min read_size (missing old)
   pub count : CountsSo result before.faults after.faults
   pub bytes : piece ≢ [] → AreBytes (old ++ piece)
   pub so : DrawsSo result old piece new after

@@ -14,7 +14,7 @@ use Rattle.xd_value.specs.Canonical.{Test, Hashable, Distinct, Channels, all_pas
 use Rattle.xd_gateway.specs.declared.order.Order.{Order}
 use Rattle.xd_gateway.specs.declared.order.Order.TheVariants.{RunTests, RunAll, Steal, Shutdown}
 use Rattle.xd_gateway.specs.Kwargs.{AreIndices, indices_kwargs}
-use Rattle.xd_gateway.specs.Calls.{called}
+use Rattle.xd_gateway.specs.Calls.{call_as_value}
 use Rattle.xd_gateway.specs.Orders.{order_tree, IsOrder}
 use Rattle.xd_gateway.specs.Limits.{IsFew, run_tests_call}
 
@@ -66,7 +66,7 @@ dumped_is t a b c d e = chosen (nat_lt 64 (depth t)) (all_pass Hashable t) (all_
 
 -- the call of a name with some numbers of tests
 abbrev numbered : List ℕ → List ℕ → Tree
-numbered name ns = called name (indices_kwargs ns)
+numbered name ns = call_as_value name (indices_kwargs ns)
 
 depth_is : (name ns : List ℕ) → nat_lt 64 (depth (numbered name ns)) ≡ false
 depth_is name ns = ap (λ (d : ℕ). nat_lt 64 (suc (max 0 (max (suc (max (max 0 (suc d)) 0)) 0)))) (flat ns)
@@ -120,15 +120,15 @@ numbers_dumped name ns short h few =
     dumped_is (numbered name ns) (depth_is name ns) (passes_all Hashable name ns) (passes_all Distinct name ns) (passes_all Channels name ns) (fits name ns short h few)
 
 -- a call without arguments
-bare_length : (name : List ℕ) → length (canonical (called name no_pairs)) ≡ length (encode_utf8_all name) + 12
+bare_length : (name : List ℕ) → length (canonical (call_as_value name no_pairs)) ≡ length (encode_utf8_all name) + 12
 bare_length name =
     let n = form (text name) in
     let t = 64 ∷ to_be_bytes w32 2 in
     omega (arith, length-append (n ++ (74 ∷ [])) t, length-append ((n ++ (74 ∷ [])) ++ t) (81 ∷ []), length-append n (74 ∷ []), text_length name)
 
-bare_dumped : (name : List ℕ) → length (encode_utf8_all name) ≤ 100 → dumped (called name no_pairs) ≡ Ok (canonical (called name no_pairs))
+bare_dumped : (name : List ℕ) → length (encode_utf8_all name) ≤ 100 → dumped (call_as_value name no_pairs) ≡ Ok (canonical (call_as_value name no_pairs))
 bare_dumped name short =
-    dumped_is (called name no_pairs) refl refl refl refl (le-ltb 16777216 _ (let all = bare_length name in omega (arith, all, short)))
+    dumped_is (call_as_value name no_pairs) refl refl refl refl (le-ltb 16777216 _ (let all = bare_length name in omega (arith, all, short)))
 
 pub order_dumped : (o : Order) → IsOrder o → IsFew o → dumped (order_tree o) ≡ Ok (canonical (order_tree o))
 order_dumped (RunTests ns) h few = numbers_dumped (codes "runtests") ns (let l = run_length in omega (arith, l)) h few

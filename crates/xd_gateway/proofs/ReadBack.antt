@@ -11,11 +11,11 @@ use Rattle.xd_journal.specs.declared.news.What.{What}
 use Rattle.xd_journal.specs.declared.news.What.TheVariants.{Ready, Collected, LogStart, Piece, LogClosed, Done, Back, Finished, Closed, Stray, Gone, NotStarted}
 use Rattle.xd_gateway.specs.declared.order.Order.{Order}
 use Rattle.xd_gateway.specs.declared.order.Order.TheVariants.{RunTests, RunAll, Steal, Shutdown}
-use Rattle.xd_gateway.specs.Kwargs.{AreIndices, both, each_of, index_of, text_of, number_below}
+use Rattle.xd_gateway.specs.Kwargs.{AreIndices, both, each_of, index_of, text_in_tree, number_below}
 use Rattle.xd_gateway.specs.Orders.{order_tree, tree_order, IsOrder}
 use Rattle.xd_gateway.specs.Events.{event_tree, tree_event, IsEvent, is_failure_code}
 
-texts_read : (ts : List (List ℕ)) → each_of text_of (trees_of (map text ts)) ≡ Some ts
+texts_read : (ts : List (List ℕ)) → each_of text_in_tree (trees_of (map text ts)) ≡ Some ts
 texts_read [] = refl
 texts_read (t ∷ ts) = ap (both (λ x xs. x ∷ xs) (Some t)) (texts_read ts)
 

@@ -9,8 +9,8 @@ pub record Call : Type 0 where
   pub kwargs : Pairs
 
 -- the call of a name with these keyword arguments, as it is written
-abbrev pub called : List ℕ → Pairs → Tree
-called name kwargs = tuple (tree (text name) (tree (dict kwargs) no_trees))
+abbrev pub call_as_value : List ℕ → Pairs → Tree
+call_as_value name kwargs = tuple (tree (text name) (tree (dict kwargs) no_trees))
 
 -- a value is a text
 abbrev pub is_text : Tree → Bool

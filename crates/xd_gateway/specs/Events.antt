@@ -8,8 +8,8 @@ use Rattle.xd_journal.specs.declared.entry.Outcome.{Outcome}
 use Rattle.xd_journal.specs.declared.entry.Outcome.TheVariants.{Passed, Skipped, Failed}
 use Rattle.xd_journal.specs.declared.news.What.{What}
 use Rattle.xd_journal.specs.declared.news.What.TheVariants.{Ready, Collected, LogStart, Done, Back, Finished}
-use Rattle.xd_gateway.specs.Calls.{Call, called, call_in}
-use Rattle.xd_gateway.specs.Kwargs.{AreIndices, both, value_at, number_below, integer_of, text_of, channel_of, items_of, index_of, each_of, indices_at, indices_kwargs}
+use Rattle.xd_gateway.specs.Calls.{Call, call_as_value, call_in}
+use Rattle.xd_gateway.specs.Kwargs.{AreIndices, both, value_at, number_below, integer_of, text_in_tree, channel_of, items_of, index_of, each_of, indices_at, indices_kwargs}
 
 -- an outcome by its word
 abbrev pub outcome_word : Outcome → List ℕ
@@ -33,19 +33,19 @@ done_kwargs n outcome ms =
 
 -- an event, as it is written; the other news are no events
 abbrev pub event_tree : What → Option Tree
-event_tree Ready = Some (called (codes "workerready") no_pairs)
+event_tree Ready = Some (call_as_value (codes "workerready") no_pairs)
 event_tree (Collected ids) =
-    Some (called (codes "collectionfinish") (pair (text (codes "ids")) (list (trees_of (map text ids))) no_pairs))
+    Some (call_as_value (codes "collectionfinish") (pair (text (codes "ids")) (list (trees_of (map text ids))) no_pairs))
 event_tree (LogStart n log) =
-    Some (called (codes "logstart") (pair (text (codes "item_index")) (int (pos n)) (pair (text (codes "log")) (channel log) no_pairs)))
-event_tree (Done n outcome ms) = Some (called (codes "runtest_protocol_complete") (done_kwargs n outcome ms))
-event_tree (Back ns) = Some (called (codes "unscheduled") (indices_kwargs ns))
-event_tree Finished = Some (called (codes "workerfinished") no_pairs)
+    Some (call_as_value (codes "logstart") (pair (text (codes "item_index")) (int (pos n)) (pair (text (codes "log")) (channel log) no_pairs)))
+event_tree (Done n outcome ms) = Some (call_as_value (codes "runtest_protocol_complete") (done_kwargs n outcome ms))
+event_tree (Back ns) = Some (call_as_value (codes "unscheduled") (indices_kwargs ns))
+event_tree Finished = Some (call_as_value (codes "workerfinished") no_pairs)
 event_tree _ = None
 
 -- the texts under the key `ids`, where it has a list of texts
-abbrev pub ids_at : Pairs → Option (List (List ℕ))
-ids_at ps = option_and_then (each_of text_of) (option_and_then items_of (value_at (codes "ids") ps))
+abbrev pub ids_under_key : Pairs → Option (List (List ℕ))
+ids_under_key ps = option_and_then (each_of text_in_tree) (option_and_then items_of (value_at (codes "ids") ps))
 
 -- the number of a test under the key `item_index`
 abbrev pub index_at : Pairs → Option ℕ
@@ -76,7 +76,7 @@ outcome_by word code =
 abbrev pub outcome_at : Pairs → Option Outcome
 outcome_at ps =
     option_and_then (λ word. option_and_then (outcome_by word) (option_and_then integer_of (value_at (codes "code") ps)))
-    (option_and_then text_of (value_at (codes "outcome") ps))
+    (option_and_then text_in_tree (value_at (codes "outcome") ps))
 
 -- the milliseconds under the key `duration`: an integer from 0 to 18446744073709551615
 abbrev pub duration_at : Pairs → Option ℕ
@@ -90,7 +90,7 @@ done_at ps = option_and_then (λ n. both (Done n) (outcome_at ps) (duration_at p
 abbrev pub called_event : Call → Option What
 called_event c =
     if bytes_eq c.name (codes "workerready") then Some Ready
-    else (if bytes_eq c.name (codes "collectionfinish") then option_map Collected (ids_at c.kwargs)
+    else (if bytes_eq c.name (codes "collectionfinish") then option_map Collected (ids_under_key c.kwargs)
     else (if bytes_eq c.name (codes "logstart") then both LogStart (index_at c.kwargs) (log_at c.kwargs)
     else (if bytes_eq c.name (codes "runtest_protocol_complete") then done_at c.kwargs
     else (if bytes_eq c.name (codes "unscheduled") then option_map Back (indices_at c.kwargs)

@@ -32,9 +32,9 @@ integer_of (int z) = Some z
 integer_of _ = None
 
 -- the text that a value is, if it is one
-abbrev pub text_of : Tree → Option (List ℕ)
-text_of (text cs) = Some cs
-text_of _ = None
+abbrev pub text_in_tree : Tree → Option (List ℕ)
+text_in_tree (text cs) = Some cs
+text_in_tree _ = None
 
 -- the number of the channel that a value is, if it is one
 abbrev pub channel_of : Tree → Option ℕ

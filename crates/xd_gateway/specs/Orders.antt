@@ -6,7 +6,7 @@ use Rattle.xd_journal.specs.declared.entry.Entry.{Entry}
 use Rattle.xd_journal.specs.declared.entry.Entry.TheVariants.{Run, RunAll as RunEach, Steal as StealFrom, Shutdown as ShutDown}
 use Rattle.xd_gateway.specs.declared.order.Order.{Order}
 use Rattle.xd_gateway.specs.declared.order.Order.TheVariants.{RunTests, RunAll, Steal, Shutdown}
-use Rattle.xd_gateway.specs.Calls.{Call, called, call_in}
+use Rattle.xd_gateway.specs.Calls.{Call, call_as_value, call_in}
 use Rattle.xd_gateway.specs.Kwargs.{AreIndices, indices_at, indices_kwargs}
 
 -- the order that an entry gives to its worker; the other entries give none
@@ -19,10 +19,10 @@ order_of _ = None
 
 -- an order, as it is written
 abbrev pub order_tree : Order → Tree
-order_tree (RunTests ns) = called (codes "runtests") (indices_kwargs ns)
-order_tree RunAll = called (codes "runtests_all") no_pairs
-order_tree (Steal ns) = called (codes "steal") (indices_kwargs ns)
-order_tree Shutdown = called (codes "shutdown") no_pairs
+order_tree (RunTests ns) = call_as_value (codes "runtests") (indices_kwargs ns)
+order_tree RunAll = call_as_value (codes "runtests_all") no_pairs
+order_tree (Steal ns) = call_as_value (codes "steal") (indices_kwargs ns)
+order_tree Shutdown = call_as_value (codes "shutdown") no_pairs
 
 -- the order that a call is
 abbrev pub called_order : Call → Option Order

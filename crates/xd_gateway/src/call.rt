@@ -2,7 +2,7 @@
 ghost use Rattle.std.specs.Prelude.{◌≡◌, option_map, IfOk};
 ghost use Rattle.xd_value.specs.Tree.{tree, no_trees};
 ghost use Rattle.xd_value.specs.View.{view, pair_views};
-ghost use Rattle.xd_gateway.specs.Calls.{called, call_by, call_in, has_text_keys};
+ghost use Rattle.xd_gateway.specs.Calls.{call_as_value, call_by, call_in, has_text_keys};
 ghost use Rattle.xd_gateway.specs.Words.{IsWord};
 
 use crate::word::word_value;
@@ -65,7 +65,7 @@ pub(crate) fn call_value(
     kwargs: Vec<(Value, Value)>,
 ) -> Result<Value, OutOfMemory>
     requires { IsWord name.now }
-    ensures { IfOk result (λ v. view v ≡ called name.now (pair_views kwargs.items)) }
+    ensures { IfOk result (λ v. view v ≡ call_as_value name.now (pair_views kwargs.items)) }
 {
     let name = word_value(alloc, name)?;
     let items = vec![in alloc; name, Value::Dict(kwargs)]?;

@@ -3,7 +3,7 @@ ghost use Rattle.std.specs.Prelude.{◌≡◌, option_map, option_and_then, IfOk
 ghost use Rattle.xd_value.specs.Tree.{text, int, list, pair};
 ghost use Rattle.xd_value.specs.View.{view, views, pair_views, trees_of};
 ghost use Rattle.xd_value.specs.declared.value.Value.{Value};
-ghost use Rattle.xd_gateway.specs.Kwargs.{is_key, value_at, number_below, integer_of, text_of, channel_of, items_of, index_of, each_of, indices_at, indices_kwargs, AreIndices};
+ghost use Rattle.xd_gateway.specs.Kwargs.{is_key, value_at, number_below, integer_of, text_in_tree, channel_of, items_of, index_of, each_of, indices_at, indices_kwargs, AreIndices};
 ghost use Rattle.xd_gateway.specs.Words.{IsWord};
 
 use crate::word::{is_word, word_value};
@@ -48,7 +48,7 @@ pub(crate) fn integer_at(kwargs: &[(Value, Value)], key: &str) -> Option<i128>
 /// The text under a key.
 pub fn text_at<'a>(kwargs: &'a [(Value, Value)], key: &str) -> Option<&'a Text>
     requires { IsWord key.now }
-    ensures { option_map (λ t. t.now) result ≡ option_and_then text_of (value_at key.now (pair_views kwargs.now)) }
+    ensures { option_map (λ t. t.now) result ≡ option_and_then text_in_tree (value_at key.now (pair_views kwargs.now)) }
 {
     match value_at(kwargs, key)? {
         Value::Text(text) => Some(text),
@@ -114,7 +114,7 @@ fn indices_of(alloc: Global, values: &[Value]) -> Result<Option<Indices>, OutOfM
 }
 
 fn texts_of(alloc: Global, values: &[Value]) -> Result<Option<Texts>, OutOfMemory>
-    ensures { IfOk result (λ r. r ≡ each_of text_of (views values.now)) }
+    ensures { IfOk result (λ r. r ≡ each_of text_in_tree (views values.now)) }
 {
     let mut items = Vec::new(alloc);
     for value in values {
@@ -147,7 +147,7 @@ pub(crate) fn texts_at(
     key: &str,
 ) -> Result<Option<Texts>, OutOfMemory>
     requires { IsWord key.now }
-    ensures { IfOk result (λ r. r ≡ option_and_then (each_of text_of) (option_and_then items_of (value_at key.now (pair_views kwargs.now)))) }
+    ensures { IfOk result (λ r. r ≡ option_and_then (each_of text_in_tree) (option_and_then items_of (value_at key.now (pair_views kwargs.now)))) }
 {
     let Some(values) = items_at(kwargs, key) else {
         return Ok(None);

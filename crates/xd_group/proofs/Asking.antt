@@ -10,22 +10,22 @@ use Rattle.xd_link.specs.Starter.{Begun, IsNextLink, as_killed, as_reaped, fresh
 use Rattle.xd_link.specs.declared.place.Place.{Place}
 use Rattle.xd_link.specs.declared.starter.LinkRun.{LinkRun}
 use Rattle.xd_link.specs.declared.starter.Reaped.TheVariants.{Never}
-use Rattle.xd_group.specs.Children.{AreNumbered, Asked, TellsLinks, all_asked, asked, asked_of, all_buried, buried_child, changed_at, is_buried, failed_starts, fresh_child, is_over, killed_child, reaped_child, starts_told}
+use Rattle.xd_group.specs.Children.{AreNumbered, AskedOfLink, TellsLinks, children_asked, child_asked, link_asked, all_buried, buried_child, changed_at, is_buried, failed_starts, fresh_child, is_killed_and_reaped, killed_child, reaped_child, starts_told}
 use Rattle.xd_group.specs.declared.child.Child.{Child}
 
 -- ---- one more child
 
-asked_more : (cs : List (Option Child)) (c : Child) → all_asked (cs ++ Some c ∷ []) ≡ all_asked cs ++ asked c ∷ []
+asked_more : (cs : List (Option Child)) (c : Child) → children_asked (cs ++ Some c ∷ []) ≡ children_asked cs ++ child_asked c ∷ []
 asked_more [] c = refl
 asked_more (None ∷ cs) c = asked_more cs c
-asked_more (Some d ∷ cs) c = ap (λ (l : List Asked). asked d ∷ l) (asked_more cs c)
+asked_more (Some d ∷ cs) c = ap (λ (l : List AskedOfLink). child_asked d ∷ l) (asked_more cs c)
 
-asked_none : (cs : List (Option Child)) → all_asked (cs ++ None ∷ []) ≡ all_asked cs
+asked_none : (cs : List (Option Child)) → children_asked (cs ++ None ∷ []) ≡ children_asked cs
 asked_none [] = refl
 asked_none (None ∷ cs) = asked_none cs
-asked_none (Some d ∷ cs) = ap (λ (l : List Asked). asked d ∷ l) (asked_none cs)
+asked_none (Some d ∷ cs) = ap (λ (l : List AskedOfLink). child_asked d ∷ l) (asked_none cs)
 
-numbered_more : (n : ℕ) (cs : List (Option Child)) (c : Child) → c.link ≡ n + length (all_asked cs) → AreNumbered n cs → AreNumbered n (cs ++ Some c ∷ [])
+numbered_more : (n : ℕ) (cs : List (Option Child)) (c : Child) → c.link ≡ n + length (children_asked cs) → AreNumbered n cs → AreNumbered n (cs ++ Some c ∷ [])
 numbered_more n [] c e a = (e ∙ omega arith, tt)
 numbered_more n (None ∷ cs) c e a = numbered_more n cs c e a
 numbered_more n (Some d ∷ cs) c e a = (a.0, numbered_more (suc n) cs c (e ∙ omega arith) a.1)
@@ -35,16 +35,16 @@ numbered_none n [] a = tt
 numbered_none n (None ∷ cs) a = numbered_none n cs a
 numbered_none n (Some d ∷ cs) a = (a.0, numbered_none (suc n) cs a.1)
 
-abbrev fresh : Asked
+abbrev fresh : AskedOfLink
 fresh = record { killed = false; reaped = Never }
 
-map_length : (ls : List LinkRun) → length (map asked_of ls) ≡ length ls
+map_length : (ls : List LinkRun) → length (map link_asked ls) ≡ length ls
 map_length [] = refl
 map_length (l ∷ ls) = omega (arith, map_length ls)
 
 pub tells_first : (b : Option Begun) → TellsLinks b b []
 tells_first None = refl
-tells_first (Some b) = (b, refl, sym (append-nil (map asked_of b.links)), tt)
+tells_first (Some b) = (b, refl, sym (append-nil (map link_asked b.links)), tt)
 
 pub tells_more : (first now next : Option Begun) (cs all : List (Option Child)) (place : Place) (link : ℕ) → IsNextLink link now → next ≡ option_map (with_start place) now → all ≡ cs ++ Some (fresh_child link) ∷ [] → TellsLinks first now cs → TellsLinks first next all
 tells_more None now next cs all place link n e is t = e ∙ ap (option_map (with_start place)) t
@@ -53,8 +53,8 @@ tells_more (Some b) now next cs all place link n e is t =
     subst (λ (l : List (Option Child)). TellsLinks (Some b) next l) (sym is) (
       with_start place t.0,
       e ∙ ap (option_map (with_start place)) t.1,
-      map-append asked_of t.0.links (fresh_link place ∷ []) ∙ (ap (λ (l : List Asked). l ++ fresh ∷ []) t.2 ∙ (append_assoc (map asked_of b.links) (all_asked cs) (fresh ∷ []) ∙ ap (λ (l : List Asked). map asked_of b.links ++ l) (sym (asked_more cs (fresh_child link))))),
-      numbered_more (length b.links) cs (fresh_child link) (at ∙ (sym (map_length t.0.links) ∙ (ap length t.2 ∙ (length-append (map asked_of b.links) (all_asked cs) ∙ ap (λ (n : ℕ). n + length (all_asked cs)) (map_length b.links))))) t.3,
+      map-append link_asked t.0.links (fresh_link place ∷ []) ∙ (ap (λ (l : List AskedOfLink). l ++ fresh ∷ []) t.2 ∙ (append_assoc (map link_asked b.links) (children_asked cs) (fresh ∷ []) ∙ ap (λ (l : List AskedOfLink). map link_asked b.links ++ l) (sym (asked_more cs (fresh_child link))))),
+      numbered_more (length b.links) cs (fresh_child link) (at ∙ (sym (map_length t.0.links) ∙ (ap length t.2 ∙ (length-append (map link_asked b.links) (children_asked cs) ∙ ap (λ (n : ℕ). n + length (children_asked cs)) (map_length b.links))))) t.3,
     )
 
 pub tells_none : (first now next : Option Begun) (cs all : List (Option Child)) (place : Place) → next ≡ option_map (with_failure place) now → all ≡ cs ++ None ∷ [] → TellsLinks first now cs → TellsLinks first next all
@@ -63,40 +63,40 @@ tells_none (Some b) now next cs all place e is t =
     subst (λ (l : List (Option Child)). TellsLinks (Some b) next l) (sym is) (
       with_failure place t.0,
       e ∙ ap (option_map (with_failure place)) t.1,
-      t.2 ∙ ap (λ (l : List Asked). map asked_of b.links ++ l) (sym (asked_none cs)),
+      t.2 ∙ ap (λ (l : List AskedOfLink). map link_asked b.links ++ l) (sym (asked_none cs)),
       numbered_none (length b.links) cs t.3,
     )
 
 -- ---- a child that was asked for something
 
-abbrev changed : ℕ → (Asked → Asked) → List Asked → List Asked
+abbrev changed : ℕ → (AskedOfLink → AskedOfLink) → List AskedOfLink → List AskedOfLink
 changed n g [] = []
 changed zero g (a ∷ rest) = g a ∷ rest
 changed (suc n) g (a ∷ rest) = a ∷ changed n g rest
 
-changed_map : (n : ℕ) (h : LinkRun → LinkRun) (g : Asked → Asked) (ls : List LinkRun) → ((l : LinkRun) → asked_of (h l) ≡ g (asked_of l)) → map asked_of (link_changed n h ls) ≡ changed n g (map asked_of ls)
+changed_map : (n : ℕ) (h : LinkRun → LinkRun) (g : AskedOfLink → AskedOfLink) (ls : List LinkRun) → ((l : LinkRun) → link_asked (h l) ≡ g (link_asked l)) → map link_asked (link_changed n h ls) ≡ changed n g (map link_asked ls)
 changed_map n h g [] same = refl
-changed_map zero h g (l ∷ ls) same = ap (λ (a : Asked). a ∷ map asked_of ls) (same l)
-changed_map (suc n) h g (l ∷ ls) same = ap (λ (rest : List Asked). asked_of l ∷ rest) (changed_map n h g ls same)
+changed_map zero h g (l ∷ ls) same = ap (λ (a : AskedOfLink). a ∷ map link_asked ls) (same l)
+changed_map (suc n) h g (l ∷ ls) same = ap (λ (rest : List AskedOfLink). link_asked l ∷ rest) (changed_map n h g ls same)
 
 -- the link of a child is so far behind the first
-there : (n : ℕ) (cs : List (Option Child)) (k : ℕ) (c : Child) (f : Child → Child) (g : Asked → Asked) → AreNumbered n cs → slice_get cs k ≡ Some (Some c) → asked (f c) ≡ g (asked c)
-    → (m : ℕ) × (c.link ≡ n + m) × (changed m g (all_asked cs) ≡ all_asked (changed_at k f cs))
+there : (n : ℕ) (cs : List (Option Child)) (k : ℕ) (c : Child) (f : Child → Child) (g : AskedOfLink → AskedOfLink) → AreNumbered n cs → slice_get cs k ≡ Some (Some c) → child_asked (f c) ≡ g (child_asked c)
+    → (m : ℕ) × (c.link ≡ n + m) × (changed m g (children_asked cs) ≡ children_asked (changed_at k f cs))
 there n [] k c f g a e h = absurd (cc e)
 there n (None ∷ cs) zero c f g a e h = absurd (cc e)
 there n (None ∷ cs) (suc k) c f g a e h = there n cs k c f g a e h
 there n (Some d ∷ cs) zero c f g a e h =
     let same : d ≡ c = cc e in
-    (0, ap (λ (x : Child). x.link) (sym same) ∙ (a.0 ∙ omega arith), ap (λ (x : Asked). x ∷ all_asked cs) (ap (λ (x : Child). g (asked x)) same ∙ (sym h ∙ ap (λ (x : Child). asked (f x)) (sym same))))
+    (0, ap (λ (x : Child). x.link) (sym same) ∙ (a.0 ∙ omega arith), ap (λ (x : AskedOfLink). x ∷ children_asked cs) (ap (λ (x : Child). g (child_asked x)) same ∙ (sym h ∙ ap (λ (x : Child). child_asked (f x)) (sym same))))
 there n (Some d ∷ cs) (suc k) c f g a e h =
     let it = there (suc n) cs k c f g a.1 e h in
-    (suc it.0, it.1 ∙ omega arith, ap (λ (l : List Asked). asked d ∷ l) it.2)
+    (suc it.0, it.1 ∙ omega arith, ap (λ (l : List AskedOfLink). child_asked d ∷ l) it.2)
 
-behind : (pre xs : List Asked) (m : ℕ) (g : Asked → Asked) → changed (length pre + m) g (pre ++ xs) ≡ pre ++ changed m g xs
+behind : (pre xs : List AskedOfLink) (m : ℕ) (g : AskedOfLink → AskedOfLink) → changed (length pre + m) g (pre ++ xs) ≡ pre ++ changed m g xs
 behind [] xs m g = ap (λ (k : ℕ). changed k g xs) (omega arith)
 behind (p ∷ pre) xs m g =
     let next : length (p ∷ pre) + m ≡ suc (length pre + m) = omega arith in
-    ap (λ (k : ℕ). changed k g (p ∷ (pre ++ xs))) next ∙ ap (λ (l : List Asked). p ∷ l) (behind pre xs m g)
+    ap (λ (k : ℕ). changed k g (p ∷ (pre ++ xs))) next ∙ ap (λ (l : List AskedOfLink). p ∷ l) (behind pre xs m g)
 
 numbered_same : (n : ℕ) (cs : List (Option Child)) (k : ℕ) (f : Child → Child) → ((c : Child) → (f c).link ≡ c.link) → AreNumbered n cs → AreNumbered n (changed_at k f cs)
 numbered_same n [] k f h a = tt
@@ -105,15 +105,15 @@ numbered_same n (None ∷ cs) (suc k) f h a = numbered_same n cs k f h a
 numbered_same n (Some d ∷ cs) zero f h a = (h d ∙ a.0, a.1)
 numbered_same n (Some d ∷ cs) (suc k) f h a = (a.0, numbered_same (suc n) cs k f h a.1)
 
-tells_changed : (first now next : Option Begun) (cs : List (Option Child)) (k : ℕ) (c : Child) (f : Child → Child) (h : LinkRun → LinkRun) (g : Asked → Asked) → ((c : Child) → (f c).link ≡ c.link) → ((l : LinkRun) → asked_of (h l) ≡ g (asked_of l)) → asked (f c) ≡ g (asked c)
+tells_changed : (first now next : Option Begun) (cs : List (Option Child)) (k : ℕ) (c : Child) (f : Child → Child) (h : LinkRun → LinkRun) (g : AskedOfLink → AskedOfLink) → ((c : Child) → (f c).link ≡ c.link) → ((l : LinkRun) → link_asked (h l) ≡ g (link_asked l)) → child_asked (f c) ≡ g (child_asked c)
     → slice_get cs k ≡ Some (Some c) → next ≡ option_map (with_link c.link h) now → TellsLinks first now cs → TellsLinks first next (changed_at k f cs)
 tells_changed None now next cs k c f h g same does asks at e t = e ∙ ap (option_map (with_link c.link h)) t
 tells_changed (Some b) now next cs k c f h g same does asks at e t =
     let it = there (length b.links) cs k c f g t.3 at asks in (
       with_link c.link h t.0,
       e ∙ ap (option_map (with_link c.link h)) t.1,
-      changed_map c.link h g t.0.links does ∙ (ap (changed c.link g) t.2 ∙ (ap (λ (m : ℕ). changed m g (map asked_of b.links ++ all_asked cs)) (it.1 ∙ ap (λ (n : ℕ). n + it.0) (sym (map_length b.links)))
-          ∙ (behind (map asked_of b.links) (all_asked cs) it.0 g ∙ ap (λ (l : List Asked). map asked_of b.links ++ l) it.2))),
+      changed_map c.link h g t.0.links does ∙ (ap (changed c.link g) t.2 ∙ (ap (λ (m : ℕ). changed m g (map link_asked b.links ++ children_asked cs)) (it.1 ∙ ap (λ (n : ℕ). n + it.0) (sym (map_length b.links)))
+          ∙ (behind (map link_asked b.links) (children_asked cs) it.0 g ∙ ap (λ (l : List AskedOfLink). map link_asked b.links ++ l) it.2))),
       numbered_same (length b.links) cs k f same t.3,
     )
 
@@ -162,10 +162,10 @@ few_failed cs all a b c is l rose r h =
     let more : failed_starts all ≡ failed_starts cs + 1 = ap failed_starts is ∙ (ap length (filter-append is_none cs (None ∷ [])) ∙ length-append (filter is_none cs) (None ∷ [])) in
     omega (arith, more, r (omega arith), rose h, l)
 
-abbrev to_killed : Asked → Asked
+abbrev to_killed : AskedOfLink → AskedOfLink
 to_killed a = record { killed = true; reaped = a.reaped }
 
-abbrev to_reaped : Asked → Asked
+abbrev to_reaped : AskedOfLink → AskedOfLink
 to_reaped a = record { killed = a.killed; reaped = more_often a.reaped }
 
 pub tells_killed : (first now next : Option Begun) (cs all : List (Option Child)) (k : ℕ) (c : Child) → slice_get cs k ≡ Some (Some c) → all ≡ slice_set cs k (Some (killed_child c)) → next ≡ option_map (with_link c.link as_killed) now → TellsLinks first now cs → TellsLinks first next all
@@ -174,7 +174,7 @@ tells_killed first now next cs all k c at is e t =
 
 pub tells_reaped : (first now next : Option Begun) (cs all : List (Option Child)) (k : ℕ) (c : Child) → slice_get cs k ≡ Some (Some c) → c.is_reaped ≡ false → all ≡ slice_set cs k (Some (reaped_child c)) → next ≡ option_map (with_link c.link as_reaped) now → TellsLinks first now cs → TellsLinks first next all
 tells_reaped first now next cs all k c at not is e t =
-    let once : asked (reaped_child c) ≡ to_reaped (asked c) = rw not refl in
+    let once : child_asked (reaped_child c) ≡ to_reaped (child_asked c) = rw not refl in
     subst (λ (l : List (Option Child)). TellsLinks first next l) (sym (is ∙ set_changed cs k c reaped_child at)) (tells_changed first now next cs k c reaped_child as_reaped to_reaped (λ d. refl) (λ l. refl) once at e t)
 
 abbrev as_child : ℕ → Bool → Bool → Child
@@ -204,7 +204,7 @@ starts_failed place (Some b) next e = ap starts_told e
 
 -- ---- a hub that is given up
 
-over_kept : (o : Option Child) → is_over (option_map reaped_child (option_map killed_child o)) ≡ true
+over_kept : (o : Option Child) → is_killed_and_reaped (option_map reaped_child (option_map killed_child o)) ≡ true
 over_kept None = refl
 over_kept (Some c) = refl
 
@@ -220,15 +220,15 @@ and_right : (a b : Bool) → (a && b) ≡ true → b ≡ true
 and_right true b h = h
 and_right false b h = absurd (cc h)
 
-over_more : (cs : List (Option Child)) (k : ℕ) → list_all is_over (take k cs) ≡ true → list_all is_over (take (suc k) (changed_at k reaped_child (changed_at k killed_child cs))) ≡ true
+over_more : (cs : List (Option Child)) (k : ℕ) → list_all is_killed_and_reaped (take k cs) ≡ true → list_all is_killed_and_reaped (take (suc k) (changed_at k reaped_child (changed_at k killed_child cs))) ≡ true
 over_more [] k h = refl
-over_more (o ∷ cs) zero h = and_true (is_over (option_map reaped_child (option_map killed_child o))) true (over_kept o) refl
-over_more (o ∷ cs) (suc k) h = and_true (is_over o) _ (and_left (is_over o) (list_all is_over (take k cs)) h) (over_more cs k (and_right (is_over o) (list_all is_over (take k cs)) h))
+over_more (o ∷ cs) zero h = and_true (is_killed_and_reaped (option_map reaped_child (option_map killed_child o))) true (over_kept o) refl
+over_more (o ∷ cs) (suc k) h = and_true (is_killed_and_reaped o) _ (and_left (is_killed_and_reaped o) (list_all is_killed_and_reaped (take k cs)) h) (over_more cs k (and_right (is_killed_and_reaped o) (list_all is_killed_and_reaped (take k cs)) h))
 
 -- one more child is over
-pub over_next : (cs killed reaped : List (Option Child)) (k j : ℕ) → j ≡ suc k → killed ≡ changed_at k killed_child cs → reaped ≡ changed_at k reaped_child killed → list_all is_over (take k cs) ≡ true → list_all is_over (take j reaped) ≡ true
+pub over_next : (cs killed reaped : List (Option Child)) (k j : ℕ) → j ≡ suc k → killed ≡ changed_at k killed_child cs → reaped ≡ changed_at k reaped_child killed → list_all is_killed_and_reaped (take k cs) ≡ true → list_all is_killed_and_reaped (take j reaped) ≡ true
 over_next cs killed reaped k j is a b h =
-    ap (λ (n : ℕ). list_all is_over (take n reaped)) is ∙ (ap (λ (l : List (Option Child)). list_all is_over (take (suc k) l)) (b ∙ ap (changed_at k reaped_child) a) ∙ over_more cs k h)
+    ap (λ (n : ℕ). list_all is_killed_and_reaped (take n reaped)) is ∙ (ap (λ (l : List (Option Child)). list_all is_killed_and_reaped (take (suc k) l)) (b ∙ ap (changed_at k reaped_child) a) ∙ over_more cs k h)
 
 changed_length : (cs : List (Option Child)) (k : ℕ) (f : Child → Child) → length (changed_at k f cs) ≡ length cs
 changed_length [] k f = refl
@@ -239,8 +239,8 @@ pub over_length : (cs killed reaped : List (Option Child)) (k : ℕ) → killed 
 over_length cs killed reaped k a b = ap length (b ∙ ap (changed_at k reaped_child) a) ∙ (changed_length (changed_at k killed_child cs) k reaped_child ∙ changed_length cs k killed_child)
 
 -- all are over
-pub over_all : (cs : List (Option Child)) (n : ℕ) → n ≡ length cs → list_all is_over (take n cs) ≡ true → list_all is_over cs ≡ true
-over_all cs n e h = ap (list_all is_over) (sym (whole cs n e)) ∙ h
+pub over_all : (cs : List (Option Child)) (n : ℕ) → n ≡ length cs → list_all is_killed_and_reaped (take n cs) ≡ true → list_all is_killed_and_reaped cs ≡ true
+over_all cs n e h = ap (list_all is_killed_and_reaped) (sym (whole cs n e)) ∙ h
   where
     whole : (cs : List (Option Child)) (n : ℕ) → n ≡ length cs → take n cs ≡ cs
     whole [] zero e = refl

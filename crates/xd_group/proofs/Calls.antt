@@ -16,9 +16,9 @@ use Rattle.xd_frame.specs.Message.{MessageView, frame}
 use Rattle.xd_frame.specs.Writing.{CountBehind, WritesMore}
 use Rattle.xd_factory.specs.Numbers.{is_in, is_known}
 use Rattle.xd_factory.specs.Slot.{Unseen, is_here}
-use Rattle.xd_factory.specs.SideTable.{Table}
+use Rattle.xd_factory.specs.SideTable.{ChannelTable}
 use Rattle.xd_factory.specs.Table.{send_refusal, sent_gives}
-use Rattle.xd_factory.specs.View.{entry_count, is_finished, next_of, slot_of}
+use Rattle.xd_factory.specs.View.{entry_count, is_finished, next_of, slot_of_number}
 use Rattle.xd_factory.specs.declared.side.Side.{Side}
 use Rattle.xd_factory.proofs.Entries.{here_entries}
 use Rattle.xd_journal.specs.declared.entry.Entry.{Entry}
@@ -31,7 +31,7 @@ use Rattle.xd_remote.specs.declared.fault.GatewayFault.{GatewayFault}
 use Rattle.xd_remote.specs.declared.fault.GatewayFault.TheVariants.{SendFault, Channel, Opening, OutOfMemory}
 use Rattle.xd_remote.specs.declared.gateway.Gateway.{Gateway}
 use Rattle.xd_remote.specs.Calls.{Wanted, call_tree, exec_by, exec_message, exec_wanted, item_message, item_wanted, kwargs_of, open_refusal, opening_wanted, say_wanted}
-use Rattle.xd_remote.specs.Line.{Line, Prints, Says}
+use Rattle.xd_remote.specs.Line.{GatewaySink, Prints, Says}
 use Rattle.xd_remote.specs.Stands.{IsNew}
 use Rattle.xd_remote.specs.View.{IsLost, SaysOn, is_broken, line_of, side_of}
 use Rattle.xd_report.specs.Names.{mode_text}
@@ -47,7 +47,7 @@ empty_keys : (ks : List ℕ) → ((q : ℕ) → is_in q ks ≡ false) → length
 empty_keys [] h = refl
 empty_keys (k ∷ ks) h = absurd (let z : true ≡ false = sym (in_first k ks) ∙ h k in cc z)
 
-no_entries : (s : Side) → ((c : ℕ) → slot_of s c ≡ Unseen) → entry_count s ≡ 0
+no_entries : (s : Side) → ((c : ℕ) → slot_of_number s c ≡ Unseen) → entry_count s ≡ 0
 no_entries s h = sym (length-keys_of s.ends.entries) ∙ empty_keys _ (λ q. sym (here_entries s.ends.entries q (is_known s.parity s.next s.seen q)) ∙ ap is_here (h q))
 
 open_none : (s : Side) → is_finished s ≡ false → entry_count s ≡ 0 → next_of s ≡ 1 → open_refusal s ≡ None
@@ -73,13 +73,13 @@ module _ {K : Type 0} where
   call_wanted g name kwargs suite m new short n k =
       let s = side_of g in
       let t = new.channels in
-      let next : next_of s ≡ 1 = ap (λ (x : Table). x.next) t in
-      let none = open_none s (ap (λ (x : Table). x.finished) t) (no_entries s (λ c. ap (λ (x : Table). x.slot c) t)) next in
+      let next : next_of s ≡ 1 = ap (λ (x : ChannelTable). x.next) t in
+      let none = open_none s (ap (λ (x : ChannelTable). x.finished) t) (no_entries s (λ c. ap (λ (x : ChannelTable). x.slot c) t)) next in
       let all : dumped (call_tree name kwargs) ≡ Ok (canonical (run_tests_call suite (mode_text m))) =
       ap (λ (x : List ℕ). dumped (call_tree x kwargs)) n ∙ (ap (λ (x : Pairs). dumped (call_tree (codes "run_tests") x)) k ∙ call_dumped suite (mode_text m) short (mode_short m)) in
       call_by s (dumped (call_tree name kwargs)) (canonical (run_tests_call suite (mode_text m))) all none next
 
-pub as_wanted : (wanted : Wanted) (m n : MessageView) (a b : Line) → wanted ≡ Ok m → wanted ≡ Ok n → Prints (frame n) a b → Prints (frame m) a b
+pub as_wanted : (wanted : Wanted) (m n : MessageView) (a b : GatewaySink) → wanted ≡ Ok m → wanted ≡ Ok n → Prints (frame n) a b → Prints (frame m) a b
 as_wanted wanted m n a b e f p = let same : Ok n ≡ Ok m = sym f ∙ e in let is : n ≡ m = cc same in subst (λ (x : MessageView). Prints (frame x) a b) is p
 
 pub not_refused : (wanted : Wanted) (m : MessageView) (f : GatewayFault) → wanted ≡ Ok m → wanted ≡ Err f → ⊥
@@ -102,11 +102,11 @@ quiet_count : (b : Bool) (n : ℕ) → b ≡ true → CountBehind b b n n
 quiet_count true n h = (refl, refl)
 quiet_count false n h = absurd (cc h)
 
-quiet_order : (o : Option MessageView) (a : Line) → a.broken ≡ true → WritesOrder o a a
+quiet_order : (o : Option MessageView) (a : GatewaySink) → a.broken ≡ true → WritesOrder o a a
 quiet_order None a h = refl
 quiet_order (Some m) a h = record { writes = quiet_writes a.broken (frame m) a.sunk h; count = quiet_count a.broken a.faults h; later = omega arith }
 
-says_order : (d : Result (List ℕ) DumpFault) (wanted : Wanted) (r : Result (Unit {0}) GatewayFault) (a b : Line) → wanted ≡ item_wanted 1 (sent_gives None d) → (r ≡ Err OutOfMemory → ⊥) → Says wanted a b r → WritesOrder (payload_message d) a b
+says_order : (d : Result (List ℕ) DumpFault) (wanted : Wanted) (r : Result (Unit {0}) GatewayFault) (a b : GatewaySink) → wanted ≡ item_wanted 1 (sent_gives None d) → (r ≡ Err OutOfMemory → ⊥) → Says wanted a b r → WritesOrder (payload_message d) a b
 says_order (Ok p) wanted (Ok x) a b e n s = as_wanted wanted (item_message 1 p) s.0 a b e s.1 s.3
 says_order (Ok p) wanted (Err SendFault) a b e n s = as_wanted wanted (item_message 1 p) s.0 a b e s.1 s.3
 says_order (Ok p) wanted (Err (Channel f)) a b e n s = absurd (not_refused wanted (item_message 1 p) (Channel f) e s.0)
@@ -120,7 +120,7 @@ says_order (Err f) wanted (Err OutOfMemory) a b e n s = absurd (n refl)
 
 module _ {K : Type 0} where
   pub order_written : (sunk : K → Option Sunk) (faults : K → ℕ) (g k : Gateway K) (r : Result (Unit {0}) GatewayFault) (v : Tree) (e : Entry) → (is_broken g ≡ true → IsLost g k r) → SaysOn sunk faults g k (say_wanted 1 v) r
-      → Some v ≡ option_map order_tree (order_of e) → send_refusal (slot_of (side_of g) 1) ≡ None → (r ≡ Err OutOfMemory → ⊥) → WritesOrder (order_message e) (line_of sunk faults g) (line_of sunk faults k)
+      → Some v ≡ option_map order_tree (order_of e) → send_refusal (slot_of_number (side_of g) 1) ≡ None → (r ≡ Err OutOfMemory → ⊥) → WritesOrder (order_message e) (line_of sunk faults g) (line_of sunk faults k)
   order_written sunk faults g k r v e lost says is can not = by (is_broken g) refl
     where
       by : (b : Bool) → is_broken g ≡ b → WritesOrder (order_message e) (line_of sunk faults g) (line_of sunk faults k)
@@ -147,19 +147,19 @@ not_memory (Channel g) r e q z = absurd (cc e)
 not_memory (Opening g) r e q z = absurd (cc e)
 not_memory OutOfMemory r e q z = absurd (cc e)
 
-pub said_call : (T : Type 0) (f : GatewayFault) (wanted : Wanted) (m : MessageView) (a b : Line) → f ≡ SendFault → Says {T = T} wanted a b (Err f) → wanted ≡ Ok m → Prints (frame m) a b
+pub said_call : (T : Type 0) (f : GatewayFault) (wanted : Wanted) (m : MessageView) (a b : GatewaySink) → f ≡ SendFault → Says {T = T} wanted a b (Err f) → wanted ≡ Ok m → Prints (frame m) a b
 said_call T SendFault wanted m a b e s w = as_wanted wanted m s.0 a b w s.1 s.3
 said_call T (Channel g) wanted m a b e s w = absurd (cc e)
 said_call T (Opening g) wanted m a b e s w = absurd (cc e)
 said_call T OutOfMemory wanted m a b e s w = absurd (cc e)
 
-pub channel_called : (T : Type 0) (f : GatewayFault) (x : _) (wanted : Wanted) (m : MessageView) (a b : Line) → f ≡ Channel x → Says {T = T} wanted a b (Err f) → wanted ≡ Ok m → ⊥
+pub channel_called : (T : Type 0) (f : GatewayFault) (x : _) (wanted : Wanted) (m : MessageView) (a b : GatewaySink) → f ≡ Channel x → Says {T = T} wanted a b (Err f) → wanted ≡ Ok m → ⊥
 channel_called T SendFault x wanted m a b e s w = absurd (cc e)
 channel_called T (Channel g) x wanted m a b e s w = not_refused wanted m (Channel g) w s.0
 channel_called T (Opening g) x wanted m a b e s w = absurd (cc e)
 channel_called T OutOfMemory x wanted m a b e s w = absurd (cc e)
 
-pub opening_called : (T : Type 0) (f : GatewayFault) (x : _) (wanted : Wanted) (m : MessageView) (a b : Line) → f ≡ Opening x → Says {T = T} wanted a b (Err f) → wanted ≡ Ok m → ⊥
+pub opening_called : (T : Type 0) (f : GatewayFault) (x : _) (wanted : Wanted) (m : MessageView) (a b : GatewaySink) → f ≡ Opening x → Says {T = T} wanted a b (Err f) → wanted ≡ Ok m → ⊥
 opening_called T SendFault x wanted m a b e s w = absurd (cc e)
 opening_called T (Channel g) x wanted m a b e s w = absurd (cc e)
 opening_called T (Opening g) x wanted m a b e s w = not_refused wanted m (Opening g) w s.0

@@ -4,7 +4,7 @@ use Rattle.std.specs.Prelude.{◌==◌, ◌||◌, if◌then◌else◌, is_some, 
 use Rattle.std.proofs.lemmas.Bool.Decides.{nat_tests}
 use Rattle.std.proofs.lemmas.List.{map-append}
 use Rattle.xd_drive.specs.Listed.{is_among}
-use Rattle.xd_group.specs.Children.{Asked, all_asked, asked, changed_at, failed_starts, reaped_child}
+use Rattle.xd_group.specs.Children.{AskedOfLink, children_asked, child_asked, changed_at, failed_starts, reaped_child}
 use Rattle.xd_group.specs.Fates.{KeptFrom, SoFrom, has_link, is_refused, is_unlinked, workers_with}
 use Rattle.xd_group.specs.Few.{count_with}
 use Rattle.xd_group.specs.Returned.{end_told}
@@ -151,25 +151,25 @@ changed_linked (o ∷ cs) zero f = ap (λ (b : Bool). b ∷ map is_some cs) (sam
 changed_linked (o ∷ cs) (suc k) f = ap (λ (l : List Bool). is_some o ∷ l) (changed_linked cs k f)
 
 -- what was asked of the children up to one that was reaped
-pub asked_next : (cs : List (Option Child)) (k j : ℕ) (c : Child) → j ≡ suc k → slice_get cs k ≡ Some (Some c) → all_asked (take j (changed_at k reaped_child cs)) ≡ all_asked (take k cs) ++ end_told c.is_killed ∷ []
-asked_next cs k j c is e = ap (λ (n : ℕ). all_asked (take n (changed_at k reaped_child cs))) is ∙ next cs k e
+pub asked_next : (cs : List (Option Child)) (k j : ℕ) (c : Child) → j ≡ suc k → slice_get cs k ≡ Some (Some c) → children_asked (take j (changed_at k reaped_child cs)) ≡ children_asked (take k cs) ++ end_told c.is_killed ∷ []
+asked_next cs k j c is e = ap (λ (n : ℕ). children_asked (take n (changed_at k reaped_child cs))) is ∙ next cs k e
   where
-    next : (cs : List (Option Child)) (k : ℕ) → slice_get cs k ≡ Some (Some c) → all_asked (take (suc k) (changed_at k reaped_child cs)) ≡ all_asked (take k cs) ++ end_told c.is_killed ∷ []
+    next : (cs : List (Option Child)) (k : ℕ) → slice_get cs k ≡ Some (Some c) → children_asked (take (suc k) (changed_at k reaped_child cs)) ≡ children_asked (take k cs) ++ end_told c.is_killed ∷ []
     next [] k e = absurd (cc e)
     next (None ∷ cs) zero e = absurd (cc e)
     next (Some d ∷ cs) zero e = let same : d ≡ c = cc e in ap (λ (x : Child). end_told x.is_killed ∷ []) same
     next (None ∷ cs) (suc k) e = next cs k e
-    next (Some d ∷ cs) (suc k) e = ap (λ (l : List Asked). asked d ∷ l) (next cs k e)
+    next (Some d ∷ cs) (suc k) e = ap (λ (l : List AskedOfLink). child_asked d ∷ l) (next cs k e)
 
-pub asked_past : (cs : List (Option Child)) (k j : ℕ) → j ≡ suc k → slice_get cs k ≡ Some None → all_asked (take j cs) ≡ all_asked (take k cs)
-asked_past cs k j is e = ap (λ (n : ℕ). all_asked (take n cs)) is ∙ next cs k e
+pub asked_past : (cs : List (Option Child)) (k j : ℕ) → j ≡ suc k → slice_get cs k ≡ Some None → children_asked (take j cs) ≡ children_asked (take k cs)
+asked_past cs k j is e = ap (λ (n : ℕ). children_asked (take n cs)) is ∙ next cs k e
   where
-    next : (cs : List (Option Child)) (k : ℕ) → slice_get cs k ≡ Some None → all_asked (take (suc k) cs) ≡ all_asked (take k cs)
+    next : (cs : List (Option Child)) (k : ℕ) → slice_get cs k ≡ Some None → children_asked (take (suc k) cs) ≡ children_asked (take k cs)
     next [] k e = absurd (cc e)
     next (None ∷ cs) zero e = refl
     next (Some d ∷ cs) zero e = absurd (cc e)
     next (None ∷ cs) (suc k) e = next cs k e
-    next (Some d ∷ cs) (suc k) e = ap (λ (l : List Asked). asked d ∷ l) (next cs k e)
+    next (Some d ∷ cs) (suc k) e = ap (λ (l : List AskedOfLink). child_asked d ∷ l) (next cs k e)
 
 -- there is no child for each start that failed
 pub failed_count : (cs : List (Option Child)) (fs : List Fate) → map is_some cs ≡ map has_link fs → failed_starts cs ≡ count_with is_unlinked fs

@@ -21,9 +21,9 @@ use Rattle.xd_reader.specs.declared.news.LinkStop.{LinkStop}
 use Rattle.xd_reader.specs.declared.news.LinkStop.TheVariants as stop
 use Rattle.xd_drive.specs.Marks.{is_breach, is_end}
 use Rattle.xd_factory.specs.Table.{send_refusal}
-use Rattle.xd_factory.specs.View.{slot_of}
+use Rattle.xd_factory.specs.View.{slot_of_number}
 use Rattle.xd_remote.specs.Calls.{terminate_message}
-use Rattle.xd_remote.specs.Line.{Closes, ClosesNow, Line, Prints}
+use Rattle.xd_remote.specs.Line.{Closes, ClosesNow, GatewaySink, Prints}
 use Rattle.xd_remote.specs.News.{Heard, all_messages, all_news}
 use Rattle.xd_remote.specs.Stands.{HearsMore, IsOfMessage, StandsFor, heard_as}
 use Rattle.xd_remote.specs.Told.{is_last}
@@ -34,14 +34,14 @@ use Rattle.xd_group.specs.Heard.{EndsNow, HeardSo, StaysEnded, Tells, cause_by, 
 use Rattle.xd_group.specs.Orders.{WritesOrder}
 use Rattle.xd_group.specs.Pages.{is_nothing}
 use Rattle.xd_group.specs.Sent.{EndsWhole, HandedOn, SentAs}
-use Rattle.xd_group.specs.ToLink.{call_message, ending, has_left, is_farewell, order_message, to_link}
+use Rattle.xd_group.specs.ToLink.{call_message, terminate_once, has_left, is_farewell, order_message, to_link}
 use Rattle.xd_group.proofs.Sending.{all_handed, sent_last, sent_more, sent_none, sent_shut, shut_handed}
 
 -- ---- what was told
 
 open_link : (suite : List ℕ) (mode : ModeKind) (told : List Entry) (said : List What) → has_left said ≡ false → to_link suite mode told said ≡ call_message suite mode ∷ filter_map order_message told
 open_link suite mode told said e =
-    ap (λ (b : Bool). call_message suite mode ∷ (filter_map order_message told ++ ending b)) e ∙ ap (λ (l : List MessageView). call_message suite mode ∷ l) (append-nil (filter_map order_message told))
+    ap (λ (b : Bool). call_message suite mode ∷ (filter_map order_message told ++ terminate_once b)) e ∙ ap (λ (l : List MessageView). call_message suite mode ∷ l) (append-nil (filter_map order_message told))
 
 told_open : (suite : List ℕ) (mode : ModeKind) (told all : List Entry) (e : Entry) → all ≡ told ++ e ∷ [] → call_message suite mode ∷ filter_map order_message all ≡ call_message suite mode ∷ (filter_map order_message told ++ filter_map order_message (e ∷ []))
 told_open suite mode told all e is = ap (λ (l : List Entry). call_message suite mode ∷ filter_map order_message l) is ∙ ap (λ (l : List MessageView). call_message suite mode ∷ l) (filter_map-append order_message told (e ∷ []))
@@ -67,21 +67,21 @@ told_same suite mode told all e said is runs has =
     ∙ (ap (λ (l : List MessageView). call_message suite mode ∷ l) (append-nil (filter_map order_message told))
     ∙ sym (open_link suite mode told said runs))))
 
-sent_by_order : (o : Option MessageView) (a b : Line) (closed : Bool) (suite : List ℕ) (mode : ModeKind) (told all : List Entry) (e : Entry) (said : List What) → all ≡ told ++ e ∷ [] → has_left said ≡ false → order_message e ≡ o
+sent_by_order : (o : Option MessageView) (a b : GatewaySink) (closed : Bool) (suite : List ℕ) (mode : ModeKind) (told all : List Entry) (e : Entry) (said : List What) → all ≡ told ++ e ∷ [] → has_left said ≡ false → order_message e ≡ o
     → SentAs a.broken closed a.sunk a.faults (to_link suite mode told said) → WritesOrder o a b → SentAs b.broken closed b.sunk b.faults (to_link suite mode all said)
 sent_by_order None a b closed suite mode told all e said is runs has sent w =
-    subst (λ (l : List MessageView). SentAs b.broken closed b.sunk b.faults l) (sym (told_same suite mode told all e said is runs has)) (subst (λ (x : Line). SentAs x.broken closed x.sunk x.faults (to_link suite mode told said)) (sym w) sent)
+    subst (λ (l : List MessageView). SentAs b.broken closed b.sunk b.faults l) (sym (told_same suite mode told all e said is runs has)) (subst (λ (x : GatewaySink). SentAs x.broken closed x.sunk x.faults (to_link suite mode told said)) (sym w) sent)
 sent_by_order (Some m) a b closed suite mode told all e said is runs has sent w =
     sent_more a.broken b.broken closed a.sunk b.sunk a.faults b.faults (to_link suite mode told said) (to_link suite mode all said) m (told_more suite mode told all e said m is runs has) sent w.writes w.count w.later
 
-pub sent_order : (l0 l1 closed : Bool) (a b : Line) (suite : List ℕ) (mode : ModeKind) (told all : List Entry) (e : Entry) (said : List What) → l0 ≡ a.broken → l1 ≡ b.broken → all ≡ told ++ e ∷ [] → has_left said ≡ false
+pub sent_order : (l0 l1 closed : Bool) (a b : GatewaySink) (suite : List ℕ) (mode : ModeKind) (told all : List Entry) (e : Entry) (said : List What) → l0 ≡ a.broken → l1 ≡ b.broken → all ≡ told ++ e ∷ [] → has_left said ≡ false
     → SentAs l0 closed a.sunk a.faults (to_link suite mode told said) → WritesOrder (order_message e) a b → SentAs l1 closed b.sunk b.faults (to_link suite mode all said)
 sent_order l0 l1 closed a b suite mode told all e said x y is runs sent w =
     subst (λ (l : Bool). SentAs l closed b.sunk b.faults (to_link suite mode all said)) (sym y)
     (sent_by_order (order_message e) a b closed suite mode told all e said is runs refl (subst (λ (l : Bool). SentAs l closed a.sunk a.faults (to_link suite mode told said)) x sent) w)
 
 -- the call of the worker
-pub sent_call : (l1 : Bool) (a b : Line) (suite : List ℕ) (mode : ModeKind) (told : List Entry) (said : List What) → l1 ≡ b.broken → a.broken ≡ false → IfSome a.sunk (λ s. s ≡ unused) → told ≡ [] → said ≡ [] → Prints (frame (call_message suite mode)) a b
+pub sent_call : (l1 : Bool) (a b : GatewaySink) (suite : List ℕ) (mode : ModeKind) (told : List Entry) (said : List What) → l1 ≡ b.broken → a.broken ≡ false → IfSome a.sunk (λ s. s ≡ unused) → told ≡ [] → said ≡ [] → Prints (frame (call_message suite mode)) a b
     → SentAs l1 false b.sunk b.faults (to_link suite mode told said)
 sent_call l1 a b suite mode told said y z fresh nothing none w =
     let m = call_message suite mode in
@@ -135,13 +135,13 @@ pub closed_end : (said : List What) (news : Option What) (ended : Bool) → ende
 closed_end said news ended e = sym (ap (λ (b : Bool). has_left (said ++ option_to_list news) || b) e ∙ or_true (has_left (said ++ option_to_list news)))
 
 same_link : (suite : List ℕ) (mode : ModeKind) (told : List Entry) (said all : List What) → has_left said ≡ has_left all → to_link suite mode told said ≡ to_link suite mode told all
-same_link suite mode told said all e = ap (λ (b : Bool). call_message suite mode ∷ (filter_map order_message told ++ ending b)) e
+same_link suite mode told said all e = ap (λ (b : Bool). call_message suite mode ∷ (filter_map order_message told ++ terminate_once b)) e
 
 link_ended : (suite : List ℕ) (mode : ModeKind) (told : List Entry) (said more : List What) → has_left said ≡ false → has_left more ≡ true → to_link suite mode told (said ++ more) ≡ to_link suite mode told said ++ terminate_message ∷ []
 link_ended suite mode told said more runs t =
-    ap (λ (b : Bool). call_message suite mode ∷ (filter_map order_message told ++ ending b)) (sym (left_now said more t)) ∙ ap (λ (l : List MessageView). l ++ terminate_message ∷ []) (sym (open_link suite mode told said runs))
+    ap (λ (b : Bool). call_message suite mode ∷ (filter_map order_message told ++ terminate_once b)) (sym (left_now said more t)) ∙ ap (λ (l : List MessageView). l ++ terminate_message ∷ []) (sym (open_link suite mode told said runs))
 
-pub sent_ended : (l0 l1 closed was : Bool) (a b : Line) (suite : List ℕ) (mode : ModeKind) (told : List Entry) (said more : List What) → l0 ≡ a.broken → l1 ≡ b.broken → closed ≡ (has_left said || was) → closed ≡ false → has_left more ≡ true
+pub sent_ended : (l0 l1 closed was : Bool) (a b : GatewaySink) (suite : List ℕ) (mode : ModeKind) (told : List Entry) (said more : List What) → l0 ≡ a.broken → l1 ≡ b.broken → closed ≡ (has_left said || was) → closed ≡ false → has_left more ≡ true
     → SentAs l0 closed a.sunk a.faults (to_link suite mode told said) → Closes (frame terminate_message) a b → SentAs l1 true b.sunk b.faults (to_link suite mode told (said ++ more))
 sent_ended l0 l1 closed was a b suite mode told said more x y e unshut t sent w =
     subst (λ (l : Bool). SentAs l true b.sunk b.faults (to_link suite mode told (said ++ more))) (sym y)
@@ -166,7 +166,7 @@ sent_same l closed was sunk faults suite mode told said more is unshut f sent =
     subst (λ (m : List MessageView). SentAs l closed sunk faults m) (same_link suite mode told said (said ++ more) (runs ∙ sym (left_none said more runs f))) sent
 
 -- and the sink is closed, since the link ended
-pub sent_over : (l0 l1 closed was : Bool) (a b : Line) (suite : List ℕ) (mode : ModeKind) (told : List Entry) (said more : List What) → l0 ≡ a.broken → l1 ≡ b.broken → closed ≡ (has_left said || was) → closed ≡ false → has_left more ≡ false
+pub sent_over : (l0 l1 closed was : Bool) (a b : GatewaySink) (suite : List ℕ) (mode : ModeKind) (told : List Entry) (said more : List What) → l0 ≡ a.broken → l1 ≡ b.broken → closed ≡ (has_left said || was) → closed ≡ false → has_left more ≡ false
     → SentAs l0 closed a.sunk a.faults (to_link suite mode told said) → ClosesNow a b → SentAs l1 true b.sunk b.faults (to_link suite mode told (said ++ more))
 sent_over l0 l1 closed was a b suite mode told said more x y is unshut f sent w =
     let all = sent_same l0 closed was a.sunk a.faults suite mode told said more is unshut f sent in
@@ -175,22 +175,22 @@ sent_over l0 l1 closed was a b suite mode told said more x y is unshut f sent w 
 
 -- ---- a write that failed stays so
 
-pub order_keeps : (o : Option MessageView) (l0 l1 : Bool) (a b : Line) → l0 ≡ a.broken → l1 ≡ b.broken → WritesOrder o a b → l0 ≡ true → l1 ≡ true
-order_keeps None l0 l1 a b x y w e = y ∙ ap (λ (l : Line). l.broken) w ∙ sym x ∙ e
+pub order_keeps : (o : Option MessageView) (l0 l1 : Bool) (a b : GatewaySink) → l0 ≡ a.broken → l1 ≡ b.broken → WritesOrder o a b → l0 ≡ true → l1 ≡ true
+order_keeps None l0 l1 a b x y w e = y ∙ ap (λ (l : GatewaySink). l.broken) w ∙ sym x ∙ e
 order_keeps (Some m) l0 l1 a b x y w e = y ∙ by a.broken b.broken (sym x ∙ e) w.count
   where
     by : (p q : Bool) → p ≡ true → CountBehind p q a.faults b.faults → q ≡ true
     by true q t c = c.0
     by false q t c = absurd (cc t)
 
-pub close_keeps : (bytes : List ℕ) (l0 l1 : Bool) (a b : Line) → l0 ≡ a.broken → l1 ≡ b.broken → Closes bytes a b → l0 ≡ true → l1 ≡ true
+pub close_keeps : (bytes : List ℕ) (l0 l1 : Bool) (a b : GatewaySink) → l0 ≡ a.broken → l1 ≡ b.broken → Closes bytes a b → l0 ≡ true → l1 ≡ true
 close_keeps bytes l0 l1 a b x y w e = y ∙ by a.broken b.broken (sym x ∙ e) w.count
   where
     by : (p q : Bool) → p ≡ true → CountBehind p q a.faults b.faults → q ≡ true
     by true q t c = c.0
     by false q t c = absurd (cc t)
 
-pub shut_keeps : (l0 l1 : Bool) (a b : Line) → l0 ≡ a.broken → l1 ≡ b.broken → ClosesNow a b → l0 ≡ true → l1 ≡ true
+pub shut_keeps : (l0 l1 : Bool) (a b : GatewaySink) → l0 ≡ a.broken → l1 ≡ b.broken → ClosesNow a b → l0 ≡ true → l1 ≡ true
 shut_keeps l0 l1 a b x y w e = y ∙ by a.broken b.broken (sym x ∙ e) w.count
   where
     by : (p q : Bool) → p ≡ true → CountBehind p q a.faults b.faults → q ≡ true
@@ -286,7 +286,7 @@ of_message (Some what.NotStarted) k = absurd k
 -- ---- a send that failed
 
 -- a close leaves what was handed on
-pub over_handed : (a b : Line) (ms : List MessageView) → ClosesNow a b → IfSome a.sunk (HandedOn ms) → IfSome b.sunk (HandedOn ms)
+pub over_handed : (a b : GatewaySink) (ms : List MessageView) → ClosesNow a b → IfSome a.sunk (HandedOn ms) → IfSome b.sunk (HandedOn ms)
 over_handed a b ms w h = shut_handed a.broken b.broken a.sunk b.sunk ms w.closed h
 
 plain_is_none : (why : LinkStop) → is_send_fault (plain_cause why) ≡ false
@@ -457,7 +457,7 @@ module _ {K : Type 0} where
       sym (ends_here (all_news s.heard) c) ∙ (sym (ap (list_any is_end) all) ∙ going)
 
   -- until a worker is heard to have ended, channel 1 can be sent on
-  pub can_tell : (g : Gateway K) (ended b : Bool) (taken : List LinkNews) (said late : List What) → is_nothing late ≡ true → list_any is_end said ≡ false → HeardSo g ended b taken (said ++ late) → send_refusal (slot_of (side_of g) 1) ≡ None
+  pub can_tell : (g : Gateway K) (ended b : Bool) (taken : List LinkNews) (said late : List What) → is_nothing late ≡ true → list_any is_end said ≡ false → HeardSo g ended b taken (said ++ late) → send_refusal (slot_of_number (side_of g) 1) ≡ None
   can_tell g false b taken said late z going s =
       let all : said ≡ all_news s.heard = sym (said_alone said late z) ∙ s.tells.said_are in
       can_be_told g s.heard s.stands (none_of is_end is_last not_last (all_news s.heard) (sym (ap (list_any is_end) all) ∙ going))

@@ -12,9 +12,9 @@ use Rattle.xd_link.specs.declared.place.Place.{Place}
 use Rattle.xd_link.specs.declared.starter.StartRun.{StartRun}
 use Rattle.xd_drive.specs.Listed.{starts_of}
 use Rattle.xd_drive.specs.Performing.{is_start}
-use Rattle.xd_group.specs.Children.{Asked, TellsLinks, Told, all_asked, all_buried, asked_of, told_of, cut_by, fresh_child, killed_child, starts_told}
+use Rattle.xd_group.specs.Children.{AskedOfLink, TellsLinks, ToldByStarter, children_asked, all_buried, link_asked, told_of, cut_by, fresh_child, killed_child, starts_told}
 use Rattle.xd_group.specs.Fates.{has_link}
-use Rattle.xd_group.specs.InStep.{InStep, all_started, start_told}
+use Rattle.xd_group.specs.InStep.{ChildrenInStep, all_started, start_told}
 use Rattle.xd_group.specs.declared.child.Child.{Child}
 use Rattle.xd_group.specs.declared.fate.Fate.{Fate}
 use Rattle.xd_group.proofs.FateFacts.{changed_linked}
@@ -23,7 +23,7 @@ first_starts : (first : Option (List StartRun)) → first ≡ option_map (λ l. 
 first_starts None = refl
 first_starts (Some l) = ap Some (sym (append-nil l))
 
-pub step_first : (places : List Place) (first : Option (List StartRun)) (cs : List (Option Child)) (calls : List Entry) (fates : List Fate) → cs ≡ [] → calls ≡ [] → fates ≡ [] → InStep places first first cs calls fates
+pub step_first : (places : List Place) (first : Option (List StartRun)) (cs : List (Option Child)) (calls : List Entry) (fates : List Fate) → cs ≡ [] → calls ≡ [] → fates ≡ [] → ChildrenInStep places first first cs calls fates
 step_first places first cs calls fates a b c =
     rw (a, b, c) (record { starts = first_starts first; linked = refl; matched = refl })
 
@@ -57,7 +57,7 @@ told_more (Some l) a b = ap Some (append_assoc l a b)
 -- a worker was started
 pub step_start : (places : List Place) (first now next : Option (List StartRun)) (cs cs_all : List (Option Child)) (calls all : List Entry) (fates fates_all : List Fate) (w slot : ℕ) (p : Place) (c : Option Child) (f : Fate)
     → all ≡ calls ++ Start w slot ∷ [] → fates_all ≡ fates ++ f ∷ [] → map is_some cs_all ≡ map is_some (cs ++ c ∷ []) → is_some c ≡ has_link f → slice_get places slot ≡ Some p
-    → next ≡ option_map (λ l. l ++ record { place = p; failed = is_none c } ∷ []) now → InStep places first now cs calls fates → InStep places first next cs_all all fates_all
+    → next ≡ option_map (λ l. l ++ record { place = p; failed = is_none c } ∷ []) now → ChildrenInStep places first now cs calls fates → ChildrenInStep places first next cs_all all fates_all
 step_start places first now next cs cs_all calls all fates fates_all w slot p c f is fis cis link at told s =
     let more : starts_of all ≡ starts_of calls ++ Start w slot ∷ [] = starts_push calls all w slot is in
     let one : record { place = p; failed = is_none c } ∷ [] ≡ start_told places (Start w slot) f = ap (λ (b : Bool). record { place = p; failed = b } ∷ []) (not_some c (has_link f) link) ∙ sym (one_start places w slot f p at) in
@@ -71,7 +71,7 @@ step_start places first now next cs cs_all calls all fates fates_all w slot p c 
     }
 
 -- the hub was called for something else, and maybe a child was killed
-pub step_other : (places : List Place) (first now next : Option (List StartRun)) (cs cs_all : List (Option Child)) (calls all : List Entry) (fates : List Fate) (e : Entry) → all ≡ calls ++ e ∷ [] → is_start e ≡ false → map is_some cs_all ≡ map is_some cs → next ≡ now → InStep places first now cs calls fates → InStep places first next cs_all all fates
+pub step_other : (places : List Place) (first now next : Option (List StartRun)) (cs cs_all : List (Option Child)) (calls all : List Entry) (fates : List Fate) (e : Entry) → all ≡ calls ++ e ∷ [] → is_start e ≡ false → map is_some cs_all ≡ map is_some cs → next ≡ now → ChildrenInStep places first now cs calls fates → ChildrenInStep places first next cs_all all fates
 step_other places first now next cs cs_all calls all fates e is not cis told s =
     let same = starts_same calls all e is not in
     record {
@@ -80,7 +80,7 @@ step_other places first now next cs cs_all calls all fates e is not cis told s =
       matched = ap length same ∙ s.matched;
     }
 
-pub step_same : (places : List Place) (first now next : Option (List StartRun)) (cs cs_all : List (Option Child)) (calls all : List Entry) (fates : List Fate) → all ≡ calls → map is_some cs_all ≡ map is_some cs → next ≡ now → InStep places first now cs calls fates → InStep places first next cs_all all fates
+pub step_same : (places : List Place) (first now next : Option (List StartRun)) (cs cs_all : List (Option Child)) (calls all : List Entry) (fates : List Fate) → all ≡ calls → map is_some cs_all ≡ map is_some cs → next ≡ now → ChildrenInStep places first now cs calls fates → ChildrenInStep places first next cs_all all fates
 step_same places first now next cs cs_all calls all fates is cis told s =
     record {
       starts = told ∙ (s.starts ∙ ap (λ (es : List Entry). option_map (λ l. l ++ all_started places (starts_of es) fates) first) (sym is));
@@ -93,12 +93,12 @@ cut_linked None cs = refl
 cut_linked (Some k) cs = changed_linked cs k killed_child
 
 -- the hub was called for nothing, and maybe a child was killed
-pub step_cut : (places : List Place) (first first_now now next : Option (List StartRun)) (cs cs_all : List (Option Child)) (calls all : List Entry) (fates fs : List Fate) (cut : Option ℕ) → all ≡ calls → fs ≡ fates → first_now ≡ first → next ≡ now → cs_all ≡ cut_by cut cs → InStep places first now cs calls fates → InStep places first_now next cs_all all fs
+pub step_cut : (places : List Place) (first first_now now next : Option (List StartRun)) (cs cs_all : List (Option Child)) (calls all : List Entry) (fates fs : List Fate) (cut : Option ℕ) → all ≡ calls → fs ≡ fates → first_now ≡ first → next ≡ now → cs_all ≡ cut_by cut cs → ChildrenInStep places first now cs calls fates → ChildrenInStep places first_now next cs_all all fs
 step_cut places first first_now now next cs cs_all calls all fates fs cut is fis same told cis s =
     rw (same, fis) (step_same places first now next cs cs_all calls all fates is (ap (map is_some) cis ∙ cut_linked cut cs) told s)
 
 -- the hub was called for an order or a kill, and maybe a child was killed
-pub step_called : (places : List Place) (first first_now now next : Option (List StartRun)) (cs cs_all : List (Option Child)) (calls all : List Entry) (fates fs : List Fate) (cut : Option ℕ) (e : Entry) → all ≡ calls ++ e ∷ [] → is_start e ≡ false → fs ≡ fates → first_now ≡ first → next ≡ now → cs_all ≡ cut_by cut cs → InStep places first now cs calls fates → InStep places first_now next cs_all all fs
+pub step_called : (places : List Place) (first first_now now next : Option (List StartRun)) (cs cs_all : List (Option Child)) (calls all : List Entry) (fates fs : List Fate) (cut : Option ℕ) (e : Entry) → all ≡ calls ++ e ∷ [] → is_start e ≡ false → fs ≡ fates → first_now ≡ first → next ≡ now → cs_all ≡ cut_by cut cs → ChildrenInStep places first now cs calls fates → ChildrenInStep places first_now next cs_all all fs
 step_called places first first_now now next cs cs_all calls all fates fs cut e is not fis same told cis s =
     rw (same, fis) (step_other places first now next cs cs_all calls all fates e is not (ap (map is_some) cis ∙ cut_linked cut cs) told s)
 
@@ -108,7 +108,7 @@ buried_linked (None ∷ cs) = ap (λ (l : List Bool). false ∷ l) (buried_linke
 buried_linked (Some c ∷ cs) = ap (λ (l : List Bool). true ∷ l) (buried_linked cs)
 
 -- the children that were killed were waited for
-pub step_buried : (places : List Place) (first first_now now next : Option (List StartRun)) (cs cs_all : List (Option Child)) (calls : List Entry) (fates : List Fate) → first_now ≡ first → next ≡ now → cs_all ≡ all_buried cs → InStep places first now cs calls fates → InStep places first_now next cs_all calls fates
+pub step_buried : (places : List Place) (first first_now now next : Option (List StartRun)) (cs cs_all : List (Option Child)) (calls : List Entry) (fates : List Fate) → first_now ≡ first → next ≡ now → cs_all ≡ all_buried cs → ChildrenInStep places first now cs calls fates → ChildrenInStep places first_now next cs_all calls fates
 step_buried places first first_now now next cs cs_all calls fates same told cis s =
     rw (same) (step_same places first now next cs cs_all calls calls fates refl (ap (map is_some) cis ∙ buried_linked cs) told s)
 
@@ -133,7 +133,7 @@ order_plain w (entry.Over a0) h = refl
 -- a worker was started, with a link or without
 pub step_started : (places : List Place) (first first_now now next last : Option (List StartRun)) (cs cs_all cs_last : List (Option Child)) (calls all : List Entry) (fates fs : List Fate) (cut : Option ℕ) (w slot : ℕ) (p : Place) (c : Option Child) (f : Fate)
     → all ≡ calls ++ Start w slot ∷ [] → fs ≡ fates ++ f ∷ [] → cs_all ≡ cs ++ c ∷ [] → cs_last ≡ cut_by cut cs_all → is_some c ≡ has_link f → slice_get places slot ≡ Some p
-    → next ≡ option_map (λ l. l ++ record { place = p; failed = is_none c } ∷ []) now → last ≡ next → first_now ≡ first → InStep places first now cs calls fates → InStep places first_now last cs_last all fs
+    → next ≡ option_map (λ l. l ++ record { place = p; failed = is_none c } ∷ []) now → last ≡ next → first_now ≡ first → ChildrenInStep places first now cs calls fates → ChildrenInStep places first_now last cs_last all fs
 step_started places first first_now now next last cs cs_all cs_last calls all fates fs cut w slot p c f is fis cis cut_is link at told kept same s =
     rw (same) (step_start places first now last cs cs_last calls all fates fs w slot p c f is fis (ap (map is_some) cut_is ∙ (cut_linked cut cs_all ∙ ap (map is_some) cis)) link at (kept ∙ told) s)
 
@@ -148,7 +148,7 @@ none_same (Some o) link = refl
 -- so it was, by what the start of a link answered
 pub step_opened : {O : Type 0} (places : List Place) (first first_now now next last : Option (List StartRun)) (cs cs_all cs_last : List (Option Child)) (calls all : List Entry) (fates fs : List Fate) (cut : Option ℕ) (w slot : ℕ) (p : Place) (r : Option O) (link : ℕ) (f : Fate)
     → all ≡ calls ++ Start w slot ∷ [] → fs ≡ fates ++ f ∷ [] → cs_all ≡ cs ++ option_map (λ o. fresh_child link) r ∷ [] → cs_last ≡ cut_by cut cs_all → is_some r ≡ has_link f → slice_get places slot ≡ Some p
-    → next ≡ option_map (λ l. l ++ record { place = p; failed = is_none r } ∷ []) now → last ≡ next → first_now ≡ first → InStep places first now cs calls fates → InStep places first_now last cs_last all fs
+    → next ≡ option_map (λ l. l ++ record { place = p; failed = is_none r } ∷ []) now → last ≡ next → first_now ≡ first → ChildrenInStep places first now cs calls fates → ChildrenInStep places first_now last cs_last all fs
 step_opened places first first_now now next last cs cs_all cs_last calls all fates fs cut w slot p r link f is fis cis cut_is linked at told kept same s =
     step_started places first first_now now next last cs cs_all cs_last calls all fates fs cut w slot p (option_map (λ o. fresh_child link) r) f is fis cis cut_is (some_same r link ∙ linked) at
     (told ∙ ap (λ (b : Bool). option_map (λ l. l ++ record { place = p; failed = b } ∷ []) now) (sym (none_same r link))) kept same s
@@ -158,17 +158,17 @@ pub when_whole : {T E : Type 0} (r : Result T E) (b : Bool) (A : Type 0) → OnO
 when_whole (Ok x) b A held over e = held
 when_whole (Err x) b A held over e = absurd (let both : true ≡ false = sym e ∙ over in cc both)
 
-abbrev with_both : List StartRun → List Asked → Told
+abbrev with_both : List StartRun → List AskedOfLink → ToldByStarter
 with_both a l = record { starts = a; links = l }
 
-as_told : (a b : List StartRun) (l m : List Asked) → a ≡ b → l ≡ m → with_both a l ≡ with_both b m
+as_told : (a b : List StartRun) (l m : List AskedOfLink) → a ≡ b → l ≡ m → with_both a l ≡ with_both b m
 as_told a b l m e f = rw (e, f) refl
 
 -- what a starter tells in the end: its starts and its links
-pub begun_all : (first now : Option Begun) (cs : List (Option Child)) (starts : List StartRun) (links : List Asked) → starts_told now ≡ option_map (λ l. l ++ starts) (starts_told first) → all_asked cs ≡ links → TellsLinks first now cs
-    → option_map told_of now ≡ option_map (λ b. record { starts = b.starts ++ starts; links = map asked_of b.links ++ links }) first
+pub begun_all : (first now : Option Begun) (cs : List (Option Child)) (starts : List StartRun) (links : List AskedOfLink) → starts_told now ≡ option_map (λ l. l ++ starts) (starts_told first) → children_asked cs ≡ links → TellsLinks first now cs
+    → option_map told_of now ≡ option_map (λ b. record { starts = b.starts ++ starts; links = map link_asked b.links ++ links }) first
 begun_all None now cs starts links s a t = ap (option_map told_of) t
 begun_all (Some b) now cs starts links s a t =
     let told : Some t.0.starts ≡ Some (b.starts ++ starts) = sym (ap starts_told t.1) ∙ s in
     let these : t.0.starts ≡ b.starts ++ starts = cc told in
-    ap (option_map told_of) t.1 ∙ ap Some (as_told t.0.starts (b.starts ++ starts) (map asked_of t.0.links) (map asked_of b.links ++ links) these (t.2 ∙ ap (λ (l : List Asked). map asked_of b.links ++ l) a))
+    ap (option_map told_of) t.1 ∙ ap Some (as_told t.0.starts (b.starts ++ starts) (map link_asked t.0.links) (map link_asked b.links ++ links) these (t.2 ∙ ap (λ (l : List AskedOfLink). map link_asked b.links ++ l) a))

@@ -8,22 +8,22 @@ use Rattle.xd_link.specs.declared.starter.Reaped.TheVariants.{Never, Once}
 use Rattle.xd_group.specs.declared.child.Child.{Child}
 
 -- what was asked of a link: whether to kill it, and how often to reap it
-pub record Asked : Type 0 where
+pub record AskedOfLink : Type 0 where
   pub killed : Bool
   pub reaped : Reaped
 
 -- what was asked of a link, as the starter tells it
-abbrev pub asked_of : LinkRun → Asked
-asked_of l = record { killed = l.killed; reaped = l.reaped }
+abbrev pub link_asked : LinkRun → AskedOfLink
+link_asked l = record { killed = l.killed; reaped = l.reaped }
 
 -- the starts that were asked for, and what was asked of each link
-pub record Told : Type 0 where
+pub record ToldByStarter : Type 0 where
   pub starts : List StartRun
-  pub links : List Asked
+  pub links : List AskedOfLink
 
 -- these two, of all that a starter tells
-abbrev pub told_of : Begun → Told
-told_of b = record { starts = b.starts; links = map asked_of b.links }
+abbrev pub told_of : Begun → ToldByStarter
+told_of b = record { starts = b.starts; links = map link_asked b.links }
 
 -- a reaping that was asked for, or was not
 abbrev pub reaped_if : Bool → Reaped
@@ -31,14 +31,14 @@ reaped_if true = Once
 reaped_if false = Never
 
 -- what was asked of the child
-abbrev pub asked : Child → Asked
-asked c = record { killed = c.is_killed; reaped = reaped_if c.is_reaped }
+abbrev pub child_asked : Child → AskedOfLink
+child_asked c = record { killed = c.is_killed; reaped = reaped_if c.is_reaped }
 
 -- what was asked of all children, in order
-abbrev pub all_asked : List (Option Child) → List Asked
-all_asked [] = []
-all_asked (None ∷ cs) = all_asked cs
-all_asked (Some c ∷ cs) = asked c ∷ all_asked cs
+abbrev pub children_asked : List (Option Child) → List AskedOfLink
+children_asked [] = []
+children_asked (None ∷ cs) = children_asked cs
+children_asked (Some c ∷ cs) = child_asked c ∷ children_asked cs
 
 -- the links of the children are numbered in order from this one
 abbrev pub AreNumbered : ℕ → List (Option Child) → Type 0
@@ -49,7 +49,7 @@ AreNumbered n (Some c ∷ cs) = (c.link ≡ n) × AreNumbered (suc n) cs
 -- A starter that told this at first tells now what was asked of these children.
 abbrev pub TellsLinks : Option Begun → Option Begun → List (Option Child) → Type 0
 TellsLinks None now cs = now ≡ None
-TellsLinks (Some b) now cs = (n : Begun) × (now ≡ Some n) × (map asked_of n.links ≡ map asked_of b.links ++ all_asked cs) × AreNumbered (length b.links) cs
+TellsLinks (Some b) now cs = (n : Begun) × (now ≡ Some n) × (map link_asked n.links ≡ map link_asked b.links ++ children_asked cs) × AreNumbered (length b.links) cs
 
 -- how many starts failed
 abbrev pub failed_starts : List (Option Child) → ℕ
@@ -87,9 +87,9 @@ cut_by None cs = cs
 cut_by (Some k) cs = changed_at k killed_child cs
 
 -- the child was killed and waited for, where there is one
-abbrev pub is_over : Option Child → Bool
-is_over None = true
-is_over (Some c) = c.is_killed && c.is_reaped
+abbrev pub is_killed_and_reaped : Option Child → Bool
+is_killed_and_reaped None = true
+is_killed_and_reaped (Some c) = c.is_killed && c.is_reaped
 
 -- the children, of which each that was killed was waited for
 abbrev pub all_buried : List (Option Child) → List (Option Child)

@@ -21,7 +21,7 @@ all_started places (e ∷ es) [] = []
 all_started places (e ∷ es) (f ∷ fs) = start_told places e f ++ all_started places es fs
 
 -- The starter tells one start for each start of a worker among the calls, and there is a child where a link was started.
-pub record InStep (places : List Place) (first now : Option (List StartRun)) (children : List (Option Child)) (calls : List Entry) (fates : List Fate) : Type 0 where
+pub record ChildrenInStep (places : List Place) (first now : Option (List StartRun)) (children : List (Option Child)) (calls : List Entry) (fates : List Fate) : Type 0 where
   pub starts : now ≡ option_map (λ l. l ++ all_started places (starts_of calls) fates) first
   pub linked : map is_some children ≡ map has_link fates
   pub matched : length (starts_of calls) ≡ length fates

@@ -5,7 +5,7 @@ use Rattle.xd_journal.specs.declared.entry.Entry.{Entry}
 use Rattle.xd_journal.specs.declared.news.News.{News}
 use Rattle.xd_link.specs.declared.starter.Reaped.TheVariants.{Once}
 use Rattle.xd_drive.specs.Listed.{is_among}
-use Rattle.xd_group.specs.Children.{Asked}
+use Rattle.xd_group.specs.Children.{AskedOfLink}
 use Rattle.xd_group.specs.Kept.{orders_to, said_by}
 use Rattle.xd_group.specs.LinkRun.{Link, LinkRun}
 use Rattle.xd_group.specs.Unused.{Unused}
@@ -15,5 +15,5 @@ abbrev pub RanSo : List ℕ → ModeKind → List News → List Entry → List �
 RanSo suite mode given calls refused w l = MatchBool (is_among w refused) (Unused l) (LinkRun suite mode (said_by w given) (orders_to w calls) l)
 
 -- what the starter tells of it
-abbrev pub end_told : Bool → Asked
+abbrev pub end_told : Bool → AskedOfLink
 end_told killed = record { killed = killed; reaped = Once }

@@ -42,10 +42,10 @@ abbrev pub has_left : List What → Bool
 has_left news = list_any is_farewell news
 
 -- GATEWAY_TERMINATE is sent once, after that
-abbrev pub ending : Bool → List MessageView
-ending true = terminate_message ∷ []
-ending false = []
+abbrev pub terminate_once : Bool → List MessageView
+terminate_once true = terminate_message ∷ []
+terminate_once false = []
 
 -- the messages to a worker that took these orders and gave these news
 abbrev pub to_link : List ℕ → ModeKind → List Entry → List What → List MessageView
-to_link suite mode orders news = call_message suite mode ∷ (filter_map order_message orders ++ ending (has_left news))
+to_link suite mode orders news = call_message suite mode ∷ (filter_map order_message orders ++ terminate_once (has_left news))

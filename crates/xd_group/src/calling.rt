@@ -5,7 +5,7 @@ ghost use Rattle.xd_value.specs.Tree.{text};
 ghost use Rattle.xd_value.specs.View.{view};
 ghost use Rattle.xd_frame.specs.Message.{frame};
 ghost use Rattle.xd_factory.specs.Table.{send_refusal};
-ghost use Rattle.xd_factory.specs.View.{slot_of};
+ghost use Rattle.xd_factory.specs.View.{slot_of_number};
 ghost use Rattle.xd_journal.specs.declared.entry.Entry.{Entry};
 ghost use Rattle.xd_gateway.specs.Orders.{order_of, order_tree};
 ghost use Rattle.xd_remote.specs.Calls.{kwargs_of, terminate_message};
@@ -98,7 +98,7 @@ pub(crate) fn write_order<N: Sink + Drop>(
     value: &Value,
 ) -> Result<bool, OutOfMemory>
     ensures lost { IfOk result (λ b. b ≡ is_broken gateway.new) }
-    ensures writes { (e : Entry) → Some (view value.now) ≡ option_map order_tree (order_of e) → send_refusal (slot_of (side_of gateway.old) 1) ≡ None
+    ensures writes { (e : Entry) → Some (view value.now) ≡ option_map order_tree (order_of e) → send_refusal (slot_of_number (side_of gateway.old) 1) ≡ None
         → OnOk result (WritesOrder (order_message e) (line_of N.sunk N.faults gateway.old) (line_of N.sunk N.faults gateway.new)) }
     ensures stands { (h : List Heard) → StandsFor gateway.old h → StandsFor gateway.new h }
 {

@@ -32,7 +32,7 @@ impl<St: Starter> Children<St> {
     ghost use Rattle.std.specs.Prelude.{◌≡◌, ◌∷◌, ◌++◌, [], ℕ, Some, Option, option_map, is_none, IfOk, IfSome, IfNone, true, OnErr, OnSome, slice_get, vec_len, ◌<◌};
     ghost use Rattle.std.specs.List.{list_all};
     ghost use Rattle.xd_link.specs.FreshLink.{unused};
-    ghost use Rattle.xd_group.specs.Children.{all_buried, buried_child, changed_at, cut_by, is_buried, fresh_child, is_over, killed_child, reaped_child, starts_told};
+    ghost use Rattle.xd_group.specs.Children.{all_buried, buried_child, changed_at, cut_by, is_buried, fresh_child, is_killed_and_reaped, killed_child, reaped_child, starts_told};
     ghost use Rattle.xd_group.specs.declared.child.Child.{Child};
 
     /// Nothing was started.
@@ -165,7 +165,7 @@ impl<St: Starter> Children<St> {
 
     /// Kills each child that was not waited for, and waits for it.
     pub fn abandon<R: Wait>(&mut self, rt: &R)
-        ensures over { list_all is_over self.new.children.items ≡ true }
+        ensures over { list_all is_killed_and_reaped self.new.children.items ≡ true }
         ensures first { self.new.first ≡ self.old.first }
     {
         for number in 0..self.children.len() {

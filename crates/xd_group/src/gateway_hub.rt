@@ -17,14 +17,14 @@ ghost use Rattle.xd_links.specs.Runs.{news_of};
 ghost use Rattle.xd_group.specs.Kept.{Kept, orders_to, said_by};
 ghost use Rattle.xd_group.specs.Late.{Late, Settled, settled_at};
 ghost use Rattle.xd_group.specs.LinkRun.{link_of};
-ghost use Rattle.xd_group.specs.Children.{all_asked, asked_of, is_buried, is_over, starts_told, told_of};
+ghost use Rattle.xd_group.specs.Children.{children_asked, link_asked, is_buried, is_killed_and_reaped, starts_told, told_of};
 ghost use Rattle.xd_group.specs.Fates.{EndedFrom, KeptFrom, has_link, is_linked, is_refused, is_unlinked, workers_with};
 ghost use Rattle.xd_edge.specs.Faults.{RoseBy};
 ghost use Rattle.xd_group.specs.Few.{RoseFor, count_with};
 ghost use Rattle.xd_group.specs.Heard.{says_send_fault};
 ghost use Rattle.xd_group.specs.declared.fate.Fate.TheVariants.{Linked};
 ghost use Rattle.xd_group.specs.Unsaid.{SaidUnlinked};
-ghost use Rattle.xd_group.specs.InStep.{InStep, all_started};
+ghost use Rattle.xd_group.specs.InStep.{ChildrenInStep, all_started};
 ghost use Rattle.xd_group.specs.Returned.{RanSo, end_told};
 ghost use Rattle.xd_group.specs.Pages.{Page};
 ghost use Rattle.xd_group.specs.Kills.{EndKilledSo, KilledSo};
@@ -51,7 +51,7 @@ pub struct GatewayHub<St: Starter, C: Crew<Reader<St::Src>>> {
     pub places: Vec<Place>,
     pub children: Children<St>,
     pub group: Group<St::Src, St::Snk, C>,
-    ghost in_step: { group.is_whole ≡ true → ∥ InStep places.items (starts_told (St.begun children.first.value)) (starts_told (St.begun children.starter)) children.children.items (noted group.diary.calls) group.diary.fates.items ∥₁ },
+    ghost in_step: { group.is_whole ≡ true → ∥ ChildrenInStep places.items (starts_told (St.begun children.first.value)) (starts_told (St.begun children.starter)) children.children.items (noted group.diary.calls) group.diary.fates.items ∥₁ },
     ghost kills: { group.is_whole ≡ true → ∥ KilledSo children.children.items (noted group.diary.calls) group.diary.workers.items group.diary.fates.items (losses_of group.posts.items) ∥₁ },
 }
 
@@ -164,8 +164,8 @@ impl<St: Starter, C: Crew<Reader<St::Src>>> GatewayHub<St, C> {
             → OnOk result (∥ Late first (news_of (mails self.new.group.links.desk)) (pages_of self.new.group.posts.items) ∥₁) }
         ensures workers { map (λ l. l.worker) ends.old.items ≡ workers_with has_link (take number self.old.group.diary.workers.items) (take number self.old.group.diary.fates.items)
             → OnOk result (map (λ l. l.worker) ends.new.items ≡ workers_with has_link (take (number + 1) self.old.group.diary.workers.items) (take (number + 1) self.old.group.diary.fates.items)) }
-        ensures asked { map is_some self.old.children.children.items ≡ map has_link self.old.group.diary.fates.items → all_asked (take number self.old.children.children.items) ≡ map (λ l. end_told l.killed) ends.old.items
-            → OnOk result (all_asked (take (number + 1) self.new.children.children.items) ≡ map (λ l. end_told l.killed) ends.new.items) }
+        ensures asked { map is_some self.old.children.children.items ≡ map has_link self.old.group.diary.fates.items → children_asked (take number self.old.children.children.items) ≡ map (λ l. end_told l.killed) ends.old.items
+            → OnOk result (children_asked (take (number + 1) self.new.children.children.items) ≡ map (λ l. end_told l.killed) ends.new.items) }
         ensures crew { (C.faults self.new.group.links.crew ≡ C.faults self.old.group.links.crew) × (self.new.group.first ≡ self.old.group.first) }
         ensures killed { (suite : List ℕ) (mode : ModeKind) (taken : List (Option (List LinkNews))) (calls : List Entry) (given : List News) (pages : List (Option Page)) (lost : List Bool)
             → ∥ Kept suite mode taken calls given self.old.group.diary.workers.items pages ∥₁ → map is_some self.old.children.children.items ≡ map has_link self.old.group.diary.fates.items → ∥ KilledSo self.old.children.children.items calls self.old.group.diary.workers.items self.old.group.diary.fates.items lost ∥₁
@@ -213,7 +213,7 @@ impl<St: Starter, C: Crew<Reader<St::Src>>> GatewayHub<St, C> {
         ensures listed { self.old.group.diary.workers.items ≡ workers_started (noted self.old.group.diary.calls) }
         ensures begun { IfOk result (λ ends. option_map told_of (St.begun self.new.children.starter) ≡ option_map (λ b. record {
           starts = b.starts ++ all_started self.old.places.items (starts_of (noted self.old.group.diary.calls)) self.old.group.diary.fates.items;
-          links = map asked_of b.links ++ map (λ l. end_told l.killed) ends.items;
+          links = map link_asked b.links ++ map (λ l. end_told l.killed) ends.items;
         }) (St.begun self.old.children.first.value)) }
         ensures killed { IfOk result (λ ends. All (λ l. ∥ EndKilledSo (noted self.old.group.diary.calls) (noted self.old.group.diary.given) (workers_with is_refused self.old.group.diary.workers.items self.old.group.diary.fates.items) l.worker l.killed (St.Snk.faults l.sink) ∥₁) ends.items) }
         ensures unlinked { OnOk result ((w : ℕ) → is_among w (workers_with is_linked self.old.group.diary.workers.items self.old.group.diary.fates.items) ≡ false → ∥ SaidUnlinked (noted self.old.group.diary.given) w ∥₁) }
@@ -233,7 +233,7 @@ impl<St: Starter, C: Crew<Reader<St::Src>>> GatewayHub<St, C> {
 
     /// Where memory ran out: kills each child that is left, and waits for it. From then on the hub is only to be taken apart.
     pub fn abandon<R: Wait>(&mut self, rt: &R)
-        ensures over { list_all is_over self.new.children.children.items ≡ true }
+        ensures over { list_all is_killed_and_reaped self.new.children.children.items ≡ true }
         ensures first { (self.new.places ≡ self.old.places) × (self.new.children.first ≡ self.old.children.first) × (self.new.group.first ≡ self.old.group.first) }
     {
         self.group.is_whole = false;

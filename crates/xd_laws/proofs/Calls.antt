@@ -14,17 +14,17 @@ use Rattle.xd_journal.specs.declared.entry.Entry.TheVariants.{Collected, Done, B
 use Rattle.xd_ledger.specs.Numbers.{all_distinct, among}
 use Rattle.xd_ledger.specs.Table.{in_rota, workers_of}
 use Rattle.xd_ledger.specs.Plan.{is_scope, items_named}
-use Rattle.xd_ledger.specs.Modes.{Call}
-use Rattle.xd_ledger.specs.Modes.Call.{Share, Joined, TestDone, TestsBack, Died}
+use Rattle.xd_ledger.specs.Modes.{ModeCall}
+use Rattle.xd_ledger.specs.Modes.ModeCall.{Share, Joined, TestDone, TestsBack, Died}
 use Rattle.xd_ledger.specs.Books.{marked}
 use Rattle.xd_ledger.specs.Collections.{listed, unequal, with_list}
 use Rattle.xd_ledger.specs.Workers.{is_active, is_shut, made_collected, slot_of}
 use Rattle.xd_ledger.specs.Sharing.{State, in_books}
-use Rattle.xd_ledger.specs.State.{moved, no_one}
+use Rattle.xd_ledger.specs.State.{after_effect, no_one}
 use Rattle.xd_ledger.specs.Outputs.{slots_of_rota}
 use Rattle.xd_ledger.specs.Stops.{is_stopped}
 use Rattle.xd_ledger.specs.Suits.{AreInPool, CallSuits, CanShare, tests_of}
-use Rattle.xd_ledger.specs.Histories.{begun, stepped_all}
+use Rattle.xd_ledger.specs.Histories.{after_starts, after_inputs}
 use Rattle.xd_ledger.specs.Proper.{IsProper, has_workers, is_head, may_follow}
 use Rattle.xd_laws.specs.Called.{Called, Reached}
 use Rattle.xd_laws.proofs.Logic.{and, differ, not_true, split-and}
@@ -100,14 +100,14 @@ can-share s slots d f =
           (subst (λ (n : ℕ). list_all (λ k. nat_lt k n) (map slot ws) ≡ true) (sym (f.sizes e)) (slots-below slot s.books.settings.workers ws (slot-below s d)));
     }
 
-call-suits : (s : State) (c : Call) → Tidy s → CallFits s c → CallSuits c s.plan s.books.table
+call-suits : (s : State) (c : ModeCall) → Tidy s → CallFits s c → CallSuits c s.plan s.books.table
 call-suits s (Share slots) d f = can-share s slots d f
 call-suits s (Joined w slot) d f = tt
 call-suits s (TestDone w ms) d f = tt
 call-suits s TestsBack d f = tt
 call-suits s Died d f = tt
 
-called : (X : State → Type 0) → Rule X → (s : State) (c : Call) → Tidy s → s.books.shared ≡ true → X s → CallFits s c → Called c s
+called : (X : State → Type 0) → Rule X → (s : State) (c : ModeCall) → Tidy s → s.books.shared ≡ true → X s → CallFits s c → Called c s
 called X rule s c d h x f =
     let a = rule.agrees s c d h x f in
     record {
@@ -118,7 +118,7 @@ called X rule s c d h x f =
 
 -- behind each input, where the mode keeps its rule
 
-done-by : (X : State → Type 0) → Rule X → (w i : ℕ) (u : Outcome) (m : ℕ) (o : List ℕ) (s : State) → Tidy s → X s → may_follow s (Done w i u m o) ≡ true → Called (TestDone w m) (moved s (Done w i u m o))
+done-by : (X : State → Type 0) → Rule X → (w i : ℕ) (u : Outcome) (m : ℕ) (o : List ℕ) (s : State) → Tidy s → X s → may_follow s (Done w i u m o) ≡ true → Called (TestDone w m) (after_effect s (Done w i u m o))
 done-by X rule w i u m o s d x h =
     let e : Entry = Done w i u m o in
     let items = items_named (slot_of w s.books) (i ∷ []) s.plan in
@@ -126,21 +126,21 @@ done-by X rule w i u m o s d x h =
     let one = one_item (slot_of w s.books) i s.plan (λ item. is_head w item s) a.1 in
     let holds = head_among w one.0 s one.2 in
     let rota : in_rota w s.books.table ≡ true = seat-of_held w s.books.table.rota one.0 holds in
-    let still : InRota (moved s e) w = ap (λ (ws : List ℕ). among w ws) (workers-first w items s.books.table) ∙ sym (seat-among w s.books.table.rota) ∙ rota in
-    called X rule (moved s e) (TestDone w m) (tidy-input s e h d) (shared-of_held s w one.0 d.placed holds) (rule.input s e h d x) still
+    let still : InRota (after_effect s e) w = ap (λ (ws : List ℕ). among w ws) (workers-first w items s.books.table) ∙ sym (seat-among w s.books.table.rota) ∙ rota in
+    called X rule (after_effect s e) (TestDone w m) (tidy-input s e h d) (shared-of_held s w one.0 d.placed holds) (rule.input s e h d x) still
 
-back-by : (X : State → Type 0) → Rule X → (w : ℕ) (is : List ℕ) (s : State) → Tidy s → X s → may_follow s (Back w is) ≡ true → Called TestsBack (moved s (Back w is))
-back-by X rule w is s d x h = called X rule (moved s (Back w is)) TestsBack (tidy-input s (Back w is) h d) (shared-of_back s w is d.placed h) (rule.input s (Back w is) h d x) tt
+back-by : (X : State → Type 0) → Rule X → (w : ℕ) (is : List ℕ) (s : State) → Tidy s → X s → may_follow s (Back w is) ≡ true → Called TestsBack (after_effect s (Back w is))
+back-by X rule w is s d x h = called X rule (after_effect s (Back w is)) TestsBack (tidy-input s (Back w is) h d) (shared-of_back s w is d.placed h) (rule.input s (Back w is) h d x) tt
 
-died-by : (X : State → Type 0) → Rule X → (e : Entry) (s : State) → Tidy s → X s → may_follow s e ≡ true → (moved s e).books.shared ≡ true → Called Died (moved s e)
-died-by X rule e s d x h k = called X rule (moved s e) Died (tidy-input s e h d) k (rule.input s e h d x) tt
+died-by : (X : State → Type 0) → Rule X → (e : Entry) (s : State) → Tidy s → X s → may_follow s e ≡ true → (after_effect s e).books.shared ≡ true → Called Died (after_effect s e)
+died-by X rule e s d x h k = called X rule (after_effect s e) Died (tidy-input s e h d) k (rule.input s e h d x) tt
 
 -- the worker joins by its collection
 pub record Joins (s : State) (w : ℕ) (g : Ids) : Type 0 where
   pub follows : may_follow s (Collected w g) ≡ true
   pub unshut : is_shut w s.books ≡ false
   pub before : is_stopped s.books ≡ false
-  pub going : is_stopped (moved s (Collected w g)).books ≡ false
+  pub going : is_stopped (after_effect s (Collected w g)).books ≡ false
 
 abbrev noted : ℕ → Ids → State → State
 noted w g s = in_books (λ b. marked (made_collected w) (with_list w g b)) s
@@ -149,21 +149,21 @@ unshut-noted : (s : State) (w : ℕ) (g : Ids) → is_shut w s.books ≡ false �
 unshut-noted s w g h = has-same w (λ m. m.shut) (made_collected w) s.books.crew (λ m. refl) (λ m. refl) ∙ h
 
 joined-by : (X : State → Type 0) → Rule X → (w : ℕ) (g : Ids) (s : State) → Tidy s → X s → Joins s w g → s.books.shared ≡ true
-    → Called (Joined w (slot_of w (moved s (Collected w g)).books)) (moved s (Collected w g))
+    → Called (Joined w (slot_of w (after_effect s (Collected w g)).books)) (after_effect s (Collected w g))
 joined-by X rule w g s d x j h =
     let e : Entry = Collected w g in
-    let now = moved s e in
+    let now = after_effect s e in
     let t = tidy-input s e j.follows d in
     let same = joins-by (noted w g s) w (unequal w g (listed w s.books)) (unshut-noted s w g j.unshut) j.going in
     let rota : InRota now w = subst (λ (u : State). InRota u w) (sym same) (joins-rota (noted w g s) w) in
     called X rule now (Joined w (slot_of w now.books)) t (still_shared s w g h) (rule.input s e j.follows d x)
     (record { rota = rota; slot_is = refl; unshut = sym (t.placed.fits.marks w (seat-among w now.books.table.rota ∙ rota)) ∙ shut_as_before s w w g ∙ j.unshut })
 
-shared-by : (X : State → Type 0) → Rule X → (w : ℕ) (g : Ids) (s : State) → Tidy s → X s → Joins s w g → s.books.shared ≡ false → (moved s (Collected w g)).books.shared ≡ true
-    → Called (Share (slots_of_rota (moved s (Collected w g)).books)) (moved s (Collected w g))
+shared-by : (X : State → Type 0) → Rule X → (w : ℕ) (g : Ids) (s : State) → Tidy s → X s → Joins s w g → s.books.shared ≡ false → (after_effect s (Collected w g)).books.shared ≡ true
+    → Called (Share (slots_of_rota (after_effect s (Collected w g)).books)) (after_effect s (Collected w g))
 shared-by X rule w g s d x j n k =
     let e : Entry = Collected w g in
-    let now = moved s e in
+    let now = after_effect s e in
     let same = joins-by (noted w g s) w (unequal w g (listed w s.books)) (unshut-noted s w g j.unshut) j.going in
     called X rule now (Share (slots_of_rota now.books)) (tidy-input s e j.follows d) k (rule.input s e j.follows d x)
     (fresh-by (noted w g s) now w same (unshut-collected s w g d.calm j.before n) n k)
@@ -171,13 +171,13 @@ shared-by X rule w g s d x j n k =
 -- in every mode
 
 holds-by : (X : State → Type 0) → Rule X → (P : State → Type 0) → ((s : State) → Tidy s → X s → P s) → (settings : Settings) (inputs : List Entry) → X (no_one settings) → IsProper settings inputs
-    → P (stepped_all (begun settings) inputs)
+    → P (after_inputs (after_starts settings) inputs)
 holds-by X rule P f settings inputs x p =
-    let k = all-hold X rule (begun settings) inputs p.follow (begun-holds X rule settings x) in
-    f (stepped_all (begun settings) inputs) k.tidy k.also
+    let k = all-hold X rule (after_starts settings) inputs p.follow (begun-holds X rule settings x) in
+    f (after_inputs (after_starts settings) inputs) k.tidy k.also
 
 module _ (P : State → Type 0) (f : (X : State → Type 0) → Rule X → (s : State) → Tidy s → X s → P s) (settings : Settings) (inputs : List Entry) (p : IsProper settings inputs) where
-  in-mode : (k : ModeKind) → settings.mode ≡ k → P (stepped_all (begun settings) inputs)
+  in-mode : (k : ModeKind) → settings.mode ≡ k → P (after_inputs (after_starts settings) inputs)
   in-mode Local m = absurd (differ (ap has_workers (sym m) ∙ p.mode))
   in-mode Each m = holds-by (InMode Each) each_rule P (f (InMode Each) each_rule) settings inputs m p
   in-mode Load m = holds-by (InMode Load) load_rule P (f (InMode Load) load_rule) settings inputs m p
@@ -187,7 +187,7 @@ module _ (P : State → Type 0) (f : (X : State → Type 0) → Rule X → (s : 
   in-mode WorkSteal m = holds-by (InMode WorkSteal) steal_rule P (f (InMode WorkSteal) steal_rule) settings inputs m p
 
   -- what holds in each mode that keeps its rule holds behind every proper run
-  pub in-each-mode : P (stepped_all (begun settings) inputs)
+  pub in-each-mode : P (after_inputs (after_starts settings) inputs)
   in-each-mode = in-mode settings.mode refl
 
 pub reached-has : (P : State → Type 0) → ((X : State → Type 0) → Rule X → (s : State) → Tidy s → X s → P s) → (s : State) → Reached s → P s
@@ -196,21 +196,21 @@ reached-has P f s r = subst P (sym r.state) (in-each-mode P f r.settings r.input
 pub tidy-reached : (s : State) → Reached s → Tidy s
 tidy-reached s r = reached-has Tidy (λ X rule t d x. d) s r
 
-pub done-called : (s : State) (w i : ℕ) (u : Outcome) (m : ℕ) (o : List ℕ) → Reached s → may_follow s (Done w i u m o) ≡ true → Called (TestDone w m) (moved s (Done w i u m o))
-done-called s w i u m o r h = reached-has (λ t. may_follow t (Done w i u m o) ≡ true → Called (TestDone w m) (moved t (Done w i u m o))) (λ X rule. done-by X rule w i u m o) s r h
+pub done-called : (s : State) (w i : ℕ) (u : Outcome) (m : ℕ) (o : List ℕ) → Reached s → may_follow s (Done w i u m o) ≡ true → Called (TestDone w m) (after_effect s (Done w i u m o))
+done-called s w i u m o r h = reached-has (λ t. may_follow t (Done w i u m o) ≡ true → Called (TestDone w m) (after_effect t (Done w i u m o))) (λ X rule. done-by X rule w i u m o) s r h
 
-pub back-called : (s : State) (w : ℕ) (is : List ℕ) → Reached s → may_follow s (Back w is) ≡ true → Called TestsBack (moved s (Back w is))
-back-called s w is r h = reached-has (λ t. may_follow t (Back w is) ≡ true → Called TestsBack (moved t (Back w is))) (λ X rule. back-by X rule w is) s r h
+pub back-called : (s : State) (w : ℕ) (is : List ℕ) → Reached s → may_follow s (Back w is) ≡ true → Called TestsBack (after_effect s (Back w is))
+back-called s w is r h = reached-has (λ t. may_follow t (Back w is) ≡ true → Called TestsBack (after_effect t (Back w is))) (λ X rule. back-by X rule w is) s r h
 
-pub died-called : (s : State) (e : Entry) → Reached s → may_follow s e ≡ true → (moved s e).books.shared ≡ true → Called Died (moved s e)
-died-called s e r h k = reached-has (λ t. may_follow t e ≡ true → (moved t e).books.shared ≡ true → Called Died (moved t e)) (λ X rule. died-by X rule e) s r h k
+pub died-called : (s : State) (e : Entry) → Reached s → may_follow s e ≡ true → (after_effect s e).books.shared ≡ true → Called Died (after_effect s e)
+died-called s e r h k = reached-has (λ t. may_follow t e ≡ true → (after_effect t e).books.shared ≡ true → Called Died (after_effect t e)) (λ X rule. died-by X rule e) s r h k
 
-pub joined-called : (s : State) (w : ℕ) (g : Ids) → Reached s → Joins s w g → s.books.shared ≡ true → Called (Joined w (slot_of w (moved s (Collected w g)).books)) (moved s (Collected w g))
+pub joined-called : (s : State) (w : ℕ) (g : Ids) → Reached s → Joins s w g → s.books.shared ≡ true → Called (Joined w (slot_of w (after_effect s (Collected w g)).books)) (after_effect s (Collected w g))
 joined-called s w g r j h =
-    reached-has (λ t. Joins t w g → t.books.shared ≡ true → Called (Joined w (slot_of w (moved t (Collected w g)).books)) (moved t (Collected w g))) (λ X rule. joined-by X rule w g) s r j h
+    reached-has (λ t. Joins t w g → t.books.shared ≡ true → Called (Joined w (slot_of w (after_effect t (Collected w g)).books)) (after_effect t (Collected w g))) (λ X rule. joined-by X rule w g) s r j h
 
-pub shared-called : (s : State) (w : ℕ) (g : Ids) → Reached s → Joins s w g → s.books.shared ≡ false → (moved s (Collected w g)).books.shared ≡ true
-    → Called (Share (slots_of_rota (moved s (Collected w g)).books)) (moved s (Collected w g))
+pub shared-called : (s : State) (w : ℕ) (g : Ids) → Reached s → Joins s w g → s.books.shared ≡ false → (after_effect s (Collected w g)).books.shared ≡ true
+    → Called (Share (slots_of_rota (after_effect s (Collected w g)).books)) (after_effect s (Collected w g))
 shared-called s w g r j n k =
-    reached-has (λ t. Joins t w g → t.books.shared ≡ false → (moved t (Collected w g)).books.shared ≡ true → Called (Share (slots_of_rota (moved t (Collected w g)).books)) (moved t (Collected w g)))
+    reached-has (λ t. Joins t w g → t.books.shared ≡ false → (after_effect t (Collected w g)).books.shared ≡ true → Called (Share (slots_of_rota (after_effect t (Collected w g)).books)) (after_effect t (Collected w g)))
     (λ X rule. shared-by X rule w g) s r j n k

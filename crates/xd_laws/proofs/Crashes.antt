@@ -12,7 +12,7 @@ use Rattle.xd_ledger.specs.Plan.{items_named}
 use Rattle.xd_ledger.specs.Workers.{slot_of}
 use Rattle.xd_ledger.specs.Retry.{is_retry}
 use Rattle.xd_ledger.specs.Sharing.{State}
-use Rattle.xd_ledger.specs.State.{all_moved, is_input, next, no_one, reached, settled}
+use Rattle.xd_ledger.specs.State.{after_entries, is_input, after_entry, no_one, reached, settled}
 use Rattle.xd_ledger.specs.Reports.{Report, Result, Crash, reports, reports_from, reports_of}
 use Rattle.xd_laws.specs.Crashes.{IsDeath}
 
@@ -89,8 +89,8 @@ record DeathFrom (s : State) (es : List Entry) (earlier : List Report) (w x : �
   output : List ℕ
   after : List Entry
   are : es ≡ before ++ Down w cause output ∷ after
-  head : first_of (held w (all_moved s before).books.table) ≡ Some x
-  final : is_retry w (all_moved s before).books ≡ false
+  head : first_of (held w (after_entries s before).books.table) ≡ Some x
+  final : is_retry w (after_entries s before).books ≡ false
   reported : reports_from s before ≡ earlier
 
 same-head : (b : Bool) (s : State) (w x : ℕ) → first_of (held w (if b then settled s else s).books.table) ≡ Some x → first_of (held w s.books.table) ≡ Some x
@@ -105,9 +105,9 @@ death-from : (s : State) (es : List Entry) (earlier later : List Report) (w x : 
 death-from s [] earlier later w x h = none-there earlier later (Crash w x) (DeathFrom s [] earlier w x) h
 death-from s (e ∷ es) earlier later w x h =
     let here = reports_of (reached s e) e in
-    elim (in-either here (reports_from (next s e) es) earlier later (Crash w x) h) [
+    elim (in-either here (reports_from (after_entry s e) es) earlier later (Crash w x) h) [
       | inl k ↦
-          (let d = death-from (next s e) es (k.0) later w x k.2 in
+          (let d = death-from (after_entry s e) es (k.0) later w x k.2 in
           record {
             before = e ∷ d.before;
             cause = d.cause;

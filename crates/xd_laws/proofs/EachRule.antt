@@ -3,8 +3,8 @@ use Rattle.std.proofs.Common.{◌≡◌, ℕ, true, refl, sym, ap, subst}
 use Rattle.xd_edge.specs.declared.mode.ModeKind.TheVariants.{Each}
 use Rattle.xd_ledger.specs.Plan.{is_each, is_scope}
 use Rattle.xd_ledger.specs.Each.{joins}
-use Rattle.xd_ledger.specs.Modes.{Call, turned}
-use Rattle.xd_ledger.specs.Modes.Call.{Share, Joined, TestDone, TestsBack, Died}
+use Rattle.xd_ledger.specs.Modes.{ModeCall, turned}
+use Rattle.xd_ledger.specs.Modes.ModeCall.{Share, Joined, TestDone, TestsBack, Died}
 use Rattle.xd_ledger.specs.Sharing.{State}
 use Rattle.xd_ledger.specs.Outputs.{turn_of}
 use Rattle.xd_laws.proofs.Turns.{Tidy, Good, good-first}
@@ -12,7 +12,7 @@ use Rattle.xd_laws.proofs.Rule.{CallFits, Rule}
 use Rattle.xd_laws.proofs.InMode.{InMode, agrees-in, mode-input, no-queue, turned-in, turned-mode}
 use Rattle.xd_laws.proofs.EachTurns.{good-share, good-joins}
 
-each-good : (s : State) (c : Call) → Tidy s → s.books.shared ≡ true → InMode Each s → CallFits s c → Good s (turned Each c (turn_of s))
+each-good : (s : State) (c : ModeCall) → Tidy s → s.books.shared ≡ true → InMode Each s → CallFits s c → Good s (turned Each c (turn_of s))
 each-good s (Share slots) d h m f = good-share s slots (ap is_each m) d h f
 each-good s (Joined w slot) d h m f = subst (λ (k : ℕ). Good s (joins w k (turn_of s))) (sym f.slot_is) (good-joins s w (ap is_each m) (ap is_scope m) d h f.rota f.unshut)
 each-good s (TestDone w ms) d h m f = good-first s d h

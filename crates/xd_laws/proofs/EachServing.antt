@@ -16,12 +16,12 @@ use Rattle.xd_ledger.specs.Table.{Table, assigned, held, retried_item, seat_shut
 use Rattle.xd_ledger.specs.Plan.{Plan, base, is_each, slot_items, total}
 use Rattle.xd_ledger.specs.Turn.{Turn, shut}
 use Rattle.xd_ledger.specs.Each.{give_all, give_of_slot, give_slots, joins, remainder, share}
-use Rattle.xd_ledger.specs.Modes.{Call, each_turn, turned}
-use Rattle.xd_ledger.specs.Modes.Call.{Share, Joined, TestDone, TestsBack, Died}
+use Rattle.xd_ledger.specs.Modes.{ModeCall, each_turn, turned}
+use Rattle.xd_ledger.specs.Modes.ModeCall.{Share, Joined, TestDone, TestsBack, Died}
 use Rattle.xd_ledger.specs.Workers.{is_active, made_gone, slot_in, slot_of, started}
 use Rattle.xd_ledger.specs.Retry.{is_retry}
 use Rattle.xd_ledger.specs.Sharing.{State}
-use Rattle.xd_ledger.specs.State.{all_moved, moved, no_one}
+use Rattle.xd_ledger.specs.State.{after_entries, after_effect, no_one}
 use Rattle.xd_ledger.specs.Outputs.{acts_of, turn_of}
 use Rattle.xd_laws.proofs.Logic.{cases_of, clash, differ, in_both, not_true, or-left, or-right, or-unset, split-and, split-or}
 use Rattle.xd_laws.proofs.Counts.{among-filter, among-in_range, among-times, bounds-of_range, times-among, times-append}
@@ -63,7 +63,7 @@ plan-of_slot : (w slot : ℕ) (items : List ℕ) (t : Turn) → (give_of_slot w 
 plan-of_slot w slot [] t = refl
 plan-of_slot w slot (i ∷ is) t = refl
 
-plan-each : (c : Call) (t : Turn) → (each_turn c t).plan ≡ t.plan
+plan-each : (c : ModeCall) (t : Turn) → (each_turn c t).plan ≡ t.plan
 plan-each (Share slots) t = plan-give_slots (workers_of t.table) slots t
 plan-each (Joined w slot) t = plan-shut w (give_of_slot w slot (remainder slot t) t) ∙ plan-of_slot w slot (remainder slot t) t
 plan-each (TestDone w ms) t = refl
@@ -116,7 +116,7 @@ seated-of_slot v w slot [] t = refl
 seated-of_slot v w slot (i ∷ is) t = seat-change v w (λ s. record s { held = s.held ++ (i ∷ is) }) t.table.rota (λ s. refl)
 
 -- behind a call everyone in the rota is told
-all-told : (s : State) (c : Call) → is_each s.plan.mode ≡ true → CallFits s c → OthersTold s c → (v : ℕ) → InRota s v → seat_shut v (each_turn c (turn_of s)).table ≡ true
+all-told : (s : State) (c : ModeCall) → is_each s.plan.mode ≡ true → CallFits s c → OthersTold s c → (v : ℕ) → InRota s v → seat_shut v (each_turn c (turn_of s)).table ≡ true
 all-told s (Share slots) e f o v a =
     let ws = workers_of s.books.table in
     subst (λ (ks : List ℕ). seat_shut v (give_slots ws ks (turn_of s)).table ≡ true) (sym f.slots_are)
@@ -233,7 +233,7 @@ tells-joins v w slot t n none =
 abbrev pub InEach : State → Type 0
 InEach = Both (Both (InMode Each) NoSteal) OwnSlot
 
-steal-each : (s : State) (c : Call) → Tidy s → s.books.shared ≡ true → InMode Each s → CallFits s c → (all_moved s (acts_of c s)).plan.steal ≡ s.plan.steal
+steal-each : (s : State) (c : ModeCall) → Tidy s → s.books.shared ≡ true → InMode Each s → CallFits s c → (after_entries s (acts_of c s)).plan.steal ≡ s.plan.steal
 steal-each s c d h m f =
     ap (λ (p : Plan). p.steal) (each_rule.agrees s c d h m f).plan ∙ ap (λ (k : ModeKind). (turned k c (turn_of s)).plan.steal) m ∙ ap (λ (p : Plan). p.steal) (plan-each c (turn_of s))
 
@@ -261,23 +261,23 @@ each_own = record {
 in_each_rule : Rule InEach
 in_each_rule = rule-both (Both (InMode Each) NoSteal) OwnSlot each_still each_own
 
-each-told : (s : State) (c : Call) → InEach s → CallFits s c → OthersTold s c → (v : ℕ) → InRota s v → seat_shut v (turned s.plan.mode c (turn_of s)).table ≡ true
+each-told : (s : State) (c : ModeCall) → InEach s → CallFits s c → OthersTold s c → (v : ℕ) → InRota s v → seat_shut v (turned s.plan.mode c (turn_of s)).table ≡ true
 each-told s c x f o v a = subst (λ (k : ModeKind). seat_shut v (turned k c (turn_of s)).table ≡ true) (sym x.first.first) (all-told s c (ap is_each x.first.first) f o v a)
 
 -- the outputs of a call that hands nothing out
-none-said : (s : State) (c : Call) → InEach s → (each_turn c (turn_of s)).acts ≡ [] → all_moved s (acts_of c s) ≡ s
-none-said s c x e = ap (λ (k : ModeKind). all_moved s (turned k c (turn_of s)).acts) x.first.first ∙ ap (λ (es : List Entry). all_moved s es) e
+none-said : (s : State) (c : ModeCall) → InEach s → (each_turn c (turn_of s)).acts ≡ [] → after_entries s (acts_of c s) ≡ s
+none-said s c x e = ap (λ (k : ModeKind). after_entries s (turned k c (turn_of s)).acts) x.first.first ∙ ap (λ (es : List Entry). after_entries s es) e
 
-table-each : (s : State) (c : Call) → Tidy s → s.books.shared ≡ true → InEach s → CallFits s c → (all_moved s (acts_of c s)).books.table ≡ (each_turn c (turn_of s)).table
+table-each : (s : State) (c : ModeCall) → Tidy s → s.books.shared ≡ true → InEach s → CallFits s c → (after_entries s (acts_of c s)).books.table ≡ (each_turn c (turn_of s)).table
 table-each s c d h x f = (in_each_rule.agrees s c d h x f).table ∙ ap (λ (k : ModeKind). (turned k c (turn_of s)).table) x.first.first
 
-plan-behind : (s : State) (c : Call) → Tidy s → s.books.shared ≡ true → InEach s → CallFits s c → (all_moved s (acts_of c s)).plan ≡ s.plan
+plan-behind : (s : State) (c : ModeCall) → Tidy s → s.books.shared ≡ true → InEach s → CallFits s c → (after_entries s (acts_of c s)).plan ≡ s.plan
 plan-behind s c d h x f = (in_each_rule.agrees s c d h x f).plan ∙ ap (λ (k : ModeKind). (turned k c (turn_of s)).plan) x.first.first ∙ plan-each c (turn_of s)
 
-joined-waits : (s : State) (w slot : ℕ) → Tidy s → s.books.shared ≡ true → InEach s → CallFits s (Joined w slot) → Awaited s → Awaited (all_moved s (acts_of (Joined w slot) s))
+joined-waits : (s : State) (w slot : ℕ) → Tidy s → s.books.shared ≡ true → InEach s → CallFits s (Joined w slot) → Awaited s → Awaited (after_entries s (acts_of (Joined w slot) s))
 joined-waits s w slot d h x f o y a =
     let c = Joined w slot in
-    let m = all_moved s (acts_of c s) in
+    let m = after_entries s (acts_of c s) in
     let later = later-call InEach in_each_rule s c d h x f in
     let left = pool-joins y w slot (turn_of s) (ap (λ (u : Table). among y u.pool) (sym (table-each s c d h x f)) ∙ a) in
     let one = o y left.0 in
@@ -296,7 +296,7 @@ joined-waits s w slot d h x f o y a =
       fits = λ e. ap (λ (i : ℕ). among y (slot_items i m.plan)) (later.slots one.who) ∙ ap (λ (p : Plan). among y (slot_items (slot_of one.who s.books) p)) (plan-behind s c d h x f) ∙ mine;
     }
 
-each-waits : (s : State) (c : Call) → Tidy s → s.books.shared ≡ true → InEach s → CallFits s c → Expects s c → Awaited (all_moved s (acts_of c s))
+each-waits : (s : State) (c : ModeCall) → Tidy s → s.books.shared ≡ true → InEach s → CallFits s c → Expects s c → Awaited (after_entries s (acts_of c s))
 each-waits s (Share slots) d h x f o =
     λ y a. absurd (none-left s slots (ap is_each x.first.first) d f o.full y (ap (λ (u : Table). among y u.pool) (sym (table-each s (Share slots) d h x f)) ∙ a))
 each-waits s (Joined w slot) d h x f o = joined-waits s w slot d h x f o
@@ -306,7 +306,7 @@ each-waits s Died d h x f o = subst Awaited (sym (none-said s Died x refl)) o
 
 -- a worker goes at whose slot another comes, which waits for what is left of the slot
 
-pool-buried : (s : State) (w x : ℕ) → among x (moved s (NotStarted w)).books.table.pool ≡ true → (among x s.books.table.pool ≡ true) ⊎ (among x (held w s.books.table) ≡ true)
+pool-buried : (s : State) (w x : ℕ) → among x (after_effect s (NotStarted w)).books.table.pool ≡ true → (among x s.books.table.pool ≡ true) ⊎ (among x (held w s.books.table) ≡ true)
 pool-buried s w x h =
     let pool = s.books.table.pool in
     let items = held w s.books.table in
@@ -319,8 +319,8 @@ pool-buried s w x h =
       | inr a ↦ inr (times-among x items (omega (arith, first, all, some, none-among x pool a, times-apart x retry items)))
     ]
 
-each-buried : (s : State) (w : ℕ) → is_active w s.books ≡ true → Tidy s → InEach s → Awaited s → InEach (moved s (NotStarted w))
-    → is_member (length s.books.crew) (moved s (NotStarted w)).books.crew ≡ false → Awaited (moved (moved s (NotStarted w)) (Start (length s.books.crew) (slot_of w (moved s (NotStarted w)).books)))
+each-buried : (s : State) (w : ℕ) → is_active w s.books ≡ true → Tidy s → InEach s → Awaited s → InEach (after_effect s (NotStarted w))
+    → is_member (length s.books.crew) (after_effect s (NotStarted w)).books.crew ≡ false → Awaited (after_effect (after_effect s (NotStarted w)) (Start (length s.books.crew) (slot_of w (after_effect s (NotStarted w)).books)))
 each-buried s w a d x o z free y h = elim (pool-buried s w y h) [
   | inl b ↦
       (let one = o y b in
@@ -344,7 +344,7 @@ each-buried s w a d x o z free y h = elim (pool-buried s w y h) [
     ms = s.books.crew
 
     now : State
-    now = moved s (NotStarted w)
+    now = after_effect s (NotStarted w)
 
     n : ℕ
     n = length ms
@@ -353,7 +353,7 @@ each-buried s w a d x o z free y h = elim (pool-buried s w y h) [
     new = started n (slot_of w now.books)
 
     after : State
-    after = moved now (Start n (slot_of w now.books))
+    after = after_effect now (Start n (slot_of w now.books))
 
     newcomer : among y (slot_items (slot_of w s.books) s.plan) ≡ true → Awaits after y
     newcomer mine =
@@ -374,17 +374,17 @@ each_keeper = record {
   asked = λ s c d h x f o a e. absurd (let z : None ≡ Some a = sym (steal-each s c d h x.first.first f ∙ x.first.second) ∙ e in cc);
   waits = each-waits;
   buried = λ s w a d x o t k free same.
-      (let now = moved s (NotStarted w) in
-      let quiet : all_moved now (buried_acts now) ≡ now = none-buried now k in
+      (let now = after_effect s (NotStarted w) in
+      let quiet : after_entries now (buried_acts now) ≡ now = none-buried now k in
       let member : is_member (length s.books.crew) now.books.crew ≡ false = ap (λ (u : State). is_member (length s.books.crew) u.books.crew) (sym quiet) ∙ free in
       let comes = each-buried s w a d x o k member in
-      subst (λ (u : State). Awaited (moved u (Start (length now.books.crew) (slot_of w now.books)))) (sym quiet)
-      (subst (λ (i : ℕ). Awaited (moved now (Start i (slot_of w now.books)))) (sym same) comes));
+      subst (λ (u : State). Awaited (after_effect u (Start (length now.books.crew) (slot_of w now.books)))) (sym quiet)
+      (subst (λ (i : ℕ). Awaited (after_effect now (Start i (slot_of w now.books)))) (sym same) comes));
   steals = λ s x. inr x.first.second;
 }
   where
-    none-buried : (now : State) → InEach now → all_moved now (buried_acts now) ≡ now
-    none-buried now k = in_both (λ (es : List Entry). all_moved now es ≡ now) now.books.shared (acts_of Died now) [] (λ h. none-said now Died k refl) (λ h. refl)
+    none-buried : (now : State) → InEach now → after_entries now (buried_acts now) ≡ now
+    none-buried now k = in_both (λ (es : List Entry). after_entries now es ≡ now) now.books.shared (acts_of Died now) [] (λ h. none-said now Died k refl) (λ h. refl)
 
 pub each-begins : (settings : Settings) → settings.mode ≡ Each → InEach (no_one settings)
 each-begins settings h = record { first = record { first = h; second = refl }; second = own-none settings }

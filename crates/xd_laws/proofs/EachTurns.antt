@@ -13,7 +13,7 @@ use Rattle.xd_ledger.specs.Turn.{Turn, shut}
 use Rattle.xd_ledger.specs.Each.{give_all, give_slots, share, remainder, give_of_slot, joins}
 use Rattle.xd_ledger.specs.Workers.{is_shut, slot_of}
 use Rattle.xd_ledger.specs.Sharing.{State}
-use Rattle.xd_ledger.specs.State.{all_moved}
+use Rattle.xd_ledger.specs.State.{after_entries}
 use Rattle.xd_ledger.specs.Outputs.{turn_of}
 use Rattle.xd_ledger.specs.Orderly.{is_orderly}
 use Rattle.xd_laws.proofs.Logic.{differ, cases_of, split-and, not_true, in_both}
@@ -111,15 +111,15 @@ record Steady (s : State) (t : Turn) : Type 0 where
   good : Good s t
   same : t.plan ≡ s.plan
 
-slot-behind : (s : State) (t : Turn) (w : ℕ) → Steady s t → slot_items (slot_of w (all_moved s t.acts).books) (all_moved s t.acts).plan ≡ slot_items (slot_of w s.books) s.plan
+slot-behind : (s : State) (t : Turn) (w : ℕ) → Steady s t → slot_items (slot_of w (after_entries s t.acts).books) (after_entries s t.acts).plan ≡ slot_items (slot_of w s.books) s.plan
 slot-behind s t w g =
-    let m = all_moved s t.acts in
+    let m = after_entries s t.acts in
     ap (λ (k : ℕ). slot_items k m.plan) (g.good.kin.slots_same w) ∙ ap (λ (p : Plan). slot_items (slot_of w s.books) p) (g.good.plan ∙ g.same)
 
 steady-run_all : (s : State) (w : ℕ) (t : Turn) → is_each s.plan.mode ≡ true → InRota s w → Steady s t → MayTake s t w
     → Steady s (record t { table = assigned w (slot_items (slot_of w s.books) t.plan) t.table; acts = t.acts ++ RunAll w ∷ [] })
 steady-run_all s w t e a g k =
-    let m = all_moved s t.acts in
+    let m = after_entries s t.acts in
     let slot = slot_of w s.books in
     let items = slot_items slot t.plan in
     let mine = slot-behind s t w g in
@@ -223,7 +223,7 @@ good-of_slot : (s : State) (w : ℕ) (items : List ℕ) (t : Turn) → is_each s
     → all_distinct items ≡ true → all_among items t.table.pool ≡ true → all_among items (slot_items (slot_of w s.books) s.plan) ≡ true → Good s (give_of_slot w (slot_of w s.books) items t)
 good-of_slot s w [] t e n a g unshut distinct within mine = g.good
 good-of_slot s w (x ∷ xs) t e n a g unshut distinct within mine =
-    let m = all_moved s t.acts in
+    let m = after_entries s t.acts in
     let slot = slot_of w s.books in
     let items = x ∷ xs in
     let plan : m.plan ≡ s.plan = g.good.plan ∙ g.same in

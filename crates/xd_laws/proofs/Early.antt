@@ -11,7 +11,7 @@ use Rattle.xd_ledger.specs.Plan.{items_named, slot_items}
 use Rattle.xd_ledger.specs.Workers.{is_active, slot_of}
 use Rattle.xd_ledger.specs.Retry.{is_retry}
 use Rattle.xd_ledger.specs.Sharing.{State}
-use Rattle.xd_ledger.specs.State.{moved, no_one}
+use Rattle.xd_ledger.specs.State.{after_effect, no_one}
 use Rattle.xd_ledger.specs.Proper.{is_head, may_follow, names_head}
 use Rattle.xd_ledger.specs.Orderly.{is_orderly}
 use Rattle.xd_ledger.specs.Reports.{Report, Crash, reports, reports_of}
@@ -64,18 +64,18 @@ no-result s w i u m o h r =
     differ (sym (ap (λ (ss : List Seat). among one.0 (held_in w ss)) r) ∙ head_among w one.0 s one.2)
 
 early-said : (settings : Settings) (s : State) (es : List Entry) (e : Entry) → may_follow s e ≡ true → reports settings (es ++ e ∷ []) ≡ reports settings es ++ reports_of s e → Early settings s es
-    → Early settings (moved s e) (es ++ e ∷ [])
-early-said settings s es (Ready w) h rs k = early-more settings s (moved s (Ready w)) es (Ready w) (λ r. r) (λ r. refl) rs k
+    → Early settings (after_effect s e) (es ++ e ∷ [])
+early-said settings s es (Ready w) h rs k = early-more settings s (after_effect s (Ready w)) es (Ready w) (λ r. r) (λ r. refl) rs k
 early-said settings s es (Collected w g) h rs k = λ n. absurd (differ (sym (none-before es (Collected w g) n).1))
 early-said settings s es (Done w i u m o) h rs k =
-    early-more settings s (moved s (Done w i u m o)) es (Done w i u m o) (λ r. absurd (no-result s w i u m o h r)) (λ r. absurd (no-result s w i u m o h r)) rs k
+    early-more settings s (after_effect s (Done w i u m o)) es (Done w i u m o) (λ r. absurd (no-result s w i u m o h r)) (λ r. absurd (no-result s w i u m o h r)) rs k
 early-said settings s es (Back w is) h rs k =
-    early-more settings s (moved s (Back w is)) es (Back w is) (change-none w (λ x. record x { held = without (items_named (slot_of w s.books) is s.plan) x.held }) s.books.table.rota) (λ r. refl) rs k
-early-said settings s es (Finished w) h rs k = early-more settings s (moved s (Finished w)) es (Finished w) (left-none w s.books.table.rota) (λ r. refl) rs k
-early-said settings s es (Refused w t) h rs k = early-more settings s (moved s (Refused w t)) es (Refused w t) (λ r. r) (λ r. refl) rs k
+    early-more settings s (after_effect s (Back w is)) es (Back w is) (change-none w (λ x. record x { held = without (items_named (slot_of w s.books) is s.plan) x.held }) s.books.table.rota) (λ r. refl) rs k
+early-said settings s es (Finished w) h rs k = early-more settings s (after_effect s (Finished w)) es (Finished w) (left-none w s.books.table.rota) (λ r. refl) rs k
+early-said settings s es (Refused w t) h rs k = early-more settings s (after_effect s (Refused w t)) es (Refused w t) (λ r. r) (λ r. refl) rs k
 early-said settings s es (Down w c o) h rs k =
-    early-more settings s (moved s (Down w c o)) es (Down w c o) (left-none w s.books.table.rota) (λ r. ap (λ (ss : List Seat). map (λ item. Crash w item) (crash_item (is_retry w s.books) (held_in w ss))) r ∙ ap (λ (items : List ℕ). map (λ item. Crash w item) items) (no-crash (is_retry w s.books))) rs k
-early-said settings s es (NotStarted w) h rs k = early-more settings s (moved s (NotStarted w)) es (NotStarted w) (left-none w s.books.table.rota) (λ r. refl) rs k
+    early-more settings s (after_effect s (Down w c o)) es (Down w c o) (left-none w s.books.table.rota) (λ r. ap (λ (ss : List Seat). map (λ item. Crash w item) (crash_item (is_retry w s.books) (held_in w ss))) r ∙ ap (λ (items : List ℕ). map (λ item. Crash w item) items) (no-crash (is_retry w s.books))) rs k
+early-said settings s es (NotStarted w) h rs k = early-more settings s (after_effect s (NotStarted w)) es (NotStarted w) (left-none w s.books.table.rota) (λ r. refl) rs k
 early-said settings s es (Start w slot) h rs k = absurd (differ h)
 early-said settings s es (Run w is) h rs k = absurd (differ h)
 early-said settings s es (RunAll w) h rs k = absurd (differ h)
@@ -85,17 +85,17 @@ early-said settings s es (Kill w) h rs k = absurd (differ h)
 early-said settings s es (Over how) h rs k = absurd (differ h)
 
 early-told : (settings : Settings) (s : State) (es : List Entry) (e : Entry) → is_orderly s e ≡ true → reports settings (es ++ e ∷ []) ≡ reports settings es ++ reports_of s e → Early settings s es
-    → Early settings (moved s e) (es ++ e ∷ [])
-early-told settings s es (Start w slot) h rs k = early-more settings s (moved s (Start w slot)) es (Start w slot) (λ r. r) (λ r. refl) rs k
+    → Early settings (after_effect s e) (es ++ e ∷ [])
+early-told settings s es (Start w slot) h rs k = early-more settings s (after_effect s (Start w slot)) es (Start w slot) (λ r. r) (λ r. refl) rs k
 early-told settings s es (Run w is) h rs k =
-    early-more settings s (moved s (Run w is)) es (Run w is) (change-none w (λ x. record x { held = x.held ++ items_named (slot_of w s.books) is s.plan }) s.books.table.rota) (λ r. refl) rs k
+    early-more settings s (after_effect s (Run w is)) es (Run w is) (change-none w (λ x. record x { held = x.held ++ items_named (slot_of w s.books) is s.plan }) s.books.table.rota) (λ r. refl) rs k
 early-told settings s es (RunAll w) h rs k =
-    early-more settings s (moved s (RunAll w)) es (RunAll w) (change-none w (λ x. record x { held = x.held ++ slot_items (slot_of w s.books) s.plan }) s.books.table.rota) (λ r. refl) rs k
-early-told settings s es (Steal w is) h rs k = early-more settings s (moved s (Steal w is)) es (Steal w is) (λ r. r) (λ r. refl) rs k
+    early-more settings s (after_effect s (RunAll w)) es (RunAll w) (change-none w (λ x. record x { held = x.held ++ slot_items (slot_of w s.books) s.plan }) s.books.table.rota) (λ r. refl) rs k
+early-told settings s es (Steal w is) h rs k = early-more settings s (after_effect s (Steal w is)) es (Steal w is) (λ r. r) (λ r. refl) rs k
 early-told settings s es (Shutdown w) h rs k =
-    early-more settings s (moved s (Shutdown w)) es (Shutdown w) (change-none w (λ x. record x { shut = true }) s.books.table.rota) (λ r. refl) rs k
-early-told settings s es (Kill w) h rs k = early-more settings s (moved s (Kill w)) es (Kill w) (λ r. r) (λ r. refl) rs k
-early-told settings s es (Over how) h rs k = early-more settings s (moved s (Over how)) es (Over how) (λ r. r) (λ r. refl) rs k
+    early-more settings s (after_effect s (Shutdown w)) es (Shutdown w) (change-none w (λ x. record x { shut = true }) s.books.table.rota) (λ r. refl) rs k
+early-told settings s es (Kill w) h rs k = early-more settings s (after_effect s (Kill w)) es (Kill w) (λ r. r) (λ r. refl) rs k
+early-told settings s es (Over how) h rs k = early-more settings s (after_effect s (Over how)) es (Over how) (λ r. r) (λ r. refl) rs k
 early-told settings s es (Ready w) h rs k = absurd (differ h)
 early-told settings s es (Collected w g) h rs k = absurd (differ h)
 early-told settings s es (Done w i u m o) h rs k = absurd (differ h)

@@ -12,20 +12,20 @@ use Rattle.xd_journal.specs.declared.entry.RunStop.{RunStop}
 use Rattle.xd_ledger.specs.declared.member.Member.{Member}
 use Rattle.xd_ledger.specs.Numbers.{among}
 use Rattle.xd_ledger.specs.Table.{Table, seat_shut, workers_of}
-use Rattle.xd_ledger.specs.Plan.{Asked, Plan, is_each}
-use Rattle.xd_ledger.specs.Modes.{Call, turned}
-use Rattle.xd_ledger.specs.Modes.Call.{TestsBack}
+use Rattle.xd_ledger.specs.Plan.{UnansweredSteal, Plan, is_each}
+use Rattle.xd_ledger.specs.Modes.{ModeCall, turned}
+use Rattle.xd_ledger.specs.Modes.ModeCall.{TestsBack}
 use Rattle.xd_ledger.specs.Books.{marked}
 use Rattle.xd_ledger.specs.Collections.{listed, unequal, with_list}
 use Rattle.xd_ledger.specs.Workers.{is_waiting, made_collected, made_gone, made_shut, slot_in, waiting}
 use Rattle.xd_ledger.specs.Stops.{is_shutting, is_stopped}
 use Rattle.xd_ledger.specs.Sharing.{State, in_books}
-use Rattle.xd_ledger.specs.State.{is_finished, moved, all_moved, settled, settles}
+use Rattle.xd_ledger.specs.State.{is_handed_out, after_effect, after_entries, settled, settles}
 use Rattle.xd_ledger.specs.Outputs.{acts_of, closing, shut_all, turn_of, unless_stopped}
 use Rattle.xd_ledger.specs.Orderly.{all_orderly, is_orderly}
 use Rattle.xd_laws.proofs.Logic.{cases_of, differ, in_both, not_true, or-left, or-right, split-and, split-or}
 use Rattle.xd_laws.proofs.Crew.{distinct-numbered, has, has-cleared, has-member, has-same, has-set, is_member}
-use Rattle.xd_laws.proofs.Turns.{Tidy, all_moved-first}
+use Rattle.xd_laws.proofs.Turns.{Tidy, after_entries-first}
 use Rattle.xd_laws.proofs.Rule.{CallFits, Rule, fit-shut_all}
 use Rattle.xd_laws.proofs.Inputs.{collecting-keeps}
 use Rattle.xd_laws.proofs.Spent.{spent-finished}
@@ -66,7 +66,7 @@ fewer-same s t e = record {
   shut = λ v. ap (λ (ns : List Member). has v (λ m. m.shut) ns) e;
 }
 
-pub fewer-collected : (s : State) (w : ℕ) (g : Ids) → Fewer s (moved s (Collected w g))
+pub fewer-collected : (s : State) (w : ℕ) (g : Ids) → Fewer s (after_effect s (Collected w g))
 fewer-collected s w g =
     let ms = s.books.crew in
     let same : Fewer s (in_books (λ b. marked (made_collected w) (with_list w g b)) s) = record {
@@ -80,19 +80,19 @@ fewer-collected s w g =
 
 -- everyone is told
 
-told-in : (v : ℕ) (s : State) (es : List Entry) → all_orderly s es ≡ true → all_plain es ≡ true → list_any (tells v) es ≡ true → is_member v s.books.crew ≡ true → has v (λ m. m.shut) (all_moved s es).books.crew ≡ true
+told-in : (v : ℕ) (s : State) (es : List Entry) → all_orderly s es ≡ true → all_plain es ≡ true → list_any (tells v) es ≡ true → is_member v s.books.crew ≡ true → has v (λ m. m.shut) (after_entries s es).books.crew ≡ true
 told-in v s [] o p h k = absurd (differ h)
 told-in v s (e ∷ es) o p h k =
-    let q = split-and (is_orderly s e) (all_orderly (moved s e) es) o in
+    let q = split-and (is_orderly s e) (all_orderly (after_effect s e) es) o in
     let r = split-and (is_plain e) (all_plain es) p in
-    let first = all_moved-first s e es q.0 in
-    let rest = later-outputs (moved s e) es q.1 r.1 in
+    let first = after_entries-first s e es q.0 in
+    let rest = later-outputs (after_effect s e) es q.1 r.1 in
     ap (λ (u : State). has v (λ m. m.shut) u.books.crew) first ∙ (elim (split-or (tells v e) (list_any (tells v) es) h) [
       | inl t ↦ rest.shut v (here v s e t k)
-      | inr t ↦ told-in v (moved s e) es q.1 r.1 t (member v s e r.0 k)
+      | inr t ↦ told-in v (after_effect s e) es q.1 r.1 t (member v s e r.0 k)
     ])
   where
-    here : (v : ℕ) (s : State) (e : Entry) → tells v e ≡ true → is_member v s.books.crew ≡ true → has v (λ m. m.shut) (moved s e).books.crew ≡ true
+    here : (v : ℕ) (s : State) (e : Entry) → tells v e ≡ true → is_member v s.books.crew ≡ true → has v (λ m. m.shut) (after_effect s e).books.crew ≡ true
     here v s (Shutdown w) t k = has-set v w (λ m. m.shut) (made_shut w) s.books.crew (λ m. refl) (λ m. refl) ∙ grind (arith, nat_tests, t, k)
     here v s (Run w is) t k = absurd (differ t)
     here v s (RunAll w) t k = absurd (differ t)
@@ -109,7 +109,7 @@ told-in v s (e ∷ es) o p h k =
     here v s (Down w c o) t k = absurd (differ t)
     here v s (NotStarted w) t k = absurd (differ t)
 
-    member : (v : ℕ) (s : State) (e : Entry) → is_plain e ≡ true → is_member v s.books.crew ≡ true → is_member v (moved s e).books.crew ≡ true
+    member : (v : ℕ) (s : State) (e : Entry) → is_plain e ≡ true → is_member v s.books.crew ≡ true → is_member v (after_effect s e).books.crew ≡ true
     member v s (Shutdown w) t k = has-same v (λ m. true) (made_shut w) s.books.crew (λ m. refl) (λ m. refl) ∙ k
     member v s (Run w is) t k = k
     member v s (RunAll w) t k = k
@@ -148,7 +148,7 @@ tells-waiting v (m ∷ ms) h = elim (cases_of (is_waiting m)) [
 ]
 
 -- behind a Shutdown for each that waits, everyone is told
-pub told-all : (s : State) → Tidy s → all_orderly s (shut_all s.books.crew) ≡ true → AllTold (all_moved s (shut_all s.books.crew))
+pub told-all : (s : State) → Tidy s → all_orderly s (shut_all s.books.crew) ≡ true → AllTold (after_entries s (shut_all s.books.crew))
 told-all s d o v a r =
     let ms = s.books.crew in
     let es = shut_all ms in
@@ -165,10 +165,10 @@ told-all s d o v a r =
 
 -- the calls of the mode
 
-pub going-call : (X : State → Type 0) → Keeper X → (s : State) (c : Call) → Tidy s → s.books.shared ≡ true → X s → CallFits s c → (c ≡ TestsBack → s.plan.mode ≡ WorkSteal) → Ahead s c → OthersTold s c
-    → Awaited (all_moved s (acts_of c s)) → AskedOpen s → Seated s → Going (all_moved s (acts_of c s))
+pub going-call : (X : State → Type 0) → Keeper X → (s : State) (c : ModeCall) → Tidy s → s.books.shared ≡ true → X s → CallFits s c → (c ≡ TestsBack → s.plan.mode ≡ WorkSteal) → Ahead s c → OthersTold s c
+    → Awaited (after_entries s (acts_of c s)) → AskedOpen s → Seated s → Going (after_entries s (acts_of c s))
 going-call X k s c d h x f b o t waits asked seated =
-    let m = all_moved s (acts_of c s) in
+    let m = after_entries s (acts_of c s) in
     let z = k.rule.agrees s c d h x f in
     let l = later-call X k.rule s c d h x f in
     record {
@@ -184,11 +184,11 @@ going-call X k s c d h x f b o t waits asked seated =
 
 -- a stop, now or before
 pub owing-unless : (X : State → Type 0) → Rule X → (s now : State) (es : List Entry) → (is_shutting s.books ≡ true → AllTold now) → Tidy now → X now → (is_stopped s.books ≡ true → is_stopped now.books ≡ true)
-    → (is_stopped s.books ≡ false → is_stopped now.books ≡ false → Owing (all_moved now es)) → Owing (all_moved now (unless_stopped s.books now.books es))
+    → (is_stopped s.books ≡ false → is_stopped now.books ≡ false → Owing (after_entries now es)) → Owing (after_entries now (unless_stopped s.books now.books es))
 owing-unless X rule s now es told d x stays goes =
-    in_both (λ (os : List Entry). Owing (all_moved now os)) (is_stopped s.books) [] (if is_stopped now.books then shut_all now.books.crew else es)
+    in_both (λ (os : List Entry). Owing (after_entries now os)) (is_stopped s.books) [] (if is_stopped now.books then shut_all now.books.crew else es)
     (λ h. record { told = λ q. told (or-left (is_stopped s.books) s.books.shutting h); going = λ q. absurd (differ (sym q ∙ stays h)) })
-    (λ h. in_both (λ (os : List Entry). Owing (all_moved now os)) (is_stopped now.books) (shut_all now.books.crew) es
+    (λ h. in_both (λ (os : List Entry). Owing (after_entries now os)) (is_stopped now.books) (shut_all now.books.crew) es
     (λ k. (let o = (fit-shut_all X rule now (or-left (is_stopped now.books) now.books.shared k) d x).orderly in
     let l = later-outputs now (shut_all now.books.crew) o (plain-shut_all (waiting now.books.crew)) in
     record { told = λ q. told-all now d o; going = λ q. absurd (differ (sym q ∙ (ap (λ (a : Option RunStop). is_some a) l.stop ∙ k))) }))
@@ -215,7 +215,7 @@ awaited-by s t less open_ slots sizes mode o x h =
     let still = open_ one.who one.active one.untold in
     awaits-by s t x one still.0 still.1 (slots one.who) sizes mode
 
-pub asked-by : (s t : State) → ((a : Asked) → t.plan.steal ≡ Some a → s.plan.steal ≡ Some a) → StillOpen s t → AskedOpen s → AskedOpen t
+pub asked-by : (s t : State) → ((a : UnansweredSteal) → t.plan.steal ≡ Some a → s.plan.steal ≡ Some a) → StillOpen s t → AskedOpen s → AskedOpen t
 asked-by s t less open_ o a e = (let one = o a (less a e) in open_ a.worker one.0 one.1)
 
 -- the states differ in nothing but marks of readiness and of collections
@@ -273,7 +273,7 @@ going-spent s t l shared pool steal g = record {
 
 -- the last Shutdowns
 
-pub owing-closed : (s : State) → Tidy s → all_orderly s (closing s) ≡ true → Owing s → Owing (settled (all_moved s (closing s)))
+pub owing-closed : (s : State) → Tidy s → all_orderly s (closing s) ≡ true → Owing s → Owing (settled (after_entries s (closing s)))
 owing-closed s d o k = by (not (is_shutting s.books) && settles s) refl o
   where
     set : (u : State) → Going u → Going (settled u)
@@ -293,19 +293,19 @@ owing-closed s d o k = by (not (is_shutting s.books) && settles s) refl o
     unclosed false true c h n z = refl
     unclosed false false c h n z = absurd (differ (sym h ∙ z))
 
-    parts : settles s ≡ true → (is_stopped s.books ≡ false) × (s.books.shared ≡ true) × (is_finished s.books.table s.plan ≡ true)
+    parts : settles s ≡ true → (is_stopped s.books ≡ false) × (s.books.shared ≡ true) × (is_handed_out s.books.table s.plan ≡ true)
     parts h =
-        let a = split-and (not (is_stopped s.books) && s.books.shared) (is_finished s.books.table s.plan) h in
+        let a = split-and (not (is_stopped s.books) && s.books.shared) (is_handed_out s.books.table s.plan) h in
         let b = split-and (not (is_stopped s.books)) s.books.shared a.0 in
         (not_true (is_stopped s.books) b.0, b.1, a.1)
 
-    steal-shut_all : (ws : List ℕ) (u : State) → (all_moved u (map (λ w. Shutdown w) ws)).plan.steal ≡ u.plan.steal
+    steal-shut_all : (ws : List ℕ) (u : State) → (after_entries u (map (λ w. Shutdown w) ws)).plan.steal ≡ u.plan.steal
     steal-shut_all [] u = refl
-    steal-shut_all (w ∷ ws) u = steal-shut_all ws (moved u (Shutdown w))
+    steal-shut_all (w ∷ ws) u = steal-shut_all ws (after_effect u (Shutdown w))
 
-    ended : settles s ≡ true → all_orderly s (shut_all s.books.crew) ≡ true → Owing (settled (all_moved s (shut_all s.books.crew)))
+    ended : settles s ≡ true → all_orderly s (shut_all s.books.crew) ≡ true → Owing (settled (after_entries s (shut_all s.books.crew)))
     ended h q =
-        let m = all_moved s (shut_all s.books.crew) in
+        let m = after_entries s (shut_all s.books.crew) in
         let p = parts h in
         let spent = spent-finished s.books.table s.plan p.2 in
         let l = later-outputs s (shut_all s.books.crew) q (plain-shut_all (waiting s.books.crew)) in
@@ -314,6 +314,6 @@ owing-closed s d o k = by (not (is_shutting s.books) && settles s) refl o
           going = λ y. set m (going-spent s m l p.1 spent.pool (steal-shut_all (waiting s.books.crew) s ∙ spent.steal) (k.going p.0));
         }
 
-    by : (b : Bool) → (not (is_shutting s.books) && settles s) ≡ b → all_orderly s (if b then shut_all s.books.crew else []) ≡ true → Owing (settled (all_moved s (if b then shut_all s.books.crew else [])))
+    by : (b : Bool) → (not (is_shutting s.books) && settles s) ≡ b → all_orderly s (if b then shut_all s.books.crew else []) ≡ true → Owing (settled (after_entries s (if b then shut_all s.books.crew else [])))
     by true e q = ended (split-and (not (is_shutting s.books)) (settles s) e).1 q
     by false e q = still (λ h. unclosed (is_stopped s.books) s.books.shutting (settles s) e (parts h).0 h)

@@ -7,7 +7,7 @@ use Rattle.xd_journal.specs.declared.entry.Entry.TheVariants.{Run, RunAll, Steal
 use Rattle.xd_ledger.specs.declared.seat.Seat.{Seat}
 use Rattle.xd_ledger.specs.Numbers.{among, without}
 use Rattle.xd_ledger.specs.Table.{held, seat_shut, shut_down, workers_of}
-use Rattle.xd_ledger.specs.Plan.{Plan, Asked, chunk_of}
+use Rattle.xd_ledger.specs.Plan.{Plan, UnansweredSteal, chunk_of}
 use Rattle.xd_ledger.specs.Turn.{Turn, enough, give, give_front, shut, in_turn, shut_each}
 use Rattle.xd_ledger.specs.Load as load
 use Rattle.xd_ledger.specs.Worksteal as steal
@@ -121,7 +121,7 @@ dealt-all s (w ∷ ws) t d = (let n = length t.table.pool / (length ws + 1) in d
 
 -- the open steal is the earlier one, or is of a worker of the rota that was told nothing
 abbrev pub AsksOpen : State → Turn → Type 0
-AsksOpen s t = (a : Asked) → t.plan.steal ≡ Some a → (s.plan.steal ≡ Some a) ⊎ ((has_seat a.worker t.table.rota ≡ true) × (seat_shut a.worker t.table ≡ false))
+AsksOpen s t = (a : UnansweredSteal) → t.plan.steal ≡ Some a → (s.plan.steal ≡ Some a) ⊎ ((has_seat a.worker t.table.rota ≡ true) × (seat_shut a.worker t.table ≡ false))
 
 pub record Serves (s : State) (t : Turn) : Type 0 where
   pub fair : IsFair t
@@ -160,7 +160,7 @@ serves-dealt s t d = record { fair = inl d.hand; asks = earlier s t d.same }
 serves-after : (s : State) (t : Turn) → Good s t → Dealt s t → t.table.pool ≡ [] → Serves s (steal.after_dealing t)
 serves-after s t g d e = by (steal.idle t.table)
   where
-    on_steal : (ws : List ℕ) (o : Option Asked) → t.plan.steal ≡ o → Serves s (elim o as (λ _. Turn) [ None ↦ steal.asks_or_shuts ws (steal.victim t.table) t | Some a ↦ t ])
+    on_steal : (ws : List ℕ) (o : Option UnansweredSteal) → t.plan.steal ≡ o → Serves s (elim o as (λ _. Turn) [ None ↦ steal.asks_or_shuts ws (steal.victim t.table) t | Some a ↦ t ])
     on_steal ws None h = serves-asks_or_shuts s ws (steal.victim t.table) t g d e h refl
     on_steal ws (Some a) h = serves-dealt s t d
 

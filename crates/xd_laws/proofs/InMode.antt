@@ -5,12 +5,12 @@ use Rattle.xd_journal.specs.declared.entry.Entry.{Entry}
 use Rattle.xd_journal.specs.declared.entry.Entry.TheVariants.{Ready, Collected, Done, Back, Finished, Refused, Down, NotStarted, Start, Run, RunAll, Steal, Shutdown, Kill, Over}
 use Rattle.xd_ledger.specs.Plan.{Plan, is_scope}
 use Rattle.xd_ledger.specs.Turn.{Turn}
-use Rattle.xd_ledger.specs.Modes.{Call, turned}
+use Rattle.xd_ledger.specs.Modes.{ModeCall, turned}
 use Rattle.xd_ledger.specs.Books.{marked}
 use Rattle.xd_ledger.specs.Workers.{made_collected}
 use Rattle.xd_ledger.specs.Collections.{unequal, listed, with_list}
 use Rattle.xd_ledger.specs.Sharing.{State, in_books}
-use Rattle.xd_ledger.specs.State.{moved}
+use Rattle.xd_ledger.specs.State.{after_effect}
 use Rattle.xd_ledger.specs.Outputs.{turn_of, acts_of}
 use Rattle.xd_ledger.specs.Proper.{may_follow}
 use Rattle.xd_laws.proofs.Logic.{differ}
@@ -23,7 +23,7 @@ use Rattle.xd_laws.proofs.Rule.{Agrees, Turned, agrees-good, turned-good}
 abbrev pub InMode : ModeKind → State → Type 0
 InMode k s = s.plan.mode ≡ k
 
-pub mode-input : (k : ModeKind) (s : State) (e : Entry) → may_follow s e ≡ true → InMode k s → InMode k (moved s e)
+pub mode-input : (k : ModeKind) (s : State) (e : Entry) → may_follow s e ≡ true → InMode k s → InMode k (after_effect s e)
 mode-input k s (Ready w) h m = m
 mode-input k s (Collected w g) h m = collecting-keeps (InMode k) (in_books (λ b. marked (made_collected w) (with_list w g b)) s) w (unequal w g (listed w s.books)) m m m (λ n. m)
 mode-input k s (Done w i u t o) h m = m
@@ -41,11 +41,11 @@ mode-input k s (Kill w) h m = absurd (differ h)
 mode-input k s (Over how) h m = absurd (differ h)
 
 -- the outputs of a mode are those of its own rule
-pub turned-in : (k : ModeKind) (X : State → Type 0) (s : State) (c : Call) → InMode k s → Turned X s (turned k c (turn_of s)).acts → Turned X s (acts_of c s)
+pub turned-in : (k : ModeKind) (X : State → Type 0) (s : State) (c : ModeCall) → InMode k s → Turned X s (turned k c (turn_of s)).acts → Turned X s (acts_of c s)
 turned-in k X s c m t = subst (λ (q : ModeKind). Turned X s (turned q c (turn_of s)).acts) (sym m) t
 
 -- what they make of the state, too
-pub agrees-in : (k : ModeKind) (s : State) (c : Call) → InMode k s → Good s (turned k c (turn_of s)) → Agrees s (turned s.plan.mode c (turn_of s))
+pub agrees-in : (k : ModeKind) (s : State) (c : ModeCall) → InMode k s → Good s (turned k c (turn_of s)) → Agrees s (turned s.plan.mode c (turn_of s))
 agrees-in k s c m g = subst (λ (q : ModeKind). Agrees s (turned q c (turn_of s))) (sym m) (agrees-good s (turned k c (turn_of s)) g)
 
 -- a mode that hands out tests has no queue of units

@@ -22,7 +22,7 @@ use Rattle.xd_ledger.specs.Sharing.{State, in_books, joining, share_where_full, 
 use Rattle.xd_ledger.specs.Collecting.{collecting}
 use Rattle.xd_ledger.specs.Deaths.{gone, buried}
 use Rattle.xd_ledger.specs.Results.{completed_first, failing, done_stop}
-use Rattle.xd_ledger.specs.State.{moved}
+use Rattle.xd_ledger.specs.State.{after_effect}
 use Rattle.xd_ledger.specs.Proper.{may_follow}
 use Rattle.xd_laws.proofs.Logic.{differ, in_both, split-and, not_true}
 use Rattle.xd_laws.proofs.Rota.{seat-among, seat-joined}
@@ -50,7 +50,7 @@ collecting-keeps P s w stop a b c d =
 abbrev CrewOk : State → Type 0
 CrewOk s = CrewFits s.books.crew s.books.settings.workers
 
-crew-input : (s : State) (e : Entry) → may_follow s e ≡ true → CrewOk s → CrewOk (moved s e)
+crew-input : (s : State) (e : Entry) → may_follow s e ≡ true → CrewOk s → CrewOk (after_effect s e)
 crew-input s (Ready w) h c = crew-ready s.books.crew s.books.settings.workers w c
 crew-input s (Collected w g) h c =
     let k = crew-collected s.books.crew s.books.settings.workers w c in
@@ -88,7 +88,7 @@ shut-collected w v ms = has-same v (λ m. m.shut) (made_collected w) ms (λ m. r
 pub shut-gone : (w v : ℕ) (ms : List Member) → has v (λ m. m.shut) (map (made_gone w) ms) ≡ has v (λ m. m.shut) ms
 shut-gone w v ms = has-same v (λ m. m.shut) (made_gone w) ms (λ m. refl) (λ m. refl)
 
-calm-collected : (s : State) (w : ℕ) (g : Ids) → Calm s → Calm (moved s (Collected w g))
+calm-collected : (s : State) (w : ℕ) (g : Ids) → Calm s → Calm (after_effect s (Collected w g))
 calm-collected s w g c =
     let now = in_books (λ b. marked (made_collected w) (with_list w g b)) s in
     let j = in_books (λ b. record b { table = joined w b.table }) now in
@@ -100,26 +100,26 @@ calm-collected s w g c =
     (calm-by s j refl refl (λ h. h) shut c)
     (λ n. record { late = λ h. refl; unshut = λ h k. absurd (differ (sym k)) })
 
-pub down-unstopped : (w : ℕ) (s : State) → is_stopped (moved s (NotStarted w)).books ≡ false → is_stopped s.books ≡ false
+pub down-unstopped : (w : ℕ) (s : State) → is_stopped (after_effect s (NotStarted w)).books ≡ false → is_stopped s.books ≡ false
 down-unstopped w s h =
     let c = gone w (buried w (is_retry w s.books) s.books) in
     unstopped-before s.books.stop (or_stop (at_limit c) (out_of_restarts w c)) h
 
-pub done-unstopped : (s : State) (w i : ℕ) (u : Outcome) (m : ℕ) (o : List ℕ) → is_stopped (moved s (Done w i u m o)).books ≡ false → is_stopped s.books ≡ false
+pub done-unstopped : (s : State) (w i : ℕ) (u : Outcome) (m : ℕ) (o : List ℕ) → is_stopped (after_effect s (Done w i u m o)).books ≡ false → is_stopped s.books ≡ false
 done-unstopped s w i u m o h =
     let items = items_named (slot_of w s.books) (i ∷ []) s.plan in
     unstopped-before s.books.stop (done_stop u (record (s.books) { table = completed_first w items s.books.table; failures = s.books.failures + failing u })) h
 
-calm-down : (s : State) (w : ℕ) → Calm s → Calm (moved s (NotStarted w))
-calm-down s w c = calm-by s (moved s (NotStarted w)) refl refl (λ k. down-unstopped w s k) (λ v. shut-gone w v s.books.crew) c
+calm-down : (s : State) (w : ℕ) → Calm s → Calm (after_effect s (NotStarted w))
+calm-down s w c = calm-by s (after_effect s (NotStarted w)) refl refl (λ k. down-unstopped w s k) (λ v. shut-gone w v s.books.crew) c
 
-calm-input : (s : State) (e : Entry) → may_follow s e ≡ true → Calm s → Calm (moved s e)
-calm-input s (Ready w) h c = calm-by s (moved s (Ready w)) refl refl (λ k. k) (λ v. has-same v (λ m. m.shut) (made_ready w) s.books.crew (λ m. refl) (λ m. refl)) c
+calm-input : (s : State) (e : Entry) → may_follow s e ≡ true → Calm s → Calm (after_effect s e)
+calm-input s (Ready w) h c = calm-by s (after_effect s (Ready w)) refl refl (λ k. k) (λ v. has-same v (λ m. m.shut) (made_ready w) s.books.crew (λ m. refl) (λ m. refl)) c
 calm-input s (Collected w g) h c = calm-collected s w g c
-calm-input s (Done w i u m o) h c = calm-by s (moved s (Done w i u m o)) refl refl (λ k. done-unstopped s w i u m o k) (λ v. refl) c
-calm-input s (Back w is) h c = calm-by s (moved s (Back w is)) refl refl (λ k. k) (λ v. refl) c
-calm-input s (Finished w) h c = calm-by s (moved s (Finished w)) refl refl (λ k. k) (λ v. shut-gone w v s.books.crew) c
-calm-input s (Refused w t) h c = calm-by s (moved s (Refused w t)) refl refl (unstopped-before s.books.stop (Some (CollectError w))) (λ v. shut-gone w v s.books.crew) c
+calm-input s (Done w i u m o) h c = calm-by s (after_effect s (Done w i u m o)) refl refl (λ k. done-unstopped s w i u m o k) (λ v. refl) c
+calm-input s (Back w is) h c = calm-by s (after_effect s (Back w is)) refl refl (λ k. k) (λ v. refl) c
+calm-input s (Finished w) h c = calm-by s (after_effect s (Finished w)) refl refl (λ k. k) (λ v. shut-gone w v s.books.crew) c
+calm-input s (Refused w t) h c = calm-by s (after_effect s (Refused w t)) refl refl (unstopped-before s.books.stop (Some (CollectError w))) (λ v. shut-gone w v s.books.crew) c
 calm-input s (Down w r o) h c = calm-down s w c
 calm-input s (NotStarted w) h c = calm-down s w c
 calm-input s (Start w slot) h c = absurd (differ h)
@@ -130,18 +130,18 @@ calm-input s (Shutdown w) h c = absurd (differ h)
 calm-input s (Kill w) h c = absurd (differ h)
 calm-input s (Over how) h c = absurd (differ h)
 
-pub tidy-input : (s : State) (e : Entry) → may_follow s e ≡ true → Tidy s → Tidy (moved s e)
+pub tidy-input : (s : State) (e : Entry) → may_follow s e ≡ true → Tidy s → Tidy (after_effect s e)
 tidy-input s e h d = record { placed = placed-input s e h d.placed; crew = crew-input s e h d.crew; calm = calm-input s e h d.calm }
 
 -- nobody is told to shut down by what workers say
-pub shut_as_before : (s : State) (w v : ℕ) (g : Ids) → has v (λ m. m.shut) (moved s (Collected w g)).books.crew ≡ has v (λ m. m.shut) s.books.crew
+pub shut_as_before : (s : State) (w v : ℕ) (g : Ids) → has v (λ m. m.shut) (after_effect s (Collected w g)).books.crew ≡ has v (λ m. m.shut) s.books.crew
 shut_as_before s w v g =
     let k = shut-collected w v s.books.crew in
     collecting-keeps (λ (u : State). has v (λ m. m.shut) u.books.crew ≡ has v (λ m. m.shut) s.books.crew)
     (in_books (λ b. marked (made_collected w) (with_list w g b)) s) w (unequal w g (listed w s.books)) k k k (λ n. k)
 
 -- a share is not taken back
-pub still_shared : (s : State) (w : ℕ) (g : Ids) → s.books.shared ≡ true → (moved s (Collected w g)).books.shared ≡ true
+pub still_shared : (s : State) (w : ℕ) (g : Ids) → s.books.shared ≡ true → (after_effect s (Collected w g)).books.shared ≡ true
 still_shared s w g h = collecting-keeps (λ (u : State). u.books.shared ≡ true) (in_books (λ b. marked (made_collected w) (with_list w g b)) s) w (unequal w g (listed w s.books)) h h h (λ n. refl)
 
 -- a collection that is not told to shut down and stops nothing brings its worker into the rota

@@ -9,11 +9,11 @@ use Rattle.xd_ledger.specs.declared.member.Member.{Member}
 use Rattle.xd_ledger.specs.Numbers.{among}
 use Rattle.xd_ledger.specs.Table.{Table, in_rota, seat_shut, workers_of}
 use Rattle.xd_ledger.specs.Plan.{Plan, is_each}
-use Rattle.xd_ledger.specs.Modes.{Call, turned}
-use Rattle.xd_ledger.specs.Modes.Call.{Share, Joined, TestDone, TestsBack, Died}
+use Rattle.xd_ledger.specs.Modes.{ModeCall, turned}
+use Rattle.xd_ledger.specs.Modes.ModeCall.{Share, Joined, TestDone, TestsBack, Died}
 use Rattle.xd_ledger.specs.Workers.{is_active, slot_of, started}
 use Rattle.xd_ledger.specs.Sharing.{State}
-use Rattle.xd_ledger.specs.State.{moved, all_moved, next}
+use Rattle.xd_ledger.specs.State.{after_effect, after_entries, after_entry}
 use Rattle.xd_ledger.specs.Outputs.{acts_of, turn_of}
 use Rattle.xd_laws.proofs.Logic.{differ, in_both, split-and}
 use Rattle.xd_laws.proofs.Crew.{has, has-more, is_member}
@@ -27,13 +27,13 @@ use Rattle.xd_laws.proofs.Serving.{Ahead, Server}
 use Rattle.xd_laws.proofs.Owing.{AskedOpen, Awaited}
 
 -- the call is of this worker's coming
-abbrev pub is_new : ℕ → Call → Bool
+abbrev pub is_new : ℕ → ModeCall → Bool
 is_new v (Share slots) = true
 is_new v (Joined w slot) = v == w
 is_new v _ = false
 
 -- in mode each whoever came before the call was told to shut down
-abbrev pub OthersTold : State → Call → Type 0
+abbrev pub OthersTold : State → ModeCall → Type 0
 OthersTold s c = is_each s.plan.mode ≡ true → (v : ℕ) → InRota s v → is_new v c ≡ false → seat_shut v s.books.table ≡ true
 
 -- as many joined as there are slots, one at least
@@ -43,7 +43,7 @@ pub record AllThere (s : State) : Type 0 where
   pub full : length s.books.table.rota ≡ s.books.settings.workers
 
 -- what is known of the pool ahead of a call
-abbrev pub Expects : State → Call → Type 0
+abbrev pub Expects : State → ModeCall → Type 0
 Expects s (Share slots) = AllThere s
 Expects s _ = Awaited s
 
@@ -52,28 +52,28 @@ abbrev pub buried_acts : State → List Entry
 buried_acts s = if s.books.shared then acts_of Died s else []
 
 abbrev pub replaced : State → ℕ → State
-replaced s w = moved (all_moved s (buried_acts s)) (Start (length s.books.crew) (slot_of w s.books))
+replaced s w = after_effect (after_entries s (buried_acts s)) (Start (length s.books.crew) (slot_of w s.books))
 
 pub record Keeper (X : State → Type 0) : Type 0 where
   pub rule : Rule X
-  pub work : (s : State) (c : Call) → Tidy s → s.books.shared ≡ true → X s → CallFits s c → (c ≡ TestsBack → s.plan.mode ≡ WorkSteal) → Ahead s c → OthersTold s c
+  pub work : (s : State) (c : ModeCall) → Tidy s → s.books.shared ≡ true → X s → CallFits s c → (c ≡ TestsBack → s.plan.mode ≡ WorkSteal) → Ahead s c → OthersTold s c
       → AllWork (workers_of s.books.table) (turned s.plan.mode c (turn_of s)).table
-  pub told : (s : State) (c : Call) → Tidy s → s.books.shared ≡ true → X s → CallFits s c → OthersTold s c → is_each s.plan.mode ≡ true
+  pub told : (s : State) (c : ModeCall) → Tidy s → s.books.shared ≡ true → X s → CallFits s c → OthersTold s c → is_each s.plan.mode ≡ true
       → (v : ℕ) → InRota s v → seat_shut v (turned s.plan.mode c (turn_of s)).table ≡ true
-  pub asked : (s : State) (c : Call) → Tidy s → s.books.shared ≡ true → X s → CallFits s c → AskedOpen s → AskedOpen (all_moved s (acts_of c s))
-  pub waits : (s : State) (c : Call) → Tidy s → s.books.shared ≡ true → X s → CallFits s c → Expects s c → Awaited (all_moved s (acts_of c s))
-  pub buried : (s : State) (w : ℕ) → is_active w s.books ≡ true → Tidy s → X s → Awaited s → Tidy (moved s (NotStarted w)) → X (moved s (NotStarted w))
-      → is_member (length s.books.crew) (all_moved (moved s (NotStarted w)) (buried_acts (moved s (NotStarted w)))).books.crew ≡ false
-      → length (moved s (NotStarted w)).books.crew ≡ length s.books.crew → Awaited (replaced (moved s (NotStarted w)) w)
+  pub asked : (s : State) (c : ModeCall) → Tidy s → s.books.shared ≡ true → X s → CallFits s c → AskedOpen s → AskedOpen (after_entries s (acts_of c s))
+  pub waits : (s : State) (c : ModeCall) → Tidy s → s.books.shared ≡ true → X s → CallFits s c → Expects s c → Awaited (after_entries s (acts_of c s))
+  pub buried : (s : State) (w : ℕ) → is_active w s.books ≡ true → Tidy s → X s → Awaited s → Tidy (after_effect s (NotStarted w)) → X (after_effect s (NotStarted w))
+      → is_member (length s.books.crew) (after_entries (after_effect s (NotStarted w)) (buried_acts (after_effect s (NotStarted w)))).books.crew ≡ false
+      → length (after_effect s (NotStarted w)).books.crew ≡ length s.books.crew → Awaited (replaced (after_effect s (NotStarted w)) w)
   pub steals : (s : State) → X s → (s.plan.mode ≡ WorkSteal) ⊎ (s.plan.steal ≡ None)
 
 -- outputs that hand tests out leave the crew as it was
 
-pub crew-hand : (s : State) (es : List Entry) → all_hand es ≡ true → (all_moved s es).books.crew ≡ s.books.crew
+pub crew-hand : (s : State) (es : List Entry) → all_hand es ≡ true → (after_entries s es).books.crew ≡ s.books.crew
 crew-hand s [] h = refl
-crew-hand s (e ∷ es) h = (let p = split-and (hands_out e) (all_hand es) h in crew-hand (next s e) es p.1 ∙ one e p.0)
+crew-hand s (e ∷ es) h = (let p = split-and (hands_out e) (all_hand es) h in crew-hand (after_entry s e) es p.1 ∙ one e p.0)
   where
-    one : (e : Entry) → hands_out e ≡ true → (next s e).books.crew ≡ s.books.crew
+    one : (e : Entry) → hands_out e ≡ true → (after_entry s e).books.crew ≡ s.books.crew
     one (Run w is) k = refl
     one (RunAll w) k = refl
     one (Steal w is) k = refl
@@ -91,7 +91,7 @@ crew-hand s (e ∷ es) h = (let p = split-and (hands_out e) (all_hand es) h in c
     one (NotStarted w) k = absurd (differ k)
 
 -- what follows a call
-pub later-call : (X : State → Type 0) → Rule X → (s : State) (c : Call) → Tidy s → s.books.shared ≡ true → X s → CallFits s c → Later s (all_moved s (acts_of c s))
+pub later-call : (X : State → Type 0) → Rule X → (s : State) (c : ModeCall) → Tidy s → s.books.shared ≡ true → X s → CallFits s c → Later s (after_entries s (acts_of c s))
 later-call X rule s c d h x f = later-outputs s (acts_of c s) (rule.turns s c d h x f).fit.orderly (plain-acts c s)
 
 -- a new worker was told nothing
@@ -108,10 +108,10 @@ module _ (X : State → Type 0) (server : Server X) where
   no-each : (s : State) → X s → {A : Type 0} → is_each s.plan.mode ≡ true → A
   no-each s x e = absurd (differ (sym (server.each s x) ∙ e))
 
-  plain-asked : (s : State) (c : Call) → Tidy s → s.books.shared ≡ true → X s → CallFits s c → AskedOpen s → AskedOpen (all_moved s (acts_of c s))
+  plain-asked : (s : State) (c : ModeCall) → Tidy s → s.books.shared ≡ true → X s → CallFits s c → AskedOpen s → AskedOpen (after_entries s (acts_of c s))
   plain-asked s c d h x f o a e =
       let t = turned s.plan.mode c (turn_of s) in
-      let m = all_moved s (acts_of c s) in
+      let m = after_entries s (acts_of c s) in
       let z = server.rule.agrees s c d h x f in
       let tidy = (server.rule.turns s c d h x f).fit.tidy in
       let serves = server.serves s c d h x f in
@@ -129,9 +129,9 @@ module _ (X : State → Type 0) (server : Server X) where
       ]
 
   -- who waits ahead of the call waits behind it, where the pool is not empty
-  plain-still : (s : State) (c : Call) → Tidy s → s.books.shared ≡ true → X s → CallFits s c → Awaited s → Awaited (all_moved s (acts_of c s))
+  plain-still : (s : State) (c : ModeCall) → Tidy s → s.books.shared ≡ true → X s → CallFits s c → Awaited s → Awaited (after_entries s (acts_of c s))
   plain-still s c d h x f o y a =
-      let m = all_moved s (acts_of c s) in
+      let m = after_entries s (acts_of c s) in
       let z = server.rule.agrees s c d h x f in
       let later = later-call X server.rule s c d h x f in
       let serves = server.serves s c d h x f in
@@ -148,7 +148,7 @@ module _ (X : State → Type 0) (server : Server X) where
             })
       ]
 
-  plain-waits : (s : State) (c : Call) → Tidy s → s.books.shared ≡ true → X s → CallFits s c → Expects s c → Awaited (all_moved s (acts_of c s))
+  plain-waits : (s : State) (c : ModeCall) → Tidy s → s.books.shared ≡ true → X s → CallFits s c → Expects s c → Awaited (after_entries s (acts_of c s))
   plain-waits s (Share slots) d h x f o =
       plain-still s (Share slots) d h x f (λ y a. record {
         who = o.someone;
@@ -169,8 +169,8 @@ module _ (X : State → Type 0) (server : Server X) where
     asked = plain-asked;
     waits = plain-waits;
     buried = λ s w a d x o t k free same.
-        (let now = moved s (NotStarted w) in
-        let mid = all_moved now (buried_acts now) in
+        (let now = after_effect s (NotStarted w) in
+        let mid = after_entries now (buried_acts now) in
         let n = length now.books.crew in
         let none : is_member n mid.books.crew ≡ false = ap (λ (i : ℕ). is_member i mid.books.crew) same ∙ free in
         let new = new-untold mid.books.crew n (slot_of w now.books) none in
@@ -178,7 +178,7 @@ module _ (X : State → Type 0) (server : Server X) where
     steals = server.steals;
   }
     where
-      mid-mode : (now : State) → X now → Tidy now → is_each (all_moved now (buried_acts now)).plan.mode ≡ true → is_each now.plan.mode ≡ true
+      mid-mode : (now : State) → X now → Tidy now → is_each (after_entries now (buried_acts now)).plan.mode ≡ true → is_each now.plan.mode ≡ true
       mid-mode now k t e =
-          in_both (λ (es : List Entry). is_each (all_moved now es).plan.mode ≡ true → is_each now.plan.mode ≡ true) now.books.shared (acts_of Died now) []
+          in_both (λ (es : List Entry). is_each (after_entries now es).plan.mode ≡ true → is_each now.plan.mode ≡ true) now.books.shared (acts_of Died now) []
           (λ h q. ap is_each (sym (later-call X server.rule now Died t h k tt).mode) ∙ q) (λ h q. q) e

@@ -12,9 +12,9 @@ use Rattle.xd_ledger.specs.Table.{seat_shut, workers_of, assigned}
 use Rattle.xd_ledger.specs.Plan.{Plan, items_named, slot_items}
 use Rattle.xd_ledger.specs.Workers.{made_shut, slot_in, slot_of}
 use Rattle.xd_ledger.specs.Sharing.{State}
-use Rattle.xd_ledger.specs.State.{moved, all_moved}
+use Rattle.xd_ledger.specs.State.{after_effect, after_entries}
 use Rattle.xd_ledger.specs.Turn.{Turn}
-use Rattle.xd_ledger.specs.Modes.{Call}
+use Rattle.xd_ledger.specs.Modes.{ModeCall}
 use Rattle.xd_ledger.specs.Outputs.{acts_of, turn_of}
 use Rattle.xd_ledger.specs.Orderly.{is_orderly, all_orderly}
 use Rattle.xd_laws.proofs.Logic.{and, differ, split-and}
@@ -22,7 +22,7 @@ use Rattle.xd_laws.proofs.Counts.{among-filter}
 use Rattle.xd_laws.proofs.Crew.{has, has-kept, has-same, has-set}
 use Rattle.xd_laws.proofs.CrewFits.{slot-marked}
 use Rattle.xd_laws.proofs.Rota.{told-change, workers-change}
-use Rattle.xd_laws.proofs.Turns.{all_moved-first}
+use Rattle.xd_laws.proofs.Turns.{after_entries-first}
 use Rattle.xd_laws.proofs.Busy.{told-kept}
 use Rattle.xd_laws.proofs.Turned.{Kept, turned-keeps}
 
@@ -114,7 +114,7 @@ later-given s w items p a b =
       mode = b;
     }
 
-pub later-shutdown : (s : State) (w : ℕ) → Later s (moved s (Shutdown w))
+pub later-shutdown : (s : State) (w : ℕ) → Later s (after_effect s (Shutdown w))
 later-shutdown s w =
     let ms = s.books.crew in
     record {
@@ -134,8 +134,8 @@ later-shutdown s w =
       mode = refl;
     }
 
-later-output : (s : State) (e : Entry) → is_plain e ≡ true → Later s (moved s e)
-later-output s (Run w is) h = later-given s w (items_named (slot_of w s.books) is s.plan) (moved s (Run w is)).plan refl refl
+later-output : (s : State) (e : Entry) → is_plain e ≡ true → Later s (after_effect s e)
+later-output s (Run w is) h = later-given s w (items_named (slot_of w s.books) is s.plan) (after_effect s (Run w is)).plan refl refl
 later-output s (RunAll w) h = later-given s w (slot_items (slot_of w s.books) s.plan) s.plan refl refl
 later-output s (Steal w is) h = record {
   active = λ v. refl;
@@ -166,12 +166,12 @@ later-output s (Refused w t) h = absurd (differ h)
 later-output s (Down w c o) h = absurd (differ h)
 later-output s (NotStarted w) h = absurd (differ h)
 
-pub later-outputs : (s : State) (es : List Entry) → all_orderly s es ≡ true → all_plain es ≡ true → Later s (all_moved s es)
+pub later-outputs : (s : State) (es : List Entry) → all_orderly s es ≡ true → all_plain es ≡ true → Later s (after_entries s es)
 later-outputs s [] o h = later-same s
 later-outputs s (e ∷ es) o h =
     let p = split-and (is_plain e) (all_plain es) h in
-    let q = split-and (is_orderly s e) (all_orderly (moved s e) es) o in
-    subst (λ (u : State). Later s u) (sym (all_moved-first s e es q.0)) (later-then s (moved s e) (all_moved (moved s e) es) (later-output s e p.0) (later-outputs (moved s e) es q.1 p.1))
+    let q = split-and (is_orderly s e) (all_orderly (after_effect s e) es) o in
+    subst (λ (u : State). Later s u) (sym (after_entries-first s e es q.0)) (later-then s (after_effect s e) (after_entries (after_effect s e) es) (later-output s e p.0) (later-outputs (after_effect s e) es q.1 p.1))
 
 -- the output tells the worker to shut down
 abbrev pub tells : ℕ → Entry → Bool
@@ -180,19 +180,19 @@ tells v _ = false
 
 -- whom nobody tells was not told
 pub untold-outputs : (v : ℕ) (s : State) (es : List Entry) → all_orderly s es ≡ true → all_plain es ≡ true → list_any (tells v) es ≡ false
-    → has v (λ m. m.shut) (all_moved s es).books.crew ≡ has v (λ m. m.shut) s.books.crew
+    → has v (λ m. m.shut) (after_entries s es).books.crew ≡ has v (λ m. m.shut) s.books.crew
 untold-outputs v s [] o p h = refl
 untold-outputs v s (e ∷ es) o p h =
-    let q = split-and (is_orderly s e) (all_orderly (moved s e) es) o in
+    let q = split-and (is_orderly s e) (all_orderly (after_effect s e) es) o in
     let r = split-and (is_plain e) (all_plain es) p in
     let n = neither (tells v e) (list_any (tells v) es) h in
-    ap (λ (u : State). has v (λ m. m.shut) u.books.crew) (all_moved-first s e es q.0) ∙ untold-outputs v (moved s e) es q.1 r.1 n.1 ∙ one s e r.0 n.0
+    ap (λ (u : State). has v (λ m. m.shut) u.books.crew) (after_entries-first s e es q.0) ∙ untold-outputs v (after_effect s e) es q.1 r.1 n.1 ∙ one s e r.0 n.0
   where
     neither : (a b : Bool) → (a || b) ≡ false → (a ≡ false) × (b ≡ false)
     neither true b h = absurd (differ (sym h))
     neither false b h = (refl, h)
 
-    one : (s : State) (e : Entry) → is_plain e ≡ true → tells v e ≡ false → has v (λ m. m.shut) (moved s e).books.crew ≡ has v (λ m. m.shut) s.books.crew
+    one : (s : State) (e : Entry) → is_plain e ≡ true → tells v e ≡ false → has v (λ m. m.shut) (after_effect s e).books.crew ≡ has v (λ m. m.shut) s.books.crew
     one s (Shutdown w) p h = has-set v w (λ m. m.shut) (made_shut w) s.books.crew (λ m. refl) (λ m. refl) ∙ grind (arith, nat_tests, h)
     one s (Run w is) p h = refl
     one s (RunAll w) p h = refl
@@ -229,5 +229,5 @@ plain_moves = record {
   shuts = λ w t a. more-plain t.acts (Shutdown w ∷ []) a refl;
 }
 
-pub plain-acts : (c : Call) (s : State) → all_plain (acts_of c s) ≡ true
+pub plain-acts : (c : ModeCall) (s : State) → all_plain (acts_of c s) ≡ true
 plain-acts c s = turned-keeps (λ t. all_plain t.acts ≡ true) plain_moves s.plan.mode c (turn_of s) refl

@@ -25,8 +25,8 @@ use Rattle.xd_ledger.specs.Numbers.{times}
 use Rattle.xd_ledger.specs.Table.{all_items, Table, in_rota, held_by_all}
 use Rattle.xd_ledger.specs.Plan.{total, is_scope}
 use Rattle.xd_ledger.specs.Sharing.{State}
-use Rattle.xd_ledger.specs.State.{all_moved, no_one, state_at}
-use Rattle.xd_ledger.specs.Histories.{begun, stepped_all, is_over, journal_of}
+use Rattle.xd_ledger.specs.State.{after_entries, no_one, state_at}
+use Rattle.xd_ledger.specs.Histories.{after_starts, after_inputs, is_over, journal_of}
 use Rattle.xd_ledger.specs.Proper.{has_workers, IsProper}
 use Rattle.xd_ledger.specs.Orderly.{is_orderly_run}
 use Rattle.xd_laws.specs.Once.{IsOnce}
@@ -50,19 +50,19 @@ use Rattle.xd_laws.proofs.ScopeRule.{scope_rule, scoped-none}
 -- what the laws say of one run
 pub record Lawful (settings : Settings) (inputs : List Entry) : Type 0 where
   pub come : AllCome (no_one settings) (journal_of settings inputs)
-  pub order : is_orderly_run (begun settings) inputs ≡ true
-  pub tidy : Tidy (stepped_all (begun settings) inputs)
-  pub spent : Spent (stepped_all (begun settings) inputs)
-  pub told : items_told (reports settings (journal_of settings inputs)) ≡ (stepped_all (begun settings) inputs).books.table.reported
+  pub order : is_orderly_run (after_starts settings) inputs ≡ true
+  pub tidy : Tidy (after_inputs (after_starts settings) inputs)
+  pub spent : Spent (after_inputs (after_starts settings) inputs)
+  pub told : items_told (reports settings (journal_of settings inputs)) ≡ (after_inputs (after_starts settings) inputs).books.table.reported
 
 by_rule : (X : State → Type 0) → Rule X → (settings : Settings) (inputs : List Entry) → X (no_one settings) → IsProper settings inputs → Lawful settings inputs
 by_rule X rule settings inputs x p =
     let b = begun-holds X rule settings x in
     record {
       come = come-journal X rule settings inputs x p.follow;
-      order = all-orderly X rule (begun settings) inputs p.follow b;
-      tidy = (all-hold X rule (begun settings) inputs p.follow b).tidy;
-      spent = all-spent X rule (begun settings) inputs p.follow b (begun-spent settings);
+      order = all-orderly X rule (after_starts settings) inputs p.follow b;
+      tidy = (all-hold X rule (after_starts settings) inputs p.follow b).tidy;
+      spent = all-spent X rule (after_starts settings) inputs p.follow b (begun-spent settings);
       told = told-all X rule settings inputs p.follow b;
     }
 
@@ -80,11 +80,11 @@ lawful settings inputs p = by_mode settings.mode settings inputs refl p
 
 -- what each entry keeps holds behind a proper journal
 pub journal-keeps : (settings : Settings) (inputs : List Entry) (R : State → List Entry → Type 0) → Keeps settings R → IsProper settings inputs → R (no_one settings) []
-    → R (stepped_all (begun settings) inputs) (journal_of settings inputs)
+    → R (after_inputs (after_starts settings) inputs) (journal_of settings inputs)
 journal-keeps settings inputs R k p r =
     let es = journal_of settings inputs in
     subst (λ (s : State). R s es) (journal-state settings inputs p.follow)
-    (k.settled (all_moved (no_one settings) es) es (walk settings R k es (lawful settings inputs p).come r))
+    (k.settled (after_entries (no_one settings) es) es (walk settings R k es (lawful settings inputs p).come r))
 
 once-placed : (s : State) → Placed s → IsOnce s
 once-placed s k =
@@ -96,11 +96,11 @@ once-placed s k =
       none_before = λ h. empty-of_times (all_items s.books.table) (whole false h);
     }
 
-pub orderly : (settings : Settings) (inputs : List Entry) → IsProper settings inputs → is_orderly_run (begun settings) inputs ≡ true
+pub orderly : (settings : Settings) (inputs : List Entry) → IsProper settings inputs → is_orderly_run (after_starts settings) inputs ≡ true
 orderly settings inputs p = (lawful settings inputs p).order
 
-pub in_one_place : (settings : Settings) (inputs : List Entry) → IsProper settings inputs → IsOnce (stepped_all (begun settings) inputs)
-in_one_place settings inputs p = once-placed (stepped_all (begun settings) inputs) (lawful settings inputs p).tidy.placed
+pub in_one_place : (settings : Settings) (inputs : List Entry) → IsProper settings inputs → IsOnce (after_inputs (after_starts settings) inputs)
+in_one_place settings inputs p = once-placed (after_inputs (after_starts settings) inputs) (lawful settings inputs p).tidy.placed
 
 -- the reports
 
@@ -141,10 +141,10 @@ total_or_none s k x l = elim (cases_of s.books.shared) [
   | inr h ↦ ap (λ (xs : List ℕ). times x xs) ((once-placed s k).none_before h)
 ]
 
-pub reported_once : (settings : Settings) (inputs : List Entry) → IsProper settings inputs → AreOnce (reports settings (journal_of settings inputs)) (stepped_all (begun settings) inputs)
+pub reported_once : (settings : Settings) (inputs : List Entry) → IsProper settings inputs → AreOnce (reports settings (journal_of settings inputs)) (after_inputs (after_starts settings) inputs)
 reported_once settings inputs p =
     let l = lawful settings inputs p in
-    let s = stepped_all (begun settings) inputs in
+    let s = after_inputs (after_starts settings) inputs in
     let same : (x : ℕ) → times x (items_told (reports settings (journal_of settings inputs))) ≡ times x s.books.table.reported = λ x. ap (λ (xs : List ℕ). times x xs) l.told in
     record {
       at_most = λ x. omega (arith, same x, reported-within x s.books.table, at_most_once s l.tidy.placed x);
@@ -159,24 +159,24 @@ over-shared s d h u =
     let a = split-and (is_shutting s.books) (not (some_active s.books)) h in
     d.calm.late (not_shut_by (is_stopped s.books) s.books.shutting a.0 u)
 
-pub shared_total : (settings : Settings) (inputs : List Entry) → IsProper settings inputs → (stepped_all (begun settings) inputs).books.shared ≡ true
-    → total (stepped_all (begun settings) inputs).plan ≡ collected (stepped_all (begun settings) inputs).books
+pub shared_total : (settings : Settings) (inputs : List Entry) → IsProper settings inputs → (after_inputs (after_starts settings) inputs).books.shared ≡ true
+    → total (after_inputs (after_starts settings) inputs).plan ≡ collected (after_inputs (after_starts settings) inputs).books
 shared_total settings inputs p h =
-    let k : Listing (stepped_all (begun settings) inputs) = journal-keeps settings inputs (λ s es. Listing s) (keeps_listing settings) p (listing-none settings) in
+    let k : Listing (after_inputs (after_starts settings) inputs) = journal-keeps settings inputs (λ s es. Listing s) (keeps_listing settings) p (listing-none settings) in
     ap sum (k.sizes h)
 
-pub was_shared : (settings : Settings) (inputs : List Entry) → IsProper settings inputs → is_over (stepped_all (begun settings) inputs).books ≡ true
-    → is_stopped (stepped_all (begun settings) inputs).books ≡ false → IsShared (stepped_all (begun settings) inputs)
+pub was_shared : (settings : Settings) (inputs : List Entry) → IsProper settings inputs → is_over (after_inputs (after_starts settings) inputs).books ≡ true
+    → is_stopped (after_inputs (after_starts settings) inputs).books ≡ false → IsShared (after_inputs (after_starts settings) inputs)
 was_shared settings inputs p h u =
-    let shared = over-shared (stepped_all (begun settings) inputs) (lawful settings inputs p).tidy h u in
+    let shared = over-shared (after_inputs (after_starts settings) inputs) (lawful settings inputs p).tidy h u in
     record { shared = shared; tests = shared_total settings inputs p shared }
 
 -- before the share nothing is reported
-pub none-reported : (settings : Settings) (inputs : List Entry) → IsProper settings inputs → (stepped_all (begun settings) inputs).books.shared ≡ false
+pub none-reported : (settings : Settings) (inputs : List Entry) → IsProper settings inputs → (after_inputs (after_starts settings) inputs).books.shared ≡ false
     → (x : ℕ) → times x (items_told (reports settings (journal_of settings inputs))) ≡ 0
 none-reported settings inputs p h x =
     let l = lawful settings inputs p in
-    let s = stepped_all (begun settings) inputs in
+    let s = after_inputs (after_starts settings) inputs in
     let none : times x (all_items s.books.table) ≡ 0 = ap (λ (xs : List ℕ). times x xs) ((once-placed s l.tidy.placed).none_before h) in
     let same : times x (items_told (reports settings (journal_of settings inputs))) ≡ times x s.books.table.reported = ap (λ (xs : List ℕ). times x xs) l.told in
     omega (arith, same, reported-within x s.books.table, none)
@@ -186,7 +186,7 @@ pub part-keeps : (settings : Settings) (inputs : List Entry) (R : State → List
     → (before after : List Entry) → journal_of settings inputs ≡ before ++ after → R (state_at settings before) before
 part-keeps settings inputs R k p r before after e =
     let come = come-front (no_one settings) before after (subst (λ (es : List Entry). AllCome (no_one settings) es) e (lawful settings inputs p).come) in
-    k.settled (all_moved (no_one settings) before) before (walk settings R k before come r)
+    k.settled (after_entries (no_one settings) before) before (walk settings R k before come r)
 
 pub no_early : (settings : Settings) (inputs : List Entry) → IsProper settings inputs → (before after : List Entry) → journal_of settings inputs ≡ before ++ after → has_collection before ≡ false
     → reports settings before ≡ []

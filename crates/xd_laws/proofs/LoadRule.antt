@@ -1,8 +1,8 @@
 -- Mode load keeps its rule.
 use Rattle.std.proofs.Common.{◌≡◌, true, refl, sym, subst}
 use Rattle.xd_edge.specs.declared.mode.ModeKind.TheVariants.{Load}
-use Rattle.xd_ledger.specs.Modes.{Call, turned}
-use Rattle.xd_ledger.specs.Modes.Call.{Share, Joined, TestDone, TestsBack, Died}
+use Rattle.xd_ledger.specs.Modes.{ModeCall, turned}
+use Rattle.xd_ledger.specs.Modes.ModeCall.{Share, Joined, TestDone, TestsBack, Died}
 use Rattle.xd_ledger.specs.Sharing.{State}
 use Rattle.xd_ledger.specs.Outputs.{turn_of}
 use Rattle.xd_laws.proofs.Turns.{Tidy, Good, IsPlain, good-first}
@@ -13,7 +13,7 @@ use Rattle.xd_laws.proofs.LoadTurns.{good-refill, good-refill_all, good-share}
 pub load_plain : (s : State) → InMode Load s → IsPlain s.plan.mode
 load_plain s m = subst IsPlain (sym m) (record { each = refl; scope = refl })
 
-load-good : (s : State) (c : Call) → Tidy s → s.books.shared ≡ true → InMode Load s → CallFits s c → Good s (turned Load c (turn_of s))
+load-good : (s : State) (c : ModeCall) → Tidy s → s.books.shared ≡ true → InMode Load s → CallFits s c → Good s (turned Load c (turn_of s))
 load-good s (Share slots) d h m f = good-share s (turn_of s) (load_plain s m) (good-first s d h)
 load-good s (Joined w slot) d h m f = good-refill_all s (turn_of s) (load_plain s m) (good-first s d h)
 load-good s (TestDone w ms) d h m f = good-refill s ms w (turn_of s) (load_plain s m) f (good-first s d h)

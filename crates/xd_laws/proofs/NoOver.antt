@@ -10,15 +10,15 @@ use Rattle.xd_journal.specs.declared.entry.Entry.{Entry}
 use Rattle.xd_journal.specs.declared.entry.Entry.TheVariants.{Ready, Collected, Done, Back, Finished, Refused, Down, NotStarted, Start, Run, RunAll, Steal, Shutdown, Kill, Over}
 use Rattle.xd_ledger.specs.declared.member.Member.{Member}
 use Rattle.xd_ledger.specs.Turn.{Turn}
-use Rattle.xd_ledger.specs.Modes.{Call}
-use Rattle.xd_ledger.specs.Modes.Call.{Share, Joined, TestDone, TestsBack, Died}
+use Rattle.xd_ledger.specs.Modes.{ModeCall}
+use Rattle.xd_ledger.specs.Modes.ModeCall.{Share, Joined, TestDone, TestsBack, Died}
 use Rattle.xd_ledger.specs.Books.{Books}
 use Rattle.xd_ledger.specs.Workers.{is_shut, slot_of, waiting}
 use Rattle.xd_ledger.specs.Stops.{is_shutting, is_stopped}
 use Rattle.xd_ledger.specs.Sharing.{State}
-use Rattle.xd_ledger.specs.State.{all_moved, moved, settles}
-use Rattle.xd_ledger.specs.Outputs.{acts_of, after_death, after_joining, closing, outputs, own_outputs, shut_all, slots_of_rota, stepped, turn_of, unless_stopped}
-use Rattle.xd_ledger.specs.Histories.{begun, end_of, first_starts, grown, journal_of, starts_from}
+use Rattle.xd_ledger.specs.State.{after_entries, after_effect, settles}
+use Rattle.xd_ledger.specs.Outputs.{acts_of, outputs_of_death, outputs_of_joining, closing, outputs, own_outputs, shut_all, slots_of_rota, after_input, turn_of, unless_stopped}
+use Rattle.xd_ledger.specs.Histories.{after_starts, run_end_of, first_starts, grown, journal_of, starts_from}
 use Rattle.xd_ledger.specs.Ending.{ending, kills, over_in}
 use Rattle.xd_ledger.specs.Proper.{all_may_follow, may_follow}
 use Rattle.xd_laws.proofs.Logic.{and, differ, in_both, split-and}
@@ -54,7 +54,7 @@ silent_moves = record {
   shuts = λ w t a. join t.acts (Shutdown w ∷ []) a refl;
 }
 
-no-over-acts : (c : Call) (s : State) → NoOver (acts_of c s)
+no-over-acts : (c : ModeCall) (s : State) → NoOver (acts_of c s)
 no-over-acts c s = turned-keeps Silent silent_moves s.plan.mode c (turn_of s) refl
 
 -- what follows an input
@@ -68,14 +68,14 @@ no-over-unless b n es h =
     in_both NoOver (is_stopped b) [] (if is_stopped n then shut_all n.crew else es) (λ k. refl)
     (λ k. in_both NoOver (is_stopped n) (shut_all n.crew) es (λ l. no-over-shut (waiting n.crew)) (λ l. h))
 
-no-over-joining : (w : ℕ) (b : Books) (t : State) → NoOver (after_joining w b t)
+no-over-joining : (w : ℕ) (b : Books) (t : State) → NoOver (outputs_of_joining w b t)
 no-over-joining w b t =
     let joined = acts_of (Joined w (slot_of w t.books)) t in
     let shared = acts_of (Share (slots_of_rota t.books)) t in
     in_both NoOver b.shared joined (if t.books.shared then shared else []) (λ h. no-over-acts (Joined w (slot_of w t.books)) t)
     (λ h. in_both NoOver t.books.shared shared [] (λ k. no-over-acts (Share (slots_of_rota t.books)) t) (λ k. refl))
 
-no-over-death : (w : ℕ) (t : State) → NoOver (after_death w t)
+no-over-death : (w : ℕ) (t : State) → NoOver (outputs_of_death w t)
 no-over-death w t =
     join (if t.books.shared then acts_of Died t else []) (Start (length t.books.crew) (slot_of w t.books) ∷ [])
     (in_both NoOver t.books.shared (acts_of Died t) [] (λ h. no-over-acts Died t) (λ h. refl)) refl
@@ -83,13 +83,13 @@ no-over-death w t =
 no-over-own : (s : State) (e : Entry) (t : State) → NoOver (own_outputs s e t)
 no-over-own s (Ready w) t = in_both NoOver (is_shutting t.books) (Shutdown w ∷ []) [] (λ k. refl) (λ k. refl)
 no-over-own s (Collected w g) t =
-    in_both NoOver (is_shut w s.books) [] (unless_stopped s.books t.books (after_joining w s.books t)) (λ k. refl) (λ k. no-over-unless s.books t.books (after_joining w s.books t) (no-over-joining w s.books t))
+    in_both NoOver (is_shut w s.books) [] (unless_stopped s.books t.books (outputs_of_joining w s.books t)) (λ k. refl) (λ k. no-over-unless s.books t.books (outputs_of_joining w s.books t) (no-over-joining w s.books t))
 no-over-own s (Done w i u m o) t = no-over-unless s.books t.books (acts_of (TestDone w m) t) (no-over-acts (TestDone w m) t)
 no-over-own s (Back w is) t = no-over-unless s.books t.books (acts_of TestsBack t) (no-over-acts TestsBack t)
 no-over-own s (Finished w) t = refl
 no-over-own s (Refused w x) t = no-over-unless s.books t.books [] refl
-no-over-own s (Down w c o) t = no-over-unless s.books t.books (after_death w t) (no-over-death w t)
-no-over-own s (NotStarted w) t = no-over-unless s.books t.books (after_death w t) (no-over-death w t)
+no-over-own s (Down w c o) t = no-over-unless s.books t.books (outputs_of_death w t) (no-over-death w t)
+no-over-own s (NotStarted w) t = no-over-unless s.books t.books (outputs_of_death w t) (no-over-death w t)
 no-over-own s (Start w slot) t = refl
 no-over-own s (Run w is) t = refl
 no-over-own s (RunAll w) t = refl
@@ -100,9 +100,9 @@ no-over-own s (Over how) t = refl
 
 no-over-outputs : (s : State) (e : Entry) → NoOver (outputs s e)
 no-over-outputs s e =
-    let t = moved s e in
+    let t = after_effect s e in
     let own = own_outputs s e t in
-    let u = all_moved t own in
+    let u = after_entries t own in
     join own (closing u) (no-over-own s e t) (in_both NoOver (not (is_shutting u.books) && settles u) (shut_all u.books.crew) [] (λ h. no-over-shut (waiting u.books.crew)) (λ h. refl))
 
 -- what a worker may say
@@ -131,11 +131,11 @@ no-over-starts w (suc n) = no-over-starts (w + 1) n
 no-over-grown : (s : State) (es : List Entry) → all_may_follow s es ≡ true → NoOver (grown s es)
 no-over-grown s [] h = refl
 no-over-grown s (e ∷ es) h =
-    let p = split-and (may_follow s e) (all_may_follow (stepped s e) es) h in
-    join (e ∷ outputs s e) (grown (stepped s e) es) (and (no-over-input s e p.0) (no-over-outputs s e)) (no-over-grown (stepped s e) es p.1)
+    let p = split-and (may_follow s e) (all_may_follow (after_input s e) es) h in
+    join (e ∷ outputs s e) (grown (after_input s e) es) (and (no-over-input s e p.0) (no-over-outputs s e)) (no-over-grown (after_input s e) es p.1)
 
-pub no-over-journal : (settings : Settings) (inputs : List Entry) → all_may_follow (begun settings) inputs ≡ true → NoOver (journal_of settings inputs)
-no-over-journal settings inputs h = join (first_starts settings) (grown (begun settings) inputs) (no-over-starts 0 settings.workers) (no-over-grown (begun settings) inputs h)
+pub no-over-journal : (settings : Settings) (inputs : List Entry) → all_may_follow (after_starts settings) inputs ≡ true → NoOver (journal_of settings inputs)
+no-over-journal settings inputs h = join (first_starts settings) (grown (after_starts settings) inputs) (no-over-starts 0 settings.workers) (no-over-grown (after_starts settings) inputs h)
 
 -- the end says how
 
@@ -167,5 +167,5 @@ no-over-kills (m ∷ ms) = no-over-kills ms
 pub stop-failed : (b : Books) (es : List Entry) (other : RunStop) → NoOver es → over_in (es ++ ending true b) other ≡ OutFault
 stop-failed b es other h = over-behind es (ending true b) other h ∙ over-behind (kills b.crew) (Over OutFault ∷ []) other (no-over-kills (filter (λ m. m.active) b.crew))
 
-pub stop-over : (b : Books) (es : List Entry) (other : RunStop) → NoOver es → over_in (es ++ ending false b) other ≡ end_of b
+pub stop-over : (b : Books) (es : List Entry) (other : RunStop) → NoOver es → over_in (es ++ ending false b) other ≡ run_end_of b
 stop-over b es other h = over-behind es (ending false b) other h

@@ -10,7 +10,7 @@ use Rattle.xd_journal.specs.declared.entry.Entry.{Entry}
 use Rattle.xd_journal.specs.declared.entry.Entry.TheVariants.{Ready, Collected, Done, Finished}
 use Rattle.xd_ledger.specs.declared.member.Member.{Member}
 use Rattle.xd_ledger.specs.Books.{on_table}
-use Rattle.xd_ledger.specs.Histories.{begun, is_over, stepped_all}
+use Rattle.xd_ledger.specs.Histories.{after_starts, is_over, after_inputs}
 use Rattle.xd_ledger.specs.Owes.{owes, someone_owes}
 use Rattle.xd_ledger.specs.Proper.{IsProper}
 use Rattle.xd_ledger.specs.Sharing.{State, in_books}
@@ -35,7 +35,7 @@ abbrev collected : List Entry
 collected = Ready 0 ∷ Collected 0 (ids.List scoped) ∷ Ready 1 ∷ Collected 1 (ids.List scoped) ∷ []
 
 abbrev behind : ModeKind → List Entry → State
-behind k inputs = stepped_all (begun (in_mode k)) inputs
+behind k inputs = after_inputs (after_starts (in_mode k)) inputs
 
 -- nobody is ready
 opening : who_owe (behind Load []) ≡ true ∷ true ∷ []
@@ -50,11 +50,11 @@ load_shared : who_owe (behind Load collected) ≡ true ∷ true ∷ []
 load_shared = refl
 
 -- worker 0 went down, and owes nothing any more; whoever replaces it is not ready
-load_crashed : who_owe (stepped_all (begun three) (take 5 a_death)) ≡ false ∷ true ∷ true ∷ []
+load_crashed : who_owe (after_inputs (after_starts three) (take 5 a_death)) ≡ false ∷ true ∷ true ∷ []
 load_crashed = refl
 
 -- the same where the test is tried again
-load_retried : who_owe (stepped_all (begun one_retry) first_crash) ≡ false ∷ true ∷ true ∷ []
+load_retried : who_owe (after_inputs (after_starts one_retry) first_crash) ≡ false ∷ true ∷ true ∷ []
 load_retried = refl
 
 -- mode each: worker 0 ran all of its tests and ended, worker 1 is to end
@@ -89,7 +89,7 @@ asked-proper = record { mode = refl; some_worker = refl; few_workers = refl; few
 abbrev stuck : State
 stuck =
     in_books (on_table (λ t. record t { pool = 2 ∷ []; rota = record { worker = 0; held = 0 ∷ []; shut = false } ∷ record { worker = 1; held = 1 ∷ []; shut = false } ∷ [] }))
-    (in_books (λ b. record b { crew = map (λ (m : Member). record m { shut = false }) b.crew; shutting = false }) (stepped_all (begun three) (take 4 a_death)))
+    (in_books (λ b. record b { crew = map (λ (m : Member). record m { shut = false }) b.crew; shutting = false }) (after_inputs (after_starts three) (take 4 a_death)))
 
 stuck-owes : someone_owes stuck ≡ false
 stuck-owes = refl
@@ -97,5 +97,5 @@ stuck-owes = refl
 stuck-over : is_over stuck.books ≡ false
 stuck-over = refl
 
-never_stuck : (inputs : List Entry) → IsProper three inputs → stepped_all (begun three) inputs ≡ stuck → ⊥
+never_stuck : (inputs : List Entry) → IsProper three inputs → after_inputs (after_starts three) inputs ≡ stuck → ⊥
 never_stuck inputs p e = clash (someone_owes stuck) stuck-owes (ap someone_owes (sym e) ∙ owed three inputs p (ap (λ (s : State). is_over s.books) e ∙ stuck-over))

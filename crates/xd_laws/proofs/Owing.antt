@@ -8,11 +8,11 @@ use Rattle.xd_ledger.specs.declared.member.Member.{Member}
 use Rattle.xd_ledger.specs.declared.seat.Seat.{Seat}
 use Rattle.xd_ledger.specs.Numbers.{all_distinct, among}
 use Rattle.xd_ledger.specs.Table.{held, held_in, in_rota, seat_shut, workers_of}
-use Rattle.xd_ledger.specs.Plan.{Asked, is_each, slot_items}
+use Rattle.xd_ledger.specs.Plan.{UnansweredSteal, is_each, slot_items}
 use Rattle.xd_ledger.specs.Workers.{slot_in, slot_of, some_active}
 use Rattle.xd_ledger.specs.Stops.{is_shutting, is_stopped}
 use Rattle.xd_ledger.specs.Sharing.{State}
-use Rattle.xd_ledger.specs.State.{is_finished, settles}
+use Rattle.xd_ledger.specs.State.{is_handed_out, settles}
 use Rattle.xd_ledger.specs.Histories.{is_over}
 use Rattle.xd_ledger.specs.Owes.{owes, someone_owes, steal_open_to}
 use Rattle.xd_laws.proofs.Logic.{and, cases_of, differ, or-left, or-right, split-and, split-or, not_true}
@@ -43,7 +43,7 @@ Awaited s = (x : ℕ) → among x s.books.table.pool ≡ true → Awaits s x
 
 -- whoever is asked for tests is active and was told nothing
 abbrev pub AskedOpen : State → Type 0
-AskedOpen s = (a : Asked) → s.plan.steal ≡ Some a → (has a.worker (λ m. m.active) s.books.crew ≡ true) × (has a.worker (λ m. m.shut) s.books.crew ≡ false)
+AskedOpen s = (a : UnansweredSteal) → s.plan.steal ≡ Some a → (has a.worker (λ m. m.active) s.books.crew ≡ true) × (has a.worker (λ m. m.shut) s.books.crew ≡ false)
 
 -- a worker of this slot is active
 pub record HasSlot (s : State) (k : ℕ) : Type 0 where
@@ -166,10 +166,10 @@ busy-owes s v a b = owes-by s v (λ m. true)
     any-has v [] h = h
     any-has v (m ∷ ms) h = grind (arith, nat_tests, h, any-has v ms)
 
-asked-owes : (s : State) (a : Asked) → s.plan.steal ≡ Some a → has a.worker (λ m. m.active) s.books.crew ≡ true → someone_owes s ≡ true
+asked-owes : (s : State) (a : UnansweredSteal) → s.plan.steal ≡ Some a → has a.worker (λ m. m.active) s.books.crew ≡ true → someone_owes s ≡ true
 asked-owes s a e h = owes-by s a.worker (λ m. true)
     (λ m q z. (let same : a.worker ≡ m.worker = grind (arith, nat_tests, q) in
-    let open_ : steal_open_to m.worker s ≡ true = ap (λ (o : Option Asked). elim o as (λ _. Bool) [ None ↦ false | Some b ↦ b.worker == m.worker ]) e ∙ grind (arith, nat_tests, same) in
+    let open_ : steal_open_to m.worker s ≡ true = ap (λ (o : Option UnansweredSteal). elim o as (λ _. Bool) [ None ↦ false | Some b ↦ b.worker == m.worker ]) e ∙ grind (arith, nat_tests, same) in
     fifth (not m.ready) (not m.collected) m.shut (nat_le 2 (length (held m.worker s.books.table))) (steal_open_to m.worker s) open_))
     (any-has a.worker s.books.crew h)
   where
@@ -255,7 +255,7 @@ third-false true false c h k f = absurd (differ k)
 third-false false b c h k f = absurd (differ h)
 
 -- the tests are shared, and not all is done
-shared-owes : (s : State) → Tidy s → Going s → s.books.shared ≡ true → is_finished s.books.table s.plan ≡ false → someone_owes s ≡ true
+shared-owes : (s : State) → Tidy s → Going s → s.books.shared ≡ true → is_handed_out s.books.table s.plan ≡ false → someone_owes s ≡ true
 shared-owes s d g h f = by s.books.table.pool refl s.plan.steal refl
   where
     pool-owes : (x : ℕ) → among x s.books.table.pool ≡ true → someone_owes s ≡ true
@@ -277,7 +277,7 @@ shared-owes s d g h f = by s.books.table.pool refl s.plan.steal refl
     by_seats : list_all (λ x. nat_lt (length x.held) 2) s.books.table.rota ≡ false → someone_owes s ≡ true
     by_seats k = (let r = seats-owe s.books.table.rota (λ w. d.placed.fits.seats w) k in busy-owes s r.0 (d.placed.fits.active r.0 r.1) r.2)
 
-    by : (pool : List ℕ) → s.books.table.pool ≡ pool → (o : Option Asked) → s.plan.steal ≡ o → someone_owes s ≡ true
+    by : (pool : List ℕ) → s.books.table.pool ≡ pool → (o : Option UnansweredSteal) → s.plan.steal ≡ o → someone_owes s ≡ true
     by (x ∷ xs) e o q = pool-owes x (ap (λ (ys : List ℕ). among x ys) e ∙ grind (arith, nat_tests))
     by [] e (Some a) q = asked-owes s a q (g.asked a q).0
     by [] e None q = by_seats (third-false (length s.books.table.pool == 0) (is_none s.plan.steal) (list_all (λ x. nat_lt (length x.held) 2) s.books.table.rota)
@@ -291,7 +291,7 @@ owing-owes s d o settled h = elim (cases_of (is_shutting s.books)) [
       (let n = neither (is_stopped s.books) s.books.shutting k in
       let g = o.going n.0 in
       elim (cases_of s.books.shared) [
-        | inl z ↦ shared-owes s d g z (elim (cases_of (is_finished s.books.table s.plan)) [
+        | inl z ↦ shared-owes s d g z (elim (cases_of (is_handed_out s.books.table s.plan)) [
           | inl f ↦ absurd (differ (sym n.1 ∙ settled (and (and (rw (n.0) refl) z) f)))
           | inr f ↦ f
         ])

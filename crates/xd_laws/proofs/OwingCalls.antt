@@ -10,14 +10,14 @@ use Rattle.xd_journal.specs.declared.entry.Outcome.{Outcome}
 use Rattle.xd_ledger.specs.declared.seat.Seat.{Seat}
 use Rattle.xd_ledger.specs.Numbers.{all_among, among, without}
 use Rattle.xd_ledger.specs.Table.{Table, at_seat, held, held_in, seat_shut, workers_of}
-use Rattle.xd_ledger.specs.Plan.{Asked, is_each, items_named}
-use Rattle.xd_ledger.specs.Modes.{Call}
-use Rattle.xd_ledger.specs.Modes.Call.{TestDone, TestsBack}
+use Rattle.xd_ledger.specs.Plan.{UnansweredSteal, is_each, items_named}
+use Rattle.xd_ledger.specs.Modes.{ModeCall}
+use Rattle.xd_ledger.specs.Modes.ModeCall.{TestDone, TestsBack}
 use Rattle.xd_ledger.specs.Workers.{is_active, slot_of}
 use Rattle.xd_ledger.specs.Stops.{is_shutting, is_stopped}
 use Rattle.xd_ledger.specs.Sharing.{State}
 use Rattle.xd_ledger.specs.Results.{completed_first}
-use Rattle.xd_ledger.specs.State.{all_moved, moved}
+use Rattle.xd_ledger.specs.State.{after_entries, after_effect}
 use Rattle.xd_ledger.specs.Outputs.{acts_of, own_outputs}
 use Rattle.xd_ledger.specs.Proper.{is_head, may_follow, may_give_back}
 use Rattle.xd_laws.proofs.Logic.{clash, differ, split-and}
@@ -60,19 +60,19 @@ first-other v w (i ∷ is) t h = held-other v w (λ s. record s { held = without
 -- calls of the mode
 
 module _ (X : State → Type 0) (k : Keeper X) where
-  pub call-owing : (s now : State) (c : Call) → (is_shutting s.books ≡ true → AllTold now) → now.books.shutting ≡ s.books.shutting → is_stopped now.books ≡ false → Tidy now → now.books.shared ≡ true → X now
-      → CallFits now c → (c ≡ TestsBack → now.plan.mode ≡ WorkSteal) → Ahead now c → OthersTold now c → Expects now c → AskedOpen now → Seated now → Owing (all_moved now (acts_of c now))
+  pub call-owing : (s now : State) (c : ModeCall) → (is_shutting s.books ≡ true → AllTold now) → now.books.shutting ≡ s.books.shutting → is_stopped now.books ≡ false → Tidy now → now.books.shared ≡ true → X now
+      → CallFits now c → (c ≡ TestsBack → now.plan.mode ≡ WorkSteal) → Ahead now c → OthersTold now c → Expects now c → AskedOpen now → Seated now → Owing (after_entries now (acts_of c now))
   call-owing s now c told same n d h x f b ahead others expects asked seated =
-      owing-later s now (all_moved now (acts_of c now)) told same n (later-call X k.rule now c d h x f)
+      owing-later s now (after_entries now (acts_of c now)) told same n (later-call X k.rule now c d h x f)
       (going-call X k now c d h x f b ahead others (k.waits now c d h x f expects) asked seated)
 
-  pub done-owing : (s : State) (w i : ℕ) (u : Outcome) (m : ℕ) (o : List ℕ) → may_follow s (Done w i u m o) ≡ true → Tidy s → Tidy (moved s (Done w i u m o)) → X (moved s (Done w i u m o)) → Owing s
-      → Owing (all_moved (moved s (Done w i u m o)) (own_outputs s (Done w i u m o) (moved s (Done w i u m o))))
+  pub done-owing : (s : State) (w i : ℕ) (u : Outcome) (m : ℕ) (o : List ℕ) → may_follow s (Done w i u m o) ≡ true → Tidy s → Tidy (after_effect s (Done w i u m o)) → X (after_effect s (Done w i u m o)) → Owing s
+      → Owing (after_entries (after_effect s (Done w i u m o)) (own_outputs s (Done w i u m o) (after_effect s (Done w i u m o))))
   done-owing s w i u m out h d t x o =
       owing-unless X k.rule s now (acts_of (TestDone w m) now) (λ q. o.told q) t x (stays-by (is_stopped s.books) (is_stopped now.books) (done-unstopped s w i u m out)) goes
     where
       now : State
-      now = moved s (Done w i u m out)
+      now = after_effect s (Done w i u m out)
 
       items : List ℕ
       items = items_named (slot_of w s.books) (i ∷ []) s.plan
@@ -80,7 +80,7 @@ module _ (X : State → Type 0) (k : Keeper X) where
       rota : (v : ℕ) → among v (workers_of now.books.table) ≡ among v (workers_of s.books.table)
       rota v = ap (λ (ws : List ℕ). among v ws) (workers-first w items s.books.table)
 
-      goes : is_stopped s.books ≡ false → is_stopped now.books ≡ false → Owing (all_moved now (acts_of (TestDone w m) now))
+      goes : is_stopped s.books ≡ false → is_stopped now.books ≡ false → Owing (after_entries now (acts_of (TestDone w m) now))
       goes n z =
           let g = o.going n in
           let a = split-and (is_active w s.books) (list_any (λ item. is_head w item s) items) h in
@@ -97,12 +97,12 @@ module _ (X : State → Type 0) (k : Keeper X) where
           (awaited-by s now (λ y b. ap (λ (xs : List ℕ). among y xs) (sym (pool-first w items s.books.table)) ∙ b) (λ v b q. (b, q)) (λ v. refl) refl refl g.awaited)
           (λ b e. g.asked b e) (λ v b c q. rota v ∙ g.seated v b c q)
 
-  pub back-owing : (s : State) (w : ℕ) (is : List ℕ) → may_follow s (Back w is) ≡ true → Tidy s → X s → Tidy (moved s (Back w is)) → X (moved s (Back w is)) → Owing s
-      → Owing (all_moved (moved s (Back w is)) (own_outputs s (Back w is) (moved s (Back w is))))
+  pub back-owing : (s : State) (w : ℕ) (is : List ℕ) → may_follow s (Back w is) ≡ true → Tidy s → X s → Tidy (after_effect s (Back w is)) → X (after_effect s (Back w is)) → Owing s
+      → Owing (after_entries (after_effect s (Back w is)) (own_outputs s (Back w is) (after_effect s (Back w is))))
   back-owing s w is h d xs t x o = owing-unless X k.rule s now (acts_of TestsBack now) (λ q. o.told q) t x (λ q. q) goes
     where
       now : State
-      now = moved s (Back w is)
+      now = after_effect s (Back w is)
 
       mode : s.plan.mode ≡ WorkSteal
       mode = elim (k.steals s xs) [ inl m ↦ m | inr none ↦ absurd (no_back s w is none h) ]
@@ -110,11 +110,11 @@ module _ (X : State → Type 0) (k : Keeper X) where
       no-each : {A : Type 0} → is_each s.plan.mode ≡ true → A
       no-each e = absurd (differ (sym (ap is_each mode) ∙ e))
 
-      asked_by : (steal : Option Asked) (answer : Asked → Bool) → (elim steal as (λ _. Bool) [ None ↦ false | Some a ↦ (a.worker == w) && answer a ]) ≡ true → (a : Asked) × (steal ≡ Some a) × (a.worker ≡ w)
+      asked_by : (steal : Option UnansweredSteal) (answer : UnansweredSteal → Bool) → (elim steal as (λ _. Bool) [ None ↦ false | Some a ↦ (a.worker == w) && answer a ]) ≡ true → (a : UnansweredSteal) × (steal ≡ Some a) × (a.worker ≡ w)
       asked_by None answer q = absurd (differ q)
       asked_by (Some a) answer q = (a, refl, grind (arith, nat_tests, (split-and (a.worker == w) (answer a) q).0))
 
-      the_asked : (a : Asked) × (s.plan.steal ≡ Some a) × (a.worker ≡ w)
+      the_asked : (a : UnansweredSteal) × (s.plan.steal ≡ Some a) × (a.worker ≡ w)
       the_asked = asked_by s.plan.steal (λ a. elim is [
         | [] ↦ true
         | i ∷ js ↦ bytes_eq (i ∷ js) a.tests && all_among (items_named (slot_of w s.books) (i ∷ js) s.plan) (drop 1 (held w s.books.table))
@@ -126,7 +126,7 @@ module _ (X : State → Type 0) (k : Keeper X) where
       rota : (v : ℕ) → among v (workers_of now.books.table) ≡ among v (workers_of s.books.table)
       rota v = ap (λ (ws : List ℕ). among v ws) (workers-change w (λ z. record z { held = without items z.held }) s.books.table.rota (λ z. refl))
 
-      goes : is_stopped s.books ≡ false → is_stopped now.books ≡ false → Owing (all_moved now (acts_of TestsBack now))
+      goes : is_stopped s.books ≡ false → is_stopped now.books ≡ false → Owing (after_entries now (acts_of TestsBack now))
       goes n z =
           let g = o.going n in
           let open_ = g.asked (the_asked.0) the_asked.1 in

@@ -10,20 +10,20 @@ use Rattle.xd_journal.specs.declared.entry.RunStop.{RunStop}
 use Rattle.xd_ledger.specs.declared.member.Member.{Member}
 use Rattle.xd_ledger.specs.Numbers.{among}
 use Rattle.xd_ledger.specs.Table.{Table, seat_shut, workers_of}
-use Rattle.xd_ledger.specs.Plan.{Asked, is_each}
+use Rattle.xd_ledger.specs.Plan.{UnansweredSteal, is_each}
 use Rattle.xd_ledger.specs.Modes.{turned}
-use Rattle.xd_ledger.specs.Modes.Call.{TestsBack, Died}
+use Rattle.xd_ledger.specs.Modes.ModeCall.{TestsBack, Died}
 use Rattle.xd_ledger.specs.Workers.{is_active, made_gone, slot_in, slot_of, started}
 use Rattle.xd_ledger.specs.Stops.{is_stopped}
 use Rattle.xd_ledger.specs.Sharing.{State}
 use Rattle.xd_ledger.specs.Deaths.{steal_without}
-use Rattle.xd_ledger.specs.State.{all_moved, moved}
-use Rattle.xd_ledger.specs.Outputs.{acts_of, after_death, turn_of, unless_stopped}
+use Rattle.xd_ledger.specs.State.{after_entries, after_effect}
+use Rattle.xd_ledger.specs.Outputs.{acts_of, outputs_of_death, turn_of, unless_stopped}
 use Rattle.xd_laws.proofs.Logic.{cases_of, clash, differ, in_both, or-left, or-right, or-unset, split-or}
 use Rattle.xd_laws.proofs.Crew.{has, has-member, has-more, is_member, none-next}
 use Rattle.xd_laws.proofs.CrewFits.{kin-length, kin-same, slot-marked, slot-new, slot-old}
 use Rattle.xd_laws.proofs.Fits.{still_active}
-use Rattle.xd_laws.proofs.Turns.{InRota, Tidy, all_moved-join}
+use Rattle.xd_laws.proofs.Turns.{InRota, Tidy, after_entries-join}
 use Rattle.xd_laws.proofs.Rule.{Turned, fit-none}
 use Rattle.xd_laws.proofs.Inputs.{down-unstopped, shut-gone}
 use Rattle.xd_laws.proofs.Busy.{AllWork}
@@ -35,20 +35,20 @@ use Rattle.xd_laws.proofs.OwingEnds.{fewer-seats, seated-gone, told-gone}
 use Rattle.xd_laws.proofs.OwingCalls.{stays-by}
 
 module _ (X : State → Type 0) (k : Keeper X) where
-  pub down-owing : (s : State) (w : ℕ) → is_active w s.books ≡ true → Tidy s → X s → Tidy (moved s (NotStarted w)) → X (moved s (NotStarted w)) → Owing s
-      → Owing (all_moved (moved s (NotStarted w)) (unless_stopped s.books (moved s (NotStarted w)).books (after_death w (moved s (NotStarted w)))))
+  pub down-owing : (s : State) (w : ℕ) → is_active w s.books ≡ true → Tidy s → X s → Tidy (after_effect s (NotStarted w)) → X (after_effect s (NotStarted w)) → Owing s
+      → Owing (after_entries (after_effect s (NotStarted w)) (unless_stopped s.books (after_effect s (NotStarted w)).books (outputs_of_death w (after_effect s (NotStarted w)))))
   down-owing s w a d xs t x o =
-      owing-unless X k.rule s now (after_death w now) (λ q. told-fewer s now (fewer-gone s now w refl) (o.told q)) t x
+      owing-unless X k.rule s now (outputs_of_death w now) (λ q. told-fewer s now (fewer-gone s now w refl) (o.told q)) t x
       (stays-by (is_stopped s.books) (is_stopped now.books) (down-unstopped w s)) goes
     where
       ms : List Member
       ms = s.books.crew
 
       now : State
-      now = moved s (NotStarted w)
+      now = after_effect s (NotStarted w)
 
       mid : State
-      mid = all_moved now (buried_acts now)
+      mid = after_entries now (buried_acts now)
 
       after : State
       after = replaced now w
@@ -64,10 +64,10 @@ module _ (X : State → Type 0) (k : Keeper X) where
           (λ h. record { fit = fit-none X now t x; kin = kin-same now.books.crew; settings = refl })
 
       later : Later now mid
-      later = in_both (λ (es : List Entry). Later now (all_moved now es)) now.books.shared (acts_of Died now) [] (λ h. later-call X k.rule now Died t h x tt) (λ h. later-same now)
+      later = in_both (λ (es : List Entry). Later now (after_entries now es)) now.books.shared (acts_of Died now) [] (λ h. later-call X k.rule now Died t h x tt) (λ h. later-same now)
 
       before_share : s.books.shared ≡ false → mid ≡ now
-      before_share h = in_both (λ (es : List Entry). all_moved now es ≡ now) now.books.shared (acts_of Died now) [] (λ q. absurd (clash s.books.shared h q)) (λ q. refl)
+      before_share h = in_both (λ (es : List Entry). after_entries now es ≡ now) now.books.shared (acts_of Died now) [] (λ q. absurd (clash s.books.shared h q)) (λ q. refl)
 
       free : is_member n mid.books.crew ≡ false
       free = ap (λ (i : ℕ). is_member i mid.books.crew) (sym (kin-length now.books.crew mid.books.crew turns.kin)) ∙ none-next mid.books.crew turns.fit.tidy.crew.numbered
@@ -85,11 +85,11 @@ module _ (X : State → Type 0) (k : Keeper X) where
           let open_ = g.asked b p.0 in
           (still_active b.worker w ms p.1 open_.0, shut-gone w b.worker ms ∙ open_.1)
         where
-          asked-without : (steal : Option Asked) → steal_without w steal ≡ Some b → (steal ≡ Some b) × ((b.worker == w) ≡ false)
+          asked-without : (steal : Option UnansweredSteal) → steal_without w steal ≡ Some b → (steal ≡ Some b) × ((b.worker == w) ≡ false)
           asked-without None q = absurd (let z : None ≡ Some b = q in cc)
           asked-without (Some c) q = elim (cases_of (c.worker == w)) [
             | inl h ↦ absurd (let z : None ≡ Some b = sym (rw h refl) ∙ q in cc)
-            | inr h ↦ (let z : Some c ≡ Some b = sym (rw h refl) ∙ q in let y : c ≡ b = cc in (ap (λ (u : Asked). Some u) y, ap (λ (u : Asked). u.worker == w) (sym y) ∙ h))
+            | inr h ↦ (let z : Some c ≡ Some b = sym (rw h refl) ∙ q in let y : c ≡ b = cc in (ap (λ (u : UnansweredSteal). Some u) y, ap (λ (u : UnansweredSteal). u.worker == w) (sym y) ∙ h))
           ]
 
       seated_after : Going s → Seated after
@@ -107,10 +107,10 @@ module _ (X : State → Type 0) (k : Keeper X) where
       slots_after g h i l =
           let unshared : s.books.shared ≡ false = sym later.shared ∙ h in
           let quiet = before_share unshared in
-          subst (λ (u : State). HasSlot (moved u (Start n (slot_of w now.books))) i) (sym quiet) (here (g.slots unshared i (subst (λ (b : Settings). i < b.workers) later.settings l)))
+          subst (λ (u : State). HasSlot (after_effect u (Start n (slot_of w now.books))) i) (sym quiet) (here (g.slots unshared i (subst (λ (b : Settings). i < b.workers) later.settings l)))
         where
           come : State
-          come = moved now (Start n (slot_of w now.books))
+          come = after_effect now (Start n (slot_of w now.books))
 
           here : HasSlot s i → HasSlot come i
           here one = elim (cases_of (one.who == w)) [
@@ -139,10 +139,10 @@ module _ (X : State → Type 0) (k : Keeper X) where
           subst (λ (u : State). length u.books.table.rota < u.books.settings.workers) (sym (before_share unshared)) (omega (arith, below, less))
 
       work_after : Going s → after.books.shared ≡ true → AllWork (workers_of after.books.table) after.books.table
-      work_after g h = in_both (λ (es : List Entry). AllWork (workers_of (all_moved now es).books.table) (all_moved now es).books.table) now.books.shared (acts_of Died now) []
+      work_after g h = in_both (λ (es : List Entry). AllWork (workers_of (after_entries now es).books.table) (after_entries now es).books.table) now.books.shared (acts_of Died now) []
           (λ q. (let l = later-call X k.rule now Died t q x tt in
           let z = k.rule.agrees now Died t q x tt in
-          subst (λ (u : Table). AllWork (workers_of (all_moved now (acts_of Died now)).books.table) u) (sym z.table)
+          subst (λ (u : Table). AllWork (workers_of (after_entries now (acts_of Died now)).books.table) u) (sym z.table)
           (subst (λ (ws : List ℕ). AllWork ws (turned now.plan.mode Died (turn_of now)).table) (sym l.rota)
           (k.work now Died t q x tt (λ e. absurd (let y : Died ≡ TestsBack = e in cc)) tt (λ e v b r. told-gone s now w refl (g.told q e) v b)))))
           (λ q. absurd (clash s.books.shared q (sym later.shared ∙ h)))
@@ -153,7 +153,7 @@ module _ (X : State → Type 0) (k : Keeper X) where
           later.told v (told-gone s now w refl (g.told q (ap is_each (sym later.mode) ∙ e)) v (ap (λ (ws : List ℕ). among v ws) (sym later.rota) ∙ b))
 
       asked_mid : Going s → AskedOpen mid
-      asked_mid g = in_both (λ (es : List Entry). AskedOpen (all_moved now es)) now.books.shared (acts_of Died now) [] (λ q. k.asked now Died t q x tt (asked_now g)) (λ q. asked_now g)
+      asked_mid g = in_both (λ (es : List Entry). AskedOpen (after_entries now es)) now.books.shared (acts_of Died now) [] (λ q. k.asked now Died t q x tt (asked_now g)) (λ q. asked_now g)
 
       going_after : Going s → Going after
       going_after g = record {
@@ -166,9 +166,9 @@ module _ (X : State → Type 0) (k : Keeper X) where
         room = room_after g;
       }
 
-      goes : is_stopped s.books ≡ false → is_stopped now.books ≡ false → Owing (all_moved now (after_death w now))
+      goes : is_stopped s.books ≡ false → is_stopped now.books ≡ false → Owing (after_entries now (outputs_of_death w now))
       goes q z =
-          subst Owing (sym (all_moved-join now (buried_acts now) (Start n (slot_of w now.books) ∷ [])))
+          subst Owing (sym (after_entries-join now (buried_acts now) (Start n (slot_of w now.books) ∷ [])))
           (record {
             told = λ y. absurd (elim (split-or (is_stopped after.books) false y) [ inl b ↦ clash (is_stopped now.books) z (ap (λ (h : Option RunStop). is_some h) (sym later.stop) ∙ b) | inr b ↦ differ b ]);
             going = λ y. going_after (o.going q);

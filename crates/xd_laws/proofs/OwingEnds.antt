@@ -12,7 +12,7 @@ use Rattle.xd_ledger.specs.Table.{Table, held, seat_shut, without_seat}
 use Rattle.xd_ledger.specs.Workers.{has_collected, is_active, is_shut, made_gone}
 use Rattle.xd_ledger.specs.Stops.{is_stopped}
 use Rattle.xd_ledger.specs.Sharing.{State}
-use Rattle.xd_ledger.specs.State.{all_moved, moved}
+use Rattle.xd_ledger.specs.State.{after_entries, after_effect}
 use Rattle.xd_ledger.specs.Outputs.{own_outputs}
 use Rattle.xd_ledger.specs.Proper.{may_follow}
 use Rattle.xd_laws.proofs.Logic.{cases_of, clash, differ, not_true, split-and}
@@ -67,11 +67,11 @@ same-work v t u a b h = ap (λ (q : Bool). q || nat_le 2 (length (held v u))) a 
 
 -- a worker ends
 
-pub finished-owing : (s : State) (w : ℕ) → may_follow s (Finished w) ≡ true → Tidy s → Owing s → Owing (moved s (Finished w))
+pub finished-owing : (s : State) (w : ℕ) → may_follow s (Finished w) ≡ true → Tidy s → Owing s → Owing (after_effect s (Finished w))
 finished-owing s w h d o = record { told = λ q. told-fewer s now (fewer-gone s now w refl) (o.told q); going = λ z. goes z (o.going z) }
   where
     now : State
-    now = moved s (Finished w)
+    now = after_effect s (Finished w)
 
     ms : List Member
     ms = s.books.crew
@@ -101,9 +101,9 @@ finished-owing s w h d o = record { told = λ q. told-fewer s now (fewer-gone s 
       room = λ q. absurd (clash s.books.shared q (shared z));
     }
 
-pub refused-owing : (X : State → Type 0) → Rule X → (s : State) (w : ℕ) (t : List ℕ) → Tidy (moved s (Refused w t)) → X (moved s (Refused w t)) → Owing s
-    → Owing (all_moved (moved s (Refused w t)) (own_outputs s (Refused w t) (moved s (Refused w t))))
+pub refused-owing : (X : State → Type 0) → Rule X → (s : State) (w : ℕ) (t : List ℕ) → Tidy (after_effect s (Refused w t)) → X (after_effect s (Refused w t)) → Owing s
+    → Owing (after_entries (after_effect s (Refused w t)) (own_outputs s (Refused w t) (after_effect s (Refused w t))))
 refused-owing X rule s w t d x o =
-    let now = moved s (Refused w t) in
+    let now = after_effect s (Refused w t) in
     owing-unless X rule s now [] (λ q. told-fewer s now (fewer-gone s now w refl) (o.told q)) d x (λ q. some-stop s.books.stop (CollectError w))
     (λ n z. absurd (clash (is_stopped now.books) z (some-stop s.books.stop (CollectError w))))

@@ -7,13 +7,13 @@ use Rattle.xd_ledger.specs.declared.member.Member.{Member}
 use Rattle.xd_ledger.specs.Workers.{is_active, made_ready, made_shut, was_ready}
 use Rattle.xd_ledger.specs.Stops.{is_shutting, is_stopped}
 use Rattle.xd_ledger.specs.Sharing.{State}
-use Rattle.xd_ledger.specs.State.{all_moved, moved, settled}
-use Rattle.xd_ledger.specs.Outputs.{closing, own_outputs, stepped}
+use Rattle.xd_ledger.specs.State.{after_entries, after_effect, settled}
+use Rattle.xd_ledger.specs.Outputs.{closing, own_outputs, after_input}
 use Rattle.xd_ledger.specs.Proper.{may_follow}
 use Rattle.xd_laws.proofs.Logic.{cases_of, clash, differ, in_both, split-and, split-or}
 use Rattle.xd_laws.proofs.Crew.{has, has-member, has-same, has-set}
 use Rattle.xd_laws.proofs.CrewFits.{slot-marked}
-use Rattle.xd_laws.proofs.Turns.{Tidy, all_moved-join}
+use Rattle.xd_laws.proofs.Turns.{Tidy, after_entries-join}
 use Rattle.xd_laws.proofs.Inputs.{tidy-input}
 use Rattle.xd_laws.proofs.Outputs.{closing-fit, own-fit}
 use Rattle.xd_laws.proofs.Spent.{Spent}
@@ -28,17 +28,17 @@ use Rattle.xd_laws.proofs.OwingDeaths.{down-owing}
 
 -- Ready
 
-ready-owing : (s : State) (w : ℕ) → Tidy s → Spent s → Owing s → Owing (all_moved (moved s (Ready w)) (own_outputs s (Ready w) (moved s (Ready w))))
-ready-owing s w d p o = in_both (λ (os : List Entry). Owing (all_moved now os)) (is_shutting s.books) (Shutdown w ∷ []) [] shutting still
+ready-owing : (s : State) (w : ℕ) → Tidy s → Spent s → Owing s → Owing (after_entries (after_effect s (Ready w)) (own_outputs s (Ready w) (after_effect s (Ready w))))
+ready-owing s w d p o = in_both (λ (os : List Entry). Owing (after_entries now os)) (is_shutting s.books) (Shutdown w ∷ []) [] shutting still
   where
     ms : List Member
     ms = s.books.crew
 
     now : State
-    now = moved s (Ready w)
+    now = after_effect s (Ready w)
 
     after : State
-    after = moved now (Shutdown w)
+    after = after_effect now (Shutdown w)
 
     alike : Alike s now
     alike = record {
@@ -83,7 +83,7 @@ ready-owing s w d p o = in_both (λ (os : List Entry). Owing (all_moved now os))
 module _ (X : State → Type 0) (k : Keeper X) where
   -- an input and all that follows it
 
-  input-owing : (s : State) (e : Entry) → may_follow s e ≡ true → Tidy s → X s → Spent s → Tidy (moved s e) → X (moved s e) → Owing s → Owing (all_moved (moved s e) (own_outputs s e (moved s e)))
+  input-owing : (s : State) (e : Entry) → may_follow s e ≡ true → Tidy s → X s → Spent s → Tidy (after_effect s e) → X (after_effect s e) → Owing s → Owing (after_entries (after_effect s e) (own_outputs s e (after_effect s e)))
   input-owing s (Ready w) h d xs p t x o = ready-owing s w d p o
   input-owing s (Collected w g) h d xs p t x o = collected-owing X k s w g d t x o
   input-owing s (Done w i u m out) h d xs p t x o = done-owing X k s w i u m out h d t x o
@@ -100,13 +100,13 @@ module _ (X : State → Type 0) (k : Keeper X) where
   input-owing s (Kill w) h d xs p t x o = absurd (differ h)
   input-owing s (Over how) h d xs p t x o = absurd (differ h)
 
-  pub step-owing : (s : State) (e : Entry) → may_follow s e ≡ true → Tidy s → X s → Spent s → Owing s → Owing (stepped s e)
+  pub step-owing : (s : State) (e : Entry) → may_follow s e ≡ true → Tidy s → X s → Spent s → Owing s → Owing (after_input s e)
   step-owing s e h d x p o =
-      let now = moved s e in
+      let now = after_effect s e in
       let own = own_outputs s e now in
       let t = tidy-input s e h d in
       let y = k.rule.input s e h d x in
       let f = own-fit X k.rule s e h d t y in
-      let mid = all_moved now own in
-      subst (λ (u : State). Owing (settled u)) (sym (all_moved-join now own (closing mid)))
+      let mid = after_entries now own in
+      subst (λ (u : State). Owing (settled u)) (sym (after_entries-join now own (closing mid)))
       (owing-closed mid f.tidy (closing-fit X k.rule mid f.tidy f.also).orderly (input-owing s e h d x p t y o))

@@ -8,15 +8,15 @@ use Rattle.xd_journal.specs.declared.entry.Ids.{Ids}
 use Rattle.xd_journal.specs.declared.entry.RunStop.{RunStop}
 use Rattle.xd_ledger.specs.Numbers.{among}
 use Rattle.xd_ledger.specs.Table.{joined, workers_of}
-use Rattle.xd_ledger.specs.Modes.Call.{Share, Joined, TestsBack}
+use Rattle.xd_ledger.specs.Modes.ModeCall.{Share, Joined, TestsBack}
 use Rattle.xd_ledger.specs.Books.{marked}
 use Rattle.xd_ledger.specs.Collections.{listed, unequal, with_list}
 use Rattle.xd_ledger.specs.Workers.{is_shut, made_collected, slot_of}
 use Rattle.xd_ledger.specs.Stops.{is_shutting, is_stopped, or_stop}
 use Rattle.xd_ledger.specs.Sharing.{State, in_books, is_full, joining, shared_now}
 use Rattle.xd_ledger.specs.Collecting.{collecting}
-use Rattle.xd_ledger.specs.State.{all_moved, moved}
-use Rattle.xd_ledger.specs.Outputs.{acts_of, after_joining, own_outputs, slots_of_rota, unless_stopped}
+use Rattle.xd_ledger.specs.State.{after_entries, after_effect}
+use Rattle.xd_ledger.specs.Outputs.{acts_of, outputs_of_joining, own_outputs, slots_of_rota, unless_stopped}
 use Rattle.xd_laws.proofs.Logic.{cases_of, clash, differ, in_both, not_true, or-left, or-right, split-and, split-or}
 use Rattle.xd_laws.proofs.Crew.{has, has-same, has-set}
 use Rattle.xd_laws.proofs.CrewFits.{slot-marked}
@@ -50,15 +50,15 @@ module _ (X : State → Type 0) (k : Keeper X) where
     fresh : s.books.shared ≡ false → now.books.shared ≡ true → IsFresh now (slots_of_rota now.books) × AllThere now
     waiting : s.books.shared ≡ false → now.books.shared ≡ false → Going now
 
-  came-owing : (s now : State) (w : ℕ) → Came s now w → Owing (all_moved now (after_joining w s.books now))
+  came-owing : (s now : State) (w : ℕ) → Came s now w → Owing (after_entries now (outputs_of_joining w s.books now))
   came-owing s now w c =
       let slot = slot_of w now.books in
       let slots = slots_of_rota now.books in
-      in_both (λ (es : List Entry). Owing (all_moved now es)) s.books.shared (acts_of (Joined w slot) now) (if now.books.shared then acts_of (Share slots) now else [])
+      in_both (λ (es : List Entry). Owing (after_entries now es)) s.books.shared (acts_of (Joined w slot) now) (if now.books.shared then acts_of (Share slots) now else [])
       (λ h. call-owing X k s now (Joined w slot) c.told c.shutting c.unstopped c.tidy (c.still h) c.also
       (record { rota = c.rota; slot_is = refl; unshut = sym (c.tidy.placed.fits.marks w (seat-among w now.books.table.rota ∙ c.rota)) ∙ c.unshut })
       (λ e. absurd (let q : Joined w slot ≡ TestsBack = e in cc)) tt (c.others h slot) (c.awaited h) c.asked c.seated)
-      (λ h. in_both (λ (es : List Entry). Owing (all_moved now es)) now.books.shared (acts_of (Share slots) now) []
+      (λ h. in_both (λ (es : List Entry). Owing (after_entries now es)) now.books.shared (acts_of (Share slots) now) []
       (λ r. call-owing X k s now (Share slots) c.told c.shutting c.unstopped c.tidy r c.also (c.fresh h r).0
       (λ e. absurd (let q : Share slots ≡ TestsBack = e in cc)) tt (λ e v a n. absurd (differ (sym n))) (c.fresh h r).1 c.asked c.seated)
       (λ r. owing-later s now now c.told c.shutting c.unstopped (later-same now) (c.waiting h r)))
@@ -151,14 +151,14 @@ module _ (X : State → Type 0) (k : Keeper X) where
       waiting = λ h r. by_full (λ (u : State). u.books.shared ≡ false → Going u) now e (λ f q. absurd (differ (sym q))) (λ f q. going-come f h) r;
     }
 
-  pub collected-owing : (s : State) (w : ℕ) (g : Ids) → Tidy s → Tidy (moved s (Collected w g)) → X (moved s (Collected w g)) → Owing s
-      → Owing (all_moved (moved s (Collected w g)) (own_outputs s (Collected w g) (moved s (Collected w g))))
+  pub collected-owing : (s : State) (w : ℕ) (g : Ids) → Tidy s → Tidy (after_effect s (Collected w g)) → X (after_effect s (Collected w g)) → Owing s
+      → Owing (after_entries (after_effect s (Collected w g)) (own_outputs s (Collected w g) (after_effect s (Collected w g))))
   collected-owing s w g d t x o =
-      in_both (λ (os : List Entry). Owing (all_moved now os)) (is_shut w s.books) [] (unless_stopped s.books now.books (after_joining w s.books now)) too_late
-      (λ u. owing-unless X k.rule s now (after_joining w s.books now) (λ q. told-fewer s now (fewer-collected s w g) (o.told q)) t x stays (joins u))
+      in_both (λ (os : List Entry). Owing (after_entries now os)) (is_shut w s.books) [] (unless_stopped s.books now.books (outputs_of_joining w s.books now)) too_late
+      (λ u. owing-unless X k.rule s now (outputs_of_joining w s.books now) (λ q. told-fewer s now (fewer-collected s w g) (o.told q)) t x stays (joins u))
     where
       now : State
-      now = moved s (Collected w g)
+      now = after_effect s (Collected w g)
 
       first : State
       first = in_books (λ b. marked (made_collected w) (with_list w g b)) s
@@ -206,7 +206,7 @@ module _ (X : State → Type 0) (k : Keeper X) where
       stays : is_stopped s.books ≡ true → is_stopped now.books ≡ true
       stays h = collecting-keeps (λ (u : State). is_stopped u.books ≡ true) first w stop h (kept s.books.stop stop h) h (λ z. h)
 
-      joins : is_shut w s.books ≡ false → is_stopped s.books ≡ false → is_stopped now.books ≡ false → Owing (all_moved now (after_joining w s.books now))
+      joins : is_shut w s.books ≡ false → is_stopped s.books ≡ false → is_stopped now.books ≡ false → Owing (after_entries now (outputs_of_joining w s.books now))
       joins u n z =
           let e = joins-by first w stop (shut_first ∙ u) z in
           came-owing s now w (came-by s w g u (o.going n) now e (λ q. told-fewer s now (fewer-collected s w g) (o.told q)) z t x (shut_as_before s w w g ∙ u)

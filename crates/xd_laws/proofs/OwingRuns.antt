@@ -13,15 +13,15 @@ use Rattle.xd_ledger.specs.Plan.{is_scope}
 use Rattle.xd_ledger.specs.Workers.{started}
 use Rattle.xd_ledger.specs.Stops.{is_stopped}
 use Rattle.xd_ledger.specs.Sharing.{State}
-use Rattle.xd_ledger.specs.State.{all_moved, moved, no_one, settled, settles}
-use Rattle.xd_ledger.specs.Outputs.{outputs, stepped}
-use Rattle.xd_ledger.specs.Histories.{begun, first_starts, is_over, starts_from, stepped_all}
+use Rattle.xd_ledger.specs.State.{after_entries, after_effect, no_one, settled, settles}
+use Rattle.xd_ledger.specs.Outputs.{outputs, after_input}
+use Rattle.xd_ledger.specs.Histories.{after_starts, first_starts, is_over, starts_from, after_inputs}
 use Rattle.xd_ledger.specs.Owes.{someone_owes}
 use Rattle.xd_ledger.specs.Proper.{IsProper, all_may_follow, has_workers, may_follow}
 use Rattle.xd_laws.proofs.Logic.{and-false, clash, differ, or-left, or-right, cases_of, split-and}
 use Rattle.xd_laws.proofs.Crew.{has, has-member, has-more, is_member}
 use Rattle.xd_laws.proofs.CrewFits.{slot-new, slot-old}
-use Rattle.xd_laws.proofs.Runs.{Holds, all-hold, begun-holds, stepped-holds}
+use Rattle.xd_laws.proofs.Runs.{Holds, all-hold, begun-holds, after_input-holds}
 use Rattle.xd_laws.proofs.Spent.{Spent, begun-spent, spent-step}
 use Rattle.xd_laws.proofs.InMode.{InMode}
 use Rattle.xd_laws.proofs.Serving.{InLoad, load_server, steal_server}
@@ -45,7 +45,7 @@ record Opening (s : State) (w : ℕ) : Type 0 where
   slots : (k : ℕ) → k < w → HasSlot s k
   none : (v : ℕ) → w ≤ v → is_member v s.books.crew ≡ false
 
-opening-start : (s : State) (w : ℕ) → Opening s w → Opening (moved s (Start w w)) (w + 1)
+opening-start : (s : State) (w : ℕ) → Opening s w → Opening (after_effect s (Start w w)) (w + 1)
 opening-start s w o =
     let new = started w w in
     let ms = s.books.crew in
@@ -75,12 +75,12 @@ opening-start s w o =
       none = λ v l. has-more v (λ m. true) ms new ∙ grind (arith, nat_tests, o.none v (omega (arith, l)), l);
     }
 
-opening-starts : (s : State) (w n : ℕ) → Opening s w → Opening (all_moved s (starts_from w n)) (w + n)
+opening-starts : (s : State) (w n : ℕ) → Opening s w → Opening (after_entries s (starts_from w n)) (w + n)
 opening-starts s w zero o = subst (λ (k : ℕ). Opening s k) (omega arith) o
 opening-starts s w (suc n) o =
-    let rest = opening-starts (moved s (Start w w)) (w + 1) n (opening-start s w o) in
+    let rest = opening-starts (after_effect s (Start w w)) (w + 1) n (opening-start s w o) in
     let same : (w + 1) + n ≡ w + suc n = omega arith in
-    subst (λ (k : ℕ). Opening (all_moved s (starts_from w (suc n))) k) same rest
+    subst (λ (k : ℕ). Opening (after_entries s (starts_from w (suc n))) k) same rest
 
 opening-owing : (s : State) (w : ℕ) → s.books.settings.workers ≡ w → 1 ≤ w → Opening s w → Owing (settled s)
 opening-owing s w same some o = record { told = λ h. absurd (clash (is_stopped s.books || (s.books.shutting || settles s)) quiet h); going = λ h. going }
@@ -108,10 +108,10 @@ opening-owing s w same some o = record { told = λ h. absurd (clash (is_stopped 
       room = λ h. (let none : length s.books.table.rota ≡ 0 = ap (λ (t : Table). length t.rota) o.rota in omega (arith, none, same, some));
     })
 
-begun-owing : (settings : Settings) → nat_le 1 settings.workers ≡ true → Owing (begun settings)
+begun-owing : (settings : Settings) → nat_le 1 settings.workers ≡ true → Owing (after_starts settings)
 begun-owing settings h =
     let n = settings.workers in
-    let first = all_moved (no_one settings) (first_starts settings) in
+    let first = after_entries (no_one settings) (first_starts settings) in
     let start : Opening (no_one settings) 0 = record {
       rota = refl;
       shared = refl;
@@ -125,38 +125,38 @@ begun-owing settings h =
     let o = opening-starts (no_one settings) 0 n start in
     opening-owing first (0 + n) (same-settings (no_one settings) 0 n ∙ omega arith) (grind (arith, nat_tests, h)) o
   where
-    same-settings : (s : State) (w n : ℕ) → (all_moved s (starts_from w n)).books.settings.workers ≡ s.books.settings.workers
+    same-settings : (s : State) (w n : ℕ) → (after_entries s (starts_from w n)).books.settings.workers ≡ s.books.settings.workers
     same-settings s w zero = refl
-    same-settings s w (suc n) = same-settings (moved s (Start w w)) (w + 1) n
+    same-settings s w (suc n) = same-settings (after_effect s (Start w w)) (w + 1) n
 
 -- the inputs
 
-all-owing : (X : State → Type 0) → Keeper X → (s : State) (es : List Entry) → all_may_follow s es ≡ true → Holds X s → Spent s → Owing s → Owing (stepped_all s es)
+all-owing : (X : State → Type 0) → Keeper X → (s : State) (es : List Entry) → all_may_follow s es ≡ true → Holds X s → Spent s → Owing s → Owing (after_inputs s es)
 all-owing X k s [] h d p o = o
 all-owing X k s (e ∷ es) h d p o =
-    let q = split-and (may_follow s e) (all_may_follow (stepped s e) es) h in
-    all-owing X k (stepped s e) es q.1 (stepped-holds X k.rule s e q.0 d) (spent-step X k.rule s e q.0 d.tidy d.also p) (step-owing X k s e q.0 d.tidy d.also p o)
+    let q = split-and (may_follow s e) (all_may_follow (after_input s e) es) h in
+    all-owing X k (after_input s e) es q.1 (after_input-holds X k.rule s e q.0 d) (spent-step X k.rule s e q.0 d.tidy d.also p) (step-owing X k s e q.0 d.tidy d.also p o)
 
 -- behind a whole rule the mark is set where nothing is left to hand out
 abbrev IsMarked : State → Type 0
 IsMarked s = settles s ≡ true → s.books.shutting ≡ true
 
-all-marked : (s : State) (es : List Entry) → IsMarked s → IsMarked (stepped_all s es)
+all-marked : (s : State) (es : List Entry) → IsMarked s → IsMarked (after_inputs s es)
 all-marked s [] m = m
-all-marked s (e ∷ es) m = all-marked (stepped s e) es (λ h. or-right (all_moved (moved s e) (outputs s e)).books.shutting (settles (all_moved (moved s e) (outputs s e))) h)
+all-marked s (e ∷ es) m = all-marked (after_input s e) es (λ h. or-right (after_entries (after_effect s e) (outputs s e)).books.shutting (settles (after_entries (after_effect s e) (outputs s e))) h)
 
-by_rule : (X : State → Type 0) → Keeper X → (settings : Settings) (inputs : List Entry) → X (no_one settings) → IsProper settings inputs → is_over (stepped_all (begun settings) inputs).books ≡ false
-    → someone_owes (stepped_all (begun settings) inputs) ≡ true
+by_rule : (X : State → Type 0) → Keeper X → (settings : Settings) (inputs : List Entry) → X (no_one settings) → IsProper settings inputs → is_over (after_inputs (after_starts settings) inputs).books ≡ false
+    → someone_owes (after_inputs (after_starts settings) inputs) ≡ true
 by_rule X k settings inputs x p h =
     let first = begun-holds X k.rule settings x in
-    let s = stepped_all (begun settings) inputs in
-    let opened = all_moved (no_one settings) (first_starts settings) in
-    let last = all-hold X k.rule (begun settings) inputs p.follow first in
-    let owing = all-owing X k (begun settings) inputs p.follow first (begun-spent settings) (begun-owing settings p.some_worker) in
-    owing-owes s last.tidy owing (all-marked (begun settings) inputs (λ z. or-right opened.books.shutting (settles opened) z)) h
+    let s = after_inputs (after_starts settings) inputs in
+    let opened = after_entries (no_one settings) (first_starts settings) in
+    let last = all-hold X k.rule (after_starts settings) inputs p.follow first in
+    let owing = all-owing X k (after_starts settings) inputs p.follow first (begun-spent settings) (begun-owing settings p.some_worker) in
+    owing-owes s last.tidy owing (all-marked (after_starts settings) inputs (λ z. or-right opened.books.shutting (settles opened) z)) h
 
-by_mode : (k : ModeKind) (settings : Settings) (inputs : List Entry) → settings.mode ≡ k → IsProper settings inputs → is_over (stepped_all (begun settings) inputs).books ≡ false
-    → someone_owes (stepped_all (begun settings) inputs) ≡ true
+by_mode : (k : ModeKind) (settings : Settings) (inputs : List Entry) → settings.mode ≡ k → IsProper settings inputs → is_over (after_inputs (after_starts settings) inputs).books ≡ false
+    → someone_owes (after_inputs (after_starts settings) inputs) ≡ true
 by_mode Local settings inputs m p h = absurd (differ (ap has_workers (sym m) ∙ p.mode))
 by_mode Each settings inputs m p h = by_rule InEach each_keeper settings inputs (each-begins settings m) p h
 by_mode Load settings inputs m p h = by_rule InLoad (plain_keeper InLoad load_server) settings inputs (record { first = m; second = refl }) p h
@@ -165,5 +165,5 @@ by_mode LoadFile settings inputs m p h = by_rule InScope (plain_keeper InScope s
 by_mode LoadGroup settings inputs m p h = by_rule InScope (plain_keeper InScope scope_server) settings inputs (scope-begins settings (ap is_scope m)) p h
 by_mode WorkSteal settings inputs m p h = by_rule (InMode WorkSteal) (plain_keeper (InMode WorkSteal) steal_server) settings inputs m p h
 
-pub owed : (settings : Settings) (inputs : List Entry) → IsProper settings inputs → is_over (stepped_all (begun settings) inputs).books ≡ false → someone_owes (stepped_all (begun settings) inputs) ≡ true
+pub owed : (settings : Settings) (inputs : List Entry) → IsProper settings inputs → is_over (after_inputs (after_starts settings) inputs).books ≡ false → someone_owes (after_inputs (after_starts settings) inputs) ≡ true
 owed settings inputs p h = by_mode settings.mode settings inputs refl p h

@@ -12,8 +12,8 @@ use Rattle.xd_journal.specs.declared.entry.Entry.{Entry}
 use Rattle.xd_journal.specs.declared.entry.Entry.TheVariants.{Ready, Collected, Done, Back, Finished, Refused, Down, NotStarted, Start, Run, RunAll, Steal, Shutdown, Kill, Over}
 use Rattle.xd_ledger.specs.declared.member.Member.{Member}
 use Rattle.xd_ledger.specs.Numbers.{among, without, all_distinct, all_among, times}
-use Rattle.xd_ledger.specs.Table.{Table, in_rota, held, all_items, assigned, completed, given_back, left, died, joined}
-use Rattle.xd_ledger.specs.Plan.{Plan, Asked, base, items_named, slot_items, total, is_each}
+use Rattle.xd_ledger.specs.Table.{Table, in_rota, held, all_items, assigned, completed, given_back, left_rota, died, joined}
+use Rattle.xd_ledger.specs.Plan.{Plan, UnansweredSteal, base, items_named, slot_items, total, is_each}
 use Rattle.xd_ledger.specs.Books.{marked}
 use Rattle.xd_ledger.specs.Workers.{is_active, was_ready, has_collected, is_shut, slot_of, made_collected}
 use Rattle.xd_ledger.specs.Collections.{unequal, listed, with_list}
@@ -23,7 +23,7 @@ use Rattle.xd_ledger.specs.Sharing.{State, in_books, joining, share_where_full, 
 use Rattle.xd_ledger.specs.Collecting.{collecting}
 use Rattle.xd_ledger.specs.Deaths.{steal_without}
 use Rattle.xd_ledger.specs.Results.{completed_first}
-use Rattle.xd_ledger.specs.State.{moved}
+use Rattle.xd_ledger.specs.State.{after_effect}
 use Rattle.xd_ledger.specs.Proper.{may_follow, may_give_back, is_head, are_ids}
 use Rattle.xd_ledger.specs.Orderly.{is_orderly, may_run, not_empty}
 use Rattle.xd_laws.proofs.Logic.{differ, cases_of, split-and, not_true, or-false, in_both}
@@ -38,12 +38,12 @@ abbrev pub due_times : ℕ → Bool → ℕ → ℕ
 due_times x shared n = if shared then times x (range_with_len 0 n) else 0
 
 -- an open steal names no test twice, and the tests are shared
-abbrev pub StealFits : Bool → Option Asked → Type 0
+abbrev pub StealFits : Bool → Option UnansweredSteal → Type 0
 StealFits shared None = Unit {0}
 StealFits shared (Some a) = (all_distinct a.tests ≡ true) × (shared ≡ true)
 
 -- the rota fits the marks, each item of the run stands in one place, and so does an open steal
-pub record PlacedOf (t : Table) (ms : List Member) (shared : Bool) (n : ℕ) (steal : Option Asked) : Type 0 where
+pub record PlacedOf (t : Table) (ms : List Member) (shared : Bool) (n : ℕ) (steal : Option UnansweredSteal) : Type 0 where
   pub fits : Fits t ms
   pub whole : (x : ℕ) → times x (all_items t) ≡ due_times x shared n
   pub steals : StealFits shared steal
@@ -60,7 +60,7 @@ at_most_once s k = at_most-by s.books.table s.books.shared (total s.plan) k.whol
 
 -- the moves of the table
 
-placed-assigned : (t : Table) (ms : List Member) (b : Bool) (n : ℕ) (a : Option Asked) (w : ℕ) (items : List ℕ) → PlacedOf t ms b n a → in_rota w t ≡ true
+placed-assigned : (t : Table) (ms : List Member) (b : Bool) (n : ℕ) (a : Option UnansweredSteal) (w : ℕ) (items : List ℕ) → PlacedOf t ms b n a → in_rota w t ≡ true
     → all_distinct items ≡ true → all_among items t.pool ≡ true → PlacedOf (assigned w items t) ms b n a
 placed-assigned t ms b n a w items k rota distinct within = record {
   fits = fits-change t (assigned w items t) ms w (λ s. record s { held = s.held ++ items }) refl (λ s. refl) (λ s. refl) k.fits;
@@ -68,7 +68,7 @@ placed-assigned t ms b n a w items k rota distinct within = record {
   steals = k.steals;
 }
 
-placed-completed : (t : Table) (ms : List Member) (b : Bool) (n : ℕ) (a : Option Asked) (w item : ℕ) → PlacedOf t ms b n a → among item (held w t) ≡ true
+placed-completed : (t : Table) (ms : List Member) (b : Bool) (n : ℕ) (a : Option UnansweredSteal) (w item : ℕ) → PlacedOf t ms b n a → among item (held w t) ≡ true
     → PlacedOf (completed w item t) ms b n a
 placed-completed t ms b n a w item k holds = record {
   fits = fits-change t (completed w item t) ms w (λ s. record s { held = without (item ∷ []) s.held }) refl (λ s. refl) (λ s. refl) k.fits;
@@ -76,7 +76,7 @@ placed-completed t ms b n a w item k holds = record {
   steals = k.steals;
 }
 
-placed-given_back : (t : Table) (ms : List Member) (b : Bool) (n : ℕ) (a : Option Asked) (w : ℕ) (items : List ℕ) → PlacedOf t ms b n a → in_rota w t ≡ true
+placed-given_back : (t : Table) (ms : List Member) (b : Bool) (n : ℕ) (a : Option UnansweredSteal) (w : ℕ) (items : List ℕ) → PlacedOf t ms b n a → in_rota w t ≡ true
     → all_distinct items ≡ true → all_among items (held w t) ≡ true → PlacedOf (given_back w items t) ms b n None
 placed-given_back t ms b n a w items k rota distinct within = record {
   fits = fits-change t (given_back w items t) ms w (λ s. record s { held = without items s.held }) refl (λ s. refl) (λ s. refl) k.fits;
@@ -84,7 +84,7 @@ placed-given_back t ms b n a w items k rota distinct within = record {
   steals = tt;
 }
 
-placed-none_back : (t : Table) (ms : List Member) (b : Bool) (n : ℕ) (a : Option Asked) (w : ℕ) → PlacedOf t ms b n a → PlacedOf (given_back w [] t) ms b n None
+placed-none_back : (t : Table) (ms : List Member) (b : Bool) (n : ℕ) (a : Option UnansweredSteal) (w : ℕ) → PlacedOf t ms b n a → PlacedOf (given_back w [] t) ms b n None
 placed-none_back t ms b n a w k = elim (cases_of (in_rota w t)) [
   | inl r ↦ placed-given_back t ms b n a w [] k r refl refl
   | inr r ↦ record {
@@ -94,7 +94,7 @@ placed-none_back t ms b n a w k = elim (cases_of (in_rota w t)) [
   }
 ]
 
-placed-joined : (t : Table) (ms : List Member) (b : Bool) (n : ℕ) (a : Option Asked) (w : ℕ) → PlacedOf t ms b n a → in_rota w t ≡ false
+placed-joined : (t : Table) (ms : List Member) (b : Bool) (n : ℕ) (a : Option UnansweredSteal) (w : ℕ) → PlacedOf t ms b n a → in_rota w t ≡ false
     → has w (λ m. m.active) ms ≡ true → has w (λ m. m.ready) ms ≡ true → has w (λ m. m.collected) ms ≡ true → has w (λ m. m.shut) ms ≡ false
     → PlacedOf (joined w t) ms b n a
 placed-joined t ms b n a w k r e f g h = record {
@@ -105,7 +105,7 @@ placed-joined t ms b n a w k r e f g h = record {
 
 -- outputs in order
 
-pub placed-run : (s : State) (w : ℕ) (indices : List ℕ) → Placed s → is_orderly s (Run w indices) ≡ true → Placed (moved s (Run w indices))
+pub placed-run : (s : State) (w : ℕ) (indices : List ℕ) → Placed s → is_orderly s (Run w indices) ≡ true → Placed (after_effect s (Run w indices))
 placed-run s w indices k h =
     let items = items_named (slot_of w s.books) indices s.plan in
     let e = split-and (may_run w s && not_empty indices && all_distinct items && all_among items s.books.table.pool) (if is_each s.plan.mode then all_among items (slot_items (slot_of w s.books) s.plan) else true) h in
@@ -115,7 +115,7 @@ placed-run s w indices k h =
     let a = split-and (in_rota w s.books.table) (not (is_shut w s.books)) b.0 in
     placed-assigned s.books.table s.books.crew s.books.shared (total s.plan) s.plan.steal w items k a.0 c.1 d.1
 
-placed-run_all : (s : State) (w : ℕ) → Placed s → is_orderly s (RunAll w) ≡ true → Placed (moved s (RunAll w))
+placed-run_all : (s : State) (w : ℕ) → Placed s → is_orderly s (RunAll w) ≡ true → Placed (after_effect s (RunAll w))
 placed-run_all s w k h =
     let slot = slot_of w s.books in
     let items = slot_items slot s.plan in
@@ -124,7 +124,7 @@ placed-run_all s w k h =
     let a = split-and (in_rota w s.books.table) (not (is_shut w s.books)) c.1 in
     placed-assigned s.books.table s.books.crew s.books.shared (total s.plan) s.plan.steal w items k a.0 (distinct-range (base slot s.plan) (slice_index s.plan.sizes slot)) d.1
 
-placed-shutdown : (s : State) (w : ℕ) → Placed s → Placed (moved s (Shutdown w))
+placed-shutdown : (s : State) (w : ℕ) → Placed s → Placed (after_effect s (Shutdown w))
 placed-shutdown s w k = record {
   fits = fits-shutdown s.books.table s.books.crew w k.fits;
   whole = λ x. shut-keeps x w s.books.table ∙ k.whole x;
@@ -145,14 +145,14 @@ pub first_among : (is xs : List ℕ) → not_empty is ≡ true → all_among is 
 first_among [] xs h k = absurd (differ h)
 first_among (i ∷ is) xs h k = (i, (split-and (among i xs) (all_among is xs) k).0)
 
-placed-steal : (s : State) (w : ℕ) (indices : List ℕ) → Placed s → is_orderly s (Steal w indices) ≡ true → Placed (moved s (Steal w indices))
+placed-steal : (s : State) (w : ℕ) (indices : List ℕ) → Placed s → is_orderly s (Steal w indices) ≡ true → Placed (after_effect s (Steal w indices))
 placed-steal s w indices k h =
     let d = split-and (may_run w s && is_none s.plan.steal && not_empty indices && all_distinct indices) (all_among indices (drop 2 (held w s.books.table))) h in
     let c = split-and (may_run w s && is_none s.plan.steal && not_empty indices) (all_distinct indices) d.0 in
     let one = first_among indices (drop 2 (held w s.books.table)) (split-and (may_run w s && is_none s.plan.steal) (not_empty indices) c.0).1 d.1 in
     record { fits = k.fits; whole = k.whole; steals = (c.1, shared-of_held s w one.0 k (among-drop one.0 2 (held w s.books.table) one.1)) }
 
-pub placed-output : (s : State) (e : Entry) → is_orderly s e ≡ true → Placed s → Placed (moved s e)
+pub placed-output : (s : State) (e : Entry) → is_orderly s e ≡ true → Placed s → Placed (after_effect s e)
 placed-output s (Start w slot) h k = record { fits = fits-start s.books.table s.books.crew w slot k.fits; whole = k.whole; steals = k.steals }
 placed-output s (Run w indices) h k = placed-run s w indices k h
 placed-output s (RunAll w) h k = placed-run_all s w k h
@@ -175,16 +175,16 @@ placed-output s (NotStarted w) h k = absurd (differ h)
 pub not_in_rota : (s : State) (w : ℕ) → Placed s → has_collected w s.books ≡ false → in_rota w s.books.table ≡ false
 not_in_rota s w k h = elim (cases_of (in_rota w s.books.table)) [ inl r ↦ absurd (differ (sym h ∙ k.fits.collected w r)) | inr r ↦ r ]
 
-placed-refused : (s : State) (w : ℕ) (text : List ℕ) → Placed s → may_follow s (Refused w text) ≡ true → Placed (moved s (Refused w text))
+placed-refused : (s : State) (w : ℕ) (text : List ℕ) → Placed s → may_follow s (Refused w text) ≡ true → Placed (after_effect s (Refused w text))
 placed-refused s w text k h =
     let a = split-and (is_active w s.books) (not (has_collected w s.books)) h in
     record { fits = fits-refused s.books.table s.books.crew w (not_in_rota s w k (not_true (has_collected w s.books) a.1)) k.fits; whole = k.whole; steals = k.steals }
 
-steals-without : (w : ℕ) (b : Bool) (a : Option Asked) → StealFits b a → StealFits b (steal_without w a)
+steals-without : (w : ℕ) (b : Bool) (a : Option UnansweredSteal) → StealFits b a → StealFits b (steal_without w a)
 steals-without w b None k = tt
 steals-without w b (Some a) k = in_both (StealFits b) (a.worker == w) None (Some a) (λ h. tt) (λ h. k)
 
-pub placed-down : (s : State) (w : ℕ) → Placed s → Placed (moved s (NotStarted w))
+pub placed-down : (s : State) (w : ℕ) → Placed s → Placed (after_effect s (NotStarted w))
 placed-down s w k = record {
   fits = fits-gone s.books.table (died w (is_retry w s.books) s.books.table) s.books.crew w refl k.fits;
   whole = λ x. died-keeps x w (is_retry w s.books) s.books.table (k.fits.seats w) ∙ k.whole x;
@@ -195,11 +195,11 @@ pub empty_of : (xs : List ℕ) → (length xs == 0) ≡ true → xs ≡ []
 empty_of [] h = refl
 empty_of (x ∷ xs) h = grind (arith, nat_tests)
 
-placed-finished : (s : State) (w : ℕ) → Placed s → may_follow s (Finished w) ≡ true → Placed (moved s (Finished w))
+placed-finished : (s : State) (w : ℕ) → Placed s → may_follow s (Finished w) ≡ true → Placed (after_effect s (Finished w))
 placed-finished s w k h =
     let a = split-and (is_active w s.books && is_shut w s.books && has_collected w s.books) (length (held w s.books.table) == 0) h in
     record {
-      fits = fits-gone s.books.table (left w s.books.table) s.books.crew w refl k.fits;
+      fits = fits-gone s.books.table (left_rota w s.books.table) s.books.crew w refl k.fits;
       whole = λ x. left-keeps x w s.books.table (k.fits.seats w) (empty_of (held w s.books.table) a.1) ∙ k.whole x;
       steals = k.steals;
     }
@@ -222,12 +222,12 @@ head_among-by item (x ∷ xs) h = grind (arith, nat_tests)
 pub head_among : (w item : ℕ) (s : State) → is_head w item s ≡ true → among item (held w s.books.table) ≡ true
 head_among w item s h = head_among-by item (held w s.books.table) h
 
-placed-first : (t : Table) (ms : List Member) (b : Bool) (n : ℕ) (a : Option Asked) (w : ℕ) (items : List ℕ) (item : ℕ) → items ≡ item ∷ [] → among item (held w t) ≡ true
+placed-first : (t : Table) (ms : List Member) (b : Bool) (n : ℕ) (a : Option UnansweredSteal) (w : ℕ) (items : List ℕ) (item : ℕ) → items ≡ item ∷ [] → among item (held w t) ≡ true
     → PlacedOf t ms b n a → PlacedOf (completed_first w items t) ms b n a
 placed-first t ms b n a w items item e h k = subst (λ (is : List ℕ). PlacedOf (completed_first w is t) ms b n a) (sym e) (placed-completed t ms b n a w item k h)
 
 placed-done : (s : State) (w index : ℕ) (outcome : Outcome) (ms : ℕ) (output : List ℕ) → Placed s → may_follow s (Done w index outcome ms output) ≡ true
-    → Placed (moved s (Done w index outcome ms output))
+    → Placed (after_effect s (Done w index outcome ms output))
 placed-done s w index outcome ms output k h =
     let slot = slot_of w s.books in
     let a = split-and (is_active w s.books) (list_any (λ item. is_head w item s) (items_named slot (index ∷ []) s.plan)) h in
@@ -244,7 +244,7 @@ pub first_named-by : (each : Bool) (b i : ℕ) (is xs : List ℕ) → all_among 
 first_named-by true b i is xs h = (b + i, (split-and (among (b + i) xs) (all_among (map (λ j. b + j) is) xs) h).0)
 first_named-by false b i is xs h = (i, (split-and (among i xs) (all_among is xs) h).0)
 
-back_by : (b : Bool) (steal : Option Asked) (w i : ℕ) (is items holds : List ℕ)
+back_by : (b : Bool) (steal : Option UnansweredSteal) (w i : ℕ) (is items holds : List ℕ)
     → (elim steal as (λ _. Bool) [ None ↦ false | Some a ↦ (a.worker == w) && (bytes_eq (i ∷ is) a.tests && all_among items (drop 1 holds)) ]) ≡ true
     → StealFits b steal → (all_distinct (i ∷ is) ≡ true) × (all_among items holds ≡ true)
 back_by b None w i is items holds h k = absurd (differ h)
@@ -253,7 +253,7 @@ back_by b (Some a) w i is items holds h k =
     let q = split-and (bytes_eq (i ∷ is) a.tests) (all_among items (drop 1 holds)) p.1 in
     (ap all_distinct ((bytes_eq-Decides (i ∷ is) a.tests).0 q.0) ∙ k.0, all_among-drop 1 items holds q.1)
 
-shared_by : (b : Bool) (steal : Option Asked) (answer : Asked → Bool) → (elim steal as (λ _. Bool) [ None ↦ false | Some a ↦ answer a ]) ≡ true → StealFits b steal → b ≡ true
+shared_by : (b : Bool) (steal : Option UnansweredSteal) (answer : UnansweredSteal → Bool) → (elim steal as (λ _. Bool) [ None ↦ false | Some a ↦ answer a ]) ≡ true → StealFits b steal → b ≡ true
 shared_by b None answer h k = absurd (differ h)
 shared_by b (Some a) answer h k = k.1
 
@@ -267,7 +267,7 @@ shared-of_back s w indices k h =
 
 -- where no steal is open none is answered
 
-none_back : (steal : Option Asked) (answer : Asked → Bool) → steal ≡ None → (elim steal as (λ _. Bool) [ None ↦ false | Some a ↦ answer a ]) ≡ true → ⊥
+none_back : (steal : Option UnansweredSteal) (answer : UnansweredSteal → Bool) → steal ≡ None → (elim steal as (λ _. Bool) [ None ↦ false | Some a ↦ answer a ]) ≡ true → ⊥
 none_back None answer e h = differ h
 none_back (Some a) answer e h = cc
 
@@ -281,7 +281,7 @@ no_back s w indices k h =
 named-none : (slot : ℕ) (p : Plan) → items_named slot [] p ≡ []
 named-none slot p = elim (is_each p.mode) as (λ b. (if b then map (λ i. base slot p + i) [] else []) ≡ []) [ true ↦ refl | false ↦ refl ]
 
-placed-back : (s : State) (w : ℕ) (indices : List ℕ) → Placed s → may_follow s (Back w indices) ≡ true → Placed (moved s (Back w indices))
+placed-back : (s : State) (w : ℕ) (indices : List ℕ) → Placed s → may_follow s (Back w indices) ≡ true → Placed (after_effect s (Back w indices))
 placed-back s w [] k h = subst (λ (is : List ℕ). PlacedOf (given_back w is s.books.table) s.books.crew s.books.shared (total s.plan) None) (sym (named-none (slot_of w s.books) s.plan))
     (placed-none_back s.books.table s.books.crew s.books.shared (total s.plan) s.plan.steal w k)
 placed-back s w (i ∷ is) k h =
@@ -296,7 +296,7 @@ placed-back s w (i ∷ is) k h =
 
 -- a worker collects
 
-steals-shared : (b : Bool) (a : Option Asked) → StealFits b a → StealFits true a
+steals-shared : (b : Bool) (a : Option UnansweredSteal) → StealFits b a → StealFits true a
 steals-shared b None k = tt
 steals-shared b (Some a) k = (k.0, refl)
 
@@ -319,7 +319,7 @@ placed-collecting s w (Some how) k r a e d = in_both Placed (is_shut w s.books) 
 placed-collecting s w None k r a e d = in_both Placed (is_shut w s.books) s (joining w s) (λ h. k)
     (λ h. placed-share (in_books (λ b. record b { table = joined w b.table }) s) (placed-joined s.books.table s.books.crew s.books.shared (total s.plan) s.plan.steal w k r a e d h))
 
-placed-collected : (s : State) (w : ℕ) (given : Ids) → Placed s → may_follow s (Collected w given) ≡ true → Placed (moved s (Collected w given))
+placed-collected : (s : State) (w : ℕ) (given : Ids) → Placed s → may_follow s (Collected w given) ≡ true → Placed (after_effect s (Collected w given))
 placed-collected s w given k h =
     let ms = s.books.crew in
     let c = split-and (is_active w s.books && was_ready w s.books && not (has_collected w s.books)) (are_ids given w s) h in
@@ -334,7 +334,7 @@ placed-collected s w given k h =
     (has-same w (λ m. m.ready) (made_collected w) ms (λ m. refl) (λ m. refl) ∙ a.1)
     set
 
-pub placed-input : (s : State) (e : Entry) → may_follow s e ≡ true → Placed s → Placed (moved s e)
+pub placed-input : (s : State) (e : Entry) → may_follow s e ≡ true → Placed s → Placed (after_effect s e)
 placed-input s (Ready w) h k = record { fits = fits-ready s.books.table s.books.crew w k.fits; whole = k.whole; steals = k.steals }
 placed-input s (Collected w g) h k = placed-collected s w g k h
 placed-input s (Done w i u m o) h k = placed-done s w i u m o k h

@@ -3,7 +3,7 @@ use Rattle.std.proofs.Common.{◌≡◌, ℕ, ◌+◌, ◌≤◌, List, [], ◌�
 use Rattle.std.proofs.lemmas.Bool.Decides.{nat_tests}
 use Rattle.xd_ledger.specs.declared.seat.Seat.{Seat}
 use Rattle.xd_ledger.specs.Numbers.{among, without, all_distinct, all_among, times}
-use Rattle.xd_ledger.specs.Table.{Table, crash_item, held, held_in, held_by_all, all_items, retried_item, assigned, completed, given_back, left, died, joined, at_seat, without_seat}
+use Rattle.xd_ledger.specs.Table.{Table, crash_item, held, held_in, held_by_all, all_items, retried_item, assigned, completed, given_back, left_rota, died, joined, at_seat, without_seat}
 use Rattle.xd_laws.proofs.Counts.{times-append, times-without, times-distinct, times-cut, among-times, among_of-all_among}
 use Rattle.xd_laws.proofs.Rota.{seats_of}
 
@@ -101,10 +101,10 @@ died-keeps x w retry t seat =
     )
 
 -- a worker that holds nothing leaves
-pub left-keeps : (x w : ℕ) (t : Table) → seats_of w t.rota ≤ 1 → held w t ≡ [] → times x (all_items (left w t)) ≡ times x (all_items t)
+pub left-keeps : (x w : ℕ) (t : Table) → seats_of w t.rota ≤ 1 → held w t ≡ [] → times x (all_items (left_rota w t)) ≡ times x (all_items t)
 left-keeps x w t seat none =
     let z : times x (held_in w t.rota) ≡ 0 = ap (λ (xs : List ℕ). times x xs) none in
-    omega (arith, held-but_one x w t.rota seat, z, times-table x t, times-table x (left w t))
+    omega (arith, held-but_one x w t.rota seat, z, times-table x t, times-table x (left_rota w t))
 
 pub joined-keeps : (x w : ℕ) (t : Table) → times x (all_items (joined w t)) ≡ times x (all_items t)
 joined-keeps x w t =

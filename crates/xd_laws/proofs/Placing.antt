@@ -9,7 +9,7 @@ use Rattle.xd_journal.specs.declared.entry.Entry.{Entry}
 use Rattle.xd_journal.specs.declared.entry.Entry.TheVariants.{Ready, Collected, Done, Back, Finished, Refused, Down, NotStarted, Start, Run, RunAll, Steal, Shutdown, Kill, Over}
 use Rattle.xd_ledger.specs.declared.seat.Seat.{Seat}
 use Rattle.xd_ledger.specs.Numbers.{all_among, all_distinct, among, times, without}
-use Rattle.xd_ledger.specs.Table.{Table, all_items, assigned, at_seat, crash_item, died, given_back, held, held_in, in_rota, joined, left, retried_item, without_seat}
+use Rattle.xd_ledger.specs.Table.{Table, all_items, assigned, at_seat, crash_item, died, given_back, held, held_in, in_rota, joined, left_rota, retried_item, without_seat}
 use Rattle.xd_ledger.specs.Plan.{base, is_each, items_named, slot_items, total}
 use Rattle.xd_ledger.specs.Books.{marked}
 use Rattle.xd_ledger.specs.Workers.{has_collected, is_active, is_shut, made_collected, slot_of}
@@ -17,7 +17,7 @@ use Rattle.xd_ledger.specs.Collections.{listed, unequal, with_list}
 use Rattle.xd_ledger.specs.Retry.{is_retry}
 use Rattle.xd_ledger.specs.Sharing.{State, in_books, shared_now}
 use Rattle.xd_ledger.specs.Results.{completed_first}
-use Rattle.xd_ledger.specs.State.{all_moved, moved, next, no_one, reached}
+use Rattle.xd_ledger.specs.State.{after_entries, after_effect, after_entry, no_one, reached}
 use Rattle.xd_ledger.specs.Proper.{may_follow}
 use Rattle.xd_ledger.specs.Orderly.{is_orderly, may_run, not_empty}
 use Rattle.xd_laws.specs.Places.{HeldBy, InPool, Place, Reported, StandsAt, or_before, place_by, put_last, puts}
@@ -173,7 +173,7 @@ stands-died t x w retry p e h = by (among x (take 1 (held w t))) refl
 none-in_none : (x : ℕ) (xs : List ℕ) → xs ≡ [] → among x xs ≡ false
 none-in_none x xs h = ap (λ (ys : List ℕ). among x ys) h
 
-leaves-gone : (t : Table) (x w : ℕ) → held w t ≡ [] → times x (all_items (left w t)) ≡ times x (all_items t) → Leaves t (left w t) x
+leaves-gone : (t : Table) (x w : ℕ) → held w t ≡ [] → times x (all_items (left_rota w t)) ≡ times x (all_items t) → Leaves t (left_rota w t) x
 leaves-gone t x w n e = record {
   pool = λ k. k;
   held = λ v. held-after_left x v w t.rota (none-in_none x (held w t) n);
@@ -220,7 +220,7 @@ stands-shared t x w n p z h = by (nat_lt x n) refl
         subst (λ (q : Option Place). StandsAt (record (joined w t) { pool = range_with_len 0 n }) x q) (sym (nowhere-by t x p z h)) none
 
 stands-collected : (s : State) (w : ℕ) (g : Ids) (x : ℕ) (p : Option Place) → Placed s → StandsAt s.books.table x p
-    → StandsAt (moved s (Collected w g)).books.table x (or_before (puts s (Collected w g) x) p)
+    → StandsAt (after_effect s (Collected w g)).books.table x (or_before (puts s (Collected w g) x) p)
 stands-collected s w g x p k h =
     let now = in_books (λ b. marked (made_collected w) (with_list w g b)) s in
     let stop = unequal w g (listed w s.books) in
@@ -239,24 +239,24 @@ stands-collected s w g x p k h =
 
 -- each entry
 
-stands-said : (s : State) (e : Entry) (x : ℕ) (p : Option Place) → Tidy s → may_follow s e ≡ true → StandsAt s.books.table x p → StandsAt (moved s e).books.table x (or_before (puts s e x) p)
+stands-said : (s : State) (e : Entry) (x : ℕ) (p : Option Place) → Tidy s → may_follow s e ≡ true → StandsAt s.books.table x p → StandsAt (after_effect s e).books.table x (or_before (puts s e x) p)
 stands-said s (Ready w) x p d h k = k
 stands-said s (Collected w g) x p d h k = stands-collected s w g x p d.placed k
 stands-said s (Done w i u m o) x p d h k =
-    let t = moved s (Done w i u m o) in
+    let t = after_effect s (Done w i u m o) in
     stands-completed s.books.table x w (is_each s.plan.mode) (base (slot_of w s.books) s.plan + i) i p
     (same-times s t x d.placed (tidy-input s (Done w i u m o) h d).placed refl refl) k
 stands-said s (Back w is) x p d h k =
-    stands-back s.books.table x w (items_named (slot_of w s.books) is s.plan) p (same-times s (moved s (Back w is)) x d.placed (tidy-input s (Back w is) h d).placed refl refl) k
+    stands-back s.books.table x w (items_named (slot_of w s.books) is s.plan) p (same-times s (after_effect s (Back w is)) x d.placed (tidy-input s (Back w is) h d).placed refl refl) k
 stands-said s (Finished w) x p d h k =
     let a = split-and (is_active w s.books && is_shut w s.books && has_collected w s.books) (length (held w s.books.table) == 0) h in
-    stands-left s.books.table (left w s.books.table) x p
-    (leaves-gone s.books.table x w (empty_of (held w s.books.table) a.1) (same-times s (moved s (Finished w)) x d.placed (tidy-input s (Finished w) h d).placed refl refl)) k
+    stands-left s.books.table (left_rota w s.books.table) x p
+    (leaves-gone s.books.table x w (empty_of (held w s.books.table) a.1) (same-times s (after_effect s (Finished w)) x d.placed (tidy-input s (Finished w) h d).placed refl refl)) k
 stands-said s (Refused w t) x p d h k = k
-stands-said s (Down w c o) x p d h k = stands-died s.books.table x w (is_retry w s.books) p (same-times s (moved s (Down w c o)) x d.placed (tidy-input s (Down w c o) h d).placed refl refl) k
+stands-said s (Down w c o) x p d h k = stands-died s.books.table x w (is_retry w s.books) p (same-times s (after_effect s (Down w c o)) x d.placed (tidy-input s (Down w c o) h d).placed refl refl) k
 stands-said s (NotStarted w) x p d h k =
     stands-left s.books.table (died w (is_retry w s.books) s.books.table) x p
-    (leaves-died s.books.table x w (is_retry w s.books) (none-in_none x (held w s.books.table) (none-held s w d.placed h)) (same-times s (moved s (NotStarted w)) x d.placed (tidy-input s (NotStarted w) h d).placed refl refl)) k
+    (leaves-died s.books.table x w (is_retry w s.books) (none-in_none x (held w s.books.table) (none-held s w d.placed h)) (same-times s (after_effect s (NotStarted w)) x d.placed (tidy-input s (NotStarted w) h d).placed refl refl)) k
 stands-said s (Start w slot) x p d h k = absurd (differ h)
 stands-said s (Run w is) x p d h k = absurd (differ h)
 stands-said s (RunAll w) x p d h k = absurd (differ h)
@@ -284,20 +284,20 @@ rota-run_all s w h =
     let b = split-and (is_each s.plan.mode) (may_run w s) a.0 in
     (split-and (in_rota w s.books.table) (not (is_shut w s.books)) b.1).0
 
-stands-told : (s : State) (e : Entry) (x : ℕ) (p : Option Place) → Placed s → is_orderly s e ≡ true → StandsAt s.books.table x p → StandsAt (moved s e).books.table x (or_before (puts s e x) p)
+stands-told : (s : State) (e : Entry) (x : ℕ) (p : Option Place) → Placed s → is_orderly s e ≡ true → StandsAt s.books.table x p → StandsAt (after_effect s e).books.table x (or_before (puts s e x) p)
 stands-told s (Start w slot) x p k h a = a
 stands-told s (Run w is) x p k h a =
-    stands-assigned s.books.table x w (items_named (slot_of w s.books) is s.plan) p (rota-run s w is h) (same-times s (moved s (Run w is)) x k (placed-output s (Run w is) h k) refl refl) a
+    stands-assigned s.books.table x w (items_named (slot_of w s.books) is s.plan) p (rota-run s w is h) (same-times s (after_effect s (Run w is)) x k (placed-output s (Run w is) h k) refl refl) a
 stands-told s (RunAll w) x p k h a =
-    stands-assigned s.books.table x w (slot_items (slot_of w s.books) s.plan) p (rota-run_all s w h) (same-times s (moved s (RunAll w)) x k (placed-output s (RunAll w) h k) refl refl) a
+    stands-assigned s.books.table x w (slot_items (slot_of w s.books) s.plan) p (rota-run_all s w h) (same-times s (after_effect s (RunAll w)) x k (placed-output s (RunAll w) h k) refl refl) a
 stands-told s (Steal w is) x p k h a = a
 stands-told s (Shutdown w) x p k h a =
-    stands-left s.books.table (moved s (Shutdown w)).books.table x p
+    stands-left s.books.table (after_effect s (Shutdown w)).books.table x p
     (record {
       pool = λ q. q;
       held = λ v q. ap (λ (xs : List ℕ). among x xs) (held-shut v w s.books.table.rota) ∙ q;
       reported = λ q. q;
-      none = same-times s (moved s (Shutdown w)) x k (placed-output s (Shutdown w) h k) refl refl;
+      none = same-times s (after_effect s (Shutdown w)) x k (placed-output s (Shutdown w) h k) refl refl;
     }) a
 stands-told s (Kill w) x p k h a = a
 stands-told s (Over how) x p k h a = a
@@ -312,11 +312,11 @@ stands-told s (NotStarted w) x p k h a = absurd (differ h)
 
 -- one entry more
 
-put-more : (s : State) (es : List Entry) (e : Entry) (x : ℕ) (p : Option Place) → put_last s (es ++ e ∷ []) x p ≡ or_before (puts (reached (all_moved s es) e) e x) (put_last s es x p)
+put-more : (s : State) (es : List Entry) (e : Entry) (x : ℕ) (p : Option Place) → put_last s (es ++ e ∷ []) x p ≡ or_before (puts (reached (after_entries s es) e) e x) (put_last s es x p)
 put-more s [] e x p = refl
-put-more s (y ∷ es) e x p = put-more (next s y) es e x (or_before (puts (reached s y) y x) p)
+put-more s (y ∷ es) e x p = put-more (after_entry s y) es e x (or_before (puts (reached s y) y x) p)
 
-place-more : (settings : Settings) (es : List Entry) (e : Entry) (s : State) (x : ℕ) → s ≡ reached (all_moved (no_one settings) es) e
+place-more : (settings : Settings) (es : List Entry) (e : Entry) (s : State) (x : ℕ) → s ≡ reached (after_entries (no_one settings) es) e
     → place_by settings (es ++ e ∷ []) x ≡ or_before (puts s e x) (place_by settings es x)
 place-more settings es e s x at = put-more (no_one settings) es e x None ∙ ap (λ (u : State). or_before (puts u e x) (place_by settings es x)) (sym at)
 
@@ -326,8 +326,8 @@ Standing settings s es = (x : ℕ) → StandsAt s.books.table x (place_by settin
 
 pub keeps_standing : (settings : Settings) → Keeps settings (Standing settings)
 keeps_standing settings = record {
-  said = λ s es e d h at k x. subst (λ (q : Option Place). StandsAt (moved s e).books.table x q) (sym (place-more settings es e s x at)) (stands-said s e x (place_by settings es x) d h (k x));
-  told = λ s es e p h at k x. subst (λ (q : Option Place). StandsAt (moved s e).books.table x q) (sym (place-more settings es e s x at)) (stands-told s e x (place_by settings es x) p h (k x));
+  said = λ s es e d h at k x. subst (λ (q : Option Place). StandsAt (after_effect s e).books.table x q) (sym (place-more settings es e s x at)) (stands-said s e x (place_by settings es x) d h (k x));
+  told = λ s es e p h at k x. subst (λ (q : Option Place). StandsAt (after_effect s e).books.table x q) (sym (place-more settings es e s x at)) (stands-told s e x (place_by settings es x) p h (k x));
   settled = λ s es k. k;
 }
 

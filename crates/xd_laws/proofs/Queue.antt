@@ -6,7 +6,7 @@ use Rattle.std.proofs.lemmas.List.{append-nil}
 use Rattle.xd_ledger.specs.declared.seat.Seat.{Seat}
 use Rattle.xd_ledger.specs.declared.member.Member.{Member}
 use Rattle.xd_ledger.specs.Numbers.{among, without, times}
-use Rattle.xd_ledger.specs.Table.{Table, crash_item, held, held_in, in_rota, at_seat, without_seat, assigned, completed, left, died, joined, retried_item, shut_down}
+use Rattle.xd_ledger.specs.Table.{Table, crash_item, held, held_in, in_rota, at_seat, without_seat, assigned, completed, left_rota, died, joined, retried_item, shut_down}
 use Rattle.xd_ledger.specs.Plan.{Plan, Handed}
 use Rattle.xd_ledger.specs.Units.{units_left, unless_empty}
 use Rattle.xd_ledger.specs.Orderly.{not_empty}
@@ -112,7 +112,7 @@ queue-completed t p ms w item once q = record {
 stays : (v w : ℕ) (ss : List Seat) → has_seat v (without_seat w ss) ≡ true → ((v == w) ≡ false) × (has_seat v ss ≡ true)
 stays v w ss h = let p = split-and (not (v == w)) (has_seat v ss) (sym (seat-left v w ss) ∙ h) in (not_true (v == w) p.0, p.1)
 
-pub queue-left : (t : Table) (p : Plan) (ms : List Member) (w : ℕ) → QueueFits t p ms → QueueFits (left w t) p ms
+pub queue-left : (t : Table) (p : Plan) (ms : List Member) (w : ℕ) → QueueFits t p ms → QueueFits (left_rota w t) p ms
 queue-left t p ms w q = record {
   whole = q.whole;
   filled = q.filled;
@@ -141,19 +141,19 @@ pub queue-died : (t : Table) (p : Plan) (ms : List Member) (w : ℕ) (retry : Bo
 queue-died t p ms w retry once q =
     let first = retried_item retry (held w t) in
     let rest = drop 1 (held w t) in
-    let left = units_left w rest p.given in
+    let left_rota = units_left w rest p.given in
     record {
       whole = λ x. omega (
         arith,
-        tests-append x (unless_empty first) (p.queue ++ left),
+        tests-append x (unless_empty first) (p.queue ++ left_rota),
         times-unless_empty x first,
-        tests-append x p.queue left,
+        tests-append x p.queue left_rota,
         left-within x w t p ms once q,
         q.whole x,
         times-append x first (t.pool ++ rest),
         times-append x t.pool rest,
       );
-      filled = none_empty-append (unless_empty first) (p.queue ++ left) (none_empty-unless first) (none_empty-append p.queue left q.filled (none_empty-left w rest p.given));
+      filled = none_empty-append (unless_empty first) (p.queue ++ left_rota) (none_empty-unless first) (none_empty-append p.queue left_rota q.filled (none_empty-left w rest p.given));
       given = λ v x h. (let s = stays v w t.rota h in
           let e : times x (held_in v (without_seat w t.rota)) ≡ times x (held v t) = ap (λ (xs : List ℕ). times x xs) (held-left v w t.rota s.0) in
           let k = q.given v x s.1 in omega (arith, e, k, times-append x t.reported (crash_item retry (held w t))));

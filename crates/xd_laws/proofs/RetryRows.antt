@@ -11,7 +11,7 @@ use Rattle.xd_ledger.specs.Books.{on_table}
 use Rattle.xd_ledger.specs.Retry.{is_retry}
 use Rattle.xd_ledger.specs.Sharing.{State, in_books}
 use Rattle.xd_ledger.specs.Stops.{is_stopped}
-use Rattle.xd_ledger.specs.Histories.{begun, journal_of, stepped_all, is_over}
+use Rattle.xd_ledger.specs.Histories.{after_starts, journal_of, after_inputs, is_over}
 use Rattle.xd_ledger.specs.Proper.{IsProper}
 use Rattle.xd_ledger.specs.Reports.{reports, Result, Crash}
 use Rattle.xd_laws.specs.Once.{IsOnce}
@@ -29,7 +29,7 @@ abbrev pub first_crash : List Entry
 first_crash = take 5 a_death
 
 abbrev behind_first : State
-behind_first = stepped_all (begun one_retry) first_crash
+behind_first = after_inputs (after_starts one_retry) first_crash
 
 first_crash-pool : behind_first.books.table.pool ≡ 0 ∷ 2 ∷ []
 first_crash-pool = refl
@@ -47,10 +47,10 @@ a_retry = first_crash ++ Ready 2 ∷ Collected 2 ids.Same ∷ Done 1 1 Passed 5 
 a_retry-proper : IsProper one_retry a_retry
 a_retry-proper = record { mode = refl; some_worker = refl; few_workers = refl; few_restarts = refl; follow = refl }
 
-a_retry-over : is_over (stepped_all (begun one_retry) a_retry).books ≡ true
+a_retry-over : is_over (after_inputs (after_starts one_retry) a_retry).books ≡ true
 a_retry-over = refl
 
-a_retry-unstopped : is_stopped (stepped_all (begun one_retry) a_retry).books ≡ false
+a_retry-unstopped : is_stopped (after_inputs (after_starts one_retry) a_retry).books ≡ false
 a_retry-unstopped = refl
 
 a_retry-reports : reports one_retry (journal_of one_retry a_retry) ≡ Result 1 1 Passed ∷ Result 2 0 Passed ∷ Result 2 2 Passed ∷ []
@@ -60,7 +60,7 @@ a_retry-reports = refl
 abbrev second_crash : List Entry
 second_crash = first_crash ++ Ready 2 ∷ Collected 2 ids.Same ∷ Down 2 Ended [] ∷ []
 
-second_crash-pool : (stepped_all (begun one_retry) second_crash).books.table.pool ≡ 2 ∷ []
+second_crash-pool : (after_inputs (after_starts one_retry) second_crash).books.table.pool ≡ 2 ∷ []
 second_crash-pool = refl
 
 second_crash-reports : reports one_retry (journal_of one_retry second_crash) ≡ Crash 2 0 ∷ []
@@ -69,7 +69,7 @@ second_crash-reports = refl
 -- what the laws rule out
 
 -- a crash of a test that is tried again
-crash_of_retry : is_retry 0 (stepped_all (begun one_retry) (take 4 a_death)).books ≡ false → ⊥
+crash_of_retry : is_retry 0 (after_inputs (after_starts one_retry) (take 4 a_death)).books ≡ false → ⊥
 crash_of_retry h = absurd (differ cc)
 
 -- a retried test is reported as well

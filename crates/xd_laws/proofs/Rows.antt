@@ -16,7 +16,7 @@ use Rattle.xd_ledger.specs.Stops.{is_stopped}
 use Rattle.xd_laws.specs.Once.{IsOnce}
 use Rattle.xd_laws.specs.Reported.{AreOnce}
 use Rattle.xd_ledger.specs.Plan.{total}
-use Rattle.xd_ledger.specs.Histories.{begun, journal_of, stepped_all, is_over}
+use Rattle.xd_ledger.specs.Histories.{after_starts, journal_of, after_inputs, is_over}
 use Rattle.xd_ledger.specs.Proper.{IsProper}
 use Rattle.xd_ledger.specs.Reports.{reports, Result, Crash}
 
@@ -31,13 +31,13 @@ a_death = Ready 0 ∷ Collected 0 (ids.List ((97 ∷ []) ∷ (98 ∷ []) ∷ (99
 pub a_death-proper : IsProper three a_death
 a_death-proper = record { mode = refl; some_worker = refl; few_workers = refl; few_restarts = refl; follow = refl }
 
-pub a_death-over : is_over (stepped_all (begun three) a_death).books ≡ true
+pub a_death-over : is_over (after_inputs (after_starts three) a_death).books ≡ true
 a_death-over = refl
 
-pub a_death-unstopped : is_stopped (stepped_all (begun three) a_death).books ≡ false
+pub a_death-unstopped : is_stopped (after_inputs (after_starts three) a_death).books ≡ false
 a_death-unstopped = refl
 
-pub a_death-tests : total (stepped_all (begun three) a_death).plan ≡ 3
+pub a_death-tests : total (after_inputs (after_starts three) a_death).plan ≡ 3
 a_death-tests = refl
 
 pub a_death-reports : reports three (journal_of three a_death) ≡ Crash 0 0 ∷ Result 1 1 Passed ∷ Result 2 2 Passed ∷ []
@@ -46,7 +46,7 @@ a_death-reports = refl
 -- what the laws rule out
 
 abbrev pub ended : State
-ended = stepped_all (begun three) a_death
+ended = after_inputs (after_starts three) a_death
 
 -- a test that was reported stands in the pool again
 again_in_pool : IsOnce (in_books (on_table (λ t. record t { pool = 0 ∷ [] })) ended) → ⊥
@@ -74,7 +74,7 @@ not_told once =
 
 -- two workers, to whom the three tests went
 abbrev shared_out : State
-shared_out = stepped_all (begun three) (take 4 a_death)
+shared_out = after_inputs (after_starts three) (take 4 a_death)
 
 -- a test is given to a second worker
 given_twice : is_orderly shared_out (Run 1 (0 ∷ [])) ≡ false

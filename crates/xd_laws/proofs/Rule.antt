@@ -11,11 +11,11 @@ use Rattle.xd_ledger.specs.Numbers.{among, all_distinct}
 use Rattle.xd_ledger.specs.Table.{seat_shut}
 use Rattle.xd_ledger.specs.Plan.{total, is_each, is_scope}
 use Rattle.xd_ledger.specs.Turn.{Turn}
-use Rattle.xd_ledger.specs.Modes.{Call, turned}
-use Rattle.xd_ledger.specs.Modes.Call.{Share, Joined, TestDone, TestsBack, Died}
+use Rattle.xd_ledger.specs.Modes.{ModeCall, turned}
+use Rattle.xd_ledger.specs.Modes.ModeCall.{Share, Joined, TestDone, TestsBack, Died}
 use Rattle.xd_ledger.specs.Workers.{slot_of, made_shut, is_waiting, started}
 use Rattle.xd_ledger.specs.Sharing.{State}
-use Rattle.xd_ledger.specs.State.{moved, all_moved, settled}
+use Rattle.xd_ledger.specs.State.{after_effect, after_entries, settled}
 use Rattle.xd_ledger.specs.Outputs.{acts_of, shut_all, slots_of_rota, turn_of}
 use Rattle.xd_ledger.specs.Proper.{may_follow}
 use Rattle.xd_ledger.specs.Orderly.{is_orderly, all_orderly}
@@ -24,24 +24,24 @@ use Rattle.xd_laws.proofs.Crew.{has-more, has, has-same, has-set, numbers, disti
 use Rattle.xd_laws.proofs.Placed.{placed-output}
 use Rattle.xd_laws.proofs.Queue.{QueueFits}
 use Rattle.xd_laws.proofs.CrewFits.{Kin, IsFree, kin-length, kin-free, crew-start}
-use Rattle.xd_laws.proofs.Turns.{Calm, MayShut, Tidy, Good, InRota, all_moved-first, all_moved-join, all_orderly-join, tidy-quiet, orderly-shutdown}
+use Rattle.xd_laws.proofs.Turns.{Calm, MayShut, Tidy, Good, InRota, after_entries-first, after_entries-join, all_orderly-join, tidy-quiet, orderly-shutdown}
 
 -- outputs in order, behind which the state is tidy and this holds of it
 pub record Fit (X : State → Type 0) (s : State) (es : List Entry) : Type 0 where
   pub orderly : all_orderly s es ≡ true
-  pub tidy : Tidy (all_moved s es)
-  pub also : X (all_moved s es)
+  pub tidy : Tidy (after_entries s es)
+  pub also : X (after_entries s es)
 
 -- the outputs of a mode, which start no one
 pub record Turned (X : State → Type 0) (s : State) (es : List Entry) : Type 0 where
   pub fit : Fit X s es
-  pub kin : Kin s.books.crew (all_moved s es).books.crew
-  pub settings : (all_moved s es).books.settings ≡ s.books.settings
+  pub kin : Kin s.books.crew (after_entries s es).books.crew
+  pub settings : (after_entries s es).books.settings ≡ s.books.settings
 
 -- what the outputs of a mode make of table and plan is what its rule computes
 pub record Agrees (s : State) (t : Turn) : Type 0 where
-  pub table : (all_moved s t.acts).books.table ≡ t.table
-  pub plan : (all_moved s t.acts).plan ≡ t.plan
+  pub table : (after_entries s t.acts).books.table ≡ t.table
+  pub plan : (after_entries s t.acts).plan ≡ t.plan
 
 -- the tests were shared just now, among workers of these slots
 pub record IsFresh (s : State) (slots : List ℕ) : Type 0 where
@@ -57,7 +57,7 @@ pub record HasJoined (s : State) (w slot : ℕ) : Type 0 where
   pub unshut : seat_shut w s.books.table ≡ false
 
 -- what holds where the mode is called
-abbrev pub CallFits : State → Call → Type 0
+abbrev pub CallFits : State → ModeCall → Type 0
 CallFits s (Share slots) = IsFresh s slots
 CallFits s (Joined w slot) = HasJoined s w slot
 CallFits s (TestDone w ms) = InRota s w
@@ -67,39 +67,39 @@ CallFits s Died = Unit {0}
 -- what a mode says is in order, agrees with its rule, and keeps this; and so does everything else that happens; where units
 -- are handed out, those that wait fit the table
 pub record Rule (X : State → Type 0) : Type 0 where
-  pub input : (s : State) (e : Entry) → may_follow s e ≡ true → Tidy s → X s → X (moved s e)
-  pub start : (s : State) (w slot : ℕ) → X s → X (moved s (Start w slot))
-  pub shutdown : (s : State) (w : ℕ) → MayShut s → X s → X (moved s (Shutdown w))
+  pub input : (s : State) (e : Entry) → may_follow s e ≡ true → Tidy s → X s → X (after_effect s e)
+  pub start : (s : State) (w slot : ℕ) → X s → X (after_effect s (Start w slot))
+  pub shutdown : (s : State) (w : ℕ) → MayShut s → X s → X (after_effect s (Shutdown w))
   pub settled : (s : State) → X s → X (settled s)
-  pub turns : (s : State) (c : Call) → Tidy s → s.books.shared ≡ true → X s → CallFits s c → Turned X s (acts_of c s)
-  pub agrees : (s : State) (c : Call) → Tidy s → s.books.shared ≡ true → X s → CallFits s c → Agrees s (turned s.plan.mode c (turn_of s))
+  pub turns : (s : State) (c : ModeCall) → Tidy s → s.books.shared ≡ true → X s → CallFits s c → Turned X s (acts_of c s)
+  pub agrees : (s : State) (c : ModeCall) → Tidy s → s.books.shared ≡ true → X s → CallFits s c → Agrees s (turned s.plan.mode c (turn_of s))
   pub queue : (s : State) → X s → is_scope s.plan.mode ≡ true → QueueFits s.books.table s.plan s.books.crew
 
 pub fit-none : (X : State → Type 0) (s : State) → Tidy s → X s → Fit X s []
 fit-none X s d x = record { orderly = refl; tidy = d; also = x }
 
-pub fit-first : (X : State → Type 0) (s : State) (e : Entry) (es : List Entry) → is_orderly s e ≡ true → Fit X (moved s e) es → Fit X s (e ∷ es)
+pub fit-first : (X : State → Type 0) (s : State) (e : Entry) (es : List Entry) → is_orderly s e ≡ true → Fit X (after_effect s e) es → Fit X s (e ∷ es)
 fit-first X s e es h f =
-    let same = sym (all_moved-first s e es h) in
+    let same = sym (after_entries-first s e es h) in
     record { orderly = and h f.orderly; tidy = subst Tidy same f.tidy; also = subst X same f.also }
 
-pub fit-join : (X : State → Type 0) (s : State) (xs ys : List Entry) → Fit X s xs → Fit X (all_moved s xs) ys → Fit X s (xs ++ ys)
+pub fit-join : (X : State → Type 0) (s : State) (xs ys : List Entry) → Fit X s xs → Fit X (after_entries s xs) ys → Fit X s (xs ++ ys)
 fit-join X s xs ys a b =
-    let same = sym (all_moved-join s xs ys) in
+    let same = sym (after_entries-join s xs ys) in
     record { orderly = all_orderly-join s xs ys a.orderly b.orderly; tidy = subst Tidy same b.tidy; also = subst X same b.also }
 
 pub agrees-good : (s : State) (t : Turn) → Good s t → Agrees s t
 agrees-good s t g = record { table = g.table; plan = g.plan }
 
-pub turned-good : (X : State → Type 0) (s : State) (t : Turn) → Good s t → X (all_moved s t.acts) → Turned X s t.acts
+pub turned-good : (X : State → Type 0) (s : State) (t : Turn) → Good s t → X (after_entries s t.acts) → Turned X s t.acts
 turned-good X s t g x = record { fit = record { orderly = g.orderly; tidy = g.tidy; also = x }; kin = g.kin; settings = g.settings }
 
 -- one Shutdown
 
-pub fit-shutdown : (X : State → Type 0) (s : State) (w : ℕ) (es : List Entry) → is_orderly s (Shutdown w) ≡ true → MayShut s → (Tidy (moved s (Shutdown w)) → Fit X (moved s (Shutdown w)) es) → Tidy s → Fit X s (Shutdown w ∷ es)
+pub fit-shutdown : (X : State → Type 0) (s : State) (w : ℕ) (es : List Entry) → is_orderly s (Shutdown w) ≡ true → MayShut s → (Tidy (after_effect s (Shutdown w)) → Fit X (after_effect s (Shutdown w)) es) → Tidy s → Fit X s (Shutdown w ∷ es)
 fit-shutdown X s w es h p rest d = fit-first X s (Shutdown w) es h (rest (tidy-quiet s (Shutdown w) refl h p d))
 
-pub calm-start : (s : State) (w slot : ℕ) → Calm s → Calm (moved s (Start w slot))
+pub calm-start : (s : State) (w slot : ℕ) → Calm s → Calm (after_effect s (Start w slot))
 calm-start s w slot c = record {
   late = λ h. absurd (differ h);
   unshut = λ a b v. has-more v (λ m. m.shut) s.books.crew (started w slot) ∙ ap (λ (q : Bool). q || (w == v && false)) (c.unshut a b v) ∙ and-false (w == v);
@@ -107,13 +107,13 @@ calm-start s w slot c = record {
 
 -- a Start of the next number at a free slot, behind outputs that start no one
 pub fit-start : (X : State → Type 0) → Rule X → (s : State) (es : List Entry) (slot : ℕ) → Turned X s es → IsFree slot s.books.crew
-    → slot < s.books.settings.workers → Fit X (all_moved s es) (Start (length s.books.crew) slot ∷ [])
+    → slot < s.books.settings.workers → Fit X (after_entries s es) (Start (length s.books.crew) slot ∷ [])
 fit-start X rule s es slot t free low =
-    let m = all_moved s es in
+    let m = after_entries s es in
     let same = kin-length s.books.crew m.books.crew t.kin in
     subst (λ (w : ℕ). Fit X m (Start w slot ∷ [])) same (fit-first X m (Start (length m.books.crew) slot) []
     (rw (none-next m.books.crew t.fit.tidy.crew.numbered))
-    (fit-none X (moved m (Start (length m.books.crew) slot))
+    (fit-none X (after_effect m (Start (length m.books.crew) slot))
     (record {
       placed = placed-output m (Start (length m.books.crew) slot) (rw (none-next m.books.crew t.fit.tidy.crew.numbered)) t.fit.tidy.placed;
       crew = crew-start m.books.crew m.books.settings.workers slot t.fit.tidy.crew (kin-free slot s.books.crew m.books.crew t.kin free) (subst (λ (k : Settings). slot < k.workers) (sym t.settings) low);
@@ -166,7 +166,7 @@ fit-shut_list X rule s (m ∷ ms) d f q t x =
           let split : Shutdown m.worker ∷ shut_all ms ≡ shut_all (m ∷ ms) = rw h in
           subst (λ (es : List Entry). Fit X s es) split
           (fit-shutdown X s m.worker (shut_all ms) (orderly-shutdown s m.worker (f.0.active a.0) (f.0.ready a.1.0) (f.0.unshut a.1.1)) q
-          (λ u. fit-shut_list X rule (moved s (Shutdown m.worker)) ms p.1 (fit-shut_other m.worker s.books.crew ms (not_true (among m.worker (numbers ms)) p.0) f.1) q u (rule.shutdown s m.worker q x)) t))
+          (λ u. fit-shut_list X rule (after_effect s (Shutdown m.worker)) ms p.1 (fit-shut_other m.worker s.books.crew ms (not_true (among m.worker (numbers ms)) p.0) f.1) q u (rule.shutdown s m.worker q x)) t))
       | inr h ↦
           (let split : shut_all ms ≡ shut_all (m ∷ ms) = rw h in
           subst (λ (es : List Entry). Fit X s es) split (fit-shut_list X rule s ms p.1 f.1 q t x))

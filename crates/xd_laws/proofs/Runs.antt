@@ -7,9 +7,9 @@ use Rattle.xd_ledger.specs.declared.member.Member.{Member}
 use Rattle.xd_ledger.specs.Workers.{started}
 use Rattle.xd_ledger.specs.Stops.{is_stopped}
 use Rattle.xd_ledger.specs.Sharing.{State}
-use Rattle.xd_ledger.specs.State.{settles, is_finished, moved, all_moved, settled, no_one}
-use Rattle.xd_ledger.specs.Outputs.{outputs, stepped}
-use Rattle.xd_ledger.specs.Histories.{starts_from, first_starts, begun, stepped_all}
+use Rattle.xd_ledger.specs.State.{settles, is_handed_out, after_effect, after_entries, settled, no_one}
+use Rattle.xd_ledger.specs.Outputs.{outputs, after_input}
+use Rattle.xd_ledger.specs.Histories.{starts_from, first_starts, after_starts, after_inputs}
 use Rattle.xd_ledger.specs.Proper.{may_follow, all_may_follow}
 use Rattle.xd_ledger.specs.Orderly.{is_orderly, is_orderly_run}
 use Rattle.xd_laws.proofs.Logic.{split-or, differ, split-and, and}
@@ -29,7 +29,7 @@ calm-settled : (s : State) → Calm s → Calm (settled s)
 calm-settled s c = record {
   late = λ h. elim (split-or s.books.shutting (settles s) h) [
     | inl k ↦ c.late k
-    | inr k ↦ (split-and (not (is_stopped s.books)) s.books.shared (split-and (not (is_stopped s.books) && s.books.shared) (is_finished s.books.table s.plan) k).0).1
+    | inr k ↦ (split-and (not (is_stopped s.books)) s.books.shared (split-and (not (is_stopped s.books) && s.books.shared) (is_handed_out s.books.table s.plan) k).0).1
   ];
   unshut = c.unshut;
 }
@@ -68,32 +68,32 @@ orderly-start : (s : State) (w : ℕ) → w ≡ length s.books.crew → CrewFits
 orderly-start s w e c = subst (λ (v : ℕ). is_orderly s (Start v w) ≡ true) (sym e) (rw (none-next s.books.crew c.numbered))
 
 starts-hold : (X : State → Type 0) → Rule X → (s : State) (w n : ℕ) → w ≡ length s.books.crew → w + n ≡ s.books.settings.workers → Placed s → CrewFits s.books.crew w → Calm s → X s
-    → Holds X (all_moved s (starts_from w n))
+    → Holds X (after_entries s (starts_from w n))
 starts-hold X rule s w zero e l p c k x = record { tidy = record { placed = p; crew = subst (λ (k : ℕ). CrewFits s.books.crew k) (omega (arith, l)) c; calm = k }; also = x }
 starts-hold X rule s w (suc n) e l p c k x =
-    starts-hold X rule (moved s (Start w w)) (w + 1) n (ap (λ (k : ℕ). k + 1) e ∙ sym (length-append s.books.crew (started w w ∷ []))) (omega (arith, l))
+    starts-hold X rule (after_effect s (Start w w)) (w + 1) n (ap (λ (k : ℕ). k + 1) e ∙ sym (length-append s.books.crew (started w w ∷ []))) (omega (arith, l))
     (placed-output s (Start w w) (orderly-start s w e c) p) (crew-next s.books.crew w e c) (calm-start s w w k) (rule.start s w w x)
 
-pub begun-holds : (X : State → Type 0) → Rule X → (settings : Settings) → X (no_one settings) → Holds X (begun settings)
+pub begun-holds : (X : State → Type 0) → Rule X → (settings : Settings) → X (no_one settings) → Holds X (after_starts settings)
 begun-holds X rule settings x =
     let h = starts-hold X rule (no_one settings) 0 settings.workers refl (omega arith) (placed-none settings) crew-none (calm-none settings) x in
-    holds-settled X rule (all_moved (no_one settings) (first_starts settings)) h.tidy h.also
+    holds-settled X rule (after_entries (no_one settings) (first_starts settings)) h.tidy h.also
 
 -- the inputs
 
-pub stepped-holds : (X : State → Type 0) → Rule X → (s : State) (e : Entry) → may_follow s e ≡ true → Holds X s → Holds X (stepped s e)
-stepped-holds X rule s e h k =
+pub after_input-holds : (X : State → Type 0) → Rule X → (s : State) (e : Entry) → may_follow s e ≡ true → Holds X s → Holds X (after_input s e)
+after_input-holds X rule s e h k =
     let f = outputs-fit X rule s e h k.tidy k.also in
-    holds-settled X rule (all_moved (moved s e) (outputs s e)) f.tidy f.also
+    holds-settled X rule (after_entries (after_effect s e) (outputs s e)) f.tidy f.also
 
-pub all-hold : (X : State → Type 0) → Rule X → (s : State) (es : List Entry) → all_may_follow s es ≡ true → Holds X s → Holds X (stepped_all s es)
+pub all-hold : (X : State → Type 0) → Rule X → (s : State) (es : List Entry) → all_may_follow s es ≡ true → Holds X s → Holds X (after_inputs s es)
 all-hold X rule s [] h k = k
 all-hold X rule s (e ∷ es) h k =
-    let p = split-and (may_follow s e) (all_may_follow (stepped s e) es) h in
-    all-hold X rule (stepped s e) es p.1 (stepped-holds X rule s e p.0 k)
+    let p = split-and (may_follow s e) (all_may_follow (after_input s e) es) h in
+    all-hold X rule (after_input s e) es p.1 (after_input-holds X rule s e p.0 k)
 
 pub all-orderly : (X : State → Type 0) → Rule X → (s : State) (es : List Entry) → all_may_follow s es ≡ true → Holds X s → is_orderly_run s es ≡ true
 all-orderly X rule s [] h k = refl
 all-orderly X rule s (e ∷ es) h k =
-    let p = split-and (may_follow s e) (all_may_follow (stepped s e) es) h in
-    and (outputs-fit X rule s e p.0 k.tidy k.also).orderly (all-orderly X rule (stepped s e) es p.1 (stepped-holds X rule s e p.0 k))
+    let p = split-and (may_follow s e) (all_may_follow (after_input s e) es) h in
+    and (outputs-fit X rule s e p.0 k.tidy k.also).orderly (all-orderly X rule (after_input s e) es p.1 (after_input-holds X rule s e p.0 k))

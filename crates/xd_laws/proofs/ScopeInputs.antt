@@ -18,7 +18,7 @@ use Rattle.xd_ledger.specs.Retry.{is_retry}
 use Rattle.xd_ledger.specs.Sharing.{State, in_books, ids_at, planned, shared_now}
 use Rattle.xd_ledger.specs.Deaths.{down_plan}
 use Rattle.xd_ledger.specs.Results.{completed_first}
-use Rattle.xd_ledger.specs.State.{moved}
+use Rattle.xd_ledger.specs.State.{after_effect}
 use Rattle.xd_ledger.specs.Proper.{may_follow, are_ids}
 use Rattle.xd_ledger.specs.Suits.{tests_of}
 use Rattle.xd_laws.proofs.Logic.{differ, cases_of, split-and, not_true}
@@ -71,7 +71,7 @@ queue-shared s k =
       steal = k.queue.steal;
     }
 
-scoped-collected : (s : State) (w : ℕ) (g : Ids) → may_follow s (Collected w g) ≡ true → Scoped s → Scoped (moved s (Collected w g))
+scoped-collected : (s : State) (w : ℕ) (g : Ids) → may_follow s (Collected w g) ≡ true → Scoped s → Scoped (after_effect s (Collected w g))
 scoped-collected s w g h k =
     let ms = s.books.crew in
     let now = in_books (λ b. marked (made_collected w) (with_list w g b)) s in
@@ -99,7 +99,7 @@ queue-first t p ms w (i ∷ is) once q = queue-completed t p ms w i once q
 plan-down : (w : ℕ) (retried rest : List ℕ) (p : Plan) → is_scope p.mode ≡ true → p.steal ≡ None → down_plan w retried rest p ≡ buried_plan w retried rest p
 plan-down w retried rest p h k = rw (h, k)
 
-scoped-down : (s : State) (w : ℕ) → Tidy s → Scoped s → Scoped (moved s (NotStarted w))
+scoped-down : (s : State) (w : ℕ) → Tidy s → Scoped s → Scoped (after_effect s (NotStarted w))
 scoped-down s w d k =
     let ms = s.books.crew in
     let t = s.books.table in
@@ -112,7 +112,7 @@ scoped-down s w d k =
           (queue-crew (died w retry t) (buried_plan w first rest s.plan) ms (map (made_gone w) ms) (same_collected (made_gone w) ms (λ m. refl) (λ m. refl)) (queue-died t s.plan ms w retry (at_most_once s d.placed) k.queue));
     }
 
-pub scoped-input : (s : State) (e : Entry) → may_follow s e ≡ true → Tidy s → Scoped s → Scoped (moved s e)
+pub scoped-input : (s : State) (e : Entry) → may_follow s e ≡ true → Tidy s → Scoped s → Scoped (after_effect s e)
 scoped-input s (Ready w) h d k = record {
   mode = record { scope = k.mode.scope; each = k.mode.each };
   queue = queue-crew s.books.table s.plan s.books.crew (map (made_ready w) s.books.crew) (same_collected (made_ready w) s.books.crew (λ m. refl) (λ m. refl)) k.queue;
@@ -142,7 +142,7 @@ scoped-input s (Shutdown w) h d k = absurd (differ h)
 scoped-input s (Kill w) h d k = absurd (differ h)
 scoped-input s (Over how) h d k = absurd (differ h)
 
-pub scoped-start : (s : State) (w slot : ℕ) → Scoped s → Scoped (moved s (Start w slot))
+pub scoped-start : (s : State) (w slot : ℕ) → Scoped s → Scoped (after_effect s (Start w slot))
 scoped-start s w slot k =
     let ms = s.books.crew in
     let new = started w slot in
@@ -155,9 +155,9 @@ scoped-start s w slot k =
     old_false true b h = h
     old_false false b h = refl
 
-pub scoped-shutdown : (s : State) (w : ℕ) → Scoped s → Scoped (moved s (Shutdown w))
+pub scoped-shutdown : (s : State) (w : ℕ) → Scoped s → Scoped (after_effect s (Shutdown w))
 scoped-shutdown s w k = record {
   mode = record { scope = k.mode.scope; each = k.mode.each };
-  queue = queue-crew (moved s (Shutdown w)).books.table s.plan s.books.crew (map (made_shut w) s.books.crew) (same_collected (made_shut w) s.books.crew (λ m. refl) (λ m. refl))
+  queue = queue-crew (after_effect s (Shutdown w)).books.table s.plan s.books.crew (map (made_shut w) s.books.crew) (same_collected (made_shut w) s.books.crew (λ m. refl) (λ m. refl))
       (queue-shut s.books.table s.plan s.books.crew w k.queue);
 }

@@ -6,10 +6,10 @@ use Rattle.xd_journal.specs.declared.settings.Settings.{Settings}
 use Rattle.xd_ledger.specs.Table.{Table}
 use Rattle.xd_ledger.specs.Plan.{Plan, is_each, is_scope}
 use Rattle.xd_ledger.specs.Turn.{Turn}
-use Rattle.xd_ledger.specs.Modes.{Call, turned, scope_turn}
-use Rattle.xd_ledger.specs.Modes.Call.{Share, Joined, TestDone, TestsBack, Died}
+use Rattle.xd_ledger.specs.Modes.{ModeCall, turned, scope_turn}
+use Rattle.xd_ledger.specs.Modes.ModeCall.{Share, Joined, TestDone, TestsBack, Died}
 use Rattle.xd_ledger.specs.Sharing.{State}
-use Rattle.xd_ledger.specs.State.{all_moved, no_one}
+use Rattle.xd_ledger.specs.State.{after_entries, no_one}
 use Rattle.xd_ledger.specs.Outputs.{turn_of, acts_of}
 use Rattle.xd_laws.proofs.Logic.{differ}
 use Rattle.xd_laws.proofs.Rota.{seat-among}
@@ -19,7 +19,7 @@ use Rattle.xd_laws.proofs.Queue.{QueueFits, queue-crew}
 use Rattle.xd_laws.proofs.ScopeTurns.{IsScoped, Fine, fine-share, fine-refill, fine-refill_all}
 use Rattle.xd_laws.proofs.ScopeInputs.{Scoped, scoped-input, scoped-start, scoped-shutdown}
 
-pub turned-scope : (k : ModeKind) (c : Call) (t : Turn) → is_scope k ≡ true → turned k c t ≡ scope_turn c t
+pub turned-scope : (k : ModeKind) (c : ModeCall) (t : Turn) → is_scope k ≡ true → turned k c t ≡ scope_turn c t
 turned-scope Local c t h = absurd (differ h)
 turned-scope Each c t h = absurd (differ h)
 turned-scope Load c t h = absurd (differ h)
@@ -28,7 +28,7 @@ turned-scope LoadFile c t h = refl
 turned-scope LoadGroup c t h = refl
 turned-scope WorkSteal c t h = absurd (differ h)
 
-pub scope-fine : (s : State) (c : Call) → Tidy s → s.books.shared ≡ true → Scoped s → CallFits s c → Fine s (scope_turn c (turn_of s))
+pub scope-fine : (s : State) (c : ModeCall) → Tidy s → s.books.shared ≡ true → Scoped s → CallFits s c → Fine s (scope_turn c (turn_of s))
 scope-fine s (Share slots) d h k f = fine-share s k.mode d (λ v a. sym (d.placed.fits.marks v (seat-among v s.books.table.rota ∙ a)) ∙ f.unshut v) (record { good = good-first s d h; queue = k.queue })
 scope-fine s (Joined w slot) d h k f = fine-refill_all s k.mode (record { good = good-first s d h; queue = k.queue })
 scope-fine s (TestDone w ms) d h k f = fine-refill s w (turn_of s) k.mode f (record { good = good-first s d h; queue = k.queue })
@@ -36,9 +36,9 @@ scope-fine s TestsBack d h k f = record { good = good-first s d h; queue = k.que
 scope-fine s Died d h k f = fine-refill_all s k.mode (record { good = good-first s d h; queue = k.queue })
 
 -- the state behind a turn
-scoped-turn : (s : State) (t : Turn) → IsScoped s → Fine s t → Scoped (all_moved s t.acts)
+scoped-turn : (s : State) (t : Turn) → IsScoped s → Fine s t → Scoped (after_entries s t.acts)
 scoped-turn s t k f =
-    let m = all_moved s t.acts in
+    let m = after_entries s t.acts in
     let mode : m.plan.mode ≡ s.plan.mode = ap (λ (p : Plan). p.mode) f.good.plan ∙ f.good.mode in
     record {
       mode = record { scope = ap is_scope mode ∙ k.scope; each = ap is_each mode ∙ k.each };
@@ -46,7 +46,7 @@ scoped-turn s t k f =
           (queue-crew t.table t.plan s.books.crew m.books.crew (λ v h. sym (f.good.kin.collected_same v) ∙ h) f.queue));
     }
 
-scope-turned : (s : State) (c : Call) → Tidy s → s.books.shared ≡ true → Scoped s → CallFits s c → Turned Scoped s (acts_of c s)
+scope-turned : (s : State) (c : ModeCall) → Tidy s → s.books.shared ≡ true → Scoped s → CallFits s c → Turned Scoped s (acts_of c s)
 scope-turned s c d h k f =
     let t = scope_turn c (turn_of s) in
     let fine = scope-fine s c d h k f in

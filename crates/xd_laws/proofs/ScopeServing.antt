@@ -15,8 +15,8 @@ use Rattle.xd_ledger.specs.Plan.{Plan, is_each, is_scope, items_named}
 use Rattle.xd_ledger.specs.Turn.{Turn, shut, in_turn, shut_each}
 use Rattle.xd_ledger.specs.Units.{units_left, unless_empty}
 use Rattle.xd_ledger.specs.ScopeModes.{give_unit, refill, shut_where_spent, share}
-use Rattle.xd_ledger.specs.Modes.{Call, scope_turn}
-use Rattle.xd_ledger.specs.Modes.Call.{Share, Joined, TestDone, TestsBack, Died}
+use Rattle.xd_ledger.specs.Modes.{ModeCall, scope_turn}
+use Rattle.xd_ledger.specs.Modes.ModeCall.{Share, Joined, TestDone, TestsBack, Died}
 use Rattle.xd_ledger.specs.Books.{marked}
 use Rattle.xd_ledger.specs.Workers.{made_collected, slot_of}
 use Rattle.xd_ledger.specs.Collections.{listed, unequal, with_list}
@@ -24,7 +24,7 @@ use Rattle.xd_ledger.specs.Retry.{is_retry}
 use Rattle.xd_ledger.specs.Sharing.{State, ids_at, in_books, planned, shared_now}
 use Rattle.xd_ledger.specs.Deaths.{down_plan}
 use Rattle.xd_ledger.specs.Results.{completed_first}
-use Rattle.xd_ledger.specs.State.{moved, all_moved, no_one}
+use Rattle.xd_ledger.specs.State.{after_effect, after_entries, no_one}
 use Rattle.xd_ledger.specs.Outputs.{acts_of, turn_of}
 use Rattle.xd_ledger.specs.Proper.{may_follow}
 use Rattle.xd_ledger.specs.Suits.{tests_of}
@@ -119,7 +119,7 @@ filled-first s w (i ∷ is) f = (f.covers, λ v x. (let a = held-less x v w (i �
 left-queue : (w : ℕ) (retried rest : List ℕ) (p : Plan) → is_scope p.mode ≡ true → (down_plan w retried rest p).queue ≡ unless_empty retried ++ (p.queue ++ units_left w rest p.given)
 left-queue w retried rest p h = rw h refl
 
-filled-down : (s : State) (w : ℕ) → Scoped s → Filled s → Filled (moved s (NotStarted w))
+filled-down : (s : State) (w : ℕ) → Scoped s → Filled s → Filled (after_effect s (NotStarted w))
 filled-down s w k f =
     let items = held w s.books.table in
     let retry = is_retry w s.books in
@@ -146,7 +146,7 @@ filled-down s w k f =
       given = λ v x. (let a = held-left x v w s.books.table.rota in let b = f.given v x in omega (arith, a, b));
     }
 
-filled-input : (s : State) (e : Entry) → may_follow s e ≡ true → Tidy s → Scoped s → Filled s → Filled (moved s e)
+filled-input : (s : State) (e : Entry) → may_follow s e ≡ true → Tidy s → Scoped s → Filled s → Filled (after_effect s e)
 filled-input s (Ready w) h d k f = record { covers = f.covers; given = f.given }
 filled-input s (Collected w g) h d k f =
     let now = in_books (λ b. marked (made_collected w) (with_list w g b)) s in
@@ -220,14 +220,14 @@ given-share t g = by t.table.pool
     by (x ∷ xs) = spent (in_turn refill (take k ws) (in_turn give_unit (take k ws) (shut_each (reverse (drop k ws)) t))) three
         (in_turn refill (take k ws) (in_turn give_unit (take k ws) (shut_each (reverse (drop k ws)) t))).plan.queue
 
-turn-covers : (s : State) (c : Call) → Filled s → Covers (scope_turn c (turn_of s)).table (scope_turn c (turn_of s)).plan
+turn-covers : (s : State) (c : ModeCall) → Filled s → Covers (scope_turn c (turn_of s)).table (scope_turn c (turn_of s)).plan
 turn-covers s (Share slots) f = covered-share (turn_of s) f.covers
 turn-covers s (Joined w slot) f = covered-refills (workers_of s.books.table) (turn_of s) f.covers
 turn-covers s (TestDone w ms) f = covered-refill w (turn_of s) f.covers
 turn-covers s TestsBack f = f.covers
 turn-covers s Died f = covered-refills (workers_of s.books.table) (turn_of s) f.covers
 
-turn-given : (s : State) (c : Call) → Filled s → IsGiven (scope_turn c (turn_of s))
+turn-given : (s : State) (c : ModeCall) → Filled s → IsGiven (scope_turn c (turn_of s))
 turn-given s (Share slots) f = given-share (turn_of s) f.given
 turn-given s (Joined w slot) f = in_turn-all IsGiven refill (λ w u z. given-refill w u z) (workers_of s.books.table) (turn_of s) f.given
 turn-given s (TestDone w ms) f = given-refill w (turn_of s) f.given
@@ -246,9 +246,9 @@ scope_beside = record {
   turns = λ s c d h k f a.
       (let z = scope_rule.agrees s c d h k a in
       let same = turned-scope s.plan.mode c (turn_of s) k.mode.scope in
-      let table : (all_moved s (acts_of c s)).books.table ≡ (scope_turn c (turn_of s)).table = z.table ∙ ap (λ (t : Turn). t.table) same in
-      let plan : (all_moved s (acts_of c s)).plan ≡ (scope_turn c (turn_of s)).plan = z.plan ∙ ap (λ (t : Turn). t.plan) same in
-      let m = all_moved s (acts_of c s) in
+      let table : (after_entries s (acts_of c s)).books.table ≡ (scope_turn c (turn_of s)).table = z.table ∙ ap (λ (t : Turn). t.table) same in
+      let plan : (after_entries s (acts_of c s)).plan ≡ (scope_turn c (turn_of s)).plan = z.plan ∙ ap (λ (t : Turn). t.plan) same in
+      let m = after_entries s (acts_of c s) in
       record {
         covers = subst (λ (u : Table). Covers u m.plan) (sym table) (subst (λ (p : Plan). Covers (scope_turn c (turn_of s)).table p) (sym plan) (turn-covers s c f));
         given = subst (λ (u : Table). HeldGiven u m.plan) (sym table) (subst (λ (p : Plan). HeldGiven (scope_turn c (turn_of s)).table p) (sym plan) (turn-given s c f));
@@ -264,7 +264,7 @@ ample s d h x = record { fine = record { good = good-first s d h; queue = x.firs
 no-scope : (k : ModeKind) → is_scope k ≡ true → k ≡ WorkSteal → ⊥
 no-scope k h e = differ (ap is_scope (sym e) ∙ h)
 
-scope-work : (s : State) (c : Call) → Tidy s → s.books.shared ≡ true → InScope s → CallFits s c → (c ≡ TestsBack → s.plan.mode ≡ WorkSteal) → Ahead s c → AllWork (workers_of s.books.table) (scope_turn c (turn_of s)).table
+scope-work : (s : State) (c : ModeCall) → Tidy s → s.books.shared ≡ true → InScope s → CallFits s c → (c ≡ TestsBack → s.plan.mode ≡ WorkSteal) → Ahead s c → AllWork (workers_of s.books.table) (scope_turn c (turn_of s)).table
 scope-work s (Share slots) d h x f b o =
     share-work s x.first.mode d (λ v a. sym (d.placed.fits.marks v (seat-among v s.books.table.rota ∙ a)) ∙ f.unshut v) (ample s d h x).fine x.second.covers
 scope-work s (Joined w slot) d h x f b o = refills-work s (workers_of s.books.table) (turn_of s) x.first.mode (all_among-self (workers_of s.books.table)) (ample s d h x)
@@ -272,13 +272,13 @@ scope-work s (TestDone w ms) d h x f b o = one-work refill w s (refill-employs s
 scope-work s TestsBack d h x f b o = absurd (no-scope s.plan.mode x.first.mode.scope (b refl))
 scope-work s Died d h x f b o = refills-work s (workers_of s.books.table) (turn_of s) x.first.mode (all_among-self (workers_of s.books.table)) (ample s d h x)
 
-scope-fair : (s : State) (c : Call) → InScope s → Fair (scope_turn c (turn_of s))
+scope-fair : (s : State) (c : ModeCall) → InScope s → Fair (scope_turn c (turn_of s))
 scope-fair s c x = by c
   where
     first : Fair (turn_of s)
     first = record { steal = x.first.queue.steal; fair = inr refl }
 
-    by : (c : Call) → Fair (scope_turn c (turn_of s))
+    by : (c : ModeCall) → Fair (scope_turn c (turn_of s))
     by (Share slots) = fair-share (turn_of s) first x.second.covers
     by (Joined w slot) = fair-refills (workers_of s.books.table) (turn_of s) first x.second.covers
     by (TestDone w ms) = fair-refill w (turn_of s) first x.second.covers

@@ -16,7 +16,7 @@ use Rattle.xd_ledger.specs.Turn.{enough}
 use Rattle.xd_ledger.specs.Workers.{slot_of}
 use Rattle.xd_ledger.specs.Sharing.{State}
 use Rattle.xd_ledger.specs.Handing.{run_plan}
-use Rattle.xd_ledger.specs.State.{all_moved}
+use Rattle.xd_ledger.specs.State.{after_entries}
 use Rattle.xd_ledger.specs.Outputs.{turn_of}
 use Rattle.xd_ledger.specs.Orderly.{not_empty}
 use Rattle.xd_ledger.specs.Suits.{tests_of}
@@ -70,7 +70,7 @@ with_unit w u us t = record { table = assigned w u t.table; plan = handed_out w 
 fine-unit : (s : State) (w : ℕ) (u : List ℕ) (us : List (List ℕ)) (t : Turn) → IsScoped s → InRota s w → Fine s t → seat_shut w t.table ≡ false → t.plan.queue ≡ u ∷ us → Fine s (with_unit w u us t)
 fine-unit s w u us t k a f unshut e =
     let g = f.good in
-    let m = all_moved s t.acts in
+    let m = after_entries s t.acts in
     let once = turn-once s t g in
     let within : (x : ℕ) → times x u ≤ times x t.table.pool = λ x.
     (let q : times x (u ++ tests_of us) ≤ times x t.table.pool = subst (λ (vs : List (List ℕ)). times x (tests_of vs) ≤ times x t.table.pool) e (f.queue.whole x) in omega (arith, q, times-append x u (tests_of us))) in

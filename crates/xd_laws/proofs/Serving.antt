@@ -7,17 +7,17 @@ use Rattle.xd_edge.specs.declared.mode.ModeKind.TheVariants.{Load, WorkSteal}
 use Rattle.xd_journal.specs.declared.entry.Entry.{Entry}
 use Rattle.xd_journal.specs.declared.entry.Entry.TheVariants.{Ready, Collected, Done, Back, Finished, Refused, Down, NotStarted, Start, Run, RunAll, Steal, Shutdown, Kill, Over}
 use Rattle.xd_ledger.specs.Table.{workers_of}
-use Rattle.xd_ledger.specs.Plan.{Plan, Asked, is_each}
+use Rattle.xd_ledger.specs.Plan.{Plan, UnansweredSteal, is_each}
 use Rattle.xd_ledger.specs.Turn.{Turn}
 use Rattle.xd_ledger.specs.Load.{refill}
-use Rattle.xd_ledger.specs.Modes.{Call, turned, load_turn, worksteal_turn}
-use Rattle.xd_ledger.specs.Modes.Call.{Share, Joined, TestDone, TestsBack, Died}
+use Rattle.xd_ledger.specs.Modes.{ModeCall, turned, load_turn, worksteal_turn}
+use Rattle.xd_ledger.specs.Modes.ModeCall.{Share, Joined, TestDone, TestsBack, Died}
 use Rattle.xd_ledger.specs.Books.{marked}
 use Rattle.xd_ledger.specs.Workers.{made_collected}
 use Rattle.xd_ledger.specs.Collections.{listed, unequal, with_list}
 use Rattle.xd_ledger.specs.Sharing.{State, in_books}
 use Rattle.xd_ledger.specs.Deaths.{steal_without}
-use Rattle.xd_ledger.specs.State.{moved, all_moved, settled}
+use Rattle.xd_ledger.specs.State.{after_effect, after_entries, settled}
 use Rattle.xd_ledger.specs.Outputs.{acts_of, turn_of}
 use Rattle.xd_ledger.specs.Proper.{may_follow}
 use Rattle.xd_laws.proofs.Logic.{differ, cases_of}
@@ -41,11 +41,11 @@ pub record Both (X Y : State → Type 0) (s : State) : Type 0 where
 
 -- what is kept beside a rule
 pub record Beside (X Y : State → Type 0) : Type 0 where
-  pub input : (s : State) (e : Entry) → may_follow s e ≡ true → Tidy s → X s → Y s → Y (moved s e)
-  pub start : (s : State) (w slot : ℕ) → Y s → Y (moved s (Start w slot))
-  pub shutdown : (s : State) (w : ℕ) → Y s → Y (moved s (Shutdown w))
+  pub input : (s : State) (e : Entry) → may_follow s e ≡ true → Tidy s → X s → Y s → Y (after_effect s e)
+  pub start : (s : State) (w slot : ℕ) → Y s → Y (after_effect s (Start w slot))
+  pub shutdown : (s : State) (w : ℕ) → Y s → Y (after_effect s (Shutdown w))
   pub settled : (s : State) → Y s → Y (settled s)
-  pub turns : (s : State) (c : Call) → Tidy s → s.books.shared ≡ true → X s → Y s → CallFits s c → Y (all_moved s (acts_of c s))
+  pub turns : (s : State) (c : ModeCall) → Tidy s → s.books.shared ≡ true → X s → Y s → CallFits s c → Y (after_entries s (acts_of c s))
 
 pub rule-both : (X Y : State → Type 0) → Rule X → Beside X Y → Rule (Both X Y)
 rule-both X Y rule more = record {
@@ -67,15 +67,15 @@ abbrev pub OthersWork : ℕ → State → Type 0
 OthersWork w s = (s.books.table.pool ≡ []) ⊎ ((v : ℕ) → InRota s v → (v == w) ≡ false → has_work v s.books.table ≡ true)
 
 -- what is known of the workers ahead of a call
-abbrev pub Ahead : State → Call → Type 0
+abbrev pub Ahead : State → ModeCall → Type 0
 Ahead s (TestDone w ms) = OthersWork w s
 Ahead s _ = Unit {0}
 
 -- how a mode without slots of tests leaves workers and pool
 pub record Server (X : State → Type 0) : Type 0 where
   pub rule : Rule X
-  pub work : (s : State) (c : Call) → Tidy s → s.books.shared ≡ true → X s → CallFits s c → (c ≡ TestsBack → s.plan.mode ≡ WorkSteal) → Ahead s c → AllWork (workers_of s.books.table) (turned s.plan.mode c (turn_of s)).table
-  pub serves : (s : State) (c : Call) → Tidy s → s.books.shared ≡ true → X s → CallFits s c → Serves s (turned s.plan.mode c (turn_of s))
+  pub work : (s : State) (c : ModeCall) → Tidy s → s.books.shared ≡ true → X s → CallFits s c → (c ≡ TestsBack → s.plan.mode ≡ WorkSteal) → Ahead s c → AllWork (workers_of s.books.table) (turned s.plan.mode c (turn_of s)).table
+  pub serves : (s : State) (c : ModeCall) → Tidy s → s.books.shared ≡ true → X s → CallFits s c → Serves s (turned s.plan.mode c (turn_of s))
   pub steals : (s : State) → X s → (s.plan.mode ≡ WorkSteal) ⊎ (s.plan.steal ≡ None)
   pub each : (s : State) → X s → is_each s.plan.mode ≡ false
 
@@ -97,15 +97,15 @@ one-work f w s e o = elim o [
 abbrev pub NoSteal : State → Type 0
 NoSteal s = s.plan.steal ≡ None
 
-pub no_steal-input : (s : State) (e : Entry) → may_follow s e ≡ true → NoSteal s → NoSteal (moved s e)
+pub no_steal-input : (s : State) (e : Entry) → may_follow s e ≡ true → NoSteal s → NoSteal (after_effect s e)
 no_steal-input s (Ready w) h n = n
 no_steal-input s (Collected w g) h n = collecting-keeps NoSteal (in_books (λ b. marked (made_collected w) (with_list w g b)) s) w (unequal w g (listed w s.books)) n n n (λ z. n)
 no_steal-input s (Done w i u m o) h n = n
 no_steal-input s (Back w is) h n = refl
 no_steal-input s (Finished w) h n = n
 no_steal-input s (Refused w t) h n = n
-no_steal-input s (Down w c o) h n = ap (λ (a : Option Asked). steal_without w a) n
-no_steal-input s (NotStarted w) h n = ap (λ (a : Option Asked). steal_without w a) n
+no_steal-input s (Down w c o) h n = ap (λ (a : Option UnansweredSteal). steal_without w a) n
+no_steal-input s (NotStarted w) h n = ap (λ (a : Option UnansweredSteal). steal_without w a) n
 no_steal-input s (Start w slot) h n = absurd (differ h)
 no_steal-input s (Run w is) h n = absurd (differ h)
 no_steal-input s (RunAll w) h n = absurd (differ h)
@@ -116,13 +116,13 @@ no_steal-input s (Over how) h n = absurd (differ h)
 
 -- load
 
-load-fair : (s : State) (c : Call) → NoSteal s → Fair (load_turn c (turn_of s))
+load-fair : (s : State) (c : ModeCall) → NoSteal s → Fair (load_turn c (turn_of s))
 load-fair s c n = by c
   where
     first : Fair (turn_of s)
     first = record { steal = n; fair = inr refl }
 
-    by : (c : Call) → Fair (load_turn c (turn_of s))
+    by : (c : ModeCall) → Fair (load_turn c (turn_of s))
     by (Share slots) = fair-share (turn_of s) first
     by (Joined w slot) = fair-refill_all (turn_of s) first
     by (TestDone w ms) = fair-refill ms w (turn_of s) first
@@ -144,7 +144,7 @@ load_beside = record {
 load-back : (s : State) → InMode Load s → s.plan.mode ≡ WorkSteal → ⊥
 load-back s m e = (let z : Load ≡ WorkSteal = sym m ∙ e in cc)
 
-load-work : (s : State) (c : Call) → Tidy s → s.books.shared ≡ true → InLoad s → CallFits s c → (c ≡ TestsBack → s.plan.mode ≡ WorkSteal) → Ahead s c → AllWork (workers_of s.books.table) (load_turn c (turn_of s)).table
+load-work : (s : State) (c : ModeCall) → Tidy s → s.books.shared ≡ true → InLoad s → CallFits s c → (c ≡ TestsBack → s.plan.mode ≡ WorkSteal) → Ahead s c → AllWork (workers_of s.books.table) (load_turn c (turn_of s)).table
 load-work s (Share slots) d h x f b o =
     load.share-work s (turn_of s) (load_plain s x.first) (good-first s d h) (λ v a. sym (d.placed.fits.marks v (seat-among v s.books.table.rota ∙ a)) ∙ f.unshut v)
 load-work s (Joined w slot) d h x f b o = load.refill_all-work s (turn_of s) (load_plain s x.first) (good-first s d h)
@@ -163,14 +163,14 @@ load_server = record {
 
 -- worksteal
 
-steal-work : (s : State) (c : Call) → AllWork (workers_of s.books.table) (worksteal_turn c (turn_of s)).table
+steal-work : (s : State) (c : ModeCall) → AllWork (workers_of s.books.table) (worksteal_turn c (turn_of s)).table
 steal-work s (Share slots) = steal.share-work (turn_of s)
 steal-work s (Joined w slot) = steal.rule-work (turn_of s)
 steal-work s (TestDone w ms) = steal.rule-work (turn_of s)
 steal-work s TestsBack = steal.rule-work (turn_of s)
 steal-work s Died = steal.rule-work (turn_of s)
 
-steal-serves : (s : State) (c : Call) → Tidy s → s.books.shared ≡ true → InMode WorkSteal s → Serves s (worksteal_turn c (turn_of s))
+steal-serves : (s : State) (c : ModeCall) → Tidy s → s.books.shared ≡ true → InMode WorkSteal s → Serves s (worksteal_turn c (turn_of s))
 steal-serves s (Share slots) d h m = serves-share s (steal_plain s m) (good-first s d h)
 steal-serves s (Joined w slot) d h m = serves-rule s (steal_plain s m) (good-first s d h)
 steal-serves s (TestDone w ms) d h m = serves-rule s (steal_plain s m) (good-first s d h)

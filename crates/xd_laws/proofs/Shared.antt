@@ -18,7 +18,7 @@ use Rattle.xd_ledger.specs.Workers.{slot_in, slot_of, started, made_ready, made_
 use Rattle.xd_ledger.specs.Collections.{ids_of, key, listed, listed_in, lists_with, unequal, with_list}
 use Rattle.xd_ledger.specs.Sharing.{State, ids_at, in_books, shared_now, sizes_from}
 use Rattle.xd_ledger.specs.Results.{completed_first}
-use Rattle.xd_ledger.specs.State.{moved, no_one}
+use Rattle.xd_ledger.specs.State.{after_effect, no_one}
 use Rattle.xd_ledger.specs.Proper.{may_follow}
 use Rattle.xd_ledger.specs.Orderly.{is_orderly}
 use Rattle.xd_laws.specs.Collected.{slots}
@@ -160,7 +160,7 @@ listing-joined s w g k =
       all = l.all;
     }
 
-listing-collected : (s : State) (w : ℕ) (g : Ids) → may_follow s (Collected w g) ≡ true → Tidy s → Listing s → Listing (moved s (Collected w g))
+listing-collected : (s : State) (w : ℕ) (g : Ids) → may_follow s (Collected w g) ≡ true → Tidy s → Listing s → Listing (after_effect s (Collected w g))
 listing-collected s w g h d k =
     let now = in_books (λ b. marked (made_collected w) (with_list w g b)) s in
     let j = in_books (λ b. record b { table = joined w b.table }) now in
@@ -191,7 +191,7 @@ rota-first v w (i ∷ is) t = seat-change v w (λ s. record s { held = without (
 still-in : (v w : ℕ) (ss : List Seat) → has_seat v (without_seat w ss) ≡ true → has_seat v ss ≡ true
 still-in v w ss h = (split-and (not (v == w)) (has_seat v ss) (sym (seat-left v w ss) ∙ h)).1
 
-listing-gone : (s : State) (w : ℕ) → Listing s → Listing (moved s (NotStarted w))
+listing-gone : (s : State) (w : ℕ) → Listing s → Listing (after_effect s (NotStarted w))
 listing-gone s w k = record {
   mode = k.mode;
   joined = λ v r. at-marked s v (made_gone w) (λ m. refl) (λ m. refl) (k.joined v (still-in v w s.books.table.rota r));
@@ -199,7 +199,7 @@ listing-gone s w k = record {
   all = k.all;
 }
 
-listing-said : (s : State) (e : Entry) → Tidy s → may_follow s e ≡ true → Listing s → Listing (moved s e)
+listing-said : (s : State) (e : Entry) → Tidy s → may_follow s e ≡ true → Listing s → Listing (after_effect s e)
 listing-said s (Ready w) d h k = record { mode = k.mode; joined = λ v r. at-marked s v (made_ready w) (λ m. refl) (λ m. refl) (k.joined v r); sizes = k.sizes; all = k.all }
 listing-said s (Collected w g) d h k = listing-collected s w g h d k
 listing-said s (Done w i u m o) d h k =
@@ -233,7 +233,7 @@ listing-said s (Over how) d h k = absurd (differ h)
 listing-assigned : (s : State) (w : ℕ) (items : List ℕ) → Listing s → (v : ℕ) → has_seat v (at_seat w (λ x. record x { held = x.held ++ items }) s.books.table.rota) ≡ true → is_some (listed v s.books) ≡ true
 listing-assigned s w items k v r = k.joined v (sym (seat-change v w (λ x. record x { held = x.held ++ items }) s.books.table.rota (λ x. refl)) ∙ r)
 
-listing-told : (s : State) (e : Entry) → Placed s → is_orderly s e ≡ true → Listing s → Listing (moved s e)
+listing-told : (s : State) (e : Entry) → Placed s → is_orderly s e ≡ true → Listing s → Listing (after_effect s e)
 listing-told s (Start w slot) p h k = record {
   mode = k.mode;
   joined = λ v r. at-slot s (slot_in v s.books.crew) (slot_in v (s.books.crew ++ started w slot ∷ []))

@@ -17,7 +17,7 @@ use Rattle.xd_ledger.specs.Collections.{listed, unequal, with_list}
 use Rattle.xd_ledger.specs.Workers.{made_collected, made_gone, made_ready, made_shut, slot_in, slot_of, started}
 use Rattle.xd_ledger.specs.Sharing.{State, in_books}
 use Rattle.xd_ledger.specs.Results.{completed_first}
-use Rattle.xd_ledger.specs.State.{all_moved, moved, no_one}
+use Rattle.xd_ledger.specs.State.{after_entries, after_effect, no_one}
 use Rattle.xd_ledger.specs.Orderly.{all_orderly, is_orderly, may_run, not_empty}
 use Rattle.xd_ledger.specs.Proper.{may_follow}
 use Rattle.xd_laws.proofs.Logic.{cases_of, differ, or-left, split-and}
@@ -26,7 +26,7 @@ use Rattle.xd_laws.proofs.Rota.{has_seat, seat-change, seat-left}
 use Rattle.xd_laws.proofs.Crew.{has-member, has-more, has-same, is_member}
 use Rattle.xd_laws.proofs.CrewFits.{slot-marked, slot-old}
 use Rattle.xd_laws.proofs.Placed.{Placed, placed-output, shared-of_held}
-use Rattle.xd_laws.proofs.Turns.{all_moved-first}
+use Rattle.xd_laws.proofs.Turns.{after_entries-first}
 use Rattle.xd_laws.proofs.Queue.{held-fewer, held-left, held-more, held-none, held-shut}
 use Rattle.xd_laws.proofs.Inputs.{collecting-keeps}
 use Rattle.xd_laws.proofs.Pigeons.{none-among}
@@ -103,8 +103,8 @@ own-marked s t change a b crew less sizes mode k =
     (λ v m. ap (λ (ms : List Member). is_member v ms) crew ∙ has-same v (λ m. true) change s.books.crew a (λ m. refl) ∙ m)
     (λ v m. ap (λ (ms : List Member). slot_in v ms) crew ∙ slot-marked v change s.books.crew a b) sizes mode k
 
-pub own-input : (s : State) (e : Entry) → may_follow s e ≡ true → Placed s → OwnSlot s → OwnSlot (moved s e)
-own-input s (Ready w) h d k = own-marked s (moved s (Ready w)) (made_ready w) (λ m. refl) (λ m. refl) refl (λ v x a. a) refl refl k
+pub own-input : (s : State) (e : Entry) → may_follow s e ≡ true → Placed s → OwnSlot s → OwnSlot (after_effect s e)
+own-input s (Ready w) h d k = own-marked s (after_effect s (Ready w)) (made_ready w) (λ m. refl) (λ m. refl) refl (λ v x a. a) refl refl k
 own-input s (Collected w g) h d k =
     let now = in_books (λ b. marked (made_collected w) (with_list w g b)) s in
     let j = in_books (λ b. record b { table = joined w b.table }) now in
@@ -113,13 +113,13 @@ own-input s (Collected w g) h d k =
     collecting-keeps OwnSlot now w (unequal w g (listed w s.books)) same same come
     (λ z e v x a. absurd (differ (sym z ∙ shared-of_held s v x d (held-came x v w s.books.table.rota a))))
 own-input s (Done w i u m o) h d k =
-    own-by s (moved s (Done w i u m o)) (λ v x a. held-first x v w (items_named (slot_of w s.books) (i ∷ []) s.plan) s.books.table a) (λ v z. z) (λ v z. refl) refl refl k
+    own-by s (after_effect s (Done w i u m o)) (λ v x a. held-first x v w (items_named (slot_of w s.books) (i ∷ []) s.plan) s.books.table a) (λ v z. z) (λ v z. refl) refl refl k
 own-input s (Back w is) h d k =
-    own-by s (moved s (Back w is)) (λ v x a. held-kept x v w (items_named (slot_of w s.books) is s.plan) s.books.table.rota a) (λ v z. z) (λ v z. refl) refl refl k
-own-input s (Finished w) h d k = own-marked s (moved s (Finished w)) (made_gone w) (λ m. refl) (λ m. refl) refl (λ v x a. held-went x v w s.books.table.rota a) refl refl k
-own-input s (Refused w t) h d k = own-marked s (moved s (Refused w t)) (made_gone w) (λ m. refl) (λ m. refl) refl (λ v x a. a) refl refl k
-own-input s (Down w c o) h d k = own-marked s (moved s (Down w c o)) (made_gone w) (λ m. refl) (λ m. refl) refl (λ v x a. held-went x v w s.books.table.rota a) refl refl k
-own-input s (NotStarted w) h d k = own-marked s (moved s (NotStarted w)) (made_gone w) (λ m. refl) (λ m. refl) refl (λ v x a. held-went x v w s.books.table.rota a) refl refl k
+    own-by s (after_effect s (Back w is)) (λ v x a. held-kept x v w (items_named (slot_of w s.books) is s.plan) s.books.table.rota a) (λ v z. z) (λ v z. refl) refl refl k
+own-input s (Finished w) h d k = own-marked s (after_effect s (Finished w)) (made_gone w) (λ m. refl) (λ m. refl) refl (λ v x a. held-went x v w s.books.table.rota a) refl refl k
+own-input s (Refused w t) h d k = own-marked s (after_effect s (Refused w t)) (made_gone w) (λ m. refl) (λ m. refl) refl (λ v x a. a) refl refl k
+own-input s (Down w c o) h d k = own-marked s (after_effect s (Down w c o)) (made_gone w) (λ m. refl) (λ m. refl) refl (λ v x a. held-went x v w s.books.table.rota a) refl refl k
+own-input s (NotStarted w) h d k = own-marked s (after_effect s (NotStarted w)) (made_gone w) (λ m. refl) (λ m. refl) refl (λ v x a. held-went x v w s.books.table.rota a) refl refl k
 own-input s (Start w slot) h d k = absurd (differ h)
 own-input s (Run w is) h d k = absurd (differ h)
 own-input s (RunAll w) h d k = absurd (differ h)
@@ -128,14 +128,14 @@ own-input s (Shutdown w) h d k = absurd (differ h)
 own-input s (Kill w) h d k = absurd (differ h)
 own-input s (Over how) h d k = absurd (differ h)
 
-pub own-start : (s : State) (w slot : ℕ) → OwnSlot s → OwnSlot (moved s (Start w slot))
+pub own-start : (s : State) (w slot : ℕ) → OwnSlot s → OwnSlot (after_effect s (Start w slot))
 own-start s w slot k =
-    own-by s (moved s (Start w slot)) (λ v x a. a) (λ v m. has-more v (λ m. true) s.books.crew (started w slot) ∙ or-left (is_member v s.books.crew) (w == v && true) m)
+    own-by s (after_effect s (Start w slot)) (λ v x a. a) (λ v m. has-more v (λ m. true) s.books.crew (started w slot) ∙ or-left (is_member v s.books.crew) (w == v && true) m)
     (λ v m. slot-old v s.books.crew (started w slot) m) refl refl k
 
-pub own-shutdown : (s : State) (w : ℕ) → OwnSlot s → OwnSlot (moved s (Shutdown w))
+pub own-shutdown : (s : State) (w : ℕ) → OwnSlot s → OwnSlot (after_effect s (Shutdown w))
 own-shutdown s w k =
-    own-marked s (moved s (Shutdown w)) (made_shut w) (λ m. refl) (λ m. refl) refl (λ v x a. ap (λ (xs : List ℕ). among x xs) (sym (held-shut v w s.books.table.rota)) ∙ a) refl refl k
+    own-marked s (after_effect s (Shutdown w)) (made_shut w) (λ m. refl) (λ m. refl) refl (λ v x a. ap (λ (xs : List ℕ). among x xs) (sym (held-shut v w s.books.table.rota)) ∙ a) refl refl k
 
 -- a worker of the rota gets items of its slot
 own-given : (s : State) (w : ℕ) (items : List ℕ) (p : Plan) → p.sizes ≡ s.plan.sizes → p.mode ≡ s.plan.mode → Placed s → in_rota w s.books.table ≡ true
@@ -155,7 +155,7 @@ chosen : (b : Bool) (u v : Bool) → b ≡ true → (if b then u else v) ≡ tru
 chosen true u v h k = k
 chosen false u v h k = absurd (differ h)
 
-own-run : (s : State) (w : ℕ) (is : List ℕ) → is_orderly s (Run w is) ≡ true → Placed s → OwnSlot s → OwnSlot (moved s (Run w is))
+own-run : (s : State) (w : ℕ) (is : List ℕ) → is_orderly s (Run w is) ≡ true → Placed s → OwnSlot s → OwnSlot (after_effect s (Run w is))
 own-run s w is h d k =
     let slot = slot_of w s.books in
     let items = items_named slot is s.plan in
@@ -164,10 +164,10 @@ own-run s w is h d k =
     let c = split-and (may_run w s && not_empty is) (all_distinct items) b.0 in
     let e = split-and (may_run w s) (not_empty is) c.0 in
     let rota = (split-and (in_rota w s.books.table) _ e.0).0 in
-    own-given s w items (moved s (Run w is)).plan refl refl d rota
+    own-given s w items (after_effect s (Run w is)).plan refl refl d rota
     (λ each x z. among_of-all_among x items (slot_items slot s.plan) (chosen (is_each s.plan.mode) (all_among items (slot_items slot s.plan)) true each a.1) z) k
 
-pub own-output : (s : State) (e : Entry) → is_orderly s e ≡ true → Placed s → OwnSlot s → OwnSlot (moved s e)
+pub own-output : (s : State) (e : Entry) → is_orderly s e ≡ true → Placed s → OwnSlot s → OwnSlot (after_effect s e)
 own-output s (Start w slot) h d k = own-start s w slot k
 own-output s (Run w is) h d k = own-run s w is h d k
 own-output s (RunAll w) h d k =
@@ -188,12 +188,12 @@ own-output s (Refused w t) h d k = absurd (differ h)
 own-output s (Down w c o) h d k = absurd (differ h)
 own-output s (NotStarted w) h d k = absurd (differ h)
 
-pub own-outputs : (s : State) (es : List Entry) → all_orderly s es ≡ true → Placed s → OwnSlot s → OwnSlot (all_moved s es)
+pub own-outputs : (s : State) (es : List Entry) → all_orderly s es ≡ true → Placed s → OwnSlot s → OwnSlot (after_entries s es)
 own-outputs s [] o d k = k
 own-outputs s (e ∷ es) o d k =
-    let q = split-and (is_orderly s e) (all_orderly (moved s e) es) o in
-    subst OwnSlot (sym (all_moved-first s e es q.0))
-    (own-outputs (moved s e) es q.1 (placed-output s e q.0 d) (own-output s e q.0 d k))
+    let q = split-and (is_orderly s e) (all_orderly (after_effect s e) es) o in
+    subst OwnSlot (sym (after_entries-first s e es q.0))
+    (own-outputs (after_effect s e) es q.1 (placed-output s e q.0 d) (own-output s e q.0 d k))
 
 pub own-none : (settings : Settings) → OwnSlot (no_one settings)
 own-none settings = λ e v x a. absurd (differ a)

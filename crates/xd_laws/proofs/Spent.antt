@@ -13,26 +13,26 @@ use Rattle.xd_journal.specs.declared.entry.Entry.TheVariants.{Ready, Collected, 
 use Rattle.xd_ledger.specs.declared.seat.Seat.{Seat}
 use Rattle.xd_ledger.specs.Numbers.{among, without, all_distinct, all_among}
 use Rattle.xd_ledger.specs.Table.{Table, held, held_in, at_seat, without_seat, assigned}
-use Rattle.xd_ledger.specs.Plan.{Plan, Asked, is_each, base, items_named, slot_items}
+use Rattle.xd_ledger.specs.Plan.{Plan, UnansweredSteal, is_each, base, items_named, slot_items}
 use Rattle.xd_ledger.specs.Books.{marked}
 use Rattle.xd_ledger.specs.Workers.{slot_of, made_collected, waiting}
 use Rattle.xd_ledger.specs.Collections.{unequal, listed, with_list}
 use Rattle.xd_ledger.specs.Stops.{is_stopped}
 use Rattle.xd_ledger.specs.Sharing.{State, in_books}
 use Rattle.xd_ledger.specs.Results.{completed_first}
-use Rattle.xd_ledger.specs.State.{moved, all_moved, settled, settles, is_finished, no_one}
-use Rattle.xd_ledger.specs.Outputs.{acts_of, after_death, closing, own_outputs, shut_all, stepped, unless_stopped}
-use Rattle.xd_ledger.specs.Modes.Call.{Died}
-use Rattle.xd_ledger.specs.Histories.{begun, first_starts, starts_from, stepped_all}
+use Rattle.xd_ledger.specs.State.{after_effect, after_entries, settled, settles, is_handed_out, no_one}
+use Rattle.xd_ledger.specs.Outputs.{acts_of, outputs_of_death, closing, own_outputs, shut_all, after_input, unless_stopped}
+use Rattle.xd_ledger.specs.Modes.ModeCall.{Died}
+use Rattle.xd_ledger.specs.Histories.{after_starts, first_starts, starts_from, after_inputs}
 use Rattle.xd_ledger.specs.Proper.{all_may_follow, may_follow}
 use Rattle.xd_ledger.specs.Orderly.{is_orderly, all_orderly, may_run, not_empty}
 use Rattle.xd_laws.proofs.Logic.{differ, cases_of, in_both, split-and, split-or}
 use Rattle.xd_laws.proofs.Rota.{has_seat, seat-left}
 use Rattle.xd_laws.proofs.Placed.{empty_of, first_named-by, no_back}
-use Rattle.xd_laws.proofs.Turns.{Tidy, all_moved-first, all_moved-join}
+use Rattle.xd_laws.proofs.Turns.{Tidy, after_entries-first, after_entries-join}
 use Rattle.xd_laws.proofs.Inputs.{collecting-keeps, unstopped-before, down-unstopped, done-unstopped, tidy-input}
 use Rattle.xd_laws.proofs.Outputs.{closing-fit, own-fit}
-use Rattle.xd_laws.proofs.Runs.{Holds, stepped-holds}
+use Rattle.xd_laws.proofs.Runs.{Holds, after_input-holds}
 use Rattle.xd_laws.proofs.Rule.{Rule}
 use Rattle.xd_laws.proofs.Queue.{held-none, held-shut, held-left}
 
@@ -111,18 +111,18 @@ none-assigned t p w items e k = subst (λ (xs : List ℕ). IsSpent (assigned w x
   few = λ v. subst (λ (xs : List ℕ). length xs < 2) (sym (few-added v w t.rota)) (k.few v);
 })
 
-spent-run_all : (s : State) (w : ℕ) → is_orderly s (RunAll w) ≡ true → Spent s → Spent (moved s (RunAll w))
+spent-run_all : (s : State) (w : ℕ) → is_orderly s (RunAll w) ≡ true → Spent s → Spent (after_effect s (RunAll w))
 spent-run_all s w h k =
     let items = slot_items (slot_of w s.books) s.plan in
     let a = split-and (is_each s.plan.mode && may_run w s) (all_among items s.books.table.pool) h in
     record { spent = λ u v. (let i = k.spent u v in none-assigned s.books.table s.plan w items (none_among items s.books.table.pool a.1 i.pool) i) }
 
-spent-shutdown : (s : State) (w : ℕ) → Spent s → Spent (moved s (Shutdown w))
+spent-shutdown : (s : State) (w : ℕ) → Spent s → Spent (after_effect s (Shutdown w))
 spent-shutdown s w k = record {
   spent = λ u v. (let i = k.spent u v in record { pool = i.pool; steal = i.steal; few = λ x. subst (λ (xs : List ℕ). length xs < 2) (sym (held-shut x w s.books.table.rota)) (i.few x) });
 }
 
-spent-output : (s : State) (e : Entry) → is_orderly s e ≡ true → Spent s → Spent (moved s e)
+spent-output : (s : State) (e : Entry) → is_orderly s e ≡ true → Spent s → Spent (after_effect s e)
 spent-output s (Start w slot) h k = record { spent = λ u v. absurd (differ u) }
 spent-output s (Run w is) h k = record { spent = λ u v. absurd (spent-run s w is h (k.spent u v).pool) }
 spent-output s (RunAll w) h k = spent-run_all s w h k
@@ -139,15 +139,15 @@ spent-output s (Refused w t) h k = absurd (differ h)
 spent-output s (Down w c o) h k = absurd (differ h)
 spent-output s (NotStarted w) h k = absurd (differ h)
 
-spent-outputs : (s : State) (es : List Entry) → all_orderly s es ≡ true → Spent s → Spent (all_moved s es)
+spent-outputs : (s : State) (es : List Entry) → all_orderly s es ≡ true → Spent s → Spent (after_entries s es)
 spent-outputs s [] h k = k
 spent-outputs s (e ∷ es) h k =
-    let p = split-and (is_orderly s e) (all_orderly (moved s e) es) h in
-    subst Spent (sym (all_moved-first s e es p.0)) (spent-outputs (moved s e) es p.1 (spent-output s e p.0 k))
+    let p = split-and (is_orderly s e) (all_orderly (after_effect s e) es) h in
+    subst Spent (sym (after_entries-first s e es p.0)) (spent-outputs (after_effect s e) es p.1 (spent-output s e p.0 k))
 
 -- inputs
 
-spent-collected : (s : State) (w : ℕ) (g : Ids) → Tidy s → Spent s → Spent (moved s (Collected w g))
+spent-collected : (s : State) (w : ℕ) (g : Ids) → Tidy s → Spent s → Spent (after_effect s (Collected w g))
 spent-collected s w g d k =
     let now = in_books (λ b. marked (made_collected w) (with_list w g b)) s in
     let stop = unequal w g (listed w s.books) in
@@ -166,7 +166,7 @@ is_loss (Down w c o) = true
 is_loss (NotStarted w) = true
 is_loss _ = false
 
-spent-input : (s : State) (e : Entry) → may_follow s e ≡ true → is_loss e ≡ false → Tidy s → Spent s → Spent (moved s e)
+spent-input : (s : State) (e : Entry) → may_follow s e ≡ true → is_loss e ≡ false → Tidy s → Spent s → Spent (after_effect s e)
 spent-input s (Ready w) h n d k = record { spent = k.spent }
 spent-input s (Collected w g) h n d k = spent-collected s w g d k
 spent-input s (Done w i u m o) h n d k = record { spent = λ a b. spent-first s.books.table s.plan w (items_named (slot_of w s.books) (i ∷ []) s.plan) (k.spent a (done-unstopped s w i u m o b)) }
@@ -183,20 +183,20 @@ spent-input s (Shutdown w) h n d k = absurd (differ h)
 spent-input s (Kill w) h n d k = absurd (differ h)
 spent-input s (Over how) h n d k = absurd (differ h)
 
-stop-shut_all : (ws : List ℕ) (u : State) → (all_moved u (map (λ w. Shutdown w) ws)).books.stop ≡ u.books.stop
+stop-shut_all : (ws : List ℕ) (u : State) → (after_entries u (map (λ w. Shutdown w) ws)).books.stop ≡ u.books.stop
 stop-shut_all [] u = refl
-stop-shut_all (w ∷ ws) u = stop-shut_all ws (moved u (Shutdown w))
+stop-shut_all (w ∷ ws) u = stop-shut_all ws (after_effect u (Shutdown w))
 
-spent-lost : (s : State) (w : ℕ) → Spent (all_moved (moved s (NotStarted w)) (unless_stopped s.books (moved s (NotStarted w)).books (after_death w (moved s (NotStarted w)))))
+spent-lost : (s : State) (w : ℕ) → Spent (after_entries (after_effect s (NotStarted w)) (unless_stopped s.books (after_effect s (NotStarted w)).books (outputs_of_death w (after_effect s (NotStarted w)))))
 spent-lost s w =
-    in_both (λ (es : List Entry). Spent (all_moved now es)) (is_stopped s.books) [] (if is_stopped now.books then shut_all now.books.crew else after_death w now)
+    in_both (λ (es : List Entry). Spent (after_entries now es)) (is_stopped s.books) [] (if is_stopped now.books then shut_all now.books.crew else outputs_of_death w now)
     (λ h. record { spent = λ u v. absurd (differ (sym (down-unstopped w s v) ∙ h)) })
-    (λ h. in_both (λ (es : List Entry). Spent (all_moved now es)) (is_stopped now.books) (shut_all now.books.crew) (after_death w now)
+    (λ h. in_both (λ (es : List Entry). Spent (after_entries now es)) (is_stopped now.books) (shut_all now.books.crew) (outputs_of_death w now)
     (λ k. record { spent = λ u v. absurd (differ (sym v ∙ ap (λ (a : Option RunStop). is_some a) (stop-shut_all (waiting now.books.crew) now) ∙ k)) })
-    (λ k. subst Spent (sym (all_moved-join now first (start ∷ []))) (record { spent = λ u v. absurd (differ u) })))
+    (λ k. subst Spent (sym (after_entries-join now first (start ∷ []))) (record { spent = λ u v. absurd (differ u) })))
   where
     now : State
-    now = moved s (NotStarted w)
+    now = after_effect s (NotStarted w)
 
     first : List Entry
     first = if now.books.shared then acts_of Died now else []
@@ -204,10 +204,10 @@ spent-lost s w =
     start : Entry
     start = Start (length now.books.crew) (slot_of w now.books)
 
-spent-own : (s : State) (e : Entry) → may_follow s e ≡ true → Tidy s → Spent s → all_orderly (moved s e) (own_outputs s e (moved s e)) ≡ true → Spent (all_moved (moved s e) (own_outputs s e (moved s e)))
-spent-own s e h d k o = elim (cases_of (is_loss e)) [ inl l ↦ lost e l | inr n ↦ spent-outputs (moved s e) (own_outputs s e (moved s e)) o (spent-input s e h n d k) ]
+spent-own : (s : State) (e : Entry) → may_follow s e ≡ true → Tidy s → Spent s → all_orderly (after_effect s e) (own_outputs s e (after_effect s e)) ≡ true → Spent (after_entries (after_effect s e) (own_outputs s e (after_effect s e)))
+spent-own s e h d k o = elim (cases_of (is_loss e)) [ inl l ↦ lost e l | inr n ↦ spent-outputs (after_effect s e) (own_outputs s e (after_effect s e)) o (spent-input s e h n d k) ]
   where
-    lost : (e : Entry) → is_loss e ≡ true → Spent (all_moved (moved s e) (own_outputs s e (moved s e)))
+    lost : (e : Entry) → is_loss e ≡ true → Spent (after_entries (after_effect s e) (own_outputs s e (after_effect s e)))
     lost (Down w r b) l = spent-lost s w
     lost (NotStarted w) l = spent-lost s w
     lost (Ready w) l = absurd (differ l)
@@ -226,7 +226,7 @@ spent-own s e h d k o = elim (cases_of (is_loss e)) [ inl l ↦ lost e l | inr n
 
 -- the mark is set where nothing is left
 
-no_steal : (a : Option Asked) → is_none a ≡ true → a ≡ None
+no_steal : (a : Option UnansweredSteal) → is_none a ≡ true → a ≡ None
 no_steal None h = refl
 no_steal (Some a) h = absurd (differ h)
 
@@ -234,7 +234,7 @@ few-all : (v : ℕ) (ss : List Seat) → list_all (λ s. nat_lt (length s.held) 
 few-all v [] h = omega arith
 few-all v (s ∷ ss) h = grind (arith, nat_tests, few-all v ss, h)
 
-pub spent-finished : (t : Table) (p : Plan) → is_finished t p ≡ true → IsSpent t p
+pub spent-finished : (t : Table) (p : Plan) → is_handed_out t p ≡ true → IsSpent t p
 spent-finished t p h =
     let a = split-and ((length t.pool == 0) && is_none p.steal) (list_all (λ s. nat_lt (length s.held) 2) t.rota) h in
     let b = split-and (length t.pool == 0) (is_none p.steal) a.0 in
@@ -244,30 +244,30 @@ spent-settled : (s : State) → Spent s → Spent (settled s)
 spent-settled s k = record {
   spent = λ u v. elim (split-or s.books.shutting (settles s) u) [
     | inl h ↦ k.spent h v
-    | inr h ↦ spent-finished s.books.table s.plan (split-and (not (is_stopped s.books) && s.books.shared) (is_finished s.books.table s.plan) h).1
+    | inr h ↦ spent-finished s.books.table s.plan (split-and (not (is_stopped s.books) && s.books.shared) (is_handed_out s.books.table s.plan) h).1
   ];
 }
 
 -- behind a whole rule, and behind whole runs
 
-pub spent-step : (X : State → Type 0) → Rule X → (s : State) (e : Entry) → may_follow s e ≡ true → Tidy s → X s → Spent s → Spent (stepped s e)
+pub spent-step : (X : State → Type 0) → Rule X → (s : State) (e : Entry) → may_follow s e ≡ true → Tidy s → X s → Spent s → Spent (after_input s e)
 spent-step X rule s e h d x k =
-    let now = moved s e in
+    let now = after_effect s e in
     let own = own_outputs s e now in
     let f = own-fit X rule s e h d (tidy-input s e h d) (rule.input s e h d x) in
-    let mid = all_moved now own in
+    let mid = after_entries now own in
     let last = spent-outputs mid (closing mid) (closing-fit X rule mid f.tidy f.also).orderly (spent-own s e h d k f.orderly) in
-    subst (λ (u : State). Spent (settled u)) (sym (all_moved-join now own (closing mid))) (spent-settled (all_moved mid (closing mid)) last)
+    subst (λ (u : State). Spent (settled u)) (sym (after_entries-join now own (closing mid))) (spent-settled (after_entries mid (closing mid)) last)
 
-pub all-spent : (X : State → Type 0) → Rule X → (s : State) (es : List Entry) → all_may_follow s es ≡ true → Holds X s → Spent s → Spent (stepped_all s es)
+pub all-spent : (X : State → Type 0) → Rule X → (s : State) (es : List Entry) → all_may_follow s es ≡ true → Holds X s → Spent s → Spent (after_inputs s es)
 all-spent X rule s [] h d k = k
 all-spent X rule s (e ∷ es) h d k =
-    let p = split-and (may_follow s e) (all_may_follow (stepped s e) es) h in
-    all-spent X rule (stepped s e) es p.1 (stepped-holds X rule s e p.0 d) (spent-step X rule s e p.0 d.tidy d.also k)
+    let p = split-and (may_follow s e) (all_may_follow (after_input s e) es) h in
+    all-spent X rule (after_input s e) es p.1 (after_input-holds X rule s e p.0 d) (spent-step X rule s e p.0 d.tidy d.also k)
 
-pub begun-spent : (settings : Settings) → Spent (begun settings)
-begun-spent settings = spent-settled (all_moved (no_one settings) (first_starts settings)) (starts (no_one settings) 0 settings.workers (record { spent = λ u v. absurd (differ u) }))
+pub begun-spent : (settings : Settings) → Spent (after_starts settings)
+begun-spent settings = spent-settled (after_entries (no_one settings) (first_starts settings)) (starts (no_one settings) 0 settings.workers (record { spent = λ u v. absurd (differ u) }))
   where
-    starts : (s : State) (w n : ℕ) → Spent s → Spent (all_moved s (starts_from w n))
+    starts : (s : State) (w n : ℕ) → Spent s → Spent (after_entries s (starts_from w n))
     starts s w zero k = k
-    starts s w (suc n) k = starts (moved s (Start w w)) (w + 1) n (record { spent = λ u v. absurd (differ u) })
+    starts s w (suc n) k = starts (after_effect s (Start w w)) (w + 1) n (record { spent = λ u v. absurd (differ u) })

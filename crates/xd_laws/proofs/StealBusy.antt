@@ -5,9 +5,9 @@ use Rattle.std.proofs.lemmas.Bool.Decides.{nat_tests}
 use Rattle.xd_ledger.specs.declared.seat.Seat.{Seat}
 use Rattle.xd_ledger.specs.Numbers.{among}
 use Rattle.xd_ledger.specs.Table.{held_in, workers_of}
-use Rattle.xd_ledger.specs.Plan.{Asked}
+use Rattle.xd_ledger.specs.Plan.{UnansweredSteal}
 use Rattle.xd_ledger.specs.Turn.{Turn, give_front, shut_each}
-use Rattle.xd_ledger.specs.Worksteal.{idle, dealt, victim, number, asks, asks_or_shuts, after_dealing, rule, share}
+use Rattle.xd_ledger.specs.Worksteal.{idle, dealt, victim, steal_count, asks, asks_or_shuts, after_dealing, rule, share}
 use Rattle.xd_ledger.specs.Turn.{enough}
 use Rattle.xd_laws.proofs.Logic.{differ, cases_of, in_both}
 use Rattle.xd_laws.proofs.Rota.{is_told}
@@ -62,12 +62,12 @@ dealt-spent w (v ∷ vs) t = dealt-spent v vs (give_front w (length t.table.pool
 
 shuts-pool : (ws : List ℕ) (o : Option Seat) (t : Turn) → (asks_or_shuts ws o t).table.pool ≡ t.table.pool
 shuts-pool ws None t = shut_each-pool ws t
-shuts-pool ws (Some s) t = in_both (λ (u : Turn). u.table.pool ≡ t.table.pool) (number s == 0) (shut_each ws t) (asks s (number s) t) (λ h. shut_each-pool ws t) (λ h. refl)
+shuts-pool ws (Some s) t = in_both (λ (u : Turn). u.table.pool ≡ t.table.pool) (steal_count s == 0) (shut_each ws t) (asks s (steal_count s) t) (λ h. shut_each-pool ws t) (λ h. refl)
 
 after-pool : (t : Turn) → (after_dealing t).table.pool ≡ t.table.pool
 after-pool t = by (idle t.table)
   where
-    on_steal : (ws : List ℕ) (o : Option Asked) → (elim o as (λ _. Turn) [ None ↦ asks_or_shuts ws (victim t.table) t | Some a ↦ t ]).table.pool ≡ t.table.pool
+    on_steal : (ws : List ℕ) (o : Option UnansweredSteal) → (elim o as (λ _. Turn) [ None ↦ asks_or_shuts ws (victim t.table) t | Some a ↦ t ]).table.pool ≡ t.table.pool
     on_steal ws None = shuts-pool ws (victim t.table) t
     on_steal ws (Some a) = refl
 

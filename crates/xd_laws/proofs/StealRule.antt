@@ -1,8 +1,8 @@
 -- Mode worksteal keeps its rule.
 use Rattle.std.proofs.Common.{◌≡◌, true, refl, sym, subst}
 use Rattle.xd_edge.specs.declared.mode.ModeKind.TheVariants.{WorkSteal}
-use Rattle.xd_ledger.specs.Modes.{Call, turned}
-use Rattle.xd_ledger.specs.Modes.Call.{Share, Joined, TestDone, TestsBack, Died}
+use Rattle.xd_ledger.specs.Modes.{ModeCall, turned}
+use Rattle.xd_ledger.specs.Modes.ModeCall.{Share, Joined, TestDone, TestsBack, Died}
 use Rattle.xd_ledger.specs.Sharing.{State}
 use Rattle.xd_ledger.specs.Outputs.{turn_of}
 use Rattle.xd_laws.proofs.Turns.{Tidy, Good, IsPlain, good-first}
@@ -13,7 +13,7 @@ use Rattle.xd_laws.proofs.StealTurns.{good-rule, good-share}
 pub steal_plain : (s : State) → InMode WorkSteal s → IsPlain s.plan.mode
 steal_plain s m = subst IsPlain (sym m) (record { each = refl; scope = refl })
 
-steal-good : (s : State) (c : Call) → Tidy s → s.books.shared ≡ true → InMode WorkSteal s → CallFits s c → Good s (turned WorkSteal c (turn_of s))
+steal-good : (s : State) (c : ModeCall) → Tidy s → s.books.shared ≡ true → InMode WorkSteal s → CallFits s c → Good s (turned WorkSteal c (turn_of s))
 steal-good s (Share slots) d h m f = good-share s (turn_of s) (steal_plain s m) (good-first s d h)
 steal-good s (Joined w slot) d h m f = good-rule s (turn_of s) (steal_plain s m) (good-first s d h)
 steal-good s (TestDone w ms) d h m f = good-rule s (turn_of s) (steal_plain s m) (good-first s d h)

@@ -6,13 +6,13 @@ use Rattle.xd_journal.specs.declared.entry.Entry.TheVariants.{Steal}
 use Rattle.xd_ledger.specs.declared.seat.Seat.{Seat}
 use Rattle.xd_ledger.specs.Numbers.{among, all_distinct, all_among}
 use Rattle.xd_ledger.specs.Table.{Table, held, held_in, in_rota, workers_of}
-use Rattle.xd_ledger.specs.Plan.{Plan, Asked}
+use Rattle.xd_ledger.specs.Plan.{Plan, UnansweredSteal}
 use Rattle.xd_ledger.specs.Turn.{Turn, give, give_front, shut_each}
-use Rattle.xd_ledger.specs.Worksteal.{idle, dealt, open_seats, most, first_with, victim, number, asks, asks_or_shuts, after_dealing, rule, share}
+use Rattle.xd_ledger.specs.Worksteal.{idle, dealt, open_seats, most, first_with, victim, steal_count, asks, asks_or_shuts, after_dealing, rule, share}
 use Rattle.xd_ledger.specs.Turn.{enough}
 use Rattle.xd_ledger.specs.Workers.{is_shut}
 use Rattle.xd_ledger.specs.Sharing.{State}
-use Rattle.xd_ledger.specs.State.{all_moved}
+use Rattle.xd_ledger.specs.State.{after_entries}
 use Rattle.xd_ledger.specs.Orderly.{is_orderly, not_empty}
 use Rattle.xd_laws.proofs.Logic.{differ, cases_of, split-and, split-or, not_true, in_both}
 use Rattle.xd_laws.proofs.Counts.{distinct-of_times, all_among-more, all_among-drops, distinct-drop}
@@ -137,25 +137,25 @@ not_empty-drop (suc k) (x ∷ xs) h = not_empty-drop k xs (omega (arith, h))
 held-distinct : (s : State) (w : ℕ) → Placed s → all_distinct (held w s.books.table) ≡ true
 held-distinct s w k = distinct-of_times (held w s.books.table) (λ x. omega (arith, at_most_once s k x, times-table x s.books.table, held-within x w s.books.table.rota))
 
-number-low : (s : Seat) → (number s == 0) ≡ false → (2 ≤ length s.held - number s) × (length s.held - number s < length s.held)
+number-low : (s : Seat) → (steal_count s == 0) ≡ false → (2 ≤ length s.held - steal_count s) × (length s.held - steal_count s < length s.held)
 number-low s h = (grind (arith, nat_tests), grind (arith, nat_tests))
 
 orderly-steal : (m : State) (w : ℕ) (tests : List ℕ) → in_rota w m.books.table ≡ true → is_shut w m.books ≡ false → is_none m.plan.steal ≡ true → not_empty tests ≡ true
     → all_distinct tests ≡ true → all_among tests (drop 2 (held w m.books.table)) ≡ true → is_orderly m (Steal w tests) ≡ true
 orderly-steal m w tests a b c d e f = rw (a, b, c, d, e, f)
 
-good-asks : (s : State) (v : Seat) (t : Turn) → Good s t → t.plan.steal ≡ None → IsVictim t.table.rota v → (number v == 0) ≡ false → Good s (asks v (number v) t)
+good-asks : (s : State) (v : Seat) (t : Turn) → Good s t → t.plan.steal ≡ None → IsVictim t.table.rota v → (steal_count v == 0) ≡ false → Good s (asks v (steal_count v) t)
 good-asks s v t g none k h =
-    let m = all_moved s t.acts in
+    let m = after_entries s t.acts in
     let w = v.worker in
-    let n = length v.held - number v in
+    let n = length v.held - steal_count v in
     let tests = drop n v.held in
     let low = number-low v h in
     let a = in_rota-to s t w g k.open_.there in
     let holds : held w m.books.table ≡ v.held = ap (λ (u : Table). held w u) g.table ∙ k.holds in
     let distinct : all_distinct v.held ≡ true = ap all_distinct (sym holds) ∙ held-distinct m w g.tidy.placed in
-    let asked : Option Asked = Some (record { worker = w; tests = tests }) in
-    good-more s t (asks v (number v) t) (Steal w tests) g refl refl
+    let asked : Option UnansweredSteal = Some (record { worker = w; tests = tests }) in
+    good-more s t (asks v (steal_count v) t) (Steal w tests) g refl refl
     (orderly-steal m w tests (in_rota-behind s t w g a) (unshut-of s t w g a k.open_.untold) (ap (λ (p : Plan). is_none p.steal) g.plan ∙ ap is_none none)
     (not_empty-drop n v.held low.1) (distinct-drop n v.held distinct)
     (ap (λ (xs : List ℕ). all_among tests (drop 2 xs)) holds ∙ all_among-drops 2 n v.held low.0))
@@ -165,10 +165,10 @@ good-asks_or_shuts : (s : State) (ws : List ℕ) (o : Option Seat) (t : Turn) �
     → Good s (asks_or_shuts ws o t)
 good-asks_or_shuts s ws None t g a none h = good-shut_each s ws t a g
 good-asks_or_shuts s ws (Some v) t g a none h =
-    in_both (Good s) (number v == 0) (shut_each ws t) (asks v (number v) t) (λ k. good-shut_each s ws t a g)
+    in_both (Good s) (steal_count v == 0) (shut_each ws t) (asks v (steal_count v) t) (λ k. good-shut_each s ws t a g)
     (λ k. good-asks s v t g none (victim-of (most (open_seats t.table)) t.table.rota v (one_seat-turn s t g) h) k)
 
-steal-by : (s : State) (ws : List ℕ) (o : Option Asked) (t : Turn) → Good s t → all_among ws (workers_of s.books.table) ≡ true → t.plan.steal ≡ o
+steal-by : (s : State) (ws : List ℕ) (o : Option UnansweredSteal) (t : Turn) → Good s t → all_among ws (workers_of s.books.table) ≡ true → t.plan.steal ≡ o
     → Good s (elim o as (λ _. Turn) [ None ↦ asks_or_shuts ws (victim t.table) t | Some a ↦ t ])
 steal-by s ws None t g a h = good-asks_or_shuts s ws (victim t.table) t g a h refl
 steal-by s ws (Some x) t g a h = g

@@ -24,7 +24,7 @@ use Rattle.xd_ledger.specs.Retry.{is_retry}
 use Rattle.xd_ledger.specs.Sharing.{State, in_books, shared_now}
 use Rattle.xd_ledger.specs.Deaths.{buried, gone}
 use Rattle.xd_ledger.specs.Results.{completed_first, done_stop, failing}
-use Rattle.xd_ledger.specs.State.{moved, no_one}
+use Rattle.xd_ledger.specs.State.{after_effect, no_one}
 use Rattle.xd_ledger.specs.Proper.{are_ids, may_follow}
 use Rattle.xd_ledger.specs.Orderly.{is_orderly}
 use Rattle.xd_ledger.specs.Reports.{Report, Result, Crash, reports, reports_of}
@@ -208,7 +208,7 @@ done-brings settings es e Passed b same f u how h = absurd cc
 done-brings settings es e Skipped b same f u how h = absurd cc
 
 tells-done : (settings : Settings) (s : State) (es : List Entry) (w i : ℕ) (u : Outcome) (m : ℕ) (o : List ℕ) → reports settings (es ++ Done w i u m o ∷ []) ≡ reports settings es ++ reports_of s (Done w i u m o)
-    → Tells settings s es → Tells settings (moved s (Done w i u m o)) (es ++ Done w i u m o ∷ [])
+    → Tells settings s es → Tells settings (after_effect s (Done w i u m o)) (es ++ Done w i u m o ∷ [])
 tells-done settings s es w i u m o rs k =
     let e = Done w i u m o in
     let items = items_named (slot_of w s.books) (i ∷ []) s.plan in
@@ -220,7 +220,7 @@ tells-done settings s es w i u m o rs k =
     let f : s.books.failures + failing u ≡ failures (reports settings (es ++ e ∷ [])) = omega (arith, g, old) in
     let more : deaths (es ++ e ∷ []) ≡ deaths es + 0 = deaths-more es e in
     let d : deaths (es ++ e ∷ []) ≡ deaths es = omega (arith, more) in
-    tells-more settings s (moved s e) es e refl f (k.deaths_are ∙ sym d) (λ j l h. collects-more es e l.worker l.ids (k.lists j l h))
+    tells-more settings s (after_effect s e) es e refl f (k.deaths_are ∙ sym d) (λ j l h. collects-more es e l.worker l.ids (k.lists j l h))
     (record {
       new = done_stop u c;
       stop_is = refl;
@@ -254,7 +254,7 @@ record IsDeath (settings : Settings) (s : State) (es : List Entry) (e : Entry) (
   one : deaths (e ∷ []) ≡ 1
   crash : failures (reports settings (es ++ e ∷ [])) ≡ failures (reports settings es) + length (crash_item (is_retry w s.books) (held w s.books.table))
 
-tells-lost : (settings : Settings) (s : State) (es : List Entry) (e : Entry) (w : ℕ) → IsDeath settings s es e w → Tells settings s es → Tells settings (moved s (NotStarted w)) (es ++ e ∷ [])
+tells-lost : (settings : Settings) (s : State) (es : List Entry) (e : Entry) (w : ℕ) → IsDeath settings s es e w → Tells settings s es → Tells settings (after_effect s (NotStarted w)) (es ++ e ∷ [])
 tells-lost settings s es e w x k =
     let c : Books = gone w (buried w (is_retry w s.books) s.books) in
     let added = x.crash in
@@ -265,7 +265,7 @@ tells-lost settings s es e w x k =
     let lost = k.deaths_are in
     let d : s.books.deaths + 1 ≡ deaths (es ++ e ∷ []) = omega (arith, more, one, lost) in
     let limit : c.settings.restarts ≡ settings.restarts = ap (λ (y : Settings). y.restarts) k.settings_are in
-    tells-more settings s (moved s (NotStarted w)) es e refl f d (λ j l h. collects-more es e l.worker l.ids (k.lists j l h))
+    tells-more settings s (after_effect s (NotStarted w)) es e refl f d (λ j l h. collects-more es e l.worker l.ids (k.lists j l h))
     (record {
       new = or_stop (at_limit c) (out_of_restarts w c);
       stop_is = refl;
@@ -334,7 +334,7 @@ unequal-brings settings es w (ids.List own) (Some l) c how h =
     (record { own = own; last_is = refl; first = l.ids; collected = c l refl; differ = p.1 })
 
 tells-collected : (settings : Settings) (s : State) (es : List Entry) (w : ℕ) (g : Ids) → may_follow s (Collected w g) ≡ true → IsMild settings es (Collected w g) → Tells settings s es
-    → Tells settings (moved s (Collected w g)) (es ++ Collected w g ∷ [])
+    → Tells settings (after_effect s (Collected w g)) (es ++ Collected w g ∷ [])
 tells-collected settings s es w g h m k =
     let e = Collected w g in
     let now = in_books (λ b. marked (made_collected w) (with_list w g b)) s in
@@ -364,14 +364,14 @@ tells-collected settings s es w g h m k =
 -- each entry
 
 tells-said : (settings : Settings) (s : State) (es : List Entry) (e : Entry) → Tidy s → may_follow s e ≡ true → reports settings (es ++ e ∷ []) ≡ reports settings es ++ reports_of s e → Tells settings s es
-    → Tells settings (moved s e) (es ++ e ∷ [])
-tells-said settings s es (Ready w) d h rs k = tells-quiet settings s (moved s (Ready w)) es (Ready w) refl refl refl refl refl (mild-of settings es (Ready w) rs refl) k
+    → Tells settings (after_effect s e) (es ++ e ∷ [])
+tells-said settings s es (Ready w) d h rs k = tells-quiet settings s (after_effect s (Ready w)) es (Ready w) refl refl refl refl refl (mild-of settings es (Ready w) rs refl) k
 tells-said settings s es (Collected w g) d h rs k = tells-collected settings s es w g h (mild-of settings es (Collected w g) rs refl) k
 tells-said settings s es (Done w i u m o) d h rs k = tells-done settings s es w i u m o rs k
-tells-said settings s es (Back w is) d h rs k = tells-quiet settings s (moved s (Back w is)) es (Back w is) refl refl refl refl refl (mild-of settings es (Back w is) rs refl) k
-tells-said settings s es (Finished w) d h rs k = tells-quiet settings s (moved s (Finished w)) es (Finished w) refl refl refl refl refl (mild-of settings es (Finished w) rs refl) k
+tells-said settings s es (Back w is) d h rs k = tells-quiet settings s (after_effect s (Back w is)) es (Back w is) refl refl refl refl refl (mild-of settings es (Back w is) rs refl) k
+tells-said settings s es (Finished w) d h rs k = tells-quiet settings s (after_effect s (Finished w)) es (Finished w) refl refl refl refl refl (mild-of settings es (Finished w) rs refl) k
 tells-said settings s es (Refused w t) d h rs k =
-    tells-mild settings s (moved s (Refused w t)) es (Refused w t) (Some (CollectError w)) refl refl refl refl refl
+    tells-mild settings s (after_effect s (Refused w t)) es (Refused w t) (Some (CollectError w)) refl refl refl refl refl
     (λ how q. subst (λ (y : RunStop). Brings settings es (Refused w t) y) (same-stop (CollectError w) how q) (record { text = t; last_is = refl })) (mild-of settings es (Refused w t) rs refl) k
 tells-said settings s es (Down w c o) d h rs k =
     (let t = tells-lost settings s es (Down w c o) w (down-lost settings s es w (Down w c o) (same-worker w) refl rs) k in
@@ -389,14 +389,14 @@ tells-said settings s es (Kill w) d h rs k = absurd (differ h)
 tells-said settings s es (Over how) d h rs k = absurd (differ h)
 
 tells-told : (settings : Settings) (s : State) (es : List Entry) (e : Entry) → is_orderly s e ≡ true → reports settings (es ++ e ∷ []) ≡ reports settings es ++ reports_of s e → Tells settings s es
-    → Tells settings (moved s e) (es ++ e ∷ [])
-tells-told settings s es (Start w slot) h rs k = tells-quiet settings s (moved s (Start w slot)) es (Start w slot) refl refl refl refl refl (mild-of settings es (Start w slot) rs refl) k
-tells-told settings s es (Run w is) h rs k = tells-quiet settings s (moved s (Run w is)) es (Run w is) refl refl refl refl refl (mild-of settings es (Run w is) rs refl) k
-tells-told settings s es (RunAll w) h rs k = tells-quiet settings s (moved s (RunAll w)) es (RunAll w) refl refl refl refl refl (mild-of settings es (RunAll w) rs refl) k
-tells-told settings s es (Steal w is) h rs k = tells-quiet settings s (moved s (Steal w is)) es (Steal w is) refl refl refl refl refl (mild-of settings es (Steal w is) rs refl) k
-tells-told settings s es (Shutdown w) h rs k = tells-quiet settings s (moved s (Shutdown w)) es (Shutdown w) refl refl refl refl refl (mild-of settings es (Shutdown w) rs refl) k
-tells-told settings s es (Kill w) h rs k = tells-quiet settings s (moved s (Kill w)) es (Kill w) refl refl refl refl refl (mild-of settings es (Kill w) rs refl) k
-tells-told settings s es (Over how) h rs k = tells-quiet settings s (moved s (Over how)) es (Over how) refl refl refl refl refl (mild-of settings es (Over how) rs refl) k
+    → Tells settings (after_effect s e) (es ++ e ∷ [])
+tells-told settings s es (Start w slot) h rs k = tells-quiet settings s (after_effect s (Start w slot)) es (Start w slot) refl refl refl refl refl (mild-of settings es (Start w slot) rs refl) k
+tells-told settings s es (Run w is) h rs k = tells-quiet settings s (after_effect s (Run w is)) es (Run w is) refl refl refl refl refl (mild-of settings es (Run w is) rs refl) k
+tells-told settings s es (RunAll w) h rs k = tells-quiet settings s (after_effect s (RunAll w)) es (RunAll w) refl refl refl refl refl (mild-of settings es (RunAll w) rs refl) k
+tells-told settings s es (Steal w is) h rs k = tells-quiet settings s (after_effect s (Steal w is)) es (Steal w is) refl refl refl refl refl (mild-of settings es (Steal w is) rs refl) k
+tells-told settings s es (Shutdown w) h rs k = tells-quiet settings s (after_effect s (Shutdown w)) es (Shutdown w) refl refl refl refl refl (mild-of settings es (Shutdown w) rs refl) k
+tells-told settings s es (Kill w) h rs k = tells-quiet settings s (after_effect s (Kill w)) es (Kill w) refl refl refl refl refl (mild-of settings es (Kill w) rs refl) k
+tells-told settings s es (Over how) h rs k = tells-quiet settings s (after_effect s (Over how)) es (Over how) refl refl refl refl refl (mild-of settings es (Over how) rs refl) k
 tells-told settings s es (Ready w) h rs k = absurd (differ h)
 tells-told settings s es (Collected w g) h rs k = absurd (differ h)
 tells-told settings s es (Done w i u m o) h rs k = absurd (differ h)

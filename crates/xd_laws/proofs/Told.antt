@@ -14,20 +14,20 @@ use Rattle.xd_ledger.specs.Collections.{unequal, listed, with_list}
 use Rattle.xd_ledger.specs.Retry.{is_retry}
 use Rattle.xd_ledger.specs.Sharing.{State, in_books}
 use Rattle.xd_ledger.specs.Results.{completed_first}
-use Rattle.xd_ledger.specs.State.{moved, all_moved, settled, no_one}
-use Rattle.xd_ledger.specs.Outputs.{outputs, stepped}
-use Rattle.xd_ledger.specs.Histories.{starts_from, first_starts, begun, grown, journal_of, stepped_all}
+use Rattle.xd_ledger.specs.State.{after_effect, after_entries, settled, no_one}
+use Rattle.xd_ledger.specs.Outputs.{outputs, after_input}
+use Rattle.xd_ledger.specs.Histories.{starts_from, first_starts, after_starts, grown, journal_of, after_inputs}
 use Rattle.xd_ledger.specs.Proper.{may_follow, all_may_follow}
 use Rattle.xd_ledger.specs.Orderly.{is_orderly, all_orderly}
 use Rattle.xd_ledger.specs.Reports.{Report, Result, Crash, item_of, reports_of, reports_from, reports}
 use Rattle.xd_laws.proofs.Logic.{differ, cases_of, split-and, not_true}
 use Rattle.xd_laws.proofs.Places.{no-crash}
 use Rattle.xd_laws.proofs.Placed.{Placed}
-use Rattle.xd_laws.proofs.Turns.{all_moved-first}
+use Rattle.xd_laws.proofs.Turns.{after_entries-first}
 use Rattle.xd_laws.proofs.Inputs.{collecting-keeps}
 use Rattle.xd_laws.proofs.Rule.{Rule}
 use Rattle.xd_laws.proofs.Outputs.{outputs-fit}
-use Rattle.xd_laws.proofs.Runs.{Holds, stepped-holds}
+use Rattle.xd_laws.proofs.Runs.{Holds, after_input-holds}
 use Rattle.xd_laws.proofs.Queue.{held-none}
 
 -- the items of these reports
@@ -44,7 +44,7 @@ reported s = s.books.table.reported
 
 -- outputs report nothing
 
-quiet-reports : (s : State) (e : Entry) → is_orderly s e ≡ true → (reports_of s e ≡ []) × (reported (moved s e) ≡ reported s)
+quiet-reports : (s : State) (e : Entry) → is_orderly s e ≡ true → (reports_of s e ≡ []) × (reported (after_effect s e) ≡ reported s)
 quiet-reports s (Start w slot) h = (refl, refl)
 quiet-reports s (Run w is) h = (refl, refl)
 quiet-reports s (RunAll w) h = (refl, refl)
@@ -61,7 +61,7 @@ quiet-reports s (Refused w t) h = absurd (differ h)
 quiet-reports s (Down w c o) h = absurd (differ h)
 quiet-reports s (NotStarted w) h = absurd (differ h)
 
-reports-first : (s : State) (e : Entry) (es : List Entry) → is_orderly s e ≡ true → reports_from s (e ∷ es) ≡ reports_from (moved s e) es
+reports-first : (s : State) (e : Entry) (es : List Entry) → is_orderly s e ≡ true → reports_from s (e ∷ es) ≡ reports_from (after_effect s e) es
 reports-first s (Start w slot) es h = refl
 reports-first s (Run w is) es h = refl
 reports-first s (RunAll w) es h = refl
@@ -79,12 +79,12 @@ reports-first s (Down w c o) es h = absurd (differ h)
 reports-first s (NotStarted w) es h = absurd (differ h)
 
 -- outputs in order, and then more
-reports-behind : (s : State) (es more : List Entry) → all_orderly s es ≡ true → (reports_from s (es ++ more) ≡ reports_from (all_moved s es) more) × (reported (all_moved s es) ≡ reported s)
+reports-behind : (s : State) (es more : List Entry) → all_orderly s es ≡ true → (reports_from s (es ++ more) ≡ reports_from (after_entries s es) more) × (reported (after_entries s es) ≡ reported s)
 reports-behind s [] more h = (refl, refl)
 reports-behind s (e ∷ es) more h =
-    let p = split-and (is_orderly s e) (all_orderly (moved s e) es) h in
-    let r = reports-behind (moved s e) es more p.1 in
-    let same = all_moved-first s e es p.0 in (
+    let p = split-and (is_orderly s e) (all_orderly (after_effect s e) es) h in
+    let r = reports-behind (after_effect s e) es more p.1 in
+    let same = after_entries-first s e es p.0 in (
       reports-first s e (es ++ more) p.0 ∙ r.0 ∙ ap (λ (u : State). reports_from u more) (sym same),
       ap reported same ∙ r.1 ∙ (quiet-reports s e p.0).1,
     )
@@ -109,14 +109,14 @@ none-held s w k h =
 same_reported : (s t : State) → reported t ≡ reported s → reported t ≡ reported s ++ []
 same_reported s t h = h ∙ sym (append-nil (reported s))
 
-told-input : (s : State) (e : Entry) → may_follow s e ≡ true → Placed s → reported (moved s e) ≡ reported s ++ items_told (reports_of s e)
-told-input s (Ready w) h k = same_reported s (moved s (Ready w)) refl
-told-input s (Collected w g) h k = same_reported s (moved s (Collected w g))
+told-input : (s : State) (e : Entry) → may_follow s e ≡ true → Placed s → reported (after_effect s e) ≡ reported s ++ items_told (reports_of s e)
+told-input s (Ready w) h k = same_reported s (after_effect s (Ready w)) refl
+told-input s (Collected w g) h k = same_reported s (after_effect s (Collected w g))
     (collecting-keeps (λ (u : State). reported u ≡ reported s) (in_books (λ b. marked (made_collected w) (with_list w g b)) s) w (unequal w g (listed w s.books)) refl refl refl (λ n. refl))
 told-input s (Done w i u m o) h k = one-by (is_each s.plan.mode) (base (slot_of w s.books) s.plan + i) i w u s.books.table
-told-input s (Back w is) h k = same_reported s (moved s (Back w is)) refl
-told-input s (Finished w) h k = same_reported s (moved s (Finished w)) refl
-told-input s (Refused w t) h k = same_reported s (moved s (Refused w t)) refl
+told-input s (Back w is) h k = same_reported s (after_effect s (Back w is)) refl
+told-input s (Finished w) h k = same_reported s (after_effect s (Finished w)) refl
+told-input s (Refused w t) h k = same_reported s (after_effect s (Refused w t)) refl
 told-input s (Down w c o) h k = ap (λ (xs : List ℕ). reported s ++ xs) (sym (crash-items w (crash_item (is_retry w s.books) (held w s.books.table))))
 told-input s (NotStarted w) h k = ap (λ (xs : List ℕ). reported s ++ crash_item (is_retry w s.books) xs) (none-held s w k h) ∙ ap (λ (xs : List ℕ). reported s ++ xs) (no-crash (is_retry w s.books))
 told-input s (Start w slot) h k = absurd (differ h)
@@ -128,7 +128,7 @@ told-input s (Kill w) h k = absurd (differ h)
 told-input s (Over how) h k = absurd (differ h)
 
 -- an input comes behind a settled state
-input-first : (x : State) (e : Entry) (es : List Entry) → may_follow (settled x) e ≡ true → reports_from x (e ∷ es) ≡ reports_of (settled x) e ++ reports_from (moved (settled x) e) es
+input-first : (x : State) (e : Entry) (es : List Entry) → may_follow (settled x) e ≡ true → reports_from x (e ∷ es) ≡ reports_of (settled x) e ++ reports_from (after_effect (settled x) e) es
 input-first x (Ready w) es h = refl
 input-first x (Collected w g) es h = refl
 input-first x (Done w i u m o) es h = refl
@@ -146,34 +146,34 @@ input-first x (Kill w) es h = absurd (differ h)
 input-first x (Over how) es h = absurd (differ h)
 
 told-grown : (X : State → Type 0) → Rule X → (x : State) (es : List Entry) → all_may_follow (settled x) es ≡ true → Holds X (settled x)
-    → reported (stepped_all (settled x) es) ≡ reported x ++ items_told (reports_from x (grown (settled x) es))
+    → reported (after_inputs (settled x) es) ≡ reported x ++ items_told (reports_from x (grown (settled x) es))
 told-grown X rule x [] h k = sym (append-nil (reported x))
 told-grown X rule x (e ∷ es) h k =
     let s = settled x in
-    let p = split-and (may_follow s e) (all_may_follow (stepped s e) es) h in
+    let p = split-and (may_follow s e) (all_may_follow (after_input s e) es) h in
     let f = outputs-fit X rule s e p.0 k.tidy k.also in
-    let y = all_moved (moved s e) (outputs s e) in
+    let y = after_entries (after_effect s e) (outputs s e) in
     let more = grown (settled y) es in
-    let b = reports-behind (moved s e) (outputs s e) more f.orderly in
-    let rest = told-grown X rule y es p.1 (stepped-holds X rule s e p.0 k) in
+    let b = reports-behind (after_effect s e) (outputs s e) more f.orderly in
+    let rest = told-grown X rule y es p.1 (after_input-holds X rule s e p.0 k) in
     let own = items_told (reports_of s e) in
     let last = items_told (reports_from y more) in
     let split : items_told (reports_from x (e ∷ (outputs s e ++ more))) ≡ own ++ last =
     ap items_told (input-first x e (outputs s e ++ more) p.0 ∙ ap (λ (rs : List Report). reports_of s e ++ rs) b.0) ∙ told-append (reports_of s e) (reports_from y more) in
     rest ∙ ap (λ (xs : List ℕ). xs ++ last) (b.1 ∙ told-input s e p.0 k.tidy.placed) ∙ append_assoc (reported x) own last ∙ ap (λ (xs : List ℕ). reported x ++ xs) (sym split)
 
-starts-reports : (s : State) (w n : ℕ) (more : List Entry) → reports_from s (starts_from w n ++ more) ≡ reports_from (all_moved s (starts_from w n)) more
+starts-reports : (s : State) (w n : ℕ) (more : List Entry) → reports_from s (starts_from w n ++ more) ≡ reports_from (after_entries s (starts_from w n)) more
 starts-reports s w zero more = refl
-starts-reports s w (suc n) more = starts-reports (moved s (Start w w)) (w + 1) n more
+starts-reports s w (suc n) more = starts-reports (after_effect s (Start w w)) (w + 1) n more
 
-starts-reported : (s : State) (w n : ℕ) → reported (all_moved s (starts_from w n)) ≡ reported s
+starts-reported : (s : State) (w n : ℕ) → reported (after_entries s (starts_from w n)) ≡ reported s
 starts-reported s w zero = refl
-starts-reported s w (suc n) = starts-reported (moved s (Start w w)) (w + 1) n
+starts-reported s w (suc n) = starts-reported (after_effect s (Start w w)) (w + 1) n
 
-pub told-all : (X : State → Type 0) → Rule X → (settings : Settings) (inputs : List Entry) → all_may_follow (begun settings) inputs ≡ true → Holds X (begun settings)
-    → items_told (reports settings (journal_of settings inputs)) ≡ reported (stepped_all (begun settings) inputs)
+pub told-all : (X : State → Type 0) → Rule X → (settings : Settings) (inputs : List Entry) → all_may_follow (after_starts settings) inputs ≡ true → Holds X (after_starts settings)
+    → items_told (reports settings (journal_of settings inputs)) ≡ reported (after_inputs (after_starts settings) inputs)
 told-all X rule settings inputs h k =
-    let x = all_moved (no_one settings) (first_starts settings) in
+    let x = after_entries (no_one settings) (first_starts settings) in
     let none : reported x ≡ [] = starts-reported (no_one settings) 0 settings.workers in
-    ap items_told (starts-reports (no_one settings) 0 settings.workers (grown (begun settings) inputs))
+    ap items_told (starts-reports (no_one settings) 0 settings.workers (grown (after_starts settings) inputs))
     ∙ sym (told-grown X rule x inputs h k ∙ ap (λ (xs : List ℕ). xs ++ items_told (reports_from x (grown (settled x) inputs))) none)

@@ -6,14 +6,14 @@ use Rattle.xd_edge.specs.declared.mode.ModeKind.TheVariants.{Local, Each, Load, 
 use Rattle.xd_journal.specs.declared.entry.Entry.TheVariants.{RunAll, Shutdown}
 use Rattle.xd_ledger.specs.declared.seat.Seat.{Seat}
 use Rattle.xd_ledger.specs.Table.{seat_shut, workers_of, held, assigned, shut_down}
-use Rattle.xd_ledger.specs.Plan.{Asked, chunk_of, slot_items}
+use Rattle.xd_ledger.specs.Plan.{UnansweredSteal, chunk_of, slot_items}
 use Rattle.xd_ledger.specs.Turn.{Turn, enough, give, shut, in_turn, shut_each, shut_where_empty}
 use Rattle.xd_ledger.specs.Load as load
 use Rattle.xd_ledger.specs.Each as each
 use Rattle.xd_ledger.specs.Worksteal as worksteal
 use Rattle.xd_ledger.specs.ScopeModes as scopes
-use Rattle.xd_ledger.specs.Modes.{Call, turned, load_turn, each_turn, worksteal_turn, scope_turn}
-use Rattle.xd_ledger.specs.Modes.Call.{Share, Joined, TestDone, TestsBack, Died}
+use Rattle.xd_ledger.specs.Modes.{ModeCall, turned, load_turn, each_turn, worksteal_turn, scope_turn}
+use Rattle.xd_ledger.specs.Modes.ModeCall.{Share, Joined, TestDone, TestsBack, Died}
 use Rattle.xd_laws.proofs.Logic.{in_both}
 
 -- the moves of the rules, and that they keep a fact
@@ -64,7 +64,7 @@ module _ (T : Turn → Type 0) (k : Kept T) where
       (λ h. t-in_turn (load.give_unless_shut 1) (t-give_unless_shut 1) (ws ++ ws) t a)
       (λ h. t-in_turn (load.give_unless_shut (load.first_batch (length t.table.pool) (length ws) (chunk_of t.plan))) (t-give_unless_shut _) ws t a)
 
-  t-load : (c : Call) (t : Turn) → T t → T (load_turn c t)
+  t-load : (c : ModeCall) (t : Turn) → T t → T (load_turn c t)
   t-load (Share slots) t a = t-shut_where_empty (load.dealt t) (t-dealt t a)
   t-load (Joined w slot) t a = t-in_turn (load.refill 0) (t-refill 0) (workers_of t.table) t a
   t-load (TestDone w ms) t a = t-refill ms w t a
@@ -85,7 +85,7 @@ module _ (T : Turn → Type 0) (k : Kept T) where
   t-give_of_slot w slot [] t a = a
   t-give_of_slot w slot (i ∷ is) t a = k.gives_of_slot w slot i is t a
 
-  t-each : (c : Call) (t : Turn) → T t → T (each_turn c t)
+  t-each : (c : ModeCall) (t : Turn) → T t → T (each_turn c t)
   t-each (Share slots) t a = t-give_slots (workers_of t.table) slots t a
   t-each (Joined w slot) t a = t-shut w (each.give_of_slot w slot (each.remainder slot t) t) (t-give_of_slot w slot (each.remainder slot t) t a)
   t-each (TestDone w ms) t a = a
@@ -102,7 +102,7 @@ module _ (T : Turn → Type 0) (k : Kept T) where
   t-asks_or_shuts ws None t a = t-shut_each ws t a
   t-asks_or_shuts ws (Some s) t a = in_both T (worksteal.number s == 0) (shut_each ws t) (worksteal.asks s (worksteal.number s) t) (λ h. t-shut_each ws t a) (λ h. k.asks s (worksteal.number s) t a)
 
-  by_steal : (o : Option Asked) (t u : Turn) → T t → T u → T (elim o as (λ _. Turn) [ None ↦ t | Some a ↦ u ])
+  by_steal : (o : Option UnansweredSteal) (t u : Turn) → T t → T u → T (elim o as (λ _. Turn) [ None ↦ t | Some a ↦ u ])
   by_steal None t u a b = a
   by_steal (Some x) t u a b = b
 
@@ -113,7 +113,7 @@ module _ (T : Turn → Type 0) (k : Kept T) where
   t-rule : (t : Turn) → T t → T (worksteal.rule t)
   t-rule t a = by_list (worksteal.idle t.table) t (λ w ws. worksteal.after_dealing (worksteal.dealt (w ∷ ws) t)) a (λ w ws. t-after_dealing (worksteal.dealt (w ∷ ws) t) (t-steal_dealt (w ∷ ws) t a))
 
-  t-worksteal : (c : Call) (t : Turn) → T t → T (worksteal_turn c t)
+  t-worksteal : (c : ModeCall) (t : Turn) → T t → T (worksteal_turn c t)
   t-worksteal (Share slots) t a = by_list t.table.pool t (λ x xs. worksteal.rule t) a (λ x xs. t-rule t a)
   t-worksteal (Joined w slot) t a = t-rule t a
   t-worksteal (TestDone w ms) t a = t-rule t a
@@ -146,7 +146,7 @@ module _ (T : Turn → Type 0) (k : Kept T) where
   t-scope_share : (t : Turn) → T t → T (scopes.share t)
   t-scope_share t a = by_list t.table.pool t _ a (λ x xs. t-scope_dealt (length t.plan.queue) (workers_of t.table) t a)
 
-  t-scope : (c : Call) (t : Turn) → T t → T (scope_turn c t)
+  t-scope : (c : ModeCall) (t : Turn) → T t → T (scope_turn c t)
   t-scope (Share slots) t a = t-scope_share t a
   t-scope (Joined w slot) t a = t-in_turn scopes.refill t-scope_refill (workers_of t.table) t a
   t-scope (TestDone w ms) t a = t-scope_refill w t a
@@ -154,7 +154,7 @@ module _ (T : Turn → Type 0) (k : Kept T) where
   t-scope Died t a = t-in_turn scopes.refill t-scope_refill (workers_of t.table) t a
 
   -- what the moves keep, the rule of each mode keeps
-  pub turned-keeps : (m : ModeKind) (c : Call) (t : Turn) → T t → T (turned m c t)
+  pub turned-keeps : (m : ModeKind) (c : ModeCall) (t : Turn) → T t → T (turned m c t)
   turned-keeps Local c t a = a
   turned-keeps Each c t a = t-each c t a
   turned-keeps Load c t a = t-load c t a

@@ -11,7 +11,7 @@ use Rattle.xd_ledger.specs.Turn.{Turn, give, give_front, shut, in_turn, shut_eac
 use Rattle.xd_ledger.specs.Workers.{is_active, was_ready, is_shut, slot_of}
 use Rattle.xd_ledger.specs.Sharing.{State}
 use Rattle.xd_ledger.specs.Handing.{run_plan}
-use Rattle.xd_ledger.specs.State.{moved, next, all_moved}
+use Rattle.xd_ledger.specs.State.{after_effect, after_entry, after_entries}
 use Rattle.xd_ledger.specs.Outputs.{turn_of}
 use Rattle.xd_ledger.specs.Orderly.{is_orderly, all_orderly, not_empty}
 use Rattle.xd_ledger.specs.Stops.{is_stopped}
@@ -40,7 +40,7 @@ MayShut s = (is_stopped s.books || s.books.shared) ≡ true
 
 -- lists of outputs
 
-pub next-output : (s : State) (e : Entry) → is_orderly s e ≡ true → next s e ≡ moved s e
+pub next-output : (s : State) (e : Entry) → is_orderly s e ≡ true → after_entry s e ≡ after_effect s e
 next-output s (Start w slot) h = refl
 next-output s (Run w is) h = refl
 next-output s (RunAll w) h = refl
@@ -57,27 +57,27 @@ next-output s (Refused w t) h = absurd (differ h)
 next-output s (Down w c o) h = absurd (differ h)
 next-output s (NotStarted w) h = absurd (differ h)
 
-pub all_moved-first : (s : State) (e : Entry) (es : List Entry) → is_orderly s e ≡ true → all_moved s (e ∷ es) ≡ all_moved (moved s e) es
-all_moved-first s e es h = ap (λ (u : State). all_moved u es) (next-output s e h)
+pub after_entries-first : (s : State) (e : Entry) (es : List Entry) → is_orderly s e ≡ true → after_entries s (e ∷ es) ≡ after_entries (after_effect s e) es
+after_entries-first s e es h = ap (λ (u : State). after_entries u es) (next-output s e h)
 
-pub all_moved-join : (s : State) (xs ys : List Entry) → all_moved s (xs ++ ys) ≡ all_moved (all_moved s xs) ys
-all_moved-join s xs ys = fold-append next s xs ys
+pub after_entries-join : (s : State) (xs ys : List Entry) → after_entries s (xs ++ ys) ≡ after_entries (after_entries s xs) ys
+after_entries-join s xs ys = fold-append after_entry s xs ys
 
-pub all_moved-more : (s : State) (es : List Entry) (e : Entry) → is_orderly (all_moved s es) e ≡ true → all_moved s (es ++ e ∷ []) ≡ moved (all_moved s es) e
-all_moved-more s es e h = all_moved-join s es (e ∷ []) ∙ next-output (all_moved s es) e h
+pub after_entries-more : (s : State) (es : List Entry) (e : Entry) → is_orderly (after_entries s es) e ≡ true → after_entries s (es ++ e ∷ []) ≡ after_effect (after_entries s es) e
+after_entries-more s es e h = after_entries-join s es (e ∷ []) ∙ next-output (after_entries s es) e h
 
-pub all_orderly-join : (s : State) (xs ys : List Entry) → all_orderly s xs ≡ true → all_orderly (all_moved s xs) ys ≡ true → all_orderly s (xs ++ ys) ≡ true
+pub all_orderly-join : (s : State) (xs ys : List Entry) → all_orderly s xs ≡ true → all_orderly (after_entries s xs) ys ≡ true → all_orderly s (xs ++ ys) ≡ true
 all_orderly-join s [] ys a b = b
 all_orderly-join s (x ∷ xs) ys a b =
-    let p = split-and (is_orderly s x) (all_orderly (moved s x) xs) a in
-    and p.0 (all_orderly-join (moved s x) xs ys p.1 (subst (λ (u : State). all_orderly u ys ≡ true) (all_moved-first s x xs p.0) b))
+    let p = split-and (is_orderly s x) (all_orderly (after_effect s x) xs) a in
+    and p.0 (all_orderly-join (after_effect s x) xs ys p.1 (subst (λ (u : State). all_orderly u ys ≡ true) (after_entries-first s x xs p.0) b))
 
 -- an output that starts no one
 abbrev pub is_quiet : Entry → Bool
 is_quiet (Start w slot) = false
 is_quiet _ = true
 
-kin-quiet : (s : State) (e : Entry) → is_quiet e ≡ true → is_orderly s e ≡ true → Kin s.books.crew (moved s e).books.crew
+kin-quiet : (s : State) (e : Entry) → is_quiet e ≡ true → is_orderly s e ≡ true → Kin s.books.crew (after_effect s e).books.crew
 kin-quiet s (Start w slot) a h = absurd (differ a)
 kin-quiet s (Run w is) a h = kin-same s.books.crew
 kin-quiet s (RunAll w) a h = kin-same s.books.crew
@@ -94,7 +94,7 @@ kin-quiet s (Refused w t) a h = absurd (differ h)
 kin-quiet s (Down w c o) a h = absurd (differ h)
 kin-quiet s (NotStarted w) a h = absurd (differ h)
 
-fixed-output : (s : State) (e : Entry) → is_orderly s e ≡ true → ((moved s e).books.settings ≡ s.books.settings) × ((moved s e).books.shared ≡ s.books.shared)
+fixed-output : (s : State) (e : Entry) → is_orderly s e ≡ true → ((after_effect s e).books.settings ≡ s.books.settings) × ((after_effect s e).books.shared ≡ s.books.shared)
 fixed-output s (Start w slot) h = (refl, refl)
 fixed-output s (Run w is) h = (refl, refl)
 fixed-output s (RunAll w) h = (refl, refl)
@@ -111,7 +111,7 @@ fixed-output s (Refused w t) h = absurd (differ h)
 fixed-output s (Down w c o) h = absurd (differ h)
 fixed-output s (NotStarted w) h = absurd (differ h)
 
-crew-shutdown : (s : State) (w : ℕ) → is_orderly s (Shutdown w) ≡ true → CrewFits s.books.crew s.books.settings.workers → CrewFits (moved s (Shutdown w)).books.crew s.books.settings.workers
+crew-shutdown : (s : State) (w : ℕ) → is_orderly s (Shutdown w) ≡ true → CrewFits s.books.crew s.books.settings.workers → CrewFits (after_effect s (Shutdown w)).books.crew s.books.settings.workers
 crew-shutdown s w h c =
     let a = split-and (is_active w s.books && was_ready w s.books) (not (is_shut w s.books)) h in
     crew-shut s.books.crew s.books.settings.workers w c (split-and (is_active w s.books) (was_ready w s.books) a.0).1
@@ -120,10 +120,10 @@ unstopped-shared : (a b : Bool) → (a || b) ≡ true → a ≡ false → b ≡ 
 unstopped-shared true b h k l = differ (sym k)
 unstopped-shared false b h k l = differ (sym l ∙ h)
 
-calm-shutdown : (s : State) (w : ℕ) → MayShut s → Calm s → Calm (moved s (Shutdown w))
+calm-shutdown : (s : State) (w : ℕ) → MayShut s → Calm s → Calm (after_effect s (Shutdown w))
 calm-shutdown s w p c = record { late = c.late; unshut = λ a b v. absurd (unstopped-shared (is_stopped s.books) s.books.shared p a b) }
 
-pub tidy-quiet : (s : State) (e : Entry) → is_quiet e ≡ true → is_orderly s e ≡ true → MayShut s → Tidy s → Tidy (moved s e)
+pub tidy-quiet : (s : State) (e : Entry) → is_quiet e ≡ true → is_orderly s e ≡ true → MayShut s → Tidy s → Tidy (after_effect s e)
 tidy-quiet s (Start w slot) a h p d = absurd (differ a)
 tidy-quiet s (Run w is) a h p d = record { placed = placed-output s (Run w is) h d.placed; crew = d.crew; calm = record { late = d.calm.late; unshut = d.calm.unshut } }
 tidy-quiet s (RunAll w) a h p d = record { placed = placed-output s (RunAll w) h d.placed; crew = d.crew; calm = record { late = d.calm.late; unshut = d.calm.unshut } }
@@ -142,15 +142,15 @@ tidy-quiet s (NotStarted w) a h p d = absurd (differ h)
 
 -- a turn that follows a tidy state, so far in order
 pub record Good (s : State) (t : Turn) : Type 0 where
-  pub table : (all_moved s t.acts).books.table ≡ t.table
-  pub plan : (all_moved s t.acts).plan ≡ t.plan
+  pub table : (after_entries s t.acts).books.table ≡ t.table
+  pub plan : (after_entries s t.acts).plan ≡ t.plan
   pub orderly : all_orderly s t.acts ≡ true
-  pub tidy : Tidy (all_moved s t.acts)
-  pub kin : Kin s.books.crew (all_moved s t.acts).books.crew
+  pub tidy : Tidy (after_entries s t.acts)
+  pub kin : Kin s.books.crew (after_entries s t.acts).books.crew
   pub rota : workers_of t.table ≡ workers_of s.books.table
   pub mode : t.plan.mode ≡ s.plan.mode
-  pub settings : (all_moved s t.acts).books.settings ≡ s.books.settings
-  pub shared : (all_moved s t.acts).books.shared ≡ true
+  pub settings : (after_entries s t.acts).books.settings ≡ s.books.settings
+  pub shared : (after_entries s t.acts).books.shared ≡ true
 
 pub good-first : (s : State) → Tidy s → s.books.shared ≡ true → Good s (turn_of s)
 good-first s d h = record { table = refl; plan = refl; orderly = refl; tidy = d; kin = kin-same s.books.crew; rota = refl; mode = refl; settings = refl; shared = h }
@@ -162,36 +162,36 @@ InRota s w = among w (workers_of s.books.table) ≡ true
 pub in_rota-of : (s : State) (t : Turn) (w : ℕ) → Good s t → InRota s w → in_rota w t.table ≡ true
 in_rota-of s t w g a = seat-among w t.table.rota ∙ ap (λ (ws : List ℕ). among w ws) g.rota ∙ a
 
-pub in_rota-behind : (s : State) (t : Turn) (w : ℕ) → Good s t → InRota s w → in_rota w (all_moved s t.acts).books.table ≡ true
+pub in_rota-behind : (s : State) (t : Turn) (w : ℕ) → Good s t → InRota s w → in_rota w (after_entries s t.acts).books.table ≡ true
 in_rota-behind s t w g a = ap (λ (u : Table). in_rota w u) g.table ∙ in_rota-of s t w g a
 
 -- both marks of a Shutdown agree
-pub unshut-of : (s : State) (t : Turn) (w : ℕ) → Good s t → InRota s w → seat_shut w t.table ≡ false → is_shut w (all_moved s t.acts).books ≡ false
+pub unshut-of : (s : State) (t : Turn) (w : ℕ) → Good s t → InRota s w → seat_shut w t.table ≡ false → is_shut w (after_entries s t.acts).books ≡ false
 unshut-of s t w g a h = g.tidy.placed.fits.marks w (in_rota-behind s t w g a) ∙ ap (λ (u : Table). seat_shut w u) g.table ∙ h
 
 pub pool-distinct : (s : State) → Placed s → all_distinct s.books.table.pool ≡ true
 pool-distinct s k = distinct-of_times s.books.table.pool (λ x. omega (arith, at_most_once s k x, times-table x s.books.table))
 
 pub turn-once : (s : State) (t : Turn) → Good s t → AtMostOnce t.table
-turn-once s t g = subst AtMostOnce g.table (at_most_once (all_moved s t.acts) g.tidy.placed)
+turn-once s t g = subst AtMostOnce g.table (at_most_once (after_entries s t.acts) g.tidy.placed)
 
 pub turn-distinct : (s : State) (t : Turn) → Good s t → all_distinct t.table.pool ≡ true
-turn-distinct s t g = ap (λ (u : Table). all_distinct u.pool) (sym g.table) ∙ pool-distinct (all_moved s t.acts) g.tidy.placed
+turn-distinct s t g = ap (λ (u : Table). all_distinct u.pool) (sym g.table) ∙ pool-distinct (after_entries s t.acts) g.tidy.placed
 
 -- one output more
 pub good-more : (s : State) (t u : Turn) (e : Entry) → Good s t → u.acts ≡ t.acts ++ e ∷ [] → is_quiet e ≡ true
-    → is_orderly (all_moved s t.acts) e ≡ true
-    → (moved (all_moved s t.acts) e).books.table ≡ u.table → (moved (all_moved s t.acts) e).plan ≡ u.plan
+    → is_orderly (after_entries s t.acts) e ≡ true
+    → (after_effect (after_entries s t.acts) e).books.table ≡ u.table → (after_effect (after_entries s t.acts) e).plan ≡ u.plan
     → workers_of u.table ≡ workers_of t.table → u.plan.mode ≡ t.plan.mode → Good s u
 good-more s t u e g acts quiet h table plan rota mode =
-    let m = all_moved s t.acts in
-    let after : all_moved s u.acts ≡ moved m e = ap (λ (es : List Entry). all_moved s es) acts ∙ all_moved-more s t.acts e h in
+    let m = after_entries s t.acts in
+    let after : after_entries s u.acts ≡ after_effect m e = ap (λ (es : List Entry). after_entries s es) acts ∙ after_entries-more s t.acts e h in
     record {
       table = ap (λ (x : State). x.books.table) after ∙ table;
       plan = ap (λ (x : State). x.plan) after ∙ plan;
       orderly = ap (λ (es : List Entry). all_orderly s es) acts ∙ all_orderly-join s t.acts (e ∷ []) g.orderly (and h refl);
       tidy = subst (λ (x : State). Tidy x) (sym after) (tidy-quiet m e quiet h (or-right (is_stopped m.books) m.books.shared g.shared) g.tidy);
-      kin = subst (λ (x : State). Kin s.books.crew x.books.crew) (sym after) (kin-then s.books.crew m.books.crew (moved m e).books.crew g.kin (kin-quiet m e quiet h));
+      kin = subst (λ (x : State). Kin s.books.crew x.books.crew) (sym after) (kin-then s.books.crew m.books.crew (after_effect m e).books.crew g.kin (kin-quiet m e quiet h));
       rota = rota ∙ g.rota;
       mode = mode ∙ g.mode;
       settings = ap (λ (x : State). x.books.settings) after ∙ (fixed-output m e h).0 ∙ g.settings;
@@ -206,7 +206,7 @@ orderly-shutdown m w a b c = rw (a, b, c)
 good-shut_new : (s : State) (w : ℕ) (t : Turn) → Good s t → InRota s w → seat_shut w t.table ≡ false
     → Good s (record t { table = shut_down w t.table; acts = t.acts ++ Shutdown w ∷ [] })
 good-shut_new s w t g a unshut =
-    let m = all_moved s t.acts in
+    let m = after_entries s t.acts in
     let there = in_rota-behind s t w g a in
     let f = g.tidy.placed.fits in
     good-more s t (record t { table = shut_down w t.table; acts = t.acts ++ Shutdown w ∷ [] }) (Shutdown w) g refl refl
@@ -257,7 +257,7 @@ pub good-give : (s : State) (w : ℕ) (items : List ℕ) (t : Turn) → IsPlain 
     → all_distinct items ≡ true → all_among items t.table.pool ≡ true → Good s (give w items t)
 good-give s w [] t plain a g unshut distinct within = g
 good-give s w (i ∷ is) t plain a g unshut distinct within =
-    let m = all_moved s t.acts in
+    let m = after_entries s t.acts in
     let items = i ∷ is in
     let mode : m.plan.mode ≡ s.plan.mode = ap (λ (p : Plan). p.mode) g.plan ∙ g.mode in
     let each : is_each m.plan.mode ≡ false = ap is_each mode ∙ plain.each in

@@ -14,7 +14,7 @@ use Rattle.xd_ledger.specs.Workers.{made_collected, slot_of}
 use Rattle.xd_ledger.specs.Retry.{is_retry}
 use Rattle.xd_ledger.specs.Sharing.{State, in_books}
 use Rattle.xd_ledger.specs.Deaths.{down_plan}
-use Rattle.xd_ledger.specs.State.{moved, no_one}
+use Rattle.xd_ledger.specs.State.{after_effect, no_one}
 use Rattle.xd_ledger.specs.Proper.{may_follow}
 use Rattle.xd_ledger.specs.Orderly.{is_orderly, may_run, not_empty}
 use Rattle.xd_laws.specs.Called.{Reached}
@@ -85,13 +85,13 @@ none-held s w k n = by (held w s.books.table) refl
     by (x ∷ xs) e = absurd (differ (sym n ∙ shared-of_held s w x k (ap (λ (ys : List ℕ). among x ys) e ∙ grind (arith, nat_tests))))
 
 -- so a death changes nothing of the plan
-down-unheld : (settings : Settings) (s : State) (w : ℕ) → Placed s → s.plan ≡ (no_one settings).plan → s.books.shared ≡ false → (moved s (NotStarted w)).plan ≡ s.plan
+down-unheld : (settings : Settings) (s : State) (w : ℕ) → Placed s → s.plan ≡ (no_one settings).plan → s.books.shared ≡ false → (after_effect s (NotStarted w)).plan ≡ s.plan
 down-unheld settings s w k e n =
     let rest = drop 1 (held w s.books.table) in
     let none : retried_item (is_retry w s.books) (held w s.books.table) ≡ [] = ap (λ (xs : List ℕ). retried_item (is_retry w s.books) xs) (none-held s w k n) ∙ no-retried (is_retry w s.books) in
     ap (λ (xs : List ℕ). down_plan w xs rest s.plan) none ∙ down-unplanned settings w rest s.plan e
 
-unplanned-said : (settings : Settings) (s : State) (e : Entry) → may_follow s e ≡ true → Placed s → Unplanned settings s → Unplanned settings (moved s e)
+unplanned-said : (settings : Settings) (s : State) (e : Entry) → may_follow s e ≡ true → Placed s → Unplanned settings s → Unplanned settings (after_effect s e)
 unplanned-said settings s (Ready w) h d k = k
 unplanned-said settings s (Collected w g) h d k =
     collecting-keeps (Unplanned settings) (in_books (λ b. marked (made_collected w) (with_list w g b)) s) w (unequal w g (listed w s.books)) k k k (λ n e. absurd (differ (sym e)))
@@ -109,7 +109,7 @@ unplanned-said settings s (Shutdown w) h d k = absurd (differ h)
 unplanned-said settings s (Kill w) h d k = absurd (differ h)
 unplanned-said settings s (Over how) h d k = absurd (differ h)
 
-unplanned-told : (settings : Settings) (s : State) (e : Entry) → Placed s → is_orderly s e ≡ true → Unplanned settings s → Unplanned settings (moved s e)
+unplanned-told : (settings : Settings) (s : State) (e : Entry) → Placed s → is_orderly s e ≡ true → Unplanned settings s → Unplanned settings (after_effect s e)
 unplanned-told settings s (Start w slot) p h k = k
 unplanned-told settings s (Run w is) p h k = λ n. absurd (differ (sym n ∙ run-shared s w is p h))
 unplanned-told settings s (RunAll w) p h k = k

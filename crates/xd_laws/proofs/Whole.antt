@@ -13,15 +13,15 @@ use Rattle.xd_ledger.specs.Plan.{total}
 use Rattle.xd_ledger.specs.Books.{Books}
 use Rattle.xd_ledger.specs.Stops.{is_stopped}
 use Rattle.xd_ledger.specs.Sharing.{State}
-use Rattle.xd_ledger.specs.State.{all_moved, no_one, settled, state_at}
-use Rattle.xd_ledger.specs.Histories.{begun, end_of, is_over, journal_of, stepped_all}
+use Rattle.xd_ledger.specs.State.{after_entries, no_one, settled, state_at}
+use Rattle.xd_ledger.specs.Histories.{after_starts, run_end_of, is_over, journal_of, after_inputs}
 use Rattle.xd_ledger.specs.Ending.{ending, may_close, over_in, stop_of}
 use Rattle.xd_ledger.specs.Reports.{Report, item_of, reports, reports_from, reports_in}
 use Rattle.xd_laws.specs.Collected.{collected}
 use Rattle.xd_laws.specs.Stopped.{StopsBy}
 use Rattle.xd_laws.specs.Whole.{EndsRightly, IsWhole, NamesEach, tests_in}
 use Rattle.xd_laws.proofs.Logic.{cases_of}
-use Rattle.xd_laws.proofs.Turns.{all_moved-join}
+use Rattle.xd_laws.proofs.Turns.{after_entries-join}
 use Rattle.xd_laws.proofs.Walk.{journal-state, reports-append}
 use Rattle.xd_laws.proofs.NoOver.{NoOver, no-over-journal, stop-failed, stop-over}
 use Rattle.xd_laws.proofs.Stopping.{Tells, keeps_tells, stops-behind, tells-none}
@@ -29,11 +29,11 @@ use Rattle.xd_laws.proofs.Laws.{journal-keeps, over-shared, reported_once, share
 
 -- the end moves nothing and reports nothing
 
-kills-moved : (s : State) (ms : List Member) (more : List Entry) → all_moved s (map (λ (m : Member). Kill m.worker) ms ++ more) ≡ all_moved s more
+kills-moved : (s : State) (ms : List Member) (more : List Entry) → after_entries s (map (λ (m : Member). Kill m.worker) ms ++ more) ≡ after_entries s more
 kills-moved s [] more = refl
 kills-moved s (m ∷ ms) more = kills-moved s ms more
 
-end-moved : (s : State) (failed : Bool) (b : Books) → all_moved s (ending failed b) ≡ s
+end-moved : (s : State) (failed : Bool) (b : Books) → after_entries s (ending failed b) ≡ s
 end-moved s true b = kills-moved s (filter (λ m. m.active) b.crew) (Over OutFault ∷ [])
 end-moved s false b = refl
 
@@ -46,40 +46,40 @@ end-reports s true b = kills-report s (filter (λ m. m.active) b.crew) (Over Out
 end-reports s false b = refl
 
 module _ (j : Journal) (w : IsWhole j) where
-  pub state-whole : state_at j.settings j.entries.items ≡ stepped_all (begun j.settings) w.inputs
+  pub state-whole : state_at j.settings j.entries.items ≡ after_inputs (after_starts j.settings) w.inputs
   state-whole =
       let es = journal_of j.settings w.inputs in
-      let b = (stepped_all (begun j.settings) w.inputs).books in
-      ap (state_at j.settings) w.entries ∙ ap settled (all_moved-join (no_one j.settings) es (ending w.out_failed b) ∙ end-moved (all_moved (no_one j.settings) es) w.out_failed b)
+      let b = (after_inputs (after_starts j.settings) w.inputs).books in
+      ap (state_at j.settings) w.entries ∙ ap settled (after_entries-join (no_one j.settings) es (ending w.out_failed b) ∙ end-moved (after_entries (no_one j.settings) es) w.out_failed b)
       ∙ journal-state j.settings w.inputs w.proper.follow
 
   reports-whole : reports_in j ≡ reports j.settings (journal_of j.settings w.inputs)
   reports-whole =
       let es = journal_of j.settings w.inputs in
-      let b = (stepped_all (begun j.settings) w.inputs).books in
+      let b = (after_inputs (after_starts j.settings) w.inputs).books in
       ap (reports j.settings) w.entries ∙ reports-append (no_one j.settings) es (ending w.out_failed b)
-      ∙ ap (λ (rs : List Report). reports j.settings es ++ rs) (end-reports (all_moved (no_one j.settings) es) w.out_failed b) ∙ append-nil (reports j.settings es)
+      ∙ ap (λ (rs : List Report). reports j.settings es ++ rs) (end-reports (after_entries (no_one j.settings) es) w.out_failed b) ∙ append-nil (reports j.settings es)
 
   quiet : NoOver (journal_of j.settings w.inputs)
   quiet = no-over-journal j.settings w.inputs w.proper.follow
 
   -- how it ended, by whether the output failed
-  stop-by : (failed : Bool) → w.out_failed ≡ failed → stop_of j ≡ over_in (journal_of j.settings w.inputs ++ ending failed (stepped_all (begun j.settings) w.inputs).books) (end_of (state_at j.settings j.entries.items).books)
+  stop-by : (failed : Bool) → w.out_failed ≡ failed → stop_of j ≡ over_in (journal_of j.settings w.inputs ++ ending failed (after_inputs (after_starts j.settings) w.inputs).books) (run_end_of (state_at j.settings j.entries.items).books)
   stop-by failed e =
       let es = journal_of j.settings w.inputs in
-      let b = (stepped_all (begun j.settings) w.inputs).books in
-      let other = end_of (state_at j.settings j.entries.items).books in
+      let b = (after_inputs (after_starts j.settings) w.inputs).books in
+      let other = run_end_of (state_at j.settings j.entries.items).books in
       ap (λ (xs : List Entry). over_in xs other) w.entries ∙ ap (λ (f : Bool). over_in (es ++ ending f b) other) e
 
-  stop-whole : w.out_failed ≡ false → stop_of j ≡ end_of (stepped_all (begun j.settings) w.inputs).books
+  stop-whole : w.out_failed ≡ false → stop_of j ≡ run_end_of (after_inputs (after_starts j.settings) w.inputs).books
   stop-whole e =
-      stop-by false e ∙ stop-over (stepped_all (begun j.settings) w.inputs).books (journal_of j.settings w.inputs) (end_of (state_at j.settings j.entries.items).books) quiet
+      stop-by false e ∙ stop-over (after_inputs (after_starts j.settings) w.inputs).books (journal_of j.settings w.inputs) (run_end_of (state_at j.settings j.entries.items).books) quiet
 
   stop-faulty : w.out_failed ≡ true → stop_of j ≡ OutFault
   stop-faulty e =
-      stop-by true e ∙ stop-failed (stepped_all (begun j.settings) w.inputs).books (journal_of j.settings w.inputs) (end_of (state_at j.settings j.entries.items).books) quiet
+      stop-by true e ∙ stop-failed (after_inputs (after_starts j.settings) w.inputs).books (journal_of j.settings w.inputs) (run_end_of (state_at j.settings j.entries.items).books) quiet
 
-  told-whole : Tells j.settings (stepped_all (begun j.settings) w.inputs) (journal_of j.settings w.inputs)
+  told-whole : Tells j.settings (after_inputs (after_starts j.settings) w.inputs) (journal_of j.settings w.inputs)
   told-whole = journal-keeps j.settings w.inputs (Tells j.settings) (keeps_tells j.settings) w.proper (tells-none j.settings)
 
   -- no entry brings the stop Completed
@@ -91,22 +91,22 @@ module _ (j : Journal) (w : IsWhole j) where
   faulty-not_done h = absurd cc
 
   -- a run that was completed is over and was not stopped
-  done-whole : stop_of j ≡ Completed → (is_over (stepped_all (begun j.settings) w.inputs).books ≡ true) × (is_stopped (stepped_all (begun j.settings) w.inputs).books ≡ false)
+  done-whole : stop_of j ≡ Completed → (is_over (after_inputs (after_starts j.settings) w.inputs).books ≡ true) × (is_stopped (after_inputs (after_starts j.settings) w.inputs).books ≡ false)
   done-whole h = elim (cases_of w.out_failed) [
     | inl e ↦ absurd (faulty-not_done (sym (stop-faulty e) ∙ h))
     | inr e ↦
-        (let b = (stepped_all (begun j.settings) w.inputs).books in
+        (let b = (after_inputs (after_starts j.settings) w.inputs).books in
         (subst (λ (f : Bool). may_close f b ≡ true) e w.may, unstopped-by b.stop (λ q. (told-whole.stops Completed q).brings) (sym (stop-whole e) ∙ h)))
   ]
 
-  stopped-by : (o : Option RunStop) → (stepped_all (begun j.settings) w.inputs).books.stop ≡ o → unwrap_or o Completed ≡ stop_of j → (stop_of j ≡ Completed → ⊥)
+  stopped-by : (o : Option RunStop) → (after_inputs (after_starts j.settings) w.inputs).books.stop ≡ o → unwrap_or o Completed ≡ stop_of j → (stop_of j ≡ Completed → ⊥)
       → StopsBy j.settings (journal_of j.settings w.inputs) (stop_of j)
   stopped-by None q e n = absurd (n (sym e))
   stopped-by (Some how) q e n = subst (λ (x : RunStop). StopsBy j.settings (journal_of j.settings w.inputs) x) e (told-whole.stops how q)
 
   pub ends-whole : EndsRightly j
   ends-whole =
-      let b = (stepped_all (begun j.settings) w.inputs).books in
+      let b = (after_inputs (after_starts j.settings) w.inputs).books in
       record {
         over = λ h. ap (λ (s : State). is_over s.books) state-whole ∙ (done-whole h).0;
         unstopped = λ h. ap (λ (s : State). is_stopped s.books) state-whole ∙ (done-whole h).1;
@@ -119,7 +119,7 @@ module _ (j : Journal) (w : IsWhole j) where
 
   -- its reports
 
-  tests-whole : tests_in j ≡ collected (stepped_all (begun j.settings) w.inputs).books
+  tests-whole : tests_in j ≡ collected (after_inputs (after_starts j.settings) w.inputs).books
   tests-whole = ap (λ (s : State). collected s.books) state-whole
 
   told-alike : (x : ℕ) → times x (map item_of (reports_in j)) ≡ times x (map item_of (reports j.settings (journal_of j.settings w.inputs)))
@@ -127,7 +127,7 @@ module _ (j : Journal) (w : IsWhole j) where
 
   pub names-whole : NamesEach j
   names-whole =
-      let s = stepped_all (begun j.settings) w.inputs in
+      let s = after_inputs (after_starts j.settings) w.inputs in
       let r = reported_once j.settings w.inputs w.proper in
       record {
         at_most = λ x. (let a = told-alike x in let b = r.at_most x in omega (arith, a, b));

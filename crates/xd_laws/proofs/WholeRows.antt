@@ -15,7 +15,7 @@ use Rattle.xd_journal.specs.declared.entry.Entry.TheVariants.{Ready, Collected, 
 use Rattle.xd_ledger.specs.Numbers.{first_of, times}
 use Rattle.xd_ledger.specs.Table.{held}
 use Rattle.xd_ledger.specs.Sharing.{in_books}
-use Rattle.xd_ledger.specs.Histories.{begun, is_over, journal_of, stepped_all}
+use Rattle.xd_ledger.specs.Histories.{after_starts, is_over, journal_of, after_inputs}
 use Rattle.xd_ledger.specs.Ending.{ending, stop_in, stop_of}
 use Rattle.xd_ledger.specs.State.{state_at}
 use Rattle.xd_ledger.specs.Plan.{total}
@@ -58,8 +58,8 @@ a_death-whole j s e = record {
   inputs = a_death;
   proper = subst (λ (x : Settings). IsProper x a_death) (sym s) a_death-proper;
   out_failed = false;
-  may = ap (λ (x : Settings). is_over (stepped_all (begun x) a_death).books) s;
-  entries = e ∙ ap (λ (x : Settings). journal_of x a_death ++ ending false (stepped_all (begun x) a_death).books) (sym s);
+  may = ap (λ (x : Settings). is_over (after_inputs (after_starts x) a_death).books) s;
+  entries = e ∙ ap (λ (x : Settings). journal_of x a_death ++ ending false (after_inputs (after_starts x) a_death).books) (sym s);
 }
 
 -- worker 2 was about to run test 2, and the journal ends as if all was done
@@ -87,7 +87,7 @@ a_failure = Ready 0 ∷ Collected 0 (ids.List ((97 ∷ []) ∷ (98 ∷ []) ∷ (
 a_failure-proper : IsProper one_failure a_failure
 a_failure-proper = record { mode = refl; some_worker = refl; few_workers = refl; few_restarts = refl; follow = refl }
 
-a_failure-stops : (stepped_all (begun one_failure) a_failure).books.stop ≡ Some (MaxFail 1)
+a_failure-stops : (after_inputs (after_starts one_failure) a_failure).books.stop ≡ Some (MaxFail 1)
 a_failure-stops = refl
 
 completed-not : (n : ℕ) → MaxFail n ≡ Completed → ⊥

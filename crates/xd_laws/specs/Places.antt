@@ -9,7 +9,7 @@ use Rattle.xd_ledger.specs.Plan.{items_named, slot_items, total}
 use Rattle.xd_ledger.specs.Workers.{slot_of}
 use Rattle.xd_ledger.specs.Retry.{is_retry}
 use Rattle.xd_ledger.specs.Sharing.{State}
-use Rattle.xd_ledger.specs.State.{moved, next, no_one, reached}
+use Rattle.xd_ledger.specs.State.{after_effect, after_entry, no_one, reached}
 
 -- where an item stands: in the pool, with a worker, or among the reported ones
 pub data Place : Type 0 where
@@ -19,7 +19,7 @@ pub data Place : Type 0 where
 
 -- the tests are shared with the entry
 abbrev pub brings_share : State → Entry → Bool
-brings_share s e = not s.books.shared && (moved s e).books.shared
+brings_share s e = not s.books.shared && (after_effect s e).books.shared
 
 -- where the entry puts the item, where it moves it: a Run or a RunAll gives it to a worker, its result and the death of
 -- the worker at whose head it stands report it, and the share, its return, the death of a worker that holds it after the
@@ -32,7 +32,7 @@ puts s (Back w indices) x = if among x (items_named (slot_of w s.books) indices 
 puts s (Down w cause output) x =
     if among x (take 1 (held w s.books.table)) then Some (if is_retry w s.books then InPool else Reported) else (if among x (drop 1 (held w s.books.table)) then Some InPool else None)
 puts s (Collected w given) x =
-    if brings_share s (Collected w given) && nat_lt x (total (moved s (Collected w given)).plan) then Some InPool else None
+    if brings_share s (Collected w given) && nat_lt x (total (after_effect s (Collected w given)).plan) then Some InPool else None
 puts s _ x = None
 
 -- the later of two, where it is one
@@ -43,7 +43,7 @@ or_before (Some later) before = Some later
 -- where the last of these entries after a state puts the item, else this place
 abbrev pub put_last : State → List Entry → ℕ → Option Place → Option Place
 put_last s [] x place = place
-put_last s (e ∷ es) x place = put_last (next s e) es x (or_before (puts (reached s e) e x) place)
+put_last s (e ∷ es) x place = put_last (after_entry s e) es x (or_before (puts (reached s e) e x) place)
 
 -- the place of the item by the last entry that moves it, where there is one
 abbrev pub place_by : Settings → List Entry → ℕ → Option Place

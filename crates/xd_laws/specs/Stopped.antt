@@ -64,7 +64,7 @@ pub record DiffersFrom (before : List Entry) (last : Entry) (worker other place 
   pub differ : differ_at first own ≡ Some place
 
 -- the entry is the worker's refusal
-pub record IsRefusal (last : Entry) (worker : ℕ) : Type 0 where
+pub record IsWorkerRefusal (last : Entry) (worker : ℕ) : Type 0 where
   pub text : List ℕ
   pub last_is : last ≡ Refused worker text
 
@@ -73,7 +73,7 @@ abbrev pub Brings : Settings → List Entry → Entry → RunStop → Type 0
 Brings settings before last (MaxFail count) = ReachesLimit settings before last count
 Brings settings before last (Restarts worker limit) = IsTooMany settings before last worker limit
 Brings settings before last (Unequal worker other place) = DiffersFrom before last worker other place
-Brings settings before last (CollectError worker) = IsRefusal last worker
+Brings settings before last (CollectError worker) = IsWorkerRefusal last worker
 Brings settings before last _ = ⊥
 
 -- one of these entries brings the stop

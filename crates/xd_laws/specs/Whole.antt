@@ -6,7 +6,7 @@ use Rattle.xd_journal.specs.declared.journal.Journal.{Journal}
 use Rattle.xd_ledger.specs.Numbers.{times}
 use Rattle.xd_ledger.specs.Stops.{is_stopped}
 use Rattle.xd_ledger.specs.State.{state_at}
-use Rattle.xd_ledger.specs.Histories.{begun, is_over, journal_of, stepped_all}
+use Rattle.xd_ledger.specs.Histories.{after_starts, is_over, journal_of, after_inputs}
 use Rattle.xd_ledger.specs.Ending.{ending, may_close, stop_of}
 use Rattle.xd_ledger.specs.Proper.{IsProper}
 use Rattle.xd_ledger.specs.Reports.{item_of, reports_in}
@@ -18,8 +18,8 @@ pub record IsWhole (j : Journal) : Type 0 where
   pub inputs : List Entry
   pub proper : IsProper j.settings inputs
   pub out_failed : Bool
-  pub may : may_close out_failed (stepped_all (begun j.settings) inputs).books ≡ true
-  pub entries : j.entries.items ≡ journal_of j.settings inputs ++ ending out_failed (stepped_all (begun j.settings) inputs).books
+  pub may : may_close out_failed (after_inputs (after_starts j.settings) inputs).books ≡ true
+  pub entries : j.entries.items ≡ journal_of j.settings inputs ++ ending out_failed (after_inputs (after_starts j.settings) inputs).books
 
 -- how many tests were collected
 abbrev pub tests_in : Journal → ℕ

@@ -5,7 +5,7 @@ ghost use Rattle.std.specs.Prelude.{◌≡◌, ◌++◌, ◌∷◌, ℕ, List, [
 ghost use Rattle.xd_journal.specs.declared.settings.Settings.{Settings};
 ghost use Rattle.xd_journal.specs.declared.entry.Entry.{Entry};
 ghost use Rattle.xd_journal.specs.declared.journal.Journal.{Journal};
-ghost use Rattle.xd_ledger.specs.Histories.{begun, is_over, journal_of, stepped_all};
+ghost use Rattle.xd_ledger.specs.Histories.{after_starts, is_over, journal_of, after_inputs};
 ghost use Rattle.xd_ledger.specs.State.{state_at};
 ghost use Rattle.xd_ledger.specs.Stops.{is_stopped};
 ghost use Rattle.xd_ledger.specs.Proper.{IsProper};
@@ -23,24 +23,24 @@ ghost use Rattle.xd_laws.specs.Whole.{EndsRightly, IsWhole, NamesEach};
 /// In every mode, whatever proper inputs come, what is told after them is in order: each output asks for what is
 /// possible where it stands.
 pub fn order_law()
-    ensures { (settings : Settings) (inputs : List Entry) → IsProper settings inputs → is_orderly_run (begun settings) inputs ≡ true }
+    ensures { (settings : Settings) (inputs : List Entry) → IsProper settings inputs → is_orderly_run (after_starts settings) inputs ≡ true }
 {}
 
 /// In every mode, after whatever proper inputs, each test of the run stands in one place: in the pool, held by a
 /// worker, or reported.
 pub fn one_place_law()
-    ensures { (settings : Settings) (inputs : List Entry) → IsProper settings inputs → IsOnce (stepped_all (begun settings) inputs) }
+    ensures { (settings : Settings) (inputs : List Entry) → IsProper settings inputs → IsOnce (after_inputs (after_starts settings) inputs) }
 {}
 
 /// In every mode the reports of a run name each of its tests at most once, and where the run is over and was not stopped
 /// each once.
 pub fn report_law()
-    ensures { (settings : Settings) (inputs : List Entry) → IsProper settings inputs → AreOnce (reports settings (journal_of settings inputs)) (stepped_all (begun settings) inputs) }
+    ensures { (settings : Settings) (inputs : List Entry) → IsProper settings inputs → AreOnce (reports settings (journal_of settings inputs)) (after_inputs (after_starts settings) inputs) }
 {}
 
 /// In every mode a run that is over and was not stopped was shared, and its tests are those that were collected.
 pub fn shared_law()
-    ensures { (settings : Settings) (inputs : List Entry) → IsProper settings inputs → is_over (stepped_all (begun settings) inputs).books ≡ true → is_stopped (stepped_all (begun settings) inputs).books ≡ false → IsShared (stepped_all (begun settings) inputs) }
+    ensures { (settings : Settings) (inputs : List Entry) → IsProper settings inputs → is_over (after_inputs (after_starts settings) inputs).books ≡ true → is_stopped (after_inputs (after_starts settings) inputs).books ≡ false → IsShared (after_inputs (after_starts settings) inputs) }
 {}
 
 /// In every mode the reports of a whole journal name each collected test at most once and nothing else, and each once
@@ -76,5 +76,5 @@ pub fn crash_law()
 /// In every mode, after whatever proper inputs and their outputs, a run that is not over has a worker that owes the
 /// next step: it is not ready yet, has not collected, is to end, has a test that it may start, or has to answer a steal.
 pub fn owes_law()
-    ensures { (settings : Settings) (inputs : List Entry) → IsProper settings inputs → is_over (stepped_all (begun settings) inputs).books ≡ false → someone_owes (stepped_all (begun settings) inputs) ≡ true }
+    ensures { (settings : Settings) (inputs : List Entry) → IsProper settings inputs → is_over (after_inputs (after_starts settings) inputs).books ≡ false → someone_owes (after_inputs (after_starts settings) inputs) ≡ true }
 {}

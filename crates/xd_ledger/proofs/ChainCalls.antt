@@ -4,7 +4,7 @@ use Rattle.std.specs.Prelude.{◌==◌, ◌||◌, if◌then◌else◌}
 use Rattle.std.proofs.lemmas.Bool.Decides.{nat_tests}
 use Rattle.std.proofs.lemmas.List.{get_or_read, get_or_past, take_more}
 use Rattle.xd_ledger.specs.Numbers.{times, among, without, all_among, all_distinct, first_of}
-use Rattle.xd_ledger.specs.Chains.{Lists, chain_at, chains_of, items_of, is_free, at, owner_of, no_chain, chain, AreChains, changed, shifted, poured, last_or, first_or, final_of, ahead, behind}
+use Rattle.xd_ledger.specs.Chains.{Lists, chain_at, chains_of, number_count, is_free, at, owner_of, no_chain, chain, AreChains, changed, shifted, poured, last_or, first_or, final_of, ahead, behind}
 use Rattle.xd_ledger.proofs.Links.{same, swapped, without-around, back-of, next-of, times-last, times-first, times-append}
 use Rattle.xd_ledger.proofs.ChainMoves.{Gives, by_cases, equals, changed-here, changed-else, stands-once, take_gives, put_gives, put_first_gives, place-fits, stands-few, stands-around, stands-below, chains-long, among-once}
 
@@ -99,10 +99,10 @@ put_room n p o c k x s h below =
           let m = stands-few n p o (length o) k (at c k) (chain n o c k) here refl (chains-long n p o c (chain n o c) s k h) in omega arith);
     }
 
-pub put_room_at : (n p o c : List ℕ) (now : Lists) (k x : ℕ) → record { next = n; owner = o; counts = c } ≡ now → AreChains n p o c (chain n o c) → k < chains_of now → x < items_of now → PutRoom n p o c k x
-put_room_at n p o c now k x e s = subst (λ (l : Lists). k < chains_of l → x < items_of l → PutRoom n p o c k x) e (put_room n p o c k x s)
+pub put_room_at : (n p o c : List ℕ) (now : Lists) (k x : ℕ) → record { next = n; owner = o; counts = c } ≡ now → AreChains n p o c (chain n o c) → k < chains_of now → x < number_count now → PutRoom n p o c k x
+put_room_at n p o c now k x e s = subst (λ (l : Lists). k < chains_of l → x < number_count l → PutRoom n p o c k x) e (put_room n p o c k x s)
 
-pub put_done : (n p o c : List ℕ) (now : Lists) (k x end last ck : ℕ) → record { next = n; owner = o; counts = c } ≡ now → AreChains n p o c (chain n o c) → k < chains_of now → x < items_of now → is_free x now ≡ true
+pub put_done : (n p o c : List ℕ) (now : Lists) (k x end last ck : ℕ) → record { next = n; owner = o; counts = c } ≡ now → AreChains n p o c (chain n o c) → k < chains_of now → x < number_count now → is_free x now ≡ true
     → end ≡ length o + k → last ≡ get_or p end last → ck ≡ get_or c k ck
     → Gives (set (set n last x) x end) (set (set p x last) end x) (set o x k) (set c k (ck + 1)) (changed k (chain_at now k ++ x ∷ []) (chain_at now))
 put_done n p o c now k x end last ck e s h b f ee el ec =
@@ -115,9 +115,9 @@ put_done n p o c now k x end last ck e s h b f ee el ec =
     λ h2 b2 f2. subst (λ i. Gives (set (set n last x) x end) (set (set p x last) end x) (set o x k) (set c k (i + 1)) (changed k (chain n o c k ++ x ∷ []) (chain n o c))) gc
     (subst (λ i. Gives (set (set n last x) x i) (set (set p x last) i x) (set o x k) (set c k (at c k + 1)) (changed k (chain n o c k ++ x ∷ []) (chain n o c))) ge
     (subst (λ i. Gives (set (set n i x) x (length o + k)) (set (set p x i) (length o + k) x) (set o x k) (set c k (at c k + 1)) (changed k (chain n o c k ++ x ∷ []) (chain n o c))) gl (put_gives n p o c k x s h2 b2 f2))) in
-    subst (λ (l : Lists). k < chains_of l → x < items_of l → is_free x l ≡ true → Gives (set (set n last x) x end) (set (set p x last) end x) (set o x k) (set c k (ck + 1)) (changed k (chain_at l k ++ x ∷ []) (chain_at l))) e body h b f
+    subst (λ (l : Lists). k < chains_of l → x < number_count l → is_free x l ≡ true → Gives (set (set n last x) x end) (set (set p x last) end x) (set o x k) (set c k (ck + 1)) (changed k (chain_at l k ++ x ∷ []) (chain_at l))) e body h b f
 
-pub put_first_done : (n p o c : List ℕ) (now : Lists) (k x end first ck : ℕ) → record { next = n; owner = o; counts = c } ≡ now → AreChains n p o c (chain n o c) → k < chains_of now → x < items_of now → is_free x now ≡ true
+pub put_first_done : (n p o c : List ℕ) (now : Lists) (k x end first ck : ℕ) → record { next = n; owner = o; counts = c } ≡ now → AreChains n p o c (chain n o c) → k < chains_of now → x < number_count now → is_free x now ≡ true
     → end ≡ length o + k → first ≡ get_or n end first → ck ≡ get_or c k ck
     → Gives (set (set n end x) x first) (set (set p x end) first x) (set o x k) (set c k (ck + 1)) (changed k (x ∷ chain_at now k) (chain_at now))
 put_first_done n p o c now k x end first ck e s h b f ee ef ec =
@@ -130,7 +130,7 @@ put_first_done n p o c now k x end first ck e s h b f ee ef ec =
     λ h2 b2 f2. subst (λ i. Gives (set (set n end x) x first) (set (set p x end) first x) (set o x k) (set c k (i + 1)) (changed k (x ∷ chain n o c k) (chain n o c))) gc
     (subst (λ i. Gives (set (set n i x) x first) (set (set p x i) first x) (set o x k) (set c k (at c k + 1)) (changed k (x ∷ chain n o c k) (chain n o c))) ge
     (subst (λ i. Gives (set (set n (length o + k) x) x i) (set (set p x (length o + k)) i x) (set o x k) (set c k (at c k + 1)) (changed k (x ∷ chain n o c k) (chain n o c))) gf (put_first_gives n p o c k x s h2 b2 f2))) in
-    subst (λ (l : Lists). k < chains_of l → x < items_of l → is_free x l ≡ true → Gives (set (set n end x) x first) (set (set p x end) first x) (set o x k) (set c k (ck + 1)) (changed k (x ∷ chain_at l k) (chain_at l))) e body h b f
+    subst (λ (l : Lists). k < chains_of l → x < number_count l → is_free x l ≡ true → Gives (set (set n end x) x first) (set (set p x end) first x) (set o x k) (set c k (ck + 1)) (changed k (x ∷ chain_at l k) (chain_at l))) e body h b f
 
 -- lists behind two changes
 
@@ -330,16 +330,16 @@ place_last b e v (y ∷ ys) h l f =
     let t : nat_lt v b ≡ true = grind (arith, nat_tests) in
     ap (λ u. if u then Some v else None) t ∙ ap Some h ∙ sym (final-last y ys)
 
-pub first_at : (n p o c : List ℕ) (now : Lists) (k v : ℕ) → record { next = n; owner = o; counts = c } ≡ now → AreChains n p o c (chain n o c) → k < chains_of now → v ≡ get_or n (length o + k) v → (if nat_lt v (items_of now) then Some v else None) ≡ first_of (chain_at now k)
-first_at n p o c now k v e s = subst (λ (l : Lists). k < chains_of l → v ≡ get_or n (length o + k) v → (if nat_lt v (items_of l) then Some v else None) ≡ first_of (chain_at l k)) e
+pub first_at : (n p o c : List ℕ) (now : Lists) (k v : ℕ) → record { next = n; owner = o; counts = c } ≡ now → AreChains n p o c (chain n o c) → k < chains_of now → v ≡ get_or n (length o + k) v → (if nat_lt v (number_count now) then Some v else None) ≡ first_of (chain_at now k)
+first_at n p o c now k v e s = subst (λ (l : Lists). k < chains_of l → v ≡ get_or n (length o + k) v → (if nat_lt v (number_count l) then Some v else None) ≡ first_of (chain_at l k)) e
     (λ h r. (let here = s.stands k h in let nf = s.nexts_fit in let fits : length o + k < length n = omega arith in
     let g : v ≡ at n (length o + k) = get_or_read n (length o + k) v fits r 0 in
     let up : length o ≤ length o + k = omega arith in
     place_first (length o) (length o + k) v (chain n o c k) (g ∙ next-of n (length o + k) (chain n o c k) (length o + k) here.nexts) up
     (stands-below n p o (length o) k (at c k) (chain n o c k) here refl (chains-long n p o c (chain n o c) s k h))))
 
-pub last_at : (n p o c : List ℕ) (now : Lists) (k v : ℕ) → record { next = n; owner = o; counts = c } ≡ now → AreChains n p o c (chain n o c) → k < chains_of now → v ≡ get_or p (length o + k) v → (if nat_lt v (items_of now) then Some v else None) ≡ final_of (chain_at now k)
-last_at n p o c now k v e s = subst (λ (l : Lists). k < chains_of l → v ≡ get_or p (length o + k) v → (if nat_lt v (items_of l) then Some v else None) ≡ final_of (chain_at l k)) e
+pub last_at : (n p o c : List ℕ) (now : Lists) (k v : ℕ) → record { next = n; owner = o; counts = c } ≡ now → AreChains n p o c (chain n o c) → k < chains_of now → v ≡ get_or p (length o + k) v → (if nat_lt v (number_count now) then Some v else None) ≡ final_of (chain_at now k)
+last_at n p o c now k v e s = subst (λ (l : Lists). k < chains_of l → v ≡ get_or p (length o + k) v → (if nat_lt v (number_count l) then Some v else None) ≡ final_of (chain_at l k)) e
     (λ h r. (let here = s.stands k h in let bf = s.backs_fit in let fits : length o + k < length p = omega arith in
     let g : v ≡ at p (length o + k) = get_or_read p (length o + k) v fits r 0 in
     let up : length o ≤ length o + k = omega arith in
@@ -349,8 +349,8 @@ last_at n p o c now k v e s = subst (λ (l : Lists). k < chains_of l → v ≡ g
 part-below : (b : ℕ) (hs : List ℕ) (x : ℕ) (ts xs : List ℕ) → xs ≡ hs ++ x ∷ ts → ((z : ℕ) → 1 ≤ times z xs → z < b) → (z : ℕ) → 1 ≤ times z hs + times z ts → z < b
 part-below b hs x ts xs e f z h = (let m : times z xs ≡ times z (hs ++ x ∷ ts) = ap (times z) e in let a = times-append z hs (x ∷ ts) in f z (omega arith))
 
-pub next_is_at : (n p o c : List ℕ) (now : Lists) (x v k : ℕ) → record { next = n; owner = o; counts = c } ≡ now → AreChains n p o c (chain n o c) → x < items_of now → v ≡ get_or n x v → k < chains_of now → among x (chain_at now k) ≡ true → (if nat_lt v (items_of now) then Some v else None) ≡ first_of (behind x (chain_at now k))
-next_is_at n p o c now x v k e s = subst (λ (l : Lists). x < items_of l → v ≡ get_or n x v → k < chains_of l → among x (chain_at l k) ≡ true → (if nat_lt v (items_of l) then Some v else None) ≡ first_of (behind x (chain_at l k))) e
+pub next_is_at : (n p o c : List ℕ) (now : Lists) (x v k : ℕ) → record { next = n; owner = o; counts = c } ≡ now → AreChains n p o c (chain n o c) → x < number_count now → v ≡ get_or n x v → k < chains_of now → among x (chain_at now k) ≡ true → (if nat_lt v (number_count now) then Some v else None) ≡ first_of (behind x (chain_at now k))
+next_is_at n p o c now x v k e s = subst (λ (l : Lists). x < number_count l → v ≡ get_or n x v → k < chains_of l → among x (chain_at l k) ≡ true → (if nat_lt v (number_count l) then Some v else None) ≡ first_of (behind x (chain_at l k))) e
     (λ b r h a. (let here = s.stands k h in let nf = s.nexts_fit in let fits : x < length n = omega arith in
     let g : v ≡ at n x = get_or_read n x v fits r 0 in
     let w = stands-around n p o (length o + k) k (at c k) x (chain n o c k) here a in
@@ -358,8 +358,8 @@ next_is_at n p o c now x v k e s = subst (λ (l : Lists). x < items_of l → v �
     let f = part-below (length o) (ahead x (chain n o c k)) x (behind x (chain n o c k)) (chain n o c k) w.split (stands-below n p o (length o) k (at c k) (chain n o c k) here refl (chains-long n p o c (chain n o c) s k h)) in
     place_first (length o) (length o + k) v (behind x (chain n o c k)) (g ∙ w.next_is) up (λ z t. f z (omega arith))))
 
-pub back_is_at : (n p o c : List ℕ) (now : Lists) (x v k : ℕ) → record { next = n; owner = o; counts = c } ≡ now → AreChains n p o c (chain n o c) → x < items_of now → v ≡ get_or p x v → k < chains_of now → among x (chain_at now k) ≡ true → (if nat_lt v (items_of now) then Some v else None) ≡ final_of (ahead x (chain_at now k))
-back_is_at n p o c now x v k e s = subst (λ (l : Lists). x < items_of l → v ≡ get_or p x v → k < chains_of l → among x (chain_at l k) ≡ true → (if nat_lt v (items_of l) then Some v else None) ≡ final_of (ahead x (chain_at l k))) e
+pub back_is_at : (n p o c : List ℕ) (now : Lists) (x v k : ℕ) → record { next = n; owner = o; counts = c } ≡ now → AreChains n p o c (chain n o c) → x < number_count now → v ≡ get_or p x v → k < chains_of now → among x (chain_at now k) ≡ true → (if nat_lt v (number_count now) then Some v else None) ≡ final_of (ahead x (chain_at now k))
+back_is_at n p o c now x v k e s = subst (λ (l : Lists). x < number_count l → v ≡ get_or p x v → k < chains_of l → among x (chain_at l k) ≡ true → (if nat_lt v (number_count l) then Some v else None) ≡ final_of (ahead x (chain_at l k))) e
     (λ b r h a. (let here = s.stands k h in let bf = s.backs_fit in let fits : x < length p = omega arith in
     let g : v ≡ at p x = get_or_read p x v fits r 0 in
     let w = stands-around n p o (length o + k) k (at c k) x (chain n o c k) here a in

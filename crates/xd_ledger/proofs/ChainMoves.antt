@@ -4,7 +4,7 @@ use Rattle.std.specs.Prelude.{◌==◌}
 use Rattle.std.proofs.lemmas.Bool.Decides.{nat_tests}
 use Rattle.std.proofs.lemmas.List.{length-set, get_or_past, get_or-set_same, get_or-set_other}
 use Rattle.xd_ledger.specs.Numbers.{times, among, without}
-use Rattle.xd_ledger.specs.Chains.{at, owner_of, no_chain, walk, chain, Nexts, Backs, Stands, AreChains, changed, first_or, last_or, ahead, behind}
+use Rattle.xd_ledger.specs.Chains.{at, owner_of, no_chain, walk, chain, Nexts, Backs, IsLinkedChain, AreChains, changed, first_or, last_or, ahead, behind}
 use Rattle.xd_ledger.proofs.Counts.{few_of-kind}
 use Rattle.xd_ledger.proofs.Links.{walked, swapped, same, nexts_else, backs_else, nexts_put, backs_put, nexts_first, backs_first, nexts_taken, backs_taken, next-at, back-at, next-of, back-of, around, times-append, times-first, times-last, without-around}
 
@@ -26,15 +26,15 @@ set-else xs i y d j h = get_or-set_other xs i j y d (λ e. (let k = same i in gr
 owned-below : (o : List ℕ) (k x : ℕ) → k < 4294967295 → owner_of o x ≡ k → x < length o
 owned-below o k x h e = by_cases (nat_lt x (length o)) (λ t. grind (arith, nat_tests)) (λ f. absurd (let p = get_or_past o x no_chain (grind (arith, nat_tests)) in omega arith))
 
-pub stands-below : (n p o : List ℕ) (b k c : ℕ) (xs : List ℕ) → Stands n p o (b + k) k c xs → b ≡ length o → k < 4294967295 → (x : ℕ) → 1 ≤ times x xs → x < b
+pub stands-below : (n p o : List ℕ) (b k c : ℕ) (xs : List ℕ) → IsLinkedChain n p o (b + k) k c xs → b ≡ length o → k < 4294967295 → (x : ℕ) → 1 ≤ times x xs → x < b
 stands-below n p o b k c xs s e h x t = (let w = s.owns x in let d = owned-below o k x h in grind (arith, nat_tests))
 
 -- each place once, the end too
-pub stands-once : (n p o : List ℕ) (b k c : ℕ) (xs : List ℕ) → Stands n p o (b + k) k c xs → b ≡ length o → k < 4294967295 → (x : ℕ) → times x ((b + k) ∷ xs) ≤ 1
+pub stands-once : (n p o : List ℕ) (b k c : ℕ) (xs : List ℕ) → IsLinkedChain n p o (b + k) k c xs → b ≡ length o → k < 4294967295 → (x : ℕ) → times x ((b + k) ∷ xs) ≤ 1
 stands-once n p o b k c xs s e h x = (let w = s.owns x in let d = stands-below n p o b k c xs s e h x in grind (arith, nat_tests))
 
 -- a place of one chain is none of another
-pub stands-apart : (n p o : List ℕ) (b k c : ℕ) (xs : List ℕ) (j d : ℕ) (ys : List ℕ) → Stands n p o (b + k) k c xs → Stands n p o (b + j) j d ys → b ≡ length o → k < 4294967295 → j < 4294967295 → (k == j) ≡ false
+pub stands-apart : (n p o : List ℕ) (b k c : ℕ) (xs : List ℕ) (j d : ℕ) (ys : List ℕ) → IsLinkedChain n p o (b + k) k c xs → IsLinkedChain n p o (b + j) j d ys → b ≡ length o → k < 4294967295 → j < 4294967295 → (k == j) ≡ false
     → (x : ℕ) → 1 ≤ times x ((b + k) ∷ xs) → times x ((b + j) ∷ ys) ≡ 0
 stands-apart n p o b k c xs j d ys s r e h i f x t =
     let w = s.owns x in
@@ -43,17 +43,17 @@ stands-apart n p o b k c xs j d ys s r e h i f x t =
     let z = stands-below n p o b j d ys r e i x in
     grind (arith, nat_tests)
 
-pub stands-walk : (n p o : List ℕ) (e k c : ℕ) (xs : List ℕ) → Stands n p o e k c xs → walk n (at n e) c ≡ xs
+pub stands-walk : (n p o : List ℕ) (e k c : ℕ) (xs : List ℕ) → IsLinkedChain n p o e k c xs → walk n (at n e) c ≡ xs
 stands-walk n p o e k c xs s = ap (λ i. walk n (at n e) i) (sym s.counted) ∙ walked n e xs e s.nexts
 
-pub stands-few : (n p o : List ℕ) (b k c : ℕ) (xs : List ℕ) → Stands n p o (b + k) k c xs → b ≡ length o → k < 4294967295 → length xs ≤ b
+pub stands-few : (n p o : List ℕ) (b k c : ℕ) (xs : List ℕ) → IsLinkedChain n p o (b + k) k c xs → b ≡ length o → k < 4294967295 → length xs ≤ b
 stands-few n p o b k c xs s e h =
     few_of-kind (λ z. owner_of o z == k) b xs (λ z. (let w = s.owns z in let y = stands-below n p o b k c xs s e h z in grind (arith, nat_tests)))
 
 -- a number leaves
 
-pub stands_taken : (n p o : List ℕ) (b k c : ℕ) (hs : List ℕ) (x : ℕ) (ts : List ℕ) → Stands n p o (b + k) k c (hs ++ x ∷ ts) → b ≡ length o → k < 4294967295 → first_or (b + k) ts < length p → last_or (b + k) hs < length n
-    → Stands (set n (last_or (b + k) hs) (first_or (b + k) ts)) (set p (first_or (b + k) ts) (last_or (b + k) hs)) (set o x no_chain) (b + k) k (c - 1) (hs ++ ts)
+pub stands_taken : (n p o : List ℕ) (b k c : ℕ) (hs : List ℕ) (x : ℕ) (ts : List ℕ) → IsLinkedChain n p o (b + k) k c (hs ++ x ∷ ts) → b ≡ length o → k < 4294967295 → first_or (b + k) ts < length p → last_or (b + k) hs < length n
+    → IsLinkedChain (set n (last_or (b + k) hs) (first_or (b + k) ts)) (set p (first_or (b + k) ts) (last_or (b + k) hs)) (set o x no_chain) (b + k) k (c - 1) (hs ++ ts)
 stands_taken n p o b k c hs x ts s e h fp ln =
     let l = last_or (b + k) hs in
     let f = first_or (b + k) ts in
@@ -71,8 +71,8 @@ stands_taken n p o b k c hs x ts s e h fp ln =
 
 -- a number goes to the end
 
-pub stands_put : (n p o : List ℕ) (b k c x : ℕ) (xs : List ℕ) → Stands n p o (b + k) k c xs → b ≡ length o → k < 4294967295 → x < b → owner_of o x ≡ no_chain → b + k < length n → b + k < length p
-    → Stands (set (set n (last_or (b + k) xs) x) x (b + k)) (set (set p x (last_or (b + k) xs)) (b + k) x) (set o x k) (b + k) k (c + 1) (xs ++ x ∷ [])
+pub stands_put : (n p o : List ℕ) (b k c x : ℕ) (xs : List ℕ) → IsLinkedChain n p o (b + k) k c xs → b ≡ length o → k < 4294967295 → x < b → owner_of o x ≡ no_chain → b + k < length n → b + k < length p
+    → IsLinkedChain (set (set n (last_or (b + k) xs) x) x (b + k)) (set (set p x (last_or (b + k) xs)) (b + k) x) (set o x k) (b + k) k (c + 1) (xs ++ x ∷ [])
 stands_put n p o b k c x xs s e h u v en ep =
     let l = last_or (b + k) xs in
     let once = stands-once n p o b k c xs s e h in
@@ -104,8 +104,8 @@ stands_put n p o b k c x xs s e h u v en ep =
 
 -- a number goes to the front
 
-pub stands_first : (n p o : List ℕ) (b k c x : ℕ) (xs : List ℕ) → Stands n p o (b + k) k c xs → b ≡ length o → k < 4294967295 → x < b → owner_of o x ≡ no_chain → b + k < length n → b + k < length p → x < length n → first_or (b + k) xs < length p
-    → Stands (set (set n (b + k) x) x (first_or (b + k) xs)) (set (set p x (b + k)) (first_or (b + k) xs) x) (set o x k) (b + k) k (c + 1) (x ∷ xs)
+pub stands_first : (n p o : List ℕ) (b k c x : ℕ) (xs : List ℕ) → IsLinkedChain n p o (b + k) k c xs → b ≡ length o → k < 4294967295 → x < b → owner_of o x ≡ no_chain → b + k < length n → b + k < length p → x < length n → first_or (b + k) xs < length p
+    → IsLinkedChain (set (set n (b + k) x) x (first_or (b + k) xs)) (set (set p x (b + k)) (first_or (b + k) xs) x) (set o x k) (b + k) k (c + 1) (x ∷ xs)
 stands_first n p o b k c x xs s e h u v en ep xn fp =
     let f = first_or (b + k) xs in
     let once = stands-once n p o b k c xs s e h in
@@ -140,7 +140,7 @@ stands_first n p o b k c x xs s e h u v en ep xn fp =
 
 -- the other chains
 
-pub stands_else : (n p o : List ℕ) (e j c : ℕ) (ys : List ℕ) (i v f w : ℕ) → times i (e ∷ ys) ≡ 0 → times f (e ∷ ys) ≡ 0 → Stands n p o e j c ys → Stands (set n i v) (set p f w) o e j c ys
+pub stands_else : (n p o : List ℕ) (e j c : ℕ) (ys : List ℕ) (i v f w : ℕ) → times i (e ∷ ys) ≡ 0 → times f (e ∷ ys) ≡ 0 → IsLinkedChain n p o e j c ys → IsLinkedChain (set n i v) (set p f w) o e j c ys
 stands_else n p o e j c ys i v f w a b s = record {
   nexts = nexts_else n (set n i v) i e ys e (λ y d. set-else n i v 0 y d) a s.nexts;
   backs = backs_else p (set p f w) f e ys e (λ y d. set-else p f w 0 y d) b s.backs;
@@ -148,7 +148,7 @@ stands_else n p o e j c ys i v f w a b s = record {
   counted = s.counted;
 }
 
-pub stands_owner : (n p o : List ℕ) (e j c : ℕ) (ys : List ℕ) (x z : ℕ) → times x ys ≡ 0 → (z == j) ≡ false → x < length o → Stands n p o e j c ys → Stands n p (set o x z) e j c ys
+pub stands_owner : (n p o : List ℕ) (e j c : ℕ) (ys : List ℕ) (x z : ℕ) → times x ys ≡ 0 → (z == j) ≡ false → x < length o → IsLinkedChain n p o e j c ys → IsLinkedChain n p (set o x z) e j c ys
 stands_owner n p o e j c ys x z a d h s = record {
   nexts = s.nexts;
   backs = s.backs;
@@ -175,7 +175,7 @@ chains-same n p o c lists now s e = record {
   few = s.few;
   few_chains = s.few_chains;
   owned = s.owned;
-  stands = λ k h. subst (λ xs. Stands n p o (length o + k) k (at c k) xs) (e k) (s.stands k h);
+  stands = λ k h. subst (λ xs. IsLinkedChain n p o (length o + k) k (at c k) xs) (e k) (s.stands k h);
 }
 
 pub chains-long : (n p o c : List ℕ) (lists : ℕ → List ℕ) → AreChains n p o c lists → (k : ℕ) → k < length c → k < 4294967295
@@ -199,7 +199,7 @@ pub record Around (n p o : List ℕ) (e x : ℕ) (xs : List ℕ) : Type 0 where
   pub next_there : 1 ≤ times (at n x) (e ∷ xs)
   pub back_there : 1 ≤ times (at p x) (e ∷ xs)
 
-pub stands-around : (n p o : List ℕ) (e k c x : ℕ) (xs : List ℕ) → Stands n p o e k c xs → among x xs ≡ true → Around n p o e x xs
+pub stands-around : (n p o : List ℕ) (e k c x : ℕ) (xs : List ℕ) → IsLinkedChain n p o e k c xs → among x xs ≡ true → Around n p o e x xs
 stands-around n p o e k c x xs s a =
     let hs = ahead x xs in
     let ts = behind x xs in
@@ -245,10 +245,10 @@ taken_are n p o c lists k x s h a =
     let cut : without (x ∷ []) xs ≡ hs ++ ts = ap (without (x ∷ [])) w.split ∙ without-around x hs ts one in
     let bn2 : last_or e hs < length n = subst (λ i. i < length n) w.back_is bn in
     let fp2 : first_or e ts < length p = subst (λ i. i < length p) w.next_is fp in
-    let there : Stands (set n (last_or e hs) (first_or e ts)) (set p (first_or e ts) (last_or e hs)) u e k (at c k - 1) (hs ++ ts) = stands_taken n p o b k (at c k) hs x ts (subst (λ ys. Stands n p o e k (at c k) ys) w.split here) refl long fp2 bn2 in
-    let left : Stands m q u e k (at c k - 1) (without (x ∷ []) xs) =
-    subst (λ ys. Stands m q u e k (at c k - 1) ys) (sym cut) (subst (λ i. Stands (set n i (at n x)) (set p (at n x) i) u e k (at c k - 1) (hs ++ ts)) (sym w.back_is) (subst (λ i. Stands (set n (last_or e hs) i) (set p i (last_or e hs)) u e k (at c k - 1) (hs ++ ts)) (sym w.next_is) there)) in
-    let other : (j : ℕ) → j < length c → (k == j) ≡ false → Stands m q u (b + j) j (at c j) (lists j) = λ j i f.
+    let there : IsLinkedChain (set n (last_or e hs) (first_or e ts)) (set p (first_or e ts) (last_or e hs)) u e k (at c k - 1) (hs ++ ts) = stands_taken n p o b k (at c k) hs x ts (subst (λ ys. IsLinkedChain n p o e k (at c k) ys) w.split here) refl long fp2 bn2 in
+    let left : IsLinkedChain m q u e k (at c k - 1) (without (x ∷ []) xs) =
+    subst (λ ys. IsLinkedChain m q u e k (at c k - 1) ys) (sym cut) (subst (λ i. IsLinkedChain (set n i (at n x)) (set p (at n x) i) u e k (at c k - 1) (hs ++ ts)) (sym w.back_is) (subst (λ i. IsLinkedChain (set n (last_or e hs) i) (set p i (last_or e hs)) u e k (at c k - 1) (hs ++ ts)) (sym w.next_is) there)) in
+    let other : (j : ℕ) → j < length c → (k == j) ≡ false → IsLinkedChain m q u (b + j) j (at c j) (lists j) = λ j i f.
     (let long2 = chains-long n p o c lists s j i in
     let r = s.stands j i in
     let off = stands-apart n p o b k (at c k) xs j (at c j) (lists j) here r refl long long2 f in
@@ -263,16 +263,16 @@ taken_are n p o c lists k x s h a =
       owned = λ y f. by_cases (x == y)
           (λ t. (let g = equals x y t in let r = set-here o x no_chain no_chain below in grind (arith, nat_tests)))
           (λ f2. (let r = set-else o x no_chain no_chain y f2 in let w2 = s.owned y in grind (arith, nat_tests)));
-      stands = λ j i. (let i2 : j < length c = omega arith in subst (λ z. Stands m q u (z + j) j (at d j) (changed k (without (x ∷ []) xs) lists j)) (sym lu)
+      stands = λ j i. (let i2 : j < length c = omega arith in subst (λ z. IsLinkedChain m q u (z + j) j (at d j) (changed k (without (x ∷ []) xs) lists j)) (sym lu)
           (by_cases (k == j)
-          (λ t. (let g = equals k j t in subst (λ ys. Stands m q u (b + j) j (at d j) ys) (sym (changed-here k (without (x ∷ []) xs) lists j t)) (subst (λ i3. Stands m q u (b + i3) i3 (at d i3) (without (x ∷ []) xs)) g (subst (λ z. Stands m q u e k z (without (x ∷ []) xs)) (sym (set-here c k (at c k - 1) 0 h)) left))))
-          (λ f. subst (λ ys. Stands m q u (b + j) j (at d j) ys) (sym (changed-else k (without (x ∷ []) xs) lists j f)) (subst (λ z. Stands m q u (b + j) j z (lists j)) (sym (set-else c k (at c k - 1) 0 j f)) (other j i2 f)))));
+          (λ t. (let g = equals k j t in subst (λ ys. IsLinkedChain m q u (b + j) j (at d j) ys) (sym (changed-here k (without (x ∷ []) xs) lists j t)) (subst (λ i3. IsLinkedChain m q u (b + i3) i3 (at d i3) (without (x ∷ []) xs)) g (subst (λ z. IsLinkedChain m q u e k z (without (x ∷ []) xs)) (sym (set-here c k (at c k - 1) 0 h)) left))))
+          (λ f. subst (λ ys. IsLinkedChain m q u (b + j) j (at d j) ys) (sym (changed-else k (without (x ∷ []) xs) lists j f)) (subst (λ z. IsLinkedChain m q u (b + j) j z (lists j)) (sym (set-else c k (at c k - 1) 0 j f)) (other j i2 f)))));
     }
 
 -- a free number that is linked between two places of chain k, which has it then
 pub linked_are : (n p o c : List ℕ) (lists : ℕ → List ℕ) (k x l f : ℕ) (now : List ℕ) → AreChains n p o c lists → k < length c → x < length o → (owner_of o x == no_chain) ≡ true
     → 1 ≤ times l ((length o + k) ∷ lists k) → 1 ≤ times f ((length o + k) ∷ lists k)
-    → Stands (set (set n l x) x f) (set (set p x l) f x) (set o x k) (length o + k) k (at c k + 1) now
+    → IsLinkedChain (set (set n l x) x f) (set (set p x l) f x) (set o x k) (length o + k) k (at c k + 1) now
     → AreChains (set (set n l x) x f) (set (set p x l) f x) (set o x k) (set c k (at c k + 1)) (changed k now lists)
 linked_are n p o c lists k x l f now s h below free l_there f_there put =
     let b = length o in
@@ -287,7 +287,7 @@ linked_are n p o c lists k x l f now s h below free l_there f_there put =
     let long = chains-long n p o c lists s k h in
     let lu : length u ≡ b = length-set o x k in
     let ld : length d ≡ length c = length-set c k (at c k + 1) in
-    let other : (j : ℕ) → j < length c → (k == j) ≡ false → Stands m q u (b + j) j (at c j) (lists j) = λ j i g.
+    let other : (j : ℕ) → j < length c → (k == j) ≡ false → IsLinkedChain m q u (b + j) j (at c j) (lists j) = λ j i g.
     (let long2 = chains-long n p o c lists s j i in
     let r = s.stands j i in
     let off = stands-apart n p o b k (at c k) xs j (at c j) (lists j) here r refl long long2 g in
@@ -304,10 +304,10 @@ linked_are n p o c lists k x l f now s h below free l_there f_there put =
       owned = λ y g. by_cases (x == y)
           (λ t. (let w = equals x y t in let r = set-here o x k no_chain below in grind (arith, nat_tests)))
           (λ f2. (let r = set-else o x k no_chain y f2 in let w2 = s.owned y in grind (arith, nat_tests)));
-      stands = λ j i. (let i2 : j < length c = omega arith in subst (λ z. Stands m q u (z + j) j (at d j) (changed k now lists j)) (sym lu)
+      stands = λ j i. (let i2 : j < length c = omega arith in subst (λ z. IsLinkedChain m q u (z + j) j (at d j) (changed k now lists j)) (sym lu)
           (by_cases (k == j)
-          (λ t. (let g = equals k j t in subst (λ ys. Stands m q u (b + j) j (at d j) ys) (sym (changed-here k now lists j t)) (subst (λ i3. Stands m q u (b + i3) i3 (at d i3) now) g (subst (λ z. Stands m q u e k z now) (sym (set-here c k (at c k + 1) 0 h)) put))))
-          (λ g. subst (λ ys. Stands m q u (b + j) j (at d j) ys) (sym (changed-else k now lists j g)) (subst (λ z. Stands m q u (b + j) j z (lists j)) (sym (set-else c k (at c k + 1) 0 j g)) (other j i2 g)))));
+          (λ t. (let g = equals k j t in subst (λ ys. IsLinkedChain m q u (b + j) j (at d j) ys) (sym (changed-here k now lists j t)) (subst (λ i3. IsLinkedChain m q u (b + i3) i3 (at d i3) now) g (subst (λ z. IsLinkedChain m q u e k z now) (sym (set-here c k (at c k + 1) 0 h)) put))))
+          (λ g. subst (λ ys. IsLinkedChain m q u (b + j) j (at d j) ys) (sym (changed-else k now lists j g)) (subst (λ z. IsLinkedChain m q u (b + j) j z (lists j)) (sym (set-else c k (at c k + 1) 0 j g)) (other j i2 g)))));
     }
 
 pub put_are : (n p o c : List ℕ) (lists : ℕ → List ℕ) (k x : ℕ) → AreChains n p o c lists → k < length c → x < length o → (owner_of o x == no_chain) ≡ true
@@ -324,7 +324,7 @@ put_are n p o c lists k x s h below free =
     let put = stands_put n p o b k (at c k) x xs here refl (chains-long n p o c lists s k h) below (equals (owner_of o x) no_chain free) en ep in
     linked_are n p o c lists k x (at p e) e (xs ++ x ∷ []) s h below free
     (subst (λ i. 1 ≤ times i (e ∷ xs)) (sym last) (times-last e xs)) e_there
-    (subst (λ i. Stands (set (set n i x) x e) (set (set p x i) e x) (set o x k) e k (at c k + 1) (xs ++ x ∷ [])) (sym last) put)
+    (subst (λ i. IsLinkedChain (set (set n i x) x e) (set (set p x i) e x) (set o x k) e k (at c k + 1) (xs ++ x ∷ [])) (sym last) put)
 
 pub put_first_are : (n p o c : List ℕ) (lists : ℕ → List ℕ) (k x : ℕ) → AreChains n p o c lists → k < length c → x < length o → (owner_of o x == no_chain) ≡ true
     → AreChains (set (set n (length o + k) x) x (at n (length o + k))) (set (set p x (length o + k)) (at n (length o + k)) x) (set o x k) (set c k (at c k + 1)) (changed k (x ∷ lists k) lists)
@@ -342,7 +342,7 @@ put_first_are n p o c lists k x s h below free =
     let fp : first_or e xs < length p = (let y = place-fits n p o c lists s k h (first_or e xs) (times-first e xs) in let z = s.backs_fit in omega arith) in
     let put = stands_first n p o b k (at c k) x xs here refl (chains-long n p o c lists s k h) below (equals (owner_of o x) no_chain free) en ep xn fp in
     linked_are n p o c lists k x e (at n e) (x ∷ xs) s h below free e_there f_there
-    (subst (λ i. Stands (set (set n e x) x i) (set (set p x e) i x) (set o x k) e k (at c k + 1) (x ∷ xs)) (sym first) put)
+    (subst (λ i. IsLinkedChain (set (set n e x) x i) (set (set p x e) i x) (set o x k) e k (at c k + 1) (x ∷ xs)) (sym first) put)
 
 -- the chains behind the writes are these lists, and they stand
 pub record Gives (n p o c : List ℕ) (lists : ℕ → List ℕ) : Type 0 where

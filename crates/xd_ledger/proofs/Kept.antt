@@ -9,7 +9,7 @@ use Rattle.xd_ledger.specs.Chains.{Lists, chain_at, chains_of, changed, shifted,
 use Rattle.xd_ledger.specs.Numbers.{among, without, all_among, all_distinct, times}
 use Rattle.xd_ledger.specs.Posts.{seats, chains_in, chain_in, place_in, table_of, released, IsKept}
 use Rattle.xd_ledger.specs.Sound.{IsSound, seats_of}
-use Rattle.xd_ledger.specs.Table.{Table, held, retried_item, crash_item, in_rota, assigned, completed, given_back, died, left, shut_down}
+use Rattle.xd_ledger.specs.Table.{Table, held, retried_item, crash_item, in_rota, assigned, completed, given_back, died, left_rota, shut_down}
 use Rattle.xd_ledger.proofs.ChainMoves.{changed-here, changed-else}
 use Rattle.xd_ledger.proofs.ChainCalls.{shifted-to, shifted-from, shifted-else, poured-to, poured-else}
 use Rattle.xd_ledger.proofs.Links.{same, swapped}
@@ -86,7 +86,7 @@ complete_table w item l now ps reported reported2 who h e a =
 -- leave and die
 
 pub leave_table : (w : ℕ) (l : Lists) (ps : List Post) (reported who : List ℕ) → Has w l ps reported who
-    → table_of (chain_at l) (filter (λ q. not (q.worker == w)) ps) reported who ≡ left w (table_of (chain_at l) ps reported who)
+    → table_of (chain_at l) (filter (λ q. not (q.worker == w)) ps) reported who ≡ left_rota w (table_of (chain_at l) ps reported who)
 leave_table w l ps reported who h = table-eq _ _ _ _ _ _ who refl (seats-left w (chain_in w ps) (chain_at l) (chain_at l) ps h.marked (λ j d f. refl)) refl
 
 -- behind the worker's head, where it has one, and the pouring of the rest into the pool
@@ -152,12 +152,12 @@ leave_kept w l ps ps2 reported who room t e k h a f =
     let h2 = ap (in_rota w) e ∙ h in
     let a2 : held w (table_of (chain_at l) ps reported who) ≡ [] = ap (held w) e ∙ a in
     subst (λ qs. IsKept l qs reported who room) (sym f)
-    (kept_left l l w ps reported reported who (left w (table_of (chain_at l) ps reported who)) room room k (leave_table w l ps reported who (has w l ps reported who room k h2)) (left_sound w (table_of (chain_at l) ps reported who) room room k.sound refl a2) refl)
+    (kept_left l l w ps reported reported who (left_rota w (table_of (chain_at l) ps reported who)) room room k (leave_table w l ps reported who (has w l ps reported who room k h2)) (left_sound w (table_of (chain_at l) ps reported who) room room k.sound refl a2) refl)
 
-pub leave_is : (w : ℕ) (l : Lists) (ps ps2 : List Post) (reported who : List ℕ) (room : ℕ) (t : Table) → table_of (chain_at l) ps reported who ≡ t → IsKept l ps reported who room → in_rota w t ≡ true → ps2 ≡ filter (λ q. not (q.worker == w)) ps → table_of (chain_at l) ps2 reported who ≡ left w t
+pub leave_is : (w : ℕ) (l : Lists) (ps ps2 : List Post) (reported who : List ℕ) (room : ℕ) (t : Table) → table_of (chain_at l) ps reported who ≡ t → IsKept l ps reported who room → in_rota w t ≡ true → ps2 ≡ filter (λ q. not (q.worker == w)) ps → table_of (chain_at l) ps2 reported who ≡ left_rota w t
 leave_is w l ps ps2 reported who room t e k h f =
     let h2 = ap (in_rota w) e ∙ h in
-    ap (λ qs. table_of (chain_at l) qs reported who) f ∙ leave_table w l ps reported who (has w l ps reported who room k h2) ∙ ap (left w) e
+    ap (λ qs. table_of (chain_at l) qs reported who) f ∙ leave_table w l ps reported who (has w l ps reported who room k h2) ∙ ap (left_rota w) e
 
 -- a death: the head leaves the worker's list, what is left is poured, and the post goes
 pub record Dies (w : ℕ) (retry : Bool) (l mid now : Lists) (ps ps2 : List Post) (reported reported2 : List ℕ) : Type 0 where

@@ -6,7 +6,7 @@ use Rattle.std.proofs.lemmas.Bool.Decides.{nat_tests}
 use Rattle.std.proofs.lemmas.List.{get_or_append_left, get_or_push, get_or_past, get_or-replicate, length-replicate}
 use Rattle.std.proofs.lemmas.List.FromFn.{length-range_with_len, get_or-range_with_len}
 use Rattle.xd_ledger.specs.Numbers.{times}
-use Rattle.xd_ledger.specs.Chains.{at, owner_of, no_chain, chain, Nexts, Backs, Stands, AreChains, changed}
+use Rattle.xd_ledger.specs.Chains.{at, owner_of, no_chain, chain, Nexts, Backs, IsLinkedChain, AreChains, changed}
 use Rattle.xd_ledger.proofs.Counts.{times-range}
 use Rattle.xd_ledger.proofs.Links.{same}
 use Rattle.xd_ledger.proofs.ChainMoves.{by_cases, equals, changed-here, changed-else, Gives, chains-walk, chains-same, chain-past, chains-long, stands-below, stands-walk, gives}
@@ -47,7 +47,7 @@ add_are n p o c end s room e =
           let r = s.stands k i in
           let below : (y : ℕ) → 1 ≤ times y ((length o + k) ∷ chain n o c k) → y < end = λ y g. (let v = stands-below n p o (length o) k (at c k) (chain n o c k) r refl (chains-long n p o c (chain n o c) s k i) y in grind (arith, nat_tests)) in
           let same_count : at c k ≡ at d k = sym (get_or_append_left c (0 ∷ []) 0 k i) in
-          subst (λ z. Stands m q o (length o + k) k z (chain n o c k)) same_count
+          subst (λ z. IsLinkedChain m q o (length o + k) k z (chain n o c k)) same_count
           (record {
             nexts = nexts_same n m (length o + k) (chain n o c k) (length o + k) (λ y g. (let b : y < length n = (let v = below y g in omega arith) in get_or_append_left n (end ∷ []) 0 y b)) r.nexts;
             backs = backs_same p q (length o + k) (chain n o c k) (length o + k) (λ y g. (let b : y < length p = (let v = below y g in omega arith) in get_or_append_left p (end ∷ []) 0 y b)) r.backs;
@@ -61,7 +61,7 @@ add_are n p o c end s room e =
           let np : length n ≡ length o + k = omega arith in
           let bp : length p ≡ length o + k = omega arith in
           let cp : length c ≡ k = omega arith in
-          subst (λ xs. Stands m q o (length o + k) k (at d k) xs) (sym none)
+          subst (λ xs. IsLinkedChain m q o (length o + k) k (at d k) xs) (sym none)
           (record {
             nexts = get_or_push n end 0 (length o + k) np ∙ sym pl;
             backs = get_or_push p end 0 (length o + k) bp ∙ sym pl;
@@ -97,7 +97,7 @@ owner-new len x = by_cases (nat_lt x len)
     (λ t. (let i : x < len = grind (arith, nat_tests) in get_or-replicate len x 0 no_chain i ∙ sym (ap (λ b. if b then 0 else no_chain) t)))
     (λ f. (let l : length {A = ℕ} (replicate len 0) ≡ len = length-replicate len 0 in let i : length {A = ℕ} (replicate len 0) ≤ x = grind (arith, nat_tests) in get_or_past (replicate len 0) x no_chain i ∙ sym (ap (λ b. if b then 0 else no_chain) f)))
 
-first_stands : (len : ℕ) → Stands (range_with_len 1 len ++ 0 ∷ []) (len ∷ range_with_len 0 len) (replicate len 0) len 0 len (range_with_len 0 len)
+first_stands : (len : ℕ) → IsLinkedChain (range_with_len 1 len ++ 0 ∷ []) (len ∷ range_with_len 0 len) (replicate len 0) len 0 len (range_with_len 0 len)
 first_stands len =
     let ln = length-range_with_len 1 len in
     record {
@@ -125,7 +125,7 @@ new_is len h =
     let c : List ℕ = len ∷ [] in
     let lo : length o ≡ len = length-replicate len 0 in
     let end : len ≡ length o + 0 = omega arith in
-    let here : Stands n p o (length o + 0) 0 len (range_with_len 0 len) = subst (λ e. Stands n p o e 0 len (range_with_len 0 len)) end (first_stands len) in
+    let here : IsLinkedChain n p o (length o + 0) 0 len (range_with_len 0 len) = subst (λ e. IsLinkedChain n p o e 0 len (range_with_len 0 len)) end (first_stands len) in
     let walks : chain n o c 0 ≡ range_with_len 0 len = stands-walk n p o (length o + 0) 0 len (range_with_len 0 len) here in
     record {
       stand = record {
@@ -134,7 +134,7 @@ new_is len h =
         few = omega arith;
         few_chains = omega arith;
         owned = λ x f. (let b = owner-new len x in grind (arith, nat_tests));
-        stands = λ k i. (let z : 0 ≡ k = omega arith in subst (λ j. Stands n p o (length o + j) j (at c j) (chain n o c j)) z (subst (λ xs. Stands n p o (length o + 0) 0 len xs) (sym walks) here));
+        stands = λ k i. (let z : 0 ≡ k = omega arith in subst (λ j. IsLinkedChain n p o (length o + j) j (at c j) (chain n o c j)) z (subst (λ xs. IsLinkedChain n p o (length o + 0) 0 len xs) (sym walks) here));
       };
       first = walks;
       items = lo;

@@ -40,8 +40,8 @@ abbrev pub is_free : ℕ → Lists → Bool
 is_free x l = owner_of l.owner x == no_chain
 
 -- how many numbers there are
-abbrev pub items_of : Lists → ℕ
-items_of l = length l.owner
+abbrev pub number_count : Lists → ℕ
+number_count l = length l.owner
 
 -- how many chains there are
 abbrev pub chains_of : Lists → ℕ
@@ -62,7 +62,7 @@ Backs previous u [] end = at previous end ≡ u
 Backs previous u (x ∷ xs) end = (at previous x ≡ u) × Backs previous x xs end
 
 -- the numbers of chain k are linked through its end, and owned by it
-pub record Stands (next previous owner : List ℕ) (end k count : ℕ) (xs : List ℕ) : Type 0 where
+pub record IsLinkedChain (next previous owner : List ℕ) (end k count : ℕ) (xs : List ℕ) : Type 0 where
   pub nexts : Nexts next end xs end
   pub backs : Backs previous end xs end
   pub owns : (x : ℕ) → times x xs ≡ (if owner_of owner x == k then 1 else 0)
@@ -75,7 +75,7 @@ pub record AreChains (next previous owner counts : List ℕ) (lists : ℕ → Li
   pub few : length owner ≤ 1600000
   pub few_chains : length counts ≤ 4000000000
   pub owned : (x : ℕ) → (owner_of owner x == no_chain) ≡ false → owner_of owner x < length counts
-  pub stands : (k : ℕ) → k < length counts → Stands next previous owner (length owner + k) k (at counts k) (lists k)
+  pub stands : (k : ℕ) → k < length counts → IsLinkedChain next previous owner (length owner + k) k (at counts k) (lists k)
 
 -- the numbers go from one list to the end of another
 abbrev pub shifted : ℕ → ℕ → List ℕ → (ℕ → List ℕ) → ℕ → List ℕ

@@ -2,7 +2,7 @@
 -- `remove_node`.
 use Rattle.std.specs.Prelude.{ℕ, ◌+◌, ◌==◌, Bool, List, ◌++◌, length, take, drop, Option, Some, None, if◌then◌else◌}
 use Rattle.xd_ledger.specs.Table.{held, retried_item, crash_item, died}
-use Rattle.xd_ledger.specs.Plan.{Plan, Asked, is_scope}
+use Rattle.xd_ledger.specs.Plan.{Plan, UnansweredSteal, is_scope}
 use Rattle.xd_ledger.specs.Units.{units_left, unless_empty}
 use Rattle.xd_ledger.specs.Books.{Books, on_table, marked}
 use Rattle.xd_ledger.specs.Workers.{made_gone}
@@ -35,7 +35,7 @@ abbrev pub down_books : ℕ → Bool → Books → Books
 down_books worker retry b = limited worker (gone worker (buried worker retry b))
 
 -- the open steal, unless it is of the worker
-abbrev pub steal_without : ℕ → Option Asked → Option Asked
+abbrev pub steal_without : ℕ → Option UnansweredSteal → Option UnansweredSteal
 steal_without worker None = None
 steal_without worker (Some a) = if a.worker == worker then None else Some a
 

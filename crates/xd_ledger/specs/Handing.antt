@@ -2,7 +2,7 @@
 -- `remove_pending_tests_from_node`.
 use Rattle.std.specs.Prelude.{ℕ, List, None, if◌then◌else◌}
 use Rattle.xd_ledger.specs.Table.{assigned, given_back}
-use Rattle.xd_ledger.specs.Plan.{Plan, handed, is_scope, items_named, slot_items}
+use Rattle.xd_ledger.specs.Plan.{Plan, with_handed, is_scope, items_named, slot_items}
 use Rattle.xd_ledger.specs.Units.{without_unit}
 use Rattle.xd_ledger.specs.Books.{on_table}
 use Rattle.xd_ledger.specs.Workers.{slot_of}
@@ -12,7 +12,7 @@ use Rattle.xd_ledger.specs.Sharing.{State, in_books}
 abbrev pub run_plan : ℕ → List ℕ → Plan → Plan
 run_plan worker indices p = record p {
   queue = if is_scope p.mode then without_unit indices p.queue else p.queue;
-  given = if is_scope p.mode then handed worker indices p else p.given;
+  given = if is_scope p.mode then with_handed worker indices p else p.given;
 }
 
 -- the state after a Run

@@ -5,8 +5,8 @@ use Rattle.xd_ledger.specs.Numbers.{all_among, all_distinct}
 use Rattle.xd_ledger.specs.Table.{Table, workers_of}
 use Rattle.xd_ledger.specs.Plan.{Plan, is_each, is_scope}
 use Rattle.xd_ledger.specs.Orderly.{not_empty}
-use Rattle.xd_ledger.specs.Modes.{Call}
-use Rattle.xd_ledger.specs.Modes.Call.{Share, Joined, TestDone, TestsBack, Died}
+use Rattle.xd_ledger.specs.Modes.{ModeCall}
+use Rattle.xd_ledger.specs.Modes.ModeCall.{Share, Joined, TestDone, TestsBack, Died}
 
 -- the tests of these units
 abbrev pub tests_of : List (List ℕ) → List ℕ
@@ -27,20 +27,20 @@ pub record CanShare (slots : List ℕ) (p : Plan) (t : Table) : Type 0 where
   pub known : is_each p.mode ≡ true → list_all (λ s. nat_lt s (length p.sizes)) slots ≡ true
 
 -- what a call finds of its own: the share finds tests that can be shared, and any other call nothing
-abbrev pub CallSuits : Call → Plan → Table → Type 0
+abbrev pub CallSuits : ModeCall → Plan → Table → Type 0
 CallSuits (Share slots) p t = CanShare slots p t
 CallSuits _ p t = Unit {0}
 
 -- no worker has two seats, no item stands twice in the pool, and where units of tests are handed out those that wait
 -- are in the pool
-pub record Finds (c : Call) (p : Plan) (t : Table) : Type 0 where
+pub record Finds (c : ModeCall) (p : Plan) (t : Table) : Type 0 where
   pub seats : all_distinct (workers_of t) ≡ true
   pub pool : all_distinct t.pool ≡ true
   pub queue : is_scope p.mode ≡ true → AreInPool p.queue t.pool
   pub call : CallSuits c p t
 
 -- the mode stands for some plan that fits at this call, once what brings the call has changed it so
-pub record Suits (c : Call) (change : Plan → Plan) (t : Table) (stands : Plan → Type 0) : Type 0 where
+pub record Suits (c : ModeCall) (change : Plan → Plan) (t : Table) (stands : Plan → Type 0) : Type 0 where
   pub plan : Plan
   pub stands_for : stands plan
   pub finds : Finds c (change plan) t

@@ -2,7 +2,7 @@
 ghost use Rattle.std.specs.Prelude.{◌≡◌, ℕ, take, drop, slice_index, ◌+◌, ◌-◌, replicate, is_ok, IfOk, OnOk, ◌<◌, ◌≤◌, ◌==◌, [], ◌∷◌, ◌++◌, length, nat_lt, true, false, Some, None, if◌then◌else◌};
 ghost use Rattle.std.specs.List.{range_with_len};
 ghost use Rattle.xd_ledger.specs.Numbers.{among, all_among, all_distinct, without, first_of};
-ghost use Rattle.xd_ledger.specs.Chains.{chain_at, is_free, items_of, chains_of, changed, shifted, poured, ahead, behind, final_of};
+ghost use Rattle.xd_ledger.specs.Chains.{chain_at, is_free, number_count, chains_of, changed, shifted, poured, ahead, behind, final_of};
 
 use std::alloc::{AllocError, Global};
 use std::marker::Model;
@@ -61,7 +61,7 @@ impl Chains {
     fn one(alloc: Global, items: u32) -> Result<Chains, AllocError>
         requires { items ≤ 1600000 }
         ensures first { IfOk result (λ l. chain_at l 0 ≡ range_with_len 0 items) }
-        ensures items { IfOk result (λ l. items_of l ≡ items) }
+        ensures items { IfOk result (λ l. number_count l ≡ items) }
         ensures chains { IfOk result (λ l. chains_of l ≡ 1) }
         ensures others { IfOk result (λ l. (j : ℕ) → (0 == j) ≡ false → chain_at l j ≡ []) }
     {
@@ -99,7 +99,7 @@ impl Chains {
     pub(crate) fn add(&mut self) -> Result<(), AllocError>
         requires { chains_of self.old < 4000000000 }
         ensures lists { (j : ℕ) → chain_at self.new j ≡ chain_at self.old j }
-        ensures items { items_of self.new ≡ items_of self.old }
+        ensures items { number_count self.new ≡ number_count self.old }
         ensures chains { chains_of self.new ≡ (if is_ok result then chains_of self.old + 1 else chains_of self.old) }
     {
         self.next.reserve(1)?;
@@ -118,9 +118,9 @@ impl Chains {
         requires within { among item (chain_at self.old chain) ≡ true }
         ensures lists { (j : ℕ) → chain_at self.new j ≡ changed chain (without (item ∷ []) (chain_at self.old chain)) (chain_at self.old) j }
         ensures free { is_free item self.new ≡ true }
-        ensures items { items_of self.new ≡ items_of self.old }
+        ensures items { number_count self.new ≡ number_count self.old }
         ensures chains { chains_of self.new ≡ chains_of self.old }
-        ensures below { item < items_of self.old }
+        ensures below { item < number_count self.old }
     {
         let next = self.next[item as usize];
         let previous = self.previous[item as usize];
@@ -133,10 +133,10 @@ impl Chains {
     // The number, which stands in no list, goes to the end of one.
     pub(crate) fn put(&mut self, chain: u32, item: u32)
         requires known { chain < chains_of self.old }
-        requires below { item < items_of self.old }
+        requires below { item < number_count self.old }
         requires free { is_free item self.old ≡ true }
         ensures lists { (j : ℕ) → chain_at self.new j ≡ changed chain (chain_at self.old chain ++ item ∷ []) (chain_at self.old) j }
-        ensures items { items_of self.new ≡ items_of self.old }
+        ensures items { number_count self.new ≡ number_count self.old }
         ensures chains { chains_of self.new ≡ chains_of self.old }
     {
         let end = self.owner.len() + chain as usize;
@@ -152,10 +152,10 @@ impl Chains {
     // The number, which stands in no list, goes to the front of one.
     pub(crate) fn put_first(&mut self, chain: u32, item: u32)
         requires known { chain < chains_of self.old }
-        requires below { item < items_of self.old }
+        requires below { item < number_count self.old }
         requires free { is_free item self.old ≡ true }
         ensures lists { (j : ℕ) → chain_at self.new j ≡ changed chain (item ∷ chain_at self.old chain) (chain_at self.old) j }
-        ensures items { items_of self.new ≡ items_of self.old }
+        ensures items { number_count self.new ≡ number_count self.old }
         ensures chains { chains_of self.new ≡ chains_of self.old }
     {
         let end = self.owner.len() + chain as usize;
@@ -174,7 +174,7 @@ impl Chains {
         requires within { among item (chain_at self.old from) ≡ true }
         requires apart { (from == to) ≡ false }
         ensures lists { (j : ℕ) → chain_at self.new j ≡ shifted from to (item ∷ []) (chain_at self.old) j }
-        ensures items { items_of self.new ≡ items_of self.old }
+        ensures items { number_count self.new ≡ number_count self.old }
         ensures chains { chains_of self.new ≡ chains_of self.old }
     {
         self.take(from, item);
@@ -188,7 +188,7 @@ impl Chains {
         requires distinct { all_distinct items.now ≡ true }
         requires apart { (from == to) ≡ false }
         ensures lists { (j : ℕ) → chain_at self.new j ≡ shifted from to items.now (chain_at self.old) j }
-        ensures items { items_of self.new ≡ items_of self.old }
+        ensures items { number_count self.new ≡ number_count self.old }
         ensures chains { chains_of self.new ≡ chains_of self.old }
     {
         for i in 0..items.len() {
@@ -223,7 +223,7 @@ impl Chains {
 
     // The number at this place, where it is no list's end.
     fn item_at(&self, place: u32) -> Option<u32>
-        ensures { result ≡ (if nat_lt place (items_of self.now) then Some place else None) }
+        ensures { result ≡ (if nat_lt place (number_count self.now) then Some place else None) }
     {
         if (place as usize) < self.owner.len() {
             Some(place)
@@ -330,7 +330,7 @@ impl Chains {
         requires some { 0 < length (chain_at self.old from) }
         requires apart { (from == to) ≡ false }
         ensures lists { (j : ℕ) → chain_at self.new j ≡ poured 1 from to (chain_at self.old) j }
-        ensures items { items_of self.new ≡ items_of self.old }
+        ensures items { number_count self.new ≡ number_count self.old }
         ensures chains { chains_of self.new ≡ chains_of self.old }
     {
         let item = self.next[self.owner.len() + from as usize];
@@ -342,7 +342,7 @@ impl Chains {
         requires known { (from < chains_of self.old) × (to < chains_of self.old) }
         requires apart { (from == to) ≡ false }
         ensures lists { (j : ℕ) → chain_at self.new j ≡ poured (length (chain_at self.old from)) from to (chain_at self.old) j }
-        ensures items { items_of self.new ≡ items_of self.old }
+        ensures items { number_count self.new ≡ number_count self.old }
         ensures chains { chains_of self.new ≡ chains_of self.old }
     {
         for i in 0..self.len(from) {

@@ -4,7 +4,7 @@ use Rattle.std.specs.Prelude.{option_map, IfSome, nat_lt}
 use Rattle.std.proofs.lemmas.Bool.Decides.{nat_tests}
 use Rattle.std.proofs.lemmas.List.{append-nil, drop-drop}
 use Rattle.std.proofs.Math.Seq.{take-add}
-use Rattle.xd_link.specs.Source.{Gave, Supply, is_end, with_given}
+use Rattle.xd_link.specs.Source.{Gave, Supply, is_end_of_input, with_given}
 use Rattle.xd_link.specs.Spring.{ReadToEnd, spring}
 
 pub gave_none : (old : Option Supply) → Gave [] old old
@@ -32,9 +32,9 @@ none_left (Some s) new g n = subst (λ (o : Option Supply). IfSome o (λ t. t.le
 pub gave_end : (n : ℕ) (a into : List ℕ) (old mid new : Option Supply) → n ≡ 0 → Gave a old mid → Gave (take n into) mid new → Gave a old new
 gave_end n a into old mid new e x y = subst (λ (l : List ℕ). Gave l old new) (ap (λ (k : ℕ). a ++ take k into) e ∙ append-nil a) (gave_more a (take n into) old mid new x y)
 
-pub met_end : (n size : ℕ) (into : List ℕ) (old new : Option Supply) (ended0 ended1 : Bool) (faults : ℕ) → n ≡ 0 → 0 < size → Gave (take n into) old new → (is_end n size ≡ true → IfSome old (λ s. s.left ≡ [])) → ended1 ≡ (ended0 || is_end n size) → ReadToEnd (spring new ended1 faults)
+pub met_end : (n size : ℕ) (into : List ℕ) (old new : Option Supply) (ended0 ended1 : Bool) (faults : ℕ) → n ≡ 0 → 0 < size → Gave (take n into) old new → (is_end_of_input n size ≡ true → IfSome old (λ s. s.left ≡ [])) → ended1 ≡ (ended0 || is_end_of_input n size) → ReadToEnd (spring new ended1 faults)
 met_end n size into old new ended0 ended1 faults z some gave left ends =
-    let end : is_end n size ≡ true = ap (λ (k : ℕ). is_end k size) z ∙ lower size some in
+    let end : is_end_of_input n size ≡ true = ap (λ (k : ℕ). is_end_of_input k size) z ∙ lower size some in
     record {
       ended = ends ∙ (ap (λ (b : Bool). ended0 || b) end ∙ or_true ended0);
       none_left = none_left old new (subst (λ (k : ℕ). Gave (take k into) old new) z gave) (left end);

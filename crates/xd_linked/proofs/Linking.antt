@@ -20,7 +20,7 @@ use Rattle.xd_session.specs.Ends.{is_out_fault}
 use Rattle.xd_drive.specs.Driven.{Broken, IsJournalOf, Whole}
 use Rattle.xd_drive.specs.Listed.{is_among, starts_of}
 use Rattle.xd_drive.specs.Marks.{no_marks}
-use Rattle.xd_group.specs.Children.{Asked, Told, asked_of, told_of}
+use Rattle.xd_group.specs.Children.{AskedOfLink, ToldByStarter, link_asked, told_of}
 use Rattle.xd_group.specs.Fates.{has_link, is_linked, is_refused, is_unlinked, workers_with}
 use Rattle.xd_group.specs.Few.{RoseFor, count_with}
 use Rattle.xd_group.specs.InStep.{all_started}
@@ -48,18 +48,18 @@ broken_from j first calls was given s0 s1 c g w =
     (subst (λ (n : List News). (count : ℕ) × (taken : List News) × Broken count taken j (scene_told first n s0) (scene_told calls given s1)) g w)
 
 -- what a starter tells at last, by what it told at first
-pub begun_from : (first : Option Begun) (now : Option Told) (more : List StartRun) (asked : List Asked) → now ≡ option_map (λ b. record { starts = b.starts ++ more; links = map asked_of b.links ++ asked }) first
+pub begun_from : (first : Option Begun) (now : Option ToldByStarter) (more : List StartRun) (asked : List AskedOfLink) → now ≡ option_map (λ b. record { starts = b.starts ++ more; links = map link_asked b.links ++ asked }) first
     → now ≡ option_map (λ b. record { starts = b.starts ++ more; links = b.links ++ asked }) (option_map told_of first)
 begun_from None now more asked e = e
 begun_from (Some b) now more asked e = e
 
 -- a run by what the hub took and gave and what its links left
 pub runs_linked : {A : Type 0} (seen : A → EndedLink) (ends : List A) (setup : Setup) (now : List ℕ) (mode : ModeKind) (j : Journal) (calls : List Entry) (given : List News) (workers : List ℕ) (fates : List Fate) (places : List Place)
-    (first : Option Begun) (last : Option Told) (starter_old starter_new crew_old crew_new out_old out_new : ℕ) (s0 s1 : Option Sunk)
+    (first : Option Begun) (last : Option ToldByStarter) (starter_old starter_new crew_old crew_new out_old out_new : ℕ) (s0 s1 : Option Sunk)
     → now ≡ setup.suite → mode ≡ setup.settings.mode → workers ≡ workers_started calls → places ≡ setup.places → DrivesTo j calls given s0 s1
     → map (λ a. (seen a).worker) ends ≡ workers_with has_link workers fates
     → All (λ a. ∥ RanSo now mode given calls (workers_with is_refused workers fates) (seen a).worker (seen a).link ∥₁) ends
-    → last ≡ option_map (λ b. record { starts = b.starts ++ all_started places (starts_of calls) fates; links = map asked_of b.links ++ map (λ a. end_told (seen a).killed) ends }) first
+    → last ≡ option_map (λ b. record { starts = b.starts ++ all_started places (starts_of calls) fates; links = map link_asked b.links ++ map (λ a. end_told (seen a).killed) ends }) first
     → All (λ a. ∥ EndKilledSo calls given (workers_with is_refused workers fates) (seen a).worker (seen a).killed (seen a).link.writes ∥₁) ends
     → ((w : ℕ) → is_among w (workers_with is_linked workers fates) ≡ false → ∥ SaidUnlinked given w ∥₁)
     → RoseFor (count_with is_refused fates) crew_old crew_new → RoseBy (count_with is_unlinked fates) starter_old starter_new
@@ -75,7 +75,7 @@ runs_linked {A} seen ends setup now mode j calls given workers fates places firs
       (subst (λ (k : ModeKind). All (λ a. ∥ RanSo setup.suite k given calls (workers_with is_refused workers fates) (seen a).worker (seen a).link ∥₁) ends) in_mode
       (subst (λ (l : List ℕ). All (λ a. ∥ RanSo l mode given calls (workers_with is_refused workers fates) (seen a).worker (seen a).link ∥₁) ends) same each)));
   begun = subst (λ (ps : List Place). last ≡ option_map (λ b. record { starts = b.starts ++ all_started ps (starts_of calls) fates; links = b.links ++ map (λ l. end_told l.killed) (map seen ends) }) (option_map told_of first)) at
-      (subst (λ (asked : List Asked). last ≡ option_map (λ b. record { starts = b.starts ++ all_started places (starts_of calls) fates; links = b.links ++ asked }) (option_map told_of first)) (sym (map-map (λ l. end_told l.killed) seen ends))
+      (subst (λ (asked : List AskedOfLink). last ≡ option_map (λ b. record { starts = b.starts ++ all_started places (starts_of calls) fates; links = b.links ++ asked }) (option_map told_of first)) (sym (map-map (λ l. end_told l.killed) seen ends))
       (begun_from first last (all_started places (starts_of calls) fates) (map (λ a. end_told (seen a).killed) ends) begun));
   killed = All-map (λ l. ∥ EndKilledSo calls given (workers_with is_refused (workers_started calls) fates) l.worker l.killed l.link.writes ∥₁) seen ends
       (subst (λ (ws : List ℕ). All (λ a. ∥ EndKilledSo calls given (workers_with is_refused ws fates) (seen a).worker (seen a).killed (seen a).link.writes ∥₁) ends) listed killed);

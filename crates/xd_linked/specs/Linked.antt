@@ -14,7 +14,7 @@ use Rattle.xd_session.specs.Ends.{is_out_fault}
 use Rattle.xd_drive.specs.Driven.{Broken, IsJournalOf, Whole}
 use Rattle.xd_drive.specs.Going.{Scene}
 use Rattle.xd_drive.specs.Listed.{is_among, others_of, starts_of}
-use Rattle.xd_group.specs.Children.{Told}
+use Rattle.xd_group.specs.Children.{ToldByStarter}
 use Rattle.xd_group.specs.Fates.{has_link, is_linked, is_refused, is_unlinked, workers_with}
 use Rattle.xd_group.specs.Few.{RoseFor, count_with}
 use Rattle.xd_group.specs.InStep.{all_started}
@@ -53,7 +53,7 @@ ended_link worker killed s sunk writes = record { worker = worker; killed = kill
 
 -- what is seen of the outside of a run: what the starter tells, the counts of faults of starter and crew, and the output
 pub record Seen : Type 0 where
-  pub begun : Option Told
+  pub begun : Option ToldByStarter
   pub starter_faults : ℕ
   pub crew_faults : ℕ
   pub sunk : Option Sunk
@@ -61,7 +61,7 @@ pub record Seen : Type 0 where
 
 -- The starter told one start at the place of its slot for each start of a worker, which failed where the worker has no link,
 -- and of each link whether its kill was asked for, and one reaping.
-abbrev pub AddsBegun : List Place → List Entry → List Fate → List EndedLink → Option Told → Option Told → Type 0
+abbrev pub AddsBegun : List Place → List Entry → List Fate → List EndedLink → Option ToldByStarter → Option ToldByStarter → Type 0
 AddsBegun places calls fates links old new = new ≡ option_map (λ b. record { starts = b.starts ++ all_started places (starts_of calls) fates; links = b.links ++ map (λ l. end_told l.killed) links }) old
 
 -- A run with workers: what the hub took and gave made the journal and its report. Each start of a worker has a fate:

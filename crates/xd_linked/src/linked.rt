@@ -11,7 +11,7 @@ ghost use Rattle.xd_note.specs.Noted.{noted};
 ghost use Rattle.xd_session.specs.Stands.{CanBegin, StandsFor};
 ghost use Rattle.xd_ledger.specs.State.{no_one};
 ghost use Rattle.std.specs.List.{list_all};
-ghost use Rattle.xd_group.specs.Children.{is_over, told_of};
+ghost use Rattle.xd_group.specs.Children.{is_killed_and_reaped, told_of};
 ghost use Rattle.xd_linked.specs.Linked.{LinkedRun, RunsLinked, Setup, ended_link};
 
 use std::alloc::Global;
@@ -107,7 +107,7 @@ fn end_workers<R: Wait, St: Starter, C: Crew<Reader<St::Src>>>(
     ended: &Result<(Journal, Vec<LinkEnd<St::Src, St::Snk>>), OutOfMemory>,
 )
     ensures same { OnOk ended.now (hub.new ≡ hub.old) }
-    ensures over { OnErr ended.now (list_all is_over hub.new.children.children.items ≡ true) }
+    ensures over { OnErr ended.now (list_all is_killed_and_reaped hub.new.children.children.items ≡ true) }
 {
     if ended.is_err() {
         hub.abandon(rt);

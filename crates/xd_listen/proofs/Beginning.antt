@@ -17,11 +17,11 @@ use Rattle.xd_worker.specs.Stands.{StandsFor}
 use Rattle.xd_listen.specs.declared.server.Door.TheVariants as door
 use Rattle.xd_listen.specs.declared.stop.Stop.{Stop}
 use Rattle.xd_listen.specs.declared.stop.Stop.TheVariants as stop
-use Rattle.xd_listen.specs.Ends.{Closes, Ends, IsCause, Programs, Scene, Served, voice_of}
-use Rattle.xd_listen.specs.Halts.{is_whole, status_of}
+use Rattle.xd_listen.specs.Ends.{Closes, Ends, IsCause, RunsPrograms, Scene, Served, voice_of}
+use Rattle.xd_listen.specs.Halts.{is_sink_whole, status_of}
 use Rattle.xd_listen.specs.Programs.{AreLeft}
 use Rattle.xd_listen.specs.Seen.{Seen}
-use Rattle.xd_listen.specs.Serves.{Serves, Setting, beside, nothing, setting, two}
+use Rattle.xd_listen.specs.Serves.{ServesSoFar, Setting, beside, nothing, setting, two}
 use Rattle.xd_listen.specs.Speaking.{greeting}
 use Rattle.xd_listen.specs.Spoke.{Speaks, Spoke, Voice, voice}
 use Rattle.xd_listen.specs.Timing.{Ticking}
@@ -68,7 +68,7 @@ module _ (held : Option Held) (sunk0 sunk : Option Sunk) (faults0 faults files :
   abbrev pub at_first : List (Option (Ring × List LinkNews)) → List (List (List ℕ)) → Seen
   at_first mails orders = record { core = core; broken = broken; sunk = sunk; sink_faults = faults; mails = mails; orders = orders; ring = ring; started = None; door = door.Open; link_stop = None; short = false }
 
-  first_serves : (mails : List (Option (Ring × List LinkNews))) → broken ≡ false → StandsFor core [] → Spoke held [] [] (not broken) (voice sunk0 faults0 files) (voice sunk faults files) → mails ≡ two place [] [] → Serves place (beside files clock) nothing (at_first mails [])
+  first_serves : (mails : List (Option (Ring × List LinkNews))) → broken ≡ false → StandsFor core [] → Spoke held [] [] (not broken) (voice sunk0 faults0 files) (voice sunk faults files) → mails ≡ two place [] [] → ServesSoFar place (beside files clock) nothing (at_first mails [])
   first_serves mails whole stands spoke are = record {
     inputs = [];
     history = [];
@@ -96,8 +96,8 @@ module _ (held : Option Held) (sunk0 sunk : Option Sunk) (faults0 faults files :
   }
 
   pub begun : (mails : List (Option (Ring × List LinkNews))) (orders : List (List (List ℕ))) → broken ≡ false → StandsFor core [] → Spoke held [] [] (not broken) (voice sunk0 faults0 files) (voice sunk faults files) → mails ≡ two place [] [] → orders ≡ []
-      → Serves place (beside files clock) nothing (at_first mails orders)
-  begun mails orders whole stands spoke are none = subst (λ (l : List (List (List ℕ))). Serves place (beside files clock) nothing (at_first mails l)) (sym none) (first_serves mails whole stands spoke are)
+      → ServesSoFar place (beside files clock) nothing (at_first mails orders)
+  begun mails orders whole stands spoke are none = subst (λ (l : List (List (List ℕ))). ServesSoFar place (beside files clock) nothing (at_first mails l)) (sym none) (first_serves mails whole stands spoke are)
 
 -- a sink was closed, or could not be
 pub closes_by : {E : Type 0} (r : Result Unit E) (closed : Bool) (sunk new : Option Sunk) (faults now : ℕ) → closed ≡ is_ok r → OnOk r (new ≡ option_map with_close sunk) → OnErr r (new ≡ sunk) → Counted (is_ok r) faults now → Closes closed sunk new faults now
@@ -120,7 +120,7 @@ closes_by (Err e) closed sunk new faults now is ok err count = record {
 module _ (held : Option Held) (s : Spring) (old new : Scene) (broken closed : Bool) (sunk : Option Sunk) (faults : ℕ) (spoke : Spoke held [] [] (not broken) (voice_of old) (voice sunk faults old.file_faults))
     (closes : Closes closed sunk new.sunk faults new.sink_faults) (runs : new.runs ≡ old.runs) (child_still : new.child_faults ≡ old.child_faults) (files : new.file_faults ≡ old.file_faults) (clock : new.clock ≡ old.clock)
     (refused : broken ≡ false → Rose old.reader_refusals new.reader_refusals ⊎ Rose old.runner_refusals new.runner_refusals) where
-  none_run : Programs [] [] [] [] old new
+  none_run : RunsPrograms [] [] [] [] old new
   none_run = record {
     started = [];
     commands = refl;
@@ -135,7 +135,7 @@ module _ (held : Option Held) (s : Spring) (old new : Scene) (broken closed : Bo
       none_added None = refl
       none_added (Some x) = ap Some (sym (append-nil x))
 
-  ends_so : (why : Stop) → status_of why ≡ 3 → (not broken && closed) ≡ is_whole why → IsCause why [] [] [] s s old new → Ends why held s s old new
+  ends_so : (why : Stop) → status_of why ≡ 3 → (not broken && closed) ≡ is_sink_whole why → IsCause why [] [] [] s s old new → Ends why held s s old new
   unfolding none_run
   ends_so why three whole cause = record {
     bytes = [];

@@ -23,8 +23,8 @@ use Rattle.xd_run_tests.specs.declared.ask.Ask.{Ask}
 use Rattle.xd_run_tests.specs.declared.ask.Ask.TheVariants.{Tell}
 use Rattle.xd_run_tests.specs.declared.input.Input.{Input}
 use Rattle.xd_run_tests.specs.declared.input.Input.TheVariants as input
-use Rattle.xd_run_tests.specs.Line.{Call, left, front, queue, running_test, head_test, can_give, can_ask, all_queued, kept, taken}
-use Rattle.xd_run_tests.specs.Turns.{Turn as Act, turn_of as act_of, answered, over, ended_early, ending_text, asking, moved_on, settled, given, stolen, stolen_if, told, heard_in, receiving_ended_in}
+use Rattle.xd_run_tests.specs.Line.{FunctionCall, left, front, queue, running_test, head_test, can_give, can_ask, all_queued, kept, taken}
+use Rattle.xd_run_tests.specs.Turns.{Turn as Act, turn_of as act_of, answered, over, ended_early, ending_text, asking, moved_on, line_settled, given, stolen, stolen_if, told, heard_in, receiving_ended_in}
 use Rattle.xd_run_tests.specs.History.{call_after, turn_after}
 use Rattle.xd_worker.specs.declared.function.Called.{Called}
 use Rattle.xd_worker.specs.declared.function.Called.TheVariants.{Runs, Refused}
@@ -36,8 +36,8 @@ use Rattle.xd_worker.proofs.CalledOnce.{IsOther, called_other}
 use Rattle.xd_worker.specs.Talk.{sent_how, payload_on}
 use Rattle.xd_worker.specs.Worker.{Service, Worker, Turn, turn_of}
 use Rattle.xd_worker.specs.Turns.{Told, LinkEnded, at_talk, given_in, fed, fed_to, called, is_called, is_service, echoed, echoed_how, echo_ended, stopped, did, did_unless, took, turned}
-use Rattle.xd_listen.specs.Running.{call_in, rests}
-use Rattle.xd_listen.specs.Inputs.{is_last}
+use Rattle.xd_listen.specs.Running.{call_of_service, rests}
+use Rattle.xd_listen.specs.Inputs.{is_terminate_kind}
 use Rattle.xd_listen.proofs.Facts.{running_some}
 use Rattle.xd_listen.proofs.Steps.{all_same, acted_turn, answer_last, kind_last, is_terminate}
 
@@ -56,7 +56,7 @@ early_busy n t e f = go t.call.running (running_some t.call n f.test)
     go true h = record { test = f.test; run = f.run; busy = refl }
     go false h = cc
 
-settled_busy : (n : ℕ) (room : Bool) (t : Act) → Busy n t → Busy n (settled room t)
+settled_busy : (n : ℕ) (room : Bool) (t : Act) → Busy n t → Busy n (line_settled room t)
 settled_busy n room t f = go t.call.running (running_some t.call n f.test)
   where
     go : (b : Bool) → b ≡ true → Busy n (if b then t else moved_on room (left t.call) t)
@@ -112,7 +112,7 @@ asking_busy n t asks f = record { test = f.test; run = f.run; busy = f.busy }
 given_busy : (n : ℕ) (room : Bool) (ns : List ℕ) (t : Act) → Busy n t → Busy n (given room ns t)
 given_busy n room ns t f = go (can_give t.call.size t.call.line ns)
   where
-    go : (b : Bool) → Busy n (if b then settled room (lined (t.call.line ++ map Test ns) t) else ended_early BadCommand t)
+    go : (b : Bool) → Busy n (if b then line_settled room (lined (t.call.line ++ map Test ns) t) else ended_early BadCommand t)
     go true = settled_busy n room (lined (t.call.line ++ map Test ns) t) (longer_busy n t (map Test ns) f)
     go false = early_busy n t BadCommand f
 
@@ -153,7 +153,7 @@ ended_busy n t Over f = f
 
 -- a command, the end of the receiving direction, and the end of the link
 pub record Spares (i : Input) : Type 0 where
-  pub busy : (room : Bool) (c : Call) (n : ℕ) → running_test c ≡ Some n → rests c.phase ≡ false → Busy n (answered room i (act_of c))
+  pub busy : (room : Bool) (c : FunctionCall) (n : ℕ) → running_test c ≡ Some n → rests c.phase ≡ false → Busy n (answered room i (act_of c))
 
 pub command_spares : (o : Option Order) → Spares (input.Command o)
 command_spares o = record { busy = λ room c n e r. heard_busy n room o (act_of c) c.phase r (record { test = e; run = refl; busy = r }) }
@@ -168,8 +168,8 @@ stop_spares = record { busy = λ room c n e r. record { test = e; run = refl; bu
 
 -- The test runs on, none is started, and no suite is asked for.
 pub record Keeps (n : ℕ) (last : Bool) (u : Turn) : Type 0 where
-  pub test : running_test (call_in u.duties.service) ≡ Some n
-  pub busy : rests (call_in u.duties.service).phase ≡ false
+  pub test : running_test (call_of_service u.duties.service) ≡ Some n
+  pub busy : rests (call_of_service u.duties.service).phase ≡ false
   pub run : u.run ≡ None
   pub suite : u.suite ≡ None
   pub stopped : u.duties.stopped ≡ last
@@ -182,10 +182,10 @@ fed_keeps i k n last t spares f = go t.duties.service refl
     go (Some s) h =
         let g = given_in s i k in
         let same = all_same s.channel (turn_after s.given g).asks (acted_turn s g t) in
-        let b = spares.busy g.room (call_after s.given) n (sym (ap (λ (x : Option Service). running_test (call_in x)) h) ∙ f.test) (sym (ap (λ (x : Option Service). rests (call_in x).phase) h) ∙ f.busy) in
+        let b = spares.busy g.room (call_after s.given) n (sym (ap (λ (x : Option Service). running_test (call_of_service x)) h) ∙ f.test) (sym (ap (λ (x : Option Service). rests (call_of_service x).phase) h) ∙ f.busy) in
         record {
           test = ap running_test same.call ∙ b.test;
-          busy = ap (λ (c : Call). rests c.phase) same.call ∙ b.busy;
+          busy = ap (λ (c : FunctionCall). rests c.phase) same.call ∙ b.busy;
           run = same.run ∙ b.run;
           suite = same.suite ∙ f.suite;
           stopped = same.stopped ∙ f.stopped;
@@ -198,7 +198,7 @@ other_keeps k n last (Runs (function.RunTests path mode)) t o f = absurd o
 other_keeps k n last (Refused fault) t o f = record { test = f.test; busy = f.busy; run = f.run; suite = f.suite; stopped = f.stopped }
 
 -- a worker whose test runs has called `run_tests`
-is_called_if : (s : Option Service) (n : ℕ) → running_test (call_in s) ≡ Some n → is_called s ≡ true
+is_called_if : (s : Option Service) (n : ℕ) → running_test (call_of_service s) ≡ Some n → is_called s ≡ true
 is_called_if None n e = cc
 is_called_if (Some s) n e = refl
 
@@ -234,8 +234,8 @@ did_keeps (EndKept c) k n t f = f
 did_keeps Dropped k n t f = f
 
 -- a message
-pub message_keeps : (w : Worker) (m : MessageView) (s : Said) (k n : ℕ) → Means m s → running_test (call_in w.duties.service) ≡ Some n → rests (call_in w.duties.service).phase ≡ false → w.duties.stopped ≡ false
-    → Keeps n (is_last m.kind) (turned (Told s) k (turn_of w))
+pub message_keeps : (w : Worker) (m : MessageView) (s : Said) (k n : ℕ) → Means m s → running_test (call_of_service w.duties.service) ≡ Some n → rests (call_of_service w.duties.service).phase ≡ false → w.duties.stopped ≡ false
+    → Keeps n (is_terminate_kind m.kind) (turned (Told s) k (turn_of w))
 message_keeps w m s k n means runs busy unstopped = subst (λ (b : Bool). Keeps n b (took s k (turn_of w))) (answer_last s w.table ∙ kind_last m.kind m.channel m.payload s means.says) (go w.duties.stopped unstopped)
   where
     u : Turn
@@ -246,5 +246,5 @@ message_keeps w m s k n means runs busy unstopped = subst (λ (b : Bool). Keeps 
     go false h = did_keeps (answer s w.table) k n u (record { test = runs; busy = busy; run = refl; suite = refl; stopped = unstopped })
 
 -- the link's end
-pub link_end_keeps : (w : Worker) (k n : ℕ) → running_test (call_in w.duties.service) ≡ Some n → rests (call_in w.duties.service).phase ≡ false → w.duties.stopped ≡ false → Keeps n true (turned LinkEnded k (turn_of w))
+pub link_end_keeps : (w : Worker) (k n : ℕ) → running_test (call_of_service w.duties.service) ≡ Some n → rests (call_of_service w.duties.service).phase ≡ false → w.duties.stopped ≡ false → Keeps n true (turned LinkEnded k (turn_of w))
 link_end_keeps w k n runs busy unstopped = stopped_keeps k n false (at_talk (λ d. record d { table = lost d.table }) (turn_of w)) (record { test = runs; busy = busy; run = refl; suite = refl; stopped = unstopped })

@@ -18,8 +18,8 @@ use Rattle.xd_run_tests.specs.declared.ask.Ask.{Ask}
 use Rattle.xd_run_tests.specs.declared.ask.Ask.TheVariants.{Tell}
 use Rattle.xd_run_tests.specs.declared.input.Input.{Input}
 use Rattle.xd_run_tests.specs.declared.input.Input.TheVariants as input
-use Rattle.xd_run_tests.specs.Line.{Call, left, front, queue, running_test, head_test, can_give, can_ask, all_queued, kept, taken}
-use Rattle.xd_run_tests.specs.Turns.{Turn, turn_of, answered, answered_in, over, ended_early, ending_text, asking, finished, started, has_log, too_many_channels, moved_on, settled, given, stolen, stolen_if, told, heard_in, heard, all_heard, opened, collected_in, receiving_ended_in, suite_refused_in, put_out, output_of, told_done, done_in, stopped}
+use Rattle.xd_run_tests.specs.Line.{FunctionCall, left, front, queue, running_test, head_test, can_give, can_ask, all_queued, kept, taken}
+use Rattle.xd_run_tests.specs.Turns.{Turn, turn_of, answered, answered_in, over, ended_early, ending_text, asking, finished, test_started, has_log, too_many_channels, moved_on, line_settled, given, stolen, stolen_if, told, heard_in, heard, all_heard, serving_suite, collected_in, receiving_ended_in, suite_refused_in, put_out, output_fed, told_done, done_in, stopped}
 use Rattle.xd_listen.specs.Running.{rests}
 
 -- The test that runs is the one that this turn starts.
@@ -58,11 +58,11 @@ moved_fresh room (Mark ∷ ps) t l e n r = idle (finished t) e n
 moved_fresh room (Test k ∷ []) t l e n r = idle t e n
 moved_fresh room (Test k ∷ (p ∷ ps)) t l e n r = go (room && has_log t.call.ended)
   where
-    go : (b : Bool) → Fresh (if b then started k t else over (Some too_many_channels) t)
+    go : (b : Bool) → Fresh (if b then test_started k t else over (Some too_many_channels) t)
     go true = record { test = ap head_test l; some = λ z. cc; busy = λ z. r }
     go false = idle (over (Some too_many_channels) t) e n
 
-settled_fresh : (room : Bool) (t : Turn) → Fresh t → rests t.call.phase ≡ false → Fresh (settled room t)
+settled_fresh : (room : Bool) (t : Turn) → Fresh t → rests t.call.phase ≡ false → Fresh (line_settled room t)
 settled_fresh room t f r = go t.call.running refl
   where
     go : (b : Bool) → t.call.running ≡ b → Fresh (if b then t else moved_on room (left t.call) t)
@@ -110,7 +110,7 @@ front_fresh t ps f = lined_fresh t (front t.call ++ ps) f (λ n r h. go t.call.r
 given_fresh : (room : Bool) (ns : List ℕ) (t : Turn) → Fresh t → rests t.call.phase ≡ false → Fresh (given room ns t)
 given_fresh room ns t f r = go (can_give t.call.size t.call.line ns)
   where
-    go : (b : Bool) → Fresh (if b then settled room (lined (t.call.line ++ map Test ns) t) else ended_early BadCommand t)
+    go : (b : Bool) → Fresh (if b then line_settled room (lined (t.call.line ++ map Test ns) t) else ended_early BadCommand t)
     go true = settled_fresh room (lined (t.call.line ++ map Test ns) t) (longer_fresh t (map Test ns) f) r
     go false = early_fresh t BadCommand f
 
@@ -150,7 +150,7 @@ all_heard_fresh room [] t f = f
 all_heard_fresh room (o ∷ os) t f = all_heard_fresh room os (heard room o t) (heard_fresh room o t f)
 
 collected_fresh : (room : Bool) (ids : List (List ℕ)) (t : Turn) (p : Phase) → Fresh t → t.run ≡ None → Fresh (collected_in p room ids t)
-collected_fresh room ids t Awaiting f n = all_heard_fresh room t.call.waiting (record { call = opened (length ids) t.call; asks = t.asks ++ Tell (Collected ids) ∷ []; run = t.run }) (idle (record { call = opened (length ids) t.call; asks = t.asks ++ Tell (Collected ids) ∷ []; run = t.run }) refl n)
+collected_fresh room ids t Awaiting f n = all_heard_fresh room t.call.waiting (record { call = serving_suite (length ids) t.call; asks = t.asks ++ Tell (Collected ids) ∷ []; run = t.run }) (idle (record { call = serving_suite (length ids) t.call; asks = t.asks ++ Tell (Collected ids) ∷ []; run = t.run }) refl n)
 collected_fresh room ids t Serving f n = f
 collected_fresh room ids t (phase.Ending e) f n = f
 collected_fresh room ids t Stopped f n = f
@@ -170,7 +170,7 @@ ended_fresh t (phase.Ending e) f = f
 ended_fresh t Stopped f = f
 ended_fresh t Over f = f
 
-output_fresh : (bytes : List ℕ) (t : Turn) (test : Option ℕ) (p : Phase) → Fresh t → t.call.running ≡ false → Fresh (output_of test p bytes t)
+output_fresh : (bytes : List ℕ) (t : Turn) (test : Option ℕ) (p : Phase) → Fresh t → t.call.running ≡ false → Fresh (output_fed test p bytes t)
 output_fresh bytes t None p f e = f
 output_fresh bytes t (Some n) Awaiting f e = idle (put_out bytes t) e (no_run t f e)
 output_fresh bytes t (Some n) Serving f e = idle (put_out bytes t) e (no_run t f e)
@@ -193,7 +193,7 @@ done_idle room n outcome ms t Stopped h e r = done_fresh room n outcome ms t Sto
 done_idle room n outcome ms t Over h e r = idle t r e
 
 -- an input to a call of which no test runs
-pub answered_idle : (room : Bool) (f : Input) (c : Call) → c.running ≡ false → Fresh (answered room f (turn_of c))
+pub answered_idle : (room : Bool) (f : Input) (c : FunctionCall) → c.running ≡ false → Fresh (answered room f (turn_of c))
 answered_idle room f c e = by f (running_test c)
   where
     t : Turn
@@ -213,7 +213,7 @@ answered_idle room f c e = by f (running_test c)
     by input.Stop test = idle (stopped t) e refl
 
 -- the end of the test that runs
-pub answered_end : (room : Bool) (outcome : Outcome) (ms : ℕ) (c : Call) (n : ℕ) → running_test c ≡ Some n → rests c.phase ≡ false → Fresh (answered room (input.Done outcome ms) (turn_of c))
+pub answered_end : (room : Bool) (outcome : Outcome) (ms : ℕ) (c : FunctionCall) (n : ℕ) → running_test c ≡ Some n → rests c.phase ≡ false → Fresh (answered room (input.Done outcome ms) (turn_of c))
 answered_end room outcome ms c n e r = by (running_test c) e
   where
     by : (test : Option ℕ) → test ≡ Some n → Fresh (answered_in c.phase test room (input.Done outcome ms) (turn_of c))
@@ -221,16 +221,16 @@ answered_end room outcome ms c n e r = by (running_test c) e
     by (Some m) h = done_fresh room m outcome ms (turn_of c) c.phase refl refl r
 
 -- What output leaves: the test that runs, and nothing is started.
-pub record Printing (t : Turn) (c : Call) : Type 0 where
+pub record Printing (t : Turn) (c : FunctionCall) : Type 0 where
   pub test : running_test t.call ≡ running_test c
   pub running : t.call.running ≡ c.running
   pub phase_is : t.call.phase ≡ c.phase
   pub run : t.run ≡ None
 
-pub answered_output : (room : Bool) (bytes : List ℕ) (c : Call) → Printing (answered room (input.Output bytes) (turn_of c)) c
+pub answered_output : (room : Bool) (bytes : List ℕ) (c : FunctionCall) → Printing (answered room (input.Output bytes) (turn_of c)) c
 answered_output room bytes c = by (running_test c) c.phase
   where
-    by : (test : Option ℕ) (p : Phase) → Printing (output_of test p bytes (turn_of c)) c
+    by : (test : Option ℕ) (p : Phase) → Printing (output_fed test p bytes (turn_of c)) c
     by None p = record { test = refl; running = refl; phase_is = refl; run = refl }
     by (Some n) Awaiting = record { test = refl; running = refl; phase_is = refl; run = refl }
     by (Some n) Serving = record { test = refl; running = refl; phase_is = refl; run = refl }

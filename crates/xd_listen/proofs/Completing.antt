@@ -18,10 +18,10 @@ use Rattle.xd_link.specs.Source.{Gave, Supply}
 use Rattle.xd_worker.specs.History.{Heard}
 use Rattle.xd_listen.specs.declared.stop.Stop.{Stop}
 use Rattle.xd_listen.specs.declared.stop.Stop.TheVariants as stop
-use Rattle.xd_listen.specs.Inputs.{has_last, messages_in}
+use Rattle.xd_listen.specs.Inputs.{has_terminate, messages_in}
 use Rattle.xd_link.specs.Spring.{Spring}
-use Rattle.xd_listen.specs.Ends.{Ends, Programs, Scene, Served, voice_of}
-use Rattle.xd_listen.specs.Halts.{is_whole, status_of}
+use Rattle.xd_listen.specs.Ends.{Ends, RunsPrograms, Scene, Served, voice_of}
+use Rattle.xd_listen.specs.Halts.{is_sink_whole, status_of}
 use Rattle.xd_listen.specs.Spoke.{Spoke, voice}
 use Rattle.xd_listen.specs.Took.{TookAll, TookToRefused}
 use Rattle.xd_listen.specs.Programs.{AreLeft}
@@ -69,8 +69,8 @@ all_given bytes s new g none =
     let e : drop (length bytes) s.left ≡ [] = subst (λ (o : Option Supply). IfSome o (λ t. t.left ≡ [])) g.0 none in
     left_before bytes s new g ∙ (ap (λ (l : List ℕ). bytes ++ l) e ∙ append-nil bytes)
 
-none_last : (bytes : List ℕ) (all taken : List MessageView) → all ≡ messages bytes → TookAll (messages bytes) taken → has_last all ≡ false
-none_last bytes all taken e t = ap has_last (e ∙ sym t.all_are) ∙ t.none_is
+none_last : (bytes : List ℕ) (all taken : List MessageView) → all ≡ messages bytes → TookAll (messages bytes) taken → has_terminate all ≡ false
+none_last bytes all taken e t = ap has_terminate (e ∙ sym t.all_are) ∙ t.none_is
 
 -- the sink took all, and was closed
 pub both : (x y : Bool) → (x && y) ≡ true → (x ≡ true) × (y ≡ true)
@@ -107,7 +107,7 @@ module _ (held : Option Held) (s0 s1 : Spring) (old new : Scene) where
             spoke = subst (λ (n : ℕ). Spoke held x.inputs x.history true (voice_of old) (voice x.sunk n new.file_faults)) (sym (x.closes.still w.1))
                 (subst (λ (b : Bool). Spoke held x.inputs x.history b (voice_of old) (voice x.sunk x.sink_faults new.file_faults)) w.0 x.spoke);
             shut = x.closes.shut w.1;
-            programs = subst (λ (l : List (List (List ℕ))). Programs x.inputs x.history l x.unheard old new) (subst (λ (b : Bool). AreLeft b x.left x.history) w.0 x.left_is) x.programs;
+            programs = subst (λ (l : List (List (List ℕ))). RunsPrograms x.inputs x.history l x.unheard old new) (subst (λ (b : Bool). AreLeft b x.left x.history) w.0 x.left_is) x.programs;
             no_end = x.cause.1;
             refused = subst (λ (l : List ℕ). TookToRefused (messages l) (messages_in x.inputs) x.history fault) (sym all) (to_refused_more x.bytes (drop (length x.bytes) s.left) (messages_in x.inputs) x.history fault x.cause.0);
           })
@@ -138,12 +138,12 @@ module _ (held : Option Held) (s0 s1 : Spring) (old new : Scene) where
   not_wrong stop.Ended bytes good source still w = w
   not_wrong stop.Cut bytes good source still w = edge good.edge
     where
-      edge : (rest bytes ≡ Clean) ⊎ (has_last (messages bytes) ≡ true) → ⊥
+      edge : (rest bytes ≡ Clean) ⊎ (has_terminate (messages bytes) ≡ true) → ⊥
       edge (inl e) = let x = sym w.0 ∙ e in cc
       edge (inr e) = let x = sym w.1 ∙ e in cc
   not_wrong (stop.Header fault) bytes good source still w = edge good.edge
     where
-      edge : (rest bytes ≡ Clean) ⊎ (has_last (messages bytes) ≡ true) → ⊥
+      edge : (rest bytes ≡ Clean) ⊎ (has_terminate (messages bytes) ≡ true) → ⊥
       edge (inl e) = let x = sym w.0 ∙ e in cc
       edge (inr e) = let x = sym w.1 ∙ e in cc
   not_wrong (stop.Message fault) bytes good source still w = good.accepted fault w
@@ -165,7 +165,7 @@ module _ (held : Option Held) (s0 s1 : Spring) (old new : Scene) where
   pub calm : (status : ℕ) → Served status held s0 s1 old new → status ≡ 0 → IsCalm s0.faults s1.faults old new
   calm status v zero = by v.0 v.2 (sym v.1 ∙ zero)
     where
-      whole_if : (why : Stop) → status_of why ≡ 0 → is_whole why ≡ true
+      whole_if : (why : Stop) → status_of why ≡ 0 → is_sink_whole why ≡ true
       whole_if stop.NotRun z = cc
       whole_if stop.Terminated z = refl
       whole_if stop.Ended z = refl

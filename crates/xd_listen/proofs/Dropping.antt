@@ -11,10 +11,10 @@ use Rattle.xd_listen.specs.Inputs.{messages_in}
 use Rattle.xd_listen.specs.declared.server.Halt.{Halt}
 use Rattle.xd_listen.specs.declared.server.Halt.TheVariants as halt
 use Rattle.xd_listen.specs.declared.stop.Stop.{Stop}
-use Rattle.xd_listen.specs.Halts.{Ceased, Goes, Strayed, IsStrange, IsUncalled, is_short_by, noted_end, still_started, without}
+use Rattle.xd_listen.specs.Halts.{Ceased, Goes, Strayed, IsStrange, IsUncalled, is_short_by, noted_end, still_started, without_item}
 use Rattle.xd_listen.specs.News.{dones, news_in}
 use Rattle.xd_listen.specs.Seen.{Seen}
-use Rattle.xd_listen.specs.Serves.{Beside, IsNoted, Serves, Setting, nothing, of_inbox, of_link, two}
+use Rattle.xd_listen.specs.Serves.{Beside, IsEndTaken, ServesSoFar, Setting, nothing, of_inbox, owed_of_link, two}
 use Rattle.xd_listen.specs.Timing.{one_if}
 use Rattle.xd_listen.proofs.Counting.{dones-append}
 
@@ -46,11 +46,11 @@ takes_two a r q item new (suc (suc n)) t = absurd (none a r q n t.ring t.got t.w
     none : (a : Setting) (r q : List LinkNews) (n : ℕ) (ring : Ring) (got : List LinkNews) → HasMail (two a r q) (suc (suc n)) ring got → ⊥
     none a r q n ring got e = cc
 
-more_noted : (o : Option LinkStop) (got more : List LinkNews) → IsNoted o got → IsNoted o (got ++ more)
+more_noted : (o : Option LinkStop) (got more : List LinkNews) → IsEndTaken o got → IsEndTaken o (got ++ more)
 more_noted None got more n = tt
 more_noted (Some why) got more n = (n.0, n.1 ++ more, ap (λ (l : List LinkNews). l ++ more) n.2 ∙ append_assoc n.0 (news.End why ∷ n.1) more)
 
-noted_next : (o : Option LinkStop) (got : List LinkNews) (item : LinkNews) → IsNoted o got → IsNoted (noted_end 0 item o) (got ++ item ∷ [])
+noted_next : (o : Option LinkStop) (got : List LinkNews) (item : LinkNews) → IsEndTaken o got → IsEndTaken (noted_end 0 item o) (got ++ item ∷ [])
 noted_next o got (news.Message m) n = more_noted o got (news.Message m ∷ []) n
 noted_next o got (news.End why) n = (got, [], refl)
 noted_next o got (news.Output b) n = more_noted o got (news.Output b ∷ []) n
@@ -91,7 +91,7 @@ still_drained (news.Output x) b o n got d e = let z = d e in let y = dones-appen
 still_drained (news.ChildDone outcome) b o n got d e = let x = d e in let y = dones-append got (news.ChildDone outcome ∷ []) in let z = at_most o in omega (arith, x, y, z)
 
 module _ (a : Setting) (now : Beside) (s : Seen) (item : LinkNews) (mails : List (Option (Ring × List LinkNews))) where
-  ceased_more : (why : Stop) (n : ℕ) (c : Ceased a now why s) → TakesTwo a c.of_reader c.of_runner item mails n → Ceased a now why (without n item mails s)
+  ceased_more : (why : Stop) (n : ℕ) (c : Ceased a now why s) → TakesTwo a c.of_reader c.of_runner item mails n → Ceased a now why (without_item n item mails s)
   ceased_more why zero c (First e) = record {
     inputs = c.inputs;
     history = c.history;
@@ -134,7 +134,7 @@ module _ (a : Setting) (now : Beside) (s : Seen) (item : LinkNews) (mails : List
     mails_are = e;
     from_link = c.from_link;
     cause = c.cause;
-    noted = subst (λ (o : Option LinkStop). IsNoted o c.of_reader) (sym (not_noted item s.link_stop)) c.noted;
+    noted = subst (λ (o : Option LinkStop). IsEndTaken o c.of_reader) (sym (not_noted item s.link_stop)) c.noted;
     from_programs = ap (λ (l : List LinkNews). l ++ item ∷ []) c.from_programs ∙ append_assoc (news_in c.inputs) c.unheard (item ∷ []);
     commands = c.commands;
     left_is = c.left_is;
@@ -148,7 +148,7 @@ module _ (a : Setting) (now : Beside) (s : Seen) (item : LinkNews) (mails : List
   }
   ceased_more why (suc (suc n)) c t = elim t [ ]
 
-  strayed_more : (n : ℕ) (x : Strayed a s) → TakesTwo a x.of_reader x.of_runner item mails n → Strayed a (without n item mails s)
+  strayed_more : (n : ℕ) (x : Strayed a s) → TakesTwo a x.of_reader x.of_runner item mails n → Strayed a (without_item n item mails s)
   strayed_more zero x (First e) = record {
     of_reader = x.of_reader ++ item ∷ [];
     of_runner = x.of_runner;
@@ -189,7 +189,7 @@ module _ (a : Setting) (now : Beside) (s : Seen) (item : LinkNews) (mails : List
       by (inr h) = inr (h.0 ++ item ∷ [], ap (λ (l : List LinkNews). l ++ item ∷ []) h.1 ∙ append_assoc x.heard (x.item ∷ h.0) (item ∷ []), h.2)
   strayed_more (suc (suc n)) x t = elim t [ ]
 
-  dropped_more : (h : Halt) (n : ℕ) → TakesAt s.mails mails n item → Goes (Some h) a now s → Goes (Some h) a now (without n item mails s)
+  dropped_more : (h : Halt) (n : ℕ) → TakesAt s.mails mails n item → Goes (Some h) a now s → Goes (Some h) a now (without_item n item mails s)
   dropped_more (halt.At why) n t c = ceased_more why n c (takes_two a c.of_reader c.of_runner item mails n (subst (λ (m : List (Option (Ring × List LinkNews))). TakesAt m mails n item) c.mails_are t))
   dropped_more halt.Astray n t x = strayed_more n x (takes_two a x.of_reader x.of_runner item mails n (subst (λ (m : List (Option (Ring × List LinkNews))). TakesAt m mails n item) x.mails_are t))
 
@@ -204,7 +204,7 @@ module _ (a : Setting) (now : Beside) (s : Seen) (item : LinkNews) (mails : List
 -- ---- what the server takes
 
 module _ (a : Setting) (now : Beside) (s : Seen) (item : LinkNews) (mails : List (Option (Ring × List LinkNews))) where
-  taken_two : (n : ℕ) (g : Serves a now nothing s) → TakesTwo a g.of_reader g.of_runner item mails n → Serves a now (of_inbox n item) (record s { mails = mails })
+  taken_two : (n : ℕ) (g : ServesSoFar a now nothing s) → TakesTwo a g.of_reader g.of_runner item mails n → ServesSoFar a now (of_inbox n item) (record s { mails = mails })
   taken_two zero g (First e) = record {
     inputs = g.inputs;
     history = g.history;
@@ -257,11 +257,11 @@ module _ (a : Setting) (now : Beside) (s : Seen) (item : LinkNews) (mails : List
   }
   taken_two (suc (suc n)) g t = elim t [ ]
 
-  pub taken_item : (n : ℕ) → TakesAt s.mails mails n item → Serves a now nothing s → Serves a now (of_inbox n item) (record s { mails = mails })
+  pub taken_item : (n : ℕ) → TakesAt s.mails mails n item → ServesSoFar a now nothing s → ServesSoFar a now (of_inbox n item) (record s { mails = mails })
   taken_item n t g = taken_two n g (takes_two a g.of_reader g.of_runner item mails n (subst (λ (m : List (Option (Ring × List LinkNews))). TakesAt m mails n item) g.mails_are t))
 
 -- the reader's end was taken
-pub noted_now : (a : Setting) (now : Beside) (s : Seen) (why : LinkStop) → Serves a now (of_link (news.End why)) s → Serves a now (of_link (news.End why)) (record s { link_stop = Some why })
+pub noted_now : (a : Setting) (now : Beside) (s : Seen) (why : LinkStop) → ServesSoFar a now (owed_of_link (news.End why)) s → ServesSoFar a now (owed_of_link (news.End why)) (record s { link_stop = Some why })
 noted_now a now s why g = record {
   inputs = g.inputs;
   history = g.history;

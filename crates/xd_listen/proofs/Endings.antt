@@ -18,16 +18,16 @@ use Rattle.xd_reader.specs.declared.news.LinkStop.{LinkStop}
 use Rattle.xd_reader.specs.declared.news.LinkStop.TheVariants as link
 use Rattle.xd_reader.specs.Judged.{stop_of}
 use Rattle.xd_reader.specs.Reads.{PutsAll, StopsAt}
-use Rattle.xd_runner.specs.Orders.{ArePieces, EndsCut, EndsWell, IsCommand, IsPiece, Mails, Order, Runs as Ran1, RunsOrders, Seen as Programs1, Told, all_news, ran_of, told_news}
+use Rattle.xd_runner.specs.Orders.{ArePieces, EndsCut, EndsWell, IsCommand, IsPiece, Mails, Order, Runs as Ran1, RunsOrders, Seen as Programs1, ToldOfProgram, all_news, ran_of, told_news}
 use Rattle.xd_runner.specs.Programs.{AreRun, Ran, faults_of}
 use Rattle.xd_worker.specs.History.{is_over, worker_after}
-use Rattle.xd_listen.specs.Inputs.{has_end, has_last, messages_in}
+use Rattle.xd_listen.specs.Inputs.{has_end, has_terminate, messages_in}
 use Rattle.xd_listen.specs.Programs.{output_in, ran_in}
 use Rattle.xd_listen.specs.Took.{TookAll, TookToLast}
 use Rattle.xd_listen.specs.declared.stop.Stop.{Stop}
 use Rattle.xd_listen.specs.declared.stop.Stop.TheVariants as stop
-use Rattle.xd_listen.specs.Ends.{Closes, Ends, IsCause, IsStill, Programs, Scene, last_stop, terminated_by, voice_of}
-use Rattle.xd_listen.specs.Halts.{Ceased, Ceases, Strayed, IsStrange, IsUncalled, is_whole, status_of}
+use Rattle.xd_listen.specs.Ends.{Closes, Ends, IsCause, IsStill, RunsPrograms, Scene, last_stop, terminated_by, voice_of}
+use Rattle.xd_listen.specs.Halts.{Ceased, Ceases, Strayed, IsStrange, IsUncalled, is_sink_whole, status_of}
 use Rattle.xd_listen.specs.Joined.{Sources}
 use Rattle.xd_listen.specs.News.{dones, news_in}
 use Rattle.xd_listen.specs.Seen.{Seen}
@@ -81,7 +81,7 @@ done_pieces : (pieces : List (List ℕ)) (ns : List LinkNews) → dones (map new
 done_pieces [] ns = refl
 done_pieces (p ∷ pieces) ns = done_pieces pieces ns
 
-pub done_of : (ps : List Told) → dones (all_news ps) ≡ length ps
+pub done_of : (ps : List ToldOfProgram) → dones (all_news ps) ≡ length ps
 done_of [] = refl
 done_of (p ∷ ps) =
     let a = done_pieces p.pieces (news.ChildDone p.outcome ∷ []) in
@@ -101,7 +101,7 @@ ran_as_many orders rs old new r =
 
 -- What a runner put, where all that it was ordered was taken.
 pub record AllRan (orders : List (List (List ℕ))) (put : List LinkNews) (runs0 runs1 : Option (List ChildRun)) (faults0 faults1 : ℕ) : Type 0 where
-  pub ran : List Told
+  pub ran : List ToldOfProgram
   pub put_is : put ≡ all_news ran
   pub sizes : All ArePieces ran
   pub run : AreRun orders (map ran_of ran) runs0 runs1
@@ -131,7 +131,7 @@ module _ (orders : List (List (List ℕ))) (some : NoneEmpty orders) (ring : Rin
     (put : List LinkNews) (none : mails0 ≡ Some (ring, []) ∷ []) (ordered : (got : List (List (List ℕ))) → mails1 ≡ Some (ring, got) ∷ [] → (more : List (List (List ℕ))) × (orders ++ [] ∷ [] ≡ got ++ more))
     (of_runner more : List LinkNews) (taken : put ≡ of_runner ++ more) (drained : length orders ≤ dones of_runner) where
   -- memory did not run out
-  not_short : (got : List Order) (told : List Told) (mid : Programs1) (sent : List LinkNews) → Ran1 got told s0 mid [] sent → EndsCut got mails0 mails1 mid s1 sent put → ⊥
+  not_short : (got : List Order) (told : List ToldOfProgram) (mid : Programs1) (sent : List LinkNews) → Ran1 got told s0 mid [] sent → EndsCut got mails0 mails1 mid s1 sent put → ⊥
   not_short got told mid sent r e =
       let o = ordered (got ++ e.order ∷ []) (e.took ring [] none) in
       let a = few_orders orders (got ++ e.order ∷ []) o.0 (none_empty got e.order r.commands e.command) o.1 in
@@ -179,7 +179,7 @@ no_more orders put runs0 runs1 faults0 faults1 heard x more r e count =
 
 pub programs_ended : (a : Setting) (now : Beside) (why : Stop) (s : Seen) (c : Ceased a now why s) (more : List LinkNews) (put : List LinkNews) (old new : Scene)
     → put ≡ c.of_runner ++ more → AllRan s.orders put old.runs new.runs old.child_faults new.child_faults
-    → (unheard : List Ran) × (p : Programs c.inputs c.history c.left unheard old new) × (status_of why ≡ 0 → unheard ≡ []) × (p.started ≡ s.orders)
+    → (unheard : List Ran) × (p : RunsPrograms c.inputs c.history c.left unheard old new) × (status_of why ≡ 0 → unheard ≡ []) × (p.started ≡ s.orders)
 programs_ended a now why s c more put old new e r =
     let later = c.unheard ++ more in
     let in_put : put ≡ news_in c.inputs ++ later = e ∙ (ap (λ (l : List LinkNews). l ++ more) c.from_programs ∙ append_assoc (news_in c.inputs) c.unheard more) in
@@ -259,7 +259,7 @@ module _ (a : Setting) (now : Beside) (s : Seen) (before : Sources) (old new : S
   behind : (ahead : List LinkNews) → c.ahead ≡ ahead → map news.Message reads.put ++ news.End reads.stop ∷ [] ≡ map news.Message ms ++ (ahead ++ (c.later ++ more0))
   behind ahead e = all ∙ ap (λ (l : List LinkNews). map news.Message ms ++ (l ++ (c.later ++ more0))) e
 
-  at_end : (l : LinkStop) → c.ahead ≡ news.End l ∷ [] → has_last ms ≡ false → TookAll (messages bytes) ms × (l ≡ reads.stop)
+  at_end : (l : LinkStop) → c.ahead ≡ news.End l ∷ [] → has_terminate ms ≡ false → TookAll (messages bytes) ms × (l ≡ reads.stop)
   at_end l e none = let b = end_behind ms reads.put (c.later ++ more0) l reads.stop (behind (news.End l ∷ []) e) in (record { all_are = sym b.0 ∙ put_is; none_is = none }, b.1)
 
   stops : (l : LinkStop) → l ≡ reads.stop → StopsAt l false bytes s0 s1
@@ -274,10 +274,10 @@ module _ (a : Setting) (now : Beside) (s : Seen) (before : Sources) (old new : S
   source_or link.ReadFault r = inr r
   source_or link.OutOfMemory r = inl r
 
-  sink_was : Spoke a.held c.inputs c.history (is_whole why) (voice_of old) (voice s.sunk s.sink_faults new.file_faults)
-  sink_was = subst (λ (n : ℕ). Spoke a.held c.inputs c.history (is_whole why) (voice_of old) (voice s.sunk s.sink_faults n)) (sym files_is) (subst (λ (v : Voice). Spoke a.held c.inputs c.history (is_whole why) v (voice s.sunk s.sink_faults now.file_faults)) first_is c.spoke)
+  sink_was : Spoke a.held c.inputs c.history (is_sink_whole why) (voice_of old) (voice s.sunk s.sink_faults new.file_faults)
+  sink_was = subst (λ (n : ℕ). Spoke a.held c.inputs c.history (is_sink_whole why) (voice_of old) (voice s.sunk s.sink_faults n)) (sym files_is) (subst (λ (v : Voice). Spoke a.held c.inputs c.history (is_sink_whole why) v (voice s.sunk s.sink_faults now.file_faults)) first_is c.spoke)
 
-  abbrev did : (unheard : List Ran) × (p : Programs c.inputs c.history c.left unheard old new) × (status_of why ≡ 0 → unheard ≡ []) × (p.started ≡ s.orders)
+  abbrev did : (unheard : List Ran) × (p : RunsPrograms c.inputs c.history c.left unheard old new) × (status_of why ≡ 0 → unheard ≡ []) × (p.started ≡ s.orders)
   did = programs_ended a now why s c more1 runner_put old new taken1 ran
 
   times_are : Times c.inputs did.1.started old.clock new.clock
@@ -285,14 +285,14 @@ module _ (a : Setting) (now : Beside) (s : Seen) (before : Sources) (old new : S
       (subst (λ (k : Ticking). Times c.inputs s.orders k new.clock) (sym clock_is) (subst (λ (k : Ticking). Times c.inputs s.orders a.clock k) (sym clock_now) c.times))
 
   -- it ends so, where the sink was closed or not
-  ends_so : (w : Stop) → (is_whole why && closed) ≡ is_whole w → (status_of w ≡ 0 → status_of why ≡ 0) → IsStill w s0.faults s1.faults → IsCause w bytes c.inputs c.history s0 s1 old new → Ends w a.held s0 s1 old new
+  ends_so : (w : Stop) → (is_sink_whole why && closed) ≡ is_sink_whole w → (status_of w ≡ 0 → status_of why ≡ 0) → IsStill w s0.faults s1.faults → IsCause w bytes c.inputs c.history s0 s1 old new → Ends w a.held s0 s1 old new
   ends_so w whole none still cause = record {
     bytes = bytes;
     inputs = c.inputs;
     history = c.history;
     left = c.left;
     unheard = did.0;
-    wrote = is_whole why;
+    wrote = is_sink_whole why;
     closed = closed;
     sunk = s.sunk;
     sink_faults = s.sink_faults;
@@ -321,8 +321,8 @@ module _ (a : Setting) (now : Beside) (s : Seen) (before : Sources) (old new : S
   zero_by w e z = ap status_of (sym e) ∙ z
 
   -- the sink was whole, and was closed
-  whole_by : (w : Stop) → w ≡ why → is_whole w ≡ true → closed ≡ true → (is_whole why && closed) ≡ true
-  whole_by w e f z = both (is_whole why) closed (sym (ap is_whole e) ∙ f) z
+  whole_by : (w : Stop) → w ≡ why → is_sink_whole w ≡ true → closed ≡ true → (is_sink_whole why && closed) ≡ true
+  whole_by w e f z = both (is_sink_whole why) closed (sym (ap is_sink_whole e) ∙ f) z
     where
       both : (x y : Bool) → x ≡ true → y ≡ true → (x && y) ≡ true
       both true y p q = q
@@ -371,17 +371,17 @@ module _ (a : Setting) (now : Beside) (s : Seen) (before : Sources) (old new : S
   ended_by stop.ReadFault e z x =
       let t = at_end link.ReadFault x.0 x.1 in
       ends_so stop.ReadFault (whole_by stop.ReadFault e refl z) (λ q. cc) (three stop.ReadFault refl) (inl t.0, stops link.ReadFault t.1)
-  ended_by stop.WriteFault e z x = ends_so stop.WriteFault (broken_by closed) (λ q. cc) (three stop.WriteFault refl) (sink_rose (is_whole why) sink_was.sink_count (inr (sym (ap is_whole e))))
+  ended_by stop.WriteFault e z x = ends_so stop.WriteFault (broken_by closed) (λ q. cc) (three stop.WriteFault refl) (sink_rose (is_sink_whole why) sink_was.sink_count (inr (sym (ap is_sink_whole e))))
     where
-      broken_by : (y : Bool) → (is_whole why && y) ≡ false
-      broken_by y = ap (λ (x : Bool). x && y) (sym (ap is_whole e))
+      broken_by : (y : Bool) → (is_sink_whole why && y) ≡ false
+      broken_by y = ap (λ (x : Bool). x && y) (sym (ap is_sink_whole e))
 
   pub ended : (l : LinkStop) → l ≡ reads.stop → Ends (last_stop closed why l) a.held s0 s1 old new
   ended l f = by closed refl
     where
       by : (b : Bool) → closed ≡ b → Ends (last_stop b why l) a.held s0 s1 old new
       by true z = subst (λ (x : LinkStop). Ends (last_stop true why x) a.held s0 s1 old new) (sym f) (ended_by why refl z c.cause)
-      by false z = ends_so stop.WriteFault (ap (λ (y : Bool). is_whole why && y) z ∙ none (is_whole why)) (λ q. cc) (three stop.WriteFault refl) (sink_rose (is_whole why) sink_was.sink_count (inl z))
+      by false z = ends_so stop.WriteFault (ap (λ (y : Bool). is_sink_whole why && y) z ∙ none (is_sink_whole why)) (λ q. cc) (three stop.WriteFault refl) (sink_rose (is_sink_whole why) sink_was.sink_count (inl z))
         where
           none : (x : Bool) → (x && false) ≡ false
           none true = refl
@@ -403,7 +403,7 @@ pieces_fit : (pieces : List (List ℕ)) (o : Outcome) (ns : List LinkNews) → A
 pieces_fit [] o ns a f = (tt, f)
 pieces_fit (p ∷ pieces) o ns a f = ((all_head IsPiece p pieces a).1, pieces_fit pieces o ns (all_tail IsPiece p pieces a) f)
 
-all_fit : (ps : List Told) → All ArePieces ps → AllFit (all_news ps)
+all_fit : (ps : List ToldOfProgram) → All ArePieces ps → AllFit (all_news ps)
 all_fit [] s = tt
 all_fit (p ∷ ps) s = pieces_fit p.pieces p.outcome (all_news ps) (all_head ArePieces p ps s) (all_fit ps (all_tail ArePieces p ps s))
 

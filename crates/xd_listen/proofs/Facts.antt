@@ -3,47 +3,47 @@ use Rattle.std.proofs.Common.{◌≡◌, ℕ, List, [], ◌∷◌, ◌++◌, map
 use Rattle.std.specs.Prelude.{option_to_list, is_none, if◌then◌else◌}
 use Rattle.xd_edge.specs.Files.{Held}
 use Rattle.xd_frame.specs.Message.{MessageView}
-use Rattle.xd_run_tests.specs.Line.{Call, running_test, head_test, left}
+use Rattle.xd_run_tests.specs.Line.{FunctionCall, running_test, head_test, left}
 use Rattle.xd_suite.specs.Tests.{run_at}
 use Rattle.xd_worker.specs.declared.input.WorkerInput.{WorkerInput}
 use Rattle.xd_worker.specs.declared.input.WorkerInput.TheVariants.{Message, SuiteBytes, SuiteTooLarge, SuiteUnread, Output, ChildDone, LinkEnd}
 use Rattle.xd_worker.specs.Worker.{Worker, Turn, turn_of}
 use Rattle.xd_worker.specs.Turns.{Came, Told as Says, SuiteRead, NoSuite, Printed, ChildEnded, LinkEnded, turned}
-use Rattle.xd_worker.specs.History.{Heard, Is, IsMessage, IsSuite, turn_by}
-use Rattle.xd_listen.specs.Inputs.{IsDue, has_last, is_last, is_link_end, is_of_link, message_in}
+use Rattle.xd_worker.specs.History.{Heard, Is, MessageSays, IsSuite, turn_by}
+use Rattle.xd_listen.specs.Inputs.{IsDue, has_terminate, is_terminate_kind, is_link_end, is_of_link, message_in}
 use Rattle.xd_listen.specs.Suites.{FilesGave}
 use Rattle.xd_listen.specs.Programs.{commands_of}
 use Rattle.xd_listen.proofs.Steps.{Does, Plain, Waits, message_does, no_suite_does, suite_does}
 
 -- ---- small facts
 
-has_last-append : (a : List MessageView) (m : MessageView) → has_last (a ++ m ∷ []) ≡ (has_last a || is_last m.kind)
-has_last-append [] m = or_false (is_last m.kind)
+has_last-append : (a : List MessageView) (m : MessageView) → has_terminate (a ++ m ∷ []) ≡ (has_terminate a || is_terminate_kind m.kind)
+has_last-append [] m = or_false (is_terminate_kind m.kind)
   where
     or_false : (b : Bool) → (b || false) ≡ b
     or_false true = refl
     or_false false = refl
-has_last-append (x ∷ a) m = ap (λ (b : Bool). is_last x.kind || b) (has_last-append a m) ∙ sym (or_assoc (is_last x.kind) (has_last a) (is_last m.kind))
+has_last-append (x ∷ a) m = ap (λ (b : Bool). is_terminate_kind x.kind || b) (has_last-append a m) ∙ sym (or_assoc (is_terminate_kind x.kind) (has_terminate a) (is_terminate_kind m.kind))
   where
     or_assoc : (a b c : Bool) → ((a || b) || c) ≡ (a || (b || c))
     or_assoc true b c = refl
     or_assoc false b c = refl
 
-pub none_more : (a : List MessageView) (m : MessageView) → has_last a ≡ false → is_last m.kind ≡ false → has_last (a ++ m ∷ []) ≡ false
-none_more a m e f = has_last-append a m ∙ (ap (λ (b : Bool). b || is_last m.kind) e ∙ f)
+pub none_more : (a : List MessageView) (m : MessageView) → has_terminate a ≡ false → is_terminate_kind m.kind ≡ false → has_terminate (a ++ m ∷ []) ≡ false
+none_more a m e f = has_last-append a m ∙ (ap (λ (b : Bool). b || is_terminate_kind m.kind) e ∙ f)
 
 runs_if : (b : Bool) (x : Option ℕ) (n : ℕ) → (if b then x else None) ≡ Some n → b ≡ true
 runs_if true x n e = refl
 runs_if false x n e = cc
 
-pub running_some : (c : Call) (n : ℕ) → running_test c ≡ Some n → c.running ≡ true
+pub running_some : (c : FunctionCall) (n : ℕ) → running_test c ≡ Some n → c.running ≡ true
 running_some c n e = runs_if c.running (head_test (left c)) n e
 
 none_runs_if : (b : Bool) (x : Option ℕ) → b ≡ false → (if b then x else None) ≡ None
 none_runs_if true x e = cc
 none_runs_if false x e = refl
 
-pub none_runs : (c : Call) → c.running ≡ false → running_test c ≡ None
+pub none_runs : (c : FunctionCall) → c.running ≡ false → running_test c ≡ None
 none_runs c e = none_runs_if c.running (head_test (left c)) e
 
 pub no_commands : (u : Turn) → u.run ≡ None → commands_of u ≡ []
@@ -77,7 +77,7 @@ aside held rose path (Output b) f = absurd f
 aside held rose path (ChildDone outcome ms) f = absurd f
 aside held rose path LinkEnd f = absurd f
 
-pub message_came : (w : Worker) (m : MessageView) (c : Came) (n : ℕ) → IsMessage m c → Waits w → Does (is_last m.kind) (turned c n (turn_of w))
+pub message_came : (w : Worker) (m : MessageView) (c : Came) (n : ℕ) → MessageSays m c → Waits w → Does (is_terminate_kind m.kind) (turned c n (turn_of w))
 message_came w m (Says said) n s i = message_does w m said n s i
 message_came w m (SuiteRead tests) n s i = absurd s
 message_came w m (NoSuite text) n s i = absurd s

@@ -11,7 +11,7 @@ use Rattle.xd_reader.specs.declared.news.LinkNews.{LinkNews}
 use Rattle.xd_reader.specs.declared.news.LinkNews.TheVariants as news
 use Rattle.xd_reader.specs.declared.news.LinkStop.{LinkStop}
 use Rattle.xd_reader.specs.Reads.{PutsAll}
-use Rattle.xd_runner.specs.Orders.{EndsCut, EndsWell, Mails, Order, RunsOrders, Seen as Programs, Told, ran_of}
+use Rattle.xd_runner.specs.Orders.{EndsCut, EndsWell, Mails, Order, RunsOrders, Seen as Programs, ToldOfProgram, ran_of}
 use Rattle.xd_runner.specs.Programs.{AreRun, faults_of}
 use Rattle.xd_listen.specs.declared.server.Halt.{Halt}
 use Rattle.xd_listen.specs.declared.server.Halt.TheVariants as halt
@@ -24,7 +24,7 @@ use Rattle.xd_listen.specs.Halts.{Ceased, Goes, Strayed, at_sink, status_of}
 use Rattle.xd_listen.specs.Joined.{Back, Joined, Sources}
 use Rattle.xd_listen.specs.News.{dones}
 use Rattle.xd_listen.specs.Seen.{Seen, seen}
-use Rattle.xd_listen.specs.Serves.{Beside, IsNoted, NoneEmpty, Setting, two}
+use Rattle.xd_listen.specs.Serves.{Beside, IsEndTaken, NoneEmpty, Setting, two}
 use Rattle.xd_listen.specs.Timing.{one_if}
 use Rattle.xd_listen.proofs.Endings.{AllRan, all_ran, ended, not_strayed}
 use Rattle.xd_listen.proofs.Puts.{end_among, put_more}
@@ -60,7 +60,7 @@ ran_nothing ring mails0 mails1 s0 s1 put rest ordered none are r closed =
     no_children [] e = refl
     no_children (c ∷ l) e = cc
 
-    no_told : (l : List Told) (old new : Option (List ChildRun)) → AreRun [] (map ran_of l) old new → map ran_of l ≡ []
+    no_told : (l : List ToldOfProgram) (old new : Option (List ChildRun)) → AreRun [] (map ran_of l) old new → map ran_of l ≡ []
     no_told [] old new r = refl
     no_told (t ∷ l) old new r = let e = sym r.outputs_are ∙ ap (map (λ c. c.output)) (no_children r.children r.commands_are) in cc
 
@@ -68,7 +68,7 @@ ran_nothing ring mails0 mails1 s0 s1 put rest ordered none are r closed =
     same None = refl
     same (Some x) = ap Some (append-nil x)
 
-    no_runs : (l : List Told) (old new : Option (List ChildRun)) → AreRun [] (map ran_of l) old new → new ≡ old
+    no_runs : (l : List ToldOfProgram) (old new : Option (List ChildRun)) → AreRun [] (map ran_of l) old new → new ≡ old
     no_runs l old new r = r.added ∙ (ap (λ (c : List ChildRun). option_map (λ x. x ++ c) old) (no_children r.children r.commands_are) ∙ same old)
 
 module _ (a : Setting) (now : Beside) (before : Sources) (s : Seen) (stop : LinkStop) (ring : Ring) (ordered : List (List (List ℕ))) (b : Back) (mails : List (Option (Ring × List LinkNews))) (same : mails ≡ s.mails) (j : Joined a before s stop ring ordered b) where
@@ -109,13 +109,13 @@ module _ (a : Setting) (now : Beside) (before : Sources) (s : Seen) (stop : Link
         let old = scene a.first.sunk a.first.sink_faults before.programs.runs before.programs.faults a.first.file_faults readers runners a.clock in
         let new = scene sunk faults b.programs.runs b.programs.faults now.file_faults readers runners now.clock in
         let ran = all_ran_of c.of_runner p1.0 c.some p1.1 (few_of c.of_runner (c.drained j.memory)) in
-        let stopped : stop ≡ j.reads.stop = stop_is (subst (λ (o : Option LinkStop). IsNoted o c.of_reader) j.noted c.noted) p0.0 p0.1 in (
+        let stopped : stop ≡ j.reads.stop = stop_is (subst (λ (o : Option LinkStop). IsEndTaken o c.of_reader) j.noted c.noted) p0.0 p0.1 in (
           last_stop closed why stop,
           refl,
           ended a now s before old new why c before.source b.source b.reader_put p0.0 p1.0 b.runner_put j.reads p0.1 (j.noted ∙ ap Some stopped) p1.1 ran closed closes refl refl refl refl refl refl stop stopped,
         )
       where
-        stop_is : IsNoted (Some stop) c.of_reader → (more : List LinkNews) → b.reader_put ≡ c.of_reader ++ more → stop ≡ j.reads.stop
+        stop_is : IsEndTaken (Some stop) c.of_reader → (more : List LinkNews) → b.reader_put ≡ c.of_reader ++ more → stop ≡ j.reads.stop
         stop_is n more e = end_among j.reads.put n.0 (n.1 ++ more) stop j.reads.stop (sym j.reads.comes ∙ (e ∙ (ap (λ (l : List LinkNews). l ++ more) n.2 ∙ append_assoc n.0 (news.End stop ∷ n.1) more)))
 
     pub none_strayed : Strayed a s → ⊥

@@ -17,24 +17,24 @@ use Rattle.xd_worker.specs.declared.input.WorkerInput.{WorkerInput}
 use Rattle.xd_worker.specs.declared.input.WorkerInput.TheVariants.{Message, SuiteBytes, SuiteTooLarge, SuiteUnread, Output, ChildDone, LinkEnd}
 use Rattle.xd_worker.specs.declared.input.WorkerActions.{WorkerActions}
 use Rattle.xd_worker.specs.declared.worker.WorkerCore.{WorkerCore}
-use Rattle.xd_worker.specs.Worker.{Worker, Turn, turn_of, behind}
+use Rattle.xd_worker.specs.Worker.{Worker, Turn, turn_of, after_turn}
 use Rattle.xd_worker.specs.Turns.{Came, Told as Says, SuiteRead, NoSuite, Printed, ChildEnded, LinkEnded, turned}
-use Rattle.xd_worker.specs.History.{Heard, IsMessage, turn_by, worker_after}
+use Rattle.xd_worker.specs.History.{Heard, MessageSays, turn_by, worker_after}
 use Rattle.xd_worker.specs.Stands.{Answers, StandsFor}
-use Rattle.xd_listen.specs.Running.{call_in, rests}
-use Rattle.xd_listen.specs.Inputs.{IsDue, has_end, has_last, is_last, is_link_end, is_of_link, message_in, messages_in}
+use Rattle.xd_listen.specs.Running.{call_of_service, rests}
+use Rattle.xd_listen.specs.Inputs.{IsDue, has_end, has_terminate, is_terminate_kind, is_link_end, is_of_link, message_in, messages_in}
 use Rattle.xd_listen.specs.Programs.{commands_in, commands_of}
 use Rattle.xd_listen.specs.Took.{TookToLast}
-use Rattle.xd_listen.specs.Suites.{FilesGave, Follows, asked_path}
+use Rattle.xd_listen.specs.Suites.{FilesGave, AnswersAsking, asked_path}
 use Rattle.xd_listen.proofs.Facts.{aside, message_came, no_commands, none_more, running_some}
 use Rattle.xd_listen.proofs.Steps.{Does, Plain, Prints, Ready, Step, end_does, link_end_does, output_does, running_is}
 use Rattle.xd_listen.proofs.Tellings.{answered_later, count_more, rose_later, speaks_more}
 use Rattle.xd_listen.specs.declared.server.Door.{Door}
 use Rattle.xd_listen.specs.declared.server.Door.TheVariants as door
 use Rattle.xd_listen.specs.Halts.{door_behind}
-use Rattle.xd_listen.specs.News.{dones, news_by, news_in}
-use Rattle.xd_listen.specs.Seen.{Seen, is_shut}
-use Rattle.xd_listen.specs.Serves.{Beside, beside, FromLink, IsBusy, IsListening, ReadsSo, RunsSo, Serves, Setting, of_link, of_program, to_start}
+use Rattle.xd_listen.specs.News.{dones, news_of_input, news_in}
+use Rattle.xd_listen.specs.Seen.{Seen, is_door_shut}
+use Rattle.xd_listen.specs.Serves.{Beside, beside, FromLink, IsBusy, IsListening, ReadsSo, RunsSo, ServesSoFar, Setting, owed_of_link, of_program, to_start}
 use Rattle.xd_listen.specs.Timing.{Ticking, Ticks, AreTimed, durations_in, one_if}
 use Rattle.xd_listen.specs.Spoke.{Spoke, Voice, voice}
 use Rattle.xd_listen.proofs.Counting.{dones_done, dones_piece}
@@ -47,7 +47,7 @@ spoken core broken sunk faults s = record s { core = core; broken = broken; sunk
 
 -- what an input adds
 pub spoke_more : (held : Option Held) (inputs : List WorkerInput) (h : List Heard) (b0 b1 : Bool) (first v0 v1 : Voice) (core : WorkerCore) (i : WorkerInput) (acts : WorkerActions)
-    → b0 ≡ false → Spoke held inputs h (not b0) first v0 → (a : Answers core (worker_after h) i acts) → IsDue (worker_after h) i → Follows held (Rose first.file_faults v1.file_faults) (asked_path h) i
+    → b0 ≡ false → Spoke held inputs h (not b0) first v0 → (a : Answers core (worker_after h) i acts) → IsDue (worker_after h) i → AnswersAsking held (Rose first.file_faults v1.file_faults) (asked_path h) i
     → (is_of_link i ≡ true → has_end inputs ≡ false) → WritesMore b0 b1 (frames acts.say) v0.sunk v1.sunk → CountBehind b0 b1 v0.sink_faults v1.sink_faults → v0.sink_faults ≤ v1.sink_faults → v0.file_faults ≤ v1.file_faults
     → Spoke held (i ∷ inputs) (a.heard ∷ h) (not b1) first v1
 spoke_more held inputs h b0 b1 first v0 v1 core i acts whole t a due follows once writes count later files = record {
@@ -62,20 +62,20 @@ spoke_more held inputs h b0 b1 first v0 v1 core i acts whole t a due follows onc
 
 -- ---- which test runs
 
-runs_at : (r : Option ℕ) (u : Turn) → u.run ≡ r → Ready u → RunsSo None (commands_of u) (behind u)
-runs_at None u e y = subst (λ (l : List (List (List ℕ))). RunsSo None l (behind u)) (sym (no_commands u e)) (y.some e)
+runs_at : (r : Option ℕ) (u : Turn) → u.run ≡ r → Ready u → RunsSo None (commands_of u) (after_turn u)
+runs_at None u e y = subst (λ (l : List (List (List ℕ))). RunsSo None l (after_turn u)) (sym (no_commands u e)) (y.some e)
 runs_at (Some k) u e y =
-    let runs : running_test (call_in u.duties.service) ≡ Some k = y.test ∙ e in
-    subst (λ (l : List (List (List ℕ))). RunsSo None l (behind u)) (sym (ap (λ (r : Option ℕ). map (run_at u.duties.tests) (option_to_list r)) e))
-    (record { test = k; runs = runs; busy = y.busy (running_some (call_in u.duties.service) k runs) }, refl, refl)
+    let runs : running_test (call_of_service u.duties.service) ≡ Some k = y.test ∙ e in
+    subst (λ (l : List (List (List ℕ))). RunsSo None l (after_turn u)) (sym (ap (λ (r : Option ℕ). map (run_at u.duties.tests) (option_to_list r)) e))
+    (record { test = k; runs = runs; busy = y.busy (running_some (call_of_service u.duties.service) k runs) }, refl, refl)
 
 -- behind an input where none ran
-pub ready_runs : (u : Turn) → Ready u → RunsSo None (commands_of u) (behind u)
+pub ready_runs : (u : Turn) → Ready u → RunsSo None (commands_of u) (after_turn u)
 ready_runs u y = runs_at u.run u refl y
 
 -- behind an input while one ran, which runs on
-pub kept_runs : (moment : ℕ) (u : Turn) (test : ℕ) → running_test (call_in u.duties.service) ≡ Some test → rests (call_in u.duties.service).phase ≡ false → u.run ≡ None → RunsSo (Some moment) (commands_of u) (behind u)
-kept_runs moment u test runs busy none = subst (λ (l : List (List (List ℕ))). RunsSo (Some moment) l (behind u)) (sym (no_commands u none)) (record { test = test; runs = runs; busy = busy })
+pub kept_runs : (moment : ℕ) (u : Turn) (test : ℕ) → running_test (call_of_service u.duties.service) ≡ Some test → rests (call_of_service u.duties.service).phase ≡ false → u.run ≡ None → RunsSo (Some moment) (commands_of u) (after_turn u)
+kept_runs moment u test runs busy none = subst (λ (l : List (List (List ℕ))). RunsSo (Some moment) l (after_turn u)) (sym (no_commands u none)) (record { test = test; runs = runs; busy = busy })
 
 more_commands : (h : List Heard) (g : Heard) (orders left : List (List (List ℕ))) → commands_in h ≡ orders ++ left → left ≡ [] → commands_in (g ∷ h) ≡ orders ++ commands_of (turn_by (worker_after h) g)
 more_commands h g orders left e n = ap (λ (l : List (List (List ℕ))). l ++ commands_of (turn_by (worker_after h) g)) (e ∙ (ap (λ (l : List (List (List ℕ))). orders ++ l) n ∙ append-nil orders))
@@ -85,17 +85,17 @@ runs_now started left w e r = subst (λ (l : List (List (List ℕ))). RunsSo sta
 
 -- ---- messages
 
-shut_behind : (b : Bool) (d : Door) → d ≡ door.Open → b ≡ is_shut (door_behind b d)
+shut_behind : (b : Bool) (d : Door) → d ≡ door.Open → b ≡ is_door_shut (door_behind b d)
 shut_behind true d e = refl
-shut_behind false d e = sym (ap is_shut e)
+shut_behind false d e = sym (ap is_door_shut e)
 
 -- a message does this to the test that runs, and to what is read
 record Did (started : Option ℕ) (last : Bool) (d : Door) (u : Turn) : Type 0 where
-  runs : RunsSo started (commands_of u) (behind u)
+  runs : RunsSo started (commands_of u) (after_turn u)
   stopped : u.duties.stopped ≡ last
-  reads : ReadsSo u.suite started (commands_of u) (door_behind last d) (behind u)
+  reads : ReadsSo u.suite started (commands_of u) (door_behind last d) (after_turn u)
 
-reads_by : (p : Option (List ℕ)) (b : Bool) (d : Door) (u : Turn) → d ≡ door.Open → u.suite ≡ p → Does b u → ReadsSo p None (commands_of u) (door_behind b d) (behind u)
+reads_by : (p : Option (List ℕ)) (b : Bool) (d : Door) (u : Turn) → d ≡ door.Open → u.suite ≡ p → Does b u → ReadsSo p None (commands_of u) (door_behind b d) (after_turn u)
 reads_by None b d u o e x = tt
 reads_by (Some path) true d u o e x = let z = sym (x.ends refl).1 ∙ e in cc
 reads_by (Some path) false d u o e x = ((x.path path e).1, refl, no_commands u (x.path path e).0, o)
@@ -107,10 +107,10 @@ did_busy : (moment : ℕ) (b : Bool) (d : Door) (u : Turn) (test : ℕ) → Keep
 did_busy moment b d u test x = record {
   runs = kept_runs moment u test x.test x.busy x.run;
   stopped = x.stopped;
-  reads = subst (λ (p : Option (List ℕ)). ReadsSo p (Some moment) (commands_of u) (door_behind b d) (behind u)) (sym x.suite) tt;
+  reads = subst (λ (p : Option (List ℕ)). ReadsSo p (Some moment) (commands_of u) (door_behind b d) (after_turn u)) (sym x.suite) tt;
 }
 
-keeps_message : (w : Worker) (m : MessageView) (c : Came) (k n : ℕ) → IsMessage m c → running_test (call_in w.duties.service) ≡ Some n → rests (call_in w.duties.service).phase ≡ false → w.duties.stopped ≡ false → Keeps n (is_last m.kind) (turned c k (turn_of w))
+keeps_message : (w : Worker) (m : MessageView) (c : Came) (k n : ℕ) → MessageSays m c → running_test (call_of_service w.duties.service) ≡ Some n → rests (call_of_service w.duties.service).phase ≡ false → w.duties.stopped ≡ false → Keeps n (is_terminate_kind m.kind) (turned c k (turn_of w))
 keeps_message w m (Says said) k n s r b u = message_keeps w m said k n s r b u
 keeps_message w m (SuiteRead tests) k n s r b u = absurd s
 keeps_message w m (NoSuite text) k n s r b u = absurd s
@@ -118,12 +118,12 @@ keeps_message w m (Printed x) k n s r b u = absurd s
 keeps_message w m (ChildEnded outcome ms) k n s r b u = absurd s
 keeps_message w m LinkEnded k n s r b u = absurd s
 
-message_did : (started : Option ℕ) (w : Worker) (m : MessageView) (g : Heard) (d : Door) → IsMessage m g.came → d ≡ door.Open → w.duties.stopped ≡ false → RunsSo started [] w → Did started (is_last m.kind) d (turn_by w g)
-message_did None w m g d is o u r = did_idle (is_last m.kind) d (turn_by w g) o (message_came w m g.came g.channels is (record { idle = r; unstopped = u }))
-message_did (Some moment) w m g d is o u r = did_busy moment (is_last m.kind) d (turn_by w g) r.test (keeps_message w m g.came g.channels r.test is r.runs r.busy u)
+message_did : (started : Option ℕ) (w : Worker) (m : MessageView) (g : Heard) (d : Door) → MessageSays m g.came → d ≡ door.Open → w.duties.stopped ≡ false → RunsSo started [] w → Did started (is_terminate_kind m.kind) d (turn_by w g)
+message_did None w m g d is o u r = did_idle (is_terminate_kind m.kind) d (turn_by w g) o (message_came w m g.came g.channels is (record { idle = r; unstopped = u }))
+message_did (Some moment) w m g d is o u r = did_busy moment (is_terminate_kind m.kind) d (turn_by w g) r.test (keeps_message w m g.came g.channels r.test is r.runs r.busy u)
 
 -- the items of the reader behind a message
-link_behind : (b : Bool) (m : MessageView) (d : Door) (inputs : List WorkerInput) (got : List LinkNews) → d ≡ door.Open → is_last m.kind ≡ b → FromLink d inputs got → FromLink (door_behind b d) (Message m ∷ inputs) (got ++ news.Message m ∷ [])
+link_behind : (b : Bool) (m : MessageView) (d : Door) (inputs : List WorkerInput) (got : List LinkNews) → d ≡ door.Open → is_terminate_kind m.kind ≡ b → FromLink d inputs got → FromLink (door_behind b d) (Message m ∷ inputs) (got ++ news.Message m ∷ [])
 link_behind b m d inputs got o e f = by b e
   where
     x : IsListening inputs got
@@ -132,7 +132,7 @@ link_behind b m d inputs got o e f = by b e
     more : got ++ news.Message m ∷ [] ≡ map news.Message (messages_in inputs ++ m ∷ [])
     more = ap (λ (l : List LinkNews). l ++ news.Message m ∷ []) x.got_is ∙ sym (map-append news.Message (messages_in inputs) (m ∷ []))
 
-    by : (c : Bool) → is_last m.kind ≡ c → FromLink (door_behind c d) (Message m ∷ inputs) (got ++ news.Message m ∷ [])
+    by : (c : Bool) → is_terminate_kind m.kind ≡ c → FromLink (door_behind c d) (Message m ∷ inputs) (got ++ news.Message m ∷ [])
     by true h = record {
       later = [];
       got_is = more ∙ sym (append-nil (map news.Message (messages_in inputs ++ m ∷ [])));
@@ -144,15 +144,15 @@ link_behind b m d inputs got o e f = by b e
 
 module _ (a : Setting) (now : Beside) (s : Seen) (core : WorkerCore) (broken : Bool) (sunk : Option Sunk) (faults : ℕ) (acts : WorkerActions)
     (writes : WritesMore s.broken broken (frames acts.say) s.sunk sunk) (count : CountBehind s.broken broken s.sink_faults faults) (later : s.sink_faults ≤ faults) where
-  pub message_heard : (m : MessageView) (last : Bool) → is_last m.kind ≡ last → s.door ≡ door.Open → ((h : List Heard) → StandsFor s.core h → Answers core (worker_after h) (Message m) acts)
-      → Serves a now (of_link (news.Message m)) s → Serves a now (to_start acts.suite) (record (spoken core broken sunk faults s) { door = door_behind last s.door })
+  pub message_heard : (m : MessageView) (last : Bool) → is_terminate_kind m.kind ≡ last → s.door ≡ door.Open → ((h : List Heard) → StandsFor s.core h → Answers core (worker_after h) (Message m) acts)
+      → ServesSoFar a now (owed_of_link (news.Message m)) s → ServesSoFar a now (to_start acts.suite) (record (spoken core broken sunk faults s) { door = door_behind last s.door })
   message_heard m last e o answers g =
       let h = g.history in
       let w = worker_after h in
       let x = answers h g.stands in
       let u = turn_by w x.heard in
       let listens : IsListening g.inputs g.of_reader = subst (λ (d : Door). FromLink d g.inputs g.of_reader) o g.from_link in
-      let d : Did s.started last s.door u = subst (λ (b : Bool). Did s.started b s.door u) e (message_did s.started w m x.heard s.door x.is o (g.stopped ∙ ap is_shut o) (runs_now s.started g.left w (g.settled refl) g.runs)) in
+      let d : Did s.started last s.door u = subst (λ (b : Bool). Did s.started b s.door u) e (message_did s.started w m x.heard s.door x.is o (g.stopped ∙ ap is_door_shut o) (runs_now s.started g.left w (g.settled refl) g.runs)) in
       record {
         inputs = Message m ∷ g.inputs;
         history = x.heard ∷ h;
@@ -160,7 +160,7 @@ module _ (a : Setting) (now : Beside) (s : Seen) (core : WorkerCore) (broken : B
         of_runner = g.of_runner;
         left = commands_of u;
         spoke = spoke_more a.held g.inputs h s.broken broken a.first (voice s.sunk s.sink_faults now.file_faults) (voice sunk faults now.file_faults) core (Message m) acts (g.whole refl) g.spoke x tt
-            (subst (λ (p : Option (List ℕ)). Follows a.held (Rose a.first.file_faults now.file_faults) p (Message m)) (sym g.path_is) refl)
+            (subst (λ (p : Option (List ℕ)). AnswersAsking a.held (Rose a.first.file_faults now.file_faults) p (Message m)) (sym g.path_is) refl)
             (λ z. listens.no_end) writes count later (omega arith);
         stands = x.worker;
         path_is = sym x.suite;
@@ -177,13 +177,13 @@ module _ (a : Setting) (now : Beside) (s : Seen) (core : WorkerCore) (broken : B
         some = g.some;
         ring = g.ring;
         runs = d.runs;
-        reads = subst (λ (p : Option (List ℕ)). ReadsSo p s.started (commands_of u) (door_behind last s.door) (behind u)) (sym x.suite) d.reads;
+        reads = subst (λ (p : Option (List ℕ)). ReadsSo p s.started (commands_of u) (door_behind last s.door) (after_turn u)) (sym x.suite) d.reads;
         stopped = d.stopped ∙ shut_behind last s.door o;
       }
 
   -- the link's end
   end_did : (started : Option ℕ) (w : Worker) (k : ℕ) → w.duties.stopped ≡ false → RunsSo started [] w → Did started true door.Ended (turned LinkEnded k (turn_of w))
-  end_did None w k u r = let x = link_end_does w k r in record { runs = ready_runs (turned LinkEnded k (turn_of w)) x.ready; stopped = x.stopped; reads = subst (λ (p : Option (List ℕ)). ReadsSo p None (commands_of (turned LinkEnded k (turn_of w))) door.Terminated (behind (turned LinkEnded k (turn_of w)))) (sym (x.ends refl).1) tt }
+  end_did None w k u r = let x = link_end_does w k r in record { runs = ready_runs (turned LinkEnded k (turn_of w)) x.ready; stopped = x.stopped; reads = subst (λ (p : Option (List ℕ)). ReadsSo p None (commands_of (turned LinkEnded k (turn_of w))) door.Terminated (after_turn (turned LinkEnded k (turn_of w)))) (sym (x.ends refl).1) tt }
   end_did (Some moment) w k u r = did_busy moment true door.Ended (turned LinkEnded k (turn_of w)) r.test (link_end_keeps w k r.test r.runs r.busy u)
 
   end_suite : (started : Option ℕ) (w : Worker) (k : ℕ) → w.duties.stopped ≡ false → RunsSo started [] w → (turned LinkEnded k (turn_of w)).suite ≡ None
@@ -191,14 +191,14 @@ module _ (a : Setting) (now : Beside) (s : Seen) (core : WorkerCore) (broken : B
   end_suite (Some moment) w k u r = (link_end_keeps w k r.test r.runs r.busy u).suite
 
   pub end_heard : s.door ≡ door.Open → ((h : List Heard) → StandsFor s.core h → Answers core (worker_after h) LinkEnd acts)
-      → Serves a now (of_link (news.End link.Ended)) s → Serves a now (to_start None) (record (spoken core broken sunk faults s) { door = door.Ended })
+      → ServesSoFar a now (owed_of_link (news.End link.Ended)) s → ServesSoFar a now (to_start None) (record (spoken core broken sunk faults s) { door = door.Ended })
   end_heard o answers g =
       let h = g.history in
       let w = worker_after h in
       let x = answers h g.stands in
       let u = turn_by w x.heard in
       let listens : IsListening g.inputs g.of_reader = subst (λ (d : Door). FromLink d g.inputs g.of_reader) o g.from_link in
-      let unstopped = g.stopped ∙ ap is_shut o in
+      let unstopped = g.stopped ∙ ap is_door_shut o in
       let runs = runs_now s.started g.left w (g.settled refl) g.runs in
       let d : Did s.started true door.Ended u = subst (λ (c : Came). Did s.started true door.Ended (turned c x.heard.channels (turn_of w))) (sym x.is) (end_did s.started w x.heard.channels unstopped runs) in
       record {
@@ -208,7 +208,7 @@ module _ (a : Setting) (now : Beside) (s : Seen) (core : WorkerCore) (broken : B
         of_runner = g.of_runner;
         left = commands_of u;
         spoke = spoke_more a.held g.inputs h s.broken broken a.first (voice s.sunk s.sink_faults now.file_faults) (voice sunk faults now.file_faults) core LinkEnd acts (g.whole refl) g.spoke x tt
-            (subst (λ (p : Option (List ℕ)). Follows a.held (Rose a.first.file_faults now.file_faults) p LinkEnd) (sym g.path_is) refl)
+            (subst (λ (p : Option (List ℕ)). AnswersAsking a.held (Rose a.first.file_faults now.file_faults) p LinkEnd) (sym g.path_is) refl)
             (λ z. listens.no_end) writes count later (omega arith);
         stands = x.worker;
         path_is = subst (λ (c : Came). (turned c x.heard.channels (turn_of w)).suite ≡ None) (sym x.is) (end_suite s.started w x.heard.channels unstopped runs);
@@ -216,7 +216,7 @@ module _ (a : Setting) (now : Beside) (s : Seen) (core : WorkerCore) (broken : B
         from_link = record {
           later = [];
           got_is = ap (λ (l : List LinkNews). l ++ news.End link.Ended ∷ []) (listens.got_is ∙ ap (map news.Message) (sym (append-nil (messages_in g.inputs))));
-          none_last = ap has_last (append-nil (messages_in g.inputs)) ∙ listens.none_last;
+          none_last = ap has_terminate (append-nil (messages_in g.inputs)) ∙ listens.none_last;
           end = refl;
         };
         noted = g.noted;
@@ -240,7 +240,7 @@ module _ (a : Setting) (now : Beside) (s : Seen) (core : WorkerCore) (broken : B
   busy_of None w e r = cc
   busy_of (Some moment) w e r = r
 
-  still_runs : (started : Option ℕ) (u : Turn) → IsSome started → (test : ℕ) → running_test (call_in u.duties.service) ≡ Some test → rests (call_in u.duties.service).phase ≡ false → u.run ≡ None → RunsSo started (commands_of u) (behind u)
+  still_runs : (started : Option ℕ) (u : Turn) → IsSome started → (test : ℕ) → running_test (call_of_service u.duties.service) ≡ Some test → rests (call_of_service u.duties.service).phase ≡ false → u.run ≡ None → RunsSo started (commands_of u) (after_turn u)
   still_runs None u e test r b n = cc
   still_runs (Some moment) u e test r b n = kept_runs moment u test r b n
 
@@ -254,12 +254,12 @@ module _ (a : Setting) (now : Beside) (s : Seen) (core : WorkerCore) (broken : B
       end = ap (λ (b : Bool). b || has_end inputs) e
 
       by : (c : Door) → FromLink c inputs got → FromLink c (i ∷ inputs) got
-      by door.Open x = record { got_is = x.got_is ∙ ap (map news.Message) (sym same); none_last = ap has_last same ∙ x.none_last; no_end = end ∙ x.no_end }
+      by door.Open x = record { got_is = x.got_is ∙ ap (map news.Message) (sym same); none_last = ap has_terminate same ∙ x.none_last; no_end = end ∙ x.no_end }
       by door.Terminated x = record { later = x.later; got_is = x.got_is ∙ ap (λ (l : List MessageView). map news.Message l ++ x.later) (sym same); last = subst TookToLast (sym same) x.last; no_end = end ∙ x.no_end }
-      by door.Ended x = record { later = x.later; got_is = x.got_is ∙ ap (λ (l : List MessageView). map news.Message l ++ news.End link.Ended ∷ x.later) (sym same); none_last = ap has_last same ∙ x.none_last; end = end ∙ x.end }
+      by door.Ended x = record { later = x.later; got_is = x.got_is ∙ ap (λ (l : List MessageView). map news.Message l ++ news.End link.Ended ∷ x.later) (sym same); none_last = ap has_terminate same ∙ x.none_last; end = end ∙ x.end }
 
   pub output_heard : (piece : List ℕ) → IsSome s.started → length piece ≤ 4096 → ((h : List Heard) → StandsFor s.core h → Answers core (worker_after h) (Output piece) acts)
-      → Serves a now (of_program (news.Output piece)) s → Serves a now (to_start None) (spoken core broken sunk faults s)
+      → ServesSoFar a now (of_program (news.Output piece)) s → ServesSoFar a now (to_start None) (spoken core broken sunk faults s)
   output_heard piece some few answers g =
       let h = g.history in
       let w = worker_after h in
@@ -275,7 +275,7 @@ module _ (a : Setting) (now : Beside) (s : Seen) (core : WorkerCore) (broken : B
         left = commands_of u;
         spoke = spoke_more a.held g.inputs h s.broken broken a.first (voice s.sunk s.sink_faults now.file_faults) (voice sunk faults now.file_faults) core (Output piece) acts (g.whole refl) g.spoke x
             (subst (λ (o : Option ℕ). IsSome o) (sym (running_is w.duties.service ∙ r.runs)) search, few)
-            (subst (λ (p : Option (List ℕ)). Follows a.held (Rose a.first.file_faults now.file_faults) p (Output piece)) (sym g.path_is) refl)
+            (subst (λ (p : Option (List ℕ)). AnswersAsking a.held (Rose a.first.file_faults now.file_faults) p (Output piece)) (sym g.path_is) refl)
             (λ z. cc) writes count later (omega arith);
         stands = x.worker;
         path_is = p.rest.suite;
@@ -297,7 +297,7 @@ module _ (a : Setting) (now : Beside) (s : Seen) (core : WorkerCore) (broken : B
       }
 
   pub done_heard : (outcome : Outcome) (ms : ℕ) (clock : Ticking) → IsSome s.started → IfSome s.started (λ start. Ticks (start + ms) now.clock clock) → ((h : List Heard) → StandsFor s.core h → Answers core (worker_after h) (ChildDone outcome ms) acts)
-      → Serves a now (of_program (news.ChildDone outcome)) s → Serves a (beside now.file_faults clock) (to_start None) (record (spoken core broken sunk faults s) { started = None })
+      → ServesSoFar a now (of_program (news.ChildDone outcome)) s → ServesSoFar a (beside now.file_faults clock) (to_start None) (record (spoken core broken sunk faults s) { started = None })
   done_heard outcome ms clock some measured answers g =
       let h = g.history in
       let w = worker_after h in
@@ -313,7 +313,7 @@ module _ (a : Setting) (now : Beside) (s : Seen) (core : WorkerCore) (broken : B
         left = commands_of u;
         spoke = spoke_more a.held g.inputs h s.broken broken a.first (voice s.sunk s.sink_faults now.file_faults) (voice sunk faults now.file_faults) core (ChildDone outcome ms) acts (g.whole refl) g.spoke x
             (subst (λ (o : Option ℕ). IsSome o) (sym (running_is w.duties.service ∙ r.runs)) search)
-            (subst (λ (p : Option (List ℕ)). Follows a.held (Rose a.first.file_faults now.file_faults) p (ChildDone outcome ms)) (sym g.path_is) refl)
+            (subst (λ (p : Option (List ℕ)). AnswersAsking a.held (Rose a.first.file_faults now.file_faults) p (ChildDone outcome ms)) (sym g.path_is) refl)
             (λ z. cc) writes count later (omega arith);
         stands = x.worker;
         path_is = p.rest.suite;
@@ -341,7 +341,7 @@ module _ (a : Setting) (now : Beside) (s : Seen) (core : WorkerCore) (broken : B
   -- ---- a suite
 
   pub suite_heard : (path : List ℕ) (i : WorkerInput) (files1 : ℕ) → s.broken ≡ false → FilesGave a.held (Rose now.file_faults files1) path i → now.file_faults ≤ files1 → ((h : List Heard) → StandsFor s.core h → Answers core (worker_after h) i acts)
-      → Serves a now (to_start (Some path)) s → Serves a (beside files1 now.clock) (to_start None) (spoken core broken sunk faults s)
+      → ServesSoFar a now (to_start (Some path)) s → ServesSoFar a (beside files1 now.clock) (to_start None) (spoken core broken sunk faults s)
   suite_heard path i files1 whole gave more answers g =
       let h = g.history in
       let w = worker_after h in
@@ -349,7 +349,7 @@ module _ (a : Setting) (now : Beside) (s : Seen) (core : WorkerCore) (broken : B
       let u = turn_by w x.heard in
       let y = aside a.held (Rose now.file_faults files1) path i gave in
       let runs : RunsSo None [] w = subst (λ (o : Option ℕ). RunsSo o [] w) g.reads.1 (runs_now s.started g.left w g.reads.2 g.runs) in
-      let d : Plain u = y.does w x.heard x.is (record { idle = runs; unstopped = g.stopped ∙ ap is_shut g.reads.3 }) in
+      let d : Plain u = y.does w x.heard x.is (record { idle = runs; unstopped = g.stopped ∙ ap is_door_shut g.reads.3 }) in
       record {
         inputs = i ∷ g.inputs;
         history = x.heard ∷ h;
@@ -358,7 +358,7 @@ module _ (a : Setting) (now : Beside) (s : Seen) (core : WorkerCore) (broken : B
         left = commands_of u;
         spoke = spoke_more a.held g.inputs h s.broken broken a.first (voice s.sunk s.sink_faults now.file_faults) (voice sunk faults files1) core i acts whole g.spoke x
             (y.due w g.reads.0)
-            (subst (λ (p : Option (List ℕ)). Follows a.held (Rose a.first.file_faults files1) p i) (sym g.path_is) (since i gave))
+            (subst (λ (p : Option (List ℕ)). AnswersAsking a.held (Rose a.first.file_faults files1) p i) (sym g.path_is) (since i gave))
             (λ z. let q = sym y.link ∙ z in cc) writes count later more;
         stands = x.worker;
         path_is = d.suite;
@@ -374,9 +374,9 @@ module _ (a : Setting) (now : Beside) (s : Seen) (core : WorkerCore) (broken : B
         timed = subst (λ (l : List ℕ). AreTimed s.started l a.clock now.clock) (sym (untimed a.held (Rose now.file_faults files1) path i g.inputs gave)) g.timed;
         some = g.some;
         ring = g.ring;
-        runs = subst (λ (o : Option ℕ). RunsSo o (commands_of u) (behind u)) (sym g.reads.1) (ready_runs u d.ready);
+        runs = subst (λ (o : Option ℕ). RunsSo o (commands_of u) (after_turn u)) (sym g.reads.1) (ready_runs u d.ready);
         reads = tt;
-        stopped = d.unstopped ∙ sym (ap is_shut g.reads.3);
+        stopped = d.unstopped ∙ sym (ap is_door_shut g.reads.3);
       }
     where
       since : (j : WorkerInput) → FilesGave a.held (Rose now.file_faults files1) path j → FilesGave a.held (Rose a.first.file_faults files1) path j
@@ -388,7 +388,7 @@ module _ (a : Setting) (now : Beside) (s : Seen) (core : WorkerCore) (broken : B
       since (ChildDone outcome ms) f = f
       since LinkEnd f = f
 
-      no_news : (j : WorkerInput) → FilesGave a.held (Rose now.file_faults files1) path j → news_by j ≡ []
+      no_news : (j : WorkerInput) → FilesGave a.held (Rose now.file_faults files1) path j → news_of_input j ≡ []
       no_news (Message m) f = absurd f
       no_news (SuiteBytes b) f = refl
       no_news SuiteTooLarge f = refl

@@ -12,43 +12,43 @@ use Rattle.xd_listen.specs.declared.server.Halt.{Halt}
 use Rattle.xd_listen.specs.declared.server.Halt.TheVariants as halt
 use Rattle.xd_listen.specs.declared.stop.Stop.TheVariants as stop
 use Rattle.xd_listen.specs.Halts.{Goes, IsStrange, IsUncalled, unless_shut}
-use Rattle.xd_listen.specs.Seen.{Seen, is_shut}
-use Rattle.xd_listen.specs.Serves.{Beside, Serves, Setting, of_inbox, of_link, of_program}
+use Rattle.xd_listen.specs.Seen.{Seen, is_door_shut}
+use Rattle.xd_listen.specs.Serves.{Beside, ServesSoFar, Setting, of_inbox, owed_of_link, of_program}
 use Rattle.xd_listen.specs.Timing.{one_if}
 use Rattle.xd_listen.proofs.Settling.{dropped, end_ceases, strange}
 
 -- ---- inboxes
 
-pub of_first : (n : ℕ) (item : LinkNews) → n ≡ 0 → of_inbox n item ≡ of_link item
+pub of_first : (n : ℕ) (item : LinkNews) → n ≡ 0 → of_inbox n item ≡ owed_of_link item
 of_first n item e = ap (λ (k : ℕ). of_inbox k item) e
 
 pub of_other : (n : ℕ) (item : LinkNews) → n ≢ 0 → of_inbox n item ≡ of_program item
 of_other zero item e = absurd (e refl)
 of_other (suc n) item e = refl
 
-pub open_if : (d : Door) → is_shut d ≡ false → d ≡ door.Open
+pub open_if : (d : Door) → is_door_shut d ≡ false → d ≡ door.Open
 open_if door.Open e = refl
 open_if door.Terminated e = cc
 open_if door.Ended e = cc
 
 module _ (a : Setting) (now : Beside) (s : Seen) where
-  unless : (item : LinkNews) (h : Halt) → (s.door ≡ door.Open → Serves a now (of_link item) s → Goes (Some h) a now s) → Serves a now (of_link item) s → Goes (unless_shut (is_shut s.door) h) a now s
-  unless item h f g = by (is_shut s.door) refl
+  unless : (item : LinkNews) (h : Halt) → (s.door ≡ door.Open → ServesSoFar a now (owed_of_link item) s → Goes (Some h) a now s) → ServesSoFar a now (owed_of_link item) s → Goes (unless_shut (is_door_shut s.door) h) a now s
+  unless item h f g = by (is_door_shut s.door) refl
     where
-      by : (b : Bool) → is_shut s.door ≡ b → Goes (unless_shut b h) a now s
+      by : (b : Bool) → is_door_shut s.door ≡ b → Goes (unless_shut b h) a now s
       by true e = dropped a now s item e g
       by false e = f (open_if s.door e) g
 
-  pub cut_unless : Serves a now (of_link (news.End link.Cut)) s → Goes (unless_shut (is_shut s.door) (halt.At stop.Cut)) a now s
+  pub cut_unless : ServesSoFar a now (owed_of_link (news.End link.Cut)) s → Goes (unless_shut (is_door_shut s.door) (halt.At stop.Cut)) a now s
   cut_unless g = unless (news.End link.Cut) (halt.At stop.Cut) (λ o x. end_ceases a now s stop.Cut link.Cut refl refl o (λ inputs h n. (refl, n)) x) g
 
-  pub header_unless : (f : FrameFault) → Serves a now (of_link (news.End (link.Garbled f))) s → Goes (unless_shut (is_shut s.door) (halt.At (stop.Header f))) a now s
+  pub header_unless : (f : FrameFault) → ServesSoFar a now (owed_of_link (news.End (link.Garbled f))) s → Goes (unless_shut (is_door_shut s.door) (halt.At (stop.Header f))) a now s
   header_unless f g = unless (news.End (link.Garbled f)) (halt.At (stop.Header f)) (λ o x. end_ceases a now s (stop.Header f) (link.Garbled f) refl refl o (λ inputs h n. (refl, n)) x) g
 
-  pub unread_unless : Serves a now (of_link (news.End link.ReadFault)) s → Goes (unless_shut (is_shut s.door) (halt.At stop.ReadFault)) a now s
+  pub unread_unless : ServesSoFar a now (owed_of_link (news.End link.ReadFault)) s → Goes (unless_shut (is_door_shut s.door) (halt.At stop.ReadFault)) a now s
   unread_unless g = unless (news.End link.ReadFault) (halt.At stop.ReadFault) (λ o x. end_ceases a now s stop.ReadFault link.ReadFault refl refl o (λ inputs h n. (refl, n)) x) g
 
-  pub strange_unless : (item : LinkNews) → IsStrange item → Serves a now (of_link item) s → Goes (unless_shut (is_shut s.door) halt.Astray) a now s
+  pub strange_unless : (item : LinkNews) → IsStrange item → ServesSoFar a now (owed_of_link item) s → Goes (unless_shut (is_door_shut s.door) halt.Astray) a now s
   strange_unless item odd g = unless item halt.Astray (λ o x. strange a now s item odd o x) g
 
 -- ---- programs

@@ -17,9 +17,9 @@ use Rattle.xd_worker.specs.declared.input.WorkerFault.TheVariants as fault
 use Rattle.xd_worker.specs.declared.worker.WorkerCore.{WorkerCore}
 use Rattle.xd_worker.specs.Worker.{Worker, running_in}
 use Rattle.xd_worker.specs.History.{Heard, is_over, worker_after}
-use Rattle.xd_worker.specs.Stands.{IsFault, StandsFor}
-use Rattle.xd_listen.specs.Running.{call_in}
-use Rattle.xd_listen.specs.Inputs.{has_last, messages_in}
+use Rattle.xd_worker.specs.Stands.{FaultHasReason, StandsFor}
+use Rattle.xd_listen.specs.Running.{call_of_service}
+use Rattle.xd_listen.specs.Inputs.{has_terminate, messages_in}
 use Rattle.xd_listen.specs.Programs.{AreLeft}
 use Rattle.xd_listen.proofs.Facts.{none_is, none_runs}
 use Rattle.xd_listen.proofs.Steps.{running_is}
@@ -27,10 +27,10 @@ use Rattle.xd_listen.specs.declared.server.Door.{Door}
 use Rattle.xd_listen.specs.declared.server.Door.TheVariants as door
 use Rattle.xd_listen.specs.declared.stop.Stop.{Stop}
 use Rattle.xd_listen.specs.declared.stop.Stop.TheVariants as stop
-use Rattle.xd_listen.specs.Halts.{Ceased, Ceases, CeasesBy, Goes, IsStrange, IsUncalled, Strayed, is_whole, over_by, status_of}
+use Rattle.xd_listen.specs.Halts.{Ceased, Ceases, CeasesBy, Goes, IsStrange, IsUncalled, Strayed, is_sink_whole, over_by, status_of}
 use Rattle.xd_listen.specs.News.{dones, news_in}
-use Rattle.xd_listen.specs.Seen.{Seen, is_shut}
-use Rattle.xd_listen.specs.Serves.{Beside, beside, FromLink, HeardEnd, HeardLast, IsBusy, IsListening, NoneEmpty, Runs, RunsSo, Serves, Setting, nothing, of_link, of_program, to_start}
+use Rattle.xd_listen.specs.Seen.{Seen, is_door_shut}
+use Rattle.xd_listen.specs.Serves.{Beside, beside, FromLink, HeardEnd, HeardLast, IsBusy, IsListening, NoneEmpty, RunsTest, RunsSo, ServesSoFar, Setting, nothing, owed_of_link, of_program, to_start}
 use Rattle.xd_listen.specs.Timing.{Ticking, Ticks, durations_in, one_if}
 use Rattle.xd_listen.specs.Spoke.{Spoke, voice}
 use Rattle.xd_listen.proofs.Counting.{dones-append}
@@ -51,15 +51,15 @@ some_by x a b e f = let z = sym e ∙ f in cc
 
 -- the command that is to be started is that of the running test
 left_is : (left : List (List (List ℕ))) (w : Worker) (test : ℕ) → running_in w.duties.service ≡ Some test → RunsSo None left w → (left ≡ run_at w.duties.tests test ∷ []) × IsBusy w
-left_is [] w test e r = let z = sym (running_is w.duties.service ∙ none_runs (call_in w.duties.service) r) ∙ e in cc
+left_is [] w test e r = let z = sym (running_is w.duties.service ∙ none_runs (call_of_service w.duties.service) r) ∙ e in cc
 left_is (command ∷ more) w test e r =
     let b : IsBusy w = r.0 in
-    let same : b.test ≡ test = some_by (running_test (call_in w.duties.service)) b.test test b.runs (sym (running_is w.duties.service) ∙ e) in
+    let same : b.test ≡ test = some_by (running_test (call_of_service w.duties.service)) b.test test b.runs (sym (running_is w.duties.service) ∙ e) in
     (ap (λ (l : List (List (List ℕ))). command ∷ l) r.2 ∙ ap (λ (c : List (List ℕ)). c ∷ []) (r.1 ∙ ap (run_at w.duties.tests) same), b)
 
 module _ (a : Setting) (now : Beside) (s : Seen) where
-  pub ordered : (test moment : ℕ) (command : List (List ℕ)) (clock : Ticking) → Ticks moment now.clock clock → s.started ≡ None → Runs test s.core → ((h : List Heard) → StandsFor s.core h → command ≡ run_at (worker_after h).duties.tests test) → 0 < length command → s.broken ≡ false
-      → Serves a now (to_start None) s → Serves a (beside now.file_faults clock) nothing (record s { started = Some moment; orders = s.orders ++ command ∷ [] })
+  pub ordered : (test moment : ℕ) (command : List (List ℕ)) (clock : Ticking) → Ticks moment now.clock clock → s.started ≡ None → RunsTest test s.core → ((h : List Heard) → StandsFor s.core h → command ≡ run_at (worker_after h).duties.tests test) → 0 < length command → s.broken ≡ false
+      → ServesSoFar a now (to_start None) s → ServesSoFar a (beside now.file_faults clock) nothing (record s { started = Some moment; orders = s.orders ++ command ∷ [] })
   ordered test moment command clock ticks none runs is some whole g =
       let h = g.history in
       let w = worker_after h in
@@ -94,7 +94,7 @@ module _ (a : Setting) (now : Beside) (s : Seen) where
       one_more e = let n = length-append s.orders (command ∷ []) in omega (arith, e, n)
 
   -- nothing is to be done
-  settled_as : (left : List (List (List ℕ))) → s.broken ≡ false → left ≡ [] → (g : Serves a now (to_start None) s) → g.left ≡ left → Serves a now nothing s
+  settled_as : (left : List (List (List ℕ))) → s.broken ≡ false → left ≡ [] → (g : ServesSoFar a now (to_start None) s) → g.left ≡ left → ServesSoFar a now nothing s
   settled_as left whole e g f = record {
     inputs = g.inputs;
     history = g.history;
@@ -122,7 +122,7 @@ module _ (a : Setting) (now : Beside) (s : Seen) where
   }
 
   -- a test runs that was started before
-  pub runs_on : s.broken ≡ false → IsSome s.started → Serves a now (to_start None) s → Serves a now nothing s
+  pub runs_on : s.broken ≡ false → IsSome s.started → ServesSoFar a now (to_start None) s → ServesSoFar a now nothing s
   runs_on whole some g = settled_as [] whole refl g (none_left s.started g.left some g.runs)
     where
       none_left : (started : Option ℕ) (left : List (List (List ℕ))) → IsSome started → RunsSo started left (worker_after g.history) → left ≡ []
@@ -144,16 +144,16 @@ module _ (a : Setting) (now : Beside) (s : Seen) where
       both false b x y = x
 
   -- nothing runs
-  pub idle_goes : s.broken ≡ false → ((h : List Heard) → StandsFor s.core h → running_in (worker_after h).duties.service ≡ None) → Serves a now (to_start None) s → Goes (over_by s.door) a now s
+  pub idle_goes : s.broken ≡ false → ((h : List Heard) → StandsFor s.core h → running_in (worker_after h).duties.service ≡ None) → ServesSoFar a now (to_start None) s → Goes (over_by s.door) a now s
   idle_goes whole none g = by s.door refl
     where
       l : (g.left ≡ []) × (s.started ≡ None)
       l = idle_left s.started g.left (worker_after g.history) (none g.history g.stands) g.runs
 
-      over : is_shut s.door ≡ true → is_over (worker_after g.history) ≡ true
+      over : is_door_shut s.door ≡ true → is_over (worker_after g.history) ≡ true
       over e = over_if (worker_after g.history) (g.stopped ∙ e) (none g.history g.stands)
 
-      ceased : (why : Stop) (ahead later : List LinkNews) → is_whole why ≡ true → g.of_reader ≡ map news.Message (messages_in g.inputs) ++ (ahead ++ later) → Ceases why g.inputs g.history ahead → Ceased a now why s
+      ceased : (why : Stop) (ahead later : List LinkNews) → is_sink_whole why ≡ true → g.of_reader ≡ map news.Message (messages_in g.inputs) ++ (ahead ++ later) → Ceases why g.inputs g.history ahead → Ceased a now why s
       ceased why ahead later w link cause = record {
         inputs = g.inputs;
         history = g.history;
@@ -186,13 +186,13 @@ module _ (a : Setting) (now : Beside) (s : Seen) where
       by door.Open e = settled_as [] whole refl g l.0
       by door.Terminated e =
           let x : HeardLast g.inputs g.of_reader = subst (λ (d : Door). FromLink d g.inputs g.of_reader) e g.from_link in
-          ceased stop.Terminated [] x.later refl x.got_is (x.last, x.no_end, over (ap is_shut e))
+          ceased stop.Terminated [] x.later refl x.got_is (x.last, x.no_end, over (ap is_door_shut e))
       by door.Ended e =
           let x : HeardEnd g.inputs g.of_reader = subst (λ (d : Door). FromLink d g.inputs g.of_reader) e g.from_link in
-          ceased stop.Ended (news.End link.Ended ∷ []) x.later refl x.got_is (refl, x.none_last, x.end, over (ap is_shut e))
+          ceased stop.Ended (news.End link.Ended ∷ []) x.later refl x.got_is (refl, x.none_last, x.end, over (ap is_door_shut e))
 
   -- the sink failed
-  pub broken_ceases : (path : Option (List ℕ)) → s.broken ≡ true → Serves a now (to_start path) s → Ceased a now stop.WriteFault s
+  pub broken_ceases : (path : Option (List ℕ)) → s.broken ≡ true → ServesSoFar a now (to_start path) s → Ceased a now stop.WriteFault s
   broken_ceases path broken g =
       let l = from_door s.door g.from_link in
       record {
@@ -233,7 +233,7 @@ module _ (a : Setting) (now : Beside) (s : Seen) where
       at_most (Some m) = omega arith
 
   -- a message is refused, or the link cannot be read on
-  ceased_ahead : (why : Stop) (item : LinkNews) → is_whole why ≡ true → status_of why ≡ 3 → s.door ≡ door.Open → (g : Serves a now (of_link item) s) → Ceases why g.inputs g.history (item ∷ []) → Ceased a now why s
+  ceased_ahead : (why : Stop) (item : LinkNews) → is_sink_whole why ≡ true → status_of why ≡ 3 → s.door ≡ door.Open → (g : ServesSoFar a now (owed_of_link item) s) → Ceases why g.inputs g.history (item ∷ []) → Ceased a now why s
   ceased_ahead why item w three o g cause =
       let x : IsListening g.inputs g.of_reader = subst (λ (d : Door). FromLink d g.inputs g.of_reader) o g.from_link in
       record {
@@ -257,7 +257,7 @@ module _ (a : Setting) (now : Beside) (s : Seen) where
         left_is = subst (λ (b : Bool). AreLeft b [] g.history) (sym w) refl;
         count = subst (λ (n : List LinkNews). length s.orders ≡ dones n + one_if s.started) g.from_programs g.count;
         one = at_most s.started;
-        times = times_of a now (of_link item) s g;
+        times = times_of a now (owed_of_link item) s g;
         idle = λ z. let q = sym three ∙ z in cc;
         some = g.some;
         ring = g.ring;
@@ -268,12 +268,12 @@ module _ (a : Setting) (now : Beside) (s : Seen) where
       at_most None = omega arith
       at_most (Some m) = omega arith
 
-  pub end_ceases : (why : Stop) (stop : LinkStop) → is_whole why ≡ true → status_of why ≡ 3 → s.door ≡ door.Open → ((inputs : List WorkerInput) (h : List Heard) → has_last (messages_in inputs) ≡ false → Ceases why inputs h (news.End stop ∷ [])) → Serves a now (of_link (news.End stop)) s → Ceased a now why s
+  pub end_ceases : (why : Stop) (stop : LinkStop) → is_sink_whole why ≡ true → status_of why ≡ 3 → s.door ≡ door.Open → ((inputs : List WorkerInput) (h : List Heard) → has_terminate (messages_in inputs) ≡ false → Ceases why inputs h (news.End stop ∷ [])) → ServesSoFar a now (owed_of_link (news.End stop)) s → Ceased a now why s
   end_ceases why stop w three o cause g =
       let x : IsListening g.inputs g.of_reader = subst (λ (d : Door). FromLink d g.inputs g.of_reader) o g.from_link in
       ceased_ahead why (news.End stop) w three o g (cause g.inputs g.history x.none_last)
 
-  pub message_ceases : (m : MessageView) (f : WorkerFault) → s.door ≡ door.Open → ((h : List Heard) → StandsFor s.core h → IsFault (worker_after h) (Message m) f) → Serves a now (of_link (news.Message m)) s → CeasesBy f a now s
+  pub message_ceases : (m : MessageView) (f : WorkerFault) → s.door ≡ door.Open → ((h : List Heard) → StandsFor s.core h → FaultHasReason (worker_after h) (Message m) f) → ServesSoFar a now (owed_of_link (news.Message m)) s → CeasesBy f a now s
   message_ceases m (fault.Link f) o refused g =
       let x : IsListening g.inputs g.of_reader = subst (λ (d : Door). FromLink d g.inputs g.of_reader) o g.from_link in
       ceased_ahead (stop.Message f) (news.Message m) refl refl o g (m, refl, x.none_last, x.no_end, refused g.history g.stands)
@@ -313,7 +313,7 @@ module _ (a : Setting) (now : Beside) (s : Seen) where
 
   -- ---- items
 
-  pub dropped : (item : LinkNews) → is_shut s.door ≡ true → Serves a now (of_link item) s → Serves a now nothing s
+  pub dropped : (item : LinkNews) → is_door_shut s.door ≡ true → ServesSoFar a now (owed_of_link item) s → ServesSoFar a now nothing s
   dropped item shut g = record {
     inputs = g.inputs;
     history = g.history;
@@ -340,12 +340,12 @@ module _ (a : Setting) (now : Beside) (s : Seen) where
     stopped = g.stopped;
   }
     where
-      by : (d : Door) → is_shut d ≡ true → FromLink d g.inputs g.of_reader → FromLink d g.inputs (g.of_reader ++ item ∷ [])
+      by : (d : Door) → is_door_shut d ≡ true → FromLink d g.inputs g.of_reader → FromLink d g.inputs (g.of_reader ++ item ∷ [])
       by door.Open e x = cc
       by door.Terminated e x = record { later = x.later ++ item ∷ []; got_is = ap (λ (l : List LinkNews). l ++ item ∷ []) x.got_is ∙ append_assoc (map news.Message (messages_in g.inputs)) x.later (item ∷ []); last = x.last; no_end = x.no_end }
       by door.Ended e x = record { later = x.later ++ item ∷ []; got_is = ap (λ (l : List LinkNews). l ++ item ∷ []) x.got_is ∙ append_assoc (map news.Message (messages_in g.inputs)) (news.End link.Ended ∷ x.later) (item ∷ []); none_last = x.none_last; end = x.end }
 
-  pub strange : (item : LinkNews) → IsStrange item → s.door ≡ door.Open → Serves a now (of_link item) s → Strayed a s
+  pub strange : (item : LinkNews) → IsStrange item → s.door ≡ door.Open → ServesSoFar a now (owed_of_link item) s → Strayed a s
   strange item odd o g =
       let x : IsListening g.inputs g.of_reader = subst (λ (d : Door). FromLink d g.inputs g.of_reader) o g.from_link in
       record {
@@ -363,7 +363,7 @@ module _ (a : Setting) (now : Beside) (s : Seen) where
         strays = inl ([], ap (λ (l : List LinkNews). l ++ item ∷ []) x.got_is, odd);
       }
 
-  pub uncalled : (item : LinkNews) → IsUncalled (one_if s.started) item → Serves a now (of_program item) s → Strayed a s
+  pub uncalled : (item : LinkNews) → IsUncalled (one_if s.started) item → ServesSoFar a now (of_program item) s → Strayed a s
   uncalled item odd g = record {
     of_reader = g.of_reader;
     of_runner = g.of_runner ++ item ∷ [];

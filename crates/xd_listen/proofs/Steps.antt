@@ -20,7 +20,7 @@ use Rattle.xd_run_tests.specs.declared.ask.Ask.{Ask}
 use Rattle.xd_run_tests.specs.declared.ask.Ask.TheVariants.{Tell, Piece, CloseLog, End as EndAsk}
 use Rattle.xd_run_tests.specs.declared.input.Input.{Input}
 use Rattle.xd_run_tests.specs.declared.input.Input.TheVariants as input
-use Rattle.xd_run_tests.specs.Line.{Call, running_test}
+use Rattle.xd_run_tests.specs.Line.{FunctionCall, running_test}
 use Rattle.xd_run_tests.specs.Turns.{turn_of as call_turn}
 use Rattle.xd_run_tests.specs.History.{Given, call_after, turn_after}
 use Rattle.xd_suite.specs.declared.test.Test.{Test}
@@ -30,25 +30,25 @@ use Rattle.xd_worker.specs.declared.function.Function.TheVariants as function
 use Rattle.xd_worker.specs.declared.talk.Sent.{Sent}
 use Rattle.xd_worker.specs.declared.talk.Sent.TheVariants as how
 use Rattle.xd_worker.specs.Functions.{called_in}
-use Rattle.xd_factory.specs.SideTable.{Table, answer, heard, lost}
+use Rattle.xd_factory.specs.SideTable.{ChannelTable, answer, heard, lost}
 use Rattle.xd_worker.specs.Talk.{sent_how, payload_on}
 use Rattle.xd_worker.specs.Worker.{Service, Duties, Worker, Turn, turn_of, running_in}
 use Rattle.xd_worker.specs.Turns.{Told, SuiteRead, NoSuite, Printed, ChildEnded, LinkEnded, at_talk, asked, all_asked, ended_call, given_in, fed, fed_to, called, is_called, is_service, echoed, echoed_how, echo_ended, stopped, did, did_unless, took, suite_read, suite_refused, suite_input, ids_of, turned}
-use Rattle.xd_listen.specs.Running.{call_in, rests}
-use Rattle.xd_listen.specs.Inputs.{is_last}
+use Rattle.xd_listen.specs.Running.{call_of_service, rests}
+use Rattle.xd_listen.specs.Inputs.{is_terminate_kind}
 use Rattle.xd_listen.proofs.Calls.{Fresh, idle, answered_idle, answered_end, answered_output}
 
 -- ---- what is asked of the side leaves the work as it is
 
 pub record Same (t u : Turn) : Type 0 where
-  pub call : call_in u.duties.service ≡ call_in t.duties.service
+  pub call : call_of_service u.duties.service ≡ call_of_service t.duties.service
   pub stopped : u.duties.stopped ≡ t.duties.stopped
   pub owed : u.duties.owed ≡ t.duties.owed
   pub tests : u.duties.tests ≡ t.duties.tests
   pub suite : u.suite ≡ t.suite
   pub run : u.run ≡ t.run
 
-ended_same : (s : Option Service) → call_in (ended_call s) ≡ call_in s
+ended_same : (s : Option Service) → call_of_service (ended_call s) ≡ call_of_service s
 ended_same None = refl
 ended_same (Some s) = refl
 
@@ -69,9 +69,9 @@ all_same c (a ∷ asks) t =
 
 -- The test that runs is the one that this turn starts.
 pub record Ready (u : Turn) : Type 0 where
-  pub test : running_test (call_in u.duties.service) ≡ u.run
-  pub some : u.run ≡ None → (call_in u.duties.service).running ≡ false
-  pub busy : (call_in u.duties.service).running ≡ true → rests (call_in u.duties.service).phase ≡ false
+  pub test : running_test (call_of_service u.duties.service) ≡ u.run
+  pub some : u.run ≡ None → (call_of_service u.duties.service).running ≡ false
+  pub busy : (call_of_service u.duties.service).running ≡ true → rests (call_of_service u.duties.service).phase ≡ false
 
 -- what stays
 pub record Rest (t u : Turn) : Type 0 where
@@ -94,41 +94,41 @@ fresh_step s g t f =
     record {
       ready = record {
         test = ap running_test same.call ∙ (f.test ∙ sym same.run);
-        some = λ e. ap (λ (c : Call). c.running) same.call ∙ f.some (sym same.run ∙ e);
-        busy = λ e. ap (λ (c : Call). rests c.phase) same.call ∙ f.busy (sym (ap (λ (c : Call). c.running) same.call) ∙ e);
+        some = λ e. ap (λ (c : FunctionCall). c.running) same.call ∙ f.some (sym same.run ∙ e);
+        busy = λ e. ap (λ (c : FunctionCall). rests c.phase) same.call ∙ f.busy (sym (ap (λ (c : FunctionCall). c.running) same.call) ∙ e);
       };
       rest = record { stopped = same.stopped; owed = same.owed; tests = same.tests; suite = same.suite };
     }
 
-ready_idle : (t : Turn) → (call_in t.duties.service).running ≡ false → t.run ≡ None → Ready t
+ready_idle : (t : Turn) → (call_of_service t.duties.service).running ≡ false → t.run ≡ None → Ready t
 ready_idle t e n = record {
-  test = none (call_in t.duties.service) e ∙ sym n;
+  test = none (call_of_service t.duties.service) e ∙ sym n;
   some = λ z. e;
   busy = λ z. let x = sym e ∙ z in cc;
 }
   where
-    none : (c : Call) → c.running ≡ false → running_test c ≡ None
+    none : (c : FunctionCall) → c.running ≡ false → running_test c ≡ None
     none c h = (idle (call_turn c) h refl).test
 
-fed_idle : (i : Input) (n : ℕ) (t : Turn) → (call_in t.duties.service).running ≡ false → t.run ≡ None → Step t (fed i n t)
+fed_idle : (i : Input) (n : ℕ) (t : Turn) → (call_of_service t.duties.service).running ≡ false → t.run ≡ None → Step t (fed i n t)
 fed_idle i n t e none = go t.duties.service refl
   where
     go : (s : Option Service) → t.duties.service ≡ s → Step t (fed_to s i n t)
     go None h = record { ready = ready_idle t e none; rest = record { stopped = refl; owed = refl; tests = refl; suite = refl } }
-    go (Some s) h = fresh_step s (given_in s i n) t (answered_idle (given_in s i n).room i (call_after s.given) (sym (ap (λ (x : Option Service). (call_in x).running) h) ∙ e))
+    go (Some s) h = fresh_step s (given_in s i n) t (answered_idle (given_in s i n).room i (call_after s.given) (sym (ap (λ (x : Option Service). (call_of_service x).running) h) ∙ e))
 
-fed_end : (outcome : Outcome) (ms n : ℕ) (t : Turn) (test : ℕ) → running_test (call_in t.duties.service) ≡ Some test → rests (call_in t.duties.service).phase ≡ false → Step t (fed (input.Done outcome ms) n t)
+fed_end : (outcome : Outcome) (ms n : ℕ) (t : Turn) (test : ℕ) → running_test (call_of_service t.duties.service) ≡ Some test → rests (call_of_service t.duties.service).phase ≡ false → Step t (fed (input.Done outcome ms) n t)
 fed_end outcome ms n t test e r = go t.duties.service refl
   where
     go : (s : Option Service) → t.duties.service ≡ s → Step t (fed_to s (input.Done outcome ms) n t)
-    go None h = let x = sym (ap (λ (x : Option Service). running_test (call_in x)) h) ∙ e in cc
+    go None h = let x = sym (ap (λ (x : Option Service). running_test (call_of_service x)) h) ∙ e in cc
     go (Some s) h = fresh_step s (given_in s (input.Done outcome ms) n) t
-        (answered_end (given_in s (input.Done outcome ms) n).room outcome ms (call_after s.given) test (sym (ap (λ (x : Option Service). running_test (call_in x)) h) ∙ e) (sym (ap (λ (x : Option Service). rests (call_in x).phase) h) ∙ r))
+        (answered_end (given_in s (input.Done outcome ms) n).room outcome ms (call_after s.given) test (sym (ap (λ (x : Option Service). running_test (call_of_service x)) h) ∙ e) (sym (ap (λ (x : Option Service). rests (call_of_service x).phase) h) ∙ r))
 
 -- What output leaves.
 pub record Prints (t u : Turn) : Type 0 where
-  pub test : running_test (call_in u.duties.service) ≡ running_test (call_in t.duties.service)
-  pub phase_is : (call_in u.duties.service).phase ≡ (call_in t.duties.service).phase
+  pub test : running_test (call_of_service u.duties.service) ≡ running_test (call_of_service t.duties.service)
+  pub phase_is : (call_of_service u.duties.service).phase ≡ (call_of_service t.duties.service).phase
   pub run : u.run ≡ None
   pub rest : Rest t u
 
@@ -142,8 +142,8 @@ fed_output bytes n t none = go t.duties.service refl
         let same = all_same s.channel (turn_after s.given g).asks (acted_turn s g t) in
         let p = answered_output g.room bytes (call_after s.given) in
         record {
-          test = ap running_test same.call ∙ (p.test ∙ sym (ap (λ (x : Option Service). running_test (call_in x)) h));
-          phase_is = ap (λ (c : Call). c.phase) same.call ∙ (p.phase_is ∙ sym (ap (λ (x : Option Service). (call_in x).phase) h));
+          test = ap running_test same.call ∙ (p.test ∙ sym (ap (λ (x : Option Service). running_test (call_of_service x)) h));
+          phase_is = ap (λ (c : FunctionCall). c.phase) same.call ∙ (p.phase_is ∙ sym (ap (λ (x : Option Service). (call_of_service x).phase) h));
           run = same.run ∙ p.run;
           rest = record { stopped = same.stopped; owed = same.owed; tests = same.tests; suite = same.suite };
         }
@@ -152,7 +152,7 @@ fed_output bytes n t none = go t.duties.service refl
 
 -- nothing runs, and nothing is asked for yet
 record Calm (t : Turn) : Type 0 where
-  idle : (call_in t.duties.service).running ≡ false
+  idle : (call_of_service t.duties.service).running ≡ false
   run : t.run ≡ None
   suite : t.suite ≡ None
   unstopped : t.duties.stopped ≡ false
@@ -178,7 +178,7 @@ step_does t u c s = record {
 -- the same work, with other things said
 talked : (t u : Turn) → u.duties ≡ t.duties → u.run ≡ t.run → u.suite ≡ t.suite → Calm t → Calm u
 talked t u d r s c = record {
-  idle = ap (λ (x : Duties). (call_in x.service).running) d ∙ c.idle;
+  idle = ap (λ (x : Duties). (call_of_service x.service).running) d ∙ c.idle;
   run = r ∙ c.run;
   suite = s ∙ c.suite;
   unstopped = ap (λ (x : Duties). x.stopped) d ∙ c.unstopped;
@@ -200,7 +200,7 @@ echoed_does how.Said k v t m = calm_does (echoed_how how.Said k v t) (record { i
 echoed_does how.LeftOut k v t m = calm_does t m
 echoed_does how.Unwritten k v t m = calm_does (echoed_how how.Unwritten k v t) (record { idle = m.idle; run = m.run; suite = m.suite; unstopped = m.unstopped })
 
-stopped_does : (n : ℕ) (t : Turn) → (call_in t.duties.service).running ≡ false → t.run ≡ None → t.suite ≡ None → Does true (stopped n t)
+stopped_does : (n : ℕ) (t : Turn) → (call_of_service t.duties.service).running ≡ false → t.run ≡ None → t.suite ≡ None → Does true (stopped n t)
 stopped_does n t e r s =
     let u : Turn = record t { duties = record (t.duties) { stopped = true } } in
     let f = fed_idle input.Stop n u e r in
@@ -270,7 +270,7 @@ call_last : (b : Bool) (k : ℕ) (v : Tree) → is_terminate (if b then Exec k v
 call_last true k v = refl
 call_last false k v = refl
 
-pub answer_last : (s : Said) (t : Table) → is_terminate (answer s t) ≡ says_last s
+pub answer_last : (s : Said) (t : ChannelTable) → is_terminate (answer s t) ≡ says_last s
 answer_last (said.Status c) t = refl
 answer_last (said.Exec c v) t = call_last _ c v
 answer_last (said.Data c v) t = arrived_last c _
@@ -278,7 +278,7 @@ answer_last (said.Close c e) t = end_last c (t.slot c) _
 answer_last (said.Last c) t = end_last c (t.slot c) _
 answer_last said.Terminate t = refl
 
-pub kind_last : (k : Kind) (c : ℕ) (b : List ℕ) (s : Said) → SaysBy k c b s → says_last s ≡ is_last k
+pub kind_last : (k : Kind) (c : ℕ) (b : List ℕ) (s : Said) → SaysBy k c b s → says_last s ≡ is_terminate_kind k
 kind_last kind.Status c b s h = ap says_last h
 kind_last kind.Reconfigure c b s h = absurd h
 kind_last kind.Terminate c b s h = ap says_last h
@@ -290,10 +290,10 @@ kind_last kind.LastMessage c b s h = ap says_last h
 
 -- nothing runs in this worker, and its link has not ended
 pub record Waits (w : Worker) : Type 0 where
-  pub idle : (call_in w.duties.service).running ≡ false
+  pub idle : (call_of_service w.duties.service).running ≡ false
   pub unstopped : w.duties.stopped ≡ false
 
-pub message_does : (w : Worker) (m : MessageView) (s : Said) (n : ℕ) → Means m s → Waits w → Does (is_last m.kind) (turned (Told s) n (turn_of w))
+pub message_does : (w : Worker) (m : MessageView) (s : Said) (n : ℕ) → Means m s → Waits w → Does (is_terminate_kind m.kind) (turned (Told s) n (turn_of w))
 message_does w m s n means i = subst (λ (b : Bool). Does b (took s n (turn_of w))) (answer_last s w.table ∙ kind_last m.kind m.channel m.payload s means.says) (go w.duties.stopped i.unstopped)
   where
     u : Turn
@@ -305,7 +305,7 @@ message_does w m s n means i = subst (λ (b : Bool). Does b (took s n (turn_of w
 
 -- ---- the other inputs
 
-pub link_end_does : (w : Worker) (n : ℕ) → (call_in w.duties.service).running ≡ false → Does true (turned LinkEnded n (turn_of w))
+pub link_end_does : (w : Worker) (n : ℕ) → (call_of_service w.duties.service).running ≡ false → Does true (turned LinkEnded n (turn_of w))
 link_end_does w n i = stopped_does n (at_talk (λ d. record d { table = lost d.table }) (turn_of w)) i refl refl
 
 -- What a suite does: it asks for none.
@@ -349,9 +349,9 @@ no_suite_does w text n i = go w.duties.owed
 pub output_does : (w : Worker) (bytes : List ℕ) (n : ℕ) → Prints (turn_of w) (turned (Printed bytes) n (turn_of w))
 output_does w bytes n = fed_output bytes n (turn_of w) refl
 
-pub end_does : (w : Worker) (outcome : Outcome) (ms n test : ℕ) → running_test (call_in w.duties.service) ≡ Some test → rests (call_in w.duties.service).phase ≡ false → Step (turn_of w) (turned (ChildEnded outcome ms) n (turn_of w))
+pub end_does : (w : Worker) (outcome : Outcome) (ms n test : ℕ) → running_test (call_of_service w.duties.service) ≡ Some test → rests (call_of_service w.duties.service).phase ≡ false → Step (turn_of w) (turned (ChildEnded outcome ms) n (turn_of w))
 end_does w outcome ms n test e r = fed_end outcome ms n (turn_of w) test e r
 
-pub running_is : (s : Option Service) → running_in s ≡ running_test (call_in s)
+pub running_is : (s : Option Service) → running_in s ≡ running_test (call_of_service s)
 running_is None = refl
 running_is (Some s) = refl

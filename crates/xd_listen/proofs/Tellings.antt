@@ -12,7 +12,7 @@ use Rattle.xd_worker.specs.declared.input.WorkerInput.TheVariants.{Message, Suit
 use Rattle.xd_worker.specs.History.{Heard, all_said, turn_by, worker_after}
 use Rattle.xd_listen.specs.Speaking.{written}
 use Rattle.xd_listen.specs.Spoke.{Speaks}
-use Rattle.xd_listen.specs.Suites.{AreAnswered, Follows, asked_path}
+use Rattle.xd_listen.specs.Suites.{AreAnswered, AnswersAsking, asked_path}
 
 -- ---- counts
 
@@ -52,7 +52,7 @@ answered_later held P Q f [] h a = tt
 answered_later held P Q f (i ∷ is) [] a = a
 answered_later held P Q f (i ∷ is) (g ∷ h) a = (one (asked_path h) i a.0, answered_later held P Q f is h a.1)
   where
-    one : (path : Option (List ℕ)) (i : WorkerInput) → Follows held P path i → Follows held Q path i
+    one : (path : Option (List ℕ)) (i : WorkerInput) → AnswersAsking held P path i → AnswersAsking held Q path i
     one None i x = x
     one (Some p) (Message m) x = x
     one (Some p) (SuiteBytes b) x = x

@@ -11,7 +11,7 @@ use Rattle.xd_worker.specs.declared.input.WorkerInput.TheVariants.{Message, Suit
 use Rattle.xd_listen.specs.News.{dones, news_in}
 use Rattle.xd_listen.specs.Suites.{FilesGave}
 use Rattle.xd_listen.specs.Seen.{Seen}
-use Rattle.xd_listen.specs.Serves.{Beside, Owed, Serves, Setting}
+use Rattle.xd_listen.specs.Serves.{Beside, Owed, ServesSoFar, Setting}
 use Rattle.xd_listen.specs.Timing.{AreMeasured, AreTimed, Ticking, Ticks, Times, durations_in, one_if, ticking}
 use Rattle.xd_listen.proofs.Counting.{dones_done, dones_piece}
 
@@ -26,7 +26,7 @@ dones_are (Output b ∷ is) = dones_piece (news_in is) b ∙ dones_are is
 dones_are (ChildDone outcome ms ∷ is) = let d = dones_done (news_in is) outcome in let e = dones_are is in omega (arith, d, e)
 dones_are (LinkEnd ∷ is) = ap dones (append-nil (news_in is)) ∙ dones_are is
 
-pub times_of : (a : Setting) (now : Beside) (owed : Owed) (s : Seen) (g : Serves a now owed s) → Times g.inputs s.orders a.clock now.clock
+pub times_of : (a : Setting) (now : Beside) (owed : Owed) (s : Seen) (g : ServesSoFar a now owed s) → Times g.inputs s.orders a.clock now.clock
 times_of a now owed s g = record {
   running = s.started;
   each = g.count ∙ ap (λ (n : ℕ). n + one_if s.started) (ap dones g.from_programs ∙ dones_are g.inputs);

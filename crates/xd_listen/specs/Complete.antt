@@ -10,8 +10,8 @@ use Rattle.xd_worker.specs.declared.input.WorkerInput.{WorkerInput}
 use Rattle.xd_worker.specs.History.{Heard}
 use Rattle.xd_listen.specs.declared.stop.Stop.{Stop}
 use Rattle.xd_listen.specs.declared.stop.Stop.TheVariants as stop
-use Rattle.xd_listen.specs.Ends.{Programs, Scene, voice_of}
-use Rattle.xd_listen.specs.Inputs.{has_end, has_last, messages_in}
+use Rattle.xd_listen.specs.Ends.{RunsPrograms, Scene, voice_of}
+use Rattle.xd_listen.specs.Inputs.{has_end, has_terminate, messages_in}
 use Rattle.xd_listen.specs.Spoke.{Spoke, voice}
 use Rattle.xd_listen.specs.Took.{TookToRefused}
 
@@ -24,7 +24,7 @@ pub record RefusesOne (held : Option Held) (bytes : List ℕ) (fault : SideFault
   pub sunk : Option Sunk
   pub spoke : Spoke held inputs history true (voice_of old) (voice sunk new.sink_faults new.file_faults)
   pub shut : new.sunk ≡ option_map with_close sunk
-  pub programs : Programs inputs history [] unheard old new
+  pub programs : RunsPrograms inputs history [] unheard old new
   pub no_end : has_end inputs ≡ false
   pub refused : TookToRefused (messages bytes) (messages_in inputs) history fault
 
@@ -34,8 +34,8 @@ abbrev pub IsWrong : Stop → Option Held → List ℕ → ℕ → ℕ → Scene
 IsWrong stop.NotRun held bytes before now old new = Rose old.reader_refusals new.reader_refusals ⊎ Rose old.runner_refusals new.runner_refusals
 IsWrong stop.Terminated held bytes before now old new = ⊥
 IsWrong stop.Ended held bytes before now old new = ⊥
-IsWrong stop.Cut held bytes before now old new = (rest bytes ≡ Unfinished) × (has_last (messages bytes) ≡ false)
-IsWrong (stop.Header fault) held bytes before now old new = (rest bytes ≡ Refused fault) × (has_last (messages bytes) ≡ false)
+IsWrong stop.Cut held bytes before now old new = (rest bytes ≡ Unfinished) × (has_terminate (messages bytes) ≡ false)
+IsWrong (stop.Header fault) held bytes before now old new = (rest bytes ≡ Refused fault) × (has_terminate (messages bytes) ≡ false)
 IsWrong (stop.Message fault) held bytes before now old new = RefusesOne held bytes fault old new
 IsWrong stop.ReadFault held bytes before now old new = Rose before now
 IsWrong stop.WriteFault held bytes before now old new = Rose old.sink_faults new.sink_faults
@@ -47,7 +47,7 @@ GoesWrong held bytes before now old new = (why : Stop) × IsWrong why held bytes
 -- Nothing is wrong with these bytes: they end at a message's edge, or GATEWAY_TERMINATE is among their messages, and no
 -- message that comes before it is refused.
 pub record AreGood (held : Option Held) (bytes : List ℕ) (old new : Scene) : Type 0 where
-  pub edge : (rest bytes ≡ Clean) ⊎ (has_last (messages bytes) ≡ true)
+  pub edge : (rest bytes ≡ Clean) ⊎ (has_terminate (messages bytes) ≡ true)
   pub accepted : (fault : SideFault) → RefusesOne held bytes fault old new → ⊥
 
 -- No count of the sink or of a crew rose.

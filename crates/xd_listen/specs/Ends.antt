@@ -19,7 +19,7 @@ use Rattle.xd_listen.specs.Took.{TookAll, TookToLast, TookToRefused}
 use Rattle.xd_listen.specs.Suites.{asked_path}
 use Rattle.xd_listen.specs.declared.stop.Stop.{Stop}
 use Rattle.xd_listen.specs.declared.stop.Stop.TheVariants as stop
-use Rattle.xd_listen.specs.Halts.{is_whole, status_of}
+use Rattle.xd_listen.specs.Halts.{is_sink_whole, status_of}
 use Rattle.xd_listen.specs.Spoke.{Spoke, Voice, voice}
 use Rattle.xd_listen.specs.Timing.{Ticking, Times}
 
@@ -61,7 +61,7 @@ IsUnheard heard (r ∷ (q ∷ rs)) = ⊥
 
 -- The commands that the history starts were run, but for those that are left, and the inputs tell what came of them, but
 -- for what is unheard. Their count of faults rose as often as that stands for one, and not where it stands for none.
-pub record Programs (inputs : List WorkerInput) (h : List Heard) (left : List (List (List ℕ))) (unheard : List Ran) (old new : Scene) : Type 0 where
+pub record RunsPrograms (inputs : List WorkerInput) (h : List Heard) (left : List (List (List ℕ))) (unheard : List Ran) (old new : Scene) : Type 0 where
   pub started : List (List (List ℕ))
   pub commands : commands_in h ≡ started ++ left
   pub run : AreRun started (ran_in inputs ++ unheard) old.runs new.runs
@@ -143,9 +143,9 @@ pub record Ends (why : Stop) (held : Option Held) (s0 s1 : Spring) (old new : Sc
   pub first : IsFirstOf (messages_in inputs) (messages bytes)
   pub spoke : Spoke held inputs history wrote (voice_of old) (voice sunk sink_faults new.file_faults)
   pub closes : Closes closed sunk new.sunk sink_faults new.sink_faults
-  pub whole : (wrote && closed) ≡ is_whole why
+  pub whole : (wrote && closed) ≡ is_sink_whole why
   pub answered : wrote ≡ true → asked_path history ≡ None
-  pub programs : Programs inputs history left unheard old new
+  pub programs : RunsPrograms inputs history left unheard old new
   pub times : Times inputs programs.started old.clock new.clock
   pub left_is : AreLeft wrote left history
   pub heard : status_of why ≡ 0 → unheard ≡ []

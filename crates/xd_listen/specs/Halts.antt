@@ -10,10 +10,10 @@ use Rattle.xd_reader.specs.declared.news.LinkStop.TheVariants as link
 use Rattle.xd_frame.specs.Message.{MessageView}
 use Rattle.xd_worker.specs.declared.input.WorkerInput.{WorkerInput}
 use Rattle.xd_worker.specs.declared.input.WorkerInput.TheVariants.{Message}
-use Rattle.xd_worker.specs.History.{Heard, Refuses, is_over, worker_after}
+use Rattle.xd_worker.specs.History.{Heard, RefusesFor, is_over, worker_after}
 use Rattle.xd_worker.specs.declared.input.WorkerFault.{WorkerFault}
 use Rattle.xd_worker.specs.declared.input.WorkerFault.TheVariants as fault
-use Rattle.xd_listen.specs.Inputs.{has_end, has_last, messages_in}
+use Rattle.xd_listen.specs.Inputs.{has_end, has_terminate, messages_in}
 use Rattle.xd_listen.specs.Took.{TookToLast}
 use Rattle.xd_listen.specs.Suites.{asked_path}
 use Rattle.xd_listen.specs.Programs.{AreLeft, commands_in}
@@ -25,7 +25,7 @@ use Rattle.xd_listen.specs.declared.server.Halt.{Halt}
 use Rattle.xd_listen.specs.declared.server.Halt.TheVariants as halt
 use Rattle.xd_listen.specs.News.{dones, news_in}
 use Rattle.xd_listen.specs.Seen.{Seen}
-use Rattle.xd_listen.specs.Serves.{Beside, NoneEmpty, Serves, Setting, IsNoted, nothing, two}
+use Rattle.xd_listen.specs.Serves.{Beside, NoneEmpty, ServesSoFar, Setting, IsEndTaken, nothing, two}
 use Rattle.xd_listen.specs.Spoke.{Spoke, voice}
 use Rattle.xd_listen.specs.Timing.{Times, one_if}
 
@@ -41,25 +41,25 @@ status_of stop.ReadFault = 3
 status_of stop.WriteFault = 3
 
 -- the sink is whole, but where it failed
-abbrev pub is_whole : Stop → Bool
-is_whole stop.NotRun = true
-is_whole stop.Terminated = true
-is_whole stop.Ended = true
-is_whole stop.Cut = true
-is_whole (stop.Header fault) = true
-is_whole (stop.Message fault) = true
-is_whole stop.ReadFault = true
-is_whole stop.WriteFault = false
+abbrev pub is_sink_whole : Stop → Bool
+is_sink_whole stop.NotRun = true
+is_sink_whole stop.Terminated = true
+is_sink_whole stop.Ended = true
+is_sink_whole stop.Cut = true
+is_sink_whole (stop.Header fault) = true
+is_sink_whole (stop.Message fault) = true
+is_sink_whole stop.ReadFault = true
+is_sink_whole stop.WriteFault = false
 
 -- what is known of the messages that the worker heard, and of the item after them, where it listens no more
 abbrev pub Ceases : Stop → List WorkerInput → List Heard → List LinkNews → Type 0
 Ceases stop.NotRun inputs h ahead = ⊥
 Ceases stop.Terminated inputs h ahead = TookToLast (messages_in inputs) × (has_end inputs ≡ false) × (is_over (worker_after h) ≡ true)
-Ceases stop.Ended inputs h ahead = (ahead ≡ news.End link.Ended ∷ []) × (has_last (messages_in inputs) ≡ false) × (has_end inputs ≡ true) × (is_over (worker_after h) ≡ true)
-Ceases stop.Cut inputs h ahead = (ahead ≡ news.End link.Cut ∷ []) × (has_last (messages_in inputs) ≡ false)
-Ceases (stop.Header fault) inputs h ahead = (ahead ≡ news.End (link.Garbled fault) ∷ []) × (has_last (messages_in inputs) ≡ false)
-Ceases (stop.Message fault) inputs h ahead = (m : MessageView) × (ahead ≡ news.Message m ∷ []) × (has_last (messages_in inputs) ≡ false) × (has_end inputs ≡ false) × Refuses (worker_after h) (Message m) fault
-Ceases stop.ReadFault inputs h ahead = (ahead ≡ news.End link.ReadFault ∷ []) × (has_last (messages_in inputs) ≡ false)
+Ceases stop.Ended inputs h ahead = (ahead ≡ news.End link.Ended ∷ []) × (has_terminate (messages_in inputs) ≡ false) × (has_end inputs ≡ true) × (is_over (worker_after h) ≡ true)
+Ceases stop.Cut inputs h ahead = (ahead ≡ news.End link.Cut ∷ []) × (has_terminate (messages_in inputs) ≡ false)
+Ceases (stop.Header fault) inputs h ahead = (ahead ≡ news.End (link.Garbled fault) ∷ []) × (has_terminate (messages_in inputs) ≡ false)
+Ceases (stop.Message fault) inputs h ahead = (m : MessageView) × (ahead ≡ news.Message m ∷ []) × (has_terminate (messages_in inputs) ≡ false) × (has_end inputs ≡ false) × RefusesFor (worker_after h) (Message m) fault
+Ceases stop.ReadFault inputs h ahead = (ahead ≡ news.End link.ReadFault ∷ []) × (has_terminate (messages_in inputs) ≡ false)
 Ceases stop.WriteFault inputs h ahead = Unit {0}
 
 -- The worker listens no more, and this is why. More items may have been taken since. `running` says how many programs
@@ -74,15 +74,15 @@ pub record Ceased (a : Setting) (now : Beside) (why : Stop) (s : Seen) : Type 0 
   pub later : List LinkNews
   pub unheard : List LinkNews
   pub running : ℕ
-  pub spoke : Spoke a.held inputs history (is_whole why) a.first (voice s.sunk s.sink_faults now.file_faults)
-  pub path_is : is_whole why ≡ true → asked_path history ≡ None
+  pub spoke : Spoke a.held inputs history (is_sink_whole why) a.first (voice s.sunk s.sink_faults now.file_faults)
+  pub path_is : is_sink_whole why ≡ true → asked_path history ≡ None
   pub mails_are : s.mails ≡ two a of_reader of_runner
   pub from_link : of_reader ≡ map news.Message (messages_in inputs) ++ (ahead ++ later)
   pub cause : Ceases why inputs history ahead
-  pub noted : IsNoted s.link_stop of_reader
+  pub noted : IsEndTaken s.link_stop of_reader
   pub from_programs : of_runner ≡ news_in inputs ++ unheard
   pub commands : commands_in history ≡ s.orders ++ left
-  pub left_is : AreLeft (is_whole why) left history
+  pub left_is : AreLeft (is_sink_whole why) left history
   pub count : length s.orders ≡ dones (news_in inputs) + running
   pub one : running ≤ 1
   pub times : Times inputs s.orders a.clock now.clock
@@ -172,8 +172,8 @@ is_short_by zero (news.End link.OutOfMemory) old = true
 is_short_by n item old = old
 
 -- what is seen of a server that took this item of this inbox and dropped it
-abbrev pub without : ℕ → LinkNews → List (Option (Ring × List LinkNews)) → Seen → Seen
-without n item mails s = record s {
+abbrev pub without_item : ℕ → LinkNews → List (Option (Ring × List LinkNews)) → Seen → Seen
+without_item n item mails s = record s {
   mails = mails;
   link_stop = noted_end n item s.link_stop;
   started = still_started n item s.started;
@@ -186,6 +186,6 @@ at_sink sunk faults s = record s { sunk = sunk; sink_faults = faults }
 
 -- The worker goes on, or listens no more.
 abbrev pub Goes : Option Halt → Setting → Beside → Seen → Type 0
-Goes None a now s = Serves a now nothing s
+Goes None a now s = ServesSoFar a now nothing s
 Goes (Some (halt.At why)) a now s = Ceased a now why s
 Goes (Some halt.Astray) a now s = Strayed a s

@@ -80,17 +80,17 @@ EndsOnce [] = Unit {0}
 EndsOnce (i ∷ is) = (is_of_link i ≡ true → has_end is ≡ false) × EndsOnce is
 
 -- GATEWAY_TERMINATE
-abbrev pub is_last : Kind → Bool
-is_last kind.Status = false
-is_last kind.Reconfigure = false
-is_last kind.Terminate = true
-is_last kind.Exec = false
-is_last kind.Item = false
-is_last kind.Close = false
-is_last kind.CloseError = false
-is_last kind.LastMessage = false
+abbrev pub is_terminate_kind : Kind → Bool
+is_terminate_kind kind.Status = false
+is_terminate_kind kind.Reconfigure = false
+is_terminate_kind kind.Terminate = true
+is_terminate_kind kind.Exec = false
+is_terminate_kind kind.Item = false
+is_terminate_kind kind.Close = false
+is_terminate_kind kind.CloseError = false
+is_terminate_kind kind.LastMessage = false
 
 -- GATEWAY_TERMINATE is among the messages
-abbrev pub has_last : List MessageView → Bool
-has_last [] = false
-has_last (m ∷ ms) = is_last m.kind || has_last ms
+abbrev pub has_terminate : List MessageView → Bool
+has_terminate [] = false
+has_terminate (m ∷ ms) = is_terminate_kind m.kind || has_terminate ms

@@ -3,7 +3,7 @@ use Rattle.std.specs.Prelude.{Bool, true, false, Option, Some, None}
 use Rattle.xd_run_tests.specs.declared.phase.Phase.{Phase}
 use Rattle.xd_run_tests.specs.declared.phase.Phase.TheVariants.{Awaiting, Serving, Stopped, Over}
 use Rattle.xd_run_tests.specs.declared.phase.Phase.TheVariants as phase
-use Rattle.xd_run_tests.specs.Line.{Call, called}
+use Rattle.xd_run_tests.specs.Line.{FunctionCall, new_call}
 use Rattle.xd_run_tests.specs.History.{call_after}
 use Rattle.xd_worker.specs.Worker.{Service}
 
@@ -16,6 +16,6 @@ rests Stopped = false
 rests Over = true
 
 -- the call of `run_tests`, or one to which nothing came yet
-abbrev pub call_in : Option Service → Call
-call_in None = called
-call_in (Some s) = call_after s.given
+abbrev pub call_of_service : Option Service → FunctionCall
+call_of_service None = new_call
+call_of_service (Some s) = call_after s.given

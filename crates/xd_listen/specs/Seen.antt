@@ -26,10 +26,10 @@ pub record Seen : Type 0 where
   pub short : Bool
 
 -- GATEWAY_TERMINATE or the link's end came
-abbrev pub is_shut : Door → Bool
-is_shut Open = false
-is_shut Terminated = true
-is_shut Ended = true
+abbrev pub is_door_shut : Door → Bool
+is_door_shut Open = false
+is_door_shut Terminated = true
+is_door_shut Ended = true
 
 module _ {N : Type 0} where
   -- what is seen of a server whose sink tells this of what it took and of its faults

@@ -14,15 +14,15 @@ use Rattle.xd_worker.specs.declared.worker.WorkerCore.{WorkerCore}
 use Rattle.xd_worker.specs.Worker.{Worker, running_in}
 use Rattle.xd_worker.specs.History.{Heard, worker_after}
 use Rattle.xd_worker.specs.Stands.{StandsFor}
-use Rattle.xd_listen.specs.Running.{call_in, rests}
-use Rattle.xd_listen.specs.Inputs.{has_end, has_last, messages_in}
+use Rattle.xd_listen.specs.Running.{call_of_service, rests}
+use Rattle.xd_listen.specs.Inputs.{has_end, has_terminate, messages_in}
 use Rattle.xd_listen.specs.Programs.{commands_in, last_commands}
 use Rattle.xd_listen.specs.Took.{TookToLast}
 use Rattle.xd_listen.specs.Suites.{asked_path}
 use Rattle.xd_listen.specs.declared.server.Door.{Door}
 use Rattle.xd_listen.specs.declared.server.Door.TheVariants as door
 use Rattle.xd_listen.specs.News.{dones, news_in}
-use Rattle.xd_listen.specs.Seen.{Seen, is_shut}
+use Rattle.xd_listen.specs.Seen.{Seen, is_door_shut}
 use Rattle.xd_listen.specs.Spoke.{Spoke, Voice, voice}
 use Rattle.xd_listen.specs.Timing.{AreTimed, Ticking, durations_in, one_if}
 
@@ -62,8 +62,8 @@ abbrev pub nothing : Owed
 nothing = record { path = None; link = None; program = None; starts = false }
 
 -- an item that was taken of the reader is to be done
-abbrev pub of_link : LinkNews → Owed
-of_link n = record { path = None; link = Some n; program = None; starts = false }
+abbrev pub owed_of_link : LinkNews → Owed
+owed_of_link n = record { path = None; link = Some n; program = None; starts = false }
 
 -- an item that was taken of the runner is to be done
 abbrev pub of_program : LinkNews → Owed
@@ -71,7 +71,7 @@ of_program n = record { path = None; link = None; program = Some n; starts = fal
 
 -- an item that was taken of the inbox of this number is to be done: 0 is the reader's, the other the runner's
 abbrev pub of_inbox : ℕ → LinkNews → Owed
-of_inbox zero n = of_link n
+of_inbox zero n = owed_of_link n
 of_inbox (suc k) n = of_program n
 
 -- a suite, if any, and then maybe a test
@@ -91,7 +91,7 @@ two a of_reader of_runner = Some (a.reader, of_reader) ∷ Some (a.runner, of_ru
 -- them.
 pub record IsListening (inputs : List WorkerInput) (got : List LinkNews) : Type 0 where
   pub got_is : got ≡ map Message (messages_in inputs)
-  pub none_last : has_last (messages_in inputs) ≡ false
+  pub none_last : has_terminate (messages_in inputs) ≡ false
   pub no_end : has_end inputs ≡ false
 
 -- The worker heard GATEWAY_TERMINATE as the last message; more items of the reader may have been taken since.
@@ -105,7 +105,7 @@ pub record HeardLast (inputs : List WorkerInput) (got : List LinkNews) : Type 0 
 pub record HeardEnd (inputs : List WorkerInput) (got : List LinkNews) : Type 0 where
   pub later : List LinkNews
   pub got_is : got ≡ map Message (messages_in inputs) ++ End link.Ended ∷ later
-  pub none_last : has_last (messages_in inputs) ≡ false
+  pub none_last : has_terminate (messages_in inputs) ≡ false
   pub end : has_end inputs ≡ true
 
 -- What was taken of the reader is what the worker heard, by whether messages are still taken.
@@ -115,19 +115,19 @@ FromLink door.Terminated inputs got = HeardLast inputs got
 FromLink door.Ended inputs got = HeardEnd inputs got
 
 -- this end of the reader was taken
-abbrev pub IsNoted : Option LinkStop → List LinkNews → Type 0
-IsNoted None got = Unit {0}
-IsNoted (Some why) got = (earlier : List LinkNews) × (later : List LinkNews) × (got ≡ earlier ++ End why ∷ later)
+abbrev pub IsEndTaken : Option LinkStop → List LinkNews → Type 0
+IsEndTaken None got = Unit {0}
+IsEndTaken (Some why) got = (earlier : List LinkNews) × (later : List LinkNews) × (got ≡ earlier ++ End why ∷ later)
 
 -- a test runs in this worker
 pub record IsBusy (w : Worker) : Type 0 where
   pub test : ℕ
-  pub runs : running_test (call_in w.duties.service) ≡ Some test
-  pub busy : rests (call_in w.duties.service).phase ≡ false
+  pub runs : running_test (call_of_service w.duties.service) ≡ Some test
+  pub busy : rests (call_of_service w.duties.service).phase ≡ false
 
 -- A test runs in this worker where one was started, and where one is to be started by this command.
 abbrev pub RunsSo : Option ℕ → List (List (List ℕ)) → Worker → Type 0
-RunsSo None [] w = (call_in w.duties.service).running ≡ false
+RunsSo None [] w = (call_of_service w.duties.service).running ≡ false
 RunsSo (Some moment) [] w = IsBusy w
 RunsSo None (command ∷ more) w = (b : IsBusy w) × (command ≡ run_at w.duties.tests b.test) × (more ≡ [])
 RunsSo (Some moment) (command ∷ more) w = ⊥
@@ -143,11 +143,11 @@ NoneEmpty [] = Unit {0}
 NoneEmpty (command ∷ more) = (command ≡ [] → ⊥) × NoneEmpty more
 
 -- this test runs in a worker, whatever it took
-abbrev pub Runs : ℕ → WorkerCore → Type 0
-Runs test core = (h : List Heard) → StandsFor core h → running_in (worker_after h).duties.service ≡ Some test
+abbrev pub RunsTest : ℕ → WorkerCore → Type 0
+RunsTest test core = (h : List Heard) → StandsFor core h → running_in (worker_after h).duties.service ≡ Some test
 
 -- All that was taken of the desk was done, but for what is owed: what was spoken, what was ordered, and what was measured.
-pub record Serves (a : Setting) (now : Beside) (owed : Owed) (s : Seen) : Type 0 where
+pub record ServesSoFar (a : Setting) (now : Beside) (owed : Owed) (s : Seen) : Type 0 where
   pub inputs : List WorkerInput
   pub history : List Heard
   pub of_reader : List LinkNews
@@ -158,7 +158,7 @@ pub record Serves (a : Setting) (now : Beside) (owed : Owed) (s : Seen) : Type 0
   pub path_is : asked_path history ≡ owed.path
   pub mails_are : s.mails ≡ two a (with_item owed.link of_reader) (with_item owed.program of_runner)
   pub from_link : FromLink s.door inputs of_reader
-  pub noted : IsNoted s.link_stop (with_item owed.link of_reader)
+  pub noted : IsEndTaken s.link_stop (with_item owed.link of_reader)
   pub from_programs : of_runner ≡ news_in inputs
   pub commands : commands_in history ≡ s.orders ++ left
   pub settled : owed.starts ≡ false → left ≡ []
@@ -170,4 +170,4 @@ pub record Serves (a : Setting) (now : Beside) (owed : Owed) (s : Seen) : Type 0
   pub ring : s.ring ≡ a.orders
   pub runs : RunsSo s.started left (worker_after history)
   pub reads : ReadsSo owed.path s.started left s.door (worker_after history)
-  pub stopped : (worker_after history).duties.stopped ≡ is_shut s.door
+  pub stopped : (worker_after history).duties.stopped ≡ is_door_shut s.door

@@ -32,12 +32,12 @@ is_of_files (ChildDone outcome ms) = false
 is_of_files LinkEnd = false
 
 -- An input that comes where this path was asked for is what the files gave for it; where none was, it is nothing of theirs.
-abbrev pub Follows : Option Held → Type 0 → Option (List ℕ) → WorkerInput → Type 0
-Follows held rose None i = is_of_files i ≡ false
-Follows held rose (Some path) i = FilesGave held rose path i
+abbrev pub AnswersAsking : Option Held → Type 0 → Option (List ℕ) → WorkerInput → Type 0
+AnswersAsking held rose None i = is_of_files i ≡ false
+AnswersAsking held rose (Some path) i = FilesGave held rose path i
 
 -- Directly after each input that asked for a path stands what the files gave for it, and nowhere else.
 abbrev pub AreAnswered : Option Held → Type 0 → List WorkerInput → List Heard → Type 0
 AreAnswered held rose [] h = Unit {0}
 AreAnswered held rose (i ∷ is) [] = ⊥
-AreAnswered held rose (i ∷ is) (g ∷ h) = Follows held rose (asked_path h) i × AreAnswered held rose is h
+AreAnswered held rose (i ∷ is) (g ∷ h) = AnswersAsking held rose (asked_path h) i × AreAnswered held rose is h

@@ -2,9 +2,9 @@
 ghost use Rattle.std.specs.Prelude.{◌≡◌, ◌≤◌, ℕ, ◌+◌, false, Some, None, length, IfOk, IfErr, IfSome, OnOk, IsSome};
 ghost use Rattle.xd_edge.specs.Limits.{most_piece_bytes};
 ghost use Rattle.xd_listen.specs.Halts.{CeasesBy, Goes, door_behind, over_by};
-ghost use Rattle.xd_listen.specs.Inputs.{is_last};
+ghost use Rattle.xd_listen.specs.Inputs.{is_terminate_kind};
 ghost use Rattle.xd_listen.specs.Seen.{seen};
-ghost use Rattle.xd_listen.specs.Serves.{Beside, Runs, Serves, Setting, beside, nothing, of_link, of_program, to_start};
+ghost use Rattle.xd_listen.specs.Serves.{Beside, RunsTest, ServesSoFar, Setting, beside, nothing, owed_of_link, of_program, to_start};
 ghost use Rattle.xd_listen.specs.Timing.{Ticking, Ticks, ticking};
 ghost use Rattle.xd_listen.specs.declared.server.Door.TheVariants.{Open};
 ghost use Rattle.xd_reader.specs.declared.news.LinkNews.TheVariants as news;
@@ -26,9 +26,9 @@ impl<N: Sink> Server<N> {
     /// Steps the worker with a message. Gives the path of a suite that is to be read.
     pub fn hear_message(&mut self, message: Message) -> Result<Option<Text>, WorkerFault>
         requires is_open { self.old.door ≡ Open }
-        ensures heard { (a : Setting) (now : Beside) → Serves a now (of_link (news.Message message)) (seen N.sunk N.faults self.old) →
-            IfOk result (λ path. Serves a now (to_start path) (seen N.sunk N.faults self.new)) }
-        ensures refused { (a : Setting) (now : Beside) → Serves a now (of_link (news.Message message)) (seen N.sunk N.faults self.old) →
+        ensures heard { (a : Setting) (now : Beside) → ServesSoFar a now (owed_of_link (news.Message message)) (seen N.sunk N.faults self.old) →
+            IfOk result (λ path. ServesSoFar a now (to_start path) (seen N.sunk N.faults self.new)) }
+        ensures refused { (a : Setting) (now : Beside) → ServesSoFar a now (owed_of_link (news.Message message)) (seen N.sunk N.faults self.old) →
             IfErr result (λ fault. CeasesBy fault a now (seen N.sunk N.faults self.new)) }
         ensures stood { Stood self.old.speaker.core → OnOk result (Stood self.new.speaker.core) }
     {
@@ -45,8 +45,8 @@ impl<N: Sink> Server<N> {
     /// Steps the worker with the link's end.
     pub fn hear_end(&mut self) -> Result<(), OutOfMemory>
         requires is_open { self.old.door ≡ Open }
-        ensures heard { (a : Setting) (now : Beside) → Serves a now (of_link (news.End link.Ended)) (seen N.sunk N.faults self.old) →
-            OnOk result (Serves a now (to_start None) (seen N.sunk N.faults self.new)) }
+        ensures heard { (a : Setting) (now : Beside) → ServesSoFar a now (owed_of_link (news.End link.Ended)) (seen N.sunk N.faults self.old) →
+            OnOk result (ServesSoFar a now (to_start None) (seen N.sunk N.faults self.new)) }
         ensures stood { Stood self.old.speaker.core → OnOk result (Stood self.new.speaker.core) }
     {
         let _acts = self.speaker.tell(WorkerInput::LinkEnd)?;
@@ -58,8 +58,8 @@ impl<N: Sink> Server<N> {
     pub fn hear_output(&mut self, piece: Blob) -> Result<(), OutOfMemory>
         requires runs { IsSome self.old.started }
         requires few { length piece ≤ most_piece_bytes }
-        ensures heard { (a : Setting) (now : Beside) → Serves a now (of_program (news.Output piece)) (seen N.sunk N.faults self.old) →
-            OnOk result (Serves a now (to_start None) (seen N.sunk N.faults self.new)) }
+        ensures heard { (a : Setting) (now : Beside) → ServesSoFar a now (of_program (news.Output piece)) (seen N.sunk N.faults self.old) →
+            OnOk result (ServesSoFar a now (to_start None) (seen N.sunk N.faults self.new)) }
         ensures stood { Stood self.old.speaker.core → OnOk result (Stood self.new.speaker.core) }
     {
         let _acts = self.speaker.tell(WorkerInput::Output(piece))?;
@@ -70,8 +70,8 @@ impl<N: Sink> Server<N> {
     pub fn hear_done(&mut self, outcome: Outcome, ms: u64) -> Result<(), OutOfMemory>
         requires runs { IsSome self.old.started }
         ensures heard { (a : Setting) (files : ℕ) (old new : Ticking) → IfSome self.old.started (λ start. Ticks (start + ms) old new) →
-            Serves a (beside files old) (of_program (news.ChildDone outcome)) (seen N.sunk N.faults self.old) →
-            OnOk result (Serves a (beside files new) (to_start None) (seen N.sunk N.faults self.new)) }
+            ServesSoFar a (beside files old) (of_program (news.ChildDone outcome)) (seen N.sunk N.faults self.old) →
+            OnOk result (ServesSoFar a (beside files new) (to_start None) (seen N.sunk N.faults self.new)) }
         ensures stood { Stood self.old.speaker.core → OnOk result (Stood self.new.speaker.core) }
     {
         let _acts = self.speaker.tell(WorkerInput::ChildDone { outcome, ms })?;
@@ -82,8 +82,8 @@ impl<N: Sink> Server<N> {
     /// Reads the suite file of a path, if there is one, and tells the worker.
     pub fn read<F: Files>(&mut self, files: &mut F, path: Option<Text>) -> Result<(), OutOfMemory>
         requires whole { self.old.speaker.is_broken ≡ false }
-        ensures read { (a : Setting) (clock : Ticking) → F.held files.old ≡ a.held → Serves a (beside (F.faults files.old) clock) (to_start path) (seen N.sunk N.faults self.old) →
-            OnOk result (Serves a (beside (F.faults files.new) clock) (to_start None) (seen N.sunk N.faults self.new)) }
+        ensures read { (a : Setting) (clock : Ticking) → F.held files.old ≡ a.held → ServesSoFar a (beside (F.faults files.old) clock) (to_start path) (seen N.sunk N.faults self.old) →
+            OnOk result (ServesSoFar a (beside (F.faults files.new) clock) (to_start None) (seen N.sunk N.faults self.new)) }
         ensures stood { Stood self.old.speaker.core → OnOk result (Stood self.new.speaker.core) }
         ensures kept { F.held files.new ≡ F.held files.old }
     {
@@ -98,8 +98,8 @@ impl<N: Sink> Server<N> {
 
     fn read_path<F: Files>(&mut self, files: &mut F, path: &Text) -> Result<(), OutOfMemory>
         requires whole { self.old.speaker.is_broken ≡ false }
-        ensures read { (a : Setting) (clock : Ticking) → F.held files.old ≡ a.held → Serves a (beside (F.faults files.old) clock) (to_start (Some path.now)) (seen N.sunk N.faults self.old) →
-            OnOk result (Serves a (beside (F.faults files.new) clock) (to_start None) (seen N.sunk N.faults self.new)) }
+        ensures read { (a : Setting) (clock : Ticking) → F.held files.old ≡ a.held → ServesSoFar a (beside (F.faults files.old) clock) (to_start (Some path.now)) (seen N.sunk N.faults self.old) →
+            OnOk result (ServesSoFar a (beside (F.faults files.new) clock) (to_start None) (seen N.sunk N.faults self.new)) }
         ensures stood { Stood self.old.speaker.core → OnOk result (Stood self.new.speaker.core) }
         ensures kept { F.held files.new ≡ F.held files.old }
     {
@@ -118,9 +118,9 @@ impl<N: Sink> Server<N> {
         requires has_test { HasTest self.old.speaker.core test }
         requires rests { self.old.started ≡ None }
         requires whole { self.old.speaker.is_broken ≡ false }
-        requires runs { Runs test self.old.speaker.core }
-        ensures ordered { (a : Setting) (files : ℕ) → Serves a (beside files (ticking (T.moment clock.old) (T.coming clock.old))) (to_start None) (seen N.sunk N.faults self.old) →
-            OnOk result (Serves a (beside files (ticking (T.moment clock.new) (T.coming clock.new))) nothing (seen N.sunk N.faults self.new)) }
+        requires runs { RunsTest test self.old.speaker.core }
+        ensures ordered { (a : Setting) (files : ℕ) → ServesSoFar a (beside files (ticking (T.moment clock.old) (T.coming clock.old))) (to_start None) (seen N.sunk N.faults self.old) →
+            OnOk result (ServesSoFar a (beside files (ticking (T.moment clock.new) (T.coming clock.new))) nothing (seen N.sunk N.faults self.new)) }
         ensures core { self.new.speaker.core ≡ self.old.speaker.core }
     {
         let command = copy_texts(self.alloc, self.speaker.core.command(test))?;
@@ -137,7 +137,7 @@ impl<N: Sink> Server<N> {
         clock: &mut T,
     ) -> Result<Option<Halt>, OutOfMemory>
         requires stood { Stood self.old.speaker.core }
-        ensures goes { (a : Setting) (files : ℕ) → Serves a (beside files (ticking (T.moment clock.old) (T.coming clock.old))) (to_start None) (seen N.sunk N.faults self.old) →
+        ensures goes { (a : Setting) (files : ℕ) → ServesSoFar a (beside files (ticking (T.moment clock.old) (T.coming clock.old))) (to_start None) (seen N.sunk N.faults self.old) →
             IfOk result (λ halt. Goes halt a (beside files (ticking (T.moment clock.new) (T.coming clock.new))) (seen N.sunk N.faults self.new)) }
         ensures core { self.new.speaker.core ≡ self.old.speaker.core }
     {
@@ -169,7 +169,7 @@ impl<N: Sink> Server<N> {
 
 // After GATEWAY_TERMINATE no message is taken.
 fn door_behind(message: &Message, door: Door) -> Door
-    ensures { result ≡ door_behind (is_last message.now.kind) door }
+    ensures { result ≡ door_behind (is_terminate_kind message.now.kind) door }
 {
     match message.kind {
         Kind::Terminate => Door::Terminated,

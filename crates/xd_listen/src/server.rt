@@ -1,6 +1,6 @@
 // A worker that listens to its link and to its programs.
 ghost use Rattle.std.specs.Prelude.{◌≡◌};
-ghost use Rattle.xd_listen.specs.Seen.{is_shut};
+ghost use Rattle.xd_listen.specs.Seen.{is_door_shut};
 
 use crate::speaker::Speaker;
 use crate::stop::Stop;
@@ -23,7 +23,7 @@ pub enum Door {
 impl Door {
     /// Whether messages are taken no more.
     pub fn is_shut(self) -> bool
-        ensures { result ≡ is_shut self }
+        ensures { result ≡ is_door_shut self }
     {
         match self {
             Door::Open => false,

@@ -8,7 +8,7 @@ ghost use Rattle.xd_post.specs.Post.{put, ring_of_sender};
 ghost use Rattle.xd_listen.specs.Complete.{AreGood, AreStill, GoesWrong, IsCalm};
 ghost use Rattle.xd_listen.specs.Ends.{Served, scene};
 ghost use Rattle.xd_listen.specs.Seen.{seen};
-ghost use Rattle.xd_listen.specs.Serves.{Serves, beside, nothing, setting};
+ghost use Rattle.xd_listen.specs.Serves.{ServesSoFar, beside, nothing, setting};
 ghost use Rattle.xd_listen.specs.Spoke.{Spoke, voice};
 ghost use Rattle.xd_listen.specs.Timing.{Ticking, ticking};
 ghost use Rattle.xd_worker.specs.Stands.{Stood};
@@ -52,7 +52,7 @@ struct Opened<N: Sink + Drop> {
 
 fn open<N: Sink + Drop>(alloc: Global, sink: N) -> Result<Opened<N>, OutOfMemory>
     ensures spoke { (held : Option Held) (files : ℕ) → IfOk result (λ o. Spoke held [] [] (not o.server.speaker.is_broken) (voice (N.sunk sink) (N.faults sink) files) (voice (N.sunk o.server.speaker.sink) (N.faults o.server.speaker.sink) files)) }
-    ensures serves { (held : Option Held) (files : ℕ) (clock : Ticking) → IfOk result (λ o. o.server.speaker.is_broken ≡ false → Serves (setting held (N.sunk sink) (N.faults sink) files clock (ring_of_sender o.from_link) (ring_of_sender o.from_programs) (ring_of_sender o.server.orders)) (beside files clock) nothing (seen N.sunk N.faults o.server)) }
+    ensures serves { (held : Option Held) (files : ℕ) (clock : Ticking) → IfOk result (λ o. o.server.speaker.is_broken ≡ false → ServesSoFar (setting held (N.sunk sink) (N.faults sink) files clock (ring_of_sender o.from_link) (ring_of_sender o.from_programs) (ring_of_sender o.server.orders)) (beside files clock) nothing (seen N.sunk N.faults o.server)) }
     ensures fresh { IfOk result (λ o. (put o.from_link ≡ []) × (put o.from_programs ≡ []) × (put o.server.orders ≡ []) × (mails o.orders ≡ Some (ring_of_sender o.server.orders, []) ∷ [])) }
     ensures stood { IfOk result (λ o. Stood o.server.speaker.core) }
 {

@@ -24,7 +24,7 @@ impl<N: Sink> Speaker<N> {
     ghost use Rattle.std.specs.Prelude.{[]};
     ghost use Rattle.xd_factory.specs.declared.faults.SideFault.{SideFault};
     ghost use Rattle.xd_worker.specs.History.{Heard, worker_after, IsToRefuse};
-    ghost use Rattle.xd_worker.specs.Stands.{StandsFor, Stood, Answers, IsFault, IsRefusal};
+    ghost use Rattle.xd_worker.specs.Stands.{StandsFor, Stood, Answers, FaultHasReason, IsThisFault};
 
     /// A worker to which nothing has come yet, and which has written its greeting.
     pub fn begin(alloc: Global, sink: N) -> Speaker<N>
@@ -45,7 +45,7 @@ impl<N: Sink> Speaker<N> {
     /// One input. What the worker says to it is written and handed on.
     pub fn hear(&mut self, input: WorkerInput) -> Result<WorkerActions, WorkerFault>
         ensures answers { (h : List Heard) → StandsFor self.old.core h → IfOk result (Answers self.new.core (worker_after h) input) }
-        ensures refused { (h : List Heard) → StandsFor self.old.core h → IfErr result (IsFault (worker_after h) input) }
+        ensures refused { (h : List Heard) → StandsFor self.old.core h → IfErr result (FaultHasReason (worker_after h) input) }
         ensures stood { Stood self.old.core → OnOk result (Stood self.new.core) }
         ensures writes { IfOk result (λ acts. WritesMore self.old.is_broken self.new.is_broken (frames acts.say) (N.sunk self.old.sink) (N.sunk self.new.sink)) }
         ensures silent { OnErr result (N.sunk self.new.sink ≡ N.sunk self.old.sink) }

@@ -1,8 +1,8 @@
 // The loop of a server: what it takes of its desk, one item after another.
 ghost use Rattle.std.specs.Prelude.{◌≡◌, ℕ, Ok, Some, None, IfOk};
 ghost use Rattle.xd_listen.specs.Halts.{Goes, unless_shut};
-ghost use Rattle.xd_listen.specs.Seen.{is_shut, seen};
-ghost use Rattle.xd_listen.specs.Serves.{Beside, Serves, Setting, beside, nothing, of_inbox, of_link, of_program, to_start};
+ghost use Rattle.xd_listen.specs.Seen.{is_door_shut, seen};
+ghost use Rattle.xd_listen.specs.Serves.{Beside, ServesSoFar, Setting, beside, nothing, of_inbox, owed_of_link, of_program, to_start};
 ghost use Rattle.xd_listen.specs.Timing.{ticking};
 ghost use Rattle.xd_reader.specs.declared.news.LinkNews.TheVariants as news;
 ghost use Rattle.xd_reader.specs.declared.news.LinkStop.TheVariants as link;
@@ -26,7 +26,7 @@ impl<N: Sink> Server<N> {
         clock: &mut T,
     ) -> Result<Halt, OutOfMemory>
         requires stood { Stood self.old.speaker.core }
-        ensures goes { (a : Setting) → F.held files.old ≡ a.held → Serves a (beside (F.faults files.old) (ticking (T.moment clock.old) (T.coming clock.old))) nothing (seen N.sunk N.faults self.old) →
+        ensures goes { (a : Setting) → F.held files.old ≡ a.held → ServesSoFar a (beside (F.faults files.old) (ticking (T.moment clock.old) (T.coming clock.old))) nothing (seen N.sunk N.faults self.old) →
             IfOk result (λ halt. Goes (Some halt) a (beside (F.faults files.new) (ticking (T.moment clock.new) (T.coming clock.new))) (seen N.sunk N.faults self.new)) }
     {
         for _ in rt.forever() {
@@ -48,7 +48,7 @@ impl<N: Sink> Server<N> {
         news: LinkNews,
     ) -> Result<Option<Halt>, OutOfMemory>
         requires stood { Stood self.old.speaker.core }
-        ensures goes { (a : Setting) → F.held files.old ≡ a.held → Serves a (beside (F.faults files.old) (ticking (T.moment clock.old) (T.coming clock.old))) (of_inbox inbox news) (seen N.sunk N.faults self.old) →
+        ensures goes { (a : Setting) → F.held files.old ≡ a.held → ServesSoFar a (beside (F.faults files.old) (ticking (T.moment clock.old) (T.coming clock.old))) (of_inbox inbox news) (seen N.sunk N.faults self.old) →
             IfOk result (λ halt. Goes halt a (beside (F.faults files.new) (ticking (T.moment clock.new) (T.coming clock.new))) (seen N.sunk N.faults self.new)) }
         ensures stood { result ≡ Ok None → Stood self.new.speaker.core }
         ensures kept { F.held files.new ≡ F.held files.old }
@@ -70,7 +70,7 @@ impl<N: Sink> Server<N> {
         news: LinkNews,
     ) -> Result<Option<Halt>, OutOfMemory>
         requires stood { Stood self.old.speaker.core }
-        ensures goes { (a : Setting) → F.held files.old ≡ a.held → Serves a (beside (F.faults files.old) (ticking (T.moment clock.old) (T.coming clock.old))) (of_link news) (seen N.sunk N.faults self.old) →
+        ensures goes { (a : Setting) → F.held files.old ≡ a.held → ServesSoFar a (beside (F.faults files.old) (ticking (T.moment clock.old) (T.coming clock.old))) (owed_of_link news) (seen N.sunk N.faults self.old) →
             IfOk result (λ halt. Goes halt a (beside (F.faults files.new) (ticking (T.moment clock.new) (T.coming clock.new))) (seen N.sunk N.faults self.new)) }
         ensures stood { result ≡ Ok None → Stood self.new.speaker.core }
         ensures kept { F.held files.new ≡ F.held files.old }
@@ -91,7 +91,7 @@ impl<N: Sink> Server<N> {
 
     // No more is taken, for this reason; but where messages are taken no more, there is none.
     fn unless_shut(&self, halt: Halt) -> Option<Halt>
-        ensures { result ≡ unless_shut (is_shut self.now.door) halt }
+        ensures { result ≡ unless_shut (is_door_shut self.now.door) halt }
     {
         if self.door.is_shut() {
             None
@@ -108,7 +108,7 @@ impl<N: Sink> Server<N> {
         message: Message,
     ) -> Result<Option<Halt>, OutOfMemory>
         requires stood { Stood self.old.speaker.core }
-        ensures goes { (a : Setting) → F.held files.old ≡ a.held → Serves a (beside (F.faults files.old) (ticking (T.moment clock.old) (T.coming clock.old))) (of_link (news.Message message)) (seen N.sunk N.faults self.old) →
+        ensures goes { (a : Setting) → F.held files.old ≡ a.held → ServesSoFar a (beside (F.faults files.old) (ticking (T.moment clock.old) (T.coming clock.old))) (owed_of_link (news.Message message)) (seen N.sunk N.faults self.old) →
             IfOk result (λ halt. Goes halt a (beside (F.faults files.new) (ticking (T.moment clock.new) (T.coming clock.new))) (seen N.sunk N.faults self.new)) }
         ensures stood { result ≡ Ok None → Stood self.new.speaker.core }
         ensures kept { F.held files.new ≡ F.held files.old }
@@ -136,7 +136,7 @@ impl<N: Sink> Server<N> {
         path: Option<Text>,
     ) -> Result<Option<Halt>, OutOfMemory>
         requires stood { Stood self.old.speaker.core }
-        ensures goes { (a : Setting) → F.held files.old ≡ a.held → Serves a (beside (F.faults files.old) (ticking (T.moment clock.old) (T.coming clock.old))) (to_start path) (seen N.sunk N.faults self.old) →
+        ensures goes { (a : Setting) → F.held files.old ≡ a.held → ServesSoFar a (beside (F.faults files.old) (ticking (T.moment clock.old) (T.coming clock.old))) (to_start path) (seen N.sunk N.faults self.old) →
             IfOk result (λ halt. Goes halt a (beside (F.faults files.new) (ticking (T.moment clock.new) (T.coming clock.new))) (seen N.sunk N.faults self.new)) }
         ensures stood { result ≡ Ok None → Stood self.new.speaker.core }
         ensures kept { F.held files.new ≡ F.held files.old }
@@ -157,7 +157,7 @@ impl<N: Sink> Server<N> {
         stop: LinkStop,
     ) -> Result<Option<Halt>, OutOfMemory>
         requires stood { Stood self.old.speaker.core }
-        ensures goes { (a : Setting) (files : ℕ) → Serves a (beside files (ticking (T.moment clock.old) (T.coming clock.old))) (of_link (news.End stop)) (seen N.sunk N.faults self.old) →
+        ensures goes { (a : Setting) (files : ℕ) → ServesSoFar a (beside files (ticking (T.moment clock.old) (T.coming clock.old))) (owed_of_link (news.End stop)) (seen N.sunk N.faults self.old) →
             IfOk result (λ halt. Goes halt a (beside files (ticking (T.moment clock.new) (T.coming clock.new))) (seen N.sunk N.faults self.new)) }
         ensures stood { result ≡ Ok None → Stood self.new.speaker.core }
     {
@@ -178,7 +178,7 @@ impl<N: Sink> Server<N> {
     // The link ended at a message's edge.
     fn end<R: Wait, T: Clock>(&mut self, rt: &R, clock: &mut T) -> Result<Option<Halt>, OutOfMemory>
         requires stood { Stood self.old.speaker.core }
-        ensures goes { (a : Setting) (files : ℕ) → Serves a (beside files (ticking (T.moment clock.old) (T.coming clock.old))) (of_link (news.End link.Ended)) (seen N.sunk N.faults self.old) →
+        ensures goes { (a : Setting) (files : ℕ) → ServesSoFar a (beside files (ticking (T.moment clock.old) (T.coming clock.old))) (owed_of_link (news.End link.Ended)) (seen N.sunk N.faults self.old) →
             IfOk result (λ halt. Goes halt a (beside files (ticking (T.moment clock.new) (T.coming clock.new))) (seen N.sunk N.faults self.new)) }
         ensures stood { result ≡ Ok None → Stood self.new.speaker.core }
     {
@@ -197,7 +197,7 @@ impl<N: Sink> Server<N> {
         news: LinkNews,
     ) -> Result<Option<Halt>, OutOfMemory>
         requires stood { Stood self.old.speaker.core }
-        ensures goes { (a : Setting) (files : ℕ) → Serves a (beside files (ticking (T.moment clock.old) (T.coming clock.old))) (of_program news) (seen N.sunk N.faults self.old) →
+        ensures goes { (a : Setting) (files : ℕ) → ServesSoFar a (beside files (ticking (T.moment clock.old) (T.coming clock.old))) (of_program news) (seen N.sunk N.faults self.old) →
             IfOk result (λ halt. Goes halt a (beside files (ticking (T.moment clock.new) (T.coming clock.new))) (seen N.sunk N.faults self.new)) }
         ensures stood { result ≡ Ok None → Stood self.new.speaker.core }
     {
@@ -220,7 +220,7 @@ impl<N: Sink> Server<N> {
 
     // A runner puts an end only where memory ran out, and then its program runs no more.
     fn take_runner_end(&mut self, stop: LinkStop) -> Result<Halt, OutOfMemory>
-        ensures goes { (a : Setting) (now : Beside) → Serves a now (of_program (news.End stop)) (seen N.sunk N.faults self.old) →
+        ensures goes { (a : Setting) (now : Beside) → ServesSoFar a now (of_program (news.End stop)) (seen N.sunk N.faults self.old) →
             IfOk result (λ halt. Goes (Some halt) a now (seen N.sunk N.faults self.new)) }
     {
         match stop {
@@ -239,7 +239,7 @@ impl<N: Sink> Server<N> {
         piece: Blob,
     ) -> Result<Option<Halt>, OutOfMemory>
         requires stood { Stood self.old.speaker.core }
-        ensures goes { (a : Setting) (files : ℕ) → Serves a (beside files (ticking (T.moment clock.old) (T.coming clock.old))) (of_program (news.Output piece)) (seen N.sunk N.faults self.old) →
+        ensures goes { (a : Setting) (files : ℕ) → ServesSoFar a (beside files (ticking (T.moment clock.old) (T.coming clock.old))) (of_program (news.Output piece)) (seen N.sunk N.faults self.old) →
             IfOk result (λ halt. Goes halt a (beside files (ticking (T.moment clock.new) (T.coming clock.new))) (seen N.sunk N.faults self.new)) }
         ensures stood { result ≡ Ok None → Stood self.new.speaker.core }
     {
@@ -261,7 +261,7 @@ impl<N: Sink> Server<N> {
         outcome: Outcome,
     ) -> Result<Option<Halt>, OutOfMemory>
         requires stood { Stood self.old.speaker.core }
-        ensures goes { (a : Setting) (files : ℕ) → Serves a (beside files (ticking (T.moment clock.old) (T.coming clock.old))) (of_program (news.ChildDone outcome)) (seen N.sunk N.faults self.old) →
+        ensures goes { (a : Setting) (files : ℕ) → ServesSoFar a (beside files (ticking (T.moment clock.old) (T.coming clock.old))) (of_program (news.ChildDone outcome)) (seen N.sunk N.faults self.old) →
             IfOk result (λ halt. Goes halt a (beside files (ticking (T.moment clock.new) (T.coming clock.new))) (seen N.sunk N.faults self.new)) }
         ensures stood { result ≡ Ok None → Stood self.new.speaker.core }
     {

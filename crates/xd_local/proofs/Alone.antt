@@ -19,7 +19,7 @@ use Rattle.xd_ledger.specs.Reports.{Report, item_of, reports_from}
 use Rattle.xd_ledger.specs.Reports.Report.{Result}
 use Rattle.xd_ledger.specs.Sharing.{State}
 use Rattle.xd_ledger.specs.Results.{done_books, failing}
-use Rattle.xd_ledger.specs.State.{all_moved, moved, settled}
+use Rattle.xd_ledger.specs.State.{after_entries, after_effect, settled}
 use Rattle.xd_ledger.specs.Workers.{slot_of}
 use Rattle.xd_child.specs.Ending.{fault_count}
 use Rattle.xd_local.specs.Local.{faults_of, report_faults, stop_at}
@@ -36,7 +36,7 @@ item-alone slot n p e = ap (λ (m : ModeKind). if is_each m then map (λ i. base
 
 -- the state behind one test
 abbrev behind_one : ℕ → TestResult → State → State
-behind_one n r s = all_moved s (round n r)
+behind_one n r s = after_entries s (round n r)
 
 pub reports-rounds : (s : State) (n : ℕ) (rs : List TestResult) (how : RunStop) → s.plan.mode ≡ Local → reports_from s (rounds n rs ++ Over how ∷ []) ≡ reports_alone n rs
 reports-rounds s n [] how e = refl
@@ -110,10 +110,10 @@ done-stop limit items (Failed code) b same none low = ap (λ (x : Option RunStop
 
 -- behind these results, none but the last of which may have reached the limit
 stop-rounds : (limit : ℕ) (s : State) (n : ℕ) (rs : List TestResult) → s.books.settings.maxfail ≡ limit → s.books.stop ≡ stop_by limit s.books.failures → BelowLimit limit s.books.failures rs
-    → (all_moved s (rounds n rs)).books.stop ≡ stop_by limit (s.books.failures + failed_of rs)
+    → (after_entries s (rounds n rs)).books.stop ≡ stop_by limit (s.books.failures + failed_of rs)
 stop-rounds limit s n [] same at below = at ∙ ap (stop_by limit) (sym (plus-none s.books.failures))
 stop-rounds limit s n (r ∷ rs) same at below =
-    let ran : State = settled (moved s (Run 0 (n ∷ []))) in
+    let ran : State = settled (after_effect s (Run 0 (n ∷ []))) in
     let none : s.books.stop ≡ None = at ∙ low-none limit s.books.failures below.0 in
     let e : s.books.failures + failing r.outcome + failed_of rs ≡ s.books.failures + (failing r.outcome + failed_of rs) = omega arith in
     stop-rounds limit (behind_one n r s) (n + 1) rs same (done-stop limit (items_named (slot_of 0 ran.books) (n ∷ []) ran.plan) r.outcome ran.books same none below.0) below.1
@@ -144,7 +144,7 @@ below-ahead limit before (suc k) (r ∷ rs) h below =
 zero-plus : (n : ℕ) → 0 + n ≡ n
 zero-plus n = omega arith
 
-pub stop-begun : (limit : ℕ) (s : State) (rs : List TestResult) → s.books.settings.maxfail ≡ limit → s.books.failures ≡ 0 → s.books.stop ≡ None → BelowLimit limit 0 rs → (all_moved s (rounds 0 rs)).books.stop ≡ stop_by limit (failed_of rs)
+pub stop-begun : (limit : ℕ) (s : State) (rs : List TestResult) → s.books.settings.maxfail ≡ limit → s.books.failures ≡ 0 → s.books.stop ≡ None → BelowLimit limit 0 rs → (after_entries s (rounds 0 rs)).books.stop ≡ stop_by limit (failed_of rs)
 stop-begun limit s rs same zeros none below =
     stop-rounds limit s 0 rs same (none ∙ sym (low-none limit s.books.failures (ap (reaches limit) zeros ∙ never-zero limit))) (subst (λ n. BelowLimit limit n rs) (sym zeros) below)
     ∙ ap (λ n. stop_by limit (n + failed_of rs)) zeros ∙ ap (stop_by limit) (zero-plus (failed_of rs))
@@ -155,7 +155,7 @@ below-next limit rs r below low = below-more limit 0 rs r below (ap (reaches lim
 pub below-at : (limit k : ℕ) (rs : List TestResult) → k < length rs → BelowLimit limit 0 rs → reaches limit (failed_of (take k rs)) ≡ false
 below-at limit k rs h below = ap (reaches limit) (sym (zero-plus (failed_of (take k rs)))) ∙ below-ahead limit 0 k rs h below
 
-pub lists-rounds : (s : State) (n : ℕ) (rs : List TestResult) (how : RunStop) → (all_moved s (rounds n rs ++ Over how ∷ [])).books.lists ≡ s.books.lists
+pub lists-rounds : (s : State) (n : ℕ) (rs : List TestResult) (how : RunStop) → (after_entries s (rounds n rs ++ Over how ∷ [])).books.lists ≡ s.books.lists
 lists-rounds s n [] how = refl
 lists-rounds s n (r ∷ rs) how = lists-rounds (behind_one n r s) (n + 1) rs how
 

@@ -6,13 +6,13 @@ use Rattle.xd_journal.specs.declared.entry.Entry.{Entry}
 use Rattle.xd_journal.specs.declared.journal.Journal.{Journal}
 use Rattle.xd_journal.specs.declared.settings.Settings.{Settings}
 use Rattle.xd_journal.specs.Local.{round}
-use Rattle.xd_ledger.specs.State.{all_moved, no_one}
+use Rattle.xd_ledger.specs.State.{after_entries, no_one}
 use Rattle.xd_report.specs.declared.reporter.Reporter.{Reporter}
 use Rattle.xd_report.specs.Follows.{Follows}
 use Rattle.xd_report.specs.Lines.{lines_from}
 use Rattle.xd_report.specs.Printing.{ShowsLines}
-use Rattle.xd_report.proofs.Texts.{moved-more}
-use Rattle.xd_local.specs.Running.{IsNoted, NotesTest, RanTest, Running, Told, behind}
+use Rattle.xd_report.proofs.Texts.{after_effect-more}
+use Rattle.xd_local.specs.Running.{IsNoted, NotesTest, RanTest, Running, FollowsJournal, after_journal}
 
 -- the entries that came last
 new_ones : (old added new : List Entry) (from : ℕ) → new ≡ old ++ added → from ≡ length old → drop from new ≡ added
@@ -23,8 +23,8 @@ module _ (test : ℕ) (args : List (List ℕ)) (from : ℕ) (old mid new : Runni
   added = new_ones old.journal.entries.items (round test n.result) mid.journal.entries.items from n.noted.entries from_is
 
   -- the reporter that has seen nothing of it
-  pub ahead : Told old → Follows mid.reporter (behind old.journal)
-  ahead told = subst (λ (r : Reporter). Follows r (behind old.journal)) (sym n.unseen) told
+  pub ahead : FollowsJournal old → Follows mid.reporter (after_journal old.journal)
+  ahead told = subst (λ (r : Reporter). Follows r (after_journal old.journal)) (sym n.unseen) told
 
   noted : IsNoted test args n.result old new
   noted = subst (λ (r : Running). IsNoted test args n.result old r) (sym same) (record {
@@ -37,19 +37,19 @@ module _ (test : ℕ) (args : List (List ℕ)) (from : ℕ) (old mid new : Runni
     later = n.noted.later;
   })
 
-  followed : Follows new.reporter (all_moved (behind old.journal) (drop from mid.journal.entries.items)) → Told new
+  followed : Follows new.reporter (after_entries (after_journal old.journal) (drop from mid.journal.entries.items)) → FollowsJournal new
   followed follows =
-      let is : behind mid.journal ≡ all_moved (behind old.journal) (drop from mid.journal.entries.items) =
-      ap (λ (st : Settings). all_moved (no_one st) mid.journal.entries.items) n.noted.settings ∙ ap (all_moved (no_one old.journal.settings)) n.noted.entries ∙ moved-more (no_one old.journal.settings) old.journal.entries.items (round test n.result)
-      ∙ ap (all_moved (behind old.journal)) (sym added) in
-      subst (λ (j : Journal). Follows new.reporter (behind j)) (sym (ap (λ (r : Running). r.journal) same)) (subst (Follows new.reporter) (sym is) follows)
+      let is : after_journal mid.journal ≡ after_entries (after_journal old.journal) (drop from mid.journal.entries.items) =
+      ap (λ (st : Settings). after_entries (no_one st) mid.journal.entries.items) n.noted.settings ∙ ap (after_entries (no_one old.journal.settings)) n.noted.entries ∙ after_effect-more (no_one old.journal.settings) old.journal.entries.items (round test n.result)
+      ∙ ap (after_entries (after_journal old.journal)) (sym added) in
+      subst (λ (j : Journal). Follows new.reporter (after_journal j)) (sym (ap (λ (r : Running). r.journal) same)) (subst (Follows new.reporter) (sym is) follows)
 
-  pub ran_test : (shown : Bool) (out_old out_new : Option Sunk) → ShowsLines shown (lines_from (behind old.journal) (drop from mid.journal.entries.items)) out_old out_new
-      → (shown ≡ true → Follows new.reporter (all_moved (behind old.journal) (drop from mid.journal.entries.items)))
+  pub ran_test : (shown : Bool) (out_old out_new : Option Sunk) → ShowsLines shown (lines_from (after_journal old.journal) (drop from mid.journal.entries.items)) out_old out_new
+      → (shown ≡ true → Follows new.reporter (after_entries (after_journal old.journal) (drop from mid.journal.entries.items)))
       → RanTest shown test args (record { run = old; sunk = out_old }) (record { run = new; sunk = out_new })
   ran_test shown out_old out_new shows follows = record {
     result = n.result;
     noted = noted;
-    shows = subst (λ (l : List Entry). ShowsLines shown (lines_from (behind old.journal) l) out_old out_new) added shows;
+    shows = subst (λ (l : List Entry). ShowsLines shown (lines_from (after_journal old.journal) l) out_old out_new) added shows;
     told = λ is. followed (follows is);
   }

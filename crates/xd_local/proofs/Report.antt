@@ -6,7 +6,7 @@ use Rattle.xd_edge.proofs.SinkLemmas.{printed_part_of_more}
 use Rattle.xd_suite.specs.declared.test.Test.{Test}
 use Rattle.xd_journal.specs.declared.entry.Entry.{Entry}
 use Rattle.xd_journal.specs.declared.settings.Settings.{Settings}
-use Rattle.xd_ledger.specs.State.{all_moved, no_one}
+use Rattle.xd_ledger.specs.State.{after_entries, no_one}
 use Rattle.xd_report.specs.Lines.{lines_from, run_lines}
 use Rattle.xd_report.specs.Text.{run_tail, run_text, tail_text}
 use Rattle.xd_report.specs.Breaking.{BrokeAtEnd}
@@ -38,7 +38,7 @@ module _ (tests : List Test) (old : Scene) where
 module _ (settings : Settings) (es : List Entry) (old new : Option Sunk) where
   step_part : AtStep settings es old new → PrintedPart (run_lines settings es) old new
   step_part s =
-      let joined : run_lines settings es ≡ run_lines settings s.before ++ lines_from (all_moved (no_one settings) s.before) s.step =
+      let joined : run_lines settings es ≡ run_lines settings s.before ++ lines_from (after_entries (no_one settings) s.before) s.step =
       ap (run_lines settings) s.entries ∙ lines-more (no_one settings) s.before s.step in
       subst (λ (l : List ℕ). PrintedPart l old new) (sym joined) (broken-part _ _ old new s.shows)
 

@@ -23,7 +23,7 @@ use Rattle.xd_journal.specs.declared.settings.Settings.{Settings}
 use Rattle.xd_journal.specs.Kept.{most_of_one, room_behind, kept_of}
 use Rattle.xd_journal.specs.Local.{TestResult, round, rounds, local_entries}
 use Rattle.xd_journal.specs.Stop.{reaches}
-use Rattle.xd_ledger.specs.State.{all_moved, next, no_one}
+use Rattle.xd_ledger.specs.State.{after_entries, after_entry, no_one}
 use Rattle.xd_ledger.specs.Stops.{is_stopped}
 use Rattle.xd_report.specs.Follows.{Follows}
 use Rattle.xd_report.specs.Printing.{ShowsLines}
@@ -34,7 +34,7 @@ use Rattle.xd_child.specs.Running.{RanChild}
 use Rattle.xd_local.specs.Local.{kept_by, kept_outputs, local_settings, RanTests}
 use Rattle.xd_local.specs.Outside.{Programs}
 use Rattle.xd_local.specs.Print.{AtStep}
-use Rattle.xd_local.specs.Running.{child_of, failed_of, ids_of, result_faults, behind, IsBegun, Progress, RanAll, RanTest, Running, Scene, SoFar}
+use Rattle.xd_local.specs.Running.{child_of, failed_of, ids_of, result_faults, after_journal, WasCollected, Progress, RanAll, RanTest, Running, Scene, SoFar}
 use Rattle.xd_local.proofs.Alone.{below-next, is_some-stop, stop-begun, stop_by}
 
 rounds-last : (n : ℕ) (rs : List TestResult) (r : TestResult) → rounds n (rs ++ r ∷ []) ≡ rounds n rs ++ round (n + length rs) r
@@ -136,7 +136,7 @@ module _ (tests : List Test) where
       within = omega arith;
     }
 
-    module _ (begun : IsBegun tests old.run) (new : Scene) (same : new.run ≡ record (old.run) { reporter = new.run.reporter }) where
+    module _ (begun : WasCollected tests old.run) (new : Scene) (same : new.run ≡ record (old.run) { reporter = new.run.reporter }) where
       entries_same : new.run.journal.entries.items ≡ local_entries (ids_of tests) []
       entries_same = ap (λ (r : Running). r.journal.entries.items) same ∙ begun.entries
 
@@ -149,14 +149,14 @@ module _ (tests : List Test) where
       lines_same : lines new.run.journal ≡ lines old.run.journal
       lines_same = ap (λ (r : Running). lines r.journal) same
 
-      pub start : ShowsLines true (lines old.run.journal) old.sunk new.sunk → Follows new.run.reporter (behind old.run.journal) → Progress 0 tests old new
+      pub start : ShowsLines true (lines old.run.journal) old.sunk new.sunk → Follows new.run.reporter (after_journal old.run.journal) → Progress 0 tests old new
       start shows follows = record {
         results = [];
         so_far = first;
         counted = refl;
         spent_is = ap (λ (r : Running). r.spent) same ∙ begun.nothing_kept;
         shows = subst (λ (l : List ℕ). ShowsSome l old.sunk new.sunk) (sym lines_same) shows;
-        told = subst (λ (j : Journal). Follows new.run.reporter (behind j)) (sym (ap (λ (r : Running). r.journal) same)) follows;
+        told = subst (λ (j : Journal). Follows new.run.reporter (after_journal j)) (sym (ap (λ (r : Running). r.journal) same)) follows;
       }
 
       pub not_collected : ShowsLines false (lines old.run.journal) old.sunk new.sunk → RanAll false tests old new
@@ -175,17 +175,17 @@ module _ (tests : List Test) where
       }
 
     -- the state behind the first tests has the stop that their failures make
-    stop_behind : (r : Running) (results : List TestResult) → SoFar results tests old.run r → (behind r.journal).books.stop ≡ stop_by limit (failed_of results)
+    stop_behind : (r : Running) (results : List TestResult) → SoFar results tests old.run r → (after_journal r.journal).books.stop ≡ stop_by limit (failed_of results)
     stop_behind r results so_far =
-        ap (λ (st : Settings). (all_moved (no_one st) r.journal.entries.items).books.stop) (so_far.settings ∙ is_local)
-        ∙ ap (λ (es : List Entry). (all_moved (no_one (local_settings limit)) es).books.stop) so_far.entries
-        ∙ stop-begun limit (next (no_one (local_settings limit)) (Collected 0 (Listed (ids_of tests)))) results refl refl refl so_far.below
+        ap (λ (st : Settings). (after_entries (no_one st) r.journal.entries.items).books.stop) (so_far.settings ∙ is_local)
+        ∙ ap (λ (es : List Entry). (after_entries (no_one (local_settings limit)) es).books.stop) so_far.entries
+        ∙ stop-begun limit (after_entry (no_one (local_settings limit)) (Collected 0 (Listed (ids_of tests)))) results refl refl refl so_far.below
 
-    reached_is : (r : Running) (results : List TestResult) (b : Bool) → SoFar results tests old.run r → b ≡ is_stopped (behind r.journal).books → b ≡ reaches limit (failed_of results)
+    reached_is : (r : Running) (results : List TestResult) (b : Bool) → SoFar results tests old.run r → b ≡ is_stopped (after_journal r.journal).books → b ≡ reaches limit (failed_of results)
     reached_is r results b so_far is = is ∙ ap is_some (stop_behind r results so_far) ∙ is_some-stop limit (failed_of results)
 
     -- behind the test that reached the limit
-    pub limited : (count : ℕ) (new : Scene) (b : Bool) → Progress count tests old new → b ≡ is_stopped (behind new.run.journal).books → b ≡ true → RanAll true tests old new
+    pub limited : (count : ℕ) (new : Scene) (b : Bool) → Progress count tests old new → b ≡ is_stopped (after_journal new.run.journal).books → b ≡ true → RanAll true tests old new
     limited count new b p is reached = record {
       results = p.results;
       so_far = p.so_far;
@@ -194,7 +194,7 @@ module _ (tests : List Test) where
       told = λ _. p.told;
     }
 
-    module _ (k : ℕ) (mid new : Scene) (p : Progress k tests old mid) (within : k < length tests) (b : Bool) (b_is : b ≡ is_stopped (behind mid.run.journal).books) (go_on : b ≡ false)
+    module _ (k : ℕ) (mid new : Scene) (p : Progress k tests old mid) (within : k < length tests) (b : Bool) (b_is : b ≡ is_stopped (after_journal mid.run.journal).books) (go_on : b ≡ false)
         (shown : Bool) (more : RanTest shown k (run_at tests k) mid new) where
       abbrev es1 : List Entry
       es1 = mid.run.journal.entries.items
@@ -243,7 +243,7 @@ module _ (tests : List Test) where
       }
 
       abbrev added : List ℕ
-      added = lines_from (behind mid.run.journal) (round k more.result)
+      added = lines_from (after_journal mid.run.journal) (round k more.result)
 
       text : run_lines new.run.journal.settings es2 ≡ run_lines mid.run.journal.settings es1 ++ added
       text = ap (λ (st : Settings). run_lines st es2) more.noted.settings ∙ ap (run_lines mid.run.journal.settings) more.noted.entries ∙ lines-more (no_one mid.run.journal.settings) es1 (round k more.result)

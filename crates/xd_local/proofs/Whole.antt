@@ -16,12 +16,12 @@ use Rattle.xd_journal.specs.declared.journal.Journal.{Journal}
 use Rattle.xd_journal.specs.Local.{TestResult, local_entries, rounds}
 use Rattle.xd_journal.specs.Stop.{reaches}
 use Rattle.xd_ledger.specs.Legal.{IsLegal, books_behind}
-use Rattle.xd_ledger.specs.Reports.{NamesInOrder, Report, collected_in, item_of, reports, reports_in}
+use Rattle.xd_ledger.specs.Reports.{NamesInOrder, Report, collected_ids, item_of, reports, reports_in}
 use Rattle.xd_ledger.specs.Sharing.{State, ids_at}
 use Rattle.xd_ledger.specs.Stops.{is_stopped}
 use Rattle.xd_ledger.specs.Ending.{over_in, stop_of}
-use Rattle.xd_ledger.specs.Histories.{end_of}
-use Rattle.xd_ledger.specs.State.{all_moved, next, no_one, state_at}
+use Rattle.xd_ledger.specs.Histories.{run_end_of}
+use Rattle.xd_ledger.specs.State.{after_entries, after_entry, no_one, state_at}
 use Rattle.xd_report.specs.Blocks.{blocks_from}
 use Rattle.xd_report.specs.EachReport.{HasNamedBlockEach, HasNamedLineEach, NamesTests, id_in, kept_outputs}
 use Rattle.xd_report.specs.declared.reporter.Reporter.{Reporter}
@@ -34,7 +34,7 @@ use Rattle.xd_report.proofs.Texts.{over-same}
 use Rattle.xd_local.specs.Local.{faults_of, KeepsLimit, RunsSuite, RunsTests, local_settings, stop_after, stop_at}
 use Rattle.xd_local.specs.Outside.{Programs}
 use Rattle.xd_local.specs.Print.{AtStep, AtEnd, DidAll, FailedAt, PrintsReport, failures_in}
-use Rattle.xd_local.specs.Running.{BelowLimit, Closed, HasCollected, HasEnded, IsBegun, IsNew, RanPrinted, Running, Scene, ShowsReport, Told, behind, failed_of, ids_of}
+use Rattle.xd_local.specs.Running.{BelowLimit, ClosedJournal, HasCollected, HasEnded, WasCollected, IsNew, RanPrinted, Running, Scene, ShowsReport, FollowsJournal, after_journal, failed_of, ids_of}
 use Rattle.xd_local.proofs.Alone.{below-at, below-first, eq_same, failures-alone, faults-alone, is_some-stop, items-alone, length-alone, lists-rounds, low-none, reports-rounds, reports_alone, stop-begun, stop_by, take-alone, unwrap-stop}
 use Rattle.xd_local.proofs.Report.{failed_part}
 
@@ -51,7 +51,7 @@ pub record Ended (tests : List Test) (maxfail : ℕ) (j : Journal) (shown : Bool
   pub ran : RanPrinted shown tests old new
   pub settings : old.run.journal.settings ≡ local_settings maxfail
   pub same_settings : j.settings ≡ new.run.journal.settings
-  pub ended : j.entries.items ≡ new.run.journal.entries.items ++ Over (stop_after shown (behind new.run.journal).books.stop) ∷ []
+  pub ended : j.entries.items ≡ new.run.journal.entries.items ++ Over (stop_after shown (after_journal new.run.journal).books.stop) ∷ []
 
 module _ (tests : List Test) (maxfail : ℕ) (j1 : Journal) (shown : Bool) (old new : Scene) (e : Ended tests maxfail j1 shown old new) where
   abbrev ids : List (List ℕ)
@@ -64,17 +64,17 @@ module _ (tests : List Test) (maxfail : ℕ) (j1 : Journal) (shown : Bool) (old 
   results = e.ran.results
 
   abbrev how : RunStop
-  how = stop_after shown (behind j0).books.stop
+  how = stop_after shown (after_journal j0).books.stop
 
   entries_are : j1.entries.items ≡ local_entries ids results ++ Over how ∷ []
   entries_are = e.ended ∙ ap (λ (l : List Entry). l ++ Over how ∷ []) e.ran.so_far.entries
 
   stop_is : stop_of j1 ≡ how
-  stop_is = ap (λ (es : List Entry). over_in es (end_of (state_at j1.settings j1.entries.items).books)) entries_are ∙ over_in-rounds 0 results how (end_of (state_at j1.settings j1.entries.items).books)
+  stop_is = ap (λ (es : List Entry). over_in es (run_end_of (state_at j1.settings j1.entries.items).books)) entries_are ∙ over_in-rounds 0 results how (run_end_of (state_at j1.settings j1.entries.items).books)
 
   -- behind the collection
   abbrev start : State
-  start = next (no_one (local_settings maxfail)) (Collected 0 (Listed ids))
+  start = after_entry (no_one (local_settings maxfail)) (Collected 0 (Listed ids))
 
   settings_before : j0.settings ≡ local_settings maxfail
   settings_before = e.ran.so_far.settings ∙ e.settings
@@ -92,18 +92,18 @@ module _ (tests : List Test) (maxfail : ℕ) (j1 : Journal) (shown : Bool) (old 
   books_stop : (rs : List TestResult) → BelowLimit maxfail 0 rs → (books_behind j1.settings ids rs).stop ≡ stop_by maxfail (failed_of rs)
   books_stop rs low = ap (λ (st : Settings). (books_behind st ids rs).stop) settings_are ∙ stop-begun maxfail start rs refl refl refl low
 
-  first_stop : (behind j0).books.stop ≡ stop_by maxfail failures
+  first_stop : (after_journal j0).books.stop ≡ stop_by maxfail failures
   first_stop =
-      ap (λ (st : Settings). (all_moved (no_one st) j0.entries.items).books.stop) settings_before
-      ∙ ap (λ (es : List Entry). (all_moved (no_one (local_settings maxfail)) es).books.stop) e.ran.so_far.entries
+      ap (λ (st : Settings). (after_entries (no_one st) j0.entries.items).books.stop) settings_before
+      ∙ ap (λ (es : List Entry). (after_entries (no_one (local_settings maxfail)) es).books.stop) e.ran.so_far.entries
       ∙ stop-begun maxfail start results refl refl refl below
 
   -- where all was printed
   how_printed : shown ≡ true → stop_of j1 ≡ stop_at maxfail failures
-  how_printed is = stop_is ∙ ap (λ b. stop_after b (behind j0).books.stop) is ∙ ap (λ (s : Option RunStop). unwrap_or s Completed) first_stop ∙ unwrap-stop maxfail failures
+  how_printed is = stop_is ∙ ap (λ b. stop_after b (after_journal j0).books.stop) is ∙ ap (λ (s : Option RunStop). unwrap_or s Completed) first_stop ∙ unwrap-stop maxfail failures
 
   how_broken : shown ≡ false → stop_of j1 ≡ OutFault
-  how_broken is = stop_is ∙ ap (λ b. stop_after b (behind j0).books.stop) is
+  how_broken is = stop_is ∙ ap (λ b. stop_after b (after_journal j0).books.stop) is
 
   not_fault : (limit failures : ℕ) → stop_at limit failures ≡ OutFault → ⊥
   not_fault limit failures = by_case (reaches limit failures)
@@ -122,7 +122,7 @@ module _ (tests : List Test) (maxfail : ℕ) (j1 : Journal) (shown : Bool) (old 
   reports_count : length (reports_in j1) ≡ length results
   reports_count = ap length reports_are ∙ length-alone 0 results
 
-  collected_are : collected_in j1 ≡ ids
+  collected_are : collected_ids j1 ≡ ids
   collected_are =
       ap (λ (st : Settings). ids_at 0 (state_at st j1.entries.items).books.lists) settings_are
       ∙ ap (λ (es : List Entry). ids_at 0 (state_at (local_settings maxfail) es).books.lists) entries_are
@@ -139,12 +139,12 @@ module _ (tests : List Test) (maxfail : ℕ) (j1 : Journal) (shown : Bool) (old 
       ap (λ b. is_stopped (books_behind j1.settings ids results) || b) ran_all ∙ or-true (is_stopped (books_behind j1.settings ids results))
 
   ends : (stop_of j1 ≡ OutFault)
-      ⊎ ((stop_of j1 ≡ end_of (books_behind j1.settings ids results))
+      ⊎ ((stop_of j1 ≡ run_end_of (books_behind j1.settings ids results))
       × ((is_stopped (books_behind j1.settings ids results) || (length results == length ids)) ≡ true))
   ends = by_end shown refl
     where
       by_end : (b : Bool) → shown ≡ b → (stop_of j1 ≡ OutFault)
-          ⊎ ((stop_of j1 ≡ end_of (books_behind j1.settings ids results))
+          ⊎ ((stop_of j1 ≡ run_end_of (books_behind j1.settings ids results))
           × ((is_stopped (books_behind j1.settings ids results) || (length results == length ids)) ≡ true))
       by_end false is_shown = inl (how_broken is_shown)
       by_end true is_shown = inr (
@@ -197,11 +197,11 @@ module _ (tests : List Test) (maxfail : ℕ) (j1 : Journal) (shown : Bool) (old 
       not_limit : (limit failures : ℕ) → stop_at limit failures ≡ Completed → reaches limit failures ≡ true → ⊥
       not_limit limit failures is reached = let no : MaxFail failures ≡ Completed = ap (λ b. if b then MaxFail failures else Completed) (sym reached) ∙ is in absurd (cc)
 
-      by_all : stop_at maxfail failures ≡ Completed → HasEnded old.run.journal.settings.maxfail tests results → length (reports_in j1) ≡ length (collected_in j1)
+      by_all : stop_at maxfail failures ≡ Completed → HasEnded old.run.journal.settings.maxfail tests results → length (reports_in j1) ≡ length (collected_ids j1)
       by_all is (inl reached) = absurd (not_limit maxfail failures is (sym (ap (λ (s : Settings). reaches s.maxfail failures) e.settings) ∙ reached))
       by_all is (inr all) = omega (arith, all, reports_count, ap length collected_are, length-map tests (λ (t : Test). t.id))
 
-      by_end : stop_of j1 ≡ Completed → (b : Bool) → shown ≡ b → length (reports_in j1) ≡ length (collected_in j1)
+      by_end : stop_of j1 ≡ Completed → (b : Bool) → shown ≡ b → length (reports_in j1) ≡ length (collected_ids j1)
       by_end completed true is_shown = by_all (sym (how_printed is_shown) ∙ completed) (e.ran.all is_shown)
       by_end completed false is_shown = let no : OutFault ≡ Completed = sym (how_broken is_shown) ∙ completed in absurd (cc)
 
@@ -224,7 +224,7 @@ module _ (tests : List Test) (maxfail : ℕ) (j1 : Journal) (shown : Bool) (old 
       Blocks : Settings → List Entry → List (List ℕ) → Type 0
       Blocks st es collected = HasNamedBlockEach (id_in collected) st.mode (blocks_from (no_one st) es) (reports st es) (kept_outputs st es)
 
-      stands : (T : Settings → List Entry → List (List ℕ) → Type 0) → T (local_settings maxfail) (first ∷ rest) ids → T j1.settings j1.entries.items (collected_in j1)
+      stands : (T : Settings → List Entry → List (List ℕ) → Type 0) → T (local_settings maxfail) (first ∷ rest) ids → T j1.settings j1.entries.items (collected_ids j1)
       stands T x =
           subst (λ (c : List (List ℕ)). T j1.settings j1.entries.items c) (sym collected_are)
           (subst (λ (es : List Entry). T j1.settings es ids) (sym entries_are)
@@ -284,7 +284,7 @@ module _ (tests : List Test) (maxfail : ℕ) (j1 : Journal) (shown : Bool) (old 
           subst (λ (s : RunStop). PrintsReport s j1 old.sunk new.sunk) (sym (how_printed is_shown)) (ends_shown maxfail failures (subst (λ (t : List ℕ). ShowsEnd true t old.sunk new.sunk) (sym text_same) all))
       by_end false is_shown failed = subst (λ (s : RunStop). PrintsReport s j1 old.sunk new.sunk) (sym (how_broken is_shown)) (record {
         es = j0.entries.items;
-        entries = e.ended ∙ ap (λ (b : Bool). j0.entries.items ++ Over (stop_after b (behind j0).books.stop) ∷ []) is_shown;
+        entries = e.ended ∙ ap (λ (b : Bool). j0.entries.items ++ Over (stop_after b (after_journal j0).books.stop) ∷ []) is_shown;
         failed = failed_at failed;
         shows = subst (λ (t : List ℕ). PrintedPart t old.sunk new.sunk) (sym text_same) (failed_part j0.settings j0.entries.items old.sunk new.sunk _ failed);
       })
@@ -308,7 +308,7 @@ module _ (tests : List Test) (maxfail : ℕ) (j1 : Journal) (shown : Bool) (old 
   }
 
 -- the tests of a new run were collected
-pub begins : (tests : List Test) (maxfail : ℕ) (r0 r1 : Running) → IsNew maxfail r0 → HasCollected tests r0 r1 → IsBegun tests r1
+pub begins : (tests : List Test) (maxfail : ℕ) (r0 r1 : Running) → IsNew maxfail r0 → HasCollected tests r0 r1 → WasCollected tests r1
 begins tests maxfail r0 r1 n c = record {
   settings = (let e = c.settings ∙ n.settings in e ∙ ap (λ (s : Settings). local_settings s.maxfail) (sym e));
   entries = c.entries ∙ ap (λ (es : List Entry). es ++ local_entries (ids_of tests) []) n.entries;
@@ -316,13 +316,13 @@ begins tests maxfail r0 r1 n c = record {
   nothing_kept = c.spent ∙ n.nothing_kept;
 }
 
-closed_as : (shown : Bool) (r : Running) (j : Journal) → Closed shown r j → (shown ≡ true → Told r) → j.entries.items ≡ r.journal.entries.items ++ Over (stop_after shown (behind r.journal).books.stop) ∷ []
-closed_as true r j c told = c.entries (behind r.journal) (told refl)
+closed_as : (shown : Bool) (r : Running) (j : Journal) → ClosedJournal shown r j → (shown ≡ true → FollowsJournal r) → j.entries.items ≡ r.journal.entries.items ++ Over (stop_after shown (after_journal r.journal).books.stop) ∷ []
+closed_as true r j c told = c.entries (after_journal r.journal) (told refl)
 closed_as false r j c told = c.broken refl
 
 -- from the words to the end
 pub whole_run : (tests : List Test) (maxfail : ℕ) (r0 r1 r2 : Running) (j : Journal) (out0 out1 : Option Sunk) (shown : Bool) (before now : ℕ) (p0 p1 : Programs)
-    → IsNew maxfail r0 → r0.programs ≡ p0 → HasCollected tests r0 r1 → RanPrinted shown tests (record { run = r1; sunk = out0 }) (record { run = r2; sunk = out1 }) → Counted shown before now → Closed shown r2 j → r2.programs ≡ p1
+    → IsNew maxfail r0 → r0.programs ≡ p0 → HasCollected tests r0 r1 → RanPrinted shown tests (record { run = r1; sunk = out0 }) (record { run = r2; sunk = out1 }) → Counted shown before now → ClosedJournal shown r2 j → r2.programs ≡ p1
     → RunsTests tests maxfail j (record { out = record { sunk = out0; faults = before }; programs = p0 }) (record { out = record { sunk = out1; faults = now }; programs = p1 })
 whole_run tests maxfail r0 r1 r2 j out0 out1 shown before now p0 p1 n first c ran count closed last =
     let e : Ended tests maxfail j shown (record { run = r1; sunk = out0 }) (record { run = r2; sunk = out1 }) = record {

@@ -10,7 +10,7 @@ use Rattle.xd_journal.specs.declared.journal.Journal.{Journal}
 use Rattle.xd_journal.specs.declared.settings.Settings.{Settings}
 use Rattle.xd_journal.specs.Local.{TestResult, round}
 use Rattle.xd_journal.specs.Stop.{reaches}
-use Rattle.xd_ledger.specs.Reports.{Report, collected_in, reports_in}
+use Rattle.xd_ledger.specs.Reports.{Report, collected_ids, reports_in}
 use Rattle.xd_report.specs.Breaking.{BrokeAtEnd, BrokeAtLines}
 use Rattle.xd_report.specs.EachReport.{is_failure}
 use Rattle.xd_report.specs.Printing.{ShowsEnd}
@@ -43,7 +43,7 @@ failures_in rs = length (filter is_failure rs)
 
 -- All tests were reported, or the failures reached their limit.
 abbrev pub DidAll : Journal → Type 0
-DidAll j = (length (reports_in j) ≡ length (collected_in j)) ⊎ (reaches j.settings.maxfail (failures_in (reports_in j)) ≡ true)
+DidAll j = (length (reports_in j) ≡ length (collected_ids j)) ⊎ (reaches j.settings.maxfail (failures_in (reports_in j)) ≡ true)
 
 -- The output failed at the last step of the run, or at the end of a run that did all that it had to do; of the report a
 -- first part was taken. The entries are those before the journal's end.

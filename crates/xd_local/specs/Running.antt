@@ -14,7 +14,7 @@ use Rattle.xd_journal.specs.Local.{TestResult, round, local_entries}
 use Rattle.xd_journal.specs.Stop.{reaches}
 use Rattle.xd_ledger.specs.Sharing.{State}
 use Rattle.xd_ledger.specs.Results.{failing}
-use Rattle.xd_ledger.specs.State.{all_moved, no_one}
+use Rattle.xd_ledger.specs.State.{after_entries, no_one}
 use Rattle.xd_report.specs.declared.reporter.Reporter.{Reporter}
 use Rattle.xd_report.specs.Follows.{Follows}
 use Rattle.xd_report.specs.Lines.{lines_from, run_lines}
@@ -44,12 +44,12 @@ abbrev pub scene : Running → Option Sunk → Scene
 scene run sunk = record { run = run; sunk = sunk }
 
 -- the state after a journal
-abbrev pub behind : Journal → State
-behind j = all_moved (no_one j.settings) j.entries.items
+abbrev pub after_journal : Journal → State
+after_journal j = after_entries (no_one j.settings) j.entries.items
 
 -- the reporter followed the journal to its end
-abbrev pub Told : Running → Type 0
-Told r = Follows r.reporter (behind r.journal)
+abbrev pub FollowsJournal : Running → Type 0
+FollowsJournal r = Follows r.reporter (after_journal r.journal)
 
 -- the ids of these tests, in order
 abbrev pub ids_of : List Test → List (List ℕ)
@@ -71,7 +71,7 @@ pub record HasCollected (tests : List Test) (old new : Running) : Type 0 where
   pub programs : new.programs ≡ old.programs
 
 -- the tests were collected, and nothing of it was printed
-pub record IsBegun (tests : List Test) (r : Running) : Type 0 where
+pub record WasCollected (tests : List Test) (r : Running) : Type 0 where
   pub settings : r.journal.settings ≡ local_settings r.journal.settings.maxfail
   pub entries : r.journal.entries.items ≡ local_entries (ids_of tests) []
   pub unseen : Follows r.reporter (no_one r.journal.settings)
@@ -105,8 +105,8 @@ pub record NotesTest (test : ℕ) (args : List (List ℕ)) (old new : Running) :
 pub record RanTest (shown : Bool) (test : ℕ) (args : List (List ℕ)) (old new : Scene) : Type 0 where
   pub result : TestResult
   pub noted : IsNoted test args result old.run new.run
-  pub shows : ShowsLines shown (lines_from (behind old.run.journal) (round test result)) old.sunk new.sunk
-  pub told : shown ≡ true → Told new.run
+  pub shows : ShowsLines shown (lines_from (after_journal old.run.journal) (round test result)) old.sunk new.sunk
+  pub told : shown ≡ true → FollowsJournal new.run
 
 -- how many of these tests failed
 abbrev pub failed_of : List TestResult → ℕ
@@ -145,7 +145,7 @@ pub record Progress (count : ℕ) (tests : List Test) (old new : Scene) : Type 0
   pub counted : length results ≡ count
   pub spent_is : new.run.spent ≡ kept_by results
   pub shows : ShowsSome (run_lines new.run.journal.settings new.run.journal.entries.items) old.sunk new.sunk
-  pub told : Told new.run
+  pub told : FollowsJournal new.run
 
 -- all lines so far were printed, or the output failed at those of the last step
 abbrev pub ShowsSteps : Bool → Journal → Option Sunk → Option Sunk → Type 0
@@ -163,7 +163,7 @@ pub record RanAll (shown : Bool) (tests : List Test) (old new : Scene) : Type 0 
   pub so_far : SoFar results tests old.run new.run
   pub all : shown ≡ true → HasEnded old.run.journal.settings.maxfail tests results
   pub shows : ShowsSteps shown new.run.journal old.sunk new.sunk
-  pub told : shown ≡ true → Told new.run
+  pub told : shown ≡ true → FollowsJournal new.run
 
 -- the same with the tail: the journal without its end, and the whole report
 pub record RanPrinted (shown : Bool) (tests : List Test) (old new : Scene) : Type 0 where
@@ -171,10 +171,10 @@ pub record RanPrinted (shown : Bool) (tests : List Test) (old new : Scene) : Typ
   pub so_far : SoFar results tests old.run new.run
   pub all : shown ≡ true → HasEnded old.run.journal.settings.maxfail tests results
   pub shows : ShowsReport shown (HasEnded old.run.journal.settings.maxfail tests results) new.run.journal old.sunk new.sunk
-  pub told : shown ≡ true → Told new.run
+  pub told : shown ≡ true → FollowsJournal new.run
 
 -- the journal of the run with its end
-pub record Closed (shown : Bool) (r : Running) (j : Journal) : Type 0 where
+pub record ClosedJournal (shown : Bool) (r : Running) (j : Journal) : Type 0 where
   pub settings : j.settings ≡ r.journal.settings
   pub entries : (s : State) → Follows r.reporter s → j.entries.items ≡ r.journal.entries.items ++ Over (stop_after shown s.books.stop) ∷ []
   pub broken : shown ≡ false → j.entries.items ≡ r.journal.entries.items ++ Over OutFault ∷ []

@@ -4,15 +4,15 @@ ghost use Rattle.xd_edge.specs.Faults.{Counted};
 ghost use Rattle.xd_suite.specs.Tests.{run_at};
 ghost use Rattle.xd_journal.specs.Kept.{most_of_all, room_behind};
 ghost use Rattle.xd_ledger.specs.Sharing.{State};
-ghost use Rattle.xd_ledger.specs.State.{all_moved};
+ghost use Rattle.xd_ledger.specs.State.{after_entries};
 ghost use Rattle.xd_ledger.specs.Stops.{is_stopped};
 ghost use Rattle.xd_report.specs.Follows.{Follows};
 ghost use Rattle.xd_report.specs.Lines.{lines_from};
-ghost use Rattle.xd_report.specs.Printing.{Ends, ShowsEnd, ShowsLines};
+ghost use Rattle.xd_report.specs.Printing.{OnPrinted, ShowsEnd, ShowsLines};
 ghost use Rattle.xd_report.specs.Text.{tail_text};
 ghost use Rattle.xd_local.specs.Local.{local_settings, stop_after};
-ghost use Rattle.xd_local.specs.Running.{AddsRound, Closed, HasCollected, IsBegun, IsNew, NotesTest};
-ghost use Rattle.xd_local.specs.Running.{RanAll, RanPrinted, RanTest, Told, behind, scene};
+ghost use Rattle.xd_local.specs.Running.{AddsRound, ClosedJournal, HasCollected, WasCollected, IsNew, NotesTest};
+ghost use Rattle.xd_local.specs.Running.{RanAll, RanPrinted, RanTest, FollowsJournal, after_journal, scene};
 
 use crate::local::LocalRun;
 use std::alloc::Global;
@@ -86,10 +86,10 @@ impl<K: Children> Run<K> {
         clock: &mut T,
         out: &mut O,
     ) -> Result<(), PrintFault>
-        requires begun { IsBegun suite.now self.old }
-        ensures ran { Ends result (λ shown. RanPrinted shown suite.now
+        requires begun { WasCollected suite.now self.old }
+        ensures ran { OnPrinted result (λ shown. RanPrinted shown suite.now
             (scene self.old (O.sunk out.old)) (scene self.new (O.sunk out.new))) }
-        ensures counted { Ends result (λ shown.
+        ensures counted { OnPrinted result (λ shown.
             Counted shown (O.faults out.old) (O.faults out.new)) }
     {
         self.run_tests(rt, suite, clock, out)?;
@@ -106,10 +106,10 @@ impl<K: Children> Run<K> {
         clock: &mut T,
         out: &mut O,
     ) -> Result<(), PrintFault>
-        requires begun { IsBegun suite.now self.old }
-        ensures ran { Ends result (λ shown. RanAll shown suite.now
+        requires begun { WasCollected suite.now self.old }
+        ensures ran { OnPrinted result (λ shown. RanAll shown suite.now
             (scene self.old (O.sunk out.old)) (scene self.new (O.sunk out.new))) }
-        ensures counted { Ends result (λ shown.
+        ensures counted { OnPrinted result (λ shown.
             Counted shown (O.faults out.old) (O.faults out.new)) }
     {
         self.print_from(0, out)?;
@@ -124,8 +124,8 @@ impl<K: Children> Run<K> {
 
     // Whether the failures reached their limit.
     fn is_stopped(&self) -> bool
-        requires told { Told self.now }
-        ensures { result ≡ is_stopped (behind self.now.journal).books }
+        requires told { FollowsJournal self.now }
+        ensures { result ≡ is_stopped (after_journal self.now.journal).books }
     {
         self.reporter.first_stop().is_some()
     }
@@ -140,11 +140,11 @@ impl<K: Children> Run<K> {
         out: &mut O,
     ) -> Result<(), PrintFault>
         requires test { test < length suite.now }
-        requires told { Told self.old }
+        requires told { FollowsJournal self.old }
         requires room { self.old.spent ≤ most_of_all }
-        ensures ran { Ends result (λ shown. RanTest shown test (run_at suite.now test)
+        ensures ran { OnPrinted result (λ shown. RanTest shown test (run_at suite.now test)
             (scene self.old (O.sunk out.old)) (scene self.new (O.sunk out.new))) }
-        ensures counted { Ends result (λ shown.
+        ensures counted { OnPrinted result (λ shown.
             Counted shown (O.faults out.old) (O.faults out.new)) }
     {
         let from = self.entry_count();
@@ -190,13 +190,13 @@ impl<K: Children> Run<K> {
     // Prints the lines of the entries from a place on.
     fn print_from<O: Sink>(&mut self, from: usize, out: &mut O) -> Result<(), PrintFault>
         requires within { from ≤ length self.old.journal.entries.items }
-        ensures shows { (s : State) → Follows self.old.reporter s → Ends result (λ shown.
+        ensures shows { (s : State) → Follows self.old.reporter s → OnPrinted result (λ shown.
             ShowsLines shown (lines_from s (drop from self.old.journal.entries.items))
             (O.sunk out.old) (O.sunk out.new)) }
-        ensures follows { (s : State) → Follows self.old.reporter s → Ends result (λ shown.
-            Follows self.new.reporter (all_moved s (drop from self.old.journal.entries.items))) }
+        ensures follows { (s : State) → Follows self.old.reporter s → OnPrinted result (λ shown.
+            Follows self.new.reporter (after_entries s (drop from self.old.journal.entries.items))) }
         ensures keeps { self.new ≡ record (self.old) { reporter = self.new.reporter } }
-        ensures counted { Ends result (λ shown.
+        ensures counted { OnPrinted result (λ shown.
             Counted shown (O.faults out.old) (O.faults out.new)) }
     {
         print_lines(
@@ -209,9 +209,9 @@ impl<K: Children> Run<K> {
 
     // Prints the tail of the report, and closes the output.
     fn print_end<O: Sink>(&self, out: &mut O) -> Result<(), PrintFault>
-        ensures shows { Ends result (λ shown.
+        ensures shows { OnPrinted result (λ shown.
             ShowsEnd shown (tail_text self.now.journal) (O.sunk out.old) (O.sunk out.new)) }
-        ensures counted { Ends result (λ shown.
+        ensures counted { OnPrinted result (λ shown.
             Counted shown (O.faults out.old) (O.faults out.new)) }
     {
         print_tail(self.alloc, &self.journal, out)
@@ -219,7 +219,7 @@ impl<K: Children> Run<K> {
 
     // The journal with its end, and the programs.
     pub fn close(mut self, shown: bool) -> Result<LocalRun<K>, OutOfMemory>
-        ensures closed { IfOk result (λ r. Closed shown self r.journal) }
+        ensures closed { IfOk result (λ r. ClosedJournal shown self r.journal) }
         ensures children { IfOk result (λ r. self.programs ≡
             record { runs = K.runs r.children; faults = K.faults r.children }) }
     {

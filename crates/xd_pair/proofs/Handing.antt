@@ -7,11 +7,11 @@ use Rattle.xd_channel.specs.declared.end.End.{End}
 use Rattle.xd_factory.specs.Slot.{Slot, Unseen, Here, Gone, is_here, lost_gives}
 use Rattle.xd_factory.specs.Numbers.{is_in, is_known}
 use Rattle.xd_factory.specs.Table.{owed_at, owed_of}
-use Rattle.xd_factory.specs.View.{slot_of, numbers_of}
+use Rattle.xd_factory.specs.View.{slot_of_number, numbers_of}
 use Rattle.xd_factory.specs.Said.{Said}
 use Rattle.xd_factory.specs.declared.side.Side.{Side}
 use Rattle.xd_factory.proofs.Entries.{here_entries}
-use Rattle.xd_pair.specs.Part.{is_orderly, is_lost}
+use Rattle.xd_pair.specs.Part.{is_end_but_loss, is_lost}
 use Rattle.xd_pair.specs.Pair.{Actor, Finish_receiving, after}
 use Rattle.xd_pair.specs.Handed.{Hands, owed_end}
 use Rattle.xd_pair.specs.Stands.{StandsFor}
@@ -51,13 +51,13 @@ none_lost Gone false h = refl
 none_lost (Here x) false h = absurd (let z = h in cc)
 
 -- the ends that are owed, number by number
-pub owed_is : (s : Side) (c : ℕ) → owed_end (owed_of (slot_of s) (numbers_of s)) c ≡ lost_gives (slot_of s c)
-owed_is s c = owed_all (slot_of s) (numbers_of s) c ∙ none_lost (slot_of s c) (is_in c (numbers_of s)) (here_entries s.ends.entries c (is_known s.parity s.next s.seen c))
+pub owed_is : (s : Side) (c : ℕ) → owed_end (owed_of (slot_of_number s) (numbers_of s)) c ≡ lost_gives (slot_of_number s c)
+owed_is s c = owed_all (slot_of_number s) (numbers_of s) c ∙ none_lost (slot_of_number s c) (is_in c (numbers_of s)) (here_entries s.ends.entries c (is_known s.parity s.next s.seen c))
 
-pub finish_hands : (odd : Bool) (s : Side) (a : Actor) (wire : List Said) (ends : List (ℕ × End)) → ends ≡ owed_of (slot_of s) (numbers_of s) → StandsFor odd s a → Hands a (after odd a wire Finish_receiving) (λ c. []) (owed_end ends)
+pub finish_hands : (odd : Bool) (s : Side) (a : Actor) (wire : List Said) (ends : List (ℕ × End)) → ends ≡ owed_of (slot_of_number s) (numbers_of s) → StandsFor odd s a → Hands a (after odd a wire Finish_receiving) (λ c. []) (owed_end ends)
 finish_hands odd s a wire ends e k = record {
   got = λ c. refl;
-  ended = λ c. ap (λ (x : Option End). is_orderly x || (a.part c).ended) (here c);
+  ended = λ c. ap (λ (x : Option End). is_end_but_loss x || (a.part c).ended) (here c);
   lost = λ c. ap (λ (x : Option End). is_lost x || (a.part c).lost) (here c);
 }
   where

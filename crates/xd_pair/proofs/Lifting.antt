@@ -8,10 +8,10 @@ use Rattle.xd_frame.specs.Message.{MessageView}
 use Rattle.xd_factory.specs.Said.{Said}
 use Rattle.xd_factory.specs.declared.side.Side.{Side}
 use Rattle.xd_pair.specs.Part.{opened_in}
-use Rattle.xd_pair.specs.Pair.{Actor, World, Move, Open_channel, Send, Call, Ask, Answer, Terminate, Close, End_function, Give_up, Receive, Set_callback, Take_message, Refuse, Finish_receiving, at, adds, can_send, can_answer, can_open, takes, says, after, wire_after, Step, Odd, Even, happens, run, start}
-use Rattle.xd_pair.specs.Messages.{AllMean, Adds}
+use Rattle.xd_pair.specs.Pair.{Actor, World, Move, Open_channel, Send, Call, Ask, Answer, Terminate, Close, End_function, Give_up, Receive, Set_callback, Take_message, Refuse, Finish_receiving, part_changed, adds, can_send, can_answer, can_open, takes, says, after, wire_after, Step, Odd, Even, happens, run, start}
+use Rattle.xd_pair.specs.Messages.{AllMean, AddsMessages}
 use Rattle.xd_pair.specs.Handed.{Hands}
-use Rattle.xd_pair.specs.Stands.{StandsFor, IsOpen, IsMoveIf, HandsOut, Carries, IsTake, IsRefusal}
+use Rattle.xd_pair.specs.Stands.{StandsFor, IsOpen, IsMoveIf, HandsOut, Carries, IsTake, RefusesNext}
 use Rattle.xd_pair.specs.TwoSides.{StandFor, PairStands}
 use Rattle.xd_pair.specs.declared.linked.LinkedSide.{LinkedSide}
 use Rattle.xd_pair.proofs.Says.{if_actor}
@@ -32,7 +32,7 @@ takes_open odd a [] h = h
 takes_open odd a (m ∷ ms) h = h
 
 was_open : (odd : Bool) (a : Actor) (wire : List Said) (m : Move) → IsOpen (after odd a wire m) → IsOpen a
-was_open odd a wire Open_channel = if_actor (λ t. IsOpen t → IsOpen a) (can_open odd a) (record (at a.next (λ p. opened_in p p.slot) a) { next = a.next + 2 }) a (λ h. h) (λ h. h)
+was_open odd a wire Open_channel = if_actor (λ t. IsOpen t → IsOpen a) (can_open odd a) (record (part_changed a.next (λ p. opened_in p p.slot) a) { next = a.next + 2 }) a (λ h. h) (λ h. h)
 was_open odd a wire (Send n v) = if_actor (λ t. IsOpen t → IsOpen a) (can_send a n v) (adds n v a) a (λ h. h) (λ h. h)
 was_open odd a wire (Call n v) = λ h. h
 was_open odd a wire (Ask n) = λ h. h
@@ -48,7 +48,7 @@ was_open odd a wire (Refuse names) = λ h. absurd (let z = h in cc)
 was_open odd a wire Finish_receiving = λ h. absurd (never a.failed h)
 
 -- what is on the way to the peer
-more_carried : (a : Actor) (old new : LinkedSide) (wire words : List Said) → Adds old.said.items new.said.items words → Carries a old wire → Carries a new (wire ++ words)
+more_carried : (a : Actor) (old new : LinkedSide) (wire words : List Said) → AddsMessages old.said.items new.said.items words → Carries a old wire → Carries a new (wire ++ words)
 more_carried a old new wire words k h o = subst (λ (ms : List MessageView). AllMean ms (wire ++ words)) (sym k.behind) (all_mean-append old.said.items k.more wire words (h o) k.mean)
 
 still_carried : (odd : Bool) (a : Actor) (peer : LinkedSide) (wire : List Said) (m : Move) → wire_after a wire m ≡ wire → Carries a peer wire → Carries (after odd a wire m) peer (wire_after a wire m)
@@ -117,7 +117,7 @@ even_takes odd even new rest steps items end t h =
       subst (λ (b : Actor). Hands (run steps start).even b items end) (sym (next_even steps Take_message)) k.hands,
     )
 
-pub odd_refuses : (odd new even rest : LinkedSide) (steps : List Step) → IsRefusal odd new even rest → PairStands odd even steps → (names : List ℕ) × PairStands new rest (steps ++ Odd (Refuse names) ∷ [])
+pub odd_refuses : (odd new even rest : LinkedSide) (steps : List Step) → RefusesNext odd new even rest → PairStands odd even steps → (names : List ℕ) × PairStands new rest (steps ++ Odd (Refuse names) ∷ [])
 odd_refuses odd new even rest steps t h =
     let k = t.refuses true (run steps start).odd (run steps start).to_odd h.odd_stands h.to_odd in (
       k.names,
@@ -129,7 +129,7 @@ odd_refuses odd new even rest steps t h =
       }),
     )
 
-pub even_refuses : (odd even new rest : LinkedSide) (steps : List Step) → IsRefusal even new odd rest → PairStands odd even steps → (names : List ℕ) × PairStands rest new (steps ++ Even (Refuse names) ∷ [])
+pub even_refuses : (odd even new rest : LinkedSide) (steps : List Step) → RefusesNext even new odd rest → PairStands odd even steps → (names : List ℕ) × PairStands rest new (steps ++ Even (Refuse names) ∷ [])
 even_refuses odd even new rest steps t h =
     let k = t.refuses false (run steps start).even (run steps start).to_even h.even_stands h.to_even in (
       k.names,

@@ -7,9 +7,9 @@ use Rattle.xd_channel.specs.declared.end.End.TheVariants.{Closed, LastMessage, E
 use Rattle.xd_channel.specs.State.{EndState, fresh, arrive_gives, after_arrive, put_gives, after_put, after_peer_close, end_of, once_given, after_close, after_give_up, after_hook, after_receive, is_done}
 use Rattle.xd_channel.specs.History.{handed}
 use Rattle.xd_value.specs.Tree.{Tree}
-use Rattle.xd_factory.specs.Slot.{Slot, Unseen, Here, Gone, settled, receive_answer, named_slot}
+use Rattle.xd_factory.specs.Slot.{Slot, Unseen, Here, Gone, gone_where_done, receive_answer, named_slot}
 use Rattle.xd_pair.specs.Notes.{Note, Named, Item, Ends, Lasts, Asked, before_end, has_end}
-use Rattle.xd_pair.specs.Part.{Part, is_orderly, is_lost, heard_in, heard, heard_all, opened_in, received_in, hooked_in, closed_in, function_ended_in, given_up_in, lost_in, end_in, item_in}
+use Rattle.xd_pair.specs.Part.{Part, is_end_but_loss, is_lost, heard_in, heard, heard_all, opened_in, received_in, hooked_in, closed_in, function_ended_in, given_up_in, lost_in, end_in, item_in}
 use Rattle.xd_factory.specs.Slot.{is_seen}
 use Rattle.xd_pair.proofs.NotesLemmas.{open_append, ended_append, has_end-append, still_ended, open_or_ended, grows, longer}
 
@@ -20,7 +20,7 @@ pub record HereOk (f : Bool) (n : List Note) (w : List Tree) (m : Option End) (c
   pub open_end : is_some m ≡ false → has_end n ≡ false
   pub open_all : is_some m ≡ false → got ++ w ≡ before_end n
   pub whole : let_go ≡ false → got ++ w ≡ before_end n
-  pub end_came : let_go ≡ false → is_orderly m ≡ true → has_end n ≡ true
+  pub end_came : let_go ≡ false → is_end_but_loss m ≡ true → has_end n ≡ true
   pub lost_late : is_lost m ≡ true → f ≡ true
   pub none_waits : c ≡ true → w ≡ []
   pub given_last : g ≡ true → w ≡ []
@@ -54,7 +54,7 @@ abbrev state : List Tree → Option End → Bool → Bool → Bool → EndState 
 state w m o c g = record { waiting = w; marker = m; sending = o; callback = c; given = g }
 
 -- an entry that leaves the table has nothing that waits
-settles : (f : Bool) (n : List Note) (w : List Tree) (m : Option End) (o c g : Bool) (got : List Tree) (e l lo : Bool) → HereOk f n w m c g got e l lo → SlotOk f n (settled (state w m o c g)) got e l lo
+settles : (f : Bool) (n : List Note) (w : List Tree) (m : Option End) (o c g : Bool) (got : List Tree) (e l lo : Bool) → HereOk f n w m c g got e l lo → SlotOk f n (gone_where_done (state w m o c g)) got e l lo
 settles f n w m true c g got e l lo k = k
 settles f n w m false c false got e l lo k = k
 settles f n w m false c true got e l lo k = record {
@@ -104,12 +104,12 @@ item_comes n w None o false g got e l lo v k =
 -- an end comes from the peer
 end_comes : (f : Bool) (n : List Note) (w : List Tree) (m : Option End) (o c g : Bool) (got : List Tree) (e l lo : Bool) (x : Note) (end : End) → before_end (n ++ x ∷ []) ≡ before_end n → has_end (n ++ x ∷ []) ≡ true → is_lost (Some (once_given end)) ≡ false
     → HereOk f n w m c g got e l lo
-    → SlotOk f (n ++ x ∷ []) (settled (after_put (state w m o c g) end)) (got ++ []) (is_orderly (put_gives (state w m o c g) end) || e) l (is_lost (put_gives (state w m o c g) end) || lo)
+    → SlotOk f (n ++ x ∷ []) (gone_where_done (after_put (state w m o c g) end)) (got ++ []) (is_end_but_loss (put_gives (state w m o c g) end) || e) l (is_lost (put_gives (state w m o c g) end) || lo)
 end_comes f n w (Some y) o c g got e l lo x end hb he hl k =
-    none_more f (n ++ x ∷ []) (settled (state w (Some y) o c g)) got e l lo (settles f (n ++ x ∷ []) w (Some y) o c g got e l lo (record { prefix = (k.prefix.0, k.prefix.1 ∙ sym hb); open_end = λ h. cc; open_all = λ h. cc; whole = λ h. k.whole h ∙ sym hb; end_came = λ h q. he; lost_late = k.lost_late; none_waits = k.none_waits; given_last = k.given_last; given_came = λ a b d. he; told_late = k.told_late; ended_given = k.ended_given; lost_fin = k.lost_fin }))
+    none_more f (n ++ x ∷ []) (gone_where_done (state w (Some y) o c g)) got e l lo (settles f (n ++ x ∷ []) w (Some y) o c g got e l lo (record { prefix = (k.prefix.0, k.prefix.1 ∙ sym hb); open_end = λ h. cc; open_all = λ h. cc; whole = λ h. k.whole h ∙ sym hb; end_came = λ h q. he; lost_late = k.lost_late; none_waits = k.none_waits; given_last = k.given_last; given_came = λ a b d. he; told_late = k.told_late; ended_given = k.ended_given; lost_fin = k.lost_fin }))
 end_comes f n w None o true g got e l lo x end hb he hl k =
-    let e' = is_orderly (Some end) || e in let lo' = is_lost (Some end) || lo in
-    none_more f (n ++ x ∷ []) (settled (state w (Some (once_given end)) o true true)) got e' l lo' (settles f (n ++ x ∷ []) w (Some (once_given end)) o true true got e' l lo' (record { prefix = (k.prefix.0, k.prefix.1 ∙ sym hb); open_end = λ h. cc; open_all = λ h. cc; whole = λ h. k.open_all refl ∙ sym hb; end_came = λ h q. he; lost_late = λ q. cc; none_waits = k.none_waits; given_last = λ a. k.none_waits refl; given_came = λ a b d. he; told_late = λ a. refl; ended_given = λ a. refl; lost_fin = λ q. not_lost end lo hl k.lost_fin q }))
+    let e' = is_end_but_loss (Some end) || e in let lo' = is_lost (Some end) || lo in
+    none_more f (n ++ x ∷ []) (gone_where_done (state w (Some (once_given end)) o true true)) got e' l lo' (settles f (n ++ x ∷ []) w (Some (once_given end)) o true true got e' l lo' (record { prefix = (k.prefix.0, k.prefix.1 ∙ sym hb); open_end = λ h. cc; open_all = λ h. cc; whole = λ h. k.open_all refl ∙ sym hb; end_came = λ h q. he; lost_late = λ q. cc; none_waits = k.none_waits; given_last = λ a. k.none_waits refl; given_came = λ a b d. he; told_late = λ a. refl; ended_given = λ a. refl; lost_fin = λ q. not_lost end lo hl k.lost_fin q }))
   where
     not_lost : (x : End) (lo : Bool) → is_lost (Some (once_given x)) ≡ false → (lo ≡ true → f ≡ true) → is_lost (Some x) || lo ≡ true → f ≡ true
     not_lost Closed lo a h b = h b
@@ -117,7 +117,7 @@ end_comes f n w None o true g got e l lo x end hb he hl k =
     not_lost (Error t) lo a h b = h b
     not_lost Lost lo a h b = cc
 end_comes f n w None o false g got e l lo x end hb he hl k =
-    none_more f (n ++ x ∷ []) (settled (state w (Some end) o false g)) got e l lo (settles f (n ++ x ∷ []) w (Some end) o false g got e l lo (record { prefix = (k.prefix.0, k.prefix.1 ∙ sym hb); open_end = λ h. cc; open_all = λ h. cc; whole = λ h. k.open_all refl ∙ sym hb; end_came = λ h q. he; lost_late = λ q. not_lost end hl q; none_waits = k.none_waits; given_last = k.given_last; given_came = λ a b d. he; told_late = λ a. refl; ended_given = k.ended_given; lost_fin = k.lost_fin }))
+    none_more f (n ++ x ∷ []) (gone_where_done (state w (Some end) o false g)) got e l lo (settles f (n ++ x ∷ []) w (Some end) o false g got e l lo (record { prefix = (k.prefix.0, k.prefix.1 ∙ sym hb); open_end = λ h. cc; open_all = λ h. cc; whole = λ h. k.open_all refl ∙ sym hb; end_came = λ h q. he; lost_late = λ q. not_lost end hl q; none_waits = k.none_waits; given_last = k.given_last; given_came = λ a b d. he; told_late = λ a. refl; ended_given = k.ended_given; lost_fin = k.lost_fin }))
   where
     not_lost : (x : End) → is_lost (Some (once_given x)) ≡ false → is_lost (Some x) ≡ true → f ≡ true
     not_lost Closed a b = cc
@@ -127,28 +127,28 @@ end_comes f n w None o false g got e l lo x end hb he hl k =
 
 -- the link is lost
 loses : (f : Bool) (n : List Note) (w : List Tree) (m : Option End) (o c g : Bool) (got : List Tree) (e l lo : Bool) → HereOk f n w m c g got e l lo
-    → SlotOk true n (settled (after_put (state w m o c g) Lost)) (got ++ []) (is_orderly (put_gives (state w m o c g) Lost) || e) l (is_lost (put_gives (state w m o c g) Lost) || lo)
+    → SlotOk true n (gone_where_done (after_put (state w m o c g) Lost)) (got ++ []) (is_end_but_loss (put_gives (state w m o c g) Lost) || e) l (is_lost (put_gives (state w m o c g) Lost) || lo)
 loses f n w (Some y) o c g got e l lo k =
-    none_more true n (settled (state w (Some y) o c g)) got e l lo (settles true n w (Some y) o c g got e l lo (record { prefix = k.prefix; open_end = k.open_end; open_all = k.open_all; whole = k.whole; end_came = k.end_came; lost_late = λ q. refl; none_waits = k.none_waits; given_last = k.given_last; given_came = k.given_came; told_late = k.told_late; ended_given = k.ended_given; lost_fin = λ q. refl }))
+    none_more true n (gone_where_done (state w (Some y) o c g)) got e l lo (settles true n w (Some y) o c g got e l lo (record { prefix = k.prefix; open_end = k.open_end; open_all = k.open_all; whole = k.whole; end_came = k.end_came; lost_late = λ q. refl; none_waits = k.none_waits; given_last = k.given_last; given_came = k.given_came; told_late = k.told_late; ended_given = k.ended_given; lost_fin = λ q. refl }))
 loses f n w None o true g got e l lo k =
-    none_more true n (settled (state w (Some Lost) o true true)) got e l true (settles true n w (Some Lost) o true true got e l true (record { prefix = k.prefix; open_end = λ h. cc; open_all = λ h. cc; whole = λ h. k.open_all refl; end_came = λ h q. cc; lost_late = λ q. refl; none_waits = k.none_waits; given_last = λ a. k.none_waits refl; given_came = λ a b d. cc; told_late = λ a. refl; ended_given = λ a. refl; lost_fin = λ q. refl }))
+    none_more true n (gone_where_done (state w (Some Lost) o true true)) got e l true (settles true n w (Some Lost) o true true got e l true (record { prefix = k.prefix; open_end = λ h. cc; open_all = λ h. cc; whole = λ h. k.open_all refl; end_came = λ h q. cc; lost_late = λ q. refl; none_waits = k.none_waits; given_last = λ a. k.none_waits refl; given_came = λ a b d. cc; told_late = λ a. refl; ended_given = λ a. refl; lost_fin = λ q. refl }))
 loses f n w None o false g got e l lo k =
-    none_more true n (settled (state w (Some Lost) o false g)) got e l lo (settles true n w (Some Lost) o false g got e l lo (record { prefix = k.prefix; open_end = λ h. cc; open_all = λ h. cc; whole = λ h. k.open_all refl; end_came = λ h q. cc; lost_late = λ q. refl; none_waits = k.none_waits; given_last = k.given_last; given_came = λ a b d. let q = k.told_late a in cc; told_late = λ a. refl; ended_given = k.ended_given; lost_fin = λ q. refl }))
+    none_more true n (gone_where_done (state w (Some Lost) o false g)) got e l lo (settles true n w (Some Lost) o false g got e l lo (record { prefix = k.prefix; open_end = λ h. cc; open_all = λ h. cc; whole = λ h. k.open_all refl; end_came = λ h q. cc; lost_late = λ q. refl; none_waits = k.none_waits; given_last = k.given_last; given_came = λ a b d. let q = k.told_late a in cc; told_late = λ a. refl; ended_given = k.ended_given; lost_fin = λ q. refl }))
 
 -- a receive
 receives : (f : Bool) (n : List Note) (w : List Tree) (m : Option End) (o c g : Bool) (got : List Tree) (e l lo : Bool) → HereOk f n w m c g got e l lo
-    → SlotOk f n (settled (after_receive (state w m o c g))) (got ++ item_in (receive_answer (Here (state w m o c g)))) (is_orderly (end_in (receive_answer (Here (state w m o c g)))) || e) l (is_lost (end_in (receive_answer (Here (state w m o c g)))) || lo)
-receives f n w m o true g got e l lo k = none_more f n (settled (state w m o true g)) got e l lo (settles f n w m o true g got e l lo k)
+    → SlotOk f n (gone_where_done (after_receive (state w m o c g))) (got ++ item_in (receive_answer (Here (state w m o c g)))) (is_end_but_loss (end_in (receive_answer (Here (state w m o c g)))) || e) l (is_lost (end_in (receive_answer (Here (state w m o c g)))) || lo)
+receives f n w m o true g got e l lo k = none_more f n (gone_where_done (state w m o true g)) got e l lo (settles f n w m o true g got e l lo k)
 receives f n (x ∷ xs) m o false g got e l lo k = let q = append_assoc got (x ∷ []) xs in settles f n xs m o false g (got ++ x ∷ []) e l lo (record { prefix = (k.prefix.0, ap (λ (t : List Tree). t ++ k.prefix.0) q ∙ k.prefix.1); open_end = k.open_end; open_all = λ h. q ∙ k.open_all h; whole = λ h. q ∙ k.whole h; end_came = k.end_came; lost_late = k.lost_late; none_waits = λ h. cc; given_last = λ a. let z = k.given_last a in cc; given_came = k.given_came; told_late = k.told_late; ended_given = k.ended_given; lost_fin = k.lost_fin })
-receives f n [] None o false g got e l lo k = none_more f n (settled (state [] None o false g)) got e l lo (settles f n [] None o false g got e l lo k)
-receives f n [] (Some Closed) o false g got e l lo k = none_more f n (settled (state [] (Some Closed) o false true)) got true l lo (settles f n [] (Some Closed) o false true got true l lo (record { prefix = k.prefix; open_end = λ h. cc; open_all = λ h. cc; whole = k.whole; end_came = λ h q. k.end_came h refl; lost_late = λ q. cc; none_waits = λ a. refl; given_last = λ a. refl; given_came = λ a b d. k.end_came b refl; told_late = λ a. refl; ended_given = λ a. refl; lost_fin = k.lost_fin }))
-receives f n [] (Some LastMessage) o false g got e l lo k = none_more f n (settled (state [] (Some LastMessage) o false true)) got true l lo (settles f n [] (Some LastMessage) o false true got true l lo (record { prefix = k.prefix; open_end = λ h. cc; open_all = λ h. cc; whole = k.whole; end_came = λ h q. k.end_came h refl; lost_late = λ q. cc; none_waits = λ a. refl; given_last = λ a. refl; given_came = λ a b d. k.end_came b refl; told_late = λ a. refl; ended_given = λ a. refl; lost_fin = k.lost_fin }))
-receives f n [] (Some (Error t)) o false g got e l lo k = none_more f n (settled (state [] (Some Closed) o false true)) got true l lo (settles f n [] (Some Closed) o false true got true l lo (record { prefix = k.prefix; open_end = λ h. cc; open_all = λ h. cc; whole = k.whole; end_came = λ h q. k.end_came h refl; lost_late = λ q. cc; none_waits = λ a. refl; given_last = λ a. refl; given_came = λ a b d. k.end_came b refl; told_late = λ a. refl; ended_given = λ a. refl; lost_fin = k.lost_fin }))
-receives f n [] (Some Lost) o false g got e l lo k = none_more f n (settled (state [] (Some Lost) o false true)) got e l true (settles f n [] (Some Lost) o false true got e l true (record { prefix = k.prefix; open_end = λ h. cc; open_all = λ h. cc; whole = k.whole; end_came = λ h q. cc; lost_late = k.lost_late; none_waits = λ a. refl; given_last = λ a. refl; given_came = λ a b d. cc; told_late = λ a. refl; ended_given = λ a. refl; lost_fin = λ q. k.lost_late refl }))
+receives f n [] None o false g got e l lo k = none_more f n (gone_where_done (state [] None o false g)) got e l lo (settles f n [] None o false g got e l lo k)
+receives f n [] (Some Closed) o false g got e l lo k = none_more f n (gone_where_done (state [] (Some Closed) o false true)) got true l lo (settles f n [] (Some Closed) o false true got true l lo (record { prefix = k.prefix; open_end = λ h. cc; open_all = λ h. cc; whole = k.whole; end_came = λ h q. k.end_came h refl; lost_late = λ q. cc; none_waits = λ a. refl; given_last = λ a. refl; given_came = λ a b d. k.end_came b refl; told_late = λ a. refl; ended_given = λ a. refl; lost_fin = k.lost_fin }))
+receives f n [] (Some LastMessage) o false g got e l lo k = none_more f n (gone_where_done (state [] (Some LastMessage) o false true)) got true l lo (settles f n [] (Some LastMessage) o false true got true l lo (record { prefix = k.prefix; open_end = λ h. cc; open_all = λ h. cc; whole = k.whole; end_came = λ h q. k.end_came h refl; lost_late = λ q. cc; none_waits = λ a. refl; given_last = λ a. refl; given_came = λ a b d. k.end_came b refl; told_late = λ a. refl; ended_given = λ a. refl; lost_fin = k.lost_fin }))
+receives f n [] (Some (Error t)) o false g got e l lo k = none_more f n (gone_where_done (state [] (Some Closed) o false true)) got true l lo (settles f n [] (Some Closed) o false true got true l lo (record { prefix = k.prefix; open_end = λ h. cc; open_all = λ h. cc; whole = k.whole; end_came = λ h q. k.end_came h refl; lost_late = λ q. cc; none_waits = λ a. refl; given_last = λ a. refl; given_came = λ a b d. k.end_came b refl; told_late = λ a. refl; ended_given = λ a. refl; lost_fin = k.lost_fin }))
+receives f n [] (Some Lost) o false g got e l lo k = none_more f n (gone_where_done (state [] (Some Lost) o false true)) got e l true (settles f n [] (Some Lost) o false true got e l true (record { prefix = k.prefix; open_end = λ h. cc; open_all = λ h. cc; whole = k.whole; end_came = λ h q. cc; lost_late = k.lost_late; none_waits = λ a. refl; given_last = λ a. refl; given_came = λ a b d. cc; told_late = λ a. refl; ended_given = λ a. refl; lost_fin = λ q. k.lost_late refl }))
 
 -- a callback is set
 hooks : (f : Bool) (n : List Note) (w : List Tree) (m : Option End) (o g : Bool) (got : List Tree) (e l lo : Bool) → HereOk f n w m false g got e l lo
-    → SlotOk f n (settled (after_hook (state w m o false g))) (got ++ w) (is_orderly m || e) l (is_lost m || lo)
+    → SlotOk f n (gone_where_done (after_hook (state w m o false g))) (got ++ w) (is_end_but_loss m || e) l (is_lost m || lo)
 hooks f n w None o g got e l lo k = settles f n [] None o true g (got ++ w) e l lo (record { prefix = (k.prefix.0, ap (λ (t : List Tree). t ++ k.prefix.0) (append-nil (got ++ w)) ∙ k.prefix.1); open_end = k.open_end; open_all = λ h. append-nil (got ++ w) ∙ k.open_all h; whole = λ h. append-nil (got ++ w) ∙ k.whole h; end_came = k.end_came; lost_late = k.lost_late; none_waits = λ a. refl; given_last = λ a. refl; given_came = k.given_came; told_late = k.told_late; ended_given = k.ended_given; lost_fin = k.lost_fin })
 hooks f n w (Some Closed) o g got e l lo k = settles f n [] (Some Closed) o true true (got ++ w) true l lo (record { prefix = (k.prefix.0, ap (λ (t : List Tree). t ++ k.prefix.0) (append-nil (got ++ w)) ∙ k.prefix.1); open_end = λ h. cc; open_all = λ h. cc; whole = λ h. append-nil (got ++ w) ∙ k.whole h; end_came = λ h q. k.end_came h refl; lost_late = λ q. cc; none_waits = λ a. refl; given_last = λ a. refl; given_came = λ a b d. k.end_came b refl; told_late = λ a. refl; ended_given = λ a. refl; lost_fin = k.lost_fin })
 hooks f n w (Some LastMessage) o g got e l lo k = settles f n [] (Some LastMessage) o true true (got ++ w) true l lo (record { prefix = (k.prefix.0, ap (λ (t : List Tree). t ++ k.prefix.0) (append-nil (got ++ w)) ∙ k.prefix.1); open_end = λ h. cc; open_all = λ h. cc; whole = λ h. append-nil (got ++ w) ∙ k.whole h; end_came = λ h q. k.end_came h refl; lost_late = λ q. cc; none_waits = λ a. refl; given_last = λ a. refl; given_came = λ a b d. k.end_came b refl; told_late = λ a. refl; ended_given = λ a. refl; lost_fin = k.lost_fin })
@@ -156,7 +156,7 @@ hooks f n w (Some (Error t)) o g got e l lo k = settles f n [] (Some Closed) o t
 hooks f n w (Some Lost) o g got e l lo k = settles f n [] (Some Lost) o true true (got ++ w) e l true (record { prefix = (k.prefix.0, ap (λ (t : List Tree). t ++ k.prefix.0) (append-nil (got ++ w)) ∙ k.prefix.1); open_end = λ h. cc; open_all = λ h. cc; whole = λ h. append-nil (got ++ w) ∙ k.whole h; end_came = λ h q. cc; lost_late = k.lost_late; none_waits = λ a. refl; given_last = λ a. refl; given_came = λ a b d. cc; told_late = λ a. refl; ended_given = λ a. refl; lost_fin = λ q. k.lost_late refl })
 
 -- the own end is closed
-closes : (f : Bool) (n : List Note) (w : List Tree) (m : Option End) (o c g : Bool) (got : List Tree) (e l lo : Bool) → HereOk f n w m c g got e l lo → SlotOk f n (settled (after_close (state w m o c g))) got e true lo
+closes : (f : Bool) (n : List Note) (w : List Tree) (m : Option End) (o c g : Bool) (got : List Tree) (e l lo : Bool) → HereOk f n w m c g got e l lo → SlotOk f n (gone_where_done (after_close (state w m o c g))) got e true lo
 closes f n w (Some x) o true g got e l lo k = settles f n w (Some x) false true true got e true lo (record { prefix = k.prefix; open_end = λ h. cc; open_all = λ h. cc; whole = λ h. cc; end_came = λ h q. cc; lost_late = k.lost_late; none_waits = k.none_waits; given_last = λ a. k.none_waits refl; given_came = λ a b d. cc; told_late = λ a. refl; ended_given = λ a. refl; lost_fin = k.lost_fin })
 closes f n w (Some x) o false g got e l lo k = settles f n w (Some x) false false g got e true lo (record { prefix = k.prefix; open_end = λ h. cc; open_all = λ h. cc; whole = λ h. cc; end_came = λ h q. cc; lost_late = k.lost_late; none_waits = k.none_waits; given_last = k.given_last; given_came = λ a b d. cc; told_late = λ a. refl; ended_given = k.ended_given; lost_fin = k.lost_fin })
 closes f n w None o true g got e l lo k = settles f n w (Some Closed) false true true got e true lo (record { prefix = k.prefix; open_end = λ h. cc; open_all = λ h. cc; whole = λ h. cc; end_came = λ h q. cc; lost_late = λ q. cc; none_waits = k.none_waits; given_last = λ a. k.none_waits refl; given_came = λ a b d. cc; told_late = λ a. refl; ended_given = λ a. refl; lost_fin = k.lost_fin })
@@ -167,7 +167,7 @@ ends : (f : Bool) (n : List Note) (w : List Tree) (m : Option End) (o c g : Bool
 ends f n w m o c g got e l lo k = record { prefix = (w ++ k.prefix.0, sym (append_assoc got w k.prefix.0) ∙ k.prefix.1); whole = λ h. cc; end_came = λ h q. cc; lost_fin = k.lost_fin }
 
 -- the owner lets go of it
-lets_go : (f : Bool) (n : List Note) (w : List Tree) (m : Option End) (o c g : Bool) (got : List Tree) (e l lo : Bool) → HereOk f n w m c g got e l lo → SlotOk f n (settled (after_give_up (state w m o c g))) got e (not c || l) lo
+lets_go : (f : Bool) (n : List Note) (w : List Tree) (m : Option End) (o c g : Bool) (got : List Tree) (e l lo : Bool) → HereOk f n w m c g got e l lo → SlotOk f n (gone_where_done (after_give_up (state w m o c g))) got e (not c || l) lo
 lets_go f n w (Some x) true true g got e l lo k = settles f n w (Some x) false true g got e l lo k
 lets_go f n w None true true g got e l lo k = settles f n w None false true g got e l lo k
 lets_go f n w (Some x) true false g got e l lo k = settles f n w (Some x) false false g got e true lo (record { prefix = k.prefix; open_end = k.open_end; open_all = k.open_all; whole = λ h. cc; end_came = λ h q. cc; lost_late = k.lost_late; none_waits = k.none_waits; given_last = k.given_last; given_came = λ a b d. cc; told_late = k.told_late; ended_given = k.ended_given; lost_fin = k.lost_fin })
@@ -320,7 +320,7 @@ heard_in-ok mine n p Gone (Item v) h q k = gone_more false (n ++ Item v ∷ []) 
 heard_in-ok mine n p Gone (Ends e) h q k = gone_more false (n ++ Ends e ∷ []) p.got p.let_go p.lost (gone_end n p.got p.let_go p.lost (Ends e) refl refl (at_slot false n p Gone h k))
 heard_in-ok mine n p Gone Lasts h q k = gone_more false (n ++ Lasts ∷ []) p.got p.let_go p.lost (gone_end n p.got p.let_go p.lost Lasts refl refl (at_slot false n p Gone h k))
 
-pub settled_seen : (s : EndState Tree) → is_seen (settled s) ≡ true
+pub settled_seen : (s : EndState Tree) → is_seen (gone_where_done s) ≡ true
 settled_seen s = by_done (is_done s)
   where
     by_done : (b : Bool) → is_seen (if b then Gone else Here s) ≡ true

@@ -13,11 +13,11 @@ use Rattle.xd_factory.specs.Slot.{Slot, is_seen, is_here, closed_slot, function_
 use Rattle.xd_factory.specs.Said.{Said, Exec, Data, Means}
 use Rattle.xd_factory.specs.Said as message
 use Rattle.xd_factory.specs.Table.{is_long, HasErrorPayload, close_refusal, closing_message, close_says, giving_says, send_refusal, sent_gives}
-use Rattle.xd_factory.specs.View.{slot_of, KeepsRest}
+use Rattle.xd_factory.specs.View.{slot_of_number, KeepsRest}
 use Rattle.xd_factory.specs.declared.side.Side.{Side}
 use Rattle.xd_pair.specs.Part as part
 use Rattle.xd_pair.specs.Pair.{Actor, Send, Call, Answer, Close, End_function, Give_up, knows, can_send, can_call, can_answer}
-use Rattle.xd_pair.specs.Messages.{AllMean, Adds}
+use Rattle.xd_pair.specs.Messages.{AllMean, AddsMessages}
 use Rattle.xd_pair.specs.Stands.{IsMove, IsMoveIf}
 use Rattle.xd_pair.specs.declared.linked.LinkedSide.{LinkedSide}
 use Rattle.xd_pair.proofs.Says.{differ, unasked, here_seen, may_seen}
@@ -26,54 +26,54 @@ use Rattle.xd_pair.proofs.Sending.{adds_option, end_said, close_said, give_up_sa
 use Rattle.xd_pair.proofs.Standing.{at_stands, same_stands, adds_stands}
 
 pub record ChangesAt (old new : Side) (n : ℕ) (f : Slot Tree → Slot Tree) : Type 0 where
-  pub slots : (c : ℕ) → slot_of new c ≡ (if n == c then f (slot_of old c) else slot_of old c)
+  pub slots : (c : ℕ) → slot_of_number new c ≡ (if n == c then f (slot_of_number old c) else slot_of_number old c)
   pub rest : KeepsRest old new
 
 -- a number at which something stands is a channel's
-numbered : (a : Actor) (s : Side) (n : ℕ) → ((c : ℕ) → slot_of s c ≡ (a.part c).slot) → is_seen (a.part 0).slot ≡ false → is_seen (slot_of s n) ≡ true → n == 0 ≡ false
+numbered : (a : Actor) (s : Side) (n : ℕ) → ((c : ℕ) → slot_of_number s c ≡ (a.part c).slot) → is_seen (a.part 0).slot ≡ false → is_seen (slot_of_number s n) ≡ true → n == 0 ≡ false
 numbered a s n slots zero h = differ a.part n 0 zero (ap is_seen (sym (slots n)) ∙ h)
 
 -- the calls that end a channel
-pub close_moves : (old new : LinkedSide) (n : ℕ) (e : Option (List ℕ)) (m : Option MessageView) → HasErrorPayload e → m ≡ close_says n e (slot_of old.side n)
-    → close_refusal (is_seen (slot_of old.side n)) (is_long e) ≡ None → ChangesAt old.side new.side n closed_slot → new.said.items ≡ old.said.items ++ option_to_list m
+pub close_moves : (old new : LinkedSide) (n : ℕ) (e : Option (List ℕ)) (m : Option MessageView) → HasErrorPayload e → m ≡ close_says n e (slot_of_number old.side n)
+    → close_refusal (is_seen (slot_of_number old.side n)) (is_long e) ≡ None → ChangesAt old.side new.side n closed_slot → new.said.items ≡ old.said.items ++ option_to_list m
     → IsMove old new (Close n e)
 close_moves old new n e m p says accepted change more odd a wire num u k = record {
   stands = at_stands odd old.side new.side a n closed_slot (λ q. part.closed_in q q.slot) (λ q. refl) change.rest change.slots k;
-  says = subst (λ (s : Slot Tree). Adds old.said.items new.said.items (part.close_words n e s)) (k.slots n)
-      (adds_option old.said.items new.said.items m (part.close_words n e (slot_of old.side n)) more
-      (subst (λ (x : Option MessageView). AllMean (option_to_list x) (part.close_words n e (slot_of old.side n))) (sym says)
-      (close_said n e (slot_of old.side n) (numbered a old.side n k.slots num.unseen) accepted p)));
+  says = subst (λ (s : Slot Tree). AddsMessages old.said.items new.said.items (part.close_words n e s)) (k.slots n)
+      (adds_option old.said.items new.said.items m (part.close_words n e (slot_of_number old.side n)) more
+      (subst (λ (x : Option MessageView). AllMean (option_to_list x) (part.close_words n e (slot_of_number old.side n))) (sym says)
+      (close_said n e (slot_of_number old.side n) (numbered a old.side n k.slots num.unseen) accepted p)));
   way = refl;
 }
 
 pub end_moves : (old new : LinkedSide) (n : ℕ) (e : Option (List ℕ)) (m : MessageView) → HasErrorPayload e → m ≡ closing_message n e
-    → close_refusal (is_seen (slot_of old.side n)) (is_long e) ≡ None → ChangesAt old.side new.side n function_ended_slot → new.said.items ≡ old.said.items ++ m ∷ []
+    → close_refusal (is_seen (slot_of_number old.side n)) (is_long e) ≡ None → ChangesAt old.side new.side n function_ended_slot → new.said.items ≡ old.said.items ++ m ∷ []
     → IsMove old new (End_function n e)
 end_moves old new n e m p says accepted change more odd a wire num u k = record {
   stands = at_stands odd old.side new.side a n function_ended_slot (λ q. part.function_ended_in q q.slot) (λ q. refl) change.rest change.slots k;
-  says = subst (λ (s : Slot Tree). Adds old.said.items new.said.items (part.function_end_words n e s)) (k.slots n)
+  says = subst (λ (s : Slot Tree). AddsMessages old.said.items new.said.items (part.function_end_words n e s)) (k.slots n)
       (record {
         more = m ∷ [];
         behind = more;
-        mean = subst (λ (x : MessageView). AllMean (x ∷ []) (part.function_end_words n e (slot_of old.side n))) (sym says)
-            (end_said n e (slot_of old.side n) (numbered a old.side n k.slots num.unseen) accepted p);
+        mean = subst (λ (x : MessageView). AllMean (x ∷ []) (part.function_end_words n e (slot_of_number old.side n))) (sym says)
+            (end_said n e (slot_of_number old.side n) (numbered a old.side n k.slots num.unseen) accepted p);
       });
   way = refl;
 }
 
-pub give_up_moves : (old new : LinkedSide) (n : ℕ) (m : Option MessageView) → m ≡ giving_says n (give_up_says (slot_of old.side n))
+pub give_up_moves : (old new : LinkedSide) (n : ℕ) (m : Option MessageView) → m ≡ giving_says n (give_up_says (slot_of_number old.side n))
     → ChangesAt old.side new.side n given_up_slot → new.said.items ≡ old.said.items ++ option_to_list m → IsMove old new (Give_up n)
 give_up_moves old new n m says change more odd a wire num u k = record {
   stands = at_stands odd old.side new.side a n given_up_slot (λ q. part.given_up_in q q.slot) (λ q. refl) change.rest change.slots k;
-  says = subst (λ (s : Slot Tree). Adds old.said.items new.said.items (part.give_up_words n s)) (k.slots n)
-      (adds_option old.said.items new.said.items m (part.give_up_words n (slot_of old.side n)) more
-      (subst (λ (x : Option MessageView). AllMean (option_to_list x) (part.give_up_words n (slot_of old.side n))) (sym says)
-      (give_up_said n (slot_of old.side n) (numbered a old.side n k.slots num.unseen))));
+  says = subst (λ (s : Slot Tree). AddsMessages old.said.items new.said.items (part.give_up_words n s)) (k.slots n)
+      (adds_option old.said.items new.said.items m (part.give_up_words n (slot_of_number old.side n)) more
+      (subst (λ (x : Option MessageView). AllMean (option_to_list x) (part.give_up_words n (slot_of_number old.side n))) (sym says)
+      (give_up_said n (slot_of_number old.side n) (numbered a old.side n k.slots num.unseen))));
   way = refl;
 }
 
 -- the calls that send
-if_adds : (old new : List MessageView) (b : Bool) (words : List Said) → b ≡ true → Adds old new words → Adds old new (if b then words else [])
+if_adds : (old new : List MessageView) (b : Bool) (words : List Said) → b ≡ true → AddsMessages old new words → AddsMessages old new (if b then words else [])
 if_adds old new true words h k = k
 if_adds old new false words h k = absurd (let z = h in cc)
 
@@ -81,11 +81,11 @@ both : (x y : Bool) → x ≡ true → y ≡ true → x && y ≡ true
 both true y h k = k
 both false y h k = h
 
-pub send_moves : (old new : LinkedSide) (n : ℕ) (v : Tree) (b : List ℕ) (m : MessageView) → IsPayload v b → sent_gives (send_refusal (slot_of old.side n)) (dumped v) ≡ Ok b
+pub send_moves : (old new : LinkedSide) (n : ℕ) (v : Tree) (b : List ℕ) (m : MessageView) → IsPayload v b → sent_gives (send_refusal (slot_of_number old.side n)) (dumped v) ≡ Ok b
     → m ≡ record { kind = kind.Item; channel = n; payload = b } → new.side ≡ old.side → new.said.items ≡ old.said.items ++ m ∷ []
     → IsMoveIf (λ a. knows a.part (channels v)) old new (Send n v)
 send_moves old new n v b m p sent is side more odd a wire num known k =
-    let parts = sent_parts (slot_of old.side n) v b sent in
+    let parts = sent_parts (slot_of_number old.side n) v b sent in
     let may : part.may_send (a.part n).slot ≡ true = ap part.may_send (sym (k.slots n)) ∙ parts.0 in
     let n_is : n == 0 ≡ false = differ a.part n 0 num.unseen (may_seen (a.part n).slot may) in
     record {

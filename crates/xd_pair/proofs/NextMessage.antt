@@ -6,20 +6,20 @@ use Rattle.xd_frame.specs.Message.{MessageView}
 use Rattle.xd_factory.specs.Numbers.{is_in, is_mine}
 use Rattle.xd_factory.specs.Said.{Said, Means, names_of}
 use Rattle.xd_factory.specs.Table.{heard_slot, answer_of, OpensAtMost}
-use Rattle.xd_factory.specs.View.{slot_of, parity_of, next_of, fault_of, is_finished, KeepsRest}
+use Rattle.xd_factory.specs.View.{slot_of_number, parity_of, next_of, fault_of, is_finished, KeepsRest}
 use Rattle.xd_factory.specs.declared.taken.Taken.{Taken}
 use Rattle.xd_factory.specs.declared.faults.SideFault.{SideFault}
-use Rattle.xd_pair.specs.Pair.{Actor, Take_message, takes, rest, after, wire_after}
+use Rattle.xd_pair.specs.Pair.{Actor, Take_message, takes, messages_left, after, wire_after}
 use Rattle.xd_pair.specs.Handed.{Hands, taken_items, taken_end}
 use Rattle.xd_pair.specs.Messages.{AllMean}
-use Rattle.xd_pair.specs.Stands.{StandsFor, IsOpen, IsTake, IsRefusal}
+use Rattle.xd_pair.specs.Stands.{StandsFor, IsOpen, IsTake, RefusesNext}
 use Rattle.xd_pair.specs.declared.linked.LinkedSide.{LinkedSide}
 use Rattle.xd_pair.proofs.Standing.{same_stands}
 use Rattle.xd_pair.proofs.Taking.{open_actor, took, none_hands, refused}
 
 pub takes_some : (old new peer left : LinkedSide) (m : MessageView) (answer : Taken Tree) → peer.said.items ≡ m ∷ left.said.items → left.side ≡ peer.side → new.said.items ≡ old.said.items
-    → fault_of old.side ≡ None → KeepsRest old.side new.side → ((said : Said) → Means m said → answer ≡ answer_of (parity_of old.side) (slot_of old.side) said)
-    → ((said : Said) → Means m said → (c : ℕ) → slot_of new.side c ≡ heard_slot (parity_of old.side) said c (slot_of old.side c))
+    → fault_of old.side ≡ None → KeepsRest old.side new.side → ((said : Said) → Means m said → answer ≡ answer_of (parity_of old.side) (slot_of_number old.side) said)
+    → ((said : Said) → Means m said → (c : ℕ) → slot_of_number new.side c ≡ heard_slot (parity_of old.side) said c (slot_of_number old.side c))
     → IsTake old new peer left (taken_items answer) (taken_end answer)
 takes_some old new peer left m answer items side said f keeps answers slots = record {
   quiet = record { said = said; peer_side = side };
@@ -41,7 +41,7 @@ none_after odd a wire h = by_test (a.failed || a.finished) h
     by_test true k = refl
     by_test false k = none_takes odd a wire (k refl)
 
-none_rest : (b : Bool) (wire : List Said) → AllMean [] wire → AllMean [] (if b then wire else rest wire)
+none_rest : (b : Bool) (wire : List Said) → AllMean [] wire → AllMean [] (if b then wire else messages_left wire)
 none_rest true wire h = h
 none_rest false [] h = tt
 none_rest false (w ∷ ws) h = absurd h
@@ -62,9 +62,9 @@ takes_none old new peer left items none side said same = record {
 pub refuses_some : (old new peer left : LinkedSide) (m : MessageView) → peer.said.items ≡ m ∷ left.said.items → left.side ≡ peer.side → new.said.items ≡ old.said.items
     → ((f : SideFault) → fault_of old.side ≡ Some f → new.side ≡ old.side) → is_some (fault_of new.side) ≡ true
     → parity_of new.side ≡ parity_of old.side → next_of new.side ≡ next_of old.side → is_finished new.side ≡ is_finished old.side
-    → ((c : ℕ) → OpensAtMost (is_mine (parity_of old.side) c) (slot_of old.side c) (slot_of new.side c))
-    → ((said : Said) → Means m said → (c : ℕ) → is_in c (names_of said) ≡ false → slot_of new.side c ≡ slot_of old.side c)
-    → IsRefusal old new peer left
+    → ((c : ℕ) → OpensAtMost (is_mine (parity_of old.side) c) (slot_of_number old.side c) (slot_of_number new.side c))
+    → ((said : Said) → Means m said → (c : ℕ) → is_in c (names_of said) ≡ false → slot_of_number new.side c ≡ slot_of_number old.side c)
+    → RefusesNext old new peer left
 refuses_some old new peer left m items side said failed fails p n d err others = record {
   quiet = record { said = said; peer_side = side };
   refuses = λ odd a wire k carries.

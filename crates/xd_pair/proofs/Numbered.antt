@@ -8,7 +8,7 @@ use Rattle.xd_factory.specs.Slot.{Slot, Unseen, Here, Gone, is_seen, named_slot}
 use Rattle.xd_factory.specs.Said.{Said}
 use Rattle.xd_pair.specs.Notes.{Note, Named, Item, Ends, Lasts, Asked, owns, notes}
 use Rattle.xd_pair.specs.Part.{Part, heard, heard_in, heard_all, opened_in, received_in, hooked_in, closed_in, function_ended_in, given_up_in}
-use Rattle.xd_pair.specs.Pair.{Actor, World, Move, Open_channel, Send, Call, Ask, Answer, Terminate, Close, End_function, Give_up, Receive, Set_callback, Take_message, Refuse, Finish_receiving, is_told, named_part, at, adds, can_send, can_answer, can_open, takes, after, Step, Odd, Even, happens, run, start}
+use Rattle.xd_pair.specs.Pair.{Actor, World, Move, Open_channel, Send, Call, Ask, Answer, Terminate, Close, End_function, Give_up, Receive, Set_callback, Take_message, Refuse, Finish_receiving, is_told, named_part, part_changed, adds, can_send, can_answer, can_open, takes, after, Step, Odd, Even, happens, run, start}
 use Rattle.xd_pair.specs.Stands.{IsNumbered}
 use Rattle.xd_pair.proofs.Says.{if_actor, received_not, hooked_not, closed_not, ended_not, given_up_not, lost_not}
 use Rattle.xd_pair.proofs.World.{sound_run, sound_start}
@@ -29,14 +29,14 @@ next_own false n = ap not (next_odd n)
 next_positive : (n : ℕ) → (n + 2) == 0 ≡ false
 next_positive n = grind (arith, nat_tests)
 
-at_zero : (odd : Bool) (n : ℕ) (f : Part → Part) (a : Actor) → (is_seen (a.part 0).slot ≡ false → is_seen (f (a.part 0)).slot ≡ false) → IsOwn odd a → IsOwn odd (at n f a)
+at_zero : (odd : Bool) (n : ℕ) (f : Part → Part) (a : Actor) → (is_seen (a.part 0).slot ≡ false → is_seen (f (a.part 0)).slot ≡ false) → IsOwn odd a → IsOwn odd (part_changed n f a)
 at_zero odd n f a h k = record { own = k.own; positive = k.positive; zero = λ m. by_test (n == 0) (k.zero m) }
   where
     by_test : (b : Bool) → is_seen (a.part 0).slot ≡ false → is_seen (if b then f (a.part 0) else a.part 0).slot ≡ false
     by_test true u = h u
     by_test false u = u
 
-opened_own : (odd : Bool) (a : Actor) → IsOwn odd a → IsOwn odd (record (at a.next (λ p. opened_in p p.slot) a) { next = a.next + 2 })
+opened_own : (odd : Bool) (a : Actor) → IsOwn odd a → IsOwn odd (record (part_changed a.next (λ p. opened_in p p.slot) a) { next = a.next + 2 })
 opened_own odd a k = record {
   own = next_own odd a.next ∙ k.own;
   positive = next_positive a.next;
@@ -77,7 +77,7 @@ same_own : (odd : Bool) (a : Actor) (n : ℕ) (v : Tree) → IsOwn odd a → IsO
 same_own odd a n v k = record { own = k.own; positive = k.positive; zero = k.zero }
 
 after_own : (odd : Bool) (a : Actor) (wire : List Said) (m : Move) → IsOwn odd a → IsOwn odd (after odd a wire m)
-after_own odd a wire Open_channel k = if_actor (IsOwn odd) (can_open odd a) (record (at a.next (λ p. opened_in p p.slot) a) { next = a.next + 2 }) a (opened_own odd a k) k
+after_own odd a wire Open_channel k = if_actor (IsOwn odd) (can_open odd a) (record (part_changed a.next (λ p. opened_in p p.slot) a) { next = a.next + 2 }) a (opened_own odd a k) k
 after_own odd a wire (Send n v) k = if_actor (IsOwn odd) (can_send a n v) (adds n v a) a (same_own odd a n v k) k
 after_own odd a wire (Call n v) k = k
 after_own odd a wire (Ask n) k = k

@@ -11,15 +11,15 @@ use Rattle.xd_channel.specs.State.{close_gives, give_up_gives, after_receive, af
 use Rattle.xd_channel.specs.declared.end.End.TheVariants.{Lost}
 use Rattle.xd_value.specs.Tree.{Tree}
 use Rattle.xd_value.specs.Channels.{channels}
-use Rattle.xd_factory.specs.Slot.{Slot, Unseen, Here, Gone, settled, opened_slot, closed_slot, function_ended_slot, given_up_slot, received_slot, hooked_slot, lost_slot, named_slot}
+use Rattle.xd_factory.specs.Slot.{Slot, Unseen, Here, Gone, gone_where_done, opened_slot, closed_slot, function_ended_slot, given_up_slot, received_slot, hooked_slot, lost_slot, named_slot}
 use Rattle.xd_factory.specs.Numbers.{is_in}
 use Rattle.xd_pair.specs.Notes.{owns}
 use Rattle.xd_factory.specs.Said.{Said, Status, Exec, Data}
 use Rattle.xd_factory.specs.Said as message
-use Rattle.xd_pair.specs.Notes.{Note, Named, Item, Ends, Lasts, Asked, named, notes, all_notes, items}
+use Rattle.xd_pair.specs.Notes.{Note, Named, Item, Ends, Lasts, Asked, named_notes, notes, all_notes, items}
 use Rattle.xd_pair.specs.Part.{Part, heard, heard_all, opened_in, received_in, hooked_in, closed_in, function_ended_in, given_up_in, closing_words, close_words, function_end_words, giving_words, give_up_words, may_send}
 use Rattle.xd_factory.specs.Slot.{is_seen, is_here}
-use Rattle.xd_pair.specs.Pair.{Actor, Move, Open_channel, Send, Call, Ask, Answer, Terminate, Close, End_function, Give_up, Receive, Set_callback, Take_message, Refuse, Finish_receiving, is_told, has_notes, named_part, knows, at, adds, can_send, can_call, can_answer, can_open, takes, says, after}
+use Rattle.xd_pair.specs.Pair.{Actor, Move, Open_channel, Send, Call, Ask, Answer, Terminate, Close, End_function, Give_up, Receive, Set_callback, Take_message, Refuse, Finish_receiving, is_told, has_notes, named_part, knows, part_changed, adds, can_send, can_call, can_answer, can_open, takes, says, after}
 use Rattle.xd_pair.proofs.NotesLemmas.{open_or_ended}
 use Rattle.xd_pair.proofs.Local.{settled_seen, seen_in}
 
@@ -140,8 +140,8 @@ if_actor P false x y h k = k
 more_none : (xs ys : List Tree) → ys ≡ [] → xs ≡ xs ++ ys
 more_none xs ys h = rw h (sym (append-nil xs))
 
-one_item : (n c : ℕ) (v : Tree) (xs : List Tree) (ns : List Note) → items ns ≡ [] → (if n == c then xs ++ v ∷ [] else xs) ≡ xs ++ items (named c v ++ (if n == c then Item v ∷ [] else []) ++ ns)
-one_item n c v xs ns h = item_said (n == c) v xs ns h ∙ ap (λ (t : List Tree). xs ++ t) (sym (ap items (append_assoc (named c v) (if n == c then Item v ∷ [] else []) ns) ∙ named_items (is_in c (channels v)) ((if n == c then Item v ∷ [] else []) ++ ns)))
+one_item : (n c : ℕ) (v : Tree) (xs : List Tree) (ns : List Note) → items ns ≡ [] → (if n == c then xs ++ v ∷ [] else xs) ≡ xs ++ items (named_notes c v ++ (if n == c then Item v ∷ [] else []) ++ ns)
+one_item n c v xs ns h = item_said (n == c) v xs ns h ∙ ap (λ (t : List Tree). xs ++ t) (sym (ap items (append_assoc (named_notes c v) (if n == c then Item v ∷ [] else []) ns) ∙ named_items (is_in c (channels v)) ((if n == c then Item v ∷ [] else []) ++ ns)))
 
 sends : (b : Bool) (n c : ℕ) (v : Tree) (a : Actor) → (if b then adds n v a else a).sent c ≡ a.sent c ++ items (all_notes c (if b then Data n v ∷ [] else []))
 sends true n c v a = one_item n c v (a.sent c) [] refl
@@ -166,7 +166,7 @@ asks true n c = same_tests (n == c) Asked refl
 asks false n c = refl
 
 pub sent_says : (odd : Bool) (a : Actor) (wire : List Said) (m : Move) (c : ℕ) → (after odd a wire m).sent c ≡ a.sent c ++ items (all_notes c (says odd a m))
-sent_says odd a wire Open_channel c = if_actor (λ t. t.sent c ≡ a.sent c ++ []) (can_open odd a) (record (at a.next (λ p. opened_in p p.slot) a) { next = a.next + 2 }) a (sym (append-nil (a.sent c))) (sym (append-nil (a.sent c)))
+sent_says odd a wire Open_channel c = if_actor (λ t. t.sent c ≡ a.sent c ++ []) (can_open odd a) (record (part_changed a.next (λ p. opened_in p p.slot) a) { next = a.next + 2 }) a (sym (append-nil (a.sent c))) (sym (append-nil (a.sent c)))
 sent_says odd a wire (Send n v) c = sends (can_send a n v) n c v a
 sent_says odd a wire (Call n v) c = more_none _ _ (calls (can_call odd a n v) n c v)
 sent_says odd a wire (Ask n) c = more_none _ _ (asks (is_here (a.part n).slot) n c)
@@ -219,7 +219,7 @@ if_slot P false x y h k = k
 
 hooked_seen : (s : Slot Tree) → is_seen s ≡ true → is_seen (hooked_slot s) ≡ true
 hooked_seen Unseen u = u
-hooked_seen (Here s) u = if_slot (λ t. is_seen t ≡ true) s.callback (Here s) (settled (after_hook s)) refl (settled_seen (after_hook s))
+hooked_seen (Here s) u = if_slot (λ t. is_seen t ≡ true) s.callback (Here s) (gone_where_done (after_hook s)) refl (settled_seen (after_hook s))
 hooked_seen Gone u = refl
 
 if_part : (P : Part → Type 0) (b : Bool) (x y : Part) → P x → P y → P (if b then x else y)
@@ -230,7 +230,7 @@ heards_seen : (mine : Bool) (p : Part) (ns : List Note) → is_seen p.slot ≡ t
 heards_seen mine p [] h = h
 heards_seen mine p (x ∷ ns) h = heards_seen mine (heard mine p x) ns (seen_in mine p p.slot x refl h)
 
-at_seen : (n c : ℕ) (f : Part → Part) (a : Actor) → is_seen (a.part c).slot ≡ true → is_seen (f (a.part c)).slot ≡ true → is_seen ((at n f a).part c).slot ≡ true
+at_seen : (n c : ℕ) (f : Part → Part) (a : Actor) → is_seen (a.part c).slot ≡ true → is_seen (f (a.part c)).slot ≡ true → is_seen ((part_changed n f a).part c).slot ≡ true
 at_seen n c f a h k = if_part (λ t. is_seen t.slot ≡ true) (n == c) (f (a.part c)) (a.part c) k h
 
 named_seen : (mine : Bool) (s : Slot Tree) → is_seen s ≡ true → is_seen (named_slot mine s) ≡ true
@@ -239,7 +239,7 @@ named_seen mine (Here s) u = refl
 named_seen mine Gone u = refl
 
 seen_stays : (odd : Bool) (a : Actor) (wire : List Said) (m : Move) (c : ℕ) → is_seen (a.part c).slot ≡ true → is_seen ((after odd a wire m).part c).slot ≡ true
-seen_stays odd a wire Open_channel c h = if_actor (λ t. is_seen (t.part c).slot ≡ true) (can_open odd a) (record (at a.next (λ p. opened_in p p.slot) a) { next = a.next + 2 }) a (at_seen a.next c (λ p. opened_in p p.slot) a h (opened_seen (a.part c).slot h)) h
+seen_stays odd a wire Open_channel c h = if_actor (λ t. is_seen (t.part c).slot ≡ true) (can_open odd a) (record (part_changed a.next (λ p. opened_in p p.slot) a) { next = a.next + 2 }) a (at_seen a.next c (λ p. opened_in p p.slot) a h (opened_seen (a.part c).slot h)) h
 seen_stays odd a wire (Send n v) c h = if_actor (λ t. is_seen (t.part c).slot ≡ true) (can_send a n v) (adds n v a) a h h
 seen_stays odd a wire (Call n v) c h = h
 seen_stays odd a wire (Ask n) c h = h
@@ -300,18 +300,18 @@ untold c (m ∷ ms) k = ap has_notes (append_empty (notes c m) (all_notes c ms) 
 abbrev StaysAway : Bool → ℕ → Part → Type 0
 StaysAway odd c p = (owns odd c ≡ false → is_seen p.slot ≡ false) × (p.asked ≡ false)
 
-away_at : (odd : Bool) (n c : ℕ) (f : Part → Part) (a : Actor) → is_seen (a.part c).slot ≡ false → (a.part c).asked ≡ false → is_seen (f (a.part c)).slot ≡ false → (f (a.part c)).asked ≡ false → StaysAway odd c ((at n f a).part c)
+away_at : (odd : Bool) (n c : ℕ) (f : Part → Part) (a : Actor) → is_seen (a.part c).slot ≡ false → (a.part c).asked ≡ false → is_seen (f (a.part c)).slot ≡ false → (f (a.part c)).asked ≡ false → StaysAway odd c ((part_changed n f a).part c)
 away_at odd n c f a u w e d = if_part (StaysAway odd c) (n == c) (f (a.part c)) (a.part c) (λ h. e, d) (λ h. u, w)
 
-open_away : (odd : Bool) (a : Actor) (c : ℕ) → owns odd a.next ≡ true → is_seen (a.part c).slot ≡ false → (a.part c).asked ≡ false → StaysAway odd c ((at a.next (λ p. opened_in p p.slot) a).part c)
-open_away odd a c q u w = open_or_ended (a.next == c) (StaysAway odd c ((at a.next (λ p. opened_in p p.slot) a).part c))
+open_away : (odd : Bool) (a : Actor) (c : ℕ) → owns odd a.next ≡ true → is_seen (a.part c).slot ≡ false → (a.part c).asked ≡ false → StaysAway odd c ((part_changed a.next (λ p. opened_in p p.slot) a).part c)
+open_away odd a c q u w = open_or_ended (a.next == c) (StaysAway odd c ((part_changed a.next (λ p. opened_in p p.slot) a).part c))
     (λ h. (λ i. absurd (let z = ap (owns odd) (eqb-true a.next c h) in cc), if_part (λ t. t.asked ≡ false) (a.next == c) (opened_in (a.part c) (a.part c).slot) (a.part c) w w))
     (λ h. subst (λ b. StaysAway odd c (if b then opened_in (a.part c) (a.part c).slot else a.part c)) (sym h) (λ i. u, w))
 
 pub stays_away : (odd : Bool) (a : Actor) (wire : List Said) (m : Move) (c : ℕ) → is_seen (a.part c).slot ≡ false → (a.part c).asked ≡ false → all_notes c wire ≡ [] → StaysAway odd c ((after odd a wire m).part c)
 stays_away odd a wire Open_channel c u w k = open_or_ended (can_open odd a) (StaysAway odd c ((after odd a wire Open_channel).part c))
-    (λ q. subst (λ b. StaysAway odd c ((if b then record (at a.next (λ p. opened_in p p.slot) a) { next = a.next + 2 } else a).part c)) (sym q) (open_away odd a c (and_parts (owns odd a.next) (not a.finished) q).0 u w))
-    (λ q. subst (λ b. StaysAway odd c ((if b then record (at a.next (λ p. opened_in p p.slot) a) { next = a.next + 2 } else a).part c)) (sym q) (λ i. u, w))
+    (λ q. subst (λ b. StaysAway odd c ((if b then record (part_changed a.next (λ p. opened_in p p.slot) a) { next = a.next + 2 } else a).part c)) (sym q) (open_away odd a c (and_parts (owns odd a.next) (not a.finished) q).0 u w))
+    (λ q. subst (λ b. StaysAway odd c ((if b then record (part_changed a.next (λ p. opened_in p p.slot) a) { next = a.next + 2 } else a).part c)) (sym q) (λ i. u, w))
 stays_away odd a wire (Send n v) c u w k = if_actor (λ t. StaysAway odd c (t.part c)) (can_send a n v) (adds n v a) a (λ i. u, w) (λ i. u, w)
 stays_away odd a wire (Call n v) c u w k = (λ i. u, w)
 stays_away odd a wire (Ask n) c u w k = (λ i. u, w)

@@ -3,17 +3,17 @@ use Rattle.std.proofs.Common.{◌≡◌, ℕ, Bool, true, false, sym, ap, subst,
 use Rattle.std.specs.Prelude.{◌==◌, is_some, if◌then◌else◌}
 use Rattle.xd_value.specs.Tree.{Tree}
 use Rattle.xd_factory.specs.Slot.{Slot}
-use Rattle.xd_factory.specs.View.{slot_of, KeepsRest}
+use Rattle.xd_factory.specs.View.{slot_of_number, KeepsRest}
 use Rattle.xd_factory.specs.declared.side.Side.{Side}
 use Rattle.xd_pair.specs.Part.{Part}
-use Rattle.xd_pair.specs.Pair.{Actor, at, adds}
+use Rattle.xd_pair.specs.Pair.{Actor, part_changed, adds}
 use Rattle.xd_pair.specs.Stands.{StandsFor}
 use Rattle.xd_pair.proofs.Says.{if_actor}
 
 -- a call that changes one number
 pub at_stands : (odd : Bool) (s t : Side) (a : Actor) (n : ℕ) (f : Slot Tree → Slot Tree) (g : Part → Part)
-    → ((p : Part) → (g p).slot ≡ f p.slot) → KeepsRest s t → ((c : ℕ) → slot_of t c ≡ (if n == c then f (slot_of s c) else slot_of s c))
-    → StandsFor odd s a → StandsFor odd t (at n g a)
+    → ((p : Part) → (g p).slot ≡ f p.slot) → KeepsRest s t → ((c : ℕ) → slot_of_number t c ≡ (if n == c then f (slot_of_number s c) else slot_of_number s c))
+    → StandsFor odd s a → StandsFor odd t (part_changed n g a)
 at_stands odd s t a n f g e rest slots k = record {
   parity = rest.parity ∙ k.parity;
   slots = λ c. slots c ∙ by_test (n == c) c;
@@ -22,7 +22,7 @@ at_stands odd s t a n f g e rest slots k = record {
   refuses = ap is_some rest.fault ∙ k.refuses;
 }
   where
-    by_test : (b : Bool) (c : ℕ) → (if b then f (slot_of s c) else slot_of s c) ≡ (if b then g (a.part c) else a.part c).slot
+    by_test : (b : Bool) (c : ℕ) → (if b then f (slot_of_number s c) else slot_of_number s c) ≡ (if b then g (a.part c) else a.part c).slot
     by_test true c = ap f (k.slots c) ∙ sym (e (a.part c))
     by_test false c = k.slots c
 

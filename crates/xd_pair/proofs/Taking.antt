@@ -16,15 +16,15 @@ use Rattle.xd_factory.specs.Numbers.{is_in, is_mine}
 use Rattle.xd_factory.specs.Said.{Said, Status, Exec, Data, Close, Last, Terminate, Means, names_of}
 use Rattle.xd_factory.specs.Slot.{Slot, Unseen, Here, Gone, is_new, named_slot, item_gives, end_gives}
 use Rattle.xd_factory.specs.Table.{heard_slot, answer_of, arrived_answer, end_answer, ended_answer, handed_answer, OpensAtMost}
-use Rattle.xd_factory.specs.View.{slot_of, parity_of, next_of, fault_of, is_finished, KeepsRest}
+use Rattle.xd_factory.specs.View.{slot_of_number, parity_of, next_of, fault_of, is_finished, KeepsRest}
 use Rattle.xd_factory.specs.declared.parity.Parity.{Parity}
 use Rattle.xd_factory.specs.declared.side.Side.{Side}
 use Rattle.xd_factory.specs.declared.taken.Taken.{Taken}
 use Rattle.xd_factory.specs.declared.taken.Taken.TheVariants as taken
 use Rattle.xd_factory.specs.declared.faults.SideFault.{SideFault}
 use Rattle.xd_pair.specs.Notes.{Note, Named, Item, Ends, Lasts, Asked, side_parity, owns, notes}
-use Rattle.xd_pair.specs.Part.{Part, heard_all, is_orderly, is_lost}
-use Rattle.xd_pair.specs.Pair.{Actor, Take_message, Refuse, takes, rest, has_notes, is_told, named_part, after, wire_after}
+use Rattle.xd_pair.specs.Part.{Part, heard_all, is_end_but_loss, is_lost}
+use Rattle.xd_pair.specs.Pair.{Actor, Take_message, Refuse, takes, messages_left, has_notes, is_told, named_part, after, wire_after}
 use Rattle.xd_pair.specs.Handed.{Hands, taken_items, taken_end}
 use Rattle.xd_pair.specs.Messages.{AllMean}
 use Rattle.xd_pair.specs.Stands.{StandsFor, IsOpen}
@@ -33,7 +33,7 @@ use Rattle.xd_pair.proofs.SameWords.{message_heard, named_own, twice}
 -- what the notes of one message hand out at a number
 record Handing (p q : Part) (items : List Tree) (end : Option End) : Type 0 where
   got : q.got ≡ p.got ++ items
-  ended : q.ended ≡ is_orderly end || p.ended
+  ended : q.ended ≡ is_end_but_loss end || p.ended
   lost : q.lost ≡ is_lost end || p.lost
 
 nothing : (p q : Part) → q.got ≡ p.got → q.ended ≡ p.ended → q.lost ≡ p.lost → Handing p q [] None
@@ -167,22 +167,22 @@ pub record Took (odd : Bool) (t : Side) (a : Actor) (wire : List Said) (ms : Lis
   pub hands : Hands a (after odd a wire Take_message) (taken_items answer) (taken_end answer)
 
 pub took : (odd : Bool) (s t : Side) (a : Actor) (wire : List Said) (m : MessageView) (ms : List MessageView) (answer : Taken Tree)
-    → fault_of s ≡ None → KeepsRest s t → ((said : Said) → Means m said → answer ≡ answer_of (parity_of s) (slot_of s) said)
-    → ((said : Said) → Means m said → (c : ℕ) → slot_of t c ≡ heard_slot (parity_of s) said c (slot_of s c))
+    → fault_of s ≡ None → KeepsRest s t → ((said : Said) → Means m said → answer ≡ answer_of (parity_of s) (slot_of_number s) said)
+    → ((said : Said) → Means m said → (c : ℕ) → slot_of_number t c ≡ heard_slot (parity_of s) said c (slot_of_number s c))
     → StandsFor odd s a → AllMean (m ∷ ms) wire → Took odd t a wire ms answer
 took odd s t a [] m ms answer f keeps answers slots k means = absurd means
 took odd s t a (w ∷ ws) m ms answer f keeps answers slots k means =
     let is_open : a.failed || a.finished ≡ false = open_actor odd s a k f in
-    let same : answer ≡ answer_of (side_parity odd) (λ n. (a.part n).slot) w = answers w means.0 ∙ answer_same (parity_of s) (slot_of s) (λ n. (a.part n).slot) w k.slots ∙ ap (λ (p : Parity). answer_of p (λ n. (a.part n).slot) w) k.parity in
+    let same : answer ≡ answer_of (side_parity odd) (λ n. (a.part n).slot) w = answers w means.0 ∙ answer_same (parity_of s) (slot_of_number s) (λ n. (a.part n).slot) w k.slots ∙ ap (λ (p : Parity). answer_of p (λ n. (a.part n).slot) w) k.parity in
     record {
       stands = subst (λ b. StandsFor odd t (if b then a else takes odd a (w ∷ ws))) (sym is_open) (record {
         parity = keeps.parity ∙ k.parity;
-        slots = λ c. slots w means.0 c ∙ ap (λ (p : Parity). heard_slot p w c (slot_of s c)) k.parity ∙ ap (heard_slot (side_parity odd) w c) (k.slots c) ∙ sym (message_heard odd (a.part c) c w);
+        slots = λ c. slots w means.0 c ∙ ap (λ (p : Parity). heard_slot p w c (slot_of_number s c)) k.parity ∙ ap (heard_slot (side_parity odd) w c) (k.slots c) ∙ sym (message_heard odd (a.part c) c w);
         next = keeps.next ∙ k.next;
         finished = keeps.finished ∙ k.finished;
         refuses = ap is_some keeps.fault ∙ k.refuses;
       });
-      carries = subst (λ b. AllMean ms (if b then w ∷ ws else rest (w ∷ ws))) (sym is_open) means.1;
+      carries = subst (λ b. AllMean ms (if b then w ∷ ws else messages_left (w ∷ ws))) (sym is_open) means.1;
       hands = subst (λ b. Hands a (if b then a else takes odd a (w ∷ ws)) (taken_items answer) (taken_end answer)) (sym is_open)
           (subst (λ (x : Taken Tree). Hands a (takes odd a (w ∷ ws)) (taken_items x) (taken_end x)) (sym same) (record {
             got = λ c. (message_handing odd a.part c w).got;
@@ -245,8 +245,8 @@ refused_slot mine p old new (inr x) true told e h k =
 pub refused : (odd : Bool) (s t : Side) (a : Actor) (wire : List Said) (m : MessageView) (ms : List MessageView)
     → ((f : SideFault) → fault_of s ≡ Some f → t ≡ s) → is_some (fault_of t) ≡ true
     → parity_of t ≡ parity_of s → next_of t ≡ next_of s → is_finished t ≡ is_finished s
-    → ((c : ℕ) → OpensAtMost (is_mine (parity_of s) c) (slot_of s c) (slot_of t c))
-    → ((said : Said) → Means m said → (c : ℕ) → is_in c (names_of said) ≡ false → slot_of t c ≡ slot_of s c)
+    → ((c : ℕ) → OpensAtMost (is_mine (parity_of s) c) (slot_of_number s c) (slot_of_number t c))
+    → ((said : Said) → Means m said → (c : ℕ) → is_in c (names_of said) ≡ false → slot_of_number t c ≡ slot_of_number s c)
     → StandsFor odd s a → (IsOpen a → AllMean (m ∷ ms) wire) → (names : List ℕ) × StandsFor odd t (after odd a wire (Refuse names))
 refused odd s t a wire m ms failed fails p n d err others k means = by_fault (fault_of s) refl
   where
@@ -256,7 +256,7 @@ refused odd s t a wire m ms failed fails p n d err others k means = by_fault (fa
       kept (λ c. has_opened (err c)) (names_of w),
       record {
         parity = p ∙ k.parity;
-        slots = λ c. refused_slot (is_mine (parity_of s) c) (a.part c) (slot_of s c) (slot_of t c) (err c) (is_in c (names_of w)) (is_told c (w ∷ ws)) (k.slots c) (others w h.0 c) (told c w ws)
+        slots = λ c. refused_slot (is_mine (parity_of s) c) (a.part c) (slot_of_number s c) (slot_of_number t c) (err c) (is_in c (names_of w)) (is_told c (w ∷ ws)) (k.slots c) (others w h.0 c) (told c w ws)
             ∙ ap (λ b. (if b && is_told c (w ∷ ws) then named_part (is_mine (parity_of s) c) (a.part c) (a.part c).slot else a.part c).slot) (sym (is_in-kept (λ c. has_opened (err c)) c (names_of w)))
             ∙ ap (λ (x : Parity). (if is_in c (kept (λ c. has_opened (err c)) (names_of w)) && is_told c (w ∷ ws) then named_part (is_mine x c) (a.part c) (a.part c).slot else a.part c).slot) k.parity;
         next = n ∙ k.next;
@@ -271,7 +271,7 @@ refused odd s t a wire m ms failed fails p n d err others k means = by_fault (fa
       [],
       record {
         parity = p ∙ k.parity;
-        slots = λ c. ap (λ (x : Side). slot_of x c) (failed f h) ∙ k.slots c;
+        slots = λ c. ap (λ (x : Side). slot_of_number x c) (failed f h) ∙ k.slots c;
         next = n ∙ k.next;
         finished = d ∙ k.finished;
         refuses = fails;

@@ -10,7 +10,7 @@ use Rattle.xd_factory.specs.Said.{Said}
 use Rattle.xd_pair.specs.Notes.{Note, notes, all_notes, items, before_end, has_end}
 use Rattle.xd_pair.specs.Part.{Part, heard_all, opened_in, received_in, hooked_in, closed_in, function_ended_in, given_up_in}
 use Rattle.xd_factory.specs.Slot.{is_seen}
-use Rattle.xd_pair.specs.Pair.{Actor, World, Move, Open_channel, Send, Call, Ask, Answer, Terminate, Close, End_function, Give_up, Receive, Set_callback, Take_message, Refuse, Finish_receiving, is_told, named_part, at, adds, can_send, can_answer, can_open, takes, rest, says, after, wire_after, Step, Odd, Even, happens, run, start, untouched, IsPrefixOf, Law, PairLaw}
+use Rattle.xd_pair.specs.Pair.{Actor, World, Move, Open_channel, Send, Call, Ask, Answer, Terminate, Close, End_function, Give_up, Receive, Set_callback, Take_message, Refuse, Finish_receiving, is_told, named_part, part_changed, adds, can_send, can_answer, can_open, takes, messages_left, says, after, wire_after, Step, Odd, Even, happens, run, start, untouched, IsPrefixOf, Law, PairLaw}
 use Rattle.xd_pair.proofs.NotesLemmas.{all_notes-append, items-append, open_or_ended, ended_append, still_ended, before_items, longer}
 use Rattle.xd_pair.proofs.Local.{named-ok, SlotOk, PartOk, opened-ok, received-ok, hooked-ok, closed-ok, ended-ok, given_up-ok, lost-ok, heard_all-ok}
 use Rattle.xd_pair.proofs.Says.{quiet_says, sent_says, seen_back, stays_away, append_empty, if_actor}
@@ -44,7 +44,7 @@ pub record Both (odd : Bool) (a b : Actor) (to_a to_b : List Said) : Type 0 wher
   pub peer_known : (c : ℕ) → owns odd c ≡ false → Known (b.part c) (a.part c) (all_notes c (a.taken ++ to_a)) (all_notes c (b.taken ++ to_b))
 
 -- the parts
-at-ok : (n c : ℕ) (f : Part → Part) (a : Actor) → PartOk a.finished (all_notes c a.taken) (a.part c) → PartOk a.finished (all_notes c a.taken) (f (a.part c)) → PartOk a.finished (all_notes c a.taken) ((at n f a).part c)
+at-ok : (n c : ℕ) (f : Part → Part) (a : Actor) → PartOk a.finished (all_notes c a.taken) (a.part c) → PartOk a.finished (all_notes c a.taken) (f (a.part c)) → PartOk a.finished (all_notes c a.taken) ((part_changed n f a).part c)
 at-ok n c f a h k = by_test (n == c)
   where
     by_test : (b : Bool) → PartOk a.finished (all_notes c a.taken) (if b then f (a.part c) else a.part c)
@@ -68,7 +68,7 @@ takes-ok odd a (m ∷ ms) c f q k =
     (heard_all-ok (owns odd c) (all_notes c a.taken) (notes c m) (a.part c) (λ h u. (append_empty (notes c m) (all_notes c ms) (q h u)).0) before))
 
 moves-ok : (odd : Bool) (a : Actor) (wire : List Said) (m : Move) (c : ℕ) → (owns odd c ≡ true → is_seen (a.part c).slot ≡ false → all_notes c wire ≡ []) → ActorOk c a → ActorOk c (after odd a wire m)
-moves-ok odd a wire Open_channel c q k = if_actor (ActorOk c) (can_open odd a) (record (at a.next (λ p. opened_in p p.slot) a) { next = a.next + 2 }) a
+moves-ok odd a wire Open_channel c q k = if_actor (ActorOk c) (can_open odd a) (record (part_changed a.next (λ p. opened_in p p.slot) a) { next = a.next + 2 }) a
     (at-ok a.next c (λ p. opened_in p p.slot) a k (opened-ok a.finished (all_notes c a.taken) (a.part c) (a.part c).slot refl k)) k
 moves-ok odd a wire (Send n v) c q k = if_actor (ActorOk c) (can_send a n v) (adds n v a) a k k
 moves-ok odd a wire (Call n v) c q k = k
@@ -91,13 +91,13 @@ moves-ok odd a wire (Refuse names) c q k = by_test (is_in c names && is_told c w
 moves-ok odd a wire Finish_receiving c q k = lost-ok a.finished (all_notes c a.taken) (a.part c) (a.part c).slot refl k
 
 -- nothing on the way is lost
-total_if : (b odd : Bool) (a : Actor) (wire : List Said) → (if b then a else takes odd a wire).taken ++ (if b then wire else rest wire) ≡ a.taken ++ wire
+total_if : (b odd : Bool) (a : Actor) (wire : List Said) → (if b then a else takes odd a wire).taken ++ (if b then wire else messages_left wire) ≡ a.taken ++ wire
 total_if true odd a wire = refl
 total_if false odd a [] = refl
 total_if false odd a (m ∷ ms) = append_assoc a.taken (m ∷ []) ms
 
 total : (odd : Bool) (a : Actor) (wire : List Said) (m : Move) → (after odd a wire m).taken ++ wire_after a wire m ≡ a.taken ++ wire
-total odd a wire Open_channel = if_actor (λ t. t.taken ++ wire ≡ a.taken ++ wire) (can_open odd a) (record (at a.next (λ p. opened_in p p.slot) a) { next = a.next + 2 }) a refl refl
+total odd a wire Open_channel = if_actor (λ t. t.taken ++ wire ≡ a.taken ++ wire) (can_open odd a) (record (part_changed a.next (λ p. opened_in p p.slot) a) { next = a.next + 2 }) a refl refl
 total odd a wire (Send n v) = if_actor (λ t. t.taken ++ wire ≡ a.taken ++ wire) (can_send a n v) (adds n v a) a refl refl
 total odd a wire (Call n v) = refl
 total odd a wire (Ask n) = refl

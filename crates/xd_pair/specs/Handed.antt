@@ -10,13 +10,13 @@ use Rattle.xd_factory.specs.Trees.{got_tree, taken_tree}
 use Rattle.xd_factory.specs.declared.faults.HookFault.{HookFault}
 use Rattle.xd_factory.specs.declared.taken.Taken.{Taken}
 use Rattle.xd_factory.specs.declared.taken.Taken.TheVariants as taken
-use Rattle.xd_pair.specs.Part.{is_orderly, is_lost}
+use Rattle.xd_pair.specs.Part.{is_end_but_loss, is_lost}
 use Rattle.xd_pair.specs.Pair.{Actor}
 
 -- from the first actor to the second, these items and these ends were handed out, at each number
 pub record Hands (a b : Actor) (items : ℕ → List Tree) (end : ℕ → Option End) : Type 0 where
   pub got : (c : ℕ) → (b.part c).got ≡ (a.part c).got ++ items c
-  pub ended : (c : ℕ) → (b.part c).ended ≡ is_orderly (end c) || (a.part c).ended
+  pub ended : (c : ℕ) → (b.part c).ended ≡ is_end_but_loss (end c) || (a.part c).ended
   pub lost : (c : ℕ) → (b.part c).lost ≡ is_lost (end c) || (a.part c).lost
 
 -- these items at one number, and none at the others

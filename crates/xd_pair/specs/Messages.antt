@@ -11,7 +11,7 @@ AllMean (m ∷ ms) [] = ⊥
 AllMean (m ∷ ms) (w ∷ ws) = Means m w × AllMean ms ws
 
 -- after the old messages come some that mean these words
-pub record Adds (old new : List MessageView) (words : List Said) : Type 0 where
+pub record AddsMessages (old new : List MessageView) (words : List Said) : Type 0 where
   pub more : List MessageView
   pub behind : new ≡ old ++ more
   pub mean : AllMean more words

@@ -25,14 +25,14 @@ pub data Note : Type 0 where
   Asked : Note  -- a STATUS on it
 
 -- a value names the number
-abbrev pub named : ℕ → Tree → List Note
-named c v = if is_in c (channels v) then Named ∷ [] else []
+abbrev pub named_notes : ℕ → Tree → List Note
+named_notes c v = if is_in c (channels v) then Named ∷ [] else []
 
 -- the channels of a value come before its item
 abbrev pub notes : ℕ → Said → List Note
 notes c (Status n) = if n == c then Asked ∷ [] else []
-notes c (Exec n v) = named c v ++ (if n == c then Named ∷ [] else [])
-notes c (Data n v) = named c v ++ (if n == c then Item v ∷ [] else [])
+notes c (Exec n v) = named_notes c v ++ (if n == c then Named ∷ [] else [])
+notes c (Data n v) = named_notes c v ++ (if n == c then Item v ∷ [] else [])
 notes c (Close n e) = if n == c then Ends e ∷ [] else []
 notes c (Last n) = if n == c then Lasts ∷ [] else []
 notes c Terminate = []

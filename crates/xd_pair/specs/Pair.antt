@@ -51,8 +51,8 @@ knows part [] = true
 knows part (c ∷ cs) = is_seen (part c).slot && knows part cs
 
 -- a change at one number
-abbrev pub at : ℕ → (Part → Part) → Actor → Actor
-at n f a = record a { part = λ c. if n == c then f (a.part c) else a.part c }
+abbrev pub part_changed : ℕ → (Part → Part) → Actor → Actor
+part_changed n f a = record a { part = λ c. if n == c then f (a.part c) else a.part c }
 
 -- one item more was sent
 abbrev pub adds : ℕ → Tree → Actor → Actor
@@ -80,9 +80,9 @@ takes odd a [] = a
 takes odd a (m ∷ ms) = record a { part = λ c. heard_all (owns odd c) (a.part c) (notes c m); taken = a.taken ++ m ∷ [] }
 
 -- the messages that are still on the way
-abbrev pub rest : List Said → List Said
-rest [] = []
-rest (m ∷ ms) = ms
+abbrev pub messages_left : List Said → List Said
+messages_left [] = []
+messages_left (m ∷ ms) = ms
 
 -- something is said
 abbrev pub has_notes : List Note → Bool
@@ -117,24 +117,24 @@ says odd a Finish_receiving = []
 
 -- the side after a move; a move whose premise fails changes nothing, as a call that finds no memory
 abbrev pub after : Bool → Actor → List Said → Move → Actor
-after odd a wire Open_channel = if can_open odd a then record (at a.next (λ p. opened_in p p.slot) a) { next = a.next + 2 } else a
+after odd a wire Open_channel = if can_open odd a then record (part_changed a.next (λ p. opened_in p p.slot) a) { next = a.next + 2 } else a
 after odd a wire (Send n v) = if can_send a n v then adds n v a else a
 after odd a wire (Call n v) = a
 after odd a wire (Ask n) = a
 after odd a wire (Answer n v) = if can_answer a n v then adds n v a else a
 after odd a wire Terminate = a
-after odd a wire (Close n e) = at n (λ p. closed_in p p.slot) a
-after odd a wire (End_function n e) = at n (λ p. function_ended_in p p.slot) a
-after odd a wire (Give_up n) = at n (λ p. given_up_in p p.slot) a
-after odd a wire (Receive n) = at n (λ p. received_in p p.slot) a
-after odd a wire (Set_callback n) = at n (λ p. hooked_in p p.slot) a
+after odd a wire (Close n e) = part_changed n (λ p. closed_in p p.slot) a
+after odd a wire (End_function n e) = part_changed n (λ p. function_ended_in p p.slot) a
+after odd a wire (Give_up n) = part_changed n (λ p. given_up_in p p.slot) a
+after odd a wire (Receive n) = part_changed n (λ p. received_in p p.slot) a
+after odd a wire (Set_callback n) = part_changed n (λ p. hooked_in p p.slot) a
 after odd a wire Take_message = if a.failed || a.finished then a else takes odd a wire
 after odd a wire (Refuse names) = record a { failed = true; part = λ c. if is_in c names && is_told c wire then named_part (owns odd c) (a.part c) (a.part c).slot else a.part c }
 after odd a wire Finish_receiving = record a { part = λ c. lost_in (a.part c) (a.part c).slot; finished = true }
 
 -- what is on the way to the side after its move
 abbrev pub wire_after : Actor → List Said → Move → List Said
-wire_after a wire Take_message = if a.failed || a.finished then wire else rest wire
+wire_after a wire Take_message = if a.failed || a.finished then wire else messages_left wire
 wire_after a wire Open_channel = wire
 wire_after a wire (Send n v) = wire
 wire_after a wire (Call n v) = wire

@@ -27,12 +27,12 @@ pub record Part : Type 0 where
   pub asked : Bool  -- a STATUS came on it
 
 -- an end other than the loss of the link
-abbrev pub is_orderly : Option End → Bool
-is_orderly None = false
-is_orderly (Some Lost) = false
-is_orderly (Some Closed) = true
-is_orderly (Some LastMessage) = true
-is_orderly (Some (Error text)) = true
+abbrev pub is_end_but_loss : Option End → Bool
+is_end_but_loss None = false
+is_end_but_loss (Some Lost) = false
+is_end_but_loss (Some Closed) = true
+is_end_but_loss (Some LastMessage) = true
+is_end_but_loss (Some (Error text)) = true
 
 -- the end that the loss of the link gives
 abbrev pub is_lost : Option End → Bool
@@ -44,7 +44,7 @@ is_lost (Some (Error text)) = false
 
 -- the slot changes, these items are handed out, and this end
 abbrev pub gives : Part → Slot Tree → List Tree → Option End → Part
-gives p s xs end = record p { slot = s; got = p.got ++ xs; ended = is_orderly end || p.ended; lost = is_lost end || p.lost }
+gives p s xs end = record p { slot = s; got = p.got ++ xs; ended = is_end_but_loss end || p.ended; lost = is_lost end || p.lost }
 
 -- what a note does
 abbrev pub heard_in : Bool → Part → Slot Tree → Note → Part

@@ -6,11 +6,11 @@ use Rattle.xd_value.specs.Channels.{channels}
 use Rattle.xd_channel.specs.declared.end.End.{End}
 use Rattle.xd_factory.specs.Slot.{is_seen}
 use Rattle.xd_factory.specs.Said.{Said}
-use Rattle.xd_factory.specs.View.{slot_of, parity_of, next_of, fault_of, is_finished, KeepsRest}
+use Rattle.xd_factory.specs.View.{slot_of_number, parity_of, next_of, fault_of, is_finished, KeepsRest}
 use Rattle.xd_factory.specs.declared.side.Side.{Side}
 use Rattle.xd_pair.specs.Notes.{owns, side_parity}
 use Rattle.xd_pair.specs.Pair.{Actor, Move, Take_message, Refuse, knows, says, after, wire_after}
-use Rattle.xd_pair.specs.Messages.{AllMean, Adds}
+use Rattle.xd_pair.specs.Messages.{AllMean, AddsMessages}
 use Rattle.xd_pair.specs.Handed.{Hands}
 use Rattle.xd_pair.specs.declared.linked.LinkedSide.{LinkedSide}
 
@@ -18,7 +18,7 @@ use Rattle.xd_pair.specs.declared.linked.LinkedSide.{LinkedSide}
 -- does
 pub record StandsFor (odd : Bool) (s : Side) (a : Actor) : Type 0 where
   pub parity : parity_of s ≡ side_parity odd
-  pub slots : (c : ℕ) → slot_of s c ≡ (a.part c).slot
+  pub slots : (c : ℕ) → slot_of_number s c ≡ (a.part c).slot
   pub next : next_of s ≡ a.next
   pub finished : is_finished s ≡ a.finished
   pub refuses : is_some (fault_of s) ≡ a.failed || a.finished
@@ -36,7 +36,7 @@ pub record IsNumbered (odd : Bool) (a : Actor) : Type 0 where
 -- from old to new the side makes the move of the actor, and says what the move says
 pub record Makes (odd : Bool) (old new : LinkedSide) (a : Actor) (wire : List Said) (move : Move) : Type 0 where
   pub stands : StandsFor odd new.side (after odd a wire move)
-  pub says : Adds old.said.items new.said.items (says odd a move)
+  pub says : AddsMessages old.said.items new.said.items (says odd a move)
   pub way : wire_after a wire move ≡ wire
 
 -- so it does for each actor that the side stands for and that passes the test
@@ -54,7 +54,7 @@ names_known v a = knows a.part (channels v)
 
 -- nothing changed that contracts see
 pub record Stays (old new : LinkedSide) : Type 0 where
-  pub slots : (c : ℕ) → slot_of new.side c ≡ slot_of old.side c
+  pub slots : (c : ℕ) → slot_of_number new.side c ≡ slot_of_number old.side c
   pub rest : KeepsRest old.side new.side
   pub said : new.said.items ≡ old.said.items
 
@@ -73,7 +73,7 @@ pub record Takes (odd : Bool) (new left : LinkedSide) (a : Actor) (wire : List S
   pub hands : Hands a (after odd a wire Take_message) items end
 
 -- the next message is refused
-pub record Refuses (odd : Bool) (new : LinkedSide) (a : Actor) (wire : List Said) : Type 0 where
+pub record RefusesMessage (odd : Bool) (new : LinkedSide) (a : Actor) (wire : List Said) : Type 0 where
   pub names : List ℕ
   pub stands : StandsFor odd new.side (after odd a wire (Refuse names))
 
@@ -88,6 +88,6 @@ pub record IsTake (old new peer left : LinkedSide) (items : ℕ → List Tree) (
   pub takes : (odd : Bool) (a : Actor) (wire : List Said) → StandsFor odd old.side a → Carries a peer wire → Takes odd new left a wire items end
 
 -- from old to new a side refused the next message of its peer, and left is the peer then
-pub record IsRefusal (old new peer left : LinkedSide) : Type 0 where
+pub record RefusesNext (old new peer left : LinkedSide) : Type 0 where
   pub quiet : SaysNothing old new peer left
-  pub refuses : (odd : Bool) (a : Actor) (wire : List Said) → StandsFor odd old.side a → Carries a peer wire → Refuses odd new a wire
+  pub refuses : (odd : Bool) (a : Actor) (wire : List Said) → StandsFor odd old.side a → Carries a peer wire → RefusesMessage odd new a wire

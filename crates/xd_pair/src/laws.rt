@@ -4,7 +4,7 @@ ghost use Rattle.xd_value.specs.Tree.{Tree};
 ghost use Rattle.xd_channel.specs.declared.end.End.{End};
 ghost use Rattle.xd_pair.specs.Pair.{Actor, Move, Take_message, Refuse, Step, Odd, Even, run, start, beginning, PairLaw};
 ghost use Rattle.xd_pair.specs.Handed.{Hands};
-ghost use Rattle.xd_pair.specs.Stands.{StandsFor, IsMoveIf, HandsOut, IsTake, IsRefusal};
+ghost use Rattle.xd_pair.specs.Stands.{StandsFor, IsMoveIf, HandsOut, IsTake, RefusesNext};
 ghost use Rattle.xd_pair.specs.TwoSides.{PairStands};
 ghost use Rattle.xd_pair.specs.declared.linked.LinkedSide.{LinkedSide};
 
@@ -66,9 +66,9 @@ pub fn take_law()
 /// A message that one of two sides refuses is a step of their history.
 pub fn refuse_law()
     ensures odd { (odd new even left : LinkedSide) (steps : List Step)
-        → IsRefusal odd new even left → PairStands odd even steps
+        → RefusesNext odd new even left → PairStands odd even steps
         → (names : List ℕ) × PairStands new left (steps ++ Odd (Refuse names) ∷ []) }
     ensures even { (odd even new left : LinkedSide) (steps : List Step)
-        → IsRefusal even new odd left → PairStands odd even steps
+        → RefusesNext even new odd left → PairStands odd even steps
         → (names : List ℕ) × PairStands left new (steps ++ Even (Refuse names) ∷ []) }
 {}

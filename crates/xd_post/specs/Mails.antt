@@ -5,8 +5,8 @@ use Rattle.xd_post.specs.declared.ends.Inbox.{Inbox}
 use Rattle.xd_post.specs.declared.desk.Desk.{Desk}
 
 -- Where numbers are gone through from the first one upwards, and then from 0 on, k comes before this number.
-abbrev pub IsAhead : ℕ → ℕ → ℕ → Type 0
-IsAhead first number k =
+abbrev pub ComesBefore : ℕ → ℕ → ℕ → Type 0
+ComesBefore first number k =
     ((first ≤ k) × (k < number)) ⊎ ((number < first) × ((first ≤ k) ⊎ (k < number)))
 
 module _ {T : Type 0} where
@@ -49,7 +49,7 @@ module _ {T : Type 0} where
 
   -- no inbox that comes before this number, where they are gone through from the first one, is known to hold an item
   abbrev pub NoneAhead : List (List T) → ℕ → ℕ → Type 0
-  NoneAhead known first number = (k : ℕ) → IsAhead first number k → slice_index_or known k [] ≡ []
+  NoneAhead known first number = (k : ℕ) → ComesBefore first number k → slice_index_or known k [] ≡ []
 
   -- the number of the inbox that the next take looks at first
   abbrev pub turn : Desk T → ℕ

@@ -15,8 +15,8 @@ use Rattle.xd_frame.specs.Header.{four_bytes_at, header_read, judged}
 use Rattle.xd_frame.specs.Kind.{kind_of}
 use Rattle.xd_frame.specs.Message.{MessageView, max_channel, max_payload}
 use Rattle.xd_frame.specs.Framer.{FramerView, StandsFor, fresh}
-use Rattle.xd_frame.specs.Pull.{HoldsLess, Pulls, few, lasting, refusal_by, stopped}
-use Rattle.xd_frame.specs.Stream.{behind, header_in_front, messages, parts, parts_within, rest, rest_by, rest_of, Rest, Clean, Unfinished, Refused, end_of}
+use Rattle.xd_frame.specs.Pull.{HoldsLess, Pulls, few, lasting, refusal_by, pull_fault_of}
+use Rattle.xd_frame.specs.Stream.{behind, header_in_front, messages, parts, parts_within, rest, rest_by, rest_of, Rest, Clean, Unfinished, Refused, end_meaning}
 use Rattle.xd_frame.proofs.Front.{err_front}
 use Rattle.xd_link.specs.Source.{Gave}
 use Rattle.xd_link.specs.Spring.{ReadToEnd, Spring}
@@ -40,14 +40,14 @@ put_more a b c ms ns e f =
 
 -- ---- a framer that is not stopped has taken all of its bytes
 
-not_failed : (s : FramerView) → stopped s ≡ None → s.failed ≡ false
+not_failed : (s : FramerView) → pull_fault_of s ≡ None → s.failed ≡ false
 not_failed s e = by s.failed (if s.cut then Some (Bad Cut) else refusal_by (rest_of s.held)) e
   where
     by : (b : Bool) (x : Option PullFault) → (if b then Some OutOfMemory else x) ≡ None → b ≡ false
     by true x e = cc
     by false x e = refl
 
-bad_not_failed : (s : FramerView) (f : FrameFault) → stopped s ≡ Some (Bad f) → s.failed ≡ false
+bad_not_failed : (s : FramerView) (f : FrameFault) → pull_fault_of s ≡ Some (Bad f) → s.failed ≡ false
 bad_not_failed s f e = by s.failed (if s.cut then Some (Bad Cut) else refusal_by (rest_of s.held)) e
   where
     by : (b : Bool) (x : Option PullFault) → (if b then Some OutOfMemory else x) ≡ Some (Bad f) → b ≡ false
@@ -67,7 +67,7 @@ pub listens_first : (s : FramerView) → s ≡ fresh → StandsFor s [] [] → H
 listens_first s new stands less = record {
   stands = stands;
   less = less;
-  goes = ap stopped new;
+  goes = ap pull_fault_of new;
   none_waits = ap (λ (f : FramerView). f.waiting) new;
 }
 
@@ -99,16 +99,16 @@ rest_not_cut : (bytes : List ℕ) → rest bytes ≡ Refused Cut → ⊥
 rest_not_cut bytes e = read_not_cut (take 9 (behind bytes)) (err_front (behind bytes) Cut (refused_front (behind bytes) Cut e)).0
 
 -- the bytes end inside a message
-cut_means : (bytes : List ℕ) → end_of (rest bytes) ≡ Err Cut → rest bytes ≡ Unfinished
+cut_means : (bytes : List ℕ) → end_meaning (rest bytes) ≡ Err Cut → rest bytes ≡ Unfinished
 cut_means bytes e = by (rest bytes) e (rest_not_cut bytes)
   where
-    by : (r : Rest) → end_of r ≡ Err Cut → (r ≡ Refused Cut → ⊥) → r ≡ Unfinished
+    by : (r : Rest) → end_meaning r ≡ Err Cut → (r ≡ Refused Cut → ⊥) → r ≡ Unfinished
     by Clean x never = cc
     by Unfinished x never = refl
     by (Refused f) x never = absurd (never cc)
 
 -- the bytes end with a header that is refused
-bad_means : (r : Rest) (f : FrameFault) → (f ≡ Cut → ⊥) → end_of r ≡ Err f → stop_of r ≡ stop.Garbled f
+bad_means : (r : Rest) (f : FrameFault) → (f ≡ Cut → ⊥) → end_meaning r ≡ Err f → stop_of r ≡ stop.Garbled f
 bad_means Clean f other e = cc
 bad_means Unfinished f other e = absurd (other cc)
 bad_means (Refused g) f other e = cc
@@ -116,7 +116,7 @@ bad_means (Refused g) f other e = cc
 -- ---- one read
 
 module _ (old new : FramerView) (s0 s1 : Spring) (bytes : List ℕ) (taken : List MessageView) (l : Listens bytes taken old) (waits : new.waiting ≡ []) (before after : List LinkNews) where
-  pub steps_more : (r : Pulled) → r ≡ More → Pulls (Ok r) old new s0 s1 → stopped new ≡ None → after ≡ before → Steps None bytes taken new s0 s1 before after
+  pub steps_more : (r : Pulled) → r ≡ More → Pulls (Ok r) old new s0 s1 → pull_fault_of new ≡ None → after ≡ before → Steps None bytes taken new s0 s1 before after
   steps_more r is q goes none = let p = subst (λ (x : Pulled). Pulls (Ok x) old new s0 s1) is q in record {
     piece = p.piece;
     gave = p.gave;
@@ -125,7 +125,7 @@ module _ (old new : FramerView) (s0 s1 : Spring) (bytes : List ℕ) (taken : Lis
     so = (record { stands = p.stands bytes taken l.stands; less = p.less bytes taken l.less; goes = goes; none_waits = waits }, p.count);
   }
 
-  pub steps_whole : (r : Pulled) (m : MessageView) → r ≡ Whole m → Pulls (Ok r) old new s0 s1 → stopped new ≡ None → after ≡ before ++ Message m ∷ [] → Steps None bytes taken new s0 s1 before after
+  pub steps_whole : (r : Pulled) (m : MessageView) → r ≡ Whole m → Pulls (Ok r) old new s0 s1 → pull_fault_of new ≡ None → after ≡ before ++ Message m ∷ [] → Steps None bytes taken new s0 s1 before after
   steps_whole r m is q goes one = let p = subst (λ (x : Pulled). Pulls (Ok x) old new s0 s1) is q in record {
     piece = p.piece;
     gave = p.gave;
@@ -134,7 +134,7 @@ module _ (old new : FramerView) (s0 s1 : Spring) (bytes : List ℕ) (taken : Lis
     so = (record { stands = p.stands bytes taken l.stands; less = p.less bytes taken l.less; goes = goes; none_waits = waits }, p.count);
   }
 
-  pub steps_ended : (r : Pulled) → r ≡ Ended → Pulls (Ok r) old new s0 s1 → stopped new ≡ None → after ≡ before → Steps (Some stop.Ended) bytes taken new s0 s1 before after
+  pub steps_ended : (r : Pulled) → r ≡ Ended → Pulls (Ok r) old new s0 s1 → pull_fault_of new ≡ None → after ≡ before → Steps (Some stop.Ended) bytes taken new s0 s1 before after
   steps_ended r is q goes none =
       let p = subst (λ (x : Pulled). Pulls (Ok x) old new s0 s1) is q in
       let answer = p.answer l.goes bytes taken l.stands in
@@ -150,7 +150,7 @@ module _ (old new : FramerView) (s0 s1 : Spring) (bytes : List ℕ) (taken : Lis
         );
       }
 
-  pub steps_fault : (f : PullFault) (why : LinkStop) → why ≡ stop_of_fault f → Pulls (Err f) old new s0 s1 → stopped new ≡ lasting (Err f) → after ≡ before → Steps (Some why) bytes taken new s0 s1 before after
+  pub steps_fault : (f : PullFault) (why : LinkStop) → why ≡ stop_of_fault f → Pulls (Err f) old new s0 s1 → pull_fault_of new ≡ lasting (Err f) → after ≡ before → Steps (Some why) bytes taken new s0 s1 before after
   steps_fault f why is p lasts none = subst (λ (w : LinkStop). Steps (Some w) bytes taken new s0 s1 before after) (sym is) record {
     piece = p.piece;
     gave = p.gave;
@@ -159,7 +159,7 @@ module _ (old new : FramerView) (s0 s1 : Spring) (bytes : List ℕ) (taken : Lis
     so = (all f p lasts, go_less new (bytes ++ p.piece) (taken ++ []) (p.less bytes taken l.less), cause f p);
   }
     where
-      all : (f : PullFault) (p : Pulls (Err f) old new s0 s1) → stopped new ≡ lasting (Err f) → taken ++ [] ≡ messages (bytes ++ p.piece)
+      all : (f : PullFault) (p : Pulls (Err f) old new s0 s1) → pull_fault_of new ≡ lasting (Err f) → taken ++ [] ≡ messages (bytes ++ p.piece)
       all (Bad f) p lasts = all_of new (bytes ++ p.piece) (taken ++ []) (bad_not_failed new f lasts) waits (p.stands bytes taken l.stands)
       all ReadFault p lasts = all_of new (bytes ++ p.piece) (taken ++ []) (not_failed new lasts) waits (p.stands bytes taken l.stands)
       all OutOfMemory p lasts =

@@ -6,7 +6,7 @@ use Rattle.xd_frame.specs.declared.pull.PullFault.{PullFault}
 use Rattle.xd_frame.specs.declared.pull.PullFault.TheVariants.{Bad, ReadFault, OutOfMemory}
 use Rattle.xd_frame.specs.Message.{MessageView}
 use Rattle.xd_frame.specs.Framer.{FramerView, StandsFor}
-use Rattle.xd_frame.specs.Pull.{HoldsLess, stopped}
+use Rattle.xd_frame.specs.Pull.{HoldsLess, pull_fault_of}
 use Rattle.xd_frame.specs.Stream.{messages}
 use Rattle.xd_link.specs.Source.{Gave}
 use Rattle.xd_link.specs.Spring.{Spring}
@@ -35,7 +35,7 @@ stop_of_fault OutOfMemory = stop.OutOfMemory
 pub record Listens (bytes : List ℕ) (put : List MessageView) (framer : FramerView) : Type 0 where
   pub stands : StandsFor framer bytes put
   pub less : HoldsLess framer bytes put
-  pub goes : stopped framer ≡ None
+  pub goes : pull_fault_of framer ≡ None
   pub none_waits : framer.waiting ≡ []
 
 -- Where the link is read no more, this is why.

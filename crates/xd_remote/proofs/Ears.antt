@@ -4,12 +4,12 @@ use Rattle.xd_frame.specs.Message.{MessageView}
 use Rattle.xd_factory.specs.declared.faults.SideFault.{SideFault}
 use Rattle.xd_factory.specs.Said.{Said as Word, Means, names_of}
 use Rattle.xd_factory.specs.Table.{Refused as IsFaulty, opened_count}
-use Rattle.xd_factory.specs.SideTable.{Table, Counts}
+use Rattle.xd_factory.specs.SideTable.{ChannelTable, Counts}
 use Rattle.xd_factory.proofs.SideTables.{new_in}
 use Rattle.xd_factory.proofs.Meanings.{not_refused, one_meaning}
 use Rattle.xd_remote.proofs.Counted.{one_count}
 use Rattle.xd_journal.specs.declared.news.What.{What}
-use Rattle.xd_remote.specs.News.{AreHeard, Came, Ear, HasRoom, Heard, IsCame, IsNewsOf, IsRefused, Refused, Said, all_messages, all_news, ear_after}
+use Rattle.xd_remote.specs.News.{AreHeard, Came, Ear, HasRoom, Heard, IsCame, IsNewsOf, SideRefuses, Refused, Said, all_messages, all_news, ear_after}
 
 -- ---- lists with a last item
 
@@ -30,12 +30,12 @@ last_is (x ∷ xs) (y ∷ ys) a b h =
 
 -- ---- a message that is taken is not refused
 
-taken_is_not_refused : (t : Table) (m : MessageView) (said : Word) → Means m said → HasRoom t said → (fault : SideFault) (n : ℕ) → Counts t.slot n → IsFaulty n (new_in t) m fault → ⊥
+taken_is_not_refused : (t : ChannelTable) (m : MessageView) (said : Word) → Means m said → HasRoom t said → (fault : SideFault) (n : ℕ) → Counts t.slot n → IsFaulty n (new_in t) m fault → ⊥
 taken_is_not_refused t m said h room fault n c r =
     let e : room.0 ≡ n = one_count t.slot room.0 n room.1 c in
     not_refused n (new_in t) m said h (rw e at room.2) fault r
 
-not_both : (failed : Bool) (t : Table) (m : MessageView) (said : Word) → failed ≡ false → Means m said → HasRoom t said → IsRefused failed t m → ⊥
+not_both : (failed : Bool) (t : ChannelTable) (m : MessageView) (said : Word) → failed ≡ false → Means m said → HasRoom t said → SideRefuses failed t m → ⊥
 not_both true t m said g h room r = let z = g in cc
 not_both false t m said g h room r = taken_is_not_refused t m said h room r.0 r.1.0 r.1.1 r.1.2
 

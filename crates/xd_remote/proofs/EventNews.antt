@@ -8,7 +8,7 @@ use Rattle.xd_journal.specs.declared.news.What.{What}
 use Rattle.xd_journal.specs.declared.news.What.TheVariants.{Ready, Collected, LogStart, Done, Back, Finished}
 use Rattle.xd_gateway.specs.Calls.{Call, call_in}
 use Rattle.xd_gateway.specs.Kwargs.{both, indices_at}
-use Rattle.xd_gateway.specs.Events.{called_event, done_at, duration_at, ids_at, index_at, log_at, outcome_at, tree_event}
+use Rattle.xd_gateway.specs.Events.{called_event, done_at, duration_at, ids_under_key, index_at, log_at, outcome_at, tree_event}
 use Rattle.xd_remote.specs.Stands.{IsOfMessage}
 
 of_ids : (o : Option (List (List ℕ))) → IsOfMessage (option_map Collected o)
@@ -46,8 +46,8 @@ first_of false false false false false false x1 x2 x3 x4 x5 x6 p1 p2 p3 p4 p5 p6
 of_call : (c : Call) → IsOfMessage (called_event c)
 of_call c =
     first_of (bytes_eq c.name (codes "workerready")) (bytes_eq c.name (codes "collectionfinish")) (bytes_eq c.name (codes "logstart")) (bytes_eq c.name (codes "runtest_protocol_complete")) (bytes_eq c.name (codes "unscheduled")) (bytes_eq c.name (codes "workerfinished"))
-    (Some Ready) (option_map Collected (ids_at c.kwargs)) (both LogStart (index_at c.kwargs) (log_at c.kwargs)) (done_at c.kwargs) (option_map Back (indices_at c.kwargs)) (Some Finished)
-    tt (of_ids (ids_at c.kwargs)) (of_log (index_at c.kwargs) (log_at c.kwargs)) (of_done (index_at c.kwargs) (outcome_at c.kwargs) (duration_at c.kwargs)) (of_back (indices_at c.kwargs)) tt
+    (Some Ready) (option_map Collected (ids_under_key c.kwargs)) (both LogStart (index_at c.kwargs) (log_at c.kwargs)) (done_at c.kwargs) (option_map Back (indices_at c.kwargs)) (Some Finished)
+    tt (of_ids (ids_under_key c.kwargs)) (of_log (index_at c.kwargs) (log_at c.kwargs)) (of_done (index_at c.kwargs) (outcome_at c.kwargs) (duration_at c.kwargs)) (of_back (indices_at c.kwargs)) tt
 
 of_called : (o : Option Call) → IsOfMessage (option_and_then called_event o)
 of_called None = tt

@@ -9,23 +9,23 @@ use Rattle.xd_factory.specs.declared.faults.SideFault.{SideFault}
 use Rattle.xd_factory.specs.declared.faults.SideFault.TheVariants as fault
 use Rattle.xd_factory.specs.Slot.{hooked_slot}
 use Rattle.xd_factory.specs.Trees.{taken_tree}
-use Rattle.xd_factory.specs.SideTable.{Table, RefusedBy, answer, changed_at, heard}
+use Rattle.xd_factory.specs.SideTable.{ChannelTable, RefusedBy, answer, changed_at, heard}
 use Rattle.xd_factory.specs.View.{fault_of}
 use Rattle.xd_journal.specs.declared.news.What.{What}
 use Rattle.xd_journal.specs.declared.news.What.TheVariants as what
 use Rattle.xd_remote.specs.declared.gateway.Gateway.{Gateway}
-use Rattle.xd_remote.specs.News.{Heard, HasRoom, IsRefused, Refused, Said, ear_after, is_finish, log_hooked, news_by}
+use Rattle.xd_remote.specs.News.{Heard, HasRoom, SideRefuses, Refused, Said, ear_after, is_finish, log_hooked, news_by}
 use Rattle.xd_remote.specs.Taking.{IsTaken, IsFaultOf, IsNamed}
 use Rattle.xd_remote.specs.Stands.{HearsMore, StandsFor}
 use Rattle.xd_remote.specs.View.{channels_of, has_finished, side_of}
 
 -- ---- a callback leaves why messages are refused
 
-hooked_fault_at : (b : Bool) (t : Table) (log : ℕ) → (if b then changed_at log hooked_slot t else t).fault ≡ t.fault
+hooked_fault_at : (b : Bool) (t : ChannelTable) (log : ℕ) → (if b then changed_at log hooked_slot t else t).fault ≡ t.fault
 hooked_fault_at true t log = refl
 hooked_fault_at false t log = refl
 
-hooked_fault : (news : Option What) (t : Table) → (log_hooked news t).fault ≡ t.fault
+hooked_fault : (news : Option What) (t : ChannelTable) → (log_hooked news t).fault ≡ t.fault
 hooked_fault None t = refl
 hooked_fault (Some what.Ready) t = refl
 hooked_fault (Some (what.Collected ids)) t = refl
@@ -42,7 +42,7 @@ hooked_fault (Some what.NotStarted) t = refl
 
 -- ---- a refusal
 
-refused_for : (t : Table) (m : MessageView) (f : SideFault) → IsFaultOf t m f → IsNamed f → RefusedBy t.fault t m f
+refused_for : (t : ChannelTable) (m : MessageView) (f : SideFault) → IsFaultOf t m f → IsNamed f → RefusedBy t.fault t m f
 refused_for t m fault.OutOfMemory h n = absurd n
 refused_for t m fault.Finished h n = h
 refused_for t m fault.BadNumber h n = h
@@ -55,18 +55,18 @@ none_of : (o : Option SideFault) → is_some o ≡ false → o ≡ None
 none_of None q = refl
 none_of (Some x) q = absurd (let z = q in cc)
 
-refused_came : (t e : Table) (failed : Bool) (m : MessageView) (f : SideFault) → is_some t.fault ≡ failed → (t.fault ≡ None → t ≡ e) → RefusedBy t.fault t m f → IsRefused failed e m
+refused_came : (t e : ChannelTable) (failed : Bool) (m : MessageView) (f : SideFault) → is_some t.fault ≡ failed → (t.fault ≡ None → t ≡ e) → RefusedBy t.fault t m f → SideRefuses failed e m
 refused_came t e true m f s k r = tt
 refused_came t e false m f s k r =
     let n : t.fault ≡ None = none_of t.fault s in
     let r' : RefusedBy None t m f = subst (λ (o : Option SideFault). RefusedBy o t m f) n r in
-    (f, subst (λ (x : Table). RefusedBy None x m f) (k n) r')
+    (f, subst (λ (x : ChannelTable). RefusedBy None x m f) (k n) r')
 
 module _ {K : Type 0} where
   pub hears_refused : (old new : Gateway K) (h : List Heard) (m : MessageView) (f : SideFault) → StandsFor old h → IsFaultOf (channels_of old) m f → IsNamed f → (channels_of new).fault ≡ Some f
       → has_finished new ≡ has_finished old → HearsMore new h m (Some what.Stray)
   hears_refused old new h m f s r n q e =
-      let came : IsRefused (ear_after h).failed (ear_after h).table m =
+      let came : SideRefuses (ear_after h).failed (ear_after h).table m =
       refused_came (channels_of old) (ear_after h).table (ear_after h).failed m f s.failed s.channels (refused_for (channels_of old) m f r n) in
       record {
         came = Refused;
@@ -96,13 +96,13 @@ module _ {K : Type 0} where
       ∙ ap (λ (x : Taken Tree). news_by (ear_after h).finished x) (t.answer_is ∙ ap (answer t.said) here)) in
       let table : channels_of new ≡ log_hooked news (heard t.said (ear_after h).table) = c ∙ ap (log_hooked news) (t.table_is ∙ ap (heard t.said) here) in
       let fault_is : fault_of (side_of new) ≡ None =
-      ap (λ (x : Table). x.fault) table ∙ (hooked_fault news (heard t.said (ear_after h).table) ∙ (ap (λ (x : Table). x.fault) (sym here) ∙ t.good)) in
+      ap (λ (x : ChannelTable). x.fault) table ∙ (hooked_fault news (heard t.said (ear_after h).table) ∙ (ap (λ (x : ChannelTable). x.fault) (sym here) ∙ t.good)) in
       record {
         came = Said t.said;
-        is = record { good = good; means = t.means; room = subst (λ (x : Table). HasRoom x t.said) here t.room };
+        is = record { good = good; means = t.means; room = subst (λ (x : ChannelTable). HasRoom x t.said) here t.room };
         news_are = news_are;
         stands = record {
-          are = (s.are, record { good = good; means = t.means; room = subst (λ (x : Table). HasRoom x t.said) here t.room });
+          are = (s.are, record { good = good; means = t.means; room = subst (λ (x : ChannelTable). HasRoom x t.said) here t.room });
           failed = ap is_some fault_is;
           channels = λ z. table ∙ ap (λ (w : Option What). log_hooked w (heard t.said (ear_after h).table)) news_are;
           finished = e ∙ (ap (λ (b : Bool). b || is_finish news) finished ∙ ap (λ (w : Option What). (ear_after h).finished || is_finish w) news_are);

@@ -9,9 +9,9 @@ use Rattle.xd_frame.specs.Writing.{CountBehind, WritesMore}
 use Rattle.xd_frame.proofs.Written.{next_print}
 use Rattle.xd_frame.specs.Message.{MessageView, frame}
 use Rattle.xd_remote.specs.Calls.{terminate_message}
-use Rattle.xd_remote.specs.Line.{ClosedBy, Closes, ClosesNow, Line, Prints}
+use Rattle.xd_remote.specs.Line.{ClosedBy, Closes, ClosesNow, GatewaySink, Prints}
 
-abbrev pub line : Option Sunk → ℕ → Bool → Line
+abbrev pub line : Option Sunk → ℕ → Bool → GatewaySink
 line s f b = record { sunk = s; faults = f; broken = b }
 
 count_behind : {T E : Type 0} (r : Result T E) (b0 b1 : Bool) (f0 f1 : ℕ) → b0 ≡ false → b1 ≡ is_err r → Counted (is_ok r) f0 f1 → CountBehind b0 b1 f0 f1
@@ -71,8 +71,8 @@ ends_by bytes false false true s0 s1 s2 f0 f1 f2 w c l d e k =
     record { closes = subst (λ (o : Option Sunk). PrintedPart bytes s0 o) (sym d) (print_is_part bytes s0 s1 w); count = subst (λ (n : ℕ). Rose n f2) c e; later = omega arith }
 ends_by bytes false false false s0 s1 s2 f0 f1 f2 w c l d e k = record { closes = all_closed bytes s0 s1 s2 w d; count = e ∙ c; later = omega arith }
 
-pub ends : (bytes : List ℕ) (a b c : Line) → Prints bytes a b → ClosesNow b c → Closes bytes a c
+pub ends : (bytes : List ℕ) (a b c : GatewaySink) → Prints bytes a b → ClosesNow b c → Closes bytes a c
 ends bytes a b c p q = ends_by bytes a.broken b.broken c.broken a.sunk b.sunk c.sunk a.faults b.faults c.faults p.writes p.count p.later q.closed q.count q.later
 
-pub exits : (m : MessageView) (a b c : Line) → m ≡ terminate_message → Prints (frame m) a b → ClosesNow b c → Closes (frame terminate_message) a c
+pub exits : (m : MessageView) (a b c : GatewaySink) → m ≡ terminate_message → Prints (frame m) a b → ClosesNow b c → Closes (frame terminate_message) a c
 exits m a b c e p q = ends (frame terminate_message) a b c (subst (λ (x : MessageView). Prints (frame x) a b) e p) q

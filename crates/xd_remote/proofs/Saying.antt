@@ -6,52 +6,52 @@ use Rattle.xd_frame.specs.Message.{MessageView, frame}
 use Rattle.xd_factory.specs.declared.faults.OpenFault.{OpenFault}
 use Rattle.xd_factory.specs.declared.faults.SendFault.TheVariants as send_fault
 use Rattle.xd_factory.specs.declared.side.Side.{Side}
-use Rattle.xd_factory.specs.SideTable.{Table, table_of}
+use Rattle.xd_factory.specs.SideTable.{ChannelTable, channel_table}
 use Rattle.xd_factory.specs.View.{fault_of, next_of}
 use Rattle.xd_remote.specs.declared.fault.GatewayFault.{GatewayFault}
 use Rattle.xd_remote.specs.declared.fault.GatewayFault.TheVariants.{SendFault, Channel, Opening, OutOfMemory}
 use Rattle.xd_remote.specs.declared.gateway.Gateway.{Gateway}
 use Rattle.xd_remote.specs.Calls.{Wanted, exec_by, exec_message, exec_opened, open_refusal, opened_by, opening_wanted, status_message, status_wanted}
-use Rattle.xd_remote.specs.Line.{Line, Prints, Says, written}
+use Rattle.xd_remote.specs.Line.{GatewaySink, Prints, Says, write_answer}
 use Rattle.xd_remote.specs.News.{Heard}
-use Rattle.xd_remote.specs.Opening.{IsMessage, IsPayloadOf, IsUnopened}
+use Rattle.xd_remote.specs.Opening.{IsWanted, IsPayloadOf, IsUnopened}
 use Rattle.xd_remote.specs.Stands.{IsBegun, IsNew, StandsFor}
 use Rattle.xd_remote.specs.View.{KeepsChannels, channels_of, has_finished, side_of}
 
 -- ---- the write
 
-written_ok : (b : Bool) (x : Unit {0}) → Ok x ≡ written b → b ≡ false
+written_ok : (b : Bool) (x : Unit {0}) → Ok x ≡ write_answer b → b ≡ false
 written_ok true x h = absurd (let z = h in cc)
 written_ok false x h = refl
 
-written_err : (b : Bool) (f : GatewayFault) → Err f ≡ written b → (f ≡ SendFault) × (b ≡ true)
+written_err : (b : Bool) (f : GatewayFault) → Err f ≡ write_answer b → (f ≡ SendFault) × (b ≡ true)
 written_err true f h = (let z = h in cc, refl)
 written_err false f h = absurd (let z = h in cc)
 
-pub said : {T : Type 0} (x : T) (wanted : Wanted) (a b : Line) (m : MessageView) (u : Unit {0}) → wanted ≡ Ok m → Ok u ≡ written b.broken → Prints (frame m) a b → Says wanted a b (Ok x)
+pub said : {T : Type 0} (x : T) (wanted : Wanted) (a b : GatewaySink) (m : MessageView) (u : Unit {0}) → wanted ≡ Ok m → Ok u ≡ write_answer b.broken → Prints (frame m) a b → Says wanted a b (Ok x)
 said x wanted a b m u e w p = (m, e, written_ok b.broken u w, p)
 
-cut_short : (T : Type 0) (wanted : Wanted) (a b : Line) (m : MessageView) (f : GatewayFault) → wanted ≡ Ok m → f ≡ SendFault → b.broken ≡ true → Prints (frame m) a b → Says {T = T} wanted a b (Err f)
+cut_short : (T : Type 0) (wanted : Wanted) (a b : GatewaySink) (m : MessageView) (f : GatewayFault) → wanted ≡ Ok m → f ≡ SendFault → b.broken ≡ true → Prints (frame m) a b → Says {T = T} wanted a b (Err f)
 cut_short T wanted a b m f e g k p = subst (λ (x : GatewayFault). Says {T = T} wanted a b (Err x)) (sym g) (m, e, k, p)
 
-pub cut : (T : Type 0) (wanted : Wanted) (a b : Line) (m : MessageView) (f : GatewayFault) → wanted ≡ Ok m → Err f ≡ written b.broken → Prints (frame m) a b → Says {T = T} wanted a b (Err f)
+pub cut : (T : Type 0) (wanted : Wanted) (a b : GatewaySink) (m : MessageView) (f : GatewayFault) → wanted ≡ Ok m → Err f ≡ write_answer b.broken → Prints (frame m) a b → Says {T = T} wanted a b (Err f)
 cut T wanted a b m f e w p = let k = written_err b.broken f w in cut_short T wanted a b m f e k.0 k.1 p
 
 -- ---- a refusal
 
-pub no_message : (T : Type 0) (wanted : Wanted) (a b : Line) (f : GatewayFault) → IsMessage wanted (Err f) → b ≡ a → Says {T = T} wanted a b (Err f)
+pub no_message : (T : Type 0) (wanted : Wanted) (a b : GatewaySink) (f : GatewayFault) → IsWanted wanted (Err f) → b ≡ a → Says {T = T} wanted a b (Err f)
 no_message T wanted a b SendFault h e = absurd h
 no_message T wanted a b (Channel f) h e = (h, e)
 no_message T wanted a b (Opening f) h e = (h, e)
 no_message T wanted a b OutOfMemory h e = e
 
-pub no_channel : (T : Type 0) (o : Option OpenFault) (m : MessageView) (a b : Line) (f : GatewayFault) → IsUnopened o f → b ≡ a → Says {T = T} (opening_wanted o m) a b (Err f)
+pub no_channel : (T : Type 0) (o : Option OpenFault) (m : MessageView) (a b : GatewaySink) (f : GatewayFault) → IsUnopened o f → b ≡ a → Says {T = T} (opening_wanted o m) a b (Err f)
 no_channel T o m a b SendFault h e = absurd h
 no_channel T o m a b (Channel f) h e = absurd h
 no_channel T o m a b (Opening f) h e = (ap (λ (x : Option OpenFault). opening_wanted x m) h, e)
 no_channel T o m a b OutOfMemory h e = e
 
-pub no_payload : (T : Type 0) (d : Result (List ℕ) DumpFault) (s : Side) (a b : Line) (f : GatewayFault) → IsPayloadOf d (Err f) → b ≡ a → Says {T = T} (exec_by d s) a b (Err f)
+pub no_payload : (T : Type 0) (d : Result (List ℕ) DumpFault) (s : Side) (a b : GatewaySink) (f : GatewayFault) → IsPayloadOf d (Err f) → b ≡ a → Says {T = T} (exec_by d s) a b (Err f)
 no_payload T d s a b SendFault h e = absurd h
 no_payload T d s a b (Channel (send_fault.Dump f)) h e = (ap (λ (x : Result (List ℕ) DumpFault). exec_by x s) h, e)
 no_payload T d s a b (Channel send_fault.Unknown) h e = absurd h
@@ -60,7 +60,7 @@ no_payload T d s a b (Channel send_fault.OutOfMemory) h e = absurd h
 no_payload T d s a b (Opening f) h e = absurd h
 no_payload T d s a b OutOfMemory h e = e
 
-pub no_call_channel : (T : Type 0) (d : Result (List ℕ) DumpFault) (p : List ℕ) (s : Side) (a b : Line) (f : GatewayFault) → d ≡ Ok p → IsUnopened (open_refusal s) f → b ≡ a → Says {T = T} (exec_by d s) a b (Err f)
+pub no_call_channel : (T : Type 0) (d : Result (List ℕ) DumpFault) (p : List ℕ) (s : Side) (a b : GatewaySink) (f : GatewayFault) → d ≡ Ok p → IsUnopened (open_refusal s) f → b ≡ a → Says {T = T} (exec_by d s) a b (Err f)
 no_call_channel T d p s a b f q h e =
     subst (λ (x : Result (List ℕ) DumpFault). Says {T = T} (exec_by x s) a b (Err f)) (sym q) (no_channel T (open_refusal s) (exec_message (next_of s) p) a b f h e)
 
@@ -76,16 +76,16 @@ asked_wanted s n k e = ap (λ (o : Option OpenFault). opening_wanted o (status_m
 
 -- ---- the channels
 
-pub cut_opens : (T : Type 0) (F : Table → Table) (t : Table) (b : Bool) (f : GatewayFault) → Err f ≡ written b → opened_by {T = T} F (Err f) t ≡ F t
+pub cut_opens : (T : Type 0) (F : ChannelTable → ChannelTable) (t : ChannelTable) (b : Bool) (f : GatewayFault) → Err f ≡ write_answer b → opened_by {T = T} F (Err f) t ≡ F t
 cut_opens T F t b f w = subst (λ (x : GatewayFault). opened_by {T = T} F (Err x) t ≡ F t) (sym (written_err b f w).0) refl
 
-pub unopened : (T : Type 0) (F : Table → Table) (t : Table) (o : Option OpenFault) (f : GatewayFault) → IsUnopened o f → opened_by {T = T} F (Err f) t ≡ t
+pub unopened : (T : Type 0) (F : ChannelTable → ChannelTable) (t : ChannelTable) (o : Option OpenFault) (f : GatewayFault) → IsUnopened o f → opened_by {T = T} F (Err f) t ≡ t
 unopened T F t o SendFault h = absurd h
 unopened T F t o (Channel f) h = refl
 unopened T F t o (Opening f) h = refl
 unopened T F t o OutOfMemory h = refl
 
-pub unpaid : (T : Type 0) (F : Table → Table) (t : Table) (d : Result (List ℕ) DumpFault) (f : GatewayFault) → IsPayloadOf d (Err f) → opened_by {T = T} F (Err f) t ≡ t
+pub unpaid : (T : Type 0) (F : ChannelTable → ChannelTable) (t : ChannelTable) (d : Result (List ℕ) DumpFault) (f : GatewayFault) → IsPayloadOf d (Err f) → opened_by {T = T} F (Err f) t ≡ t
 unpaid T F t d SendFault h = absurd h
 unpaid T F t d (Channel f) h = refl
 unpaid T F t d (Opening f) h = refl
@@ -99,14 +99,14 @@ module _ {K : Type 0} where
       record {
         are = s.are;
         failed = ap (λ (x : Side). is_some (fault_of x)) k.side ∙ s.failed;
-        channels = λ z. ap table_of k.side ∙ s.channels (ap fault_of (sym k.side) ∙ z);
+        channels = λ z. ap channel_table k.side ∙ s.channels (ap fault_of (sym k.side) ∙ z);
         finished = k.finished ∙ s.finished;
       }
 
   begun : (old new : Gateway K) → IsNew old → channels_of new ≡ exec_opened (channels_of old) → has_finished new ≡ has_finished old → StandsFor new []
   begun old new n c e =
       let q : channels_of new ≡ exec_opened (channels_of old) = c in
-      let none : fault_of (side_of new) ≡ None = ap (λ (t : Table). t.fault) c ∙ ap (λ (t : Table). t.fault) n.channels in
+      let none : fault_of (side_of new) ≡ None = ap (λ (t : ChannelTable). t.fault) c ∙ ap (λ (t : ChannelTable). t.fault) n.channels in
       record { are = tt; failed = ap is_some none; channels = λ z. c ∙ ap exec_opened n.channels; finished = e ∙ n.unfinished }
 
   pub first_stands : {T : Type 0} (r : Result T GatewayFault) (old new : Gateway K) → IsNew old → IsBegun r → channels_of new ≡ opened_by exec_opened r (channels_of old) → has_finished new ≡ has_finished old → StandsFor new []

@@ -10,7 +10,7 @@ use Rattle.xd_factory.specs.declared.faults.SideFault.{SideFault}
 use Rattle.xd_factory.specs.declared.faults.SideFault.TheVariants as fault
 use Rattle.xd_factory.specs.Said.{IsFault}
 use Rattle.xd_factory.specs.Table.{Refused, IsRefused}
-use Rattle.xd_factory.specs.SideTable.{Table, Counts, MustRefuse}
+use Rattle.xd_factory.specs.SideTable.{ChannelTable, Counts, MustRefuse}
 use Rattle.xd_factory.proofs.SideTables.{new_in, reason}
 use Rattle.xd_remote.specs.Opening.{IsUnopened, opening_fault}
 use Rattle.xd_remote.specs.Taking.{IsFaultOf}
@@ -25,7 +25,7 @@ at_most a b h = by_test (nat_lt a b) refl
     by_test true q = absurd (h (less q))
     by_test false q = grind (arith, nat_tests)
 
-pub fault_at : (t : Table) (m : MessageView) (f : SideFault) (n : ℕ) → ((b : SideFault) → t.fault ≡ Some b → f ≡ b) → (t.fault ≡ None → IsRefused n (new_in t) m f) → Counts t.slot n → IsFaultOf t m f
+pub fault_at : (t : ChannelTable) (m : MessageView) (f : SideFault) (n : ℕ) → ((b : SideFault) → t.fault ≡ Some b → f ≡ b) → (t.fault ≡ None → IsRefused n (new_in t) m f) → Counts t.slot n → IsFaultOf t m f
 fault_at t m fault.OutOfMemory n g h k = tt
 fault_at t m fault.Finished n g h k = reason t.fault t m fault.Finished n g h k
 fault_at t m fault.BadNumber n g h k = reason t.fault t m fault.BadNumber n g h k
@@ -43,7 +43,7 @@ same_fault X f (fault.BadPayload what) h = h
 same_fault X f fault.NotText h = h
 same_fault X f fault.TooManyOpen h = h
 
-pub must_refuse : (X : Type 0) (o : Option SideFault) (t : Table) (m : MessageView) (f g : SideFault) (n : ℕ) → ((b : SideFault) → o ≡ Some b → g ≡ b) → (o ≡ None → Refused n (new_in t) m f → IsFault {X = X} f (Err g))
+pub must_refuse : (X : Type 0) (o : Option SideFault) (t : ChannelTable) (m : MessageView) (f g : SideFault) (n : ℕ) → ((b : SideFault) → o ≡ Some b → g ≡ b) → (o ≡ None → Refused n (new_in t) m f → IsFault {X = X} f (Err g))
     → Counts t.slot n → MustRefuse o t m f → IsFault {X = X} f (Err g)
 must_refuse X None t m f g n a b k h = b refl (h n k)
 must_refuse X (Some before) t m f g n a b k h = same_fault X f g (a before refl ∙ sym h)

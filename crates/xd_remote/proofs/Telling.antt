@@ -14,8 +14,8 @@ use Rattle.xd_factory.specs.Numbers.{is_in, is_mine}
 use Rattle.xd_factory.specs.Said.{Said as Word, Status, Exec, Data, Close, Last, Terminate, names_of}
 use Rattle.xd_factory.specs.Slot.{Slot, Unseen, Here, Gone, hooked_slot, is_new}
 use Rattle.xd_factory.specs.Table.{end_answer, ended_answer, named_in, send_refusal, told_slot}
-use Rattle.xd_factory.specs.SideTable.{Table, answer, changed_at, heard}
-use Rattle.xd_factory.specs.View.{fault_of, slot_of}
+use Rattle.xd_factory.specs.SideTable.{ChannelTable, answer, changed_at, heard}
+use Rattle.xd_factory.specs.View.{fault_of, slot_of_number}
 use Rattle.xd_journal.specs.declared.news.What.{What}
 use Rattle.xd_journal.specs.declared.news.What.TheVariants as what
 use Rattle.xd_remote.specs.declared.gateway.Gateway.{Gateway}
@@ -61,11 +61,11 @@ one_is_odd log h = by_test (log == 1) refl
     by_test false k = k
     by_test true k = let q : log ≡ 1 = eqb-true log 1 k in absurd (let z : (1 % 2 == 0) ≡ true = subst (λ (x : ℕ). (x % 2 == 0) ≡ true) q h in cc)
 
-hooked_at : (b : Bool) (t : Table) (log : ℕ) → (b ≡ true → (log == 1) ≡ false) → (if b then changed_at log hooked_slot t else t).slot 1 ≡ t.slot 1
+hooked_at : (b : Bool) (t : ChannelTable) (log : ℕ) → (b ≡ true → (log == 1) ≡ false) → (if b then changed_at log hooked_slot t else t).slot 1 ≡ t.slot 1
 hooked_at true t log h = rw (h refl) refl
 hooked_at false t log h = refl
 
-hooked_keeps : (news : Option What) (t : Table) → (log_hooked news t).slot 1 ≡ t.slot 1
+hooked_keeps : (news : Option What) (t : ChannelTable) → (log_hooked news t).slot 1 ≡ t.slot 1
 hooked_keeps None t = refl
 hooked_keeps (Some what.Ready) t = refl
 hooked_keeps (Some (what.Collected ids)) t = refl
@@ -132,7 +132,7 @@ other_end f slot n e h o k = by_test (n == 1) refl
         let p : n ≡ 1 = eqb-true n 1 q in
         absurd (let z : true ≡ false = sym (answer_is_last f (slot n) n e h p (subst (λ (x : ℕ). IsOpen (slot x)) (sym p) o)) ∙ k in cc)
 
-heard_open : (f : Bool) (t : Table) (said : Word) → f ≡ false → IsOpen (t.slot 1) → last_in (news_by f (answer said t)) ≡ false → IsOpen ((heard said t).slot 1)
+heard_open : (f : Bool) (t : ChannelTable) (said : Word) → f ≡ false → IsOpen (t.slot 1) → last_in (news_by f (answer said t)) ≡ false → IsOpen ((heard said t).slot 1)
 heard_open f t (Status n) h o k = absurd (let z : true ≡ false = k in cc)
 heard_open f t (Exec n v) h o k = absurd (let z : true ≡ false = sym (exec_is_last f (is_new (is_mine t.parity n) (t.slot n)) n v) ∙ k in cc)
 heard_open f t (Data n v) h o k = item_open (is_mine t.parity 1) (n == 1) n v (named_in (is_mine t.parity 1) (is_in 1 (names_of (Data n v))) (t.slot 1)) refl (named_open (is_mine t.parity 1) (is_in 1 (names_of (Data n v))) (t.slot 1) o)
@@ -171,11 +171,11 @@ can_send (Here s) o = let q : s.sending ≡ true = o.1 in rw q refl
 can_send Gone o = absurd o
 
 module _ {K : Type 0} where
-  pub can_be_told : (g : Gateway K) (h : List Heard) → StandsFor g h → has_last (all_news h) ≡ false → send_refusal (slot_of (side_of g) 1) ≡ None
+  pub can_be_told : (g : Gateway K) (h : List Heard) → StandsFor g h → has_last (all_news h) ≡ false → send_refusal (slot_of_number (side_of g) 1) ≡ None
   can_be_told g h s k =
       let l = listens h k in
       let good : fault_of (side_of g) ≡ None = none_of (fault_of (side_of g)) (s.failed ∙ l.good) in
-      let e : slot_of (side_of g) 1 ≡ (ear_after h).table.slot 1 = ap (λ (t : Table). t.slot 1) (s.channels good) in
+      let e : slot_of_number (side_of g) 1 ≡ (ear_after h).table.slot 1 = ap (λ (t : ChannelTable). t.slot 1) (s.channels good) in
       ap send_refusal e ∙ can_send ((ear_after h).table.slot 1) l.slot
     where
       none_of : {X : Type 0} (o : Option X) → is_some o ≡ false → o ≡ None

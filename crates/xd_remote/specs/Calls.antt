@@ -15,8 +15,8 @@ use Rattle.xd_factory.specs.declared.faults.SendFault.TheVariants as send_fault
 use Rattle.xd_factory.specs.declared.side.Side.{Side}
 use Rattle.xd_factory.specs.Slot.{hooked_slot}
 use Rattle.xd_factory.specs.Table.{send_refusal, sent_gives}
-use Rattle.xd_factory.specs.SideTable.{Table, changed_at, opened}
-use Rattle.xd_factory.specs.View.{slot_of, next_of, is_finished, entry_count}
+use Rattle.xd_factory.specs.SideTable.{ChannelTable, changed_at, opened}
+use Rattle.xd_factory.specs.View.{slot_of_number, next_of, is_finished, entry_count}
 use Rattle.xd_remote.specs.declared.fault.GatewayFault.{GatewayFault}
 use Rattle.xd_remote.specs.declared.fault.GatewayFault.TheVariants.{SendFault as NotSent, Channel, Opening, OutOfMemory}
 
@@ -64,7 +64,7 @@ item_wanted n (Err f) = Err (Channel f)
 
 -- a value is said on a channel
 abbrev pub say_wanted : ℕ → Tree → Side → Wanted
-say_wanted n v s = item_wanted n (sent_gives (send_refusal (slot_of s n)) (dumped v))
+say_wanted n v s = item_wanted n (sent_gives (send_refusal (slot_of_number s n)) (dumped v))
 
 -- why no channel opens, while memory lasts
 abbrev pub open_refusal : Side → Option OpenFault
@@ -94,11 +94,11 @@ exec_wanted name kwargs s = exec_by (dumped (call_tree name kwargs)) s
 -- ---- the channels
 
 -- the next own number opens with a callback: what comes on the channel of a call is handed out as it comes
-abbrev pub exec_opened : Table → Table
+abbrev pub exec_opened : ChannelTable → ChannelTable
 exec_opened t = changed_at t.next hooked_slot (opened t)
 
 -- the channel of a call opens where its message is written, or begun; else the channels stay
-abbrev pub opened_by : {T : Type 0} → (Table → Table) → Result T GatewayFault → Table → Table
+abbrev pub opened_by : {T : Type 0} → (ChannelTable → ChannelTable) → Result T GatewayFault → ChannelTable → ChannelTable
 opened_by f (Ok x) t = f t
 opened_by f (Err NotSent) t = f t
 opened_by f (Err (Channel g)) t = t

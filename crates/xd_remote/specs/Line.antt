@@ -7,13 +7,13 @@ use Rattle.xd_remote.specs.declared.fault.GatewayFault.{GatewayFault}
 use Rattle.xd_remote.specs.declared.fault.GatewayFault.TheVariants.{SendFault, Channel, Opening, OutOfMemory}
 
 -- what the sink took, how often it failed, and whether a write of this gateway failed
-pub record Line : Type 0 where
+pub record GatewaySink : Type 0 where
   pub sunk : Option Sunk
   pub faults : ℕ
   pub broken : Bool
 
 -- The bytes are written and handed on; or a first part of them, where the sink fails now; or nothing, where it failed before.
-pub record Prints (bytes : List ℕ) (old new : Line) : Type 0 where
+pub record Prints (bytes : List ℕ) (old new : GatewaySink) : Type 0 where
   pub writes : WritesMore old.broken new.broken bytes old.sunk new.sunk
   pub count : CountBehind old.broken new.broken old.faults new.faults
   pub later : old.faults ≤ new.faults
@@ -25,7 +25,7 @@ ClosesMore false true bytes old new = PrintedPart bytes old new
 ClosesMore false false bytes old new = new ≡ option_map (λ s. with_close (with_flush (with_bytes bytes s))) old
 
 -- A close with these last bytes: what the sink took of them, and its count of faults, which rose where it failed now.
-pub record Closes (bytes : List ℕ) (old new : Line) : Type 0 where
+pub record Closes (bytes : List ℕ) (old new : GatewaySink) : Type 0 where
   pub closes : ClosesMore old.broken new.broken bytes old.sunk new.sunk
   pub count : CountBehind old.broken new.broken old.faults new.faults
   pub later : old.faults ≤ new.faults
@@ -37,19 +37,19 @@ ClosedBy false true old new = new ≡ old
 ClosedBy false false old new = new ≡ option_map with_close old
 
 -- A close without last bytes: whether the sink is closed, and its count of faults, which rose where it failed now.
-pub record ClosesNow (old new : Line) : Type 0 where
+pub record ClosesNow (old new : GatewaySink) : Type 0 where
   pub closed : ClosedBy old.broken new.broken old.sunk new.sunk
   pub count : CountBehind old.broken new.broken old.faults new.faults
   pub later : old.faults ≤ new.faults
 
 -- what a call that only writes answers, by whether a write failed, now or before
-abbrev pub written : Bool → Result (Unit {0}) GatewayFault
-written true = Err SendFault
-written false = Ok tt
+abbrev pub write_answer : Bool → Result (Unit {0}) GatewayFault
+write_answer true = Err SendFault
+write_answer false = Ok tt
 
 -- A call that is to say a message, or that is refused before, while no write has failed: what it answers, and what it makes
 -- of the line.
-abbrev pub Says : {T : Type 0} → Result MessageView GatewayFault → Line → Line → Result T GatewayFault → Type 0
+abbrev pub Says : {T : Type 0} → Result MessageView GatewayFault → GatewaySink → GatewaySink → Result T GatewayFault → Type 0
 Says wanted old new (Ok x) = (m : MessageView) × (wanted ≡ Ok m) × (new.broken ≡ false) × Prints (frame m) old new
 Says wanted old new (Err SendFault) = (m : MessageView) × (wanted ≡ Ok m) × (new.broken ≡ true) × Prints (frame m) old new
 Says wanted old new (Err (Channel f)) = (wanted ≡ Err (Channel f)) × (new ≡ old)

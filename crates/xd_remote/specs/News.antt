@@ -14,7 +14,7 @@ use Rattle.xd_factory.specs.Numbers.{is_mine}
 use Rattle.xd_factory.specs.Said.{Said as Word, Means, names_of}
 use Rattle.xd_factory.specs.Slot.{hooked_slot, is_new}
 use Rattle.xd_factory.specs.Table.{opened_count}
-use Rattle.xd_factory.specs.SideTable.{Table, Counts, RefusedBy, answer, changed_at, heard, new_table}
+use Rattle.xd_factory.specs.SideTable.{ChannelTable, Counts, RefusedBy, answer, changed_at, heard, new_table}
 use Rattle.xd_journal.specs.declared.news.What.{What}
 use Rattle.xd_journal.specs.declared.news.What.TheVariants as what
 use Rattle.xd_gateway.specs.Events.{tree_event}
@@ -22,7 +22,7 @@ use Rattle.xd_remote.specs.Calls.{exec_opened}
 
 -- the channels of the controller's side, whether it has refused a message, and whether the worker said that it has finished
 pub record Ear : Type 0 where
-  pub table : Table
+  pub table : ChannelTable
   pub failed : Bool
   pub finished : Bool
 
@@ -56,7 +56,7 @@ news_by finished (taken.EndHanded n e) = if n == 1 then close_of finished e else
 news_by finished _ = Some what.Stray
 
 -- the channel of a log gets a callback where its number is even, as the worker's numbers are
-abbrev pub log_hooked : Option What → Table → Table
+abbrev pub log_hooked : Option What → ChannelTable → ChannelTable
 log_hooked (Some (what.LogStart index log)) t = if log % 2 == 0 then changed_at log hooked_slot t else t
 log_hooked _ t = t
 
@@ -103,7 +103,7 @@ all_news [] = []
 all_news (g ∷ h) = all_news h ++ option_to_list (came_news (ear_after h) g.came)
 
 -- there is room for the numbers that a message opens
-abbrev pub HasRoom : Table → Word → Type 0
+abbrev pub HasRoom : ChannelTable → Word → Type 0
 HasRoom t said = (n : ℕ) × Counts t.slot n × (n + opened_count (λ c. is_new (is_mine t.parity c) (t.slot c)) (names_of said) ≤ 4096)
 
 -- the side takes a message that says this
@@ -113,14 +113,14 @@ pub record Takes (e : Ear) (m : MessageView) (said : Word) : Type 0 where
   pub room : HasRoom e.table said
 
 -- the side refuses a message: it did so before, or for what the message is
-abbrev pub IsRefused : Bool → Table → MessageView → Type 0
-IsRefused true t m = Unit {0}
-IsRefused false t m = (fault : SideFault) × RefusedBy None t m fault
+abbrev pub SideRefuses : Bool → ChannelTable → MessageView → Type 0
+SideRefuses true t m = Unit {0}
+SideRefuses false t m = (fault : SideFault) × RefusedBy None t m fault
 
 -- a message is what it is said to be: the side takes it and it says this, or the side refuses it
 abbrev pub IsCame : Ear → MessageView → Came → Type 0
 IsCame e m (Said said) = Takes e m said
-IsCame e m Refused = IsRefused e.failed e.table m
+IsCame e m Refused = SideRefuses e.failed e.table m
 
 -- each message was what it is there
 abbrev pub AreHeard : List Heard → Type 0

@@ -10,12 +10,12 @@ use Rattle.xd_remote.specs.declared.fault.GatewayFault.TheVariants.{SendFault, C
 use Rattle.xd_remote.specs.Calls.{Wanted}
 
 -- the message that is wanted, or why there is none, or memory ran out
-abbrev pub IsMessage : Wanted → Result MessageView GatewayFault → Type 0
-IsMessage wanted (Ok m) = wanted ≡ Ok m
-IsMessage wanted (Err (Channel f)) = wanted ≡ Err (Channel f)
-IsMessage wanted (Err (Opening f)) = wanted ≡ Err (Opening f)
-IsMessage wanted (Err SendFault) = ⊥
-IsMessage wanted (Err OutOfMemory) = Unit {0}
+abbrev pub IsWanted : Wanted → Result MessageView GatewayFault → Type 0
+IsWanted wanted (Ok m) = wanted ≡ Ok m
+IsWanted wanted (Err (Channel f)) = wanted ≡ Err (Channel f)
+IsWanted wanted (Err (Opening f)) = wanted ≡ Err (Opening f)
+IsWanted wanted (Err SendFault) = ⊥
+IsWanted wanted (Err OutOfMemory) = Unit {0}
 
 -- the payload that is wanted, or why there is none, or memory ran out
 abbrev pub IsPayloadOf : Result (List ℕ) DumpFault → Result (List ℕ) GatewayFault → Type 0

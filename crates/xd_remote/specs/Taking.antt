@@ -7,11 +7,11 @@ use Rattle.xd_factory.specs.declared.faults.SideFault.{SideFault}
 use Rattle.xd_factory.specs.declared.faults.SideFault.TheVariants as fault
 use Rattle.xd_factory.specs.Said.{Said, Means}
 use Rattle.xd_factory.specs.Trees.{taken_tree}
-use Rattle.xd_factory.specs.SideTable.{Table, MustRefuse, RefusedBy, answer, heard}
+use Rattle.xd_factory.specs.SideTable.{ChannelTable, MustRefuse, RefusedBy, answer, heard}
 use Rattle.xd_remote.specs.News.{HasRoom}
 
 -- the message was taken, by what it says
-pub record IsTaken (m : MessageView) (old new : Table) (taken : Taken Value) : Type 0 where
+pub record IsTaken (m : MessageView) (old new : ChannelTable) (taken : Taken Value) : Type 0 where
   pub said : Said
   pub good : old.fault ≡ None
   pub means : Means m said
@@ -20,7 +20,7 @@ pub record IsTaken (m : MessageView) (old new : Table) (taken : Taken Value) : T
   pub table_is : new ≡ heard said old
 
 -- a refusal has its reason; running out of memory needs none
-abbrev pub IsFaultOf : Table → MessageView → SideFault → Type 0
+abbrev pub IsFaultOf : ChannelTable → MessageView → SideFault → Type 0
 IsFaultOf t m fault.OutOfMemory = Unit {0}
 IsFaultOf t m fault.Finished = RefusedBy t.fault t m fault.Finished
 IsFaultOf t m fault.BadNumber = RefusedBy t.fault t m fault.BadNumber
@@ -30,7 +30,7 @@ IsFaultOf t m fault.NotText = RefusedBy t.fault t m fault.NotText
 IsFaultOf t m fault.TooManyOpen = RefusedBy t.fault t m fault.TooManyOpen
 
 -- a message that is to be refused
-abbrev pub IsToRefuse : Table → MessageView → SideFault → Type 0
+abbrev pub IsToRefuse : ChannelTable → MessageView → SideFault → Type 0
 IsToRefuse t m fault = MustRefuse t.fault t m fault
 
 -- a refusal for a reason, which is not running out of memory

@@ -2,12 +2,12 @@
 use Rattle.std.specs.Prelude.{◌≡◌, ℕ, Bool, false, List, Option, Result, Err}
 use Rattle.xd_edge.specs.Sink.{Sunk}
 use Rattle.xd_factory.specs.declared.side.Side.{Side}
-use Rattle.xd_factory.specs.SideTable.{Table, table_of}
+use Rattle.xd_factory.specs.SideTable.{ChannelTable, channel_table}
 use Rattle.xd_remote.specs.declared.gateway.Gateway.{Gateway}
 use Rattle.xd_remote.specs.declared.fault.GatewayFault.{GatewayFault}
 use Rattle.xd_remote.specs.declared.fault.GatewayFault.TheVariants.{SendFault}
 use Rattle.xd_remote.specs.Calls.{Wanted, opened_by}
-use Rattle.xd_remote.specs.Line.{Closes, Line, Prints, Says}
+use Rattle.xd_remote.specs.Line.{Closes, GatewaySink, Prints, Says}
 
 module _ {K : Type 0} where
   -- its sink
@@ -19,8 +19,8 @@ module _ {K : Type 0} where
   side_of g = g.side
 
   -- the table of its channels
-  abbrev pub channels_of : Gateway K → Table
-  channels_of g = table_of g.side
+  abbrev pub channels_of : Gateway K → ChannelTable
+  channels_of g = channel_table g.side
 
   -- a write failed before
   abbrev pub is_broken : Gateway K → Bool
@@ -31,7 +31,7 @@ module _ {K : Type 0} where
   has_finished g = g.has_finished
 
   -- its writing direction, where the sink tells this of what it took and of its faults
-  abbrev pub line_of : (K → Option Sunk) → (K → ℕ) → Gateway K → Line
+  abbrev pub line_of : (K → Option Sunk) → (K → ℕ) → Gateway K → GatewaySink
   line_of sunk faults g = record { sunk = sunk g.sink; faults = faults g.sink; broken = g.is_broken }
 
   -- all but the line is as it was
@@ -61,5 +61,5 @@ module _ {K : Type 0} where
   SaysOn sunk faults old new wanted r = is_broken old ≡ false → Says (wanted (side_of old)) (line_of sunk faults old) (line_of sunk faults new) r
 
   -- what it makes of the channels
-  abbrev pub OpensOn : {T : Type 0} → (Table → Table) → Gateway K → Gateway K → Result T GatewayFault → Type 0
+  abbrev pub OpensOn : {T : Type 0} → (ChannelTable → ChannelTable) → Gateway K → Gateway K → Result T GatewayFault → Type 0
   OpensOn opens old new r = is_broken old ≡ false → channels_of new ≡ opened_by opens r (channels_of old)

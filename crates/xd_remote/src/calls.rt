@@ -7,7 +7,7 @@ ghost use Rattle.xd_value.specs.Canonical.{dumped};
 ghost use Rattle.xd_factory.specs.SideTable.{opened};
 ghost use Rattle.xd_factory.specs.View.{next_of};
 ghost use Rattle.xd_remote.specs.Calls.{call_tree, exec_opened, exec_wanted, kwargs_of, parts_tree, say_wanted, status_wanted};
-ghost use Rattle.xd_remote.specs.Opening.{IsMessage, IsPayloadOf};
+ghost use Rattle.xd_remote.specs.Opening.{IsWanted, IsPayloadOf};
 
 use crate::side::{empty, open_call, open_next};
 use crate::{Gateway, GatewayFault};
@@ -82,7 +82,7 @@ impl<K: Sink> Gateway<K> {
 
 // The message that sends a value on a channel.
 fn item_of(side: &mut Side, number: u32, value: &Value) -> Result<Message, GatewayFault>
-    ensures message { IsMessage (say_wanted number (view value.now) side.old) result }
+    ensures message { IsWanted (say_wanted number (view value.now) side.old) result }
     ensures same { side.new ≡ side.old }
 {
     match side.send(number, value) {

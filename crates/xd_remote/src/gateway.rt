@@ -6,7 +6,7 @@ ghost use Rattle.xd_factory.specs.SideTable.{new_table};
 ghost use Rattle.xd_factory.specs.Said.{IsFault};
 ghost use Rattle.xd_factory.specs.declared.faults.SideFault.{SideFault};
 ghost use Rattle.xd_remote.specs.Calls.{terminate_message};
-ghost use Rattle.xd_remote.specs.Line.{ClosesNow, written};
+ghost use Rattle.xd_remote.specs.Line.{ClosesNow, write_answer};
 
 use crate::GatewayFault;
 use crate::side::{empty, take};
@@ -51,7 +51,7 @@ impl<K: Sink> Gateway<K> {
 
     /// Writes a message and hands it on.
     pub fn write(&mut self, message: &Message) -> Result<(), GatewayFault>
-        ensures answer { result ≡ written (is_broken self.new) }
+        ensures answer { result ≡ write_answer (is_broken self.new) }
         ensures prints { PrintsOn K.sunk K.faults self.old self.new (frame message.now) }
         ensures rest { KeepsChannels self.old self.new }
         ensures stands { (h : List Heard) → StandsFor self.old h → StandsFor self.new h }
@@ -62,7 +62,7 @@ impl<K: Sink> Gateway<K> {
 
     /// Ends the other side: writes GATEWAY_TERMINATE, hands it on and closes the sink.
     pub fn exit(&mut self) -> Result<(), GatewayFault>
-        ensures answer { result ≡ written (is_broken self.new) }
+        ensures answer { result ≡ write_answer (is_broken self.new) }
         ensures closes { ClosesOn K.sunk K.faults self.old self.new (frame terminate_message) }
         ensures rest { KeepsChannels self.old self.new }
         ensures stands { (h : List Heard) → StandsFor self.old h → StandsFor self.new h }
@@ -75,7 +75,7 @@ impl<K: Sink> Gateway<K> {
 
     /// Closes the sink, and writes nothing more.
     pub fn close(&mut self) -> Result<(), GatewayFault>
-        ensures answer { result ≡ written (is_broken self.new) }
+        ensures answer { result ≡ write_answer (is_broken self.new) }
         ensures closes { ClosesNow (line_of K.sunk K.faults self.old) (line_of K.sunk K.faults self.new) }
         ensures rest { KeepsChannels self.old self.new }
         ensures stands { (h : List Heard) → StandsFor self.old h → StandsFor self.new h }
@@ -134,7 +134,7 @@ impl<K: Sink> Gateway<K> {
 
 // What a call that only writes answers.
 fn written(is_broken: bool) -> Result<(), GatewayFault>
-    ensures { result ≡ written is_broken }
+    ensures { result ≡ write_answer is_broken }
 {
     if is_broken {
         return Err(GatewayFault::SendFault);

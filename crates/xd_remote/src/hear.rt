@@ -2,7 +2,7 @@
 ghost use Rattle.std.specs.Prelude.{◌≡◌, ◌||◌, List, IfOk, Some};
 ghost use Rattle.xd_value.specs.View.{view};
 ghost use Rattle.xd_factory.specs.Trees.{taken_tree};
-ghost use Rattle.xd_factory.specs.SideTable.{table_of};
+ghost use Rattle.xd_factory.specs.SideTable.{channel_table};
 ghost use Rattle.xd_remote.specs.News.{close_of, event_or_stray, is_finish, log_hooked, news_by, piece_or_stray};
 ghost use Rattle.xd_journal.specs.declared.news.What.TheVariants.{Stray};
 ghost use Rattle.xd_remote.specs.Stands.{IsOfMessage};
@@ -121,7 +121,7 @@ fn close_of(has_finished: bool, end: End) -> Option<What>
 
 // What comes on the channel of a log is handed out.
 fn hook_log(side: &mut Side, news: &Option<What>)
-    ensures { table_of side.new ≡ log_hooked news.now (table_of side.old) }
+    ensures { channel_table side.new ≡ log_hooked news.now (channel_table side.old) }
 {
     if let Some(What::LogStart { log, .. }) = news {
         if *log % 2 == 0 {

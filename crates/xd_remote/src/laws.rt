@@ -2,7 +2,7 @@
 ghost use Rattle.std.specs.Prelude.{◌≡◌, List, None, false};
 ghost use Rattle.xd_frame.specs.Message.{MessageView};
 ghost use Rattle.xd_factory.specs.Table.{send_refusal};
-ghost use Rattle.xd_factory.specs.View.{slot_of};
+ghost use Rattle.xd_factory.specs.View.{slot_of_number};
 ghost use Rattle.xd_journal.specs.declared.news.What.{What};
 ghost use Rattle.xd_remote.specs.declared.gateway.Gateway.{Gateway};
 ghost use Rattle.xd_remote.specs.News.{Heard, IsNewsOf, all_news};
@@ -21,5 +21,5 @@ pub fn messages_have_one_meaning()
 /// Until the news of a worker say that it has ended, or that it broke the rules, channel 1 can be sent on.
 pub fn a_worker_can_be_told<K: Sink>()
     ensures { (g : Gateway K) (h : List Heard) → StandsFor g h → has_last (all_news h) ≡ false
-        → send_refusal (slot_of (side_of g) 1) ≡ None }
+        → send_refusal (slot_of_number (side_of g) 1) ≡ None }
 {}

@@ -2,7 +2,7 @@
 ghost use Rattle.std.specs.Prelude.{◌≡◌, ◌≤◌, [], IfOk, IfErr, OnOk, OnErr, Some, None};
 ghost use Rattle.xd_factory.specs.View.{next_of};
 ghost use Rattle.xd_factory.specs.Said.{IsFault};
-ghost use Rattle.xd_factory.specs.SideTable.{opened, table_of};
+ghost use Rattle.xd_factory.specs.SideTable.{opened, channel_table};
 ghost use Rattle.xd_factory.specs.declared.faults.SideFault.{SideFault};
 ghost use Rattle.xd_remote.specs.Calls.{exec_opened, open_refusal};
 ghost use Rattle.xd_remote.specs.Opening.{IsUnopened, opening_fault};
@@ -23,10 +23,10 @@ pub fn empty(alloc: Global) -> Blob
 
 /// Takes a message.
 pub fn take(side: &mut Side, message: Message) -> Result<Taken, SideFault>
-    ensures taken { IfOk result (IsTaken message (table_of side.old) (table_of side.new)) }
-    ensures refused { IfErr result (IsFaultOf (table_of side.old) message) }
-    ensures fails { IfErr result (λ fault. (table_of side.new).fault ≡ Some fault) }
-    ensures refuses { (fault : SideFault) → IsToRefuse (table_of side.old) message fault → IsFault fault result }
+    ensures taken { IfOk result (IsTaken message (channel_table side.old) (channel_table side.new)) }
+    ensures refused { IfErr result (IsFaultOf (channel_table side.old) message) }
+    ensures fails { IfErr result (λ fault. (channel_table side.new).fault ≡ Some fault) }
+    ensures refuses { (fault : SideFault) → IsToRefuse (channel_table side.old) message fault → IsFault fault result }
 {
     // Why a message is refused is told by how many channels there are.
     prove!(side.status() <= xd_factory::MAX_ENTRIES);
@@ -42,8 +42,8 @@ pub fn open_next(side: &mut Side) -> Result<u32, GatewayFault>
     ensures small { IfOk result (λ n. n ≤ 2147483647) }
     ensures accepted { OnOk result (open_refusal side.old ≡ None) }
     ensures refused { IfErr result (IsUnopened (open_refusal side.old)) }
-    ensures table { OnOk result (table_of side.new ≡ opened (table_of side.old)) }
-    ensures err { OnErr result (table_of side.new ≡ table_of side.old) }
+    ensures table { OnOk result (channel_table side.new ≡ opened (channel_table side.old)) }
+    ensures err { OnErr result (channel_table side.new ≡ channel_table side.old) }
 {
     match side.open_channel() {
         Ok(number) => Ok(number),
@@ -67,8 +67,8 @@ pub fn open_call(side: &mut Side) -> Result<u32, GatewayFault>
     ensures small { IfOk result (λ n. n ≤ 2147483647) }
     ensures accepted { OnOk result (open_refusal side.old ≡ None) }
     ensures refused { IfErr result (IsUnopened (open_refusal side.old)) }
-    ensures table { OnOk result (table_of side.new ≡ exec_opened (table_of side.old)) }
-    ensures err { OnErr result (table_of side.new ≡ table_of side.old) }
+    ensures table { OnOk result (channel_table side.new ≡ exec_opened (channel_table side.old)) }
+    ensures err { OnErr result (channel_table side.new ≡ channel_table side.old) }
 {
     let number = open_next(side)?;
     hook(side, number);
@@ -80,7 +80,7 @@ ghost use Rattle.xd_factory.specs.SideTable.{changed_at};
 
 /// What comes on the channel is handed out from now on. What waited there, which was told as it came, is dropped.
 pub fn hook(side: &mut Side, number: u32)
-    ensures { table_of side.new ≡ changed_at number hooked_slot (table_of side.old) }
+    ensures { channel_table side.new ≡ changed_at number hooked_slot (channel_table side.old) }
 {
     let _waiting = side.set_callback(number);
 }

@@ -18,7 +18,7 @@ use Rattle.xd_ledger.specs.Reports.{Report, Result, Crash, reports_of, reports_f
 use Rattle.xd_ledger.specs.Retry.{is_retry}
 use Rattle.xd_ledger.specs.Sharing.{State, in_books, is_full, shared_now}
 use Rattle.xd_ledger.specs.Collecting.{after_collected, collecting}
-use Rattle.xd_ledger.specs.State.{is_input, moved, next, reached, settled}
+use Rattle.xd_ledger.specs.State.{is_input, after_effect, after_entry, reached, settled}
 use Rattle.xd_ledger.specs.Stops.{stopped_by}
 use Rattle.xd_ledger.specs.Table.{crash_item, held, joined}
 use Rattle.xd_ledger.specs.Workers.{is_shut, made_collected, slot_of}
@@ -127,9 +127,9 @@ adds-all : (field : Counts → ℕ) (kind : Report → Bool) → ((s : State) (e
 adds-all field kind step s [] n = sym (add-zero (field n))
 adds-all field kind step s (e ∷ es) n =
     let t = reached s e in
-    let rest = reports_from (next s e) es in
+    let rest = reports_from (after_entry s e) es in
     omega (
-      adds-all field kind step (next s e) es (counted t e n),
+      adds-all field kind step (after_entry s e) es (counted t e n),
       step t e n,
       ap length (filter-append kind (reports_of t e) rest),
       length-append (filter kind (reports_of t e)) (filter kind rest),
@@ -168,28 +168,28 @@ collecting-settings w None s =
 pub collected-settings : (w : ℕ) (given : Ids) (s : State) → (after_collected w given s).books.settings ≡ s.books.settings
 collected-settings w given s = collecting-settings w (unequal w given (listed w s.books)) (in_books (λ b. marked (made_collected w) (with_list w given b)) s)
 
-moved-settings : (s : State) (e : Entry) → (moved s e).books.settings ≡ s.books.settings
-moved-settings s (Collected w given) = collected-settings w given s
-moved-settings s (Done w i outcome ms out) = refl
-moved-settings s (Down w cause out) = refl
-moved-settings s (Ready w) = refl
-moved-settings s (Back w is) = refl
-moved-settings s (Finished w) = refl
-moved-settings s (Refused w text) = refl
-moved-settings s (NotStarted w) = refl
-moved-settings s (Start w slot) = refl
-moved-settings s (Run w is) = refl
-moved-settings s (RunAll w) = refl
-moved-settings s (Steal w is) = refl
-moved-settings s (Shutdown w) = refl
-moved-settings s (Kill w) = refl
-moved-settings s (Over how) = refl
+after_effect-settings : (s : State) (e : Entry) → (after_effect s e).books.settings ≡ s.books.settings
+after_effect-settings s (Collected w given) = collected-settings w given s
+after_effect-settings s (Done w i outcome ms out) = refl
+after_effect-settings s (Down w cause out) = refl
+after_effect-settings s (Ready w) = refl
+after_effect-settings s (Back w is) = refl
+after_effect-settings s (Finished w) = refl
+after_effect-settings s (Refused w text) = refl
+after_effect-settings s (NotStarted w) = refl
+after_effect-settings s (Start w slot) = refl
+after_effect-settings s (Run w is) = refl
+after_effect-settings s (RunAll w) = refl
+after_effect-settings s (Steal w is) = refl
+after_effect-settings s (Shutdown w) = refl
+after_effect-settings s (Kill w) = refl
+after_effect-settings s (Over how) = refl
 
 reached-settings : (s : State) (e : Entry) → (reached s e).books.settings ≡ s.books.settings
 reached-settings s e = either (is_input e) (settled s) s s.books.settings refl refl
 
-pub next-settings : (s : State) (e : Entry) → (next s e).books.settings ≡ s.books.settings
-next-settings s e = moved-settings (reached s e) e ∙ reached-settings s e
+pub next-settings : (s : State) (e : Entry) → (after_entry s e).books.settings ≡ s.books.settings
+next-settings s e = after_effect-settings (reached s e) e ∙ reached-settings s e
 
 -- lines
 
@@ -264,9 +264,9 @@ pub all_lines : (s : State) (es : List Entry) → HasLineEach (mode_of s) (lines
 all_lines s [] = nothing (mode_of s)
 all_lines s (e ∷ es) =
     let t = reached s e in
-    join (mode_of s) (lines_of t e) (lines_from (next s e) es) (reports_of t e) (reports_from (next s e) es)
+    join (mode_of s) (lines_of t e) (lines_from (after_entry s e) es) (reports_of t e) (reports_from (after_entry s e) es)
     (subst (λ (k : Settings). HasLineEach k.mode (lines_of t e) (reports_of t e)) (reached-settings s e) (entry_lines t e))
-    (subst (λ (k : Settings). HasLineEach k.mode (lines_from (next s e) es) (reports_from (next s e) es)) (next-settings s e) (all_lines (next s e) es))
+    (subst (λ (k : Settings). HasLineEach k.mode (lines_from (after_entry s e) es) (reports_from (after_entry s e) es)) (next-settings s e) (all_lines (after_entry s e) es))
 
 -- blocks
 
@@ -339,6 +339,6 @@ pub all_blocks : (s : State) (es : List Entry) → HasBlockEach (mode_of s) (blo
 all_blocks s [] = no_block (mode_of s) [] refl
 all_blocks s (e ∷ es) =
     let t = reached s e in
-    join_blocks (mode_of s) (block_of t e) (blocks_from (next s e) es) (reports_of t e) (reports_from (next s e) es) (outputs_of t e) (outputs_from (next s e) es)
+    join_blocks (mode_of s) (block_of t e) (blocks_from (after_entry s e) es) (reports_of t e) (reports_from (after_entry s e) es) (outputs_of t e) (outputs_from (after_entry s e) es)
     (subst (λ (k : Settings). HasBlockEach k.mode (block_of t e) (reports_of t e) (outputs_of t e)) (reached-settings s e) (entry_blocks t e))
-    (subst (λ (k : Settings). HasBlockEach k.mode (blocks_from (next s e) es) (reports_from (next s e) es) (outputs_from (next s e) es)) (next-settings s e) (all_blocks (next s e) es))
+    (subst (λ (k : Settings). HasBlockEach k.mode (blocks_from (after_entry s e) es) (reports_from (after_entry s e) es) (outputs_from (after_entry s e) es)) (next-settings s e) (all_blocks (after_entry s e) es))

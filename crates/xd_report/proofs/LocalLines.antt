@@ -15,7 +15,7 @@ use Rattle.xd_ledger.specs.Table.{joined}
 use Rattle.xd_ledger.specs.Plan.{is_each}
 use Rattle.xd_ledger.specs.Workers.{made_collected, slot_of}
 use Rattle.xd_ledger.specs.Collecting.{after_collected}
-use Rattle.xd_ledger.specs.State.{all_moved, next, no_one, settled}
+use Rattle.xd_ledger.specs.State.{after_entries, after_entry, no_one, settled}
 use Rattle.xd_report.specs.Lines.{collected_line, lines_from, result_line, run_lines, tests_line}
 use Rattle.xd_report.specs.LocalLines.{test_lines}
 use Rattle.xd_report.specs.Tests.{id_of, mode_of}
@@ -30,7 +30,7 @@ shares : (b : Bool) (settings : Settings) (ids : List (List ℕ)) (s : State) �
 shares true settings ids s l = record { set = l.set; listed = l.listed }
 shares false settings ids s l = l
 
-ran : (settings : Settings) (ids : List (List ℕ)) (s : State) (test : ℕ) (r : TestResult) → Lists settings ids s → Lists settings ids (all_moved s (round test r))
+ran : (settings : Settings) (ids : List (List ℕ)) (s : State) (test : ℕ) (r : TestResult) → Lists settings ids s → Lists settings ids (after_entries s (round test r))
 ran settings ids s test r l = record { set = l.set; listed = l.listed }
 
 -- the id of a test by its number
@@ -44,7 +44,7 @@ named settings ids s test local l =
 line-of : (settings : Settings) (ids : List (List ℕ)) (s : State) (test : ℕ) (r : TestResult) → settings.mode ≡ Local → Lists settings ids s
     → lines_from s (round test r) ≡ result_line Local 0 r.outcome (slice_index_or ids test []) ++ []
 line-of settings ids s test r local l =
-    let t = settled (next s (Run 0 (test ∷ []))) in
+    let t = settled (after_entry s (Run 0 (test ∷ []))) in
     let there : Lists settings ids t = record { set = l.set; listed = l.listed } in
     let mode : mode_of t ≡ Local = ap (λ (x : Settings). x.mode) l.set ∙ local in
     ap₂ (λ (m : ModeKind) (id : List ℕ). result_line m 0 r.outcome id ++ []) mode (named settings ids t test local there)
@@ -60,8 +60,8 @@ lines-of-rounds settings ids s test [] local few l = sym (named-none (drop test 
 lines-of-rounds settings ids s test (r ∷ rs) local few l =
     let one : lines_from s (round test r) ≡ result_line Local 0 r.outcome (slice_index_or ids test []) =
     line-of settings ids s test r local l ∙ append-nil (result_line Local 0 r.outcome (slice_index_or ids test [])) in
-    let rest : lines_from (all_moved s (round test r)) (rounds (test + 1) rs) ≡ test_lines (drop (test + 1) ids) rs =
-    lines-of-rounds settings ids (all_moved s (round test r)) (test + 1) rs local (omega (few, arith)) (ran settings ids s test r l) in
+    let rest : lines_from (after_entries s (round test r)) (rounds (test + 1) rs) ≡ test_lines (drop (test + 1) ids) rs =
+    lines-of-rounds settings ids (after_entries s (round test r)) (test + 1) rs local (omega (few, arith)) (ran settings ids s test r l) in
     lines-more s (round test r) (rounds (test + 1) rs)
     ∙ ap₂ (λ (x y : List ℕ). x ++ y) one rest
     ∙ sym (ap (λ (x : List (List ℕ)). test_lines x (r ∷ rs)) (drop_more ids test [] (omega (few, arith))))

@@ -18,7 +18,7 @@ use Rattle.xd_ledger.specs.Reports.{Report, Result, Crash, reports, reports_from
 use Rattle.xd_ledger.specs.Retry.{is_retry}
 use Rattle.xd_ledger.specs.Sharing.{State, ids_at, in_books, is_full, shared_now}
 use Rattle.xd_ledger.specs.Collecting.{after_collected, collecting}
-use Rattle.xd_ledger.specs.State.{all_moved, is_input, moved, next, no_one, reached, settled}
+use Rattle.xd_ledger.specs.State.{after_entries, is_input, after_effect, after_entry, no_one, reached, settled}
 use Rattle.xd_ledger.specs.Stops.{stopped_by}
 use Rattle.xd_ledger.specs.Table.{crash_item, held, joined, retried_item}
 use Rattle.xd_ledger.specs.Workers.{is_shut, made_collected, slot_of}
@@ -82,7 +82,7 @@ Right name s _ = Unit {0}
 -- each of these entries does
 abbrev pub AllRight : (Report → List ℕ) → State → List Entry → Type 0
 AllRight name s [] = Unit {0}
-AllRight name s (e ∷ es) = Right name (reached s e) e × AllRight name (next s e) es
+AllRight name s (e ∷ es) = Right name (reached s e) e × AllRight name (after_entry s e) es
 
 one-item : (slot i : ℕ) (p : Plan) → (item : ℕ) × (items_named slot (i ∷ []) p ≡ item ∷ [])
 one-item slot i p = by (is_each p.mode)
@@ -128,9 +128,9 @@ module _ (name : Report → List ℕ) where
   lines-by settings s [] set right = none name settings.mode
   lines-by settings s (e ∷ es) set right =
       let t = reached s e in
-      both name settings.mode (lines_of t e) (lines_from (next s e) es) (reports_of t e) (reports_from (next s e) es)
+      both name settings.mode (lines_of t e) (lines_from (after_entry s e) es) (reports_of t e) (reports_from (after_entry s e) es)
       (subst (λ (k : Settings). HasNamedLineEach name k.mode (lines_of t e) (reports_of t e)) (reached-settings (is_input e) s ∙ set) (entry_named t e right.0))
-      (lines-by settings (next s e) es (next-settings s e ∙ set) right.1)
+      (lines-by settings (after_entry s e) es (next-settings s e ∙ set) right.1)
 
 -- entries without a report that try no test again have no line with an id
 
@@ -167,9 +167,9 @@ quiet-all : (name : Report → List ℕ) (s : State) (es : List Entry) → repor
 quiet-all name s [] no_report no_retry = tt
 quiet-all name s (e ∷ es) no_report no_retry =
     let t = reached s e in
-    let first = both-none (reports_of t e) (reports_from (next s e) es) no_report in
-    let again = both-none (retried_of t e) (retried_from (next s e) es) no_retry in
-    (quiet name t e first.0 again.0, quiet-all name (next s e) es first.1 again.1)
+    let first = both-none (reports_of t e) (reports_from (after_entry s e) es) no_report in
+    let again = both-none (retried_of t e) (retried_from (after_entry s e) es) no_retry in
+    (quiet name t e first.0 again.0, quiet-all name (after_entry s e) es first.1 again.1)
 
 -- a run whose first collection this is, in no mode each
 record Listing (settings : Settings) (first : Listed) (s : State) : Type 0 where
@@ -207,7 +207,7 @@ module _ (settings : Settings) (first : Listed) (one_list : is_each settings.mod
       keeps-either (is_shut w s.books) s (if is_full t.books then shared_now t else t) l
       (keeps-either (is_full t.books) (shared_now t) t (record { set = l.set; planned = l.planned; first_is = l.first_is }) there)
 
-  moves : (s : State) (e : Entry) → Listing settings first s → Listing settings first (moved s e)
+  moves : (s : State) (e : Entry) → Listing settings first s → Listing settings first (after_effect s e)
   moves s (Collected w given) l =
       collecting-keeps w (unequal w given (listed w s.books)) (in_books (λ b. marked (made_collected w) (with_list w given b)) s) (listed-more w given s l)
   moves s (Done w i outcome ms out) l = record { set = l.set; planned = l.planned; first_is = l.first_is }
@@ -265,7 +265,7 @@ module _ (settings : Settings) (first : Listed) (one_list : is_each settings.mod
 
   all-right : (s : State) (es : List Entry) → Listing settings first s → AllRight in_first s es
   all-right s [] l = tt
-  all-right s (e ∷ es) l = (let there = settles s e l in (entry-right (reached s e) e there, all-right (next s e) es (moves (reached s e) e there)))
+  all-right s (e ∷ es) l = (let there = settles s e l in (entry-right (reached s e) e there, all-right (after_entry s e) es (moves (reached s e) e there)))
 
 -- blocks
 
@@ -337,26 +337,26 @@ module _ (name : Report → List ℕ) where
   blocks-by settings s [] set right = no_block name settings.mode [] refl
   blocks-by settings s (e ∷ es) set right =
       let t = reached s e in
-      both_blocks name settings.mode (block_of t e) (blocks_from (next s e) es) (reports_of t e) (reports_from (next s e) es) (outputs_of t e) (outputs_from (next s e) es)
+      both_blocks name settings.mode (block_of t e) (blocks_from (after_entry s e) es) (reports_of t e) (reports_from (after_entry s e) es) (outputs_of t e) (outputs_from (after_entry s e) es)
       (subst (λ (k : Settings). HasNamedBlockEach name k.mode (block_of t e) (reports_of t e) (outputs_of t e)) (reached-settings (is_input e) s ∙ set) (entry_block t e right.0))
-      (blocks-by settings (next s e) es (next-settings s e ∙ set) right.1)
+      (blocks-by settings (after_entry s e) es (next-settings s e ∙ set) right.1)
 
 -- where no report is, no block is
 no-names : (name : Report → List ℕ) (bs : List Block) → map (λ b. b.report) bs ≡ [] → NamesBlocks name bs
 no-names name [] e = tt
 no-names name (b ∷ bs) e = absurd (cc)
 
-reports-more : (s : State) (es more : List Entry) → reports_from s (es ++ more) ≡ reports_from s es ++ reports_from (all_moved s es) more
+reports-more : (s : State) (es more : List Entry) → reports_from s (es ++ more) ≡ reports_from s es ++ reports_from (after_entries s es) more
 reports-more s [] more = refl
 reports-more s (e ∷ es) more =
-    ap (λ (rs : List Report). reports_of (reached s e) e ++ rs) (reports-more (next s e) es more)
-    ∙ sym (append_assoc (reports_of (reached s e) e) (reports_from (next s e) es) (reports_from (all_moved (next s e) es) more))
+    ap (λ (rs : List Report). reports_of (reached s e) e ++ rs) (reports-more (after_entry s e) es more)
+    ∙ sym (append_assoc (reports_of (reached s e) e) (reports_from (after_entry s e) es) (reports_from (after_entries (after_entry s e) es) more))
 
-outputs-more : (s : State) (es more : List Entry) → outputs_from s (es ++ more) ≡ outputs_from s es ++ outputs_from (all_moved s es) more
+outputs-more : (s : State) (es more : List Entry) → outputs_from s (es ++ more) ≡ outputs_from s es ++ outputs_from (after_entries s es) more
 outputs-more s [] more = refl
 outputs-more s (e ∷ es) more =
-    ap (λ (os : List (List ℕ)). outputs_of (reached s e) e ++ os) (outputs-more (next s e) es more)
-    ∙ sym (append_assoc (outputs_of (reached s e) e) (outputs_from (next s e) es) (outputs_from (all_moved (next s e) es) more))
+    ap (λ (os : List (List ℕ)). outputs_of (reached s e) e ++ os) (outputs-more (after_entry s e) es more)
+    ∙ sym (append_assoc (outputs_of (reached s e) e) (outputs_from (after_entry s e) es) (outputs_from (after_entries (after_entry s e) es) more))
 
 -- the mode of the plan stays
 
@@ -370,34 +370,34 @@ collecting-plan w None s =
     let t = in_books (on_table (joined w)) s in
     plan-either (is_shut w s.books) s (if is_full t.books then shared_now t else t) s.plan.mode refl (plan-either (is_full t.books) (shared_now t) t s.plan.mode refl refl)
 
-moved-plan : (s : State) (e : Entry) → (moved s e).plan.mode ≡ s.plan.mode
-moved-plan s (Collected w given) = collecting-plan w (unequal w given (listed w s.books)) (in_books (λ b. marked (made_collected w) (with_list w given b)) s)
-moved-plan s (Done w i outcome ms out) = refl
-moved-plan s (Down w cause out) = refl
-moved-plan s (Ready w) = refl
-moved-plan s (Back w is) = refl
-moved-plan s (Finished w) = refl
-moved-plan s (Refused w text) = refl
-moved-plan s (NotStarted w) = refl
-moved-plan s (Start w slot) = refl
-moved-plan s (Run w is) = refl
-moved-plan s (RunAll w) = refl
-moved-plan s (Steal w is) = refl
-moved-plan s (Shutdown w) = refl
-moved-plan s (Kill w) = refl
-moved-plan s (Over how) = refl
+after_effect-plan : (s : State) (e : Entry) → (after_effect s e).plan.mode ≡ s.plan.mode
+after_effect-plan s (Collected w given) = collecting-plan w (unequal w given (listed w s.books)) (in_books (λ b. marked (made_collected w) (with_list w given b)) s)
+after_effect-plan s (Done w i outcome ms out) = refl
+after_effect-plan s (Down w cause out) = refl
+after_effect-plan s (Ready w) = refl
+after_effect-plan s (Back w is) = refl
+after_effect-plan s (Finished w) = refl
+after_effect-plan s (Refused w text) = refl
+after_effect-plan s (NotStarted w) = refl
+after_effect-plan s (Start w slot) = refl
+after_effect-plan s (Run w is) = refl
+after_effect-plan s (RunAll w) = refl
+after_effect-plan s (Steal w is) = refl
+after_effect-plan s (Shutdown w) = refl
+after_effect-plan s (Kill w) = refl
+after_effect-plan s (Over how) = refl
 
-plan-kept : (s : State) (es : List Entry) → (all_moved s es).plan.mode ≡ s.plan.mode
+plan-kept : (s : State) (es : List Entry) → (after_entries s es).plan.mode ≡ s.plan.mode
 plan-kept s [] = refl
 plan-kept s (e ∷ es) =
-    plan-kept (next s e) es ∙ moved-plan (reached s e) e ∙ plan-either (is_input e) (settled s) s s.plan.mode refl refl
+    plan-kept (after_entry s e) es ∙ after_effect-plan (reached s e) e ∙ plan-either (is_input e) (settled s) s s.plan.mode refl refl
 
-settings-kept : (s : State) (es : List Entry) → (all_moved s es).books.settings ≡ s.books.settings
+settings-kept : (s : State) (es : List Entry) → (after_entries s es).books.settings ≡ s.books.settings
 settings-kept s [] = refl
-settings-kept s (e ∷ es) = settings-kept (next s e) es ∙ next-settings s e
+settings-kept s (e ∷ es) = settings-kept (after_entry s e) es ∙ next-settings s e
 
 -- the state behind the first collection
-behind : (settings : Settings) (before : List Entry) (first : Listed) → listed_in 0 (all_moved (no_one settings) before).books.lists ≡ Some first → Listing settings first (all_moved (no_one settings) before)
+behind : (settings : Settings) (before : List Entry) (first : Listed) → listed_in 0 (after_entries (no_one settings) before).books.lists ≡ Some first → Listing settings first (after_entries (no_one settings) before)
 behind settings before first first_is = record {
   set = settings-kept (no_one settings) before;
   planned = plan-kept (no_one settings) before;
@@ -405,10 +405,10 @@ behind settings before first first_is = record {
 }
 
 pub lines-named : (settings : Settings) (before more : List Entry) (first : Listed) → is_each settings.mode ≡ false → reports settings before ≡ [] → retried settings before ≡ []
-    → listed_in 0 (all_moved (no_one settings) before).books.lists ≡ Some first
+    → listed_in 0 (after_entries (no_one settings) before).books.lists ≡ Some first
     → HasNamedLineEach (id_in first.ids) settings.mode (run_lines settings (before ++ more)) (reports settings (before ++ more))
 lines-named settings before more first one_list no_report no_retry first_is =
-    let s = all_moved (no_one settings) before in
+    let s = after_entries (no_one settings) before in
     let l = behind settings before first first_is in
     let x = lines-by (id_in first.ids) settings (no_one settings) before refl (quiet-all (id_in first.ids) (no_one settings) before no_report no_retry) in
     let y = lines-by (id_in first.ids) settings s more l.set (all-right settings first one_list s more l) in
@@ -417,10 +417,10 @@ lines-named settings before more first one_list no_report no_retry first_is =
     (subst (λ (rs : List Report). HasNamedLineEach (id_in first.ids) settings.mode (run_lines settings before ++ lines_from s more) rs) (sym (reports-more (no_one settings) before more)) joined_up)
 
 pub blocks-named : (settings : Settings) (before more : List Entry) (first : Listed) → is_each settings.mode ≡ false → reports settings before ≡ []
-    → listed_in 0 (all_moved (no_one settings) before).books.lists ≡ Some first
+    → listed_in 0 (after_entries (no_one settings) before).books.lists ≡ Some first
     → HasNamedBlockEach (id_in first.ids) settings.mode (blocks_from (no_one settings) (before ++ more)) (reports settings (before ++ more)) (kept_outputs settings (before ++ more))
 blocks-named settings before more first one_list no_report first_is =
-    let s = all_moved (no_one settings) before in
+    let s = after_entries (no_one settings) before in
     let l = behind settings before first first_is in
     let ahead = all_blocks (no_one settings) before in
     let x : HasNamedBlockEach (id_in first.ids) settings.mode (blocks_from (no_one settings) before) (reports settings before) (kept_outputs settings before) =

@@ -10,10 +10,10 @@ use Rattle.xd_journal.specs.declared.entry.Entry.TheVariants.{Ready, Collected, 
 use Rattle.xd_journal.specs.declared.entry.Ids.{Ids}
 use Rattle.xd_ledger.specs.Sharing.{State}
 use Rattle.xd_ledger.specs.Collecting.{after_collected}
-use Rattle.xd_ledger.specs.State.{all_moved, next, no_one, reached, settled, state_at}
+use Rattle.xd_ledger.specs.State.{after_entries, after_entry, no_one, reached, settled, state_at}
 use Rattle.xd_report.specs.declared.counts.Counts.{Counts}
 use Rattle.xd_report.specs.Blocks.{block_of, blocks_from}
-use Rattle.xd_report.specs.Lines.{collected_line, lines_from, lines_of, run_lines, told}
+use Rattle.xd_report.specs.Lines.{collected_line, lines_from, lines_of, run_lines, lines_told}
 use Rattle.xd_report.specs.StopLine.{line_of_stop, refusal, refused_line}
 use Rattle.xd_report.specs.Summary.{counted, counted_from, counts, summary_text}
 use Rattle.xd_report.specs.Text.{run_text}
@@ -23,23 +23,23 @@ pub three_more : (before a b c x y z : List ℕ) → x ≡ before ++ a → y ≡
 three_more before a b c x y z first second third =
     third ∙ ap (λ (l : List ℕ). l ++ c) (second ∙ ap (λ (l : List ℕ). l ++ b) first) ∙ append_assoc (before ++ a) b c ∙ append_assoc before a (b ++ c)
 
-pub lines-more : (s : State) (es more : List Entry) → lines_from s (es ++ more) ≡ lines_from s es ++ lines_from (all_moved s es) more
+pub lines-more : (s : State) (es more : List Entry) → lines_from s (es ++ more) ≡ lines_from s es ++ lines_from (after_entries s es) more
 lines-more s [] more = refl
 lines-more s (e ∷ es) more =
-    ap (λ (xs : List ℕ). lines_of (reached s e) e ++ xs) (lines-more (next s e) es more) ∙ sym (append_assoc (lines_of (reached s e) e) (lines_from (next s e) es) (lines_from (all_moved (next s e) es) more))
+    ap (λ (xs : List ℕ). lines_of (reached s e) e ++ xs) (lines-more (after_entry s e) es more) ∙ sym (append_assoc (lines_of (reached s e) e) (lines_from (after_entry s e) es) (lines_from (after_entries (after_entry s e) es) more))
 
-pub blocks-more : (s : State) (es more : List Entry) → blocks_from s (es ++ more) ≡ blocks_from s es ++ blocks_from (all_moved s es) more
+pub blocks-more : (s : State) (es more : List Entry) → blocks_from s (es ++ more) ≡ blocks_from s es ++ blocks_from (after_entries s es) more
 blocks-more s [] more = refl
 blocks-more s (e ∷ es) more =
-    ap (λ (xs : List ℕ). block_of (reached s e) e ++ xs) (blocks-more (next s e) es more) ∙ sym (append_assoc (block_of (reached s e) e) (blocks_from (next s e) es) (blocks_from (all_moved (next s e) es) more))
+    ap (λ (xs : List ℕ). block_of (reached s e) e ++ xs) (blocks-more (after_entry s e) es more) ∙ sym (append_assoc (block_of (reached s e) e) (blocks_from (after_entry s e) es) (blocks_from (after_entries (after_entry s e) es) more))
 
-pub counted-more : (s : State) (es more : List Entry) (n : Counts) → counted_from s (es ++ more) n ≡ counted_from (all_moved s es) more (counted_from s es n)
+pub counted-more : (s : State) (es more : List Entry) (n : Counts) → counted_from s (es ++ more) n ≡ counted_from (after_entries s es) more (counted_from s es n)
 counted-more s [] more n = refl
-counted-more s (e ∷ es) more n = counted-more (next s e) es more (counted (reached s e) e n)
+counted-more s (e ∷ es) more n = counted-more (after_entry s e) es more (counted (reached s e) e n)
 
-pub moved-more : (s : State) (es more : List Entry) → all_moved s (es ++ more) ≡ all_moved (all_moved s es) more
-moved-more s [] more = refl
-moved-more s (e ∷ es) more = moved-more (next s e) es more
+pub after_effect-more : (s : State) (es more : List Entry) → after_entries s (es ++ more) ≡ after_entries (after_entries s es) more
+after_effect-more s [] more = refl
+after_effect-more s (e ∷ es) more = after_effect-more (after_entry s e) es more
 
 -- one entry more
 module _ (s : State) (es : List Entry) (i : ℕ) (e : Entry) (within : i < length es) (at : e ≡ get_or es i e) where
@@ -47,10 +47,10 @@ module _ (s : State) (es : List Entry) (i : ℕ) (e : Entry) (within : i < lengt
   one_more = take_more es i e within ∙ ap (λ (x : Entry). take i es ++ x ∷ []) (sym at)
 
   abbrev before : State
-  before = all_moved s (take i es)
+  before = after_entries s (take i es)
 
-  pub moved-step : all_moved s (take (i + 1) es) ≡ next before e
-  moved-step = ap (all_moved s) one_more ∙ moved-more s (take i es) (e ∷ [])
+  pub after_effect-step : after_entries s (take (i + 1) es) ≡ after_entry before e
+  after_effect-step = ap (after_entries s) one_more ∙ after_effect-more s (take i es) (e ∷ [])
 
   pub lines-step : lines_from s (take (i + 1) es) ≡ lines_from s (take i es) ++ lines_of (reached before e) e
   lines-step =
@@ -68,7 +68,7 @@ module _ (s : State) (es : List Entry) (i : ℕ) (e : Entry) (within : i < lengt
 -- the line of a collection comes behind it
 module _ (s : State) (was : Bool) (out0 out1 out2 : List ℕ) (shared : s.books.shared ≡ was) where
   abbrev pub Tells : Entry → Type 0
-  Tells e = out1 ≡ out0 ++ told (reached s e) e → out2 ≡ out1 ++ collected_line was (next s e) → out2 ≡ out0 ++ lines_of (reached s e) e
+  Tells e = out1 ≡ out0 ++ lines_told (reached s e) e → out2 ≡ out1 ++ collected_line was (after_entry s e) → out2 ≡ out0 ++ lines_of (reached s e) e
 
   pub collected-tells : (w : ℕ) (ids : Ids) → Tells (Collected w ids)
   collected-tells w ids first second =
@@ -118,7 +118,7 @@ module _ (how : RunStop) where
 
     stopped-same : line_of_stop settings.mode (es ++ Over how ∷ []) (state_at settings (es ++ Over how ∷ [])).books.stop ≡ line_of_stop settings.mode es (state_at settings es).books.stop
     stopped-same =
-        ap (λ (t : State). line_of_stop settings.mode (es ++ Over how ∷ []) t.books.stop) (moved-more (no_one settings) es (Over how ∷ []))
+        ap (λ (t : State). line_of_stop settings.mode (es ++ Over how ∷ []) t.books.stop) (after_effect-more (no_one settings) es (Over how ∷ []))
         ∙ stop-same settings.mode es (state_at settings es).books.stop
 
     pub over-same : run_text settings (es ++ Over how ∷ []) ≡ run_text settings es

@@ -9,7 +9,7 @@ use Rattle.xd_journal.specs.declared.entry.Entry.TheVariants.{Done, Down}
 use Rattle.xd_journal.specs.declared.entry.Outcome.TheVariants.{Failed}
 use Rattle.xd_journal.specs.declared.journal.Journal.{Journal}
 use Rattle.xd_ledger.specs.Sharing.{State}
-use Rattle.xd_ledger.specs.State.{reached, next, all_moved, no_one}
+use Rattle.xd_ledger.specs.State.{reached, after_entry, after_entries, no_one}
 use Rattle.xd_report.specs.Names.{name, tag, plain}
 use Rattle.xd_report.specs.Tests.{mode_of, id_of, crash_of, item_id}
 
@@ -70,16 +70,16 @@ is_failed_report s _ = false
 -- the blocks of these entries after a state
 abbrev pub blocks_from : State → List Entry → List ℕ
 blocks_from s [] = []
-blocks_from s (e ∷ es) = block_of (reached s e) e ++ blocks_from (next s e) es
+blocks_from s (e ∷ es) = block_of (reached s e) e ++ blocks_from (after_entry s e) es
 
 -- the state after the entries before a place
-abbrev pub ahead : Journal → ℕ → State
-ahead j at = all_moved (no_one j.settings) (take at j.entries.items)
+abbrev pub state_before : Journal → ℕ → State
+state_before j at = after_entries (no_one j.settings) (take at j.entries.items)
 
 -- The entry at a place is a failed report.
 abbrev pub IsFailedAt : Journal → ℕ → Type 0
-IsFailedAt j at = HoldsAt (λ e. is_failed_report (ahead j at) e ≡ true) j.entries.items at
+IsFailedAt j at = HoldsAt (λ e. is_failed_report (state_before j at) e ≡ true) j.entries.items at
 
 -- This is the block of the entry at a place.
 abbrev pub IsBlockAt : Journal → ℕ → List ℕ → Type 0
-IsBlockAt j at text = HoldsAt (λ e. block_of (ahead j at) e ≡ text) j.entries.items at
+IsBlockAt j at text = HoldsAt (λ e. block_of (state_before j at) e ≡ text) j.entries.items at

@@ -8,10 +8,10 @@ use Rattle.xd_journal.specs.declared.entry.Entry.TheVariants.{Done, Down}
 use Rattle.xd_journal.specs.declared.entry.Outcome.TheVariants.{Passed, Skipped, Failed}
 use Rattle.xd_journal.specs.declared.settings.Settings.{Settings}
 use Rattle.xd_journal.specs.declared.journal.Journal.{Journal}
-use Rattle.xd_ledger.specs.Reports.{Report, Result, Crash, collected_in, item_of, reports_in}
+use Rattle.xd_ledger.specs.Reports.{Report, Result, Crash, collected_ids, item_of, reports_in}
 use Rattle.xd_ledger.specs.Retry.{is_retry}
 use Rattle.xd_ledger.specs.Sharing.{State}
-use Rattle.xd_ledger.specs.State.{next, no_one, reached}
+use Rattle.xd_ledger.specs.State.{after_entry, no_one, reached}
 use Rattle.xd_ledger.specs.Table.{crash_item, held, retried_item}
 use Rattle.xd_report.specs.declared.counts.Counts.{Counts}
 use Rattle.xd_report.specs.Blocks.{block, blocks_from, crash_reason, reason_of}
@@ -69,7 +69,7 @@ retried_of s _ = []
 -- the items that are tried again by these entries after a state, in order
 abbrev pub retried_from : State → List Entry → List ℕ
 retried_from s [] = []
-retried_from s (e ∷ es) = retried_of (reached s e) e ++ retried_from (next s e) es
+retried_from s (e ∷ es) = retried_of (reached s e) e ++ retried_from (after_entry s e) es
 
 -- the items that are tried again by the entries of a run, in order
 abbrev pub retried : Settings → List Entry → List ℕ
@@ -142,7 +142,7 @@ outputs_of s _ = []
 -- what the failed reports of these entries after a state keep of their outputs, in order
 abbrev pub outputs_from : State → List Entry → List (List ℕ)
 outputs_from s [] = []
-outputs_from s (e ∷ es) = outputs_of (reached s e) e ++ outputs_from (next s e) es
+outputs_from s (e ∷ es) = outputs_of (reached s e) e ++ outputs_from (after_entry s e) es
 
 -- the outputs that the failed reports of a run keep, in order
 abbrev pub kept_outputs : Settings → List Entry → List (List ℕ)
@@ -168,11 +168,11 @@ pub record HasNamedBlockEach (name : Report → List ℕ) (mode : ModeKind) (tex
 -- In the text of this journal the line of each report and of each test that is tried again, and the block of each failed
 -- report, gives the id of its test among those that were collected.
 pub record NamesTests (j : Journal) : Type 0 where
-  pub lines : HasNamedLineEach (id_in (collected_in j)) j.settings.mode (run_lines j.settings j.entries.items) (reports_in j)
-  pub blocks : HasNamedBlockEach (id_in (collected_in j)) j.settings.mode (blocks_from (no_one j.settings) j.entries.items) (reports_in j) (kept_outputs j.settings j.entries.items)
+  pub lines : HasNamedLineEach (id_in (collected_ids j)) j.settings.mode (run_lines j.settings j.entries.items) (reports_in j)
+  pub blocks : HasNamedBlockEach (id_in (collected_ids j)) j.settings.mode (blocks_from (no_one j.settings) j.entries.items) (reports_in j) (kept_outputs j.settings j.entries.items)
 
 -- The counts are how many of these reports are of each kind, and each report is of one.
-pub record Counted (n : Counts) (rs : List Report) : Type 0 where
+pub record CountsReports (n : Counts) (rs : List Report) : Type 0 where
   pub failed : n.failed ≡ length (filter is_failure rs)
   pub passed : n.passed ≡ length (filter is_passed rs)
   pub skipped : n.skipped ≡ length (filter is_skipped rs)

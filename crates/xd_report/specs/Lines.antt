@@ -13,7 +13,7 @@ use Rattle.xd_ledger.specs.declared.member.Member.{Member}
 use Rattle.xd_ledger.specs.Retry.{is_retry}
 use Rattle.xd_ledger.specs.Sharing.{State}
 use Rattle.xd_ledger.specs.Collecting.{after_collected}
-use Rattle.xd_ledger.specs.State.{reached, next, all_moved, no_one}
+use Rattle.xd_ledger.specs.State.{reached, after_entry, after_entries, no_one}
 use Rattle.xd_report.specs.Names.{name, tag, plain, outcome_text, lost_text, mode_text, cause_text}
 use Rattle.xd_report.specs.Tests.{mode_of, id_of, head, item_id, tests}
 
@@ -44,8 +44,8 @@ abbrev pub lost_line : Bool → ModeKind → ℕ → List ℕ → List ℕ
 lost_line retry mode worker id = tag mode worker ++ (lost_text retry ++ (plain id ++ 10 ∷ []))
 
 -- the line of the test at the worker's head, where it goes down with one
-abbrev pub lost : ℕ → State → List ℕ
-lost worker s = elim (head worker s) [ None ↦ [] | Some item ↦ lost_line (is_retry worker s.books) (mode_of s) worker (item_id worker item s) ]
+abbrev pub lost_head_line : ℕ → State → List ℕ
+lost_head_line worker s = elim (head worker s) [ None ↦ [] | Some item ↦ lost_line (is_retry worker s.books) (mode_of s) worker (item_id worker item s) ]
 
 -- the last worker of the slot so far
 abbrev pub last_of_slot : ℕ → List Member → Option ℕ → Option ℕ
@@ -58,22 +58,22 @@ replacing mode None = []
 replacing mode (Some old) = codes "replacing crashed worker " ++ (name mode old ++ 10 ∷ [])
 
 -- the lines of an entry that the state before it tells
-abbrev pub told : State → Entry → List ℕ
-told s (Done worker index outcome ms output) = result_line (mode_of s) worker outcome (id_of worker index s)
-told s (Down worker cause output) = down_line (mode_of s) worker (cause_text cause) ++ lost worker s
-told s (NotStarted worker) = down_line (mode_of s) worker (codes "not started")
-told s (Start worker slot) = replacing (mode_of s) (last_of_slot slot s.books.crew None)
-told s _ = []
+abbrev pub lines_told : State → Entry → List ℕ
+lines_told s (Done worker index outcome ms output) = result_line (mode_of s) worker outcome (id_of worker index s)
+lines_told s (Down worker cause output) = down_line (mode_of s) worker (cause_text cause) ++ lost_head_line worker s
+lines_told s (NotStarted worker) = down_line (mode_of s) worker (codes "not started")
+lines_told s (Start worker slot) = replacing (mode_of s) (last_of_slot slot s.books.crew None)
+lines_told s _ = []
 
 -- the lines of one entry after the state s
 abbrev pub lines_of : State → Entry → List ℕ
 lines_of s (Collected worker given) = collected_line s.books.shared (after_collected worker given s)
-lines_of s e = told s e
+lines_of s e = lines_told s e
 
 -- the lines of these entries after a state
 abbrev pub lines_from : State → List Entry → List ℕ
 lines_from s [] = []
-lines_from s (e ∷ es) = lines_of (reached s e) e ++ lines_from (next s e) es
+lines_from s (e ∷ es) = lines_of (reached s e) e ++ lines_from (after_entry s e) es
 
 -- the lines of these entries, the first ones of a run
 abbrev pub run_lines : Settings → List Entry → List ℕ
@@ -81,4 +81,4 @@ run_lines settings entries = lines_from (no_one settings) entries
 
 -- the lines of the entries from one place up to another
 abbrev pub lines_between : Journal → ℕ → ℕ → List ℕ
-lines_between j from to = lines_from (all_moved (no_one j.settings) (take from j.entries.items)) (take (to - from) (drop from j.entries.items))
+lines_between j from to = lines_from (after_entries (no_one j.settings) (take from j.entries.items)) (take (to - from) (drop from j.entries.items))

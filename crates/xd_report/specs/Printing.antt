@@ -6,10 +6,10 @@ use Rattle.xd_report.specs.declared.printing.PrintFault.{PrintFault}
 use Rattle.xd_report.specs.declared.printing.PrintFault.TheVariants.{Failed, OutOfMemory}
 
 -- Where memory was not refused, this holds of whether all was printed.
-abbrev pub Ends : {A : Type 0} → Result A PrintFault → (Bool → Type 0) → Type 0
-Ends (Ok x) P = P true
-Ends (Err Failed) P = P false
-Ends (Err OutOfMemory) P = ⊤
+abbrev pub OnPrinted : {A : Type 0} → Result A PrintFault → (Bool → Type 0) → Type 0
+OnPrinted (Ok x) P = P true
+OnPrinted (Err Failed) P = P false
+OnPrinted (Err OutOfMemory) P = ⊤
 
 -- what says that all was printed, or that it failed
 abbrev pub printed_as : Bool → Result ⊤ PrintFault

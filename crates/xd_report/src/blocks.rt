@@ -3,7 +3,7 @@ ghost use Rattle.std.specs.Prelude.{◌≡◌, ◌<◌, ◌++◌, length, IfOk, 
 ghost use Rattle.xd_ledger.specs.Sharing.{State};
 ghost use Rattle.std.specs.List.{HoldsAt};
 ghost use Rattle.std.specs.Str.{chars};
-ghost use Rattle.xd_report.specs.Blocks.{block, block_of, count_line, crash_block, crash_reason, heading_line, ahead, is_failed_report, line_end, output_text, reason_of, IsBlockAt, IsFailedAt};
+ghost use Rattle.xd_report.specs.Blocks.{block, block_of, count_line, crash_block, crash_reason, heading_line, state_before, is_failed_report, line_end, output_text, reason_of, IsBlockAt, IsFailedAt};
 ghost use Rattle.xd_report.specs.Follows.{Follows};
 ghost use Rattle.xd_report.specs.Tests.{mode_of};
 
@@ -32,7 +32,7 @@ pub fn failure_block(alloc: Global, journal: &Journal, at: usize) -> Result<Blob
 pub fn is_failed_at(alloc: Global, journal: &Journal, at: usize) -> Result<bool, OutOfMemory>
     requires { at < length journal.now.entries.items }
     ensures failed { IfOk result (λ failed. failed ≡ true → IsFailedAt journal.now at) }
-    ensures exact { IfOk result (λ failed. HoldsAt (λ e. is_failed_report (ahead journal.now at) e ≡ failed) journal.now.entries.items at) }
+    ensures exact { IfOk result (λ failed. HoldsAt (λ e. is_failed_report (state_before journal.now at) e ≡ failed) journal.now.entries.items at) }
 {
     let mut reporter = Reporter::new(alloc, journal.settings);
     reporter.follow(alloc, &journal.entries[..at])?;

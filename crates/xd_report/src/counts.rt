@@ -1,7 +1,7 @@
 // How many reports there are of each kind.
 ghost use Rattle.std.specs.Prelude.{◌≡◌, OnOk};
 ghost use Rattle.xd_ledger.specs.Sharing.{State};
-ghost use Rattle.xd_ledger.specs.State.{all_moved};
+ghost use Rattle.xd_ledger.specs.State.{after_entries};
 ghost use Rattle.xd_report.specs.Follows.{Follows};
 ghost use Rattle.xd_report.specs.Summary.{counted, counted_from};
 
@@ -67,7 +67,7 @@ impl Reporter {
         entries: &[Entry],
     ) -> Result<(), OutOfMemory>
         ensures counts { (s : State) → Follows self.old s → OnOk result (counts.new ≡ counted_from s entries.now counts.old) }
-        ensures follows { (s : State) → Follows self.old s → OnOk result (Follows self.new (all_moved s entries.now)) }
+        ensures follows { (s : State) → Follows self.old s → OnOk result (Follows self.new (after_entries s entries.now)) }
     {
         for entry in entries {
             self.count(counts, entry)?;

@@ -1,7 +1,7 @@
 // What is printed after the lines of the entries.
 ghost use Rattle.std.specs.Prelude.{◌≡◌, ◌++◌, IfOk, OnOk};
 ghost use Rattle.xd_ledger.specs.Sharing.{State};
-ghost use Rattle.xd_ledger.specs.State.{all_moved};
+ghost use Rattle.xd_ledger.specs.State.{after_entries};
 ghost use Rattle.xd_report.specs.Blocks.{blocks_from};
 ghost use Rattle.xd_report.specs.Follows.{Follows};
 ghost use Rattle.xd_report.specs.Text.{tail_text};
@@ -39,7 +39,7 @@ impl Reporter {
         entries: &[Entry],
     ) -> Result<(), OutOfMemory>
         ensures blocks { (s : State) → Follows self.old s → OnOk result (out.new.items ≡ out.old.items ++ blocks_from s entries.now) }
-        ensures follows { (s : State) → Follows self.old s → OnOk result (Follows self.new (all_moved s entries.now)) }
+        ensures follows { (s : State) → Follows self.old s → OnOk result (Follows self.new (after_entries s entries.now)) }
     {
         for entry in entries {
             self.add_block(alloc, out, entry)?;

@@ -4,7 +4,7 @@ ghost use Rattle.xd_journal.specs.declared.entry.Entry.TheVariants.{Ready, Start
 ghost use Rattle.xd_ledger.specs.Plan.{base};
 ghost use Rattle.xd_ledger.specs.Sharing.{State};
 ghost use Rattle.xd_ledger.specs.Handing.{after_back, after_run, after_run_all};
-ghost use Rattle.xd_ledger.specs.State.{moved};
+ghost use Rattle.xd_ledger.specs.State.{after_effect};
 ghost use Rattle.xd_report.specs.Follows.{Follows};
 ghost use Rattle.xd_report.specs.Tests.{tests};
 
@@ -18,7 +18,7 @@ use xd_ledger::Mark;
 impl Reporter {
     // A worker was started.
     pub(crate) fn start(&mut self, worker: u32, slot: u32) -> Result<(), OutOfMemory>
-        ensures { (s : State) → Follows self.old s → OnOk result (Follows self.new (moved s (Start worker slot))) }
+        ensures { (s : State) → Follows self.old s → OnOk result (Follows self.new (after_effect s (Start worker slot))) }
     {
         self.books.start(worker, slot)?;
         Ok(())
@@ -26,7 +26,7 @@ impl Reporter {
 
     // A worker is there.
     pub(crate) fn ready(&mut self, worker: u32)
-        ensures { (s : State) → Follows self.old s → Follows self.new (moved s (Ready worker)) }
+        ensures { (s : State) → Follows self.old s → Follows self.new (after_effect s (Ready worker)) }
     {
         self.books.mark(worker, Mark::Ready);
     }
@@ -71,7 +71,7 @@ impl Reporter {
 
     // A worker is told to shut down.
     pub(crate) fn tell(&mut self, worker: u32)
-        ensures { (s : State) → Follows self.old s → Follows self.new (moved s (Shutdown worker)) }
+        ensures { (s : State) → Follows self.old s → Follows self.new (after_effect s (Shutdown worker)) }
     {
         self.books.mark(worker, Mark::Shut);
     }

@@ -9,10 +9,10 @@ ghost use Rattle.xd_journal.specs.Local.{TestResult, local_entries};
 ghost use Rattle.xd_ledger.specs.declared.member.Listed.{Listed};
 ghost use Rattle.xd_ledger.specs.Collections.{listed_in};
 ghost use Rattle.xd_ledger.specs.Plan.{is_each};
-ghost use Rattle.xd_ledger.specs.State.{all_moved, no_one};
+ghost use Rattle.xd_ledger.specs.State.{after_entries, no_one};
 ghost use Rattle.xd_ledger.specs.Reports.{reports};
 ghost use Rattle.xd_report.specs.Blocks.{blocks_from};
-ghost use Rattle.xd_report.specs.EachReport.{Counted, HasBlockEach, HasLineEach, HasNamedBlockEach, HasNamedLineEach, id_in, kept_outputs, retried};
+ghost use Rattle.xd_report.specs.EachReport.{CountsReports, HasBlockEach, HasLineEach, HasNamedBlockEach, HasNamedLineEach, id_in, kept_outputs, retried};
 ghost use Rattle.xd_report.specs.Lines.{lines_from, run_lines, tests_line};
 ghost use Rattle.xd_report.specs.LocalLines.{test_lines};
 ghost use Rattle.xd_report.specs.Summary.{counts};
@@ -20,7 +20,7 @@ ghost use Rattle.xd_report.specs.Summary.{counts};
 /// The lines of a journal with workers begin those of each longer one; what follows are the lines of the entries that
 /// were added, after the state that the earlier ones left.
 pub fn lines_law()
-    ensures { (settings : Settings) (entries : List Entry) (more : List Entry) → run_lines settings (entries ++ more) ≡ run_lines settings entries ++ lines_from (all_moved (no_one settings) entries) more }
+    ensures { (settings : Settings) (entries : List Entry) (more : List Entry) → run_lines settings (entries ++ more) ≡ run_lines settings entries ++ lines_from (after_entries (no_one settings) entries) more }
 {}
 
 /// Among the lines of a journal each report has exactly one, in order. The others tell of the run and its workers, in words
@@ -34,8 +34,8 @@ pub fn line_law()
 /// each test that is tried again gives the id that this collection has at the place of the test; and so does the block of
 /// each failed report. In mode each, of which nothing is said, each slot has a collection of its own.
 pub fn id_law()
-    ensures lines { (settings : Settings) (before : List Entry) (more : List Entry) (first : Listed) → is_each settings.mode ≡ false → reports settings before ≡ [] → retried settings before ≡ [] → listed_in 0 (all_moved (no_one settings) before).books.lists ≡ Some first → HasNamedLineEach (id_in first.ids) settings.mode (run_lines settings (before ++ more)) (reports settings (before ++ more)) }
-    ensures blocks { (settings : Settings) (before : List Entry) (more : List Entry) (first : Listed) → is_each settings.mode ≡ false → reports settings before ≡ [] → listed_in 0 (all_moved (no_one settings) before).books.lists ≡ Some first → HasNamedBlockEach (id_in first.ids) settings.mode (blocks_from (no_one settings) (before ++ more)) (reports settings (before ++ more)) (kept_outputs settings (before ++ more)) }
+    ensures lines { (settings : Settings) (before : List Entry) (more : List Entry) (first : Listed) → is_each settings.mode ≡ false → reports settings before ≡ [] → retried settings before ≡ [] → listed_in 0 (after_entries (no_one settings) before).books.lists ≡ Some first → HasNamedLineEach (id_in first.ids) settings.mode (run_lines settings (before ++ more)) (reports settings (before ++ more)) }
+    ensures blocks { (settings : Settings) (before : List Entry) (more : List Entry) (first : Listed) → is_each settings.mode ≡ false → reports settings before ≡ [] → listed_in 0 (after_entries (no_one settings) before).books.lists ≡ Some first → HasNamedBlockEach (id_in first.ids) settings.mode (blocks_from (no_one settings) (before ++ more)) (reports settings (before ++ more)) (kept_outputs settings (before ++ more)) }
 {}
 
 /// In a run without workers the lines are how many tests the suite has and, for each result, in order, one with the id of
@@ -52,5 +52,5 @@ pub fn block_law()
 
 /// The counts of the last line are how many reports there are of each kind, and together how many there are.
 pub fn counts_law()
-    ensures { (settings : Settings) (entries : List Entry) → Counted (counts settings entries) (reports settings entries) }
+    ensures { (settings : Settings) (entries : List Entry) → CountsReports (counts settings entries) (reports settings entries) }
 {}

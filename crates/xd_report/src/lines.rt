@@ -3,9 +3,9 @@ ghost use Rattle.std.specs.Prelude.{◌≡◌, ◌≤◌, ◌++◌, length, None
 ghost use Rattle.std.specs.Str.{chars};
 ghost use Rattle.xd_journal.specs.Local.{is_local_mode};
 ghost use Rattle.xd_ledger.specs.Sharing.{State};
-ghost use Rattle.xd_ledger.specs.State.{all_moved, reached, next};
+ghost use Rattle.xd_ledger.specs.State.{after_entries, reached, after_entry};
 ghost use Rattle.xd_report.specs.Follows.{Follows};
-ghost use Rattle.xd_report.specs.Lines.{collected_line, down_line, last_of_slot, lines_between, lines_from, lines_of, lost, lost_line, replacing, result_line, tests_line, told};
+ghost use Rattle.xd_report.specs.Lines.{collected_line, down_line, last_of_slot, lines_between, lines_from, lines_of, lost_head_line, lost_line, replacing, result_line, tests_line, lines_told};
 ghost use Rattle.xd_report.specs.Names.{cause_text};
 ghost use Rattle.xd_report.specs.Tests.{id_of, mode_of};
 
@@ -40,7 +40,7 @@ impl Reporter {
     /// came before. After it ran out of memory the reporter is given up.
     pub fn lines(&mut self, alloc: Global, entries: &[Entry]) -> Result<Blob, OutOfMemory>
         ensures lines { (s : State) → Follows self.old s → IfOk result (λ lines. lines ≡ lines_from s entries.now) }
-        ensures follows { (s : State) → Follows self.old s → OnOk result (Follows self.new (all_moved s entries.now)) }
+        ensures follows { (s : State) → Follows self.old s → OnOk result (Follows self.new (after_entries s entries.now)) }
     {
         let mut bytes = Vec::new(alloc);
         for entry in entries {
@@ -51,7 +51,7 @@ impl Reporter {
 
     /// Goes over the entries that come next. After it ran out of memory the reporter is given up.
     pub fn follow(&mut self, alloc: Global, entries: &[Entry]) -> Result<(), OutOfMemory>
-        ensures { (s : State) → Follows self.old s → OnOk result (Follows self.new (all_moved s entries.now)) }
+        ensures { (s : State) → Follows self.old s → OnOk result (Follows self.new (after_entries s entries.now)) }
     {
         for entry in entries {
             self.note(alloc, entry)?;
@@ -67,7 +67,7 @@ impl Reporter {
         entry: &Entry,
     ) -> Result<(), OutOfMemory>
         ensures lines { (s : State) → Follows self.old s → OnOk result (out.new.items ≡ out.old.items ++ lines_of (reached s entry.now) entry.now) }
-        ensures follows { (s : State) → Follows self.old s → OnOk result (Follows self.new (next s entry.now)) }
+        ensures follows { (s : State) → Follows self.old s → OnOk result (Follows self.new (after_entry s entry.now)) }
     {
         let was_shared = self.books.is_shared();
         self.add_told(alloc, out, entry)?;
@@ -80,7 +80,7 @@ impl Reporter {
 
     // The lines that the state before an entry tells; those of a collection are told by the state after it.
     fn add_told(&self, alloc: Global, out: &mut Vec<u8>, entry: &Entry) -> Result<(), OutOfMemory>
-        ensures { (s : State) → Follows self.now s → OnOk result (out.new.items ≡ out.old.items ++ told s entry.now) }
+        ensures { (s : State) → Follows self.now s → OnOk result (out.new.items ≡ out.old.items ++ lines_told s entry.now) }
     {
         match entry {
             Entry::Done {
@@ -148,7 +148,7 @@ impl Reporter {
 
     // The line of the test at a worker's head.
     fn add_lost(&self, alloc: Global, out: &mut Vec<u8>, worker: u32) -> Result<(), OutOfMemory>
-        ensures { (s : State) → Follows self.now s → OnOk result (out.new.items ≡ out.old.items ++ lost worker s) }
+        ensures { (s : State) → Follows self.now s → OnOk result (out.new.items ≡ out.old.items ++ lost_head_line worker s) }
     {
         let Some(item) = self.head(worker) else {
             return Ok(());
@@ -166,7 +166,7 @@ impl Reporter {
         worker: u32,
         cause: Cause,
     ) -> Result<(), OutOfMemory>
-        ensures { (s : State) → Follows self.now s → OnOk result (out.new.items ≡ out.old.items ++ (down_line (mode_of s) worker (cause_text cause) ++ lost worker s)) }
+        ensures { (s : State) → Follows self.now s → OnOk result (out.new.items ≡ out.old.items ++ (down_line (mode_of s) worker (cause_text cause) ++ lost_head_line worker s)) }
     {
         self.add_down(alloc, out, worker, cause_text(cause))?;
         self.add_lost(alloc, out, worker)?;

@@ -4,11 +4,11 @@ ghost use Rattle.xd_edge.specs.Faults.{Counted};
 ghost use Rattle.xd_edge.specs.Printing.{ShowsSome};
 ghost use Rattle.xd_edge.specs.Sink.{TookPart};
 ghost use Rattle.xd_ledger.specs.Sharing.{State};
-ghost use Rattle.xd_ledger.specs.State.{all_moved};
+ghost use Rattle.xd_ledger.specs.State.{after_entries};
 ghost use Rattle.xd_report.specs.declared.printing.PrintFault.TheVariants.{Failed as NotPrinted, OutOfMemory as NoMemory};
 ghost use Rattle.xd_report.specs.Follows.{Follows};
 ghost use Rattle.xd_report.specs.Lines.{lines_from};
-ghost use Rattle.xd_report.specs.Printing.{Ends, ShowsEnd, ShowsLines, printed_as};
+ghost use Rattle.xd_report.specs.Printing.{OnPrinted, ShowsEnd, ShowsLines, printed_as};
 ghost use Rattle.xd_report.specs.Text.{tail_text};
 
 use crate::{Reporter, tail};
@@ -50,11 +50,11 @@ pub fn print_lines<O: Sink>(
     out: &mut O,
 ) -> Result<(), PrintFault>
     ensures shows { (s : State) → Follows reporter.old s
-        → Ends result (λ shown. ShowsLines shown (lines_from s entries.now) (O.sunk out.old) (O.sunk out.new)) }
+        → OnPrinted result (λ shown. ShowsLines shown (lines_from s entries.now) (O.sunk out.old) (O.sunk out.new)) }
     ensures follows { (s : State) → Follows reporter.old s
-        → Ends result (λ shown. Follows reporter.new (all_moved s entries.now)) }
+        → OnPrinted result (λ shown. Follows reporter.new (after_entries s entries.now)) }
     ensures later { O.faults out.old ≤ O.faults out.new }
-    ensures counted { Ends result (λ shown. Counted shown (O.faults out.old) (O.faults out.new)) }
+    ensures counted { OnPrinted result (λ shown. Counted shown (O.faults out.old) (O.faults out.new)) }
 {
     let lines = reporter.lines(alloc, entries)?;
     print_some(out, lines.as_slice())?;
@@ -75,9 +75,9 @@ fn print_some<O: Sink>(out: &mut O, bytes: &[u8]) -> Result<(), Failed>
 
 /// Prints the tail of the report, and closes the output.
 pub fn print_tail<O: Sink>(alloc: Global, journal: &Journal, out: &mut O) -> Result<(), PrintFault>
-    ensures shows { Ends result (λ shown. ShowsEnd shown (tail_text journal.now) (O.sunk out.old) (O.sunk out.new)) }
+    ensures shows { OnPrinted result (λ shown. ShowsEnd shown (tail_text journal.now) (O.sunk out.old) (O.sunk out.new)) }
     ensures later { O.faults out.old ≤ O.faults out.new }
-    ensures counted { Ends result (λ shown. Counted shown (O.faults out.old) (O.faults out.new)) }
+    ensures counted { OnPrinted result (λ shown. Counted shown (O.faults out.old) (O.faults out.new)) }
 {
     let tail = tail(alloc, journal)?;
     print(out, tail.as_slice())?;

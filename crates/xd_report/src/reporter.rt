@@ -1,7 +1,7 @@
 // What reports need of the state of a run.
 ghost use Rattle.std.specs.Prelude.{◌≡◌, OnOk};
 ghost use Rattle.xd_ledger.specs.Sharing.{State};
-ghost use Rattle.xd_ledger.specs.State.{next, no_one};
+ghost use Rattle.xd_ledger.specs.State.{after_entry, no_one};
 ghost use Rattle.xd_report.specs.Follows.{Follows};
 
 use crate::holder::Holder;
@@ -40,7 +40,7 @@ impl Reporter {
 
     // One entry more.
     pub fn note(&mut self, alloc: Global, entry: &Entry) -> Result<(), OutOfMemory>
-        ensures { (s : State) → Follows self.old s → OnOk result (Follows self.new (next s entry.now)) }
+        ensures { (s : State) → Follows self.old s → OnOk result (Follows self.new (after_entry s entry.now)) }
     {
         match entry {
             Entry::Start { worker, slot } => self.start(*worker, *slot),

@@ -6,7 +6,7 @@ ghost use Rattle.xd_ledger.specs.Plan.{base, items_named};
 ghost use Rattle.xd_ledger.specs.Sharing.{State, in_books};
 ghost use Rattle.xd_ledger.specs.Deaths.{after_down};
 ghost use Rattle.xd_ledger.specs.Results.{completed_first};
-ghost use Rattle.xd_ledger.specs.State.{moved};
+ghost use Rattle.xd_ledger.specs.State.{after_effect};
 ghost use Rattle.xd_ledger.specs.Stops.{stopped_by};
 ghost use Rattle.xd_ledger.specs.Workers.{slot_of};
 ghost use Rattle.xd_report.specs.Follows.{Follows};
@@ -36,7 +36,7 @@ impl Reporter {
         index: u32,
         outcome: Outcome,
     ) -> Result<(), OutOfMemory>
-        ensures { (s : State) (ms : ℕ) (output : List ℕ) → Follows self.old s → OnOk result (Follows self.new (moved s (Done worker index outcome ms output))) }
+        ensures { (s : State) (ms : ℕ) (output : List ℕ) → Follows self.old s → OnOk result (Follows self.new (after_effect s (Done worker index outcome ms output))) }
     {
         self.report(alloc, worker, index)?;
         self.books.score(outcome)?;
@@ -54,7 +54,7 @@ impl Reporter {
 
     // A worker finished.
     pub(crate) fn leave(&mut self, worker: u32)
-        ensures { (s : State) → Follows self.old s → Follows self.new (moved s (Finished worker)) }
+        ensures { (s : State) → Follows self.old s → Follows self.new (after_effect s (Finished worker)) }
     {
         holder::leave(&mut self.rota, worker);
         self.books.mark(worker, Mark::Gone);
@@ -62,7 +62,7 @@ impl Reporter {
 
     // A worker could not collect.
     pub(crate) fn refuse(&mut self, worker: u32)
-        ensures { (s : State) (text : List ℕ) → Follows self.old s → Follows self.new (moved s (Refused worker text)) }
+        ensures { (s : State) (text : List ℕ) → Follows self.old s → Follows self.new (after_effect s (Refused worker text)) }
     {
         self.books.mark(worker, Mark::Gone);
         self.books.stop_by(RunStop::CollectError { worker });

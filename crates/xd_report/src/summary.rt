@@ -1,7 +1,7 @@
 // The counts of the reports.
 ghost use Rattle.std.specs.Prelude.{◌≡◌, OnOk, IfOk, string_bytes};
 ghost use Rattle.std.specs.Str.{encode_utf8_all};
-ghost use Rattle.xd_report.specs.Summary.{counts, summary_text, with_part};
+ghost use Rattle.xd_report.specs.Summary.{counts, summary_text, with_count};
 
 use crate::counts::Counts;
 use crate::reporter::Reporter;
@@ -42,7 +42,7 @@ pub fn summary(alloc: Global, counts: Counts) -> Result<String, OutOfMemory>
 }
 
 fn add_part(alloc: Global, out: &mut String, n: u64, word: &str) -> Result<(), OutOfMemory>
-    ensures { OnOk result (string_bytes out.new ≡ with_part (string_bytes out.old) n word.now) }
+    ensures { OnOk result (string_bytes out.new ≡ with_count (string_bytes out.old) n word.now) }
 {
     if n == 0 {
         return Ok(());

@@ -15,7 +15,7 @@ use Rattle.xd_ledger.specs.Books.{Books, marked}
 use Rattle.xd_ledger.specs.Workers.{made_collected, slot_of}
 use Rattle.xd_ledger.specs.Collections.{ids_of, key, listed, listed_in, lists_with, unequal, with_list}
 use Rattle.xd_ledger.specs.Sharing.{State, ids_at, in_books, sizes_from}
-use Rattle.xd_ledger.specs.State.{moved, state_at}
+use Rattle.xd_ledger.specs.State.{after_effect, state_at}
 use Rattle.xd_laws.specs.Collected.{collected, slots}
 use Rattle.xd_laws.specs.Whole.{tests_in}
 use Rattle.xd_laws.proofs.Counts.{bounds-of_range}
@@ -98,7 +98,7 @@ pub record Stays (s t : State) : Type 0 where
   pub shared : t.books.shared ≡ true
   pub ids : item_ids t.books ≡ item_ids s.books
 
-stays-collected : (s : State) (w : ℕ) (g : Ids) → Listing s → s.books.shared ≡ true → Stays s (moved s (Collected w g))
+stays-collected : (s : State) (w : ℕ) (g : Ids) → Listing s → s.books.shared ≡ true → Stays s (after_effect s (Collected w g))
 stays-collected s w g k h =
     let now = in_books (λ b. marked (made_collected w) (with_list w g b)) s in
     let o = listed w s.books in
@@ -108,7 +108,7 @@ stays-collected s w g k h =
     let P = λ (u : State). item_ids u.books ≡ item_ids s.books in
     record { shared = still_shared s w g h; ids = collecting-keeps P now w stop same same same (λ n. same) }
 
-pub stays : (s : State) (e : Entry) → Listing s → s.books.shared ≡ true → Stays s (moved s e)
+pub stays : (s : State) (e : Entry) → Listing s → s.books.shared ≡ true → Stays s (after_effect s e)
 stays s (Collected w g) k h = stays-collected s w g k h
 stays s (Ready w) k h = record { shared = h; ids = refl }
 stays s (Done w i u m o) k h = record { shared = h; ids = refl }

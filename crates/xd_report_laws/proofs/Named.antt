@@ -17,12 +17,12 @@ use Rattle.xd_ledger.specs.Plan.{base, is_each, items_named}
 use Rattle.xd_ledger.specs.Books.{Books}
 use Rattle.xd_ledger.specs.Workers.{is_active, slot_of}
 use Rattle.xd_ledger.specs.Ending.{ending}
-use Rattle.xd_ledger.specs.Histories.{begun, journal_of, stepped_all}
+use Rattle.xd_ledger.specs.Histories.{after_starts, journal_of, after_inputs}
 use Rattle.xd_ledger.specs.Orderly.{is_orderly}
 use Rattle.xd_ledger.specs.Proper.{is_head, may_follow}
 use Rattle.xd_ledger.specs.Reports.{Report, Result, Crash, item_of}
 use Rattle.xd_ledger.specs.Sharing.{State}
-use Rattle.xd_ledger.specs.State.{all_moved, moved, next, no_one, reached, settled, state_at}
+use Rattle.xd_ledger.specs.State.{after_entries, after_effect, after_entry, no_one, reached, settled, state_at}
 use Rattle.xd_laws.specs.Whole.{IsWhole}
 use Rattle.xd_laws.proofs.Laws.{journal-keeps}
 use Rattle.xd_laws.proofs.Logic.{cases_of, differ, split-and}
@@ -122,9 +122,9 @@ told-right name s (Refused w t) h = tt
 told-right name s (Down w c o) h = absurd (differ h)
 told-right name s (NotStarted w) h = tt
 
-right-append : (name : Report → List ℕ) (s : State) (xs ys : List Entry) → AllRight name s xs → AllRight name (all_moved s xs) ys → AllRight name s (xs ++ ys)
+right-append : (name : Report → List ℕ) (s : State) (xs ys : List Entry) → AllRight name s xs → AllRight name (after_entries s xs) ys → AllRight name s (xs ++ ys)
 right-append name s [] ys a b = b
-right-append name s (x ∷ xs) ys a b = (a.0, right-append name (next s x) xs ys a.1 b)
+right-append name s (x ∷ xs) ys a b = (a.0, right-append name (after_entry s x) xs ys a.1 b)
 
 -- along a journal: where the tests are shared, all entries so far name their items by their ids
 record Named (settings : Settings) (s : State) (es : List Entry) : Type 0 where
@@ -133,11 +133,11 @@ record Named (settings : Settings) (s : State) (es : List Entry) : Type 0 where
   right : (name : Report → List ℕ) → IsName name s → AllRight name (no_one settings) es
 
 -- a name by the ids behind an entry is one by those before it
-name-before : (name : Report → List ℕ) (s : State) (e : Entry) → Listing s → IsName name (moved s e) → IsName name s
+name-before : (name : Report → List ℕ) (s : State) (e : Entry) → Listing s → IsName name (after_effect s e) → IsName name s
 name-before name s e k is h = (let t = stays s e k h in is t.shared ∙ ap id_in t.ids)
 
-named-more : (settings : Settings) (s : State) (es : List Entry) (e : Entry) → s ≡ reached (all_moved (no_one settings) es) e → Named settings s es → Listing (moved s e) → OwnSlot (moved s e)
-    → ((name : Report → List ℕ) → IsName name s → Right name s e) → Named settings (moved s e) (es ++ e ∷ [])
+named-more : (settings : Settings) (s : State) (es : List Entry) (e : Entry) → s ≡ reached (after_entries (no_one settings) es) e → Named settings s es → Listing (after_effect s e) → OwnSlot (after_effect s e)
+    → ((name : Report → List ℕ) → IsName name s → Right name s e) → Named settings (after_effect s e) (es ++ e ∷ [])
 named-more settings s es e at k listing in_slots right = record {
   listing = listing;
   in_slots = in_slots;
@@ -172,11 +172,11 @@ end-right name s false b = (tt, tt)
 pub names-items : (j : Journal) → IsWhole j → NamesItems j
 names-items j w =
     let es = journal_of j.settings w.inputs in
-    let end = stepped_all (begun j.settings) w.inputs in
+    let end = after_inputs (after_starts j.settings) w.inputs in
     let name : Report → List ℕ = id_in (ids_in j) in
     let k : Named j.settings end es = journal-keeps j.settings w.inputs (Named j.settings) (keeps_named j.settings) w.proper (named-none j.settings) in
     let is : IsName name end = λ h. ap (λ (s : State). id_in (item_ids s.books)) (state-whole j w) in
     let right : AllRight name (no_one j.settings) j.entries.items =
     subst (λ (xs : List Entry). AllRight name (no_one j.settings) xs) (sym w.entries)
-    (right-append name (no_one j.settings) es (ending w.out_failed end.books) (k.right name is) (end-right name (all_moved (no_one j.settings) es) w.out_failed end.books)) in
+    (right-append name (no_one j.settings) es (ending w.out_failed end.books) (k.right name is) (end-right name (after_entries (no_one j.settings) es) w.out_failed end.books)) in
     record { lines = lines-by name j.settings (no_one j.settings) j.entries.items refl right; blocks = blocks-by name j.settings (no_one j.settings) j.entries.items refl right }

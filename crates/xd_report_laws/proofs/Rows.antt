@@ -7,7 +7,7 @@ use Rattle.xd_journal.specs.declared.entry.Ids.TheVariants as ids
 use Rattle.xd_journal.specs.declared.entry.Outcome.TheVariants.{Passed}
 use Rattle.xd_journal.specs.declared.entry.Entry.{Entry}
 use Rattle.xd_journal.specs.declared.entry.Entry.TheVariants.{Ready, Collected, Done}
-use Rattle.xd_ledger.specs.Histories.{begun, journal_of, stepped_all}
+use Rattle.xd_ledger.specs.Histories.{after_starts, journal_of, after_inputs}
 use Rattle.xd_ledger.specs.Proper.{IsProper}
 use Rattle.xd_ledger.specs.Reports.{Result, reports}
 use Rattle.xd_report.specs.EachReport.{Names, Of, Retried, id_in}
@@ -31,7 +31,7 @@ a_run-reports = refl
 abbrev the_ids : List (List ℕ)
 the_ids = (97 ∷ []) ∷ (98 ∷ []) ∷ (99 ∷ []) ∷ []
 
-a_run-ids : item_ids (stepped_all (begun two_slots) a_run).books ≡ the_ids
+a_run-ids : item_ids (after_inputs (after_starts two_slots) a_run).books ≡ the_ids
 a_run-ids = refl
 
 -- its line gives c

@@ -13,7 +13,7 @@ use Rattle.xd_run_tests.specs.declared.line_entry.LineEntry.TheVariants.{Test, M
 use Rattle.xd_run_tests.specs.declared.line_entry.Standing.{Standing}
 use Rattle.xd_run_tests.specs.declared.line_entry.Standing.TheVariants.{Free}
 use Rattle.xd_run_tests.specs.Line.{has_test, kept, taken, is_asked, is_among, can_ask, all_queued}
-use Rattle.xd_run_tests.specs.Stands.{once, StandsAt, standing_by, TakenOut, freed_at, AreMarked, all_queued_at, queued_at, is_queued, is_true}
+use Rattle.xd_run_tests.specs.Stands.{once, EachStandsAt, standing_by, TakenOut, freed_at, AreMarked, all_queued_at, queued_at, is_queued, is_true}
 use Rattle.xd_run_tests.proofs.Cut.{has_test-append}
 use Rattle.xd_run_tests.proofs.Once.{once_apart}
 
@@ -208,7 +208,7 @@ pub by_else : (a q x : Bool) → a ≡ false → x ≡ false → x ≡ (a && q)
 by_else a q x e f = rw (e, f) refl
 
 -- where the asked tests stand
-pub queued_is : (st : List Standing) (ahead q : List LineEntry) (n : ℕ) → n < length st → StandsAt st ahead q → once (ahead ++ q) ≡ true → queued_at st n ≡ has_test n q
+pub queued_is : (st : List Standing) (ahead q : List LineEntry) (n : ℕ) → n < length st → EachStandsAt st ahead q → once (ahead ++ q) ≡ true → queued_at st n ≡ has_test n q
 queued_is st ahead q n lt h o = go (slice_get_cases st n).1
   where
     seen : (a b : Bool) → (a ≡ true → b ≡ false) → is_queued (Some (standing_by a b)) ≡ b
@@ -220,7 +220,7 @@ queued_is st ahead q n lt h o = go (slice_get_cases st n).1
     go (inl (x, l, s, g)) = ap is_queued (s ∙ ap Some (sym g ∙ get_or_default st n x Free lt ∙ h.at n lt)) ∙ seen (has_test n ahead) (has_test n q) (once_apart n ahead q o)
     go (inr (le, s)) = absurd (omega arith)
 
-pub all_queued_is : (st : List Standing) (ahead q : List LineEntry) (before ns : List ℕ) → StandsAt st ahead q → once (ahead ++ q) ≡ true → can_ask (length st) before ns ≡ true → all_queued_at st ns ≡ all_queued q ns
+pub all_queued_is : (st : List Standing) (ahead q : List LineEntry) (before ns : List ℕ) → EachStandsAt st ahead q → once (ahead ++ q) ≡ true → can_ask (length st) before ns ≡ true → all_queued_at st ns ≡ all_queued q ns
 all_queued_is st ahead q before [] h o e = refl
 all_queued_is st ahead q before (n ∷ ns) h o e =
     ap (λ (v : Bool). v && all_queued_at st ns) (queued_is st ahead q n (ltb-true _ _ (first (nat_lt n (length st)) (is_among n before) (can_ask (length st) (before ++ n ∷ []) ns) e)) h o)
@@ -245,7 +245,7 @@ has_kept n ns (Test m ∷ q) = step (m == n) refl (is_among m ns) refl (has_kept
     step false z true y h = h
     step false z false y h = ap (λ (v : Bool). v || has_test n (kept ns q)) z ∙ h
 
-pub kept_stands : (ns : List ℕ) (before after : List Standing) (ahead q left : List LineEntry) (back : List ℕ) → TakenOut ns before q after [] back left → StandsAt before ahead q → once (ahead ++ q) ≡ true → (StandsAt after ahead left) × (back ≡ taken ns q) × (left ≡ kept ns q)
+pub kept_stands : (ns : List ℕ) (before after : List Standing) (ahead q left : List LineEntry) (back : List ℕ) → TakenOut ns before q after [] back left → EachStandsAt before ahead q → once (ahead ++ q) ≡ true → (EachStandsAt after ahead left) × (back ≡ taken ns q) × (left ≡ kept ns q)
 kept_stands ns before after ahead q left back h st o =
     let all : q ≡ h.done = h.queue_is ∙ no_more h.done in
     let is_left : left ≡ kept ns q = h.left_is ∙ ap (kept ns) (sym all) in (

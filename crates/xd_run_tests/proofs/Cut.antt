@@ -10,7 +10,7 @@ use Rattle.xd_run_tests.specs.declared.line_entry.Standing.{Standing}
 use Rattle.xd_run_tests.specs.declared.line_entry.Standing.TheVariants.{Free, Passed}
 use Rattle.xd_run_tests.specs.declared.run_tests.Running.{Running}
 use Rattle.xd_run_tests.specs.Line.{has_test}
-use Rattle.xd_run_tests.specs.Stands.{StandsAt, IsCut, standing_of, standing_by, passing, passing_some, running_places}
+use Rattle.xd_run_tests.specs.Stands.{EachStandsAt, IsCut, standing_of, standing_by, passing, passing_some, running_places}
 
 pub has_test-append : (n : ℕ) (a b : List LineEntry) → has_test n (a ++ b) ≡ (has_test n a || has_test n b)
 has_test-append n [] b = refl
@@ -32,7 +32,7 @@ other_passes : (n : ℕ) (ahead q : List LineEntry) (m : ℕ) (t : Bool) (s : St
 other_passes n ahead q m true s e z h = cc
 other_passes n ahead q m false s e z h = same_by (has_test n ahead) (has_test n q) _ _ s h (or_none _ ∙ ap (λ (v : Bool). has_test n ahead || (v || false)) (sym e) ∙ sym (has_test-append n ahead (Test m ∷ []))) refl
 
-pub passed_one : (stands : List Standing) (ahead q : List LineEntry) (p : LineEntry) → StandsAt stands ahead (p ∷ q) → StandsAt (passing stands p) (ahead ++ p ∷ []) q
+pub passed_one : (stands : List Standing) (ahead q : List LineEntry) (p : LineEntry) → EachStandsAt stands ahead (p ∷ q) → EachStandsAt (passing stands p) (ahead ++ p ∷ []) q
 passed_one stands ahead q (Test m) h = record { at = λ n lt. go n (rw length-set at lt) (m == n) refl }
   where
     go : (n : ℕ) → n < length stands → (t : Bool) → (m == n) ≡ t → slice_index_or (slice_set stands m Passed) n Free ≡ standing_of n (ahead ++ Test m ∷ []) q
@@ -52,7 +52,7 @@ cut_next (Some p) queue rest stands line ended h e z = record {
   count = h.count;
   line_is = h.line_is ∙ ap (λ (r : List LineEntry). (h.done ++ []) ++ r) e ∙ shift h.done p rest;
   idle = λ n. cc;
-  standing = subst (λ (a : List LineEntry). StandsAt (passing stands p) a rest) (ap (λ (a : List LineEntry). a ++ p ∷ []) (no_more h.done)) (passed_one stands (h.done ++ []) rest p (subst (λ (r : List LineEntry). StandsAt stands (h.done ++ []) r) e h.standing));
+  standing = subst (λ (a : List LineEntry). EachStandsAt (passing stands p) a rest) (ap (λ (a : List LineEntry). a ++ p ∷ []) (no_more h.done)) (passed_one stands (h.done ++ []) rest p (subst (λ (r : List LineEntry). EachStandsAt stands (h.done ++ []) r) e h.standing));
 }
   where
     no_more : (a : List LineEntry) → a ++ [] ≡ a
@@ -67,7 +67,7 @@ cut_start n log p q stands line ended h = record {
   count = h.count;
   line_is = h.line_is ∙ shift h.done (Test n) p q;
   idle = λ n. cc;
-  standing = subst (λ (a : List LineEntry). StandsAt (passing stands p) a q) (joined h.done (Test n) p) (passed_one stands (h.done ++ Test n ∷ []) q p h.standing);
+  standing = subst (λ (a : List LineEntry). EachStandsAt (passing stands p) a q) (joined h.done (Test n) p) (passed_one stands (h.done ++ Test n ∷ []) q p h.standing);
 }
   where
     joined : (a : List LineEntry) (x y : LineEntry) → (a ++ x ∷ []) ++ y ∷ [] ≡ a ++ (x ∷ y ∷ [])

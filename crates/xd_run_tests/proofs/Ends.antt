@@ -14,12 +14,12 @@ use Rattle.xd_run_tests.specs.declared.ask.Ask.TheVariants.{Tell, CloseLog}
 use Rattle.xd_run_tests.specs.declared.run_tests.Running.{Running}
 use Rattle.xd_run_tests.specs.declared.run_tests.RunTests.{RunTests}
 use Rattle.xd_run_tests.specs.declared.phase.Phase.TheVariants.{Serving}
-use Rattle.xd_run_tests.specs.Line.{Call, log_of}
-use Rattle.xd_run_tests.specs.Turns.{opened, without_run}
-use Rattle.xd_run_tests.specs.Stands.{IsCut, IsCall, IsLog, StandsAt, test_of}
+use Rattle.xd_run_tests.specs.Line.{FunctionCall, number_of_log}
+use Rattle.xd_run_tests.specs.Turns.{serving_suite, without_run}
+use Rattle.xd_run_tests.specs.Stands.{IsCut, IsCall, IsLog, EachStandsAt, test_of}
 use Rattle.xd_run_tests.proofs.Moves.{cut_at}
 
-free_all : (size : ℕ) (st : List Standing) → st ≡ replicate size Free → StandsAt st [] []
+free_all : (size : ℕ) (st : List Standing) → st ≡ replicate size Free → EachStandsAt st [] []
 free_all size st e = record { at = λ n lt. ap (λ (x : List Standing). slice_index_or x n Free) e ∙ within n (subst (λ (x : List Standing). n < length x) e lt) }
   where
     within : (n : ℕ) → n < length (replicate size Free) → slice_index_or (replicate size Free) n Free ≡ Free
@@ -28,8 +28,8 @@ free_all size st e = record { at = λ n lt. ap (λ (x : List Standing). slice_in
         length-of : (k : ℕ) → length (replicate k Free) ≡ k
         length-of k = grind (arith, common_steps)
 
-pub opened_call : (s r : RunTests) (c : Call) (size : ℕ) → r.phase ≡ Serving → r.waiting.items ≡ [] → r.size ≡ size → r.stands.items ≡ replicate size Free → r.queue.items ≡ [] → r.next ≡ None → r.running ≡ None → r.next_log ≡ 2 → r.sent ≡ s.sent
-    → IsCall s c → IsCall r (opened size c)
+pub opened_call : (s r : RunTests) (c : FunctionCall) (size : ℕ) → r.phase ≡ Serving → r.waiting.items ≡ [] → r.size ≡ size → r.stands.items ≡ replicate size Free → r.queue.items ≡ [] → r.next ≡ None → r.running ≡ None → r.next_log ≡ 2 → r.sent ≡ s.sent
+    → IsCall s c → IsCall r (serving_suite size c)
 opened_call s r c size ph wa si st qu ne ru lo se h = record {
   phase_is = ph;
   held = record {
@@ -57,7 +57,7 @@ cut_done run next q st line ended h = record {
   count = longer h.done (Test run.test) ended h.count;
   line_is = h.line_is ∙ ap (λ (l : List LineEntry). l ++ q) (regroup h.done (Test run.test) (option_to_list next));
   idle = λ _. refl;
-  standing = subst (λ (l : List LineEntry). StandsAt st l q) (regroup h.done (Test run.test) (option_to_list next)) h.standing;
+  standing = subst (λ (l : List LineEntry). EachStandsAt st l q) (regroup h.done (Test run.test) (option_to_list next)) h.standing;
 }
   where
     longer : (a : List LineEntry) (p : LineEntry) (n : ℕ) → length a ≡ n → length (a ++ p ∷ []) ≡ n + 1
@@ -66,7 +66,7 @@ cut_done run next q st line ended h = record {
     regroup : (a : List LineEntry) (p : LineEntry) (b : List LineEntry) → a ++ (p ∷ b) ≡ (a ++ p ∷ []) ++ b
     regroup a p b = grind (arith, common_steps)
 
-pub done_call : (s r : RunTests) (c : Call) (run : Running) → s.running ≡ Some run → r ≡ record s { running = None } → IsCall s c → IsCall r (without_run c)
+pub done_call : (s r : RunTests) (c : FunctionCall) (run : Running) → s.running ≡ Some run → r ≡ record s { running = None } → IsCall s c → IsCall r (without_run c)
 done_call s r c run is o h = record {
   phase_is = ap (λ (x : RunTests). x.phase) o ∙ h.phase_is;
   held = record {
@@ -82,10 +82,10 @@ done_call s r c run is o h = record {
   cut = λ serves. cut_at c.line (c.ended + 1) (cut_done run s.next s.queue.items s.stands.items c.line c.ended (cut_at c.line c.ended (h.cut serves) is refl refl refl)) (sym (ap (λ (x : RunTests). x.running) o)) (sym (ap (λ (x : RunTests). x.next) o)) (sym (ap (λ (x : RunTests). x.queue.items) o)) (sym (ap (λ (x : RunTests). x.stands.items) o));
 }
   where
-    log : (run.log ≡ log_of c.ended) × (s.next_log ≡ log_of (c.ended + 1))
+    log : (run.log ≡ number_of_log c.ended) × (s.next_log ≡ number_of_log (c.ended + 1))
     log = let g = subst (λ (x : Option Running). IsLog x s.next_log c.ended) is h.held.log_is in g
 
-pub log_at : (s : RunTests) (c : Call) (run : Running) → s.running ≡ Some run → IsCall s c → run.log ≡ log_of c.ended
+pub log_at : (s : RunTests) (c : FunctionCall) (run : Running) → s.running ≡ Some run → IsCall s c → run.log ≡ number_of_log c.ended
 log_at s c run is h = let g = subst (λ (x : Option Running). IsLog x s.next_log c.ended) is h.held.log_is in g.0
 
 pub two_asks : (old one two before : List Ask) (log m n : ℕ) (outcome : Outcome) (ms : ℕ) → one ≡ old ++ CloseLog log ∷ [] → two ≡ one ++ Tell (Done n outcome ms) ∷ [] → log ≡ m → old ≡ before → two ≡ before ++ (CloseLog m ∷ Tell (Done n outcome ms) ∷ [])

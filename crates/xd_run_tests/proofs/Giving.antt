@@ -11,7 +11,7 @@ use Rattle.xd_run_tests.specs.declared.line_entry.LineEntry.TheVariants.{Test}
 use Rattle.xd_run_tests.specs.declared.line_entry.Standing.{Standing}
 use Rattle.xd_run_tests.specs.declared.line_entry.Standing.TheVariants.{Free, Queued, Passed}
 use Rattle.xd_run_tests.specs.Line.{has_test, can_give}
-use Rattle.xd_run_tests.specs.Stands.{StandsAt, standing_of, standing_by, Appends, free_at, is_free}
+use Rattle.xd_run_tests.specs.Stands.{EachStandsAt, standing_of, standing_by, Appends, free_at, is_free}
 use Rattle.std.proofs.lemmas.Option.{slice_get_cases}
 use Rattle.std.proofs.lemmas.Bool.{lt-ltb}
 use Rattle.std.specs.Prelude.{◌⊎◌, slice_get}
@@ -45,7 +45,7 @@ right_false true b e = e
 right_false false b e = refl
 
 -- a free test is put behind the queue
-pub queued_one : (stands : List Standing) (ahead q : List LineEntry) (m : ℕ) → m < length stands → get_or stands m Free ≡ Free → StandsAt stands ahead q → StandsAt (slice_set stands m Queued) ahead (q ++ Test m ∷ [])
+pub queued_one : (stands : List Standing) (ahead q : List LineEntry) (m : ℕ) → m < length stands → get_or stands m Free ≡ Free → EachStandsAt stands ahead q → EachStandsAt (slice_set stands m Queued) ahead (q ++ Test m ∷ [])
 queued_one stands ahead q m in_suite free h = record { at = λ n lt. go n (rw length-set at lt) (m == n) refl }
   where
     go : (n : ℕ) → n < length stands → (t : Bool) → (m == n) ≡ t → slice_index_or (slice_set stands m Queued) n Free ≡ standing_of n ahead (q ++ Test m ∷ [])
@@ -116,7 +116,7 @@ free_within stands n e = go (slice_get_cases stands n).1
 pub le_not_below : (a b : ℕ) → b ≤ a → nat_lt a b ≡ false
 le_not_below a b le = grind (arith, nat_tests)
 
-pub free_gives : (stands : List Standing) (ahead q : List LineEntry) (n : ℕ) → StandsAt stands ahead q → free_at stands n ≡ can_give (length stands) (ahead ++ q) (n ∷ [])
+pub free_gives : (stands : List Standing) (ahead q : List LineEntry) (n : ℕ) → EachStandsAt stands ahead q → free_at stands n ≡ can_give (length stands) (ahead ++ q) (n ∷ [])
 free_gives stands ahead q n h = go (slice_get_cases stands n).1
   where
     out : (a b c v : Bool) → a ≡ true → b ≡ c → v ≡ not c → v ≡ ((a && not b) && true)

@@ -18,10 +18,10 @@ use Rattle.xd_run_tests.specs.declared.ask.Ask.{Ask}
 use Rattle.xd_run_tests.specs.declared.ask.Ask.TheVariants.{Tell, CloseLog, End}
 use Rattle.xd_run_tests.specs.declared.input.Input.{Input}
 use Rattle.xd_run_tests.specs.declared.input.Input.TheVariants as input
-use Rattle.xd_run_tests.specs.Line.{Call, left, front, queue, running_test, head_test, log_of, can_give, can_ask, all_queued, kept, taken}
-use Rattle.xd_run_tests.specs.Turns.{Turn, turn_of, answered, answered_in, over, ended_early, ending_text, asking, finished, started, has_log, too_many_channels, moved_on, settled, given, stolen, stolen_if, told, heard_in, heard, all_heard, opened, collected_in, receiving_ended_in, suite_refused_in, piece_asks, put_out, output_of, told_done, done_of}
+use Rattle.xd_run_tests.specs.Line.{FunctionCall, left, front, queue, running_test, head_test, number_of_log, can_give, can_ask, all_queued, kept, taken}
+use Rattle.xd_run_tests.specs.Turns.{Turn, turn_of, answered, answered_in, over, ended_early, ending_text, asking, finished, test_started, has_log, too_many_channels, moved_on, line_settled, given, stolen, stolen_if, told, heard_in, heard, all_heard, serving_suite, collected_in, receiving_ended_in, suite_refused_in, piece_asks, put_out, output_fed, told_done, done_of}
 use Rattle.xd_run_tests.specs.History.{Given, call_after, turn_after}
-use Rattle.xd_run_tests.specs.Logs.{Logs, begun, logs_of, LogSteps, OneLog}
+use Rattle.xd_run_tests.specs.Logs.{Logs, begun_tests, logs_of, LogSteps, OneLog}
 use Rattle.xd_run_tests.proofs.Once.{and_first, and_last}
 
 pub more_steps : (room : Bool) (a b : List Ask) (l m k : Logs) → LogSteps room a l m → LogSteps room b m k → LogSteps room (a ++ b) l k
@@ -52,20 +52,20 @@ finished_logged room l t idle w =
     (record { steps = more_steps room t.asks (Tell Finished ∷ []) l (logs_of t.call) (logs_of t.call) w.steps (logs_of t.call, refl, refl); awaits = w.awaits })
 
 -- where nothing runs, each log that was opened has ended
-none_begun : (c : Call) → c.running ≡ false → begun c ≡ c.ended
+none_begun : (c : FunctionCall) → c.running ≡ false → begun_tests c ≡ c.ended
 none_begun c idle = ap (λ (v : Bool). c.ended + (if v then 1 else 0)) idle ∙ omega arith
 
-one_begun : (c : Call) → c.running ≡ true → begun c ≡ c.ended + 1
+one_begun : (c : FunctionCall) → c.running ≡ true → begun_tests c ≡ c.ended + 1
 one_begun c runs = ap (λ (v : Bool). c.ended + (if v then 1 else 0)) runs
 
-started_logged : (room : Bool) (l : Logs) (t : Turn) (n : ℕ) → room ≡ true → has_log t.call.ended ≡ true → t.call.running ≡ false → (t.call.phase ≡ Awaiting → ⊥) → Logged room l t → Logged room l (started n t)
+started_logged : (room : Bool) (l : Logs) (t : Turn) (n : ℕ) → room ≡ true → has_log t.call.ended ≡ true → t.call.running ≡ false → (t.call.phase ≡ Awaiting → ⊥) → Logged room l t → Logged room l (test_started n t)
 started_logged room l t n space number idle serves w =
     let same = none_begun t.call idle in
-    let log = log_of t.call.ended in
+    let log = number_of_log t.call.ended in
     record {
       steps = more_steps room t.asks (Tell (LogStart n log) ∷ []) l (logs_of t.call) (record { count = t.call.ended + 1; is_open = true }) w.steps (
         record { count = t.call.ended + 1; is_open = true },
-        (space, idle, ap log_of (sym same), leb-true log 2147483647 number, ap (λ (x : ℕ). record { count = x + 1; is_open = true }) (sym same)),
+        (space, idle, ap number_of_log (sym same), leb-true log 2147483647 number, ap (λ (x : ℕ). record { count = x + 1; is_open = true }) (sym same)),
         refl,
       );
       awaits = λ e. absurd (serves e);
@@ -77,11 +77,11 @@ moved_logged room l t (Mark ∷ ps) idle serves w = finished_logged room l t idl
 moved_logged room l t (Test n ∷ []) idle serves w = w
 moved_logged room l t (Test n ∷ (p ∷ ps)) idle serves w = go (room && has_log t.call.ended) refl
   where
-    go : (v : Bool) → (room && has_log t.call.ended) ≡ v → Logged room l (if v then started n t else over (Some too_many_channels) t)
+    go : (v : Bool) → (room && has_log t.call.ended) ≡ v → Logged room l (if v then test_started n t else over (Some too_many_channels) t)
     go true e = started_logged room l t n (and_first room (has_log t.call.ended) e) (and_last room (has_log t.call.ended) e) idle serves w
     go false e = over_logged room l (Some too_many_channels) t idle w
 
-settled_logged : (room : Bool) (l : Logs) (t : Turn) → (t.call.phase ≡ Awaiting → ⊥) → Logged room l t → Logged room l (settled room t)
+settled_logged : (room : Bool) (l : Logs) (t : Turn) → (t.call.phase ≡ Awaiting → ⊥) → Logged room l t → Logged room l (line_settled room t)
 settled_logged room l t serves w = go t.call.running refl
   where
     go : (v : Bool) → t.call.running ≡ v → Logged room l (if v then t else moved_on room (left t.call) t)
@@ -91,7 +91,7 @@ settled_logged room l t serves w = go t.call.running refl
 given_logged : (room : Bool) (l : Logs) (ns : List ℕ) (t : Turn) → (t.call.phase ≡ Awaiting → ⊥) → Logged room l t → Logged room l (given room ns t)
 given_logged room l ns t serves w = go (can_give t.call.size t.call.line ns)
   where
-    go : (v : Bool) → Logged room l (if v then settled room (record t { call = record (t.call) { line = t.call.line ++ map Test ns } }) else ended_early BadCommand t)
+    go : (v : Bool) → Logged room l (if v then line_settled room (record t { call = record (t.call) { line = t.call.line ++ map Test ns } }) else ended_early BadCommand t)
     go true = settled_logged room l (record t { call = record (t.call) { line = t.call.line ++ map Test ns } }) serves (record { steps = w.steps; awaits = w.awaits })
     go false = early_logged room l t BadCommand w
 
@@ -130,13 +130,13 @@ all_logged room l (o ∷ os) t w = all_logged room l os (heard room o t) (heard_
 collected_logged : (p : Phase) (room : Bool) (l : Logs) (ids : List (List ℕ)) (t : Turn) → t.call.phase ≡ p → Logged room l t → Logged room l (collected_in p room ids t)
 collected_logged Awaiting room l ids t e w =
     let first = w.awaits e in
-    let same : logs_of (opened (length ids) t.call) ≡ logs_of t.call = fresh t.call first.0 first.1 in
+    let same : logs_of (serving_suite (length ids) t.call) ≡ logs_of t.call = fresh t.call first.0 first.1 in
     all_logged room l t.call.waiting _ (record {
-      steps = more_steps room t.asks (Tell (Collected ids) ∷ []) l (logs_of t.call) (logs_of (opened (length ids) t.call)) w.steps (logs_of t.call, refl, same);
+      steps = more_steps room t.asks (Tell (Collected ids) ∷ []) l (logs_of t.call) (logs_of (serving_suite (length ids) t.call)) w.steps (logs_of t.call, refl, same);
       awaits = λ z. (refl, refl);
     })
   where
-    fresh : (c : Call) → c.ended ≡ 0 → c.running ≡ false → ◌≡◌ {A = Logs} (record { count = 0 + 0; is_open = false }) (logs_of c)
+    fresh : (c : FunctionCall) → c.ended ≡ 0 → c.running ≡ false → ◌≡◌ {A = Logs} (record { count = 0 + 0; is_open = false }) (logs_of c)
     fresh c a b = rw (a, b) refl
 collected_logged Serving room l ids t e w = w
 collected_logged (phase.Ending x) room l ids t e w = w
@@ -157,33 +157,33 @@ refused_logged (phase.Ending x) room l text t e w = w
 refused_logged Stopped room l text t e w = w
 refused_logged Over room l text t e w = w
 
-last_log : (c : Call) → c.running ≡ true → log_of c.ended + 2 ≡ log_of (begun c)
-last_log c runs = sym (ap log_of (one_begun c runs) ∙ next c.ended)
+last_log : (c : FunctionCall) → c.running ≡ true → number_of_log c.ended + 2 ≡ number_of_log (begun_tests c)
+last_log c runs = sym (ap number_of_log (one_begun c runs) ∙ next c.ended)
   where
-    next : (n : ℕ) → log_of (n + 1) ≡ log_of n + 2
+    next : (n : ℕ) → number_of_log (n + 1) ≡ number_of_log n + 2
     next n = omega arith
 
-pieces_step : (room : Bool) (log : ℕ) (b : List ℕ) (l : Logs) → l.is_open ≡ true → log + 2 ≡ log_of l.count → LogSteps room (piece_asks log b) l l
+pieces_step : (room : Bool) (log : ℕ) (b : List ℕ) (l : Logs) → l.is_open ≡ true → log + 2 ≡ number_of_log l.count → LogSteps room (piece_asks log b) l l
 pieces_step room log [] l runs e = refl
 pieces_step room log (x ∷ b) l runs e = (l, (runs, e, refl), refl)
 
 put_logged : (room : Bool) (l : Logs) (bytes : List ℕ) (t : Turn) → t.call.running ≡ true → Logged room l t → Logged room l (put_out bytes t)
 put_logged room l bytes t runs w =
-    let log = log_of t.call.ended in
+    let log = number_of_log t.call.ended in
     let piece = take (most_of_one - t.call.sent) bytes in
     record {
       steps = more_steps room t.asks (piece_asks log piece) l (logs_of t.call) (logs_of t.call) w.steps (pieces_step room log piece (logs_of t.call) runs (last_log t.call runs));
       awaits = w.awaits;
     }
 
-pub does_run : (c : Call) (n : ℕ) → running_test c ≡ Some n → c.running ≡ true
+pub does_run : (c : FunctionCall) (n : ℕ) → running_test c ≡ Some n → c.running ≡ true
 does_run c n e = go c.running refl e
   where
     go : (v : Bool) → c.running ≡ v → (if v then head_test (left c) else None) ≡ Some n → c.running ≡ true
     go true z h = z
     go false z h = cc
 
-output_logged : (test : Option ℕ) (p : Phase) (room : Bool) (l : Logs) (bytes : List ℕ) (t : Turn) → running_test t.call ≡ test → Logged room l t → Logged room l (output_of test p bytes t)
+output_logged : (test : Option ℕ) (p : Phase) (room : Bool) (l : Logs) (bytes : List ℕ) (t : Turn) → running_test t.call ≡ test → Logged room l t → Logged room l (output_fed test p bytes t)
 output_logged None p room l bytes t e w = w
 output_logged (Some n) Stopped room l bytes t e w = w
 output_logged (Some n) Awaiting room l bytes t e w = put_logged room l bytes t (does_run t.call n e) w
@@ -193,8 +193,8 @@ output_logged (Some n) Over room l bytes t e w = put_logged room l bytes t (does
 
 done_steps : (room : Bool) (l : Logs) (n : ℕ) (outcome : Outcome) (ms : ℕ) (t : Turn) → t.call.running ≡ true → Logged room l t → Logged room l (told_done n outcome ms t)
 done_steps room l n outcome ms t runs w =
-    let log = log_of t.call.ended in
-    let closed : Logs = record { count = begun t.call; is_open = false } in
+    let log = number_of_log t.call.ended in
+    let closed : Logs = record { count = begun_tests t.call; is_open = false } in
     record {
       steps = more_steps room t.asks (CloseLog log ∷ Tell (Done n outcome ms) ∷ []) l (logs_of t.call) (logs_of (told_done n outcome ms t).call) w.steps
           (closed, (runs, last_log t.call runs, refl), (closed, refl, ap (λ (x : ℕ). record { count = x; is_open = false }) (one_more t.call.ended ∙ sym (one_begun t.call runs))));
@@ -225,7 +225,7 @@ answered_logged room l input.Stop t more w = record { steps = w.steps; awaits = 
 
 record Silent (n : ℕ) (t : Turn) : Type 0 where
   asks_are : t.asks ≡ []
-  count_is : begun t.call ≡ n
+  count_is : begun_tests t.call ≡ n
   phase_is : t.call.phase ≡ Stopped
 
 done_silent : (test : Option ℕ) (room : Bool) (outcome : Outcome) (ms : ℕ) (t : Turn) (n : ℕ) → running_test t.call ≡ test → Silent n t → Silent n (done_of test Stopped room outcome ms t)
@@ -239,7 +239,7 @@ done_silent (Some k) room outcome ms t n e s = record {
     none : (n : ℕ) → (n + 1) + 0 ≡ n + 1
     none n = omega arith
 
-output_silent : (test : Option ℕ) (bytes : List ℕ) (t : Turn) (n : ℕ) → Silent n t → Silent n (output_of test Stopped bytes t)
+output_silent : (test : Option ℕ) (bytes : List ℕ) (t : Turn) (n : ℕ) → Silent n t → Silent n (output_fed test Stopped bytes t)
 output_silent None bytes t n s = s
 output_silent (Some k) bytes t n s = s
 
@@ -281,7 +281,7 @@ awaits_after (g ∷ h) e = by_phase (record { steps = refl; awaits = awaits_afte
     by_phase : Logged g.room (logs_of (call_after h)) (turn_of (call_after h)) → (v : Bool) → is_stopped (call_after h).phase ≡ v → ((turn_after h g).call.ended ≡ 0) × ((turn_after h g).call.running ≡ false)
     by_phase before true q =
         let p = stops (call_after h).phase q in
-        let s = silent_by (call_after h).phase p g.room g.input (turn_of (call_after h)) (begun (call_after h)) refl (record { asks_are = refl; count_is = refl; phase_is = p }) in
+        let s = silent_by (call_after h).phase p g.room g.input (turn_of (call_after h)) (begun_tests (call_after h)) refl (record { asks_are = refl; count_is = refl; phase_is = p }) in
         let z : Stopped ≡ Awaiting = sym s.phase_is ∙ e in cc
     by_phase before false q = (answered_logged g.room (logs_of (call_after h)) g.input (turn_of (call_after h)) (λ z. goes (call_after h).phase z q) before).awaits e
 
@@ -289,6 +289,6 @@ pub one_log : OneLog
 one_log = record {
   steps = λ h g more. (answered_logged g.room (logs_of (call_after h)) g.input (turn_of (call_after h)) more (record { steps = refl; awaits = awaits_after h })).steps;
   silent = λ h g e.
-      let s = silent_by (call_after h).phase e g.room g.input (turn_of (call_after h)) (begun (call_after h)) refl (record { asks_are = refl; count_is = refl; phase_is = e }) in
+      let s = silent_by (call_after h).phase e g.room g.input (turn_of (call_after h)) (begun_tests (call_after h)) refl (record { asks_are = refl; count_is = refl; phase_is = e }) in
       (s.asks_are, s.count_is, s.phase_is);
 }

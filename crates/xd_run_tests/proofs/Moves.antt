@@ -13,9 +13,9 @@ use Rattle.std.proofs.lemmas.Bool.{le-leb}
 use Rattle.xd_journal.specs.declared.news.What.TheVariants.{LogStart}
 use Rattle.xd_run_tests.specs.declared.ask.Ask.{Ask}
 use Rattle.xd_run_tests.specs.declared.ask.Ask.TheVariants.{Tell}
-use Rattle.xd_run_tests.specs.Line.{Call, has_test, left, log_of, head_test, can_give}
-use Rattle.xd_run_tests.specs.Turns.{Turn, moved_on, started, has_log, asking, over, too_many_channels}
-use Rattle.xd_run_tests.specs.Stands.{StandsAt, IsCut, IsCall, IsHeld, IsLog, Stands, HasActed, Appends, standing_by, once, passing_some, running_places, test_of}
+use Rattle.xd_run_tests.specs.Line.{FunctionCall, has_test, left, number_of_log, head_test, can_give}
+use Rattle.xd_run_tests.specs.Turns.{Turn, moved_on, test_started, has_log, asking, over, too_many_channels}
+use Rattle.xd_run_tests.specs.Stands.{EachStandsAt, IsCut, IsCall, IsHeld, IsLog, Stands, HasActed, Appends, standing_by, once, passing_some, running_places, test_of}
 use Rattle.xd_run_tests.proofs.Once.{once_given}
 use Rattle.xd_run_tests.proofs.Cut.{cut_next, cut_start, cut_left, has_test-append}
 
@@ -25,7 +25,7 @@ length-passing stands (Some (Test n)) = length-set stands n _
 length-passing stands (Some Mark) = refl
 
 -- what a call's parts keep where only the queue, the next entry and the standings change
-pub held_parts : (s r : RunTests) (c : Call) → r ≡ record s { queue = r.queue; next = r.next; stands = r.stands } → length r.stands.items ≡ length s.stands.items → IsHeld s c → IsHeld r c
+pub held_parts : (s r : RunTests) (c : FunctionCall) → r ≡ record s { queue = r.queue; next = r.next; stands = r.stands } → length r.stands.items ≡ length s.stands.items → IsHeld s c → IsHeld r c
 held_parts s r c o size h = record {
   waiting_is = ap (λ (x : RunTests). x.waiting.items) o ∙ h.waiting_is;
   size_is = size ∙ h.size_is;
@@ -37,7 +37,7 @@ held_parts s r c o size h = record {
   log_is = subst (λ (x : Option Running). IsLog x r.next_log c.ended) (sym (ap (λ (x : RunTests). x.running) o)) (subst (λ (x : ℕ). IsLog s.running x c.ended) (sym (ap (λ (x : RunTests). x.next_log) o)) h.log_is);
 }
 
-pub moved_parts : (s r : RunTests) (c : Call) → r ≡ record s { queue = r.queue; next = r.next; stands = r.stands } → length r.stands.items ≡ length s.stands.items → (c.phase ≡ Serving → IsCut r.running r.next r.queue.items r.stands.items c.line c.ended) → IsCall s c → IsCall r c
+pub moved_parts : (s r : RunTests) (c : FunctionCall) → r ≡ record s { queue = r.queue; next = r.next; stands = r.stands } → length r.stands.items ≡ length s.stands.items → (c.phase ≡ Serving → IsCut r.running r.next r.queue.items r.stands.items c.line c.ended) → IsCall s c → IsCall r c
 moved_parts s r c o size cut h = record {
   held = held_parts s r c o size h.held;
   phase_is = ap (λ (x : RunTests). x.phase) o ∙ h.phase_is;
@@ -47,36 +47,36 @@ moved_parts s r c o size cut h = record {
 pub cut_at : {run run' : Option Running} {next next' : Option LineEntry} {q q' : List LineEntry} {st st' : List Standing} (line : List LineEntry) (ended : ℕ) → IsCut run next q st line ended → run ≡ run' → next ≡ next' → q ≡ q' → st ≡ st' → IsCut run' next' q' st' line ended
 cut_at line ended h a b c d = rw (← a, ← b, ← c, ← d) h
 
-pub advanced : (s r : RunTests) (c : Call) → c.phase ≡ Serving → s.running ≡ None → s.next ≡ None → s.queue.items ≡ option_to_list r.next ++ r.queue.items → (r.next ≡ None → r.queue.items ≡ []) → r.stands.items ≡ passing_some s.stands.items r.next → r ≡ record s { queue = r.queue; next = r.next; stands = r.stands } → IsCall s c → IsCall r c
+pub advanced : (s r : RunTests) (c : FunctionCall) → c.phase ≡ Serving → s.running ≡ None → s.next ≡ None → s.queue.items ≡ option_to_list r.next ++ r.queue.items → (r.next ≡ None → r.queue.items ≡ []) → r.stands.items ≡ passing_some s.stands.items r.next → r ≡ record s { queue = r.queue; next = r.next; stands = r.stands } → IsCall s c → IsCall r c
 advanced s r c serves idle no_next q none st o h =
     moved_parts s r c o (ap length st ∙ length-passing s.stands.items r.next)
     (λ _. cut_at c.line c.ended (cut_next r.next s.queue.items r.queue.items s.stands.items c.line c.ended (cut_at c.line c.ended (h.cut serves) idle no_next refl refl) q none) (sym (ap (λ (x : RunTests). x.running) o ∙ idle)) refl refl (sym st))
     h
 
 -- what is left of the line where nothing runs
-pub left_is : (s : RunTests) (c : Call) → c.phase ≡ Serving → s.running ≡ None → IsCall s c → left c ≡ option_to_list s.next ++ s.queue.items
+pub left_is : (s : RunTests) (c : FunctionCall) → c.phase ≡ Serving → s.running ≡ None → IsCall s c → left c ≡ option_to_list s.next ++ s.queue.items
 left_is s c serves idle h = cut_left None s.next s.queue.items s.stands.items c.line c.ended (cut_at c.line c.ended (h.cut serves) idle refl refl refl)
 
 pub moved_at : (room : Bool) (t : Turn) (s : RunTests) (a : Acts) (l : List LineEntry) → left t.call ≡ l → Stands s a (moved_on room l t) → Stands s a (moved_on room (left t.call) t)
 moved_at room t s a l e h = subst (λ (x : List LineEntry). Stands s a (moved_on room x t)) (sym e) h
 
-pub idle_log : (run : Option Running) (next ended : ℕ) → run ≡ None → IsLog run next ended → next ≡ log_of ended
+pub idle_log : (run : Option Running) (next ended : ℕ) → run ≡ None → IsLog run next ended → next ≡ number_of_log ended
 idle_log run next ended e h = let g = subst (λ (x : Option Running). IsLog x next ended) e h in g
 
 front_is : (next : Option LineEntry) (rest : List LineEntry) (p : LineEntry) (q : List LineEntry) → p ∷ q ≡ option_to_list next ++ rest → (next ≡ None → rest ≡ []) → (next ≡ Some p) × (rest ≡ q)
 front_is None rest p q e none = let z : rest ≡ [] = none refl in cc
 front_is (Some x) rest p q e none = (cc, cc)
 
-pub left_test : (s : RunTests) (c : Call) (n : ℕ) (p : LineEntry) (q : List LineEntry) → c.phase ≡ Serving → s.running ≡ None → s.next ≡ Some (Test n) → s.queue.items ≡ p ∷ q → IsCall s c → left c ≡ Test n ∷ (p ∷ q)
+pub left_test : (s : RunTests) (c : FunctionCall) (n : ℕ) (p : LineEntry) (q : List LineEntry) → c.phase ≡ Serving → s.running ≡ None → s.next ≡ Some (Test n) → s.queue.items ≡ p ∷ q → IsCall s c → left c ≡ Test n ∷ (p ∷ q)
 left_test s c n p q serves idle nx qu h = left_is s c serves idle h ∙ ap (λ (x : Option LineEntry). option_to_list x ++ s.queue.items) nx ∙ ap (λ (x : List LineEntry). Test n ∷ x) qu
 
 pub started_is : (s r : RunTests) (t : Turn) (n : ℕ) (p : LineEntry) (q : List LineEntry) → t.call.phase ≡ Serving → s.running ≡ None → s.next ≡ Some (Test n) → s.queue.items ≡ p ∷ q
     → r.phase ≡ s.phase → r.size ≡ s.size → r.waiting.items ≡ s.waiting.items → r.running ≡ Some (record { test = n; log = s.next_log }) → r.next_log ≡ s.next_log + 2 → r.sent ≡ 0
     → s.queue.items ≡ option_to_list r.next ++ r.queue.items → (r.next ≡ None → r.queue.items ≡ []) → r.stands.items ≡ passing_some s.stands.items r.next
-    → IsCall s t.call → IsCall r (started n t).call
+    → IsCall s t.call → IsCall r (test_started n t).call
 started_is s r t n p q serves idle nx qu ph si wa ru lo se rq none st h =
     let f = front_is r.next r.queue.items p q (sym qu ∙ rq) none in
-    let log : s.next_log ≡ log_of t.call.ended = idle_log s.running s.next_log t.call.ended idle h.held.log_is in
+    let log : s.next_log ≡ number_of_log t.call.ended = idle_log s.running s.next_log t.call.ended idle h.held.log_is in
     record {
       phase_is = ph ∙ h.phase_is;
       held = record {
@@ -92,15 +92,15 @@ started_is s r t n p q serves idle nx qu ph si wa ru lo se rq none st h =
       cut = λ _. cut_at t.call.line t.call.ended (cut_start n s.next_log p q s.stands.items t.call.line t.call.ended (cut_at t.call.line t.call.ended (h.cut serves) idle nx qu refl)) (sym ru) (sym f.0) (sym f.1) (ap (passing_some s.stands.items) (sym f.0) ∙ sym st);
     }
   where
-    later : (m : ℕ) → log_of m + 2 ≡ log_of (m + 1)
+    later : (m : ℕ) → number_of_log m + 2 ≡ number_of_log (m + 1)
     later m = omega arith
 
 pub asked : (a b : Acts) (t : Turn) (x : Ask) → b.asks.items ≡ a.asks.items ++ x ∷ [] → b.run ≡ a.run → HasActed a t → HasActed b (asking (x ∷ []) t)
 asked a b t x e r h = record { asks_are = e ∙ ap (λ (l : List Ask). l ++ x ∷ []) h.asks_are; run_is = r ∙ h.run_is }
 
 -- where a test starts
-pub started_if : (room : Bool) (t : Turn) (n : ℕ) (s : RunTests) (a : Acts) → room ≡ true → log_of t.call.ended ≤ 2147483647 → Stands s a (started n t) → Stands s a (if room && has_log t.call.ended then started n t else over (Some too_many_channels) t)
-started_if room t n s a r le h = subst (λ (v : Bool). Stands s a (if v then started n t else over (Some too_many_channels) t)) (sym (both room (has_log t.call.ended) r (le-leb _ _ le))) h
+pub started_if : (room : Bool) (t : Turn) (n : ℕ) (s : RunTests) (a : Acts) → room ≡ true → number_of_log t.call.ended ≤ 2147483647 → Stands s a (test_started n t) → Stands s a (if room && has_log t.call.ended then test_started n t else over (Some too_many_channels) t)
+started_if room t n s a r le h = subst (λ (v : Bool). Stands s a (if v then test_started n t else over (Some too_many_channels) t)) (sym (both room (has_log t.call.ended) r (le-leb _ _ le))) h
   where
     both : (a b : Bool) → a ≡ true → b ≡ true → (a && b) ≡ true
     both a b e f = rw (e, f)
@@ -121,8 +121,8 @@ pub same_next : (s r : RunTests) → r ≡ record s { queue = r.queue; stands = 
 same_next s r o = o ∙ ap (λ (n : Option LineEntry). record s { queue = r.queue; next = n; stands = r.stands }) (sym (ap (λ (x : RunTests). x.next) o))
 
 -- places are put behind the line
-pub lined_call : (s r : RunTests) (c : Call) (ps : List LineEntry) → c.phase ≡ Serving → r ≡ record s { queue = r.queue; stands = r.stands } → length r.stands.items ≡ length s.stands.items → r.queue.items ≡ s.queue.items ++ ps
-    → ((ahead : List LineEntry) → StandsAt s.stands.items ahead s.queue.items → StandsAt r.stands.items ahead r.queue.items) → once (c.line ++ ps) ≡ true → IsCall s c → IsCall r (record c { line = c.line ++ ps })
+pub lined_call : (s r : RunTests) (c : FunctionCall) (ps : List LineEntry) → c.phase ≡ Serving → r ≡ record s { queue = r.queue; stands = r.stands } → length r.stands.items ≡ length s.stands.items → r.queue.items ≡ s.queue.items ++ ps
+    → ((ahead : List LineEntry) → EachStandsAt s.stands.items ahead s.queue.items → EachStandsAt r.stands.items ahead r.queue.items) → once (c.line ++ ps) ≡ true → IsCall s c → IsCall r (record c { line = c.line ++ ps })
 lined_call s r c ps serves o size qu st once_more h =
     let old = h.cut serves in
     let run : r.running ≡ s.running = ap (λ (x : RunTests). x.running) o in
@@ -132,7 +132,7 @@ lined_call s r c ps serves o size qu st once_more h =
       count = old.count;
       line_is = ap (λ (l : List LineEntry). l ++ ps) old.line_is ∙ append_assoc (old.done ++ (running_places s.running ++ option_to_list s.next)) s.queue.items ps;
       idle = old.idle;
-      standing = subst (λ (l : List LineEntry). StandsAt r.stands.items (old.done ++ (running_places s.running ++ option_to_list s.next)) l) qu (st (old.done ++ (running_places s.running ++ option_to_list s.next)) old.standing);
+      standing = subst (λ (l : List LineEntry). EachStandsAt r.stands.items (old.done ++ (running_places s.running ++ option_to_list s.next)) l) qu (st (old.done ++ (running_places s.running ++ option_to_list s.next)) old.standing);
     } in
     let held = held_parts s r c (same_next s r o) size h.held in
     record {
@@ -150,26 +150,26 @@ lined_call s r c ps serves o size qu st once_more h =
       cut = λ _. cut_at (c.line ++ ps) c.ended new (sym run) (sym nx) (sym qu) refl;
     }
 
-pub can_is : (s r : RunTests) (c : Call) (ns : List ℕ) (b : Bool) → c.phase ≡ Serving → IsCall s c → Appends s.stands.items s.queue.items r.stands.items r.queue.items ns b → b ≡ can_give c.size c.line ns
+pub can_is : (s r : RunTests) (c : FunctionCall) (ns : List ℕ) (b : Bool) → c.phase ≡ Serving → IsCall s c → Appends s.stands.items s.queue.items r.stands.items r.queue.items ns b → b ≡ can_give c.size c.line ns
 can_is s r c ns b serves h a =
     let old = h.cut serves in
     a.gives (old.done ++ (running_places s.running ++ option_to_list s.next)) old.standing
     ∙ ap (λ (n : ℕ). can_give n ((old.done ++ (running_places s.running ++ option_to_list s.next)) ++ s.queue.items) ns) h.held.size_is
     ∙ ap (λ (l : List LineEntry). can_give c.size l ns) (sym old.line_is)
 
-pub given_call : (s r : RunTests) (c : Call) (ns : List ℕ) → c.phase ≡ Serving → r ≡ record s { queue = r.queue; stands = r.stands } → Appends s.stands.items s.queue.items r.stands.items r.queue.items ns true → IsCall s c → IsCall r (record c { line = c.line ++ map Test ns })
+pub given_call : (s r : RunTests) (c : FunctionCall) (ns : List ℕ) → c.phase ≡ Serving → r ≡ record s { queue = r.queue; stands = r.stands } → Appends s.stands.items s.queue.items r.stands.items r.queue.items ns true → IsCall s c → IsCall r (record c { line = c.line ++ map Test ns })
 given_call s r c ns serves o a h = lined_call s r c (map Test ns) serves o a.size (a.queue_is refl) (λ ahead. a.standing ahead refl) (once_given c.size c.line ns (sym (can_is s r c ns true serves h a)) h.held.once_is) h
 
-pub bad_held : (s r : RunTests) (c : Call) → r ≡ record s { queue = r.queue; stands = r.stands } → length r.stands.items ≡ length s.stands.items → IsHeld s c → IsHeld r c
+pub bad_held : (s r : RunTests) (c : FunctionCall) → r ≡ record s { queue = r.queue; stands = r.stands } → length r.stands.items ≡ length s.stands.items → IsHeld s c → IsHeld r c
 bad_held s r c o size h = held_parts s r c (same_next s r o) size h
 
 -- a mark does not change where tests stand
-pub marked_stands : (stands : List Standing) (ahead q : List LineEntry) → StandsAt stands ahead q → StandsAt stands ahead (q ++ Mark ∷ [])
+pub marked_stands : (stands : List Standing) (ahead q : List LineEntry) → EachStandsAt stands ahead q → EachStandsAt stands ahead (q ++ Mark ∷ [])
 marked_stands stands ahead q h = record { at = λ n lt. h.at n lt ∙ ap (λ (v : Bool). standing_by (has_test n ahead) v) (none (has_test n q) ∙ sym (has_test-append n q (Mark ∷ []))) }
   where
     none : (a : Bool) → a ≡ (a || false)
     none true = refl
     none false = refl
 
-pub marked_both : (stands st : List Standing) (q r ahead : List LineEntry) → st ≡ stands → r ≡ q ++ Mark ∷ [] → StandsAt stands ahead q → StandsAt st ahead r
+pub marked_both : (stands st : List Standing) (q r ahead : List LineEntry) → st ≡ stands → r ≡ q ++ Mark ∷ [] → EachStandsAt stands ahead q → EachStandsAt st ahead r
 marked_both stands st q r ahead e f h = rw (e, f) (marked_stands stands ahead q h)

@@ -20,8 +20,8 @@ use Rattle.xd_run_tests.specs.declared.ask.Ask.{Ask}
 use Rattle.xd_run_tests.specs.declared.ask.Ask.TheVariants.{Tell}
 use Rattle.xd_run_tests.specs.declared.input.Input.{Input}
 use Rattle.xd_run_tests.specs.declared.input.Input.TheVariants as input
-use Rattle.xd_run_tests.specs.Line.{Call, left, front, queue, passed, running_test, head_test, has_test, is_among, can_give, can_ask, all_queued, kept, taken}
-use Rattle.xd_run_tests.specs.Turns.{Turn, turn_of, answered, over, ended_early, ending_text, asking, finished, started, has_log, too_many_channels, moved_on, settled, given, stolen, stolen_if, told, heard_in, heard, all_heard, collected_in, receiving_ended_in, suite_refused_in, put_out, output_of, told_done, done_in, done_of, stopped}
+use Rattle.xd_run_tests.specs.Line.{FunctionCall, left, front, queue, passed, running_test, head_test, has_test, is_among, can_give, can_ask, all_queued, kept, taken}
+use Rattle.xd_run_tests.specs.Turns.{Turn, turn_of, answered, over, ended_early, ending_text, asking, finished, test_started, has_log, too_many_channels, moved_on, line_settled, given, stolen, stolen_if, told, heard_in, heard, all_heard, collected_in, receiving_ended_in, suite_refused_in, put_out, output_fed, told_done, done_in, done_of, stopped}
 use Rattle.xd_run_tests.specs.History.{Given, call_after, turn_after, started_tests, distinct}
 use Rattle.xd_run_tests.specs.Stands.{once}
 use Rattle.xd_run_tests.proofs.Cut.{has_test-append}
@@ -70,7 +70,7 @@ once_first (Test m ∷ a) b h =
 once_first (Mark ∷ a) b h = once_first a b h
 
 -- so many places of the line are gone through
-abbrev gone_by : Call → ℕ
+abbrev gone_by : FunctionCall → ℕ
 gone_by c = c.ended + (if c.running then 1 else 0)
 
 -- the tests that were started, those of a turn behind these, are those that are gone through
@@ -126,7 +126,7 @@ left_rest s t b idle = ap (drop t.call.ended) b.line_is ∙ behind b.gone b.rest
     none : (a : ℕ) (x : Bool) → x ≡ false → a + (if x then 1 else 0) ≡ a
     none a x e = rw e (omega arith)
 
-started_begun : (s : List ℕ) (t : Turn) (n : ℕ) (l : List LineEntry) → t.call.running ≡ false → left t.call ≡ Test n ∷ l → (t.call.phase ≡ Awaiting → ⊥) → Begun s t → Begun s (started n t)
+started_begun : (s : List ℕ) (t : Turn) (n : ℕ) (l : List LineEntry) → t.call.running ≡ false → left t.call ≡ Test n ∷ l → (t.call.phase ≡ Awaiting → ⊥) → Begun s t → Begun s (test_started n t)
 started_begun s t n l idle is serves b = record {
   gone = b.gone ++ Test n ∷ [];
   rest = l;
@@ -156,11 +156,11 @@ moved_begun s room t (Mark ∷ l) idle is serves b = finished_begun s t b
 moved_begun s room t (Test n ∷ []) idle is serves b = b
 moved_begun s room t (Test n ∷ (p ∷ l)) idle is serves b = go (room && has_log t.call.ended)
   where
-    go : (v : Bool) → Begun s (if v then started n t else over (Some too_many_channels) t)
+    go : (v : Bool) → Begun s (if v then test_started n t else over (Some too_many_channels) t)
     go true = started_begun s t n (p ∷ l) idle is serves b
     go false = ended_begun s t (Some too_many_channels) b
 
-settled_begun : (s : List ℕ) (room : Bool) (t : Turn) → (t.call.phase ≡ Awaiting → ⊥) → Begun s t → Begun s (settled room t)
+settled_begun : (s : List ℕ) (room : Bool) (t : Turn) → (t.call.phase ≡ Awaiting → ⊥) → Begun s t → Begun s (line_settled room t)
 settled_begun s room t serves b = go t.call.running refl
   where
     go : (v : Bool) → t.call.running ≡ v → Begun s (if v then t else moved_on room (left t.call) t)
@@ -183,7 +183,7 @@ longer_begun s t ps once_more serves b = record {
 given_begun : (s : List ℕ) (room : Bool) (ns : List ℕ) (t : Turn) → (t.call.phase ≡ Awaiting → ⊥) → Begun s t → Begun s (given room ns t)
 given_begun s room ns t serves b = go (can_give t.call.size t.call.line ns) refl
   where
-    go : (v : Bool) → can_give t.call.size t.call.line ns ≡ v → Begun s (if v then settled room (record t { call = record (t.call) { line = t.call.line ++ map Test ns } }) else ended_early BadCommand t)
+    go : (v : Bool) → can_give t.call.size t.call.line ns ≡ v → Begun s (if v then line_settled room (record t { call = record (t.call) { line = t.call.line ++ map Test ns } }) else ended_early BadCommand t)
     go true e = settled_begun s room (record t { call = record (t.call) { line = t.call.line ++ map Test ns } }) serves (longer_begun s t (map Test ns) (once_given t.call.size t.call.line ns e b.once_is) serves b)
     go false e = early_begun s t BadCommand b
 
@@ -277,7 +277,7 @@ refused_begun s Over text t b = b
 put_begun : (s : List ℕ) (bytes : List ℕ) (t : Turn) → Begun s t → Begun s (put_out bytes t)
 put_begun s bytes t b = same_line s t (put_out bytes t) refl refl refl refl (λ z. z) b
 
-output_begun : (s : List ℕ) (test : Option ℕ) (p : Phase) (bytes : List ℕ) (t : Turn) → Begun s t → Begun s (output_of test p bytes t)
+output_begun : (s : List ℕ) (test : Option ℕ) (p : Phase) (bytes : List ℕ) (t : Turn) → Begun s t → Begun s (output_fed test p bytes t)
 output_begun s None p bytes t b = b
 output_begun s (Some n) Stopped bytes t b = b
 output_begun s (Some n) Awaiting bytes t b = put_begun s bytes t b
@@ -308,7 +308,7 @@ done_begun s Stopped room n outcome ms t e runs none b = without_begun s t (done
 done_begun s Awaiting room n outcome ms t e runs none b = b
 done_begun s Over room n outcome ms t e runs none b = b
 
-does_run : (c : Call) (n : ℕ) → running_test c ≡ Some n → c.running ≡ true
+does_run : (c : FunctionCall) (n : ℕ) → running_test c ≡ Some n → c.running ≡ true
 does_run c n e = go c.running refl e
   where
     go : (v : Bool) → c.running ≡ v → (if v then head_test (left c) else None) ≡ Some n → c.running ≡ true

@@ -16,7 +16,7 @@ use Rattle.xd_run_tests.specs.declared.ask.Ask.{Ask}
 use Rattle.xd_run_tests.specs.declared.ask.Ask.TheVariants.{Tell}
 use Rattle.xd_run_tests.specs.declared.run_tests.steal.Asked.{Asked}
 use Rattle.xd_run_tests.specs.declared.run_tests.steal.Asked.TheVariants.{Missing, Marked}
-use Rattle.xd_run_tests.specs.Line.{Call, front, queue, kept, taken, all_queued, can_ask}
+use Rattle.xd_run_tests.specs.Line.{FunctionCall, front, queue, kept, taken, all_queued, can_ask}
 use Rattle.xd_run_tests.specs.Turns.{Turn, stolen_if, asking}
 use Rattle.xd_run_tests.specs.Stands.{AreMarked, once, IsCut, IsCall, IsReady, TakenOut, Asks, IsAsked, all_queued_at, running_places, test_of}
 use Rattle.xd_run_tests.proofs.Cut.{cut_left}
@@ -66,17 +66,17 @@ cut_is (Some r) (Some p) q st line ended running h z e = subst (λ (v : Bool). (
     long a o p n e = grind (arith, common_steps)
 
 -- whether all asked tests are in the queue
-pub asked_is : (s : RunTests) (c : Call) (ns : List ℕ) → c.phase ≡ Serving → IsReady s c → can_ask (length s.stands.items) [] ns ≡ true → IsCall s c → all_queued_at s.stands.items ns ≡ all_queued (queue c) ns
+pub asked_is : (s : RunTests) (c : FunctionCall) (ns : List ℕ) → c.phase ≡ Serving → IsReady s c → can_ask (length s.stands.items) [] ns ≡ true → IsCall s c → all_queued_at s.stands.items ns ≡ all_queued (queue c) ns
 asked_is s c ns serves ready can h =
     let cut = h.cut serves in
     let both = cut_is s.running s.next s.queue.items s.stands.items c.line c.ended c.running cut (ready serves) h.held.runs_is in
     all_queued_is s.stands.items (cut.done ++ (running_places s.running ++ option_to_list s.next)) s.queue.items [] ns cut.standing (ap once (sym cut.line_is) ∙ h.held.once_is) can
     ∙ ap (λ (q : List LineEntry). all_queued q ns) (sym both.1)
 
-pub asks_can : (s : RunTests) (c : Call) (ns : List ℕ) (b : Bool) → IsCall s c → can_ask (length s.stands.items) [] ns ≡ b → can_ask c.size [] ns ≡ b
+pub asks_can : (s : RunTests) (c : FunctionCall) (ns : List ℕ) (b : Bool) → IsCall s c → can_ask (length s.stands.items) [] ns ≡ b → can_ask c.size [] ns ≡ b
 asks_can s c ns b h e = ap (λ (n : ℕ). can_ask n [] ns) (sym h.held.size_is) ∙ e
 
-pub stolen_call : (s r : RunTests) (c : Call) (ns back : List ℕ) → c.phase ≡ Serving → IsReady s c → r ≡ record s { queue = r.queue; stands = r.stands } → TakenOut ns s.stands.items s.queue.items r.stands.items [] back r.queue.items → IsCall s c
+pub stolen_call : (s r : RunTests) (c : FunctionCall) (ns back : List ℕ) → c.phase ≡ Serving → IsReady s c → r ≡ record s { queue = r.queue; stands = r.stands } → TakenOut ns s.stands.items s.queue.items r.stands.items [] back r.queue.items → IsCall s c
     → (IsCall r (record c { line = front c ++ kept ns (queue c) })) × (back ≡ taken ns (queue c)) × (r.next ≡ None → r.queue.items ≡ [])
 stolen_call s r c ns back serves ready o out h =
     let old = h.cut serves in

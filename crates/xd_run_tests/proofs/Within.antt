@@ -18,8 +18,8 @@ use Rattle.xd_run_tests.specs.declared.ask.Ask.{Ask}
 use Rattle.xd_run_tests.specs.declared.ask.Ask.TheVariants.{Tell}
 use Rattle.xd_run_tests.specs.declared.input.Input.{Input}
 use Rattle.xd_run_tests.specs.declared.input.Input.TheVariants as input
-use Rattle.xd_run_tests.specs.Line.{Call, left, front, queue, passed, running_test, head_test, has_test, is_among, can_give, can_ask, all_queued, kept, taken}
-use Rattle.xd_run_tests.specs.Turns.{Turn, turn_of, answered, over, ended_early, ending_text, asking, started, has_log, too_many_channels, moved_on, settled, given, stolen, stolen_if, told, heard_in, heard, all_heard, collected_in, receiving_ended_in, suite_refused_in, put_out, output_of, told_done, done_of}
+use Rattle.xd_run_tests.specs.Line.{FunctionCall, left, front, queue, passed, running_test, head_test, has_test, is_among, can_give, can_ask, all_queued, kept, taken}
+use Rattle.xd_run_tests.specs.Turns.{Turn, turn_of, answered, over, ended_early, ending_text, asking, test_started, has_log, too_many_channels, moved_on, line_settled, given, stolen, stolen_if, told, heard_in, heard, all_heard, collected_in, receiving_ended_in, suite_refused_in, put_out, output_fed, told_done, done_of}
 use Rattle.xd_run_tests.specs.History.{Given, call_after, turn_after, size_opened, size_behind, KnownTests}
 use Rattle.xd_run_tests.proofs.Once.{and_first, and_last, and_both}
 
@@ -93,7 +93,7 @@ early_within k t e w = go t.call.running
     go true = record { size_is = w.size_is; line_in = w.line_in; run_in = w.run_in }
     go false = ended_within k t (ending_text e) w
 
-started_within : (k : ℕ) (t : Turn) (n : ℕ) (l : List LineEntry) → left t.call ≡ Test n ∷ l → Within k t → Within k (started n t)
+started_within : (k : ℕ) (t : Turn) (n : ℕ) (l : List LineEntry) → left t.call ≡ Test n ∷ l → Within k t → Within k (test_started n t)
 started_within k t n l is w = record {
   size_is = w.size_is;
   line_in = w.line_in;
@@ -106,11 +106,11 @@ moved_within k room t (Mark ∷ l) is w = record { size_is = w.size_is; line_in 
 moved_within k room t (Test n ∷ []) is w = w
 moved_within k room t (Test n ∷ (p ∷ l)) is w = go (room && has_log t.call.ended)
   where
-    go : (v : Bool) → Within k (if v then started n t else over (Some too_many_channels) t)
+    go : (v : Bool) → Within k (if v then test_started n t else over (Some too_many_channels) t)
     go true = started_within k t n (p ∷ l) is w
     go false = ended_within k t (Some too_many_channels) w
 
-settled_within : (k : ℕ) (room : Bool) (t : Turn) → Within k t → Within k (settled room t)
+settled_within : (k : ℕ) (room : Bool) (t : Turn) → Within k t → Within k (line_settled room t)
 settled_within k room t w = go t.call.running
   where
     go : (v : Bool) → Within k (if v then t else moved_on room (left t.call) t)
@@ -120,7 +120,7 @@ settled_within k room t w = go t.call.running
 given_within : (k : ℕ) (room : Bool) (ns : List ℕ) (t : Turn) → Within k t → Within k (given room ns t)
 given_within k room ns t w = go (can_give t.call.size t.call.line ns) refl
   where
-    go : (v : Bool) → can_give t.call.size t.call.line ns ≡ v → Within k (if v then settled room (record t { call = record (t.call) { line = t.call.line ++ map Test ns } }) else ended_early BadCommand t)
+    go : (v : Bool) → can_give t.call.size t.call.line ns ≡ v → Within k (if v then line_settled room (record t { call = record (t.call) { line = t.call.line ++ map Test ns } }) else ended_early BadCommand t)
     go true e = settled_within k room (record t { call = record (t.call) { line = t.call.line ++ map Test ns } })
         (record { size_is = w.size_is; line_in = both_in t.call.size t.call.line (map Test ns) w.line_in (given_in t.call.size t.call.line ns e); run_in = w.run_in })
     go false e = early_within k t BadCommand w
@@ -189,7 +189,7 @@ refused_within k Over text t w = w
 put_within : (k : ℕ) (bytes : List ℕ) (t : Turn) → Within k t → Within k (put_out bytes t)
 put_within k bytes t w = record { size_is = w.size_is; line_in = w.line_in; run_in = w.run_in }
 
-output_within : (k : ℕ) (test : Option ℕ) (p : Phase) (bytes : List ℕ) (t : Turn) → Within k t → Within k (output_of test p bytes t)
+output_within : (k : ℕ) (test : Option ℕ) (p : Phase) (bytes : List ℕ) (t : Turn) → Within k t → Within k (output_fed test p bytes t)
 output_within k None p bytes t w = w
 output_within k (Some n) Stopped bytes t w = w
 output_within k (Some n) Awaiting bytes t w = put_within k bytes t w
@@ -221,7 +221,7 @@ within_after (g ∷ h) = let w = answered_within (call_after h).size g.room g.in
 within_behind : (h : List Given) (g : Given) → Within (size_behind (call_after h).phase g.input (call_after h).size) (turn_after h g)
 within_behind h g = answered_within (call_after h).size g.room g.input (turn_of (call_after h)) refl (within_after h)
 
-running_within : (c : Call) (n : ℕ) → within c.size c.line ≡ true → running_test c ≡ Some n → n < c.size
+running_within : (c : FunctionCall) (n : ℕ) → within c.size c.line ≡ true → running_test c ≡ Some n → n < c.size
 running_within c n w e = go c.running e
   where
     go : (v : Bool) → (if v then head_test (left c) else None) ≡ Some n → n < c.size

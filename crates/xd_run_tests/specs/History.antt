@@ -7,7 +7,7 @@ use Rattle.xd_run_tests.specs.declared.phase.Phase.{Phase}
 use Rattle.xd_run_tests.specs.declared.phase.Phase.TheVariants.{Awaiting, Serving, Stopped, Over}
 use Rattle.xd_run_tests.specs.declared.phase.Phase.TheVariants as phase
 use Rattle.xd_run_tests.specs.declared.run_tests.RunTests.{RunTests}
-use Rattle.xd_run_tests.specs.Line.{Call, called, is_among, running_test}
+use Rattle.xd_run_tests.specs.Line.{FunctionCall, new_call, is_among, running_test}
 use Rattle.xd_run_tests.specs.Turns.{Turn, turn_of, answered}
 use Rattle.xd_run_tests.specs.Stands.{IsCall, IsReady}
 
@@ -17,8 +17,8 @@ pub record Given : Type 0 where
   pub room : Bool
 
 -- the call after these inputs
-abbrev pub call_after : List Given → Call
-call_after [] = called
+abbrev pub call_after : List Given → FunctionCall
+call_after [] = new_call
 call_after (g ∷ h) = (answered g.room g.input (turn_of (call_after h))).call
 
 -- what an input does after these
@@ -26,9 +26,9 @@ abbrev pub turn_after : List Given → Given → Turn
 turn_after h g = answered g.room g.input (turn_of (call_after h))
 
 -- all that was asked for, in order
-abbrev pub asked : List Given → List Ask
-asked [] = []
-asked (g ∷ h) = asked h ++ (turn_after h g).asks
+abbrev pub all_asks : List Given → List Ask
+all_asks [] = []
+all_asks (g ∷ h) = all_asks h ++ (turn_after h g).asks
 
 -- the tests that were started, in order
 abbrev pub started_tests : List Given → List ℕ

@@ -11,7 +11,7 @@ use Rattle.xd_run_tests.specs.declared.phase.Phase.TheVariants.{Awaiting}
 
 -- a call of the function: its phase, the items that wait for the collection, how many tests its suite has, its line,
 -- how many tests ended, whether one runs, and how many bytes of its output were sent
-pub record Call : Type 0 where
+pub record FunctionCall : Type 0 where
   pub phase : Phase
   pub waiting : List (Option Order)
   pub size : ℕ
@@ -21,23 +21,23 @@ pub record Call : Type 0 where
   pub sent : ℕ
 
 -- a call to which nothing has come yet
-abbrev pub called : Call
-called = record { phase = Awaiting; waiting = []; size = 0; line = []; ended = 0; running = false; sent = 0 }
+abbrev pub new_call : FunctionCall
+new_call = record { phase = Awaiting; waiting = []; size = 0; line = []; ended = 0; running = false; sent = 0 }
 
 -- the line without the tests that ended
-abbrev pub left : Call → List LineEntry
+abbrev pub left : FunctionCall → List LineEntry
 left c = drop c.ended c.line
 
 -- the ended tests, the running one and the next
-abbrev pub passed : Call → ℕ
+abbrev pub passed : FunctionCall → ℕ
 passed c = c.ended + (if c.running then 2 else 1)
 
 -- the line up to its next entry, which no steal can take
-abbrev pub front : Call → List LineEntry
+abbrev pub front : FunctionCall → List LineEntry
 front c = take (passed c) c.line
 
 -- the entries after the next one, of which a steal may take tests
-abbrev pub queue : Call → List LineEntry
+abbrev pub queue : FunctionCall → List LineEntry
 queue c = drop (passed c) c.line
 
 -- the test that stands first; none where a mark does, or nothing
@@ -47,12 +47,12 @@ head_test (Test n ∷ ps) = Some n
 head_test (Mark ∷ ps) = None
 
 -- the test that runs, if one does: the first that has not ended
-abbrev pub running_test : Call → Option ℕ
+abbrev pub running_test : FunctionCall → Option ℕ
 running_test c = if c.running then head_test (left c) else None
 
 -- the log of the test that starts after m others: a choice of this project
-abbrev pub log_of : ℕ → ℕ
-log_of m = 2 * m + 2
+abbrev pub number_of_log : ℕ → ℕ
+number_of_log m = 2 * m + 2
 
 -- a test stands among these entries
 abbrev pub has_test : ℕ → List LineEntry → Bool

@@ -5,7 +5,7 @@ use Rattle.xd_journal.specs.declared.news.What.TheVariants.{Collected, LogStart,
 use Rattle.xd_run_tests.specs.declared.ask.Ask.TheVariants.{Tell}
 use Rattle.xd_run_tests.specs.declared.input.Input.{Input}
 use Rattle.xd_run_tests.specs.declared.input.Input.TheVariants as input
-use Rattle.xd_run_tests.specs.History.{Given, asked, started_tests}
+use Rattle.xd_run_tests.specs.History.{Given, all_asks, started_tests}
 
 -- the ids of a suite of five
 abbrev pub five : List (List ℕ)
@@ -26,5 +26,5 @@ steals =
 
 -- The first steal is answered by both of its tests and the second by none, as test 1 is the next; test 0 alone starts.
 pub record StealRow : Type 0 where
-  pub asks : asked steals ≡ Tell (Collected five) ∷ Tell (LogStart 0 2) ∷ Tell (Back (3 ∷ 4 ∷ [])) ∷ Tell (Back []) ∷ []
+  pub asks : all_asks steals ≡ Tell (Collected five) ∷ Tell (LogStart 0 2) ∷ Tell (Back (3 ∷ 4 ∷ [])) ∷ Tell (Back []) ∷ []
   pub runs : started_tests steals ≡ 0 ∷ []

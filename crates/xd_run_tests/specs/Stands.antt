@@ -10,7 +10,7 @@ use Rattle.xd_run_tests.specs.declared.ask.Acts.{Acts}
 use Rattle.xd_run_tests.specs.declared.run_tests.steal.Asked.{Asked}
 use Rattle.xd_run_tests.specs.declared.run_tests.steal.Asked.TheVariants.{Bad, Missing, Marked}
 use Rattle.xd_run_tests.specs.declared.run_tests.RunTests.{RunTests}
-use Rattle.xd_run_tests.specs.Line.{Call, running_test, log_of, has_test, can_give, can_ask, is_among, taken, kept}
+use Rattle.xd_run_tests.specs.Line.{FunctionCall, running_test, number_of_log, has_test, can_give, can_ask, is_among, taken, kept}
 use Rattle.xd_run_tests.specs.Turns.{Turn}
 
 -- the running test as an entry of the line, if one runs
@@ -109,7 +109,7 @@ pub record TakenOut (ns : List ℕ) (before : List Standing) (queue : List LineE
   pub freed : (n : ℕ) → n < length before → slice_index_or after n Free ≡ freed_at (has_test n done && is_among n ns) (slice_index_or before n Free)
 
 -- where each test of the suite stands
-pub record StandsAt (stands : List Standing) (ahead queue : List LineEntry) : Type 0 where
+pub record EachStandsAt (stands : List Standing) (ahead queue : List LineEntry) : Type 0 where
   pub at : (n : ℕ) → n < length stands → slice_index_or stands n Free ≡ standing_of n ahead queue
 
 -- the line is cut into the ended tests, the running one, the next entry and the queue
@@ -119,15 +119,15 @@ pub record IsCut (running : Option Running) (next : Option LineEntry) (queue : L
   pub line_is : line ≡ (done ++ (running_places running ++ option_to_list next)) ++ queue
   -- after a running test there is a next entry
   pub idle : next ≡ None → running ≡ None
-  pub standing : StandsAt stands (done ++ (running_places running ++ option_to_list next)) queue
+  pub standing : EachStandsAt stands (done ++ (running_places running ++ option_to_list next)) queue
 
 -- the number of the running test's log, if one runs, and that of the log which opens next
 abbrev pub IsLog : Option Running → ℕ → ℕ → Type 0
-IsLog None next ended = next ≡ log_of ended
-IsLog (Some r) next ended = (r.log ≡ log_of ended) × (next ≡ log_of (ended + 1))
+IsLog None next ended = next ≡ number_of_log ended
+IsLog (Some r) next ended = (r.log ≡ number_of_log ended) × (next ≡ number_of_log (ended + 1))
 
 -- what holds in every phase
-pub record IsHeld (s : RunTests) (c : Call) : Type 0 where
+pub record IsHeld (s : RunTests) (c : FunctionCall) : Type 0 where
   pub waiting_is : s.waiting.items ≡ c.waiting
   pub size_is : length s.stands.items ≡ c.size
   pub suite_is : s.size ≡ c.size
@@ -138,13 +138,13 @@ pub record IsHeld (s : RunTests) (c : Call) : Type 0 where
   pub log_is : IsLog s.running s.next_log c.ended
 
 -- The parts are those of this call; while it serves, they hold its line, cut into pieces.
-pub record IsCall (s : RunTests) (c : Call) : Type 0 where
+pub record IsCall (s : RunTests) (c : FunctionCall) : Type 0 where
   pub held : IsHeld s c
   pub phase_is : s.phase ≡ c.phase
   pub cut : c.phase ≡ Serving → IsCut s.running s.next s.queue.items s.stands.items c.line c.ended
 
 -- without a next entry the queue is empty
-abbrev pub IsReady : RunTests → Call → Type 0
+abbrev pub IsReady : RunTests → FunctionCall → Type 0
 IsReady s c = c.phase ≡ Serving → s.next ≡ None → s.queue.items ≡ []
 
 -- what was asked for so far, and the test to start, are those of a turn
@@ -153,7 +153,7 @@ pub record HasActed (a : Acts) (t : Turn) : Type 0 where
   pub run_is : a.run ≡ t.run
 
 -- a turn of which only what holds in every phase is known
-pub record Holds (s : RunTests) (a : Acts) (t : Turn) : Type 0 where
+pub record HoldsInAnyPhase (s : RunTests) (a : Acts) (t : Turn) : Type 0 where
   pub held : IsHeld s t.call
   pub acted : HasActed a t
 
@@ -171,6 +171,6 @@ pub record Stands (s : RunTests) (a : Acts) (t : Turn) : Type 0 where
 -- tests were put at a queue's end, or one of them cannot be
 pub record Appends (stands : List Standing) (queue : List LineEntry) (stands' : List Standing) (queue' : List LineEntry) (ns : List ℕ) (b : Bool) : Type 0 where
   pub size : length stands' ≡ length stands
-  pub gives : (ahead : List LineEntry) → StandsAt stands ahead queue → b ≡ can_give (length stands) (ahead ++ queue) ns
+  pub gives : (ahead : List LineEntry) → EachStandsAt stands ahead queue → b ≡ can_give (length stands) (ahead ++ queue) ns
   pub queue_is : b ≡ true → queue' ≡ queue ++ map Test ns
-  pub standing : (ahead : List LineEntry) → b ≡ true → StandsAt stands ahead queue → StandsAt stands' ahead queue'
+  pub standing : (ahead : List LineEntry) → b ≡ true → EachStandsAt stands ahead queue → EachStandsAt stands' ahead queue'

@@ -17,11 +17,11 @@ use Rattle.xd_run_tests.specs.declared.ask.Ask.{Ask}
 use Rattle.xd_run_tests.specs.declared.ask.Ask.TheVariants.{Tell, Piece, CloseLog, End}
 use Rattle.xd_run_tests.specs.declared.input.Input.{Input}
 use Rattle.xd_run_tests.specs.declared.input.Input.TheVariants as input
-use Rattle.xd_run_tests.specs.Line.{Call, left, front, queue, running_test, log_of, can_give, can_ask, all_queued, kept, taken}
+use Rattle.xd_run_tests.specs.Line.{FunctionCall, left, front, queue, running_test, number_of_log, can_give, can_ask, all_queued, kept, taken}
 
 -- an input's effect so far: what the side is asked, and a test to start
 pub record Turn : Type 0 where
-  pub call : Call
+  pub call : FunctionCall
   pub asks : List Ask
   pub run : Option ℕ
 
@@ -53,13 +53,13 @@ finished t = over None (asking (Tell Finished ∷ []) t)
 
 -- the number of the log of the test that starts after m others is one that a channel may have
 abbrev pub has_log : ℕ → Bool
-has_log m = nat_le (log_of m) 2147483647
+has_log m = nat_le (number_of_log m) 2147483647
 
 -- a test starts, and `logstart` names its log
-abbrev pub started : ℕ → Turn → Turn
-started n t = record {
+abbrev pub test_started : ℕ → Turn → Turn
+test_started n t = record {
   call = record (t.call) { running = true; sent = 0 };
-  asks = t.asks ++ Tell (LogStart n (log_of t.call.ended)) ∷ [];
+  asks = t.asks ++ Tell (LogStart n (number_of_log t.call.ended)) ∷ [];
   run = Some n;
 }
 
@@ -68,17 +68,17 @@ abbrev pub moved_on : Bool → List LineEntry → Turn → Turn
 moved_on room [] t = t
 moved_on room (Mark ∷ ps) t = finished t
 moved_on room (Test n ∷ []) t = t
-moved_on room (Test n ∷ (p ∷ ps)) t = if room && has_log t.call.ended then started n t else over (Some too_many_channels) t
+moved_on room (Test n ∷ (p ∷ ps)) t = if room && has_log t.call.ended then test_started n t else over (Some too_many_channels) t
 
 -- where no test runs, the line moves on
-abbrev pub settled : Bool → Turn → Turn
-settled room t = if t.call.running then t else moved_on room (left t.call) t
+abbrev pub line_settled : Bool → Turn → Turn
+line_settled room t = if t.call.running then t else moved_on room (left t.call) t
 
 -- `runtests`: these tests stand at the line's end, or the command is bad
 abbrev pub given : Bool → List ℕ → Turn → Turn
 given room ns t =
     if can_give t.call.size t.call.line ns
-    then settled room (record t { call = record (t.call) { line = t.call.line ++ map Test ns } })
+    then line_settled room (record t { call = record (t.call) { line = t.call.line ++ map Test ns } })
     else ended_early BadCommand t
 
 -- `steal` of good numbers: all of these tests go back where all stand in the queue, and else none
@@ -99,7 +99,7 @@ told room None t = ended_early BadCommand t
 told room (Some (RunTests ns)) t = given room ns t
 told room (Some RunAll) t = given room (range_with_len 0 t.call.size) t
 told room (Some (Steal ns)) t = stolen_if ns t
-told room (Some Shutdown) t = settled room (record t { call = record (t.call) { line = t.call.line ++ Mark ∷ [] } })
+told room (Some Shutdown) t = line_settled room (record t { call = record (t.call) { line = t.call.line ++ Mark ∷ [] } })
 
 -- an item in a phase: before the collection it waits, and after an end it is left out
 abbrev pub heard_in : Phase → Bool → Option Order → Turn → Turn
@@ -119,14 +119,14 @@ all_heard room [] t = t
 all_heard room (o ∷ os) t = all_heard room os (heard room o t)
 
 -- the function serves a suite of that many tests from now on
-abbrev pub opened : ℕ → Call → Call
-opened size c = record c { phase = Serving; size = size; waiting = []; line = []; ended = 0; running = false }
+abbrev pub serving_suite : ℕ → FunctionCall → FunctionCall
+serving_suite size c = record c { phase = Serving; size = size; waiting = []; line = []; ended = 0; running = false }
 
 -- the collection is sent, and what waited takes effect
 abbrev pub collected_in : Phase → Bool → List (List ℕ) → Turn → Turn
 collected_in Awaiting room ids t =
     all_heard room t.call.waiting (record {
-      call = opened (length ids) t.call;
+      call = serving_suite (length ids) t.call;
       asks = t.asks ++ Tell (Collected ids) ∷ [];
       run = t.run;
     })
@@ -160,33 +160,33 @@ piece_asks log (b ∷ bs) = Piece log (b ∷ bs) ∷ []
 abbrev pub put_out : List ℕ → Turn → Turn
 put_out bytes t = record {
   call = record (t.call) { sent = t.call.sent + length (take (most_of_one - t.call.sent) bytes) };
-  asks = t.asks ++ piece_asks (log_of t.call.ended) (take (most_of_one - t.call.sent) bytes);
+  asks = t.asks ++ piece_asks (number_of_log t.call.ended) (take (most_of_one - t.call.sent) bytes);
   run = t.run;
 }
 
 -- output of the running test in a phase; where the worker is to end, it is left out
-abbrev pub output_in : Phase → List ℕ → Turn → Turn
-output_in Stopped bytes t = t
-output_in Awaiting bytes t = put_out bytes t
-output_in Serving bytes t = put_out bytes t
-output_in (phase.Ending e) bytes t = put_out bytes t
-output_in Over bytes t = put_out bytes t
+abbrev pub output_by_phase : Phase → List ℕ → Turn → Turn
+output_by_phase Stopped bytes t = t
+output_by_phase Awaiting bytes t = put_out bytes t
+output_by_phase Serving bytes t = put_out bytes t
+output_by_phase (phase.Ending e) bytes t = put_out bytes t
+output_by_phase Over bytes t = put_out bytes t
 
 -- the running test ended
-abbrev pub without_run : Call → Call
+abbrev pub without_run : FunctionCall → FunctionCall
 without_run c = record c { running = false; ended = c.ended + 1 }
 
 -- the running test's log is closed, and its end is told: `runtest_protocol_complete`
 abbrev pub told_done : ℕ → Outcome → ℕ → Turn → Turn
 told_done n outcome ms t = record {
   call = without_run t.call;
-  asks = t.asks ++ CloseLog (log_of t.call.ended) ∷ Tell (Done n outcome ms) ∷ [];
+  asks = t.asks ++ CloseLog (number_of_log t.call.ended) ∷ Tell (Done n outcome ms) ∷ [];
   run = t.run;
 }
 
 -- the running test ended in a phase: the line moves on, or an early end that waited comes
 abbrev pub done_in : Phase → Bool → ℕ → Outcome → ℕ → Turn → Turn
-done_in Serving room n outcome ms t = settled room (told_done n outcome ms t)
+done_in Serving room n outcome ms t = line_settled room (told_done n outcome ms t)
 done_in (phase.Ending e) room n outcome ms t = over (ending_text e) (told_done n outcome ms t)
 done_in Stopped room n outcome ms t = record t { call = without_run t.call }
 done_in Awaiting room n outcome ms t = t
@@ -202,9 +202,9 @@ abbrev pub stopped : Turn → Turn
 stopped t = record t { call = record (t.call) { phase = Stopped } }
 
 -- output of the running test's program, where a test runs
-abbrev pub output_of : Option ℕ → Phase → List ℕ → Turn → Turn
-output_of None phase bytes t = t
-output_of (Some n) phase bytes t = output_in phase bytes t
+abbrev pub output_fed : Option ℕ → Phase → List ℕ → Turn → Turn
+output_fed None phase bytes t = t
+output_fed (Some n) phase bytes t = output_by_phase phase bytes t
 
 -- one input in a phase, with a running test or none
 abbrev pub answered_in : Phase → Option ℕ → Bool → Input → Turn → Turn
@@ -212,7 +212,7 @@ answered_in phase test room (input.Command o) t = heard_in phase room o t
 answered_in phase test room input.ReceivingEnded t = receiving_ended_in phase t
 answered_in phase test room (input.Suite ids) t = collected_in phase room ids t
 answered_in phase test room (input.SuiteRefused text) t = suite_refused_in phase text t
-answered_in phase test room (input.Output bytes) t = output_of test phase bytes t
+answered_in phase test room (input.Output bytes) t = output_fed test phase bytes t
 answered_in phase test room (input.Done outcome ms) t = done_of test phase room outcome ms t
 answered_in phase test room input.Stop t = stopped t
 
@@ -221,7 +221,7 @@ abbrev pub answered : Bool → Input → Turn → Turn
 answered room f t = answered_in t.call.phase (running_test t.call) room f t
 
 -- a call before anything was done in this turn
-abbrev pub turn_of : Call → Turn
+abbrev pub turn_of : FunctionCall → Turn
 turn_of c = record { call = c; asks = []; run = None }
 
 -- a suite has fewer tests than 2 ^ 32

@@ -42,7 +42,7 @@ pub struct RunTests {
 }
 
 impl RunTests {
-    ghost use Rattle.xd_run_tests.specs.Line.{Call, running_test};
+    ghost use Rattle.xd_run_tests.specs.Line.{FunctionCall, running_test};
     ghost use Rattle.xd_run_tests.specs.Turns.{Turn, answered_in, answered, turn_of, CanTake};
     ghost use Rattle.xd_run_tests.specs.Stands.{Stands, IsReady, IsCall, test_of};
     ghost use Rattle.xd_run_tests.specs.History.{Given, StandsFor, call_after, turn_after};
@@ -87,7 +87,7 @@ impl RunTests {
 
     fn answer(&mut self, input: Input, room: bool) -> Result<Acts, OutOfMemory>
         requires { CanTake input }
-        ensures { (c : Call) → IsCall self.old c → IsReady self.old c → IfOk result (λ acts. Stands self.new acts (answered room input (turn_of c))) }
+        ensures { (c : FunctionCall) → IsCall self.old c → IsReady self.old c → IfOk result (λ acts. Stands self.new acts (answered room input (turn_of c))) }
     {
         let mut acts = Acts {
             asks: Vec::new(self.alloc),

@@ -14,7 +14,7 @@ use Rattle.xd_reader.specs.declared.news.LinkNews.{LinkNews}
 use Rattle.xd_reader.specs.declared.news.LinkNews.TheVariants.{End}
 use Rattle.xd_reader.specs.declared.news.LinkStop.TheVariants.{OutOfMemory}
 use Rattle.xd_child.specs.Ending.{fault_count, outcome_of}
-use Rattle.xd_runner.specs.Orders.{ArePieces, EndsCut, EndsWell, IsCommand, Mails, Order, Runs, RunsOrders, Seen, TakesOf, Told, all_news, ran_of, told_news}
+use Rattle.xd_runner.specs.Orders.{ArePieces, EndsCut, EndsWell, IsCommand, Mails, Order, Runs, RunsOrders, Seen, TakesOf, ToldOfProgram, all_news, ran_of, told_news}
 use Rattle.xd_runner.specs.Programs.{AreRun, CameTo, Ran, faults_of}
 use Rattle.xd_runner.specs.Running.{RunsOne, RunsPart}
 
@@ -71,7 +71,7 @@ run_more started ran args output outcome first mid new a c =
 faults_more : (ran : List Ran) (r : Ran) → faults_of (ran ++ r ∷ []) ≡ faults_of ran + fault_count r.outcome
 faults_more ran r = let e = sum_by-append (λ (x : Ran). fault_count x.outcome) ran (r ∷ []) in omega (arith, e)
 
-news_more : (told : List Told) (t : Told) → all_news (told ++ t ∷ []) ≡ all_news told ++ told_news t
+news_more : (told : List ToldOfProgram) (t : ToldOfProgram) → all_news (told ++ t ∷ []) ≡ all_news told ++ told_news t
 news_more [] t = append-nil (told_news t)
 news_more (x ∷ xs) t = ap (λ (l : List LinkNews). told_news x ++ l) (news_more xs t) ∙ sym (append_assoc (told_news x) (all_news xs) (told_news t))
 
@@ -86,7 +86,7 @@ rose_more a b x y z first then later = λ below.
 
 pub record SoFar (old new : Mails) (s0 s1 : Seen) (before after : List LinkNews) : Type 0 where
   pub orders : List Order
-  pub told : List Told
+  pub told : List ToldOfProgram
   pub took : TakesOf orders old new
   pub runs : Runs orders told s0 s1 before after
 

@@ -15,7 +15,7 @@ use Rattle.xd_reader.specs.declared.news.LinkNews.TheVariants.{Output, ChildDone
 use Rattle.xd_child.specs.Ending.{Waited, fault_count, fate_so, outcome_of}
 use Rattle.xd_runner.specs.Orders.{IsPiece, Order, Seen, seen}
 use Rattle.xd_runner.specs.Programs.{CameTo, read_so}
-use Rattle.xd_runner.specs.Running.{Heard, HeardPart, RunsOne, RunsPart, RunsTo, Waits, Watches, WatchesPart}
+use Rattle.xd_runner.specs.Running.{PutsOutput, HeardPart, RunsOne, RunsPart, RunsTo, Waits, Watches, WatchesPart}
 use Rattle.xd_child.proofs.Waiting.{faults_to_end, still_to_end}
 use lib.IntN.{negsuc}
 
@@ -68,10 +68,10 @@ put_next before mid after pieces p e f =
 
 -- ---- what a program prints is heard
 
-pub heard_none : (place : ℕ) (runs : Option (List ChildRun)) (before : List LinkNews) → Heard true place runs runs before before
+pub heard_none : (place : ℕ) (runs : Option (List ChildRun)) (before : List LinkNews) → PutsOutput true place runs runs before before
 heard_none place runs before = record { pieces = []; puts = sym (append-nil before); sizes = All-nil IsPiece; changes = output_none place runs }
 
-pub heard_more : (k place : ℕ) (p : List ℕ) (old mid new : Option (List ChildRun)) (before between after : List LinkNews) → k ≡ place → IsPiece p → ChangesRun k (with_output p) mid new → after ≡ between ++ Output p ∷ [] → Heard true place old mid before between → Heard true place old new before after
+pub heard_more : (k place : ℕ) (p : List ℕ) (old mid new : Option (List ChildRun)) (before between after : List LinkNews) → k ≡ place → IsPiece p → ChangesRun k (with_output p) mid new → after ≡ between ++ Output p ∷ [] → PutsOutput true place old mid before between → PutsOutput true place old new before after
 heard_more k place p old mid new before between after e size gave put h = record {
   pieces = h.pieces ++ p ∷ [];
   puts = put_next before between after h.pieces p h.puts put;
@@ -79,13 +79,13 @@ heard_more k place p old mid new before between after e size gave put h = record
   changes = subst (λ (l : List ℕ). ChangesRun place (with_output l) old new) (sym (whole_more h.pieces p)) (output_more k place (whole_output h.pieces) p old mid new e h.changes gave);
 }
 
-pub heard_all : (k place : ℕ) (p : List ℕ) (old mid new : Option (List ChildRun)) (before after : List LinkNews) → k ≡ place → p ≡ [] → ChangesRun k (with_output p) mid new → Heard true place old mid before after → Heard true place old new before after
+pub heard_all : (k place : ℕ) (p : List ℕ) (old mid new : Option (List ChildRun)) (before after : List LinkNews) → k ≡ place → p ≡ [] → ChangesRun k (with_output p) mid new → PutsOutput true place old mid before after → PutsOutput true place old new before after
 heard_all k place p old mid new before after e none gave h = record { pieces = h.pieces; puts = h.puts; sizes = h.sizes; changes = output_end k place (whole_output h.pieces) p old mid new e none h.changes gave }
 
-pub heard_unread : (k place : ℕ) (old mid new : Option (List ChildRun)) (before after : List LinkNews) → k ≡ place → ChangesRun k with_read_fault mid new → Heard true place old mid before after → Heard false place old new before after
+pub heard_unread : (k place : ℕ) (old mid new : Option (List ChildRun)) (before after : List LinkNews) → k ≡ place → ChangesRun k with_read_fault mid new → PutsOutput true place old mid before after → PutsOutput false place old new before after
 heard_unread k place old mid new before after e failed h = record { pieces = h.pieces; puts = h.puts; sizes = h.sizes; changes = output_part k place (whole_output h.pieces) old mid new e h.changes failed }
 
-pub heard_part : (k place : ℕ) (p : List ℕ) (old mid new : Option (List ChildRun)) (before between after : List LinkNews) → k ≡ place → ChangesRun k (with_output p) mid new → after ≡ between → Heard true place old mid before between → HeardPart place old new before after
+pub heard_part : (k place : ℕ) (p : List ℕ) (old mid new : Option (List ChildRun)) (before between after : List LinkNews) → k ≡ place → ChangesRun k (with_output p) mid new → after ≡ between → PutsOutput true place old mid before between → HeardPart place old new before after
 heard_part k place p old mid new before between after e gave none h = record {
   pieces = h.pieces;
   puts = none ∙ h.puts;
@@ -104,7 +104,7 @@ waits_for k place whole output outcome old mid new e c w = record {
   changes = changes_twice place (with_last w.last) (read_so whole output) (λ r. with_last w.last (read_so whole output r)) old mid new (λ r. refl) c (changes_at k place (with_last w.last) mid new e w.changes);
 }
 
-pub watches : (k place : ℕ) (whole : Bool) (outcome : Outcome) (old mid new : Option (List ChildRun)) (first read now : ℕ) (before after : List LinkNews) → k ≡ place → Heard whole place old mid before after → Counted whole first read → Waited whole k outcome mid new
+pub watches : (k place : ℕ) (whole : Bool) (outcome : Outcome) (old mid new : Option (List ChildRun)) (first read now : ℕ) (before after : List LinkNews) → k ≡ place → PutsOutput whole place old mid before after → Counted whole first read → Waited whole k outcome mid new
     → read ≤ now → (whole ≡ true → RoseBy (fault_count outcome) read now) → (fault_count outcome ≡ 0 → now ≡ read) → Watches outcome place (seen old first) (seen new now) before after
 watches k place whole outcome old mid new first read now before after e h count w later rose still = record {
   pieces = h.pieces;

@@ -24,20 +24,20 @@ abbrev pub TakesOf : List Order → Mails → Mails → Type 0
 TakesOf orders old new = (ring : Ring) (got : List Order) → old ≡ Some (ring, got) ∷ [] → new ≡ Some (ring, got ++ orders) ∷ []
 
 -- what was put of a program: what it printed, in pieces, and how its test went
-pub record Told : Type 0 where
+pub record ToldOfProgram : Type 0 where
   pub pieces : List (List ℕ)
   pub outcome : Outcome
 
 -- what came of the test
-abbrev pub ran_of : Told → Ran
+abbrev pub ran_of : ToldOfProgram → Ran
 ran_of t = record { output = whole_output t.pieces; outcome = t.outcome }
 
 -- the news of one program
-abbrev pub told_news : Told → List LinkNews
+abbrev pub told_news : ToldOfProgram → List LinkNews
 told_news t = map Output t.pieces ++ ChildDone t.outcome ∷ []
 
 -- the news of programs that ran one after another
-abbrev pub all_news : List Told → List LinkNews
+abbrev pub all_news : List ToldOfProgram → List LinkNews
 all_news [] = []
 all_news (t ∷ ts) = told_news t ++ all_news ts
 
@@ -46,7 +46,7 @@ abbrev pub IsPiece : List ℕ → Type 0
 IsPiece bytes = (1 ≤ length bytes) × (length bytes ≤ most_piece_bytes)
 
 -- what a program printed was put in pieces of the sizes that they may have
-abbrev pub ArePieces : Told → Type 0
+abbrev pub ArePieces : ToldOfProgram → Type 0
 ArePieces t = All IsPiece t.pieces
 
 -- an order that names a program, and does not end the orders
@@ -63,7 +63,7 @@ abbrev pub seen : Option (List ChildRun) → ℕ → Seen
 seen runs faults = record { runs = runs; faults = faults }
 
 -- These orders were run one after another, one child for each, and this was put of them.
-pub record Runs (orders : List Order) (told : List Told) (s0 s1 : Seen) (before after : List LinkNews) : Type 0 where
+pub record Runs (orders : List Order) (told : List ToldOfProgram) (s0 s1 : Seen) (before after : List LinkNews) : Type 0 where
   pub commands : All IsCommand orders
   pub puts : after ≡ before ++ all_news told
   pub pieces : All ArePieces told
@@ -97,7 +97,7 @@ pub record EndsCut (orders : List Order) (old new : Mails) (s0 s1 : Seen) (befor
 -- Orders were taken and run, up to the empty one, or until memory ran out.
 pub record RunsOrders (old new : Mails) (s0 s1 : Seen) (before after : List LinkNews) : Type 0 where
   pub orders : List Order
-  pub told : List Told
+  pub told : List ToldOfProgram
   pub mid : Seen
   pub sent : List LinkNews
   pub runs : Runs orders told s0 mid before sent

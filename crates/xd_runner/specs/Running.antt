@@ -8,11 +8,11 @@ use Rattle.xd_journal.specs.declared.entry.Outcome.{Outcome}
 use Rattle.xd_reader.specs.declared.news.LinkNews.{LinkNews}
 use Rattle.xd_reader.specs.declared.news.LinkNews.TheVariants.{Output}
 use Rattle.xd_child.specs.Ending.{fault_count, fate_so, outcome_of}
-use Rattle.xd_runner.specs.Orders.{ArePieces, IsLeft, IsPiece, Order, Seen, Told, told_news}
+use Rattle.xd_runner.specs.Orders.{ArePieces, IsLeft, IsPiece, Order, Seen, ToldOfProgram, told_news}
 use Rattle.xd_runner.specs.Programs.{CameTo, read_so}
 
 -- What a program printed was put, in pieces, and then it could not be read where it was not read to its end.
-pub record Heard (whole : Bool) (place : ℕ) (old new : Option (List ChildRun)) (before after : List LinkNews) : Type 0 where
+pub record PutsOutput (whole : Bool) (place : ℕ) (old new : Option (List ChildRun)) (before after : List LinkNews) : Type 0 where
   pub pieces : List (List ℕ)
   pub puts : after ≡ before ++ map Output pieces
   pub sizes : All IsPiece pieces
@@ -65,7 +65,7 @@ pub record RunsTo (outcome : Outcome) (order : Order) (s0 s1 : Seen) (before aft
 
 -- One order was run.
 pub record RunsOne (order : Order) (s0 s1 : Seen) (before after : List LinkNews) : Type 0 where
-  pub told : Told
+  pub told : ToldOfProgram
   pub puts : after ≡ before ++ told_news told
   pub pieces : ArePieces told
   pub came : CameTo order (whole_output told.pieces) told.outcome s0.runs s1.runs

@@ -7,7 +7,7 @@ ghost use Rattle.xd_post.specs.Post.{put, ring_of_sender};
 ghost use Rattle.xd_reader.specs.declared.news.LinkNews.TheVariants.{Output};
 ghost use Rattle.xd_runner.specs.Orders.{RunsOrders, seen};
 ghost use Rattle.xd_runner.specs.Programs.{read_so};
-ghost use Rattle.xd_runner.specs.Running.{Heard, HeardPart, RunsOne, RunsPart, RunsTo, Watches, WatchesPart};
+ghost use Rattle.xd_runner.specs.Running.{PutsOutput, HeardPart, RunsOne, RunsPart, RunsTo, Watches, WatchesPart};
 
 use std::alloc::Global;
 use std::sync::Wait;
@@ -112,7 +112,7 @@ fn hear_output<R: Wait, K: Children>(
 ) -> Result<bool, OutOfMemory>
     ensures same_child { K.place child.new ≡ K.place child.old }
     ensures is_read { OnOk result (IsTrue (K.is_read child.new)) }
-    ensures heard { IfOk result (λ whole. Heard whole (K.place child.old) (K.runs children.old) (K.runs children.new) (put sender.old) (put sender.new)) }
+    ensures heard { IfOk result (λ whole. PutsOutput whole (K.place child.old) (K.runs children.old) (K.runs children.new) (put sender.old) (put sender.new)) }
     ensures counted { IfOk result (λ whole. Counted whole (K.faults children.old) (K.faults children.new)) }
     ensures part { OnErr result (HeardPart (K.place child.old) (K.runs children.old) (K.runs children.new) (put sender.old) (put sender.new)) }
     ensures later { K.faults children.old ≤ K.faults children.new }

@@ -7,7 +7,7 @@ use Rattle.xd_journal.specs.declared.entry.Entry.{Entry}
 use Rattle.xd_edge.specs.declared.mode.ModeKind.{ModeKind}
 use Rattle.xd_edge.specs.declared.mode.ModeKind.TheVariants.{Local, Each, Load, LoadScope, LoadFile, LoadGroup, WorkSteal}
 use Rattle.xd_ledger.specs.Calls.{Turned, death_plan, last_of, turn}
-use Rattle.xd_ledger.specs.Modes.{Call, scope_turn, turned}
+use Rattle.xd_ledger.specs.Modes.{ModeCall, scope_turn, turned}
 use Rattle.xd_ledger.specs.Plan.{Plan, is_scope}
 use Rattle.xd_ledger.specs.Sharing.{shared_plan}
 use Rattle.xd_ledger.specs.Deaths.{down_plan}
@@ -20,7 +20,7 @@ use Rattle.xd_scope.specs.Stands.{IsAt, Keeps, given_to, left_of_each}
 use Rattle.xd_scope.proofs.Amounts.{few-units}
 use Rattle.xd_scope.proofs.Remains.{units-left}
 
-turned-scope : (m : ModeKind) (c : Call) (t : Turn) → is_scope m ≡ true → turned m c t ≡ scope_turn c t
+turned-scope : (m : ModeKind) (c : ModeCall) (t : Turn) → is_scope m ≡ true → turned m c t ≡ scope_turn c t
 turned-scope Local c t h = absurd (cc)
 turned-scope Each c t h = absurd (cc)
 turned-scope Load c t h = absurd (cc)
@@ -32,7 +32,7 @@ turned-scope WorkSteal c t h = absurd (cc)
 pub scope-mode : (u : Units) (p : Plan) → Keeps u p → is_scope p.mode ≡ true
 scope-mode u p k = ap is_scope k.mode ∙ k.scope
 
-pub turned-at : (c : Call) (p : Plan) (before : Table) (acts : List Entry) (after : Table) (acts_now : List Entry) (u v : Units) → Keeps u p → IsAt (scope_turn c (turn before p acts)) after acts_now v → Turned c p before acts after acts_now (λ q. Keeps v q)
+pub turned-at : (c : ModeCall) (p : Plan) (before : Table) (acts : List Entry) (after : Table) (acts_now : List Entry) (u v : Units) → Keeps u p → IsAt (scope_turn c (turn before p acts)) after acts_now v → Turned c p before acts after acts_now (λ q. Keeps v q)
 turned-at c p before acts after acts_now u v k h =
     let e = sym (turned-scope p.mode c (turn before p acts) (scope-mode u p k)) in
     let g = subst (λ (t : Turn). IsAt t after acts_now v) e h in

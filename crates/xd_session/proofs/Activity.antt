@@ -11,11 +11,11 @@ use Rattle.xd_journal.specs.declared.entry.Entry.TheVariants.{Ready, Collected, 
 use Rattle.xd_ledger.specs.declared.member.Member.{Member}
 use Rattle.xd_ledger.specs.Books.{marked}
 use Rattle.xd_ledger.specs.Collections.{listed, unequal, with_list}
-use Rattle.xd_ledger.specs.Histories.{begun, journal_of, stepped_all}
+use Rattle.xd_ledger.specs.Histories.{after_starts, journal_of, after_inputs}
 use Rattle.xd_ledger.specs.Orderly.{is_orderly}
 use Rattle.xd_ledger.specs.Proper.{IsProper, may_follow}
 use Rattle.xd_ledger.specs.Sharing.{State, in_books}
-use Rattle.xd_ledger.specs.State.{moved, no_one}
+use Rattle.xd_ledger.specs.State.{after_effect, no_one}
 use Rattle.xd_ledger.specs.Workers.{has_collected, is_active, is_shut, made_collected, made_gone, made_ready, made_shut, started, was_ready}
 use Rattle.xd_ledger.specs.Proper.{are_ids}
 use Rattle.xd_laws.proofs.Crew.{has, has-cleared, has-member, has-more, has-same, is_member}
@@ -108,11 +108,11 @@ active-started w v slot ms es e none new k =
 abbrev Now : ℕ → State → List Entry → Type 0
 Now w s es = Active w s.books.crew es
 
-said : (w : ℕ) (s : State) (es : List Entry) (e : Entry) → may_follow s e ≡ true → Now w s es → Now w (moved s e) (es ++ e ∷ [])
+said : (w : ℕ) (s : State) (es : List Entry) (e : Entry) → may_follow s e ≡ true → Now w s es → Now w (after_effect s e) (es ++ e ∷ [])
 said w s es (Ready v) h k = active-marked w s.books.crew (made_ready v) es (Ready v) (λ m. refl) (λ m. refl) refl k
 said w s es (Collected v g) h k =
     let ms = s.books.crew in
-    let crew : (moved s (Collected v g)).books.crew ≡ map (made_collected v) ms =
+    let crew : (after_effect s (Collected v g)).books.crew ≡ map (made_collected v) ms =
     collecting-keeps (λ (u : State). u.books.crew ≡ map (made_collected v) ms) (in_books (λ b. marked (made_collected v) (with_list v g b)) s) v (unequal v g (listed v s.books)) refl refl refl (λ n. refl) in
     subst (λ (ns : List Member). Active w ns (es ++ Collected v g ∷ [])) (sym crew) (active-marked w ms (made_collected v) es (Collected v g) (λ m. refl) (λ m. refl) refl k)
 said w s es (Done v i u m o) h k = active-same w s.books.crew es (Done v i u m o) refl k
@@ -131,7 +131,7 @@ said w s es (Shutdown v) h k = absurd (differ h)
 said w s es (Kill v) h k = absurd (differ h)
 said w s es (Over how) h k = absurd (differ h)
 
-told : (w : ℕ) (s : State) (es : List Entry) (e : Entry) → is_orderly s e ≡ true → Now w s es → Now w (moved s e) (es ++ e ∷ [])
+told : (w : ℕ) (s : State) (es : List Entry) (e : Entry) → is_orderly s e ≡ true → Now w s es → Now w (after_effect s e) (es ++ e ∷ [])
 told w s es (Start v slot) h k = active-started w v slot s.books.crew es (Start v slot) refl (not_true (is_member v s.books.crew) h) k
 told w s es (Run v is) h k = active-same w s.books.crew es (Run v is) refl k
 told w s es (RunAll v) h k = active-same w s.books.crew es (RunAll v) refl k
@@ -155,5 +155,5 @@ keeps_active settings w = record {
   settled = λ s es k. record { active = k.active; known = k.known };
 }
 
-pub active-behind : (settings : Settings) (inputs : List Entry) (w : ℕ) → IsProper settings inputs → Now w (stepped_all (begun settings) inputs) (journal_of settings inputs)
+pub active-behind : (settings : Settings) (inputs : List Entry) (w : ℕ) → IsProper settings inputs → Now w (after_inputs (after_starts settings) inputs) (journal_of settings inputs)
 active-behind settings inputs w p = journal-keeps settings inputs (Now w) (keeps_active settings w) p (record { active = refl; known = λ h. absurd (differ h) })

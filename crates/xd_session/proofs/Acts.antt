@@ -11,8 +11,8 @@ use Rattle.xd_ledger.specs.Books.{Books, on_table}
 use Rattle.xd_ledger.specs.Table.{Table, given_back, held, retried_item}
 use Rattle.xd_ledger.specs.Plan.{Plan, items_named}
 use Rattle.xd_ledger.specs.Calls.{Turned, death_plan}
-use Rattle.xd_ledger.specs.Modes.{Call}
-use Rattle.xd_ledger.specs.Modes.Call.{Died}
+use Rattle.xd_ledger.specs.Modes.{ModeCall}
+use Rattle.xd_ledger.specs.Modes.ModeCall.{Died}
 use Rattle.xd_ledger.specs.Workers.{begun_at, waiting, slot_of}
 use Rattle.xd_ledger.specs.Retry.{is_retry}
 use Rattle.xd_ledger.specs.Stops.{is_stopped, or_stop}
@@ -20,7 +20,7 @@ use Rattle.xd_ledger.specs.Sharing.{State, in_books}
 use Rattle.xd_ledger.specs.Deaths.{after_down, down_books, down_plan, steal_without}
 use Rattle.xd_ledger.specs.Handing.{after_back}
 use Rattle.xd_ledger.specs.Results.{done_books}
-use Rattle.xd_ledger.specs.State.{all_moved, moved, next}
+use Rattle.xd_ledger.specs.State.{after_entries, after_effect, after_entry}
 use Rattle.xd_ledger.specs.Suits.{Finds, Suits}
 use Rattle.xd_ledger.specs.Outputs.{acts_of, own_outputs, shut_all}
 use Rattle.xd_laws.specs.Called.{Called}
@@ -28,19 +28,19 @@ use Rattle.xd_laws.proofs.Calls.{died-called}
 use Rattle.xd_laws.proofs.Inputs.{done-unstopped, down-unstopped, unstopped-before}
 use Rattle.xd_laws.proofs.Logic.{differ, split-and}
 use Rattle.xd_session.specs.Known.{Known, known_of, steal_told}
-use Rattle.xd_session.specs.Rules.{Acted, At, Before, Calls, Closed, Comes, MayDie, Ruled, crew_told, told_all}
-use Rattle.xd_session.proofs.Closing.{all_moved-append, append-nil, ruled, stop-told_all, told-moved}
+use Rattle.xd_session.specs.Rules.{Acted, At, Before, Calls, DidClosing, Comes, MayDie, Ruled, crew_told, told_all}
+use Rattle.xd_session.proofs.Closing.{after_entries-append, append-nil, ruled, stop-told_all, told-moved}
 use Rattle.xd_session.proofs.Orders.{Tells, tells, tells-acts}
 use Rattle.xd_session.proofs.Retrying.{plan-by-pool, plan-unshared}
 
 -- what a mode says changes of the books the table and the marks, and of what is known the open steal
 
-told-books : (es : List Entry) (s : State) → Tells es → (all_moved s es).books ≡ record (s.books) { table = (all_moved s es).books.table; crew = crew_told es s.books.crew }
+told-books : (es : List Entry) (s : State) → Tells es → (after_entries s es).books ≡ record (s.books) { table = (after_entries s es).books.table; crew = crew_told es s.books.crew }
 told-books [] s h = refl
-told-books (Run w is ∷ es) s h = told-books es (next s (Run w is)) (split-and true (list_all tells es) h).1
-told-books (RunAll w ∷ es) s h = told-books es (next s (RunAll w)) (split-and true (list_all tells es) h).1
-told-books (Steal w is ∷ es) s h = told-books es (next s (Steal w is)) (split-and true (list_all tells es) h).1
-told-books (Shutdown w ∷ es) s h = told-books es (next s (Shutdown w)) (split-and true (list_all tells es) h).1
+told-books (Run w is ∷ es) s h = told-books es (after_entry s (Run w is)) (split-and true (list_all tells es) h).1
+told-books (RunAll w ∷ es) s h = told-books es (after_entry s (RunAll w)) (split-and true (list_all tells es) h).1
+told-books (Steal w is ∷ es) s h = told-books es (after_entry s (Steal w is)) (split-and true (list_all tells es) h).1
+told-books (Shutdown w ∷ es) s h = told-books es (after_entry s (Shutdown w)) (split-and true (list_all tells es) h).1
 told-books (Start w slot ∷ es) s h = absurd (differ h)
 told-books (Kill w ∷ es) s h = absurd (differ h)
 told-books (Over how ∷ es) s h = absurd (differ h)
@@ -53,12 +53,12 @@ told-books (Refused w t ∷ es) s h = absurd (differ h)
 told-books (Down w c o ∷ es) s h = absurd (differ h)
 told-books (NotStarted w ∷ es) s h = absurd (differ h)
 
-told-known : (es : List Entry) (s : State) → Tells es → known_of (all_moved s es).plan ≡ record (known_of s.plan) { steal = steal_told es s.plan.steal }
+told-known : (es : List Entry) (s : State) → Tells es → known_of (after_entries s es).plan ≡ record (known_of s.plan) { steal = steal_told es s.plan.steal }
 told-known [] s h = refl
-told-known (Run w is ∷ es) s h = told-known es (next s (Run w is)) (split-and true (list_all tells es) h).1
-told-known (RunAll w ∷ es) s h = told-known es (next s (RunAll w)) (split-and true (list_all tells es) h).1
-told-known (Steal w is ∷ es) s h = told-known es (next s (Steal w is)) (split-and true (list_all tells es) h).1
-told-known (Shutdown w ∷ es) s h = told-known es (next s (Shutdown w)) (split-and true (list_all tells es) h).1
+told-known (Run w is ∷ es) s h = told-known es (after_entry s (Run w is)) (split-and true (list_all tells es) h).1
+told-known (RunAll w ∷ es) s h = told-known es (after_entry s (RunAll w)) (split-and true (list_all tells es) h).1
+told-known (Steal w is ∷ es) s h = told-known es (after_entry s (Steal w is)) (split-and true (list_all tells es) h).1
+told-known (Shutdown w ∷ es) s h = told-known es (after_entry s (Shutdown w)) (split-and true (list_all tells es) h).1
 told-known (Start w slot ∷ es) s h = absurd (differ h)
 told-known (Kill w ∷ es) s h = absurd (differ h)
 told-known (Over how ∷ es) s h = absurd (differ h)
@@ -73,7 +73,7 @@ told-known (NotStarted w ∷ es) s h = absurd (differ h)
 
 -- a call of the mode
 
-pub suits-by : (c : Call) (change : Plan → Plan) (s : State) (b : Books) (k : Known) (stands : Plan → Type 0) → Calls c s b k (Before change stands) → Suits c change b.table stands
+pub suits-by : (c : ModeCall) (change : Plan → Plan) (s : State) (b : Books) (k : Known) (stands : Plan → Type 0) → Calls c s b k (Before change stands) → Suits c change b.table stands
 suits-by c change s b k stands a =
     let q = a.at.stands_for a.going in
     record {
@@ -83,14 +83,14 @@ suits-by c change s b k stands a =
     }
 
 -- a call for which nothing changes of the plan
-pub as-before : (c : Call) (s : State) (b : Books) (k : Known) (stands : Plan → Type 0) → Calls c s b k stands → Calls c s b k (Before (λ p. p) stands)
+pub as-before : (c : ModeCall) (s : State) (b : Books) (k : Known) (stands : Plan → Type 0) → Calls c s b k stands → Calls c s b k (Before (λ p. p) stands)
 as-before c s b k stands a = record {
   at = record { books_are = a.at.books_are; known_is = a.at.known_is; stands_for = λ h. (s.plan, (a.at.stands_for h, refl)) };
   going = a.going;
   called = a.called;
 }
 
-pub acted-call : (c : Call) (change : Plan → Plan) (s : State) (b d : Books) (k j : Known) (none acts : List Entry) (table : Table) (old new : List Entry) (stands stands_now : Plan → Type 0)
+pub acted-call : (c : ModeCall) (change : Plan → Plan) (s : State) (b d : Books) (k j : Known) (none acts : List Entry) (table : Table) (old new : List Entry) (stands stands_now : Plan → Type 0)
     → none ≡ [] → Calls c s b k (Before change stands) → ((p : Plan) → stands p → Turned c (change p) b.table none table acts stands_now)
     → d ≡ record b { table = table; crew = crew_told acts b.crew } → j ≡ record k { steal = steal_told acts k.steal } → new ≡ old ++ acts → Acted (acts_of c s) s d j old new stands_now
 acted-call c change s b d k j none acts table old new stands stands_now z a t de je n =
@@ -98,7 +98,7 @@ acted-call c change s b d k j none acts table old new stands stands_now z a t de
     let t1 : Turned c s.plan b.table none table acts stands_now = subst (λ (p : Plan). Turned c p b.table none table acts stands_now) (sym q.1.1) (t q.0 q.1.0) in
     let t2 : Turned c s.plan b.table [] table acts stands_now = subst (λ (es : List Entry). Turned c s.plan b.table es table acts stands_now) z t1 in
     let t3 : Turned c s.plan s.books.table [] table acts stands_now = subst (λ (x : Books). Turned c s.plan x.table [] table acts stands_now) a.at.books_are t2 in
-    let m : State = all_moved s (acts_of c s) in
+    let m : State = after_entries s (acts_of c s) in
     let acts_are : acts ≡ acts_of c s = t3.acts_are in
     let table_is : table ≡ m.books.table = t3.table_is ∙ sym a.called.table in
     let from : Books → Books = λ x. record x { table = table; crew = crew_told acts x.crew } in
@@ -123,10 +123,10 @@ acted-none s b k es stands a = record { at = a; entries_are = sym (append-nil es
 pub acted-by : (xs ys : List Entry) (s : State) (b : Books) (k : Known) (es fs : List Entry) (stands : Plan → Type 0) → xs ≡ ys → Acted xs s b k es fs stands → Acted ys s b k es fs stands
 acted-by xs ys s b k es fs stands e a = subst (λ zs. Acted zs s b k es fs stands) e a
 
-pub acted-append : (xs ys : List Entry) (s : State) (b c : Books) (k j : Known) (e0 e1 e2 : List Entry) (st0 st : Plan → Type 0) → Acted xs s b k e0 e1 st0 → Acted ys (all_moved s xs) c j e1 e2 st
+pub acted-append : (xs ys : List Entry) (s : State) (b c : Books) (k j : Known) (e0 e1 e2 : List Entry) (st0 st : Plan → Type 0) → Acted xs s b k e0 e1 st0 → Acted ys (after_entries s xs) c j e1 e2 st
     → Acted (xs ++ ys) s c j e0 e2 st
 acted-append xs ys s b c k j e0 e1 e2 st0 st x y = record {
-  at = subst (λ v. At v c j st) (sym (all_moved-append s xs ys)) y.at;
+  at = subst (λ v. At v c j st) (sym (after_entries-append s xs ys)) y.at;
   entries_are = y.entries_are ∙ ap (λ es. es ++ ys) x.entries_are ∙ append_assoc e0 xs ys;
 }
 
@@ -148,11 +148,11 @@ acted-shut s b c k es fs stands a t n =
 
 -- a rule: its entry, its own outputs, the closing
 pub finish : (s : State) (e : Entry) (b c : Books) (k j : Known) (e0 e1 e2 e3 : List Entry) (stands stands_now : Plan → Type 0) → e1 ≡ e0 ++ e ∷ []
-    → Acted (own_outputs s e (moved s e)) (moved s e) b k e1 e2 stands
-    → ((u : State) → At u b k stands → Closed u c j e2 e3 stands_now) → Ruled s e c j e0 e3 stands_now
+    → Acted (own_outputs s e (after_effect s e)) (after_effect s e) b k e1 e2 stands
+    → ((u : State) → At u b k stands → DidClosing u c j e2 e3 stands_now) → Ruled s e c j e0 e3 stands_now
 finish s e b c k j e0 e1 e2 e3 stands stands_now n a f =
-    let own : List Entry = own_outputs s e (moved s e) in
-    ruled s e c j e0 e2 e3 stands_now (f (all_moved (moved s e) own) a.at) (a.entries_are ∙ ap (λ es. es ++ own) n ∙ append_assoc e0 (e ∷ []) own)
+    let own : List Entry = own_outputs s e (after_effect s e) in
+    ruled s e c j e0 e2 e3 stands_now (f (after_entries (after_effect s e) own) a.at) (a.entries_are ∙ ap (λ es. es ++ own) n ∙ append_assoc e0 (e ∷ []) own)
 
 pub choose-second : (q r : Bool) (xs ys zs : List Entry) → q ≡ false → r ≡ true → ys ≡ (if q then xs else if r then ys else zs)
 choose-second false true xs ys zs h k = refl
@@ -179,20 +179,20 @@ choose-once false xs ys = refl
 -- each input
 
 pub done-at : (s : State) (w i : ℕ) (o : Outcome) (ms : ℕ) (out : List ℕ) (item : ℕ) (b c : Books) (k : Known) (stands : Plan → Type 0) → At s b k stands → items_named (slot_of w s.books) (i ∷ []) s.plan ≡ item ∷ []
-    → c ≡ done_books w (item ∷ []) o b → At (moved s (Done w i o ms out)) c k stands
+    → c ≡ done_books w (item ∷ []) o b → At (after_effect s (Done w i o ms out)) c k stands
 done-at s w i o ms out item b c k stands a named e =
     let f : Books → Books = λ d. done_books w (item ∷ []) o d in
     let g : List ℕ → Books = λ is. done_books w is o s.books in
     record { books_are = e ∙ ap f a.books_are ∙ ap g (sym named); known_is = a.known_is; stands_for = λ h. a.stands_for (done-unstopped s w i o ms out h) }
 
-pub gone-left-at : (s : State) (w : ℕ) (b c : Books) (k : Known) (stands : Plan → Type 0) → At s b k stands → c ≡ (moved (record s { books = b }) (Finished w)).books → At (moved s (Finished w)) c k stands
+pub gone-left-at : (s : State) (w : ℕ) (b c : Books) (k : Known) (stands : Plan → Type 0) → At s b k stands → c ≡ (after_effect (record s { books = b }) (Finished w)).books → At (after_effect s (Finished w)) c k stands
 gone-left-at s w b c k stands a e =
-    let f : Books → Books = λ d. (moved (record s { books = d }) (Finished w)).books in
+    let f : Books → Books = λ d. (after_effect (record s { books = d }) (Finished w)).books in
     record { books_are = e ∙ ap f a.books_are; known_is = a.known_is; stands_for = a.stands_for }
 
-pub refused-at : (s : State) (w : ℕ) (text : List ℕ) (b c : Books) (k : Known) (stands : Plan → Type 0) → At s b k stands → c ≡ (moved (record s { books = b }) (Refused w text)).books → At (moved s (Refused w text)) c k stands
+pub refused-at : (s : State) (w : ℕ) (text : List ℕ) (b c : Books) (k : Known) (stands : Plan → Type 0) → At s b k stands → c ≡ (after_effect (record s { books = b }) (Refused w text)).books → At (after_effect s (Refused w text)) c k stands
 refused-at s w text b c k stands a e =
-    let f : Books → Books = λ d. (moved (record s { books = d }) (Refused w text)).books in
+    let f : Books → Books = λ d. (after_effect (record s { books = d }) (Refused w text)).books in
     record { books_are = e ∙ ap f a.books_are; known_is = a.known_is; stands_for = λ h. a.stands_for (unstopped-before s.books.stop (Some (CollectError w)) h) }
 
 pub is_stopped-by : (q : Option RunStop) (how : RunStop) → is_some (or_stop q (Some how)) ≡ true
@@ -205,9 +205,9 @@ choose-stop false true ys h = refl
 choose-stop false false ys h = cc
 
 pub refused-outs : (s : State) (w : ℕ) (text : List ℕ) (before : Bool) → before ≡ is_stopped s.books
-    → (if before then [] else shut_all (moved s (Refused w text)).books.crew) ≡ own_outputs s (Refused w text) (moved s (Refused w text))
+    → (if before then [] else shut_all (after_effect s (Refused w text)).books.crew) ≡ own_outputs s (Refused w text) (after_effect s (Refused w text))
 refused-outs s w text before h =
-    let t : State = moved s (Refused w text) in
+    let t : State = after_effect s (Refused w text) in
     let f : Bool → List Entry = λ q. if q then [] else shut_all t.books.crew in
     ap f h ∙ choose-stop (is_stopped s.books) (is_stopped t.books) (shut_all t.books.crew) (is_stopped-by s.books.stop (CollectError w))
 
@@ -245,7 +245,7 @@ still-stopped w retry b h = still b.stop _ h
     still (Some x) how h = refl
 
 -- where no stop came the mode may hear of the death
-pub may-die : (s : State) (e : Entry) (w : ℕ) (b : Books) (k : Known) (stands : Plan → Type 0) → Comes e s b k stands → moved s e ≡ after_down w s → is_stopped (after_down w s).books ≡ false → MayDie (after_down w s) stands
+pub may-die : (s : State) (e : Entry) (w : ℕ) (b : Books) (k : Known) (stands : Plan → Type 0) → Comes e s b k stands → after_effect s e ≡ after_down w s → is_stopped (after_down w s).books ≡ false → MayDie (after_down w s) stands
 may-die s e w b k stands a m h = record {
   going = h;
   hears = λ q. subst (λ (u : State). Called Died u) m (died-called s e a.reached a.follows (ap (λ (u : State). u.books.shared) m ∙ q));

@@ -8,7 +8,7 @@ use Rattle.xd_ledger.specs.declared.member.Member.{Member}
 use Rattle.xd_ledger.specs.Books.{Books}
 use Rattle.xd_ledger.specs.Plan.{Plan}
 use Rattle.xd_ledger.specs.Sharing.{State}
-use Rattle.xd_ledger.specs.State.{all_moved, next, no_one, settled, state_at}
+use Rattle.xd_ledger.specs.State.{after_entries, after_entry, no_one, settled, state_at}
 use Rattle.xd_ledger.specs.Histories.{starts_from, first_starts}
 use Rattle.xd_ledger.specs.Proper.{IsProper}
 use Rattle.xd_ledger.specs.Meaning.{spent_by}
@@ -27,7 +27,7 @@ abbrev pub members_from : ℕ → ℕ → List Member
 members_from w zero = []
 members_from w (suc n) = started w w ∷ members_from (w + 1) n
 
-pub starts-moved : (settings : Settings) (w n : ℕ) (ms : List Member) → all_moved (with_crew settings ms) (starts_from w n) ≡ with_crew settings (ms ++ members_from w n)
+pub starts-moved : (settings : Settings) (w n : ℕ) (ms : List Member) → after_entries (with_crew settings ms) (starts_from w n) ≡ with_crew settings (ms ++ members_from w n)
 starts-moved settings w zero ms = ap (with_crew settings) (sym (append-nil ms))
 starts-moved settings w (suc n) ms = starts-moved settings (w + 1) n (ms ++ started w w ∷ []) ∙ ap (with_crew settings) (append_assoc ms (started w w ∷ []) (members_from (w + 1) n))
 
@@ -38,16 +38,16 @@ starts-more w (suc n) = let k = starts-more (w + 1) n in grind (arith, common_st
 pub start-next : (settings : Settings) (i : ℕ) → starts_from 0 (i + 1) ≡ starts_from 0 i ++ Start i i ∷ []
 start-next settings i = starts-more 0 i ∙ ap (λ k. starts_from 0 i ++ Start k k ∷ []) (omega arith)
 
-pub started-next : (settings : Settings) (i : ℕ) (b c : Books) → b ≡ (all_moved (no_one settings) (starts_from 0 i)).books → c ≡ begun_at i i b → c ≡ (all_moved (no_one settings) (starts_from 0 (i + 1))).books
+pub started-next : (settings : Settings) (i : ℕ) (b c : Books) → b ≡ (after_entries (no_one settings) (starts_from 0 i)).books → c ≡ begun_at i i b → c ≡ (after_entries (no_one settings) (starts_from 0 (i + 1))).books
 started-next settings i b c h e =
-    let k : all_moved (no_one settings) (starts_from 0 i ++ Start i i ∷ []) ≡ next (all_moved (no_one settings) (starts_from 0 i)) (Start i i) = fold-append next (no_one settings) (starts_from 0 i) (Start i i ∷ []) in
-    e ∙ ap (begun_at i i) h ∙ ap (λ (s : State). s.books) (sym k) ∙ ap (λ es. (all_moved (no_one settings) es).books) (sym (start-next settings i))
+    let k : after_entries (no_one settings) (starts_from 0 i ++ Start i i ∷ []) ≡ after_entry (after_entries (no_one settings) (starts_from 0 i)) (Start i i) = fold-append after_entry (no_one settings) (starts_from 0 i) (Start i i ∷ []) in
+    e ∙ ap (begun_at i i) h ∙ ap (λ (s : State). s.books) (sym k) ∙ ap (λ es. (after_entries (no_one settings) es).books) (sym (start-next settings i))
 
 pub starts-spend : (w n : ℕ) → spent_by (starts_from w n) ≡ 0
 starts-spend w zero = refl
 starts-spend w (suc n) = starts-spend (w + 1) n
 
-begun-at : (settings : Settings) (n : ℕ) (b : Books) (stands : Plan → Type 0) → stands (no_one settings).plan → b ≡ (all_moved (no_one settings) (starts_from 0 n)).books
+begun-at : (settings : Settings) (n : ℕ) (b : Books) (stands : Plan → Type 0) → stands (no_one settings).plan → b ≡ (after_entries (no_one settings) (starts_from 0 n)).books
     → At (state_at settings (starts_from 0 n)) b (known_of (no_one settings).plan) stands
 begun-at settings n b stands f e =
     let k = starts-moved settings 0 n [] in
@@ -62,7 +62,7 @@ begun-proper settings c = record {
   follow = refl;
 }
 
-pub begun-step : (settings kept : Settings) (entries : List Entry) (b : Books) (k : Known) (stands : Plan → Type 0) → kept ≡ settings → k ≡ known_of (no_one settings).plan → CanBegin settings → stands (no_one settings).plan → b ≡ (all_moved (no_one settings) (starts_from 0 settings.workers)).books
+pub begun-step : (settings kept : Settings) (entries : List Entry) (b : Books) (k : Known) (stands : Plan → Type 0) → kept ≡ settings → k ≡ known_of (no_one settings).plan → CanBegin settings → stands (no_one settings).plan → b ≡ (after_entries (no_one settings) (starts_from 0 settings.workers)).books
     → entries ≡ starts_from 0 settings.workers → InStep kept entries [] 0 b k stands
 begun-step settings kept entries b kn stands same known c f e k =
     subst (λ s. InStep s entries [] 0 b kn stands) (sym same)

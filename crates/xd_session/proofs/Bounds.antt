@@ -17,17 +17,17 @@ use Rattle.xd_journal.specs.declared.news.What.TheVariants as what
 use Rattle.xd_journal.specs.Kept.{most_of_all, most_of_one}
 use Rattle.xd_ledger.specs.Collections.{listed}
 use Rattle.xd_ledger.specs.Histories.{starts_from}
-use Rattle.xd_ledger.specs.Meaning.{Log, any_open, given_ids, head_bytes, is_of, is_open_log, kept, log_of, may_start_log, meaning_of, output_of, spent_by}
+use Rattle.xd_ledger.specs.Meaning.{Log, any_open, given_ids, head_bytes, is_of, is_open_log, kept_at_death, log_of, may_start_log, meaning_of, output_of, spent_by}
 use Rattle.xd_ledger.specs.Orderly.{all_orderly, is_orderly}
 use Rattle.xd_ledger.specs.Outputs.{outputs}
 use Rattle.xd_ledger.specs.Proper.{IsProper, may_follow, names_head}
 use Rattle.xd_ledger.specs.Retry.{is_retry}
 use Rattle.xd_ledger.specs.Sharing.{State}
-use Rattle.xd_ledger.specs.State.{moved}
+use Rattle.xd_ledger.specs.State.{after_effect}
 use Rattle.xd_ledger.specs.Workers.{is_active}
 use Rattle.xd_laws.proofs.Logic.{and, differ, split-and}
 use Rattle.xd_session.specs.Bounded.{IsBounded, keeps_few}
-use Rattle.xd_session.specs.Compared.{comparison, given}
+use Rattle.xd_session.specs.Compared.{comparison, ids_to_list}
 use Rattle.xd_session.specs.History.{IsProperRun, Run as SoFar, after_news, begun_run, entries_with, input_of, run_of, said_by}
 use Rattle.xd_session.proofs.Begin.{starts-spend}
 use Rattle.xd_session.proofs.Shares.{given-is}
@@ -47,7 +47,7 @@ cut-few m n bs = (let e = length-take (min m n) bs in omega (arith, e))
 cut-room : (m n : ℕ) (bs : List ℕ) → length (take (min m n) bs) + 0 ≤ n
 cut-room m n bs = (let e = length-take (min m n) bs in omega (arith, e))
 
-down-fits : (w : ℕ) (c : Cause) (log : Option Log) (spent : ℕ) (s : State) → Fits spent (Down w c (kept w log spent s))
+down-fits : (w : ℕ) (c : Cause) (log : Option Log) (spent : ℕ) (s : State) → Fits spent (Down w c (kept_at_death w log spent s))
 down-fits w c log spent s = by-retry (is_retry w s.books)
   where
     by-retry : (retry : Bool) → Fits spent (Down w c (if retry then [] else take (min most_of_one (most_of_all - spent)) (head_bytes w log s)))
@@ -77,21 +77,21 @@ nothing : (spent : ℕ) (e : Entry) → keeps_few e ≡ true → spent_by (e ∷
 nothing spent e h k = record { few = h; room = omega (arith, k) }
 
 meaning-fits : (w : ℕ) (log : Option Log) (spent : ℕ) (s : State) (n : What) (e : Entry) → meaning_of w log spent s n ≡ Some e → Fits spent e
-meaning-fits w log spent s what.Ready e h = pick spent (Ready w) (Down w Breach (kept w log spent s)) e (may_follow s (Ready w)) (nothing spent (Ready w) refl refl) (down-fits w Breach log spent s) h
+meaning-fits w log spent s what.Ready e h = pick spent (Ready w) (Down w Breach (kept_at_death w log spent s)) e (may_follow s (Ready w)) (nothing spent (Ready w) refl refl) (down-fits w Breach log spent s) h
 meaning-fits w log spent s (what.Collected own) e h =
-    let g = Collected w (given (comparison own (listed w s.books)) own) in
-    pick spent (given_ids w own s) (Down w Breach (kept w log spent s)) e (may_follow s (given_ids w own s)) (subst (λ y. Fits spent y) (sym (given-is w own s)) (nothing spent g refl refl)) (down-fits w Breach log spent s) h
-meaning-fits w log spent s (what.LogStart i n) e h = pick-silent spent (Down w Breach (kept w log spent s)) e (may_start_log w i n log s) (down-fits w Breach log spent s) h
-meaning-fits w log spent s (what.Piece n bs) e h = pick-silent spent (Down w Breach (kept w log spent s)) e (is_open_log n log) (down-fits w Breach log spent s) h
-meaning-fits w log spent s (what.LogClosed n) e h = pick-silent spent (Down w Breach (kept w log spent s)) e (is_open_log n log) (down-fits w Breach log spent s) h
-meaning-fits w log spent s (what.Done i o m) e h = pick spent (Done w i o m (output_of w o log spent s)) (Down w Breach (kept w log spent s)) e (names_head w i s && is_of i log && not (any_open log)) (done-fits w i o m log spent s) (down-fits w Breach log spent s) h
-meaning-fits w log spent s (what.Back is) e h = pick spent (Back w is) (Down w Breach (kept w log spent s)) e (may_follow s (Back w is)) (nothing spent (Back w is) refl refl) (down-fits w Breach log spent s) h
-meaning-fits w log spent s what.Finished e h = pick spent (Finished w) (Down w Breach (kept w log spent s)) e (may_follow s (Finished w)) (nothing spent (Finished w) refl refl) (down-fits w Breach log spent s) h
-meaning-fits w log spent s (what.Closed None) e h = subst (λ y. Fits spent y) (same-entry (Down w Breach (kept w log spent s)) e h) (down-fits w Breach log spent s)
-meaning-fits w log spent s (what.Closed (Some text)) e h = pick spent (Refused w text) (Down w Breach (kept w log spent s)) e (may_follow s (Refused w text)) (nothing spent (Refused w text) refl refl) (down-fits w Breach log spent s) h
-meaning-fits w log spent s what.Stray e h = subst (λ y. Fits spent y) (same-entry (Down w Breach (kept w log spent s)) e h) (down-fits w Breach log spent s)
-meaning-fits w log spent s (what.Gone c) e h = subst (λ y. Fits spent y) (same-entry (Down w c (kept w log spent s)) e h) (down-fits w c log spent s)
-meaning-fits w log spent s what.NotStarted e h = pick spent (NotStarted w) (Down w Breach (kept w log spent s)) e (may_follow s (NotStarted w)) (nothing spent (NotStarted w) refl refl) (down-fits w Breach log spent s) h
+    let g = Collected w (ids_to_list (comparison own (listed w s.books)) own) in
+    pick spent (given_ids w own s) (Down w Breach (kept_at_death w log spent s)) e (may_follow s (given_ids w own s)) (subst (λ y. Fits spent y) (sym (given-is w own s)) (nothing spent g refl refl)) (down-fits w Breach log spent s) h
+meaning-fits w log spent s (what.LogStart i n) e h = pick-silent spent (Down w Breach (kept_at_death w log spent s)) e (may_start_log w i n log s) (down-fits w Breach log spent s) h
+meaning-fits w log spent s (what.Piece n bs) e h = pick-silent spent (Down w Breach (kept_at_death w log spent s)) e (is_open_log n log) (down-fits w Breach log spent s) h
+meaning-fits w log spent s (what.LogClosed n) e h = pick-silent spent (Down w Breach (kept_at_death w log spent s)) e (is_open_log n log) (down-fits w Breach log spent s) h
+meaning-fits w log spent s (what.Done i o m) e h = pick spent (Done w i o m (output_of w o log spent s)) (Down w Breach (kept_at_death w log spent s)) e (names_head w i s && is_of i log && not (any_open log)) (done-fits w i o m log spent s) (down-fits w Breach log spent s) h
+meaning-fits w log spent s (what.Back is) e h = pick spent (Back w is) (Down w Breach (kept_at_death w log spent s)) e (may_follow s (Back w is)) (nothing spent (Back w is) refl refl) (down-fits w Breach log spent s) h
+meaning-fits w log spent s what.Finished e h = pick spent (Finished w) (Down w Breach (kept_at_death w log spent s)) e (may_follow s (Finished w)) (nothing spent (Finished w) refl refl) (down-fits w Breach log spent s) h
+meaning-fits w log spent s (what.Closed None) e h = subst (λ y. Fits spent y) (same-entry (Down w Breach (kept_at_death w log spent s)) e h) (down-fits w Breach log spent s)
+meaning-fits w log spent s (what.Closed (Some text)) e h = pick spent (Refused w text) (Down w Breach (kept_at_death w log spent s)) e (may_follow s (Refused w text)) (nothing spent (Refused w text) refl refl) (down-fits w Breach log spent s) h
+meaning-fits w log spent s what.Stray e h = subst (λ y. Fits spent y) (same-entry (Down w Breach (kept_at_death w log spent s)) e h) (down-fits w Breach log spent s)
+meaning-fits w log spent s (what.Gone c) e h = subst (λ y. Fits spent y) (same-entry (Down w c (kept_at_death w log spent s)) e h) (down-fits w c log spent s)
+meaning-fits w log spent s what.NotStarted e h = pick spent (NotStarted w) (Down w Breach (kept_at_death w log spent s)) e (may_follow s (NotStarted w)) (nothing spent (NotStarted w) refl refl) (down-fits w Breach log spent s) h
 
 -- outputs keep nothing
 
@@ -114,7 +114,7 @@ quiet-few s (NotStarted w) h = absurd (differ h)
 
 all-quiet : (s : State) (es : List Entry) → all_orderly s es ≡ true → list_all keeps_few es ≡ true
 all-quiet s [] h = refl
-all-quiet s (e ∷ es) h = (let p = split-and (is_orderly s e) (all_orderly (moved s e) es) h in and (quiet-few s e p.0) (all-quiet (moved s e) es p.1))
+all-quiet s (e ∷ es) h = (let p = split-and (is_orderly s e) (all_orderly (after_effect s e) es) h in and (quiet-few s e p.0) (all-quiet (after_effect s e) es p.1))
 
 all-append : (es fs : List Entry) → list_all keeps_few es ≡ true → list_all keeps_few fs ≡ true → list_all keeps_few (es ++ fs) ≡ true
 all-append [] fs h k = k
@@ -125,7 +125,7 @@ all-append (e ∷ es) fs h k = (let p = split-and (keeps_few e) (list_all keeps_
 within-room : (now before more all : ℕ) → now ≡ before + more → more ≤ all - before → before ≤ all → now ≤ all
 within-room now before more all e h k = omega arith
 
-bounded-input : (r : SoFar) (o : Option Entry) → ((e : Entry) → o ≡ Some e → Fits (spent_by r.entries) e) → ((e : Entry) → o ≡ Some e → all_orderly (moved r.state e) (outputs r.state e) ≡ true) → IsBounded r.entries
+bounded-input : (r : SoFar) (o : Option Entry) → ((e : Entry) → o ≡ Some e → Fits (spent_by r.entries) e) → ((e : Entry) → o ≡ Some e → all_orderly (after_effect r.state e) (outputs r.state e) ≡ true) → IsBounded r.entries
     → IsBounded (entries_with o r.entries r.state)
 bounded-input r None f m b = b
 bounded-input r (Some e) f m b =
@@ -135,7 +135,7 @@ bounded-input r (Some e) f m b =
     let room = fits.room in
     let low = b.together in
     record {
-      each = all-append r.entries (e ∷ outputs r.state e) b.each (and fits.few (all-quiet (moved r.state e) (outputs r.state e) ordered));
+      each = all-append r.entries (e ∷ outputs r.state e) b.each (and fits.few (all-quiet (after_effect r.state e) (outputs r.state e) ordered));
       together = within-room (spent_by (r.entries ++ (e ∷ outputs r.state e))) (spent_by r.entries) (spent_by (e ∷ [])) most_of_all spends room low;
     }
 

@@ -19,7 +19,7 @@ use Rattle.xd_journal.specs.declared.entry.Ids.TheVariants as ids
 use Rattle.xd_ledger.specs.Books.{Books}
 use Rattle.xd_ledger.specs.Collections.{ids_of, key, listed, listed_in, lists_with, with_list}
 use Rattle.xd_ledger.specs.Proper.{no_text_twice}
-use Rattle.xd_session.specs.Compared.{comparison, given, place_in_lists}
+use Rattle.xd_session.specs.Compared.{comparison, ids_to_list, place_in_lists}
 
 -- a collection that is kept is as all others are
 pub all_with : (p : Listed → Bool) (o : Option Listed) (l : Listed) (ls : List Listed) → list_all p ls ≡ true → p l ≡ true → list_all p (lists_with o l ls) ≡ true
@@ -38,7 +38,7 @@ settings_stay (Err x) b c w own ok err = ap (λ (d : Books). d.settings) err
 
 -- an equal collection is kept by no one
 pub given-list : (o : Option Listed) (slot worker : ℕ) (own : List (List ℕ)) (ls : List Listed)
-    → lists_with o (record { slot = slot; worker = worker; ids = own }) ls ≡ lists_with o (record { slot = slot; worker = worker; ids = ids_of (given (comparison own o) own) }) ls
+    → lists_with o (record { slot = slot; worker = worker; ids = own }) ls ≡ lists_with o (record { slot = slot; worker = worker; ids = ids_of (ids_to_list (comparison own o) own) }) ls
 given-list None slot worker own ls = refl
 given-list (Some first) slot worker own ls = refl
 

@@ -15,7 +15,7 @@ use Rattle.xd_journal.specs.declared.entry.Entry.TheVariants.{Ready, Collected, 
 use Rattle.xd_journal.specs.Stop.{reaches}
 use Rattle.xd_ledger.specs.declared.member.Member.{Member}
 use Rattle.xd_ledger.specs.declared.member.Listed.{Listed}
-use Rattle.xd_ledger.specs.Modes.Call.{Share, Joined, TestDone, TestsBack, Died}
+use Rattle.xd_ledger.specs.Modes.ModeCall.{Share, Joined, TestDone, TestsBack, Died}
 use Rattle.xd_ledger.specs.Books.{Books, marked}
 use Rattle.xd_ledger.specs.Workers.{is_shut, made_collected, slot_of, waiting}
 use Rattle.xd_ledger.specs.Collections.{differ_at, listed, unequal, with_list}
@@ -24,9 +24,9 @@ use Rattle.xd_ledger.specs.Retry.{is_retry}
 use Rattle.xd_ledger.specs.Sharing.{State, in_books}
 use Rattle.xd_ledger.specs.Deaths.{buried, down_books, gone}
 use Rattle.xd_ledger.specs.Results.{completed_first, done_books, done_stop, failing}
-use Rattle.xd_ledger.specs.State.{all_moved, is_input, moved, next, no_one, settled, settles, state_at}
-use Rattle.xd_ledger.specs.Outputs.{acts_of, after_death, after_joining, closing, outputs, own_outputs, shut_all, slots_of_rota, stepped, unless_stopped}
-use Rattle.xd_ledger.specs.Histories.{begun, first_starts, grown, journal_of, starts_from}
+use Rattle.xd_ledger.specs.State.{after_entries, is_input, after_effect, after_entry, no_one, settled, settles, state_at}
+use Rattle.xd_ledger.specs.Outputs.{acts_of, outputs_of_death, outputs_of_joining, closing, outputs, own_outputs, shut_all, slots_of_rota, after_input, unless_stopped}
+use Rattle.xd_ledger.specs.Histories.{after_starts, first_starts, grown, journal_of, starts_from}
 use Rattle.xd_ledger.specs.Ending.{ending, kills, over_in}
 use Rattle.xd_ledger.specs.Plan.{items_named}
 use Rattle.xd_laws.proofs.Inputs.{collecting-keeps}
@@ -96,14 +96,14 @@ no-over-unless b n es h =
     in_both NoOver (is_stopped b) [] (if is_stopped n then shut_all n.crew else es) (λ k. refl)
     (λ k. in_both NoOver (is_stopped n) (shut_all n.crew) es (λ l. no-over-shut (waiting n.crew)) (λ l. h))
 
-no-over-joining : (w : ℕ) (b : Books) (t : State) → NoOver (after_joining w b t)
+no-over-joining : (w : ℕ) (b : Books) (t : State) → NoOver (outputs_of_joining w b t)
 no-over-joining w b t =
     let joined = acts_of (Joined w (slot_of w t.books)) t in
     let shared = acts_of (Share (slots_of_rota t.books)) t in
     in_both NoOver b.shared joined (if t.books.shared then shared else []) (λ h. no-over-acts (Joined w (slot_of w t.books)) t)
     (λ h. in_both NoOver t.books.shared shared [] (λ k. no-over-acts (Share (slots_of_rota t.books)) t) (λ k. refl))
 
-no-over-death : (w : ℕ) (t : State) → NoOver (after_death w t)
+no-over-death : (w : ℕ) (t : State) → NoOver (outputs_of_death w t)
 no-over-death w t =
     join (if t.books.shared then acts_of Died t else []) (Start (Rattle.std.proofs.Common.length t.books.crew) (slot_of w t.books) ∷ [])
     (in_both NoOver t.books.shared (acts_of Died t) [] (λ h. no-over-acts Died t) (λ h. refl)) refl
@@ -111,13 +111,13 @@ no-over-death w t =
 no-over-own : (s : State) (e : Entry) (t : State) → NoOver (own_outputs s e t)
 no-over-own s (Ready w) t = in_both NoOver (is_shutting t.books) (Shutdown w ∷ []) [] (λ k. refl) (λ k. refl)
 no-over-own s (Collected w g) t =
-    in_both NoOver (is_shut w s.books) [] (unless_stopped s.books t.books (after_joining w s.books t)) (λ k. refl) (λ k. no-over-unless s.books t.books (after_joining w s.books t) (no-over-joining w s.books t))
+    in_both NoOver (is_shut w s.books) [] (unless_stopped s.books t.books (outputs_of_joining w s.books t)) (λ k. refl) (λ k. no-over-unless s.books t.books (outputs_of_joining w s.books t) (no-over-joining w s.books t))
 no-over-own s (Done w i u m o) t = no-over-unless s.books t.books (acts_of (TestDone w m) t) (no-over-acts (TestDone w m) t)
 no-over-own s (Back w is) t = no-over-unless s.books t.books (acts_of TestsBack t) (no-over-acts TestsBack t)
 no-over-own s (Finished w) t = refl
 no-over-own s (Refused w x) t = no-over-unless s.books t.books [] refl
-no-over-own s (Down w c o) t = no-over-unless s.books t.books (after_death w t) (no-over-death w t)
-no-over-own s (NotStarted w) t = no-over-unless s.books t.books (after_death w t) (no-over-death w t)
+no-over-own s (Down w c o) t = no-over-unless s.books t.books (outputs_of_death w t) (no-over-death w t)
+no-over-own s (NotStarted w) t = no-over-unless s.books t.books (outputs_of_death w t) (no-over-death w t)
 no-over-own s (Start w slot) t = refl
 no-over-own s (Run w is) t = refl
 no-over-own s (RunAll w) t = refl
@@ -128,9 +128,9 @@ no-over-own s (Over how) t = refl
 
 no-over-outputs : (s : State) (e : Entry) → NoOver (outputs s e)
 no-over-outputs s e =
-    let t = moved s e in
+    let t = after_effect s e in
     let own = own_outputs s e t in
-    let u = all_moved t own in
+    let u = after_entries t own in
     join own (closing u) (no-over-own s e t) (in_both NoOver (not (is_shutting u.books) && settles u) (shut_all u.books.crew) [] (λ h. no-over-shut (waiting u.books.crew)) (λ h. refl))
 
 no-over-starts : (w n : ℕ) → NoOver (starts_from w n)
@@ -141,10 +141,10 @@ no-over-grown : (s : State) (ins : List Entry) → list_all is_input ins ≡ tru
 no-over-grown s [] h = refl
 no-over-grown s (e ∷ es) h =
     let p = split-and (is_input e) (list_all is_input es) h in
-    join (e ∷ outputs s e) (grown (stepped s e) es) (and (no-over-input e p.0) (no-over-outputs s e)) (no-over-grown (stepped s e) es p.1)
+    join (e ∷ outputs s e) (grown (after_input s e) es) (and (no-over-input e p.0) (no-over-outputs s e)) (no-over-grown (after_input s e) es p.1)
 
 pub no-over-journal : (settings : Settings) (ins : List Entry) → list_all is_input ins ≡ true → NoOver (journal_of settings ins)
-no-over-journal settings ins h = join (first_starts settings) (grown (begun settings) ins) (no-over-starts 0 settings.workers) (no-over-grown (begun settings) ins h)
+no-over-journal settings ins h = join (first_starts settings) (grown (after_starts settings) ins) (no-over-starts 0 settings.workers) (no-over-grown (after_starts settings) ins h)
 
 -- so its end says with which stop it ends
 
@@ -221,7 +221,7 @@ fine-death w retry b h =
     let c : Books = gone w (buried w retry b) in
     fine-or b.stop (or_stop (at_limit c) (out_of_restarts w c)) h (fine-or (at_limit c) (out_of_restarts w c) (fine-limit c) (fine-restarts w c))
 
-fine-moved : (s : State) (e : Entry) → Fine s → Fine (moved s e)
+fine-moved : (s : State) (e : Entry) → Fine s → Fine (after_effect s e)
 fine-moved s (Run w is) h = h
 fine-moved s (RunAll w) h = h
 fine-moved s (Steal w is) h = h
@@ -240,12 +240,12 @@ fine-moved s (Refused w t) h = fine-or s.books.stop (Some (CollectError w)) h re
 fine-moved s (Down w c o) h = fine-death w (is_retry w s.books) s.books h
 fine-moved s (NotStarted w) h = fine-death w (is_retry w s.books) s.books h
 
-fine-next : (s : State) (e : Entry) → Fine s → Fine (next s e)
-fine-next s e h = in_both (λ (u : State). Fine (moved u e)) (is_input e) (settled s) s (λ k. fine-moved (settled s) e h) (λ k. fine-moved s e h)
+fine-next : (s : State) (e : Entry) → Fine s → Fine (after_entry s e)
+fine-next s e h = in_both (λ (u : State). Fine (after_effect u e)) (is_input e) (settled s) s (λ k. fine-moved (settled s) e h) (λ k. fine-moved s e h)
 
-fine-all : (s : State) (es : List Entry) → Fine s → Fine (all_moved s es)
+fine-all : (s : State) (es : List Entry) → Fine s → Fine (after_entries s es)
 fine-all s [] h = h
-fine-all s (e ∷ es) h = fine-all (next s e) es (fine-next s e h)
+fine-all s (e ∷ es) h = fine-all (after_entry s e) es (fine-next s e h)
 
 fine-end : (o : Option RunStop) → fine o ≡ true → is_out_fault (unwrap_or o Completed) ≡ false
 fine-end None h = refl
@@ -253,4 +253,4 @@ fine-end (Some how) h = not_true (is_out_fault how) h
 
 pub told-so : (failed : Bool) (settings : Settings) (es : List Entry) → is_out_fault (last_stop failed (state_at settings es).books) ≡ failed
 told-so true settings es = refl
-told-so false settings es = fine-end (all_moved (no_one settings) es).books.stop (fine-all (no_one settings) es refl)
+told-so false settings es = fine-end (after_entries (no_one settings) es).books.stop (fine-all (no_one settings) es refl)

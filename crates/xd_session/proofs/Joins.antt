@@ -17,15 +17,15 @@ use Rattle.xd_ledger.specs.Workers.{has_collected, is_active, is_shut, made_coll
 use Rattle.xd_ledger.specs.Sharing.{State, in_books, is_full, joining}
 use Rattle.xd_ledger.specs.Collecting.{collecting}
 use Rattle.xd_ledger.specs.Results.{completed_first}
-use Rattle.xd_ledger.specs.State.{all_moved, moved, no_one}
-use Rattle.xd_ledger.specs.Outputs.{outputs, stepped}
-use Rattle.xd_ledger.specs.Histories.{begun, starts_from, stepped_all}
+use Rattle.xd_ledger.specs.State.{after_entries, after_effect, no_one}
+use Rattle.xd_ledger.specs.Outputs.{outputs, after_input}
+use Rattle.xd_ledger.specs.Histories.{after_starts, starts_from, after_inputs}
 use Rattle.xd_ledger.specs.Orderly.{all_orderly, is_orderly, is_orderly_run}
 use Rattle.xd_ledger.specs.Proper.{IsProper, all_may_follow, are_ids, may_follow}
 use Rattle.xd_laws.proofs.Crew.{has, has-kept, has-member, has-more, has-same, has-set}
 use Rattle.xd_laws.proofs.Laws.{orderly}
 use Rattle.xd_laws.proofs.Logic.{differ, or-left, split-and, split-or}
-use Rattle.xd_laws.proofs.Turns.{all_moved-first}
+use Rattle.xd_laws.proofs.Turns.{after_entries-first}
 
 -- each of these workers has given its collection
 abbrev pub HaveCollected : List ℕ → List Member → Type 0
@@ -92,7 +92,7 @@ completed-joined : (w : ℕ) (items : List ℕ) (t : Table) → (completed_first
 completed-joined w [] t = refl
 completed-joined w (i ∷ is) t = refl
 
-joins-output : (s : State) (e : Entry) → is_orderly s e ≡ true → AllCollected s → AllCollected (moved s e)
+joins-output : (s : State) (e : Entry) → is_orderly s e ≡ true → AllCollected s → AllCollected (after_effect s e)
 joins-output s (Start w slot) h k = start-keeps s.books.table.who_joined s.books.crew w slot k
 joins-output s (Run w is) h k = k
 joins-output s (RunAll w) h k = k
@@ -109,14 +109,14 @@ joins-output s (Refused w t) h k = absurd (differ h)
 joins-output s (Down w c o) h k = absurd (differ h)
 joins-output s (NotStarted w) h k = absurd (differ h)
 
-joins-collected : (s : State) (w : ℕ) (g : Ids) → may_follow s (Collected w g) ≡ true → AllCollected s → AllCollected (moved s (Collected w g))
+joins-collected : (s : State) (w : ℕ) (g : Ids) → may_follow s (Collected w g) ≡ true → AllCollected s → AllCollected (after_effect s (Collected w g))
 joins-collected s w g h k =
     let a = split-and (is_active w s.books && was_ready w s.books && not (has_collected w s.books)) (are_ids g w s) h in
     let b = split-and (is_active w s.books && was_ready w s.books) (not (has_collected w s.books)) a.0 in
     let c = split-and (is_active w s.books) (was_ready w s.books) b.0 in
     collecting-keeps w (unequal w g (listed w s.books)) (in_books (λ b. marked (made_collected w) (with_list w g b)) s) (own-mark w s.books.crew c.0) (collected-keeps s.books.table.who_joined s.books.crew w k)
 
-joins-input : (s : State) (e : Entry) → may_follow s e ≡ true → AllCollected s → AllCollected (moved s e)
+joins-input : (s : State) (e : Entry) → may_follow s e ≡ true → AllCollected s → AllCollected (after_effect s e)
 joins-input s (Ready w) h k = ready-keeps s.books.table.who_joined s.books.crew w k
 joins-input s (Collected w g) h k = joins-collected s w g h k
 joins-input s (Done w i u m o) h k = subst (λ (ws : List ℕ). HaveCollected ws s.books.crew) (sym (completed-joined w (items_named (slot_of w s.books) (i ∷ []) s.plan) s.books.table)) k
@@ -135,23 +135,23 @@ joins-input s (Over how) h k = absurd (differ h)
 
 -- runs
 
-joins-outputs : (s : State) (es : List Entry) → all_orderly s es ≡ true → AllCollected s → AllCollected (all_moved s es)
+joins-outputs : (s : State) (es : List Entry) → all_orderly s es ≡ true → AllCollected s → AllCollected (after_entries s es)
 joins-outputs s [] h k = k
 joins-outputs s (e ∷ es) h k =
-    let p = split-and (is_orderly s e) (all_orderly (moved s e) es) h in
-    subst (λ (u : State). AllCollected u) (sym (all_moved-first s e es p.0)) (joins-outputs (moved s e) es p.1 (joins-output s e p.0 k))
+    let p = split-and (is_orderly s e) (all_orderly (after_effect s e) es) h in
+    subst (λ (u : State). AllCollected u) (sym (after_entries-first s e es p.0)) (joins-outputs (after_effect s e) es p.1 (joins-output s e p.0 k))
 
 -- behind the inputs of a proper run, each of whose outputs are in order
-joins-all : (s : State) (ins : List Entry) → all_may_follow s ins ≡ true → is_orderly_run s ins ≡ true → AllCollected s → AllCollected (stepped_all s ins)
+joins-all : (s : State) (ins : List Entry) → all_may_follow s ins ≡ true → is_orderly_run s ins ≡ true → AllCollected s → AllCollected (after_inputs s ins)
 joins-all s [] h d k = k
 joins-all s (e ∷ ins) h d k =
-    let p = split-and (may_follow s e) (all_may_follow (stepped s e) ins) h in
-    let q = split-and (all_orderly (moved s e) (outputs s e)) (is_orderly_run (stepped s e) ins) d in
-    joins-all (stepped s e) ins p.1 q.1 (joins-outputs (moved s e) (outputs s e) q.0 (joins-input s e p.0 k))
+    let p = split-and (may_follow s e) (all_may_follow (after_input s e) ins) h in
+    let q = split-and (all_orderly (after_effect s e) (outputs s e)) (is_orderly_run (after_input s e) ins) d in
+    joins-all (after_input s e) ins p.1 q.1 (joins-outputs (after_effect s e) (outputs s e) q.0 (joins-input s e p.0 k))
 
-joins-starts : (s : State) (w n : ℕ) → AllCollected s → AllCollected (all_moved s (starts_from w n))
+joins-starts : (s : State) (w n : ℕ) → AllCollected s → AllCollected (after_entries s (starts_from w n))
 joins-starts s w zero k = k
-joins-starts s w (suc n) k = joins-starts (moved s (Start w w)) (w + 1) n (start-keeps s.books.table.who_joined s.books.crew w w k)
+joins-starts s w (suc n) k = joins-starts (after_effect s (Start w w)) (w + 1) n (start-keeps s.books.table.who_joined s.books.crew w w k)
 
-pub joins-behind : (settings : Settings) (ins : List Entry) → IsProper settings ins → AllCollected (stepped_all (begun settings) ins)
-joins-behind settings ins p = joins-all (begun settings) ins p.follow (orderly settings ins p) (joins-starts (no_one settings) 0 settings.workers (λ v a. absurd (differ a)))
+pub joins-behind : (settings : Settings) (ins : List Entry) → IsProper settings ins → AllCollected (after_inputs (after_starts settings) ins)
+joins-behind settings ins p = joins-all (after_starts settings) ins p.follow (orderly settings ins p) (joins-starts (no_one settings) 0 settings.workers (λ v a. absurd (differ a)))

@@ -15,10 +15,10 @@ use Rattle.xd_journal.specs.declared.entry.Outcome.{Outcome}
 use Rattle.xd_journal.specs.declared.entry.RunStop.{RunStop}
 use Rattle.xd_ledger.specs.Books.{Books}
 use Rattle.xd_ledger.specs.Results.{done_books}
-use Rattle.xd_ledger.specs.State.{moved}
+use Rattle.xd_ledger.specs.State.{after_effect}
 use Rattle.xd_ledger.specs.Stops.{is_stopped, or_stop}
 use Rattle.xd_ledger.specs.Numbers.{all_among, all_distinct, among, first_of, times}
-use Rattle.xd_ledger.specs.Plan.{Asked, Plan, is_each, items_named, total}
+use Rattle.xd_ledger.specs.Plan.{UnansweredSteal, Plan, is_each, items_named, total}
 use Rattle.xd_edge.specs.Limits.{most_tests}
 use Rattle.xd_ledger.specs.Proper.{is_id, may_follow, may_give_back, names_head, no_text_twice}
 use Rattle.xd_ledger.specs.Sharing.{State}
@@ -144,7 +144,7 @@ items-are slot is p = named-items (is_each p.mode) (sum (take slot p.sizes)) is
 -- the test at the head ended
 
 pub done-found : (s : State) (w i : ℕ) (o : Outcome) (ms : ℕ) (out : List ℕ) (item : ℕ) (b c : Books) (k : Known) (stands : Plan → Type 0) → At s b k stands
-    → where_is (first_item (slot_of w b) k + i) (first_of (held w b.table)) ≡ Some item → c ≡ done_books w (item ∷ []) o b → At (moved s (Done w i o ms out)) c k stands
+    → where_is (first_item (slot_of w b) k + i) (first_of (held w b.table)) ≡ Some item → c ≡ done_books w (item ∷ []) o b → At (after_effect s (Done w i o ms out)) c k stands
 done-found s w i o ms out item b c k stands a h e =
     let there : Books → Known → Option ℕ = λ d q. where_is (first_item (slot_of w d) q + i) (first_of (held w d.table)) in
     let found : there s.books (known_of s.plan) ≡ Some item = sym (ap (λ (d : Books). there d k) a.books_are ∙ ap (λ (q : Known). there s.books q) a.known_is) ∙ h in
@@ -160,7 +160,7 @@ done-stopped w items o b h = still b.stop _ h
 
 -- an answer to the open steal
 
-back-of : (o : Option Asked) (shared : Bool) (w : ℕ) (is : List ℕ) (items : List ℕ → List ℕ) (behind : List ℕ) → StealFits shared o
+back-of : (o : Option UnansweredSteal) (shared : Bool) (w : ℕ) (is : List ℕ) (items : List ℕ → List ℕ) (behind : List ℕ) → StealFits shared o
     → (elim o as (λ _. Bool) [ None ↦ false | Some a ↦ (a.worker == w) && (elim is as (λ _. Bool) [ [] ↦ true | i ∷ rest ↦ bytes_eq (i ∷ rest) a.tests && all_among (items (i ∷ rest)) behind ]) ]) ≡ true
     → items [] ≡ [] → (all_distinct is ≡ true) × (all_among (items is) behind ≡ true)
 back-of None shared w is items behind f h e = absurd (differ h)
@@ -300,15 +300,15 @@ pub no-head : (o : Option ℕ) → is_some o ≡ true → ((n : ℕ) → o ≡ S
 no-head None h k = differ h
 no-head (Some n) h k = k n refl
 
-judged-back : (o : Option Asked) (w v : ℕ) (is tests : List ℕ) (items : List ℕ → List ℕ) (behind : List ℕ) (b : Bool) → o ≡ Some (record { worker = v; tests = tests }) → (v == w) ≡ true → (length is == 0) ≡ false → bytes_eq is tests ≡ true → b ≡ all_among (items is) behind
+judged-back : (o : Option UnansweredSteal) (w v : ℕ) (is tests : List ℕ) (items : List ℕ → List ℕ) (behind : List ℕ) (b : Bool) → o ≡ Some (record { worker = v; tests = tests }) → (v == w) ≡ true → (length is == 0) ≡ false → bytes_eq is tests ≡ true → b ≡ all_among (items is) behind
     → b ≡ (elim o as (λ _. Bool) [ None ↦ false | Some a ↦ (a.worker == w) && (elim is as (λ _. Bool) [ [] ↦ true | i ∷ rest ↦ bytes_eq (i ∷ rest) a.tests && all_among (items (i ∷ rest)) behind ]) ])
 judged-back None w v is tests items behind b e h n t k = cc
 judged-back (Some a) w v [] tests items behind b e h n t k = absurd (differ (sym n))
 judged-back (Some a) w v (i ∷ is) tests items behind b e h n t k =
     let same : a ≡ record { worker = v; tests = tests } = some-same a (record { worker = v; tests = tests }) e in
-    k ∙ sym (both (v == w) (bytes_eq (i ∷ is) tests) (all_among (items (i ∷ is)) behind) h t) ∙ sym (ap (λ (x : Asked). (x.worker == w) && (bytes_eq (i ∷ is) x.tests && all_among (items (i ∷ is)) behind)) same)
+    k ∙ sym (both (v == w) (bytes_eq (i ∷ is) tests) (all_among (items (i ∷ is)) behind) h t) ∙ sym (ap (λ (x : UnansweredSteal). (x.worker == w) && (bytes_eq (i ∷ is) x.tests && all_among (items (i ∷ is)) behind)) same)
   where
-    some-same : (x y : Asked) → Some x ≡ Some y → x ≡ y
+    some-same : (x y : UnansweredSteal) → Some x ≡ Some y → x ≡ y
     some-same x y p = cc
 
     both : (p q r : Bool) → p ≡ true → q ≡ true → (p && (q && r)) ≡ r

@@ -9,8 +9,8 @@ use Rattle.xd_ledger.specs.Books.{Books}
 use Rattle.xd_ledger.specs.Plan.{Plan}
 use Rattle.xd_ledger.specs.Sharing.{State}
 use Rattle.xd_ledger.specs.State.{is_input, state_at}
-use Rattle.xd_ledger.specs.Outputs.{stepped}
-use Rattle.xd_ledger.specs.Histories.{begun, journal_of}
+use Rattle.xd_ledger.specs.Outputs.{after_input}
+use Rattle.xd_ledger.specs.Histories.{after_starts, journal_of}
 use Rattle.xd_ledger.specs.Ending.{ending, may_close, stop_of}
 use Rattle.xd_ledger.specs.Legal.{EndsWith, IsLegal}
 use Rattle.xd_ledger.specs.Proper.{IsProper, all_may_follow, may_follow}
@@ -31,11 +31,11 @@ stands-proper taken s st = begun-proper s.settings st.can_begin
 
 all-inputs : (s : State) (es : List Entry) → all_may_follow s es ≡ true → list_all is_input es ≡ true
 all-inputs s [] h = refl
-all-inputs s (e ∷ es) h = (let p = split-and (may_follow s e) (all_may_follow (stepped s e) es) h in and (input-of s e p.0) (all-inputs (stepped s e) es p.1))
+all-inputs s (e ∷ es) h = (let p = split-and (may_follow s e) (all_may_follow (after_input s e) es) h in and (input-of s e p.0) (all-inputs (after_input s e) es p.1))
 
 module _ (settings : Settings) (entries : List Entry) (logs : List WorkerLog) (spent : ℕ) (b : Books) (kn : Known) (st : Plan → Type 0) (k : InStep settings entries logs spent b kn st) (j : Journal) (same : j.settings ≡ settings) where
   inputs-are : list_all is_input k.inputs ≡ true
-  inputs-are = all-inputs (begun settings) k.inputs k.proper.follow
+  inputs-are = all-inputs (after_starts settings) k.inputs k.proper.follow
 
   legal-by : (last : List Entry) → j.entries.items ≡ entries ++ last → EndsWith (state_at settings entries).books last → IsLegal j
   legal-by last is e =
@@ -46,7 +46,7 @@ module _ (settings : Settings) (entries : List Entry) (logs : List WorkerLog) (s
         are_inputs = inputs-are;
         last = last;
         entries = is ∙ ap (λ (es : List Entry). es ++ last) k.journal ∙ ap (λ (x : Settings). journal_of x k.inputs ++ last) (sym same);
-        ends = subst (λ (x : Settings). EndsWith (Rattle.xd_ledger.specs.Histories.stepped_all (begun x) k.inputs).books last) (sym same) (subst (λ (x : State). EndsWith x.books last) behind e);
+        ends = subst (λ (x : Settings). EndsWith (Rattle.xd_ledger.specs.Histories.after_inputs (after_starts x) k.inputs).books last) (sym same) (subst (λ (x : State). EndsWith x.books last) behind e);
       })
 
   pub legal-so-far : j.entries.items ≡ entries → IsLegal j
@@ -59,7 +59,7 @@ module _ (settings : Settings) (entries : List Entry) (logs : List WorkerLog) (s
     pub stop-ended : stop_of j ≡ last_stop failed (state_at settings entries).books
     stop-ended =
         let none = no-over-journal settings k.inputs inputs-are in
-        let over = λ (es : List Entry). Rattle.xd_ledger.specs.Ending.over_in es (Rattle.xd_ledger.specs.Histories.end_of (state_at j.settings j.entries.items).books) in
+        let over = λ (es : List Entry). Rattle.xd_ledger.specs.Ending.over_in es (Rattle.xd_ledger.specs.Histories.run_end_of (state_at j.settings j.entries.items).books) in
         ap over (is ∙ ap (λ (es : List Entry). es ++ ending failed (state_at settings entries).books) k.journal)
         ∙ ending-stop failed (state_at settings entries).books (journal_of settings k.inputs) _ none
 

@@ -10,11 +10,11 @@ use Rattle.xd_ledger.specs.Books.{Books}
 use Rattle.xd_ledger.specs.declared.member.Member.{Member}
 use Rattle.xd_ledger.specs.Workers.{waiting, is_waiting}
 use Rattle.xd_ledger.specs.Ending.{kills}
-use Rattle.xd_session.specs.Rules.{told, told_all, shutdowns}
+use Rattle.xd_session.specs.Rules.{told_to_shut, told_all, shutdowns}
 
-pub told_all-more : (ws : List ℕ) (w : ℕ) (b : Books) → told_all (ws ++ w ∷ []) b ≡ told w (told_all ws b)
+pub told_all-more : (ws : List ℕ) (w : ℕ) (b : Books) → told_all (ws ++ w ∷ []) b ≡ told_to_shut w (told_all ws b)
 told_all-more [] w b = refl
-told_all-more (v ∷ ws) w b = told_all-more ws w (told v b)
+told_all-more (v ∷ ws) w b = told_all-more ws w (told_to_shut v b)
 
 pub waiting-more : (ms : List Member) (m : Member) → waiting (ms ++ m ∷ []) ≡ (if is_waiting m then waiting ms ++ m.worker ∷ [] else waiting ms)
 waiting-more [] m = elim (is_waiting m) as (λ b. map (λ x. x.worker) (if b then m ∷ [] else []) ≡ (if b then [] ++ m.worker ∷ [] else [])) [ true ↦ refl | false ↦ refl ]
@@ -32,10 +32,10 @@ waiting-step xs i d ws vs b h a e c =
     let k = waiting-more (take i xs) (get_or xs i d) in
     c ∙ ap (λ q. if q then ws ++ (get_or xs i d).worker ∷ [] else ws) e ∙ ap (λ us. if is_waiting (get_or xs i d) then us ++ (get_or xs i d).worker ∷ [] else us) a ∙ sym k ∙ ap waiting (sym t)
 
-pub tell-step : (ws : List ℕ) (i w : ℕ) (b c d : Books) → i < length ws → w ≡ get_or ws i 0 → c ≡ told_all (take i ws) b → d ≡ told w c → d ≡ told_all (take (i + 1) ws) b
+pub tell-step : (ws : List ℕ) (i w : ℕ) (b c d : Books) → i < length ws → w ≡ get_or ws i 0 → c ≡ told_all (take i ws) b → d ≡ told_to_shut w c → d ≡ told_all (take (i + 1) ws) b
 tell-step ws i w b c d h a e f =
     let t : take (i + 1) ws ≡ take i ws ++ w ∷ [] = take_more ws i 0 h ∙ ap (λ z. take i ws ++ z ∷ []) (sym a) in
-    f ∙ ap (told w) e ∙ sym (told_all-more (take i ws) w b) ∙ ap (λ us. told_all us b) (sym t)
+    f ∙ ap (told_to_shut w) e ∙ sym (told_all-more (take i ws) w b) ∙ ap (λ us. told_all us b) (sym t)
 
 pub note-step : (ws : List ℕ) (i w : ℕ) (old es fs : List Entry) → i < length ws → w ≡ get_or ws i 0 → es ≡ old ++ shutdowns (take i ws) → fs ≡ es ++ shutdowns (w ∷ []) → fs ≡ old ++ shutdowns (take (i + 1) ws)
 note-step ws i w old es fs h a e f =

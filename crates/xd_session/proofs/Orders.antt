@@ -5,7 +5,7 @@ use Rattle.std.proofs.lemmas.List.Folds.{list_all-append}
 use Rattle.xd_journal.specs.declared.entry.Entry.{Entry}
 use Rattle.xd_journal.specs.declared.entry.Entry.TheVariants.{Run, RunAll, Steal, Shutdown}
 use Rattle.xd_ledger.specs.Turn.{Turn}
-use Rattle.xd_ledger.specs.Modes.{Call}
+use Rattle.xd_ledger.specs.Modes.{ModeCall}
 use Rattle.xd_ledger.specs.Sharing.{State}
 use Rattle.xd_ledger.specs.Outputs.{acts_of, turn_of}
 use Rattle.xd_laws.proofs.Logic.{and}
@@ -39,5 +39,5 @@ kept = record {
   shuts = λ w t a. more t.acts (Shutdown w) a refl;
 }
 
-pub tells-acts : (c : Call) (s : State) → Tells (acts_of c s)
+pub tells-acts : (c : ModeCall) (s : State) → Tells (acts_of c s)
 tells-acts c s = turned-keeps (λ t. Tells t.acts) kept s.plan.mode c (turn_of s) refl

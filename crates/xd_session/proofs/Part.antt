@@ -16,18 +16,18 @@ use Rattle.xd_journal.specs.declared.news.News.{News}
 use Rattle.xd_journal.specs.declared.news.What.{What}
 use Rattle.xd_journal.specs.declared.news.What.TheVariants as what
 use Rattle.xd_ledger.specs.Histories.{journal_of, starts_from}
-use Rattle.xd_ledger.specs.Meaning.{Log, any_open, breach, given_ids, is_of, is_open_log, kept, log_of, may_start_log, meaning_of, output_of, spent_by}
+use Rattle.xd_ledger.specs.Meaning.{Log, any_open, breach, given_ids, is_of, is_open_log, kept_at_death, log_of, may_start_log, meaning_of, output_of, spent_by}
 use Rattle.xd_ledger.specs.Orderly.{all_orderly, is_orderly}
 use Rattle.xd_ledger.specs.Outputs.{outputs}
 use Rattle.xd_ledger.specs.Proper.{IsProper, may_follow, names_head}
 use Rattle.xd_ledger.specs.Sharing.{State}
-use Rattle.xd_ledger.specs.State.{moved}
+use Rattle.xd_ledger.specs.State.{after_effect}
 use Rattle.xd_ledger.specs.Workers.{has_member, is_active}
 use Rattle.xd_ledger.specs.Collections.{listed}
 use Rattle.xd_laws.proofs.Logic.{and, cases_of, differ, in_both, or-right, split-and}
-use Rattle.xd_session.specs.Compared.{comparison, given}
+use Rattle.xd_session.specs.Compared.{comparison, ids_to_list}
 use Rattle.xd_session.specs.History.{IsProperRun, Run as SoFar, after_news, begun_run, entries_with, input_of, run_of, said_by}
-use Rattle.xd_session.specs.Part.{EndsWith, HasPart, MeansEach, as_list, inputs_by, is_end_of, is_ended, is_of_log, is_said_by, meant_behind, meant_by}
+use Rattle.xd_session.specs.Part.{EndsWorker, HasPart, MeansEach, as_list, inputs_by, is_end_of, is_ended, is_of_log, is_said_by, meant_behind, meant_by}
 use Rattle.xd_session.proofs.Activity.{Active, active-behind}
 use Rattle.xd_session.proofs.Shares.{given-is}
 use Rattle.xd_session.proofs.Steps.{none-some, outputs-orderly, run-more, same-entry, sound-run}
@@ -54,9 +54,9 @@ no-input w s (NotStarted v) h = absurd (differ h)
 no-inputs : (w : ℕ) (s : State) (es : List Entry) → all_orderly s es ≡ true → (inputs_by w es ≡ []) × (is_ended w es ≡ false)
 no-inputs w s [] h = (refl, refl)
 no-inputs w s (e ∷ es) h =
-    let p = split-and (is_orderly s e) (all_orderly (moved s e) es) h in
+    let p = split-and (is_orderly s e) (all_orderly (after_effect s e) es) h in
     let one = no-input w s e p.0 in
-    let rest = no-inputs w (moved s e) es p.1 in
+    let rest = no-inputs w (after_effect s e) es p.1 in
     (ap (λ (b : Bool). if b then e ∷ inputs_by w es else inputs_by w es) one.0 ∙ rest.0, ap (λ (b : Bool). b || is_ended w es) one.1 ∙ rest.1)
 
 starts-none : (w v n : ℕ) → (inputs_by w (starts_from v n) ≡ []) × (is_ended w (starts_from v n) ≡ false)
@@ -78,7 +78,7 @@ Usual P w log spent s what.Finished = P (Finished w)
 Usual P w log spent s (what.Closed None) = Unit {0}
 Usual P w log spent s (what.Closed (Some t)) = P (Refused w t)
 Usual P w log spent s what.Stray = Unit {0}
-Usual P w log spent s (what.Gone c) = P (Down w c (kept w log spent s))
+Usual P w log spent s (what.Gone c) = P (Down w c (kept_at_death w log spent s))
 Usual P w log spent s what.NotStarted = P (NotStarted w)
 
 pick : (P : Entry → Type 0) (x d e : Entry) (b : Bool) → P x → P d → (if b then Some x else Some d) ≡ Some e → P e
@@ -102,7 +102,7 @@ meaning-is P w log spent s what.Finished e u b h = pick P (Finished w) (breach w
 meaning-is P w log spent s (what.Closed None) e u b h = subst P (same-entry (breach w log spent s) e h) b
 meaning-is P w log spent s (what.Closed (Some t)) e u b h = pick P (Refused w t) (breach w log spent s) e (may_follow s (Refused w t)) u b h
 meaning-is P w log spent s what.Stray e u b h = subst P (same-entry (breach w log spent s) e h) b
-meaning-is P w log spent s (what.Gone c) e u b h = subst P (same-entry (Down w c (kept w log spent s)) e h) u
+meaning-is P w log spent s (what.Gone c) e u b h = subst P (same-entry (Down w c (kept_at_death w log spent s)) e h) u
 meaning-is P w log spent s what.NotStarted e u b h = pick P (NotStarted w) (breach w log spent s) e (may_follow s (NotStarted w)) u b h
 
 -- it is the worker's
@@ -164,7 +164,7 @@ silent-is w log spent s what.Finished h = some-if (Finished w) (breach w log spe
 silent-is w log spent s (what.Closed None) h = some-not (breach w log spent s) (false ≡ true) h
 silent-is w log spent s (what.Closed (Some t)) h = some-if (Refused w t) (breach w log spent s) (may_follow s (Refused w t)) (false ≡ true) h
 silent-is w log spent s what.Stray h = some-not (breach w log spent s) (false ≡ true) h
-silent-is w log spent s (what.Gone c) h = some-not (Down w c (kept w log spent s)) (false ≡ true) h
+silent-is w log spent s (what.Gone c) h = some-not (Down w c (kept_at_death w log spent s)) (false ≡ true) h
 silent-is w log spent s what.NotStarted h = some-if (NotStarted w) (breach w log spent s) (may_follow s (NotStarted w)) (false ≡ true) h
 
 -- of the input of a run
@@ -217,12 +217,12 @@ end-own w (Over how) h = absurd (differ h)
 -- one more input, with its outputs
 
 abbrev Quiet : State → Option Entry → Type 0
-Quiet s o = (e : Entry) → o ≡ Some e → all_orderly (moved s e) (outputs s e) ≡ true
+Quiet s o = (e : Entry) → o ≡ Some e → all_orderly (after_effect s e) (outputs s e) ≡ true
 
 inputs-with : (w : ℕ) (o : Option Entry) (es : List Entry) (s : State) → Quiet s o → inputs_by w (entries_with o es s) ≡ inputs_by w es ++ inputs_by w (as_list o)
 inputs-with w None es s q = sym (append-nil (inputs_by w es))
 inputs-with w (Some e) es s q =
-    let none = (no-inputs w (moved s e) (outputs s e) (q e refl)).0 in
+    let none = (no-inputs w (after_effect s e) (outputs s e) (q e refl)).0 in
     filter-append (is_said_by w) es (e ∷ outputs s e) ∙ ap (λ (xs : List Entry). inputs_by w es ++ (if is_said_by w e then e ∷ xs else xs)) none
 
 ended-with : (w : ℕ) (o : Option Entry) (es : List Entry) (s : State) → Quiet s o → is_ended w (entries_with o es s) ≡ (is_ended w es || is_ended w (as_list o))
@@ -232,7 +232,7 @@ ended-with w None es s q = or-none (is_ended w es)
     or-none true = refl
     or-none false = refl
 ended-with w (Some e) es s q =
-    let none = (no-inputs w (moved s e) (outputs s e) (q e refl)).1 in
+    let none = (no-inputs w (after_effect s e) (outputs s e) (q e refl)).1 in
     list_any-append (is_end_of w) es (e ∷ outputs s e) ∙ ap (λ (b : Bool). is_ended w es || (is_end_of w e || b)) none
 
 own-by : (w : ℕ) (o : Option Entry) (b : Bool) → ((e : Entry) → o ≡ Some e → is_said_by w e ≡ b) → inputs_by w (as_list o) ≡ (if b then as_list o else [])
@@ -327,7 +327,7 @@ record Closed (settings : Settings) (w : ℕ) (taken : List News) : Type 0 where
   each : MeansEach settings w heard
   none_behind : NoneBehind w (inputs_by w (run_of settings taken).entries)
   ended : is_ended w (run_of settings taken).entries ≡ true
-  ends : EndsWith settings w heard
+  ends : EndsWorker settings w heard
 
 module _ (settings : Settings) (p : IsProper settings []) (w : ℕ) (taken : List News) (n : News) where
   abbrev r : SoFar
@@ -385,7 +385,7 @@ module _ (settings : Settings) (p : IsProper settings []) (w : ℕ) (taken : Lis
     | inr q ↦ k before m (q.0) q.1 same started silent
   ]
 
-  ends-by : (q : Option Entry) → o ≡ q → is_ended w r.entries ≡ false → is_ended w (as_list q) ≡ true → EndsWith settings w (taken ++ n ∷ [])
+  ends-by : (q : Option Entry) → o ≡ q → is_ended w r.entries ≡ false → is_ended w (as_list q) ≡ true → EndsWorker settings w (taken ++ n ∷ [])
   ends-by None e k h = absurd (differ h)
   ends-by (Some x) e k h =
       let ended : is_end_of w x ≡ true = or-one (is_end_of w x) h in

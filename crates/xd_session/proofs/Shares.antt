@@ -15,14 +15,14 @@ use Rattle.xd_ledger.specs.declared.member.Listed.{Listed}
 use Rattle.xd_ledger.specs.Books.{Books, marked, on_table}
 use Rattle.xd_ledger.specs.Collections.{differ_at, listed, unequal, with_list}
 use Rattle.xd_ledger.specs.Meaning.{given_ids}
-use Rattle.xd_ledger.specs.Modes.Call.{Joined, Share}
-use Rattle.xd_ledger.specs.Outputs.{acts_of, after_joining, own_outputs, shut_all, slots_of_rota, unless_stopped}
+use Rattle.xd_ledger.specs.Modes.ModeCall.{Joined, Share}
+use Rattle.xd_ledger.specs.Outputs.{acts_of, outputs_of_joining, own_outputs, shut_all, slots_of_rota, unless_stopped}
 use Rattle.xd_ledger.specs.Plan.{Plan, is_each}
 use Rattle.xd_edge.specs.Limits.{most_tests}
 use Rattle.xd_ledger.specs.Proper.{may_follow, most_workers}
 use Rattle.xd_ledger.specs.Sharing.{State, ids_at, in_books, is_full, joining, shared_now, sizes_from}
 use Rattle.xd_ledger.specs.Collecting.{collecting}
-use Rattle.xd_ledger.specs.State.{moved}
+use Rattle.xd_ledger.specs.State.{after_effect}
 use Rattle.xd_ledger.specs.Sound.{most_items}
 use Rattle.xd_ledger.specs.Stops.{is_stopped}
 use Rattle.xd_ledger.specs.Table.{joined}
@@ -32,7 +32,7 @@ use Rattle.xd_laws.proofs.Calls.{Joins, joined-called, shared-called}
 use Rattle.xd_laws.proofs.Crew.{has-same}
 use Rattle.xd_laws.proofs.Logic.{cases_of, differ, in_both}
 use Rattle.xd_session.specs.declared.lists.Comparison.{Comparison}
-use Rattle.xd_session.specs.Compared.{compared, comparison, given, stop_of}
+use Rattle.xd_session.specs.Compared.{compared, comparison, ids_to_list, stop_of}
 use Rattle.xd_session.specs.Joining.{TakenIn, filled, shared_in, sizes_in, taken_in}
 use Rattle.xd_session.specs.Known.{Known, known_of}
 use Rattle.xd_session.specs.Rules.{Acted, At, Before, Calls, Comes, MayJoin, MayShare}
@@ -133,7 +133,7 @@ may-share w s m f =
 pub joined-by : (s : State) (w : ℕ) (full shared : Bool) (outs : List Entry) (b : Books) (k : Known) (es fs : List Entry) (st : Plan → Type 0) → is_full (seated_in w s).books ≡ full → s.books.shared ≡ shared
     → Acted outs (if full then shared_now (seated_in w s) else seated_in w s) b k es fs st
     → outs ≡ (let u = (if full then shared_now (seated_in w s) else seated_in w s) in if shared then acts_of (Joined w (slot_of w u.books)) u else if u.books.shared then acts_of (Share (slots_of_rota u.books)) u else [])
-    → Acted (after_joining w s.books (joining w s)) (joining w s) b k es fs st
+    → Acted (outputs_of_joining w s.books (joining w s)) (joining w s) b k es fs st
 joined-by s w full shared outs b k es fs st f h a o =
     let after : Bool → Bool → List Entry = λ q r. (let u = (if q then shared_now (seated_in w s) else seated_in w s) in if r then acts_of (Joined w (slot_of w u.books)) u else if u.books.shared then acts_of (Share (slots_of_rota u.books)) u else []) in
     let a1 = acted-by outs (after full shared) (if full then shared_now (seated_in w s) else seated_in w s) b k es fs st o a in
@@ -144,23 +144,23 @@ joined-by s w full shared outs b k es fs st f h a o =
 
 -- the collection goes into the books
 
-given-one : (w : ℕ) (own : List (List ℕ)) (other : ℕ) (d : Option ℕ) → (if is_none d then Collected w ids.Same else Collected w (ids.List own)) ≡ Collected w (given (compared other d) own)
+given-one : (w : ℕ) (own : List (List ℕ)) (other : ℕ) (d : Option ℕ) → (if is_none d then Collected w ids.Same else Collected w (ids.List own)) ≡ Collected w (ids_to_list (compared other d) own)
 given-one w own other None = refl
 given-one w own other (Some n) = refl
 
 given-by : (w : ℕ) (own : List (List ℕ)) (o : Option Listed)
-    → (elim o as (λ _. Entry) [ None ↦ Collected w (ids.List own) | Some l ↦ (if is_none (differ_at l.ids own) then Collected w ids.Same else Collected w (ids.List own)) ]) ≡ Collected w (given (comparison own o) own)
+    → (elim o as (λ _. Entry) [ None ↦ Collected w (ids.List own) | Some l ↦ (if is_none (differ_at l.ids own) then Collected w ids.Same else Collected w (ids.List own)) ]) ≡ Collected w (ids_to_list (comparison own o) own)
 given-by w own None = refl
 given-by w own (Some l) = given-one w own l.worker (differ_at l.ids own)
 
-pub given-is : (w : ℕ) (own : List (List ℕ)) (s : State) → given_ids w own s ≡ Collected w (given (comparison own (listed w s.books)) own)
+pub given-is : (w : ℕ) (own : List (List ℕ)) (s : State) → given_ids w own s ≡ Collected w (ids_to_list (comparison own (listed w s.books)) own)
 given-is w own s = given-by w own (listed w s.books)
 
-unequal-by : (w : ℕ) (own : List (List ℕ)) (l : Listed) (d : Option ℕ) → d ≡ differ_at l.ids own → unequal w (given (compared l.worker d) own) (Some l) ≡ stop_of w (compared l.worker d)
+unequal-by : (w : ℕ) (own : List (List ℕ)) (l : Listed) (d : Option ℕ) → d ≡ differ_at l.ids own → unequal w (ids_to_list (compared l.worker d) own) (Some l) ≡ stop_of w (compared l.worker d)
 unequal-by w own l None h = refl
 unequal-by w own l (Some n) h = ap (λ o. elim o as (λ _. Option RunStop) [ None ↦ None | Some place ↦ Some (Unequal w l.worker place) ]) (sym h)
 
-pub unequal-is : (w : ℕ) (own : List (List ℕ)) (o : Option Listed) → unequal w (given (comparison own o) own) o ≡ stop_of w (comparison own o)
+pub unequal-is : (w : ℕ) (own : List (List ℕ)) (o : Option Listed) → unequal w (ids_to_list (comparison own o) own) o ≡ stop_of w (comparison own o)
 unequal-is w own None = refl
 unequal-is w own (Some l) = unequal-by w own l (differ_at l.ids own) refl
 
@@ -171,10 +171,10 @@ noted w g s = in_books (λ b. marked (made_collected w) (with_list w g b)) s
 pub shut-noted : (w : ℕ) (g : Ids) (s : State) → is_shut w (noted w g s).books ≡ is_shut w s.books
 shut-noted w g s = has-same w (λ m. m.shut) (made_collected w) s.books.crew (λ m. refl) (λ m. refl)
 
-pub at-noted : (w : ℕ) (own : List (List ℕ)) (s : State) (b c d : Books) (k : Known) (stands : Plan → Type 0) → At s b k stands → c ≡ with_list w (given (comparison own (listed w b)) own) b → d ≡ marked (made_collected w) c
-    → At (noted w (given (comparison own (listed w s.books)) own) s) d k stands
+pub at-noted : (w : ℕ) (own : List (List ℕ)) (s : State) (b c d : Books) (k : Known) (stands : Plan → Type 0) → At s b k stands → c ≡ with_list w (ids_to_list (comparison own (listed w b)) own) b → d ≡ marked (made_collected w) c
+    → At (noted w (ids_to_list (comparison own (listed w s.books)) own) s) d k stands
 at-noted w own s b c d k stands a e f =
-    let g : Books → Books = λ x. marked (made_collected w) (with_list w (given (comparison own (listed w x)) own) x) in
+    let g : Books → Books = λ x. marked (made_collected w) (with_list w (ids_to_list (comparison own (listed w x)) own) x) in
     record { books_are = f ∙ ap (λ (x : Books). marked (made_collected w) x) e ∙ ap g a.books_are; known_is = a.known_is; stands_for = a.stands_for }
 
 -- who joins stops nothing
@@ -182,16 +182,16 @@ pub stop-joining : (w : ℕ) (s : State) → is_stopped (joining w s).books ≡ 
 stop-joining w s = in_both (λ (x : State). is_stopped x.books ≡ is_stopped s.books) (is_full (seated_in w s).books) (shared_now (seated_in w s)) (seated_in w s) (λ e. refl) (λ e. refl)
 
 -- with any other collection the worker joins
-pub taken-joined : (w : ℕ) (s : State) (b : Books) (k : Known) (es fs : List Entry) (st : Plan → Type 0) → is_stopped s.books ≡ false → Acted (after_joining w s.books (joining w s)) (joining w s) b k es fs st → TakenIn w None s b k es fs st
+pub taken-joined : (w : ℕ) (s : State) (b : Books) (k : Known) (es fs : List Entry) (st : Plan → Type 0) → is_stopped s.books ≡ false → Acted (outputs_of_joining w s.books (joining w s)) (joining w s) b k es fs st → TakenIn w None s b k es fs st
 taken-joined w s b k es fs st h a =
-    acted-by (after_joining w s.books (joining w s)) _ (joining w s) b k es fs st
-    (choose-third (is_stopped s.books) (is_stopped (joining w s).books) [] (shut_all (joining w s).books.crew) (after_joining w s.books (joining w s)) h (stop-joining w s ∙ h)) a
+    acted-by (outputs_of_joining w s.books (joining w s)) _ (joining w s) b k es fs st
+    (choose-third (is_stopped s.books) (is_stopped (joining w s).books) [] (shut_all (joining w s).books.crew) (outputs_of_joining w s.books (joining w s)) h (stop-joining w s ∙ h)) a
 
 -- a worker that may give its collection, was not told to shut down, and whose collection differs from none, may join
 pub may-join : (w : ℕ) (g : Ids) (s : State) → Reached s → may_follow s (Collected w g) ≡ true → is_shut w s.books ≡ false → is_stopped s.books ≡ false → unequal w g (listed w s.books) ≡ None → MayJoin w (noted w g s)
 may-join w g s r f u h n =
     let m = noted w g s in
-    let same : moved s (Collected w g) ≡ joining w m = ap (λ (o : Option RunStop). collecting w o m) n ∙ joined-unless (is_shut w m.books) w m refl (shut-noted w g s ∙ u) in
+    let same : after_effect s (Collected w g) ≡ joining w m = ap (λ (o : Option RunStop). collecting w o m) n ∙ joined-unless (is_shut w m.books) w m refl (shut-noted w g s ∙ u) in
     let still : is_stopped (joining w m).books ≡ false = stop-joining w m ∙ h in
     let j : Joins s w g = record { follows = f; unshut = u; before = h; going = ap (λ (t : State). is_stopped t.books) same ∙ still } in
     record {
@@ -213,10 +213,10 @@ collecting-is w (Some how) s = refl
 
 -- a collection that differs from none lets its worker join
 pub may-take_in : (w : ℕ) (own : List (List ℕ)) (s : State) (c : Comparison) (b : Books) (k : Known) (stands : Plan → Type 0) → Comes (given_ids w own s) s b k stands → c ≡ comparison own (listed w s.books) → is_shut w s.books ≡ false
-    → is_stopped s.books ≡ false → stop_of w c ≡ None → MayJoin w (noted w (given (comparison own (listed w s.books)) own) s)
+    → is_stopped s.books ≡ false → stop_of w c ≡ None → MayJoin w (noted w (ids_to_list (comparison own (listed w s.books)) own) s)
 may-take_in w own s c b k stands a e u h n =
     let o : Option Listed = listed w s.books in
-    let g : Ids = given (comparison own o) own in
+    let g : Ids = ids_to_list (comparison own o) own in
     may-join w g s a.reached (ap (may_follow s) (sym (given-is w own s)) ∙ a.follows) u h (unequal-is w own o ∙ ap (stop_of w) (sym e) ∙ n)
 
 -- behind a stop whoever may give its collection was told to shut down
@@ -228,13 +228,13 @@ going-on w b told u = elim (cases_of (is_stopped b)) [
 
 -- what a collection brings
 pub acted-collected : (w : ℕ) (own : List (List ℕ)) (s : State) (c : Comparison) (b : Books) (k : Known) (es fs : List Entry) (st : Plan → Type 0) → c ≡ comparison own (listed w s.books) → is_shut w s.books ≡ false
-    → (let m = noted w (given (comparison own (listed w s.books)) own) s in TakenIn w (stop_of w c) m b k es fs st)
-    → (let e = Collected w (given (comparison own (listed w s.books)) own) in Acted (own_outputs s e (moved s e)) (moved s e) b k es fs st)
+    → (let m = noted w (ids_to_list (comparison own (listed w s.books)) own) s in TakenIn w (stop_of w c) m b k es fs st)
+    → (let e = Collected w (ids_to_list (comparison own (listed w s.books)) own) in Acted (own_outputs s e (after_effect s e)) (after_effect s e) b k es fs st)
 acted-collected w own s c b k es fs st ce sh a =
     let o : Option Listed = listed w s.books in
-    let g : Ids = given (comparison own o) own in
+    let g : Ids = ids_to_list (comparison own o) own in
     let m : State = noted w g s in
-    let outs : State → List Entry = λ v. unless_stopped s.books v.books (after_joining w s.books v) in
+    let outs : State → List Entry = λ v. unless_stopped s.books v.books (outputs_of_joining w s.books v) in
     let stops : stop_of w c ≡ unequal w g o = ap (stop_of w) ce ∙ sym (unequal-is w own o) in
     let P : Option RunStop → Type 0 = λ h. Acted (outs (taken_in w h m)) (taken_in w h m) b k es fs st in
     let a1 : P (unequal w g o) = subst P stops a in
@@ -246,13 +246,13 @@ acted-collected w own s c b k es fs st ce sh a =
 
 -- one that was told to shut down brings nothing
 pub acted-shut-off : (w : ℕ) (own : List (List ℕ)) (s : State) (b : Books) (k : Known) (es : List Entry) (st : Plan → Type 0) → is_shut w s.books ≡ true
-    → (let m = noted w (given (comparison own (listed w s.books)) own) s in At m b k st)
-    → (let e = Collected w (given (comparison own (listed w s.books)) own) in Acted (own_outputs s e (moved s e)) (moved s e) b k es es st)
+    → (let m = noted w (ids_to_list (comparison own (listed w s.books)) own) s in At m b k st)
+    → (let e = Collected w (ids_to_list (comparison own (listed w s.books)) own) in Acted (own_outputs s e (after_effect s e)) (after_effect s e) b k es es st)
 acted-shut-off w own s b k es st sh a =
     let o : Option Listed = listed w s.books in
-    let g : Ids = given (comparison own o) own in
+    let g : Ids = ids_to_list (comparison own o) own in
     let m : State = noted w g s in
-    let outs : State → List Entry = λ v. unless_stopped s.books v.books (after_joining w s.books v) in
+    let outs : State → List Entry = λ v. unless_stopped s.books v.books (outputs_of_joining w s.books v) in
     let Q : Bool → Type 0 = λ q. Acted (if is_shut w s.books then [] else outs (if q then m else taken_in w (unequal w g o) m)) (if q then m else taken_in w (unequal w g o) m) b k es es st in
     let R : Bool → Type 0 = λ q. Acted (if q then [] else outs m) m b k es es st in
     let a2 : Q true = subst R (sym sh) (acted-none m b k es st a) in

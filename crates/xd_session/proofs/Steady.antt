@@ -6,7 +6,7 @@ use Rattle.xd_journal.specs.declared.entry.Entry.{Entry}
 use Rattle.xd_journal.specs.declared.news.News.{News}
 use Rattle.xd_journal.specs.declared.news.What.{What}
 use Rattle.xd_ledger.specs.Books.{Books}
-use Rattle.xd_ledger.specs.Histories.{begun, is_over, journal_of, stepped_all}
+use Rattle.xd_ledger.specs.Histories.{after_starts, is_over, journal_of, after_inputs}
 use Rattle.xd_ledger.specs.Meaning.{Log, log_of, meaning_of, spent_by, with_news}
 use Rattle.xd_ledger.specs.Outputs.{outputs}
 use Rattle.xd_ledger.specs.Owes.{someone_owes}
@@ -26,19 +26,19 @@ use Rattle.xd_laws.proofs.Placed.{due_times}
 use Rattle.xd_laws.proofs.Turns.{Tidy}
 use Rattle.xd_session.specs.declared.logs.WorkerLog.{WorkerLog}
 use Rattle.xd_session.specs.History.{Run as SoFar, entries_with, input_of, run_of, said_by}
-use Rattle.xd_session.specs.Joining.{IsBare, IsNew}
+use Rattle.xd_session.specs.Joining.{IsBare, IsToJoin}
 use Rattle.xd_session.specs.Kept.{log_in, shortened}
 use Rattle.xd_session.specs.Known.{Known}
 use Rattle.xd_session.specs.Rules.{At, InStep}
 use Rattle.xd_session.specs.Stands.{Seen, StandsFor}
-use Rattle.xd_session.specs.Told.{Steady, Told, Took}
+use Rattle.xd_session.specs.Told.{Steady, Told, TookNews}
 use Rattle.xd_session.proofs.Joins.{AllCollected, joins-behind}
 use Rattle.xd_session.proofs.Steps.{journal-more, journal-state, logs-more, meaning-follows, meaning-short, orderly-next, proper-more, run-more, run-taken, short-twice, sound-run, spent-more, state-next}
 use Rattle.xd_session.proofs.Waiting.{AllTold, shut-where, told-behind}
 
 -- a session in step stands for a state of a proper run
 module _ (settings : Settings) (entries : List Entry) (logs : List WorkerLog) (spent : ℕ) (b : Books) (kn : Known) (st : Plan → Type 0) (k : InStep settings entries logs spent b kn st) where
-  pub behind : state_at settings entries ≡ stepped_all (begun settings) k.inputs
+  pub behind : state_at settings entries ≡ after_inputs (after_starts settings) k.inputs
   behind = ap (state_at settings) k.journal ∙ journal-state settings k.inputs k.proper.follow
 
   pub steady : Steady (state_at settings entries) b kn st
@@ -69,16 +69,16 @@ bare-state s d h = empty-of_times (all_items s.books.table) (λ x. d.placed.whol
 shut-state : (s : State) (w : ℕ) → Tidy s → AllTold s → is_stopped s.books ≡ true → is_active w s.books ≡ true → was_ready w s.books ≡ true → is_shut w s.books ≡ true
 shut-state s w d t h a r = shut-where w s.books.crew (distinct-numbered s.books.crew d.crew.numbered) a r (t h w)
 
-new-state : (s : State) (w : ℕ) → Tidy s → AllCollected s → AllTold s → is_active w s.books ≡ true → has_collected w s.books ≡ false → was_ready w s.books ≡ true → IsNew w s.books
+new-state : (s : State) (w : ℕ) → Tidy s → AllCollected s → AllTold s → is_active w s.books ≡ true → has_collected w s.books ≡ false → was_ready w s.books ≡ true → IsToJoin w s.books
 new-state s w d c t a h r = record { absent = new-seat s w c h; bare = bare-state s d; told = λ q. shut-state s w d t q a r }
 
 -- whoever gives its collection is new
 pub step-new : (settings : Settings) (entries : List Entry) (logs : List WorkerLog) (spent : ℕ) (b : Books) (kn : Known) (st : Plan → Type 0) → InStep settings entries logs spent b kn st → (w : ℕ) → is_active w b ≡ true → has_collected w b ≡ false
-    → was_ready w b ≡ true → IsNew w b
+    → was_ready w b ≡ true → IsToJoin w b
 step-new settings entries logs spent b kn st k w a h r =
     let s = state_at settings entries in
     let e : s.books ≡ b = sym k.at.books_are in
-    subst (λ (d : Books). IsNew w d) e
+    subst (λ (d : Books). IsToJoin w d) e
     (new-state s w (tidy settings entries logs spent b kn st k) (collected settings entries logs spent b kn st k) (all-told settings entries logs spent b kn st k)
     (ap (λ (d : Books). is_active w d) e ∙ a) (ap (λ (d : Books). has_collected w d) e ∙ h) (ap (λ (d : Books). was_ready w d) e ∙ r))
 
@@ -113,7 +113,7 @@ short-if true x y h = sym (short-twice x)
 short-if false x y h = h
 
 pub step-next : (settings : Settings) (entries now : List Entry) (logs logs_now : List WorkerLog) (spent spent_now : ℕ) (b c : Books) (kn kc : Known) (st st_now : Plan → Type 0) (w : ℕ) (n : What) → InStep settings entries logs spent b kn st
-    → is_active w b ≡ true → Took w n (state_at settings entries) logs logs_now entries now spent spent_now c kc st_now → InStep settings now logs_now spent_now c kc st_now
+    → is_active w b ≡ true → TookNews w n (state_at settings entries) logs logs_now entries now spent spent_now c kc st_now → InStep settings now logs_now spent_now c kc st_now
 step-next settings entries now logs logs_now spent spent_now b c kn kc st st_now w n k a t =
     let s0 = state_at settings entries in
     let act : is_active w s0.books ≡ true = ap (λ (d : Books). is_active w d) (sym k.at.books_are) ∙ a in
@@ -121,7 +121,7 @@ step-next settings entries now logs logs_now spent spent_now b c kn kc st st_now
     (λ v. (let r = t.logs_are v in r ∙ short-if (v == w) (with_news (log_in v logs) n) (log_in v logs) (k.short v) ∙ ap shortened (sym r))) t.told
 
 pub stands-next : (settings : Settings) (entries now : List Entry) (logs logs_now : List WorkerLog) (spent spent_now : ℕ) (b c : Books) (kn kc : Known) (st st_now : Plan → Type 0) (n : News) (taken : List News) → InStep settings entries logs spent b kn st
-    → is_active n.worker b ≡ true → Took n.worker n.what (state_at settings entries) logs logs_now entries now spent spent_now c kc st_now
+    → is_active n.worker b ≡ true → TookNews n.worker n.what (state_at settings entries) logs logs_now entries now spent spent_now c kc st_now
     → StandsFor taken (record { settings = settings; entries = entries; logs = logs; whole = true }) → StandsFor (taken ++ n ∷ []) (record { settings = settings; entries = now; logs = logs_now; whole = true })
 stands-next settings entries now logs logs_now spent spent_now b c kn kc st st_now n taken k a t f =
     let s0 = state_at settings entries in

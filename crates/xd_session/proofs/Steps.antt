@@ -14,29 +14,29 @@ use Rattle.xd_journal.specs.declared.news.News.{News}
 use Rattle.xd_journal.specs.declared.news.What.{What}
 use Rattle.xd_journal.specs.declared.news.What.TheVariants as what
 use Rattle.xd_journal.specs.Kept.{room_behind, most_of_all, most_of_one}
-use Rattle.xd_ledger.specs.Histories.{begun, first_starts, grown, journal_of, stepped_all}
-use Rattle.xd_ledger.specs.Meaning.{Log, given_ids, head_bytes, is_of, any_open, kept, log_of, may_start_log, meaning_of, output_of, is_open_log, spent_by, with_news}
+use Rattle.xd_ledger.specs.Histories.{after_starts, first_starts, grown, journal_of, after_inputs}
+use Rattle.xd_ledger.specs.Meaning.{Log, given_ids, head_bytes, is_of, any_open, kept_at_death, log_of, may_start_log, meaning_of, output_of, is_open_log, spent_by, with_news}
 use Rattle.xd_ledger.specs.Orderly.{all_orderly, is_orderly, is_orderly_run}
-use Rattle.xd_ledger.specs.Outputs.{outputs, stepped}
+use Rattle.xd_ledger.specs.Outputs.{outputs, after_input}
 use Rattle.xd_ledger.specs.Proper.{IsProper, all_may_follow, may_follow, names_head}
 use Rattle.xd_ledger.specs.Retry.{is_retry}
 use Rattle.xd_ledger.specs.Sharing.{State}
-use Rattle.xd_ledger.specs.State.{all_moved, is_input, moved, no_one, settled, state_at}
+use Rattle.xd_ledger.specs.State.{after_entries, is_input, after_effect, no_one, settled, state_at}
 use Rattle.xd_ledger.specs.Workers.{is_active}
 use Rattle.xd_laws.proofs.Laws.{orderly}
 use Rattle.xd_laws.proofs.Logic.{and, differ, split-and}
 use Rattle.xd_session.specs.declared.logs.WorkerLog.{WorkerLog}
 use Rattle.xd_session.specs.History.{IsProperRun, Run as SoFar, after_news, begun_run, entries_with, input_of, inputs_with, run_of, said_by, state_with}
 use Rattle.xd_session.specs.Kept.{log_in, shortened}
-use Rattle.xd_session.proofs.Closing.{all_moved-append}
+use Rattle.xd_session.proofs.Closing.{after_entries-append}
 
 -- the state behind one more input
 
-pub state-grown : (settings : Settings) (es outs : List Entry) (e : Entry) → is_input e ≡ true → state_at settings (es ++ e ∷ outs) ≡ settled (all_moved (moved (state_at settings es) e) outs)
+pub state-grown : (settings : Settings) (es outs : List Entry) (e : Entry) → is_input e ≡ true → state_at settings (es ++ e ∷ outs) ≡ settled (after_entries (after_effect (state_at settings es) e) outs)
 state-grown settings es outs e h =
-    let raw : State = all_moved (no_one settings) es in
-    let a : all_moved (no_one settings) (es ++ e ∷ outs) ≡ all_moved raw (e ∷ outs) = all_moved-append (no_one settings) es (e ∷ outs) in
-    let f : Bool → State = λ b. settled (all_moved (moved (if b then settled raw else raw) e) outs) in
+    let raw : State = after_entries (no_one settings) es in
+    let a : after_entries (no_one settings) (es ++ e ∷ outs) ≡ after_entries raw (e ∷ outs) = after_entries-append (no_one settings) es (e ∷ outs) in
+    let f : Bool → State = λ b. settled (after_entries (after_effect (if b then settled raw else raw) e) outs) in
     ap settled a ∙ ap f h
 
 pub input-of : (s : State) (e : Entry) → may_follow s e ≡ true → is_input e ≡ true
@@ -56,51 +56,51 @@ input-of s (Shutdown w) h = absurd (differ h)
 input-of s (Kill w) h = absurd (differ h)
 input-of s (Over how) h = absurd (differ h)
 
-pub state-next : (settings : Settings) (es : List Entry) (e : Entry) → may_follow (state_at settings es) e ≡ true → state_at settings (es ++ e ∷ outputs (state_at settings es) e) ≡ stepped (state_at settings es) e
+pub state-next : (settings : Settings) (es : List Entry) (e : Entry) → may_follow (state_at settings es) e ≡ true → state_at settings (es ++ e ∷ outputs (state_at settings es) e) ≡ after_input (state_at settings es) e
 state-next settings es e h = state-grown settings es (outputs (state_at settings es) e) e (input-of (state_at settings es) e h)
 
 -- a journal grows by its inputs
 
-grown-state : (settings : Settings) (es ins : List Entry) → all_may_follow (state_at settings es) ins ≡ true → state_at settings (es ++ grown (state_at settings es) ins) ≡ stepped_all (state_at settings es) ins
+grown-state : (settings : Settings) (es ins : List Entry) → all_may_follow (state_at settings es) ins ≡ true → state_at settings (es ++ grown (state_at settings es) ins) ≡ after_inputs (state_at settings es) ins
 grown-state settings es [] h = ap (state_at settings) (append-nil es)
 grown-state settings es (i ∷ ins) h =
     let s = state_at settings es in
-    let p = split-and (may_follow s i) (all_may_follow (stepped s i) ins) h in
+    let p = split-and (may_follow s i) (all_may_follow (after_input s i) ins) h in
     let one : List Entry = i ∷ outputs s i in
-    let now : state_at settings (es ++ one) ≡ stepped s i = state-next settings es i p.0 in
+    let now : state_at settings (es ++ one) ≡ after_input s i = state-next settings es i p.0 in
     let ih = grown-state settings (es ++ one) ins (ap (λ u. all_may_follow u ins) now ∙ p.1) in
-    ap (state_at settings) (sym (append_assoc es one (grown (stepped s i) ins)) ∙ ap (λ u. (es ++ one) ++ grown u ins) (sym now)) ∙ ih ∙ ap (λ u. stepped_all u ins) now
+    ap (state_at settings) (sym (append_assoc es one (grown (after_input s i) ins)) ∙ ap (λ u. (es ++ one) ++ grown u ins) (sym now)) ∙ ih ∙ ap (λ u. after_inputs u ins) now
 
-pub journal-state : (settings : Settings) (ins : List Entry) → all_may_follow (begun settings) ins ≡ true → state_at settings (journal_of settings ins) ≡ stepped_all (begun settings) ins
+pub journal-state : (settings : Settings) (ins : List Entry) → all_may_follow (after_starts settings) ins ≡ true → state_at settings (journal_of settings ins) ≡ after_inputs (after_starts settings) ins
 journal-state settings ins h = grown-state settings (first_starts settings) ins h
 
-grown-more : (s : State) (ins : List Entry) (e : Entry) → grown s (ins ++ e ∷ []) ≡ grown s ins ++ (e ∷ outputs (stepped_all s ins) e)
+grown-more : (s : State) (ins : List Entry) (e : Entry) → grown s (ins ++ e ∷ []) ≡ grown s ins ++ (e ∷ outputs (after_inputs s ins) e)
 grown-more s [] e = append-nil (e ∷ outputs s e)
-grown-more s (i ∷ ins) e = ap (λ xs. (i ∷ outputs s i) ++ xs) (grown-more (stepped s i) ins e) ∙ sym (append_assoc (i ∷ outputs s i) (grown (stepped s i) ins) (e ∷ outputs (stepped_all s (i ∷ ins)) e))
+grown-more s (i ∷ ins) e = ap (λ xs. (i ∷ outputs s i) ++ xs) (grown-more (after_input s i) ins e) ∙ sym (append_assoc (i ∷ outputs s i) (grown (after_input s i) ins) (e ∷ outputs (after_inputs s (i ∷ ins)) e))
 
-pub journal-more : (settings : Settings) (ins : List Entry) (e : Entry) → journal_of settings (ins ++ e ∷ []) ≡ journal_of settings ins ++ (e ∷ outputs (stepped_all (begun settings) ins) e)
-journal-more settings ins e = ap (λ xs. first_starts settings ++ xs) (grown-more (begun settings) ins e) ∙ sym (append_assoc (first_starts settings) (grown (begun settings) ins) (e ∷ outputs (stepped_all (begun settings) ins) e))
+pub journal-more : (settings : Settings) (ins : List Entry) (e : Entry) → journal_of settings (ins ++ e ∷ []) ≡ journal_of settings ins ++ (e ∷ outputs (after_inputs (after_starts settings) ins) e)
+journal-more settings ins e = ap (λ xs. first_starts settings ++ xs) (grown-more (after_starts settings) ins e) ∙ sym (append_assoc (first_starts settings) (grown (after_starts settings) ins) (e ∷ outputs (after_inputs (after_starts settings) ins) e))
 
-follow-more : (s : State) (ins : List Entry) (e : Entry) → all_may_follow s ins ≡ true → may_follow (stepped_all s ins) e ≡ true → all_may_follow s (ins ++ e ∷ []) ≡ true
+follow-more : (s : State) (ins : List Entry) (e : Entry) → all_may_follow s ins ≡ true → may_follow (after_inputs s ins) e ≡ true → all_may_follow s (ins ++ e ∷ []) ≡ true
 follow-more s [] e h k = and k refl
 follow-more s (i ∷ ins) e h k =
-    let p = split-and (may_follow s i) (all_may_follow (stepped s i) ins) h in
-    and p.0 (follow-more (stepped s i) ins e p.1 k)
+    let p = split-and (may_follow s i) (all_may_follow (after_input s i) ins) h in
+    and p.0 (follow-more (after_input s i) ins e p.1 k)
 
-pub proper-more : (settings : Settings) (ins : List Entry) (e : Entry) → IsProper settings ins → may_follow (stepped_all (begun settings) ins) e ≡ true → IsProper settings (ins ++ e ∷ [])
-proper-more settings ins e p h = record { mode = p.mode; some_worker = p.some_worker; few_workers = p.few_workers; few_restarts = p.few_restarts; follow = follow-more (begun settings) ins e p.follow h }
+pub proper-more : (settings : Settings) (ins : List Entry) (e : Entry) → IsProper settings ins → may_follow (after_inputs (after_starts settings) ins) e ≡ true → IsProper settings (ins ++ e ∷ [])
+proper-more settings ins e p h = record { mode = p.mode; some_worker = p.some_worker; few_workers = p.few_workers; few_restarts = p.few_restarts; follow = follow-more (after_starts settings) ins e p.follow h }
 
 -- what follows an input is in order, in every mode
 
-orderly-last : (s : State) (ins : List Entry) (e : Entry) → is_orderly_run s (ins ++ e ∷ []) ≡ true → all_orderly (moved (stepped_all s ins) e) (outputs (stepped_all s ins) e) ≡ true
-orderly-last s [] e h = (split-and (all_orderly (moved s e) (outputs s e)) true h).0
-orderly-last s (i ∷ ins) e h = orderly-last (stepped s i) ins e (split-and (all_orderly (moved s i) (outputs s i)) (is_orderly_run (stepped s i) (ins ++ e ∷ [])) h).1
+orderly-last : (s : State) (ins : List Entry) (e : Entry) → is_orderly_run s (ins ++ e ∷ []) ≡ true → all_orderly (after_effect (after_inputs s ins) e) (outputs (after_inputs s ins) e) ≡ true
+orderly-last s [] e h = (split-and (all_orderly (after_effect s e) (outputs s e)) true h).0
+orderly-last s (i ∷ ins) e h = orderly-last (after_input s i) ins e (split-and (all_orderly (after_effect s i) (outputs s i)) (is_orderly_run (after_input s i) (ins ++ e ∷ [])) h).1
 
-pub orderly-next : (settings : Settings) (ins : List Entry) (s : State) (e : Entry) → IsProper settings ins → s ≡ stepped_all (begun settings) ins → may_follow s e ≡ true → all_orderly (moved s e) (outputs s e) ≡ true
+pub orderly-next : (settings : Settings) (ins : List Entry) (s : State) (e : Entry) → IsProper settings ins → s ≡ after_inputs (after_starts settings) ins → may_follow s e ≡ true → all_orderly (after_effect s e) (outputs s e) ≡ true
 orderly-next settings ins s e p same h =
-    let follows : may_follow (stepped_all (begun settings) ins) e ≡ true = ap (λ (u : State). may_follow u e) (sym same) ∙ h in
-    let Ordered : State → Type 0 = λ u. all_orderly (moved u e) (outputs u e) ≡ true in
-    subst Ordered (sym same) (orderly-last (begun settings) ins e (orderly settings (ins ++ e ∷ []) (proper-more settings ins e p follows)))
+    let follows : may_follow (after_inputs (after_starts settings) ins) e ≡ true = ap (λ (u : State). may_follow u e) (sym same) ∙ h in
+    let Ordered : State → Type 0 = λ u. all_orderly (after_effect u e) (outputs u e) ≡ true in
+    subst Ordered (sym same) (orderly-last (after_starts settings) ins e (orderly settings (ins ++ e ∷ []) (proper-more settings ins e p follows)))
 
 -- outputs keep nothing of a test
 
@@ -124,8 +124,8 @@ spends-nothing s (NotStarted w) h es = absurd (differ h)
 quiet-spends : (s : State) (es : List Entry) → all_orderly s es ≡ true → spent_by es ≡ 0
 quiet-spends s [] h = refl
 quiet-spends s (e ∷ es) h =
-    let p = split-and (is_orderly s e) (all_orderly (moved s e) es) h in
-    spends-nothing s e p.0 es ∙ quiet-spends (moved s e) es p.1
+    let p = split-and (is_orderly s e) (all_orderly (after_effect s e) es) h in
+    spends-nothing s e p.0 es ∙ quiet-spends (after_effect s e) es p.1
 
 spent-first : (e : Entry) (es : List Entry) → spent_by (e ∷ es) ≡ spent_by (e ∷ []) + spent_by es
 spent-first (Done w i u m o) es = omega arith
@@ -148,9 +148,9 @@ pub spent-append : (es fs : List Entry) → spent_by (es ++ fs) ≡ spent_by es 
 spent-append [] fs = omega arith
 spent-append (e ∷ es) fs = (let a = spent-first e (es ++ fs) in let b = spent-first e es in let k = spent-append es fs in omega arith)
 
-pub spent-more : (s : State) (es : List Entry) (e : Entry) → all_orderly (moved s e) (outputs s e) ≡ true → spent_by (es ++ e ∷ outputs s e) ≡ spent_by es + spent_by (e ∷ [])
+pub spent-more : (s : State) (es : List Entry) (e : Entry) → all_orderly (after_effect s e) (outputs s e) ≡ true → spent_by (es ++ e ∷ outputs s e) ≡ spent_by es + spent_by (e ∷ [])
 spent-more s es e h =
-    let none = quiet-spends (moved s e) (outputs s e) h in
+    let none = quiet-spends (after_effect s e) (outputs s e) h in
     let a = spent-append es (e ∷ outputs s e) in
     let b = spent-first e (outputs s e) in
     omega arith
@@ -179,19 +179,19 @@ done-by s w i o m out e d true false c n act k h = ap (may_follow s) (sym (same-
 done-by s w i o m out e d false b c n act k h = ap (may_follow s) (sym (same-entry d e h)) ∙ k
 
 pub meaning-follows : (w : ℕ) (log : Option Log) (spent : ℕ) (s : State) (n : What) (e : Entry) → is_active w s.books ≡ true → meaning_of w log spent s n ≡ Some e → may_follow s e ≡ true
-meaning-follows w log spent s what.Ready e a h = or-by s e (Ready w) (Down w Breach (kept w log spent s)) (may_follow s (Ready w)) refl a h
-meaning-follows w log spent s (what.Collected own) e a h = or-by s e (given_ids w own s) (Down w Breach (kept w log spent s)) (may_follow s (given_ids w own s)) refl a h
-meaning-follows w log spent s (what.LogStart i n) e a h = silent-by s e (Down w Breach (kept w log spent s)) (may_start_log w i n log s) a h
-meaning-follows w log spent s (what.Piece n bs) e a h = silent-by s e (Down w Breach (kept w log spent s)) (is_open_log n log) a h
-meaning-follows w log spent s (what.LogClosed n) e a h = silent-by s e (Down w Breach (kept w log spent s)) (is_open_log n log) a h
-meaning-follows w log spent s (what.Done i o m) e a h = done-by s w i o m (output_of w o log spent s) e (Down w Breach (kept w log spent s)) (names_head w i s) (is_of i log) (not (any_open log)) refl a a h
-meaning-follows w log spent s (what.Back is) e a h = or-by s e (Back w is) (Down w Breach (kept w log spent s)) (may_follow s (Back w is)) refl a h
-meaning-follows w log spent s what.Finished e a h = or-by s e (Finished w) (Down w Breach (kept w log spent s)) (may_follow s (Finished w)) refl a h
-meaning-follows w log spent s (what.Closed None) e a h = ap (may_follow s) (sym (same-entry (Down w Breach (kept w log spent s)) e h)) ∙ a
-meaning-follows w log spent s (what.Closed (Some text)) e a h = or-by s e (Refused w text) (Down w Breach (kept w log spent s)) (may_follow s (Refused w text)) refl a h
-meaning-follows w log spent s what.Stray e a h = ap (may_follow s) (sym (same-entry (Down w Breach (kept w log spent s)) e h)) ∙ a
-meaning-follows w log spent s (what.Gone c) e a h = ap (may_follow s) (sym (same-entry (Down w c (kept w log spent s)) e h)) ∙ a
-meaning-follows w log spent s what.NotStarted e a h = or-by s e (NotStarted w) (Down w Breach (kept w log spent s)) (may_follow s (NotStarted w)) refl a h
+meaning-follows w log spent s what.Ready e a h = or-by s e (Ready w) (Down w Breach (kept_at_death w log spent s)) (may_follow s (Ready w)) refl a h
+meaning-follows w log spent s (what.Collected own) e a h = or-by s e (given_ids w own s) (Down w Breach (kept_at_death w log spent s)) (may_follow s (given_ids w own s)) refl a h
+meaning-follows w log spent s (what.LogStart i n) e a h = silent-by s e (Down w Breach (kept_at_death w log spent s)) (may_start_log w i n log s) a h
+meaning-follows w log spent s (what.Piece n bs) e a h = silent-by s e (Down w Breach (kept_at_death w log spent s)) (is_open_log n log) a h
+meaning-follows w log spent s (what.LogClosed n) e a h = silent-by s e (Down w Breach (kept_at_death w log spent s)) (is_open_log n log) a h
+meaning-follows w log spent s (what.Done i o m) e a h = done-by s w i o m (output_of w o log spent s) e (Down w Breach (kept_at_death w log spent s)) (names_head w i s) (is_of i log) (not (any_open log)) refl a a h
+meaning-follows w log spent s (what.Back is) e a h = or-by s e (Back w is) (Down w Breach (kept_at_death w log spent s)) (may_follow s (Back w is)) refl a h
+meaning-follows w log spent s what.Finished e a h = or-by s e (Finished w) (Down w Breach (kept_at_death w log spent s)) (may_follow s (Finished w)) refl a h
+meaning-follows w log spent s (what.Closed None) e a h = ap (may_follow s) (sym (same-entry (Down w Breach (kept_at_death w log spent s)) e h)) ∙ a
+meaning-follows w log spent s (what.Closed (Some text)) e a h = or-by s e (Refused w text) (Down w Breach (kept_at_death w log spent s)) (may_follow s (Refused w text)) refl a h
+meaning-follows w log spent s what.Stray e a h = ap (may_follow s) (sym (same-entry (Down w Breach (kept_at_death w log spent s)) e h)) ∙ a
+meaning-follows w log spent s (what.Gone c) e a h = ap (may_follow s) (sym (same-entry (Down w c (kept_at_death w log spent s)) e h)) ∙ a
+meaning-follows w log spent s what.NotStarted e a h = or-by s e (NotStarted w) (Down w Breach (kept_at_death w log spent s)) (may_follow s (NotStarted w)) refl a h
 
 -- the first bytes of a log are enough
 
@@ -209,7 +209,7 @@ head-short : (w spent : ℕ) (log : Option Log) (s : State) → take (room_behin
 head-short w spent None s = refl
 head-short w spent (Some l) s = take-within (min most_of_one (most_of_all - spent)) most_of_one (names_head w l.index s) l.bytes (omega arith)
 
-pub kept-short : (w spent : ℕ) (log : Option Log) (s : State) → kept w (shortened log) spent s ≡ kept w log spent s
+pub kept-short : (w spent : ℕ) (log : Option Log) (s : State) → kept_at_death w (shortened log) spent s ≡ kept_at_death w log spent s
 kept-short w spent log s = ap (λ (bs : List ℕ). if is_retry w s.books then [] else bs) (head-short w spent log s)
 
 pub meaning-short : (w : ℕ) (log : Option Log) (spent : ℕ) (s : State) (n : What) → meaning_of w (shortened log) spent s n ≡ meaning_of w log spent s n
@@ -224,7 +224,7 @@ meaning-short w (Some l) spent s (what.LogClosed n) = ap (λ k. if is_open_log n
 meaning-short w None spent s (what.Done i o m) = refl
 meaning-short w (Some l) spent s (what.Done i (Failed c) m) =
     let fine = names_head w i s && is_of i (Some l) && not (any_open (Some l)) in
-    ap (λ o. if fine then Some (Done w i (Failed c) m o) else Some (Down w Breach (kept w (shortened (Some l)) spent s))) (head-short w spent (Some l) s)
+    ap (λ o. if fine then Some (Done w i (Failed c) m o) else Some (Down w Breach (kept_at_death w (shortened (Some l)) spent s))) (head-short w spent (Some l) s)
     ∙ ap (λ k. if fine then Some (Done w i (Failed c) m (output_of w (Failed c) (Some l) spent s)) else Some (Down w Breach k)) (kept-short w spent (Some l) s)
 meaning-short w (Some l) spent s (what.Done i Passed m) = ap (λ k. if names_head w i s && is_of i (Some l) && not (any_open (Some l)) then Some (Done w i Passed m []) else Some (Down w Breach k)) (kept-short w spent (Some l) s)
 meaning-short w (Some l) spent s (what.Done i Skipped m) = ap (λ k. if names_head w i s && is_of i (Some l) && not (any_open (Some l)) then Some (Done w i Skipped m []) else Some (Down w Breach k)) (kept-short w spent (Some l) s)
@@ -297,9 +297,9 @@ logs-more taken n logs now h k v =
 pub run-more : (settings : Settings) (taken : List News) (n : News) → run_of settings (taken ++ n ∷ []) ≡ after_news (run_of settings taken) n
 run-more settings taken n = fold-append after_news (begun_run settings) taken (n ∷ [])
 
-stepped-more : (s : State) (ins : List Entry) (e : Entry) → stepped_all s (ins ++ e ∷ []) ≡ stepped (stepped_all s ins) e
-stepped-more s [] e = refl
-stepped-more s (i ∷ ins) e = stepped-more (stepped s i) ins e
+after_input-more : (s : State) (ins : List Entry) (e : Entry) → after_inputs s (ins ++ e ∷ []) ≡ after_input (after_inputs s ins) e
+after_input-more s [] e = refl
+after_input-more s (i ∷ ins) e = after_input-more (after_input s i) ins e
 
 sound-input : (settings : Settings) (r : SoFar) (n : News) (o : Option Entry) → ((e : Entry) → o ≡ Some e → may_follow r.state e ≡ true) → IsProperRun settings r
     → IsProperRun settings (record { entries = entries_with o r.entries r.state; state = state_with o r.state; inputs = inputs_with o r.inputs; taken = r.taken ++ n ∷ [] })
@@ -307,7 +307,7 @@ sound-input settings r n None h k = record { proper = k.proper; journal = k.jour
 sound-input settings r n (Some e) h k = record {
   proper = proper-more settings r.inputs e k.proper (ap (λ u. may_follow u e) (sym k.state) ∙ h e refl);
   journal = ap (λ es. es ++ (e ∷ outputs r.state e)) k.journal ∙ ap (λ u. journal_of settings r.inputs ++ (e ∷ outputs u e)) k.state ∙ sym (journal-more settings r.inputs e);
-  state = ap (λ u. stepped u e) k.state ∙ sym (stepped-more (begun settings) r.inputs e);
+  state = ap (λ u. after_input u e) k.state ∙ sym (after_input-more (after_starts settings) r.inputs e);
 }
 
 meant : (w : ℕ) (b : Bool) (o : Option Entry) (s : State) (e : Entry) → (b ≡ true → o ≡ Some e → may_follow s e ≡ true) → (if b then o else None) ≡ Some e → may_follow s e ≡ true
@@ -321,7 +321,7 @@ input-follows r n e h =
     let log = log_of (said_by w r.taken) in
     meant w (is_active w r.state.books) (meaning_of w log (spent_by r.entries) r.state n.what) r.state e (λ a m. meaning-follows w log (spent_by r.entries) r.state n.what e a m) h
 
-pub outputs-orderly : (settings : Settings) (r : SoFar) (n : News) (e : Entry) → IsProperRun settings r → input_of r n ≡ Some e → all_orderly (moved r.state e) (outputs r.state e) ≡ true
+pub outputs-orderly : (settings : Settings) (r : SoFar) (n : News) (e : Entry) → IsProperRun settings r → input_of r n ≡ Some e → all_orderly (after_effect r.state e) (outputs r.state e) ≡ true
 outputs-orderly settings r n e k h = orderly-next settings r.inputs r.state e k.proper k.state (input-follows r n e h)
 
 pub sound-next : (settings : Settings) (r : SoFar) (n : News) → IsProperRun settings r → IsProperRun settings (after_news r n)

@@ -11,7 +11,7 @@ use Rattle.xd_journal.specs.declared.news.What.{What}
 use Rattle.xd_journal.specs.declared.news.What.TheVariants as what
 use Rattle.xd_journal.specs.Kept.{most_of_all}
 use Rattle.xd_ledger.specs.Books.{Books}
-use Rattle.xd_ledger.specs.Meaning.{Log, any_open, breach, given_ids, is_of, is_open_log, kept, may_start_log, meaning_of, output_of, spent_by, with_news}
+use Rattle.xd_ledger.specs.Meaning.{Log, any_open, breach, given_ids, is_of, is_open_log, kept_at_death, may_start_log, meaning_of, output_of, spent_by, with_news}
 use Rattle.xd_ledger.specs.Plan.{Plan}
 use Rattle.xd_edge.specs.Limits.{most_tests}
 use Rattle.xd_ledger.specs.Proper.{are_ids, is_id, may_follow, names_head, no_text_twice}
@@ -27,7 +27,7 @@ use Rattle.xd_session.specs.Judged.{follows_where, judged, silent_where}
 use Rattle.xd_session.specs.Kept.{log_in, shortened}
 use Rattle.xd_session.specs.Known.{Known}
 use Rattle.xd_session.specs.Rules.{At, Comes, Ruled}
-use Rattle.xd_session.specs.Told.{Steady, Told, Took}
+use Rattle.xd_session.specs.Told.{Steady, Told, TookNews}
 use Rattle.xd_session.proofs.Disorder.{in_order, orderly-collection}
 use Rattle.xd_session.proofs.Shares.{given-is}
 
@@ -129,7 +129,7 @@ logs-same w v log l s n false h k = refl
 
 -- where the input followed the logs stay
 pub took-follows : (w : ℕ) (n : What) (s : State) (logs : List WorkerLog) (es fs : List Entry) (spent now : ℕ) (b : Books) (k : Known) (st : Plan → Type 0) → judged w (log_in w logs) s n ≡ Follows
-    → ((v : ℕ) → log_in v logs ≡ shortened (log_in v logs)) → Told (meaning_of w (log_in w logs) spent s n) s es fs spent now b k st → Took w n s logs logs es fs spent now b k st
+    → ((v : ℕ) → log_in v logs ≡ shortened (log_in v logs)) → Told (meaning_of w (log_in w logs) spent s n) s es fs spent now b k st → TookNews w n s logs logs es fs spent now b k st
 took-follows w n s logs es fs spent now b k st h short t = record { told = t; logs_are = λ v. logs-same w v (log_in w logs) (log_in v logs) s n (v == w) h (short v) }
 
 -- a log that is closed is no longer than it was

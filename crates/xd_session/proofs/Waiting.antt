@@ -11,22 +11,22 @@ use Rattle.xd_journal.specs.declared.entry.Entry.TheVariants.{Ready, Collected, 
 use Rattle.xd_ledger.specs.declared.member.Member.{Member}
 use Rattle.xd_ledger.specs.Books.{Books, marked}
 use Rattle.xd_ledger.specs.Collections.{listed, unequal, with_list}
-use Rattle.xd_ledger.specs.Histories.{begun, starts_from, stepped_all}
-use Rattle.xd_ledger.specs.Modes.Call.{TestDone, TestsBack}
+use Rattle.xd_ledger.specs.Histories.{after_starts, starts_from, after_inputs}
+use Rattle.xd_ledger.specs.Modes.ModeCall.{TestDone, TestsBack}
 use Rattle.xd_ledger.specs.Numbers.{all_distinct, among}
 use Rattle.xd_ledger.specs.Orderly.{all_orderly, is_orderly, is_orderly_run}
-use Rattle.xd_ledger.specs.Outputs.{acts_of, after_death, after_joining, closing, outputs, own_outputs, shut_all, stepped, unless_stopped}
+use Rattle.xd_ledger.specs.Outputs.{acts_of, outputs_of_death, outputs_of_joining, closing, outputs, own_outputs, shut_all, after_input, unless_stopped}
 use Rattle.xd_ledger.specs.Proper.{IsProper, all_may_follow, may_follow}
 use Rattle.xd_ledger.specs.Sharing.{State, in_books}
 use Rattle.xd_ledger.specs.Collecting.{collecting}
-use Rattle.xd_ledger.specs.State.{all_moved, moved, no_one}
+use Rattle.xd_ledger.specs.State.{after_entries, after_effect, no_one}
 use Rattle.xd_ledger.specs.Stops.{is_shutting, is_stopped}
 use Rattle.xd_ledger.specs.Workers.{is_shut, is_waiting, made_collected, made_gone, made_ready, made_shut, started}
 use Rattle.xd_laws.proofs.Crew.{has, has-cleared, has-more, has-same, numbers}
 use Rattle.xd_laws.proofs.Inputs.{collecting-keeps}
 use Rattle.xd_laws.proofs.Laws.{orderly}
 use Rattle.xd_laws.proofs.Logic.{and-false, cases_of, differ, in_both, or-left, or-right, split-and, split-or}
-use Rattle.xd_laws.proofs.Turns.{all_moved-first}
+use Rattle.xd_laws.proofs.Turns.{after_entries-first}
 
 -- the worker is active, was ready and was not told to shut down
 abbrev Waits : ℕ → List Member → Bool
@@ -122,7 +122,7 @@ told-all v (m ∷ ms) h = told-one v m ms (is_waiting m) (told-all v ms) h
 abbrev Leaves : State → (ℕ → Bool) → State → Type 0
 Leaves s to t = (is_stopped t.books ≡ is_stopped s.books) × ((v : ℕ) → Waits v t.books.crew ≡ (not (to v) && Waits v s.books.crew))
 
-leaves-output : (s : State) (e : Entry) → is_orderly s e ≡ true → Leaves s (λ v. is_told v e) (moved s e)
+leaves-output : (s : State) (e : Entry) → is_orderly s e ≡ true → Leaves s (λ v. is_told v e) (after_effect s e)
 leaves-output s (Start w slot) h = (refl, λ v. waits-started v w slot s.books.crew)
 leaves-output s (Run w is) h = (refl, λ v. refl)
 leaves-output s (RunAll w) h = (refl, λ v. refl)
@@ -139,13 +139,13 @@ leaves-output s (Refused w t) h = absurd (differ h)
 leaves-output s (Down w c o) h = absurd (differ h)
 leaves-output s (NotStarted w) h = absurd (differ h)
 
-leaves-outputs : (s : State) (es : List Entry) → all_orderly s es ≡ true → Leaves s (λ v. told v es) (all_moved s es)
+leaves-outputs : (s : State) (es : List Entry) → all_orderly s es ≡ true → Leaves s (λ v. told v es) (after_entries s es)
 leaves-outputs s [] h = (refl, λ v. refl)
 leaves-outputs s (e ∷ es) h =
-    let p = split-and (is_orderly s e) (all_orderly (moved s e) es) h in
+    let p = split-and (is_orderly s e) (all_orderly (after_effect s e) es) h in
     let one = leaves-output s e p.0 in
-    let rest = leaves-outputs (moved s e) es p.1 in
-    let first = all_moved-first s e es p.0 in (
+    let rest = leaves-outputs (after_effect s e) es p.1 in
+    let first = after_entries-first s e es p.0 in (
       ap (λ (u : State). is_stopped u.books) first ∙ rest.0 ∙ one.0,
       λ v. ap (λ (u : State). Waits v u.books.crew) first ∙ rest.1 v ∙ ap (λ b. not (told v es) && b) (one.1 v) ∙ and-both (is_told v e) (told v es) (Waits v s.books.crew),
     )
@@ -173,32 +173,32 @@ shut-stays : (w : ℕ) (how : Option RunStop) (s : State) → is_shut w s.books 
 shut-stays w (Some how) s h = rw h
 shut-stays w None s h = rw h
 
-told-collected : (s : State) (w : ℕ) (g : Ids) → AllTold s → is_stopped (moved s (Collected w g)).books ≡ true → (v : ℕ) → Waits v (moved s (Collected w g)).books.crew ≡ true
-    → told v (own_outputs s (Collected w g) (moved s (Collected w g))) ≡ true
+told-collected : (s : State) (w : ℕ) (g : Ids) → AllTold s → is_stopped (after_effect s (Collected w g)).books ≡ true → (v : ℕ) → Waits v (after_effect s (Collected w g)).books.crew ≡ true
+    → told v (own_outputs s (Collected w g) (after_effect s (Collected w g))) ≡ true
 told-collected s w g k h v x =
-    let now = moved s (Collected w g) in
+    let now = after_effect s (Collected w g) in
     let ms = s.books.crew in
     let before = in_books (λ b. marked (made_collected w) (with_list w g b)) s in
     let stop = unequal w g (listed w s.books) in
     let crew : now.books.crew ≡ map (made_collected w) ms = collecting-keeps (λ (u : State). u.books.crew ≡ map (made_collected w) ms) before w stop refl refl refl (λ n. refl) in
     let none : is_stopped s.books ≡ true → NoneWaits now.books.crew = λ a u. ap (λ (ns : List Member). Waits u ns) crew ∙ waits-collected u w ms ∙ k a u in
     let same : is_shut w before.books ≡ is_shut w s.books = has-same w (λ m. m.shut) (made_collected w) ms (λ m. refl) (λ m. refl) in
-    in_both (λ (os : List Entry). told v os ≡ true) (is_shut w s.books) [] (unless_stopped s.books now.books (after_joining w s.books now))
+    in_both (λ (os : List Entry). told v os ≡ true) (is_shut w s.books) [] (unless_stopped s.books now.books (outputs_of_joining w s.books now))
     (λ a. absurd (differ (sym (none (ap (λ (u : State). is_stopped u.books) (sym (shut-stays w stop before (same ∙ a))) ∙ h) v) ∙ x)))
-    (λ a. unless-told s.books now.books (after_joining w s.books now) none h v x)
+    (λ a. unless-told s.books now.books (outputs_of_joining w s.books now) none h v x)
 
-told-input : (s : State) (e : Entry) → may_follow s e ≡ true → AllTold s → is_stopped (moved s e).books ≡ true → (v : ℕ) → Waits v (moved s e).books.crew ≡ true → told v (own_outputs s e (moved s e)) ≡ true
+told-input : (s : State) (e : Entry) → may_follow s e ≡ true → AllTold s → is_stopped (after_effect s e).books ≡ true → (v : ℕ) → Waits v (after_effect s e).books.crew ≡ true → told v (own_outputs s e (after_effect s e)) ≡ true
 told-input s (Ready w) a k h v x =
-    let now = moved s (Ready w) in
+    let now = after_effect s (Ready w) in
     in_both (λ (os : List Entry). told v os ≡ true) (is_shutting now.books) (Shutdown w ∷ []) [] (λ b. told-ready v w s.books.crew (k h) x)
     (λ b. absurd (differ (sym b ∙ or-left (is_stopped now.books) now.books.shutting h)))
 told-input s (Collected w g) a k h v x = told-collected s w g k h v x
-told-input s (Done w i u m o) a k h v x = (let now = moved s (Done w i u m o) in unless-told s.books now.books (acts_of (TestDone w m) now) k h v x)
-told-input s (Back w is) a k h v x = (let now = moved s (Back w is) in unless-told s.books now.books (acts_of TestsBack now) k h v x)
+told-input s (Done w i u m o) a k h v x = (let now = after_effect s (Done w i u m o) in unless-told s.books now.books (acts_of (TestDone w m) now) k h v x)
+told-input s (Back w is) a k h v x = (let now = after_effect s (Back w is) in unless-told s.books now.books (acts_of TestsBack now) k h v x)
 told-input s (Finished w) a k h v x = absurd (differ (sym (none-gone w s.books.crew (k h) v) ∙ x))
-told-input s (Refused w t) a k h v x = unless-told s.books (moved s (Refused w t)).books [] (λ b. none-gone w s.books.crew (k b)) h v x
-told-input s (Down w c o) a k h v x = (let now = moved s (Down w c o) in unless-told s.books now.books (after_death w now) (λ b. none-gone w s.books.crew (k b)) h v x)
-told-input s (NotStarted w) a k h v x = (let now = moved s (NotStarted w) in unless-told s.books now.books (after_death w now) (λ b. none-gone w s.books.crew (k b)) h v x)
+told-input s (Refused w t) a k h v x = unless-told s.books (after_effect s (Refused w t)).books [] (λ b. none-gone w s.books.crew (k b)) h v x
+told-input s (Down w c o) a k h v x = (let now = after_effect s (Down w c o) in unless-told s.books now.books (outputs_of_death w now) (λ b. none-gone w s.books.crew (k b)) h v x)
+told-input s (NotStarted w) a k h v x = (let now = after_effect s (NotStarted w) in unless-told s.books now.books (outputs_of_death w now) (λ b. none-gone w s.books.crew (k b)) h v x)
 told-input s (Start w slot) a k h v x = absurd (differ a)
 told-input s (Run w is) a k h v x = absurd (differ a)
 told-input s (RunAll w) a k h v x = absurd (differ a)
@@ -209,26 +209,26 @@ told-input s (Over how) a k h v x = absurd (differ a)
 
 -- runs
 
-told-stepped : (s : State) (e : Entry) → may_follow s e ≡ true → all_orderly (moved s e) (outputs s e) ≡ true → AllTold s → AllTold (stepped s e)
-told-stepped s e a d k =
-    let now = moved s e in
+told-after_input : (s : State) (e : Entry) → may_follow s e ≡ true → all_orderly (after_effect s e) (outputs s e) ≡ true → AllTold s → AllTold (after_input s e)
+told-after_input s e a d k =
+    let now = after_effect s e in
     let own = own_outputs s e now in
     let r = leaves-outputs now (outputs s e) d in
-    λ h v. r.1 v ∙ none-left (told v (outputs s e)) (Waits v now.books.crew) (λ x. told-left v own (closing (all_moved now own)) (told-input s e a k (sym r.0 ∙ h) v x))
+    λ h v. r.1 v ∙ none-left (told v (outputs s e)) (Waits v now.books.crew) (λ x. told-left v own (closing (after_entries now own)) (told-input s e a k (sym r.0 ∙ h) v x))
 
-told-run : (s : State) (ins : List Entry) → all_may_follow s ins ≡ true → is_orderly_run s ins ≡ true → AllTold s → AllTold (stepped_all s ins)
+told-run : (s : State) (ins : List Entry) → all_may_follow s ins ≡ true → is_orderly_run s ins ≡ true → AllTold s → AllTold (after_inputs s ins)
 told-run s [] h d k = k
 told-run s (e ∷ ins) h d k =
-    let p = split-and (may_follow s e) (all_may_follow (stepped s e) ins) h in
-    let q = split-and (all_orderly (moved s e) (outputs s e)) (is_orderly_run (stepped s e) ins) d in
-    told-run (stepped s e) ins p.1 q.1 (told-stepped s e p.0 q.0 k)
+    let p = split-and (may_follow s e) (all_may_follow (after_input s e) ins) h in
+    let q = split-and (all_orderly (after_effect s e) (outputs s e)) (is_orderly_run (after_input s e) ins) d in
+    told-run (after_input s e) ins p.1 q.1 (told-after_input s e p.0 q.0 k)
 
-starts-stop : (s : State) (w n : ℕ) → is_stopped (all_moved s (starts_from w n)).books ≡ is_stopped s.books
+starts-stop : (s : State) (w n : ℕ) → is_stopped (after_entries s (starts_from w n)).books ≡ is_stopped s.books
 starts-stop s w zero = refl
-starts-stop s w (suc n) = starts-stop (moved s (Start w w)) (w + 1) n
+starts-stop s w (suc n) = starts-stop (after_effect s (Start w w)) (w + 1) n
 
-pub told-behind : (settings : Settings) (ins : List Entry) → IsProper settings ins → AllTold (stepped_all (begun settings) ins)
-told-behind settings ins p = told-run (begun settings) ins p.follow (orderly settings ins p) (λ a. absurd (differ (sym (starts-stop (no_one settings) 0 settings.workers) ∙ a)))
+pub told-behind : (settings : Settings) (ins : List Entry) → IsProper settings ins → AllTold (after_inputs (after_starts settings) ins)
+told-behind settings ins p = told-run (after_starts settings) ins p.follow (orderly settings ins p) (λ a. absurd (differ (sym (starts-stop (no_one settings) 0 settings.workers) ∙ a)))
 
 -- one worker
 

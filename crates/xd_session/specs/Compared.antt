@@ -20,10 +20,10 @@ comparison own None = First
 comparison own (Some l) = compared l.worker (differ_at l.ids own)
 
 -- an equal collection is not listed again
-abbrev pub given : Comparison → List (List ℕ) → Ids
-given Same own = ids.Same
-given First own = ids.List own
-given (Differs other place) own = ids.List own
+abbrev pub ids_to_list : Comparison → List (List ℕ) → Ids
+ids_to_list Same own = ids.Same
+ids_to_list First own = ids.List own
+ids_to_list (Differs other place) own = ids.List own
 
 -- a collection that differs stops the run
 abbrev pub stop_of : ℕ → Comparison → Option RunStop

@@ -3,7 +3,7 @@ use Rattle.std.specs.Prelude.{Bool, true, false}
 use Rattle.xd_journal.specs.declared.entry.RunStop.{RunStop}
 use Rattle.xd_journal.specs.declared.entry.RunStop.TheVariants.{OutFault}
 use Rattle.xd_ledger.specs.Books.{Books}
-use Rattle.xd_ledger.specs.Histories.{end_of}
+use Rattle.xd_ledger.specs.Histories.{run_end_of}
 
 -- the report could not be written
 abbrev pub is_out_fault : RunStop → Bool
@@ -13,4 +13,4 @@ is_out_fault _ = false
 -- where the output failed that, else the first stop, or that all was done
 abbrev pub last_stop : Bool → Books → RunStop
 last_stop true b = OutFault
-last_stop false b = end_of b
+last_stop false b = run_end_of b

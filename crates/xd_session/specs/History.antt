@@ -5,8 +5,8 @@ use Rattle.xd_journal.specs.declared.entry.Entry.{Entry}
 use Rattle.xd_journal.specs.declared.news.News.{News}
 use Rattle.xd_journal.specs.declared.news.What.{What}
 use Rattle.xd_ledger.specs.Sharing.{State}
-use Rattle.xd_ledger.specs.Outputs.{outputs, stepped}
-use Rattle.xd_ledger.specs.Histories.{first_starts, begun, journal_of, stepped_all}
+use Rattle.xd_ledger.specs.Outputs.{outputs, after_input}
+use Rattle.xd_ledger.specs.Histories.{first_starts, after_starts, journal_of, after_inputs}
 use Rattle.xd_ledger.specs.Meaning.{meaning}
 use Rattle.xd_ledger.specs.Proper.{IsProper}
 
@@ -23,7 +23,7 @@ said_by worker taken = map (λ n. n.what) (filter (λ n. n.worker == worker) tak
 
 -- no news yet: the first workers are started
 abbrev pub begun_run : Settings → Run
-begun_run settings = record { entries = first_starts settings; state = begun settings; inputs = []; taken = [] }
+begun_run settings = record { entries = first_starts settings; state = after_starts settings; inputs = []; taken = [] }
 
 -- the input comes into the journal, with its outputs after it
 abbrev pub entries_with : Option Entry → List Entry → State → List Entry
@@ -33,7 +33,7 @@ entries_with (Some e) entries s = entries ++ (e ∷ outputs s e)
 -- the state after the input and its outputs, where there is an input
 abbrev pub state_with : Option Entry → State → State
 state_with None s = s
-state_with (Some e) s = stepped s e
+state_with (Some e) s = after_input s e
 
 -- the inputs with this one at their end, where there is one
 abbrev pub inputs_with : Option Entry → List Entry → List Entry
@@ -61,4 +61,4 @@ run_of settings taken = fold after_news (begun_run settings) taken
 pub record IsProperRun (settings : Settings) (r : Run) : Type 0 where
   pub proper : IsProper settings r.inputs
   pub journal : r.entries ≡ journal_of settings r.inputs
-  pub state : r.state ≡ stepped_all (begun settings) r.inputs
+  pub state : r.state ≡ after_inputs (after_starts settings) r.inputs

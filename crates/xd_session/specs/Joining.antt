@@ -5,7 +5,7 @@ use Rattle.xd_edge.specs.declared.mode.ModeKind.{ModeKind}
 use Rattle.xd_journal.specs.declared.entry.Entry.{Entry}
 use Rattle.xd_journal.specs.declared.entry.RunStop.{RunStop}
 use Rattle.xd_ledger.specs.Books.{Books}
-use Rattle.xd_ledger.specs.Outputs.{after_joining, unless_stopped}
+use Rattle.xd_ledger.specs.Outputs.{outputs_of_joining, unless_stopped}
 use Rattle.xd_ledger.specs.Plan.{Plan, is_each}
 use Rattle.xd_ledger.specs.Sharing.{State, ids_at, in_books, joining, shared_plan, sizes_from}
 use Rattle.xd_ledger.specs.Stops.{is_stopped, stopped_by}
@@ -20,7 +20,7 @@ IsBare t = all_items t ≡ []
 
 -- what holds of a worker that gives its collection: it has not joined, before the share no item stands anywhere, and after a
 -- stop it was told to shut down
-pub record IsNew (worker : ℕ) (b : Books) : Type 0 where
+pub record IsToJoin (worker : ℕ) (b : Books) : Type 0 where
   pub absent : has_joined worker b.table ≡ false
   pub bare : b.shared ≡ false → IsBare b.table
   pub told : is_stopped b ≡ true → is_shut worker b ≡ true
@@ -45,4 +45,4 @@ taken_in worker None s = joining worker s
 -- that was done, and what it brings was said
 abbrev pub TakenIn : ℕ → Option RunStop → State → Books → Known → List Entry → List Entry → (Plan → Type 0) → Type 0
 TakenIn worker stop s b k old new stands =
-    Acted (unless_stopped s.books (taken_in worker stop s).books (after_joining worker s.books (taken_in worker stop s))) (taken_in worker stop s) b k old new stands
+    Acted (unless_stopped s.books (taken_in worker stop s).books (outputs_of_joining worker s.books (taken_in worker stop s))) (taken_in worker stop s) b k old new stands

@@ -4,7 +4,7 @@ use Rattle.xd_edge.specs.declared.mode.ModeKind.{ModeKind}
 use Rattle.xd_journal.specs.declared.entry.Entry.{Entry}
 use Rattle.xd_journal.specs.declared.entry.Entry.TheVariants.{Steal}
 use Rattle.xd_ledger.specs.Numbers.{among, first_of}
-use Rattle.xd_ledger.specs.Plan.{Plan, Asked, is_each}
+use Rattle.xd_ledger.specs.Plan.{Plan, UnansweredSteal, is_each}
 use Rattle.xd_session.specs.declared.plan.OpenSteal.{OpenSteal}
 use Rattle.xd_session.specs.declared.plan.KnownPlan.{KnownPlan}
 
@@ -12,20 +12,20 @@ use Rattle.xd_session.specs.declared.plan.KnownPlan.{KnownPlan}
 pub record Known : Type 0 where
   pub mode : ModeKind
   pub sizes : List ℕ
-  pub steal : Option Asked
+  pub steal : Option UnansweredSteal
 
 -- what is known of a plan
 abbrev pub known_of : Plan → Known
 known_of p = record { mode = p.mode; sizes = p.sizes; steal = p.steal }
 
 -- the open steal of the definitions for which the session's own one stands
-abbrev pub asked_of : Option OpenSteal → Option Asked
-asked_of None = None
-asked_of (Some a) = Some (record { worker = a.worker; tests = a.tests })
+abbrev pub steal_of : Option OpenSteal → Option UnansweredSteal
+steal_of None = None
+steal_of (Some a) = Some (record { worker = a.worker; tests = a.tests })
 
 -- what the session keeps of it
 abbrev pub known_by : KnownPlan → Known
-known_by k = record { mode = k.mode; sizes = k.sizes; steal = asked_of k.steal }
+known_by k = record { mode = k.mode; sizes = k.sizes; steal = steal_of k.steal }
 
 -- the first item of the slot; 0 but in mode each
 abbrev pub first_item : ℕ → Known → ℕ
@@ -42,10 +42,10 @@ abbrev pub is_behind : ℕ → List ℕ → Bool
 is_behind item held = nat_lt item (2 ^ 32) && among item held && is_none (where_is item (first_of held))
 
 -- the open steal after an output of a mode
-abbrev pub asked_by : Option Asked → Entry → Option Asked
+abbrev pub asked_by : Option UnansweredSteal → Entry → Option UnansweredSteal
 asked_by a (Steal w tests) = Some (record { worker = w; tests = tests })
 asked_by a _ = a
 
 -- the open steal after these outputs of a mode
-abbrev pub steal_told : List Entry → Option Asked → Option Asked
+abbrev pub steal_told : List Entry → Option UnansweredSteal → Option UnansweredSteal
 steal_told es a = fold asked_by a es

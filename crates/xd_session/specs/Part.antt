@@ -65,7 +65,7 @@ MeansEach settings worker heard =
 
 -- The last of these news ended the worker, and none before it did. Where it went down for another cause than a breach, that
 -- last piece of news is that its link is gone.
-pub record EndsWith (settings : Settings) (worker : ℕ) (heard : List News) : Type 0 where
+pub record EndsWorker (settings : Settings) (worker : ℕ) (heard : List News) : Type 0 where
   pub before : List News
   pub last : News
   pub are : heard ≡ before ++ last ∷ []
@@ -85,4 +85,4 @@ pub record HasPart (settings : Settings) (worker : ℕ) (taken : List News) : Ty
   pub inputs : inputs_by worker (run_of settings taken).entries ≡ meant_by settings worker heard
   pub each : MeansEach settings worker heard
   pub none_behind : (before after : List Entry) (e : Entry) → inputs_by worker (run_of settings taken).entries ≡ before ++ e ∷ after → is_end_of worker e ≡ true → after ≡ []
-  pub up_to : ((is_ended worker (run_of settings taken).entries ≡ false) × (unheard ≡ [])) ⊎ EndsWith settings worker heard
+  pub up_to : ((is_ended worker (run_of settings taken).entries ≡ false) × (unheard ≡ [])) ⊎ EndsWorker settings worker heard

@@ -7,14 +7,14 @@ use Rattle.xd_journal.specs.Kept.{most_of_all}
 use Rattle.xd_ledger.specs.declared.member.Member.{Member}
 use Rattle.xd_ledger.specs.Table.{shut_down}
 use Rattle.xd_ledger.specs.Plan.{Plan}
-use Rattle.xd_ledger.specs.Modes.{Call}
-use Rattle.xd_ledger.specs.Modes.Call.{Died, Joined, Share}
+use Rattle.xd_ledger.specs.Modes.{ModeCall}
+use Rattle.xd_ledger.specs.Modes.ModeCall.{Died, Joined, Share}
 use Rattle.xd_ledger.specs.Books.{Books, marked, on_table}
 use Rattle.xd_ledger.specs.Workers.{made_shut, slot_of}
 use Rattle.xd_ledger.specs.Stops.{is_stopped}
 use Rattle.xd_ledger.specs.Sharing.{State, joining, shared_now}
-use Rattle.xd_ledger.specs.State.{settled, all_moved, state_at}
-use Rattle.xd_ledger.specs.Outputs.{closing, outputs, slots_of_rota, stepped}
+use Rattle.xd_ledger.specs.State.{settled, after_entries, state_at}
+use Rattle.xd_ledger.specs.Outputs.{closing, outputs, slots_of_rota, after_input}
 use Rattle.xd_ledger.specs.Histories.{journal_of}
 use Rattle.xd_ledger.specs.Proper.{IsProper, may_follow}
 use Rattle.xd_ledger.specs.Meaning.{spent_by}
@@ -40,7 +40,7 @@ pub record Comes (e : Entry) (s : State) (b : Books) (k : Known) (stands : Plan 
   pub follows : may_follow s e ≡ true
 
 -- so they stand where the mode is called
-pub record Calls (c : Call) (s : State) (b : Books) (k : Known) (stands : Plan → Type 0) : Type 0 where
+pub record Calls (c : ModeCall) (s : State) (b : Books) (k : Known) (stands : Plan → Type 0) : Type 0 where
   pub at : At s b k stands
   pub going : is_stopped s.books ≡ false
   pub called : Called c s
@@ -64,27 +64,27 @@ pub record MayDie (s : State) (stands : Plan → Type 0) : Type 0 where
 
 -- these outputs were said
 pub record Acted (acts : List Entry) (s : State) (b : Books) (k : Known) (old new : List Entry) (stands : Plan → Type 0) : Type 0 where
-  pub at : At (all_moved s acts) b k stands
+  pub at : At (after_entries s acts) b k stands
   pub entries_are : new ≡ old ++ acts
 
 -- where nothing is left to hand out, all are shut, and the run is marked
-pub record Closed (s : State) (b : Books) (k : Known) (old new : List Entry) (stands : Plan → Type 0) : Type 0 where
-  pub at : At (settled (all_moved s (closing s))) b k stands
+pub record DidClosing (s : State) (b : Books) (k : Known) (old new : List Entry) (stands : Plan → Type 0) : Type 0 where
+  pub at : At (settled (after_entries s (closing s))) b k stands
   pub entries_are : new ≡ old ++ closing s
 
 -- the input came, with all that follows it
 pub record Ruled (s : State) (e : Entry) (b : Books) (k : Known) (old new : List Entry) (stands : Plan → Type 0) : Type 0 where
-  pub at : At (stepped s e) b k stands
+  pub at : At (after_input s e) b k stands
   pub entries_are : new ≡ old ++ e ∷ outputs s e
 
 -- a worker was told to shut down
-abbrev pub told : ℕ → Books → Books
-told worker b = marked (made_shut worker) (on_table (shut_down worker) b)
+abbrev pub told_to_shut : ℕ → Books → Books
+told_to_shut worker b = marked (made_shut worker) (on_table (shut_down worker) b)
 
 -- each of these workers was told to shut down, in order
 abbrev pub told_all : List ℕ → Books → Books
 told_all [] b = b
-told_all (w ∷ ws) b = told_all ws (told w b)
+told_all (w ∷ ws) b = told_all ws (told_to_shut w b)
 
 -- a Shutdown to each of these workers
 abbrev pub shutdowns : List ℕ → List Entry

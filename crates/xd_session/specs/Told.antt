@@ -32,6 +32,6 @@ pub record Told (input : Option Entry) (s : State) (entries entries_now : List E
   pub spent_low : spent_now ≤ most_of_all
 
 -- the news of a worker was taken, and the logs are kept by it
-pub record Took (worker : ℕ) (what : What) (s : State) (logs logs_now : List WorkerLog) (entries entries_now : List Entry) (spent spent_now : ℕ) (b : Books) (k : Known) (stands : Plan → Type 0) : Type 0 where
+pub record TookNews (worker : ℕ) (what : What) (s : State) (logs logs_now : List WorkerLog) (entries entries_now : List Entry) (spent spent_now : ℕ) (b : Books) (k : Known) (stands : Plan → Type 0) : Type 0 where
   pub told : Told (meaning_of worker (log_in worker logs) spent s what) s entries entries_now spent spent_now b k stands
   pub logs_are : (v : ℕ) → log_in v logs_now ≡ (if v == worker then shortened (with_news (log_in v logs) what) else log_in v logs)

@@ -3,8 +3,8 @@ ghost use Rattle.std.specs.Prelude.{◌≡◌, ◌&&◌, ◌≤◌, nat_le, leng
 ghost use Rattle.std.specs.List.{list_all};
 ghost use Rattle.xd_ledger.specs.Calls.{Turned};
 ghost use Rattle.xd_ledger.specs.Meaning.{given_ids};
-ghost use Rattle.xd_ledger.specs.Modes.Call.{Share};
-ghost use Rattle.xd_ledger.specs.Outputs.{acts_of, after_joining, slots_of_rota};
+ghost use Rattle.xd_ledger.specs.Modes.ModeCall.{Share};
+ghost use Rattle.xd_ledger.specs.Outputs.{acts_of, outputs_of_joining, slots_of_rota};
 ghost use Rattle.xd_edge.specs.Limits.{most_tests};
 ghost use Rattle.xd_ledger.specs.Proper.{is_id, no_text_twice};
 ghost use Rattle.xd_ledger.specs.Sharing.{State, ids_at, is_full, joining, shared_now, shared_plan, sizes_from};
@@ -18,7 +18,7 @@ ghost use Rattle.xd_ledger.specs.Workers.{is_shut, slot_of};
 ghost use Rattle.xd_laws.specs.Called.{Called};
 ghost use Rattle.xd_session.specs.Compared.{stop_of};
 ghost use Rattle.xd_session.specs.Crew.{books_of};
-ghost use Rattle.xd_session.specs.Joining.{IsBare, IsNew, TakenIn, filled, shared_in, sizes_in};
+ghost use Rattle.xd_session.specs.Joining.{IsBare, IsToJoin, TakenIn, filled, shared_in, sizes_in};
 ghost use Rattle.xd_session.specs.Known.{known_by};
 ghost use Rattle.xd_session.specs.Rules.{Acted, At, Comes, MayJoin, MayShare, Ruled};
 
@@ -204,7 +204,7 @@ impl<M: Mode> RunState<M> {
         requires bare { (books_of self.old.books).shared ≡ false → IsBare self.old.books.ledger }
         requires at { (s : State) × (At s (books_of self.old.books) (known_by self.old.known) (M.stands self.old.mode) × MayJoin worker s) }
         ensures { OnOk result ((s : State) → At s (books_of self.old.books) (known_by self.old.known) (M.stands self.old.mode) → MayJoin worker s →
-            Acted (after_joining worker s.books (joining worker s)) (joining worker s) (books_of self.new.books) (known_by self.new.known) entries.old.items entries.new.items (M.stands self.new.mode)) }
+            Acted (outputs_of_joining worker s.books (joining worker s)) (joining worker s) (books_of self.new.books) (known_by self.new.known) entries.old.items entries.new.items (M.stands self.new.mode)) }
     {
         seat(alloc, worker, &mut self.books)?;
         if self.books.kept.is_shared() {
@@ -260,7 +260,7 @@ impl<M: Mode> RunState<M> {
     ) -> Result<(), OutOfMemory>
         requires few { length own ≤ most_tests }
         requires ordered { (list_all is_id own && no_text_twice own) ≡ true }
-        requires joins { IsNew worker (books_of self.old.books) }
+        requires joins { IsToJoin worker (books_of self.old.books) }
         requires at { (s : State) × Comes (given_ids worker own s) s (books_of self.old.books) (known_by self.old.known) (M.stands self.old.mode) }
         ensures { OnOk result ((s : State) → Comes (given_ids worker own s) s (books_of self.old.books) (known_by self.old.known) (M.stands self.old.mode) →
             Ruled s (given_ids worker own s) (books_of self.new.books) (known_by self.new.known) entries.old.items entries.new.items (M.stands self.new.mode)) }

@@ -3,7 +3,7 @@ ghost use Rattle.std.specs.Prelude.{◌≡◌, ◌+◌, ◌≤◌, ◌==◌, ℕ
 ghost use Rattle.std.specs.Str.{bytes_eq};
 ghost use Rattle.xd_ledger.specs.Sound.{most_items};
 ghost use Rattle.xd_ledger.specs.Deaths.{steal_without};
-ghost use Rattle.xd_session.specs.Known.{asked_by, asked_of, first_item, known_by, steal_told, where_is};
+ghost use Rattle.xd_session.specs.Known.{asked_by, steal_of, first_item, known_by, steal_told, where_is};
 
 use crate::plan::{KnownPlan, OpenSteal};
 use std::alloc::Global;
@@ -13,7 +13,7 @@ use xd_ledger::is_each;
 
 // The open steal after an output of the mode.
 fn ask_one(alloc: Global, act: &Entry, steal: &mut Option<OpenSteal>) -> Result<(), OutOfMemory>
-    ensures { OnOk result (asked_of steal.new ≡ asked_by (asked_of steal.old) act.now) }
+    ensures { OnOk result (steal_of steal.new ≡ asked_by (steal_of steal.old) act.now) }
 {
     if let Entry::Steal { worker, indices } = act {
         let tests = copy_indices(alloc, &indices.items)?;
@@ -31,7 +31,7 @@ pub(crate) fn ask(
     acts: &[Entry],
     steal: &mut Option<OpenSteal>,
 ) -> Result<(), OutOfMemory>
-    ensures { OnOk result (asked_of steal.new ≡ steal_told acts.now (asked_of steal.old)) }
+    ensures { OnOk result (steal_of steal.new ≡ steal_told acts.now (steal_of steal.old)) }
 {
     for i in 0..acts.len() {
         ask_one(alloc, &acts[i], steal)?;

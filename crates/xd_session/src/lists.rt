@@ -6,7 +6,7 @@ ghost use Rattle.xd_edge.specs.Limits.{most_tests};
 ghost use Rattle.xd_journal.specs.declared.entry.Ids.TheVariants as ids;
 ghost use Rattle.xd_ledger.specs.Collections.{listed, with_list};
 ghost use Rattle.xd_ledger.specs.Proper.{is_plain, is_id, no_text_twice};
-ghost use Rattle.xd_session.specs.Compared.{compared, comparison, given, place_in_lists};
+ghost use Rattle.xd_session.specs.Compared.{compared, comparison, ids_to_list, place_in_lists};
 ghost use Rattle.xd_session.specs.Crew.{books_of};
 
 use crate::books::RunBooks;
@@ -103,7 +103,7 @@ fn judged(other: u32, place: Option<u32>) -> Comparison
 }
 
 fn given(comparison: Comparison, own: Texts) -> Ids
-    ensures { result ≡ given comparison own }
+    ensures { result ≡ ids_to_list comparison own }
 {
     match comparison {
         Comparison::Same => Ids::Same,
@@ -143,8 +143,8 @@ impl RunBooks {
         requires few { length own ≤ most_tests }
         requires ordered { (list_all is_id own && no_text_twice own) ≡ true }
         ensures comparison { IfOk result (λ t. t.comparison ≡ comparison own (listed worker (books_of self.old))) }
-        ensures ids { IfOk result (λ t. t.ids ≡ given (comparison own (listed worker (books_of self.old))) own) }
-        ensures books { OnOk result (books_of self.new ≡ with_list worker (given (comparison own (listed worker (books_of self.old))) own) (books_of self.old)) }
+        ensures ids { IfOk result (λ t. t.ids ≡ ids_to_list (comparison own (listed worker (books_of self.old))) own) }
+        ensures books { OnOk result (books_of self.new ≡ with_list worker (ids_to_list (comparison own (listed worker (books_of self.old))) own) (books_of self.old)) }
     {
         let comparison = self.compare(worker, &own.items)?;
         self.list(alloc, worker, &own.items)?;

@@ -7,7 +7,7 @@ ghost use Rattle.xd_ledger.specs.Stops.{stopped_by};
 ghost use Rattle.xd_ledger.specs.Table.{shut_down};
 ghost use Rattle.xd_ledger.specs.Workers.{begun_at, is_waiting, made, waiting};
 ghost use Rattle.xd_session.specs.Crew.{books_of};
-ghost use Rattle.xd_session.specs.Rules.{told};
+ghost use Rattle.xd_session.specs.Rules.{told_to_shut};
 
 use crate::books::RunBooks;
 use std::alloc::Global;
@@ -77,7 +77,7 @@ impl RunBooks {
 
     // The worker was told to shut down.
     pub(crate) fn tell(&mut self, worker: u32)
-        ensures { books_of self.new ≡ told worker (books_of self.old) }
+        ensures { books_of self.new ≡ told_to_shut worker (books_of self.old) }
     {
         shut_seat(&mut self.ledger, worker);
         self.kept.mark(worker, Mark::Shut);

@@ -5,7 +5,7 @@ ghost use Rattle.xd_ledger.specs.Outputs.{shut_all};
 ghost use Rattle.xd_ledger.specs.Stops.{is_shutting};
 ghost use Rattle.xd_ledger.specs.Workers.{waiting};
 ghost use Rattle.xd_session.specs.Crew.{books_of};
-ghost use Rattle.xd_session.specs.Rules.{crew_told, told, told_all, told_by, shutdowns};
+ghost use Rattle.xd_session.specs.Rules.{crew_told, told_to_shut, told_all, told_by, shutdowns};
 
 use crate::books::RunBooks;
 use std::alloc::Global;
@@ -68,7 +68,7 @@ pub(crate) fn tell_where_shutting(
     books: &mut RunBooks,
     entries: &mut Vec<Entry>,
 ) -> Result<(), OutOfMemory>
-    ensures told { OnOk result (books_of books.new ≡ (if is_shutting (books_of books.old) then told worker (books_of books.old) else books_of books.old)) }
+    ensures told { OnOk result (books_of books.new ≡ (if is_shutting (books_of books.old) then told_to_shut worker (books_of books.old) else books_of books.old)) }
     ensures noted { OnOk result (entries.new.items ≡ entries.old.items ++ (if is_shutting (books_of books.old) then entry.Shutdown worker ∷ [] else [])) }
 {
     if !books.kept.is_shutting() {

@@ -3,9 +3,9 @@ ghost use Rattle.std.specs.Prelude.{◌≡◌, ◌+◌, ◌^◌, nat_lt, map, no
 ghost use Rattle.std.specs.List.{list_all};
 ghost use Rattle.xd_journal.specs.declared.entry.Entry.TheVariants as entry;
 ghost use Rattle.xd_ledger.specs.Calls.{death_plan};
-ghost use Rattle.xd_ledger.specs.Modes.Call.{Died, TestDone, TestsBack};
+ghost use Rattle.xd_ledger.specs.Modes.ModeCall.{Died, TestDone, TestsBack};
 ghost use Rattle.xd_ledger.specs.Numbers.{first_of};
-ghost use Rattle.xd_ledger.specs.Outputs.{acts_of, after_death, shut_all};
+ghost use Rattle.xd_ledger.specs.Outputs.{acts_of, outputs_of_death, shut_all};
 ghost use Rattle.xd_ledger.specs.Proper.{names_head};
 ghost use Rattle.xd_ledger.specs.Sharing.{State};
 ghost use Rattle.xd_ledger.specs.State.{settles};
@@ -15,7 +15,7 @@ ghost use Rattle.xd_ledger.specs.Workers.{slot_of};
 ghost use Rattle.xd_laws.specs.Called.{Called};
 ghost use Rattle.xd_session.specs.Crew.{books_of};
 ghost use Rattle.xd_session.specs.Known.{first_item, known_by, known_of, where_is};
-ghost use Rattle.xd_session.specs.Rules.{Acted, At, Before, Calls, Closed, Comes, MayDie, Ruled};
+ghost use Rattle.xd_session.specs.Rules.{Acted, At, Before, Calls, DidClosing, Comes, MayDie, Ruled};
 
 use crate::known::named;
 use crate::outputs::{note, shut_everyone, tell_where_shutting};
@@ -43,7 +43,7 @@ impl<M: Mode> RunState<M> {
         entries: &mut Vec<Entry>,
     ) -> Result<(), OutOfMemory>
         ensures { OnOk result ((s : State) → At s (books_of self.old.books) (known_by self.old.known) (M.stands self.old.mode) →
-            Closed s (books_of self.new.books) (known_by self.new.known) entries.old.items entries.new.items (M.stands self.new.mode)) }
+            DidClosing s (books_of self.new.books) (known_by self.new.known) entries.old.items entries.new.items (M.stands self.new.mode)) }
     {
         if !self.settles() {
             return Ok(());
@@ -285,7 +285,7 @@ impl<M: Mode> RunState<M> {
     ) -> Result<(), OutOfMemory>
         requires { (books_of self.old.books).shared ≡ true → (s : State) × Calls Died s (books_of self.old.books) (known_by self.old.known) (Before (death_plan worker retried rest self.old.books.ledger.pool) (M.stands self.old.mode)) }
         ensures { OnOk result ((s : State) → At s (books_of self.old.books) (known_by self.old.known) (Before (death_plan worker retried rest self.old.books.ledger.pool) (M.stands self.old.mode)) → MayDie s (M.stands self.old.mode) →
-            Acted (after_death worker s) s (books_of self.new.books) (known_by self.new.known) entries.old.items entries.new.items (M.stands self.new.mode)) }
+            Acted (outputs_of_death worker s) s (books_of self.new.books) (known_by self.new.known) entries.old.items entries.new.items (M.stands self.new.mode)) }
     {
         let slot = self.books.kept.slot_of(worker);
         let number = self.books.next_worker()?;
@@ -316,7 +316,7 @@ impl<M: Mode> RunState<M> {
             (s : State) × Calls Died s (books_of self.old.books) (known_by self.old.known) (Before (death_plan worker retried rest self.old.books.ledger.pool) (M.stands self.old.mode)) }
         ensures { OnOk result ((s : State) → At s (books_of self.old.books) (known_by self.old.known) (Before (death_plan worker retried rest self.old.books.ledger.pool) (M.stands self.old.mode)) →
             (is_stopped s.books ≡ false → MayDie s (M.stands self.old.mode)) →
-            Acted (if before then [] else if is_stopped s.books then shut_all s.books.crew else after_death worker s) s (books_of self.new.books) (known_by self.new.known) entries.old.items entries.new.items (M.stands self.new.mode)) }
+            Acted (if before then [] else if is_stopped s.books then shut_all s.books.crew else outputs_of_death worker s) s (books_of self.new.books) (known_by self.new.known) entries.old.items entries.new.items (M.stands self.new.mode)) }
     {
         if self.books.kept.is_stopped() {
             self.stop_outputs(alloc, before, entries)?;

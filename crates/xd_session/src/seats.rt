@@ -5,7 +5,7 @@ ghost use Rattle.xd_ledger.specs.Numbers.{all_among, all_distinct, first_of};
 ghost use Rattle.xd_ledger.specs.Retry.{is_retry};
 ghost use Rattle.xd_ledger.specs.Deaths.{down_books};
 ghost use Rattle.xd_ledger.specs.Results.{done_books};
-ghost use Rattle.xd_ledger.specs.Table.{held, in_rota, left, died, given_back};
+ghost use Rattle.xd_ledger.specs.Table.{held, in_rota, left_rota, died, given_back};
 ghost use Rattle.xd_session.specs.Crew.{books_of};
 
 use crate::books::RunBooks;
@@ -16,7 +16,7 @@ use xd_ledger::{Death, Ledger};
 // The worker leaves the rota, where it is there. It holds nothing.
 fn leave_seat(ledger: &mut Ledger, worker: u32)
     requires { held worker ledger.old ≡ [] }
-    ensures { ledger.new ≡ left worker ledger.old }
+    ensures { ledger.new ≡ left_rota worker ledger.old }
 {
     if ledger.in_rota(worker) {
         ledger.leave(worker);
@@ -75,7 +75,7 @@ impl RunBooks {
     // The worker leaves the rota, where it is there. It holds nothing.
     pub(crate) fn leave(&mut self, worker: u32)
         requires { held worker self.old.ledger ≡ [] }
-        ensures { books_of self.new ≡ on_table (left worker) (books_of self.old) }
+        ensures { books_of self.new ≡ on_table (left_rota worker) (books_of self.old) }
     {
         leave_seat(&mut self.ledger, worker);
     }

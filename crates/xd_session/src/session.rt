@@ -4,7 +4,7 @@ ghost use Rattle.xd_journal.specs.declared.news.News.{News};
 ghost use Rattle.xd_ledger.specs.Histories.{is_over, starts_from};
 ghost use Rattle.xd_ledger.specs.Owes.{someone_owes};
 ghost use Rattle.xd_ledger.specs.Plan.{Plan};
-ghost use Rattle.xd_ledger.specs.State.{no_one, all_moved};
+ghost use Rattle.xd_ledger.specs.State.{no_one, after_entries};
 ghost use Rattle.xd_ledger.specs.Workers.{is_active};
 ghost use Rattle.xd_session.specs.Crew.{books_of};
 ghost use Rattle.xd_ledger.specs.Ending.{ending, may_close, stop_of};
@@ -52,7 +52,7 @@ impl<M: Mode> Model for Session<M> {
 fn start_all(workers: u32, books: &mut RunBooks, journal: &mut Journal) -> Result<(), OutOfMemory>
     requires started { books_of books.old ≡ (no_one (books_of books.old).settings).books }
     requires empty { journal.old.entries.items ≡ [] }
-    ensures books { OnOk result (books_of books.new ≡ (all_moved (no_one (books_of books.old).settings) (starts_from 0 workers)).books) }
+    ensures books { OnOk result (books_of books.new ≡ (after_entries (no_one (books_of books.old).settings) (starts_from 0 workers)).books) }
     ensures entries { OnOk result (journal.new.entries.items ≡ starts_from 0 workers) }
     ensures settings { journal.new.settings ≡ journal.old.settings }
 {

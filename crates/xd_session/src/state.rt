@@ -1,7 +1,7 @@
 // The state of a run as the session keeps it, and its calls of the mode.
 ghost use Rattle.std.specs.Prelude.{◌≡◌, ◌++◌, OnOk, true};
 ghost use Rattle.xd_ledger.specs.Calls.{death_plan};
-ghost use Rattle.xd_ledger.specs.Modes.Call.{Died, Joined, TestDone, TestsBack};
+ghost use Rattle.xd_ledger.specs.Modes.ModeCall.{Died, Joined, TestDone, TestsBack};
 ghost use Rattle.xd_ledger.specs.Outputs.{acts_of};
 ghost use Rattle.xd_ledger.specs.Sharing.{State};
 ghost use Rattle.xd_ledger.specs.Table.{in_rota};

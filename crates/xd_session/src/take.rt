@@ -3,16 +3,16 @@ ghost use Rattle.std.specs.Prelude.{◌≡◌, ◌≤◌, ◌+◌, ℕ, length, 
 ghost use Rattle.xd_journal.specs.declared.entry.Entry.TheVariants as entry;
 ghost use Rattle.xd_journal.specs.declared.news.What.TheVariants as what;
 ghost use Rattle.xd_journal.specs.Kept.{most_of_all, room_behind};
-ghost use Rattle.xd_ledger.specs.Meaning.{head_bytes, kept, meaning_of, output_of};
+ghost use Rattle.xd_ledger.specs.Meaning.{head_bytes, kept_at_death, meaning_of, output_of};
 ghost use Rattle.xd_ledger.specs.Sharing.{State};
 ghost use Rattle.xd_ledger.specs.Workers.{has_collected, is_active, was_ready};
 ghost use Rattle.xd_session.specs.Crew.{books_of};
-ghost use Rattle.xd_session.specs.Joining.{IsNew};
+ghost use Rattle.xd_session.specs.Joining.{IsToJoin};
 ghost use Rattle.xd_session.specs.Judged.{judged};
 ghost use Rattle.xd_session.specs.Kept.{log_in, shortened};
 ghost use Rattle.xd_session.specs.Known.{known_by};
 ghost use Rattle.xd_session.specs.Rules.{At};
-ghost use Rattle.xd_session.specs.Told.{Steady, Told, Took};
+ghost use Rattle.xd_session.specs.Told.{Steady, Told, TookNews};
 ghost use Rattle.xd_session.specs.declared.judge.Verdict.TheVariants.{Follows};
 
 use crate::judge::Verdict;
@@ -63,7 +63,7 @@ impl<M: Mode> Core<M> {
     // What is kept where the worker goes down: none of a test that is tried again.
     fn kept_output(&self, alloc: Global, worker: u32) -> Result<Blob, OutOfMemory>
         requires { self.now.spent ≤ most_of_all }
-        ensures kept { IfOk result (λ b. (s : State) → At s (books_of self.now.state.books) (known_by self.now.state.known) (M.stands self.now.state.mode) → b ≡ kept worker (log_in worker self.now.logs) self.now.spent s) }
+        ensures kept { IfOk result (λ b. (s : State) → At s (books_of self.now.state.books) (known_by self.now.state.known) (M.stands self.now.state.mode) → b ≡ kept_at_death worker (log_in worker self.now.logs) self.now.spent s) }
         ensures low { IfOk result (λ b. self.now.spent + length b ≤ most_of_all) }
     {
         if self.state.books.is_retry(worker) {
@@ -100,7 +100,7 @@ impl<M: Mode> Core<M> {
         requires active { is_active worker (books_of self.old.state.books) ≡ true }
         requires at { (s : State) × Steady s (books_of self.old.state.books) (known_by self.old.state.known) (M.stands self.old.state.mode) }
         ensures told { OnOk result ((s : State) → Steady s (books_of self.old.state.books) (known_by self.old.state.known) (M.stands self.old.state.mode) →
-            Told (Some (entry.Down worker cause (kept worker (log_in worker self.old.logs) self.old.spent s))) s entries.old.items entries.new.items self.old.spent self.new.spent (books_of self.new.state.books) (known_by self.new.state.known) (M.stands self.new.state.mode)) }
+            Told (Some (entry.Down worker cause (kept_at_death worker (log_in worker self.old.logs) self.old.spent s))) s entries.old.items entries.new.items self.old.spent self.new.spent (books_of self.new.state.books) (known_by self.new.state.known) (M.stands self.new.state.mode)) }
         ensures logs { self.new.logs ≡ self.old.logs }
     {
         let output = self.kept_output(alloc, worker)?;
@@ -143,7 +143,7 @@ impl<M: Mode> Core<M> {
     ) -> Result<(), OutOfMemory>
         requires low { self.old.spent ≤ most_of_all }
         requires active { is_active worker (books_of self.old.state.books) ≡ true }
-        requires joins { has_collected worker (books_of self.old.state.books) ≡ false → was_ready worker (books_of self.old.state.books) ≡ true → IsNew worker (books_of self.old.state.books) }
+        requires joins { has_collected worker (books_of self.old.state.books) ≡ false → was_ready worker (books_of self.old.state.books) ≡ true → IsToJoin worker (books_of self.old.state.books) }
         requires at { (s : State) × (Steady s (books_of self.old.state.books) (known_by self.old.state.known) (M.stands self.old.state.mode) × (judged worker (log_in worker self.old.logs) s what ≡ Follows)) }
         ensures told { OnOk result ((s : State) → Steady s (books_of self.old.state.books) (known_by self.old.state.known) (M.stands self.old.state.mode) → judged worker (log_in worker self.old.logs) s what ≡ Follows →
             Told (meaning_of worker (log_in worker self.old.logs) self.old.spent s what) s entries.old.items entries.new.items self.old.spent self.new.spent (books_of self.new.state.books) (known_by self.new.state.known) (M.stands self.new.state.mode)) }
@@ -185,10 +185,10 @@ impl<M: Mode> Core<M> {
     ) -> Result<(), OutOfMemory>
         requires low { self.old.spent ≤ most_of_all }
         requires active { is_active worker (books_of self.old.state.books) ≡ true }
-        requires joins { has_collected worker (books_of self.old.state.books) ≡ false → was_ready worker (books_of self.old.state.books) ≡ true → IsNew worker (books_of self.old.state.books) }
+        requires joins { has_collected worker (books_of self.old.state.books) ≡ false → was_ready worker (books_of self.old.state.books) ≡ true → IsToJoin worker (books_of self.old.state.books) }
         requires at { (s : State) × Steady s (books_of self.old.state.books) (known_by self.old.state.known) (M.stands self.old.state.mode) }
         ensures { OnOk result ((s : State) → Steady s (books_of self.old.state.books) (known_by self.old.state.known) (M.stands self.old.state.mode) → ((v : ℕ) → log_in v self.old.logs ≡ shortened (log_in v self.old.logs)) →
-            Took worker what s self.old.logs self.new.logs entries.old.items entries.new.items self.old.spent self.new.spent (books_of self.new.state.books) (known_by self.new.state.known) (M.stands self.new.state.mode)) }
+            TookNews worker what s self.old.logs self.new.logs entries.old.items entries.new.items self.old.spent self.new.spent (books_of self.new.state.books) (known_by self.new.state.known) (M.stands self.new.state.mode)) }
     {
         match self.state.judge(alloc, worker, &what, &self.logs)? {
             Verdict::Follows => self.follow(alloc, worker, what, entries)?,

@@ -7,7 +7,7 @@ use Rattle.std.proofs.lemmas.Str.Pattern.{NoCharPasses-char, drop_at_char}
 use Rattle.std.specs.Borrow.{Bor}
 use Rattle.std.specs.Prelude.{MatchOption, Option, Some, None, option_map}
 use Rattle.std.specs.Str.Pattern.{FindsText, LacksTextAt, RFindsChar}
-use Rattle.xd_spec.specs.Spec.{last_cut, parts}
+use Rattle.xd_spec.specs.Spec.{last_cut, spec_parts}
 
 -- ---- parts
 
@@ -18,14 +18,14 @@ not_cut b c rest lacks = elim (b == 47 && c == 47) as (λ t. (b == 47 && c == 47
   | false ↦ λ e. refl
 ] refl
 
-pub parts_none : (s : List ℕ) → ((i : ℕ) → i ≤ length s → LacksTextAt (47 ∷ 47 ∷ []) s i) → parts s ≡ s ∷ []
+pub parts_none : (s : List ℕ) → ((i : ℕ) → i ≤ length s → LacksTextAt (47 ∷ 47 ∷ []) s i) → spec_parts s ≡ s ∷ []
 parts_none [] lacks = refl
 parts_none (b ∷ []) lacks = refl
 parts_none (b ∷ c ∷ rest) lacks =
     rw (not_cut b c rest (lacks 0 (omega arith)), parts_none (c ∷ rest) (λ i le. lacks (suc i) (omega (arith, le)))) refl
 
-pub parts_some : (s : List ℕ) (i : ℕ) (rest : List ℕ) → ((k : ℕ) → k < i → LacksTextAt (47 ∷ 47 ∷ []) s k) → drop i s ≡ 47 ∷ 47 ∷ rest → parts s ≡ take i s ∷ parts rest
-parts_some s zero rest lacks e = ap parts e
+pub parts_some : (s : List ℕ) (i : ℕ) (rest : List ℕ) → ((k : ℕ) → k < i → LacksTextAt (47 ∷ 47 ∷ []) s k) → drop i s ≡ 47 ∷ 47 ∷ rest → spec_parts s ≡ take i s ∷ spec_parts rest
+parts_some s zero rest lacks e = ap spec_parts e
 parts_some [] (suc i) rest lacks e = let short : 0 ≡ suc (suc (length rest)) = ap length e in absurd (omega (arith, short))
 parts_some (b ∷ []) (suc zero) rest lacks e = let short : 0 ≡ suc (suc (length rest)) = ap length e in absurd (omega (arith, short))
 parts_some (b ∷ []) (suc (suc i)) rest lacks e = let short : 0 ≡ suc (suc (length rest)) = ap length e in absurd (omega (arith, short))
@@ -34,9 +34,9 @@ parts_some (b ∷ c ∷ more) (suc i) rest lacks e =
 
 pub cut_part_is : (s : List ℕ) (r : Option (Bor (List ℕ) × Bor (List ℕ)))
     → MatchOption r (FindsText (47 ∷ 47 ∷ []) s None) (λ x. (i : ℕ) × (j : ℕ) × FindsText (47 ∷ 47 ∷ []) s (Some (i, j)) × (x.0.now ≡ take i s) × (x.1.now ≡ drop j s) × (i ≤ j) × (length x.0.now ≡ i) × (length x.1.now + j ≡ length s))
-    → MatchOption r (parts s ≡ s ∷ []) (λ p. parts s ≡ p.0.now ∷ parts p.1.now)
+    → MatchOption r (spec_parts s ≡ s ∷ []) (λ p. spec_parts s ≡ p.0.now ∷ spec_parts p.1.now)
 cut_part_is s None h = parts_none s h
-cut_part_is s (Some x) h = parts_some s h.0 (drop h.1 s) h.2.0 h.2.1.split ∙ (λ t. sym h.3 t ∷ parts (sym h.4 t))
+cut_part_is s (Some x) h = parts_some s h.0 (drop h.1 s) h.2.0 h.2.1.split ∙ (λ t. sym h.3 t ∷ spec_parts (sym h.4 t))
 
 -- ---- the last mark
 

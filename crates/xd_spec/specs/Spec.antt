@@ -18,10 +18,10 @@ begin_with b [] = (b ∷ []) ∷ []
 begin_with b (part ∷ rest) = (b ∷ part) ∷ rest
 
 -- the parts between each `//`
-abbrev pub parts : List ℕ → List (List ℕ)
-parts [] = [] ∷ []
-parts (b ∷ []) = (b ∷ []) ∷ []
-parts (b ∷ c ∷ rest) = if b == 47 && c == 47 then [] ∷ parts rest else begin_with b (parts (c ∷ rest))
+abbrev pub spec_parts : List ℕ → List (List ℕ)
+spec_parts [] = [] ∷ []
+spec_parts (b ∷ []) = (b ∷ []) ∷ []
+spec_parts (b ∷ c ∷ rest) = if b == 47 && c == 47 then [] ∷ spec_parts rest else begin_with b (spec_parts (c ∷ rest))
 
 -- the text before the first such byte and that after it
 abbrev pub cut_at : ℕ → List ℕ → Option (List ℕ × List ℕ)
@@ -119,14 +119,14 @@ place false (Some address) None [] = Ok (Socket address.0 address.1)
 place _ _ _ _ = Err Unsupported
 
 -- the place that all parts name together, or the first fault of one
-abbrev pub place_of : Result Draft SpecFault → Result Place SpecFault
-place_of (Err fault) = Err fault
-place_of (Ok d) = place d.popen d.socket d.chdir d.env
+abbrev pub place_named : Result Draft SpecFault → Result Place SpecFault
+place_named (Err fault) = Err fault
+place_named (Ok d) = place d.popen d.socket d.chdir d.env
 
 -- what is known before the first part
-abbrev pub nothing : Draft
-nothing = record { popen = false; socket = None; chdir = None; env = [] }
+abbrev pub empty_draft : Draft
+empty_draft = record { popen = false; socket = None; chdir = None; env = [] }
 
 -- the place that a spec names, or its first fault
 abbrev pub spec_of : List ℕ → Result Place SpecFault
-spec_of text = place_of (with_parts (Ok nothing) (parts text))
+spec_of text = place_named (with_parts (Ok empty_draft) (spec_parts text))

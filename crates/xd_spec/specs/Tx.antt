@@ -18,8 +18,8 @@ counted_at word None = Ok (1, word)
 counted_at word (Some p) = if all_digits p.0 then counted_by (number_in 32 p.0) p.1 else Ok (1, word)
 
 -- how many workers a word is for, and its spec; one where it has no count
-abbrev pub counted : List ℕ → Result (ℕ × List ℕ) SpecFault
-counted word = counted_at word (cut_at 42 word)
+abbrev pub count_and_spec : List ℕ → Result (ℕ × List ℕ) SpecFault
+count_and_spec word = counted_at word (cut_at 42 word)
 
 -- n workers at this place after those before
 abbrev pub with_copies : List Place → ℕ → Result Place SpecFault → Result (List Place) SpecFault
@@ -35,7 +35,7 @@ with_counted before (Ok p) = with_copies before p.0 (spec_of p.1)
 abbrev pub with_words : Result (List Place) SpecFault → List (List ℕ) → Result (List Place) SpecFault
 with_words (Err fault) ws = Err fault
 with_words (Ok before) [] = Ok before
-with_words (Ok before) (w ∷ ws) = with_words (with_counted before (counted w)) ws
+with_words (Ok before) (w ∷ ws) = with_words (with_counted before (count_and_spec w)) ws
 
 -- a run has at most 32 workers at once
 abbrev pub few_of : Result (List Place) SpecFault → Result (List Place) SpecFault

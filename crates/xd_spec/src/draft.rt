@@ -1,7 +1,7 @@
 // What the parts of a spec that were read say together.
 ghost use Rattle.std.specs.Prelude.{◌≡◌, IfOk, option_and_then, option_map};
 ghost use Rattle.std.specs.Str.{chars};
-ghost use Rattle.xd_spec.specs.Spec.{address_in, cut_at, is_bad_key, is_set, nothing, place, port_in};
+ghost use Rattle.xd_spec.specs.Spec.{address_in, cut_at, is_bad_key, is_set, empty_draft, place, port_in};
 ghost use Rattle.xd_spec.specs.Spec.{with_folder, with_key, with_pair, with_part, with_popen, with_socket, with_variable};
 
 use crate::SpecFault;
@@ -23,7 +23,7 @@ pub struct Draft {
 impl Draft {
     /// No part was read.
     pub fn new(alloc: Global) -> Draft
-        ensures { result ≡ nothing }
+        ensures { result ≡ empty_draft }
     {
         Draft {
             popen: false,

@@ -1,7 +1,7 @@
 // One spec.
 ghost use Rattle.std.specs.Prelude.{◌≡◌, ◌≢◌, IfOk, IfErr, Ok, Err};
 ghost use Rattle.std.specs.Str.{encode_utf8_all};
-ghost use Rattle.xd_spec.specs.Spec.{nothing, parts, spec_of, with_parts};
+ghost use Rattle.xd_spec.specs.Spec.{empty_draft, spec_parts, spec_of, with_parts};
 ghost use Rattle.xd_spec.specs.declared.fault.SpecFault.TheVariants.{OutOfMemory as NoMemory};
 
 use crate::SpecFault;
@@ -39,7 +39,7 @@ pub fn place_in(alloc: Global, text: &str) -> Result<Result<Place, SpecFault>, O
 
 // What all parts say, or the first fault of one.
 fn draft_of(alloc: Global, text: &str) -> Result<Result<Draft, SpecFault>, OutOfMemory>
-    ensures { IfOk result (λ r. r ≡ with_parts (Ok nothing) (parts text.now)) }
+    ensures { IfOk result (λ r. r ≡ with_parts (Ok empty_draft) (spec_parts text.now)) }
 {
     let mut draft = Draft::new(alloc);
     let mut rest = text;

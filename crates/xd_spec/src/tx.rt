@@ -1,7 +1,7 @@
 // The words of `--tx`.
 ghost use Rattle.std.specs.Prelude.{◌≡◌, ◌≢◌, ◌≤◌, ◌++◌, [], length, map, replicate, IfOk, IfErr, OnOk, Ok, Err, MatchResult};
 ghost use Rattle.std.specs.Str.{encode_utf8_all};
-ghost use Rattle.xd_spec.specs.Tx.{counted, tx_of, with_counted, with_words};
+ghost use Rattle.xd_spec.specs.Tx.{count_and_spec, tx_of, with_counted, with_words};
 ghost use Rattle.xd_spec.specs.declared.fault.SpecFault.TheVariants.{OutOfMemory as NoMemory};
 
 use crate::SpecFault;
@@ -54,8 +54,8 @@ fn add_places(
     word: &str,
 ) -> Result<Result<(), SpecFault>, OutOfMemory>
     ensures { IfOk result (λ r. MatchResult r
-        (λ _. with_counted places.old.items (counted word.now) ≡ Ok places.new.items)
-        (λ f. with_counted places.old.items (counted word.now) ≡ Err f)) }
+        (λ _. with_counted places.old.items (count_and_spec word.now) ≡ Ok places.new.items)
+        (λ f. with_counted places.old.items (count_and_spec word.now) ≡ Err f)) }
 {
     let (count, spec) = match counted(word) {
         Ok(counted) => counted,
@@ -87,7 +87,7 @@ fn add_copies(
 
 // How many workers a word is for, and its spec.
 fn counted(word: &str) -> Result<(u32, &str), SpecFault>
-    ensures { MatchResult result (λ p. counted word.now ≡ Ok (p.0, p.1.now)) (λ f. counted word.now ≡ Err f) }
+    ensures { MatchResult result (λ p. count_and_spec word.now ≡ Ok (p.0, p.1.now)) (λ f. count_and_spec word.now ≡ Err f) }
 {
     match cut_at('*', word) {
         Some((count, spec)) if all_digits(count) => match number_in(MAX_WORKERS, count) {

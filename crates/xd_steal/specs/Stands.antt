@@ -12,7 +12,7 @@ pub record StandsFor (asked : Option ℕ) (p : Plan) : Type 0 where
   pub steal : option_map (λ a. a.worker) p.steal ≡ asked
 
 -- the table and the outputs are those of this turn, and the mode stands for its plan
-pub record Follows (u : Turn) (t : Table) (acts : List Entry) (asked : Option ℕ) : Type 0 where
+pub record MatchesTurn (u : Turn) (t : Table) (acts : List Entry) (asked : Option ℕ) : Type 0 where
   pub table_is : t ≡ u.table
   pub acts_are : acts ≡ u.acts
   pub stands_for : StandsFor asked u.plan

@@ -8,7 +8,7 @@ ghost use Rattle.xd_ledger.specs.Table.{held, in_rota, workers_of};
 ghost use Rattle.xd_ledger.specs.Turn.{shut_each};
 ghost use Rattle.xd_ledger.specs.Worksteal.{kept_part, dealt, victim, asks_or_shuts, after_dealing, rule};
 ghost use Rattle.xd_ledger.specs.Turn.{enough};
-ghost use Rattle.xd_steal.specs.Stands.{Follows, StandsFor};
+ghost use Rattle.xd_steal.specs.Stands.{MatchesTurn, StandsFor};
 
 use crate::workers::{ENOUGH, idle, victim};
 use std::alloc::Global;
@@ -88,7 +88,7 @@ fn ask_or_shut(
     requires seats { all_distinct (workers_of ledger.old) ≡ true }
     requires seated { all_among workers.now (workers_of ledger.old) ≡ true }
     ensures { OnOk result ((p : Plan) → StandsFor asked.old p →
-        Follows (asks_or_shuts workers.now (victim ledger.old) (turn ledger.old p acts.old.items)) ledger.new acts.new.items asked.new) }
+        MatchesTurn (asks_or_shuts workers.now (victim ledger.old) (turn ledger.old p acts.old.items)) ledger.new acts.new.items asked.new) }
 {
     let Some(worker) = victim(ledger) else {
         return shut_all(workers, ledger, acts);
@@ -110,7 +110,7 @@ fn after_dealing(
 ) -> Result<(), OutOfMemory>
     requires { all_distinct (workers_of ledger.old) ≡ true }
     ensures { OnOk result ((p : Plan) → StandsFor asked.old p →
-        Follows (after_dealing (turn ledger.old p acts.old.items)) ledger.new acts.new.items asked.new) }
+        MatchesTurn (after_dealing (turn ledger.old p acts.old.items)) ledger.new acts.new.items asked.new) }
 {
     let workers = idle(alloc, ledger)?;
     if workers.items.is_empty() || asked.is_some() {
@@ -128,7 +128,7 @@ pub(crate) fn rule(
 ) -> Result<(), OutOfMemory>
     requires { all_distinct (workers_of ledger.old) ≡ true }
     ensures { OnOk result ((p : Plan) → StandsFor asked.old p →
-        Follows (rule (turn ledger.old p acts.old.items)) ledger.new acts.new.items asked.new) }
+        MatchesTurn (rule (turn ledger.old p acts.old.items)) ledger.new acts.new.items asked.new) }
 {
     let workers = idle(alloc, ledger)?;
     if workers.items.is_empty() {

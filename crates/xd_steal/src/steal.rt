@@ -1,7 +1,7 @@
 // The mode.
 ghost use Rattle.std.specs.Prelude.{◌≡◌, None, Option, option_map};
 ghost use Rattle.xd_edge.specs.declared.mode.ModeKind.TheVariants.{WorkSteal};
-ghost use Rattle.xd_ledger.specs.Plan.{Asked, Plan};
+ghost use Rattle.xd_ledger.specs.Plan.{UnansweredSteal, Plan};
 ghost use Rattle.xd_ledger.specs.Deaths.{steal_without};
 ghost use Rattle.xd_steal.specs.Stands.{StandsFor};
 
@@ -19,7 +19,7 @@ pub struct Steal {
 
 // A worker's open steal is closed.
 fn asked_without(worker: u32, asked: Option<u32>) -> Option<u32>
-    ensures { (steal : Option Asked) → option_map (λ a. a.worker) steal ≡ asked →
+    ensures { (steal : Option UnansweredSteal) → option_map (λ a. a.worker) steal ≡ asked →
         option_map (λ a. a.worker) (steal_without worker steal) ≡ result }
 {
     asked.filter(|&victim| victim != worker)

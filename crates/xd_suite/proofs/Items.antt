@@ -9,10 +9,10 @@ use Rattle.toml.specs.declared.value.Value.{Value}
 use Rattle.toml.proofs.Views.{items_view-drop}
 use Rattle.xd_suite.specs.declared.test.Test.{Test}
 use Rattle.xd_suite.specs.declared.fault.SuiteWhat.{SuiteWhat}
-use Rattle.xd_suite.specs.Faults.{all_items, count_items, fault_of_test, fault_of_tests, of_test}
+use Rattle.xd_suite.specs.Faults.{each_item_holds, count_items, fault_of_test, fault_of_tests, of_test}
 use Rattle.xd_suite.specs.Tests.{members_of, test_of, tests_of}
 
-pub all_items-view : (p : Data → Bool) (vs : List Value) → list_all (λ v. p (view v)) vs ≡ all_items p (items_view vs)
+pub all_items-view : (p : Data → Bool) (vs : List Value) → list_all (λ v. p (view v)) vs ≡ each_item_holds p (items_view vs)
 all_items-view p [] = refl
 all_items-view p (v ∷ vs) = ap (λ b. p (view v) && b) (all_items-view p vs)
 

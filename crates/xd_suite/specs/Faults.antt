@@ -10,7 +10,7 @@ use Rattle.xd_suite.specs.declared.test.Test.{Test}
 use Rattle.xd_suite.specs.declared.fault.SuiteWhat.{SuiteWhat}
 use Rattle.xd_suite.specs.declared.fault.SuiteWhat.TheVariants.{UnknownKey, WrongKind, TooMany, Missing, BadId, Repeated}
 use Rattle.xd_suite.specs.declared.fault.SuiteFault.{SuiteFault}
-use Rattle.xd_suite.specs.Tests.{array_at, ids_in, listed, members_of, tests_of, text_at}
+use Rattle.xd_suite.specs.Tests.{array_at, ids_by_mode, test_items, members_of, tests_of, text_at}
 
 -- a fault of the whole file
 abbrev pub of_file : SuiteWhat → SuiteFault
@@ -34,9 +34,9 @@ abbrev pub is_test_key : List ℕ → Bool
 is_test_key k = bytes_eq k (codes "id") || bytes_eq k (codes "run") || bytes_eq k (codes "group")
 
 -- this holds of each item
-abbrev pub all_items : (Data → Bool) → Items → Bool
-all_items holds no_items = true
-all_items holds (item d ds) = holds d && all_items holds ds
+abbrev pub each_item_holds : (Data → Bool) → Items → Bool
+each_item_holds holds no_items = true
+each_item_holds holds (item d ds) = holds d && each_item_holds holds ds
 
 -- how many items there are
 abbrev pub count_items : Items → ℕ
@@ -71,7 +71,7 @@ has_group_kind ms = not (is_some (get_member (codes "group") ms)) || is_some (te
 
 -- `id` is a text, `run` an array of texts, and `group`, where it stands, a text
 abbrev pub has_kinds : Members → Bool
-has_kinds ms = is_some (text_at (codes "id") ms) && is_array_with (all_items is_text) (array_at (codes "run") ms) && has_group_kind ms
+has_kinds ms = is_some (text_at (codes "id") ms) && is_array_with (each_item_holds is_text) (array_at (codes "run") ms) && has_group_kind ms
 
 -- no control character of ASCII
 abbrev pub is_printable : ℕ → Bool
@@ -121,16 +121,16 @@ earlier (Some m) (Some n) = Some (if nat_le m n then m else n)
 
 -- the first test whose id, or id by its group, stood before in the list of these
 abbrev pub fault_of_ids : List Test → Option SuiteFault
-fault_of_ids ts = option_map (λ number. of_test number Repeated) (earlier (repeat_of (ids_in Load ts)) (repeat_of (ids_in LoadGroup ts)))
+fault_of_ids ts = option_map (λ number. of_test number Repeated) (earlier (repeat_of (ids_by_mode Load ts)) (repeat_of (ids_by_mode LoadGroup ts)))
 
 -- `test` is absent or an array of tables
 abbrev pub has_test_kind : Members → Bool
-has_test_kind ms = not (is_some (get_member (codes "test") ms)) || is_array_with (all_items is_table) (array_at (codes "test") ms)
+has_test_kind ms = not (is_some (get_member (codes "test") ms)) || is_array_with (each_item_holds is_table) (array_at (codes "test") ms)
 
 -- the first rule that the file breaks
-abbrev pub fault_of : Members → Option SuiteFault
-fault_of ms =
+abbrev pub broken_rule : Members → Option SuiteFault
+broken_rule ms =
     if not (has_only_keys is_suite_key ms) then Some (of_file UnknownKey)
     else if not (has_test_kind ms) then Some (of_file WrongKind)
-    else if not (nat_le (count_items (listed ms)) most_tests) then Some (of_file TooMany)
-    else option_or (fault_of_tests 0 (listed ms)) (fault_of_ids (tests_of (listed ms)))
+    else if not (nat_le (count_items (test_items ms)) most_tests) then Some (of_file TooMany)
+    else option_or (fault_of_tests 0 (test_items ms)) (fault_of_ids (tests_of (test_items ms)))

@@ -9,8 +9,8 @@ use Rattle.xd_suite.specs.declared.fault.SuiteWhat.TheVariants.{TooLarge, NotTom
 use Rattle.xd_suite.specs.declared.fault.SuiteFault.{SuiteFault}
 use Rattle.xd_suite.specs.declared.fault.SuiteRefusal.{SuiteRefusal}
 use Rattle.xd_suite.specs.declared.fault.SuiteRefusal.TheVariants.{Bad, OutOfMemory}
-use Rattle.xd_suite.specs.Faults.{fault_of, of_file}
-use Rattle.xd_suite.specs.Tests.{listed, tests_of}
+use Rattle.xd_suite.specs.Faults.{broken_rule, of_file}
+use Rattle.xd_suite.specs.Tests.{test_items, tests_of}
 
 -- The bytes are those of a TOML file that is small enough, with this data.
 pub record HasData (bytes : List ℕ) (ms : Members) : Type 0 where
@@ -22,14 +22,14 @@ pub record HasData (bytes : List ℕ) (ms : Members) : Type 0 where
 pub record IsSuiteOf (bytes : List ℕ) (tests : List Test) : Type 0 where
   pub members : Members
   pub toml : HasData bytes members
-  pub good : fault_of members ≡ None
-  pub listed : tests ≡ tests_of (listed members)
+  pub good : broken_rule members ≡ None
+  pub listed : tests ≡ tests_of (test_items members)
 
 -- These bytes are TOML whose first fault is this.
 pub record HasFault (bytes : List ℕ) (fault : SuiteFault) : Type 0 where
   pub members : Members
   pub toml : HasData bytes members
-  pub first : fault_of members ≡ Some fault
+  pub first : broken_rule members ≡ Some fault
 
 -- These bytes are small enough, and no TOML.
 pub record IsNotToml (bytes : List ℕ) : Type 0 where
@@ -47,6 +47,6 @@ IsRefused bytes (Bad fault) = IsFaulty bytes fault
 IsRefused bytes OutOfMemory = Unit {0}
 
 -- a refusal for the fault that is there, or because memory ran out
-abbrev pub Names : Option SuiteFault → SuiteRefusal → Type 0
-Names found (Bad fault) = found ≡ Some fault
-Names found OutOfMemory = Unit {0}
+abbrev pub NamesFault : Option SuiteFault → SuiteRefusal → Type 0
+NamesFault found (Bad fault) = found ≡ Some fault
+NamesFault found OutOfMemory = Unit {0}

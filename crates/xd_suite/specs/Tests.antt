@@ -38,8 +38,8 @@ tests_of no_items = []
 tests_of (item d ds) = test_of (members_of d) ∷ tests_of ds
 
 -- the items under the key `test`; without the key there are none
-abbrev pub listed : Members → Items
-listed ms = unwrap_or (array_at (codes "test") ms) no_items
+abbrev pub test_items : Members → Items
+test_items ms = unwrap_or (array_at (codes "test") ms) no_items
 
 -- an id, `@` and a group, as pytest-xdist's `remote.py` joins them; the id alone where there is no group
 abbrev pub with_group : List ℕ → Option (List ℕ) → List ℕ
@@ -51,13 +51,13 @@ abbrev pub group_id : Test → List ℕ
 group_id t = with_group t.id t.group
 
 -- the id of a test in a mode: that by its group in loadgroup, else the id alone
-abbrev pub id_in : ModeKind → Test → List ℕ
-id_in LoadGroup t = group_id t
-id_in _ t = t.id
+abbrev pub id_by_mode : ModeKind → Test → List ℕ
+id_by_mode LoadGroup t = group_id t
+id_by_mode _ t = t.id
 
 -- the ids of tests in a mode, in order
-abbrev pub ids_in : ModeKind → List Test → List (List ℕ)
-ids_in mode ts = map (id_in mode) ts
+abbrev pub ids_by_mode : ModeKind → List Test → List (List ℕ)
+ids_by_mode mode ts = map (id_by_mode mode) ts
 
 -- the command of a test
 abbrev pub run_at : List Test → ℕ → List (List ℕ)

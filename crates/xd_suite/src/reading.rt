@@ -4,9 +4,9 @@ ghost use Rattle.std.specs.Str.{chars};
 ghost use Rattle.toml.specs.Data.{no_items};
 ghost use Rattle.toml.specs.View.{view, array_view, table_view};
 ghost use Rattle.xd_edge.specs.Limits.{most_tests};
-ghost use Rattle.xd_suite.specs.Faults.{fault_of, fault_of_ids, fault_of_test, fault_of_tests};
-ghost use Rattle.xd_suite.specs.Suite.{Names};
-ghost use Rattle.xd_suite.specs.Tests.{array_at, listed, members_of, test_of, tests_of, text_at, texts_of};
+ghost use Rattle.xd_suite.specs.Faults.{broken_rule, fault_of_ids, fault_of_test, fault_of_tests};
+ghost use Rattle.xd_suite.specs.Suite.{NamesFault};
+ghost use Rattle.xd_suite.specs.Tests.{array_at, test_items, members_of, test_of, tests_of, text_at, texts_of};
 
 use crate::fault::{of_file, of_test};
 use crate::repeats::fault_of_ids;
@@ -20,12 +20,12 @@ use xd_edge::{MAX_TESTS, OutOfMemory, Text, Texts};
 
 /// The tests of a file, or its first fault.
 pub fn read_suite(alloc: Global, table: &Table) -> Result<Vec<Test>, SuiteRefusal>
-    ensures good { IfOk result (λ _. fault_of (table_view table.now) ≡ None) }
-    ensures tests { IfOk result (λ tests. tests.items ≡ tests_of (listed (table_view table.now))) }
+    ensures good { IfOk result (λ _. broken_rule (table_view table.now) ≡ None) }
+    ensures tests { IfOk result (λ tests. tests.items ≡ tests_of (test_items (table_view table.now))) }
     ensures runs { IfOk result (λ tests. All (λ t. 0 < length t.run) tests.items) }
     ensures few { IfOk result (λ tests. length tests.items ≤ most_tests) }
     ensures new_ids { IfOk result (λ tests. fault_of_ids tests.items ≡ None) }
-    ensures refused { IfErr result (Names (fault_of (table_view table.now))) }
+    ensures refused { IfErr result (NamesFault (broken_rule (table_view table.now))) }
 {
     if !has_suite_keys(table) {
         return Err(of_file(SuiteWhat::UnknownKey));
@@ -55,7 +55,7 @@ fn read_tests(alloc: Global, array: &Array) -> Result<Vec<Test>, SuiteRefusal>
     ensures tests { IfOk result (λ tests. tests.items ≡ tests_of (array_view array.now)) }
     ensures runs { IfOk result (λ tests. All (λ t. 0 < length t.run) tests.items) }
     ensures few { IfOk result (λ tests. length tests.items ≤ most_tests) }
-    ensures refused { IfErr result (Names (fault_of_tests 0 (array_view array.now))) }
+    ensures refused { IfErr result (NamesFault (fault_of_tests 0 (array_view array.now))) }
 {
     let mut tests = Vec::new(alloc);
     for (number, value) in array.iter().enumerate() {

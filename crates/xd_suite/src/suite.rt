@@ -2,7 +2,7 @@
 ghost use Rattle.std.specs.Prelude.{◌≡◌, ◌<◌, None, length, IfOk, IfErr};
 ghost use Rattle.xd_suite.specs.Faults.{repeat_of};
 ghost use Rattle.xd_suite.specs.Suite.{IsSuiteOf, IsRefused};
-ghost use Rattle.xd_suite.specs.Tests.{ids_in, run_at};
+ghost use Rattle.xd_suite.specs.Tests.{ids_by_mode, run_at};
 
 use crate::fault::of_file;
 use crate::reading::read_suite;
@@ -59,7 +59,7 @@ impl Suite {
     /// The ids of the tests in a mode, in order; no two are the same. In loadgroup the id of a test with a group is
     /// followed by `@` and the group.
     pub fn ids(&self, alloc: Global, mode: ModeKind) -> Result<Texts, OutOfMemory>
-        ensures ids { IfOk result (λ ids. ids ≡ ids_in mode self.now) }
+        ensures ids { IfOk result (λ ids. ids ≡ ids_by_mode mode self.now) }
         ensures once { IfOk result (λ ids. repeat_of ids ≡ None) }
     {
         let ids = ids_in(alloc, &self.tests, mode)?;

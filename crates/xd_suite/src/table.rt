@@ -4,7 +4,7 @@ ghost use Rattle.std.specs.List.{list_all};
 ghost use Rattle.std.specs.BTreeMap.{keys};
 ghost use Rattle.toml.specs.View.{view, array_view, table_view};
 ghost use Rattle.toml.specs.Data.{get_member};
-ghost use Rattle.xd_suite.specs.Faults.{all_items, count_items, has_only_keys, is_suite_key, is_table, is_test_key, is_text};
+ghost use Rattle.xd_suite.specs.Faults.{each_item_holds, count_items, has_only_keys, is_suite_key, is_table, is_test_key, is_text};
 ghost use Rattle.xd_suite.specs.Tests.{array_at, text_at};
 
 use toml::value::Array;
@@ -65,7 +65,7 @@ fn each_is_table(array: &Array) -> bool
 }
 
 pub fn are_tables(array: &Array) -> bool
-    ensures { result ≡ all_items is_table (array_view array.now) }
+    ensures { result ≡ each_item_holds is_table (array_view array.now) }
 {
     each_is_table(array)
 }
@@ -77,7 +77,7 @@ fn each_is_text(array: &Array) -> bool
 }
 
 pub fn are_texts(array: &Array) -> bool
-    ensures { result ≡ all_items is_text (array_view array.now) }
+    ensures { result ≡ each_item_holds is_text (array_view array.now) }
 {
     each_is_text(array)
 }

@@ -1,6 +1,6 @@
 // One test, and its ids.
 ghost use Rattle.std.specs.Prelude.{◌≡◌, ◌++◌, ◌∷◌, IfOk};
-ghost use Rattle.xd_suite.specs.Tests.{group_id, id_in, ids_in};
+ghost use Rattle.xd_suite.specs.Tests.{group_id, id_by_mode, ids_by_mode};
 
 use std::alloc::Global;
 use xd_edge::{ModeKind, OutOfMemory, Text, Texts};
@@ -15,7 +15,7 @@ pub struct Test {
 
 /// The ids of these tests in a mode.
 pub fn ids_in(alloc: Global, tests: &[Test], mode: ModeKind) -> Result<Texts, OutOfMemory>
-    ensures { IfOk result (λ ids. ids ≡ ids_in mode tests.now) }
+    ensures { IfOk result (λ ids. ids ≡ ids_by_mode mode tests.now) }
 {
     let mut items = Vec::new(alloc);
     for test in tests {
@@ -25,7 +25,7 @@ pub fn ids_in(alloc: Global, tests: &[Test], mode: ModeKind) -> Result<Texts, Ou
 }
 
 fn id_in(alloc: Global, test: &Test, mode: ModeKind) -> Result<Text, OutOfMemory>
-    ensures { IfOk result (λ id. id ≡ id_in mode test.now) }
+    ensures { IfOk result (λ id. id ≡ id_by_mode mode test.now) }
 {
     match mode {
         ModeKind::LoadGroup => group_id(alloc, test),

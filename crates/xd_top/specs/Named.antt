@@ -9,12 +9,12 @@ use Rattle.xd_top.specs.Outside.{Outside, Streams}
 use Rattle.xd_top.specs.Refusal.{HasSuite, RefusesSuite}
 
 -- what the words give a run without workers: the suite file, and the limit on failures
-pub record Asked : Type 0 where
+pub record LocalWords : Type 0 where
   pub suite : List ℕ
   pub maxfail : ℕ
 
 -- what it came to: a journal, where a run was begun, and the exit status
-pub record Came : Type 0 where
+pub record LocalResult : Type 0 where
   pub journal : Option Journal
   pub status : ℕ
 
@@ -32,7 +32,7 @@ abbrev pub reach_of : Around → Reach
 reach_of a = record { out = a.streams.out; programs = a.programs }
 
 -- The suite file of this name was run: its tests, with their journal, and the status of the journal.
-pub record RunsNamed (asked : Asked) (j : Journal) (code : ℕ) (old new : Around) : Type 0 where
+pub record RunsNamed (asked : LocalWords) (j : Journal) (code : ℕ) (old new : Around) : Type 0 where
   pub tests : List Test
   pub named : HasSuite old.streams.files.held asked.suite tests
   pub run : RunsTests tests asked.maxfail j (reach_of old) (reach_of new)
@@ -41,10 +41,10 @@ pub record RunsNamed (asked : Asked) (j : Journal) (code : ℕ) (old new : Aroun
   pub quiet : new.streams.err ≡ old.streams.err
 
 -- What SUITE -n 0 came to: a run with a journal, or a refusal of the suite file.
-abbrev pub DidBy : Asked → Option Journal → ℕ → Around → Around → Type 0
+abbrev pub DidBy : LocalWords → Option Journal → ℕ → Around → Around → Type 0
 DidBy asked (Some j) status old new = RunsNamed asked j status old new
 DidBy asked None status old new = RefusesSuite asked.suite status old.streams new.streams
 
 -- The same, by the journal and the status that it came to.
-abbrev pub DidLocal : Asked → Came → Around → Around → Type 0
+abbrev pub DidLocal : LocalWords → LocalResult → Around → Around → Type 0
 DidLocal asked came old new = DidBy asked came.journal came.status old new

@@ -12,7 +12,7 @@ use Rattle.xd_wire.specs.Names.{what_name}
 use Rattle.xd_wire.specs.WireText.{has_value, fault_line, message_with, IsLine, IsPayloadFault, IsTextFrom}
 use Rattle.xd_wire.specs.declared.step.Then.{Then}
 use Rattle.xd_wire.specs.declared.step.Then.TheVariants.{End}
-use Rattle.xd_wire.specs.Lines.{LeadsTo, texts_at, texts_of, ended, Continues}
+use Rattle.xd_wire.specs.Lines.{LeadsTo, texts_at, texts_after, ended, Continues}
 use Rattle.xd_wire.proofs.TextLemmas.{one_line, line_no_fault, one_place}
 
 -- the texts of a message and those after it are its line and a text of those
@@ -66,4 +66,4 @@ fault_leads one (Ok s) bytes at h front payload printed name place found fe pe s
     let k = messages_at bytes at (at + (9 + h.length)) h front payload fe pe refl says in
     let there : at + 9 + place ≡ at + (9 + place) = omega arith in
     let e : printed ≡ fault_line (what_name found) (at + (9 + place)) = written ∙ (ap (λ n. fault_line n (at + 9 + place)) ne ∙ ap (fault_line (what_name found)) there) in
-    subst (λ (t : Then). Continues (texts_at bytes at) printed (texts_of bytes t)) (sym then) (fault_first one at (message_with h payload) _ _ _ printed place found k.0 e is)
+    subst (λ (t : Then). Continues (texts_at bytes at) printed (texts_after bytes t)) (sym then) (fault_first one at (message_with h payload) _ _ _ printed place found k.0 e is)

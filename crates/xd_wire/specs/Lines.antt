@@ -31,15 +31,15 @@ pub record Continues (whole : Texts) (text : List ℕ) (later : Texts) : Type 0 
   pub back : (all : List ℕ) (faulty : Bool) → whole all faulty → (more : List ℕ) × (all ≡ text ++ more) × later more faulty
 
 -- the texts of what follows a line
-abbrev pub texts_of : List ℕ → Then → Texts
-texts_of bytes (At next) = texts_at bytes next
-texts_of bytes (End faulty) = ended faulty
+abbrev pub texts_after : List ℕ → Then → Texts
+texts_after bytes (At next) = texts_at bytes next
+texts_after bytes (End faulty) = ended faulty
 
 -- the texts of a file from a place on begin with this line, and go on with what follows it
 abbrev pub LeadsTo : List ℕ → ℕ → List ℕ → Then → Type 0
-LeadsTo bytes at line then = Continues (texts_at bytes at) line (texts_of bytes then)
+LeadsTo bytes at line then = Continues (texts_at bytes at) line (texts_after bytes then)
 
 -- the next line begins after this place, inside the file or at its end
-abbrev pub IsAhead : ℕ → ℕ → Then → Type 0
-IsAhead at size (At next) = (at < next) × (next ≤ size)
-IsAhead at size (End faulty) = Unit {0}
+abbrev pub BeginsAfter : ℕ → ℕ → Then → Type 0
+BeginsAfter at size (At next) = (at < next) × (next ≤ size)
+BeginsAfter at size (End faulty) = Unit {0}

@@ -1,7 +1,7 @@
 // What stands at a place of a file of messages.
 ghost use Rattle.std.specs.Prelude.{◌≡◌, ◌≤◌, [], true, false, IfOk, OnOk, length, string_bytes};
 ghost use Rattle.xd_wire.specs.WireText.{fault_line};
-ghost use Rattle.xd_wire.specs.Lines.{LeadsTo, IsAhead};
+ghost use Rattle.xd_wire.specs.Lines.{LeadsTo, BeginsAfter};
 
 use crate::law::a_payload_reads_one;
 use crate::line::{Line, line_of};
@@ -28,7 +28,7 @@ pub fn step_at(
 ) -> Result<Then, OutOfMemory>
     requires { at ≤ length bytes.now }
     ensures step { IfOk result (LeadsTo bytes.now at (string_bytes line.new)) }
-    ensures ahead { IfOk result (IsAhead at (length bytes.now)) }
+    ensures ahead { IfOk result (BeginsAfter at (length bytes.now)) }
 {
     a_payload_reads_one();
     let header = match first_header(&bytes[at..]) {

@@ -57,13 +57,13 @@ settings_of a workers = record {
 }
 
 -- without workers the tests are run in the program itself
-unfoldable pub run_at : Asked → List Place → Plan
-run_at a places = if length places == 0 then Local a.suite (maxfail_of a) else Linked a.suite (settings_of a (length places)) places
+unfoldable pub plan_with_places : Asked → List Place → Plan
+plan_with_places a places = if length places == 0 then Local a.suite (maxfail_of a) else Linked a.suite (settings_of a (length places)) places
 
 -- a run at these places, or the refusal of the words of --tx
 abbrev pub run_where : Asked → Result (List Place) SpecFault → Plan
 run_where a (Err fault) = Refused BadSpec
-run_where a (Ok places) = run_at a places
+run_where a (Ok places) = plan_with_places a places
 
 -- the refusal, where there is one, and else the plan
 abbrev pub refused_or : Option WordsRefusal → Plan → Plan

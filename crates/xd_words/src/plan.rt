@@ -10,7 +10,7 @@ ghost use Rattle.xd_spec.specs.Tx.{tx_of};
 ghost use Rattle.xd_words.specs.Asked.{rows_in};
 ghost use Rattle.xd_words.specs.Command.{main_app, socketserver_app, wire_app, worker_app};
 ghost use Rattle.xd_words.specs.Words.{Fits, exclusion, main_plan, maxfail_of, places_of, plan_by, plan_for, plan_of};
-ghost use Rattle.xd_words.specs.Words.{plan_of_utf8, run_at, serve_at, settings_of, socketserver_plan, wire_plan, worker_plan};
+ghost use Rattle.xd_words.specs.Words.{plan_of_utf8, plan_with_places, serve_at, settings_of, socketserver_plan, wire_plan, worker_plan};
 
 use crate::asked::{Asked, asked_of, is_path, is_well_formed, path_of};
 use crate::matches::{main_matches, socketserver_matches, value, wire_matches, worker_matches};
@@ -278,14 +278,14 @@ fn child(alloc: Global) -> Place
 }
 
 // A run at these places; without any it is in the program itself.
-#[tactic(auto, unfolding(crate::specs::Words::run_at))]
+#[tactic(auto, unfolding(crate::specs::Words::plan_with_places))]
 fn run_at(asked: Asked, places: Places) -> Plan
     requires few { length places ≤ 32 }
     requires restarts { IfSome asked.restarts (λ n. n ≤ 1000) }
     requires retries { IfSome asked.retries (λ n. n ≤ 100) }
     requires shared { IfSome asked.mode (λ m. m ≢ WithoutWorkers) }
     requires short { length (encode_utf8_all asked.suite) ≤ 65536 }
-    ensures plan { result ≡ run_at asked places }
+    ensures plan { result ≡ plan_with_places asked places }
     ensures fits { Fits result }
 {
     if places.items.is_empty() {

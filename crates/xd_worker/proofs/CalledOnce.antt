@@ -9,7 +9,7 @@ use Rattle.xd_worker.specs.declared.function.CallFault.TheVariants.{BadCall, Sou
 use Rattle.xd_worker.specs.declared.function.Function.TheVariants as function
 use Rattle.xd_worker.specs.declared.function.Name.{Name}
 use Rattle.xd_worker.specs.declared.function.Name.TheVariants as name
-use Rattle.xd_worker.specs.Functions.{called_in, call_of, is_plain, named, name_of, with_value, with_kwargs, function_of}
+use Rattle.xd_worker.specs.Functions.{called_in, call_of, has_no_source, named, name_of, with_value, with_kwargs, function_of}
 
 -- A call that is no other call of `run_tests`.
 abbrev pub IsOther : Called → Type 0
@@ -59,7 +59,7 @@ named_other (dict ps) kwargs = tt
 named_other (channel c) kwargs = tt
 
 call_other : (source file n kwargs : Tree) → IsOther (call_of true source file n kwargs)
-call_other source file n kwargs = go (is_plain source file)
+call_other source file n kwargs = go (has_no_source source file)
   where
     go : (b : Bool) → IsOther (if b then named true n kwargs else Refused SourceText)
     go true = named_other n kwargs

@@ -19,11 +19,11 @@ use Rattle.xd_factory.specs.Numbers.{is_mine}
 use Rattle.xd_factory.specs.Said.{Said, Status, Exec, Data, Close, Last, Terminate, SaysBy, Means, IsFault}
 use Rattle.xd_factory.specs.Slot.{Slot, Unseen, Here, Gone, is_new, named_slot, item_gives}
 use Rattle.xd_factory.specs.Table.{heard_slot, arrived_answer, ended_answer, end_answer, Refused, IsRefused}
-use Rattle.xd_factory.specs.View.{slot_of, parity_of, next_of, fault_of, is_finished, KeepsRest}
-use Rattle.xd_factory.specs.SideTable.{Table, Counts, table_of, heard, answer}
+use Rattle.xd_factory.specs.View.{slot_of_number, parity_of, next_of, fault_of, is_finished, KeepsRest}
+use Rattle.xd_factory.specs.SideTable.{ChannelTable, Counts, channel_table, heard, answer}
 use Rattle.xd_factory.specs.SideTable.{RefusedBy, MustRefuse}
 use Rattle.xd_factory.proofs.SideTables.{new_in, reason}
-use Rattle.xd_worker.specs.Stands.{IsSmall, IsFaultAt, IsRefusal, worker_fault}
+use Rattle.xd_worker.specs.Stands.{IsSmall, IsFaultAt, IsThisFault, worker_fault}
 
 -- ---- the number of a STATUS is that of its message
 
@@ -56,7 +56,7 @@ small_end n Unseen end = tt
 small_end n (Here s) end = small_ended n s.callback (put_gives s end)
 small_end n Gone end = tt
 
-pub small_answer : (m : MessageView) (said : Said) (t : Table) → m.channel ≤ 2147483647 → Means m said → IsSmall (answer said t)
+pub small_answer : (m : MessageView) (said : Said) (t : ChannelTable) → m.channel ≤ 2147483647 → Means m said → IsSmall (answer said t)
 small_answer m (Status n) t h k = let e = status_number m.kind m.channel n m.payload k.says in rw e h
 small_answer m (Exec n v) t h k = small_exec (is_new (is_mine t.parity n) (t.slot n)) n v
 small_answer m (Data n v) t h k = small_arrived n (item_gives (named_slot (is_mine t.parity n) (t.slot n)) v)
@@ -66,7 +66,7 @@ small_answer m Terminate t h k = tt
 
 -- ---- refusals
 
-pub fault_at : (t : Table) (m : MessageView) (f : SideFault) (n : ℕ) → ((b : SideFault) → t.fault ≡ Some b → f ≡ b) → (t.fault ≡ None → IsRefused n (new_in t) m f) → Counts t.slot n → IsFaultAt t m (worker_fault f)
+pub fault_at : (t : ChannelTable) (m : MessageView) (f : SideFault) (n : ℕ) → ((b : SideFault) → t.fault ≡ Some b → f ≡ b) → (t.fault ≡ None → IsRefused n (new_in t) m f) → Counts t.slot n → IsFaultAt t m (worker_fault f)
 fault_at t m fault.OutOfMemory n g h k = tt
 fault_at t m fault.Finished n g h k = reason t.fault t m fault.Finished n g h k
 fault_at t m fault.BadNumber n g h k = reason t.fault t m fault.BadNumber n g h k
@@ -76,7 +76,7 @@ fault_at t m fault.NotText n g h k = reason t.fault t m fault.NotText n g h k
 fault_at t m fault.TooManyOpen n g h k = reason t.fault t m fault.TooManyOpen n g h k
 
 -- which fault a side answers that must refuse
-fault_refusal : (X Y : Type 0) (f g : SideFault) → IsFault {X = X} f (Err g) → IsRefusal {X = Y} f (Err (worker_fault g))
+fault_refusal : (X Y : Type 0) (f g : SideFault) → IsFault {X = X} f (Err g) → IsThisFault {X = Y} f (Err (worker_fault g))
 fault_refusal X Y f fault.OutOfMemory h = tt
 fault_refusal X Y f fault.Finished h = h
 fault_refusal X Y f fault.BadNumber h = h
@@ -85,7 +85,7 @@ fault_refusal X Y f (fault.BadPayload what) h = h
 fault_refusal X Y f fault.NotText h = h
 fault_refusal X Y f fault.TooManyOpen h = h
 
-same_refusal : (Y : Type 0) (f g : SideFault) → g ≡ f → IsRefusal {X = Y} f (Err (worker_fault g))
+same_refusal : (Y : Type 0) (f g : SideFault) → g ≡ f → IsThisFault {X = Y} f (Err (worker_fault g))
 same_refusal Y f fault.OutOfMemory h = tt
 same_refusal Y f fault.Finished h = h
 same_refusal Y f fault.BadNumber h = h
@@ -94,7 +94,7 @@ same_refusal Y f (fault.BadPayload what) h = h
 same_refusal Y f fault.NotText h = h
 same_refusal Y f fault.TooManyOpen h = h
 
-pub refusal_at : (X Y : Type 0) (o : Option SideFault) (t : Table) (m : MessageView) (f g : SideFault) (n : ℕ) → ((b : SideFault) → o ≡ Some b → g ≡ b) → (o ≡ None → Refused n (new_in t) m f → IsFault {X = X} f (Err g))
-    → Counts t.slot n → MustRefuse o t m f → IsRefusal {X = Y} f (Err (worker_fault g))
+pub refusal_at : (X Y : Type 0) (o : Option SideFault) (t : ChannelTable) (m : MessageView) (f g : SideFault) (n : ℕ) → ((b : SideFault) → o ≡ Some b → g ≡ b) → (o ≡ None → Refused n (new_in t) m f → IsFault {X = X} f (Err g))
+    → Counts t.slot n → MustRefuse o t m f → IsThisFault {X = Y} f (Err (worker_fault g))
 refusal_at X Y None t m f g n a b k h = fault_refusal X Y f g (b refl (h n k))
 refusal_at X Y (Some before) t m f g n a b k h = same_refusal Y f g (a before refl ∙ sym h)

@@ -5,7 +5,7 @@ use Rattle.xd_value.specs.Tree.{Tree}
 use Rattle.xd_factory.specs.declared.taken.Taken.{Taken}
 use Rattle.xd_factory.specs.declared.taken.Taken.TheVariants.{Kept, Handed, EndKept, EndHanded, Dropped, Status, Exec, Terminate}
 use Rattle.xd_suite.specs.declared.test.Test.{Test}
-use Rattle.xd_suite.specs.Tests.{ids_in}
+use Rattle.xd_suite.specs.Tests.{ids_by_mode}
 use Rattle.xd_edge.specs.declared.mode.ModeKind.{ModeKind}
 use Rattle.xd_journal.specs.declared.news.What.TheVariants.{Collected}
 use Rattle.xd_gateway.specs.Orders.{tree_order}
@@ -131,11 +131,11 @@ did_unless_known false a n t k = did_known a n t k
 
 -- ---- the suite
 
-ids_length : (mode : ModeKind) (ts : List Test) → length (ids_in mode ts) ≡ length ts
+ids_length : (mode : ModeKind) (ts : List Test) → length (ids_by_mode mode ts) ≡ length ts
 ids_length mode [] = refl
 ids_length mode (t ∷ ts) = ap (λ (x : ℕ). suc x) (ids_length mode ts)
 
-opened_fits : (p : Phase) (mode : ModeKind) (ts : List Test) (size : ℕ) → size ≡ 0 → size_opened p (ids_in mode ts) size ≤ length ts
+opened_fits : (p : Phase) (mode : ModeKind) (ts : List Test) (size : ℕ) → size ≡ 0 → size_opened p (ids_by_mode mode ts) size ≤ length ts
 opened_fits Awaiting mode ts size e = let l = ids_length mode ts in omega (arith, l)
 opened_fits Serving mode ts size e = omega (arith, e)
 opened_fits (phase.Ending x) mode ts size e = omega (arith, e)

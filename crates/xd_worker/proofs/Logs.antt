@@ -14,11 +14,11 @@ use Rattle.xd_factory.specs.declared.parity.Parity.{Parity}
 use Rattle.xd_factory.specs.declared.parity.Parity.TheVariants.{Even}
 use Rattle.xd_factory.specs.Numbers.{is_mine, is_in}
 use Rattle.xd_factory.specs.Said.{Said, Status, Exec, Data, Close, Last, Terminate, names_of}
-use Rattle.xd_factory.specs.Slot.{Slot, Unseen, Here, Gone, is_here, item_slot, peer_closed_slot, peer_last_slot, lost_slot, settled, function_ended_slot}
+use Rattle.xd_factory.specs.Slot.{Slot, Unseen, Here, Gone, is_here, item_slot, peer_closed_slot, peer_last_slot, lost_slot, gone_where_done, function_ended_slot}
 use Rattle.xd_factory.specs.Table.{named_in, told_slot}
-use Rattle.xd_run_tests.specs.Line.{log_of}
+use Rattle.xd_run_tests.specs.Line.{number_of_log}
 use Rattle.xd_run_tests.proofs.Once.{and_last}
-use Rattle.xd_factory.specs.SideTable.{Table, Counts, changed_at, opened, heard, lost}
+use Rattle.xd_factory.specs.SideTable.{ChannelTable, Counts, changed_at, opened, heard, lost}
 
 -- ---- numbers that are in a list once
 
@@ -121,7 +121,7 @@ Plain Gone = Unit {0}
 abbrev Keeps : Slot Tree → Slot Tree → Type 0
 Keeps s u = Plain s → Plain u × (is_here u ≡ is_here s)
 
-settled_keeps : (s : EndState Tree) → s.callback ≡ false → s.given ≡ false → Plain (settled s) × (is_here (settled s) ≡ true)
+settled_keeps : (s : EndState Tree) → s.callback ≡ false → s.given ≡ false → Plain (gone_where_done s) × (is_here (gone_where_done s) ≡ true)
 settled_keeps s e f = go (not s.sending && s.given) refl
   where
     go : (b : Bool) → (not s.sending && s.given) ≡ b → Plain (if b then Gone else Here s) × (is_here (if b then Gone else Here s) ≡ true)
@@ -132,7 +132,7 @@ given_still : (m : Option End) (b g : Bool) → b ≡ false → g ≡ false → 
 given_still None b g e f = rw (e, f) refl
 given_still (Some x) b g e f = f
 
-put_keeps : (s : EndState Tree) (end : End) → s.callback ≡ false → s.given ≡ false → Plain (settled (after_put s end)) × (is_here (settled (after_put s end)) ≡ true)
+put_keeps : (s : EndState Tree) (end : End) → s.callback ≡ false → s.given ≡ false → Plain (gone_where_done (after_put s end)) × (is_here (gone_where_done (after_put s end)) ≡ true)
 put_keeps s end e f = settled_keeps (after_put s end) e (given_still s.marker s.callback s.given e f)
 
 item_keeps : (s : Slot Tree) (v : Tree) → Keeps s (item_slot s v)
@@ -184,19 +184,19 @@ named_same true Gone = refl
 heard_keeps : (mine : Bool) (c : ℕ) (said : Said) (s : Slot Tree) → mine ≡ true → Keeps s (told_slot mine c said (named_in mine (is_in c (names_of said)) s))
 heard_keeps mine c said s e = subst (λ (m : Bool). Keeps s (told_slot m c said (named_in m (is_in c (names_of said)) s))) (sym e) (subst (λ (x : Slot Tree). Keeps s (told_slot true c said x)) (sym (named_same (is_in c (names_of said)) s)) (told_keeps c said s))
 
-even_log : (n c : ℕ) → c + 2 ≡ log_of n → is_mine Even c ≡ true
+even_log : (n c : ℕ) → c + 2 ≡ number_of_log n → is_mine Even c ≡ true
 even_log n c e = let z : c % 2 ≡ 0 = omega (arith, e) in rw z refl
 
 -- so many logs opened, and the last one is in the table, or none is
-pub record Evens (t : Table) (n : ℕ) (o : Bool) : Type 0 where
+pub record Evens (t : ChannelTable) (n : ℕ) (o : Bool) : Type 0 where
   pub even : t.parity ≡ Even
-  pub next_is : t.next ≡ log_of n
+  pub next_is : t.next ≡ number_of_log n
   pub plain : (c : ℕ) → is_mine Even c ≡ true → Plain (t.slot c)
-  pub last : (c : ℕ) → is_mine Even c ≡ true → is_here (t.slot c) ≡ true → c + 2 ≡ log_of n
+  pub last : (c : ℕ) → is_mine Even c ≡ true → is_here (t.slot c) ≡ true → c + 2 ≡ number_of_log n
   pub idle : o ≡ false → (c : ℕ) → is_mine Even c ≡ true → is_here (t.slot c) ≡ false
-  pub held : o ≡ true → (c : ℕ) → c + 2 ≡ log_of n → is_here (t.slot c) ≡ true
+  pub held : o ≡ true → (c : ℕ) → c + 2 ≡ number_of_log n → is_here (t.slot c) ≡ true
 
-same_evens : (t u : Table) (n : ℕ) (o : Bool) → u.parity ≡ t.parity → u.next ≡ t.next → ((c : ℕ) → is_mine Even c ≡ true → Keeps (t.slot c) (u.slot c)) → Evens t n o → Evens u n o
+same_evens : (t u : ChannelTable) (n : ℕ) (o : Bool) → u.parity ≡ t.parity → u.next ≡ t.next → ((c : ℕ) → is_mine Even c ≡ true → Keeps (t.slot c) (u.slot c)) → Evens t n o → Evens u n o
 same_evens t u n o p q k e = record {
   even = p ∙ e.even;
   next_is = q ∙ e.next_is;
@@ -206,13 +206,13 @@ same_evens t u n o p q k e = record {
   held = λ z c h. let m = even_log n c h in (k c m (e.plain c m)).1 ∙ e.held z c h;
 }
 
-pub heard_evens : (said : Said) (t : Table) (n : ℕ) (o : Bool) → Evens t n o → Evens (heard said t) n o
+pub heard_evens : (said : Said) (t : ChannelTable) (n : ℕ) (o : Bool) → Evens t n o → Evens (heard said t) n o
 heard_evens said t n o e = same_evens t (heard said t) n o refl refl (λ c m. heard_keeps (is_mine t.parity c) c said (t.slot c) (ap (λ (p : Parity). is_mine p c) e.even ∙ m)) e
 
-pub lost_evens : (t : Table) (n : ℕ) (o : Bool) → Evens t n o → Evens (lost t) n o
+pub lost_evens : (t : ChannelTable) (n : ℕ) (o : Bool) → Evens t n o → Evens (lost t) n o
 lost_evens t n o e = same_evens t (lost t) n o refl refl (λ c m. lost_keeps (t.slot c)) e
 
-pub odd_evens : (k : ℕ) (f : Slot Tree → Slot Tree) (t : Table) (n : ℕ) (o : Bool) → is_mine Even k ≡ false → Evens t n o → Evens (changed_at k f t) n o
+pub odd_evens : (k : ℕ) (f : Slot Tree → Slot Tree) (t : ChannelTable) (n : ℕ) (o : Bool) → is_mine Even k ≡ false → Evens t n o → Evens (changed_at k f t) n o
 odd_evens k f t n o odd e = same_evens t (changed_at k f t) n o refl refl keeps e
   where
     keeps : (c : ℕ) → is_mine Even c ≡ true → Keeps (t.slot c) (if k == c then f (t.slot c) else t.slot c)
@@ -223,7 +223,7 @@ odd_evens k f t n o odd e = same_evens t (changed_at k f t) n o refl refl keeps 
         go false q = λ p. (p, refl)
 
 -- a log opens
-pub open_evens : (t : Table) (n : ℕ) → Evens t n false → Evens (opened t) (n + 1) true
+pub open_evens : (t : ChannelTable) (n : ℕ) → Evens t n false → Evens (opened t) (n + 1) true
 open_evens t n e = record {
   even = e.even;
   next_is = let z = e.next_is in omega (arith, z);
@@ -237,11 +237,11 @@ open_evens t n e = record {
     plain_at c m true = (refl, refl)
     plain_at c m false = e.plain c m
 
-    last_at : (c : ℕ) → is_mine Even c ≡ true → (b : Bool) → (t.next == c) ≡ b → is_here (if b then Here fresh else t.slot c) ≡ true → c + 2 ≡ log_of (n + 1)
+    last_at : (c : ℕ) → is_mine Even c ≡ true → (b : Bool) → (t.next == c) ≡ b → is_here (if b then Here fresh else t.slot c) ≡ true → c + 2 ≡ number_of_log (n + 1)
     last_at c m true q h = let x = eqb-true t.next c q in let z = e.next_is in omega (arith, x, z)
     last_at c m false q h = let z : true ≡ false = sym h ∙ e.idle refl c m in cc
 
-    held_at : (c : ℕ) (b : Bool) → (t.next == c) ≡ b → c + 2 ≡ log_of (n + 1) → is_here (if b then Here fresh else t.slot c) ≡ true
+    held_at : (c : ℕ) (b : Bool) → (t.next == c) ≡ b → c + 2 ≡ number_of_log (n + 1) → is_here (if b then Here fresh else t.slot c) ≡ true
     held_at c true q h = refl
     held_at c false q h = let z = e.next_is in let s : t.next ≡ c = omega (arith, z, h) in let y : true ≡ false = sym (eq-eqb t.next c s) ∙ q in cc
 
@@ -256,7 +256,7 @@ ended_plain (Here s) = tt
 ended_plain Gone = tt
 
 -- it is closed
-pub close_evens : (t : Table) (n log : ℕ) → log + 2 ≡ log_of n → Evens t n true → Evens (changed_at log function_ended_slot t) n false
+pub close_evens : (t : ChannelTable) (n log : ℕ) → log + 2 ≡ number_of_log n → Evens t n true → Evens (changed_at log function_ended_slot t) n false
 close_evens t n log l e = record {
   even = e.even;
   next_is = e.next_is;
@@ -279,14 +279,14 @@ close_evens t n log l e = record {
         go false h = refl
 
 -- an entry leaves the table
-pub ended_short : (t : Table) (k n : ℕ) → Short t.slot n → Short (changed_at k function_ended_slot t).slot n
+pub ended_short : (t : ChannelTable) (k n : ℕ) → Short t.slot n → Short (changed_at k function_ended_slot t).slot n
 ended_short t k n s = λ xs o f. s xs o (λ c i. was c (k == c) (f c i))
   where
     was : (c : ℕ) (b : Bool) → is_here (if b then function_ended_slot (t.slot c) else t.slot c) ≡ true → is_here (t.slot c) ≡ true
     was c true h = let z : true ≡ false = sym h ∙ ended_here (t.slot c) in cc
     was c false h = h
 
-pub close_short : (t : Table) (n log : ℕ) → is_here (t.slot log) ≡ true → Short t.slot (n + 1) → Short (changed_at log function_ended_slot t).slot n
+pub close_short : (t : ChannelTable) (n log : ℕ) → is_here (t.slot log) ≡ true → Short t.slot (n + 1) → Short (changed_at log function_ended_slot t).slot n
 close_short t n log here s = λ xs o f. let z = s (log ∷ xs) (both (not (is_in log xs)) (once_in xs) (absent xs f) o) (λ c i. was xs f c i) in omega (arith, z)
   where
     absent : (xs : List ℕ) → ((c : ℕ) → is_in c xs ≡ true → is_here ((changed_at log function_ended_slot t).slot c) ≡ true) → not (is_in log xs) ≡ true

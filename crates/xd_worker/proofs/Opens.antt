@@ -28,9 +28,9 @@ use Rattle.xd_run_tests.specs.declared.ask.Ask.TheVariants as ask
 use Rattle.xd_run_tests.specs.declared.input.Input.{Input}
 use Rattle.xd_run_tests.specs.declared.input.Input.TheVariants as input
 use Rattle.xd_run_tests.specs.declared.phase.Phase.TheVariants.{Stopped}
-use Rattle.xd_run_tests.specs.Line.{Call, log_of, running_test}
+use Rattle.xd_run_tests.specs.Line.{FunctionCall, number_of_log, running_test}
 use Rattle.xd_run_tests.specs.History.{Given, call_after, turn_after}
-use Rattle.xd_run_tests.specs.Logs.{Logs, begun, logs_of, LogStep, LogSteps}
+use Rattle.xd_run_tests.specs.Logs.{Logs, begun_tests, logs_of, LogStep, LogSteps}
 use Rattle.xd_run_tests.proofs.Logs.{one_log, is_stopped, stops, goes}
 use Rattle.xd_worker.specs.declared.function.Called.{Called}
 use Rattle.xd_worker.specs.declared.function.Called.TheVariants.{Runs, Refused}
@@ -40,11 +40,11 @@ use Rattle.xd_worker.specs.declared.talk.Sent.TheVariants as how
 use Rattle.xd_worker.specs.declared.function.CallFault.TheVariants.{BadCall, SourceText}
 use Rattle.xd_worker.specs.declared.function.Name.{Name}
 use Rattle.xd_worker.specs.declared.function.Name.TheVariants as name
-use Rattle.xd_worker.specs.Functions.{called_in, call_of, is_plain, named, name_of, with_value, with_kwargs, function_of}
-use Rattle.xd_factory.specs.SideTable.{Table, Counts, changed_at, opened, heard, answer, lost}
+use Rattle.xd_worker.specs.Functions.{called_in, call_of, has_no_source, named, name_of, with_value, with_kwargs, function_of}
+use Rattle.xd_factory.specs.SideTable.{ChannelTable, Counts, changed_at, opened, heard, answer, lost}
 use Rattle.xd_worker.specs.Table.{empty}
 use Rattle.xd_worker.specs.Talk.{Talk, told_tree, sent_how, payload_on, function_begun}
-use Rattle.xd_worker.specs.Worker.{Service, Duties, Turn, Opening, turn_of, behind, running_in}
+use Rattle.xd_worker.specs.Worker.{Service, Duties, Turn, Opening, turn_of, after_turn, running_in}
 use Rattle.xd_worker.specs.Turns.{Came, Told, SuiteRead, NoSuite, Printed, ChildEnded, LinkEnded, at_talk, ended_call, asked, all_asked, others, given_in, fed_to, fed, tests_begun, called, is_called, echo_ended, echoed, echoed_how, is_service, stopped, did, did_unless, suite_input, ids_of, suite_read, suite_refused, turned}
 use Rattle.xd_worker.specs.History.{Heard, worker_after, turn_by, table_behind}
 use Rattle.xd_worker.specs.Logs.{CanOpen, AllOpen, LogLaw}
@@ -70,8 +70,8 @@ told_table n None d = refl
 told_table n (Some v) d = refl
 
 -- without a log that is open at most so many numbers are in the table
-abbrev SpareBy : Bool → Table → ℕ → Type 0
-SpareBy true t n = (log : ℕ) → log + 2 ≡ log_of n → Short (changed_at log function_ended_slot t).slot 4095
+abbrev SpareBy : Bool → ChannelTable → ℕ → Type 0
+SpareBy true t n = (log : ℕ) → log + 2 ≡ number_of_log n → Short (changed_at log function_ended_slot t).slot 4095
 SpareBy false t n = Short t.slot 4095
 
 -- the table and the call between two asks
@@ -86,9 +86,9 @@ record Between (P : Type 0) (room : Bool) (l : Logs) (s : Service) (stop : Bool)
 -- the table stays
 still : (P : Type 0) (room : Bool) (l k : Logs) (s : Service) (stop : Bool) (t u : Turn) → k ≡ l → u.talk.table ≡ t.talk.table → u.logs ≡ t.logs → u.duties ≡ t.duties → Between P room l s stop t → Between P room k s stop u
 still P room l k s stop t u e f g d b = subst (λ (x : Logs). Between P room x s stop u) (sym e) (record {
-  evens = subst (λ (x : Table). Evens x l.count l.is_open) (sym f) b.evens;
-  linked = ap (λ (x : Table). x.finished) f ∙ b.linked;
-  short = λ p r. subst (λ (x : Table). SpareBy l.is_open x l.count) (sym f) (b.short p r);
+  evens = subst (λ (x : ChannelTable). Evens x l.count l.is_open) (sym f) b.evens;
+  linked = ap (λ (x : ChannelTable). x.finished) f ∙ b.linked;
+  short = λ p r. subst (λ (x : ChannelTable). SpareBy l.is_open x l.count) (sym f) (b.short p r);
   all_open = λ p. subst AllOpen (sym g) (b.all_open p);
   called = subst (λ (x : Duties). Alike x.service s) (sym d) b.called;
   stopped_is = ap (λ (x : Duties). x.stopped) d ∙ b.stopped_is;
@@ -102,13 +102,13 @@ nothing_more (o ∷ a) = ap (λ (x : List Opening). o ∷ x) (nothing_more a)
 quiet : (P : Type 0) (c : ℕ) (v : Option Tree) (room : Bool) (l k : Logs) (s : Service) (stop : Bool) (t : Turn) → k ≡ l → Between P room l s stop t → Between P room k s stop (record t { talk = told_tree c v t.talk; logs = t.logs ++ [] })
 quiet P c v room l k s stop t e b = still P room l k s stop t _ e (told_table c v t.talk) (nothing_more t.logs) refl b
 
-few : (t : Table) (m : ℕ) → Counts t.slot m → Short t.slot 4095 → m < 4096
+few : (t : ChannelTable) (m : ℕ) → Counts t.slot m → Short t.slot 4095 → m < 4096
 few t m q short = let z = short q.numbers (counted_once q) (λ c i. q.here c ∙ i) in let e = q.count in omega (arith, z, e)
 
-opened_spare : (t : Table) (n : ℕ) → t.next ≡ log_of n → Short t.slot 4095 → SpareBy true (opened t) (n + 1)
+opened_spare : (t : ChannelTable) (n : ℕ) → t.next ≡ number_of_log n → Short t.slot 4095 → SpareBy true (opened t) (n + 1)
 opened_spare t n next short = λ log e xs o f. short xs o (λ c i. was log e c (log == c) (t.next == c) refl refl (f c i))
   where
-    was : (log : ℕ) → log + 2 ≡ log_of (n + 1) → (c : ℕ) (a b : Bool) → (log == c) ≡ a → (t.next == c) ≡ b
+    was : (log : ℕ) → log + 2 ≡ number_of_log (n + 1) → (c : ℕ) (a b : Bool) → (log == c) ≡ a → (t.next == c) ≡ b
         → is_here (if a then function_ended_slot (if b then Here fresh else t.slot c) else (if b then Here fresh else t.slot c)) ≡ true → is_here (t.slot c) ≡ true
     was log e c true b p q h = let z : true ≡ false = sym h ∙ ended_here (if b then Here fresh else t.slot c) in cc
     was log e c false true p q h = let x = eqb-true t.next c q in let s : log ≡ c = omega (arith, x, next, e) in let y : true ≡ false = sym (eq-eqb log c s) ∙ p in cc
@@ -177,13 +177,13 @@ all_between P c odd (a ∷ asks) room l k s stop t h b = all_between P c odd ask
 
 -- ---- what holds between two inputs
 
-record Serves (t : Table) (s : Service) : Type 0 where
+record Serves (t : ChannelTable) (s : Service) : Type 0 where
   o : Bool
-  evens : Evens t (begun (call_after s.given)) o
+  evens : Evens t (begun_tests (call_after s.given)) o
   runs_is : ((call_after s.given).phase ≡ Stopped → ⊥) → o ≡ (call_after s.given).running
   odd : is_mine Even s.channel ≡ false
 
-abbrev Fits : Table → Option Service → Type 0
+abbrev Fits : ChannelTable → Option Service → Type 0
 Fits t None = Evens t 0 false
 Fits t (Some s) = Serves t s
 
@@ -198,11 +198,11 @@ record Good (P : Type 0) (t : Turn) : Type 0 where
   all_open : P → AllOpen t.logs
 
 -- a call of which the channel and what came are the same
-alike_fits : (t : Table) (r : Option Service) (s : Service) → Alike r s → Serves t s → Fits t r
+alike_fits : (t : ChannelTable) (r : Option Service) (s : Service) → Alike r s → Serves t s → Fits t r
 alike_fits t None s a f = absurd a
 alike_fits t (Some r) s a f = record {
   o = f.o;
-  evens = subst (λ (g : List Given). Evens t (begun (call_after g)) f.o) (sym a.1) f.evens;
+  evens = subst (λ (g : List Given). Evens t (begun_tests (call_after g)) f.o) (sym a.1) f.evens;
   runs_is = subst (λ (g : List Given). ((call_after g).phase ≡ Stopped → ⊥) → f.o ≡ (call_after g).running) (sym a.1) f.runs_is;
   odd = ap (is_mine Even) a.0 ∙ f.odd;
 }
@@ -218,10 +218,10 @@ few_others : (o : Option ℕ) (n : ℕ) → nat_lt (others o n) 4096 ≡ true �
 few_others None n h = let z = ltb-true n 4096 h in omega (arith, z)
 few_others (Some k) n h = let z = ltb-true (n - 1) 4096 h in omega (arith, z)
 
-idle_test : (c : Call) → c.running ≡ false → running_test c ≡ None
+idle_test : (c : FunctionCall) → c.running ≡ false → running_test c ≡ None
 idle_test c e = rw e refl
 
-spare_by : (t : Table) (s : Service) (n : ℕ) (o : Bool) → (call_after s.given).running ≡ o → Counts t.slot n → Evens t (begun (call_after s.given)) o → nat_lt (others (running_in (Some s)) n) 4096 ≡ true → SpareBy o t (begun (call_after s.given))
+spare_by : (t : ChannelTable) (s : Service) (n : ℕ) (o : Bool) → (call_after s.given).running ≡ o → Counts t.slot n → Evens t (begun_tests (call_after s.given)) o → nat_lt (others (running_in (Some s)) n) 4096 ≡ true → SpareBy o t (begun_tests (call_after s.given))
 spare_by t s n true e k v r = λ log h. close_short t 4095 log (v.held refl log h) (under t.slot n 4096 (few_others (running_in (Some s)) n r) (counted_short t.slot n k))
 spare_by t s n false e k v r =
     let z = ltb-true n 4096 (subst (λ (x : Option ℕ). nat_lt (others x n) 4096 ≡ true) (idle_test (call_after s.given) e) r) in
@@ -250,7 +250,7 @@ fed_some P s i n t k f linked silent all_open = go (is_stopped (call_after s.giv
         })
     go false e =
         let serves : (call_after s.given).phase ≡ Stopped → ⊥ = λ z. goes (call_after s.given).phase z e in
-        let evens = subst (λ (o : Bool). Evens t.talk.table (begun (call_after s.given)) o) (f.runs_is serves) f.evens in
+        let evens = subst (λ (o : Bool). Evens t.talk.table (begun_tests (call_after s.given)) o) (f.runs_is serves) f.evens in
         let b = all_between P s.channel f.odd (turn_after s.given g).asks g.room (logs_of (call_after s.given)) (logs_of (turn_after s.given g).call) (record s { given = g ∷ s.given }) t.duties.stopped u (one_log.steps s.given g serves) (record {
           evens = evens;
           linked = up t.talk.table.finished refl serves;
@@ -288,17 +288,17 @@ stop_good P n t f o h = go t.duties.service refl
 
 -- ---- messages
 
-odd_fits : (k : ℕ) (f : Slot Tree → Slot Tree) (t : Table) (s : Option Service) → is_mine Even k ≡ false → Fits t s → Fits (changed_at k f t) s
+odd_fits : (k : ℕ) (f : Slot Tree → Slot Tree) (t : ChannelTable) (s : Option Service) → is_mine Even k ≡ false → Fits t s → Fits (changed_at k f t) s
 odd_fits k f t None odd e = odd_evens k f t 0 false odd e
-odd_fits k f t (Some s) odd e = record { o = e.o; evens = odd_evens k f t (begun (call_after s.given)) e.o odd e.evens; runs_is = e.runs_is; odd = e.odd }
+odd_fits k f t (Some s) odd e = record { o = e.o; evens = odd_evens k f t (begun_tests (call_after s.given)) e.o odd e.evens; runs_is = e.runs_is; odd = e.odd }
 
-heard_fits : (said : Said) (t : Table) (s : Option Service) → Fits t s → Fits (heard said t) s
+heard_fits : (said : Said) (t : ChannelTable) (s : Option Service) → Fits t s → Fits (heard said t) s
 heard_fits said t None e = heard_evens said t 0 false e
-heard_fits said t (Some s) e = record { o = e.o; evens = heard_evens said t (begun (call_after s.given)) e.o e.evens; runs_is = e.runs_is; odd = e.odd }
+heard_fits said t (Some s) e = record { o = e.o; evens = heard_evens said t (begun_tests (call_after s.given)) e.o e.evens; runs_is = e.runs_is; odd = e.odd }
 
-lost_fits : (t : Table) (s : Option Service) → Fits t s → Fits (lost t) s
+lost_fits : (t : ChannelTable) (s : Option Service) → Fits t s → Fits (lost t) s
 lost_fits t None e = lost_evens t 0 false e
-lost_fits t (Some s) e = record { o = e.o; evens = lost_evens t (begun (call_after s.given)) e.o e.evens; runs_is = e.runs_is; odd = e.odd }
+lost_fits t (Some s) e = record { o = e.o; evens = lost_evens t (begun_tests (call_after s.given)) e.o e.evens; runs_is = e.runs_is; odd = e.odd }
 
 -- where `run_tests` was called before, no call of it begins
 abbrev Again : Bool → Called → Type 0
@@ -353,7 +353,7 @@ again_named (tree.dict ps) kwargs = tt
 again_named (tree.channel m) kwargs = tt
 
 again_call : (source file called kwargs : Tree) → Again true (call_of true source file called kwargs)
-again_call source file called kwargs = go (is_plain source file)
+again_call source file called kwargs = go (has_no_source source file)
   where
     go : (b : Bool) → Again true (if b then named true called kwargs else Refused SourceText)
     go true = again_named called kwargs
@@ -391,11 +391,11 @@ begun_good P k odd path mode t e stop b =
     record {
       fits = record {
         o = false;
-        evens = subst (λ (x : Table). Evens x 0 false) (sym same) (odd_evens k hooked_slot t.talk.table 0 false odd evens);
+        evens = subst (λ (x : ChannelTable). Evens x 0 false) (sym same) (odd_evens k hooked_slot t.talk.table 0 false odd evens);
         runs_is = λ z. refl;
         odd = odd;
       };
-      linked = λ z. b.linked (sym (ap (λ (x : Table). x.finished) same) ∙ z);
+      linked = λ z. b.linked (sym (ap (λ (x : ChannelTable). x.finished) same) ∙ z);
       silent = λ z. let y : true ≡ false = sym z ∙ stop in cc;
       all_open = b.all_open;
     }
@@ -467,7 +467,7 @@ by_mine n X f g = go (is_mine Even n) refl
     go true e = f e
     go false e = g e
 
-odd_answer : (said : Said) (t : Table) → t.parity ≡ Even → ((c : ℕ) → is_mine Even c ≡ true → Plain (t.slot c)) → OddAnswer (answer said t)
+odd_answer : (said : Said) (t : ChannelTable) → t.parity ≡ Even → ((c : ℕ) → is_mine Even c ≡ true → Plain (t.slot c)) → OddAnswer (answer said t)
 odd_answer (Status n) t e p = tt
 odd_answer (Exec n v) t e p = go (is_new (is_mine t.parity n) (t.slot n)) refl
   where
@@ -512,7 +512,7 @@ did_unless_good : (P : Type 0) (x : Bool) (a : Taken Tree) (n : ℕ) (t : Turn) 
 did_unless_good P true a n t e k odd b = b
 did_unless_good P false a n t e k odd b = did_good P a n t k odd e b
 
-even_fits : (t : Table) (s : Option Service) → Fits t s → (t.parity ≡ Even) × ((c : ℕ) → is_mine Even c ≡ true → Plain (t.slot c))
+even_fits : (t : ChannelTable) (s : Option Service) → Fits t s → (t.parity ≡ Even) × ((c : ℕ) → is_mine Even c ≡ true → Plain (t.slot c))
 even_fits t None e = (e.even, e.plain)
 even_fits t (Some s) e = (e.evens.even, e.evens.plain)
 
@@ -538,7 +538,7 @@ turned_good P (ChildEnded outcome ms) n t k b = fed_good P (input.Done outcome m
 turned_good P LinkEnded n t k b =
     stop_good P n (record (at_talk (λ d. record d { table = lost d.table }) t) { duties = record (t.duties) { stopped = true } }) (lost_fits t.talk.table t.duties.service b.fits) b.all_open refl
 
-fresh_good : (P : Type 0) (t : Turn) → Good ⊥ t → Good P (turn_of (behind t))
+fresh_good : (P : Type 0) (t : Turn) → Good ⊥ t → Good P (turn_of (after_turn t))
 fresh_good P t b = record { fits = b.fits; linked = b.linked; silent = b.silent; all_open = λ p. tt }
 
 good_after : (h : List Heard) (P : Type 0) → Good P (turn_of (worker_after h))
@@ -548,7 +548,7 @@ good_after [] P = record { fits = none; linked = λ z. cc; silent = λ z. cc; al
     none = record { even = refl; next_is = refl; plain = λ c m. tt; last = λ c m z. cc; idle = λ z c m. refl; held = λ z. cc }
 good_after (g ∷ h) P = fresh_good P (turn_by (worker_after h) g) (turned_good ⊥ g.came g.channels (turn_of (worker_after h)) (λ z. absurd z) (good_after h ⊥))
 
-last_is : (t : Table) (s : Option Service) → Fits t s → (c : ℕ) → is_mine Even c ≡ true → is_here (t.slot c) ≡ true → c + 2 ≡ t.next
+last_is : (t : ChannelTable) (s : Option Service) → Fits t s → (c : ℕ) → is_mine Even c ≡ true → is_here (t.slot c) ≡ true → c + 2 ≡ t.next
 last_is t None e c m h = e.last c m h ∙ sym e.next_is
 last_is t (Some s) e c m h = e.evens.last c m h ∙ sym e.evens.next_is
 

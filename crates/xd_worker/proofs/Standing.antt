@@ -6,7 +6,7 @@ use Rattle.xd_value.specs.Tree.{Tree}
 use Rattle.xd_factory.specs.declared.faults.SendFault.{SendFault}
 use Rattle.xd_worker.specs.declared.talk.Sent.{Sent}
 use Rattle.xd_worker.specs.declared.talk.Sent.TheVariants as how
-use Rattle.xd_factory.specs.SideTable.{Table, Counts, table_of, heard, answer, lost}
+use Rattle.xd_factory.specs.SideTable.{ChannelTable, Counts, channel_table, heard, answer, lost}
 use Rattle.xd_frame.specs.Message.{MessageView}
 use Rattle.xd_factory.specs.declared.side.Side.{Side}
 use Rattle.xd_run_tests.specs.declared.ask.Acts.{Acts}
@@ -23,21 +23,21 @@ use Rattle.xd_worker.specs.declared.input.WorkerActions.{WorkerActions}
 use Rattle.xd_worker.specs.declared.tests_call.TestsCall.{TestsCall}
 use Rattle.xd_worker.specs.declared.tests_call.Fed.{Fed}
 use Rattle.xd_worker.specs.declared.worker.WorkerCore.{WorkerCore}
-use Rattle.xd_worker.specs.Talk.{Talk, talk_of, told, opening, saying, item_says, sent, sent_how, payload_on, function_ended}
+use Rattle.xd_worker.specs.Talk.{Talk, talk_of, event_told, opening, saying, item_says, sent, sent_how, payload_on, function_ended}
 use Rattle.xd_value.specs.declared.value.Value.{Value}
 use Rattle.xd_factory.specs.declared.taken.Taken.{Taken}
 use Rattle.xd_factory.specs.declared.faults.SideFault.{SideFault}
 use Rattle.xd_factory.specs.Trees.{taken_tree}
-use Rattle.xd_factory.specs.View.{slot_of}
+use Rattle.xd_factory.specs.View.{slot_of_number}
 use Rattle.xd_worker.specs.declared.input.WorkerFault.{WorkerFault}
 use Rattle.xd_worker.specs.declared.input.WorkerFault.TheVariants.{Link, OutOfMemory}
 use Rattle.xd_worker.specs.declared.input.WorkerInput.TheVariants.{Message}
 use Rattle.xd_factory.specs.SideTable.{RefusedBy, MustRefuse}
 use Rattle.xd_worker.specs.History.{Heard, IsToRefuse}
 use Rattle.xd_worker.specs.Logs.{AllOpen, LogsOpen}
-use Rattle.xd_worker.specs.Worker.{Service, Duties, Turn, Opening, Worker, turn_of, opened_by}
+use Rattle.xd_worker.specs.Worker.{Service, Duties, Turn, Opening, Worker, turn_of, logs_opened_by}
 use Rattle.xd_worker.specs.Turns.{at_talk, asked, all_asked, given_in, fed_to, ended_call, failed, echo_ended, echoed, echoed_how, is_called, is_written, suite_input, Told, did_unless}
-use Rattle.xd_worker.specs.Stands.{IsService, AreServices, AreDuties, Stands, FedBy, HasFed, Does, IsHeard, IsFault, IsFaultAt, RefusedAt}
+use Rattle.xd_worker.specs.Stands.{IsService, AreServices, AreDuties, Stands, FedBy, HasFed, Does, TakesMessage, FaultHasReason, IsFaultAt, RefusedAt}
 
 pub moved : (c : WorkerCore) (side : Side) (d : Duties) → AreDuties c d → AreDuties (record c { side = side }) d
 moved c side d h = record {
@@ -70,18 +70,18 @@ last_open [] b h = h
 last_open (o ∷ a) b h = last_open a b h.1
 
 pub asked_before : (c : ℕ) (a : Ask) (t : Turn) → AllOpen (asked c a t).logs → AllOpen t.logs
-asked_before c (Tell event) t h = first_open t.logs (opened_by event t.talk.table) h
+asked_before c (Tell event) t h = first_open t.logs (logs_opened_by event t.talk.table) h
 asked_before c (Piece log b) t h = h
 asked_before c (CloseLog log) t h = h
 asked_before c (End text) t h = h
 
 -- an event was said, and a log opened for it
-pub announced : (c : WorkerCore) (side : Side) (a : WorkerActions) (say : List MessageView) (t : Turn) (n : ℕ) (event : What) → (AllOpen (opened_by event (table_of c.side)) → talk_of side say ≡ told n event (opening event (talk_of c.side a.say)))
+pub announced : (c : WorkerCore) (side : Side) (a : WorkerActions) (say : List MessageView) (t : Turn) (n : ℕ) (event : What) → (AllOpen (logs_opened_by event (channel_table c.side)) → talk_of side say ≡ event_told n event (opening event (talk_of c.side a.say)))
     → Stands c a t → AllOpen (asked n (Tell event) t).logs → Stands (record c { side = side }) (record a { say = say }) (asked n (Tell event) t)
 announced c side a say t n event g h k = record {
   talk_is =
-      g (subst (λ (d : Talk). AllOpen (opened_by event d.table)) (sym h.talk_is) (last_open t.logs (opened_by event t.talk.table) k))
-      ∙ ap (λ (d : Talk). told n event (opening event d)) h.talk_is;
+      g (subst (λ (d : Talk). AllOpen (logs_opened_by event d.table)) (sym h.talk_is) (last_open t.logs (logs_opened_by event t.talk.table) k))
+      ∙ ap (λ (d : Talk). event_told n event (opening event d)) h.talk_is;
   duties_are = moved c side t.duties h.duties_are;
   suite_is = h.suite_is;
   run_is = h.run_is;
@@ -145,16 +145,16 @@ unsaid : (n : ℕ) (p : Result (List ℕ) SendFault) (d : Talk) → sent_how p �
 unsaid n (Ok b) d h = absurd (let z = h in cc)
 unsaid n (Err f) d h = ap (λ (x : List MessageView). record d { says = x }) (append-nil d.says)
 
-pub left_out : (c : WorkerCore) (side : Side) (a : WorkerActions) (say : List MessageView) (t : Turn) (n : ℕ) (v : Tree) → sent_how (payload_on n v (table_of c.side)) ≡ how.Unwritten
+pub left_out : (c : WorkerCore) (side : Side) (a : WorkerActions) (say : List MessageView) (t : Turn) (n : ℕ) (v : Tree) → sent_how (payload_on n v (channel_table c.side)) ≡ how.Unwritten
     → talk_of side say ≡ sent n v (talk_of c.side a.say) → Stands c a t → Stands (record c { side = side }) (record a { say = say }) t
 left_out c side a say t n v u e h = record {
-  talk_is = e ∙ unsaid n (payload_on n v (table_of c.side)) (talk_of c.side a.say) u ∙ h.talk_is;
+  talk_is = e ∙ unsaid n (payload_on n v (channel_table c.side)) (talk_of c.side a.say) u ∙ h.talk_is;
   duties_are = moved c side t.duties h.duties_are;
   suite_is = h.suite_is;
   run_is = h.run_is;
 }
 
-pub echoed_long : (c : WorkerCore) (a : WorkerActions) (t : Turn) (n : ℕ) (v : Tree) → sent_how (payload_on n v (table_of c.side)) ≡ how.Unwritten → Stands c a t
+pub echoed_long : (c : WorkerCore) (a : WorkerActions) (t : Turn) (n : ℕ) (v : Tree) → sent_how (payload_on n v (channel_table c.side)) ≡ how.Unwritten → Stands c a t
     → echo_ended n (Some (codes "item is too long")) t ≡ echoed n v t
 echoed_long c a t n v u h =
     ap (λ (s : Sent). echoed_how s n v t) (sym (ap (λ (d : Talk). sent_how (payload_on n v d.table)) (sym h.talk_is) ∙ u))
@@ -175,20 +175,20 @@ refused_input b ids text e f h =
 
 -- ---- inputs
 
-pub counts_at : (side : Side) (say : List MessageView) (w : Worker) (n : ℕ) → talk_of side say ≡ (turn_of w).talk → Counts (slot_of side) n → Counts w.table.slot n
+pub counts_at : (side : Side) (say : List MessageView) (w : Worker) (n : ℕ) → talk_of side say ≡ (turn_of w).talk → Counts (slot_of_number side) n → Counts w.table.slot n
 counts_at side say w n e k = subst (λ (d : Talk). Counts d.table.slot n) e k
 
-pub lost_counts : (side old : Side) (say : List MessageView) (w : Worker) (n : ℕ) → talk_of old say ≡ (turn_of w).talk → table_of side ≡ lost (table_of old) → Counts (slot_of side) n → Counts (lost w.table).slot n
-lost_counts side old say w n e l k = subst (λ (t : Table). Counts t.slot n) (l ∙ ap (λ (d : Talk). lost d.table) e) k
+pub lost_counts : (side old : Side) (say : List MessageView) (w : Worker) (n : ℕ) → talk_of old say ≡ (turn_of w).talk → channel_table side ≡ lost (channel_table old) → Counts (slot_of_number side) n → Counts (lost w.table).slot n
+lost_counts side old say w n e l k = subst (λ (t : ChannelTable). Counts t.slot n) (l ∙ ap (λ (d : Talk). lost d.table) e) k
 
-pub heard_does : (c c' : WorkerCore) (side : Side) (a a' : WorkerActions) (w : Worker) (m : MessageView) (k : Taken Value) → Stands c a (turn_of w) → LogsOpen w → IsHeard m (table_of c.side) (table_of side) k
-    → (n : ℕ) → Counts (slot_of side) n → ((t : Turn) → Stands (record c { side = side }) a t → AllOpen (did_unless t.duties.stopped (taken_tree k) n t).logs → Stands c' a' (did_unless t.duties.stopped (taken_tree k) n t)) → Does c' a' w (Message m)
+pub heard_does : (c c' : WorkerCore) (side : Side) (a a' : WorkerActions) (w : Worker) (m : MessageView) (k : Taken Value) → Stands c a (turn_of w) → LogsOpen w → TakesMessage m (channel_table c.side) (channel_table side) k
+    → (n : ℕ) → Counts (slot_of_number side) n → ((t : Turn) → Stands (record c { side = side }) a t → AllOpen (did_unless t.duties.stopped (taken_tree k) n t).logs → Stands c' a' (did_unless t.duties.stopped (taken_tree k) n t)) → Does c' a' w (Message m)
 heard_does c c' side a a' w m k h l i n counts g =
-    let old : table_of c.side ≡ w.table = ap (λ (d : Talk). d.table) h.talk_is in
+    let old : channel_table c.side ≡ w.table = ap (λ (d : Talk). d.table) h.talk_is in
     let t = at_talk (λ d. record d { table = heard i.said d.table }) (turn_of w) in
-    let mid = spoke c side a a.say (turn_of w) (λ d. record d { table = heard i.said d.table }) (ap (λ (x : Table). record { table = x; says = a.say }) i.table_is) h in
+    let mid = spoke c side a a.say (turn_of w) (λ d. record d { table = heard i.said d.table }) (ap (λ (x : ChannelTable). record { table = x; says = a.say }) i.table_is) h in
     let came : Heard = record { came = Told i.said; channels = n } in
-    let counted = subst (λ (x : Table). Counts x.slot n) (i.table_is ∙ ap (heard i.said) old) counts in
+    let counted = subst (λ (x : ChannelTable). Counts x.slot n) (i.table_is ∙ ap (heard i.said) old) counts in
     let does : taken_tree k ≡ answer i.said w.table = i.answer_is ∙ ap (answer i.said) old in
     let logs = subst (λ (x : Taken Tree). AllOpen (did_unless w.duties.stopped x n t).logs) (sym does) (l came counted) in
     record {
@@ -198,9 +198,9 @@ heard_does c c' side a a' w m k h l i n counts g =
       stands = subst (λ (x : Taken Tree). Stands c' a' (did_unless w.duties.stopped x n t)) does (g t mid logs);
     }
 
-pub is_fault_at : (w : Worker) (t : Table) (m : MessageView) (f : WorkerFault) → t ≡ w.table → IsFaultAt t m f → IsFault w (Message m) f
-is_fault_at w t m (Link f) e h = subst (λ (x : Table). RefusedBy x.fault x m f) e h
+pub is_fault_at : (w : Worker) (t : ChannelTable) (m : MessageView) (f : WorkerFault) → t ≡ w.table → IsFaultAt t m f → FaultHasReason w (Message m) f
+is_fault_at w t m (Link f) e h = subst (λ (x : ChannelTable). RefusedBy x.fault x m f) e h
 is_fault_at w t m OutOfMemory e h = tt
 
-pub is_to_refuse : (w : Worker) (t : Table) (m : MessageView) (f : SideFault) → t ≡ w.table → IsToRefuse w (Message m) f → RefusedAt t m f
-is_to_refuse w t m f e h = subst (λ (x : Table). MustRefuse x.fault x m f) (sym e) h
+pub is_to_refuse : (w : Worker) (t : ChannelTable) (m : MessageView) (f : SideFault) → t ≡ w.table → IsToRefuse w (Message m) f → RefusedAt t m f
+is_to_refuse w t m f e h = subst (λ (x : ChannelTable). MustRefuse x.fault x m f) (sym e) h

@@ -16,8 +16,8 @@ use Rattle.xd_factory.specs.declared.faults.CloseFault.TheVariants as close
 use Rattle.xd_factory.specs.declared.side.Side.{Side}
 use Rattle.xd_factory.specs.Slot.{Slot, Unseen, Here, Gone, is_seen, closed_slot, function_ended_slot}
 use Rattle.xd_factory.specs.Table.{close_refusal, closing_message, IsRefusal}
-use Rattle.xd_factory.specs.View.{slot_of, parity_of, next_of, fault_of, is_finished, entry_count, KeepsRest}
-use Rattle.xd_factory.specs.SideTable.{Table, Counts, table_of, changed_at}
+use Rattle.xd_factory.specs.View.{slot_of_number, parity_of, next_of, fault_of, is_finished, entry_count, KeepsRest}
+use Rattle.xd_factory.specs.SideTable.{ChannelTable, Counts, channel_table, changed_at}
 use Rattle.xd_factory.proofs.SideTables.{tables, same_table}
 use Rattle.xd_worker.specs.Logs.{CanOpen}
 use Rattle.xd_worker.specs.Talk.{Talk}
@@ -30,9 +30,9 @@ unchanged n c slot f e = by_test (n == c) (λ q. sym (rw (eqb-true n c q) at e))
     by_test true k = k refl
     by_test false k = refl
 
-pub kept_table : (old new : Side) (n : ℕ) (f : Slot Tree → Slot Tree) → f (slot_of old n) ≡ slot_of old n → ((c : ℕ) → slot_of new c ≡ slot_of old c) → KeepsRest old new
-    → table_of new ≡ changed_at n f (table_of old)
-kept_table old new n f e s k = same_table old new n f (λ c. s c ∙ unchanged n c (slot_of old) f e) k
+pub kept_table : (old new : Side) (n : ℕ) (f : Slot Tree → Slot Tree) → f (slot_of_number old n) ≡ slot_of_number old n → ((c : ℕ) → slot_of_number new c ≡ slot_of_number old c) → KeepsRest old new
+    → channel_table new ≡ changed_at n f (channel_table old)
+kept_table old new n f e s k = same_table old new n f (λ c. s c ∙ unchanged n c (slot_of_number old) f e) k
 
 -- a call that was refused since the number is unknown
 pub unknown_ended : (s : Slot Tree) (long : Bool) → close_refusal (is_seen s) long ≡ Some close.Unknown → function_ended_slot s ≡ s
@@ -65,12 +65,12 @@ dropped_at : (b : Bool) (s : Slot Tree) → (if b then function_ended_slot (if b
 dropped_at true s = dropped s
 dropped_at false s = refl
 
-pub closed_dropped : (n : ℕ) (t : Table) → changed_at n function_ended_slot (changed_at n closed_slot t) ≡ changed_at n function_ended_slot t
+pub closed_dropped : (n : ℕ) (t : ChannelTable) → changed_at n function_ended_slot (changed_at n closed_slot t) ≡ changed_at n function_ended_slot t
 closed_dropped n t =
     tables (λ c. if n == c then function_ended_slot (if n == c then closed_slot (t.slot c) else t.slot c) else (if n == c then closed_slot (t.slot c) else t.slot c)) (λ c. if n == c then function_ended_slot (t.slot c) else t.slot c)
     t.parity t.parity t.next t.next t.fault t.fault t.finished t.finished (fun_ext (λ c. dropped_at (n == c) (t.slot c))) refl refl refl refl
 
-pub talks : (a b : Table) (x y : List MessageView) → a ≡ b → x ≡ y → ◌≡◌ {A = Talk} (record { table = a; says = x }) (record { table = b; says = y })
+pub talks : (a b : ChannelTable) (x y : List MessageView) → a ≡ b → x ≡ y → ◌≡◌ {A = Talk} (record { table = a; says = x }) (record { table = b; says = y })
 talks a b x y e f = rw (e, f) refl
 
 -- what the end of a function says, by what the side answered
@@ -86,15 +86,15 @@ ended_unknown n text other true true says k = absurd (let z = k in cc)
 ended_unknown n text other true false says k = absurd (let z = k in cc)
 ended_unknown n text other false long says k = sym (append-nil says)
 
-pub ended_long : (n : ℕ) (text other : Option (List ℕ)) (seen long : Bool) (old new : Table) (says says' : List MessageView) → new ≡ old → seen ≡ is_seen (old.slot n) → close_refusal seen long ≡ Some close.TooLong
+pub ended_long : (n : ℕ) (text other : Option (List ℕ)) (seen long : Bool) (old new : ChannelTable) (says says' : List MessageView) → new ≡ old → seen ≡ is_seen (old.slot n) → close_refusal seen long ≡ Some close.TooLong
     → says' ≡ says ++ (if is_seen (new.slot n) then closing_message n other ∷ [] else [])
     → says' ≡ says ++ (if is_seen (old.slot n) then closing_message n (if long then other else text) ∷ [] else [])
-ended_long n text other true true old new says says' e f k h = h ∙ ap (λ (x : Table). says ++ (if is_seen (x.slot n) then closing_message n other ∷ [] else [])) e
+ended_long n text other true true old new says says' e f k h = h ∙ ap (λ (x : ChannelTable). says ++ (if is_seen (x.slot n) then closing_message n other ∷ [] else [])) e
 ended_long n text other true false old new says says' e f k h = absurd (let z = k in cc)
 ended_long n text other false long old new says says' e f k h = absurd (let z = k in cc)
 
 -- why a log does not open, where it can
-pub only_memory : (s : Side) (number : ℕ) (f : OpenFault) → CanOpen number (table_of s) → Counts (slot_of s) (entry_count s) → (f ≡ openfault.Finished → is_finished s ≡ true) → (is_finished s ≡ false → f ≡ openfault.TooManyOpen → entry_count s ≡ 4096)
+pub only_memory : (s : Side) (number : ℕ) (f : OpenFault) → CanOpen number (channel_table s) → Counts (slot_of_number s) (entry_count s) → (f ≡ openfault.Finished → is_finished s ≡ true) → (is_finished s ≡ false → f ≡ openfault.TooManyOpen → entry_count s ≡ 4096)
     → (is_finished s ≡ false → (entry_count s ≡ 4096 → ⊥) → f ≡ openfault.NumbersSpent → 2147483647 < next_of s) → f ≡ openfault.OutOfMemory
 only_memory s number openfault.Finished can k a b d = let z : true ≡ false = sym (a refl) ∙ can.linked in cc
 only_memory s number openfault.TooManyOpen can k a b d = let lt = can.room (entry_count s) k in let e = b can.linked refl in absurd (omega (arith, lt, e))

@@ -6,7 +6,7 @@ use Rattle.xd_edge.specs.declared.mode.ModeKind.{ModeKind}
 use Rattle.xd_edge.specs.declared.mode.ModeKind.TheVariants.{Each, Load, LoadScope, LoadFile, LoadGroup, WorkSteal}
 use Rattle.xd_value.specs.Tree.{Tree, Pairs, none, text, tuple, dict, no_trees, tree}
 use Rattle.xd_gateway.specs.Calls.{has_text_keys}
-use Rattle.xd_gateway.specs.Kwargs.{is_key, value_at, text_of}
+use Rattle.xd_gateway.specs.Kwargs.{is_key, value_at, text_in_tree}
 use Rattle.xd_worker.specs.declared.function.CallFault.{CallFault}
 use Rattle.xd_worker.specs.declared.function.CallFault.TheVariants.{BadCall, SourceText, Unknown, Started}
 use Rattle.xd_worker.specs.declared.function.Called.{Called}
@@ -23,8 +23,8 @@ fault_text Unknown = codes "unknown function"
 fault_text Started = codes "run_tests has been started"
 
 -- the mode of a word
-abbrev pub mode_of : List ℕ → Option ModeKind
-mode_of w =
+abbrev pub mode_by_word : List ℕ → Option ModeKind
+mode_by_word w =
     if bytes_eq w (codes "each") then Some Each
     else if bytes_eq w (codes "load") then Some Load
     else if bytes_eq w (codes "loadscope") then Some LoadScope
@@ -48,20 +48,20 @@ running_by (Some path) None = Refused BadCall
 running_by (Some path) (Some mode) = Runs (function.RunTests path mode)
 
 -- `run_tests`, which may be called once on a link; that is looked at before its own arguments
-abbrev pub running : Bool → Pairs → Called
-running started ps =
+abbrev pub run_tests_called : Bool → Pairs → Called
+run_tests_called started ps =
     if started then Refused Started
-    else running_by (option_and_then text_of (value_at (codes "suite") ps)) (option_and_then mode_of (option_and_then text_of (value_at (codes "dist") ps)))
+    else running_by (option_and_then text_in_tree (value_at (codes "suite") ps)) (option_and_then mode_by_word (option_and_then text_in_tree (value_at (codes "dist") ps)))
 
 -- `fail`, with the error that it is given, if any
-abbrev pub failing : Pairs → Called
-failing ps = Runs (function.Fail (option_and_then text_of (value_at (codes "text") ps)))
+abbrev pub fail_called : Pairs → Called
+fail_called ps = Runs (function.Fail (option_and_then text_in_tree (value_at (codes "text") ps)))
 
 -- a function with keyword arguments whose keys are texts: what becomes of its call
 abbrev pub function_of : Bool → Name → Pairs → Called
 function_of started name.Echo ps = Runs function.Echo
-function_of started name.Fail ps = failing ps
-function_of started name.RunTests ps = running started ps
+function_of started name.Fail ps = fail_called ps
+function_of started name.RunTests ps = run_tests_called started ps
 
 -- a function with its keyword arguments, whose keys are texts
 abbrev pub with_kwargs : Bool → Name → Pairs → Called
@@ -84,12 +84,12 @@ is_none none = true
 is_none _ = false
 
 -- the source is the empty text, and no file is named
-abbrev pub is_plain : Tree → Tree → Bool
-is_plain source file = is_key [] source && is_none file
+abbrev pub has_no_source : Tree → Tree → Bool
+has_no_source source file = is_key [] source && is_none file
 
 -- the four parts of a call; the source and the file are looked at first
 abbrev pub call_of : Bool → Tree → Tree → Tree → Tree → Called
-call_of started source file name kwargs = if is_plain source file then named started name kwargs else Refused SourceText
+call_of started source file name kwargs = if has_no_source source file then named started name kwargs else Refused SourceText
 
 -- a call is a tuple of just source, file name, name and keyword arguments
 abbrev pub called_in : Bool → Tree → Called

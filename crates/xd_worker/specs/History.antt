@@ -12,8 +12,8 @@ use Rattle.xd_journal.specs.declared.news.What.{What}
 use Rattle.xd_journal.specs.declared.news.What.TheVariants.{Collected}
 use Rattle.xd_worker.specs.declared.input.WorkerInput.{WorkerInput}
 use Rattle.xd_worker.specs.declared.input.WorkerInput.TheVariants.{Message, SuiteBytes, SuiteTooLarge, SuiteUnread, Output, ChildDone, LinkEnd}
-use Rattle.xd_factory.specs.SideTable.{Table, RefusedBy, MustRefuse, heard, lost}
-use Rattle.xd_worker.specs.Worker.{Worker, Turn, new_worker, turn_of, behind, running_in}
+use Rattle.xd_factory.specs.SideTable.{ChannelTable, RefusedBy, MustRefuse, heard, lost}
+use Rattle.xd_worker.specs.Worker.{Worker, Turn, new_worker, turn_of, after_turn, running_in}
 use Rattle.xd_worker.specs.Turns.{Came, Told, SuiteRead, NoSuite, Printed, ChildEnded, LinkEnded, turned}
 
 -- an input, and how many channels are in the table after it came, before anything is done
@@ -28,7 +28,7 @@ turn_by w g = turned g.came g.channels (turn_of w)
 -- the worker after these inputs
 abbrev pub worker_after : List Heard → Worker
 worker_after [] = new_worker
-worker_after (g ∷ h) = behind (turn_by (worker_after h) g)
+worker_after (g ∷ h) = after_turn (turn_by (worker_after h) g)
 
 -- all that was said, in order
 abbrev pub all_said : List Heard → List MessageView
@@ -49,9 +49,9 @@ abbrev pub IsFaultText : List ℕ → List ℕ → Type 0
 IsFaultText b text = (fault : SuiteFault) × IsFaulty b fault × (encode_utf8_all text ≡ fault_text fault)
 
 -- what a message is: it says this
-abbrev pub IsMessage : MessageView → Came → Type 0
-IsMessage m (Told said) = Means m said
-IsMessage m _ = ⊥
+abbrev pub MessageSays : MessageView → Came → Type 0
+MessageSays m (Told said) = Means m said
+MessageSays m _ = ⊥
 
 -- what the bytes of a suite file are for the worker: its tests, or why there are none
 abbrev pub IsSuite : List ℕ → Came → Type 0
@@ -71,7 +71,7 @@ IsCollected _ = ⊥
 
 -- what an input of the code is among the inputs of the definitions
 abbrev pub Is : WorkerInput → Came → Type 0
-Is (Message m) came = IsMessage m came
+Is (Message m) came = MessageSays m came
 Is (SuiteBytes b) came = IsSuite b came
 Is SuiteTooLarge came = came ≡ NoSuite (codes "suite is too large")
 Is SuiteUnread came = came ≡ NoSuite (codes "suite cannot be read")
@@ -80,7 +80,7 @@ Is (ChildDone outcome ms) came = came ≡ ChildEnded outcome ms
 Is LinkEnd came = came ≡ LinkEnded
 
 -- the table in which the channels are counted
-abbrev pub table_behind : Came → Table → Table
+abbrev pub table_behind : Came → ChannelTable → ChannelTable
 table_behind (Told said) t = heard said t
 table_behind (SuiteRead ts) t = t
 table_behind (NoSuite text) t = t
@@ -89,9 +89,9 @@ table_behind (ChildEnded outcome ms) t = t
 table_behind LinkEnded t = lost t
 
 -- a refusal has its reason
-abbrev pub Refuses : Worker → WorkerInput → SideFault → Type 0
-Refuses w (Message m) fault = RefusedBy w.table.fault w.table m fault
-Refuses w _ fault = ⊥
+abbrev pub RefusesFor : Worker → WorkerInput → SideFault → Type 0
+RefusesFor w (Message m) fault = RefusedBy w.table.fault w.table m fault
+RefusesFor w _ fault = ⊥
 
 -- a message that is to be refused
 abbrev pub IsToRefuse : Worker → WorkerInput → SideFault → Type 0

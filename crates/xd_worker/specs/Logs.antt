@@ -3,13 +3,13 @@ use Rattle.std.specs.Prelude.{◌≡◌, ◌≤◌, ◌<◌, ℕ, ◌+◌, true,
 use Rattle.xd_factory.specs.declared.parity.Parity.TheVariants.{Even}
 use Rattle.xd_factory.specs.Numbers.{is_mine}
 use Rattle.xd_factory.specs.Slot.{is_here}
-use Rattle.xd_factory.specs.SideTable.{Table, Counts}
+use Rattle.xd_factory.specs.SideTable.{ChannelTable, Counts}
 use Rattle.xd_worker.specs.Worker.{Worker, Opening}
 use Rattle.xd_worker.specs.History.{Heard, table_behind, turn_by, worker_after}
 
 -- a log can open under the number that its start names: it is the next own number and no larger than the largest, the
 -- link has not ended, and the table is not full
-pub record CanOpen (number : ℕ) (t : Table) : Type 0 where
+pub record CanOpen (number : ℕ) (t : ChannelTable) : Type 0 where
   pub named : number ≡ t.next
   pub numbered : t.next ≤ 2147483647
   pub linked : t.finished ≡ false

@@ -20,12 +20,12 @@ use Rattle.xd_worker.specs.declared.input.WorkerFault.{WorkerFault}
 use Rattle.xd_worker.specs.declared.input.WorkerFault.TheVariants.{Link, OutOfMemory}
 use Rattle.xd_worker.specs.declared.worker.Asked.{Asked}
 use Rattle.xd_worker.specs.declared.worker.WorkerCore.{WorkerCore}
-use Rattle.xd_factory.specs.SideTable.{Table, Counts, table_of, heard, answer}
+use Rattle.xd_factory.specs.SideTable.{ChannelTable, Counts, channel_table, heard, answer}
 use Rattle.xd_worker.specs.Talk.{talk_of}
-use Rattle.xd_worker.specs.Worker.{Service, Duties, Worker, Turn, behind, running_in}
+use Rattle.xd_worker.specs.Worker.{Service, Duties, Worker, Turn, after_turn, running_in}
 use Rattle.xd_worker.specs.Turns.{given_in}
 use Rattle.xd_factory.specs.SideTable.{RefusedBy, MustRefuse}
-use Rattle.xd_worker.specs.History.{Heard, Is, table_behind, turn_by, worker_after, is_over, Refuses}
+use Rattle.xd_worker.specs.History.{Heard, Is, table_behind, turn_by, worker_after, is_over, RefusesFor}
 
 -- the parts are those of this call of `run_tests`
 pub record IsService (r : TestsCall) (s : Service) : Type 0 where
@@ -64,7 +64,7 @@ pub record Stands (c : WorkerCore) (a : WorkerActions) (t : Turn) : Type 0 where
 
 -- the parts are those of a worker
 pub record IsWorker (c : WorkerCore) (w : Worker) : Type 0 where
-  pub table_is : table_of c.side ≡ w.table
+  pub table_is : channel_table c.side ≡ w.table
   pub duties_are : AreDuties c w.duties
 
 -- the parts are those of the worker after these inputs
@@ -94,33 +94,33 @@ pub record Answers (c : WorkerCore) (w : Worker) (input : WorkerInput) (a : Work
   pub says : a.say ≡ (turn_by w heard).talk.says
   pub suite : a.suite ≡ (turn_by w heard).suite
   pub run : a.run ≡ (turn_by w heard).run
-  pub over : a.over ≡ is_over (behind (turn_by w heard))
-  pub worker : IsWorker c (behind (turn_by w heard))
+  pub over : a.over ≡ is_over (after_turn (turn_by w heard))
+  pub worker : IsWorker c (after_turn (turn_by w heard))
 
 -- a fault names its reason; running out of memory needs none
-abbrev pub IsFault : Worker → WorkerInput → WorkerFault → Type 0
-IsFault w input (Link fault) = Refuses w input fault
-IsFault w input OutOfMemory = Unit {0}
+abbrev pub FaultHasReason : Worker → WorkerInput → WorkerFault → Type 0
+FaultHasReason w input (Link fault) = RefusesFor w input fault
+FaultHasReason w input OutOfMemory = Unit {0}
 
 -- the answer is this fault, or that memory ran out
-abbrev pub IsRefusal : {X : Type 0} → SideFault → Result X WorkerFault → Type 0
-IsRefusal fault (Ok a) = ⊥
-IsRefusal fault (Err (Link other)) = other ≡ fault
-IsRefusal fault (Err OutOfMemory) = Unit {0}
+abbrev pub IsThisFault : {X : Type 0} → SideFault → Result X WorkerFault → Type 0
+IsThisFault fault (Ok a) = ⊥
+IsThisFault fault (Err (Link other)) = other ≡ fault
+IsThisFault fault (Err OutOfMemory) = Unit {0}
 
 -- why each input is refused, if there is a reason
 abbrev pub fault_in : WorkerCore → Option WorkerFault
 fault_in c = c.fault
 
 -- what a worker asked for that did not come yet
-abbrev pub asked_of : Worker → Asked
-asked_of w = record { test = running_in w.duties.service; suite = w.duties.owed }
+abbrev pub unanswered_of : Worker → Asked
+unanswered_of w = record { test = running_in w.duties.service; suite = w.duties.owed }
 
 -- a fault came, and what this worker had asked for before it is kept
 pub record AskedAtFault (c : WorkerCore) (w : Worker) : Type 0 where
   pub fault : WorkerFault
   pub fault_is : c.fault ≡ Some fault
-  pub asked_is : c.before ≡ Some (asked_of w)
+  pub asked_is : c.before ≡ Some (unanswered_of w)
 
 -- what `run_tests` asks for after one more input
 pub record FedBy (r : Option TestsCall) (s : Service) (g : Given) (f : Fed) : Type 0 where
@@ -148,7 +148,7 @@ IsSmall (Exec n v) = Unit {0}
 IsSmall Terminate = Unit {0}
 
 -- a message was taken, by what it says
-pub record IsHeard (m : MessageView) (old new : Table) (a : Taken Value) : Type 0 where
+pub record TakesMessage (m : MessageView) (old new : ChannelTable) (a : Taken Value) : Type 0 where
   pub said : Said
   pub means : Means m said
   pub answer_is : taken_tree a ≡ answer said old
@@ -156,12 +156,12 @@ pub record IsHeard (m : MessageView) (old new : Table) (a : Taken Value) : Type 
   pub small : IsSmall (taken_tree a)
 
 -- the side refuses a message for this reason, or memory ran out, which needs none
-abbrev pub IsFaultAt : Table → MessageView → WorkerFault → Type 0
+abbrev pub IsFaultAt : ChannelTable → MessageView → WorkerFault → Type 0
 IsFaultAt t m (Link fault) = RefusedBy t.fault t m fault
 IsFaultAt t m OutOfMemory = Unit {0}
 
 -- the side has to refuse a message for this reason
-abbrev pub RefusedAt : Table → MessageView → SideFault → Type 0
+abbrev pub RefusedAt : ChannelTable → MessageView → SideFault → Type 0
 RefusedAt t m fault = MustRefuse t.fault t m fault
 
 -- what a fault of the side is for the worker

@@ -15,16 +15,16 @@ use Rattle.xd_gateway.specs.Events.{event_tree}
 use Rattle.xd_worker.specs.declared.talk.Sent.{Sent}
 use Rattle.xd_worker.specs.declared.talk.Sent.TheVariants.{Said, LeftOut, Unwritten}
 use Rattle.xd_worker.specs.Status.{status_tree}
-use Rattle.xd_factory.specs.SideTable.{Table, table_of, changed_at, opened}
+use Rattle.xd_factory.specs.SideTable.{ChannelTable, channel_table, changed_at, opened}
 
 -- the channels, and what was said so far
 pub record Talk : Type 0 where
-  pub table : Table
+  pub table : ChannelTable
   pub says : List MessageView
 
 -- the channels of this side, and these messages that were said
 abbrev pub talk_of : Side → List MessageView → Talk
-talk_of side says = record { table = table_of side; says = says }
+talk_of side says = record { table = channel_table side; says = says }
 
 -- these messages are said too, after the rest
 abbrev pub saying : List MessageView → Talk → Talk
@@ -40,7 +40,7 @@ item_says n (Ok b) = item n b ∷ []
 item_says n (Err f) = []
 
 -- the payload of a value on a channel, or why there is none
-abbrev pub payload_on : ℕ → Tree → Table → Result (List ℕ) SendFault
+abbrev pub payload_on : ℕ → Tree → ChannelTable → Result (List ℕ) SendFault
 payload_on n v t = sent_gives (send_refusal (t.slot n)) (dumped v)
 
 -- a value is sent; on a channel whose sending is closed it is left out
@@ -61,8 +61,8 @@ told_tree n None d = d
 told_tree n (Some v) d = sent n v d
 
 -- news are sent as the event that they are; news that are no event are not sent
-abbrev pub told : ℕ → What → Talk → Talk
-told n event d = told_tree n (event_tree event) d
+abbrev pub event_told : ℕ → What → Talk → Talk
+event_told n event d = told_tree n (event_tree event) d
 
 -- a log opens
 abbrev pub log_opened : Talk → Talk

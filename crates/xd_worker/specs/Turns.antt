@@ -8,7 +8,7 @@ use Rattle.xd_factory.specs.declared.taken.Taken.{Taken}
 use Rattle.xd_factory.specs.declared.taken.Taken.TheVariants.{Kept, Handed, EndKept, EndHanded, Dropped, Status, Exec, Terminate}
 use Rattle.xd_factory.specs.Said.{Said}
 use Rattle.xd_suite.specs.declared.test.Test.{Test}
-use Rattle.xd_suite.specs.Tests.{ids_in}
+use Rattle.xd_suite.specs.Tests.{ids_by_mode}
 use Rattle.xd_journal.specs.declared.entry.Outcome.{Outcome}
 use Rattle.xd_journal.specs.declared.news.What.TheVariants.{Ready, Collected}
 use Rattle.xd_gateway.specs.Orders.{tree_order}
@@ -27,8 +27,8 @@ use Rattle.xd_worker.specs.declared.talk.Sent.{Sent}
 use Rattle.xd_worker.specs.declared.talk.Sent.TheVariants as how
 use Rattle.xd_worker.specs.Functions.{called_in, fault_text}
 use Rattle.xd_factory.specs.SideTable.{heard, answer, lost}
-use Rattle.xd_worker.specs.Talk.{Talk, sent, sent_how, payload_on, told, opening, log_closed, function_ended, function_begun, status_told}
-use Rattle.xd_worker.specs.Worker.{Service, Turn, running_in, executing, opened_by}
+use Rattle.xd_worker.specs.Talk.{Talk, sent, sent_how, payload_on, event_told, opening, log_closed, function_ended, function_begun, status_told}
+use Rattle.xd_worker.specs.Worker.{Service, Turn, running_in, executing, logs_opened_by}
 
 -- what an input is: what a message says, the tests of the suite or why there are none, output of the running test, its
 -- end, or the link's end
@@ -57,7 +57,7 @@ ended_service t = record t { duties = record (t.duties) { service = ended_call t
 
 -- `run_tests` on this channel asks for this: an event, output on a log, a log's close, or its end
 abbrev pub asked : ℕ → Ask → Turn → Turn
-asked c (Tell event) t = record t { talk = told c event (opening event t.talk); logs = t.logs ++ opened_by event t.talk.table }
+asked c (Tell event) t = record t { talk = event_told c event (opening event t.talk); logs = t.logs ++ logs_opened_by event t.talk.table }
 asked c (Piece log b) t = at_talk (sent log (bytes b)) t
 asked c (CloseLog log) t = at_talk (log_closed log) t
 asked c (End text) t = ended_service (at_talk (function_ended c text None) t)
@@ -113,7 +113,7 @@ echo_begun n t = record t {
 -- `run_tests` begins: it tells `workerready`, and asks for its suite file
 abbrev pub tests_begun : ℕ → List ℕ → ModeKind → Turn → Turn
 tests_begun n path mode t = record t {
-  talk = told n Ready (function_begun n t.talk);
+  talk = event_told n Ready (function_begun n t.talk);
   duties = record (t.duties) {
     service = Some (record { channel = n; mode = mode; given = []; ended = false });
     owed = true;
@@ -207,7 +207,7 @@ suite_input ids = if is_written (event_tree (Collected ids)) then input.Suite id
 -- the ids of these tests in the mode that `run_tests` was called with
 abbrev pub ids_of : Option Service → List Test → List (List ℕ)
 ids_of None ts = []
-ids_of (Some s) ts = ids_in s.mode ts
+ids_of (Some s) ts = ids_by_mode s.mode ts
 
 -- the suite that was owed came: `run_tests` gets the ids of its tests
 abbrev pub suite_read : List Test → ℕ → Turn → Turn

@@ -6,7 +6,7 @@ use Rattle.xd_journal.specs.declared.news.What.{What}
 use Rattle.xd_journal.specs.declared.news.What.TheVariants.{LogStart}
 use Rattle.xd_run_tests.specs.Line.{running_test}
 use Rattle.xd_run_tests.specs.History.{Given, call_after}
-use Rattle.xd_factory.specs.SideTable.{Table}
+use Rattle.xd_factory.specs.SideTable.{ChannelTable}
 use Rattle.xd_worker.specs.Table.{empty}
 use Rattle.xd_worker.specs.Talk.{Talk}
 
@@ -28,13 +28,13 @@ pub record Duties : Type 0 where
 
 -- a worker between two inputs: its channels, and what it does beside them
 pub record Worker : Type 0 where
-  pub table : Table
+  pub table : ChannelTable
   pub duties : Duties
 
 -- a log that opens: the number that the start of its test names, and the table in which it opens
 pub record Opening : Type 0 where
   pub number : ℕ
-  pub table : Table
+  pub table : ChannelTable
 
 -- an input's effect so far: what is said, a suite file to read, a test to start, and the logs that opened
 pub record Turn : Type 0 where
@@ -45,25 +45,25 @@ pub record Turn : Type 0 where
   pub logs : List Opening
 
 -- the log that an event opens: `logstart` names one, the other events none
-abbrev pub opened_by : What → Table → List Opening
-opened_by (LogStart n log) t = record { number = log; table = t } ∷ []
-opened_by _ t = []
+abbrev pub logs_opened_by : What → ChannelTable → List Opening
+logs_opened_by (LogStart n log) t = record { number = log; table = t } ∷ []
+logs_opened_by _ t = []
 
 -- nothing was called and nothing is to be done
-abbrev pub idle : Duties
-idle = record { stopped = false; service = None; echoes = []; owed = false; tests = [] }
+abbrev pub no_duties : Duties
+no_duties = record { stopped = false; service = None; echoes = []; owed = false; tests = [] }
 
 -- a worker to which nothing has come yet
 abbrev pub new_worker : Worker
-new_worker = record { table = empty; duties = idle }
+new_worker = record { table = empty; duties = no_duties }
 
 -- a worker before anything was done in this turn
 abbrev pub turn_of : Worker → Turn
 turn_of w = record { talk = record { table = w.table; says = [] }; duties = w.duties; suite = None; run = None; logs = [] }
 
 -- the worker after a turn
-abbrev pub behind : Turn → Worker
-behind t = record { table = t.talk.table; duties = t.duties }
+abbrev pub after_turn : Turn → Worker
+after_turn t = record { table = t.talk.table; duties = t.duties }
 
 -- the test that runs
 abbrev pub running_in : Option Service → Option ℕ

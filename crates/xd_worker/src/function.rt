@@ -1,9 +1,9 @@
 // The functions of a worker, and the calls that name them.
 ghost use Rattle.std.specs.Prelude.{◌≡◌, option_and_then, codes, IfOk};
 ghost use Rattle.xd_value.specs.View.{view, pair_views};
-ghost use Rattle.xd_gateway.specs.Kwargs.{value_at, text_of};
+ghost use Rattle.xd_gateway.specs.Kwargs.{value_at, text_in_tree};
 ghost use Rattle.xd_gateway.specs.Words.{IsWord};
-ghost use Rattle.xd_worker.specs.Functions.{called_in, call_of, named, name_of, with_kwargs, failing, running, mode_of, fault_text, is_plain};
+ghost use Rattle.xd_worker.specs.Functions.{called_in, call_of, named, name_of, with_kwargs, fail_called, run_tests_called, mode_by_word, fault_text, has_no_source};
 
 use std::alloc::Global;
 use xd_edge::{ModeKind, OutOfMemory, Text};
@@ -98,7 +98,7 @@ fn call_of(
 
 /// The source is the empty text, and no file is named.
 fn is_plain(source: &Value, file: &Value) -> bool
-    ensures { result ≡ is_plain (view source.now) (view file.now) }
+    ensures { result ≡ has_no_source (view source.now) (view file.now) }
 {
     match (source, file) {
         (Value::Text(source), Value::None) => is_word(source, ""),
@@ -156,7 +156,7 @@ fn with_kwargs(name: Name, kwargs: &[(Value, Value)], started: bool) -> Result<C
 }
 
 fn failing(kwargs: &[(Value, Value)]) -> Result<Called, OutOfMemory>
-    ensures { IfOk result (λ c. c ≡ failing (pair_views kwargs.now)) }
+    ensures { IfOk result (λ c. c ≡ fail_called (pair_views kwargs.now)) }
 {
     match text_at(kwargs, "text") {
         Some(text) => {
@@ -168,7 +168,7 @@ fn failing(kwargs: &[(Value, Value)]) -> Result<Called, OutOfMemory>
 }
 
 fn running(kwargs: &[(Value, Value)], started: bool) -> Result<Called, OutOfMemory>
-    ensures { IfOk result (λ c. c ≡ running started (pair_views kwargs.now)) }
+    ensures { IfOk result (λ c. c ≡ run_tests_called started (pair_views kwargs.now)) }
 {
     if started {
         return Ok(Called::Refused(CallFault::Started));
@@ -184,14 +184,14 @@ fn running(kwargs: &[(Value, Value)], started: bool) -> Result<Called, OutOfMemo
 
 /// The mode under the key `dist`.
 fn mode_at(kwargs: &[(Value, Value)]) -> Option<ModeKind>
-    ensures { result ≡ option_and_then mode_of (option_and_then text_of (value_at (codes "dist") (pair_views kwargs.now))) }
+    ensures { result ≡ option_and_then mode_by_word (option_and_then text_in_tree (value_at (codes "dist") (pair_views kwargs.now))) }
 {
     let mode = text_at(kwargs, "dist")?;
     mode_of(mode)
 }
 
 fn mode_of(word: &Text) -> Option<ModeKind>
-    ensures { result ≡ mode_of word.now }
+    ensures { result ≡ mode_by_word word.now }
 {
     if is_word(word, "each") {
         Some(ModeKind::Each)

@@ -6,10 +6,10 @@ ghost use Rattle.xd_frame.specs.Message.{MessageView};
 ghost use Rattle.xd_factory.specs.declared.side.Side.{Side};
 ghost use Rattle.xd_factory.specs.Slot.{closed_slot, function_ended_slot, hooked_slot, is_seen};
 ghost use Rattle.xd_factory.specs.Table.{close_says, closing_message, is_long};
-ghost use Rattle.xd_factory.specs.SideTable.{table_of, changed_at, opened};
-ghost use Rattle.xd_worker.specs.Worker.{opened_by};
+ghost use Rattle.xd_factory.specs.SideTable.{channel_table, changed_at, opened};
+ghost use Rattle.xd_worker.specs.Worker.{logs_opened_by};
 ghost use Rattle.xd_worker.specs.Logs.{CanOpen, AllOpen};
-ghost use Rattle.xd_worker.specs.Talk.{talk_of, sent, sent_how, payload_on, told, opening, log_closed, function_ended, function_begun, status_told};
+ghost use Rattle.xd_worker.specs.Talk.{talk_of, sent, sent_how, payload_on, event_told, opening, log_closed, function_ended, function_begun, status_told};
 
 use crate::status_value;
 use std::alloc::Global;
@@ -45,7 +45,7 @@ pub fn send(
     value: &Value,
 ) -> Result<Sent, OutOfMemory>
     ensures talk { OnOk result (talk_of side.new say.new ≡ sent number (view value.now) (talk_of side.old say.old)) }
-    ensures how { IfOk result (λ how. how ≡ sent_how (payload_on number (view value.now) (table_of side.old))) }
+    ensures how { IfOk result (λ how. how ≡ sent_how (payload_on number (view value.now) (channel_table side.old))) }
 {
     match side.send(number, value) {
         Ok(message) => {
@@ -66,7 +66,7 @@ pub fn tell(
     number: u32,
     event: &What,
 ) -> Result<(), OutOfMemory>
-    ensures { OnOk result (talk_of side.new say.new ≡ told number event.now (talk_of side.old say.old)) }
+    ensures { OnOk result (talk_of side.new say.new ≡ event_told number event.now (talk_of side.old say.old)) }
 {
     match event {
         What::Ready
@@ -85,7 +85,7 @@ pub fn tell(
 
 // The log of a test that starts opens.
 fn open_if_start(side: &mut Side, event: &What) -> Result<(), OutOfMemory>
-    ensures { (says : List MessageView) → AllOpen (opened_by event.now (table_of side.old)) → OnOk result (talk_of side.new says ≡ opening event.now (talk_of side.old says)) }
+    ensures { (says : List MessageView) → AllOpen (logs_opened_by event.now (channel_table side.old)) → OnOk result (talk_of side.new says ≡ opening event.now (talk_of side.old says)) }
 {
     match event {
         What::LogStart { .. } => open_log(side),
@@ -101,7 +101,7 @@ pub fn announce(
     number: u32,
     event: &What,
 ) -> Result<(), OutOfMemory>
-    ensures { AllOpen (opened_by event.now (table_of side.old)) → OnOk result (talk_of side.new say.new ≡ told number event.now (opening event.now (talk_of side.old say.old))) }
+    ensures { AllOpen (logs_opened_by event.now (channel_table side.old)) → OnOk result (talk_of side.new say.new ≡ event_told number event.now (opening event.now (talk_of side.old say.old))) }
 {
     open_if_start(side, event)?;
     tell(alloc, side, say, number, event)
@@ -123,7 +123,7 @@ pub fn send_piece(
 
 /// Opens the channel of a log, where it can open.
 fn open_log(side: &mut Side) -> Result<(), OutOfMemory>
-    ensures { (number : ℕ) → CanOpen number (table_of side.old) → OnOk result (table_of side.new ≡ opened (table_of side.old)) }
+    ensures { (number : ℕ) → CanOpen number (channel_table side.old) → OnOk result (channel_table side.new ≡ opened (channel_table side.old)) }
 {
     // Whether it can is told by how many channels there are.
     prove!(side.status() <= xd_factory::MAX_ENTRIES);
@@ -139,8 +139,8 @@ fn open_log(side: &mut Side) -> Result<(), OutOfMemory>
 
 // Closes a channel.
 fn close(side: &mut Side, say: &mut Messages, number: u32) -> Result<(), OutOfMemory>
-    ensures table { OnOk result (table_of side.new ≡ changed_at number closed_slot (table_of side.old)) }
-    ensures says { OnOk result (say.new ≡ say.old ++ option_to_list (close_says number None ((table_of side.old).slot number))) }
+    ensures table { OnOk result (channel_table side.new ≡ changed_at number closed_slot (channel_table side.old)) }
+    ensures says { OnOk result (say.new ≡ say.old ++ option_to_list (close_says number None ((channel_table side.old).slot number))) }
 {
     match side.close(number, None) {
         Ok(Some(message)) => {
@@ -157,7 +157,7 @@ fn close(side: &mut Side, say: &mut Messages, number: u32) -> Result<(), OutOfMe
 
 // Drops what waits on a channel. The number leaves the table.
 fn drop_channel(side: &mut Side, number: u32) -> Result<(), OutOfMemory>
-    ensures { OnOk result (table_of side.new ≡ changed_at number function_ended_slot (table_of side.old)) }
+    ensures { OnOk result (channel_table side.new ≡ changed_at number function_ended_slot (channel_table side.old)) }
 {
     let Err(fault) = side.end_function(number, None) else {
         return Ok(());
@@ -213,8 +213,8 @@ fn end_shortly(
     text: Option<Text>,
 ) -> Result<(), OutOfMemory>
     requires { is_long text ≡ false }
-    ensures table { OnOk result (table_of side.new ≡ changed_at number function_ended_slot (table_of side.old)) }
-    ensures says { OnOk result (say.new ≡ say.old ++ (if is_seen ((table_of side.old).slot number) then closing_message number text ∷ [] else [])) }
+    ensures table { OnOk result (channel_table side.new ≡ changed_at number function_ended_slot (channel_table side.old)) }
+    ensures says { OnOk result (say.new ≡ say.old ++ (if is_seen ((channel_table side.old).slot number) then closing_message number text ∷ [] else [])) }
 {
     match side.end_function(number, text) {
         Ok(message) => {
@@ -229,7 +229,7 @@ fn end_shortly(
 
 /// The function of a channel takes what comes there from now on.
 pub fn begin_function(side: &mut Side, number: u32)
-    ensures { table_of side.new ≡ changed_at number hooked_slot (table_of side.old) }
+    ensures { channel_table side.new ≡ changed_at number hooked_slot (channel_table side.old) }
 {
     let _ = side.set_callback(number);
 }

@@ -40,7 +40,7 @@ pub struct WorkerCore {
 
 impl WorkerCore {
     ghost use Rattle.xd_run_tests.specs.Turns.{CanTake};
-    ghost use Rattle.xd_factory.specs.View.{slot_of};
+    ghost use Rattle.xd_factory.specs.View.{slot_of_number};
     ghost use Rattle.xd_factory.specs.declared.faults.SideFault.{SideFault};
     ghost use Rattle.xd_suite.specs.Tests.{run_at};
     ghost use Rattle.xd_worker.specs.declared.input.WorkerFault.{WorkerFault};
@@ -49,7 +49,7 @@ impl WorkerCore {
     ghost use Rattle.xd_worker.specs.Turns.{asked, all_asked, ended_service, fed, stopped};
     ghost use Rattle.xd_worker.specs.History.{Heard, worker_after, IsToRefuse};
     ghost use Rattle.xd_worker.specs.Logs.{AllOpen, LogsOpen};
-    ghost use Rattle.xd_worker.specs.Stands.{AreServices, AreDuties, HasTest, Stands, StandsFor, Stood, IsWorker, Does, Answers, AskedAtFault, IsFault, IsRefusal, asked_of, fault_in};
+    ghost use Rattle.xd_worker.specs.Stands.{AreServices, AreDuties, HasTest, Stands, StandsFor, Stood, IsWorker, Does, Answers, AskedAtFault, FaultHasReason, IsThisFault, unanswered_of, fault_in};
 
     /// A worker to which nothing has come yet.
     pub fn new(alloc: Global) -> WorkerCore
@@ -72,8 +72,8 @@ impl WorkerCore {
     /// One input. After a fault each input is answered by the same fault.
     pub fn step(&mut self, input: WorkerInput) -> Result<WorkerActions, WorkerFault>
         ensures answers { (h : List Heard) → StandsFor self.old h → IfOk result (Answers self.new (worker_after h) input) }
-        ensures refused { (h : List Heard) → StandsFor self.old h → IfErr result (IsFault (worker_after h) input) }
-        ensures refuses { (h : List Heard) (fault : SideFault) → StandsFor self.old h → IsToRefuse (worker_after h) input fault → IsRefusal fault result }
+        ensures refused { (h : List Heard) → StandsFor self.old h → IfErr result (FaultHasReason (worker_after h) input) }
+        ensures refuses { (h : List Heard) (fault : SideFault) → StandsFor self.old h → IsToRefuse (worker_after h) input fault → IsThisFault fault result }
         ensures failed { (fault : WorkerFault) → fault_in self.old ≡ Some fault → (result ≡ Err fault) × (self.new ≡ self.old) }
         ensures fails { IfErr result (λ fault. fault_in self.new ≡ Some fault) }
         ensures asked { (h : List Heard) → StandsFor self.old h → IfErr result (λ fault. AskedAtFault self.new (worker_after h)) }
@@ -95,7 +95,7 @@ impl WorkerCore {
     }
 
     fn asked(&self) -> Asked
-        ensures { (w : Worker) → IsWorker self.now w → result ≡ asked_of w }
+        ensures { (w : Worker) → IsWorker self.now w → result ≡ unanswered_of w }
     {
         Asked {
             test: self.running(),
@@ -105,8 +105,8 @@ impl WorkerCore {
 
     fn answer(&mut self, input: WorkerInput) -> Result<WorkerActions, WorkerFault>
         ensures answers { (w : Worker) → IsWorker self.old w → LogsOpen w → IfOk result (Answers self.new w input) }
-        ensures refused { (w : Worker) → IsWorker self.old w → IfErr result (IsFault w input) }
-        ensures refuses { (w : Worker) (fault : SideFault) → IsWorker self.old w → IsToRefuse w input fault → IsRefusal fault result }
+        ensures refused { (w : Worker) → IsWorker self.old w → IfErr result (FaultHasReason w input) }
+        ensures refuses { (w : Worker) (fault : SideFault) → IsWorker self.old w → IsToRefuse w input fault → IsThisFault fault result }
     {
         let mut acts = WorkerActions {
             say: Messages {
@@ -126,8 +126,8 @@ impl WorkerCore {
 
     fn take(&mut self, acts: &mut WorkerActions, input: WorkerInput) -> Result<(), WorkerFault>
         ensures does { (w : Worker) → Stands self.old acts.old (turn_of w) → LogsOpen w → OnOk result (Does self.new acts.new w input) }
-        ensures refused { (w : Worker) → Stands self.old acts.old (turn_of w) → IfErr result (IsFault w input) }
-        ensures refuses { (w : Worker) (fault : SideFault) → Stands self.old acts.old (turn_of w) → IsToRefuse w input fault → IsRefusal fault result }
+        ensures refused { (w : Worker) → Stands self.old acts.old (turn_of w) → IfErr result (FaultHasReason w input) }
+        ensures refuses { (w : Worker) (fault : SideFault) → Stands self.old acts.old (turn_of w) → IsToRefuse w input fault → IsThisFault fault result }
     {
         match input {
             WorkerInput::Message(message) => self.take_message(acts, message),
@@ -185,7 +185,7 @@ impl WorkerCore {
     // What was asked for when the fault came, if one did.
     fn fault_asked(&self) -> Option<Asked>
         ensures none { self.now.fault ≡ None → result ≡ None }
-        ensures some { (w : Worker) → AskedAtFault self.now w → result ≡ Some (asked_of w) }
+        ensures some { (w : Worker) → AskedAtFault self.now w → result ≡ Some (unanswered_of w) }
     {
         match self.fault {
             Some(_) => self.before,
@@ -223,7 +223,7 @@ impl WorkerCore {
 
     // How many channels are in the table.
     fn channels(&self) -> u32
-        ensures { Counts (slot_of self.now.side) result }
+        ensures { Counts (slot_of_number self.now.side) result }
     {
         self.side.status()
     }

@@ -18,7 +18,7 @@ use Rattle.xd_run_tests.specs.declared.ask.Ask.TheVariants.{Tell}
 use Rattle.xd_run_tests.specs.declared.input.Input.{Input}
 use Rattle.xd_run_tests.specs.declared.input.Input.TheVariants as input
 use Rattle.xd_run_tests.specs.Line.{left, front, queue, running_test, can_give, can_ask, all_queued, kept, taken}
-use Rattle.xd_run_tests.specs.Turns.{Turn, turn_of, answered, over, ended_early, ending_text, asking, started, has_log, too_many_channels, moved_on, settled, given, stolen, stolen_if, told, heard_in, heard, all_heard, collected_in, receiving_ended_in, suite_refused_in, output_of, told_done, done_of}
+use Rattle.xd_run_tests.specs.Turns.{Turn, turn_of, answered, over, ended_early, ending_text, asking, test_started, has_log, too_many_channels, moved_on, line_settled, given, stolen, stolen_if, told, heard_in, heard, all_heard, collected_in, receiving_ended_in, suite_refused_in, output_fed, told_done, done_of}
 use Rattle.xd_run_tests.specs.History.{call_after}
 use Rattle.xd_worker_laws.specs.Idle.{IsIdle, IdleLaw, WaitsForNext}
 
@@ -42,11 +42,11 @@ moved room t (Mark ∷ l) is = λ serving idle. absurd (cc serving)
 moved room t (Test n ∷ []) is = λ serving idle. inr (n, is)
 moved room t (Test n ∷ (p ∷ l)) is = go (room && has_log t.call.ended)
   where
-    go : (v : Bool) → Waits (if v then started n t else over (Some too_many_channels) t)
+    go : (v : Bool) → Waits (if v then test_started n t else over (Some too_many_channels) t)
     go true = λ serving idle. absurd (cc idle)
     go false = ended t (Some too_many_channels)
 
-moved_or_runs : (room : Bool) (t : Turn) → Waits (settled room t)
+moved_or_runs : (room : Bool) (t : Turn) → Waits (line_settled room t)
 moved_or_runs room t = go t.call.running refl
   where
     go : (v : Bool) → t.call.running ≡ v → Waits (if v then t else moved_on room (left t.call) t)
@@ -56,7 +56,7 @@ moved_or_runs room t = go t.call.running refl
 gave : (room : Bool) (ns : List ℕ) (t : Turn) → Waits (given room ns t)
 gave room ns t = go (can_give t.call.size t.call.line ns)
   where
-    go : (v : Bool) → Waits (if v then settled room (record t { call = record (t.call) { line = t.call.line ++ map Test ns } }) else ended_early BadCommand t)
+    go : (v : Bool) → Waits (if v then line_settled room (record t { call = record (t.call) { line = t.call.line ++ map Test ns } }) else ended_early BadCommand t)
     go true = moved_or_runs room (record t { call = record (t.call) { line = t.call.line ++ map Test ns } })
     go false = early t BadCommand
 
@@ -138,7 +138,7 @@ refused_so (phase.Ending x) text t w = w
 refused_so Stopped text t w = w
 refused_so Over text t w = w
 
-output_so : (test : Option ℕ) (p : Phase) (bytes : List ℕ) (t : Turn) → Waits t → Waits (output_of test p bytes t)
+output_so : (test : Option ℕ) (p : Phase) (bytes : List ℕ) (t : Turn) → Waits t → Waits (output_fed test p bytes t)
 output_so None p bytes t w = w
 output_so (Some n) Stopped bytes t w = w
 output_so (Some n) Awaiting bytes t w = w

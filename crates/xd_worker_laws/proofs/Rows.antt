@@ -5,7 +5,7 @@ use Rattle.xd_run_tests.specs.declared.input.Input.TheVariants as input
 use Rattle.xd_run_tests.specs.declared.phase.Phase.TheVariants.{Serving}
 use Rattle.xd_run_tests.specs.declared.line_entry.LineEntry.TheVariants.{Test, Mark}
 use Rattle.xd_run_tests.specs.History.{Given, call_after}
-use Rattle.xd_run_tests.specs.Line.{called, left}
+use Rattle.xd_run_tests.specs.Line.{new_call, left}
 use Rattle.xd_worker_laws.specs.Idle.{WaitsForNext}
 
 -- the suite has three tests, and the worker is to run the first: it waits for a second
@@ -19,7 +19,7 @@ test_left : left (call_after one_waits) ≡ Test 0 ∷ []
 test_left = refl
 
 -- a call that would let a test wait with a mark behind it
-stuck : WaitsForNext (record called { phase = Serving; line = Test 0 ∷ Mark ∷ [] }) → ⊥
+stuck : WaitsForNext (record new_call { phase = Serving; line = Test 0 ∷ Mark ∷ [] }) → ⊥
 stuck w = by (w refl refl)
   where
     by : ((Test 0 ∷ Mark ∷ [] ≡ [])) ⊎ ((n : ℕ) × ((Test 0 ∷ Mark ∷ []) ≡ Test n ∷ [])) → ⊥

@@ -5,14 +5,14 @@ use Rattle.xd_run_tests.specs.declared.phase.Phase.TheVariants.{Serving}
 use Rattle.xd_run_tests.specs.declared.line_entry.LineEntry.{LineEntry}
 use Rattle.xd_run_tests.specs.declared.line_entry.LineEntry.TheVariants.{Test}
 use Rattle.xd_run_tests.specs.History.{Given, call_after}
-use Rattle.xd_run_tests.specs.Line.{Call, left}
+use Rattle.xd_run_tests.specs.Line.{FunctionCall, left}
 
 -- nothing, or one test
 abbrev pub IsIdle : List LineEntry → Type 0
 IsIdle ps = (ps ≡ []) ⊎ ((n : ℕ) × (ps ≡ Test n ∷ []))
 
 -- a call that serves its suite and runs nothing has no more left
-abbrev pub WaitsForNext : Call → Type 0
+abbrev pub WaitsForNext : FunctionCall → Type 0
 WaitsForNext c = c.phase ≡ Serving → c.running ≡ false → IsIdle (left c)
 
 -- Whatever comes, a call that serves and runs nothing has no more than one test left.

@@ -7,7 +7,7 @@ use xd_edge::OutOfMemory;
 use xd_factory::{HookFault, MAX_ENTRIES, OpenFault};
 
 impl LinkedSide {
-    ghost use Rattle.xd_factory.specs.View.{slot_of, next_of, is_finished, entry_count};
+    ghost use Rattle.xd_factory.specs.View.{slot_of_number, next_of, is_finished, entry_count};
     ghost use Rattle.xd_factory.specs.Slot.{receive_answer, hook_fault};
     ghost use Rattle.xd_factory.specs.Trees.{IsGot};
     ghost use Rattle.xd_pair.specs.Pair.{Open_channel, Receive, Set_callback, Finish_receiving};
@@ -33,7 +33,7 @@ impl LinkedSide {
     /// The first item that waits on a channel; else its end; else nothing yet.
     pub fn receive(&mut self, number: u32) -> Result<Got, HookFault>
         ensures step { IsMove self.old self.new (Receive number) }
-        ensures answer { IsGot result (receive_answer (slot_of self.old.side number)) }
+        ensures answer { IsGot result (receive_answer (slot_of_number self.old.side number)) }
         ensures hands { let r = received_tree result in
             HandsOut self.old (Receive number)
             (items_at number (item_in r)) (end_at number (end_in r)) }
@@ -48,7 +48,7 @@ impl LinkedSide {
     pub fn set_callback(&mut self, number: u32) -> Result<Waiting, HookFault>
         ensures step { IsMove self.old self.new (Set_callback number) }
         ensures refused { IfErr result
-            (λ fault. hook_fault (slot_of self.old.side number) ≡ Some fault) }
+            (λ fault. hook_fault (slot_of_number self.old.side number) ≡ Some fault) }
         ensures hands { HandsOut self.old (Set_callback number)
             (items_at number (waiting_items result)) (end_at number (waiting_end result)) }
     {

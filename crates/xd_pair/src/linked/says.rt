@@ -16,13 +16,13 @@ use xd_value::{DumpFault, Value, dumps};
 impl LinkedSide {
     ghost use Rattle.xd_pair.specs.Pair.{Send, Call, Ask, Answer, Terminate, Close, End_function, Give_up, can_call, can_answer};
     ghost use Rattle.xd_pair.specs.Stands.{IsMove, IsMoveIf, Stays, names_known};
-    ghost use Rattle.xd_factory.specs.View.{slot_of};
+    ghost use Rattle.xd_factory.specs.View.{slot_of_number};
 
     /// Sends a value, which names only channels that this side has opened or seen.
     pub fn send(&mut self, number: u32, value: &Value) -> Result<(), SendFault>
         ensures step { let v = view value.now in
             OnOk result (IsMoveIf (names_known v) self.old self.new (Send number v)) }
-        ensures refused { let refusal = send_refusal (slot_of self.old.side number) in
+        ensures refused { let refusal = send_refusal (slot_of_number self.old.side number) in
             let wanted = sent_gives refusal (dumped (view value.now)) in
             IfErr result (λ fault. IsSent number (Err fault) wanted) }
         ensures err { OnErr result (Stays self.old self.new) }
@@ -111,7 +111,7 @@ impl LinkedSide {
     pub fn close(&mut self, number: u32, error: Option<Text>) -> Result<(), CloseFault>
         ensures step { OnOk result (IsMove self.old self.new (Close number error)) }
         ensures refused { IfErr result
-            (IsRefusal (close_refusal (is_seen (slot_of self.old.side number)) (is_long error))) }
+            (IsRefusal (close_refusal (is_seen (slot_of_number self.old.side number)) (is_long error))) }
         ensures err { OnErr result (Stays self.old self.new) }
     {
         if self.said.reserve(1).is_err() {
@@ -130,7 +130,7 @@ impl LinkedSide {
     pub fn end_function(&mut self, number: u32, error: Option<Text>) -> Result<(), CloseFault>
         ensures step { OnOk result (IsMove self.old self.new (End_function number error)) }
         ensures refused { IfErr result
-            (IsRefusal (close_refusal (is_seen (slot_of self.old.side number)) (is_long error))) }
+            (IsRefusal (close_refusal (is_seen (slot_of_number self.old.side number)) (is_long error))) }
         ensures err { OnErr result (Stays self.old self.new) }
     {
         if self.said.reserve(1).is_err() {
@@ -149,7 +149,7 @@ impl LinkedSide {
     pub fn give_up(&mut self, number: u32) -> Result<(), GiveUpFault>
         ensures step { OnOk result (IsMove self.old self.new (Give_up number)) }
         ensures unknown { IsErrOf result GiveUpFault.Unknown
-            → is_seen (slot_of self.old.side number) ≡ false }
+            → is_seen (slot_of_number self.old.side number) ≡ false }
     {
         if self.said.reserve(1).is_err() {
             return Err(GiveUpFault::OutOfMemory);

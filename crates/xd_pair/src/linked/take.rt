@@ -7,13 +7,13 @@ use xd_factory::{SideFault, Taken};
 impl LinkedSide {
     ghost use Rattle.xd_factory.specs.View.{fault_of};
     ghost use Rattle.xd_pair.specs.Handed.{next_items, next_end};
-    ghost use Rattle.xd_pair.specs.Stands.{IsTake, IsRefusal};
+    ghost use Rattle.xd_pair.specs.Stands.{IsTake, RefusesNext};
 
     /// Takes the next message that the peer said, if there is one.
     pub fn take(&mut self, peer: &mut LinkedSide) -> Result<Option<Taken>, SideFault>
         ensures taken { IfOk result
             (λ t. IsTake self.old self.new peer.old peer.new (next_items t) (next_end t)) }
-        ensures refused { OnErr result (IsRefusal self.old self.new peer.old peer.new) }
+        ensures refused { OnErr result (RefusesNext self.old self.new peer.old peer.new) }
         ensures fault { IfErr result (λ fault. fault_of self.new.side ≡ Some fault) }
     {
         match peer.said.pop_front() {

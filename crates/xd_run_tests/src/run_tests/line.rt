@@ -12,13 +12,13 @@ impl RunTests {
     ghost use Rattle.xd_run_tests.specs.declared.line_entry.LineEntry.{LineEntry};
     ghost use Rattle.xd_run_tests.specs.declared.line_entry.LineEntry.TheVariants.{Test};
     ghost use Rattle.xd_run_tests.specs.declared.phase.Phase.TheVariants.{Serving};
-    ghost use Rattle.xd_run_tests.specs.Line.{Call, left};
-    ghost use Rattle.xd_run_tests.specs.Turns.{Turn, over, ended_early, settled, moved_on, too_many_channels, ending_text};
-    ghost use Rattle.xd_run_tests.specs.Stands.{Stands, Moves, Holds, IsCall, passing_some};
+    ghost use Rattle.xd_run_tests.specs.Line.{FunctionCall, left};
+    ghost use Rattle.xd_run_tests.specs.Turns.{Turn, over, ended_early, line_settled, moved_on, too_many_channels, ending_text};
+    ghost use Rattle.xd_run_tests.specs.Stands.{Stands, Moves, HoldsInAnyPhase, IsCall, passing_some};
 
     /// The function ends.
     pub(super) fn finish(&mut self, acts: &mut Acts, text: Option<Text>) -> Result<(), OutOfMemory>
-        ensures { (t : Turn) → Holds self.old acts.old t → OnOk result (Stands self.new acts.new (over text t)) }
+        ensures { (t : Turn) → HoldsInAnyPhase self.old acts.old t → OnOk result (Stands self.new acts.new (over text t)) }
     {
         request(acts, Ask::End(text))?;
         self.phase = Phase::Over;
@@ -36,7 +36,7 @@ impl RunTests {
 
     /// An early end, which waits for the running test.
     pub(super) fn end_early(&mut self, acts: &mut Acts, ending: Ending) -> Result<(), OutOfMemory>
-        ensures { (t : Turn) → Holds self.old acts.old t → OnOk result (Stands self.new acts.new (ended_early ending t)) }
+        ensures { (t : Turn) → HoldsInAnyPhase self.old acts.old t → OnOk result (Stands self.new acts.new (ended_early ending t)) }
     {
         if self.running.is_some() {
             self.phase = Phase::Ending(ending);
@@ -64,7 +64,7 @@ impl RunTests {
 
     /// Where there is no next entry, the queue's front is it.
     fn ready(&mut self)
-        ensures call { (c : Call) → c.phase ≡ Serving → self.old.running ≡ None → IsCall self.old c → IsCall self.new c }
+        ensures call { (c : FunctionCall) → c.phase ≡ Serving → self.old.running ≡ None → IsCall self.old c → IsCall self.new c }
         ensures ready { self.new.next ≡ None → self.new.queue.items ≡ [] }
         ensures running { self.new.running ≡ self.old.running }
     {
@@ -119,7 +119,7 @@ impl RunTests {
     }
 
     pub(super) fn settle(&mut self, acts: &mut Acts, room: bool) -> Result<(), OutOfMemory>
-        ensures { (t : Turn) → t.call.phase ≡ Serving → Moves self.old acts.old t → OnOk result (Stands self.new acts.new (settled room t)) }
+        ensures { (t : Turn) → t.call.phase ≡ Serving → Moves self.old acts.old t → OnOk result (Stands self.new acts.new (line_settled room t)) }
     {
         if self.running.is_some() {
             return Ok(());

@@ -8,7 +8,7 @@ use xd_edge::{Blob, OutOfMemory};
 use xd_journal::{MOST_OF_ONE, Outcome, What};
 
 impl RunTests {
-    ghost use Rattle.xd_run_tests.specs.Turns.{Turn, done_of, told_done, put_out, output_of};
+    ghost use Rattle.xd_run_tests.specs.Turns.{Turn, done_of, told_done, put_out, output_fed};
     ghost use Rattle.xd_run_tests.specs.Stands.{Stands, test_of, Moves};
 
     /// The running test ended.
@@ -90,7 +90,7 @@ impl RunTests {
     }
 
     pub(super) fn hear_output(&mut self, acts: &mut Acts, bytes: Blob) -> Result<(), OutOfMemory>
-        ensures { (t : Turn) → Stands self.old acts.old t → OnOk result (Stands self.new acts.new (output_of (test_of self.old.running) self.old.phase bytes t)) }
+        ensures { (t : Turn) → Stands self.old acts.old t → OnOk result (Stands self.new acts.new (output_fed (test_of self.old.running) self.old.phase bytes t)) }
     {
         match self.running {
             None => Ok(()),

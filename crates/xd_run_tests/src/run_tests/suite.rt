@@ -11,8 +11,8 @@ use xd_gateway::Order;
 use xd_journal::What;
 
 impl RunTests {
-    ghost use Rattle.xd_run_tests.specs.Line.{Call};
-    ghost use Rattle.xd_run_tests.specs.Turns.{Turn, receiving_ended_in, suite_refused_in, stopped, collected_in, opened};
+    ghost use Rattle.xd_run_tests.specs.Line.{FunctionCall};
+    ghost use Rattle.xd_run_tests.specs.Turns.{Turn, receiving_ended_in, suite_refused_in, stopped, collected_in, serving_suite};
     ghost use Rattle.xd_run_tests.specs.Stands.{Stands, IsCall};
 
     /// The receiving direction of the channel ended.
@@ -65,7 +65,7 @@ impl RunTests {
     /// The function serves a suite of that many tests from now on. What waited is handed out.
     fn open(&mut self, size: u32) -> Result<VecDeque<Option<Order>>, OutOfMemory>
         ensures waited { IfOk result (λ w. w.items ≡ self.old.waiting.items) }
-        ensures opened { (c : Call) → IsCall self.old c → OnOk result (IsCall self.new (opened size c)) }
+        ensures opened { (c : FunctionCall) → IsCall self.old c → OnOk result (IsCall self.new (serving_suite size c)) }
         ensures ready { OnOk result (self.new.queue.items ≡ []) }
     {
         self.stands = vec![in self.alloc; Standing::Free; size as usize]?;

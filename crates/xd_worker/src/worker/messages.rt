@@ -4,7 +4,7 @@ ghost use Rattle.xd_value.specs.View.{view};
 ghost use Rattle.xd_factory.specs.Said.{Said, Means};
 ghost use Rattle.xd_factory.specs.Trees.{taken_tree};
 ghost use Rattle.xd_factory.specs.declared.faults.SideFault.{SideFault};
-ghost use Rattle.xd_factory.specs.SideTable.{table_of, lost, Counts};
+ghost use Rattle.xd_factory.specs.SideTable.{channel_table, lost, Counts};
 
 use super::WorkerCore;
 use crate::input::{WorkerActions, WorkerFault};
@@ -18,7 +18,7 @@ use xd_value::Value;
 
 impl WorkerCore {
     ghost use Rattle.xd_gateway.specs.Orders.{tree_order};
-    ghost use Rattle.xd_factory.specs.View.{slot_of};
+    ghost use Rattle.xd_factory.specs.View.{slot_of_number};
     ghost use Rattle.xd_factory.specs.declared.taken.Taken.TheVariants as taken;
     ghost use Rattle.xd_channel.specs.declared.end.End.{End};
     ghost use Rattle.xd_worker.specs.declared.input.WorkerInput.TheVariants.{Message as MessageCame, LinkEnd};
@@ -26,7 +26,7 @@ impl WorkerCore {
     ghost use Rattle.xd_worker.specs.Turns.{at_talk, did, did_unless, is_service};
     ghost use Rattle.xd_worker.specs.History.{IsToRefuse};
     ghost use Rattle.xd_worker.specs.Logs.{AllOpen, LogsOpen};
-    ghost use Rattle.xd_worker.specs.Stands.{Stands, AreServices, AreDuties, Does, IsFault, IsSmall};
+    ghost use Rattle.xd_worker.specs.Stands.{Stands, AreServices, AreDuties, Does, FaultHasReason, IsSmall};
 
     // How many functions have not ended.
     fn functions(&self) -> usize
@@ -143,7 +143,7 @@ impl WorkerCore {
         taken: Taken,
     ) -> Result<(), OutOfMemory>
         requires { IsSmall (taken_tree taken) }
-        ensures { OnOk result ((n : ℕ) × Counts (slot_of self.old.side) n × ((t : Turn) → Stands self.old acts.old t → AllOpen (did_unless t.duties.stopped (taken_tree taken) n t).logs → Stands self.new acts.new (did_unless t.duties.stopped (taken_tree taken) n t))) }
+        ensures { OnOk result ((n : ℕ) × Counts (slot_of_number self.old.side) n × ((t : Turn) → Stands self.old acts.old t → AllOpen (did_unless t.duties.stopped (taken_tree taken) n t).logs → Stands self.new acts.new (did_unless t.duties.stopped (taken_tree taken) n t))) }
     {
         let channels = self.channels();
         if self.stopped {
@@ -160,8 +160,8 @@ impl WorkerCore {
         message: Message,
     ) -> Result<(), WorkerFault>
         ensures does { (w : Worker) → Stands self.old acts.old (turn_of w) → LogsOpen w → OnOk result (Does self.new acts.new w (MessageCame message)) }
-        ensures refused { (w : Worker) → Stands self.old acts.old (turn_of w) → IfErr result (IsFault w (MessageCame message)) }
-        ensures refuses { (w : Worker) (fault : SideFault) → Stands self.old acts.old (turn_of w) → IsToRefuse w (MessageCame message) fault → IsRefusal fault result }
+        ensures refused { (w : Worker) → Stands self.old acts.old (turn_of w) → IfErr result (FaultHasReason w (MessageCame message)) }
+        ensures refuses { (w : Worker) (fault : SideFault) → Stands self.old acts.old (turn_of w) → IsToRefuse w (MessageCame message) fault → IsThisFault fault result }
     {
         let number = message.channel;
         let taken = match take(&mut self.side, number, message) {
@@ -187,13 +187,13 @@ impl WorkerCore {
 
 // The link has ended: each channel has an end, and none opens any more.
 fn lose(side: &mut Side) -> Result<(), OutOfMemory>
-    ensures { OnOk result (table_of side.new ≡ lost (table_of side.old)) }
+    ensures { OnOk result (channel_table side.new ≡ lost (channel_table side.old)) }
 {
     let _ = side.finish_receiving()?;
     Ok(())
 }
 
-ghost use Rattle.xd_worker.specs.Stands.{IsHeard, IsFaultAt, IsRefusal, RefusedAt, worker_fault};
+ghost use Rattle.xd_worker.specs.Stands.{TakesMessage, IsFaultAt, IsThisFault, RefusedAt, worker_fault};
 
 // What a fault of the side is for the worker.
 fn fault_of(fault: SideFault) -> WorkerFault
@@ -209,9 +209,9 @@ fn fault_of(fault: SideFault) -> WorkerFault
 fn take(side: &mut Side, number: u32, message: Message) -> Result<Taken, WorkerFault>
     requires small { number ≤ 2147483647 }
     requires number { number ≡ message.channel }
-    ensures heard { IfOk result (IsHeard message (table_of side.old) (table_of side.new)) }
-    ensures refused { IfErr result (IsFaultAt (table_of side.old) message) }
-    ensures refuses { (fault : SideFault) → RefusedAt (table_of side.old) message fault → IsRefusal fault result }
+    ensures heard { IfOk result (TakesMessage message (channel_table side.old) (channel_table side.new)) }
+    ensures refused { IfErr result (IsFaultAt (channel_table side.old) message) }
+    ensures refuses { (fault : SideFault) → RefusedAt (channel_table side.old) message fault → IsThisFault fault result }
 {
     // Why a message is refused is told by how many channels there are.
     prove!(side.status() <= xd_factory::MAX_ENTRIES);

@@ -1,5 +1,5 @@
 use Rattle.std.proofs.Common.{Bool, length, refl, sym, ap, ◌∙◌, subst, inl, inr}
-use Rattle.xd_ledger.specs.State.{all_moved, no_one}
+use Rattle.xd_ledger.specs.State.{after_entries, no_one}
 use Rattle.xd_report.specs.Lines.{lines_from}
 use Rattle.xd_drive.specs.Going.{TellsEntries, added_by}
 use Rattle.xd_drive.proofs.InOrder.{notes-none, notes-turn}
@@ -27,7 +27,7 @@ returns-then-shown-clause-takes g c =
     c.in_ok-news.ensures.given c.in_ok-news.ensures.marks c.in_ok-news.ensures.starts c.in_ok-news.ensures.calls refl
     c.requires.agrees c.in_ok-news.ensures.started (g.H.Hub.slots c.args.hub.now) c.requires.slots (sym c.is_active.ensures ∙ c.if-not-is_active.false)
     c.tell_news.new.session c.in_ok-shown.ensures.stands c.tell_news.ensures.settings _ c.requires.stands.0 c.requires.stands.1
-    (subst (λ (b : Bool). TellsEntries b (added_by c.args.session.now.settings c.requires.stands.0 c.in_ok-news.news) (lines_from (all_moved (no_one c.args.session.now.settings) c.args.session.now.entries) (added_by c.args.session.now.settings c.requires.stands.0 c.in_ok-news.news)) (record { marks = g.H.Hub.marks c.next.new.self; starts = g.H.Hub.starts c.next.new.self; calls = g.H.Hub.calls c.next.new.self; given = g.H.Hub.given c.next.new.self; sunk = g.O.Sink.sunk c.args.out.now })
+    (subst (λ (b : Bool). TellsEntries b (added_by c.args.session.now.settings c.requires.stands.0 c.in_ok-news.news) (lines_from (after_entries (no_one c.args.session.now.settings) c.args.session.now.entries) (added_by c.args.session.now.settings c.requires.stands.0 c.in_ok-news.news)) (record { marks = g.H.Hub.marks c.next.new.self; starts = g.H.Hub.starts c.next.new.self; calls = g.H.Hub.calls c.next.new.self; given = g.H.Hub.given c.next.new.self; sunk = g.O.Sink.sunk c.args.out.now })
     (record { marks = g.H.Hub.marks c.tell_news.new.hub; starts = g.H.Hub.starts c.tell_news.new.hub; calls = g.H.Hub.calls c.tell_news.new.hub; given = g.H.Hub.given c.tell_news.new.hub; sunk = g.O.Sink.sunk c.tell_news.new.out })) c.if-shown.true (c.in_ok-shown.ensures.tells c.requires.stands.0 c.requires.stands.1))
 
 pub returns-else-shown-clause-takes : goal.returns-else-shown-clause-takes
@@ -36,7 +36,7 @@ returns-else-shown-clause-takes g c =
     c.in_ok-news.ensures.given c.in_ok-news.ensures.marks c.in_ok-news.ensures.starts c.in_ok-news.ensures.calls refl
     c.requires.agrees c.in_ok-news.ensures.started (g.H.Hub.slots c.args.hub.now) c.requires.slots (sym c.is_active.ensures ∙ c.if-not-is_active.false)
     c.tell_news.new.session c.in_ok-shown.ensures.stands c.tell_news.ensures.settings _ c.requires.stands.0 c.requires.stands.1 c.entry_count-performed.result (c.entry_count-performed.ensures ∙ ap length c.journal.ensures.entries)
-    (subst (λ (b : Bool). TellsEntries b (added_by c.args.session.now.settings c.requires.stands.0 c.in_ok-news.news) (lines_from (all_moved (no_one c.args.session.now.settings) c.args.session.now.entries) (added_by c.args.session.now.settings c.requires.stands.0 c.in_ok-news.news)) (record { marks = g.H.Hub.marks c.next.new.self; starts = g.H.Hub.starts c.next.new.self; calls = g.H.Hub.calls c.next.new.self; given = g.H.Hub.given c.next.new.self; sunk = g.O.Sink.sunk c.args.out.now })
+    (subst (λ (b : Bool). TellsEntries b (added_by c.args.session.now.settings c.requires.stands.0 c.in_ok-news.news) (lines_from (after_entries (no_one c.args.session.now.settings) c.args.session.now.entries) (added_by c.args.session.now.settings c.requires.stands.0 c.in_ok-news.news)) (record { marks = g.H.Hub.marks c.next.new.self; starts = g.H.Hub.starts c.next.new.self; calls = g.H.Hub.calls c.next.new.self; given = g.H.Hub.given c.next.new.self; sunk = g.O.Sink.sunk c.args.out.now })
     (record { marks = g.H.Hub.marks c.tell_news.new.hub; starts = g.H.Hub.starts c.tell_news.new.hub; calls = g.H.Hub.calls c.tell_news.new.hub; given = g.H.Hub.given c.tell_news.new.hub; sunk = g.O.Sink.sunk c.tell_news.new.out })) c.if-shown.false (c.in_ok-shown.ensures.tells c.requires.stands.0 c.requires.stands.1))
 
 pub returns-then-not-is_active-clause-notes : goal.returns-then-not-is_active-clause-notes

@@ -1,11 +1,11 @@
 use Rattle.std.proofs.Common.{◌∙◌, ◌∷◌, [], take}
-use Rattle.xd_drive.specs.Performing.{after_all, is_kill_of_started, kills_of_started}
+use Rattle.xd_drive.specs.Performing.{marks_after, is_kill_of_started, kills_of_started}
 use Rattle.xd_drive.proofs.Performs.{all_possible-same, kept-marks, kept-performs, kept-possible}
 use Rattle.xd_drive.proofs.perform.kill_started.Goals as goal
 
 pub kill_one-requires : goal.kill_one-requires
 kill_one-requires g c =
-    all_possible-same (g.H.Hub.slots c.args.hub.now) _ (after_all (kills_of_started c.args.done.now (take c.loop-entry.entry-index c.args.entries.now)) (g.H.Hub.marks c.args.hub.now)) _ (kills_of_started c.args.done.now (c.entry-item.result ∷ []))
+    all_possible-same (g.H.Hub.slots c.args.hub.now) _ (marks_after (kills_of_started c.args.done.now (take c.loop-entry.entry-index c.args.entries.now)) (g.H.Hub.marks c.args.hub.now)) _ (kills_of_started c.args.done.now (c.entry-item.result ∷ []))
     c.loop-entry.invariant.slots c.loop-entry.invariant.marks
     (kept-possible (is_kill_of_started c.args.done.now) c.args.entries.now c.loop-entry.entry-index c.entry-item.result c.loop-entry-test.true c.entry-item.is _ _ c.requires)
 

@@ -1,11 +1,11 @@
 use Rattle.xd_drive.proofs.Performs.{marks-next, performs-next, possible-at, possible-same}
 use Rattle.xd_drive.proofs.perform.perform.Goals as goal
 use Rattle.std.proofs.Common.{◌∙◌, take}
-use Rattle.xd_drive.specs.Performing.{after_all}
+use Rattle.xd_drive.specs.Performing.{marks_after}
 
 pub perform_one-requires : goal.perform_one-requires
 perform_one-requires g c =
-    possible-same (g.H.Hub.slots c.args.hub.now) _ (after_all (take c.loop-entry.entry-index c.args.entries.now) (g.H.Hub.marks c.args.hub.now)) _ c.entry-item.result
+    possible-same (g.H.Hub.slots c.args.hub.now) _ (marks_after (take c.loop-entry.entry-index c.args.entries.now) (g.H.Hub.marks c.args.hub.now)) _ c.entry-item.result
     c.loop-entry.invariant.slots c.loop-entry.invariant.marks
     (possible-at _ _ c.args.entries.now c.loop-entry.entry-index c.entry-item.result c.loop-entry-test.true c.entry-item.is c.requires)
 

@@ -1,6 +1,6 @@
 use Rattle.std.proofs.Common.{◌≡◌, ℕ, List, length, true}
 use Rattle.xd_journal.specs.declared.news.News.{News}
-use Rattle.xd_ledger.specs.State.{all_moved, no_one}
+use Rattle.xd_ledger.specs.State.{after_entries, no_one}
 use Rattle.xd_report.specs.Follows.{Follows}
 use Rattle.xd_drive.specs.Going.{Going}
 use Rattle.xd_drive.specs.Moments.{ToldInOrder}
@@ -14,7 +14,7 @@ invariant-loop g l = record {
   in_order : ToldInOrder l.session.settings (length l.session.entries) l.session.entries
       (record { marks = g.H.Hub.marks l.fn.hub; starts = g.H.Hub.starts l.fn.hub; calls = g.H.Hub.calls l.fn.hub; given = g.H.Hub.given l.fn.hub; sunk = g.O.Sink.sunk l.fn.out })
       (g.W.Witness.seen l.witness);
-  reports : Follows l.reporter (all_moved (no_one l.session.settings) l.session.entries);
+  reports : Follows l.reporter (after_entries (no_one l.session.settings) l.session.entries);
   settings : l.session.settings ≡ l.fn.session.settings;
   slots : g.H.Hub.slots l.hub ≡ g.H.Hub.slots l.fn.hub;
   made : g.H.Hub.made l.hub ≡ g.H.Hub.made l.fn.hub;

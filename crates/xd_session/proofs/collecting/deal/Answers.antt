@@ -3,7 +3,7 @@ use Rattle.std.specs.Prelude.{sum}
 use Rattle.std.specs.List.{range_with_len}
 use Rattle.std.proofs.lemmas.List.FromFn.{length-range_with_len}
 use Rattle.xd_ledger.specs.Calls.{Turned}
-use Rattle.xd_ledger.specs.Modes.Call.{Share}
+use Rattle.xd_ledger.specs.Modes.ModeCall.{Share}
 use Rattle.xd_ledger.specs.Sharing.{shared_plan}
 use Rattle.xd_ledger.specs.Table.{Table}
 use Rattle.xd_session.specs.Joining.{filled}

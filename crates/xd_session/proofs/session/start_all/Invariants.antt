@@ -1,12 +1,12 @@
 use Rattle.std.proofs.Common.{◌≡◌}
-use Rattle.xd_ledger.specs.State.{all_moved, no_one}
+use Rattle.xd_ledger.specs.State.{after_entries, no_one}
 use Rattle.xd_ledger.specs.Histories.{starts_from}
 use Rattle.xd_session.specs.Crew.{books_of}
 use Rattle.xd_session.proofs.session.start_all.Given as goal
 
 abbrev pub invariant-loop-worker : goal.invariant-loop-worker
 invariant-loop-worker l = record {
-  books : books_of l.books ≡ (all_moved (no_one (books_of l.fn.books).settings) (starts_from 0 l.worker)).books;
+  books : books_of l.books ≡ (after_entries (no_one (books_of l.fn.books).settings) (starts_from 0 l.worker)).books;
   entries : l.journal.entries.items ≡ starts_from 0 l.worker;
   settings : l.journal.settings ≡ l.fn.journal.settings;
 }

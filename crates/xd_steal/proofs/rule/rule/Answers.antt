@@ -6,7 +6,7 @@ use Rattle.xd_ledger.specs.Numbers.{all_among}
 use Rattle.xd_ledger.specs.Table.{workers_of}
 use Rattle.xd_ledger.specs.Turn.{Turn}
 use Rattle.xd_ledger.specs.Worksteal.{after_dealing}
-use Rattle.xd_steal.specs.Stands.{Follows}
+use Rattle.xd_steal.specs.Stands.{MatchesTurn}
 use Rattle.xd_steal.proofs.Rota.{idle_seated}
 use Rattle.xd_steal.proofs.Rules.{rule-deals}
 use Rattle.xd_steal.proofs.rule.rule.Goals as goal
@@ -22,5 +22,5 @@ returns c =
     let e = c.deref.ensures.value ∙ c.workers.view_is ∙ c.in_ok-workers.ensures in
     let some = ap (λ n. n == 0) c.deref.ensures.len ∙ sym c.if-is_empty.ensures in
     on_ok_weaker c.after_dealing.result (λ after p s. (let u = turn c.args.ledger.now p c.args.acts.now.items in
-    subst (λ (v : Turn). Follows v c.after_dealing.new.ledger c.after_dealing.new.acts.items c.after_dealing.new.asked)
+    subst (λ (v : Turn). MatchesTurn v c.after_dealing.new.ledger c.after_dealing.new.acts.items c.after_dealing.new.asked)
     (ap after_dealing (c.in_ok-deal.ensures.dealt p) ∙ sym (rule-deals ws u e some)) (after p s))) c.after_dealing.ensures

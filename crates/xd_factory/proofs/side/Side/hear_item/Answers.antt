@@ -5,7 +5,7 @@ use Rattle.xd_factory.specs.Numbers.{is_mine}
 use Rattle.xd_factory.specs.Slot.{Slot, named_slot, item_gives}
 use Rattle.xd_factory.specs.Table.{named_in, arrived_answer}
 use Rattle.xd_factory.specs.Trees.{arrived_tree}
-use Rattle.xd_factory.specs.View.{slot_of}
+use Rattle.xd_factory.specs.View.{slot_of_number}
 use Rattle.xd_factory.proofs.Naming.{own_named}
 use Rattle.xd_factory.proofs.side.Side.hear_item.Goals as goal
 
@@ -15,5 +15,5 @@ returns-in-Ok-Dropped-clause-answer c =
     let n = c.args.number in
     let v = view c.args.value in
     let mine = is_mine old.parity n in
-    let at : slot_of c.name_value.new.self n ≡ named_slot mine (slot_of old n) = c.in-Ok.ensures.ok n ∙ ap (λ (b : Bool). named_in mine b (slot_of old n)) (own_named n v) in
+    let at : slot_of_number c.name_value.new.self n ≡ named_slot mine (slot_of_number old n) = c.in-Ok.ensures.ok n ∙ ap (λ (b : Bool). named_in mine b (slot_of_number old n)) (own_named n v) in
     ap (arrived_answer n) (sym (ap arrived_tree c.in-Ok-Dropped.field-0-is) ∙ c.in-Ok-Dropped.ensures.answer ∙ ap (λ (s : Slot Tree). item_gives s v) at)

@@ -6,7 +6,7 @@ use Rattle.std.specs.Prelude.{is_some, take}
 use Rattle.std.proofs.lemmas.List.{map-append}
 use Rattle.std.proofs.lemmas.List.Elements.{All-push, All-same}
 use Rattle.xd_link.specs.Spring.{spring}
-use Rattle.xd_group.specs.Children.{Asked, all_asked, reaped_child}
+use Rattle.xd_group.specs.Children.{AskedOfLink, children_asked, reaped_child}
 use Rattle.xd_group.specs.Fates.{is_refused, workers_with}
 use Rattle.xd_group.specs.Late.{settled_at}
 use Rattle.xd_group.specs.LinkRun.{link_of}
@@ -49,8 +49,8 @@ returns-in_ok-push-clause-asked g c linked was =
     let end : LinkEnd g.row.St-Src.Denot g.row.St-Snk.Denot = record { worker = c.in-Some.ended.worker; source = c.in-Some.ended.source; sink = c.in-Some.ended.sink; killed = c.reap-killed.result } in
     let kid = child_there cs c.args.self.now.group.diary.fates.items c.args.number fate.0 linked fate.1 (sym fate.2 ∙ ap is_some c.in-Some.is) in
     let is : c.push.new.self.items ≡ c.args.ends.now.items ++ end ∷ [] = search rules in
-    ap (λ (l : List _). all_asked (take (c.args.number + 1) l)) c.reap-killed.ensures.children ∙ (asked_next cs c.args.number (c.args.number + 1) kid.0 (omega arith) kid.1
-    ∙ (ap (λ (b : _). all_asked (take c.args.number cs) ++ end_told b ∷ []) (sym (c.reap-killed.ensures.killed kid.0 kid.1)) ∙ (ap (λ (l : List Asked). l ++ end_told c.reap-killed.result ∷ []) was
+    ap (λ (l : List _). children_asked (take (c.args.number + 1) l)) c.reap-killed.ensures.children ∙ (asked_next cs c.args.number (c.args.number + 1) kid.0 (omega arith) kid.1
+    ∙ (ap (λ (b : _). children_asked (take c.args.number cs) ++ end_told b ∷ []) (sym (c.reap-killed.ensures.killed kid.0 kid.1)) ∙ (ap (λ (l : List AskedOfLink). l ++ end_told c.reap-killed.result ∷ []) was
     ∙ (sym (map-append (λ l. end_told l.killed) c.args.ends.now.items (end ∷ [])) ∙ sym (ap (map (λ l. end_told l.killed)) is)))))
 
 pub returns-in_ok-push-clause-linked : goal.returns-in_ok-push-clause-linked

@@ -7,7 +7,7 @@ use Rattle.xd_drive.specs.Listed.{starts_of}
 use Rattle.xd_links.specs.Runs.{news_of}
 use Rattle.xd_note.specs.Noted.{noted}
 use Rattle.xd_post.specs.Mails.{mails}
-use Rattle.xd_group.specs.Children.{TellsLinks, all_asked}
+use Rattle.xd_group.specs.Children.{TellsLinks, children_asked}
 use Rattle.xd_group.specs.Fates.{has_link}
 use Rattle.xd_group.specs.InStep.{all_started}
 use Rattle.xd_group.specs.Late.{settled_at}
@@ -105,7 +105,7 @@ returns-clause-begun g c =
     ∥∥₁_elim now.told (hlevel props)
     (λ t. ∥∥₁_elim (was.in_step whole) (hlevel props)
     (λ s. begun_all (g.St.Starter.begun was.children.first.value) (g.St.Starter.begun now.starter) now.children.items (all_started was.places.items (starts_of (noted diary.calls)) diary.fates.items) (map (λ l. end_told l.killed) c.loop-number.ends.items) (inv.starts ∙ s.starts)
-    (ap all_asked (sym (take_all now.children.items c.loop-number.number count)) ∙ inv.asked) (subst (λ (f : _). TellsLinks (g.St.Starter.begun f.value) (g.St.Starter.begun now.starter) now.children.items) inv.first t)))
+    (ap children_asked (sym (take_all now.children.items c.loop-number.number count)) ∙ inv.asked) (subst (λ (f : _). TellsLinks (g.St.Starter.begun f.value) (g.St.Starter.begun now.starter) now.children.items) inv.first t)))
 
 pub returns-clause-unlinked : goal.returns-clause-unlinked
 returns-clause-unlinked g c w out =

@@ -8,7 +8,7 @@ use Rattle.xd_link.specs.Spring.{spring}
 use Rattle.xd_links.specs.Runs.{news_of}
 use Rattle.xd_note.specs.Noted.{noted}
 use Rattle.xd_post.specs.Mails.{mails}
-use Rattle.xd_group.specs.Children.{all_asked, starts_told}
+use Rattle.xd_group.specs.Children.{children_asked, starts_told}
 use Rattle.xd_group.specs.Fates.{EndedFrom, KeptFrom, has_link, is_refused, workers_with}
 use Rattle.xd_group.specs.Kept.{Kept}
 use Rattle.xd_group.specs.Late.{Late, settled_at}
@@ -26,7 +26,7 @@ invariant-loop-number g l = record {
   late : ∥ Late (map settled_at (pages_of l.fn.self.group.posts.items)) (news_of (mails l.self.group.links.desk)) (pages_of l.self.group.posts.items) ∥₁;
   runs : All (λ e. ∥ RanSo l.fn.self.group.suite l.fn.self.group.mode (noted l.fn.self.group.diary.given) (noted l.fn.self.group.diary.calls) (workers_with is_refused l.fn.self.group.diary.workers.items l.fn.self.group.diary.fates.items) e.worker (link_of (spring (g.St.Src.Source.supply e.source) (g.St.Src.Source.is_ended e.source) (g.St.Src.Source.faults e.source)) (g.St.Snk.Sink.sunk e.sink) (g.St.Snk.Sink.faults e.sink)) ∥₁) l.ends.items;
   workers : map (λ e. e.worker) l.ends.items ≡ workers_with has_link (take l.number l.fn.self.group.diary.workers.items) (take l.number l.fn.self.group.diary.fates.items);
-  asked : all_asked (take l.number l.self.children.children.items) ≡ map (λ e. end_told e.killed) l.ends.items;
+  asked : children_asked (take l.number l.self.children.children.items) ≡ map (λ e. end_told e.killed) l.ends.items;
   linked : map is_some l.self.children.children.items ≡ map has_link l.fn.self.group.diary.fates.items;
   starts : starts_told (g.St.Starter.begun l.self.children.starter) ≡ starts_told (g.St.Starter.begun l.fn.self.children.starter);
   first : l.self.children.first ≡ l.fn.self.children.first;

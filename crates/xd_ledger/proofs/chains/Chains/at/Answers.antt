@@ -1,19 +1,19 @@
 use Rattle.std.proofs.Common.{◌≡◌, ◌+◌, ◌<◌, ◌∙◌, ◌++◌, ◌∷◌, [], List, ℕ, ap, sym, arith, drop, length}
 use Rattle.std.proofs.lemmas.Grind.{common_steps}
-use Rattle.xd_ledger.specs.Chains.{chain_at, items_of, first_or}
+use Rattle.xd_ledger.specs.Chains.{chain_at, number_count, first_or}
 use Rattle.xd_ledger.proofs.Walks.{WalksOn, walks_on}
 use Rattle.xd_ledger.proofs.chains.Chains.at.Goals as goal
 
 pub index-item-requires-in-loop-i : goal.index-item-requires-in-loop-i
 index-item-requires-in-loop-i c =
-    let e = ap items_of c.self.view_is in
+    let e = ap number_count c.self.view_is in
     let low : c.loop-i.i < length (chain_at c.args.self.now c.args.chain) = omega arith in
     let k = walks_on c.self.inside.next.items c.self.inside.previous.items c.self.inside.owner.items c.self.inside.counts.items c.args.self.now c.args.chain c.loop-i.i c.loop-i.item c.self.view_is c.self.invariant c.requires.known low (c.loop-i.invariant ∙ ap (λ n. first_or (n + c.args.chain) (drop c.loop-i.i (chain_at c.args.self.now c.args.chain))) (sym e)) in
     let f = k.fits in grind (arith, common_steps)
 
 pub loop-i-preserved : goal.loop-i-preserved
 loop-i-preserved c =
-    let e = ap items_of c.self.view_is in
+    let e = ap number_count c.self.view_is in
     let low : c.loop-i.i < length (chain_at c.args.self.now c.args.chain) = omega arith in
     let k = walks_on c.self.inside.next.items c.self.inside.previous.items c.self.inside.owner.items c.self.inside.counts.items c.args.self.now c.args.chain c.loop-i.i c.loop-i.item c.self.view_is c.self.invariant c.requires.known low (c.loop-i.invariant ∙ ap (λ n. first_or (n + c.args.chain) (drop c.loop-i.i (chain_at c.args.self.now c.args.chain))) (sym e)) in
     k.onward c.index-item-in-loop-i.result.now c.index-item-in-loop-i.ensures ∙ ap (λ n. first_or (n + c.args.chain) (drop (c.loop-i.i + 1) (chain_at c.args.self.now c.args.chain))) e

@@ -1,6 +1,6 @@
 use Rattle.std.proofs.Common.{◌≡◌, arith, ◌∙◌, ap}
 use Rattle.std.proofs.lemmas.Grind.{common_steps}
-use Rattle.xd_ledger.specs.Chains.{chain_at, items_of}
+use Rattle.xd_ledger.specs.Chains.{chain_at, number_count}
 use Rattle.xd_ledger.proofs.ChainCalls.{TakeRoom, take_room_at, take_done}
 use Rattle.xd_ledger.proofs.ChainMoves.{Gives}
 use Rattle.xd_ledger.proofs.chains.Chains.take.Goals as goal
@@ -27,4 +27,4 @@ pub returns-clause-lists : goal.returns-clause-lists
 returns-clause-lists c = (take_done c.self.inside.next.items c.self.inside.previous.items c.self.inside.owner.items c.self.inside.counts.items c.args.self.now c.args.chain c.args.item c.index-next.result.now c.index-previous.result.now c.index_mut-4.result.now c.self.view_is c.self.invariant c.requires.known c.requires.within c.index-next.ensures c.index-previous.ensures c.index_mut-4.ensures.value).are
 
 pub returns-clause-below : goal.returns-clause-below
-returns-clause-below c = let h = (take_room_at c.self.inside.next.items c.self.inside.previous.items c.self.inside.owner.items c.self.inside.counts.items c.args.self.now c.args.chain c.args.item c.self.view_is c.self.invariant c.requires.known c.requires.within).owner_fits in let e = ap items_of c.self.view_is in omega arith
+returns-clause-below c = let h = (take_room_at c.self.inside.next.items c.self.inside.previous.items c.self.inside.owner.items c.self.inside.counts.items c.args.self.now c.args.chain c.args.item c.self.view_is c.self.invariant c.requires.known c.requires.within).owner_fits in let e = ap number_count c.self.view_is in omega arith

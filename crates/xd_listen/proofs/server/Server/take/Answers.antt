@@ -1,6 +1,6 @@
 use Rattle.std.proofs.Common.{subst}
 use Rattle.xd_listen.specs.Seen.{seen}
-use Rattle.xd_listen.specs.Serves.{Owed, Serves, beside}
+use Rattle.xd_listen.specs.Serves.{Owed, ServesSoFar, beside}
 use Rattle.xd_listen.specs.Timing.{ticking}
 use Rattle.xd_listen.proofs.Items.{of_other}
 use Rattle.xd_listen.proofs.server.Server.take.Goals as goal
@@ -8,4 +8,4 @@ use Rattle.xd_listen.proofs.server.Server.take.Goals as goal
 pub returns-in_ok-halt-2-clause-goes : goal.returns-in_ok-halt-2-clause-goes
 returns-in_ok-halt-2-clause-goes g c = λ a e s.
     c.in_ok-halt-2.ensures.goes a (g.F.Files.faults c.args.files.now)
-    (subst (λ (o : Owed). Serves a (beside (g.F.Files.faults c.args.files.now) (ticking (g.T.Clock.moment c.args.clock.now) (g.T.Clock.coming c.args.clock.now))) o (seen g.N.Sink.sunk g.N.Sink.faults c.args.self.now)) (of_other c.args.inbox c.args.news c.if-inbox-eq0.false) s)
+    (subst (λ (o : Owed). ServesSoFar a (beside (g.F.Files.faults c.args.files.now) (ticking (g.T.Clock.moment c.args.clock.now) (g.T.Clock.coming c.args.clock.now))) o (seen g.N.Sink.sunk g.N.Sink.faults c.args.self.now)) (of_other c.args.inbox c.args.news c.if-inbox-eq0.false) s)

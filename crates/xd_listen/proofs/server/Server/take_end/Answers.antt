@@ -6,7 +6,7 @@ use Rattle.xd_reader.specs.declared.news.LinkStop.TheVariants as link
 use Rattle.xd_listen.specs.declared.server.Halt.{Halt}
 use Rattle.xd_listen.specs.Halts.{Goes}
 use Rattle.xd_listen.specs.Seen.{seen}
-use Rattle.xd_listen.specs.Serves.{Serves, of_link, beside}
+use Rattle.xd_listen.specs.Serves.{ServesSoFar, owed_of_link, beside}
 use Rattle.xd_listen.specs.Timing.{ticking}
 use Rattle.xd_listen.proofs.Dropping.{noted_now}
 use Rattle.xd_listen.proofs.Items.{cut_unless, header_unless, strange_unless, unread_unless}
@@ -16,7 +16,7 @@ pub returns-in_ok-halt-in-Ended-clause-goes : goal.returns-in_ok-halt-in-Ended-c
 returns-in_ok-halt-in-Ended-clause-goes g c = λ a files s.
     let now = beside files (ticking (g.T.Clock.moment c.args.clock.now) (g.T.Clock.coming c.args.clock.now)) in
     let before = seen g.N.Sink.sunk g.N.Sink.faults c.args.self.now in
-    c.in_ok-halt-in-Ended.ensures.goes a files (subst (λ (l : LinkStop). Serves a now (of_link (news.End l)) (record before { link_stop = Some c.args.stop })) c.in-Ended.is (noted_now a now before c.args.stop s))
+    c.in_ok-halt-in-Ended.ensures.goes a files (subst (λ (l : LinkStop). ServesSoFar a now (owed_of_link (news.End l)) (record before { link_stop = Some c.args.stop })) c.in-Ended.is (noted_now a now before c.args.stop s))
 
 pub returns-in-Cut-clause-goes : goal.returns-in-Cut-clause-goes
 returns-in-Cut-clause-goes g c = λ a files s.
@@ -24,7 +24,7 @@ returns-in-Cut-clause-goes g c = λ a files s.
     let before = seen g.N.Sink.sunk g.N.Sink.faults c.args.self.now in
     let noted = record before { link_stop = Some c.args.stop } in
     subst (λ (h : Option Halt). Goes h a now (record before { link_stop = Some c.args.stop })) (sym c.unless_shut.ensures)
-    (cut_unless a now noted (subst (λ (l : LinkStop). Serves a now (of_link (news.End l)) (record before { link_stop = Some c.args.stop })) c.in-Cut.is (noted_now a now before c.args.stop s)))
+    (cut_unless a now noted (subst (λ (l : LinkStop). ServesSoFar a now (owed_of_link (news.End l)) (record before { link_stop = Some c.args.stop })) c.in-Cut.is (noted_now a now before c.args.stop s)))
 
 pub returns-in-Garbled-clause-goes : goal.returns-in-Garbled-clause-goes
 returns-in-Garbled-clause-goes g c = λ a files s.
@@ -32,7 +32,7 @@ returns-in-Garbled-clause-goes g c = λ a files s.
     let before = seen g.N.Sink.sunk g.N.Sink.faults c.args.self.now in
     let noted = record before { link_stop = Some c.args.stop } in
     subst (λ (h : Option Halt). Goes h a now (record before { link_stop = Some c.args.stop })) (sym c.unless_shut-in-Garbled.ensures)
-    (header_unless a now noted c.in-Garbled.fault (subst (λ (l : LinkStop). Serves a now (of_link (news.End l)) (record before { link_stop = Some c.args.stop })) c.in-Garbled.is (noted_now a now before c.args.stop s)))
+    (header_unless a now noted c.in-Garbled.fault (subst (λ (l : LinkStop). ServesSoFar a now (owed_of_link (news.End l)) (record before { link_stop = Some c.args.stop })) c.in-Garbled.is (noted_now a now before c.args.stop s)))
 
 pub returns-in-BadGreeting-clause-goes : goal.returns-in-BadGreeting-clause-goes
 returns-in-BadGreeting-clause-goes g c = λ a files s.
@@ -41,7 +41,7 @@ returns-in-BadGreeting-clause-goes g c = λ a files s.
     let noted = record before { link_stop = Some c.args.stop } in
     subst (λ (h : Option Halt). Goes h a now (record before { link_stop = Some c.args.stop })) (sym c.unless_shut-in-BadGreeting.ensures)
     (strange_unless a now noted (news.End (link.BadGreeting c.in-BadGreeting.field-0)) tt
-    (subst (λ (l : LinkStop). Serves a now (of_link (news.End l)) (record before { link_stop = Some c.args.stop })) c.in-BadGreeting.is (noted_now a now before c.args.stop s)))
+    (subst (λ (l : LinkStop). ServesSoFar a now (owed_of_link (news.End l)) (record before { link_stop = Some c.args.stop })) c.in-BadGreeting.is (noted_now a now before c.args.stop s)))
 
 pub returns-in-ReadFault-clause-goes : goal.returns-in-ReadFault-clause-goes
 returns-in-ReadFault-clause-goes g c = λ a files s.
@@ -49,4 +49,4 @@ returns-in-ReadFault-clause-goes g c = λ a files s.
     let before = seen g.N.Sink.sunk g.N.Sink.faults c.args.self.now in
     let noted = record before { link_stop = Some c.args.stop } in
     subst (λ (h : Option Halt). Goes h a now (record before { link_stop = Some c.args.stop })) (sym c.unless_shut-in-ReadFault.ensures)
-    (unread_unless a now noted (subst (λ (l : LinkStop). Serves a now (of_link (news.End l)) (record before { link_stop = Some c.args.stop })) c.in-ReadFault.is (noted_now a now before c.args.stop s)))
+    (unread_unless a now noted (subst (λ (l : LinkStop). ServesSoFar a now (owed_of_link (news.End l)) (record before { link_stop = Some c.args.stop })) c.in-ReadFault.is (noted_now a now before c.args.stop s)))

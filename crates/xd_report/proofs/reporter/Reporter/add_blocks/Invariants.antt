@@ -1,6 +1,6 @@
 use Rattle.std.proofs.Common.{◌≡◌, ◌++◌, take}
 use Rattle.xd_ledger.specs.Sharing.{State}
-use Rattle.xd_ledger.specs.State.{all_moved}
+use Rattle.xd_ledger.specs.State.{after_entries}
 use Rattle.xd_report.specs.Blocks.{blocks_from}
 use Rattle.xd_report.specs.Follows.{Follows}
 use Rattle.xd_report.proofs.reporter.Reporter.add_blocks.Given as goal
@@ -8,5 +8,5 @@ use Rattle.xd_report.proofs.reporter.Reporter.add_blocks.Given as goal
 abbrev pub invariant-loop-entry : goal.invariant-loop-entry
 invariant-loop-entry l = record {
   blocks : (s : State) → Follows l.initial.self s → l.out.items ≡ l.initial.out.items ++ blocks_from s (take l.entry-index l.entries);
-  follows : (s : State) → Follows l.initial.self s → Follows l.self (all_moved s (take l.entry-index l.entries));
+  follows : (s : State) → Follows l.initial.self s → Follows l.self (after_entries s (take l.entry-index l.entries));
 }

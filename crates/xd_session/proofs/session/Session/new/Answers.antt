@@ -1,7 +1,7 @@
 use Rattle.std.proofs.Common.{◌≡◌, ap, sym, subst, ◌∙◌, List}
 use Rattle.xd_journal.specs.declared.settings.Settings.{Settings}
 use Rattle.xd_ledger.specs.Books.{Books}
-use Rattle.xd_ledger.specs.State.{all_moved, no_one}
+use Rattle.xd_ledger.specs.State.{after_entries, no_one}
 use Rattle.xd_ledger.specs.Histories.{starts_from}
 use Rattle.xd_session.specs.declared.logs.WorkerLog.{WorkerLog}
 use Rattle.xd_session.specs.Crew.{books_of}
@@ -16,7 +16,7 @@ invariant_of-result g c = λ h.
     (let e : (books_of c.in_ok-books.books).settings ≡ c.args.settings = ap (λ (b : Books). b.settings) c.in_ok-books.ensures in
     subst (λ (ls : List WorkerLog). InStep c.start_all.new.journal.settings c.start_all.new.journal.entries.items ls 0 (books_of c.start_all.new.books) (known_by c.new-2.result) (g.M.Mode.stands c.args.mode)) (sym c.new-3.ensures)
     (begun-step c.args.settings _ _ _ _ _ (c.start_all.ensures.settings ∙ c.new-journal.ensures.settings) c.new-2.ensures c.requires.settings c.requires.fresh
-    (c.in_ok-start_all.ensures.books ∙ ap (λ (s : Settings). (all_moved (no_one s) (starts_from 0 c.args.settings.workers)).books) e) c.in_ok-start_all.ensures.entries))
+    (c.in_ok-start_all.ensures.books ∙ ap (λ (s : Settings). (after_entries (no_one s) (starts_from 0 c.args.settings.workers)).books) e) c.in_ok-start_all.ensures.entries))
 
 pub returns-clause-owes : goal.returns-clause-owes
 returns-clause-owes g c = λ h.
@@ -24,4 +24,4 @@ returns-clause-owes g c = λ h.
     owed-behind _ _ _ _ _ _ _
     (begun-step c.args.settings c.start_all.new.journal.settings c.start_all.new.journal.entries.items (books_of c.start_all.new.books) (known_by c.new-2.result) (g.M.Mode.stands c.args.mode)
     (c.start_all.ensures.settings ∙ c.new-journal.ensures.settings) c.new-2.ensures c.requires.settings c.requires.fresh
-    (c.in_ok-start_all.ensures.books ∙ ap (λ (s : Settings). (all_moved (no_one s) (starts_from 0 c.args.settings.workers)).books) e) c.in_ok-start_all.ensures.entries) h)
+    (c.in_ok-start_all.ensures.books ∙ ap (λ (s : Settings). (after_entries (no_one s) (starts_from 0 c.args.settings.workers)).books) e) c.in_ok-start_all.ensures.entries) h)

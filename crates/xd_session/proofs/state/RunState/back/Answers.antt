@@ -3,15 +3,15 @@ use Rattle.std.specs.Prelude.{if◌then◌else◌}
 use Rattle.xd_journal.specs.declared.entry.Entry.{Entry}
 use Rattle.xd_journal.specs.declared.entry.Entry.TheVariants.{Ready, Done, Back, Finished, Refused, Down, NotStarted, Start, Shutdown, Kill}
 use Rattle.xd_ledger.specs.Books.{Books, marked}
-use Rattle.xd_ledger.specs.Modes.Call.{Died, TestDone, TestsBack}
-use Rattle.xd_ledger.specs.Outputs.{acts_of, after_death, shut_all}
+use Rattle.xd_ledger.specs.Modes.ModeCall.{Died, TestDone, TestsBack}
+use Rattle.xd_ledger.specs.Outputs.{acts_of, outputs_of_death, shut_all}
 use Rattle.xd_ledger.specs.Sharing.{State}
-use Rattle.xd_ledger.specs.State.{moved, settles}
+use Rattle.xd_ledger.specs.State.{after_effect, settles}
 use Rattle.xd_ledger.specs.Stops.{is_shutting, is_stopped}
 use Rattle.xd_ledger.specs.Workers.{made_gone, made_ready, slot_of}
 use Rattle.xd_session.specs.Crew.{books_of}
 use Rattle.xd_session.specs.Known.{known_by}
-use Rattle.xd_session.specs.Rules.{told}
+use Rattle.xd_session.specs.Rules.{told_to_shut}
 use Rattle.std.proofs.Common.{◌+◌, map}
 use Rattle.std.specs.Prelude.{◌^◌, nat_lt}
 use Rattle.std.specs.List.{list_all}
@@ -40,12 +40,12 @@ back_outputs-requires g c = λ h.
     (let s : State = c.requires.0 in
     let a = c.requires.1 in
     let at = back-at s c.args.worker c.args.indices c.deref-2.result.now (books_of c.args.self.now.books) (books_of c.give_back.new.self) (known_by c.args.self.now.known) _ _ a.at ((c.deref-2.ensures.value ∙ c.items.view_is ∙ c.in_ok-items.ensures ∙ ap (λ (is : List ℕ). map (λ i. first_item (slot_of c.args.worker (books_of c.args.self.now.books)) (known_by c.args.self.now.known) + i) is) (c.deref.ensures.value ∙ c.indices.view_is)) ∙ back-named s c.args.worker c.args.indices _ _ _ a.at) c.in_ok-give_back.ensures refl in
-    (moved s (Back c.args.worker c.args.indices), record { at = at; going = ap is_stopped (sym at.books_are) ∙ h; called = back-called s _ _ a.reached a.follows }))
+    (after_effect s (Back c.args.worker c.args.indices), record { at = at; going = ap is_stopped (sym at.books_are) ∙ h; called = back-called s _ _ a.reached a.follows }))
 
 pub returns : goal.returns
 returns g c = λ s a.
     (let e : Entry = Back c.args.worker c.args.indices in
-    let t : State = moved s e in
+    let t : State = after_effect s e in
     let at = back-at s c.args.worker c.args.indices c.deref-2.result.now (books_of c.args.self.now.books) (books_of c.give_back.new.self) (known_by c.args.self.now.known) _ _ a.at ((c.deref-2.ensures.value ∙ c.items.view_is ∙ c.in_ok-items.ensures ∙ ap (λ (is : List ℕ). map (λ i. first_item (slot_of c.args.worker (books_of c.args.self.now.books)) (known_by c.args.self.now.known) + i) is) (c.deref.ensures.value ∙ c.indices.view_is)) ∙ back-named s c.args.worker c.args.indices _ _ _ a.at) c.in_ok-give_back.ensures refl in
     finish s e (books_of c.back_outputs.new.self.books) _ _ _ c.args.entries.now.items c.note.new.entries.items c.back_outputs.new.entries.items c.finish.new.entries.items _ _
     c.in_ok-note.ensures

@@ -1,7 +1,7 @@
 use Rattle.std.proofs.Common.{◌≡◌, ap, subst, sym, ◌∙◌, ℕ}
 use Rattle.xd_ledger.specs.Books.{Books}
 use Rattle.xd_ledger.specs.Calls.{Turned, last_of}
-use Rattle.xd_ledger.specs.Modes.Call.{Died, Joined, TestDone, TestsBack}
+use Rattle.xd_ledger.specs.Modes.ModeCall.{Died, Joined, TestDone, TestsBack}
 use Rattle.xd_ledger.specs.Plan.{Plan}
 use Rattle.xd_ledger.specs.Deaths.{down_plan}
 use Rattle.xd_ledger.specs.Suits.{Suits}

@@ -8,15 +8,15 @@ use Rattle.xd_ledger.specs.declared.member.Listed.{Listed}
 use Rattle.xd_ledger.specs.Books.{Books}
 use Rattle.xd_ledger.specs.Calls.{Turned}
 use Rattle.xd_ledger.specs.Collections.{listed}
-use Rattle.xd_ledger.specs.Modes.Call.{Joined, Share}
-use Rattle.xd_ledger.specs.Outputs.{after_joining, shut_all, slots_of_rota}
+use Rattle.xd_ledger.specs.Modes.ModeCall.{Joined, Share}
+use Rattle.xd_ledger.specs.Outputs.{outputs_of_joining, shut_all, slots_of_rota}
 use Rattle.xd_ledger.specs.Plan.{Plan}
 use Rattle.xd_ledger.specs.Sharing.{State, is_full}
 use Rattle.xd_ledger.specs.Stops.{is_stopped, stopped_by}
 use Rattle.xd_ledger.specs.Suits.{Suits}
 use Rattle.xd_ledger.specs.Workers.{is_shut, slot_of}
 use Rattle.xd_session.specs.declared.lists.Comparison.{Comparison}
-use Rattle.xd_session.specs.Compared.{comparison, given, stop_of}
+use Rattle.xd_session.specs.Compared.{comparison, ids_to_list, stop_of}
 use Rattle.xd_session.specs.Crew.{books_of}
 use Rattle.xd_session.specs.Joining.{TakenIn, filled, taken_in}
 use Rattle.xd_session.specs.Known.{Known, known_by}
@@ -50,7 +50,7 @@ take_in-requires-clause-at g c = λ n.
     let compares : c.in_ok-taken.taken.comparison ≡ mine s.books = c.in_ok-taken.ensures.comparison ∙ ap mine a.at.books_are in
     let unshut = sym c.is_shut-shut.ensures ∙ c.if-shut.false in
     let unstopped = going-on w b c.requires.joins.told unshut in
-    (noted w (given (mine s.books) own) s, (at, may-take_in w own s c.in_ok-taken.taken.comparison _ _ _ a compares (ap (λ (d : Books). is_shut w d) (sym a.at.books_are) ∙ unshut) (ap is_stopped (sym a.at.books_are) ∙ unstopped) n)))
+    (noted w (ids_to_list (mine s.books) own) s, (at, may-take_in w own s c.in_ok-taken.taken.comparison _ _ _ a compares (ap (λ (d : Books). is_shut w d) (sym a.at.books_are) ∙ unshut) (ap is_stopped (sym a.at.books_are) ∙ unstopped) n)))
 
 pub returns-then-shut : goal.returns-then-shut
 returns-then-shut g c = λ s a.
@@ -59,9 +59,9 @@ returns-then-shut g c = λ s a.
     let b : Books = books_of c.args.self.now.books in
     let mine : Books → Comparison = λ d. comparison own (listed w d) in
     let old : List Entry = c.args.entries.now.items in
-    let e : Entry = Collected w (given (mine s.books) own) in
+    let e : Entry = Collected w (ids_to_list (mine s.books) own) in
     let at = at-noted w own s b (books_of c.take_list.new.self) (books_of c.mark.new.self) _ _ a.at c.in_ok-taken.ensures.books c.mark.ensures in
-    let entry_is : c.note.new.entries.items ≡ old ++ e ∷ [] = c.in_ok-note.ensures ∙ ap (λ (i : Ids). old ++ Collected w i ∷ []) (c.in_ok-taken.ensures.ids ∙ ap (λ (d : Books). given (mine d) own) a.at.books_are) in
+    let entry_is : c.note.new.entries.items ≡ old ++ e ∷ [] = c.in_ok-note.ensures ∙ ap (λ (i : Ids). old ++ Collected w i ∷ []) (c.in_ok-taken.ensures.ids ∙ ap (λ (d : Books). ids_to_list (mine d) own) a.at.books_are) in
     let shut : is_shut w s.books ≡ true = ap (λ (d : Books). is_shut w d) (sym a.at.books_are) ∙ sym c.is_shut-shut.ensures ∙ c.if-shut.true in
     subst (λ (x : Entry). Ruled s x (books_of c.finish.new.self.books) (known_by c.finish.new.self.known) old c.finish.new.entries.items (g.M.Mode.stands c.finish.new.self.mode)) (sym (given-is w own s))
     (finish s e (books_of c.mark.new.self) _ _ _ old c.note.new.entries.items c.note.new.entries.items c.finish.new.entries.items _ _
@@ -74,15 +74,15 @@ returns g c = λ s a.
     let b : Books = books_of c.args.self.now.books in
     let mine : Books → Comparison = λ d. comparison own (listed w d) in
     let old : List Entry = c.args.entries.now.items in
-    let e : Entry = Collected w (given (mine s.books) own) in
+    let e : Entry = Collected w (ids_to_list (mine s.books) own) in
     let at = at-noted w own s b (books_of c.take_list.new.self) (books_of c.mark.new.self) _ _ a.at c.in_ok-taken.ensures.books c.mark.ensures in
-    let entry_is : c.note.new.entries.items ≡ old ++ e ∷ [] = c.in_ok-note.ensures ∙ ap (λ (i : Ids). old ++ Collected w i ∷ []) (c.in_ok-taken.ensures.ids ∙ ap (λ (d : Books). given (mine d) own) a.at.books_are) in
+    let entry_is : c.note.new.entries.items ≡ old ++ e ∷ [] = c.in_ok-note.ensures ∙ ap (λ (i : Ids). old ++ Collected w i ∷ []) (c.in_ok-taken.ensures.ids ∙ ap (λ (d : Books). ids_to_list (mine d) own) a.at.books_are) in
     let unshut_books = sym c.is_shut-shut.ensures ∙ c.if-shut.false in
     let unshut : is_shut w s.books ≡ false = ap (λ (d : Books). is_shut w d) (sym a.at.books_are) ∙ unshut_books in
     let unstopped : is_stopped s.books ≡ false = ap is_stopped (sym a.at.books_are) ∙ going-on w b c.requires.joins.told unshut_books in
     let compares : c.in_ok-taken.taken.comparison ≡ mine s.books = c.in_ok-taken.ensures.comparison ∙ ap mine a.at.books_are in
     let done = acted-collected w own s c.in_ok-taken.taken.comparison _ _ c.note.new.entries.items c.take_in.new.entries.items _ compares unshut
-    (c.in_ok-take_in.ensures (noted w (given (mine s.books) own) s) at (λ n. may-take_in w own s c.in_ok-taken.taken.comparison _ _ _ a compares unshut unstopped n)) in
+    (c.in_ok-take_in.ensures (noted w (ids_to_list (mine s.books) own) s) at (λ n. may-take_in w own s c.in_ok-taken.taken.comparison _ _ _ a compares unshut unstopped n)) in
     subst (λ (x : Entry). Ruled s x (books_of c.finish-2.new.self.books) (known_by c.finish-2.new.self.known) old c.finish-2.new.entries.items (g.M.Mode.stands c.finish-2.new.self.mode)) (sym (given-is w own s))
     (finish s e _ _ _ _ old c.note.new.entries.items c.take_in.new.entries.items c.finish-2.new.entries.items _ _
     entry_is done c.in_ok-finish-2.ensures))

@@ -3,15 +3,15 @@ use Rattle.std.specs.Prelude.{if◌then◌else◌}
 use Rattle.xd_journal.specs.declared.entry.Entry.{Entry}
 use Rattle.xd_journal.specs.declared.entry.Entry.TheVariants.{Ready, Done, Back, Finished, Refused, Down, NotStarted, Start, Shutdown, Kill}
 use Rattle.xd_ledger.specs.Books.{Books, marked}
-use Rattle.xd_ledger.specs.Modes.Call.{Died, TestDone, TestsBack}
-use Rattle.xd_ledger.specs.Outputs.{acts_of, after_death, shut_all}
+use Rattle.xd_ledger.specs.Modes.ModeCall.{Died, TestDone, TestsBack}
+use Rattle.xd_ledger.specs.Outputs.{acts_of, outputs_of_death, shut_all}
 use Rattle.xd_ledger.specs.Sharing.{State}
-use Rattle.xd_ledger.specs.State.{moved, settles}
+use Rattle.xd_ledger.specs.State.{after_effect, settles}
 use Rattle.xd_ledger.specs.Stops.{is_shutting, is_stopped}
 use Rattle.xd_ledger.specs.Workers.{is_active, made_gone, made_ready, slot_of}
 use Rattle.xd_session.specs.Crew.{books_of}
 use Rattle.xd_session.specs.Known.{known_by}
-use Rattle.xd_session.specs.Rules.{told}
+use Rattle.xd_session.specs.Rules.{told_to_shut}
 use Rattle.xd_session.proofs.Acts.{acted-by, finish}
 use Rattle.xd_session.proofs.Judging.{done-found, done-stopped, no-head, where-head}
 use Rattle.xd_laws.proofs.Calls.{done-called}
@@ -27,7 +27,7 @@ done_outputs-requires-clause-at g c = λ h.
     (let s : State = c.requires.0 in
     let a = c.requires.1 in
     let at = done-found s c.args.worker c.args.index c.args.outcome c.args.ms c.args.output c.in-Some.item (books_of c.args.self.now.books) (books_of c.score.new.self) (known_by c.args.self.now.known) _ a.at (sym c.head_named.ensures.named ∙ c.in-Some.is) c.in_ok-score.ensures.done in
-    (moved s (Done c.args.worker c.args.index c.args.outcome c.args.ms c.args.output), record { at = at; going = ap is_stopped (sym at.books_are) ∙ h; called = done-called s c.args.worker c.args.index c.args.outcome c.args.ms c.args.output a.reached a.follows }))
+    (after_effect s (Done c.args.worker c.args.index c.args.outcome c.args.ms c.args.output), record { at = at; going = ap is_stopped (sym at.books_are) ∙ h; called = done-called s c.args.worker c.args.index c.args.outcome c.args.ms c.args.output a.reached a.follows }))
 
 pub score-requires-clause-head : goal.score-requires-clause-head
 score-requires-clause-head g c = where-head _ _ _ (sym c.head_named.ensures.named ∙ c.in-Some.is)
@@ -39,7 +39,7 @@ returns-in_default g c = λ s a.
 pub returns : goal.returns
 returns g c = λ s a.
     (let e : Entry = Done c.args.worker c.args.index c.args.outcome c.args.ms c.args.output in
-    let t : State = moved s e in
+    let t : State = after_effect s e in
     let at = done-found s c.args.worker c.args.index c.args.outcome c.args.ms c.args.output c.in-Some.item (books_of c.args.self.now.books) (books_of c.score.new.self) (known_by c.args.self.now.known) _ a.at (sym c.head_named.ensures.named ∙ c.in-Some.is) c.in_ok-score.ensures.done in
     let before : c.is_stopped-before.result ≡ is_stopped s.books = c.is_stopped-before.ensures ∙ ap is_stopped a.at.books_are in
     let outs : Bool → List Entry = λ q. if q then [] else if is_stopped t.books then shut_all t.books.crew else acts_of (TestDone c.args.worker c.args.ms) t in

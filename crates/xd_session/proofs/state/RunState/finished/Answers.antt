@@ -3,15 +3,15 @@ use Rattle.std.specs.Prelude.{if◌then◌else◌}
 use Rattle.xd_journal.specs.declared.entry.Entry.{Entry}
 use Rattle.xd_journal.specs.declared.entry.Entry.TheVariants.{Ready, Done, Back, Finished, Refused, Down, NotStarted, Start, Shutdown, Kill}
 use Rattle.xd_ledger.specs.Books.{Books, marked}
-use Rattle.xd_ledger.specs.Modes.Call.{Died, TestDone, TestsBack}
-use Rattle.xd_ledger.specs.Outputs.{acts_of, after_death, shut_all}
+use Rattle.xd_ledger.specs.Modes.ModeCall.{Died, TestDone, TestsBack}
+use Rattle.xd_ledger.specs.Outputs.{acts_of, outputs_of_death, shut_all}
 use Rattle.xd_ledger.specs.Sharing.{State}
-use Rattle.xd_ledger.specs.State.{moved, settles}
+use Rattle.xd_ledger.specs.State.{after_effect, settles}
 use Rattle.xd_ledger.specs.Stops.{is_shutting, is_stopped}
 use Rattle.xd_ledger.specs.Workers.{made_gone, made_ready, slot_of}
 use Rattle.xd_session.specs.Crew.{books_of}
 use Rattle.xd_session.specs.Known.{known_by}
-use Rattle.xd_session.specs.Rules.{told}
+use Rattle.xd_session.specs.Rules.{told_to_shut}
 use Rattle.xd_session.proofs.Acts.{acted-none, finish, gone-left-at}
 use Rattle.xd_session.proofs.state.RunState.finished.Goals as goal
 
@@ -19,7 +19,7 @@ pub returns : goal.returns
 returns g c = λ s a.
     (let w : ℕ = c.args.worker in
     let e : Entry = Finished w in
-    let t : State = moved s e in
+    let t : State = after_effect s e in
     let b : Books = books_of c.mark.new.self in
     let at = gone-left-at s w (books_of c.args.self.now.books) b _ _ a (c.mark.ensures ∙ ap (λ (d : Books). marked (made_gone w) d) c.leave.ensures) in
     finish s e b _ _ _ c.args.entries.now.items c.note.new.entries.items c.note.new.entries.items c.finish.new.entries.items _ _

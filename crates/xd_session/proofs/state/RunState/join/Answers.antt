@@ -8,15 +8,15 @@ use Rattle.xd_ledger.specs.declared.member.Listed.{Listed}
 use Rattle.xd_ledger.specs.Books.{Books}
 use Rattle.xd_ledger.specs.Calls.{Turned}
 use Rattle.xd_ledger.specs.Collections.{listed}
-use Rattle.xd_ledger.specs.Modes.Call.{Joined, Share}
-use Rattle.xd_ledger.specs.Outputs.{after_joining, shut_all, slots_of_rota}
+use Rattle.xd_ledger.specs.Modes.ModeCall.{Joined, Share}
+use Rattle.xd_ledger.specs.Outputs.{outputs_of_joining, shut_all, slots_of_rota}
 use Rattle.xd_ledger.specs.Plan.{Plan}
 use Rattle.xd_ledger.specs.Sharing.{State, is_full}
 use Rattle.xd_ledger.specs.Stops.{is_stopped, stopped_by}
 use Rattle.xd_ledger.specs.Suits.{Suits}
 use Rattle.xd_ledger.specs.Workers.{is_shut, slot_of}
 use Rattle.xd_session.specs.declared.lists.Comparison.{Comparison}
-use Rattle.xd_session.specs.Compared.{comparison, given, stop_of}
+use Rattle.xd_session.specs.Compared.{comparison, ids_to_list, stop_of}
 use Rattle.xd_session.specs.Crew.{books_of}
 use Rattle.xd_session.specs.Joining.{TakenIn, filled, taken_in}
 use Rattle.xd_session.specs.Known.{Known, known_by}

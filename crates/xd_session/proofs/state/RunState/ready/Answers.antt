@@ -3,15 +3,15 @@ use Rattle.std.specs.Prelude.{if◌then◌else◌}
 use Rattle.xd_journal.specs.declared.entry.Entry.{Entry}
 use Rattle.xd_journal.specs.declared.entry.Entry.TheVariants.{Ready, Done, Back, Finished, Refused, Down, NotStarted, Start, Shutdown, Kill}
 use Rattle.xd_ledger.specs.Books.{Books, marked}
-use Rattle.xd_ledger.specs.Modes.Call.{Died, TestDone, TestsBack}
-use Rattle.xd_ledger.specs.Outputs.{acts_of, after_death, shut_all}
+use Rattle.xd_ledger.specs.Modes.ModeCall.{Died, TestDone, TestsBack}
+use Rattle.xd_ledger.specs.Outputs.{acts_of, outputs_of_death, shut_all}
 use Rattle.xd_ledger.specs.Sharing.{State}
-use Rattle.xd_ledger.specs.State.{moved, settles}
+use Rattle.xd_ledger.specs.State.{after_effect, settles}
 use Rattle.xd_ledger.specs.Stops.{is_shutting, is_stopped}
 use Rattle.xd_ledger.specs.Workers.{made_gone, made_ready, slot_of}
 use Rattle.xd_session.specs.Crew.{books_of}
 use Rattle.xd_session.specs.Known.{known_by}
-use Rattle.xd_session.specs.Rules.{told}
+use Rattle.xd_session.specs.Rules.{told_to_shut}
 use Rattle.std.proofs.Common.{append_assoc}
 use Rattle.xd_session.proofs.Closing.{ready-at, ruled}
 use Rattle.xd_session.proofs.state.RunState.ready.Goals as goal
@@ -22,7 +22,7 @@ returns g c = λ s a.
     let b : Books = books_of c.args.self.now.books in
     let old : List Entry = c.args.entries.now.items in
     let k : Books = books_of c.mark.new.self in
-    let f : Books → Books = λ d. if is_shutting d then told w d else d in
+    let f : Books → Books = λ d. if is_shutting d then told_to_shut w d else d in
     let own : Books → List Entry = λ d. if is_shutting d then Shutdown w ∷ [] else [] in
     let e : k ≡ marked (made_ready w) b = c.mark.ensures in
     let notes : c.tell_where_shutting.new.entries.items ≡ old ++ Ready w ∷ own (marked (made_ready w) s.books) =

@@ -3,24 +3,24 @@ use Rattle.std.specs.Prelude.{if◌then◌else◌}
 use Rattle.xd_journal.specs.declared.entry.Entry.{Entry}
 use Rattle.xd_journal.specs.declared.entry.Entry.TheVariants.{Ready, Done, Back, Finished, Refused, Down, NotStarted, Start, Shutdown, Kill}
 use Rattle.xd_ledger.specs.Books.{Books, marked}
-use Rattle.xd_ledger.specs.Modes.Call.{Died, TestDone, TestsBack}
-use Rattle.xd_ledger.specs.Outputs.{acts_of, after_death, shut_all}
+use Rattle.xd_ledger.specs.Modes.ModeCall.{Died, TestDone, TestsBack}
+use Rattle.xd_ledger.specs.Outputs.{acts_of, outputs_of_death, shut_all}
 use Rattle.xd_ledger.specs.Sharing.{State}
-use Rattle.xd_ledger.specs.State.{moved, settles}
+use Rattle.xd_ledger.specs.State.{after_effect, settles}
 use Rattle.std.specs.Prelude.{Some}
 use Rattle.xd_journal.specs.declared.entry.RunStop.TheVariants.{CollectError}
 use Rattle.xd_ledger.specs.Stops.{is_shutting, is_stopped, stopped_by}
 use Rattle.xd_ledger.specs.Workers.{made_gone, made_ready, slot_of}
 use Rattle.xd_session.specs.Crew.{books_of}
 use Rattle.xd_session.specs.Known.{known_by}
-use Rattle.xd_session.specs.Rules.{told}
+use Rattle.xd_session.specs.Rules.{told_to_shut}
 use Rattle.xd_session.proofs.Acts.{acted-by, finish, refused-at, refused-outs}
 use Rattle.xd_session.proofs.state.RunState.refused.Goals as goal
 
 pub returns : goal.returns
 returns g c = λ s a.
     (let e : Entry = Refused c.args.worker c.args.text in
-    let t : State = moved s e in
+    let t : State = after_effect s e in
     let at = refused-at s c.args.worker c.args.text (books_of c.args.self.now.books) (books_of c.stop_by.new.self) _ _ a (c.stop_by.ensures ∙ ap (λ (d : Books). stopped_by (Some (CollectError c.args.worker)) d) c.mark.ensures) in
     let before : c.is_stopped-before.result ≡ is_stopped s.books = c.is_stopped-before.ensures ∙ ap is_stopped a.books_are in
     finish s e (books_of c.stop_outputs.new.self.books) _ _ _ c.args.entries.now.items c.note.new.entries.items c.stop_outputs.new.entries.items c.finish.new.entries.items _ _

@@ -3,16 +3,16 @@ use Rattle.std.specs.Prelude.{if◌then◌else◌}
 use Rattle.xd_journal.specs.declared.entry.Entry.{Entry}
 use Rattle.xd_journal.specs.declared.entry.Entry.TheVariants.{Ready, Done, Back, Finished, Refused, Down, NotStarted, Start, Shutdown, Kill}
 use Rattle.xd_ledger.specs.Books.{Books, marked}
-use Rattle.xd_ledger.specs.Modes.Call.{Died, TestDone, TestsBack}
-use Rattle.xd_ledger.specs.Outputs.{acts_of, after_death, shut_all}
+use Rattle.xd_ledger.specs.Modes.ModeCall.{Died, TestDone, TestsBack}
+use Rattle.xd_ledger.specs.Outputs.{acts_of, outputs_of_death, shut_all}
 use Rattle.xd_ledger.specs.Sharing.{State}
-use Rattle.xd_ledger.specs.State.{moved, settles}
+use Rattle.xd_ledger.specs.State.{after_effect, settles}
 use Rattle.xd_ledger.specs.Stops.{is_shutting, is_stopped}
 use Rattle.xd_ledger.specs.Workers.{made_gone, made_ready, slot_of}
 use Rattle.xd_session.specs.Crew.{books_of}
 use Rattle.xd_session.specs.Known.{known_by}
-use Rattle.xd_session.specs.Rules.{told}
-use Rattle.xd_ledger.specs.State.{all_moved}
+use Rattle.xd_session.specs.Rules.{told_to_shut}
+use Rattle.xd_ledger.specs.State.{after_entries}
 use Rattle.xd_session.proofs.Acts.{acted-append, acted-by, acted-start}
 use Rattle.xd_session.proofs.state.RunState.restart.Goals as goal
 
@@ -30,4 +30,4 @@ returns g c = λ s a m.
     acted-by (xs ++ Start number slot ∷ []) _ s _ _ c.args.entries.now.items c.note.new.entries.items _ (ap numbers n ∙ ap slots p)
     (acted-append xs (Start number slot ∷ []) s (books_of c.hear_of_death.new.self.books) _ _ _ c.args.entries.now.items c.hear_of_death.new.entries.items c.note.new.entries.items _ _
     first
-    (acted-start (all_moved s xs) number slot (books_of c.hear_of_death.new.self.books) (books_of c.start.new.self) _ c.hear_of_death.new.entries.items c.note.new.entries.items _ first.at c.in_ok-start.ensures c.in_ok-note.ensures)))
+    (acted-start (after_entries s xs) number slot (books_of c.hear_of_death.new.self.books) (books_of c.start.new.self) _ c.hear_of_death.new.entries.items c.note.new.entries.items _ first.at c.in_ok-start.ensures c.in_ok-note.ensures)))

@@ -1,7 +1,7 @@
 use Rattle.std.proofs.Common.{◌≡◌, ap, sym, subst, ◌∙◌, List, ℕ, true}
 use Rattle.xd_ledger.specs.Books.{Books}
 use Rattle.xd_ledger.specs.Calls.{Turned}
-use Rattle.xd_ledger.specs.Modes.Call.{Share}
+use Rattle.xd_ledger.specs.Modes.ModeCall.{Share}
 use Rattle.xd_ledger.specs.Outputs.{slots_of_rota}
 use Rattle.xd_ledger.specs.Plan.{Plan}
 use Rattle.xd_ledger.specs.Sharing.{State}

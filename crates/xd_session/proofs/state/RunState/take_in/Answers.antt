@@ -10,15 +10,15 @@ use Rattle.xd_ledger.specs.declared.member.Listed.{Listed}
 use Rattle.xd_ledger.specs.Books.{Books}
 use Rattle.xd_ledger.specs.Calls.{Turned}
 use Rattle.xd_ledger.specs.Collections.{listed}
-use Rattle.xd_ledger.specs.Modes.Call.{Joined, Share}
-use Rattle.xd_ledger.specs.Outputs.{after_joining, shut_all, slots_of_rota}
+use Rattle.xd_ledger.specs.Modes.ModeCall.{Joined, Share}
+use Rattle.xd_ledger.specs.Outputs.{outputs_of_joining, shut_all, slots_of_rota}
 use Rattle.xd_ledger.specs.Plan.{Plan}
 use Rattle.xd_ledger.specs.Sharing.{State, is_full}
 use Rattle.xd_ledger.specs.Stops.{is_stopped, stopped_by}
 use Rattle.xd_ledger.specs.Suits.{Suits}
 use Rattle.xd_ledger.specs.Workers.{is_shut, slot_of}
 use Rattle.xd_session.specs.declared.lists.Comparison.{Comparison}
-use Rattle.xd_session.specs.Compared.{comparison, given, stop_of}
+use Rattle.xd_session.specs.Compared.{comparison, ids_to_list, stop_of}
 use Rattle.xd_session.specs.Crew.{books_of}
 use Rattle.xd_session.specs.Joining.{TakenIn, filled, taken_in}
 use Rattle.xd_session.specs.Known.{Known, known_by}
@@ -40,7 +40,7 @@ returns-in_ok-shut_everyone-in-Differs g c = λ s a m.
     let P : Comparison → Type 0 = λ k. TakenIn w (stop_of w k) s (books_of c.shut_everyone.new.books) (known_by c.args.self.now.known) c.args.entries.now.items c.shut_everyone.new.entries.items (g.M.Mode.stands c.args.self.now.mode) in
     subst P (sym c.in-Differs.is)
     (acted-by (shut_all t.books.crew) _ t (books_of c.shut_everyone.new.books) _ c.args.entries.now.items c.shut_everyone.new.entries.items _
-    (choose-second (is_stopped s.books) (is_stopped t.books) [] (shut_all t.books.crew) (after_joining w s.books t) going stopped)
+    (choose-second (is_stopped s.books) (is_stopped t.books) [] (shut_all t.books.crew) (outputs_of_joining w s.books t) going stopped)
     (acted-shut t b (books_of c.shut_everyone.new.books) _ c.args.entries.now.items c.shut_everyone.new.entries.items _ at c.in_ok-shut_everyone-in-Differs.ensures.told c.in_ok-shut_everyone-in-Differs.ensures.noted)))
 
 pub returns-in_ok-join-in-First : goal.returns-in_ok-join-in-First

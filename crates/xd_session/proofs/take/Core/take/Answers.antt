@@ -8,14 +8,14 @@ use Rattle.xd_session.specs.Crew.{books_of}
 use Rattle.xd_session.specs.Judged.{judged}
 use Rattle.xd_session.specs.Kept.{log_in, shortened}
 use Rattle.xd_session.specs.Known.{known_by}
-use Rattle.xd_session.specs.Told.{Took}
+use Rattle.xd_session.specs.Told.{TookNews}
 use Rattle.xd_session.proofs.Taking.{meaning-breach, meaning-silent, told-as, told-none, took-follows}
 use Rattle.xd_session.proofs.take.Core.take.Goals as goal
 
 pub returns-in_ok-follow-in-Follows : goal.returns-in_ok-follow-in-Follows
 returns-in_ok-follow-in-Follows g c = λ s a short.
     (let v : judged c.args.worker (log_in c.args.worker c.args.self.now.logs) s c.args.what ≡ Follows = sym (c.in_ok-judge.ensures s a.at a.reached) ∙ c.in-Follows.is in
-    subst (λ (ls : List WorkerLog). Took c.args.worker c.args.what s c.args.self.now.logs ls c.args.entries.now.items c.follow.new.entries.items c.args.self.now.spent c.follow.new.self.spent (books_of c.follow.new.self.state.books) (known_by c.follow.new.self.state.known) (g.M.Mode.stands c.follow.new.self.state.mode))
+    subst (λ (ls : List WorkerLog). TookNews c.args.worker c.args.what s c.args.self.now.logs ls c.args.entries.now.items c.follow.new.entries.items c.args.self.now.spent c.follow.new.self.spent (books_of c.follow.new.self.state.books) (known_by c.follow.new.self.state.known) (g.M.Mode.stands c.follow.new.self.state.mode))
     (sym c.in_ok-follow-in-Follows.ensures.logs)
     (took-follows c.args.worker c.args.what s c.args.self.now.logs _ _ _ _ _ _ _ v short (c.in_ok-follow-in-Follows.ensures.told s a v)))
 

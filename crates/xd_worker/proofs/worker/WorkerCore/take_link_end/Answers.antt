@@ -1,5 +1,5 @@
 use Rattle.std.proofs.Common.{refl, ap}
-use Rattle.xd_factory.specs.SideTable.{Table, lost}
+use Rattle.xd_factory.specs.SideTable.{ChannelTable, lost}
 use Rattle.xd_worker.specs.Talk.{Talk}
 use Rattle.xd_worker.specs.Worker.{turn_of}
 use Rattle.xd_worker.specs.History.{Heard}
@@ -18,6 +18,6 @@ returns c = λ w h l.
       is = refl;
       counts = counts;
       stands = c.in_ok-stop.ensures (at_talk f (turn_of w))
-          (spoke c.args.self.now c.lose.new.side c.args.acts.now say (turn_of w) f (ap (λ (x : Table). record { table = x; says = say }) c.in_ok-lose.ensures) h)
+          (spoke c.args.self.now c.lose.new.side c.args.acts.now say (turn_of w) f (ap (λ (x : ChannelTable). record { table = x; says = say }) c.in_ok-lose.ensures) h)
           (l came counts);
     }

@@ -5,8 +5,8 @@ use Rattle.xd_value.specs.declared.value.Value.{Value}
 use Rattle.std.proofs.Common.{Err}
 use Rattle.xd_factory.specs.View.{fault_of, entry_count, numbers_of}
 use Rattle.xd_worker.specs.declared.input.WorkerFault.{WorkerFault}
-use Rattle.xd_factory.specs.SideTable.{table_of}
-use Rattle.xd_worker.specs.Stands.{IsSmall, IsRefusal}
+use Rattle.xd_factory.specs.SideTable.{channel_table}
+use Rattle.xd_worker.specs.Stands.{IsSmall, IsThisFault}
 use Rattle.xd_factory.proofs.SideTables.{heard_table, not_taken}
 use Rattle.xd_worker.proofs.Hearing.{small_answer, refusal_at}
 use Rattle.xd_worker.proofs.worker.messages.take.Goals as goal
@@ -21,14 +21,14 @@ returns-in-Ok-clause-heard c =
       means = r.1;
       answer_is = e.answer r.0 r.1;
       table_is = heard_table s c.take_message.new.self r.0 (e.slots r.0 r.1) e.good.1;
-      small = subst (λ (x : Taken Tree). IsSmall x) (sym (e.answer r.0 r.1)) (small_answer c.args.message r.0 (table_of s) (omega arith) r.1);
+      small = subst (λ (x : Taken Tree). IsSmall x) (sym (e.answer r.0 r.1)) (small_answer c.args.message r.0 (channel_table s) (omega arith) r.1);
     }
 
 pub returns-in-Ok-clause-refuses : goal.returns-in-Ok-clause-refuses
 returns-in-Ok-clause-refuses c = λ fault h.
     let s = c.args.side.now in
     let e = c.in-Ok.ensures in
-    not_taken (fault_of s) (table_of s) c.args.message fault (entry_count s) e.good.0 h
+    not_taken (fault_of s) (channel_table s) c.args.message fault (entry_count s) e.good.0 h
     (record { numbers = numbers_of s; rising = c.status.ensures.once; here = c.status.ensures.entries; count = sym c.status.ensures.count ∙ c.status.ensures.numbers })
     (λ r. e.refuses fault e.good.0 r)
 
@@ -37,6 +37,6 @@ returns-in-Err-clause-refuses c = λ fault h.
     let s = c.args.side.now in
     let e = c.in-Err.ensures in
     let f = c.in-Err.fault in
-    subst (λ (x : WorkerFault). IsRefusal {X = Taken Value} fault (Err x)) (sym c.fault_of.ensures)
-    (refusal_at (Taken Value) (Taken Value) (fault_of s) (table_of s) c.args.message fault f (entry_count s) (λ b q. let z = (e.failed b q).0 in cc) (λ q r. e.refuses fault q r)
+    subst (λ (x : WorkerFault). IsThisFault {X = Taken Value} fault (Err x)) (sym c.fault_of.ensures)
+    (refusal_at (Taken Value) (Taken Value) (fault_of s) (channel_table s) c.args.message fault f (entry_count s) (λ b q. let z = (e.failed b q).0 in cc) (λ q r. e.refuses fault q r)
     (record { numbers = numbers_of s; rising = c.status.ensures.once; here = c.status.ensures.entries; count = sym c.status.ensures.count ∙ c.status.ensures.numbers }) h)
