@@ -4,7 +4,7 @@
 Usage: tools/draw.py SEED COUNT MODE ..   as in: tools/draw.py 2026 40 each worksteal
        tools/draw.py retries SEED COUNT MODE ..   the same with more deaths, and crashed tests that are tried again
 
-A line has a name, the settings and the news; `tools/tables.py write` puts what they come to behind them. The workers are
+A line has a name, the settings and the news; `tools/tables.py write` puts what they come to after them. The workers are
 honest but for deaths: each says that it is ready, collects, runs what it was given in order, the last test only once it was
 told to shut down, answers a steal, and finishes. Any of them may say its next news first.
 """

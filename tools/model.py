@@ -1,6 +1,6 @@
 """A model of a run with workers, written apart from the program and from its definitions.
 
-It knows the rules of pytest-xdist's controller and of its modes as this project has them (docs/DEFINITIONS.md retells them):
+It knows the rules of pytest-xdist's controller and of its modes as this project has them (the comments in crates/xd_ledger/specs say them):
 which entry a piece of news makes, which outputs follow an entry, when a run stops and is over, and what is printed of it.
 `tables.py` compares the tables that the tests read with what this model says of them, or writes them anew.
 
@@ -457,7 +457,7 @@ def begin(settings):
 
 
 def step(run, entry):
-    """Puts what a worker said at the end of the journal, and what follows it behind that."""
+    """Puts what a worker said at the end of the journal, and what follows it after that."""
     kind, w, *rest = entry
     was_stopped, was_shared, was_shut = run.stop is not None, run.is_shared, w in run.shut
     run.push(entry)
@@ -506,7 +506,7 @@ def are_ids(ids):
 
 
 def is_answer(run, w, tests):
-    """An answer to the open steal: none of the tests, or all that were asked for while they are held behind the head."""
+    """An answer to the open steal: none of the tests, or all that were asked for while they are held after the head."""
     if run.steal is None or run.steal[0] != w:
         return False
     behind_head = run.held.get(w, [])[1:]

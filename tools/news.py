@@ -3,7 +3,7 @@
 
     python3 tools/news.py > crates/xd_tests_sides/src/remote/rows.rt
 
-The messages are written and read here by the description of the formats in docs/DEFINITIONS.md alone, and no code of the
+The messages are written and read here by the description of the formats in words alone, and no code of the
 program is used. What a list means is told by which channels have ended and which logs have started; there is no table of
 channels. The rows are the same at each run.
 """

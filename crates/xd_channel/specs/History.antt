@@ -150,5 +150,6 @@ pub record StandsByParts {V : Type 0} (s : EndState V) (done came : List V) (fir
   pub one_open : open_ ≡ false → hook ≡ false → is_some first ≡ true
 
 -- the end is as this list of calls leaves it
+-- Example: three items came, one was received, then came a close: two wait, and the marker is Closed.
 abbrev pub Stands : {V : Type 0} → EndState V → List (EndCall V) → Type 0
 Stands s h = StandsByParts s (delivered h) (arrived h) (marker h) (send_open h) (hooked h) (end_given h)

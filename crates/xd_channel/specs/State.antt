@@ -17,6 +17,7 @@ use Rattle.xd_channel.specs.declared.answers.Waiting.{Waiting}
 
 -- an end, as contracts see it: the items that wait, the end marker after them, whether sending is open, whether a
 -- callback is set, and whether the marker was given by a receive or handed to a callback
+-- Example: two items wait, and a close came after them: the marker is Closed, and a receive gives the first item.
 pub record EndState (V : Type 0) : Type 0 where
   pub waiting : List V
   pub marker : Option End

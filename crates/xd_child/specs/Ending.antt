@@ -14,6 +14,7 @@ outcome_of_end (Status s) = if s == 0 then Passed else if s == 77 then Skipped e
 outcome_of_end Killed = Failed (negsuc 0)
 
 -- what a start that was asked for came to, where it is not still running
+-- Example: status 0 is passed, 77 skipped, and 1 a failure with 1; a program that a signal killed is a failure with -1.
 abbrev pub outcome_of : Fate → Option Outcome
 outcome_of Running = None
 outcome_of (Ended end) = Some (outcome_of_end end)

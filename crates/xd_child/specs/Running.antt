@@ -7,6 +7,7 @@ use Rattle.xd_child.specs.declared.running.ChildResult.{ChildResult}
 
 -- Where it is told, one start more of these arguments was asked for, and it came to this result, with room for that
 -- many bytes of what it gave.
+-- Example: with room for 3 bytes a program prints `abcde` and ends with 1: `abc` is kept; with 0 nothing is.
 pub record RanChild (args : List (List ℕ)) (room : ℕ) (result : ChildResult) (old new : Option (List ChildRun)) : Type 0 where
   pub run : ChildRun
   pub args_are : run.args ≡ args

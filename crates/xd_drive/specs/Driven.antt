@@ -39,6 +39,7 @@ pub record Whole (given : List News) (j : Journal) (old new : Scene) : Type 0 wh
 
 -- The output failed: `count` entries were performed, each after its lines, and of the others the kills of the workers
 -- that these had started; of the report a first part was taken.
+-- Example: the flush after a death's lines fails: its Start is not called for, and so no Kill of that worker.
 pub record Broken (count : ℕ) (given : List News) (j : Journal) (old new : Scene) : Type 0 where
   pub ended : Ended true given j
   pub gave : AddsAll given old.given new.given

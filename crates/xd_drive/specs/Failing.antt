@@ -20,5 +20,6 @@ pub record AtEnd (settings : Settings) (taken : List News) (count : ℕ) (es : L
   pub shows : BrokeAtEnd settings (take count es) es old new
 
 -- At the lines of the last news, or at the end of a run that is over.
+-- Example: the close fails after the whole report: at the end.
 abbrev pub FailedAt : Settings → List News → ℕ → List Entry → Option Sunk → Option Sunk → Type 0
 FailedAt settings taken count es old new = AtLines settings taken count es old new ⊎ AtEnd settings taken count es old new

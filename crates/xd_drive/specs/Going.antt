@@ -34,6 +34,7 @@ pub record Scene : Type 0 where
   pub sunk : Option Sunk
 
 -- All that the news told was printed and performed.
+-- Example: the line of a result is printed and flushed, and the Run after it is told to its worker.
 pub record Going (given : List News) (s : Seen) (old new : Scene) : Type 0 where
   pub stands : StandsFor (taken_of s.settings given) s
   pub gave : AddsAll given old.given new.given

@@ -39,6 +39,7 @@ NotesNews (Broken count) s_old s_new old new before after = after ≡ before
 
 -- At this moment the hub had been called for no more than entries before the one at this place, and the output had taken and
 -- handed on the lines of that entry and of all before it.
+-- Example: gw0 dies and gw1 replaces it: the lines of both were handed on, and gw1 was not started.
 pub record IsBetween (settings : Settings) (es : List Entry) (place : ℕ) (old m : Scene) : Type 0 where
   pub called : ℕ
   pub ahead : called ≤ place

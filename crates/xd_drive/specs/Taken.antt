@@ -1,4 +1,5 @@
--- Which of the news that a hub gives are taken.
+-- Which of the news that a hub gives are taken. pytest-xdist's loop, too, drops what comes of a worker that is not
+-- active.
 use Rattle.std.specs.Prelude.{List, [], ◌∷◌, ◌++◌, fold, if◌then◌else◌}
 use Rattle.xd_journal.specs.declared.settings.Settings.{Settings}
 use Rattle.xd_journal.specs.declared.news.News.{News}
@@ -10,5 +11,6 @@ abbrev pub taken_with : Settings → List News → News → List News
 taken_with settings taken n = if is_active n.worker (run_of settings taken).state.books then taken ++ n ∷ [] else taken
 
 -- the news that are taken of those that were given
+-- Example: gw0 died, and then a result of gw0 comes: it was given and not taken.
 abbrev pub taken_of : Settings → List News → List News
 taken_of settings given = fold (taken_with settings) [] given

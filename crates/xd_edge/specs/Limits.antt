@@ -2,6 +2,7 @@
 use Rattle.std.specs.Prelude.{ℕ}
 
 -- a suite, and so a collection or an order, has at most this many tests
+-- This number and the next two stand once each, beside a constant of the code with the same value.
 abbrev pub most_tests : ℕ
 most_tests = 50000
 

@@ -109,6 +109,7 @@ abbrev pub took_deeds : Bool → ℕ → Said → Taken Tree → List Deed → L
 took_deeds mine c said t d = told_deeds mine c said t (if is_in c (names_of said) then named_deeds mine d else d)
 
 -- what happened to a number, newest first
+-- Example: a side opened 1 and 3 and closed 1: that of 1 is an opening and a close, that of 3 an opening.
 abbrev pub deeds : Parity → ℕ → List Act → List Deed
 deeds parity c [] = []
 deeds parity c (Open_channel n ∷ h) = if n == c then Opens ∷ deeds parity c h else deeds parity c h

@@ -11,6 +11,7 @@ abbrev pub is_odd : ℕ → Bool
 is_odd c = c % 2 == 1
 
 -- the number is one that the side opens itself
+-- Example: 3 is an own number of the side that started the link.
 abbrev pub is_mine : Parity → ℕ → Bool
 is_mine Odd c = is_odd c
 is_mine Even c = not (is_odd c)

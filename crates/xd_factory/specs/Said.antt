@@ -1,4 +1,5 @@
--- What a message says, its payload read, and why it says nothing. After execnet's gateway_base.py.
+-- What a message says, its payload read, and why it says nothing. After execnet's gateway_base.py. The order of the
+-- faults is a choice of this project.
 use Rattle.std.specs.Prelude.{◌≡◌, ℕ, ◌==◌, ◌&&◌, List, [], ◌∷◌, ◌++◌, Bool, true, false, Option, Some, None, Result, Ok, Err}
 use Rattle.xd_value.specs.Tree.{Tree, none, truth, int, bytes, text, list, tuple, set, frozenset, dict, channel}
 use Rattle.xd_value.specs.View.{view}
@@ -94,6 +95,7 @@ pub record NotText (m : MessageView) : Type 0 where
   pub other : is_text value ≡ false
 
 -- why a message says nothing
+-- Example: a CHANNEL_DATA whose payload is `L L Q`; a CHANNEL_CLOSE says its end whatever its payload holds.
 abbrev pub Misread : MessageView → SideFault → Type 0
 Misread m fault.BadNumber = is_unnumbered m ≡ true
 Misread m fault.Unsupported = m.kind ≡ kind.Reconfigure

@@ -54,6 +54,7 @@ abbrev pub lost : ChannelTable → ChannelTable
 lost t = record t { slot = λ c. lost_slot (t.slot c); fault = fault_or t.fault Finished; finished = true }
 
 -- n numbers are in the table
+-- Example: CHANNEL_EXEC on 1 puts one channel into a new table of even numbers, and a STATUS none.
 pub record Counts (slot : ℕ → Slot Tree) (n : ℕ) : Type 0 where
   pub numbers : List ℕ
   pub rising : IsStrictlySortedBy nat_cmp numbers

@@ -14,6 +14,7 @@ use Rattle.xd_factory.specs.declared.faults.HookFault.{HookFault}
 use Rattle.xd_factory.specs.declared.faults.HookFault.TheVariants.{Unknown, HasCallback}
 
 -- a number at one side: never opened there, in the table with its end, or closed for good
+-- Example: an item opens a number of the peer; once its close came and was received it is closed for good.
 pub data Slot (V : Type 0) : Type 0 where
   Unseen : Slot V
   Here : EndState V → Slot V

@@ -43,6 +43,7 @@ told_slot mine c (Last n) s = if n == c then peer_last_slot mine s else s
 told_slot mine c Terminate s = s
 
 -- what a message does at a number: its names open, then its item or its end comes on its own number
+-- Example: an item without channels on a number that is closed for good is Dropped, opens nothing and changes nothing.
 abbrev pub heard_slot : Parity → Said → ℕ → Slot Tree → Slot Tree
 heard_slot parity said c s = told_slot (is_mine parity c) c said (named_in (is_mine parity c) (is_in c (names_of said)) s)
 

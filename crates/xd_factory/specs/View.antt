@@ -18,6 +18,7 @@ slot_at None true = Gone
 slot_at None false = Unseen
 
 -- what the side has at a number
+-- Example: a side without the number 6 has there a slot that was never opened.
 abbrev pub slot_of_number : Side → ℕ → Slot Tree
 slot_of_number s c = slot_at (trees_at (tree.get nat_cmp s.ends c)) (is_known s.parity s.next s.seen c)
 

@@ -84,6 +84,7 @@ lasting (Err (Bad fault)) = Some (Bad fault)
 lasting (Err OutOfMemory) = Some OutOfMemory
 
 -- One pull of a framer: what its read gave, and what became of the framer and of the answer.
+-- Example: after a message of 69 bytes and the byte 05 the pulls answer More, the message, More, and that the bytes are cut.
 pub record Pulls (result : Result Pulled PullFault) (old new : FramerView) (before after : Spring) : Type 0 where
   pub piece : List ℕ
   pub gave : Gave piece before.supply after.supply

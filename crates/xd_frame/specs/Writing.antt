@@ -15,6 +15,7 @@ WritesMore true broken bytes old new = (broken ≡ true) × (new ≡ old)
 WritesMore false broken bytes old new = Writes (not broken) bytes old new
 
 -- Where all calls went well the count is the one before them; where one failed it rose.
+-- Example: all messages were written and handed on: the count is the one before.
 abbrev pub CountAfter : Bool → ℕ → ℕ → Type 0
 CountAfter true before now = now ≡ before
 CountAfter false before now = Rose before now

@@ -28,6 +28,7 @@ call_by (text name) (dict kwargs) = if has_text_keys kwargs then Some (record { 
 call_by _ _ = None
 
 -- the call that a value is: a tuple of just two values that make one, and nothing else
+-- Example: `("shutdown", {})` is the call by the name `shutdown`, and `("shutdown", {}, 1)` is none.
 abbrev pub call_in : Tree → Option Call
 call_in (tuple (tree name (tree kwargs no_trees))) = call_by name kwargs
 call_in _ = None

@@ -32,6 +32,7 @@ done_kwargs n outcome ms =
     (pair (text (codes "duration")) (int (pos ms)) no_pairs)))
 
 -- an event, as it is written; the other news are no events
+-- Example: `("logstart", {"item_index": 0, "log": channel(2)})`; a failed test with the code 77 is no event.
 abbrev pub event_tree : What → Option Tree
 event_tree Ready = Some (call_as_value (codes "workerready") no_pairs)
 event_tree (Collected ids) =

@@ -1,5 +1,5 @@
 -- Keyword arguments by their keys. Their order does not count, and keys that nobody asks for are ignored, as in a call
--- with **kwargs in Python.
+-- with **kwargs in Python. The ranges of numbers are a choice of this project.
 use Rattle.std.specs.Prelude.{ℕ, ◌<◌, nat_lt, ℤ, pos, negsuc, Bool, false, List, [], ◌∷◌, Option, Some, None, option_and_then, map, codes, if◌then◌else◌}
 use Rattle.std.specs.Str.{bytes_eq}
 use Rattle.xd_value.specs.Tree.{Tree, Trees, Pairs, int, text, list, channel, no_trees, tree, no_pairs, pair}
@@ -17,6 +17,7 @@ is_key key (text cs) = bytes_eq cs key
 is_key key _ = false
 
 -- what stands under a key; a payload has no dict with a key twice, and elsewhere the first counts
+-- Example: in `{"b": 2, "a": 1}` the integer under `a` is 1.
 abbrev pub value_at : List ℕ → Pairs → Option Tree
 value_at key no_pairs = None
 value_at key (pair k v ps) = if is_key key k then Some v else value_at key ps

@@ -18,6 +18,7 @@ order_of (ShutDown w) = Some Shutdown
 order_of _ = None
 
 -- an order, as it is written
+-- Example: `("runtests", {"indices": [0, 1]})`.
 abbrev pub order_tree : Order → Tree
 order_tree (RunTests ns) = call_as_value (codes "runtests") (indices_kwargs ns)
 order_tree RunAll = call_as_value (codes "runtests_all") no_pairs

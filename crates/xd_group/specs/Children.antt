@@ -17,6 +17,7 @@ abbrev pub link_asked : LinkRun → AskedOfLink
 link_asked l = record { killed = l.killed; reaped = l.reaped }
 
 -- the starts that were asked for, and what was asked of each link
+-- Example: of two starts the second failed: two starts are told, and one link.
 pub record ToldByStarter : Type 0 where
   pub starts : List StartRun
   pub links : List AskedOfLink

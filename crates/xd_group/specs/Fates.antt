@@ -28,6 +28,7 @@ is_refused Refused = true
 is_refused Linked = false
 
 -- of these workers those whose start had such a fate, in order
+-- Example: of gw0, gw1 and gw2 the second was refused: all three have a link, and gw0 and gw2 are read.
 abbrev pub workers_with : (Fate → Bool) → List ℕ → List Fate → List ℕ
 workers_with which [] fates = []
 workers_with which (w ∷ ws) [] = []

@@ -8,6 +8,7 @@ abbrev pub count_with : (Fate → Bool) → List Fate → ℕ
 count_with which fates = length (filter which fates)
 
 -- The count rose at least so often, and stood still where that is never.
+-- Example: one reader was refused: the crew's count rose.
 pub record RoseFor (times before now : ℕ) : Type 0 where
   pub rose : RoseBy times before now
   pub still : times ≡ 0 → now ≡ before

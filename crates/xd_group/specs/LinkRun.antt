@@ -24,6 +24,7 @@ is_garbled (stop.BadGreeting b) = true
 is_garbled _ = false
 
 -- why a link is said to be gone: its bytes end so and no more were to come, or they are refused, or a count rose
+-- Example: the last order to gw0 could not be written: gw0 is said to be gone by a failed send.
 abbrev pub IsGone : Cause → List ℕ → Spring → ℕ → Type 0
 IsGone cause.Ended bytes s writes = (link_stop true bytes ≡ stop.Ended) × ReadToEnd s
 IsGone cause.Cut bytes s writes = (link_stop true bytes ≡ stop.Cut) × ReadToEnd s

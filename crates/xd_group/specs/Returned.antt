@@ -11,6 +11,7 @@ use Rattle.xd_group.specs.LinkRun.{Link, LinkRun}
 use Rattle.xd_group.specs.Unused.{Unused}
 
 -- It ran by the news of its worker and the orders to it; where the crew refused its reader, it was not used.
+-- Example: gw1's reader is refused: its link is killed, and gave and took nothing.
 abbrev pub RanSo : List ℕ → ModeKind → List News → List Entry → List ℕ → ℕ → Link → Type 0
 RanSo suite mode given calls refused w l = MatchBool (is_among w refused) (Unused l) (LinkRun suite mode (said_by w given) (orders_to w calls) l)
 

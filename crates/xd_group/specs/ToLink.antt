@@ -1,4 +1,5 @@
--- What a controller writes to the link of a worker.
+-- What a controller writes to the link of a worker. execnet's gateway.py writes the call, and pytest-xdist's
+-- workermanage.py the orders.
 use Rattle.std.specs.Prelude.{ℕ, Bool, true, false, List, [], ◌∷◌, ◌++◌, Option, Some, None, option_and_then, Result, Ok, Err, codes}
 use Rattle.std.specs.List.{list_any, filter_map}
 use Rattle.xd_edge.specs.declared.mode.ModeKind.{ModeKind}

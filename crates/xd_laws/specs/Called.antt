@@ -11,6 +11,7 @@ use Rattle.xd_ledger.specs.State.{after_entries}
 use Rattle.xd_ledger.specs.Suits.{Finds}
 
 -- the table fits the plan, and what the mode says makes of the state what its rule computes
+-- Example: after the Done that left gw0 one test, mode load's Run of two more moves these two from the pool.
 pub record Called (c : ModeCall) (s : State) : Type 0 where
   pub finds : Finds c s.plan s.books.table
   pub table : (after_entries s (acts_of c s)).books.table ≡ (turned s.plan.mode c (turn_of s)).table

@@ -10,6 +10,7 @@ abbrev pub slots : Settings → ℕ
 slots settings = if is_each settings.mode then settings.workers else 1
 
 -- how many tests these have together
+-- Example: two slots of 3 tests in mode each are 6.
 abbrev pub collected : Books → ℕ
 collected b = sum (sizes_from b.lists 0 (slots b.settings))
 

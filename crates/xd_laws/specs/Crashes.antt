@@ -12,6 +12,7 @@ use Rattle.xd_ledger.specs.Reports.{Report, reports}
 
 -- At a place of the journal the worker went down, the item was the first that it held there, it was not to be tried again,
 -- and the reports of the entries before that place are these.
+-- Example: gw0 holds 0 and 2 and dies: the crash is of 0.
 pub record IsDeath (settings : Settings) (es : List Entry) (earlier : List Report) (worker item : ℕ) : Type 0 where
   pub before : List Entry
   pub cause : Cause

@@ -46,6 +46,7 @@ put_last s [] x place = place
 put_last s (e ∷ es) x place = put_last (after_entry s e) es x (or_before (puts (reached s e) e x) place)
 
 -- the place of the item by the last entry that moves it, where there is one
+-- Example: a test that was given to gw0, and was second when gw0 died, is in the pool.
 abbrev pub place_by : Settings → List Entry → ℕ → Option Place
 place_by settings es x = put_last (no_one settings) es x None
 

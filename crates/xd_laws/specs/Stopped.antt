@@ -1,4 +1,4 @@
--- What the stop of a run says of its journal.
+-- What the stop of a run says of its journal. The limits are pytest's and pytest-xdist's.
 use Rattle.std.specs.Prelude.{◌≡◌, ℕ, ◌+◌, ◌==◌, Bool, true, false, List, [], ◌∷◌, ◌++◌, length, filter, Some}
 use Rattle.xd_journal.specs.declared.settings.Settings.{Settings}
 use Rattle.xd_journal.specs.declared.entry.Ids.TheVariants as ids
@@ -69,6 +69,7 @@ pub record IsWorkerRefusal (last : Entry) (worker : ℕ) : Type 0 where
   pub last_is : last ≡ Refused worker text
 
 -- the entry brings this stop, after these entries
+-- Example: with a limit of 1 the first Done with Failed brings MaxFail of 1.
 abbrev pub Brings : Settings → List Entry → Entry → RunStop → Type 0
 Brings settings before last (MaxFail count) = ReachesLimit settings before last count
 Brings settings before last (Restarts worker limit) = IsTooMany settings before last worker limit

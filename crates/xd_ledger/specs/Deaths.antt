@@ -41,6 +41,7 @@ steal_without worker (Some a) = if a.worker == worker then None else Some a
 
 -- an item that is tried again goes to the queue's front as a unit of its own, what is left of the worker's units goes to
 -- the queue's end, and its open steal is closed
+-- Example: gw1 holds `a::1`, `a::2`, `b::1`, completes the first and dies: whoever replaces gw1 runs `b::1`.
 abbrev pub down_plan : ℕ → List ℕ → List ℕ → Plan → Plan
 down_plan worker retried rest p = record p {
   queue = if is_scope p.mode then unless_empty retried ++ (p.queue ++ units_left worker rest p.given) else p.queue;

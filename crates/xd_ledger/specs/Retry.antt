@@ -18,5 +18,6 @@ abbrev pub retries_first : List ℕ → Books → Bool
 retries_first items b = elim items [ [] ↦ false | item ∷ rest ↦ may_restart b && has_retries item b ]
 
 -- a Down of the worker after these books is a retry
+-- Example: with one retry test 0 crashes on gw0, which is a retry, and again on gw2, which is none.
 abbrev pub is_retry : ℕ → Books → Bool
 is_retry worker b = retries_first (held worker b.table) b

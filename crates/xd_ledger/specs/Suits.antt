@@ -14,6 +14,7 @@ tests_of [] = []
 tests_of (u ∷ us) = u ++ tests_of us
 
 -- the units have tests of the pool alone, each once, and none is empty
+-- Example: the unit of 0 and 1 with a pool of 1 alone suits no call.
 pub record AreInPool (queue : List (List ℕ)) (pool : List ℕ) : Type 0 where
   pub distinct : all_distinct (tests_of queue) ≡ true
   pub within : all_among (tests_of queue) pool ≡ true

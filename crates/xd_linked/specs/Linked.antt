@@ -26,6 +26,7 @@ use Rattle.xd_group.specs.Unsaid.{SaidUnlinked}
 use Rattle.xd_group.specs.declared.fate.Fate.{Fate}
 
 -- what a run is made of: the path of its suite, its settings, and the places of its workers, by slots
+-- Example: two workers, the second in another folder.
 pub record Setup : Type 0 where
   pub suite : List ℕ
   pub settings : Settings
@@ -42,6 +43,7 @@ pub record DrivesTo (j : Journal) (calls : List Entry) (given : List News) (old 
   pub broken : is_out_fault (stop_of j) ≡ true → (count : ℕ) × (taken : List News) × Broken count taken j (scene_told [] [] old) (scene_told calls given new)
 
 -- what is seen of a link that was ended: its worker, whether its kill was asked for, its source and its sink
+-- Example: gw0's link gave `1` and ended.
 pub record EndedLink : Type 0 where
   pub worker : ℕ
   pub killed : Bool
@@ -81,6 +83,7 @@ pub record RunsLinked (setup : Setup) (j : Journal) (links : List EndedLink) (ol
   pub few_unlinked : RoseBy (count_with is_unlinked fates) old.starter_faults new.starter_faults
 
 -- A run of a suite on workers: its journal, its exit status, its links, and the outside.
+-- Example: gw1 was told to run test 1: its sink took the frame of that order, and its result stands among gw1's news.
 pub record LinkedRun (setup : Setup) (j : Journal) (code : ℕ) (links : List EndedLink) (old new : Seen) : Type 0 where
   pub journal : IsJournalOf setup.settings j
   pub status : code ≡ status_of j

@@ -46,6 +46,7 @@ GoesWrong held bytes before now old new = (why : Stop) × IsWrong why held bytes
 
 -- Nothing is wrong with these bytes: they end at a message's edge, or GATEWAY_TERMINATE is among their messages, and no
 -- message that comes before it is refused.
+-- Example: GATEWAY_TERMINATE with a header of no kind after it is good, as nothing after that message is read.
 pub record AreGood (held : Option Held) (bytes : List ℕ) (old new : Scene) : Type 0 where
   pub edge : (rest bytes ≡ Clean) ⊎ (has_terminate (messages bytes) ≡ true)
   pub accepted : (fault : SideFault) → RefusesOne held bytes fault old new → ⊥

@@ -71,6 +71,7 @@ pub record RunsPrograms (inputs : List WorkerInput) (h : List Heard) (left : Lis
   pub later : old.child_faults ≤ new.child_faults
 
 -- What each end says of the bytes that were given, of what came, and of the outside.
+-- Example: where the bytes end inside a message it is Cut; where the sink cannot be closed it is WriteFault.
 abbrev pub IsCause : Stop → List ℕ → List WorkerInput → List Heard → Spring → Spring → Scene → Scene → Type 0
 IsCause stop.NotRun bytes inputs h s0 s1 old new =
     (bytes ≡ []) × (inputs ≡ []) × (Rose old.reader_refusals new.reader_refusals ⊎ Rose old.runner_refusals new.runner_refusals)

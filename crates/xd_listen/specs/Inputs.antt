@@ -45,6 +45,7 @@ message_in (ChildDone outcome ms) = []
 message_in LinkEnd = []
 
 -- the messages among them, in order
+-- Example: of STATUS and the end of the link the first alone.
 abbrev pub messages_in : List WorkerInput → List MessageView
 messages_in [] = []
 messages_in (i ∷ is) = messages_in is ++ message_in i

@@ -20,6 +20,7 @@ output_in (ChildDone outcome ms ∷ is) = []
 output_in (LinkEnd ∷ is) = output_in is
 
 -- the tests that ended, in order: the pieces of output up to each end, and the end
+-- Example: Output `a`, Output `b` and ChildDone Passed are one program that printed `ab` and ended with status 0.
 abbrev pub ran_in : List WorkerInput → List Ran
 ran_in [] = []
 ran_in (Message m ∷ is) = ran_in is

@@ -7,5 +7,6 @@ abbrev pub greeting : List ℕ
 greeting = 49 ∷ []
 
 -- all that a worker writes that says these messages
+-- Example: of a link without a message it is the byte `1` alone.
 abbrev pub written : List MessageView → List ℕ
 written messages = greeting ++ frames messages

@@ -12,6 +12,7 @@ asked_path [] = None
 asked_path (g ∷ h) = (turn_by (worker_after h) g).suite
 
 -- What the files gave for a path, as far as they tell; `rose` says that their count of faults rose.
+-- Example: for a file of more than 4,194,304 bytes it is SuiteTooLarge.
 abbrev pub FilesGave : Option Held → Type 0 → List ℕ → WorkerInput → Type 0
 FilesGave held rose path (Message m) = ⊥
 FilesGave held rose path (SuiteBytes b) = HasFile held path b × (length b ≤ most_suite_bytes)

@@ -29,6 +29,7 @@ pub record Lasts (ms : ℕ) (old new : Ticking) : Type 0 where
 
 -- For each of these durations, of which the last stands first, the clock gave the moments of its begin and its end, one
 -- duration after the other, and no other moment.
+-- Example: a clock gives 3 and 5; a program was ordered at 3 and its end was taken at 5, so it took 2 milliseconds.
 abbrev pub AreMeasured : List ℕ → Ticking → Ticking → Type 0
 AreMeasured [] old new = new ≡ old
 AreMeasured (ms ∷ durations) old new = (mid : Ticking) × AreMeasured durations old mid × Lasts ms mid new

@@ -12,6 +12,7 @@ pub record TookAll (all taken : List MessageView) : Type 0 where
   pub none_is : has_terminate taken ≡ false
 
 -- GATEWAY_TERMINATE is the last of the messages that were taken.
+-- Example: of STATUS, GATEWAY_TERMINATE, STATUS the first two are taken.
 pub record TookToLast (taken : List MessageView) : Type 0 where
   pub earlier : List MessageView
   pub last : MessageView

@@ -16,6 +16,7 @@ abbrev pub first_in : ℕ → List ℕ → ℕ
 first_in slot counts = sum (take slot counts)
 
 -- the items of the slot
+-- Example: with slots of three and two tests those of the second are 3 and 4.
 abbrev pub items_in : ℕ → List ℕ → List ℕ
 items_in slot counts = range_with_len (first_in slot counts) (slice_index counts slot)
 

@@ -1,4 +1,4 @@
--- A run in the program itself.
+-- A run in the program itself. The limit on failures is pytest's --maxfail.
 use Rattle.std.specs.Prelude.{ℕ, ◌≡◌, ◌≢◌, ◌+◌, ◌<◌, ◌≤◌, nat_le, Bool, true, false, List, [], ◌∷◌, ◌++◌, map, take, length, Option, Some, None, option_map, unwrap_or, sum_by, if◌then◌else◌}
 use Rattle.std.specs.List.{list_all}
 use Rattle.xd_edge.specs.declared.mode.ModeKind.TheVariants.{Local}
@@ -67,11 +67,13 @@ stop_at limit failures = if reaches limit failures then MaxFail failures else Co
 
 -- No test was run after the one whose failure reached this limit. Where the output did not fail, the run ended by the
 -- limit exactly where its failures reached it, with their number.
+-- Example: three tests pass, fail and are skipped, and the limit is 1: the third is not run.
 pub record KeepsLimit (limit : ℕ) (j : Journal) : Type 0 where
   pub none_behind : (k : ℕ) → k < length (reports_in j) → reaches limit (failures_in (take k (reports_in j))) ≡ false
   pub how : stop_of j ≢ OutFault → stop_of j ≡ stop_at limit (failures_in (reports_in j))
 
 -- how many faults of the outside a report stands for
+-- Example: a test that could not be started stands for one, and one that failed with status 1 for none.
 abbrev pub report_faults : Report → ℕ
 report_faults (Result w item outcome) = fault_count outcome
 report_faults (Crash w item) = 0

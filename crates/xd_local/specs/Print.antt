@@ -47,6 +47,7 @@ DidAll j = (length (reports_in j) ≡ length (collected_ids j)) ⊎ (reaches j.s
 
 -- The output failed at the last step of the run, or at the end of a run that did all that it had to do; of the report a
 -- first part was taken. The entries are those before the journal's end.
+-- Example: the line of the second test of three cannot be written: the lines before it stand, and the third is not started.
 pub record BreaksReport (j : Journal) (old new : Option Sunk) : Type 0 where
   pub es : List Entry
   pub entries : j.entries.items ≡ es ++ Over OutFault ∷ []

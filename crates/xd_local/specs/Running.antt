@@ -139,6 +139,7 @@ pub record SoFar (results : List TestResult) (tests : List Test) (old new : Runn
   pub within : length results ≤ length tests
 
 -- `count` tests were run, and all lines so far were printed
+-- Example: two of three tests were run: the journal has their entries, and their lines were handed on.
 pub record Progress (count : ℕ) (tests : List Test) (old new : Scene) : Type 0 where
   pub results : List TestResult
   pub so_far : SoFar results tests old.run new.run

@@ -29,6 +29,7 @@ abbrev pub named_notes : ℕ → Tree → List Note
 named_notes c v = if is_in c (channels v) then Named ∷ [] else []
 
 -- the channels of a value come before its item
+-- Example: a CHANNEL_DATA on 1 with channel 3 says of 3 that it was named, and of 1 that an item came.
 abbrev pub notes : ℕ → Said → List Note
 notes c (Status n) = if n == c then Asked ∷ [] else []
 notes c (Exec n v) = named_notes c v ++ (if n == c then Named ∷ [] else [])

@@ -191,6 +191,7 @@ abbrev pub IsPrefixOf : List Tree → List Tree → Type 0
 IsPrefixOf xs ys = (more : List Tree) × (xs ++ more ≡ ys)
 
 -- one direction on one number: what a side was handed, what its peer sent, and all that the peer said about the number
+-- Example: side A opens 1 and 3, sends the channel 3 on 1, then 7 on 3; side B receives the channel on 1 and 7 on 3.
 pub record Law (p : Part) (sent : List Tree) (said : List Note) : Type 0 where
   pub prefix : IsPrefixOf p.got sent
   pub whole : p.ended ≡ true → p.let_go ≡ false → p.lost ≡ false → p.got ≡ before_end said

@@ -45,6 +45,7 @@ IsMoveIf test old new move =
     (odd : Bool) (a : Actor) (wire : List Said) → IsNumbered odd a → test a ≡ true → StandsFor odd old.side a → Makes odd old new a wire move
 
 -- from old to new the side makes the move of each actor that it stands for
+-- Example: a side with an open channel 1 sends 7 on it: after the call a message on the way means an item 7 on 1.
 abbrev pub IsMove : LinkedSide → LinkedSide → Move → Type 0
 IsMove old new move = IsMoveIf (λ a. true) old new move
 

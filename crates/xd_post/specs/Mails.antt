@@ -5,6 +5,7 @@ use Rattle.xd_post.specs.declared.ends.Inbox.{Inbox}
 use Rattle.xd_post.specs.declared.desk.Desk.{Desk}
 
 -- Where numbers are gone through from the first one upwards, and then from 0 on, k comes before this number.
+-- Example: of three inboxes with the first one 1 the order is 1, 2, 0.
 abbrev pub ComesBefore : ℕ → ℕ → ℕ → Type 0
 ComesBefore first number k =
     ((first ≤ k) × (k < number)) ⊎ ((number < first) × ((first ≤ k) ⊎ (k < number)))
@@ -24,6 +25,7 @@ module _ {T : Type 0} where
   HasMail mails number ring got = slice_get mails number ≡ Some (Some (ring, got))
 
   -- the item was taken of the inbox of this number, and no other changed
+  -- Example: the turn is at 1, and the inboxes 0 and 2 of three know an item each: the one of 2 gives its item.
   pub record TakesAt (old new : List (Option (Ring × List T))) (number : ℕ) (item : T) : Type 0 where
     pub ring : Ring
     pub got : List T

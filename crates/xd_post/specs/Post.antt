@@ -43,6 +43,7 @@ module _ {T : Type 0} where
 
   -- What was taken, and the next item after it, begin what was put. Where there is no next item, what was taken is all
   -- that was put.
+  -- Example: `a`, `b`, `c` were put and `a` was taken; the next item is `b`, and `a`, `b` begins what was put.
   abbrev pub Empties : Option T → List T → List T → Type 0
   Empties None got sent_all = got ≡ sent_all
   Empties (Some next) got sent_all = (later : List T) × (sent_all ≡ got ++ next ∷ later)

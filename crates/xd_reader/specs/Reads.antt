@@ -48,6 +48,7 @@ pub record Puts (greeted : Bool) (s0 s1 : Spring) (before after : List LinkNews)
   pub reads : Reads greeted s0 s1 put stop
 
 -- The messages of the bytes that the source gave were put, in order, and then one end.
+-- Example: a source that fails at its first read gives no message and the end ReadFault, and its count rose.
 pub record PutsAll (greeted : Bool) (s0 s1 : Spring) (before after : List LinkNews) : Type 0 where
   pub stop : LinkStop
   pub put : List MessageView

@@ -52,6 +52,8 @@ abbrev pub parts_tree : Tree → Tree → Tree → Tree
 parts_tree source name kwargs = tuple (tree source (tree none (tree name (tree kwargs no_trees))))
 
 -- the call of a function by its name: no source text, the name and its keyword arguments
+-- Example: `echo` without arguments is `("", None, "echo", {})`. That the name alone stands there is a choice of this
+-- project.
 abbrev pub call_tree : List ℕ → Pairs → Tree
 call_tree name kwargs = parts_tree (text []) (text name) (dict kwargs)
 
@@ -67,6 +69,7 @@ abbrev pub say_wanted : ℕ → Tree → Side → Wanted
 say_wanted n v s = item_wanted n (sent_gives (send_refusal (slot_of_number s n)) (dumped v))
 
 -- why no channel opens, while memory lasts
+-- Example: with 4,096 channels in the table it is TooManyOpen.
 abbrev pub open_refusal : Side → Option OpenFault
 open_refusal s =
     if is_finished s then Some open_fault.Finished

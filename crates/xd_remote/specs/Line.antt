@@ -13,6 +13,7 @@ pub record GatewaySink : Type 0 where
   pub broken : Bool
 
 -- The bytes are written and handed on; or a first part of them, where the sink fails now; or nothing, where it failed before.
+-- Example: the sink fails at the second byte of a header: one byte was taken, nothing was handed on, and the count rose.
 pub record Prints (bytes : List ℕ) (old new : GatewaySink) : Type 0 where
   pub writes : WritesMore old.broken new.broken bytes old.sunk new.sunk
   pub count : CountBehind old.broken new.broken old.faults new.faults

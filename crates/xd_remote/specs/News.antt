@@ -98,6 +98,8 @@ all_messages [] = []
 all_messages (g ∷ h) = all_messages h ++ g.message ∷ []
 
 -- the news of all these messages, in order
+-- Example: a start of a test with log 2, bytes on 2, CHANNEL_CLOSE on 2 and bytes on 2 are `LogStart`, `Piece`, `LogClosed`,
+-- `Stray`.
 abbrev pub all_news : List Heard → List What
 all_news [] = []
 all_news (g ∷ h) = all_news h ++ option_to_list (came_news (ear_after h) g.came)

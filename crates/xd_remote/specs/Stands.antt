@@ -38,6 +38,7 @@ module _ {K : Type 0} where
     pub unfinished : has_finished g ≡ false
 
   -- It called `run_tests` first and took these messages, of which the last stands first.
+  -- Example: a new gateway of the starting side called `run_tests`: it stands for no message.
   pub record StandsFor (g : Gateway K) (h : List Heard) : Type 0 where
     pub are : AreHeard h
     pub failed : is_some (fault_of (side_of g)) ≡ (ear_after h).failed

@@ -56,6 +56,7 @@ crash_block worker output s = elim (crash_of worker s) [
 ]
 
 -- the block of one entry after the state s, where it is a failed report
+-- Example: `==== [main] b ====`, `status 3`, and nothing more where no output was kept.
 abbrev pub block_of : State → Entry → List ℕ
 block_of s (Done worker index (Failed code) ms output) = block (mode_of s) worker (id_of worker index s) (reason_of code) output
 block_of s (Down worker cause output) = crash_block worker output s

@@ -14,5 +14,6 @@ BrokeAtLines settings before more old new = BreaksOff (run_lines settings before
 
 -- At the end of a report: the lines of these entries were printed and of its tail a first part was taken, or all of it was
 -- printed and the output was not closed.
+-- Example: all lines were handed on and then the disk is full.
 abbrev pub BrokeAtEnd : Settings → List Entry → List Entry → Option Sunk → Option Sunk → Type 0
 BrokeAtEnd settings before es old new = BreaksOff (run_lines settings before) (run_tail settings es) old new ⊎ Printed (run_text settings es) old new

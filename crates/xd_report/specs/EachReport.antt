@@ -56,6 +56,7 @@ reports_told (Retried worker item id ∷ ls) = reports_told ls
 reports_told (Replaces old ∷ ls) = reports_told ls
 
 -- The text is a list of lines, and each of these reports has one of them, in order.
+-- Example: of the lines `[gw0] node down: ..` and `[gw0] CRASHED a` the second is the crash's; `[gw0] RETRY a` is nobody's.
 pub record HasLineEach (mode : ModeKind) (text : List ℕ) (rs : List Report) : Type 0 where
   pub lines : List Line
   pub text_is : text ≡ text_of_lines mode lines
@@ -86,6 +87,7 @@ Names name (Retried worker item id ∷ ls) = (id ≡ name (Crash worker item)) �
 Names name (Replaces old ∷ ls) = Names name ls
 
 -- The same, and the line of each report, and of each test that is tried again, gives the id of its test.
+-- Example: a crash of item 1 among the ids `a` and `b` has the line `[gw0] CRASHED b`.
 pub record HasNamedLineEach (name : Report → List ℕ) (mode : ModeKind) (text : List ℕ) (rs : List Report) : Type 0 where
   pub each : HasLineEach mode text rs
   pub names : Names name each.lines
@@ -149,6 +151,7 @@ abbrev pub kept_outputs : Settings → List Entry → List (List ℕ)
 kept_outputs settings entries = outputs_from (no_one settings) entries
 
 -- The text is a list of blocks, one for each failed report among these, in order, each with its output.
+-- Example: of a passed test and a crash the crash has a block.
 pub record HasBlockEach (mode : ModeKind) (text : List ℕ) (rs : List Report) (outputs : List (List ℕ)) : Type 0 where
   pub blocks : List Block
   pub text_is : text ≡ text_of_blocks mode blocks
@@ -172,6 +175,7 @@ pub record NamesTests (j : Journal) : Type 0 where
   pub blocks : HasNamedBlockEach (id_in (collected_ids j)) j.settings.mode (blocks_from (no_one j.settings) j.entries.items) (reports_in j) (kept_outputs j.settings j.entries.items)
 
 -- The counts are how many of these reports are of each kind, and each report is of one.
+-- Example: of a crash and two passed tests they are 1 failed and 2 passed.
 pub record CountsReports (n : Counts) (rs : List Report) : Type 0 where
   pub failed : n.failed ≡ length (filter is_failure rs)
   pub passed : n.passed ≡ length (filter is_passed rs)

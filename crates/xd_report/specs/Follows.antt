@@ -20,6 +20,7 @@ abbrev pub seat_of : Holder → Seat
 seat_of h = record { worker = h.worker; held = h.held; shut = false }
 
 -- it keeps the parts of this state that reports depend on
+-- Example: after a Run of 0 and 1 to gw0 it keeps that gw0 holds them, and not what their outcomes will be.
 pub record Follows (r : Reporter) (s : State) : Type 0 where
   pub books : apart s.books ≡ r.books
   pub mode : s.plan.mode ≡ r.books.settings.mode

@@ -58,6 +58,7 @@ replacing mode None = []
 replacing mode (Some old) = codes "replacing crashed worker " ++ (name mode old ++ 10 ∷ [])
 
 -- the lines of an entry that the state before it tells
+-- Example: `[gw0] node down: Not properly terminated` and `[gw0] CRASHED a`, or `[gw0] RETRY a` where `a` is tried again.
 abbrev pub lines_told : State → Entry → List ℕ
 lines_told s (Done worker index outcome ms output) = result_line (mode_of s) worker outcome (id_of worker index s)
 lines_told s (Down worker cause output) = down_line (mode_of s) worker (cause_text cause) ++ lost_head_line worker s

@@ -5,6 +5,7 @@ use Rattle.xd_journal.specs.Local.{TestResult}
 use Rattle.xd_report.specs.Lines.{result_line}
 
 -- a line for each result, with the id that has the same place among these
+-- Example: of the ids `a`, `b` and a first result that passed it is `[main] PASSED a`.
 abbrev pub test_lines : List (List ℕ) → List TestResult → List ℕ
 test_lines [] rs = []
 test_lines (id ∷ ids) [] = []

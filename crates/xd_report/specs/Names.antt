@@ -21,6 +21,7 @@ unfoldable pub name : ModeKind → ℕ → List ℕ
 name mode worker = if is_local_mode mode then codes "main" else (codes "gw" ++ decimal worker)
 
 -- the name in brackets, in front of what is told of a worker
+-- Example: `[gw2] `.
 unfoldable pub tag : ModeKind → ℕ → List ℕ
 tag mode worker = codes "[" ++ (name mode worker ++ codes "] ")
 
@@ -29,6 +30,7 @@ abbrev pub printable : ℕ → ℕ
 printable c = if nat_lt c 32 || (c == 127) then 63 else c
 
 -- a text that came from a worker, in UTF-8
+-- Example: an id of a tab and `a` is printed as `?a`.
 unfoldable pub plain : List ℕ → List ℕ
 plain text = encode_utf8_all (map printable text)
 

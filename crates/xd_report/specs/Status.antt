@@ -31,5 +31,6 @@ abbrev pub run_status : Settings → List Entry → ℕ
 run_status settings es = stop_status settings.mode (stop_in settings es) (tests (state_at settings es)) (counts settings es).failed
 
 -- of the run of a journal
+-- Example: of a run that completed one test failed and the others passed: 1.
 abbrev pub status_of : Journal → ℕ
 status_of j = run_status j.settings j.entries.items

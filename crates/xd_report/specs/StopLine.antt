@@ -48,6 +48,7 @@ abbrev pub refused_line : ModeKind → ℕ → List ℕ → List ℕ
 refused_line mode worker text = codes "collection failed on " ++ (name mode worker ++ refusal_text text)
 
 -- the line of a stop among these entries
+-- Example: `worker gw0 crashed and worker restarting disabled`.
 abbrev pub stop_line : ModeKind → List Entry → RunStop → List ℕ
 stop_line mode es (MaxFail count) = limit_line count
 stop_line mode es (Restarts worker limit) = restarts_line mode worker limit

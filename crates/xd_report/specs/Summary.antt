@@ -34,5 +34,6 @@ abbrev pub counts_text : Counts → List ℕ
 counts_text n = with_count (with_count (with_count [] n.failed (codes " failed")) n.passed (codes " passed")) n.skipped (codes " skipped")
 
 -- the words of the last line: the counts, or that no test ran
+-- Example: a failed test, a crash and three passed ones are `2 failed, 3 passed`.
 abbrev pub summary_text : Counts → List ℕ
 summary_text n = if length (counts_text n) == 0 then codes "no tests ran" else counts_text n

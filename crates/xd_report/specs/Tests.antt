@@ -27,6 +27,7 @@ abbrev pub crash_of : ℕ → State → Option ℕ
 crash_of worker s = first_of (crash_item (is_retry worker s.books) (held worker s.books.table))
 
 -- the id of an item of the worker's slot
+-- Example: in mode each with three tests item 4 has the id of test 1.
 abbrev pub item_id : ℕ → ℕ → State → List ℕ
 item_id worker item s = id_of worker (item - base (slot_of worker s.books) s.plan) s
 

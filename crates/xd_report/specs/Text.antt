@@ -24,5 +24,6 @@ abbrev pub tail_text : Journal → List ℕ
 tail_text j = run_tail j.settings j.entries.items
 
 -- all that is printed of a journal
+-- Example: of a run without a test `0 tests` and `no tests ran`.
 abbrev pub text_of : Journal → List ℕ
 text_of j = run_text j.settings j.entries.items

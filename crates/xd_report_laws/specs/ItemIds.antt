@@ -17,6 +17,7 @@ ids_from ls slot zero = []
 ids_from ls slot (suc n) = ids_at slot ls ++ ids_from ls (slot + 1) n
 
 -- the ids of the items, in order: those of the first collection, in mode each of the first one of each slot
+-- Example: in mode each slot 0 has `a` and `b`, and slot 1 has `c`: item 2 is `c`.
 abbrev pub item_ids : Books → List (List ℕ)
 item_ids b = ids_from b.lists 0 (slots b.settings)
 
@@ -26,6 +27,7 @@ ids_in j = item_ids (state_at j.settings j.entries.items).books
 
 -- In the report of the journal the line of each report and of each test that is tried again, and the block of each failed
 -- report, gives the id of its item.
+-- Example: in mode each gw1 at slot 1 passes its test 0, whose item has the id `c`: the line is `[gw1] PASSED c`.
 pub record NamesItems (j : Journal) : Type 0 where
   pub lines : HasNamedLineEach (id_in (ids_in j)) j.settings.mode (run_lines j.settings j.entries.items) (reports_in j)
   pub blocks : HasNamedBlockEach (id_in (ids_in j)) j.settings.mode (blocks_from (no_one j.settings) j.entries.items) (reports_in j) (kept_outputs j.settings j.entries.items)

@@ -31,6 +31,7 @@ all_asks [] = []
 all_asks (g ∷ h) = all_asks h ++ (turn_after h g).asks
 
 -- the tests that were started, in order
+-- Example: a suite of two tests, `runtests` of both, the end of a program: test 0 alone was started.
 abbrev pub started_tests : List Given → List ℕ
 started_tests [] = []
 started_tests (g ∷ h) = started_tests h ++ option_to_list (turn_after h g).run
@@ -41,6 +42,7 @@ distinct [] = true
 distinct (n ∷ ns) = not (is_among n ns) && distinct ns
 
 -- Whatever comes, no test is started twice.
+-- Example: test 2 is given, given back and given again: it starts once.
 abbrev pub StartsOnce : Type 0
 StartsOnce = (h : List Given) → distinct (started_tests h) ≡ true
 

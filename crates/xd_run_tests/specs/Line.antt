@@ -37,6 +37,7 @@ abbrev pub front : FunctionCall → List LineEntry
 front c = take (passed c) c.line
 
 -- the entries after the next one, of which a steal may take tests
+-- Example: all of five tests are given and the first runs: the queue is tests 2, 3 and 4.
 abbrev pub queue : FunctionCall → List LineEntry
 queue c = drop (passed c) c.line
 
@@ -51,6 +52,7 @@ abbrev pub running_test : FunctionCall → Option ℕ
 running_test c = if c.running then head_test (left c) else None
 
 -- the log of the test that starts after m others: a choice of this project
+-- Example: the second test has the log 4.
 abbrev pub number_of_log : ℕ → ℕ
 number_of_log m = 2 * m + 2
 
@@ -81,6 +83,7 @@ can_ask size before [] = true
 can_ask size before (n ∷ ns) = nat_lt n size && not (is_among n before) && can_ask size (before ++ n ∷ []) ns
 
 -- each of these tests stands in this queue
+-- Example: of the line 0, 1, 2, 3, 4, of which 0 runs, 4 and 2 are queued, and 1 is not, as it is the next.
 abbrev pub all_queued : List LineEntry → List ℕ → Bool
 all_queued q [] = true
 all_queued q (n ∷ ns) = has_test n q && all_queued q ns

@@ -40,6 +40,7 @@ LogSteps room (a ∷ asks) l k = (m : Logs) × LogStep room a l m × LogSteps ro
 
 -- Whatever comes, one log is open at a time: it is that of the running test, and has the number that its start named.
 -- After GATEWAY_TERMINATE and the link's end nothing is asked for.
+-- Example: two tests ran: the logs 2 and 4 were opened.
 pub record OneLog : Type 0 where
   pub steps : (h : List Given) (g : Given) → ((call_after h).phase ≡ Stopped → ⊥) → LogSteps g.room (turn_after h g).asks (logs_of (call_after h)) (logs_of (turn_after h g).call)
   pub silent : (h : List Given) (g : Given) → (call_after h).phase ≡ Stopped → ((turn_after h g).asks ≡ []) × (begun_tests (turn_after h g).call ≡ begun_tests (call_after h)) × ((turn_after h g).call.phase ≡ Stopped)

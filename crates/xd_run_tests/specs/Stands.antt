@@ -138,6 +138,7 @@ pub record IsHeld (s : RunTests) (c : FunctionCall) : Type 0 where
   pub log_is : IsLog s.running s.next_log c.ended
 
 -- The parts are those of this call; while it serves, they hold its line, cut into pieces.
+-- Example: test 3 is in the queue, so it may be asked back and may not be given again.
 pub record IsCall (s : RunTests) (c : FunctionCall) : Type 0 where
   pub held : IsHeld s c
   pub phase_is : s.phase ≡ c.phase

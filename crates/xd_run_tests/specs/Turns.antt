@@ -1,4 +1,6 @@
--- What one input makes the function do: what it asks for, in order, and a test to start.
+-- What one input makes the function do: what it asks for, in order, and a test to start. The events are those of
+-- pytest-xdist's remote.py; early ends, the limit on output, and what waits before the collection are choices of this
+-- project.
 use Rattle.std.specs.Prelude.{ℕ, ◌<◌, ◌^◌, ◌+◌, ◌-◌, ◌&&◌, nat_le, List, [], ◌∷◌, ◌++◌, length, take, map, Bool, true, false, Option, Some, None, if◌then◌else◌, codes}
 use Rattle.std.specs.List.{range_with_len}
 use Rattle.xd_gateway.specs.declared.order.Order.{Order}
@@ -64,6 +66,7 @@ test_started n t = record {
 }
 
 -- what the line's left part lets happen where nothing runs: a mark is reached, or a test with an entry after it
+-- Example: 0 and 1 are given, and 0 starts; after its end nothing does, as nothing stands after 1; a shutdown mark starts 1.
 abbrev pub moved_on : Bool → List LineEntry → Turn → Turn
 moved_on room [] t = t
 moved_on room (Mark ∷ ps) t = finished t

@@ -33,6 +33,7 @@ abbrev pub ran_of : ToldOfProgram → Ran
 ran_of t = record { output = whole_output t.pieces; outcome = t.outcome }
 
 -- the news of one program
+-- Example: 5,000 bytes and status 1 are a piece of 4,096 bytes, one of 904, and a failure with 1.
 abbrev pub told_news : ToldOfProgram → List LinkNews
 told_news t = map Output t.pieces ++ ChildDone t.outcome ∷ []
 

@@ -23,6 +23,7 @@ pub record AreRun (commands : List (List (List ℕ))) (ran : List Ran) (old new 
 
 -- Where they are told, each start that was asked for meanwhile is over: the child was not started, or it was waited for, or
 -- it could not be read.
+-- Example: a child whose end is not asked for stays running, and is not over.
 pub record AreOver (old new : Option (List ChildRun)) : Type 0 where
   pub children : List ChildRun
   pub over : All (λ c. IsSome (outcome_of c.fate)) children

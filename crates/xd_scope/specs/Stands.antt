@@ -26,6 +26,7 @@ abbrev pub given_to : ℕ → BTreeMap ℕ (List (List ℕ)) → List (List ℕ)
 given_to worker lists = unwrap_or (get_by (nat_cmp worker) lists) []
 
 -- the mode, its order of units, the units that wait and those that each worker was given; nobody steals
+-- Example: a mode whose queue is empty keeps no plan in which a unit waits.
 pub record Keeps (u : Units) (p : Plan) : Type 0 where
   pub mode : p.mode ≡ u.kind
   pub scope : is_scope u.kind ≡ true
@@ -54,6 +55,7 @@ abbrev pub IsSetOf : List ℕ → BTreeSet ℕ → Type 0
 IsSetOf xs s = (x : ℕ) → contains nat_cmp s x ≡ among x xs
 
 -- what is left of a unit: the tests that are among the rest, where there are any
+-- Example: of the unit of 0, 1 and 2 whose worker died at 1, the unit of 2 is left.
 abbrev pub left_of : List ℕ → List ℕ → List (List ℕ)
 left_of rest tests = unless_empty (filter (λ t. among t rest) tests)
 
@@ -63,6 +65,7 @@ left_of_each rest [] = []
 left_of_each rest (u ∷ us) = left_of rest u ++ left_of_each rest us
 
 -- the place of the scope's group, where it has one
+-- Example: after the ids `a::1`, `b::1` and `a::2` the scope `b` has place 1.
 abbrev pub place_in : List ℕ → List Group → Option ℕ
 place_in scope [] = None
 place_in scope (g ∷ gs) = if bytes_eq g.scope scope then Some 0 else option_map suc (place_in scope gs)

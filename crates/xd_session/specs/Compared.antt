@@ -15,6 +15,7 @@ compared other None = Same
 compared other (Some place) = Differs other place
 
 -- with the collection that it is compared with, where there is one
+-- Example: a collection that equals the first one is Same.
 abbrev pub comparison : List (List ℕ) → Option Listed → Comparison
 comparison own None = First
 comparison own (Some l) = compared l.worker (differ_at l.ids own)

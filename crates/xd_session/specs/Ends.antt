@@ -11,6 +11,7 @@ is_out_fault OutFault = true
 is_out_fault _ = false
 
 -- where the output failed that, else the first stop, or that all was done
+-- Example: gw0 died once too often and then the output failed: OutFault; the line of the stop is still that of the restarts.
 abbrev pub last_stop : Bool → Books → RunStop
 last_stop true b = OutFault
 last_stop false b = run_end_of b

@@ -54,10 +54,12 @@ after_news r n = record {
 }
 
 -- the run after these news
+-- Example: gw0 says twice that it is ready; the second time means Down with Breach, Kill and a new Start.
 abbrev pub run_of : Settings → List News → Run
 run_of settings taken = fold after_news (begun_run settings) taken
 
 -- what the news meant are proper inputs of a run with these settings, and the run is theirs
+-- Example: gw0 sends a piece of a log that it never started: the Down with Breach that this means breaks no rule.
 pub record IsProperRun (settings : Settings) (r : Run) : Type 0 where
   pub proper : IsProper settings r.inputs
   pub journal : r.entries ≡ journal_of settings r.inputs

@@ -18,6 +18,7 @@ abbrev pub silent_where : Bool → Verdict
 silent_where fine = if fine then Silent else Breach
 
 -- by the last log of the worker and the state: its input follows, or it is news of a log where nothing does, or a breach
+-- Example: gw0 holds 0 and 1 and says that 1 ended: a breach.
 abbrev pub judged : ℕ → Option Log → State → What → Verdict
 judged w log s what.Ready = follows_where (may_follow s (Ready w))
 judged w log s (what.Collected own) = follows_where (may_follow s (given_ids w own s))

@@ -28,6 +28,7 @@ abbrev pub known_by : KnownPlan → Known
 known_by k = record { mode = k.mode; sizes = k.sizes; steal = steal_of k.steal }
 
 -- the first item of the slot; 0 but in mode each
+-- Example: in mode each with three tests the first item of slot 1 is 3.
 abbrev pub first_item : ℕ → Known → ℕ
 first_item slot k = if is_each k.mode then sum (take slot k.sizes) else 0
 

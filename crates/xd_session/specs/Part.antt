@@ -47,6 +47,7 @@ meant_behind settings worker before (n ∷ ns) =
     (if n.worker == worker then as_list (input_of (run_of settings before) n) else []) ++ meant_behind settings worker (before ++ n ∷ []) ns
 
 -- the inputs that the worker's news among these mean, in order
+-- Example: gw0 says that it is ready and starts a log, and its link is gone: Ready and Down.
 abbrev pub meant_by : Settings → ℕ → List News → List Entry
 meant_by settings worker taken = meant_behind settings worker [] taken
 
@@ -78,6 +79,7 @@ pub record EndsWorker (settings : Settings) (worker : ℕ) (heard : List News) :
 
 -- The worker's inputs in the journal are what its news mean, in order: up to the piece of news that ended it, and all of them
 -- where none did. The entry that ended it is the last of them.
+-- Example: gw0 is gone, and then a result of gw0 comes: the Down is its last.
 pub record HasPart (settings : Settings) (worker : ℕ) (taken : List News) : Type 0 where
   pub heard : List News
   pub unheard : List News

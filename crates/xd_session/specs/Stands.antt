@@ -23,6 +23,7 @@ abbrev pub state_of : Seen → State
 state_of s = state_at s.settings s.entries
 
 -- settings that a session can be made with
+-- Example: with 33 workers none can begin.
 pub record CanBegin (settings : Settings) : Type 0 where
   pub mode : has_workers settings.mode ≡ true
   pub some_worker : nat_le 1 settings.workers ≡ true

@@ -37,6 +37,7 @@ abbrev pub shown_set : List ℕ → List ℕ → List ℕ → List ℕ → ℕ �
 shown_set empty first inner last n = if n == 0 then empty else between first inner last
 
 -- a value as it is printed; items stand in held order
+-- Example: `("runtests", {"indices": [0, 1]})`.
 abbrev mutual
   pub shown : Tree → List ℕ
   shown none = codes "None"

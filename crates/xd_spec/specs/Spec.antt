@@ -18,6 +18,7 @@ begin_with b [] = (b ∷ []) ∷ []
 begin_with b (part ∷ rest) = (b ∷ part) ∷ rest
 
 -- the parts between each `//`
+-- Example: `popen//chdir=a=b` has the parts `popen` and `chdir=a=b`.
 abbrev pub spec_parts : List ℕ → List (List ℕ)
 spec_parts [] = [] ∷ []
 spec_parts (b ∷ []) = (b ∷ []) ∷ []
@@ -87,6 +88,7 @@ with_pair d (Some key) value = if bytes_eq key.0 (codes "env") && not (length ke
 
 -- what is known so far, with one part more: its key has to be known, to have a value exactly where it takes one, and
 -- not to have stood before; the keys are execnet's, what is refused is a choice of this project
+-- BadKey comes first, then Twice, then Unsupported. Example: `popen//popen` is Twice, and `popen//popen=1` BadKey.
 abbrev pub with_key : Draft → List ℕ → Option (List ℕ) → Result Draft SpecFault
 with_key d key value =
     if is_bad_key key then Err BadKey
@@ -101,6 +103,7 @@ with_cut d part None = with_key d part None
 with_cut d part (Some p) = with_key d p.0 (Some p.1)
 
 -- a part is cut at its first `=`
+-- Example: `chdir=a=b` is the key `chdir` with the value `a=b`.
 abbrev pub with_part : Draft → List ℕ → Result Draft SpecFault
 with_part d part = with_cut d part (cut_at 61 part)
 
@@ -113,6 +116,7 @@ with_parts (Ok d) [] = Ok d
 with_parts (Ok d) (p ∷ ps) = with_parts (with_part d p) ps
 
 -- either a child, or a socket without a folder and variables
+-- Example: `socket=h:00007` is port 7 at h, and `chdir=/tmp` is Unsupported.
 abbrev pub place : Bool → Option (List ℕ × ℕ) → Option (List ℕ) → List (List ℕ × List ℕ) → Result Place SpecFault
 place true None chdir env = Ok (Popen chdir env)
 place false (Some address) None [] = Ok (Socket address.0 address.1)

@@ -43,5 +43,6 @@ few_of (Err fault) = Err fault
 few_of (Ok places) = if nat_le (length places) 32 then Ok places else Err BadCount
 
 -- the places that the words name, or their first fault
+-- Example: `3*popen//chdir=/tmp` is three places, and `0*popen` BadCount, as is more than 32 places in all.
 abbrev pub tx_of : List (List ℕ) → Result (List Place) SpecFault
 tx_of words = few_of (with_words (Ok []) words)

@@ -7,6 +7,7 @@ use Rattle.xd_ledger.specs.Table.{Table}
 use Rattle.xd_ledger.specs.Turn.{Turn}
 
 -- it keeps which worker has not answered its steal
+-- Example: after the death of the worker that was asked, a mode that still keeps it stands for no plan of the run.
 pub record StandsFor (asked : Option ℕ) (p : Plan) : Type 0 where
   pub mode : p.mode ≡ WorkSteal
   pub steal : option_map (λ a. a.worker) p.steal ≡ asked

@@ -25,5 +25,6 @@ blamed_text None TooMany = codes "suite "
 blamed_text None what = codes "suite: "
 
 -- the fault, without a newline
+-- Example: `test 3: repeated id`.
 abbrev pub fault_text : SuiteFault → List ℕ
 fault_text fault = blamed_text fault.test fault.what ++ what_text fault.what

@@ -91,6 +91,7 @@ abbrev pub has_good_ids : Members → Bool
 has_good_ids ms = is_id_if_any (text_at (codes "id") ms) && is_id_if_any (text_at (codes "group") ms)
 
 -- the first rule that the table of a test breaks
+-- Example: a table with an unknown key and without `run` has an unknown key.
 abbrev pub fault_of_test : Members → Option SuiteWhat
 fault_of_test ms =
     if not (has_only_keys is_test_key ms) then Some UnknownKey
@@ -128,6 +129,7 @@ abbrev pub has_test_kind : Members → Bool
 has_test_kind ms = not (is_some (get_member (codes "test") ms)) || is_array_with (each_item_holds is_table) (array_at (codes "test") ms)
 
 -- the first rule that the file breaks
+-- Example: where the second test repeats the first one's id and the third has no `run` it is `missing key` of test 2.
 abbrev pub broken_rule : Members → Option SuiteFault
 broken_rule ms =
     if not (has_only_keys is_suite_key ms) then Some (of_file UnknownKey)

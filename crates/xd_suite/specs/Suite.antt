@@ -19,6 +19,7 @@ pub record HasData (bytes : List ℕ) (ms : Members) : Type 0 where
   pub parsed : parse_document bytes ≡ Some ms
 
 -- These bytes are a suite file with these tests: no rule is broken.
+-- Example: the empty file is a suite without tests.
 pub record IsSuiteOf (bytes : List ℕ) (tests : List Test) : Type 0 where
   pub members : Members
   pub toml : HasData bytes members
@@ -37,6 +38,7 @@ pub record IsNotToml (bytes : List ℕ) : Type 0 where
   pub not_toml : IsUtf8 bytes → parse_document bytes ≡ None
 
 -- why these bytes are no suite file: there are too many, they are no TOML, or their data breaks a rule
+-- Example: `[[test` is no TOML.
 abbrev pub IsFaulty : List ℕ → SuiteFault → Type 0
 IsFaulty bytes fault =
     ((most_suite_bytes < length bytes) × (fault ≡ of_file TooLarge)) ⊎ ((IsNotToml bytes × (fault ≡ of_file NotToml)) ⊎ HasFault bytes fault)

@@ -20,6 +20,7 @@ texts_of no_items = []
 texts_of (item d ds) = chars (unwrap_or (as_str d) []) ∷ texts_of ds
 
 -- the test of a table: its id, its program with the arguments, and its group where it has one
+-- Example: the first of the README is `net.py::test_connect` with the command `sh`, `-c`, `exit 0`, and has no group.
 abbrev pub test_of : Members → Test
 test_of ms = record {
   id = chars (unwrap_or (text_at (codes "id") ms) []);
@@ -51,6 +52,7 @@ abbrev pub group_id : Test → List ℕ
 group_id t = with_group t.id t.group
 
 -- the id of a test in a mode: that by its group in loadgroup, else the id alone
+-- Example: a test `a` of the group `g` is `a@g` in loadgroup and `a` elsewhere.
 abbrev pub id_by_mode : ModeKind → Test → List ℕ
 id_by_mode LoadGroup t = group_id t
 id_by_mode _ t = t.id
@@ -60,5 +62,6 @@ abbrev pub ids_by_mode : ModeKind → List Test → List (List ℕ)
 ids_by_mode mode ts = map (id_by_mode mode) ts
 
 -- the command of a test
+-- Example: that of test 2 in the README is `sh`, `-c`, `exit 77`.
 abbrev pub run_at : List Test → ℕ → List (List ℕ)
 run_at ts k = slice_index_or (map (λ t. t.run) ts) k []

@@ -18,6 +18,7 @@ pub record RunsOnWorkers (setup : Setup) (j : Journal) (code : ℕ) (links : Lis
   pub no_program : new.programs ≡ old.programs
 
 -- What the words of a run on workers came to: always a run.
+-- Example: the suite file is missing: each worker says so, the run has a journal, and its status is 2.
 abbrev pub DidLinked : Setup → Option Journal → ℕ → List EndedLink → Outside → Outside → Type 0
 DidLinked setup None code links old new = ⊥
 DidLinked setup (Some j) code links old new = RunsOnWorkers setup j code links old new

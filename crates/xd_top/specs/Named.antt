@@ -32,6 +32,7 @@ abbrev pub reach_of : Around → Reach
 reach_of a = record { out = a.streams.out; programs = a.programs }
 
 -- The suite file of this name was run: its tests, with their journal, and the status of the journal.
+-- Example: the suite file lists no test: the run has a journal, and its status is 5.
 pub record RunsNamed (asked : LocalWords) (j : Journal) (code : ℕ) (old new : Around) : Type 0 where
   pub tests : List Test
   pub named : HasSuite old.streams.files.held asked.suite tests

@@ -20,6 +20,7 @@ unfoldable pub suite_line : List ℕ → List ℕ
 suite_line text = codes "xdrun: " ++ (text ++ 10 ∷ [])
 
 -- the line on standard error
+-- Example: of the words `s.toml --dist load` it is `xdrun: please specify -n or --tx`.
 abbrev pub refusal_line : Refusal → List ℕ
 refusal_line (Words why) = words_line why
 refusal_line Unread = codes "xdrun: suite cannot be read" ++ 10 ∷ []
@@ -68,6 +69,7 @@ pub record Refuses (why : Refusal) (status : ℕ) (old new : Streams) : Type 0 w
   pub fault : shown ≡ false → Rose old.err.faults new.err.faults
 
 -- The files tell that the bytes of the suite file of this name list these tests.
+-- Example: the words are `s.toml -n 0`, and the files tell its bytes, which list three tests.
 pub record TellsTests (held : Option Held) (suite : List ℕ) (tests : List Test) : Type 0 where
   pub bytes : List ℕ
   pub told : IsSomeAnd held (λ file. file suite ≡ Some bytes)

@@ -17,6 +17,7 @@ abbrev pub most_file_bytes : ℕ
 most_file_bytes = 67108864
 
 -- the exit status
+-- Example: a file that is cut has the status 1.
 abbrev pub wire_status : WireEnd → ℕ
 wire_status Whole = 0
 wire_status Faulty = 1

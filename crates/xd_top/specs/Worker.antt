@@ -26,6 +26,7 @@ abbrev pub scene_at : Option Sunk → ℕ → Workplace → Scene
 scene_at sunk writes place = scene sunk writes place.programs.runs place.programs.faults place.files.faults place.crews.readers place.crews.runners place.clock
 
 -- A link was started, of which nothing was read or written before, and it was served to its end, with this exit status.
+-- Example: standard input is empty: the byte `1` is written and the status is 0.
 pub record ServedLink (status : ℕ) (end : Spring) (old : Workplace) (new : Scene) : Type 0 where
   pub start : Spring
   pub sunk : Option Sunk

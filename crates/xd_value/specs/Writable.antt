@@ -5,6 +5,7 @@ use Rattle.std.specs.Str.{all_scalars}
 use Rattle.xd_value.specs.Tree.{Tree, Trees, Pairs, none, truth, int, bytes, text, list, tuple, set, frozenset, dict, channel, no_trees, tree, no_pairs, pair}
 
 -- each integer has 128 bits, and each text is of Unicode's scalar values
+-- Example: a list of the integer 1 and the text `a` is; a text of the surrogate 55296 is not.
 abbrev mutual
   pub Writable : Tree → Type 0
   Writable none = Unit {0}

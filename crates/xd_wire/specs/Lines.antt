@@ -18,6 +18,7 @@ abbrev pub Texts : Type 1
 Texts = List ℕ → Bool → Type 0
 
 -- the texts of a file from a place on
+-- Example: from the place of a message on, its line and then the texts from its end on.
 abbrev pub texts_at : List ℕ → ℕ → Texts
 texts_at bytes at text faulty = IsTextFrom at (messages (drop at bytes)) (rest (drop at bytes)) text faulty
 

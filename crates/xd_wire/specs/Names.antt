@@ -8,6 +8,7 @@ use Rattle.xd_value.specs.declared.fault.LoadWhat.{LoadWhat}
 use Rattle.xd_value.specs.declared.fault.LoadWhat.TheVariants as what
 
 -- the name of a kind of message
+-- Example: `CHANNEL_LAST_MESSAGE`.
 abbrev pub kind_name : Kind → List ℕ
 kind_name kind.Status = codes "STATUS"
 kind_name kind.Reconfigure = codes "RECONFIGURE"
@@ -26,6 +27,7 @@ frame_fault_name (frame_fault.BadLength number) = codes "BadLength"
 frame_fault_name frame_fault.Cut = codes "Cut"
 
 -- the name of a fault of a payload
+-- Example: `BadText`.
 abbrev pub what_name : LoadWhat → List ℕ
 what_name what.UnknownOpcode = codes "UnknownOpcode"
 what_name what.FloatOpcode = codes "FloatOpcode"

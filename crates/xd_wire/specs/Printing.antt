@@ -15,6 +15,7 @@ HasText bytes Faulty = (text : List ℕ) × IsWireText bytes text true
 HasText bytes OutFailed = Unit {0}
 
 -- the text of a file was printed and handed on, or a first part of it was taken
+-- Example: the output fails in the second line: the answer says so, and the sink took a first part of the text.
 abbrev pub Prints : Result WireEnd OutOfMemory → List ℕ → Bool → Option Sunk → Option Sunk → Type 0
 Prints (Ok Whole) text faulty old new = (faulty ≡ false) × Printed text old new
 Prints (Ok Faulty) text faulty old new = (faulty ≡ true) × Printed text old new

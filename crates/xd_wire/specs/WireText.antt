@@ -77,5 +77,6 @@ IsTextFrom at (m ∷ ms) end text faulty =
     ⊎ ((place : ℕ) × (what : LoadWhat) × IsPayloadFault m place what × (text ≡ fault_line (what_name what) (at + (9 + place))) × (faulty ≡ true))
 
 -- the text of a file of messages, and whether the file has a fault
+-- Example: the text that docs/USING.md shows of a file of 71 bytes.
 abbrev pub IsWireText : List ℕ → List ℕ → Bool → Type 0
 IsWireText bytes text faulty = IsTextFrom 0 (messages bytes) (rest bytes) text faulty

@@ -14,6 +14,7 @@ unless_fault [] rows = Some rows
 unless_fault (k ∷ ks) rows = None
 
 -- what clap finds among these words, or nothing where it refuses them
+-- Example: `-dn2` has `d` and the value `2` of `n`, and `-n 2 -n 3` is refused.
 unfoldable pub rows_in : App → List (List ℕ) → Option (List Row)
 rows_in app words = unless_fault (fault_of app words) (matches_of app words)
 
@@ -25,6 +26,7 @@ starts_with_zero [] = false
 starts_with_zero (b ∷ bs) = b == 48 && not (length bs == 0)
 
 -- a number in decimal digits, up to a limit, without a sign or a leading zero
+-- Example: `--maxfail 3` is 3, and `--maxfail 007` makes the words bad.
 abbrev pub plain_number : ℕ → List ℕ → Option ℕ
 plain_number limit text = if starts_with_zero text then None else number_in limit text
 

@@ -1,4 +1,5 @@
--- What the words after the program's name ask for, or why they are refused.
+-- What the words after the program's name ask for, or why they are refused. The options are pytest-xdist's; the refusals
+-- and their order are a choice of this project.
 use Rattle.std.specs.Prelude.{ℕ, ◌*◌, ◌==◌, ◌≡◌, ◌≢◌, ◌≤◌, Bool, ◌&&◌, ◌||◌, not, List, [], ◌∷◌, map, length, replicate, Option, Some, None, is_some, unwrap_or, Result, Ok, Err, if◌then◌else◌, codes}
 use Rattle.std.specs.Str.{bytes_eq, encode_utf8_all}
 use Rattle.clap.specs.Words.{Row, first_of}
@@ -117,6 +118,7 @@ plan_of_utf8 (w ∷ ws) =
     else main_plan (rows_in main_app (w ∷ ws))
 
 -- what all words after the program's name ask for, by their characters
+-- Example: `s.toml --tx 2*popen -x` is a run on two children that stops at the first failure, with up to eight new workers.
 abbrev pub plan_of : List (List ℕ) → Plan
 plan_of words = plan_of_utf8 (map encode_utf8_all words)
 

@@ -92,6 +92,7 @@ abbrev pub call_of : Bool → Tree → Tree → Tree → Tree → Called
 call_of started source file name kwargs = if has_no_source source file then named started name kwargs else Refused SourceText
 
 -- a call is a tuple of just source, file name, name and keyword arguments
+-- Example: `("", None, "run_tests", {"suite": "s.toml", "dist": "load"})`.
 abbrev pub called_in : Bool → Tree → Called
 called_in started (tuple (tree source (tree file (tree name (tree kwargs no_trees))))) = call_of started source file name kwargs
 called_in started _ = Refused BadCall

@@ -31,6 +31,7 @@ worker_after [] = new_worker
 worker_after (g ∷ h) = after_turn (turn_by (worker_after h) g)
 
 -- all that was said, in order
+-- Example: after CHANNEL_EXEC of `fail` without a text: CHANNEL_CLOSE_ERROR with `fail`, and no test was started.
 abbrev pub all_said : List Heard → List MessageView
 all_said [] = []
 all_said (g ∷ h) = all_said h ++ (turn_by (worker_after h) g).talk.says

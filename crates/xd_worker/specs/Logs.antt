@@ -26,6 +26,7 @@ LogsOpen w = (g : Heard) → Counts (table_behind g.came w.table).slot g.channel
 
 -- Whatever came, each log can open under the number that its start names, and the table holds at most one log: the one
 -- that opened last.
+-- Example: with 4,095 channels in the table a log opens, and when its test has ended the next; with 4,096 none does.
 pub record LogLaw : Type 0 where
   pub opens : (h : List Heard) → LogsOpen (worker_after h)
   pub one : (h : List Heard) (c : ℕ) → is_mine Even c ≡ true → is_here ((worker_after h).table.slot c) ≡ true → c + 2 ≡ (worker_after h).table.next

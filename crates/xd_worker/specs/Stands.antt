@@ -63,6 +63,7 @@ pub record Stands (c : WorkerCore) (a : WorkerActions) (t : Turn) : Type 0 where
   pub run_is : a.run ≡ t.run
 
 -- the parts are those of a worker
+-- Example: a worker whose suite is owed keeps that it is, and its path was told once.
 pub record IsWorker (c : WorkerCore) (w : Worker) : Type 0 where
   pub table_is : channel_table c.side ≡ w.table
   pub duties_are : AreDuties c w.duties

@@ -1,4 +1,5 @@
--- What is said on the channels of a worker.
+-- What is said on the channels of a worker. As in execnet's gateway_base.py and pytest-xdist's remote.py; logs are a
+-- choice of this project.
 use Rattle.std.specs.Prelude.{ℕ, List, [], ◌∷◌, ◌++◌, Option, Some, None, Result, Ok, Err, option_to_list, if◌then◌else◌}
 use Rattle.xd_value.specs.Tree.{Tree}
 use Rattle.xd_value.specs.Canonical.{dumped}
@@ -44,6 +45,7 @@ abbrev pub payload_on : ℕ → Tree → ChannelTable → Result (List ℕ) Send
 payload_on n v t = sent_gives (send_refusal (t.slot n)) (dumped v)
 
 -- a value is sent; on a channel whose sending is closed it is left out
+-- Example: the controller closed a log: the next piece of its test is left out, and the test's end is still told.
 abbrev pub sent : ℕ → Tree → Talk → Talk
 sent n v d = saying (item_says n (payload_on n v d.table)) d
 

@@ -153,6 +153,7 @@ echoed_how how.LeftOut n v t = t
 echoed_how how.Unwritten n v t = echo_ended n (Some (codes "item is too long")) t
 
 -- an item comes to `echo`, which sends it back
+-- Example: CHANNEL_EXEC of `echo` on 1, the item 5 and CHANNEL_LAST_MESSAGE are answered by nothing, 5, and CHANNEL_CLOSE.
 abbrev pub echoed : ℕ → Tree → Turn → Turn
 echoed n v t = echoed_how (sent_how (payload_on n v t.talk.table)) n v t
 
@@ -168,6 +169,7 @@ abbrev pub stopped : ℕ → Turn → Turn
 stopped n t = fed input.Stop n (record t { duties = record (t.duties) { stopped = true } })
 
 -- what a message does that the side took so; n channels are in the table
+-- Example: after CHANNEL_EXEC of `run_tests` it says `workerready` and asks for a suite, which is owed from then on.
 abbrev pub did : Taken Tree → ℕ → Turn → Turn
 did (Status k) n t = at_talk (status_told k n (executing t.duties)) t
 did (Exec k v) n t = called k (called_in (is_called t.duties.service) v) t

@@ -16,5 +16,7 @@ abbrev pub WaitsForNext : FunctionCall → Type 0
 WaitsForNext c = c.phase ≡ Serving → c.running ≡ false → IsIdle (left c)
 
 -- Whatever comes, a call that serves and runs nothing has no more than one test left.
+-- Example: of three tests the worker is to run the first: it waits, and one test is left; with a mark after it, it would
+-- run.
 abbrev pub IdleLaw : Type 0
 IdleLaw = (h : List Given) → WaitsForNext (call_after h)
