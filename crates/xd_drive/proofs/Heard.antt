@@ -13,7 +13,7 @@ use Rattle.xd_ledger.specs.Sharing.{State, in_books}
 use Rattle.xd_ledger.specs.State.{after_effect}
 use Rattle.xd_ledger.specs.Proper.{may_follow}
 use Rattle.xd_laws.proofs.Logic.{differ, split-and, split-or, cases_of}
-use Rattle.xd_laws.proofs.Crew.{has, is_member, has-member, has-same, has-set, has-cleared}
+use Rattle.xd_laws.proofs.Members.{has, is_member, has-member, has-same, has-set, has-cleared}
 use Rattle.xd_laws.proofs.Inputs.{collecting-keeps}
 use Rattle.xd_drive.specs.Agrees.{Agrees}
 use Rattle.xd_drive.specs.Marks.{Marks, is_end, is_ready, marked_heard}
@@ -25,8 +25,8 @@ active w ms = has w (λ m. m.active) ms
 abbrev pub ready : ℕ → List Member → Bool
 ready w ms = has w (λ m. m.ready) ms
 
--- the crew behind an input
-pub record CrewBehind (before : List Member) (e : Entry) (behind : List Member) : Type 0 where
+-- the members behind an input
+pub record MembersBehind (before : List Member) (e : Entry) (behind : List Member) : Type 0 where
   pub members : (v : ℕ) → is_member v behind ≡ is_member v before
   pub active : (v : ℕ) → active v behind ≡ (active v before && not (leaves v e))
   pub ready : (v : ℕ) → ready v behind ≡ true → (ready v before ≡ true) ⊎ (readies v e ≡ true)
@@ -35,10 +35,10 @@ and-true : (b : Bool) → b ≡ (b && true)
 and-true true = refl
 and-true false = refl
 
-behind-same : (ms : List Member) (e : Entry) → ((v : ℕ) → leaves v e ≡ false) → CrewBehind ms e ms
+behind-same : (ms : List Member) (e : Entry) → ((v : ℕ) → leaves v e ≡ false) → MembersBehind ms e ms
 behind-same ms e k = record { members = λ v. refl; active = λ v. and-true (active v ms) ∙ ap (λ (b : Bool). active v ms && not b) (sym (k v)); ready = λ v h. inl h }
 
-behind-ready : (ms : List Member) (w : ℕ) → CrewBehind ms (Ready w) (map (made_ready w) ms)
+behind-ready : (ms : List Member) (w : ℕ) → MembersBehind ms (Ready w) (map (made_ready w) ms)
 behind-ready ms w = record {
   members = λ v. has-same v (λ m. true) (made_ready w) ms (λ m. refl) (λ m. refl);
   active = λ v. has-same v (λ m. m.active) (made_ready w) ms (λ m. refl) (λ m. refl) ∙ and-true (active v ms);
@@ -48,7 +48,7 @@ behind-ready ms w = record {
   ]);
 }
 
-behind-collected : (ms : List Member) (w : ℕ) (g : _) → CrewBehind ms (Collected w g) (map (made_collected w) ms)
+behind-collected : (ms : List Member) (w : ℕ) (g : _) → MembersBehind ms (Collected w g) (map (made_collected w) ms)
 behind-collected ms w g = record {
   members = λ v. has-same v (λ m. true) (made_collected w) ms (λ m. refl) (λ m. refl);
   active = λ v. has-same v (λ m. m.active) (made_collected w) ms (λ m. refl) (λ m. refl) ∙ and-true (active v ms);
@@ -59,33 +59,33 @@ and-turned : (v w : ℕ) (b : Bool) → (not (v == w) && b) ≡ (b && not (w == 
 and-turned v w true = grind (arith, nat_tests)
 and-turned v w false = grind (arith, nat_tests)
 
-behind-gone : (ms : List Member) (w : ℕ) (e : Entry) → ((v : ℕ) → leaves v e ≡ (w == v)) → CrewBehind ms e (map (made_gone w) ms)
+behind-gone : (ms : List Member) (w : ℕ) (e : Entry) → ((v : ℕ) → leaves v e ≡ (w == v)) → MembersBehind ms e (map (made_gone w) ms)
 behind-gone ms w e k = record {
   members = λ v. has-same v (λ m. true) (made_gone w) ms (λ m. refl) (λ m. refl);
   active = λ v. has-cleared v w (λ m. m.active) (made_gone w) ms (λ m. refl) (λ m. refl) ∙ and-turned v w (active v ms) ∙ ap (λ (b : Bool). active v ms && not b) (sym (k v));
   ready = λ v h. inl (sym (has-same v (λ m. m.ready) (made_gone w) ms (λ m. refl) (λ m. refl)) ∙ h);
 }
 
-pub crew-behind : (s : State) (e : Entry) → may_follow s e ≡ true → CrewBehind s.books.crew e (after_effect s e).books.crew
-crew-behind s (Ready w) h = behind-ready s.books.crew w
-crew-behind s (Collected w g) h =
-    let ms = s.books.crew in
-    subst (λ (ns : List Member). CrewBehind ms (Collected w g) ns)
-    (sym (collecting-keeps (λ (u : State). u.books.crew ≡ map (made_collected w) ms) (in_books (λ b. marked (made_collected w) (with_list w g b)) s) w (unequal w g (listed w s.books)) refl refl refl (λ n. refl)))
+pub members-behind : (s : State) (e : Entry) → may_follow s e ≡ true → MembersBehind s.books.members e (after_effect s e).books.members
+members-behind s (Ready w) h = behind-ready s.books.members w
+members-behind s (Collected w g) h =
+    let ms = s.books.members in
+    subst (λ (ns : List Member). MembersBehind ms (Collected w g) ns)
+    (sym (collecting-keeps (λ (u : State). u.books.members ≡ map (made_collected w) ms) (in_books (λ b. marked (made_collected w) (with_list w g b)) s) w (unequal w g (listed w s.books)) refl refl refl (λ n. refl)))
     (behind-collected ms w g)
-crew-behind s (Done w i u m o) h = behind-same s.books.crew (Done w i u m o) (λ v. refl)
-crew-behind s (Back w is) h = behind-same s.books.crew (Back w is) (λ v. refl)
-crew-behind s (Finished w) h = behind-gone s.books.crew w (Finished w) (λ v. refl)
-crew-behind s (Refused w t) h = behind-gone s.books.crew w (Refused w t) (λ v. refl)
-crew-behind s (Down w c o) h = behind-gone s.books.crew w (Down w c o) (λ v. refl)
-crew-behind s (NotStarted w) h = behind-gone s.books.crew w (NotStarted w) (λ v. refl)
-crew-behind s (Start w slot) h = absurd (differ h)
-crew-behind s (Run w is) h = absurd (differ h)
-crew-behind s (RunAll w) h = absurd (differ h)
-crew-behind s (Steal w is) h = absurd (differ h)
-crew-behind s (Shutdown w) h = absurd (differ h)
-crew-behind s (Kill w) h = absurd (differ h)
-crew-behind s (Over how) h = absurd (differ h)
+members-behind s (Done w i u m o) h = behind-same s.books.members (Done w i u m o) (λ v. refl)
+members-behind s (Back w is) h = behind-same s.books.members (Back w is) (λ v. refl)
+members-behind s (Finished w) h = behind-gone s.books.members w (Finished w) (λ v. refl)
+members-behind s (Refused w t) h = behind-gone s.books.members w (Refused w t) (λ v. refl)
+members-behind s (Down w c o) h = behind-gone s.books.members w (Down w c o) (λ v. refl)
+members-behind s (NotStarted w) h = behind-gone s.books.members w (NotStarted w) (λ v. refl)
+members-behind s (Start w slot) h = absurd (differ h)
+members-behind s (Run w is) h = absurd (differ h)
+members-behind s (RunAll w) h = absurd (differ h)
+members-behind s (Steal w is) h = absurd (differ h)
+members-behind s (Shutdown w) h = absurd (differ h)
+members-behind s (Kill w) h = absurd (differ h)
+members-behind s (Over how) h = absurd (differ h)
 
 or-none : (b c : Bool) → (b || (c && false)) ≡ b
 or-none true c = refl
@@ -107,7 +107,7 @@ same_of v w h = grind (arith, nat_tests)
 -- an input keeps the agreement
 pub agrees-meant : (s : State) (marks : ℕ → Marks) (n : News) (e : Entry) → is_active n.worker s.books ≡ true → Meant s n.worker n.what e → Agrees s.books marks → Agrees (after_effect s e).books (λ w. marked_heard n w (marks w))
 agrees-meant s marks n e here m a =
-    let k = crew-behind s e m.follow in
+    let k = members-behind s e m.follow in
     let still : (w : ℕ) → is_active w s.books ≡ false → is_active w (after_effect s e).books ≡ false = λ w h. k.active w ∙ ap (λ (b : Bool). b && not (leaves w e)) h in
     record {
       started = λ w. a.started w ∙ sym (k.members w);
@@ -117,9 +117,9 @@ agrees-meant s marks n e here m a =
         | inr new ↦
             (let p = split-and (n.worker == w) (is_end n.what) new in
             let same = same_of n.worker w p.0 in
-            let member : is_member n.worker s.books.crew ≡ true = has-member n.worker (λ m. m.active) s.books.crew here in
-            let out : is_active n.worker (after_effect s e).books ≡ false = k.active n.worker ∙ ap (λ (b : Bool). active n.worker s.books.crew && not b) (m.left p.1) ∙ and-no (active n.worker s.books.crew) in
-            subst (λ (v : ℕ). (is_member v (after_effect s e).books.crew ≡ true) × (is_active v (after_effect s e).books ≡ false)) same (k.members n.worker ∙ member, out))
+            let member : is_member n.worker s.books.members ≡ true = has-member n.worker (λ m. m.active) s.books.members here in
+            let out : is_active n.worker (after_effect s e).books ≡ false = k.active n.worker ∙ ap (λ (b : Bool). active n.worker s.books.members && not b) (m.left p.1) ∙ and-no (active n.worker s.books.members) in
+            subst (λ (v : ℕ). (is_member v (after_effect s e).books.members ≡ true) × (is_active v (after_effect s e).books ≡ false)) same (k.members n.worker ∙ member, out))
       ];
       ready = λ w h. elim (k.ready w h) [
         | inl old ↦ or-first (marks w).ready (n.worker == w && is_ready n.what) (a.ready w old)

@@ -14,7 +14,7 @@ use Rattle.xd_ledger.specs.Numbers.{all_distinct, among}
 use Rattle.xd_ledger.specs.Proper.{IsProper}
 use Rattle.xd_session.specs.History.{run_of}
 use Rattle.xd_laws.proofs.Logic.{and, cases_of, differ, not_true, or-left, or-right, split-and}
-use Rattle.xd_laws.proofs.Crew.{distinct-numbered, has, has-member, numbers}
+use Rattle.xd_laws.proofs.Members.{distinct-numbered, has, has-member, numbers}
 use Rattle.xd_drive.specs.Agrees.{Agrees}
 use Rattle.xd_drive.specs.Marks.{Marks}
 use Rattle.xd_drive.specs.Performing.{marks_after, marks_after_entry, all_possible, kills_of_started, possible, was_started}
@@ -65,8 +65,8 @@ ending-goes slots marks (m ∷ ms) d k = elim (cases_of m.active) [
 
 pub ending-possible : (settings : Settings) (taken : List News) (slots : ℕ) (b : Books) (marks : ℕ → Marks) → IsProper settings [] → b ≡ (run_of settings taken).state.books → Agrees b marks → all_possible slots marks (ending true b) ≡ true
 ending-possible settings taken slots b marks p is a =
-    ending-goes slots marks b.crew (ap (λ (x : Books). all_distinct (numbers x.crew)) is ∙ distinct-numbered (run_of settings taken).state.books.crew (tidy settings p taken).crew.numbered)
-    (λ v h. and (a.started v ∙ has-member v (λ m. m.active) b.crew h) (ap not (unkilled b marks a v h)))
+    ending-goes slots marks b.members (ap (λ (x : Books). all_distinct (numbers x.members)) is ∙ distinct-numbered (run_of settings taken).state.books.members (tidy settings p taken).members.numbered)
+    (λ v h. and (a.started v ∙ has-member v (λ m. m.active) b.members h) (ap not (unkilled b marks a v h)))
 
 -- of what could be performed the kills can be performed alone
 

@@ -25,7 +25,7 @@ use Rattle.xd_report.specs.Text.{run_tail, run_text, tail_text}
 use Rattle.xd_session.specs.History.{run_of}
 use Rattle.xd_session.specs.Stands.{Seen, StandsFor, state_of}
 use Rattle.xd_laws.proofs.Logic.{and, cases_of, differ}
-use Rattle.xd_laws.proofs.Crew.{has}
+use Rattle.xd_laws.proofs.Members.{has}
 use Rattle.xd_drive.specs.declared.written.Written.{Written}
 use Rattle.xd_drive.specs.declared.written.Written.TheVariants.{Whole, Broken}
 use Rattle.xd_drive.specs.Agrees.{Agrees}
@@ -57,10 +57,10 @@ pub record Starts (slots : ℕ) (marks : ℕ → Marks) (es : List Entry) (behin
   pub possible : all_possible slots marks es ≡ true
   pub agrees : Agrees behind.books (marks_after es marks)
 
-starts-go : (slots : ℕ) (k w : ℕ) (s : State) (marks : ℕ → Marks) → ((v : ℕ) → has v (λ m. true) s.books.crew ≡ true → v < w) → Agrees s.books marks → w + k ≤ slots → Starts slots marks (starts_from w k) (after_entries s (starts_from w k))
+starts-go : (slots : ℕ) (k w : ℕ) (s : State) (marks : ℕ → Marks) → ((v : ℕ) → has v (λ m. true) s.books.members ≡ true → v < w) → Agrees s.books marks → w + k ≤ slots → Starts slots marks (starts_from w k) (after_entries s (starts_from w k))
 starts-go slots zero w s marks below a l = record { possible = refl; agrees = a }
 starts-go slots (suc k) w s marks below a l =
-    let new : has w (λ m. true) s.books.crew ≡ false = elim (cases_of (has w (λ m. true) s.books.crew)) [ inl h ↦ (let x = below w h in absurd (omega (arith, x))) | inr h ↦ h ] in
+    let new : has w (λ m. true) s.books.members ≡ false = elim (cases_of (has w (λ m. true) s.books.members)) [ inl h ↦ (let x = below w h in absurd (omega (arith, x))) | inr h ↦ h ] in
     let room : nat_lt w slots ≡ true = lower w slots (omega (arith, l)) in
     let one = goes-start slots marks s w w room (ap not new) a in
     let more = starts-go slots k (w + 1) (after_effect s (Start w w)) (marks_after_entry (Start w w) marks) (λ v h. below-next v h) one.agrees (omega (arith, l)) in
@@ -73,8 +73,8 @@ starts-go slots (suc k) w s marks below a l =
     by_either true v h f = (let x = f refl in omega (arith, x))
     by_either false v h f = grind (arith, nat_tests, h)
 
-    below-next : (v : ℕ) → has v (λ m. true) (s.books.crew ++ started w w ∷ []) ≡ true → v < w + 1
-    below-next v h = by_either (has v (λ m. true) s.books.crew) v (sym (started-more s.books.crew w w v) ∙ h) (below v)
+    below-next : (v : ℕ) → has v (λ m. true) (s.books.members ++ started w w ∷ []) ≡ true → v < w + 1
+    below-next v h = by_either (has v (λ m. true) s.books.members) v (sym (started-more s.books.members w w v) ∙ h) (below v)
 
 pub starts : (settings : Settings) (slots : ℕ) (marks : ℕ → Marks) → settings.workers ≤ slots → HasNoMarks marks → Starts slots marks (first_starts settings) (after_entries (no_one settings) (first_starts settings))
 starts settings slots marks l f = starts-go slots settings.workers 0 (no_one settings) marks (λ v h. absurd (differ h)) (agrees-none settings marks f) (omega (arith, l))

@@ -27,7 +27,7 @@ use Rattle.xd_edge.specs.Limits.{most_tests}
 use Rattle.xd_ledger.specs.Proper.{may_follow}
 use Rattle.xd_ledger.specs.Orderly.{all_orderly, is_orderly, may_run, not_empty}
 use Rattle.xd_laws.proofs.Logic.{and, cases_of, differ, in_both, not_true, split-and, split-or}
-use Rattle.xd_laws.proofs.Crew.{has, has-more, has-same}
+use Rattle.xd_laws.proofs.Members.{has, has-more, has-same}
 use Rattle.xd_laws.proofs.Counts.{all_among-drop}
 use Rattle.xd_laws.proofs.Placed.{Placed, placed-output}
 use Rattle.xd_laws.proofs.Turns.{after_entries-first}
@@ -78,12 +78,12 @@ plain-shut steals limit [] = refl
 plain-shut steals limit (w ∷ ws) = plain-shut steals limit ws
 
 plain-closing : (steals : Bool) (limit : ℕ) (s : State) → Plain steals limit (closing s)
-plain-closing steals limit s = in_both (Plain steals limit) (not (is_shutting s.books) && settles s) (shut_all s.books.crew) [] (λ h. plain-shut steals limit (waiting s.books.crew)) (λ h. refl)
+plain-closing steals limit s = in_both (Plain steals limit) (not (is_shutting s.books) && settles s) (shut_all s.books.members) [] (λ h. plain-shut steals limit (waiting s.books.members)) (λ h. refl)
 
 plain-unless : (steals : Bool) (limit : ℕ) (b n : Books) (es : List Entry) → Plain steals limit es → Plain steals limit (unless_stopped b n es)
 plain-unless steals limit b n es h =
-    in_both (Plain steals limit) (is_stopped b) [] (if is_stopped n then shut_all n.crew else es) (λ k. refl)
-    (λ k. in_both (Plain steals limit) (is_stopped n) (shut_all n.crew) es (λ l. plain-shut steals limit (waiting n.crew)) (λ l. h))
+    in_both (Plain steals limit) (is_stopped b) [] (if is_stopped n then shut_all n.members else es) (λ k. refl)
+    (λ k. in_both (Plain steals limit) (is_stopped n) (shut_all n.members) es (λ l. plain-shut steals limit (waiting n.members)) (λ l. h))
 
 abbrev steals_in : State → Bool
 steals_in s = not (is_each s.plan.mode)
@@ -139,7 +139,7 @@ lower a b h = grind (arith, nat_tests)
 
 plain-death : (limit w : ℕ) (t : State) → slot_of w t.books < limit → Plain (steals_in t) limit (outputs_of_death w t)
 plain-death limit w t low =
-    plain-join (steals_in t) limit (if t.books.shared then acts_of Died t else []) (Start (length t.books.crew) (slot_of w t.books) ∷ [])
+    plain-join (steals_in t) limit (if t.books.shared then acts_of Died t else []) (Start (length t.books.members) (slot_of w t.books) ∷ [])
     (in_both (Plain (steals_in t) limit) t.books.shared (acts_of Died t) [] (λ h. plain-acts limit Died t) (λ h. refl))
     (and (lower (slot_of w t.books) limit low) refl)
 
@@ -248,7 +248,7 @@ pub record Goes (slots : ℕ) (marks : ℕ → Marks) (e : Entry) (behind : Stat
   pub possible : possible slots marks e ≡ true
   pub agrees : Agrees behind.books (marks_after_entry e marks)
 
-goes-same : (slots : ℕ) (marks : ℕ → Marks) (e : Entry) (t u : State) → u.books.crew ≡ t.books.crew → ((w : ℕ) → marks_after_entry e marks w ≡ marks w) → possible slots marks e ≡ true → Agrees t.books marks → Goes slots marks e u
+goes-same : (slots : ℕ) (marks : ℕ → Marks) (e : Entry) (t u : State) → u.books.members ≡ t.books.members → ((w : ℕ) → marks_after_entry e marks w ≡ marks w) → possible slots marks e ≡ true → Agrees t.books marks → Goes slots marks e u
 goes-same slots marks e t u c m p a = record {
   possible = p;
   agrees = record {
@@ -261,7 +261,7 @@ goes-same slots marks e t u c m p a = record {
 
 goes-shutdown : (slots : ℕ) (marks : ℕ → Marks) (t : State) (w : ℕ) → may_tell (marks w) ≡ true → Agrees t.books marks → Goes slots marks (Shutdown w) (after_effect t (Shutdown w))
 goes-shutdown slots marks t w p a =
-    let ms = t.books.crew in
+    let ms = t.books.members in
     let f = made_shut w in
     let members : (v : ℕ) → has v (λ m. true) (map f ms) ≡ has v (λ m. true) ms = λ v. has-same v (λ m. true) f ms (λ m. refl) (λ m. refl) in
     let active : (v : ℕ) → has v (λ m. m.active) (map f ms) ≡ has v (λ m. m.active) ms = λ v. has-same v (λ m. m.active) f ms (λ m. refl) (λ m. refl) in
@@ -295,7 +295,7 @@ old-member ms w slot v new old =
 
 pub goes-start : (slots : ℕ) (marks : ℕ → Marks) (t : State) (w slot : ℕ) → nat_lt slot slots ≡ true → is_orderly t (Start w slot) ≡ true → Agrees t.books marks → Goes slots marks (Start w slot) (after_effect t (Start w slot))
 goes-start slots marks t w slot low h a =
-    let ms = t.books.crew in
+    let ms = t.books.members in
     let new : has w (λ m. true) ms ≡ false = not_true (has w (λ m. true) ms) h in
     record {
       possible = and (ap not (not_member t.books marks w a h)) low;

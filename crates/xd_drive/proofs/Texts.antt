@@ -170,7 +170,7 @@ silent-kills [] how = refl
 silent-kills (w ∷ ws) how = silent-kills ws how
 
 pub silent-ending : (failed : Bool) (b : Books) → list_all silent (ending failed b) ≡ true
-silent-ending true b = silent-kills (filter (λ (m : Member). m.active) b.crew) OutFault
+silent-ending true b = silent-kills (filter (λ (m : Member). m.active) b.members) OutFault
 silent-ending false b = refl
 
 -- the first starts print nothing
@@ -179,11 +179,11 @@ last-more : (v : ℕ) (ms : List Member) (m : Member) (found : Option ℕ) → l
 last-more v [] m found = refl
 last-more v (x ∷ xs) m found = last-more v xs m (if x.slot == v then Some x.worker else found)
 
-starts-silent : (k w : ℕ) (s : State) → ((v : ℕ) → w ≤ v → last_of_slot v s.books.crew None ≡ None) → lines_from s (starts_from w k) ≡ []
+starts-silent : (k w : ℕ) (s : State) → ((v : ℕ) → w ≤ v → last_of_slot v s.books.members None ≡ None) → lines_from s (starts_from w k) ≡ []
 starts-silent zero w s f = refl
 starts-silent (suc k) w s f =
     ap (λ (o : Option ℕ). replacing (mode_of s) o ++ lines_from (after_entry s (Start w w)) (starts_from (w + 1) k)) (f w (omega arith))
-    ∙ starts-silent k (w + 1) (after_entry s (Start w w)) (λ v l. last-more v s.books.crew (started w w) None ∙ ap (λ (b : Bool). if b then Some w else last_of_slot v s.books.crew None) (other v l) ∙ f v (omega (arith, l)))
+    ∙ starts-silent k (w + 1) (after_entry s (Start w w)) (λ v l. last-more v s.books.members (started w w) None ∙ ap (λ (b : Bool). if b then Some w else last_of_slot v s.books.members None) (other v l) ∙ f v (omega (arith, l)))
   where
     other : (v : ℕ) → w + 1 ≤ v → (w == v) ≡ false
     other v l = grind (arith, nat_tests)

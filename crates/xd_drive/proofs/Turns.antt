@@ -17,7 +17,7 @@ use Rattle.xd_ledger.specs.Proper.{IsProper, may_follow}
 use Rattle.xd_ledger.specs.Orderly.{all_orderly}
 use Rattle.xd_session.specs.History.{Run as TheRun, begun_run, after_news, input_of, run_of, entries_with, state_with}
 use Rattle.xd_laws.proofs.Logic.{and, cases_of, differ}
-use Rattle.xd_laws.proofs.Crew.{has-member, is_member}
+use Rattle.xd_laws.proofs.Members.{has-member, is_member}
 use Rattle.xd_laws.proofs.Inputs.{tidy-input}
 use Rattle.xd_laws.proofs.Turns.{Tidy, after_entries-first}
 use Rattle.xd_drive.specs.Agrees.{Agrees}
@@ -25,7 +25,7 @@ use Rattle.xd_drive.specs.Going.{entries_added, added_by}
 use Rattle.xd_drive.specs.Marks.{Marks, marked_heard}
 use Rattle.xd_drive.specs.Performing.{marks_after, marks_after_entry, all_possible, is_start_of, possible}
 use Rattle.xd_drive.proofs.Bounds.{Bounded, bounded-input}
-use Rattle.xd_drive.proofs.Heard.{agrees-meant, agrees-silent, crew-behind}
+use Rattle.xd_drive.proofs.Heard.{agrees-meant, agrees-silent, members-behind}
 use Rattle.xd_drive.proofs.Outs.{AllGo, Plain, all-go, bounded-all, follow, kill-goes}
 use Rattle.xd_drive.proofs.Runs.{Follows, InRun, Lawful, Means, in_run, in_run-next, input-follows, input-means, lawful, run-more}
 
@@ -71,9 +71,9 @@ bounded-settled settings u b = record { settings_are = b.settings_are; sizes = b
 slots-low : (settings : Settings) (s : State) (e : Entry) → may_follow s e ≡ true → Tidy s → Bounded settings s → (w : ℕ) → is_active w s.books ≡ true → slot_of w (after_effect s e).books < settings.workers
 slots-low settings s e h d b w a =
     let t = tidy-input s e h d in
-    let k = crew-behind s e h in
-    let member : is_member w (after_effect s e).books.crew ≡ true = k.members w ∙ has-member w (λ m. m.active) s.books.crew a in
-    subst (λ (x : Settings). slot_of w (after_effect s e).books < x.workers) (bounded-input settings s e h b).settings_are (t.crew.below w member)
+    let k = members-behind s e h in
+    let member : is_member w (after_effect s e).books.members ≡ true = k.members w ∙ has-member w (λ m. m.active) s.books.members a in
+    subst (λ (x : Settings). slot_of w (after_effect s e).books < x.workers) (bounded-input settings s e h b).settings_are (t.members.below w member)
 
 module _ (settings : Settings) (slots : ℕ) (marks : ℕ → Marks) (s : State) (e : Entry) (l : settings.workers ≤ slots) (h : may_follow s e ≡ true) (d : Lawful s e) (b : Bounded settings s) (a : Agrees (after_effect s e).books marks) where
   abbrev t : State
@@ -102,9 +102,9 @@ pub outs-go : (settings : Settings) (slots : ℕ) (marks : ℕ → Marks) (s : S
     → AllGo slots marks (outputs s e) (after_entries (after_effect s e) (outputs s e))
 outs-go settings slots marks s (Down w c o) l h d b a u =
     let f = follow s (Down w c o) settings.workers h (low settings slots marks s (Down w c o) l h d b a) in
-    let k = crew-behind s (Down w c o) h in
+    let k = members-behind s (Down w c o) h in
     outs-kill settings slots marks s (Down w c o) l h d b a w f.rest f.outs
-    (k.members w ∙ has-member w (λ m. m.active) s.books.crew h)
+    (k.members w ∙ has-member w (λ m. m.active) s.books.members h)
     (k.active w ∙ ap (λ (q : Bool). is_active w s.books && not q) (same_number w) ∙ and-no (is_active w s.books))
     (u w h) f.plain_rest
   where

@@ -29,7 +29,7 @@ use Rattle.xd_ledger.specs.Proper.{IsProper, has_workers, is_head, may_follow}
 use Rattle.xd_laws.specs.Called.{Called, Reached}
 use Rattle.xd_laws.proofs.Logic.{and, differ, not_true, split-and}
 use Rattle.xd_laws.proofs.Counts.{all_among-of, among-times, distinct-of_times, times-among}
-use Rattle.xd_laws.proofs.Crew.{has-member, has-same}
+use Rattle.xd_laws.proofs.Members.{has-member, has-same}
 use Rattle.xd_laws.proofs.Rota.{seat-among, seat-of_held}
 use Rattle.xd_laws.proofs.Places.{times-table}
 use Rattle.xd_laws.proofs.Placed.{at_most_once, head_among, one_item, shared-of_back, shared-of_held}
@@ -49,7 +49,7 @@ use Rattle.xd_laws.proofs.ScopeRule.{scope_rule, scoped-none}
 
 -- the units that wait
 
-in-pool : (s : State) → Tidy s → QueueFits s.books.table s.plan s.books.crew → AreInPool s.plan.queue s.books.table.pool
+in-pool : (s : State) → Tidy s → QueueFits s.books.table s.plan s.books.members → AreInPool s.plan.queue s.books.table.pool
 in-pool s d q =
     let pool = s.books.table.pool in
     record {
@@ -86,7 +86,7 @@ slots-below f n (w ∷ ws) k =
     and (grind (arith, nat_tests, here)) r
 
 slot-below : (s : State) → Tidy s → (w : ℕ) → InRota s w → slot_of w s.books < s.books.settings.workers
-slot-below s d w a = d.crew.below w (has-member w (λ m. m.active) s.books.crew (d.placed.fits.active w (seat-among w s.books.table.rota ∙ a)))
+slot-below s d w a = d.members.below w (has-member w (λ m. m.active) s.books.members (d.placed.fits.active w (seat-among w s.books.table.rota ∙ a)))
 
 can-share : (s : State) (slots : List ℕ) → Tidy s → IsFresh s slots → CanShare slots s.plan s.books.table
 can-share s slots d f =
@@ -146,7 +146,7 @@ abbrev noted : ℕ → Ids → State → State
 noted w g s = in_books (λ b. marked (made_collected w) (with_list w g b)) s
 
 unshut-noted : (s : State) (w : ℕ) (g : Ids) → is_shut w s.books ≡ false → is_shut w (noted w g s).books ≡ false
-unshut-noted s w g h = has-same w (λ m. m.shut) (made_collected w) s.books.crew (λ m. refl) (λ m. refl) ∙ h
+unshut-noted s w g h = has-same w (λ m. m.shut) (made_collected w) s.books.members (λ m. refl) (λ m. refl) ∙ h
 
 joined-by : (X : State → Type 0) → Rule X → (w : ℕ) (g : Ids) (s : State) → Tidy s → X s → Joins s w g → s.books.shared ≡ true
     → Called (Joined w (slot_of w (after_effect s (Collected w g)).books)) (after_effect s (Collected w g))

@@ -26,8 +26,8 @@ use Rattle.xd_ledger.specs.Outputs.{acts_of, turn_of}
 use Rattle.xd_laws.proofs.Logic.{cases_of, clash, differ, in_both, not_true, or-left, or-right, or-unset, split-and, split-or}
 use Rattle.xd_laws.proofs.Counts.{among-filter, among-in_range, among-times, bounds-of_range, times-among, times-append}
 use Rattle.xd_laws.proofs.Rota.{has_seat, seat-among, seat-change, told-change, told-shut}
-use Rattle.xd_laws.proofs.Crew.{has, has-cleared, has-member, has-more, has-same, is_member}
-use Rattle.xd_laws.proofs.CrewFits.{slot-marked, slot-new, slot-old}
+use Rattle.xd_laws.proofs.Members.{has, has-cleared, has-member, has-more, has-same, is_member}
+use Rattle.xd_laws.proofs.MembersFit.{slot-marked, slot-new, slot-old}
 use Rattle.xd_laws.proofs.Places.{times-apart}
 use Rattle.xd_laws.proofs.Turns.{InRota, Tidy}
 use Rattle.xd_laws.proofs.Rule.{CallFits, IsFresh, Rule}
@@ -186,7 +186,7 @@ none-left s slots e d f full y h =
     let below : (x : ℕ) → among x (map slot ws) ≡ true → x < n = λ x a.
     (let one = among-image slot x ws a in
     let active = d.placed.fits.active (one.0) (seat-among (one.0) s.books.table.rota ∙ one.1) in
-    subst (λ (z : ℕ). z < n) one.2 (d.crew.below (one.0) (has-member (one.0) (λ m. m.active) s.books.crew active))) in
+    subst (λ (z : ℕ). z < n) one.2 (d.members.below (one.0) (has-member (one.0) (λ m. m.active) s.books.members active))) in
     let many : length (map slot ws) ≡ n = length-map ws slot ∙ length-map s.books.table.rota (λ (x : Seat). x.worker) ∙ full in
     let here = all-taken (part.0) n (map slot ws) (image-once slot ws (rota-distinct s d) (λ v u a b q. rota-apart s d v u a b q)) below many (omega (arith, part.1, f.sizes e)) in
     let one = among-image slot (part.0) ws here in
@@ -320,7 +320,7 @@ pool-buried s w x h =
     ]
 
 each-buried : (s : State) (w : ℕ) → is_active w s.books ≡ true → Tidy s → InEach s → Awaited s → InEach (after_effect s (NotStarted w))
-    → is_member (length s.books.crew) (after_effect s (NotStarted w)).books.crew ≡ false → Awaited (after_effect (after_effect s (NotStarted w)) (Start (length s.books.crew) (slot_of w (after_effect s (NotStarted w)).books)))
+    → is_member (length s.books.members) (after_effect s (NotStarted w)).books.members ≡ false → Awaited (after_effect (after_effect s (NotStarted w)) (Start (length s.books.members) (slot_of w (after_effect s (NotStarted w)).books)))
 each-buried s w a d x o z free y h = elim (pool-buried s w y h) [
   | inl b ↦
       (let one = o y b in
@@ -329,19 +329,19 @@ each-buried s w a d x o z free y h = elim (pool-buried s w y h) [
             (let same : one.who ≡ w = grind (arith, nat_tests, k) in
             newcomer (ap (λ (u : ℕ). among y (slot_items (slot_of u s.books) s.plan)) (sym same) ∙ one.fits (ap is_each x.first.first)))
         | inr k ↦
-            (let member : is_member one.who now.books.crew ≡ true = has-same one.who (λ m. true) (made_gone w) ms (λ m. refl) (λ m. refl) ∙ has-member one.who (λ m. m.active) ms one.active in
-            let active : has one.who (λ m. m.active) now.books.crew ≡ true = has-cleared one.who w (λ m. m.active) (made_gone w) ms (λ m. refl) (λ m. refl) ∙ rw (k, one.active) refl in
-            let untold : has one.who (λ m. m.shut) now.books.crew ≡ false = has-same one.who (λ m. m.shut) (made_gone w) ms (λ m. refl) (λ m. refl) ∙ one.untold in
+            (let member : is_member one.who now.books.members ≡ true = has-same one.who (λ m. true) (made_gone w) ms (λ m. refl) (λ m. refl) ∙ has-member one.who (λ m. m.active) ms one.active in
+            let active : has one.who (λ m. m.active) now.books.members ≡ true = has-cleared one.who w (λ m. m.active) (made_gone w) ms (λ m. refl) (λ m. refl) ∙ rw (k, one.active) refl in
+            let untold : has one.who (λ m. m.shut) now.books.members ≡ false = has-same one.who (λ m. m.shut) (made_gone w) ms (λ m. refl) (λ m. refl) ∙ one.untold in
             awaits-by s after y one
-            (has-more one.who (λ m. m.active) now.books.crew new ∙ or-left (has one.who (λ m. m.active) now.books.crew) (n == one.who && true) active)
-            (has-more one.who (λ m. m.shut) now.books.crew new ∙ or-unset (has one.who (λ m. m.shut) now.books.crew) (n == one.who) ∙ untold)
-            (slot-old one.who now.books.crew new member ∙ slot-marked one.who (made_gone w) ms (λ m. refl) (λ m. refl)) refl refl)
+            (has-more one.who (λ m. m.active) now.books.members new ∙ or-left (has one.who (λ m. m.active) now.books.members) (n == one.who && true) active)
+            (has-more one.who (λ m. m.shut) now.books.members new ∙ or-unset (has one.who (λ m. m.shut) now.books.members) (n == one.who) ∙ untold)
+            (slot-old one.who now.books.members new member ∙ slot-marked one.who (made_gone w) ms (λ m. refl) (λ m. refl)) refl refl)
       ])
   | inr b ↦ newcomer (x.second (ap is_each x.first.first) w y b).1
 ]
   where
     ms : List Member
-    ms = s.books.crew
+    ms = s.books.members
 
     now : State
     now = after_effect s (NotStarted w)
@@ -357,8 +357,8 @@ each-buried s w a d x o z free y h = elim (pool-buried s w y h) [
 
     newcomer : among y (slot_items (slot_of w s.books) s.plan) ≡ true → Awaits after y
     newcomer mine =
-        let marks = new-untold now.books.crew n (slot_of w now.books) free in
-        let slot : slot_in n after.books.crew ≡ slot_in w ms = slot-new n now.books.crew new free (grind (arith, nat_tests)) ∙ slot-marked w (made_gone w) ms (λ m. refl) (λ m. refl) in
+        let marks = new-untold now.books.members n (slot_of w now.books) free in
+        let slot : slot_in n after.books.members ≡ slot_in w ms = slot-new n now.books.members new free (grind (arith, nat_tests)) ∙ slot-marked w (made_gone w) ms (λ m. refl) (λ m. refl) in
         record {
           who = n;
           active = marks.0;
@@ -376,9 +376,9 @@ each_keeper = record {
   buried = λ s w a d x o t k free same.
       (let now = after_effect s (NotStarted w) in
       let quiet : after_entries now (buried_acts now) ≡ now = none-buried now k in
-      let member : is_member (length s.books.crew) now.books.crew ≡ false = ap (λ (u : State). is_member (length s.books.crew) u.books.crew) (sym quiet) ∙ free in
+      let member : is_member (length s.books.members) now.books.members ≡ false = ap (λ (u : State). is_member (length s.books.members) u.books.members) (sym quiet) ∙ free in
       let comes = each-buried s w a d x o k member in
-      subst (λ (u : State). Awaited (after_effect u (Start (length now.books.crew) (slot_of w now.books)))) (sym quiet)
+      subst (λ (u : State). Awaited (after_effect u (Start (length now.books.members) (slot_of w now.books)))) (sym quiet)
       (subst (λ (i : ℕ). Awaited (after_effect now (Start i (slot_of w now.books)))) (sym same) comes));
   steals = λ s x. inr x.first.second;
 }

@@ -190,7 +190,7 @@ rota-distinct s d = distinct-of_times (workers_of s.books.table) (λ w. omega (a
 pub rota-apart : (s : State) → Tidy s → (v u : ℕ) → InRota s v → InRota s u → slot_of v s.books ≡ slot_of u s.books → v ≡ u
 rota-apart s d v u a b e =
     let f = d.placed.fits in
-    d.crew.apart v u (f.active v (seat-among v s.books.table.rota ∙ a)) (f.active u (seat-among u s.books.table.rota ∙ b)) e
+    d.members.apart v u (f.active v (seat-among v s.books.table.rota ∙ a)) (f.active u (seat-among u s.books.table.rota ∙ b)) e
 
 pub good-share : (s : State) (slots : List ℕ) → is_each s.plan.mode ≡ true → Tidy s → s.books.shared ≡ true → IsFresh s slots → Good s (share slots (turn_of s))
 good-share s slots e d h f =

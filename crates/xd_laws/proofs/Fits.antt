@@ -8,7 +8,7 @@ use Rattle.xd_ledger.specs.Table.{Table, in_rota, seat_shut, at_seat, without_se
 use Rattle.xd_ledger.specs.Workers.{started, made_ready, made_collected, made_shut, made_gone}
 use Rattle.xd_laws.proofs.Logic.{split-and, split-or, not_true, or-left, or-unset}
 use Rattle.xd_laws.proofs.Rota.{seats_of, has_seat, is_told, one-of_seat, none-of_seat, untold-of_seat, seats-change, seat-change, told-change, told-shut, seat-left, told-left, seats-left, seat-joined, told-joined, seats-joined}
-use Rattle.xd_laws.proofs.Crew.{has, is_member, has-member, has-same, has-set, has-kept, has-cleared, has-more}
+use Rattle.xd_laws.proofs.Members.{has, is_member, has-member, has-same, has-set, has-kept, has-cleared, has-more}
 
 -- each worker of the rota has one seat, is active, ready and collected, and both marks of a Shutdown agree
 pub record Fits (t : Table) (ms : List Member) : Type 0 where

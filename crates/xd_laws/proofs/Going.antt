@@ -24,7 +24,7 @@ use Rattle.xd_ledger.specs.State.{is_handed_out, after_effect, after_entries, se
 use Rattle.xd_ledger.specs.Outputs.{acts_of, closing, shut_all, turn_of, unless_stopped}
 use Rattle.xd_ledger.specs.Orderly.{all_orderly, is_orderly}
 use Rattle.xd_laws.proofs.Logic.{cases_of, differ, in_both, not_true, or-left, or-right, split-and, split-or}
-use Rattle.xd_laws.proofs.Crew.{distinct-numbered, has, has-cleared, has-member, has-same, has-set, is_member}
+use Rattle.xd_laws.proofs.Members.{distinct-numbered, has, has-cleared, has-member, has-same, has-set, is_member}
 use Rattle.xd_laws.proofs.Turns.{Tidy, after_entries-first}
 use Rattle.xd_laws.proofs.Rule.{CallFits, Rule, fit-shut_all}
 use Rattle.xd_laws.proofs.Inputs.{collecting-keeps}
@@ -39,9 +39,9 @@ use Rattle.xd_laws.proofs.Keeping.{Keeper, OthersTold, later-call}
 
 -- fewer are active, and the other marks are as they were
 pub record Fewer (s t : State) : Type 0 where
-  pub active : (v : ℕ) → has v (λ m. m.active) t.books.crew ≡ true → has v (λ m. m.active) s.books.crew ≡ true
-  pub ready : (v : ℕ) → has v (λ m. m.ready) t.books.crew ≡ has v (λ m. m.ready) s.books.crew
-  pub shut : (v : ℕ) → has v (λ m. m.shut) t.books.crew ≡ has v (λ m. m.shut) s.books.crew
+  pub active : (v : ℕ) → has v (λ m. m.active) t.books.members ≡ true → has v (λ m. m.active) s.books.members ≡ true
+  pub ready : (v : ℕ) → has v (λ m. m.ready) t.books.members ≡ has v (λ m. m.ready) s.books.members
+  pub shut : (v : ℕ) → has v (λ m. m.shut) t.books.members ≡ has v (λ m. m.shut) s.books.members
 
 pub told-fewer : (s t : State) → Fewer s t → AllTold s → AllTold t
 told-fewer s t f k v a r = f.shut v ∙ k v (f.active v a) (sym (f.ready v) ∙ r)
@@ -49,9 +49,9 @@ told-fewer s t f k v a r = f.shut v ∙ k v (f.active v a) (sym (f.ready v) ∙ 
 pub told-later : (s t : State) → Later s t → AllTold s → AllTold t
 told-later s t f k v a r = f.shut v (k v (sym (f.active v) ∙ a) (sym (f.ready v) ∙ r))
 
-pub fewer-gone : (s t : State) (w : ℕ) → t.books.crew ≡ map (made_gone w) s.books.crew → Fewer s t
+pub fewer-gone : (s t : State) (w : ℕ) → t.books.members ≡ map (made_gone w) s.books.members → Fewer s t
 fewer-gone s t w e =
-    let ms = s.books.crew in
+    let ms = s.books.members in
     record {
       active = λ v h. (split-and (not (v == w)) (has v (λ m. m.active) ms)
           (sym (has-cleared v w (λ m. m.active) (made_gone w) ms (λ m. refl) (λ m. refl)) ∙ ap (λ (ns : List Member). has v (λ m. m.active) ns) (sym e) ∙ h)).1;
@@ -59,7 +59,7 @@ fewer-gone s t w e =
       shut = λ v. ap (λ (ns : List Member). has v (λ m. m.shut) ns) e ∙ has-same v (λ m. m.shut) (made_gone w) ms (λ m. refl) (λ m. refl);
     }
 
-pub fewer-same : (s t : State) → t.books.crew ≡ s.books.crew → Fewer s t
+pub fewer-same : (s t : State) → t.books.members ≡ s.books.members → Fewer s t
 fewer-same s t e = record {
   active = λ v h. ap (λ (ns : List Member). has v (λ m. m.active) ns) (sym e) ∙ h;
   ready = λ v. ap (λ (ns : List Member). has v (λ m. m.ready) ns) e;
@@ -68,7 +68,7 @@ fewer-same s t e = record {
 
 pub fewer-collected : (s : State) (w : ℕ) (g : Ids) → Fewer s (after_effect s (Collected w g))
 fewer-collected s w g =
-    let ms = s.books.crew in
+    let ms = s.books.members in
     let same : Fewer s (in_books (λ b. marked (made_collected w) (with_list w g b)) s) = record {
       active = λ v h. sym (has-same v (λ m. m.active) (made_collected w) ms (λ m. refl) (λ m. refl)) ∙ h;
       ready = λ v. has-same v (λ m. m.ready) (made_collected w) ms (λ m. refl) (λ m. refl);
@@ -80,20 +80,20 @@ fewer-collected s w g =
 
 -- everyone is told
 
-told-in : (v : ℕ) (s : State) (es : List Entry) → all_orderly s es ≡ true → all_plain es ≡ true → list_any (tells v) es ≡ true → is_member v s.books.crew ≡ true → has v (λ m. m.shut) (after_entries s es).books.crew ≡ true
+told-in : (v : ℕ) (s : State) (es : List Entry) → all_orderly s es ≡ true → all_plain es ≡ true → list_any (tells v) es ≡ true → is_member v s.books.members ≡ true → has v (λ m. m.shut) (after_entries s es).books.members ≡ true
 told-in v s [] o p h k = absurd (differ h)
 told-in v s (e ∷ es) o p h k =
     let q = split-and (is_orderly s e) (all_orderly (after_effect s e) es) o in
     let r = split-and (is_plain e) (all_plain es) p in
     let first = after_entries-first s e es q.0 in
     let rest = later-outputs (after_effect s e) es q.1 r.1 in
-    ap (λ (u : State). has v (λ m. m.shut) u.books.crew) first ∙ (elim (split-or (tells v e) (list_any (tells v) es) h) [
+    ap (λ (u : State). has v (λ m. m.shut) u.books.members) first ∙ (elim (split-or (tells v e) (list_any (tells v) es) h) [
       | inl t ↦ rest.shut v (here v s e t k)
       | inr t ↦ told-in v (after_effect s e) es q.1 r.1 t (member v s e r.0 k)
     ])
   where
-    here : (v : ℕ) (s : State) (e : Entry) → tells v e ≡ true → is_member v s.books.crew ≡ true → has v (λ m. m.shut) (after_effect s e).books.crew ≡ true
-    here v s (Shutdown w) t k = has-set v w (λ m. m.shut) (made_shut w) s.books.crew (λ m. refl) (λ m. refl) ∙ grind (arith, nat_tests, t, k)
+    here : (v : ℕ) (s : State) (e : Entry) → tells v e ≡ true → is_member v s.books.members ≡ true → has v (λ m. m.shut) (after_effect s e).books.members ≡ true
+    here v s (Shutdown w) t k = has-set v w (λ m. m.shut) (made_shut w) s.books.members (λ m. refl) (λ m. refl) ∙ grind (arith, nat_tests, t, k)
     here v s (Run w is) t k = absurd (differ t)
     here v s (RunAll w) t k = absurd (differ t)
     here v s (Steal w is) t k = absurd (differ t)
@@ -109,8 +109,8 @@ told-in v s (e ∷ es) o p h k =
     here v s (Down w c o) t k = absurd (differ t)
     here v s (NotStarted w) t k = absurd (differ t)
 
-    member : (v : ℕ) (s : State) (e : Entry) → is_plain e ≡ true → is_member v s.books.crew ≡ true → is_member v (after_effect s e).books.crew ≡ true
-    member v s (Shutdown w) t k = has-same v (λ m. true) (made_shut w) s.books.crew (λ m. refl) (λ m. refl) ∙ k
+    member : (v : ℕ) (s : State) (e : Entry) → is_plain e ≡ true → is_member v s.books.members ≡ true → is_member v (after_effect s e).books.members ≡ true
+    member v s (Shutdown w) t k = has-same v (λ m. true) (made_shut w) s.books.members (λ m. refl) (λ m. refl) ∙ k
     member v s (Run w is) t k = k
     member v s (RunAll w) t k = k
     member v s (Steal w is) t k = k
@@ -148,9 +148,9 @@ tells-waiting v (m ∷ ms) h = elim (cases_of (is_waiting m)) [
 ]
 
 -- behind a Shutdown for each that waits, everyone is told
-pub told-all : (s : State) → Tidy s → all_orderly s (shut_all s.books.crew) ≡ true → AllTold (after_entries s (shut_all s.books.crew))
+pub told-all : (s : State) → Tidy s → all_orderly s (shut_all s.books.members) ≡ true → AllTold (after_entries s (shut_all s.books.members))
 told-all s d o v a r =
-    let ms = s.books.crew in
+    let ms = s.books.members in
     let es = shut_all ms in
     let plain = plain-shut_all (waiting ms) in
     let later = later-outputs s es o plain in
@@ -159,7 +159,7 @@ told-all s d o v a r =
     elim (cases_of (has v (λ m. m.shut) ms)) [
       | inl h ↦ later.shut v h
       | inr h ↦ told-in v s es o plain
-          (tells-waiting v ms (has-without v (λ m. m.active && m.ready) (λ m. m.shut) ms (has-both v (λ m. m.active) (λ m. m.ready) ms (distinct-numbered ms d.crew.numbered) active ready) h))
+          (tells-waiting v ms (has-without v (λ m. m.active && m.ready) (λ m. m.shut) ms (has-both v (λ m. m.active) (λ m. m.ready) ms (distinct-numbered ms d.members.numbered) active ready) h))
           (has-member v (λ m. m.active) ms active)
     ]
 
@@ -172,7 +172,7 @@ going-call X k s c d h x f b o t waits asked seated =
     let z = k.rule.agrees s c d h x f in
     let l = later-call X k.rule s c d h x f in
     record {
-      seated = λ v a e n. (let untold : has v (λ y. y.shut) s.books.crew ≡ false = elim (cases_of (has v (λ y. y.shut) s.books.crew)) [ inl q ↦ absurd (differ (sym n ∙ l.shut v q)) | inr q ↦ q ] in
+      seated = λ v a e n. (let untold : has v (λ y. y.shut) s.books.members ≡ false = elim (cases_of (has v (λ y. y.shut) s.books.members)) [ inl q ↦ absurd (differ (sym n ∙ l.shut v q)) | inr q ↦ q ] in
           ap (λ (ws : List ℕ). among v ws) l.rota ∙ seated v (sym (l.active v) ∙ a) (sym (l.collected v) ∙ e) untold);
       work = λ q. subst (λ (u : Table). AllWork (workers_of m.books.table) u) (sym z.table) (subst (λ (ws : List ℕ). AllWork ws (turned s.plan.mode c (turn_of s)).table) (sym l.rota) (k.work s c d h x f b o t));
       told = λ q e v a. ap (λ (u : Table). seat_shut v u) z.table ∙ k.told s c d h x f t (ap is_each (sym l.mode) ∙ e) v (ap (λ (ws : List ℕ). among v ws) (sym l.rota) ∙ a);
@@ -186,11 +186,11 @@ going-call X k s c d h x f b o t waits asked seated =
 pub owing-unless : (X : State → Type 0) → Rule X → (s now : State) (es : List Entry) → (is_shutting s.books ≡ true → AllTold now) → Tidy now → X now → (is_stopped s.books ≡ true → is_stopped now.books ≡ true)
     → (is_stopped s.books ≡ false → is_stopped now.books ≡ false → Owing (after_entries now es)) → Owing (after_entries now (unless_stopped s.books now.books es))
 owing-unless X rule s now es told d x stays goes =
-    in_both (λ (os : List Entry). Owing (after_entries now os)) (is_stopped s.books) [] (if is_stopped now.books then shut_all now.books.crew else es)
+    in_both (λ (os : List Entry). Owing (after_entries now os)) (is_stopped s.books) [] (if is_stopped now.books then shut_all now.books.members else es)
     (λ h. record { told = λ q. told (or-left (is_stopped s.books) s.books.shutting h); going = λ q. absurd (differ (sym q ∙ stays h)) })
-    (λ h. in_both (λ (os : List Entry). Owing (after_entries now os)) (is_stopped now.books) (shut_all now.books.crew) es
+    (λ h. in_both (λ (os : List Entry). Owing (after_entries now os)) (is_stopped now.books) (shut_all now.books.members) es
     (λ k. (let o = (fit-shut_all X rule now (or-left (is_stopped now.books) now.books.shared k) d x).orderly in
-    let l = later-outputs now (shut_all now.books.crew) o (plain-shut_all (waiting now.books.crew)) in
+    let l = later-outputs now (shut_all now.books.members) o (plain-shut_all (waiting now.books.members)) in
     record { told = λ q. told-all now d o; going = λ q. absurd (differ (sym q ∙ (ap (λ (a : Option RunStop). is_some a) l.stop ∙ k))) }))
     (λ k. goes h k))
 
@@ -206,9 +206,9 @@ owing-later s now after told same n l g = record {
 
 -- whoever is active and was told nothing is so behind it
 abbrev pub StillOpen : State → State → Type 0
-StillOpen s t = (v : ℕ) → has v (λ m. m.active) s.books.crew ≡ true → has v (λ m. m.shut) s.books.crew ≡ false → (has v (λ m. m.active) t.books.crew ≡ true) × (has v (λ m. m.shut) t.books.crew ≡ false)
+StillOpen s t = (v : ℕ) → has v (λ m. m.active) s.books.members ≡ true → has v (λ m. m.shut) s.books.members ≡ false → (has v (λ m. m.active) t.books.members ≡ true) × (has v (λ m. m.shut) t.books.members ≡ false)
 
-pub awaited-by : (s t : State) → ((x : ℕ) → among x t.books.table.pool ≡ true → among x s.books.table.pool ≡ true) → StillOpen s t → ((v : ℕ) → slot_in v t.books.crew ≡ slot_in v s.books.crew)
+pub awaited-by : (s t : State) → ((x : ℕ) → among x t.books.table.pool ≡ true → among x s.books.table.pool ≡ true) → StillOpen s t → ((v : ℕ) → slot_in v t.books.members ≡ slot_in v s.books.members)
     → t.plan.sizes ≡ s.plan.sizes → t.plan.mode ≡ s.plan.mode → Awaited s → Awaited t
 awaited-by s t less open_ slots sizes mode o x h =
     let one = o x (less x h) in
@@ -220,9 +220,9 @@ asked-by s t less open_ o a e = (let one = o a (less a e) in open_ a.worker one.
 
 -- the states differ in nothing but marks of readiness and of collections
 pub record Alike (s t : State) : Type 0 where
-  pub active : (v : ℕ) → has v (λ m. m.active) t.books.crew ≡ has v (λ m. m.active) s.books.crew
-  pub shut : (v : ℕ) → has v (λ m. m.shut) t.books.crew ≡ has v (λ m. m.shut) s.books.crew
-  pub slots : (v : ℕ) → slot_in v t.books.crew ≡ slot_in v s.books.crew
+  pub active : (v : ℕ) → has v (λ m. m.active) t.books.members ≡ has v (λ m. m.active) s.books.members
+  pub shut : (v : ℕ) → has v (λ m. m.shut) t.books.members ≡ has v (λ m. m.shut) s.books.members
+  pub slots : (v : ℕ) → slot_in v t.books.members ≡ slot_in v s.books.members
   pub table : t.books.table ≡ s.books.table
   pub plan : t.plan ≡ s.plan
   pub shared : t.books.shared ≡ s.books.shared
@@ -250,7 +250,7 @@ going-alike s t a seated g = record {
 
 pub seated-later : (s t : State) → Later s t → Seated s → Seated t
 seated-later s t l k v a c n =
-    let untold : has v (λ u. u.shut) s.books.crew ≡ false = elim (cases_of (has v (λ u. u.shut) s.books.crew)) [ inl z ↦ absurd (differ (sym n ∙ l.shut v z)) | inr z ↦ z ] in
+    let untold : has v (λ u. u.shut) s.books.members ≡ false = elim (cases_of (has v (λ u. u.shut) s.books.members)) [ inl z ↦ absurd (differ (sym n ∙ l.shut v z)) | inr z ↦ z ] in
     ap (λ (ws : List ℕ). among v ws) l.rota ∙ k v (sym (l.active v) ∙ a) (sym (l.collected v) ∙ c) untold
 
 pub going-spent : (s t : State) → Later s t → s.books.shared ≡ true → s.books.table.pool ≡ [] → t.plan.steal ≡ None → Going s → Going t
@@ -303,17 +303,17 @@ owing-closed s d o k = by (not (is_shutting s.books) && settles s) refl o
     steal-shut_all [] u = refl
     steal-shut_all (w ∷ ws) u = steal-shut_all ws (after_effect u (Shutdown w))
 
-    ended : settles s ≡ true → all_orderly s (shut_all s.books.crew) ≡ true → Owing (settled (after_entries s (shut_all s.books.crew)))
+    ended : settles s ≡ true → all_orderly s (shut_all s.books.members) ≡ true → Owing (settled (after_entries s (shut_all s.books.members)))
     ended h q =
-        let m = after_entries s (shut_all s.books.crew) in
+        let m = after_entries s (shut_all s.books.members) in
         let p = parts h in
         let spent = spent-finished s.books.table s.plan p.2 in
-        let l = later-outputs s (shut_all s.books.crew) q (plain-shut_all (waiting s.books.crew)) in
+        let l = later-outputs s (shut_all s.books.members) q (plain-shut_all (waiting s.books.members)) in
         record {
           told = λ y. told-all s d q;
-          going = λ y. set m (going-spent s m l p.1 spent.pool (steal-shut_all (waiting s.books.crew) s ∙ spent.steal) (k.going p.0));
+          going = λ y. set m (going-spent s m l p.1 spent.pool (steal-shut_all (waiting s.books.members) s ∙ spent.steal) (k.going p.0));
         }
 
-    by : (b : Bool) → (not (is_shutting s.books) && settles s) ≡ b → all_orderly s (if b then shut_all s.books.crew else []) ≡ true → Owing (settled (after_entries s (if b then shut_all s.books.crew else [])))
+    by : (b : Bool) → (not (is_shutting s.books) && settles s) ≡ b → all_orderly s (if b then shut_all s.books.members else []) ≡ true → Owing (settled (after_entries s (if b then shut_all s.books.members else [])))
     by true e q = ended (split-and (not (is_shutting s.books)) (settles s) e).1 q
     by false e q = still (λ h. unclosed (is_stopped s.books) s.books.shutting (settles s) e (parts h).0 h)

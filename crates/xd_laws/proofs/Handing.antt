@@ -152,7 +152,7 @@ serves-asks_or_shuts : (s : State) (ws : List ℕ) (o : Option Seat) (t : Turn) 
 serves-asks_or_shuts s ws None t g d e none h = serves-shuts s ws t d e none
 serves-asks_or_shuts s ws (Some v) t g d e none h =
     let k = victim-of (steal.most (steal.open_seats t.table)) t.table.rota v (one_seat-turn s t g) h in
-    in_both (Serves s) (steal.number v == 0) (shut_each ws t) (steal.asks v (steal.number v) t) (λ z. serves-shuts s ws t d e none) (λ z. serves-asks s v (steal.number v) t d k.open_.there k.open_.untold)
+    in_both (Serves s) (steal.steal_count v == 0) (shut_each ws t) (steal.asks v (steal.steal_count v) t) (λ z. serves-shuts s ws t d e none) (λ z. serves-asks s v (steal.steal_count v) t d k.open_.there k.open_.untold)
 
 serves-dealt : (s : State) (t : Turn) → Dealt s t → Serves s t
 serves-dealt s t d = record { fair = inl d.hand; asks = earlier s t d.same }

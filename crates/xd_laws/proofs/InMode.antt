@@ -49,7 +49,7 @@ pub agrees-in : (k : ModeKind) (s : State) (c : ModeCall) → InMode k s → Goo
 agrees-in k s c m g = subst (λ (q : ModeKind). Agrees s (turned q c (turn_of s))) (sym m) (agrees-good s (turned k c (turn_of s)) g)
 
 -- a mode that hands out tests has no queue of units
-pub no-queue : (k : ModeKind) (s : State) → is_scope k ≡ false → InMode k s → is_scope s.plan.mode ≡ true → QueueFits s.books.table s.plan s.books.crew
+pub no-queue : (k : ModeKind) (s : State) → is_scope k ≡ false → InMode k s → is_scope s.plan.mode ≡ true → QueueFits s.books.table s.plan s.books.members
 no-queue k s n m h = absurd (differ (sym n ∙ ap is_scope (sym m) ∙ h))
 
 pub turned-mode : (k : ModeKind) (s : State) (t : Turn) → InMode k s → Good s t → Turned (InMode k) s t.acts

@@ -26,9 +26,9 @@ use Rattle.xd_ledger.specs.State.{after_effect}
 use Rattle.xd_ledger.specs.Proper.{may_follow}
 use Rattle.xd_laws.proofs.Logic.{differ, in_both, split-and, not_true}
 use Rattle.xd_laws.proofs.Rota.{seat-among, seat-joined}
-use Rattle.xd_laws.proofs.Crew.{has, has-same}
+use Rattle.xd_laws.proofs.Members.{has, has-same}
 use Rattle.xd_laws.proofs.Placed.{placed-input}
-use Rattle.xd_laws.proofs.CrewFits.{CrewFits, crew-ready, crew-collected, crew-gone}
+use Rattle.xd_laws.proofs.MembersFit.{MembersFit, members-ready, members-collected, members-gone}
 use Rattle.xd_laws.proofs.Turns.{Tidy, Calm, InRota}
 
 -- a collection comes: its worker is shut, the run stops, or the worker joins, and the last one brings the share
@@ -47,27 +47,27 @@ collecting-keeps P s w stop a b c d =
     let j = in_books (λ b. record b { table = joined w b.table }) s in
     collecting-full P s w stop a b c (λ k. d (not_true s.books.shared (split-and (not s.books.shared) (length j.books.table.rota == s.books.settings.workers) k).0))
 
-abbrev CrewOk : State → Type 0
-CrewOk s = CrewFits s.books.crew s.books.settings.workers
+abbrev MembersOk : State → Type 0
+MembersOk s = MembersFit s.books.members s.books.settings.workers
 
-crew-input : (s : State) (e : Entry) → may_follow s e ≡ true → CrewOk s → CrewOk (after_effect s e)
-crew-input s (Ready w) h c = crew-ready s.books.crew s.books.settings.workers w c
-crew-input s (Collected w g) h c =
-    let k = crew-collected s.books.crew s.books.settings.workers w c in
-    collecting-keeps CrewOk (in_books (λ b. marked (made_collected w) (with_list w g b)) s) w (unequal w g (listed w s.books)) k k k (λ n. k)
-crew-input s (Done w i u m o) h c = c
-crew-input s (Back w i) h c = c
-crew-input s (Finished w) h c = crew-gone s.books.crew s.books.settings.workers w c
-crew-input s (Refused w t) h c = crew-gone s.books.crew s.books.settings.workers w c
-crew-input s (Down w r o) h c = crew-gone s.books.crew s.books.settings.workers w c
-crew-input s (NotStarted w) h c = crew-gone s.books.crew s.books.settings.workers w c
-crew-input s (Start w slot) h c = absurd (differ h)
-crew-input s (Run w is) h c = absurd (differ h)
-crew-input s (RunAll w) h c = absurd (differ h)
-crew-input s (Steal w is) h c = absurd (differ h)
-crew-input s (Shutdown w) h c = absurd (differ h)
-crew-input s (Kill w) h c = absurd (differ h)
-crew-input s (Over how) h c = absurd (differ h)
+members-input : (s : State) (e : Entry) → may_follow s e ≡ true → MembersOk s → MembersOk (after_effect s e)
+members-input s (Ready w) h c = members-ready s.books.members s.books.settings.workers w c
+members-input s (Collected w g) h c =
+    let k = members-collected s.books.members s.books.settings.workers w c in
+    collecting-keeps MembersOk (in_books (λ b. marked (made_collected w) (with_list w g b)) s) w (unequal w g (listed w s.books)) k k k (λ n. k)
+members-input s (Done w i u m o) h c = c
+members-input s (Back w i) h c = c
+members-input s (Finished w) h c = members-gone s.books.members s.books.settings.workers w c
+members-input s (Refused w t) h c = members-gone s.books.members s.books.settings.workers w c
+members-input s (Down w r o) h c = members-gone s.books.members s.books.settings.workers w c
+members-input s (NotStarted w) h c = members-gone s.books.members s.books.settings.workers w c
+members-input s (Start w slot) h c = absurd (differ h)
+members-input s (Run w is) h c = absurd (differ h)
+members-input s (RunAll w) h c = absurd (differ h)
+members-input s (Steal w is) h c = absurd (differ h)
+members-input s (Shutdown w) h c = absurd (differ h)
+members-input s (Kill w) h c = absurd (differ h)
+members-input s (Over how) h c = absurd (differ h)
 
 -- a stop stays
 pub unstopped-before : (a how : Option RunStop) → is_some (or_stop a how) ≡ false → is_some a ≡ false
@@ -76,7 +76,7 @@ unstopped-before (Some first) how h = h
 
 -- the shut marks and the share are as they were, and a stop stays
 calm-by : (s t : State) → t.books.shutting ≡ s.books.shutting → t.books.shared ≡ s.books.shared → (is_stopped t.books ≡ false → is_stopped s.books ≡ false)
-    → ((v : ℕ) → has v (λ m. m.shut) t.books.crew ≡ has v (λ m. m.shut) s.books.crew) → Calm s → Calm t
+    → ((v : ℕ) → has v (λ m. m.shut) t.books.members ≡ has v (λ m. m.shut) s.books.members) → Calm s → Calm t
 calm-by s t a b stop shut c = record {
   late = λ h. b ∙ c.late (sym a ∙ h);
   unshut = λ h k v. shut v ∙ c.unshut (stop h) (sym b ∙ k) v;
@@ -93,7 +93,7 @@ calm-collected s w g c =
     let now = in_books (λ b. marked (made_collected w) (with_list w g b)) s in
     let j = in_books (λ b. record b { table = joined w b.table }) now in
     let stop = unequal w g (listed w s.books) in
-    let shut : (v : ℕ) → has v (λ m. m.shut) now.books.crew ≡ has v (λ m. m.shut) s.books.crew = λ v. shut-collected w v s.books.crew in
+    let shut : (v : ℕ) → has v (λ m. m.shut) now.books.members ≡ has v (λ m. m.shut) s.books.members = λ v. shut-collected w v s.books.members in
     collecting-keeps Calm now w stop
     (calm-by s now refl refl (λ h. h) shut c)
     (calm-by s (in_books (stopped_by stop) now) refl refl (unstopped-before s.books.stop stop) shut c)
@@ -111,15 +111,15 @@ done-unstopped s w i u m o h =
     unstopped-before s.books.stop (done_stop u (record (s.books) { table = completed_first w items s.books.table; failures = s.books.failures + failing u })) h
 
 calm-down : (s : State) (w : ℕ) → Calm s → Calm (after_effect s (NotStarted w))
-calm-down s w c = calm-by s (after_effect s (NotStarted w)) refl refl (λ k. down-unstopped w s k) (λ v. shut-gone w v s.books.crew) c
+calm-down s w c = calm-by s (after_effect s (NotStarted w)) refl refl (λ k. down-unstopped w s k) (λ v. shut-gone w v s.books.members) c
 
 calm-input : (s : State) (e : Entry) → may_follow s e ≡ true → Calm s → Calm (after_effect s e)
-calm-input s (Ready w) h c = calm-by s (after_effect s (Ready w)) refl refl (λ k. k) (λ v. has-same v (λ m. m.shut) (made_ready w) s.books.crew (λ m. refl) (λ m. refl)) c
+calm-input s (Ready w) h c = calm-by s (after_effect s (Ready w)) refl refl (λ k. k) (λ v. has-same v (λ m. m.shut) (made_ready w) s.books.members (λ m. refl) (λ m. refl)) c
 calm-input s (Collected w g) h c = calm-collected s w g c
 calm-input s (Done w i u m o) h c = calm-by s (after_effect s (Done w i u m o)) refl refl (λ k. done-unstopped s w i u m o k) (λ v. refl) c
 calm-input s (Back w is) h c = calm-by s (after_effect s (Back w is)) refl refl (λ k. k) (λ v. refl) c
-calm-input s (Finished w) h c = calm-by s (after_effect s (Finished w)) refl refl (λ k. k) (λ v. shut-gone w v s.books.crew) c
-calm-input s (Refused w t) h c = calm-by s (after_effect s (Refused w t)) refl refl (unstopped-before s.books.stop (Some (CollectError w))) (λ v. shut-gone w v s.books.crew) c
+calm-input s (Finished w) h c = calm-by s (after_effect s (Finished w)) refl refl (λ k. k) (λ v. shut-gone w v s.books.members) c
+calm-input s (Refused w t) h c = calm-by s (after_effect s (Refused w t)) refl refl (unstopped-before s.books.stop (Some (CollectError w))) (λ v. shut-gone w v s.books.members) c
 calm-input s (Down w r o) h c = calm-down s w c
 calm-input s (NotStarted w) h c = calm-down s w c
 calm-input s (Start w slot) h c = absurd (differ h)
@@ -131,13 +131,13 @@ calm-input s (Kill w) h c = absurd (differ h)
 calm-input s (Over how) h c = absurd (differ h)
 
 pub tidy-input : (s : State) (e : Entry) → may_follow s e ≡ true → Tidy s → Tidy (after_effect s e)
-tidy-input s e h d = record { placed = placed-input s e h d.placed; crew = crew-input s e h d.crew; calm = calm-input s e h d.calm }
+tidy-input s e h d = record { placed = placed-input s e h d.placed; members = members-input s e h d.members; calm = calm-input s e h d.calm }
 
 -- nobody is told to shut down by what workers say
-pub shut_as_before : (s : State) (w v : ℕ) (g : Ids) → has v (λ m. m.shut) (after_effect s (Collected w g)).books.crew ≡ has v (λ m. m.shut) s.books.crew
+pub shut_as_before : (s : State) (w v : ℕ) (g : Ids) → has v (λ m. m.shut) (after_effect s (Collected w g)).books.members ≡ has v (λ m. m.shut) s.books.members
 shut_as_before s w v g =
-    let k = shut-collected w v s.books.crew in
-    collecting-keeps (λ (u : State). has v (λ m. m.shut) u.books.crew ≡ has v (λ m. m.shut) s.books.crew)
+    let k = shut-collected w v s.books.members in
+    collecting-keeps (λ (u : State). has v (λ m. m.shut) u.books.members ≡ has v (λ m. m.shut) s.books.members)
     (in_books (λ b. marked (made_collected w) (with_list w g b)) s) w (unequal w g (listed w s.books)) k k k (λ n. k)
 
 -- a share is not taken back

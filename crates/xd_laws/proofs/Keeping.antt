@@ -16,7 +16,7 @@ use Rattle.xd_ledger.specs.Sharing.{State}
 use Rattle.xd_ledger.specs.State.{after_effect, after_entries, after_entry}
 use Rattle.xd_ledger.specs.Outputs.{acts_of, turn_of}
 use Rattle.xd_laws.proofs.Logic.{differ, in_both, split-and}
-use Rattle.xd_laws.proofs.Crew.{has, has-more, is_member}
+use Rattle.xd_laws.proofs.Members.{has, has-more, is_member}
 use Rattle.xd_laws.proofs.Rota.{seat-among}
 use Rattle.xd_laws.proofs.Turns.{InRota, Tidy}
 use Rattle.xd_laws.proofs.Rule.{CallFits, Rule}
@@ -52,7 +52,7 @@ abbrev pub buried_acts : State → List Entry
 buried_acts s = if s.books.shared then acts_of Died s else []
 
 abbrev pub replaced : State → ℕ → State
-replaced s w = after_effect (after_entries s (buried_acts s)) (Start (length s.books.crew) (slot_of w s.books))
+replaced s w = after_effect (after_entries s (buried_acts s)) (Start (length s.books.members) (slot_of w s.books))
 
 pub record Keeper (X : State → Type 0) : Type 0 where
   pub rule : Rule X
@@ -63,17 +63,17 @@ pub record Keeper (X : State → Type 0) : Type 0 where
   pub asked : (s : State) (c : ModeCall) → Tidy s → s.books.shared ≡ true → X s → CallFits s c → AskedOpen s → AskedOpen (after_entries s (acts_of c s))
   pub waits : (s : State) (c : ModeCall) → Tidy s → s.books.shared ≡ true → X s → CallFits s c → Expects s c → Awaited (after_entries s (acts_of c s))
   pub buried : (s : State) (w : ℕ) → is_active w s.books ≡ true → Tidy s → X s → Awaited s → Tidy (after_effect s (NotStarted w)) → X (after_effect s (NotStarted w))
-      → is_member (length s.books.crew) (after_entries (after_effect s (NotStarted w)) (buried_acts (after_effect s (NotStarted w)))).books.crew ≡ false
-      → length (after_effect s (NotStarted w)).books.crew ≡ length s.books.crew → Awaited (replaced (after_effect s (NotStarted w)) w)
+      → is_member (length s.books.members) (after_entries (after_effect s (NotStarted w)) (buried_acts (after_effect s (NotStarted w)))).books.members ≡ false
+      → length (after_effect s (NotStarted w)).books.members ≡ length s.books.members → Awaited (replaced (after_effect s (NotStarted w)) w)
   pub steals : (s : State) → X s → (s.plan.mode ≡ WorkSteal) ⊎ (s.plan.steal ≡ None)
 
--- outputs that hand tests out leave the crew as it was
+-- outputs that hand tests out leave the members as they were
 
-pub crew-hand : (s : State) (es : List Entry) → all_hand es ≡ true → (after_entries s es).books.crew ≡ s.books.crew
-crew-hand s [] h = refl
-crew-hand s (e ∷ es) h = (let p = split-and (hands_out e) (all_hand es) h in crew-hand (after_entry s e) es p.1 ∙ one e p.0)
+pub members-hand : (s : State) (es : List Entry) → all_hand es ≡ true → (after_entries s es).books.members ≡ s.books.members
+members-hand s [] h = refl
+members-hand s (e ∷ es) h = (let p = split-and (hands_out e) (all_hand es) h in members-hand (after_entry s e) es p.1 ∙ one e p.0)
   where
-    one : (e : Entry) → hands_out e ≡ true → (after_entry s e).books.crew ≡ s.books.crew
+    one : (e : Entry) → hands_out e ≡ true → (after_entry s e).books.members ≡ s.books.members
     one (Run w is) k = refl
     one (RunAll w) k = refl
     one (Steal w is) k = refl
@@ -119,10 +119,10 @@ module _ (X : State → Type 0) (server : Server X) where
       elim serves.fair [
         | inr none ↦ absurd (let q : None ≡ Some a = sym none.1 ∙ asks in cc)
         | inl hand ↦
-            (let crew = crew-hand s (acts_of c s) hand in
+            (let members = members-hand s (acts_of c s) hand in
             elim (serves.asks a asks) [
               | inl old ↦ (let k = o a old in
-                  (subst (λ (ms : List Member). has a.worker (λ y. y.active) ms ≡ true) (sym crew) k.0, subst (λ (ms : List Member). has a.worker (λ y. y.shut) ms ≡ false) (sym crew) k.1))
+                  (subst (λ (ms : List Member). has a.worker (λ y. y.active) ms ≡ true) (sym members) k.0, subst (λ (ms : List Member). has a.worker (λ y. y.shut) ms ≡ false) (sym members) k.1))
               | inr new ↦ (let rota : in_rota a.worker m.books.table ≡ true = ap (λ (u : Table). in_rota a.worker u) z.table ∙ new.0 in
                   (tidy.placed.fits.active a.worker rota, tidy.placed.fits.marks a.worker rota ∙ ap (λ (u : Table). seat_shut a.worker u) z.table ∙ new.1))
             ])
@@ -138,12 +138,12 @@ module _ (X : State → Type 0) (server : Server X) where
       elim serves.fair [
         | inr none ↦ absurd (differ (ap (λ (xs : List ℕ). among y xs) (sym (ap (λ (u : Table). u.pool) z.table ∙ none.0)) ∙ a))
         | inl hand ↦
-            (let crew = crew-hand s (acts_of c s) hand in
+            (let members = members-hand s (acts_of c s) hand in
             let one = o y (later.pool y a) in
             record {
               who = one.who;
-              active = subst (λ (ms : List Member). has one.who (λ u. u.active) ms ≡ true) (sym crew) one.active;
-              untold = subst (λ (ms : List Member). has one.who (λ u. u.shut) ms ≡ false) (sym crew) one.untold;
+              active = subst (λ (ms : List Member). has one.who (λ u. u.active) ms ≡ true) (sym members) one.active;
+              untold = subst (λ (ms : List Member). has one.who (λ u. u.shut) ms ≡ false) (sym members) one.untold;
               fits = λ e. no-each s x (ap is_each (sym later.mode) ∙ e);
             })
       ]
@@ -171,9 +171,9 @@ module _ (X : State → Type 0) (server : Server X) where
     buried = λ s w a d x o t k free same.
         (let now = after_effect s (NotStarted w) in
         let mid = after_entries now (buried_acts now) in
-        let n = length now.books.crew in
-        let none : is_member n mid.books.crew ≡ false = ap (λ (i : ℕ). is_member i mid.books.crew) same ∙ free in
-        let new = new-untold mid.books.crew n (slot_of w now.books) none in
+        let n = length now.books.members in
+        let none : is_member n mid.books.members ≡ false = ap (λ (i : ℕ). is_member i mid.books.members) same ∙ free in
+        let new = new-untold mid.books.members n (slot_of w now.books) none in
         λ y b. record { who = n; active = new.0; untold = new.1; fits = λ e. no-each now k (mid-mode now k t e) });
     steals = server.steals;
   }

@@ -19,8 +19,8 @@ use Rattle.xd_ledger.specs.Outputs.{acts_of, turn_of}
 use Rattle.xd_ledger.specs.Orderly.{is_orderly, all_orderly}
 use Rattle.xd_laws.proofs.Logic.{and, differ, split-and}
 use Rattle.xd_laws.proofs.Counts.{among-filter}
-use Rattle.xd_laws.proofs.Crew.{has, has-kept, has-same, has-set}
-use Rattle.xd_laws.proofs.CrewFits.{slot-marked}
+use Rattle.xd_laws.proofs.Members.{has, has-kept, has-same, has-set}
+use Rattle.xd_laws.proofs.MembersFit.{slot-marked}
 use Rattle.xd_laws.proofs.Rota.{told-change, workers-change}
 use Rattle.xd_laws.proofs.Turns.{after_entries-first}
 use Rattle.xd_laws.proofs.Busy.{told-kept}
@@ -39,11 +39,11 @@ all_plain es = list_all is_plain es
 
 -- workers may be told to shut down, and items leave the pool
 pub record Later (s t : State) : Type 0 where
-  pub active : (v : ℕ) → has v (λ m. m.active) t.books.crew ≡ has v (λ m. m.active) s.books.crew
-  pub ready : (v : ℕ) → has v (λ m. m.ready) t.books.crew ≡ has v (λ m. m.ready) s.books.crew
-  pub collected : (v : ℕ) → has v (λ m. m.collected) t.books.crew ≡ has v (λ m. m.collected) s.books.crew
-  pub slots : (v : ℕ) → slot_in v t.books.crew ≡ slot_in v s.books.crew
-  pub shut : (v : ℕ) → has v (λ m. m.shut) s.books.crew ≡ true → has v (λ m. m.shut) t.books.crew ≡ true
+  pub active : (v : ℕ) → has v (λ m. m.active) t.books.members ≡ has v (λ m. m.active) s.books.members
+  pub ready : (v : ℕ) → has v (λ m. m.ready) t.books.members ≡ has v (λ m. m.ready) s.books.members
+  pub collected : (v : ℕ) → has v (λ m. m.collected) t.books.members ≡ has v (λ m. m.collected) s.books.members
+  pub slots : (v : ℕ) → slot_in v t.books.members ≡ slot_in v s.books.members
+  pub shut : (v : ℕ) → has v (λ m. m.shut) s.books.members ≡ true → has v (λ m. m.shut) t.books.members ≡ true
   pub rota : workers_of t.books.table ≡ workers_of s.books.table
   pub told : (v : ℕ) → seat_shut v s.books.table ≡ true → seat_shut v t.books.table ≡ true
   pub pool : (x : ℕ) → among x t.books.table.pool ≡ true → among x s.books.table.pool ≡ true
@@ -116,7 +116,7 @@ later-given s w items p a b =
 
 pub later-shutdown : (s : State) (w : ℕ) → Later s (after_effect s (Shutdown w))
 later-shutdown s w =
-    let ms = s.books.crew in
+    let ms = s.books.members in
     record {
       active = λ v. has-same v (λ m. m.active) (made_shut w) ms (λ m. refl) (λ m. refl);
       ready = λ v. has-same v (λ m. m.ready) (made_shut w) ms (λ m. refl) (λ m. refl);
@@ -180,20 +180,20 @@ tells v _ = false
 
 -- whom nobody tells was not told
 pub untold-outputs : (v : ℕ) (s : State) (es : List Entry) → all_orderly s es ≡ true → all_plain es ≡ true → list_any (tells v) es ≡ false
-    → has v (λ m. m.shut) (after_entries s es).books.crew ≡ has v (λ m. m.shut) s.books.crew
+    → has v (λ m. m.shut) (after_entries s es).books.members ≡ has v (λ m. m.shut) s.books.members
 untold-outputs v s [] o p h = refl
 untold-outputs v s (e ∷ es) o p h =
     let q = split-and (is_orderly s e) (all_orderly (after_effect s e) es) o in
     let r = split-and (is_plain e) (all_plain es) p in
     let n = neither (tells v e) (list_any (tells v) es) h in
-    ap (λ (u : State). has v (λ m. m.shut) u.books.crew) (after_entries-first s e es q.0) ∙ untold-outputs v (after_effect s e) es q.1 r.1 n.1 ∙ one s e r.0 n.0
+    ap (λ (u : State). has v (λ m. m.shut) u.books.members) (after_entries-first s e es q.0) ∙ untold-outputs v (after_effect s e) es q.1 r.1 n.1 ∙ one s e r.0 n.0
   where
     neither : (a b : Bool) → (a || b) ≡ false → (a ≡ false) × (b ≡ false)
     neither true b h = absurd (differ (sym h))
     neither false b h = (refl, h)
 
-    one : (s : State) (e : Entry) → is_plain e ≡ true → tells v e ≡ false → has v (λ m. m.shut) (after_effect s e).books.crew ≡ has v (λ m. m.shut) s.books.crew
-    one s (Shutdown w) p h = has-set v w (λ m. m.shut) (made_shut w) s.books.crew (λ m. refl) (λ m. refl) ∙ grind (arith, nat_tests, h)
+    one : (s : State) (e : Entry) → is_plain e ≡ true → tells v e ≡ false → has v (λ m. m.shut) (after_effect s e).books.members ≡ has v (λ m. m.shut) s.books.members
+    one s (Shutdown w) p h = has-set v w (λ m. m.shut) (made_shut w) s.books.members (λ m. refl) (λ m. refl) ∙ grind (arith, nat_tests, h)
     one s (Run w is) p h = refl
     one s (RunAll w) p h = refl
     one s (Steal w is) p h = refl

@@ -3,7 +3,7 @@ use Rattle.std.proofs.Common.{◌≡◌, ℕ, subst, Bool, List, true, false, re
 use Rattle.xd_laws.proofs.Spent.{Spent, all-spent, begun-spent}
 use Rattle.xd_laws.proofs.Told.{items_told, told-all}
 use Rattle.xd_laws.proofs.Places.{times-table}
-use Rattle.xd_laws.proofs.Crew.{has}
+use Rattle.xd_laws.proofs.Members.{has}
 use Rattle.xd_laws.proofs.Rota.{has_seat}
 use Rattle.xd_laws.specs.Collected.{IsShared, collected}
 use Rattle.xd_laws.specs.Early.{has_collection}
@@ -127,7 +127,7 @@ all-told s d k h u x l =
     let shutting : s.books.shutting ≡ true = not_shut_by (is_stopped s.books) s.books.shutting a.0 u in
     let quiet = not_true (some_active s.books) a.1 in
     let left : (w : ℕ) → has_seat w t.rota ≡ false = λ w. elim (cases_of (in_rota w t)) [
-      | inl r ↦ absurd (differ (sym (none_active w s.books.crew quiet) ∙ d.placed.fits.active w r))
+      | inl r ↦ absurd (differ (sym (none_active w s.books.members quiet) ∙ d.placed.fits.active w r))
       | inr r ↦ r
     ] in
     let held : times x (held_by_all t.rota) ≡ 0 = ap (λ (xs : List ℕ). times x xs) (no_seats t.rota left) in

@@ -3,10 +3,10 @@ pub mod Counts
 pub mod Rota
 pub mod Places
 pub mod Crashes
-pub mod Crew
+pub mod Members
 pub mod Fits
 pub mod Placed
-pub mod CrewFits
+pub mod MembersFit
 pub mod Turns
 pub mod LoadTurns
 pub mod Rule

@@ -23,17 +23,17 @@ use Rattle.xd_ledger.specs.Proper.{may_follow, is_head}
 use Rattle.xd_ledger.specs.Orderly.{is_orderly}
 use Rattle.xd_laws.proofs.Logic.{or-left, or-right, split-or, differ, cases_of, split-and, not_true, in_both}
 use Rattle.xd_laws.proofs.Rota.{seat-among, workers-change, seat-of_held}
-use Rattle.xd_laws.proofs.Crew.{is_member, has-member, has-same, has-set, has}
+use Rattle.xd_laws.proofs.Members.{is_member, has-member, has-same, has-set, has}
 use Rattle.xd_laws.proofs.Placed.{shared-of_held, shared-of_back, one_item, head_among}
-use Rattle.xd_laws.proofs.CrewFits.{IsFree, kin-same, free-gone}
+use Rattle.xd_laws.proofs.MembersFit.{IsFree, kin-same, free-gone}
 use Rattle.xd_laws.proofs.Turns.{Tidy, Calm, MayShut, InRota, orderly-shutdown}
 use Rattle.xd_laws.proofs.Rule.{Fit, IsFresh, Rule, fit-none, fit-first, fit-join, fit-start, fit-shutdown, fit-shut_all}
 use Rattle.xd_laws.proofs.Inputs.{IsFull, IsSized, still_shared, shut_as_before, tidy-input, joins-by, joins-rota, full-joining, sized-joining}
 
 unless-fit : (X : State → Type 0) → Rule X → (s : Books) (t : State) (es : List Entry) → Tidy t → X t → (is_stopped s ≡ false → is_stopped t.books ≡ false → Fit X t es) → Fit X t (unless_stopped s t.books es)
 unless-fit X rule s t es d x f =
-    in_both (λ (os : List Entry). Fit X t os) (is_stopped s) [] (if is_stopped t.books then shut_all t.books.crew else es) (λ h. fit-none X t d x)
-    (λ h. in_both (λ (os : List Entry). Fit X t os) (is_stopped t.books) (shut_all t.books.crew) es (λ k. fit-shut_all X rule t (or-left (is_stopped t.books) t.books.shared k) d x) (f h))
+    in_both (λ (os : List Entry). Fit X t os) (is_stopped s) [] (if is_stopped t.books then shut_all t.books.members else es) (λ h. fit-none X t d x)
+    (λ h. in_both (λ (os : List Entry). Fit X t os) (is_stopped t.books) (shut_all t.books.members) es (λ k. fit-shut_all X rule t (or-left (is_stopped t.books) t.books.shared k) d x) (f h))
 
 -- a run that is shutting may tell workers so
 may-shutting : (s : State) → Tidy s → is_shutting s.books ≡ true → MayShut s
@@ -48,9 +48,9 @@ ready-fit : (X : State → Type 0) → Rule X → (s : State) (w : ℕ) → may_
     → Fit X (after_effect s (Ready w)) (own_outputs s (Ready w) (after_effect s (Ready w)))
 ready-fit X rule s w h d t x =
     let now = after_effect s (Ready w) in
-    let ms = s.books.crew in
+    let ms = s.books.members in
     let p = split-and (is_active w s.books) (not (was_ready w s.books)) h in
-    let not_shut : is_shut w s.books ≡ false = elim (cases_of (is_shut w s.books)) [ inl k ↦ absurd (differ (sym (not_true (was_ready w s.books) p.1) ∙ d.crew.shut_ready w k)) | inr k ↦ k ] in
+    let not_shut : is_shut w s.books ≡ false = elim (cases_of (is_shut w s.books)) [ inl k ↦ absurd (differ (sym (not_true (was_ready w s.books) p.1) ∙ d.members.shut_ready w k)) | inr k ↦ k ] in
     let set : was_ready w now.books ≡ true = has-set w w (λ m. m.ready) (made_ready w) ms (λ m. refl) (λ m. refl) ∙ grind (arith, nat_tests, has-member w (λ m. m.active) ms p.0) in
     let one : is_orderly now (Shutdown w) ≡ true = orderly-shutdown now w (has-same w (λ m. m.active) (made_ready w) ms (λ m. refl) (λ m. refl) ∙ p.0) set
     (has-same w (λ m. m.shut) (made_ready w) ms (λ m. refl) (λ m. refl) ∙ not_shut) in
@@ -69,13 +69,13 @@ joining-fit X rule s t w d x rota unshut still fresh =
     (λ h. (rule.turns t (Joined w (slot_of w t.books)) d (still h) x (record { rota = rota; slot_is = refl; unshut = sym (d.placed.fits.marks w (seat-among w t.books.table.rota ∙ rota)) ∙ unshut })).fit)
     (λ h. in_both (λ (os : List Entry). Fit X t os) t.books.shared shared_ [] (λ k. (rule.turns t (Share (slots_of_rota t.books)) d k x (fresh h k)).fit) (λ k. fit-none X t d x))
 
-pub fresh-by : (s t : State) (w : ℕ) → t ≡ joining w s → ((v : ℕ) → has v (λ m. m.shut) t.books.crew ≡ false) → s.books.shared ≡ false → t.books.shared ≡ true → IsFresh t (slots_of_rota t.books)
+pub fresh-by : (s t : State) (w : ℕ) → t ≡ joining w s → ((v : ℕ) → has v (λ m. m.shut) t.books.members ≡ false) → s.books.shared ≡ false → t.books.shared ≡ true → IsFresh t (slots_of_rota t.books)
 fresh-by s t w e unshut h k =
     let now : (joining w s).books.shared ≡ true = ap (λ (u : State). u.books.shared) (sym e) ∙ k in
     record { slots_are = refl; pool = subst IsFull (sym e) (full-joining s w h now); sizes = subst IsSized (sym e) (sized-joining s w h now); unshut = unshut }
 
 -- who shares was told nothing before
-pub unshut-collected : (s : State) (w : ℕ) (g : Ids) → Calm s → is_stopped s.books ≡ false → s.books.shared ≡ false → (v : ℕ) → has v (λ m. m.shut) (after_effect s (Collected w g)).books.crew ≡ false
+pub unshut-collected : (s : State) (w : ℕ) (g : Ids) → Calm s → is_stopped s.books ≡ false → s.books.shared ≡ false → (v : ℕ) → has v (λ m. m.shut) (after_effect s (Collected w g)).books.members ≡ false
 unshut-collected s w g c h k v = shut_as_before s w v g ∙ c.unshut h k v
 
 collected-fit : (X : State → Type 0) → Rule X → (s : State) (w : ℕ) (g : Ids) → Tidy s → Tidy (after_effect s (Collected w g)) → X (after_effect s (Collected w g))
@@ -84,7 +84,7 @@ collected-fit X rule s w g d t x =
     let now = after_effect s (Collected w g) in
     let before = in_books (λ b. marked (made_collected w) (with_list w g b)) s in
     let stop = unequal w g (listed w s.books) in
-    let same : is_shut w before.books ≡ is_shut w s.books = has-same w (λ m. m.shut) (made_collected w) s.books.crew (λ m. refl) (λ m. refl) in
+    let same : is_shut w before.books ≡ is_shut w s.books = has-same w (λ m. m.shut) (made_collected w) s.books.members (λ m. refl) (λ m. refl) in
     in_both (λ (os : List Entry). Fit X now os) (is_shut w s.books) [] (unless_stopped s.books now.books (outputs_of_joining w s.books now)) (λ h. fit-none X now t x)
     (λ h. unless-fit X rule s.books now (outputs_of_joining w s.books now) t x
     (λ unstopped k. (let e = joins-by before w stop (same ∙ h) k in
@@ -111,22 +111,22 @@ done-fit X rule s w i u m o h d t x =
 
 -- a worker goes, and another comes at its slot
 
-death-fit : (X : State → Type 0) → Rule X → (s : State) (w : ℕ) → Tidy s → X s → IsFree (slot_of w s.books) s.books.crew → slot_of w s.books < s.books.settings.workers → Fit X s (outputs_of_death w s)
+death-fit : (X : State → Type 0) → Rule X → (s : State) (w : ℕ) → Tidy s → X s → IsFree (slot_of w s.books) s.books.members → slot_of w s.books < s.books.settings.workers → Fit X s (outputs_of_death w s)
 death-fit X rule s w d x free low =
     let slot = slot_of w s.books in
-    let new = Start (length s.books.crew) slot in
+    let new = Start (length s.books.members) slot in
     in_both (λ (es : List Entry). Fit X s (es ++ new ∷ [])) s.books.shared (acts_of Died s) []
     (λ h. (let t = rule.turns s Died d h x tt in fit-join X s (acts_of Died s) (new ∷ []) t.fit (fit-start X rule s (acts_of Died s) slot t free low)))
-    (λ h. fit-start X rule s [] slot (record { fit = fit-none X s d x; kin = kin-same s.books.crew; settings = refl }) free low)
+    (λ h. fit-start X rule s [] slot (record { fit = fit-none X s d x; kin = kin-same s.books.members; settings = refl }) free low)
 
 down-fit : (X : State → Type 0) → Rule X → (s : State) (w : ℕ) → is_active w s.books ≡ true → Tidy s → Tidy (after_effect s (NotStarted w)) → X (after_effect s (NotStarted w))
     → Fit X (after_effect s (NotStarted w)) (unless_stopped s.books (after_effect s (NotStarted w)).books (outputs_of_death w (after_effect s (NotStarted w))))
 down-fit X rule s w a d t x =
     let now = after_effect s (NotStarted w) in
-    let ms = s.books.crew in
-    let member : is_member w now.books.crew ≡ true = has-same w (λ m. true) (made_gone w) ms (λ m. refl) (λ m. refl) ∙ has-member w (λ m. m.active) ms a in
+    let ms = s.books.members in
+    let member : is_member w now.books.members ≡ true = has-same w (λ m. true) (made_gone w) ms (λ m. refl) (λ m. refl) ∙ has-member w (λ m. m.active) ms a in
     unless-fit X rule s.books now (outputs_of_death w now) t x
-    (λ j k. death-fit X rule now w t x (free-gone ms s.books.settings.workers w d.crew a) (t.crew.below w member))
+    (λ j k. death-fit X rule now w t x (free-gone ms s.books.settings.workers w d.members a) (t.members.below w member))
 
 -- the outputs of an input, where the state behind it is tidy
 pub own-fit : (X : State → Type 0) → Rule X → (s : State) (e : Entry) → may_follow s e ≡ true → Tidy s → Tidy (after_effect s e) → X (after_effect s e) → Fit X (after_effect s e) (own_outputs s e (after_effect s e))
@@ -156,7 +156,7 @@ may-settles s h =
     or-right (is_stopped s.books) s.books.shared (split-and (not (is_stopped s.books)) s.books.shared a.0).1
 
 pub closing-fit : (X : State → Type 0) → Rule X → (s : State) → Tidy s → X s → Fit X s (closing s)
-closing-fit X rule s d x = in_both (λ (es : List Entry). Fit X s es) (not (is_shutting s.books) && settles s) (shut_all s.books.crew) [] (λ h. fit-shut_all X rule s (may-settles s (split-and (not (is_shutting s.books)) (settles s) h).1) d x) (λ h. fit-none X s d x)
+closing-fit X rule s d x = in_both (λ (es : List Entry). Fit X s es) (not (is_shutting s.books) && settles s) (shut_all s.books.members) [] (λ h. fit-shut_all X rule s (may-settles s (split-and (not (is_shutting s.books)) (settles s) h).1) d x) (λ h. fit-none X s d x)
 
 -- all that follows an input
 pub outputs-fit : (X : State → Type 0) → Rule X → (s : State) (e : Entry) → may_follow s e ≡ true → Tidy s → X s → Fit X (after_effect s e) (outputs s e)

@@ -21,7 +21,7 @@ use Rattle.xd_laws.proofs.Rows.{a_death, three}
 
 -- who owes, in order of worker numbers
 abbrev who_owe : State → List Bool
-who_owe s = map (owes s) s.books.crew
+who_owe s = map (owes s) s.books.members
 
 abbrev in_mode : ModeKind → Settings
 in_mode k = record three { mode = k }
@@ -89,7 +89,7 @@ asked-proper = record { mode = refl; some_worker = refl; few_workers = refl; few
 abbrev stuck : State
 stuck =
     in_books (on_table (λ t. record t { pool = 2 ∷ []; rota = record { worker = 0; held = 0 ∷ []; shut = false } ∷ record { worker = 1; held = 1 ∷ []; shut = false } ∷ [] }))
-    (in_books (λ b. record b { crew = map (λ (m : Member). record m { shut = false }) b.crew; shutting = false }) (after_inputs (after_starts three) (take 4 a_death)))
+    (in_books (λ b. record b { members = map (λ (m : Member). record m { shut = false }) b.members; shutting = false }) (after_inputs (after_starts three) (take 4 a_death)))
 
 stuck-owes : someone_owes stuck ≡ false
 stuck-owes = refl

@@ -16,7 +16,7 @@ use Rattle.xd_ledger.specs.State.{is_handed_out, settles}
 use Rattle.xd_ledger.specs.Histories.{is_over}
 use Rattle.xd_ledger.specs.Owes.{owes, someone_owes, steal_open_to}
 use Rattle.xd_laws.proofs.Logic.{and, cases_of, differ, or-left, or-right, split-and, split-or, not_true}
-use Rattle.xd_laws.proofs.Crew.{distinct-numbered, has, numbers}
+use Rattle.xd_laws.proofs.Members.{distinct-numbered, has, numbers}
 use Rattle.xd_laws.proofs.Rota.{has_seat, one-of_seat, seat-among, seats_of}
 use Rattle.xd_laws.proofs.Turns.{InRota, Tidy}
 use Rattle.xd_laws.proofs.Pigeons.{as-many}
@@ -25,7 +25,7 @@ use Rattle.xd_laws.proofs.Busy.{AllWork}
 
 -- whoever is active and ready was told to shut down
 abbrev pub AllTold : State → Type 0
-AllTold s = (v : ℕ) → has v (λ m. m.active) s.books.crew ≡ true → has v (λ m. m.ready) s.books.crew ≡ true → has v (λ m. m.shut) s.books.crew ≡ true
+AllTold s = (v : ℕ) → has v (λ m. m.active) s.books.members ≡ true → has v (λ m. m.ready) s.books.members ≡ true → has v (λ m. m.shut) s.books.members ≡ true
 
 -- in mode each the item is one of the worker's slot
 abbrev pub FitsSlot : State → ℕ → ℕ → Type 0
@@ -34,8 +34,8 @@ FitsSlot s v x = is_each s.plan.mode ≡ true → among x (slot_items (slot_of v
 -- an active worker that was told nothing, which may take the item
 pub record Awaits (s : State) (x : ℕ) : Type 0 where
   pub who : ℕ
-  pub active : has who (λ m. m.active) s.books.crew ≡ true
-  pub untold : has who (λ m. m.shut) s.books.crew ≡ false
+  pub active : has who (λ m. m.active) s.books.members ≡ true
+  pub untold : has who (λ m. m.shut) s.books.members ≡ false
   pub fits : FitsSlot s who x
 
 abbrev pub Awaited : State → Type 0
@@ -43,30 +43,30 @@ Awaited s = (x : ℕ) → among x s.books.table.pool ≡ true → Awaits s x
 
 -- whoever is asked for tests is active and was told nothing
 abbrev pub AskedOpen : State → Type 0
-AskedOpen s = (a : UnansweredSteal) → s.plan.steal ≡ Some a → (has a.worker (λ m. m.active) s.books.crew ≡ true) × (has a.worker (λ m. m.shut) s.books.crew ≡ false)
+AskedOpen s = (a : UnansweredSteal) → s.plan.steal ≡ Some a → (has a.worker (λ m. m.active) s.books.members ≡ true) × (has a.worker (λ m. m.shut) s.books.members ≡ false)
 
 -- a worker of this slot is active
 pub record HasSlot (s : State) (k : ℕ) : Type 0 where
   pub who : ℕ
-  pub active : has who (λ m. m.active) s.books.crew ≡ true
-  pub slot : slot_in who s.books.crew ≡ k
+  pub active : has who (λ m. m.active) s.books.members ≡ true
+  pub slot : slot_in who s.books.members ≡ k
 
 -- who is active, has collected, and was told nothing, is in the rota
 abbrev pub Seated : State → Type 0
-Seated s = (v : ℕ) → has v (λ m. m.active) s.books.crew ≡ true → has v (λ m. m.collected) s.books.crew ≡ true → has v (λ m. m.shut) s.books.crew ≡ false → InRota s v
+Seated s = (v : ℕ) → has v (λ m. m.active) s.books.members ≡ true → has v (λ m. m.collected) s.books.members ≡ true → has v (λ m. m.shut) s.books.members ≡ false → InRota s v
 
 -- in mode each whoever is in the rota was told
 abbrev pub EachTold : State → Type 0
 EachTold s = is_each s.plan.mode ≡ true → (v : ℕ) → InRota s v → seat_shut v s.books.table ≡ true
 
 -- who waits for an item still waits for it
-pub awaits-by : (s t : State) (x : ℕ) (o : Awaits s x) → has o.who (λ m. m.active) t.books.crew ≡ true → has o.who (λ m. m.shut) t.books.crew ≡ false
-    → slot_in o.who t.books.crew ≡ slot_in o.who s.books.crew → t.plan.sizes ≡ s.plan.sizes → t.plan.mode ≡ s.plan.mode → Awaits t x
+pub awaits-by : (s t : State) (x : ℕ) (o : Awaits s x) → has o.who (λ m. m.active) t.books.members ≡ true → has o.who (λ m. m.shut) t.books.members ≡ false
+    → slot_in o.who t.books.members ≡ slot_in o.who s.books.members → t.plan.sizes ≡ s.plan.sizes → t.plan.mode ≡ s.plan.mode → Awaits t x
 awaits-by s t x o active untold slot sizes mode = record {
   who = o.who;
   active = active;
   untold = untold;
-  fits = λ e. ap (λ (i : ℕ). among x (slot_items i t.plan)) slot ∙ ap (λ (xs : List ℕ). among x xs) (slot_items-same (slot_in o.who s.books.crew) t.plan s.plan sizes mode) ∙ o.fits (ap is_each (sym mode) ∙ e);
+  fits = λ e. ap (λ (i : ℕ). among x (slot_items i t.plan)) slot ∙ ap (λ (xs : List ℕ). among x xs) (slot_items-same (slot_in o.who s.books.members) t.plan s.plan sizes mode) ∙ o.fits (ap is_each (sym mode) ∙ e);
 }
 
 -- what holds of a run that was not stopped
@@ -120,27 +120,27 @@ has-without v f g (m ∷ ms) a b = grind (arith, nat_tests, a, b, has-without v 
 abbrev rest_of : State → Member → Bool
 rest_of s m = not m.ready || not m.collected || m.shut || nat_le 2 (length (held m.worker s.books.table)) || steal_open_to m.worker s
 
-owes-by : (s : State) (v : ℕ) (mark : Member → Bool) → ((m : Member) → (m.worker == v) ≡ true → mark m ≡ true → rest_of s m ≡ true) → has v (λ m. m.active && mark m) s.books.crew ≡ true → someone_owes s ≡ true
-owes-by s v mark k h = any-of v (λ m. m.active && mark m) (owes s) s.books.crew (λ m e a. (let p = split-and m.active (mark m) a in and p.0 (k m e p.1))) h
+owes-by : (s : State) (v : ℕ) (mark : Member → Bool) → ((m : Member) → (m.worker == v) ≡ true → mark m ≡ true → rest_of s m ≡ true) → has v (λ m. m.active && mark m) s.books.members ≡ true → someone_owes s ≡ true
+owes-by s v mark k h = any-of v (λ m. m.active && mark m) (owes s) s.books.members (λ m e a. (let p = split-and m.active (mark m) a in and p.0 (k m e p.1))) h
 
-unready-owes : (s : State) (v : ℕ) → has v (λ m. m.active) s.books.crew ≡ true → has v (λ m. m.ready) s.books.crew ≡ false → someone_owes s ≡ true
-unready-owes s v a b = owes-by s v (λ m. not m.ready) (λ m e h. first m.ready (not m.collected) m.shut (nat_le 2 (length (held m.worker s.books.table))) (steal_open_to m.worker s) h) (has-without v (λ m. m.active) (λ m. m.ready) s.books.crew a b)
+unready-owes : (s : State) (v : ℕ) → has v (λ m. m.active) s.books.members ≡ true → has v (λ m. m.ready) s.books.members ≡ false → someone_owes s ≡ true
+unready-owes s v a b = owes-by s v (λ m. not m.ready) (λ m e h. first m.ready (not m.collected) m.shut (nat_le 2 (length (held m.worker s.books.table))) (steal_open_to m.worker s) h) (has-without v (λ m. m.active) (λ m. m.ready) s.books.members a b)
   where
     first : (r c d e f : Bool) → not r ≡ true → (not r || c || d || e || f) ≡ true
     first false c d e f h = refl
     first true c d e f h = absurd (differ h)
 
-uncollected-owes : (s : State) (v : ℕ) → has v (λ m. m.active) s.books.crew ≡ true → has v (λ m. m.collected) s.books.crew ≡ false → someone_owes s ≡ true
-uncollected-owes s v a b = owes-by s v (λ m. not m.collected) (λ m e h. second (not m.ready) m.collected m.shut (nat_le 2 (length (held m.worker s.books.table))) (steal_open_to m.worker s) h) (has-without v (λ m. m.active) (λ m. m.collected) s.books.crew a b)
+uncollected-owes : (s : State) (v : ℕ) → has v (λ m. m.active) s.books.members ≡ true → has v (λ m. m.collected) s.books.members ≡ false → someone_owes s ≡ true
+uncollected-owes s v a b = owes-by s v (λ m. not m.collected) (λ m e h. second (not m.ready) m.collected m.shut (nat_le 2 (length (held m.worker s.books.table))) (steal_open_to m.worker s) h) (has-without v (λ m. m.active) (λ m. m.collected) s.books.members a b)
   where
     second : (r c d e f : Bool) → not c ≡ true → (r || not c || d || e || f) ≡ true
     second true c d e f h = refl
     second false false d e f h = refl
     second false true d e f h = absurd (differ h)
 
-told-owes : (s : State) (v : ℕ) → Tidy s → has v (λ m. m.active) s.books.crew ≡ true → has v (λ m. m.shut) s.books.crew ≡ true → someone_owes s ≡ true
+told-owes : (s : State) (v : ℕ) → Tidy s → has v (λ m. m.active) s.books.members ≡ true → has v (λ m. m.shut) s.books.members ≡ true → someone_owes s ≡ true
 told-owes s v d a b = owes-by s v (λ m. m.shut) (λ m e h. third (not m.ready) (not m.collected) m.shut (nat_le 2 (length (held m.worker s.books.table))) (steal_open_to m.worker s) h)
-    (has-both v (λ m. m.active) (λ m. m.shut) s.books.crew (distinct-numbered s.books.crew d.crew.numbered) a b)
+    (has-both v (λ m. m.active) (λ m. m.shut) s.books.members (distinct-numbered s.books.members d.members.numbered) a b)
   where
     third : (r c d e f : Bool) → d ≡ true → (r || c || d || e || f) ≡ true
     third true c d e f h = refl
@@ -148,12 +148,12 @@ told-owes s v d a b = owes-by s v (λ m. m.shut) (λ m e h. third (not m.ready) 
     third false false true e f h = refl
     third false false false e f h = absurd (differ h)
 
-busy-owes : (s : State) (v : ℕ) → has v (λ m. m.active) s.books.crew ≡ true → 2 ≤ length (held v s.books.table) → someone_owes s ≡ true
+busy-owes : (s : State) (v : ℕ) → has v (λ m. m.active) s.books.members ≡ true → 2 ≤ length (held v s.books.table) → someone_owes s ≡ true
 busy-owes s v a b = owes-by s v (λ m. true)
     (λ m e h. (let same : m.worker ≡ v = grind (arith, nat_tests, e) in
     let k : 2 ≤ length (held m.worker s.books.table) = subst (λ (u : ℕ). 2 ≤ length (held u s.books.table)) (sym same) b in
     fourth (not m.ready) (not m.collected) m.shut (nat_le 2 (length (held m.worker s.books.table))) (steal_open_to m.worker s) (grind (arith, nat_tests, k))))
-    (any-has v s.books.crew a)
+    (any-has v s.books.members a)
   where
     fourth : (r c d e f : Bool) → e ≡ true → (r || c || d || e || f) ≡ true
     fourth true c d e f h = refl
@@ -166,12 +166,12 @@ busy-owes s v a b = owes-by s v (λ m. true)
     any-has v [] h = h
     any-has v (m ∷ ms) h = grind (arith, nat_tests, h, any-has v ms)
 
-asked-owes : (s : State) (a : UnansweredSteal) → s.plan.steal ≡ Some a → has a.worker (λ m. m.active) s.books.crew ≡ true → someone_owes s ≡ true
+asked-owes : (s : State) (a : UnansweredSteal) → s.plan.steal ≡ Some a → has a.worker (λ m. m.active) s.books.members ≡ true → someone_owes s ≡ true
 asked-owes s a e h = owes-by s a.worker (λ m. true)
     (λ m q z. (let same : a.worker ≡ m.worker = grind (arith, nat_tests, q) in
     let open_ : steal_open_to m.worker s ≡ true = ap (λ (o : Option UnansweredSteal). elim o as (λ _. Bool) [ None ↦ false | Some b ↦ b.worker == m.worker ]) e ∙ grind (arith, nat_tests, same) in
     fifth (not m.ready) (not m.collected) m.shut (nat_le 2 (length (held m.worker s.books.table))) (steal_open_to m.worker s) open_))
-    (any-has a.worker s.books.crew h)
+    (any-has a.worker s.books.members h)
   where
     fifth : (r c d e f : Bool) → f ≡ true → (r || c || d || e || f) ≡ true
     fifth true c d e f h = refl
@@ -185,8 +185,8 @@ asked-owes s a e h = owes-by s a.worker (λ m. true)
     any-has v (m ∷ ms) h = grind (arith, nat_tests, h, any-has v ms)
 
 -- an active worker owes, or it is ready, has collected, was told nothing, and is in the rota
-rota-or : (s : State) (v : ℕ) → Tidy s → Going s → has v (λ m. m.active) s.books.crew ≡ true → has v (λ m. m.shut) s.books.crew ≡ false → (someone_owes s ≡ true) ⊎ (InRota s v)
-rota-or s v d g a n = elim (cases_of (has v (λ m. m.collected) s.books.crew)) [
+rota-or : (s : State) (v : ℕ) → Tidy s → Going s → has v (λ m. m.active) s.books.members ≡ true → has v (λ m. m.shut) s.books.members ≡ false → (someone_owes s ≡ true) ⊎ (InRota s v)
+rota-or s v d g a n = elim (cases_of (has v (λ m. m.collected) s.books.members)) [
   | inl c ↦ inr (g.seated v a c n)
   | inr c ↦ inl (uncollected-owes s v a c)
 ]
@@ -194,8 +194,8 @@ rota-or s v d g a n = elim (cases_of (has v (λ m. m.collected) s.books.crew)) [
 -- the run is shutting and someone is active
 shutting-owes : (s : State) → Tidy s → AllTold s → some_active s.books ≡ true → someone_owes s ≡ true
 shutting-owes s d t h =
-    let one = first-active s.books.crew h in
-    elim (cases_of (has one.0 (λ m. m.ready) s.books.crew)) [
+    let one = first-active s.books.members h in
+    elim (cases_of (has one.0 (λ m. m.ready) s.books.members)) [
       | inl r ↦ told-owes s one.0 d one.1 (t one.0 one.1 r)
       | inr r ↦ unready-owes s one.0 one.1 r
     ]

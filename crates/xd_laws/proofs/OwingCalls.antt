@@ -21,7 +21,7 @@ use Rattle.xd_ledger.specs.State.{after_entries, after_effect}
 use Rattle.xd_ledger.specs.Outputs.{acts_of, own_outputs}
 use Rattle.xd_ledger.specs.Proper.{is_head, may_follow, may_give_back}
 use Rattle.xd_laws.proofs.Logic.{clash, differ, split-and}
-use Rattle.xd_laws.proofs.Crew.{has}
+use Rattle.xd_laws.proofs.Members.{has}
 use Rattle.xd_laws.proofs.Rota.{seat-among, seat-of_held, told-change, workers-change}
 use Rattle.xd_laws.proofs.Placed.{head_among, no_back, one_item, shared-of_back, shared-of_held}
 use Rattle.xd_laws.proofs.Turns.{InRota, Tidy}
@@ -134,8 +134,8 @@ module _ (X : State → Type 0) (k : Keeper X) where
           call-owing s now TestsBack (λ q. o.told q) refl z t shared x tt (λ e. mode) tt (λ e. no-each e)
           (λ y b. record {
             who = w;
-            active = subst (λ (v : ℕ). has v (λ m. m.active) s.books.crew ≡ true) the_asked.2 open_.0;
-            untold = subst (λ (v : ℕ). has v (λ m. m.shut) s.books.crew ≡ false) the_asked.2 open_.1;
+            active = subst (λ (v : ℕ). has v (λ m. m.active) s.books.members ≡ true) the_asked.2 open_.0;
+            untold = subst (λ (v : ℕ). has v (λ m. m.shut) s.books.members ≡ false) the_asked.2 open_.1;
             fits = λ e. no-each e;
           })
           (λ a e. absurd (let q : None ≡ Some a = e in cc)) (λ v b c q. rota v ∙ g.seated v b c q)

@@ -20,8 +20,8 @@ use Rattle.xd_ledger.specs.Deaths.{steal_without}
 use Rattle.xd_ledger.specs.State.{after_entries, after_effect}
 use Rattle.xd_ledger.specs.Outputs.{acts_of, outputs_of_death, turn_of, unless_stopped}
 use Rattle.xd_laws.proofs.Logic.{cases_of, clash, differ, in_both, or-left, or-right, or-unset, split-or}
-use Rattle.xd_laws.proofs.Crew.{has, has-member, has-more, is_member, none-next}
-use Rattle.xd_laws.proofs.CrewFits.{kin-length, kin-same, slot-marked, slot-new, slot-old}
+use Rattle.xd_laws.proofs.Members.{has, has-member, has-more, is_member, none-next}
+use Rattle.xd_laws.proofs.MembersFit.{kin-length, kin-same, slot-marked, slot-new, slot-old}
 use Rattle.xd_laws.proofs.Fits.{still_active}
 use Rattle.xd_laws.proofs.Turns.{InRota, Tidy, after_entries-join}
 use Rattle.xd_laws.proofs.Rule.{Turned, fit-none}
@@ -42,7 +42,7 @@ module _ (X : State → Type 0) (k : Keeper X) where
       (stays-by (is_stopped s.books) (is_stopped now.books) (down-unstopped w s)) goes
     where
       ms : List Member
-      ms = s.books.crew
+      ms = s.books.members
 
       now : State
       now = after_effect s (NotStarted w)
@@ -54,14 +54,14 @@ module _ (X : State → Type 0) (k : Keeper X) where
       after = replaced now w
 
       n : ℕ
-      n = length now.books.crew
+      n = length now.books.members
 
       new : Member
       new = started n (slot_of w now.books)
 
       turns : Turned X now (buried_acts now)
       turns = in_both (λ (es : List Entry). Turned X now es) now.books.shared (acts_of Died now) [] (λ h. k.rule.turns now Died t h x tt)
-          (λ h. record { fit = fit-none X now t x; kin = kin-same now.books.crew; settings = refl })
+          (λ h. record { fit = fit-none X now t x; kin = kin-same now.books.members; settings = refl })
 
       later : Later now mid
       later = in_both (λ (es : List Entry). Later now (after_entries now es)) now.books.shared (acts_of Died now) [] (λ h. later-call X k.rule now Died t h x tt) (λ h. later-same now)
@@ -69,15 +69,15 @@ module _ (X : State → Type 0) (k : Keeper X) where
       before_share : s.books.shared ≡ false → mid ≡ now
       before_share h = in_both (λ (es : List Entry). after_entries now es ≡ now) now.books.shared (acts_of Died now) [] (λ q. absurd (clash s.books.shared h q)) (λ q. refl)
 
-      free : is_member n mid.books.crew ≡ false
-      free = ap (λ (i : ℕ). is_member i mid.books.crew) (sym (kin-length now.books.crew mid.books.crew turns.kin)) ∙ none-next mid.books.crew turns.fit.tidy.crew.numbered
+      free : is_member n mid.books.members ≡ false
+      free = ap (λ (i : ℕ). is_member i mid.books.members) (sym (kin-length now.books.members mid.books.members turns.kin)) ∙ none-next mid.books.members turns.fit.tidy.members.numbered
 
       same : n ≡ length ms
       same = length-map ms (made_gone w)
 
       -- the newcomer changes nothing of the others
       open_after : StillOpen mid after
-      open_after v b q = (has-more v (λ m. m.active) mid.books.crew new ∙ or-left (has v (λ m. m.active) mid.books.crew) (n == v && true) b, has-more v (λ m. m.shut) mid.books.crew new ∙ or-unset (has v (λ m. m.shut) mid.books.crew) (n == v) ∙ q)
+      open_after v b q = (has-more v (λ m. m.active) mid.books.members new ∙ or-left (has v (λ m. m.active) mid.books.members) (n == v && true) b, has-more v (λ m. m.shut) mid.books.members new ∙ or-unset (has v (λ m. m.shut) mid.books.members) (n == v) ∙ q)
 
       asked_now : Going s → AskedOpen now
       asked_now g b e =
@@ -94,12 +94,12 @@ module _ (X : State → Type 0) (k : Keeper X) where
 
       seated_after : Going s → Seated after
       seated_after g v b c q =
-          let collected : has v (λ m. m.collected) mid.books.crew ≡ true = sym (or-unset (has v (λ m. m.collected) mid.books.crew) (n == v)) ∙ sym (has-more v (λ m. m.collected) mid.books.crew new) ∙ c in
-          let untold : has v (λ m. m.shut) mid.books.crew ≡ false = sym (or-unset (has v (λ m. m.shut) mid.books.crew) (n == v)) ∙ sym (has-more v (λ m. m.shut) mid.books.crew new) ∙ q in
-          let active : has v (λ m. m.active) mid.books.crew ≡ true = elim (split-or (has v (λ m. m.active) mid.books.crew) (n == v && true) (sym (has-more v (λ m. m.active) mid.books.crew new) ∙ b)) [
+          let collected : has v (λ m. m.collected) mid.books.members ≡ true = sym (or-unset (has v (λ m. m.collected) mid.books.members) (n == v)) ∙ sym (has-more v (λ m. m.collected) mid.books.members new) ∙ c in
+          let untold : has v (λ m. m.shut) mid.books.members ≡ false = sym (or-unset (has v (λ m. m.shut) mid.books.members) (n == v)) ∙ sym (has-more v (λ m. m.shut) mid.books.members new) ∙ q in
+          let active : has v (λ m. m.active) mid.books.members ≡ true = elim (split-or (has v (λ m. m.active) mid.books.members) (n == v && true) (sym (has-more v (λ m. m.active) mid.books.members new) ∙ b)) [
             | inl z ↦ z
             | inr z ↦ (let e : n ≡ v = grind (arith, nat_tests, z) in
-                absurd (clash (is_member v mid.books.crew) (subst (λ (i : ℕ). is_member i mid.books.crew ≡ false) e free) (has-member v (λ m. m.collected) mid.books.crew collected)))
+                absurd (clash (is_member v mid.books.members) (subst (λ (i : ℕ). is_member i mid.books.members ≡ false) e free) (has-member v (λ m. m.collected) mid.books.members collected)))
           ] in
           seated-later now mid later (seated-gone s now w refl refl g.seated) v active collected untold
 
@@ -116,18 +116,18 @@ module _ (X : State → Type 0) (k : Keeper X) where
           here one = elim (cases_of (one.who == w)) [
             | inl q ↦
                 (let e : one.who ≡ w = grind (arith, nat_tests, q) in
-                let none : is_member n now.books.crew ≡ false = none-next now.books.crew t.crew.numbered in
+                let none : is_member n now.books.members ≡ false = none-next now.books.members t.members.numbered in
                 record {
                   who = n;
-                  active = has-more n (λ m. m.active) now.books.crew new ∙ or-right (has n (λ m. m.active) now.books.crew) (n == n && true) (grind (arith, nat_tests));
-                  slot = slot-new n now.books.crew new none (grind (arith, nat_tests)) ∙ slot-marked w (made_gone w) ms (λ m. refl) (λ m. refl) ∙ ap (λ (u : ℕ). slot_in u ms) (sym e) ∙ one.slot;
+                  active = has-more n (λ m. m.active) now.books.members new ∙ or-right (has n (λ m. m.active) now.books.members) (n == n && true) (grind (arith, nat_tests));
+                  slot = slot-new n now.books.members new none (grind (arith, nat_tests)) ∙ slot-marked w (made_gone w) ms (λ m. refl) (λ m. refl) ∙ ap (λ (u : ℕ). slot_in u ms) (sym e) ∙ one.slot;
                 })
             | inr q ↦
                 (let active = still_active one.who w ms q one.active in
                 record {
                   who = one.who;
-                  active = has-more one.who (λ m. m.active) now.books.crew new ∙ or-left (has one.who (λ m. m.active) now.books.crew) (n == one.who && true) active;
-                  slot = slot-old one.who now.books.crew new (has-member one.who (λ m. m.active) now.books.crew active) ∙ slot-marked one.who (made_gone w) ms (λ m. refl) (λ m. refl) ∙ one.slot;
+                  active = has-more one.who (λ m. m.active) now.books.members new ∙ or-left (has one.who (λ m. m.active) now.books.members) (n == one.who && true) active;
+                  slot = slot-old one.who now.books.members new (has-member one.who (λ m. m.active) now.books.members active) ∙ slot-marked one.who (made_gone w) ms (λ m. refl) (λ m. refl) ∙ one.slot;
                 })
           ]
 
@@ -160,7 +160,7 @@ module _ (X : State → Type 0) (k : Keeper X) where
         seated = seated_after g;
         work = work_after g;
         told = told_after g;
-        awaited = k.buried s w a d xs g.awaited t x (ap (λ (i : ℕ). is_member i mid.books.crew) (sym same) ∙ free) same;
+        awaited = k.buried s w a d xs g.awaited t x (ap (λ (i : ℕ). is_member i mid.books.members) (sym same) ∙ free) same;
         asked = asked-by mid after (λ b e. e) open_after (asked_mid g);
         slots = slots_after g;
         room = room_after g;

@@ -16,8 +16,8 @@ use Rattle.xd_ledger.specs.State.{after_entries, after_effect}
 use Rattle.xd_ledger.specs.Outputs.{own_outputs}
 use Rattle.xd_ledger.specs.Proper.{may_follow}
 use Rattle.xd_laws.proofs.Logic.{cases_of, clash, differ, not_true, split-and}
-use Rattle.xd_laws.proofs.Crew.{has, has-same}
-use Rattle.xd_laws.proofs.CrewFits.{slot-marked, was_active}
+use Rattle.xd_laws.proofs.Members.{has, has-same}
+use Rattle.xd_laws.proofs.MembersFit.{slot-marked, was_active}
 use Rattle.xd_laws.proofs.Fits.{still_active}
 use Rattle.xd_laws.proofs.Rota.{has_seat, seat-among, seat-left, told-left}
 use Rattle.xd_laws.proofs.Queue.{held-left}
@@ -49,11 +49,11 @@ other-by v w f h n = elim (cases_of (v == w)) [
 ]
 
 -- behind a worker's end whoever has collected and was told nothing is in the rota
-pub seated-gone : (s t : State) (w : ℕ) → t.books.crew ≡ map (made_gone w) s.books.crew → t.books.table.rota ≡ without_seat w s.books.table.rota → Seated s → Seated t
-seated-gone s t w crew rota k v a c n =
-    let p = was_active v w s.books.crew (ap (λ (ms : List Member). has v (λ m. m.active) ms) (sym crew) ∙ a) in
-    let c_before = sym (has-same v (λ m. m.collected) (made_gone w) s.books.crew (λ m. refl) (λ m. refl)) ∙ ap (λ (ms : List Member). has v (λ m. m.collected) ms) (sym crew) ∙ c in
-    let n_before = sym (shut-gone w v s.books.crew) ∙ ap (λ (ms : List Member). has v (λ m. m.shut) ms) (sym crew) ∙ n in
+pub seated-gone : (s t : State) (w : ℕ) → t.books.members ≡ map (made_gone w) s.books.members → t.books.table.rota ≡ without_seat w s.books.table.rota → Seated s → Seated t
+seated-gone s t w members rota k v a c n =
+    let p = was_active v w s.books.members (ap (λ (ms : List Member). has v (λ m. m.active) ms) (sym members) ∙ a) in
+    let c_before = sym (has-same v (λ m. m.collected) (made_gone w) s.books.members (λ m. refl) (λ m. refl)) ∙ ap (λ (ms : List Member). has v (λ m. m.collected) ms) (sym members) ∙ c in
+    let n_before = sym (shut-gone w v s.books.members) ∙ ap (λ (ms : List Member). has v (λ m. m.shut) ms) (sym members) ∙ n in
     ap (λ (ss : List Seat). among v (map (λ x. x.worker) ss)) rota ∙ rota-left v w s.books.table.rota p.0 (k v p.1 c_before n_before)
 
 -- in mode each whoever is left was told
@@ -74,7 +74,7 @@ finished-owing s w h d o = record { told = λ q. told-fewer s now (fewer-gone s 
     now = after_effect s (Finished w)
 
     ms : List Member
-    ms = s.books.crew
+    ms = s.books.members
 
     is_told : has w (λ m. m.shut) ms ≡ true
     is_told = (split-and (is_active w s.books) (is_shut w s.books) (split-and (is_active w s.books && is_shut w s.books) (has_collected w s.books)

@@ -11,8 +11,8 @@ use Rattle.xd_ledger.specs.State.{after_entries, after_effect, settled}
 use Rattle.xd_ledger.specs.Outputs.{closing, own_outputs, after_input}
 use Rattle.xd_ledger.specs.Proper.{may_follow}
 use Rattle.xd_laws.proofs.Logic.{cases_of, clash, differ, in_both, split-and, split-or}
-use Rattle.xd_laws.proofs.Crew.{has, has-member, has-same, has-set}
-use Rattle.xd_laws.proofs.CrewFits.{slot-marked}
+use Rattle.xd_laws.proofs.Members.{has, has-member, has-same, has-set}
+use Rattle.xd_laws.proofs.MembersFit.{slot-marked}
 use Rattle.xd_laws.proofs.Turns.{Tidy, after_entries-join}
 use Rattle.xd_laws.proofs.Inputs.{tidy-input}
 use Rattle.xd_laws.proofs.Outputs.{closing-fit, own-fit}
@@ -32,7 +32,7 @@ ready-owing : (s : State) (w : ℕ) → Tidy s → Spent s → Owing s → Owing
 ready-owing s w d p o = in_both (λ (os : List Entry). Owing (after_entries now os)) (is_shutting s.books) (Shutdown w ∷ []) [] shutting still
   where
     ms : List Member
-    ms = s.books.crew
+    ms = s.books.members
 
     now : State
     now = after_effect s (Ready w)
@@ -63,10 +63,10 @@ ready-owing s w d p o = in_both (λ (os : List Entry). Owing (after_entries now 
     told : is_shutting s.books ≡ true → AllTold after
     told q v a r =
         let l = later-shutdown now w in
-        let active : has v (λ m. m.active) now.books.crew ≡ true = sym (l.active v) ∙ a in
-        let ready : has v (λ m. m.ready) now.books.crew ≡ true = sym (l.ready v) ∙ r in
+        let active : has v (λ m. m.active) now.books.members ≡ true = sym (l.active v) ∙ a in
+        let ready : has v (λ m. m.ready) now.books.members ≡ true = sym (l.ready v) ∙ r in
         elim (cases_of (v == w)) [
-          | inl k ↦ has-set v w (λ m. m.shut) (made_shut w) now.books.crew (λ m. refl) (λ m. refl) ∙ rw k (has-member v (λ m. m.active) now.books.crew active)
+          | inl k ↦ has-set v w (λ m. m.shut) (made_shut w) now.books.members (λ m. refl) (λ m. refl) ∙ rw k (has-member v (λ m. m.active) now.books.members active)
           | inr k ↦
               (let before : has v (λ m. m.ready) ms ≡ true = sym (has-set v w (λ m. m.ready) (made_ready w) ms (λ m. refl) (λ m. refl) ∙ rw k refl) ∙ ready in
               l.shut v (alike.shut v ∙ o.told q v (sym (alike.active v) ∙ active) before))

@@ -18,8 +18,8 @@ use Rattle.xd_ledger.specs.Collecting.{collecting}
 use Rattle.xd_ledger.specs.State.{after_entries, after_effect}
 use Rattle.xd_ledger.specs.Outputs.{acts_of, outputs_of_joining, own_outputs, slots_of_rota, unless_stopped}
 use Rattle.xd_laws.proofs.Logic.{cases_of, clash, differ, in_both, not_true, or-left, or-right, split-and, split-or}
-use Rattle.xd_laws.proofs.Crew.{has, has-same, has-set}
-use Rattle.xd_laws.proofs.CrewFits.{slot-marked}
+use Rattle.xd_laws.proofs.Members.{has, has-same, has-set}
+use Rattle.xd_laws.proofs.MembersFit.{slot-marked}
 use Rattle.xd_laws.proofs.Rota.{has_seat, seat-among, seat-joined, told-joined}
 use Rattle.xd_laws.proofs.Turns.{InRota, Tidy}
 use Rattle.xd_laws.proofs.Rule.{IsFresh}
@@ -43,7 +43,7 @@ module _ (X : State → Type 0) (k : Keeper X) where
     asked : AskedOpen now
     seated : Seated now
     rota : InRota now w
-    unshut : has w (λ m. m.shut) now.books.crew ≡ false
+    unshut : has w (λ m. m.shut) now.books.members ≡ false
     still : s.books.shared ≡ true → now.books.shared ≡ true
     awaited : s.books.shared ≡ true → Awaited now
     others : s.books.shared ≡ true → (slot : ℕ) → OthersTold now (Joined w slot)
@@ -81,7 +81,7 @@ module _ (X : State → Type 0) (k : Keeper X) where
     full-count f = (let h = (split-and (not s.books.shared) (length come.books.table.rota == s.books.settings.workers) f).1 in grind (arith, nat_tests, h))
 
     open-come : StillOpen s come
-    open-come v a n = (has-same v (λ m. m.active) (made_collected w) s.books.crew (λ m. refl) (λ m. refl) ∙ a, has-same v (λ m. m.shut) (made_collected w) s.books.crew (λ m. refl) (λ m. refl) ∙ n)
+    open-come v a n = (has-same v (λ m. m.active) (made_collected w) s.books.members (λ m. refl) (λ m. refl) ∙ a, has-same v (λ m. m.shut) (made_collected w) s.books.members (λ m. refl) (λ m. refl) ∙ n)
 
     in-come : (v : ℕ) → InRota s v → InRota come v
     in-come v h = sym (seat-among v come.books.table.rota) ∙ seat-joined v s.books.table.rota (record { worker = w; held = []; shut = false })
@@ -93,13 +93,13 @@ module _ (X : State → Type 0) (k : Keeper X) where
     seated-come : Seated come
     seated-come v a c n = elim (cases_of (v == w)) [
       | inl q ↦ (let same : w ≡ v = grind (arith, nat_tests, q) in subst (λ (u : ℕ). InRota come u) same w-come)
-      | inr q ↦ in-come v (o.seated v (sym (has-same v (λ m. m.active) (made_collected w) s.books.crew (λ m. refl) (λ m. refl)) ∙ a)
-          (sym (has-set v w (λ m. m.collected) (made_collected w) s.books.crew (λ m. refl) (λ m. refl) ∙ rw q refl) ∙ c)
-          (sym (has-same v (λ m. m.shut) (made_collected w) s.books.crew (λ m. refl) (λ m. refl)) ∙ n))
+      | inr q ↦ in-come v (o.seated v (sym (has-same v (λ m. m.active) (made_collected w) s.books.members (λ m. refl) (λ m. refl)) ∙ a)
+          (sym (has-set v w (λ m. m.collected) (made_collected w) s.books.members (λ m. refl) (λ m. refl) ∙ rw q refl) ∙ c)
+          (sym (has-same v (λ m. m.shut) (made_collected w) s.books.members (λ m. refl) (λ m. refl)) ∙ n))
     ]
 
     awaited-come : Awaited come
-    awaited-come = awaited-by s come (λ x h. h) open-come (λ v. slot-marked v (made_collected w) s.books.crew (λ m. refl) (λ m. refl)) refl refl o.awaited
+    awaited-come = awaited-by s come (λ x h. h) open-come (λ v. slot-marked v (made_collected w) s.books.members (λ m. refl) (λ m. refl)) refl refl o.awaited
 
     asked-come : AskedOpen come
     asked-come = asked-by s come (λ a e. e) open-come o.asked
@@ -121,7 +121,7 @@ module _ (X : State → Type 0) (k : Keeper X) where
       awaited = awaited-come;
       asked = asked-come;
       slots = λ h i l. (let one = o.slots n i l in
-          record { who = one.who; active = has-same one.who (λ m. m.active) (made_collected w) s.books.crew (λ m. refl) (λ m. refl) ∙ one.active; slot = slot-marked one.who (made_collected w) s.books.crew (λ m. refl) (λ m. refl) ∙ one.slot });
+          record { who = one.who; active = has-same one.who (λ m. m.active) (made_collected w) s.books.members (λ m. refl) (λ m. refl) ∙ one.active; slot = slot-marked one.who (made_collected w) s.books.members (λ m. refl) (λ m. refl) ∙ one.slot });
       room = λ h. (let below = o.room n in
           let one = length-append s.books.table.rota (record { worker = w; held = []; shut = false } ∷ []) in
           let other : (length come.books.table.rota == s.books.settings.workers) ≡ false = unfull s.books.shared (length come.books.table.rota == s.books.settings.workers) f n in
@@ -132,7 +132,7 @@ module _ (X : State → Type 0) (k : Keeper X) where
         unfull true b p q = absurd (differ (sym q))
         unfull false b p q = p
 
-    came-by : (now : State) → now ≡ joining w before → (is_shutting s.books ≡ true → AllTold now) → is_stopped now.books ≡ false → Tidy now → X now → has w (λ m. m.shut) now.books.crew ≡ false
+    came-by : (now : State) → now ≡ joining w before → (is_shutting s.books ≡ true → AllTold now) → is_stopped now.books ≡ false → Tidy now → X now → has w (λ m. m.shut) now.books.members ≡ false
         → (s.books.shared ≡ false → now.books.shared ≡ true → IsFresh now (slots_of_rota now.books)) → Came s now w
     came-by now e told n t x us fresh = record {
       told = told;
@@ -167,13 +167,13 @@ module _ (X : State → Type 0) (k : Keeper X) where
       stop = unequal w g (listed w s.books)
 
       shut_first : is_shut w first.books ≡ is_shut w s.books
-      shut_first = has-same w (λ m. m.shut) (made_collected w) s.books.crew (λ m. refl) (λ m. refl)
+      shut_first = has-same w (λ m. m.shut) (made_collected w) s.books.members (λ m. refl) (λ m. refl)
 
       alike : Alike s first
       alike = record {
-        active = λ v. has-same v (λ m. m.active) (made_collected w) s.books.crew (λ m. refl) (λ m. refl);
-        shut = λ v. has-same v (λ m. m.shut) (made_collected w) s.books.crew (λ m. refl) (λ m. refl);
-        slots = λ v. slot-marked v (made_collected w) s.books.crew (λ m. refl) (λ m. refl);
+        active = λ v. has-same v (λ m. m.active) (made_collected w) s.books.members (λ m. refl) (λ m. refl);
+        shut = λ v. has-same v (λ m. m.shut) (made_collected w) s.books.members (λ m. refl) (λ m. refl);
+        slots = λ v. slot-marked v (made_collected w) s.books.members (λ m. refl) (λ m. refl);
         table = refl;
         plan = refl;
         shared = refl;
@@ -183,12 +183,12 @@ module _ (X : State → Type 0) (k : Keeper X) where
       seated_first : is_shut w s.books ≡ true → Seated s → Seated first
       seated_first u c v a e n =
           let n_before = sym (alike.shut v) ∙ n in
-          let other = other-by v w (λ y. has y (λ m. m.shut) s.books.crew) u n_before in
-          c v (sym (alike.active v) ∙ a) (sym (has-set v w (λ m. m.collected) (made_collected w) s.books.crew (λ m. refl) (λ m. refl) ∙ rw other refl) ∙ e) n_before
+          let other = other-by v w (λ y. has y (λ m. m.shut) s.books.members) u n_before in
+          c v (sym (alike.active v) ∙ a) (sym (has-set v w (λ m. m.collected) (made_collected w) s.books.members (λ m. refl) (λ m. refl) ∙ rw other refl) ∙ e) n_before
 
       owing_first : is_shut w s.books ≡ true → Owing first
       owing_first u = record {
-        told = λ q v a r. alike.shut v ∙ o.told q v (sym (alike.active v) ∙ a) (sym (has-same v (λ m. m.ready) (made_collected w) s.books.crew (λ m. refl) (λ m. refl)) ∙ r);
+        told = λ q v a r. alike.shut v ∙ o.told q v (sym (alike.active v) ∙ a) (sym (has-same v (λ m. m.ready) (made_collected w) s.books.members (λ m. refl) (λ m. refl)) ∙ r);
         going = λ z. (let c = o.going z in going-alike s first alike (seated_first u c.seated) c);
       }
 

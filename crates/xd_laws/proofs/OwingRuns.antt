@@ -19,8 +19,8 @@ use Rattle.xd_ledger.specs.Histories.{after_starts, first_starts, is_over, start
 use Rattle.xd_ledger.specs.Owes.{someone_owes}
 use Rattle.xd_ledger.specs.Proper.{IsProper, all_may_follow, has_workers, may_follow}
 use Rattle.xd_laws.proofs.Logic.{and-false, clash, differ, or-left, or-right, cases_of, split-and}
-use Rattle.xd_laws.proofs.Crew.{has, has-member, has-more, is_member}
-use Rattle.xd_laws.proofs.CrewFits.{slot-new, slot-old}
+use Rattle.xd_laws.proofs.Members.{has, has-member, has-more, is_member}
+use Rattle.xd_laws.proofs.MembersFit.{slot-new, slot-old}
 use Rattle.xd_laws.proofs.Runs.{Holds, all-hold, begun-holds, after_input-holds}
 use Rattle.xd_laws.proofs.Spent.{Spent, begun-spent, spent-step}
 use Rattle.xd_laws.proofs.InMode.{InMode}
@@ -41,14 +41,14 @@ record Opening (s : State) (w : ℕ) : Type 0 where
   unstopped : is_stopped s.books ≡ false
   open_ : s.books.shutting ≡ false
   steal : s.plan.steal ≡ None
-  collected : (v : ℕ) → has v (λ m. m.collected) s.books.crew ≡ false
+  collected : (v : ℕ) → has v (λ m. m.collected) s.books.members ≡ false
   slots : (k : ℕ) → k < w → HasSlot s k
-  none : (v : ℕ) → w ≤ v → is_member v s.books.crew ≡ false
+  none : (v : ℕ) → w ≤ v → is_member v s.books.members ≡ false
 
 opening-start : (s : State) (w : ℕ) → Opening s w → Opening (after_effect s (Start w w)) (w + 1)
 opening-start s w o =
     let new = started w w in
-    let ms = s.books.crew in
+    let ms = s.books.members in
     record {
       rota = o.rota;
       shared = o.shared;
@@ -99,7 +99,7 @@ opening-owing s w same some o = record { told = λ h. absurd (clash (is_stopped 
 
     going : Going (settled s)
     going = alike (record {
-      seated = λ v a c n. absurd (clash (has v (λ m. m.collected) s.books.crew) (o.collected v) c);
+      seated = λ v a c n. absurd (clash (has v (λ m. m.collected) s.books.members) (o.collected v) c);
       work = λ h. absurd (clash s.books.shared o.shared h);
       told = λ h. absurd (clash s.books.shared o.shared h);
       awaited = λ x h. absurd (differ (ap (λ (t : Table). among x t.pool) (sym o.rota) ∙ h));

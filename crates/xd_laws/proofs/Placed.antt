@@ -30,7 +30,7 @@ use Rattle.xd_laws.proofs.Logic.{differ, cases_of, split-and, not_true, or-false
 use Rattle.xd_laws.proofs.Counts.{among-drop, among-times, times-range, distinct-range, all_among-drop, distinct-plus}
 use Rattle.xd_laws.proofs.Rota.{none-of_seat, seat-of_held}
 use Rattle.xd_laws.proofs.Places.{held-within, AtMostOnce, times-table, assigned-keeps, completed-keeps, given_back-keeps, none_back-keeps, died-keeps, left-keeps, joined-keeps, shut-keeps}
-use Rattle.xd_laws.proofs.Crew.{has, has-member, has-same, has-set}
+use Rattle.xd_laws.proofs.Members.{has, has-member, has-same, has-set}
 use Rattle.xd_laws.proofs.Fits.{Fits, one_seat, fits-change, fits-gone, fits-refused, fits-ready, fits-collected, fits-start, fits-shutdown, fits-joined}
 
 -- how often the item is to stand in all places together
@@ -49,7 +49,7 @@ pub record PlacedOf (t : Table) (ms : List Member) (shared : Bool) (n : ℕ) (st
   pub steals : StealFits shared steal
 
 abbrev pub Placed : State → Type 0
-Placed s = PlacedOf s.books.table s.books.crew s.books.shared (total s.plan) s.plan.steal
+Placed s = PlacedOf s.books.table s.books.members s.books.shared (total s.plan) s.plan.steal
 
 at_most-by : (t : Table) (b : Bool) (n : ℕ) → ((x : ℕ) → times x (all_items t) ≡ due_times x b n) → AtMostOnce t
 at_most-by t true n k = λ x. (let e = k x in omega (arith, e, times-range x 0 n))
@@ -113,7 +113,7 @@ placed-run s w indices k h =
     let c = split-and (may_run w s && not_empty indices) (all_distinct items) d.0 in
     let b = split-and (may_run w s) (not_empty indices) c.0 in
     let a = split-and (in_rota w s.books.table) (not (is_shut w s.books)) b.0 in
-    placed-assigned s.books.table s.books.crew s.books.shared (total s.plan) s.plan.steal w items k a.0 c.1 d.1
+    placed-assigned s.books.table s.books.members s.books.shared (total s.plan) s.plan.steal w items k a.0 c.1 d.1
 
 placed-run_all : (s : State) (w : ℕ) → Placed s → is_orderly s (RunAll w) ≡ true → Placed (after_effect s (RunAll w))
 placed-run_all s w k h =
@@ -122,11 +122,11 @@ placed-run_all s w k h =
     let d = split-and (is_each s.plan.mode && may_run w s) (all_among items s.books.table.pool) h in
     let c = split-and (is_each s.plan.mode) (may_run w s) d.0 in
     let a = split-and (in_rota w s.books.table) (not (is_shut w s.books)) c.1 in
-    placed-assigned s.books.table s.books.crew s.books.shared (total s.plan) s.plan.steal w items k a.0 (distinct-range (base slot s.plan) (slice_index s.plan.sizes slot)) d.1
+    placed-assigned s.books.table s.books.members s.books.shared (total s.plan) s.plan.steal w items k a.0 (distinct-range (base slot s.plan) (slice_index s.plan.sizes slot)) d.1
 
 placed-shutdown : (s : State) (w : ℕ) → Placed s → Placed (after_effect s (Shutdown w))
 placed-shutdown s w k = record {
-  fits = fits-shutdown s.books.table s.books.crew w k.fits;
+  fits = fits-shutdown s.books.table s.books.members w k.fits;
   whole = λ x. shut-keeps x w s.books.table ∙ k.whole x;
   steals = k.steals;
 }
@@ -153,7 +153,7 @@ placed-steal s w indices k h =
     record { fits = k.fits; whole = k.whole; steals = (c.1, shared-of_held s w one.0 k (among-drop one.0 2 (held w s.books.table) one.1)) }
 
 pub placed-output : (s : State) (e : Entry) → is_orderly s e ≡ true → Placed s → Placed (after_effect s e)
-placed-output s (Start w slot) h k = record { fits = fits-start s.books.table s.books.crew w slot k.fits; whole = k.whole; steals = k.steals }
+placed-output s (Start w slot) h k = record { fits = fits-start s.books.table s.books.members w slot k.fits; whole = k.whole; steals = k.steals }
 placed-output s (Run w indices) h k = placed-run s w indices k h
 placed-output s (RunAll w) h k = placed-run_all s w k h
 placed-output s (Steal w indices) h k = placed-steal s w indices k h
@@ -178,7 +178,7 @@ not_in_rota s w k h = elim (cases_of (in_rota w s.books.table)) [ inl r ↦ absu
 placed-refused : (s : State) (w : ℕ) (text : List ℕ) → Placed s → may_follow s (Refused w text) ≡ true → Placed (after_effect s (Refused w text))
 placed-refused s w text k h =
     let a = split-and (is_active w s.books) (not (has_collected w s.books)) h in
-    record { fits = fits-refused s.books.table s.books.crew w (not_in_rota s w k (not_true (has_collected w s.books) a.1)) k.fits; whole = k.whole; steals = k.steals }
+    record { fits = fits-refused s.books.table s.books.members w (not_in_rota s w k (not_true (has_collected w s.books) a.1)) k.fits; whole = k.whole; steals = k.steals }
 
 steals-without : (w : ℕ) (b : Bool) (a : Option UnansweredSteal) → StealFits b a → StealFits b (steal_without w a)
 steals-without w b None k = tt
@@ -186,7 +186,7 @@ steals-without w b (Some a) k = in_both (StealFits b) (a.worker == w) None (Some
 
 pub placed-down : (s : State) (w : ℕ) → Placed s → Placed (after_effect s (NotStarted w))
 placed-down s w k = record {
-  fits = fits-gone s.books.table (died w (is_retry w s.books) s.books.table) s.books.crew w refl k.fits;
+  fits = fits-gone s.books.table (died w (is_retry w s.books) s.books.table) s.books.members w refl k.fits;
   whole = λ x. died-keeps x w (is_retry w s.books) s.books.table (k.fits.seats w) ∙ k.whole x;
   steals = steals-without w s.books.shared s.plan.steal k.steals;
 }
@@ -199,7 +199,7 @@ placed-finished : (s : State) (w : ℕ) → Placed s → may_follow s (Finished 
 placed-finished s w k h =
     let a = split-and (is_active w s.books && is_shut w s.books && has_collected w s.books) (length (held w s.books.table) == 0) h in
     record {
-      fits = fits-gone s.books.table (left_rota w s.books.table) s.books.crew w refl k.fits;
+      fits = fits-gone s.books.table (left_rota w s.books.table) s.books.members w refl k.fits;
       whole = λ x. left-keeps x w s.books.table (k.fits.seats w) (empty_of (held w s.books.table) a.1) ∙ k.whole x;
       steals = k.steals;
     }
@@ -232,7 +232,7 @@ placed-done s w index outcome ms output k h =
     let slot = slot_of w s.books in
     let a = split-and (is_active w s.books) (list_any (λ item. is_head w item s) (items_named slot (index ∷ []) s.plan)) h in
     let i = one_item slot index s.plan (λ item. is_head w item s) a.1 in
-    placed-first s.books.table s.books.crew s.books.shared (total s.plan) s.plan.steal w (items_named slot (index ∷ []) s.plan) i.0 i.1 (head_among w i.0 s i.2) k
+    placed-first s.books.table s.books.members s.books.shared (total s.plan) s.plan.steal w (items_named slot (index ∷ []) s.plan) i.0 i.1 (head_among w i.0 s i.2) k
 
 -- tests come back
 
@@ -282,8 +282,8 @@ named-none : (slot : ℕ) (p : Plan) → items_named slot [] p ≡ []
 named-none slot p = elim (is_each p.mode) as (λ b. (if b then map (λ i. base slot p + i) [] else []) ≡ []) [ true ↦ refl | false ↦ refl ]
 
 placed-back : (s : State) (w : ℕ) (indices : List ℕ) → Placed s → may_follow s (Back w indices) ≡ true → Placed (after_effect s (Back w indices))
-placed-back s w [] k h = subst (λ (is : List ℕ). PlacedOf (given_back w is s.books.table) s.books.crew s.books.shared (total s.plan) None) (sym (named-none (slot_of w s.books) s.plan))
-    (placed-none_back s.books.table s.books.crew s.books.shared (total s.plan) s.plan.steal w k)
+placed-back s w [] k h = subst (λ (is : List ℕ). PlacedOf (given_back w is s.books.table) s.books.members s.books.shared (total s.plan) None) (sym (named-none (slot_of w s.books) s.plan))
+    (placed-none_back s.books.table s.books.members s.books.shared (total s.plan) s.plan.steal w k)
 placed-back s w (i ∷ is) k h =
     let slot = slot_of w s.books in
     let items = items_named slot (i ∷ is) s.plan in
@@ -291,7 +291,7 @@ placed-back s w (i ∷ is) k h =
     let a = split-and (is_active w s.books) (may_give_back w (i ∷ is) s) h in
     let b = back_by s.books.shared s.plan.steal w i is items holds a.1 k.steals in
     let one = first_named-by (is_each s.plan.mode) (base slot s.plan) i is holds b.1 in
-    placed-given_back s.books.table s.books.crew s.books.shared (total s.plan) s.plan.steal w items k (seat-of_held w s.books.table.rota one.0 one.1)
+    placed-given_back s.books.table s.books.members s.books.shared (total s.plan) s.plan.steal w items k (seat-of_held w s.books.table.rota one.0 one.1)
     (distinct_named-by (is_each s.plan.mode) (base slot s.plan) (i ∷ is) b.0) b.1
 
 -- a worker collects
@@ -317,11 +317,11 @@ placed-collecting : (s : State) (w : ℕ) (stop : Option RunStop) → Placed s �
     → is_active w s.books ≡ true → was_ready w s.books ≡ true → has_collected w s.books ≡ true → Placed (collecting w stop s)
 placed-collecting s w (Some how) k r a e d = in_both Placed (is_shut w s.books) s (in_books (stopped_by (Some how)) s) (λ h. k) (λ h. k)
 placed-collecting s w None k r a e d = in_both Placed (is_shut w s.books) s (joining w s) (λ h. k)
-    (λ h. placed-share (in_books (λ b. record b { table = joined w b.table }) s) (placed-joined s.books.table s.books.crew s.books.shared (total s.plan) s.plan.steal w k r a e d h))
+    (λ h. placed-share (in_books (λ b. record b { table = joined w b.table }) s) (placed-joined s.books.table s.books.members s.books.shared (total s.plan) s.plan.steal w k r a e d h))
 
 placed-collected : (s : State) (w : ℕ) (given : Ids) → Placed s → may_follow s (Collected w given) ≡ true → Placed (after_effect s (Collected w given))
 placed-collected s w given k h =
-    let ms = s.books.crew in
+    let ms = s.books.members in
     let c = split-and (is_active w s.books && was_ready w s.books && not (has_collected w s.books)) (are_ids given w s) h in
     let b = split-and (is_active w s.books && was_ready w s.books) (not (has_collected w s.books)) c.0 in
     let a = split-and (is_active w s.books) (was_ready w s.books) b.0 in
@@ -335,7 +335,7 @@ placed-collected s w given k h =
     set
 
 pub placed-input : (s : State) (e : Entry) → may_follow s e ≡ true → Placed s → Placed (after_effect s e)
-placed-input s (Ready w) h k = record { fits = fits-ready s.books.table s.books.crew w k.fits; whole = k.whole; steals = k.steals }
+placed-input s (Ready w) h k = record { fits = fits-ready s.books.table s.books.members w k.fits; whole = k.whole; steals = k.steals }
 placed-input s (Collected w g) h k = placed-collected s w g k h
 placed-input s (Done w i u m o) h k = placed-done s w i u m o k h
 placed-input s (Back w i) h k = placed-back s w i k h

@@ -7,7 +7,7 @@ use Rattle.xd_ledger.specs.declared.seat.Seat.{Seat}
 use Rattle.xd_ledger.specs.declared.member.Member.{Member}
 use Rattle.xd_ledger.specs.Numbers.{among, without, times}
 use Rattle.xd_ledger.specs.Table.{Table, crash_item, held, held_in, in_rota, at_seat, without_seat, assigned, completed, left_rota, died, joined, retried_item, shut_down}
-use Rattle.xd_ledger.specs.Plan.{Plan, Handed}
+use Rattle.xd_ledger.specs.Plan.{Plan, Handed, with_handed}
 use Rattle.xd_ledger.specs.Units.{units_left, unless_empty}
 use Rattle.xd_ledger.specs.Orderly.{not_empty}
 use Rattle.xd_ledger.specs.Suits.{tests_of}
@@ -15,7 +15,7 @@ use Rattle.xd_laws.proofs.Logic.{differ, cases_of, split-and, split-or, not_true
 use Rattle.xd_laws.proofs.Counts.{times-append, times-without, among-times}
 use Rattle.xd_laws.proofs.Rota.{has_seat, seat-change, seat-left, seat-joined}
 use Rattle.xd_laws.proofs.Places.{AtMostOnce, times-table, held-within}
-use Rattle.xd_laws.proofs.Crew.{has}
+use Rattle.xd_laws.proofs.Members.{has}
 use Rattle.xd_laws.proofs.Units.{none_empty, tests-append, none_empty-append, given_to, given-more, tests-left, none_empty-left, none_empty-unless, times-unless_empty}
 
 -- what one worker holds
@@ -56,8 +56,8 @@ pub record QueueFits (t : Table) (p : Plan) (ms : List Member) : Type 0 where
   pub steal : p.steal ≡ None
 
 -- only the marks change
-pub queue-crew : (t : Table) (p : Plan) (ms ns : List Member) → ((v : ℕ) → has v (λ m. m.collected) ns ≡ false → has v (λ m. m.collected) ms ≡ false) → QueueFits t p ms → QueueFits t p ns
-queue-crew t p ms ns h q = record { whole = q.whole; filled = q.filled; given = q.given; late = λ w k. q.late w (h w k); steal = q.steal }
+pub queue-members : (t : Table) (p : Plan) (ms ns : List Member) → ((v : ℕ) → has v (λ m. m.collected) ns ≡ false → has v (λ m. m.collected) ms ≡ false) → QueueFits t p ms → QueueFits t p ns
+queue-members t p ms ns h q = record { whole = q.whole; filled = q.filled; given = q.given; late = λ w k. q.late w (h w k); steal = q.steal }
 
 pub queue-shut : (t : Table) (p : Plan) (ms : List Member) (w : ℕ) → QueueFits t p ms → QueueFits (shut_down w t) p ms
 queue-shut t p ms w q = record {
@@ -73,7 +73,7 @@ queue-shut t p ms w q = record {
 
 -- the plan behind that
 abbrev pub handed_out : ℕ → List ℕ → List (List ℕ) → Plan → Plan
-handed_out w u us p = record p { queue = us; given = p.given ++ record { worker = w; tests = u } ∷ [] }
+handed_out w u us p = record p { queue = us; given = with_handed w u p }
 
 given-rest : (w v : ℕ) (b : Bool) (u : List ℕ) (old : List ℕ) → b ≡ false → old ≡ [] → old ++ (if b then u else []) ≡ []
 given-rest w v true u old h k = absurd (differ (sym h))

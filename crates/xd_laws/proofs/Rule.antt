@@ -20,10 +20,10 @@ use Rattle.xd_ledger.specs.Outputs.{acts_of, shut_all, slots_of_rota, turn_of}
 use Rattle.xd_ledger.specs.Proper.{may_follow}
 use Rattle.xd_ledger.specs.Orderly.{is_orderly, all_orderly}
 use Rattle.xd_laws.proofs.Logic.{differ, and-false, cases_of, split-and, not_true, and}
-use Rattle.xd_laws.proofs.Crew.{has-more, has, has-same, has-set, numbers, distinct-numbered, none-next}
+use Rattle.xd_laws.proofs.Members.{has-more, has, has-same, has-set, numbers, distinct-numbered, none-next}
 use Rattle.xd_laws.proofs.Placed.{placed-output}
 use Rattle.xd_laws.proofs.Queue.{QueueFits}
-use Rattle.xd_laws.proofs.CrewFits.{Kin, IsFree, kin-length, kin-free, crew-start}
+use Rattle.xd_laws.proofs.MembersFit.{Kin, IsFree, kin-length, kin-free, members-start}
 use Rattle.xd_laws.proofs.Turns.{Calm, MayShut, Tidy, Good, InRota, after_entries-first, after_entries-join, all_orderly-join, tidy-quiet, orderly-shutdown}
 
 -- outputs in order, behind which the state is tidy and this holds of it
@@ -35,7 +35,7 @@ pub record Fit (X : State → Type 0) (s : State) (es : List Entry) : Type 0 whe
 -- the outputs of a mode, which start no one
 pub record Turned (X : State → Type 0) (s : State) (es : List Entry) : Type 0 where
   pub fit : Fit X s es
-  pub kin : Kin s.books.crew (after_entries s es).books.crew
+  pub kin : Kin s.books.members (after_entries s es).books.members
   pub settings : (after_entries s es).books.settings ≡ s.books.settings
 
 -- what the outputs of a mode make of table and plan is what its rule computes
@@ -48,7 +48,7 @@ pub record IsFresh (s : State) (slots : List ℕ) : Type 0 where
   pub slots_are : slots ≡ slots_of_rota s.books
   pub pool : s.books.table.pool ≡ range_with_len 0 (total s.plan)
   pub sizes : is_each s.plan.mode ≡ true → length s.plan.sizes ≡ s.books.settings.workers
-  pub unshut : (v : ℕ) → has v (λ m. m.shut) s.books.crew ≡ false
+  pub unshut : (v : ℕ) → has v (λ m. m.shut) s.books.members ≡ false
 
 -- the worker joined, at this slot, and was told nothing
 pub record HasJoined (s : State) (w slot : ℕ) : Type 0 where
@@ -73,7 +73,7 @@ pub record Rule (X : State → Type 0) : Type 0 where
   pub settled : (s : State) → X s → X (settled s)
   pub turns : (s : State) (c : ModeCall) → Tidy s → s.books.shared ≡ true → X s → CallFits s c → Turned X s (acts_of c s)
   pub agrees : (s : State) (c : ModeCall) → Tidy s → s.books.shared ≡ true → X s → CallFits s c → Agrees s (turned s.plan.mode c (turn_of s))
-  pub queue : (s : State) → X s → is_scope s.plan.mode ≡ true → QueueFits s.books.table s.plan s.books.crew
+  pub queue : (s : State) → X s → is_scope s.plan.mode ≡ true → QueueFits s.books.table s.plan s.books.members
 
 pub fit-none : (X : State → Type 0) (s : State) → Tidy s → X s → Fit X s []
 fit-none X s d x = record { orderly = refl; tidy = d; also = x }
@@ -102,24 +102,24 @@ fit-shutdown X s w es h p rest d = fit-first X s (Shutdown w) es h (rest (tidy-q
 pub calm-start : (s : State) (w slot : ℕ) → Calm s → Calm (after_effect s (Start w slot))
 calm-start s w slot c = record {
   late = λ h. absurd (differ h);
-  unshut = λ a b v. has-more v (λ m. m.shut) s.books.crew (started w slot) ∙ ap (λ (q : Bool). q || (w == v && false)) (c.unshut a b v) ∙ and-false (w == v);
+  unshut = λ a b v. has-more v (λ m. m.shut) s.books.members (started w slot) ∙ ap (λ (q : Bool). q || (w == v && false)) (c.unshut a b v) ∙ and-false (w == v);
 }
 
 -- a Start of the next number at a free slot, behind outputs that start no one
-pub fit-start : (X : State → Type 0) → Rule X → (s : State) (es : List Entry) (slot : ℕ) → Turned X s es → IsFree slot s.books.crew
-    → slot < s.books.settings.workers → Fit X (after_entries s es) (Start (length s.books.crew) slot ∷ [])
+pub fit-start : (X : State → Type 0) → Rule X → (s : State) (es : List Entry) (slot : ℕ) → Turned X s es → IsFree slot s.books.members
+    → slot < s.books.settings.workers → Fit X (after_entries s es) (Start (length s.books.members) slot ∷ [])
 fit-start X rule s es slot t free low =
     let m = after_entries s es in
-    let same = kin-length s.books.crew m.books.crew t.kin in
-    subst (λ (w : ℕ). Fit X m (Start w slot ∷ [])) same (fit-first X m (Start (length m.books.crew) slot) []
-    (rw (none-next m.books.crew t.fit.tidy.crew.numbered))
-    (fit-none X (after_effect m (Start (length m.books.crew) slot))
+    let same = kin-length s.books.members m.books.members t.kin in
+    subst (λ (w : ℕ). Fit X m (Start w slot ∷ [])) same (fit-first X m (Start (length m.books.members) slot) []
+    (rw (none-next m.books.members t.fit.tidy.members.numbered))
+    (fit-none X (after_effect m (Start (length m.books.members) slot))
     (record {
-      placed = placed-output m (Start (length m.books.crew) slot) (rw (none-next m.books.crew t.fit.tidy.crew.numbered)) t.fit.tidy.placed;
-      crew = crew-start m.books.crew m.books.settings.workers slot t.fit.tidy.crew (kin-free slot s.books.crew m.books.crew t.kin free) (subst (λ (k : Settings). slot < k.workers) (sym t.settings) low);
-      calm = calm-start m (length m.books.crew) slot t.fit.tidy.calm;
+      placed = placed-output m (Start (length m.books.members) slot) (rw (none-next m.books.members t.fit.tidy.members.numbered)) t.fit.tidy.placed;
+      members = members-start m.books.members m.books.settings.workers slot t.fit.tidy.members (kin-free slot s.books.members m.books.members t.kin free) (subst (λ (k : Settings). slot < k.workers) (sym t.settings) low);
+      calm = calm-start m (length m.books.members) slot t.fit.tidy.calm;
     })
-    (rule.start m (length m.books.crew) slot t.fit.also)))
+    (rule.start m (length m.books.members) slot t.fit.also)))
 
 -- a Shutdown for each that waits
 
@@ -156,7 +156,7 @@ waits m h =
     let b = split-and m.active m.ready a.0 in
     (b.0, (b.1, not_true m.shut a.1))
 
-fit-shut_list : (X : State → Type 0) → Rule X → (s : State) (ms : List Member) → all_distinct (numbers ms) ≡ true → AllFit s.books.crew ms → MayShut s → Tidy s → X s → Fit X s (shut_all ms)
+fit-shut_list : (X : State → Type 0) → Rule X → (s : State) (ms : List Member) → all_distinct (numbers ms) ≡ true → AllFit s.books.members ms → MayShut s → Tidy s → X s → Fit X s (shut_all ms)
 fit-shut_list X rule s [] d f q t x = fit-none X s t x
 fit-shut_list X rule s (m ∷ ms) d f q t x =
     let p = split-and (not (among m.worker (numbers ms))) (all_distinct (numbers ms)) d in
@@ -166,7 +166,7 @@ fit-shut_list X rule s (m ∷ ms) d f q t x =
           let split : Shutdown m.worker ∷ shut_all ms ≡ shut_all (m ∷ ms) = rw h in
           subst (λ (es : List Entry). Fit X s es) split
           (fit-shutdown X s m.worker (shut_all ms) (orderly-shutdown s m.worker (f.0.active a.0) (f.0.ready a.1.0) (f.0.unshut a.1.1)) q
-          (λ u. fit-shut_list X rule (after_effect s (Shutdown m.worker)) ms p.1 (fit-shut_other m.worker s.books.crew ms (not_true (among m.worker (numbers ms)) p.0) f.1) q u (rule.shutdown s m.worker q x)) t))
+          (λ u. fit-shut_list X rule (after_effect s (Shutdown m.worker)) ms p.1 (fit-shut_other m.worker s.books.members ms (not_true (among m.worker (numbers ms)) p.0) f.1) q u (rule.shutdown s m.worker q x)) t))
       | inr h ↦
           (let split : shut_all ms ≡ shut_all (m ∷ ms) = rw h in
           subst (λ (es : List Entry). Fit X s es) split (fit-shut_list X rule s ms p.1 f.1 q t x))
@@ -190,7 +190,7 @@ fit-self (m ∷ ms) d =
     let f = fit-self ms p.1 in
     (record { active = λ a. grind (arith, nat_tests); ready = λ a. grind (arith, nat_tests); unshut = λ a. grind (arith, nat_tests, absent m.worker (λ x. x.shut) ms none) }, fit-one_more m ms ms none f)
 
-pub fit-shut_all : (X : State → Type 0) → Rule X → (s : State) → MayShut s → Tidy s → X s → Fit X s (shut_all s.books.crew)
+pub fit-shut_all : (X : State → Type 0) → Rule X → (s : State) → MayShut s → Tidy s → X s → Fit X s (shut_all s.books.members)
 fit-shut_all X rule s q t x =
-    let d = distinct-numbered s.books.crew t.crew.numbered in
-    fit-shut_list X rule s s.books.crew d (fit-self s.books.crew d) q t x
+    let d = distinct-numbered s.books.members t.members.numbered in
+    fit-shut_list X rule s s.books.members d (fit-self s.books.members d) q t x

@@ -13,9 +13,9 @@ use Rattle.xd_ledger.specs.Histories.{starts_from, first_starts, after_starts, a
 use Rattle.xd_ledger.specs.Proper.{may_follow, all_may_follow}
 use Rattle.xd_ledger.specs.Orderly.{is_orderly, is_orderly_run}
 use Rattle.xd_laws.proofs.Logic.{split-or, differ, split-and, and}
-use Rattle.xd_laws.proofs.Crew.{has-member, none-next}
+use Rattle.xd_laws.proofs.Members.{has-member, none-next}
 use Rattle.xd_laws.proofs.Placed.{Placed, placed-output}
-use Rattle.xd_laws.proofs.CrewFits.{CrewFits, crew-start}
+use Rattle.xd_laws.proofs.MembersFit.{MembersFit, members-start}
 use Rattle.xd_laws.proofs.Turns.{Calm, Tidy}
 use Rattle.xd_laws.proofs.Rule.{Rule, calm-start}
 use Rattle.xd_laws.proofs.Outputs.{outputs-fit}
@@ -36,7 +36,7 @@ calm-settled s c = record {
 
 holds-settled : (X : State → Type 0) → Rule X → (s : State) → Tidy s → X s → Holds X (settled s)
 holds-settled X rule s d x = record {
-  tidy = record { placed = d.placed; crew = d.crew; calm = calm-settled s d.calm };
+  tidy = record { placed = d.placed; members = d.members; calm = calm-settled s d.calm };
   also = rule.settled s x;
 }
 
@@ -49,34 +49,34 @@ placed-none settings = record {
   steals = tt;
 }
 
-crew-none : CrewFits [] 0
-crew-none = record { numbered = refl; shut_ready = λ v h. absurd (differ h); apart = λ v w a b e. absurd (differ a); below = λ v h. absurd (differ h) }
+members-none : MembersFit [] 0
+members-none = record { numbered = refl; shut_ready = λ v h. absurd (differ h); apart = λ v w a b e. absurd (differ a); below = λ v h. absurd (differ h) }
 
 calm-none : (settings : Settings) → Calm (no_one settings)
 calm-none settings = record { late = λ h. absurd (differ h); unshut = λ a b v. refl }
 
-crew-wider : (ms : List Member) (n k : ℕ) → n ≤ k → CrewFits ms n → CrewFits ms k
-crew-wider ms n k h c = record { numbered = c.numbered; shut_ready = c.shut_ready; apart = c.apart; below = λ v m. (let b = c.below v m in omega (arith, h, b)) }
+members-wider : (ms : List Member) (n k : ℕ) → n ≤ k → MembersFit ms n → MembersFit ms k
+members-wider ms n k h c = record { numbered = c.numbered; shut_ready = c.shut_ready; apart = c.apart; below = λ v m. (let b = c.below v m in omega (arith, h, b)) }
 
 -- the slot of the next number is free where each slot is below it
-crew-next : (ms : List Member) (w : ℕ) → w ≡ length ms → CrewFits ms w → CrewFits (ms ++ started w w ∷ []) (w + 1)
-crew-next ms w e c = subst (λ (v : ℕ). CrewFits ms v → CrewFits (ms ++ started v v ∷ []) (v + 1)) (sym e)
-    (λ k. crew-start ms (length ms + 1) (length ms) (crew-wider ms (length ms) (length ms + 1) (omega arith) k)
+members-next : (ms : List Member) (w : ℕ) → w ≡ length ms → MembersFit ms w → MembersFit (ms ++ started w w ∷ []) (w + 1)
+members-next ms w e c = subst (λ (v : ℕ). MembersFit ms v → MembersFit (ms ++ started v v ∷ []) (v + 1)) (sym e)
+    (λ k. members-start ms (length ms + 1) (length ms) (members-wider ms (length ms) (length ms + 1) (omega arith) k)
     (λ v a q. (let b = k.below v (has-member v (λ m. m.active) ms a) in omega (arith, b, q))) (omega arith)) c
 
-orderly-start : (s : State) (w : ℕ) → w ≡ length s.books.crew → CrewFits s.books.crew w → is_orderly s (Start w w) ≡ true
-orderly-start s w e c = subst (λ (v : ℕ). is_orderly s (Start v w) ≡ true) (sym e) (rw (none-next s.books.crew c.numbered))
+orderly-start : (s : State) (w : ℕ) → w ≡ length s.books.members → MembersFit s.books.members w → is_orderly s (Start w w) ≡ true
+orderly-start s w e c = subst (λ (v : ℕ). is_orderly s (Start v w) ≡ true) (sym e) (rw (none-next s.books.members c.numbered))
 
-starts-hold : (X : State → Type 0) → Rule X → (s : State) (w n : ℕ) → w ≡ length s.books.crew → w + n ≡ s.books.settings.workers → Placed s → CrewFits s.books.crew w → Calm s → X s
+starts-hold : (X : State → Type 0) → Rule X → (s : State) (w n : ℕ) → w ≡ length s.books.members → w + n ≡ s.books.settings.workers → Placed s → MembersFit s.books.members w → Calm s → X s
     → Holds X (after_entries s (starts_from w n))
-starts-hold X rule s w zero e l p c k x = record { tidy = record { placed = p; crew = subst (λ (k : ℕ). CrewFits s.books.crew k) (omega (arith, l)) c; calm = k }; also = x }
+starts-hold X rule s w zero e l p c k x = record { tidy = record { placed = p; members = subst (λ (k : ℕ). MembersFit s.books.members k) (omega (arith, l)) c; calm = k }; also = x }
 starts-hold X rule s w (suc n) e l p c k x =
-    starts-hold X rule (after_effect s (Start w w)) (w + 1) n (ap (λ (k : ℕ). k + 1) e ∙ sym (length-append s.books.crew (started w w ∷ []))) (omega (arith, l))
-    (placed-output s (Start w w) (orderly-start s w e c) p) (crew-next s.books.crew w e c) (calm-start s w w k) (rule.start s w w x)
+    starts-hold X rule (after_effect s (Start w w)) (w + 1) n (ap (λ (k : ℕ). k + 1) e ∙ sym (length-append s.books.members (started w w ∷ []))) (omega (arith, l))
+    (placed-output s (Start w w) (orderly-start s w e c) p) (members-next s.books.members w e c) (calm-start s w w k) (rule.start s w w x)
 
 pub begun-holds : (X : State → Type 0) → Rule X → (settings : Settings) → X (no_one settings) → Holds X (after_starts settings)
 begun-holds X rule settings x =
-    let h = starts-hold X rule (no_one settings) 0 settings.workers refl (omega arith) (placed-none settings) crew-none (calm-none settings) x in
+    let h = starts-hold X rule (no_one settings) 0 settings.workers refl (omega arith) (placed-none settings) members-none (calm-none settings) x in
     holds-settled X rule (after_entries (no_one settings) (first_starts settings)) h.tidy h.also
 
 -- the inputs

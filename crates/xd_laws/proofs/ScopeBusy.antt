@@ -14,13 +14,14 @@ use Rattle.xd_ledger.specs.Sharing.{State}
 use Rattle.xd_ledger.specs.Outputs.{turn_of}
 use Rattle.xd_ledger.specs.Orderly.{not_empty}
 use Rattle.xd_ledger.specs.Suits.{tests_of}
+use Rattle.xd_ledger.proofs.Handing.{give_unit-front}
 use Rattle.xd_laws.proofs.Logic.{differ, cases_of, or-left, or-right, split-and, split-or, in_both}
 use Rattle.xd_laws.proofs.Counts.{times-append, times-without, all_among-take, all_among-of, all_among-drop, all_among-self, among_of-all_among, empty-of_times}
 use Rattle.xd_laws.proofs.Rota.{has_seat, seat-among, seat-change}
 use Rattle.xd_laws.proofs.Turns.{Tidy, InRota, in_rota-of}
 use Rattle.xd_laws.proofs.EachTurns.{pool-shut, rota-distinct}
 use Rattle.xd_laws.proofs.Units.{none_empty}
-use Rattle.xd_laws.proofs.ScopeTurns.{IsScoped, Fine, FineFor, with_unit, fine-give_unit, fine-refill, fine-shut_each, fine-units, told-give_unit, told-others, among-reverse, front-only}
+use Rattle.xd_laws.proofs.ScopeTurns.{IsScoped, Fine, FineFor, with_unit, fine-give_unit, fine-refill, fine-shut_each, fine-units, told-give_unit, told-others, among-reverse, front-only, unit-by, unit-none}
 use Rattle.xd_laws.proofs.Busy.{AllWork, Employs, has_work, held-given, shut-still, shut-work, shut_each-pool, shut_each-still, work-give, work-through}
 use Rattle.xd_laws.proofs.Handing.{Fair, fair-shut, fair-shut_each, hand-more, in_turn-all, plan-shut_each}
 
@@ -44,14 +45,6 @@ covers-with w u us t e c x =
       | inl h ↦ (let z : times x (without u t.table.pool) ≡ 0 = d ∙ rw h refl in omega (arith, z))
       | inr h ↦ (let z : times x (without u t.table.pool) ≡ times x t.table.pool = d ∙ rw h refl in omega (arith, z, a, b, none-there x u h))
     ]
-
--- what holds behind a unit that is handed out
-pub unit-by : (P : Turn → Type 0) (w : ℕ) (t : Turn) → P t → ((u : List ℕ) (us : List (List ℕ)) → t.plan.queue ≡ u ∷ us → P (with_unit w u us t)) → P (give_unit w t)
-unit-by P w t p k = by t.plan.queue refl
-  where
-    by : (q : List (List ℕ)) → t.plan.queue ≡ q → P (elim q as (λ _. Turn) [ [] ↦ t | u ∷ us ↦ with_unit w u us t ])
-    by [] e = p
-    by (u ∷ us) e = k u us e
 
 more-keeps : (P : Turn → Type 0) (w : ℕ) → ((t : Turn) → P t → P (give_unit w t)) → (n : ℕ) (t : Turn) → P t → P (give_more n w t)
 more-keeps P w k zero t p = p
@@ -129,12 +122,6 @@ pub record Ample (s : State) (t : Turn) : Type 0 where
   pub fine : Fine s t
   pub covers : Covers t.table t.plan
 
-unit-none : (w : ℕ) (t : Turn) → t.plan.queue ≡ [] → give_unit w t ≡ t
-unit-none w t e = rw e refl
-
-unit-some : (w : ℕ) (u : List ℕ) (us : List (List ℕ)) (t : Turn) → t.plan.queue ≡ u ∷ us → give_unit w t ≡ with_unit w u us t
-unit-some w u us t e = rw e refl
-
 more-none : (n w : ℕ) (t : Turn) → t.plan.queue ≡ [] → (give_more n w t).plan.queue ≡ []
 more-none n w t e = more-keeps (λ (u : Turn). u.plan.queue ≡ []) w (λ u k. ap (λ (y : Turn). y.plan.queue) (unit-none w u k) ∙ k) n t e
 
@@ -150,7 +137,7 @@ unit-held s w u us t a f e =
     let filled = (split-and (not_empty u) (none_empty us) (ap none_empty (sym e) ∙ f.queue.filled)).0 in
     let one = some-length u filled in
     let given = held-given w u t.table.rota (in_rota-of s t w f.good a) in
-    let same = ap (λ (y : Turn). length (held w y.table)) (unit-some w u us t e) in
+    let same = ap (λ (y : Turn). length (held w y.table)) (give_unit-front w u us t e) in
     omega (arith, one, given, same)
 
 more-by : (n w : ℕ) (t : Turn) → ((u : List ℕ) (us : List (List ℕ)) → t.plan.queue ≡ u ∷ us → SpentOr w (give_more n w (give_unit w t))) → SpentOr w (give_more n w (give_unit w t))
@@ -213,7 +200,7 @@ units-spent (w ∷ ws) t h = units-spent ws (give_unit w t) (by t.plan.queue ref
   where
     by : (q : List (List ℕ)) → t.plan.queue ≡ q → length (give_unit w t).plan.queue ≤ length ws
     by [] e = (let z : length (give_unit w t).plan.queue ≡ 0 = ap (λ (y : Turn). length y.plan.queue) (unit-none w t e) ∙ ap (λ (q : List (List ℕ)). length q) e in omega (arith, z))
-    by (u ∷ us) e = (let z : length (give_unit w t).plan.queue ≡ length us = ap (λ (y : Turn). length y.plan.queue) (unit-some w u us t e) in
+    by (u ∷ us) e = (let z : length (give_unit w t).plan.queue ≡ length us = ap (λ (y : Turn). length y.plan.queue) (give_unit-front w u us t e) in
         let l : length (u ∷ us) ≤ length (w ∷ ws) = subst (λ (q : List (List ℕ)). length q ≤ length (w ∷ ws)) e h in
         omega (arith, z, l))
 

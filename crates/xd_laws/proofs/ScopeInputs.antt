@@ -23,18 +23,18 @@ use Rattle.xd_ledger.specs.Proper.{may_follow, are_ids}
 use Rattle.xd_ledger.specs.Suits.{tests_of}
 use Rattle.xd_laws.proofs.Logic.{differ, cases_of, split-and, not_true}
 use Rattle.xd_laws.proofs.Places.{AtMostOnce}
-use Rattle.xd_laws.proofs.Crew.{has, has-same, has-kept, has-more}
+use Rattle.xd_laws.proofs.Members.{has, has-same, has-kept, has-more}
 use Rattle.xd_laws.proofs.Placed.{at_most_once, no_back}
 use Rattle.xd_laws.proofs.Turns.{Tidy}
 use Rattle.xd_laws.proofs.Inputs.{collecting-keeps}
 use Rattle.xd_laws.proofs.Units.{none_empty, tests-units, none_empty-units, given_to}
-use Rattle.xd_laws.proofs.Queue.{QueueFits, buried_plan, queue-crew, queue-shut, queue-completed, queue-left, queue-died, queue-joined}
+use Rattle.xd_laws.proofs.Queue.{QueueFits, buried_plan, queue-members, queue-shut, queue-completed, queue-left, queue-died, queue-joined}
 use Rattle.xd_laws.proofs.ScopeTurns.{IsScoped}
 
 -- the mode has scopes, and its queue fits the table
 pub record Scoped (s : State) : Type 0 where
   pub mode : IsScoped s
-  pub queue : QueueFits s.books.table s.plan s.books.crew
+  pub queue : QueueFits s.books.table s.plan s.books.members
 
 same_collected : (change : Member → Member) (ms : List Member) → ((m : Member) → (change m).worker ≡ m.worker) → ((m : Member) → (change m).collected ≡ m.collected)
     → (v : ℕ) → has v (λ m. m.collected) (map change ms) ≡ false → has v (λ m. m.collected) ms ≡ false
@@ -54,7 +54,7 @@ planned-queue ls n p h = rw h
 pub planned-sizes : (ls : List Listed) (n : ℕ) (p : Plan) → is_each p.mode ≡ false → (planned ls n p).sizes ≡ length (ids_at 0 ls) ∷ []
 planned-sizes ls n p h = rw h
 
-queue-shared : (s : State) → Scoped s → QueueFits (shared_now s).books.table (shared_now s).plan (shared_now s).books.crew
+queue-shared : (s : State) → Scoped s → QueueFits (shared_now s).books.table (shared_now s).plan (shared_now s).books.members
 queue-shared s k =
     let ls = s.books.lists in
     let n = s.books.settings.workers in
@@ -73,14 +73,14 @@ queue-shared s k =
 
 scoped-collected : (s : State) (w : ℕ) (g : Ids) → may_follow s (Collected w g) ≡ true → Scoped s → Scoped (after_effect s (Collected w g))
 scoped-collected s w g h k =
-    let ms = s.books.crew in
+    let ms = s.books.members in
     let now = in_books (λ b. marked (made_collected w) (with_list w g b)) s in
     let j = in_books (λ b. record b { table = joined w b.table }) now in
     let c = split-and (is_active w s.books && was_ready w s.books && not (has_collected w s.books)) (are_ids g w s) h in
     let b = split-and (is_active w s.books && was_ready w s.books) (not (has_collected w s.books)) c.0 in
     let none : given_to w s.plan.given ≡ [] = k.queue.late w (not_true (has_collected w s.books) b.1) in
     let mode : IsScoped now = record { scope = k.mode.scope; each = k.mode.each } in
-    let queue = queue-crew s.books.table s.plan ms (map (made_collected w) ms) (before_collected w ms) k.queue in
+    let queue = queue-members s.books.table s.plan ms (map (made_collected w) ms) (before_collected w ms) k.queue in
     let in_rota : Scoped j = record { mode = record { scope = k.mode.scope; each = k.mode.each }; queue = queue-joined s.books.table s.plan (map (made_collected w) ms) w none queue } in
     collecting-keeps Scoped now w (unequal w g (listed w s.books))
     (record { mode = mode; queue = queue })
@@ -101,7 +101,7 @@ plan-down w retried rest p h k = rw (h, k)
 
 scoped-down : (s : State) (w : ℕ) → Tidy s → Scoped s → Scoped (after_effect s (NotStarted w))
 scoped-down s w d k =
-    let ms = s.books.crew in
+    let ms = s.books.members in
     let t = s.books.table in
     let retry = is_retry w s.books in
     let first = retried_item retry (held w t) in
@@ -109,28 +109,28 @@ scoped-down s w d k =
     record {
       mode = record { scope = k.mode.scope; each = k.mode.each };
       queue = subst (λ (p : Plan). QueueFits (died w retry t) p (map (made_gone w) ms)) (sym (plan-down w first rest s.plan k.mode.scope k.queue.steal))
-          (queue-crew (died w retry t) (buried_plan w first rest s.plan) ms (map (made_gone w) ms) (same_collected (made_gone w) ms (λ m. refl) (λ m. refl)) (queue-died t s.plan ms w retry (at_most_once s d.placed) k.queue));
+          (queue-members (died w retry t) (buried_plan w first rest s.plan) ms (map (made_gone w) ms) (same_collected (made_gone w) ms (λ m. refl) (λ m. refl)) (queue-died t s.plan ms w retry (at_most_once s d.placed) k.queue));
     }
 
 pub scoped-input : (s : State) (e : Entry) → may_follow s e ≡ true → Tidy s → Scoped s → Scoped (after_effect s e)
 scoped-input s (Ready w) h d k = record {
   mode = record { scope = k.mode.scope; each = k.mode.each };
-  queue = queue-crew s.books.table s.plan s.books.crew (map (made_ready w) s.books.crew) (same_collected (made_ready w) s.books.crew (λ m. refl) (λ m. refl)) k.queue;
+  queue = queue-members s.books.table s.plan s.books.members (map (made_ready w) s.books.members) (same_collected (made_ready w) s.books.members (λ m. refl) (λ m. refl)) k.queue;
 }
 scoped-input s (Collected w g) h d k = scoped-collected s w g h k
 scoped-input s (Done w i u m o) h d k = record {
   mode = record { scope = k.mode.scope; each = k.mode.each };
-  queue = queue-first s.books.table s.plan s.books.crew w (items_named (slot_of w s.books) (i ∷ []) s.plan) (at_most_once s d.placed) k.queue;
+  queue = queue-first s.books.table s.plan s.books.members w (items_named (slot_of w s.books) (i ∷ []) s.plan) (at_most_once s d.placed) k.queue;
 }
 scoped-input s (Back w is) h d k = absurd (no_back s w is k.queue.steal h)
 scoped-input s (Finished w) h d k = record {
   mode = record { scope = k.mode.scope; each = k.mode.each };
-  queue = queue-left s.books.table s.plan (map (made_gone w) s.books.crew) w
-      (queue-crew s.books.table s.plan s.books.crew (map (made_gone w) s.books.crew) (same_collected (made_gone w) s.books.crew (λ m. refl) (λ m. refl)) k.queue);
+  queue = queue-left s.books.table s.plan (map (made_gone w) s.books.members) w
+      (queue-members s.books.table s.plan s.books.members (map (made_gone w) s.books.members) (same_collected (made_gone w) s.books.members (λ m. refl) (λ m. refl)) k.queue);
 }
 scoped-input s (Refused w t) h d k = record {
   mode = record { scope = k.mode.scope; each = k.mode.each };
-  queue = queue-crew s.books.table s.plan s.books.crew (map (made_gone w) s.books.crew) (same_collected (made_gone w) s.books.crew (λ m. refl) (λ m. refl)) k.queue;
+  queue = queue-members s.books.table s.plan s.books.members (map (made_gone w) s.books.members) (same_collected (made_gone w) s.books.members (λ m. refl) (λ m. refl)) k.queue;
 }
 scoped-input s (Down w r o) h d k = (let n = scoped-down s w d k in record { mode = record { scope = k.mode.scope; each = k.mode.each }; queue = n.queue })
 scoped-input s (NotStarted w) h d k = scoped-down s w d k
@@ -144,11 +144,11 @@ scoped-input s (Over how) h d k = absurd (differ h)
 
 pub scoped-start : (s : State) (w slot : ℕ) → Scoped s → Scoped (after_effect s (Start w slot))
 scoped-start s w slot k =
-    let ms = s.books.crew in
+    let ms = s.books.members in
     let new = started w slot in
     record {
       mode = record { scope = k.mode.scope; each = k.mode.each };
-      queue = queue-crew s.books.table s.plan ms (ms ++ new ∷ []) (λ v h. old_false (has v (λ m. m.collected) ms) ((w == v) && false) (sym (has-more v (λ m. m.collected) ms new) ∙ h)) k.queue;
+      queue = queue-members s.books.table s.plan ms (ms ++ new ∷ []) (λ v h. old_false (has v (λ m. m.collected) ms) ((w == v) && false) (sym (has-more v (λ m. m.collected) ms new) ∙ h)) k.queue;
     }
   where
     old_false : (a b : Bool) → (a || b) ≡ false → a ≡ false
@@ -158,6 +158,6 @@ scoped-start s w slot k =
 pub scoped-shutdown : (s : State) (w : ℕ) → Scoped s → Scoped (after_effect s (Shutdown w))
 scoped-shutdown s w k = record {
   mode = record { scope = k.mode.scope; each = k.mode.each };
-  queue = queue-crew (after_effect s (Shutdown w)).books.table s.plan s.books.crew (map (made_shut w) s.books.crew) (same_collected (made_shut w) s.books.crew (λ m. refl) (λ m. refl))
-      (queue-shut s.books.table s.plan s.books.crew w k.queue);
+  queue = queue-members (after_effect s (Shutdown w)).books.table s.plan s.books.members (map (made_shut w) s.books.members) (same_collected (made_shut w) s.books.members (λ m. refl) (λ m. refl))
+      (queue-shut s.books.table s.plan s.books.members w k.queue);
 }

@@ -15,7 +15,7 @@ use Rattle.xd_laws.proofs.Logic.{differ}
 use Rattle.xd_laws.proofs.Rota.{seat-among}
 use Rattle.xd_laws.proofs.Turns.{Tidy, good-first}
 use Rattle.xd_laws.proofs.Rule.{Agrees, CallFits, Turned, Rule, agrees-good, turned-good}
-use Rattle.xd_laws.proofs.Queue.{QueueFits, queue-crew}
+use Rattle.xd_laws.proofs.Queue.{QueueFits, queue-members}
 use Rattle.xd_laws.proofs.ScopeTurns.{IsScoped, Fine, fine-share, fine-refill, fine-refill_all}
 use Rattle.xd_laws.proofs.ScopeInputs.{Scoped, scoped-input, scoped-start, scoped-shutdown}
 
@@ -42,8 +42,8 @@ scoped-turn s t k f =
     let mode : m.plan.mode ≡ s.plan.mode = ap (λ (p : Plan). p.mode) f.good.plan ∙ f.good.mode in
     record {
       mode = record { scope = ap is_scope mode ∙ k.scope; each = ap is_each mode ∙ k.each };
-      queue = subst (λ (u : Table). QueueFits u m.plan m.books.crew) (sym f.good.table) (subst (λ (p : Plan). QueueFits t.table p m.books.crew) (sym f.good.plan)
-          (queue-crew t.table t.plan s.books.crew m.books.crew (λ v h. sym (f.good.kin.collected_same v) ∙ h) f.queue));
+      queue = subst (λ (u : Table). QueueFits u m.plan m.books.members) (sym f.good.table) (subst (λ (p : Plan). QueueFits t.table p m.books.members) (sym f.good.plan)
+          (queue-members t.table t.plan s.books.members m.books.members (λ v h. sym (f.good.kin.collected_same v) ∙ h) f.queue));
     }
 
 scope-turned : (s : State) (c : ModeCall) → Tidy s → s.books.shared ≡ true → Scoped s → CallFits s c → Turned Scoped s (acts_of c s)

@@ -41,7 +41,8 @@ use Rattle.xd_laws.proofs.ScopeInputs.{Scoped, planned-queue, planned-sizes}
 use Rattle.xd_laws.proofs.ScopeRule.{scope_rule, turned-scope, scoped-none}
 use Rattle.xd_laws.proofs.Busy.{AllWork}
 use Rattle.xd_laws.proofs.Handing.{Fair, Serves, in_turn-all, serves-fair}
-use Rattle.xd_laws.proofs.ScopeBusy.{Ample, Covers, covered-refill, covered-refills, covered-share, fair-refill, fair-refills, fair-share, none-there, refill-employs, refill-keeps, refills-work, share-work, unit-by}
+use Rattle.xd_laws.proofs.ScopeTurns.{unit-by}
+use Rattle.xd_laws.proofs.ScopeBusy.{Ample, Covers, covered-refill, covered-refills, covered-share, fair-refill, fair-refills, fair-share, none-there, refill-employs, refill-keeps, refills-work, share-work}
 use Rattle.xd_laws.proofs.Serving.{Ahead, Beside, Both, Server, one-work, rule-both}
 
 -- whatever is held was given

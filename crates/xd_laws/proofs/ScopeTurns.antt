@@ -1,16 +1,14 @@
 -- The turns of the modes with scopes are in order.
 use Rattle.std.proofs.Common.{◌≡◌, ℕ, zero, suc, ◌≤◌, List, [], ◌∷◌, ◌++◌, take, drop, length, reverse, true, false, ◌||◌, refl, ap, sym, ◌∙◌, subst, arith}
 use Rattle.std.specs.Prelude.{if◌then◌else◌, ◌==◌, nat_lt}
-use Rattle.std.specs.Str.{bytes_eq}
 use Rattle.std.proofs.lemmas.Bool.Decides.{nat_tests}
-use Rattle.std.proofs.lemmas.Slice.Eq.{bytes_eq-Decides}
 use Rattle.std.proofs.lemmas.List.{reverse-append}
 use Rattle.xd_journal.specs.declared.entry.Entry.TheVariants.{Run, Shutdown}
 use Rattle.xd_ledger.specs.Numbers.{among, all_distinct, all_among, times}
 use Rattle.xd_ledger.specs.Table.{Table, held, seat_shut, workers_of, assigned, shut_down}
 use Rattle.xd_ledger.specs.Plan.{Plan, is_each, is_scope}
 use Rattle.xd_ledger.specs.Turn.{Turn, shut, in_turn, shut_each}
-use Rattle.xd_ledger.specs.Units.{without_unit}
+use Rattle.xd_ledger.specs.Units.{unit_handed}
 use Rattle.xd_ledger.specs.ScopeModes.{give_unit, give_more, refill, refill_all, shut_where_spent, share}
 use Rattle.xd_ledger.specs.Turn.{enough}
 use Rattle.xd_ledger.specs.Workers.{slot_of}
@@ -20,6 +18,7 @@ use Rattle.xd_ledger.specs.State.{after_entries}
 use Rattle.xd_ledger.specs.Outputs.{turn_of}
 use Rattle.xd_ledger.specs.Orderly.{not_empty}
 use Rattle.xd_ledger.specs.Suits.{tests_of}
+use Rattle.xd_ledger.proofs.Handing.{give_unit-front, handed-front}
 use Rattle.xd_laws.proofs.Logic.{differ, split-and, in_both}
 use Rattle.xd_laws.proofs.Counts.{times-append, among-times, times-among, distinct-of_times, all_among-of, all_among-self, all_among-take, all_among-drop, among_of-all_among}
 use Rattle.xd_laws.proofs.Rota.{told-change, workers-change}
@@ -37,13 +36,13 @@ pub record IsScoped (s : State) : Type 0 where
 -- a turn in order whose queue fits its table
 pub record Fine (s : State) (t : Turn) : Type 0 where
   pub good : Good s t
-  pub queue : QueueFits t.table t.plan s.books.crew
+  pub queue : QueueFits t.table t.plan s.books.members
 
 fine-shut : (s : State) (w : ℕ) (t : Turn) → InRota s w → Fine s t → Fine s (shut w t)
 fine-shut s w t a f = record {
   good = good-shut s w t a f.good;
-  queue = in_both (λ (u : Turn). QueueFits u.table u.plan s.books.crew) (seat_shut w t.table) t (record t { table = shut_down w t.table; acts = t.acts ++ Shutdown w ∷ [] })
-      (λ h. f.queue) (λ h. queue-shut t.table t.plan s.books.crew w f.queue);
+  queue = in_both (λ (u : Turn). QueueFits u.table u.plan s.books.members) (seat_shut w t.table) t (record t { table = shut_down w t.table; acts = t.acts ++ Shutdown w ∷ [] })
+      (λ h. f.queue) (λ h. queue-shut t.table t.plan s.books.members w f.queue);
 }
 
 pub fine-shut_each : (s : State) (ws : List ℕ) (t : Turn) → all_among ws (workers_of s.books.table) ≡ true → Fine s t → Fine s (shut_each ws t)
@@ -51,17 +50,11 @@ fine-shut_each s ws t h f = in_turn-keeps (Fine s) shut (workers_of s.books.tabl
 
 -- a unit is handed out
 
-same_text : (u : List ℕ) → bytes_eq u u ≡ true
-same_text u = (bytes_eq-Decides u u).1 refl
-
-without-first : (u : List ℕ) (us : List (List ℕ)) → without_unit u (u ∷ us) ≡ us
-without-first u us = rw (same_text u)
-
-run-scope : (w : ℕ) (u : List ℕ) (p : Plan) → is_scope p.mode ≡ true → run_plan w u p ≡ handed_out w u (without_unit u p.queue) p
+run-scope : (w : ℕ) (u : List ℕ) (p : Plan) → is_scope p.mode ≡ true → run_plan w u p ≡ unit_handed w u p
 run-scope w u p h = rw h
 
 plan-scope : (w : ℕ) (u : List ℕ) (us : List (List ℕ)) (p : Plan) → is_scope p.mode ≡ true → p.queue ≡ u ∷ us → run_plan w u p ≡ handed_out w u us p
-plan-scope w u us p h e = run-scope w u p h ∙ ap (λ (q : List (List ℕ)). handed_out w u q p) (ap (λ (q : List (List ℕ)). without_unit u q) e ∙ without-first u us)
+plan-scope w u us p h e = run-scope w u p h ∙ handed-front w u us p e
 
 -- the turn behind the first unit
 abbrev pub with_unit : ℕ → List ℕ → List (List ℕ) → Turn → Turn
@@ -86,23 +79,26 @@ fine-unit s w u us t k a f unshut e =
           (ap (λ (xs : List ℕ). assigned w xs m.books.table) (named-plain (slot_of w m.books) u m.plan each) ∙ ap (λ (v : Table). assigned w u v) g.table)
           (ap (λ (p : Plan). run_plan w u p) g.plan ∙ plan-scope w u us t.plan (ap is_scope g.mode ∙ k.scope) e)
           (workers-change w (λ s. record s { held = s.held ++ u }) t.table.rota (λ s. refl)) refl;
-      queue = queue-given t.table t.plan s.books.crew w u us once (sym (g.kin.collected_same w) ∙ g.tidy.placed.fits.collected w rota) e f.queue;
+      queue = queue-given t.table t.plan s.books.members w u us once (sym (g.kin.collected_same w) ∙ g.tidy.placed.fits.collected w rota) e f.queue;
     }
 
-unit-by : (s : State) (w : ℕ) (q : List (List ℕ)) (t : Turn) → IsScoped s → InRota s w → Fine s t → seat_shut w t.table ≡ false → t.plan.queue ≡ q
-    → Fine s (elim q as (λ _. Turn) [ [] ↦ t | u ∷ us ↦ with_unit w u us t ])
-unit-by s w [] t k a f unshut e = f
-unit-by s w (u ∷ us) t k a f unshut e = fine-unit s w u us t k a f unshut e
+pub unit-none : (w : ℕ) (t : Turn) → t.plan.queue ≡ [] → give_unit w t ≡ t
+unit-none w t e = rw e refl
+
+-- what holds behind a unit that is handed out
+pub unit-by : (P : Turn → Type 0) (w : ℕ) (t : Turn) → P t → ((u : List ℕ) (us : List (List ℕ)) → t.plan.queue ≡ u ∷ us → P (with_unit w u us t)) → P (give_unit w t)
+unit-by P w t p k = by t.plan.queue refl
+  where
+    by : (q : List (List ℕ)) → t.plan.queue ≡ q → P (give_unit w t)
+    by [] e = subst P (sym (unit-none w t e)) p
+    by (u ∷ us) e = subst P (sym (give_unit-front w u us t e)) (k u us e)
 
 pub fine-give_unit : (s : State) (w : ℕ) (t : Turn) → IsScoped s → InRota s w → Fine s t → seat_shut w t.table ≡ false → Fine s (give_unit w t)
-fine-give_unit s w t k a f unshut = unit-by s w t.plan.queue t k a f unshut refl
-
-told-by : (v w : ℕ) (q : List (List ℕ)) (t : Turn) → seat_shut v (elim q as (λ _. Turn) [ [] ↦ t | u ∷ us ↦ with_unit w u us t ]).table ≡ seat_shut v t.table
-told-by v w [] t = refl
-told-by v w (u ∷ us) t = told-change v w (λ s. record s { held = s.held ++ u }) t.table.rota (λ s. refl) (λ s. refl)
+fine-give_unit s w t k a f unshut = unit-by (Fine s) w t f (λ u us e. fine-unit s w u us t k a f unshut e)
 
 pub told-give_unit : (v w : ℕ) (t : Turn) → seat_shut v (give_unit w t).table ≡ seat_shut v t.table
-told-give_unit v w t = told-by v w t.plan.queue t
+told-give_unit v w t = unit-by (λ (u : Turn). seat_shut v u.table ≡ seat_shut v t.table) w t refl
+    (λ u us e. told-change v w (λ s. record s { held = s.held ++ u }) t.table.rota (λ s. refl) (λ s. refl))
 
 -- a worker is refilled
 

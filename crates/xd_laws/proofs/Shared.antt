@@ -25,8 +25,8 @@ use Rattle.xd_laws.specs.Collected.{slots}
 use Rattle.xd_laws.proofs.Logic.{differ, cases_of, split-and, split-or}
 use Rattle.xd_laws.proofs.Rota.{has_seat, seat-among, seat-change, seat-joined, seat-left}
 use Rattle.xd_laws.proofs.Pigeons.{all-taken, among-image, image-once}
-use Rattle.xd_laws.proofs.Crew.{has-member}
-use Rattle.xd_laws.proofs.CrewFits.{slot-marked, slot-old}
+use Rattle.xd_laws.proofs.Members.{has-member}
+use Rattle.xd_laws.proofs.MembersFit.{slot-marked, slot-old}
 use Rattle.xd_laws.proofs.Placed.{Placed}
 use Rattle.xd_laws.proofs.Turns.{Tidy}
 use Rattle.xd_laws.proofs.Inputs.{collecting-full, tidy-input}
@@ -77,8 +77,8 @@ at-slot : (s : State) (a b : ℕ) → b ≡ a → AtSlot s a → AtSlot s b
 at-slot s a b e h = subst (λ (n : ℕ). AtSlot s n) (sym e) h
 
 at-marked : (s : State) (v : ℕ) (change : Member → Member) → ((m : Member) → (change m).worker ≡ m.worker) → ((m : Member) → (change m).slot ≡ m.slot)
-    → AtSlot s (slot_in v s.books.crew) → AtSlot s (slot_in v (map change s.books.crew))
-at-marked s v change a b h = at-slot s (slot_in v s.books.crew) (slot_in v (map change s.books.crew)) (slot-marked v change s.books.crew a b) h
+    → AtSlot s (slot_in v s.books.members) → AtSlot s (slot_in v (map change s.books.members))
+at-marked s v change a b h = at-slot s (slot_in v s.books.members) (slot_in v (map change s.books.members)) (slot-marked v change s.books.members a b) h
 
 -- the share
 
@@ -96,7 +96,7 @@ slot-taken s d full k l =
     let f = λ (w : ℕ). slot_of w s.books in
     let low : (x : ℕ) → among x (map f ws) ≡ true → x < n = λ x a.
     (let r = among-image f x ws a in
-    let b = d.crew.below r.0 (has-member r.0 (λ m. m.active) s.books.crew (d.placed.fits.active r.0 (seat-among r.0 rota ∙ r.1))) in
+    let b = d.members.below r.0 (has-member r.0 (λ m. m.active) s.books.members (d.placed.fits.active r.0 (seat-among r.0 rota ∙ r.1))) in
     subst (λ (y : ℕ). y < n) r.2 b) in
     let count : length (map f ws) ≡ n = length-mapped f ws ∙ length-mapped (λ (x : Seat). x.worker) rota ∙ full in
     let a = among-image f k ws (all-taken k n (map f ws) (image-once f ws (rota-distinct s d) (rota-apart s d)) low count l) in
@@ -132,7 +132,7 @@ listing-marked s w g k =
     record {
       mode = k.mode;
       joined = λ v r.
-          (let slot = slot_in v (map (made_collected w) s.books.crew) in
+          (let slot = slot_in v (map (made_collected w) s.books.members) in
           let stands : AtSlot s slot = at-marked s v (made_collected w) (λ m. refl) (λ m. refl) (k.joined v r) in
           ap (λ (x : Option Listed). is_some x) (listed-kept (if each then slot else 0) o new ls stands) ∙ stands);
       sizes = λ h. k.sizes h ∙ sym (sizes-kept o new ls 0 (slots s.books.settings) (λ i a b. k.all h i (omega (arith, b))));
@@ -149,7 +149,7 @@ listing-joined s w g k =
     let same : (key w s.books == key w s.books) ≡ true = grind (arith, nat_tests) in
     let here : AtSlot now (slot_of w s.books) = listed-with (key w s.books) (listed w s.books) new s.books.lists refl same in
     let own : AtSlot now (slot_of w now.books) =
-    at-slot now (slot_of w s.books) (slot_of w now.books) (slot-marked w (made_collected w) s.books.crew (λ m. refl) (λ m. refl)) here in
+    at-slot now (slot_of w s.books) (slot_of w now.books) (slot-marked w (made_collected w) s.books.members (λ m. refl) (λ m. refl)) here in
     record {
       mode = l.mode;
       joined = λ v r. elim (split-or (in_rota v s.books.table) (w == v) (sym (seat-joined v s.books.table.rota seat) ∙ r)) [
@@ -236,8 +236,8 @@ listing-assigned s w items k v r = k.joined v (sym (seat-change v w (λ x. recor
 listing-told : (s : State) (e : Entry) → Placed s → is_orderly s e ≡ true → Listing s → Listing (after_effect s e)
 listing-told s (Start w slot) p h k = record {
   mode = k.mode;
-  joined = λ v r. at-slot s (slot_in v s.books.crew) (slot_in v (s.books.crew ++ started w slot ∷ []))
-      (slot-old v s.books.crew (started w slot) (has-member v (λ m. m.active) s.books.crew (p.fits.active v r))) (k.joined v r);
+  joined = λ v r. at-slot s (slot_in v s.books.members) (slot_in v (s.books.members ++ started w slot ∷ []))
+      (slot-old v s.books.members (started w slot) (has-member v (λ m. m.active) s.books.members (p.fits.active v r))) (k.joined v r);
   sizes = k.sizes;
   all = k.all;
 }

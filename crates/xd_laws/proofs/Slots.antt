@@ -23,8 +23,8 @@ use Rattle.xd_ledger.specs.Proper.{may_follow}
 use Rattle.xd_laws.proofs.Logic.{cases_of, differ, or-left, split-and}
 use Rattle.xd_laws.proofs.Counts.{among-times, among_of-all_among, times-among}
 use Rattle.xd_laws.proofs.Rota.{has_seat, seat-change, seat-left}
-use Rattle.xd_laws.proofs.Crew.{has-member, has-more, has-same, is_member}
-use Rattle.xd_laws.proofs.CrewFits.{slot-marked, slot-old}
+use Rattle.xd_laws.proofs.Members.{has-member, has-more, has-same, is_member}
+use Rattle.xd_laws.proofs.MembersFit.{slot-marked, slot-old}
 use Rattle.xd_laws.proofs.Placed.{Placed, placed-output, shared-of_held}
 use Rattle.xd_laws.proofs.Turns.{after_entries-first}
 use Rattle.xd_laws.proofs.Queue.{held-fewer, held-left, held-more, held-none, held-shut}
@@ -78,7 +78,7 @@ held-first x v w (i ∷ is) t h = held-kept x v w (i ∷ []) t.rota h
 
 -- in mode each whoever holds an item was started, and the item is of its slot
 abbrev pub OwnSlot : State → Type 0
-OwnSlot s = is_each s.plan.mode ≡ true → (v x : ℕ) → among x (held v s.books.table) ≡ true → (is_member v s.books.crew ≡ true) × (among x (slot_items (slot_of v s.books) s.plan) ≡ true)
+OwnSlot s = is_each s.plan.mode ≡ true → (v x : ℕ) → among x (held v s.books.table) ≡ true → (is_member v s.books.members ≡ true) × (among x (slot_items (slot_of v s.books) s.plan) ≡ true)
 
 -- the items of a slot are known by the mode and the sizes
 pub slot_items-same : (slot : ℕ) (p q : Plan) → p.sizes ≡ q.sizes → p.mode ≡ q.mode → slot_items slot p ≡ slot_items slot q
@@ -87,21 +87,21 @@ slot_items-same slot p q a b =
     ∙ ap (λ (ns : List ℕ). range_with_len (if is_each q.mode then sum (take slot ns) else 0) (slice_index ns slot)) a
 
 -- where nobody gets more, and slots and sizes stay
-own-by : (s t : State) → ((v x : ℕ) → among x (held v t.books.table) ≡ true → among x (held v s.books.table) ≡ true) → ((v : ℕ) → is_member v s.books.crew ≡ true → is_member v t.books.crew ≡ true)
-    → ((v : ℕ) → is_member v s.books.crew ≡ true → slot_in v t.books.crew ≡ slot_in v s.books.crew) → t.plan.sizes ≡ s.plan.sizes → t.plan.mode ≡ s.plan.mode → OwnSlot s → OwnSlot t
+own-by : (s t : State) → ((v x : ℕ) → among x (held v t.books.table) ≡ true → among x (held v s.books.table) ≡ true) → ((v : ℕ) → is_member v s.books.members ≡ true → is_member v t.books.members ≡ true)
+    → ((v : ℕ) → is_member v s.books.members ≡ true → slot_in v t.books.members ≡ slot_in v s.books.members) → t.plan.sizes ≡ s.plan.sizes → t.plan.mode ≡ s.plan.mode → OwnSlot s → OwnSlot t
 own-by s t less member slot sizes mode k e v x h =
     let o = k (ap is_each (sym mode) ∙ e) v x (less v x h) in (
       member v o.0,
-      ap (λ (i : ℕ). among x (slot_items i t.plan)) (slot v o.0) ∙ ap (λ (xs : List ℕ). among x xs) (slot_items-same (slot_in v s.books.crew) t.plan s.plan sizes mode) ∙ o.1,
+      ap (λ (i : ℕ). among x (slot_items i t.plan)) (slot v o.0) ∙ ap (λ (xs : List ℕ). among x xs) (slot_items-same (slot_in v s.books.members) t.plan s.plan sizes mode) ∙ o.1,
     )
 
 -- so it is where only marks of workers change
-own-marked : (s t : State) (change : Member → Member) → ((m : Member) → (change m).worker ≡ m.worker) → ((m : Member) → (change m).slot ≡ m.slot) → t.books.crew ≡ map change s.books.crew
+own-marked : (s t : State) (change : Member → Member) → ((m : Member) → (change m).worker ≡ m.worker) → ((m : Member) → (change m).slot ≡ m.slot) → t.books.members ≡ map change s.books.members
     → ((v x : ℕ) → among x (held v t.books.table) ≡ true → among x (held v s.books.table) ≡ true) → t.plan.sizes ≡ s.plan.sizes → t.plan.mode ≡ s.plan.mode → OwnSlot s → OwnSlot t
-own-marked s t change a b crew less sizes mode k =
+own-marked s t change a b members less sizes mode k =
     own-by s t less
-    (λ v m. ap (λ (ms : List Member). is_member v ms) crew ∙ has-same v (λ m. true) change s.books.crew a (λ m. refl) ∙ m)
-    (λ v m. ap (λ (ms : List Member). slot_in v ms) crew ∙ slot-marked v change s.books.crew a b) sizes mode k
+    (λ v m. ap (λ (ms : List Member). is_member v ms) members ∙ has-same v (λ m. true) change s.books.members a (λ m. refl) ∙ m)
+    (λ v m. ap (λ (ms : List Member). slot_in v ms) members ∙ slot-marked v change s.books.members a b) sizes mode k
 
 pub own-input : (s : State) (e : Entry) → may_follow s e ≡ true → Placed s → OwnSlot s → OwnSlot (after_effect s e)
 own-input s (Ready w) h d k = own-marked s (after_effect s (Ready w)) (made_ready w) (λ m. refl) (λ m. refl) refl (λ v x a. a) refl refl k
@@ -130,8 +130,8 @@ own-input s (Over how) h d k = absurd (differ h)
 
 pub own-start : (s : State) (w slot : ℕ) → OwnSlot s → OwnSlot (after_effect s (Start w slot))
 own-start s w slot k =
-    own-by s (after_effect s (Start w slot)) (λ v x a. a) (λ v m. has-more v (λ m. true) s.books.crew (started w slot) ∙ or-left (is_member v s.books.crew) (w == v && true) m)
-    (λ v m. slot-old v s.books.crew (started w slot) m) refl refl k
+    own-by s (after_effect s (Start w slot)) (λ v x a. a) (λ v m. has-more v (λ m. true) s.books.members (started w slot) ∙ or-left (is_member v s.books.members) (w == v && true) m)
+    (λ v m. slot-old v s.books.members (started w slot) m) refl refl k
 
 pub own-shutdown : (s : State) (w : ℕ) → OwnSlot s → OwnSlot (after_effect s (Shutdown w))
 own-shutdown s w k =
@@ -142,13 +142,13 @@ own-given : (s : State) (w : ℕ) (items : List ℕ) (p : Plan) → p.sizes ≡ 
     → (is_each s.plan.mode ≡ true → (x : ℕ) → among x items ≡ true → among x (slot_items (slot_of w s.books) s.plan) ≡ true) → OwnSlot s → OwnSlot (record s { books = record (s.books) { table = assigned w items s.books.table }; plan = p })
 own-given s w items p sizes mode d rota mine k e v x h =
     let each = ap is_each (sym mode) ∙ e in
-    let same = slot_items-same (slot_in v s.books.crew) p s.plan sizes mode in
+    let same = slot_items-same (slot_in v s.books.members) p s.plan sizes mode in
     elim (held-either x v w items s.books.table.rota h) [
       | inl a ↦ (let o = k each v x a in (o.0, ap (λ (xs : List ℕ). among x xs) same ∙ o.1))
       | inr a ↦
           (let q : w ≡ v = grind (arith, nat_tests, a.0) in
-          let m : is_member v s.books.crew ≡ true = subst (λ (u : ℕ). is_member u s.books.crew ≡ true) q (has-member w (λ m. m.active) s.books.crew (d.fits.active w rota)) in
-          (m, ap (λ (xs : List ℕ). among x xs) same ∙ subst (λ (u : ℕ). among x (slot_items (slot_in u s.books.crew) s.plan) ≡ true) q (mine each x a.1)))
+          let m : is_member v s.books.members ≡ true = subst (λ (u : ℕ). is_member u s.books.members ≡ true) q (has-member w (λ m. m.active) s.books.members (d.fits.active w rota)) in
+          (m, ap (λ (xs : List ℕ). among x xs) same ∙ subst (λ (u : ℕ). among x (slot_items (slot_in u s.books.members) s.plan) ≡ true) q (mine each x a.1)))
     ]
 
 chosen : (b : Bool) (u v : Bool) → b ≡ true → (if b then u else v) ≡ true → u ≡ true

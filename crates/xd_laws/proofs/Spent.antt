@@ -189,10 +189,10 @@ stop-shut_all (w ∷ ws) u = stop-shut_all ws (after_effect u (Shutdown w))
 
 spent-lost : (s : State) (w : ℕ) → Spent (after_entries (after_effect s (NotStarted w)) (unless_stopped s.books (after_effect s (NotStarted w)).books (outputs_of_death w (after_effect s (NotStarted w)))))
 spent-lost s w =
-    in_both (λ (es : List Entry). Spent (after_entries now es)) (is_stopped s.books) [] (if is_stopped now.books then shut_all now.books.crew else outputs_of_death w now)
+    in_both (λ (es : List Entry). Spent (after_entries now es)) (is_stopped s.books) [] (if is_stopped now.books then shut_all now.books.members else outputs_of_death w now)
     (λ h. record { spent = λ u v. absurd (differ (sym (down-unstopped w s v) ∙ h)) })
-    (λ h. in_both (λ (es : List Entry). Spent (after_entries now es)) (is_stopped now.books) (shut_all now.books.crew) (outputs_of_death w now)
-    (λ k. record { spent = λ u v. absurd (differ (sym v ∙ ap (λ (a : Option RunStop). is_some a) (stop-shut_all (waiting now.books.crew) now) ∙ k)) })
+    (λ h. in_both (λ (es : List Entry). Spent (after_entries now es)) (is_stopped now.books) (shut_all now.books.members) (outputs_of_death w now)
+    (λ k. record { spent = λ u v. absurd (differ (sym v ∙ ap (λ (a : Option RunStop). is_some a) (stop-shut_all (waiting now.books.members) now) ∙ k)) })
     (λ k. subst Spent (sym (after_entries-join now first (start ∷ []))) (record { spent = λ u v. absurd (differ u) })))
   where
     now : State
@@ -202,7 +202,7 @@ spent-lost s w =
     first = if now.books.shared then acts_of Died now else []
 
     start : Entry
-    start = Start (length now.books.crew) (slot_of w now.books)
+    start = Start (length now.books.members) (slot_of w now.books)
 
 spent-own : (s : State) (e : Entry) → may_follow s e ≡ true → Tidy s → Spent s → all_orderly (after_effect s e) (own_outputs s e (after_effect s e)) ≡ true → Spent (after_entries (after_effect s e) (own_outputs s e (after_effect s e)))
 spent-own s e h d k o = elim (cases_of (is_loss e)) [ inl l ↦ lost e l | inr n ↦ spent-outputs (after_effect s e) (own_outputs s e (after_effect s e)) o (spent-input s e h n d k) ]

@@ -100,7 +100,7 @@ module _ (T : Turn → Type 0) (k : Kept T) where
 
   t-asks_or_shuts : (ws : List ℕ) (s : Option Seat) (t : Turn) → T t → T (worksteal.asks_or_shuts ws s t)
   t-asks_or_shuts ws None t a = t-shut_each ws t a
-  t-asks_or_shuts ws (Some s) t a = in_both T (worksteal.number s == 0) (shut_each ws t) (worksteal.asks s (worksteal.number s) t) (λ h. t-shut_each ws t a) (λ h. k.asks s (worksteal.number s) t a)
+  t-asks_or_shuts ws (Some s) t a = in_both T (worksteal.steal_count s == 0) (shut_each ws t) (worksteal.asks s (worksteal.steal_count s) t) (λ h. t-shut_each ws t a) (λ h. k.asks s (worksteal.steal_count s) t a)
 
   by_steal : (o : Option UnansweredSteal) (t u : Turn) → T t → T u → T (elim o as (λ _. Turn) [ None ↦ t | Some a ↦ u ])
   by_steal None t u a b = a

@@ -15,23 +15,23 @@ use Rattle.xd_ledger.specs.State.{after_effect, after_entry, after_entries}
 use Rattle.xd_ledger.specs.Outputs.{turn_of}
 use Rattle.xd_ledger.specs.Orderly.{is_orderly, all_orderly, not_empty}
 use Rattle.xd_ledger.specs.Stops.{is_stopped}
-use Rattle.xd_laws.proofs.Crew.{has}
+use Rattle.xd_laws.proofs.Members.{has}
 use Rattle.xd_laws.proofs.Logic.{or-right, differ, split-and, and, in_both}
 use Rattle.xd_laws.proofs.Counts.{distinct-take, all_among-take, all_among-self, distinct-of_times}
 use Rattle.xd_laws.proofs.Rota.{seat-among, workers-change}
 use Rattle.xd_laws.proofs.Places.{AtMostOnce, times-table}
 use Rattle.xd_laws.proofs.Placed.{Placed, placed-output, at_most_once}
-use Rattle.xd_laws.proofs.CrewFits.{CrewFits, Kin, kin-same, kin-then, kin-shut, crew-shut}
+use Rattle.xd_laws.proofs.MembersFit.{MembersFit, Kin, kin-same, kin-then, kin-shut, members-shut}
 
 -- a run is shutting only once the tests are shared, and before a stop and the share nobody is told to shut down
 pub record Calm (s : State) : Type 0 where
   pub late : s.books.shutting ≡ true → s.books.shared ≡ true
-  pub unshut : is_stopped s.books ≡ false → s.books.shared ≡ false → (v : ℕ) → has v (λ m. m.shut) s.books.crew ≡ false
+  pub unshut : is_stopped s.books ≡ false → s.books.shared ≡ false → (v : ℕ) → has v (λ m. m.shut) s.books.members ≡ false
 
 -- what holds of every state of a run
 pub record Tidy (s : State) : Type 0 where
   pub placed : Placed s
-  pub crew : CrewFits s.books.crew s.books.settings.workers
+  pub members : MembersFit s.books.members s.books.settings.workers
   pub calm : Calm s
 
 -- workers may be told to shut down: behind a stop or the share
@@ -77,14 +77,14 @@ abbrev pub is_quiet : Entry → Bool
 is_quiet (Start w slot) = false
 is_quiet _ = true
 
-kin-quiet : (s : State) (e : Entry) → is_quiet e ≡ true → is_orderly s e ≡ true → Kin s.books.crew (after_effect s e).books.crew
+kin-quiet : (s : State) (e : Entry) → is_quiet e ≡ true → is_orderly s e ≡ true → Kin s.books.members (after_effect s e).books.members
 kin-quiet s (Start w slot) a h = absurd (differ a)
-kin-quiet s (Run w is) a h = kin-same s.books.crew
-kin-quiet s (RunAll w) a h = kin-same s.books.crew
-kin-quiet s (Steal w is) a h = kin-same s.books.crew
-kin-quiet s (Shutdown w) a h = kin-shut w s.books.crew
-kin-quiet s (Kill w) a h = kin-same s.books.crew
-kin-quiet s (Over how) a h = kin-same s.books.crew
+kin-quiet s (Run w is) a h = kin-same s.books.members
+kin-quiet s (RunAll w) a h = kin-same s.books.members
+kin-quiet s (Steal w is) a h = kin-same s.books.members
+kin-quiet s (Shutdown w) a h = kin-shut w s.books.members
+kin-quiet s (Kill w) a h = kin-same s.books.members
+kin-quiet s (Over how) a h = kin-same s.books.members
 kin-quiet s (Ready w) a h = absurd (differ h)
 kin-quiet s (Collected w g) a h = absurd (differ h)
 kin-quiet s (Done w i u m o) a h = absurd (differ h)
@@ -111,10 +111,10 @@ fixed-output s (Refused w t) h = absurd (differ h)
 fixed-output s (Down w c o) h = absurd (differ h)
 fixed-output s (NotStarted w) h = absurd (differ h)
 
-crew-shutdown : (s : State) (w : ℕ) → is_orderly s (Shutdown w) ≡ true → CrewFits s.books.crew s.books.settings.workers → CrewFits (after_effect s (Shutdown w)).books.crew s.books.settings.workers
-crew-shutdown s w h c =
+members-shutdown : (s : State) (w : ℕ) → is_orderly s (Shutdown w) ≡ true → MembersFit s.books.members s.books.settings.workers → MembersFit (after_effect s (Shutdown w)).books.members s.books.settings.workers
+members-shutdown s w h c =
     let a = split-and (is_active w s.books && was_ready w s.books) (not (is_shut w s.books)) h in
-    crew-shut s.books.crew s.books.settings.workers w c (split-and (is_active w s.books) (was_ready w s.books) a.0).1
+    members-shut s.books.members s.books.settings.workers w c (split-and (is_active w s.books) (was_ready w s.books) a.0).1
 
 unstopped-shared : (a b : Bool) → (a || b) ≡ true → a ≡ false → b ≡ false → ⊥
 unstopped-shared true b h k l = differ (sym k)
@@ -125,10 +125,10 @@ calm-shutdown s w p c = record { late = c.late; unshut = λ a b v. absurd (unsto
 
 pub tidy-quiet : (s : State) (e : Entry) → is_quiet e ≡ true → is_orderly s e ≡ true → MayShut s → Tidy s → Tidy (after_effect s e)
 tidy-quiet s (Start w slot) a h p d = absurd (differ a)
-tidy-quiet s (Run w is) a h p d = record { placed = placed-output s (Run w is) h d.placed; crew = d.crew; calm = record { late = d.calm.late; unshut = d.calm.unshut } }
-tidy-quiet s (RunAll w) a h p d = record { placed = placed-output s (RunAll w) h d.placed; crew = d.crew; calm = record { late = d.calm.late; unshut = d.calm.unshut } }
-tidy-quiet s (Steal w is) a h p d = record { placed = placed-output s (Steal w is) h d.placed; crew = d.crew; calm = record { late = d.calm.late; unshut = d.calm.unshut } }
-tidy-quiet s (Shutdown w) a h p d = record { placed = placed-output s (Shutdown w) h d.placed; crew = crew-shutdown s w h d.crew; calm = calm-shutdown s w p d.calm }
+tidy-quiet s (Run w is) a h p d = record { placed = placed-output s (Run w is) h d.placed; members = d.members; calm = record { late = d.calm.late; unshut = d.calm.unshut } }
+tidy-quiet s (RunAll w) a h p d = record { placed = placed-output s (RunAll w) h d.placed; members = d.members; calm = record { late = d.calm.late; unshut = d.calm.unshut } }
+tidy-quiet s (Steal w is) a h p d = record { placed = placed-output s (Steal w is) h d.placed; members = d.members; calm = record { late = d.calm.late; unshut = d.calm.unshut } }
+tidy-quiet s (Shutdown w) a h p d = record { placed = placed-output s (Shutdown w) h d.placed; members = members-shutdown s w h d.members; calm = calm-shutdown s w p d.calm }
 tidy-quiet s (Kill w) a h p d = d
 tidy-quiet s (Over how) a h p d = d
 tidy-quiet s (Ready w) a h p d = absurd (differ h)
@@ -146,14 +146,14 @@ pub record Good (s : State) (t : Turn) : Type 0 where
   pub plan : (after_entries s t.acts).plan ≡ t.plan
   pub orderly : all_orderly s t.acts ≡ true
   pub tidy : Tidy (after_entries s t.acts)
-  pub kin : Kin s.books.crew (after_entries s t.acts).books.crew
+  pub kin : Kin s.books.members (after_entries s t.acts).books.members
   pub rota : workers_of t.table ≡ workers_of s.books.table
   pub mode : t.plan.mode ≡ s.plan.mode
   pub settings : (after_entries s t.acts).books.settings ≡ s.books.settings
   pub shared : (after_entries s t.acts).books.shared ≡ true
 
 pub good-first : (s : State) → Tidy s → s.books.shared ≡ true → Good s (turn_of s)
-good-first s d h = record { table = refl; plan = refl; orderly = refl; tidy = d; kin = kin-same s.books.crew; rota = refl; mode = refl; settings = refl; shared = h }
+good-first s d h = record { table = refl; plan = refl; orderly = refl; tidy = d; kin = kin-same s.books.members; rota = refl; mode = refl; settings = refl; shared = h }
 
 -- the worker is in the rota
 abbrev pub InRota : State → ℕ → Type 0
@@ -191,7 +191,7 @@ good-more s t u e g acts quiet h table plan rota mode =
       plan = ap (λ (x : State). x.plan) after ∙ plan;
       orderly = ap (λ (es : List Entry). all_orderly s es) acts ∙ all_orderly-join s t.acts (e ∷ []) g.orderly (and h refl);
       tidy = subst (λ (x : State). Tidy x) (sym after) (tidy-quiet m e quiet h (or-right (is_stopped m.books) m.books.shared g.shared) g.tidy);
-      kin = subst (λ (x : State). Kin s.books.crew x.books.crew) (sym after) (kin-then s.books.crew m.books.crew (after_effect m e).books.crew g.kin (kin-quiet m e quiet h));
+      kin = subst (λ (x : State). Kin s.books.members x.books.members) (sym after) (kin-then s.books.members m.books.members (after_effect m e).books.members g.kin (kin-quiet m e quiet h));
       rota = rota ∙ g.rota;
       mode = mode ∙ g.mode;
       settings = ap (λ (x : State). x.books.settings) after ∙ (fixed-output m e h).0 ∙ g.settings;

@@ -14,7 +14,7 @@ use Rattle.xd_ledger.specs.Proper.{may_follow, all_may_follow}
 use Rattle.xd_ledger.specs.Orderly.{is_orderly, all_orderly}
 use Rattle.xd_ledger.specs.Reports.{Report, reports_of, reports_from, reports}
 use Rattle.xd_laws.proofs.Logic.{differ, split-and, and, in_both}
-use Rattle.xd_laws.proofs.Crew.{Numbered, numbered-more, none-next}
+use Rattle.xd_laws.proofs.Members.{Numbered, numbered-more, none-next}
 use Rattle.xd_laws.proofs.Placed.{Placed, placed-output}
 use Rattle.xd_laws.proofs.Turns.{Tidy, next-output, after_entries-first, after_entries-join}
 use Rattle.xd_laws.proofs.Inputs.{tidy-input}
@@ -104,11 +104,11 @@ come-grown X rule x (e ∷ es) h k =
     let behind : AllCome (after_effect s e) (outputs s e ++ grown (settled y) es) = come-outputs (after_effect s e) (outputs s e) (grown (settled y) es) f.orderly (tidy-input s e p.0 k.tidy).placed rest in
     (subst (λ (u : State). Comes u e) (sym same) here, subst (λ (u : State). AllCome (after_effect u e) (outputs s e ++ grown (settled y) es)) (sym same) behind)
 
-starts-orderly : (s : State) (w n : ℕ) → w ≡ length s.books.crew → Numbered s.books.crew → all_orderly s (starts_from w n) ≡ true
+starts-orderly : (s : State) (w n : ℕ) → w ≡ length s.books.members → Numbered s.books.members → all_orderly s (starts_from w n) ≡ true
 starts-orderly s w zero e c = refl
 starts-orderly s w (suc n) e c =
-    let here : is_orderly s (Start w w) ≡ true = subst (λ (v : ℕ). is_orderly s (Start v w) ≡ true) (sym e) (rw (none-next s.books.crew c)) in
-    and here (starts-orderly (after_effect s (Start w w)) (w + 1) n (ap (λ (k : ℕ). k + 1) e ∙ sym (length-append s.books.crew (started w w ∷ []))) (numbered-more s.books.crew (started w w) e c))
+    let here : is_orderly s (Start w w) ≡ true = subst (λ (v : ℕ). is_orderly s (Start v w) ≡ true) (sym e) (rw (none-next s.books.members c)) in
+    and here (starts-orderly (after_effect s (Start w w)) (w + 1) n (ap (λ (k : ℕ). k + 1) e ∙ sym (length-append s.books.members (started w w ∷ []))) (numbered-more s.books.members (started w w) e c))
 
 pub come-journal : (X : State → Type 0) → Rule X → (settings : Settings) (inputs : List Entry) → X (no_one settings) → all_may_follow (after_starts settings) inputs ≡ true
     → AllCome (no_one settings) (journal_of settings inputs)

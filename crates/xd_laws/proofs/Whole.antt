@@ -34,7 +34,7 @@ kills-moved s [] more = refl
 kills-moved s (m ∷ ms) more = kills-moved s ms more
 
 end-moved : (s : State) (failed : Bool) (b : Books) → after_entries s (ending failed b) ≡ s
-end-moved s true b = kills-moved s (filter (λ m. m.active) b.crew) (Over OutFault ∷ [])
+end-moved s true b = kills-moved s (filter (λ m. m.active) b.members) (Over OutFault ∷ [])
 end-moved s false b = refl
 
 kills-report : (s : State) (ms : List Member) (more : List Entry) → reports_from s (map (λ (m : Member). Kill m.worker) ms ++ more) ≡ reports_from s more
@@ -42,7 +42,7 @@ kills-report s [] more = refl
 kills-report s (m ∷ ms) more = kills-report s ms more
 
 end-reports : (s : State) (failed : Bool) (b : Books) → reports_from s (ending failed b) ≡ []
-end-reports s true b = kills-report s (filter (λ m. m.active) b.crew) (Over OutFault ∷ [])
+end-reports s true b = kills-report s (filter (λ m. m.active) b.members) (Over OutFault ∷ [])
 end-reports s false b = refl
 
 module _ (j : Journal) (w : IsWhole j) where

@@ -2,17 +2,17 @@
 -- `remove_pending_tests_from_node`.
 use Rattle.std.specs.Prelude.{ℕ, List, None, if◌then◌else◌}
 use Rattle.xd_ledger.specs.Table.{assigned, given_back}
-use Rattle.xd_ledger.specs.Plan.{Plan, with_handed, is_scope, items_named, slot_items}
-use Rattle.xd_ledger.specs.Units.{without_unit}
+use Rattle.xd_ledger.specs.Plan.{Plan, is_scope, items_named, slot_items}
+use Rattle.xd_ledger.specs.Units.{unit_handed}
 use Rattle.xd_ledger.specs.Books.{on_table}
 use Rattle.xd_ledger.specs.Workers.{slot_of}
 use Rattle.xd_ledger.specs.Sharing.{State, in_books}
 
--- the units that the Run names leave the queue
+-- in the scope modes the unit that the Run names is handed out
 abbrev pub run_plan : ℕ → List ℕ → Plan → Plan
 run_plan worker indices p = record p {
-  queue = if is_scope p.mode then without_unit indices p.queue else p.queue;
-  given = if is_scope p.mode then with_handed worker indices p else p.given;
+  queue = if is_scope p.mode then (unit_handed worker indices p).queue else p.queue;
+  given = if is_scope p.mode then (unit_handed worker indices p).given else p.given;
 }
 
 -- the state after a Run

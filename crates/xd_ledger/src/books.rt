@@ -14,7 +14,7 @@ use xd_journal::{RunStop, Settings};
 #[derive(Drop)]
 pub struct Books {
     pub(crate) settings: Settings,
-    pub(crate) crew: Vec<Member>,
+    pub(crate) members: Vec<Member>,
     pub(crate) lists: Vec<Listed>,
     pub(crate) shared: bool,
     pub(crate) failures: u32,
@@ -33,7 +33,7 @@ impl Model for Books {
 
     ghost view = { λ b. record {
       settings = b.settings;
-      crew = b.crew.items;
+      members = b.members.items;
       lists = b.lists.items;
       table = fresh [];
       shared = b.shared;
@@ -52,7 +52,7 @@ impl Books {
     {
         Books {
             settings,
-            crew: Vec::new(alloc),
+            members: Vec::new(alloc),
             lists: Vec::new(alloc),
             shared: false,
             failures: 0,

@@ -8,7 +8,7 @@ ghost use Rattle.xd_ledger.specs.Results.{scored};
 ghost use Rattle.xd_ledger.specs.Stops.{at_limit, is_shutting, is_stopped, out_of_restarts, stopped_by};
 
 use crate::books::Books;
-use crate::crew::Mark;
+use crate::marks::Mark;
 use xd_edge::OutOfMemory;
 use xd_journal::{Outcome, RunStop};
 

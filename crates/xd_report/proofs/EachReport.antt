@@ -248,7 +248,7 @@ entry_lines s (Done w i outcome ms out) =
 entry_lines s (Down w cause out) =
     join (mode_of s) _ _ [] _ (plain_line (mode_of s) (NodeDown w (Some cause)) refl) (lost_lines (mode_of s) w (λ item. item_id w item s) (held w s.books.table) (is_retry w s.books))
 entry_lines s (NotStarted w) = plain_line (mode_of s) (NodeDown w None) refl
-entry_lines s (Start w slot) = replacing_lines (mode_of s) (last_of_slot slot s.books.crew None)
+entry_lines s (Start w slot) = replacing_lines (mode_of s) (last_of_slot slot s.books.members None)
 entry_lines s (Ready w) = nothing (mode_of s)
 entry_lines s (Back w is) = nothing (mode_of s)
 entry_lines s (Finished w) = nothing (mode_of s)

@@ -111,7 +111,7 @@ module _ (name : Report → List ℕ) where
   entry_named s (Down w cause out) right =
       both name (mode_of s) _ _ [] _ (other name (mode_of s) (NodeDown w (Some cause)) refl tt) (lost_named name (mode_of s) w (λ item. item_id w item s) (held w s.books.table) (is_retry w s.books) right)
   entry_named s (NotStarted w) right = other name (mode_of s) (NodeDown w None) refl tt
-  entry_named s (Start w slot) right = replacing_named name (mode_of s) (last_of_slot slot s.books.crew None)
+  entry_named s (Start w slot) right = replacing_named name (mode_of s) (last_of_slot slot s.books.members None)
   entry_named s (Ready w) right = none name (mode_of s)
   entry_named s (Back w is) right = none name (mode_of s)
   entry_named s (Finished w) right = none name (mode_of s)

@@ -63,7 +63,7 @@ abbrev pub lines_told : State → Entry → List ℕ
 lines_told s (Done worker index outcome ms output) = result_line (mode_of s) worker outcome (id_of worker index s)
 lines_told s (Down worker cause output) = down_line (mode_of s) worker (cause_text cause) ++ lost_head_line worker s
 lines_told s (NotStarted worker) = down_line (mode_of s) worker (codes "not started")
-lines_told s (Start worker slot) = replacing (mode_of s) (last_of_slot slot s.books.crew None)
+lines_told s (Start worker slot) = replacing (mode_of s) (last_of_slot slot s.books.members None)
 lines_told s _ = []
 
 -- the lines of one entry after the state s

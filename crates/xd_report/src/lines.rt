@@ -175,18 +175,18 @@ impl Reporter {
 
     // The last worker of a slot so far.
     fn last_of_slot(&self, slot: u32) -> Option<u32>
-        ensures { (s : State) → Follows self.now s → result ≡ last_of_slot slot s.books.crew None }
+        ensures { (s : State) → Follows self.now s → result ≡ last_of_slot slot s.books.members None }
     {
-        last_of_slot(self.books.crew(), slot)
+        last_of_slot(self.books.members(), slot)
     }
 }
 
 // The last worker of a slot.
-fn last_of_slot(crew: &[Member], slot: u32) -> Option<u32>
-    ensures { result ≡ last_of_slot slot crew.now None }
+fn last_of_slot(members: &[Member], slot: u32) -> Option<u32>
+    ensures { result ≡ last_of_slot slot members.now None }
 {
     let mut found = None;
-    for member in crew {
+    for member in members {
         if member.slot == slot {
             found = Some(member.worker);
         }

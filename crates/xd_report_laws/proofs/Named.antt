@@ -166,7 +166,7 @@ kills-right name s [] = (tt, tt)
 kills-right name s (m ∷ ms) = (tt, kills-right name s ms)
 
 end-right : (name : Report → List ℕ) (s : State) (failed : Bool) (b : Books) → AllRight name s (ending failed b)
-end-right name s true b = kills-right name s (filter (λ m. m.active) b.crew)
+end-right name s true b = kills-right name s (filter (λ m. m.active) b.members)
 end-right name s false b = (tt, tt)
 
 pub names-items : (j : Journal) → IsWhole j → NamesItems j

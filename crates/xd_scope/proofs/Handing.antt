@@ -9,6 +9,7 @@ use Rattle.xd_ledger.specs.Plan.{Handed, Plan, is_scope}
 use Rattle.xd_ledger.specs.ScopeModes.{give_unit}
 use Rattle.xd_ledger.specs.Table.{Table, assigned}
 use Rattle.xd_ledger.specs.Turn.{Turn}
+use Rattle.xd_ledger.proofs.Handing.{give_unit-front}
 use Rattle.xd_scope.specs.declared.units.Units.{Units}
 use Rattle.xd_scope.specs.Stands.{IsAt, Keeps, given_to, units_of}
 
@@ -19,20 +20,11 @@ units-more : (w x : ℕ) (tests : List ℕ) (given : List Handed) → units_of x
 units-more w x tests [] = grind (arith, nat_tests)
 units-more w x tests (u ∷ us) = let e = units-more w x tests us in grind (arith, nat_tests)
 
--- the turn after the first unit of the queue went to the worker
-gives : (w : ℕ) (unit : List ℕ) (us : List (List ℕ)) (t : Turn) → t.plan.queue ≡ unit ∷ us
-    → give_unit w t ≡ record { table = assigned w unit t.table; plan = record (t.plan) { queue = us; given = t.plan.given ++ handed w unit ∷ [] }; acts = t.acts ++ Run w unit ∷ [] }
-gives w unit us t e =
-    ap (λ (q : List (List ℕ)). elim q as (λ _. Turn) [
-      | [] ↦ t
-      | u ∷ us ↦ record { table = assigned w u t.table; plan = record (t.plan) { queue = us; given = t.plan.given ++ handed w u ∷ [] }; acts = t.acts ++ Run w u ∷ [] }
-    ]) e
-
 pub given-unit : (w : ℕ) (unit : List ℕ) (u v : Units) (p : Plan) (table now : Table) (acts acts_now : List Entry) → Keeps u p → u.queue.items ≡ unit ∷ v.queue.items → v.kind ≡ u.kind → v.reorder ≡ u.reorder
     → ((x : ℕ) → given_to x v.given ≡ (if w == x then given_to x u.given ++ unit ∷ [] else given_to x u.given)) → now ≡ assigned w unit table → acts_now ≡ acts ++ Run w unit ∷ []
     → IsAt (give_unit w (turn table p acts)) now acts_now v
 given-unit w unit u v p table now acts acts_now k next a b more moved run =
-    let e = sym (gives w unit v.queue.items (turn table p acts) (k.queue ∙ next)) in
+    let e = sym (give_unit-front w unit v.queue.items (turn table p acts) (k.queue ∙ next)) in
     let kept : Keeps v (record p { queue = v.queue.items; given = p.given ++ handed w unit ∷ [] }) = record {
       mode = k.mode ∙ sym a;
       scope = ap is_scope a ∙ k.scope;

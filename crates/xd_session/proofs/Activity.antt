@@ -18,7 +18,7 @@ use Rattle.xd_ledger.specs.Sharing.{State, in_books}
 use Rattle.xd_ledger.specs.State.{after_effect, no_one}
 use Rattle.xd_ledger.specs.Workers.{has_collected, is_active, is_shut, made_collected, made_gone, made_ready, made_shut, started, was_ready}
 use Rattle.xd_ledger.specs.Proper.{are_ids}
-use Rattle.xd_laws.proofs.Crew.{has, has-cleared, has-member, has-more, has-same, is_member}
+use Rattle.xd_laws.proofs.Members.{has, has-cleared, has-member, has-more, has-same, is_member}
 use Rattle.xd_laws.proofs.Inputs.{collecting-keeps}
 use Rattle.xd_laws.proofs.Laws.{journal-keeps}
 use Rattle.xd_laws.proofs.Logic.{cases_of, differ, not_true, split-and, split-or}
@@ -106,23 +106,23 @@ active-started w v slot ms es e none new k =
 -- behind each entry
 
 abbrev Now : ℕ → State → List Entry → Type 0
-Now w s es = Active w s.books.crew es
+Now w s es = Active w s.books.members es
 
 said : (w : ℕ) (s : State) (es : List Entry) (e : Entry) → may_follow s e ≡ true → Now w s es → Now w (after_effect s e) (es ++ e ∷ [])
-said w s es (Ready v) h k = active-marked w s.books.crew (made_ready v) es (Ready v) (λ m. refl) (λ m. refl) refl k
+said w s es (Ready v) h k = active-marked w s.books.members (made_ready v) es (Ready v) (λ m. refl) (λ m. refl) refl k
 said w s es (Collected v g) h k =
-    let ms = s.books.crew in
-    let crew : (after_effect s (Collected v g)).books.crew ≡ map (made_collected v) ms =
-    collecting-keeps (λ (u : State). u.books.crew ≡ map (made_collected v) ms) (in_books (λ b. marked (made_collected v) (with_list v g b)) s) v (unequal v g (listed v s.books)) refl refl refl (λ n. refl) in
-    subst (λ (ns : List Member). Active w ns (es ++ Collected v g ∷ [])) (sym crew) (active-marked w ms (made_collected v) es (Collected v g) (λ m. refl) (λ m. refl) refl k)
-said w s es (Done v i u m o) h k = active-same w s.books.crew es (Done v i u m o) refl k
-said w s es (Back v is) h k = active-same w s.books.crew es (Back v is) refl k
+    let ms = s.books.members in
+    let members : (after_effect s (Collected v g)).books.members ≡ map (made_collected v) ms =
+    collecting-keeps (λ (u : State). u.books.members ≡ map (made_collected v) ms) (in_books (λ b. marked (made_collected v) (with_list v g b)) s) v (unequal v g (listed v s.books)) refl refl refl (λ n. refl) in
+    subst (λ (ns : List Member). Active w ns (es ++ Collected v g ∷ [])) (sym members) (active-marked w ms (made_collected v) es (Collected v g) (λ m. refl) (λ m. refl) refl k)
+said w s es (Done v i u m o) h k = active-same w s.books.members es (Done v i u m o) refl k
+said w s es (Back v is) h k = active-same w s.books.members es (Back v is) refl k
 said w s es (Finished v) h k =
     let a = split-and (is_active v s.books) (is_shut v s.books) (split-and (is_active v s.books && is_shut v s.books) (has_collected v s.books) (split-and (is_active v s.books && is_shut v s.books && has_collected v s.books) _ h).0).0 in
-    active-gone w v s.books.crew es (Finished v) refl a.0 k
-said w s es (Refused v t) h k = active-gone w v s.books.crew es (Refused v t) refl (split-and (is_active v s.books) (not (has_collected v s.books)) h).0 k
-said w s es (Down v c o) h k = active-gone w v s.books.crew es (Down v c o) refl h k
-said w s es (NotStarted v) h k = active-gone w v s.books.crew es (NotStarted v) refl (split-and (is_active v s.books) (not (was_ready v s.books)) h).0 k
+    active-gone w v s.books.members es (Finished v) refl a.0 k
+said w s es (Refused v t) h k = active-gone w v s.books.members es (Refused v t) refl (split-and (is_active v s.books) (not (has_collected v s.books)) h).0 k
+said w s es (Down v c o) h k = active-gone w v s.books.members es (Down v c o) refl h k
+said w s es (NotStarted v) h k = active-gone w v s.books.members es (NotStarted v) refl (split-and (is_active v s.books) (not (was_ready v s.books)) h).0 k
 said w s es (Start v slot) h k = absurd (differ h)
 said w s es (Run v is) h k = absurd (differ h)
 said w s es (RunAll v) h k = absurd (differ h)
@@ -132,13 +132,13 @@ said w s es (Kill v) h k = absurd (differ h)
 said w s es (Over how) h k = absurd (differ h)
 
 told : (w : ℕ) (s : State) (es : List Entry) (e : Entry) → is_orderly s e ≡ true → Now w s es → Now w (after_effect s e) (es ++ e ∷ [])
-told w s es (Start v slot) h k = active-started w v slot s.books.crew es (Start v slot) refl (not_true (is_member v s.books.crew) h) k
-told w s es (Run v is) h k = active-same w s.books.crew es (Run v is) refl k
-told w s es (RunAll v) h k = active-same w s.books.crew es (RunAll v) refl k
-told w s es (Steal v is) h k = active-same w s.books.crew es (Steal v is) refl k
-told w s es (Shutdown v) h k = active-marked w s.books.crew (made_shut v) es (Shutdown v) (λ m. refl) (λ m. refl) refl k
-told w s es (Kill v) h k = active-same w s.books.crew es (Kill v) refl k
-told w s es (Over how) h k = active-same w s.books.crew es (Over how) refl k
+told w s es (Start v slot) h k = active-started w v slot s.books.members es (Start v slot) refl (not_true (is_member v s.books.members) h) k
+told w s es (Run v is) h k = active-same w s.books.members es (Run v is) refl k
+told w s es (RunAll v) h k = active-same w s.books.members es (RunAll v) refl k
+told w s es (Steal v is) h k = active-same w s.books.members es (Steal v is) refl k
+told w s es (Shutdown v) h k = active-marked w s.books.members (made_shut v) es (Shutdown v) (λ m. refl) (λ m. refl) refl k
+told w s es (Kill v) h k = active-same w s.books.members es (Kill v) refl k
+told w s es (Over how) h k = active-same w s.books.members es (Over how) refl k
 told w s es (Ready v) h k = absurd (differ h)
 told w s es (Collected v g) h k = absurd (differ h)
 told w s es (Done v i u m o) h k = absurd (differ h)

@@ -28,14 +28,14 @@ use Rattle.xd_laws.proofs.Calls.{died-called}
 use Rattle.xd_laws.proofs.Inputs.{done-unstopped, down-unstopped, unstopped-before}
 use Rattle.xd_laws.proofs.Logic.{differ, split-and}
 use Rattle.xd_session.specs.Known.{Known, known_of, steal_told}
-use Rattle.xd_session.specs.Rules.{Acted, At, Before, Calls, DidClosing, Comes, MayDie, Ruled, crew_told, told_all}
+use Rattle.xd_session.specs.Rules.{Acted, At, Before, Calls, DidClosing, Comes, MayDie, Ruled, members_told, told_all}
 use Rattle.xd_session.proofs.Closing.{after_entries-append, append-nil, ruled, stop-told_all, told-moved}
 use Rattle.xd_session.proofs.Orders.{Tells, tells, tells-acts}
 use Rattle.xd_session.proofs.Retrying.{plan-by-pool, plan-unshared}
 
 -- what a mode says changes of the books the table and the marks, and of what is known the open steal
 
-told-books : (es : List Entry) (s : State) → Tells es → (after_entries s es).books ≡ record (s.books) { table = (after_entries s es).books.table; crew = crew_told es s.books.crew }
+told-books : (es : List Entry) (s : State) → Tells es → (after_entries s es).books ≡ record (s.books) { table = (after_entries s es).books.table; members = members_told es s.books.members }
 told-books [] s h = refl
 told-books (Run w is ∷ es) s h = told-books es (after_entry s (Run w is)) (split-and true (list_all tells es) h).1
 told-books (RunAll w ∷ es) s h = told-books es (after_entry s (RunAll w)) (split-and true (list_all tells es) h).1
@@ -92,7 +92,7 @@ as-before c s b k stands a = record {
 
 pub acted-call : (c : ModeCall) (change : Plan → Plan) (s : State) (b d : Books) (k j : Known) (none acts : List Entry) (table : Table) (old new : List Entry) (stands stands_now : Plan → Type 0)
     → none ≡ [] → Calls c s b k (Before change stands) → ((p : Plan) → stands p → Turned c (change p) b.table none table acts stands_now)
-    → d ≡ record b { table = table; crew = crew_told acts b.crew } → j ≡ record k { steal = steal_told acts k.steal } → new ≡ old ++ acts → Acted (acts_of c s) s d j old new stands_now
+    → d ≡ record b { table = table; members = members_told acts b.members } → j ≡ record k { steal = steal_told acts k.steal } → new ≡ old ++ acts → Acted (acts_of c s) s d j old new stands_now
 acted-call c change s b d k j none acts table old new stands stands_now z a t de je n =
     let q = a.at.stands_for a.going in
     let t1 : Turned c s.plan b.table none table acts stands_now = subst (λ (p : Plan). Turned c p b.table none table acts stands_now) (sym q.1.1) (t q.0 q.1.0) in
@@ -101,9 +101,9 @@ acted-call c change s b d k j none acts table old new stands stands_now z a t de
     let m : State = after_entries s (acts_of c s) in
     let acts_are : acts ≡ acts_of c s = t3.acts_are in
     let table_is : table ≡ m.books.table = t3.table_is ∙ sym a.called.table in
-    let from : Books → Books = λ x. record x { table = table; crew = crew_told acts x.crew } in
-    let at_table : Table → Books = λ x. record (s.books) { table = x; crew = crew_told acts s.books.crew } in
-    let at_acts : List Entry → Books = λ es. record (s.books) { table = m.books.table; crew = crew_told es s.books.crew } in
+    let from : Books → Books = λ x. record x { table = table; members = members_told acts x.members } in
+    let at_table : Table → Books = λ x. record (s.books) { table = x; members = members_told acts s.books.members } in
+    let at_acts : List Entry → Books = λ es. record (s.books) { table = m.books.table; members = members_told es s.books.members } in
     let knows : Known → Known = λ x. record x { steal = steal_told acts x.steal } in
     let knows_acts : List Entry → Known = λ es. record (known_of s.plan) { steal = steal_told es s.plan.steal } in
     record {
@@ -134,12 +134,12 @@ acted-append xs ys s b c k j e0 e1 e2 st0 st x y = record {
 pub stopped-at : (s : State) (b : Books) (k : Known) (stands : Plan → Type 0) → is_stopped b ≡ true → b ≡ s.books → k ≡ known_of s.plan → At s b k stands
 stopped-at s b k stands h e d = record { books_are = e; known_is = d; stands_for = λ q. absurd (differ (sym (ap is_stopped e ∙ q) ∙ h)) }
 
-pub acted-shut : (s : State) (b c : Books) (k : Known) (es fs : List Entry) (stands : Plan → Type 0) → At s b k stands → c ≡ told_all (waiting b.crew) b → fs ≡ es ++ shut_all b.crew
-    → Acted (shut_all s.books.crew) s c k es fs stands
+pub acted-shut : (s : State) (b c : Books) (k : Known) (es fs : List Entry) (stands : Plan → Type 0) → At s b k stands → c ≡ told_all (waiting b.members) b → fs ≡ es ++ shut_all b.members
+    → Acted (shut_all s.books.members) s c k es fs stands
 acted-shut s b c k es fs stands a t n =
-    let ws : List ℕ = waiting s.books.crew in
-    let f : Books → Books = λ d. told_all (waiting d.crew) d in
-    let g : Books → List Entry = λ d. es ++ shut_all d.crew in
+    let ws : List ℕ = waiting s.books.members in
+    let f : Books → Books = λ d. told_all (waiting d.members) d in
+    let g : Books → List Entry = λ d. es ++ shut_all d.members in
     let e : c ≡ (in_books (told_all ws) s).books = t ∙ ap f a.books_are in
     record {
       at = subst (λ v. At v c k stands) (sym (told-moved ws s)) (record { books_are = e; known_is = a.known_is; stands_for = λ q. a.stands_for (sym (stop-told_all ws s.books) ∙ q) });
@@ -205,11 +205,11 @@ choose-stop false true ys h = refl
 choose-stop false false ys h = cc
 
 pub refused-outs : (s : State) (w : ℕ) (text : List ℕ) (before : Bool) → before ≡ is_stopped s.books
-    → (if before then [] else shut_all (after_effect s (Refused w text)).books.crew) ≡ own_outputs s (Refused w text) (after_effect s (Refused w text))
+    → (if before then [] else shut_all (after_effect s (Refused w text)).books.members) ≡ own_outputs s (Refused w text) (after_effect s (Refused w text))
 refused-outs s w text before h =
     let t : State = after_effect s (Refused w text) in
-    let f : Bool → List Entry = λ q. if q then [] else shut_all t.books.crew in
-    ap f h ∙ choose-stop (is_stopped s.books) (is_stopped t.books) (shut_all t.books.crew) (is_stopped-by s.books.stop (CollectError w))
+    let f : Bool → List Entry = λ q. if q then [] else shut_all t.books.members in
+    ap f h ∙ choose-stop (is_stopped s.books) (is_stopped t.books) (shut_all t.books.members) (is_stopped-by s.books.stop (CollectError w))
 
 -- the mode stands for the plan as it was before the steal was closed
 pub back-at : (s : State) (w : ℕ) (is : List ℕ) (items : List ℕ) (b c : Books) (k j : Known) (stands : Plan → Type 0) → At s b k stands → items ≡ items_named (slot_of w s.books) is s.plan

@@ -19,17 +19,17 @@ use Rattle.xd_session.specs.Rules.{At, InStep}
 use Rattle.xd_session.specs.Stands.{CanBegin}
 
 -- the start with these workers
-abbrev pub with_crew : Settings → List Member → State
-with_crew settings ms = record (no_one settings) { books = record ((no_one settings).books) { crew = ms } }
+abbrev pub with_members : Settings → List Member → State
+with_members settings ms = record (no_one settings) { books = record ((no_one settings).books) { members = ms } }
 
 -- the first so many workers
 abbrev pub members_from : ℕ → ℕ → List Member
 members_from w zero = []
 members_from w (suc n) = started w w ∷ members_from (w + 1) n
 
-pub starts-moved : (settings : Settings) (w n : ℕ) (ms : List Member) → after_entries (with_crew settings ms) (starts_from w n) ≡ with_crew settings (ms ++ members_from w n)
-starts-moved settings w zero ms = ap (with_crew settings) (sym (append-nil ms))
-starts-moved settings w (suc n) ms = starts-moved settings (w + 1) n (ms ++ started w w ∷ []) ∙ ap (with_crew settings) (append_assoc ms (started w w ∷ []) (members_from (w + 1) n))
+pub starts-moved : (settings : Settings) (w n : ℕ) (ms : List Member) → after_entries (with_members settings ms) (starts_from w n) ≡ with_members settings (ms ++ members_from w n)
+starts-moved settings w zero ms = ap (with_members settings) (sym (append-nil ms))
+starts-moved settings w (suc n) ms = starts-moved settings (w + 1) n (ms ++ started w w ∷ []) ∙ ap (with_members settings) (append_assoc ms (started w w ∷ []) (members_from (w + 1) n))
 
 pub starts-more : (w n : ℕ) → starts_from w (n + 1) ≡ starts_from w n ++ Start (w + n) (w + n) ∷ []
 starts-more w zero = grind (arith, common_steps)

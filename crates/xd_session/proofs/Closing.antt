@@ -85,7 +85,7 @@ closed-none s b k es stands a none e = record {
 pub closed-open : (s : State) (b : Books) (k : Known) (es : List Entry) (stands : Plan → Type 0) → At s b k stands → settles s ≡ false → DidClosing s b k es es stands
 closed-open s b k es stands a h =
     let t : (not (is_shutting s.books) && settles s) ≡ false = ap (λ x. not (is_shutting s.books) && x) h ∙ and-false (not (is_shutting s.books)) in
-    closed-none s b k es stands a (pick-no (not (is_shutting s.books) && settles s) (shut_all s.books.crew) [] t) (ap (λ x. s.books.shutting || x) h ∙ or-false s.books.shutting)
+    closed-none s b k es stands a (pick-no (not (is_shutting s.books) && settles s) (shut_all s.books.members) [] t) (ap (λ x. s.books.shutting || x) h ∙ or-false s.books.shutting)
 
 shutting-of : (stopped shutting shared done : Bool) → (not stopped && shared && done) ≡ true → (stopped || shutting) ≡ true → (shutting || (not stopped && shared && done)) ≡ shutting
 shutting-of true shutting shared done h k = cc
@@ -95,22 +95,22 @@ shutting-of false false shared done h k = cc
 pub closed-shut : (s : State) (b : Books) (kn : Known) (es : List Entry) (stands : Plan → Type 0) → At s b kn stands → settles s ≡ true → is_shutting s.books ≡ true → DidClosing s b kn es es stands
 closed-shut s b kn es stands a h k =
     let t : (not (is_shutting s.books) && settles s) ≡ false = ap (λ x. not x && settles s) k in
-    closed-none s b kn es stands a (pick-no (not (is_shutting s.books) && settles s) (shut_all s.books.crew) [] t) (shutting-of (is_stopped s.books) s.books.shutting s.books.shared (is_handed_out s.books.table s.plan) h k)
+    closed-none s b kn es stands a (pick-no (not (is_shutting s.books) && settles s) (shut_all s.books.members) [] t) (shutting-of (is_stopped s.books) s.books.shutting s.books.shared (is_handed_out s.books.table s.plan) h k)
 
 pub closed-now : (s : State) (b c d : Books) (kn : Known) (es fs : List Entry) (stands : Plan → Type 0) → At s b kn stands → settles s ≡ true → is_shutting s.books ≡ false
-    → c ≡ told_all (waiting b.crew) b → d ≡ record c { shutting = true } → fs ≡ es ++ shutdowns (waiting b.crew) → DidClosing s d kn es fs stands
+    → c ≡ told_all (waiting b.members) b → d ≡ record c { shutting = true } → fs ≡ es ++ shutdowns (waiting b.members) → DidClosing s d kn es fs stands
 closed-now s b c d kn es fs stands a h k told_is shut_is notes =
-    let ws : List ℕ = waiting s.books.crew in
+    let ws : List ℕ = waiting s.books.members in
     let t : (not (is_shutting s.books) && settles s) ≡ true = ap (λ x. not x && settles s) k ∙ h in
     let out : closing s ≡ shutdowns ws = pick-yes (not (is_shutting s.books) && settles s) (shutdowns ws) [] t in
     let after : after_entries s (closing s) ≡ in_books (told_all ws) s = ap (after_entries s) out ∙ told-moved ws s in
     let mark : ((told_all ws s.books).shutting || settles (in_books (told_all ws) s)) ≡ true = ap (λ x. (told_all ws s.books).shutting || x) (settles-told_all ws s ∙ h) ∙ or-true (told_all ws s.books).shutting in
-    let e : c ≡ told_all ws s.books = told_is ∙ ap (λ d. told_all (waiting d.crew) d) a.books_are in
+    let e : c ≡ told_all ws s.books = told_is ∙ ap (λ d. told_all (waiting d.members) d) a.books_are in
     let on : Books → Books = λ d. record d { shutting = true } in
     let fin : d ≡ (settled (in_books (told_all ws) s)).books = shut_is ∙ ap on e ∙ ap (λ x. record (told_all ws s.books) { shutting = x }) (sym mark) in
     record {
       at = subst (λ u. At (settled u) d kn stands) (sym after) (record { books_are = fin; known_is = a.known_is; stands_for = λ q. a.stands_for (sym (stop-told_all ws s.books) ∙ q) });
-      entries_are = notes ∙ ap (λ d. es ++ shutdowns (waiting d.crew)) a.books_are ∙ ap (λ gs. es ++ gs) (sym out);
+      entries_are = notes ∙ ap (λ d. es ++ shutdowns (waiting d.members)) a.books_are ∙ ap (λ gs. es ++ gs) (sym out);
     }
 
 -- a rule is its own outputs and the closing

@@ -93,8 +93,8 @@ no-over-shut (w ∷ ws) = no-over-shut ws
 
 no-over-unless : (b n : Books) (es : List Entry) → NoOver es → NoOver (unless_stopped b n es)
 no-over-unless b n es h =
-    in_both NoOver (is_stopped b) [] (if is_stopped n then shut_all n.crew else es) (λ k. refl)
-    (λ k. in_both NoOver (is_stopped n) (shut_all n.crew) es (λ l. no-over-shut (waiting n.crew)) (λ l. h))
+    in_both NoOver (is_stopped b) [] (if is_stopped n then shut_all n.members else es) (λ k. refl)
+    (λ k. in_both NoOver (is_stopped n) (shut_all n.members) es (λ l. no-over-shut (waiting n.members)) (λ l. h))
 
 no-over-joining : (w : ℕ) (b : Books) (t : State) → NoOver (outputs_of_joining w b t)
 no-over-joining w b t =
@@ -105,7 +105,7 @@ no-over-joining w b t =
 
 no-over-death : (w : ℕ) (t : State) → NoOver (outputs_of_death w t)
 no-over-death w t =
-    join (if t.books.shared then acts_of Died t else []) (Start (Rattle.std.proofs.Common.length t.books.crew) (slot_of w t.books) ∷ [])
+    join (if t.books.shared then acts_of Died t else []) (Start (Rattle.std.proofs.Common.length t.books.members) (slot_of w t.books) ∷ [])
     (in_both NoOver t.books.shared (acts_of Died t) [] (λ h. no-over-acts Died t) (λ h. refl)) refl
 
 no-over-own : (s : State) (e : Entry) (t : State) → NoOver (own_outputs s e t)
@@ -131,7 +131,7 @@ no-over-outputs s e =
     let t = after_effect s e in
     let own = own_outputs s e t in
     let u = after_entries t own in
-    join own (closing u) (no-over-own s e t) (in_both NoOver (not (is_shutting u.books) && settles u) (shut_all u.books.crew) [] (λ h. no-over-shut (waiting u.books.crew)) (λ h. refl))
+    join own (closing u) (no-over-own s e t) (in_both NoOver (not (is_shutting u.books) && settles u) (shut_all u.books.members) [] (λ h. no-over-shut (waiting u.books.members)) (λ h. refl))
 
 no-over-starts : (w n : ℕ) → NoOver (starts_from w n)
 no-over-starts w zero = refl
@@ -174,7 +174,7 @@ no-over-kills [] = refl
 no-over-kills (m ∷ ms) = no-over-kills ms
 
 pub ending-stop : (failed : Bool) (b : Books) (es : List Entry) (other : RunStop) → NoOver es → over_in (es ++ ending failed b) other ≡ last_stop failed b
-ending-stop true b es other h = over-behind es (ending true b) other h ∙ over-behind (kills b.crew) (Over OutFault ∷ []) other (no-over-kills (filter (λ m. m.active) b.crew))
+ending-stop true b es other h = over-behind es (ending true b) other h ∙ over-behind (kills b.members) (Over OutFault ∷ []) other (no-over-kills (filter (λ m. m.active) b.members))
 ending-stop false b es other h = over-behind es (ending false b) other h
 
 -- no entry stops a run because of its output

@@ -22,7 +22,7 @@ use Rattle.xd_ledger.specs.Outputs.{outputs, after_input}
 use Rattle.xd_ledger.specs.Histories.{after_starts, starts_from, after_inputs}
 use Rattle.xd_ledger.specs.Orderly.{all_orderly, is_orderly, is_orderly_run}
 use Rattle.xd_ledger.specs.Proper.{IsProper, all_may_follow, are_ids, may_follow}
-use Rattle.xd_laws.proofs.Crew.{has, has-kept, has-member, has-more, has-same, has-set}
+use Rattle.xd_laws.proofs.Members.{has, has-kept, has-member, has-more, has-same, has-set}
 use Rattle.xd_laws.proofs.Laws.{orderly}
 use Rattle.xd_laws.proofs.Logic.{differ, or-left, split-and, split-or}
 use Rattle.xd_laws.proofs.Turns.{after_entries-first}
@@ -33,7 +33,7 @@ HaveCollected ws ms = (w : ℕ) → among w ws ≡ true → has w (λ m. m.colle
 
 -- whoever joined has given its collection
 abbrev pub AllCollected : State → Type 0
-AllCollected s = HaveCollected s.books.table.who_joined s.books.crew
+AllCollected s = HaveCollected s.books.table.who_joined s.books.members
 
 -- the marks change
 
@@ -77,12 +77,12 @@ share-keeps : (b : Bool) (s t : State) → AllCollected s → AllCollected t →
 share-keeps true s t k l = k
 share-keeps false s t k l = l
 
-joining-keeps : (w : ℕ) (s : State) → has w (λ m. m.collected) s.books.crew ≡ true → AllCollected s → AllCollected (joining w s)
+joining-keeps : (w : ℕ) (s : State) → has w (λ m. m.collected) s.books.members ≡ true → AllCollected s → AllCollected (joining w s)
 joining-keeps w s c k =
-    let j = joined-keeps s.books.table.who_joined s.books.crew w c k in
+    let j = joined-keeps s.books.table.who_joined s.books.members w c k in
     share-keeps (is_full (in_books (λ b. record b { table = record (b.table) { rota = b.table.rota ++ record { worker = w; held = []; shut = false } ∷ []; who_joined = b.table.who_joined ++ w ∷ [] } }) s).books) _ _ j j
 
-collecting-keeps : (w : ℕ) (how : Option RunStop) (s : State) → has w (λ m. m.collected) s.books.crew ≡ true → AllCollected s → AllCollected (collecting w how s)
+collecting-keeps : (w : ℕ) (how : Option RunStop) (s : State) → has w (λ m. m.collected) s.books.members ≡ true → AllCollected s → AllCollected (collecting w how s)
 collecting-keeps w (Some how) s c k = share-keeps (is_shut w s.books) _ _ k k
 collecting-keeps w None s c k = share-keeps (is_shut w s.books) _ _ k (joining-keeps w s c k)
 
@@ -93,11 +93,11 @@ completed-joined w [] t = refl
 completed-joined w (i ∷ is) t = refl
 
 joins-output : (s : State) (e : Entry) → is_orderly s e ≡ true → AllCollected s → AllCollected (after_effect s e)
-joins-output s (Start w slot) h k = start-keeps s.books.table.who_joined s.books.crew w slot k
+joins-output s (Start w slot) h k = start-keeps s.books.table.who_joined s.books.members w slot k
 joins-output s (Run w is) h k = k
 joins-output s (RunAll w) h k = k
 joins-output s (Steal w is) h k = k
-joins-output s (Shutdown w) h k = shut-keeps s.books.table.who_joined s.books.crew w k
+joins-output s (Shutdown w) h k = shut-keeps s.books.table.who_joined s.books.members w k
 joins-output s (Kill w) h k = k
 joins-output s (Over how) h k = k
 joins-output s (Ready w) h k = absurd (differ h)
@@ -114,17 +114,17 @@ joins-collected s w g h k =
     let a = split-and (is_active w s.books && was_ready w s.books && not (has_collected w s.books)) (are_ids g w s) h in
     let b = split-and (is_active w s.books && was_ready w s.books) (not (has_collected w s.books)) a.0 in
     let c = split-and (is_active w s.books) (was_ready w s.books) b.0 in
-    collecting-keeps w (unequal w g (listed w s.books)) (in_books (λ b. marked (made_collected w) (with_list w g b)) s) (own-mark w s.books.crew c.0) (collected-keeps s.books.table.who_joined s.books.crew w k)
+    collecting-keeps w (unequal w g (listed w s.books)) (in_books (λ b. marked (made_collected w) (with_list w g b)) s) (own-mark w s.books.members c.0) (collected-keeps s.books.table.who_joined s.books.members w k)
 
 joins-input : (s : State) (e : Entry) → may_follow s e ≡ true → AllCollected s → AllCollected (after_effect s e)
-joins-input s (Ready w) h k = ready-keeps s.books.table.who_joined s.books.crew w k
+joins-input s (Ready w) h k = ready-keeps s.books.table.who_joined s.books.members w k
 joins-input s (Collected w g) h k = joins-collected s w g h k
-joins-input s (Done w i u m o) h k = subst (λ (ws : List ℕ). HaveCollected ws s.books.crew) (sym (completed-joined w (items_named (slot_of w s.books) (i ∷ []) s.plan) s.books.table)) k
+joins-input s (Done w i u m o) h k = subst (λ (ws : List ℕ). HaveCollected ws s.books.members) (sym (completed-joined w (items_named (slot_of w s.books) (i ∷ []) s.plan) s.books.table)) k
 joins-input s (Back w i) h k = k
-joins-input s (Finished w) h k = gone-keeps s.books.table.who_joined s.books.crew w k
-joins-input s (Refused w t) h k = gone-keeps s.books.table.who_joined s.books.crew w k
-joins-input s (Down w c o) h k = gone-keeps s.books.table.who_joined s.books.crew w k
-joins-input s (NotStarted w) h k = gone-keeps s.books.table.who_joined s.books.crew w k
+joins-input s (Finished w) h k = gone-keeps s.books.table.who_joined s.books.members w k
+joins-input s (Refused w t) h k = gone-keeps s.books.table.who_joined s.books.members w k
+joins-input s (Down w c o) h k = gone-keeps s.books.table.who_joined s.books.members w k
+joins-input s (NotStarted w) h k = gone-keeps s.books.table.who_joined s.books.members w k
 joins-input s (Start w slot) h k = absurd (differ h)
 joins-input s (Run w is) h k = absurd (differ h)
 joins-input s (RunAll w) h k = absurd (differ h)
@@ -151,7 +151,7 @@ joins-all s (e ∷ ins) h d k =
 
 joins-starts : (s : State) (w n : ℕ) → AllCollected s → AllCollected (after_entries s (starts_from w n))
 joins-starts s w zero k = k
-joins-starts s w (suc n) k = joins-starts (after_effect s (Start w w)) (w + 1) n (start-keeps s.books.table.who_joined s.books.crew w w k)
+joins-starts s w (suc n) k = joins-starts (after_effect s (Start w w)) (w + 1) n (start-keeps s.books.table.who_joined s.books.members w w k)
 
 pub joins-behind : (settings : Settings) (ins : List Entry) → IsProper settings ins → AllCollected (after_inputs (after_starts settings) ins)
 joins-behind settings ins p = joins-all (after_starts settings) ins p.follow (orderly settings ins p) (joins-starts (no_one settings) 0 settings.workers (λ v a. absurd (differ a)))

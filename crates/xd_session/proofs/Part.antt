@@ -354,10 +354,10 @@ module _ (settings : Settings) (p : IsProper settings []) (w : ℕ) (taken : Lis
   own : inputs_by w (as_list o) ≡ one settings w taken n
   own = own-by w o (n.worker == w) (λ e h. input-own w r n e h)
 
-  activity : Active w r.state.books.crew r.entries
+  activity : Active w r.state.books.members r.entries
   activity =
       let a = active-behind settings r.inputs w sound.proper in
-      subst (λ (es : List Entry). Active w r.state.books.crew es) (sym sound.journal) (subst (λ (s : State). Active w s.books.crew (journal_of settings r.inputs)) (sym sound.state) a)
+      subst (λ (es : List Entry). Active w r.state.books.members es) (sym sound.journal) (subst (λ (s : State). Active w s.books.members (journal_of settings r.inputs)) (sym sound.state) a)
 
   active-open : is_ended w r.entries ≡ false → has_member w (λ m. true) r.state.books ≡ true → is_active w r.state.books ≡ true
   active-open e m = activity.active ∙ ap (λ (b : Bool). has_member w (λ m. true) r.state.books && not b) e ∙ and m refl

@@ -29,7 +29,7 @@ use Rattle.xd_ledger.specs.Table.{joined}
 use Rattle.xd_ledger.specs.Workers.{is_shut, made_collected, slot_of}
 use Rattle.xd_laws.specs.Called.{Called, Reached}
 use Rattle.xd_laws.proofs.Calls.{Joins, joined-called, shared-called}
-use Rattle.xd_laws.proofs.Crew.{has-same}
+use Rattle.xd_laws.proofs.Members.{has-same}
 use Rattle.xd_laws.proofs.Logic.{cases_of, differ, in_both}
 use Rattle.xd_session.specs.declared.lists.Comparison.{Comparison}
 use Rattle.xd_session.specs.Compared.{compared, comparison, ids_to_list, stop_of}
@@ -169,7 +169,7 @@ abbrev pub noted : ℕ → Ids → State → State
 noted w g s = in_books (λ b. marked (made_collected w) (with_list w g b)) s
 
 pub shut-noted : (w : ℕ) (g : Ids) (s : State) → is_shut w (noted w g s).books ≡ is_shut w s.books
-shut-noted w g s = has-same w (λ m. m.shut) (made_collected w) s.books.crew (λ m. refl) (λ m. refl)
+shut-noted w g s = has-same w (λ m. m.shut) (made_collected w) s.books.members (λ m. refl) (λ m. refl)
 
 pub at-noted : (w : ℕ) (own : List (List ℕ)) (s : State) (b c d : Books) (k : Known) (stands : Plan → Type 0) → At s b k stands → c ≡ with_list w (ids_to_list (comparison own (listed w b)) own) b → d ≡ marked (made_collected w) c
     → At (noted w (ids_to_list (comparison own (listed w s.books)) own) s) d k stands
@@ -185,7 +185,7 @@ stop-joining w s = in_both (λ (x : State). is_stopped x.books ≡ is_stopped s.
 pub taken-joined : (w : ℕ) (s : State) (b : Books) (k : Known) (es fs : List Entry) (st : Plan → Type 0) → is_stopped s.books ≡ false → Acted (outputs_of_joining w s.books (joining w s)) (joining w s) b k es fs st → TakenIn w None s b k es fs st
 taken-joined w s b k es fs st h a =
     acted-by (outputs_of_joining w s.books (joining w s)) _ (joining w s) b k es fs st
-    (choose-third (is_stopped s.books) (is_stopped (joining w s).books) [] (shut_all (joining w s).books.crew) (outputs_of_joining w s.books (joining w s)) h (stop-joining w s ∙ h)) a
+    (choose-third (is_stopped s.books) (is_stopped (joining w s).books) [] (shut_all (joining w s).books.members) (outputs_of_joining w s.books (joining w s)) h (stop-joining w s ∙ h)) a
 
 -- a worker that may give its collection, was not told to shut down, and whose collection differs from none, may join
 pub may-join : (w : ℕ) (g : Ids) (s : State) → Reached s → may_follow s (Collected w g) ≡ true → is_shut w s.books ≡ false → is_stopped s.books ≡ false → unequal w g (listed w s.books) ≡ None → MayJoin w (noted w g s)

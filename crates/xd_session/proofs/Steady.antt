@@ -19,7 +19,7 @@ use Rattle.xd_ledger.specs.Table.{all_items, has_joined}
 use Rattle.xd_ledger.specs.Workers.{has_collected, is_active, is_shut, was_ready}
 use Rattle.xd_laws.proofs.Calls.{tidy-reached}
 use Rattle.xd_laws.proofs.Counts.{empty-of_times}
-use Rattle.xd_laws.proofs.Crew.{distinct-numbered}
+use Rattle.xd_laws.proofs.Members.{distinct-numbered}
 use Rattle.xd_laws.proofs.Logic.{cases_of, differ}
 use Rattle.xd_laws.proofs.OwingRuns.{owed}
 use Rattle.xd_laws.proofs.Placed.{due_times}
@@ -67,7 +67,7 @@ bare-state : (s : State) → Tidy s → s.books.shared ≡ false → IsBare s.bo
 bare-state s d h = empty-of_times (all_items s.books.table) (λ x. d.placed.whole x ∙ ap (λ q. due_times x q (total s.plan)) h)
 
 shut-state : (s : State) (w : ℕ) → Tidy s → AllTold s → is_stopped s.books ≡ true → is_active w s.books ≡ true → was_ready w s.books ≡ true → is_shut w s.books ≡ true
-shut-state s w d t h a r = shut-where w s.books.crew (distinct-numbered s.books.crew d.crew.numbered) a r (t h w)
+shut-state s w d t h a r = shut-where w s.books.members (distinct-numbered s.books.members d.members.numbered) a r (t h w)
 
 new-state : (s : State) (w : ℕ) → Tidy s → AllCollected s → AllTold s → is_active w s.books ≡ true → has_collected w s.books ≡ false → was_ready w s.books ≡ true → IsToJoin w s.books
 new-state s w d c t a h r = record { absent = new-seat s w c h; bare = bare-state s d; told = λ q. shut-state s w d t q a r }

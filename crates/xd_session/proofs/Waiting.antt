@@ -22,7 +22,7 @@ use Rattle.xd_ledger.specs.Collecting.{collecting}
 use Rattle.xd_ledger.specs.State.{after_entries, after_effect, no_one}
 use Rattle.xd_ledger.specs.Stops.{is_shutting, is_stopped}
 use Rattle.xd_ledger.specs.Workers.{is_shut, is_waiting, made_collected, made_gone, made_ready, made_shut, started}
-use Rattle.xd_laws.proofs.Crew.{has, has-cleared, has-more, has-same, numbers}
+use Rattle.xd_laws.proofs.Members.{has, has-cleared, has-more, has-same, numbers}
 use Rattle.xd_laws.proofs.Inputs.{collecting-keeps}
 use Rattle.xd_laws.proofs.Laws.{orderly}
 use Rattle.xd_laws.proofs.Logic.{and-false, cases_of, differ, in_both, or-left, or-right, split-and, split-or}
@@ -34,7 +34,7 @@ Waits v ms = has v is_waiting ms
 
 -- behind a stop no one waits to be told
 abbrev pub AllTold : State → Type 0
-AllTold s = is_stopped s.books ≡ true → (v : ℕ) → Waits v s.books.crew ≡ false
+AllTold s = is_stopped s.books ≡ true → (v : ℕ) → Waits v s.books.members ≡ false
 
 -- truth values
 
@@ -120,14 +120,14 @@ told-all v (m ∷ ms) h = told-one v m ms (is_waiting m) (told-all v ms) h
 -- outputs: no one begins to wait, and whoever is told waits no more
 
 abbrev Leaves : State → (ℕ → Bool) → State → Type 0
-Leaves s to t = (is_stopped t.books ≡ is_stopped s.books) × ((v : ℕ) → Waits v t.books.crew ≡ (not (to v) && Waits v s.books.crew))
+Leaves s to t = (is_stopped t.books ≡ is_stopped s.books) × ((v : ℕ) → Waits v t.books.members ≡ (not (to v) && Waits v s.books.members))
 
 leaves-output : (s : State) (e : Entry) → is_orderly s e ≡ true → Leaves s (λ v. is_told v e) (after_effect s e)
-leaves-output s (Start w slot) h = (refl, λ v. waits-started v w slot s.books.crew)
+leaves-output s (Start w slot) h = (refl, λ v. waits-started v w slot s.books.members)
 leaves-output s (Run w is) h = (refl, λ v. refl)
 leaves-output s (RunAll w) h = (refl, λ v. refl)
 leaves-output s (Steal w is) h = (refl, λ v. refl)
-leaves-output s (Shutdown w) h = (refl, λ v. waits-shut v w s.books.crew)
+leaves-output s (Shutdown w) h = (refl, λ v. waits-shut v w s.books.members)
 leaves-output s (Kill w) h = (refl, λ v. refl)
 leaves-output s (Over how) h = (refl, λ v. refl)
 leaves-output s (Ready w) h = absurd (differ h)
@@ -147,7 +147,7 @@ leaves-outputs s (e ∷ es) h =
     let rest = leaves-outputs (after_effect s e) es p.1 in
     let first = after_entries-first s e es p.0 in (
       ap (λ (u : State). is_stopped u.books) first ∙ rest.0 ∙ one.0,
-      λ v. ap (λ (u : State). Waits v u.books.crew) first ∙ rest.1 v ∙ ap (λ b. not (told v es) && b) (one.1 v) ∙ and-both (is_told v e) (told v es) (Waits v s.books.crew),
+      λ v. ap (λ (u : State). Waits v u.books.members) first ∙ rest.1 v ∙ ap (λ b. not (told v es) && b) (one.1 v) ∙ and-both (is_told v e) (told v es) (Waits v s.books.members),
     )
 
 -- an input: behind a stop its own outputs tell whoever waits
@@ -155,10 +155,10 @@ leaves-outputs s (e ∷ es) h =
 abbrev NoneWaits : List Member → Type 0
 NoneWaits ms = (v : ℕ) → Waits v ms ≡ false
 
-unless-told : (s t : Books) (outs : List Entry) → (is_stopped s ≡ true → NoneWaits t.crew) → is_stopped t ≡ true → (v : ℕ) → Waits v t.crew ≡ true → told v (unless_stopped s t outs) ≡ true
+unless-told : (s t : Books) (outs : List Entry) → (is_stopped s ≡ true → NoneWaits t.members) → is_stopped t ≡ true → (v : ℕ) → Waits v t.members ≡ true → told v (unless_stopped s t outs) ≡ true
 unless-told s t outs k h v x =
-    in_both (λ (os : List Entry). told v os ≡ true) (is_stopped s) [] (if is_stopped t then shut_all t.crew else outs) (λ a. absurd (differ (sym (k a v) ∙ x)))
-    (λ a. in_both (λ (os : List Entry). told v os ≡ true) (is_stopped t) (shut_all t.crew) outs (λ b. told-all v t.crew x) (λ b. absurd (differ (sym b ∙ h))))
+    in_both (λ (os : List Entry). told v os ≡ true) (is_stopped s) [] (if is_stopped t then shut_all t.members else outs) (λ a. absurd (differ (sym (k a v) ∙ x)))
+    (λ a. in_both (λ (os : List Entry). told v os ≡ true) (is_stopped t) (shut_all t.members) outs (λ b. told-all v t.members x) (λ b. absurd (differ (sym b ∙ h))))
 
 none-gone : (w : ℕ) (ms : List Member) → NoneWaits ms → NoneWaits (map (made_gone w) ms)
 none-gone w ms k = λ v. waits-gone v w ms ∙ ap (λ b. not (v == w) && b) (k v) ∙ and-false (not (v == w))
@@ -173,32 +173,32 @@ shut-stays : (w : ℕ) (how : Option RunStop) (s : State) → is_shut w s.books 
 shut-stays w (Some how) s h = rw h
 shut-stays w None s h = rw h
 
-told-collected : (s : State) (w : ℕ) (g : Ids) → AllTold s → is_stopped (after_effect s (Collected w g)).books ≡ true → (v : ℕ) → Waits v (after_effect s (Collected w g)).books.crew ≡ true
+told-collected : (s : State) (w : ℕ) (g : Ids) → AllTold s → is_stopped (after_effect s (Collected w g)).books ≡ true → (v : ℕ) → Waits v (after_effect s (Collected w g)).books.members ≡ true
     → told v (own_outputs s (Collected w g) (after_effect s (Collected w g))) ≡ true
 told-collected s w g k h v x =
     let now = after_effect s (Collected w g) in
-    let ms = s.books.crew in
+    let ms = s.books.members in
     let before = in_books (λ b. marked (made_collected w) (with_list w g b)) s in
     let stop = unequal w g (listed w s.books) in
-    let crew : now.books.crew ≡ map (made_collected w) ms = collecting-keeps (λ (u : State). u.books.crew ≡ map (made_collected w) ms) before w stop refl refl refl (λ n. refl) in
-    let none : is_stopped s.books ≡ true → NoneWaits now.books.crew = λ a u. ap (λ (ns : List Member). Waits u ns) crew ∙ waits-collected u w ms ∙ k a u in
+    let members : now.books.members ≡ map (made_collected w) ms = collecting-keeps (λ (u : State). u.books.members ≡ map (made_collected w) ms) before w stop refl refl refl (λ n. refl) in
+    let none : is_stopped s.books ≡ true → NoneWaits now.books.members = λ a u. ap (λ (ns : List Member). Waits u ns) members ∙ waits-collected u w ms ∙ k a u in
     let same : is_shut w before.books ≡ is_shut w s.books = has-same w (λ m. m.shut) (made_collected w) ms (λ m. refl) (λ m. refl) in
     in_both (λ (os : List Entry). told v os ≡ true) (is_shut w s.books) [] (unless_stopped s.books now.books (outputs_of_joining w s.books now))
     (λ a. absurd (differ (sym (none (ap (λ (u : State). is_stopped u.books) (sym (shut-stays w stop before (same ∙ a))) ∙ h) v) ∙ x)))
     (λ a. unless-told s.books now.books (outputs_of_joining w s.books now) none h v x)
 
-told-input : (s : State) (e : Entry) → may_follow s e ≡ true → AllTold s → is_stopped (after_effect s e).books ≡ true → (v : ℕ) → Waits v (after_effect s e).books.crew ≡ true → told v (own_outputs s e (after_effect s e)) ≡ true
+told-input : (s : State) (e : Entry) → may_follow s e ≡ true → AllTold s → is_stopped (after_effect s e).books ≡ true → (v : ℕ) → Waits v (after_effect s e).books.members ≡ true → told v (own_outputs s e (after_effect s e)) ≡ true
 told-input s (Ready w) a k h v x =
     let now = after_effect s (Ready w) in
-    in_both (λ (os : List Entry). told v os ≡ true) (is_shutting now.books) (Shutdown w ∷ []) [] (λ b. told-ready v w s.books.crew (k h) x)
+    in_both (λ (os : List Entry). told v os ≡ true) (is_shutting now.books) (Shutdown w ∷ []) [] (λ b. told-ready v w s.books.members (k h) x)
     (λ b. absurd (differ (sym b ∙ or-left (is_stopped now.books) now.books.shutting h)))
 told-input s (Collected w g) a k h v x = told-collected s w g k h v x
 told-input s (Done w i u m o) a k h v x = (let now = after_effect s (Done w i u m o) in unless-told s.books now.books (acts_of (TestDone w m) now) k h v x)
 told-input s (Back w is) a k h v x = (let now = after_effect s (Back w is) in unless-told s.books now.books (acts_of TestsBack now) k h v x)
-told-input s (Finished w) a k h v x = absurd (differ (sym (none-gone w s.books.crew (k h) v) ∙ x))
-told-input s (Refused w t) a k h v x = unless-told s.books (after_effect s (Refused w t)).books [] (λ b. none-gone w s.books.crew (k b)) h v x
-told-input s (Down w c o) a k h v x = (let now = after_effect s (Down w c o) in unless-told s.books now.books (outputs_of_death w now) (λ b. none-gone w s.books.crew (k b)) h v x)
-told-input s (NotStarted w) a k h v x = (let now = after_effect s (NotStarted w) in unless-told s.books now.books (outputs_of_death w now) (λ b. none-gone w s.books.crew (k b)) h v x)
+told-input s (Finished w) a k h v x = absurd (differ (sym (none-gone w s.books.members (k h) v) ∙ x))
+told-input s (Refused w t) a k h v x = unless-told s.books (after_effect s (Refused w t)).books [] (λ b. none-gone w s.books.members (k b)) h v x
+told-input s (Down w c o) a k h v x = (let now = after_effect s (Down w c o) in unless-told s.books now.books (outputs_of_death w now) (λ b. none-gone w s.books.members (k b)) h v x)
+told-input s (NotStarted w) a k h v x = (let now = after_effect s (NotStarted w) in unless-told s.books now.books (outputs_of_death w now) (λ b. none-gone w s.books.members (k b)) h v x)
 told-input s (Start w slot) a k h v x = absurd (differ a)
 told-input s (Run w is) a k h v x = absurd (differ a)
 told-input s (RunAll w) a k h v x = absurd (differ a)
@@ -214,7 +214,7 @@ told-after_input s e a d k =
     let now = after_effect s e in
     let own = own_outputs s e now in
     let r = leaves-outputs now (outputs s e) d in
-    λ h v. r.1 v ∙ none-left (told v (outputs s e)) (Waits v now.books.crew) (λ x. told-left v own (closing (after_entries now own)) (told-input s e a k (sym r.0 ∙ h) v x))
+    λ h v. r.1 v ∙ none-left (told v (outputs s e)) (Waits v now.books.members) (λ x. told-left v own (closing (after_entries now own)) (told-input s e a k (sym r.0 ∙ h) v x))
 
 told-run : (s : State) (ins : List Entry) → all_may_follow s ins ≡ true → is_orderly_run s ins ≡ true → AllTold s → AllTold (after_inputs s ins)
 told-run s [] h d k = k

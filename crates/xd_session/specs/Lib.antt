@@ -1,6 +1,6 @@
+pub mod Books
 pub mod Bounded
 pub mod Compared
-pub mod Crew
 pub mod Ends
 pub mod History
 pub mod Joining

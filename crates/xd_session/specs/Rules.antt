@@ -96,8 +96,8 @@ told_by ms (Shutdown w) = map (made_shut w) ms
 told_by ms _ = ms
 
 -- the marks of the workers after these outputs of a mode
-abbrev pub crew_told : List Entry → List Member → List Member
-crew_told es ms = fold told_by ms es
+abbrev pub members_told : List Entry → List Member → List Member
+members_told es ms = fold told_by ms es
 
 -- the entries are the journal of a proper run, for whose state the books and the mode stand, and of each log as much is
 -- kept as can be asked for

@@ -17,7 +17,7 @@ ghost use Rattle.xd_ledger.specs.Table.{has_joined, in_rota, joined};
 ghost use Rattle.xd_ledger.specs.Workers.{is_shut, slot_of};
 ghost use Rattle.xd_laws.specs.Called.{Called};
 ghost use Rattle.xd_session.specs.Compared.{stop_of};
-ghost use Rattle.xd_session.specs.Crew.{books_of};
+ghost use Rattle.xd_session.specs.Books.{books_of};
 ghost use Rattle.xd_session.specs.Joining.{IsBare, IsToJoin, TakenIn, filled, shared_in, sizes_in};
 ghost use Rattle.xd_session.specs.Known.{known_by};
 ghost use Rattle.xd_session.specs.Rules.{Acted, At, Comes, MayJoin, MayShare, Ruled};

@@ -2,7 +2,7 @@
 ghost use Rattle.std.specs.Prelude.{◌≡◌, ◌++◌, ◌∷◌, [], OnOk, true, false, unwrap_or, Some, if◌then◌else◌};
 ghost use Rattle.xd_journal.specs.declared.entry.Entry.TheVariants as entry;
 ghost use Rattle.xd_journal.specs.declared.entry.RunStop.TheVariants as run_stop;
-ghost use Rattle.xd_session.specs.Crew.{books_of};
+ghost use Rattle.xd_session.specs.Books.{books_of};
 ghost use Rattle.xd_ledger.specs.Ending.{ending, kills};
 
 use crate::books::RunBooks;
@@ -46,7 +46,7 @@ pub(crate) fn end(
         note(Entry::Over { how }, entries)?;
         return Ok(());
     }
-    kill_all(books.kept.crew(), entries)?;
+    kill_all(books.kept.members(), entries)?;
     note(
         Entry::Over {
             how: RunStop::OutFault,

@@ -11,7 +11,7 @@ ghost use Rattle.xd_ledger.specs.Sharing.{State};
 ghost use Rattle.xd_ledger.specs.Table.{held, in_rota};
 ghost use Rattle.xd_ledger.specs.Workers.{is_active, slot_of};
 ghost use Rattle.xd_laws.specs.Called.{Reached};
-ghost use Rattle.xd_session.specs.Crew.{books_of};
+ghost use Rattle.xd_session.specs.Books.{books_of};
 ghost use Rattle.xd_session.specs.Judged.{follows_where, judged, silent_where};
 ghost use Rattle.xd_session.specs.Kept.{log_in};
 ghost use Rattle.xd_session.specs.Known.{first_item, is_behind, known_by};

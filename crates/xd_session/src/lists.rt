@@ -7,7 +7,7 @@ ghost use Rattle.xd_journal.specs.declared.entry.Ids.TheVariants as ids;
 ghost use Rattle.xd_ledger.specs.Collections.{listed, with_list};
 ghost use Rattle.xd_ledger.specs.Proper.{is_plain, is_id, no_text_twice};
 ghost use Rattle.xd_session.specs.Compared.{compared, comparison, ids_to_list, place_in_lists};
-ghost use Rattle.xd_session.specs.Crew.{books_of};
+ghost use Rattle.xd_session.specs.Books.{books_of};
 
 use crate::books::RunBooks;
 use std::alloc::Global;

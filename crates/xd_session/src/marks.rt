@@ -6,7 +6,7 @@ ghost use Rattle.xd_ledger.specs.State.{no_one};
 ghost use Rattle.xd_ledger.specs.Stops.{stopped_by};
 ghost use Rattle.xd_ledger.specs.Table.{shut_down};
 ghost use Rattle.xd_ledger.specs.Workers.{begun_at, is_waiting, made, waiting};
-ghost use Rattle.xd_session.specs.Crew.{books_of};
+ghost use Rattle.xd_session.specs.Books.{books_of};
 ghost use Rattle.xd_session.specs.Rules.{told_to_shut};
 
 use crate::books::RunBooks;
@@ -93,9 +93,9 @@ impl RunBooks {
 
     // The number of the next worker.
     pub(crate) fn next_worker(&self) -> Result<u32, OutOfMemory>
-        ensures { IfOk result (λ n. n ≡ length (books_of self.now).crew) }
+        ensures { IfOk result (λ n. n ≡ length (books_of self.now).members) }
     {
-        let count = self.kept.crew().len();
+        let count = self.kept.members().len();
         if count > u32::MAX as usize {
             return Err(OutOfMemory);
         }
@@ -104,9 +104,9 @@ impl RunBooks {
 
     // The workers that wait, in order of worker numbers.
     pub(crate) fn waiting(&self, alloc: Global) -> Result<Indices, OutOfMemory>
-        ensures { IfOk result (λ ws. ws ≡ waiting (books_of self.now).crew) }
+        ensures { IfOk result (λ ws. ws ≡ waiting (books_of self.now).members) }
     {
-        let workers = waiting_of(alloc, self.kept.crew())?;
+        let workers = waiting_of(alloc, self.kept.members())?;
         Ok(workers)
     }
 

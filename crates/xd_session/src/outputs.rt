@@ -4,8 +4,8 @@ ghost use Rattle.xd_journal.specs.declared.entry.Entry.TheVariants as entry;
 ghost use Rattle.xd_ledger.specs.Outputs.{shut_all};
 ghost use Rattle.xd_ledger.specs.Stops.{is_shutting};
 ghost use Rattle.xd_ledger.specs.Workers.{waiting};
-ghost use Rattle.xd_session.specs.Crew.{books_of};
-ghost use Rattle.xd_session.specs.Rules.{crew_told, told_to_shut, told_all, told_by, shutdowns};
+ghost use Rattle.xd_session.specs.Books.{books_of};
+ghost use Rattle.xd_session.specs.Rules.{members_told, told_to_shut, told_all, told_by, shutdowns};
 
 use crate::books::RunBooks;
 use std::alloc::Global;
@@ -54,8 +54,8 @@ pub(crate) fn shut_everyone(
     books: &mut RunBooks,
     entries: &mut Vec<Entry>,
 ) -> Result<(), OutOfMemory>
-    ensures told { OnOk result (books_of books.new ≡ told_all (waiting (books_of books.old).crew) (books_of books.old)) }
-    ensures noted { OnOk result (entries.new.items ≡ entries.old.items ++ shut_all (books_of books.old).crew) }
+    ensures told { OnOk result (books_of books.new ≡ told_all (waiting (books_of books.old).members) (books_of books.old)) }
+    ensures noted { OnOk result (entries.new.items ≡ entries.old.items ++ shut_all (books_of books.old).members) }
 {
     let workers = books.waiting(alloc)?;
     tell_all(&workers.items, books, entries)?;
@@ -81,7 +81,7 @@ pub(crate) fn tell_where_shutting(
 
 // The marks of the workers after an output of the mode.
 fn follow_one(act: &Entry, books: &mut RunBooks)
-    ensures { books_of books.new ≡ record (books_of books.old) { crew = told_by (books_of books.old).crew act.now } }
+    ensures { books_of books.new ≡ record (books_of books.old) { members = told_by (books_of books.old).members act.now } }
 {
     if let Entry::Shutdown { worker } = act {
         books.mark(*worker, Mark::Shut);
@@ -90,7 +90,7 @@ fn follow_one(act: &Entry, books: &mut RunBooks)
 
 // The marks of the workers after these outputs of the mode.
 pub(crate) fn follow(acts: &[Entry], books: &mut RunBooks)
-    ensures { books_of books.new ≡ record (books_of books.old) { crew = crew_told acts.now (books_of books.old).crew } }
+    ensures { books_of books.new ≡ record (books_of books.old) { members = members_told acts.now (books_of books.old).members } }
 {
     for i in 0..acts.len() {
         follow_one(&acts[i], books);

@@ -13,7 +13,7 @@ ghost use Rattle.xd_ledger.specs.Stops.{is_stopped};
 ghost use Rattle.xd_ledger.specs.Table.{held, in_rota};
 ghost use Rattle.xd_ledger.specs.Workers.{slot_of};
 ghost use Rattle.xd_laws.specs.Called.{Called};
-ghost use Rattle.xd_session.specs.Crew.{books_of};
+ghost use Rattle.xd_session.specs.Books.{books_of};
 ghost use Rattle.xd_session.specs.Known.{first_item, known_by, known_of, where_is};
 ghost use Rattle.xd_session.specs.Rules.{Acted, At, Before, Calls, DidClosing, Comes, MayDie, Ruled};
 
@@ -78,7 +78,7 @@ impl<M: Mode> RunState<M> {
     ) -> Result<(), OutOfMemory>
         requires { is_stopped (books_of self.old.books) ≡ true }
         ensures { OnOk result ((s : State) → books_of self.old.books ≡ s.books → known_by self.old.known ≡ known_of s.plan →
-            Acted (if before then [] else shut_all s.books.crew) s (books_of self.new.books) (known_by self.new.known) entries.old.items entries.new.items (M.stands self.new.mode)) }
+            Acted (if before then [] else shut_all s.books.members) s (books_of self.new.books) (known_by self.new.known) entries.old.items entries.new.items (M.stands self.new.mode)) }
     {
         if before {
             return Ok(());
@@ -118,7 +118,7 @@ impl<M: Mode> RunState<M> {
         requires seated { in_rota worker self.old.books.ledger ≡ true }
         requires at { is_stopped (books_of self.old.books) ≡ false → (s : State) × Calls (TestDone worker ms) s (books_of self.old.books) (known_by self.old.known) (M.stands self.old.mode) }
         ensures { OnOk result ((s : State) → At s (books_of self.old.books) (known_by self.old.known) (M.stands self.old.mode) → (is_stopped s.books ≡ false → Called (TestDone worker ms) s) →
-            Acted (if before then [] else if is_stopped s.books then shut_all s.books.crew else acts_of (TestDone worker ms) s) s (books_of self.new.books) (known_by self.new.known) entries.old.items entries.new.items (M.stands self.new.mode)) }
+            Acted (if before then [] else if is_stopped s.books then shut_all s.books.members else acts_of (TestDone worker ms) s) s (books_of self.new.books) (known_by self.new.known) entries.old.items entries.new.items (M.stands self.new.mode)) }
     {
         if self.books.kept.is_stopped() {
             self.stop_outputs(alloc, before, entries)?;
@@ -316,7 +316,7 @@ impl<M: Mode> RunState<M> {
             (s : State) × Calls Died s (books_of self.old.books) (known_by self.old.known) (Before (death_plan worker retried rest self.old.books.ledger.pool) (M.stands self.old.mode)) }
         ensures { OnOk result ((s : State) → At s (books_of self.old.books) (known_by self.old.known) (Before (death_plan worker retried rest self.old.books.ledger.pool) (M.stands self.old.mode)) →
             (is_stopped s.books ≡ false → MayDie s (M.stands self.old.mode)) →
-            Acted (if before then [] else if is_stopped s.books then shut_all s.books.crew else outputs_of_death worker s) s (books_of self.new.books) (known_by self.new.known) entries.old.items entries.new.items (M.stands self.new.mode)) }
+            Acted (if before then [] else if is_stopped s.books then shut_all s.books.members else outputs_of_death worker s) s (books_of self.new.books) (known_by self.new.known) entries.old.items entries.new.items (M.stands self.new.mode)) }
     {
         if self.books.kept.is_stopped() {
             self.stop_outputs(alloc, before, entries)?;

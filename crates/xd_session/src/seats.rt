@@ -6,7 +6,7 @@ ghost use Rattle.xd_ledger.specs.Retry.{is_retry};
 ghost use Rattle.xd_ledger.specs.Deaths.{down_books};
 ghost use Rattle.xd_ledger.specs.Results.{done_books};
 ghost use Rattle.xd_ledger.specs.Table.{held, in_rota, left_rota, died, given_back};
-ghost use Rattle.xd_session.specs.Crew.{books_of};
+ghost use Rattle.xd_session.specs.Books.{books_of};
 
 use crate::books::RunBooks;
 use xd_edge::OutOfMemory;

@@ -6,7 +6,7 @@ ghost use Rattle.xd_ledger.specs.Owes.{someone_owes};
 ghost use Rattle.xd_ledger.specs.Plan.{Plan};
 ghost use Rattle.xd_ledger.specs.State.{no_one, after_entries};
 ghost use Rattle.xd_ledger.specs.Workers.{is_active};
-ghost use Rattle.xd_session.specs.Crew.{books_of};
+ghost use Rattle.xd_session.specs.Books.{books_of};
 ghost use Rattle.xd_ledger.specs.Ending.{ending, may_close, stop_of};
 ghost use Rattle.xd_ledger.specs.Legal.{IsLegal};
 ghost use Rattle.xd_session.specs.Ends.{is_out_fault, last_stop};
@@ -37,7 +37,7 @@ pub struct Session<M: Mode> {
 impl<M: Mode> Model for Session<M> {
     ghost use Rattle.std.specs.Prelude.{◌≡◌, List, true};
     ghost use Rattle.xd_session.specs.Stands.{Seen};
-    ghost use Rattle.xd_session.specs.Crew.{books_of};
+    ghost use Rattle.xd_session.specs.Books.{books_of};
     ghost use Rattle.xd_session.specs.Known.{known_by};
     ghost use Rattle.xd_session.specs.Rules.{InStep};
 

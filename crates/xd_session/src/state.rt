@@ -6,9 +6,9 @@ ghost use Rattle.xd_ledger.specs.Outputs.{acts_of};
 ghost use Rattle.xd_ledger.specs.Sharing.{State};
 ghost use Rattle.xd_ledger.specs.Table.{in_rota};
 ghost use Rattle.xd_ledger.specs.Workers.{slot_of};
-ghost use Rattle.xd_session.specs.Crew.{books_of};
+ghost use Rattle.xd_session.specs.Books.{books_of};
 ghost use Rattle.xd_session.specs.Known.{known_by, steal_told};
-ghost use Rattle.xd_session.specs.Rules.{Acted, Before, Calls, crew_told};
+ghost use Rattle.xd_session.specs.Rules.{Acted, Before, Calls, members_told};
 ghost use Rattle.std.specs.Prelude.{None};
 
 use crate::books::RunBooks;
@@ -36,7 +36,7 @@ pub(crate) fn take_acts(
     known: &mut KnownPlan,
     entries: &mut Vec<Entry>,
 ) -> Result<(), OutOfMemory>
-    ensures books { OnOk result (books_of books.new ≡ record (books_of books.old) { crew = crew_told acts.old.items (books_of books.old).crew }) }
+    ensures books { OnOk result (books_of books.new ≡ record (books_of books.old) { members = members_told acts.old.items (books_of books.old).members }) }
     ensures known { OnOk result (known_by known.new ≡ record (known_by known.old) { steal = steal_told acts.old.items (known_by known.old).steal }) }
     ensures entries { OnOk result (entries.new.items ≡ entries.old.items ++ acts.old.items) }
 {

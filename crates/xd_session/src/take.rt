@@ -6,7 +6,7 @@ ghost use Rattle.xd_journal.specs.Kept.{most_of_all, room_behind};
 ghost use Rattle.xd_ledger.specs.Meaning.{head_bytes, kept_at_death, meaning_of, output_of};
 ghost use Rattle.xd_ledger.specs.Sharing.{State};
 ghost use Rattle.xd_ledger.specs.Workers.{has_collected, is_active, was_ready};
-ghost use Rattle.xd_session.specs.Crew.{books_of};
+ghost use Rattle.xd_session.specs.Books.{books_of};
 ghost use Rattle.xd_session.specs.Joining.{IsToJoin};
 ghost use Rattle.xd_session.specs.Judged.{judged};
 ghost use Rattle.xd_session.specs.Kept.{log_in, shortened};

@@ -1,5 +1,5 @@
 use Rattle.std.proofs.Common.{refl}
-use Rattle.xd_session.specs.Crew.{books_of}
+use Rattle.xd_session.specs.Books.{books_of}
 use Rattle.xd_session.proofs.Loops.{tell-step, note-step}
 use Rattle.xd_session.proofs.outputs.tell_all.Goals as goal
 

@@ -4,7 +4,7 @@ use Rattle.xd_ledger.specs.Books.{Books}
 use Rattle.xd_ledger.specs.State.{after_entries, no_one}
 use Rattle.xd_ledger.specs.Histories.{starts_from}
 use Rattle.xd_session.specs.declared.logs.WorkerLog.{WorkerLog}
-use Rattle.xd_session.specs.Crew.{books_of}
+use Rattle.xd_session.specs.Books.{books_of}
 use Rattle.xd_session.specs.Known.{known_by}
 use Rattle.xd_session.specs.Rules.{InStep}
 use Rattle.xd_session.proofs.Begin.{begun-step}

@@ -9,7 +9,7 @@ use Rattle.xd_ledger.specs.Sharing.{State}
 use Rattle.xd_ledger.specs.State.{after_effect, settles}
 use Rattle.xd_ledger.specs.Stops.{is_shutting, is_stopped}
 use Rattle.xd_ledger.specs.Workers.{made_gone, made_ready, slot_of}
-use Rattle.xd_session.specs.Crew.{books_of}
+use Rattle.xd_session.specs.Books.{books_of}
 use Rattle.xd_session.specs.Known.{known_by}
 use Rattle.xd_session.specs.Rules.{told_to_shut}
 use Rattle.std.proofs.Common.{◌+◌, map}
@@ -49,5 +49,5 @@ returns g c = λ s a.
     let at = back-at s c.args.worker c.args.indices c.deref-2.result.now (books_of c.args.self.now.books) (books_of c.give_back.new.self) (known_by c.args.self.now.known) _ _ a.at ((c.deref-2.ensures.value ∙ c.items.view_is ∙ c.in_ok-items.ensures ∙ ap (λ (is : List ℕ). map (λ i. first_item (slot_of c.args.worker (books_of c.args.self.now.books)) (known_by c.args.self.now.known) + i) is) (c.deref.ensures.value ∙ c.indices.view_is)) ∙ back-named s c.args.worker c.args.indices _ _ _ a.at) c.in_ok-give_back.ensures refl in
     finish s e (books_of c.back_outputs.new.self.books) _ _ _ c.args.entries.now.items c.note.new.entries.items c.back_outputs.new.entries.items c.finish.new.entries.items _ _
     c.in_ok-note.ensures
-    (acted-by _ _ t _ _ c.note.new.entries.items c.back_outputs.new.entries.items _ (choose-once (is_stopped s.books) (shut_all t.books.crew) (acts_of TestsBack t)) (c.in_ok-back_outputs.ensures t at (λ h. back-called s _ _ a.reached a.follows)))
+    (acted-by _ _ t _ _ c.note.new.entries.items c.back_outputs.new.entries.items _ (choose-once (is_stopped s.books) (shut_all t.books.members) (acts_of TestsBack t)) (c.in_ok-back_outputs.ensures t at (λ h. back-called s _ _ a.reached a.follows)))
     c.in_ok-finish.ensures)

@@ -1,6 +1,6 @@
 use Rattle.xd_ledger.specs.Calls.{death_plan}
 use Rattle.xd_ledger.specs.Modes.ModeCall.{Died}
-use Rattle.xd_session.specs.Crew.{books_of}
+use Rattle.xd_session.specs.Books.{books_of}
 use Rattle.xd_session.specs.Known.{known_by}
 use Rattle.xd_session.proofs.Acts.{acted-call}
 use Rattle.xd_session.proofs.state.RunState.call_died.Goals as goal

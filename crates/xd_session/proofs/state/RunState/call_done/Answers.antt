@@ -7,7 +7,7 @@ use Rattle.xd_ledger.specs.Deaths.{down_plan}
 use Rattle.xd_ledger.specs.Suits.{Suits}
 use Rattle.xd_ledger.specs.Workers.{slot_of}
 use Rattle.std.specs.Prelude.{None}
-use Rattle.xd_session.specs.Crew.{books_of}
+use Rattle.xd_session.specs.Books.{books_of}
 use Rattle.xd_session.specs.Known.{known_by}
 use Rattle.xd_session.proofs.Acts.{acted-call, as-before, suits-by}
 use Rattle.xd_session.proofs.state.RunState.call_done.Goals as goal

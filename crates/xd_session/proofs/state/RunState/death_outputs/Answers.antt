@@ -9,7 +9,7 @@ use Rattle.xd_ledger.specs.Sharing.{State}
 use Rattle.xd_ledger.specs.State.{after_effect, settles}
 use Rattle.xd_ledger.specs.Stops.{is_shutting, is_stopped}
 use Rattle.xd_ledger.specs.Workers.{made_gone, made_ready, slot_of}
-use Rattle.xd_session.specs.Crew.{books_of}
+use Rattle.xd_session.specs.Books.{books_of}
 use Rattle.xd_session.specs.Known.{known_by}
 use Rattle.xd_session.specs.Rules.{told_to_shut}
 use Rattle.xd_session.proofs.Acts.{acted-by, choose-third}
@@ -20,7 +20,7 @@ use Rattle.xd_session.proofs.state.RunState.death_outputs.Goals as goal
 pub returns-then-is_stopped : goal.returns-then-is_stopped
 returns-then-is_stopped g c = λ s a f.
     (let stop : is_stopped s.books ≡ true = ap is_stopped (sym a.books_are) ∙ sym c.is_stopped.ensures ∙ c.if-is_stopped.true in
-    let outs : Bool → List Entry = λ q. if c.args.before then [] else if q then shut_all s.books.crew else outputs_of_death c.args.worker s in
+    let outs : Bool → List Entry = λ q. if c.args.before then [] else if q then shut_all s.books.members else outputs_of_death c.args.worker s in
     acted-by _ _ s _ _ c.args.entries.now.items c.stop_outputs.new.entries.items _ (ap outs (sym stop)) (c.in_ok-stop_outputs.ensures s a.books_are a.known_is))
 
 pub returns : goal.returns
@@ -29,5 +29,5 @@ returns g c = λ s a f.
     let unstopped : is_stopped s.books ≡ false = ap is_stopped (sym a.books_are) ∙ going in
     let not_before : c.args.before ≡ false = elim (cases_of c.args.before) [ inl k ↦ absurd (differ (sym going ∙ c.requires.late k)) | inr k ↦ k ] in
     acted-by (outputs_of_death c.args.worker s) _ s _ _ c.args.entries.now.items c.restart.new.entries.items _
-    (choose-third c.args.before (is_stopped s.books) [] (shut_all s.books.crew) (outputs_of_death c.args.worker s) not_before unstopped)
+    (choose-third c.args.before (is_stopped s.books) [] (shut_all s.books.members) (outputs_of_death c.args.worker s) not_before unstopped)
     (c.in_ok-restart.ensures s a (f unstopped)))

@@ -9,7 +9,7 @@ use Rattle.xd_ledger.specs.Sharing.{State}
 use Rattle.xd_ledger.specs.State.{after_effect, settles}
 use Rattle.xd_ledger.specs.Stops.{is_shutting, is_stopped}
 use Rattle.xd_ledger.specs.Workers.{is_active, made_gone, made_ready, slot_of}
-use Rattle.xd_session.specs.Crew.{books_of}
+use Rattle.xd_session.specs.Books.{books_of}
 use Rattle.xd_session.specs.Known.{known_by}
 use Rattle.xd_session.specs.Rules.{told_to_shut}
 use Rattle.xd_session.proofs.Acts.{acted-by, finish}
@@ -42,7 +42,7 @@ returns g c = λ s a.
     let t : State = after_effect s e in
     let at = done-found s c.args.worker c.args.index c.args.outcome c.args.ms c.args.output c.in-Some.item (books_of c.args.self.now.books) (books_of c.score.new.self) (known_by c.args.self.now.known) _ a.at (sym c.head_named.ensures.named ∙ c.in-Some.is) c.in_ok-score.ensures.done in
     let before : c.is_stopped-before.result ≡ is_stopped s.books = c.is_stopped-before.ensures ∙ ap is_stopped a.at.books_are in
-    let outs : Bool → List Entry = λ q. if q then [] else if is_stopped t.books then shut_all t.books.crew else acts_of (TestDone c.args.worker c.args.ms) t in
+    let outs : Bool → List Entry = λ q. if q then [] else if is_stopped t.books then shut_all t.books.members else acts_of (TestDone c.args.worker c.args.ms) t in
     finish s e (books_of c.done_outputs.new.self.books) _ _ _ c.args.entries.now.items c.note.new.entries.items c.done_outputs.new.entries.items c.finish.new.entries.items _ _
     c.in_ok-note.ensures
     (acted-by _ _ t _ _ c.note.new.entries.items c.done_outputs.new.entries.items _ (ap outs before) (c.in_ok-done_outputs.ensures t at (λ h. done-called s c.args.worker c.args.index c.args.outcome c.args.ms c.args.output a.reached a.follows)))

@@ -17,7 +17,7 @@ use Rattle.xd_ledger.specs.Suits.{Suits}
 use Rattle.xd_ledger.specs.Workers.{is_shut, slot_of}
 use Rattle.xd_session.specs.declared.lists.Comparison.{Comparison}
 use Rattle.xd_session.specs.Compared.{comparison, ids_to_list, stop_of}
-use Rattle.xd_session.specs.Crew.{books_of}
+use Rattle.xd_session.specs.Books.{books_of}
 use Rattle.xd_session.specs.Joining.{TakenIn, filled, taken_in}
 use Rattle.xd_session.specs.Known.{Known, known_by}
 use Rattle.xd_session.specs.Rules.{At, Ruled}

@@ -7,7 +7,7 @@ use Rattle.xd_ledger.specs.Outputs.{outputs_of_death, shut_all}
 use Rattle.xd_ledger.specs.Sharing.{State}
 use Rattle.xd_ledger.specs.State.{after_effect}
 use Rattle.xd_ledger.specs.Stops.{is_stopped}
-use Rattle.xd_session.specs.Crew.{books_of}
+use Rattle.xd_session.specs.Books.{books_of}
 use Rattle.xd_session.specs.Known.{known_by}
 use Rattle.xd_session.proofs.Acts.{acted-by, down-at, finish, may-die, still-stopped}
 use Rattle.xd_session.proofs.state.RunState.not_started.Goals as goal
@@ -30,7 +30,7 @@ returns g c = λ s a.
     let t : State = after_effect s e in
     let at = down-at s c.args.worker c.in_ok-rest.rest c.is_retry-retried.result (books_of c.args.self.now.books) (books_of c.bury.new.self) _ (known_by c.forget_steal_of.new.self) _ a.at c.is_retry-retried.ensures c.in_ok-rest.ensures.rest c.in_ok-rest.ensures.buried c.forget_steal_of.ensures in
     let before : c.is_stopped-before.result ≡ is_stopped s.books = c.is_stopped-before.ensures ∙ ap is_stopped a.at.books_are in
-    let outs : Bool → List Entry = λ q. if q then [] else if is_stopped t.books then shut_all t.books.crew else outputs_of_death w t in
+    let outs : Bool → List Entry = λ q. if q then [] else if is_stopped t.books then shut_all t.books.members else outputs_of_death w t in
     finish s e (books_of c.death_outputs.new.self.books) _ _ _ c.args.entries.now.items c.note.new.entries.items c.death_outputs.new.entries.items c.finish.new.entries.items _ _
     c.in_ok-note.ensures
     (acted-by _ _ t _ _ c.note.new.entries.items c.death_outputs.new.entries.items _ (ap outs before) (c.in_ok-death_outputs.ensures t at (λ h. may-die s e w _ _ _ a refl h)))

@@ -9,7 +9,7 @@ use Rattle.xd_ledger.specs.Sharing.{State}
 use Rattle.xd_ledger.specs.State.{after_effect, settles}
 use Rattle.xd_ledger.specs.Stops.{is_shutting, is_stopped}
 use Rattle.xd_ledger.specs.Workers.{made_gone, made_ready, slot_of}
-use Rattle.xd_session.specs.Crew.{books_of}
+use Rattle.xd_session.specs.Books.{books_of}
 use Rattle.xd_session.specs.Known.{known_by}
 use Rattle.xd_session.specs.Rules.{told_to_shut}
 use Rattle.xd_ledger.specs.State.{after_entries}
@@ -23,10 +23,10 @@ returns g c = λ s a m.
     let slot : ℕ = c.slot_of-slot.result in
     let xs : List Entry = if s.books.shared then acts_of Died s else [] in
     let first = c.in_ok-hear_of_death.ensures s a m in
-    let n : number ≡ length s.books.crew = c.in_ok-number.ensures ∙ ap (λ (d : Books). length d.crew) a.books_are in
+    let n : number ≡ length s.books.members = c.in_ok-number.ensures ∙ ap (λ (d : Books). length d.members) a.books_are in
     let p : slot ≡ slot_of w s.books = c.slot_of-slot.ensures ∙ ap (λ (d : Books). slot_of w d) a.books_are in
     let numbers : ℕ → List Entry = λ k. xs ++ Start k slot ∷ [] in
-    let slots : ℕ → List Entry = λ k. xs ++ Start (length s.books.crew) k ∷ [] in
+    let slots : ℕ → List Entry = λ k. xs ++ Start (length s.books.members) k ∷ [] in
     acted-by (xs ++ Start number slot ∷ []) _ s _ _ c.args.entries.now.items c.note.new.entries.items _ (ap numbers n ∙ ap slots p)
     (acted-append xs (Start number slot ∷ []) s (books_of c.hear_of_death.new.self.books) _ _ _ c.args.entries.now.items c.hear_of_death.new.entries.items c.note.new.entries.items _ _
     first

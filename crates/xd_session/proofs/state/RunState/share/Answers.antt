@@ -6,10 +6,10 @@ use Rattle.xd_ledger.specs.Outputs.{slots_of_rota}
 use Rattle.xd_ledger.specs.Plan.{Plan}
 use Rattle.xd_ledger.specs.Sharing.{State}
 use Rattle.xd_ledger.specs.Suits.{Suits}
-use Rattle.xd_session.specs.Crew.{books_of}
+use Rattle.xd_session.specs.Books.{books_of}
 use Rattle.xd_session.specs.Joining.{filled, shared_in, sizes_in}
 use Rattle.xd_session.specs.Known.{known_by, steal_told}
-use Rattle.xd_session.specs.Rules.{crew_told}
+use Rattle.xd_session.specs.Rules.{members_told}
 use Rattle.xd_session.proofs.Acts.{acted-call, suits-by}
 use Rattle.xd_session.proofs.Shares.{calls-share}
 use Rattle.xd_session.proofs.state.RunState.share.Goals as goal
@@ -34,6 +34,6 @@ returns g c = λ s a m.
     λ p h. subst (λ (xs : List ℕ). Turned (Share xs) (shared_in mode b p) pooled c.new-acts.result.items c.deal_all.new.books.ledger c.deal_all.new.acts.items (g.M.Mode.stands c.deal_all.new.mode)) slots (c.in_ok-sizes.ensures.dealt p h) in
     acted-call (Share (slots_of_rota s.books)) (shared_in mode b) _ _ _ _ _ c.new-acts.result.items c.deal_all.new.acts.items c.deal_all.new.books.ledger c.args.entries.now.items _ _ _
     c.new-acts.ensures.items (calls-share s b (known_by c.args.self.now.known) _ a m) turned
-    (c.in_ok-take_acts.ensures.books ∙ ap (λ (d : Books). record d { crew = Rattle.xd_session.specs.Rules.crew_told c.deal_all.new.acts.items d.crew }) c.share.ensures ∙ ap (λ (d : Books). record d { shared = true; crew = Rattle.xd_session.specs.Rules.crew_told c.deal_all.new.acts.items d.crew }) c.in_ok-sizes.ensures.books)
+    (c.in_ok-take_acts.ensures.books ∙ ap (λ (d : Books). record d { members = Rattle.xd_session.specs.Rules.members_told c.deal_all.new.acts.items d.members }) c.share.ensures ∙ ap (λ (d : Books). record d { shared = true; members = Rattle.xd_session.specs.Rules.members_told c.deal_all.new.acts.items d.members }) c.in_ok-sizes.ensures.books)
     (c.in_ok-take_acts.ensures.known ∙ ap (λ (xs : List ℕ). record (known_by c.args.self.now.known) { sizes = xs; steal = steal_told c.deal_all.new.acts.items (known_by c.args.self.now.known).steal }) c.in_ok-sizes.ensures.sizes)
     c.in_ok-take_acts.ensures.entries)

@@ -9,7 +9,7 @@ use Rattle.xd_ledger.specs.Sharing.{State}
 use Rattle.xd_ledger.specs.State.{after_effect, settles}
 use Rattle.xd_ledger.specs.Stops.{is_shutting, is_stopped}
 use Rattle.xd_ledger.specs.Workers.{made_gone, made_ready, slot_of}
-use Rattle.xd_session.specs.Crew.{books_of}
+use Rattle.xd_session.specs.Books.{books_of}
 use Rattle.xd_session.specs.Known.{known_by}
 use Rattle.xd_session.specs.Rules.{told_to_shut}
 use Rattle.xd_session.proofs.Acts.{acted-by, acted-none, acted-shut, choose-no, choose-yes, stopped-at}
@@ -17,10 +17,10 @@ use Rattle.xd_session.proofs.state.RunState.stop_outputs.Goals as goal
 
 pub returns-then-before : goal.returns-then-before
 returns-then-before g c = λ s e d.
-    acted-by [] _ s _ _ c.args.entries.now.items c.args.entries.now.items _ (choose-yes c.args.before [] (shut_all s.books.crew) c.if-before.true)
+    acted-by [] _ s _ _ c.args.entries.now.items c.args.entries.now.items _ (choose-yes c.args.before [] (shut_all s.books.members) c.if-before.true)
     (acted-none s _ _ c.args.entries.now.items _ (stopped-at s _ _ _ c.requires e d))
 
 pub returns : goal.returns
 returns g c = λ s e d.
-    acted-by (shut_all s.books.crew) _ s _ _ c.args.entries.now.items c.shut_everyone.new.entries.items _ (choose-no c.args.before [] (shut_all s.books.crew) c.if-before.false)
+    acted-by (shut_all s.books.members) _ s _ _ c.args.entries.now.items c.shut_everyone.new.entries.items _ (choose-no c.args.before [] (shut_all s.books.members) c.if-before.false)
     (acted-shut s (books_of c.args.self.now.books) (books_of c.shut_everyone.new.books) _ c.args.entries.now.items c.shut_everyone.new.entries.items _ (stopped-at s _ _ _ c.requires e d) c.in_ok-shut_everyone.ensures.told c.in_ok-shut_everyone.ensures.noted)

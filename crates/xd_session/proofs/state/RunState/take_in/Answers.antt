@@ -19,7 +19,7 @@ use Rattle.xd_ledger.specs.Suits.{Suits}
 use Rattle.xd_ledger.specs.Workers.{is_shut, slot_of}
 use Rattle.xd_session.specs.declared.lists.Comparison.{Comparison}
 use Rattle.xd_session.specs.Compared.{comparison, ids_to_list, stop_of}
-use Rattle.xd_session.specs.Crew.{books_of}
+use Rattle.xd_session.specs.Books.{books_of}
 use Rattle.xd_session.specs.Joining.{TakenIn, filled, taken_in}
 use Rattle.xd_session.specs.Known.{Known, known_by}
 use Rattle.xd_session.specs.Rules.{At, Ruled}
@@ -39,8 +39,8 @@ returns-in_ok-shut_everyone-in-Differs g c = λ s a m.
     let going : is_stopped s.books ≡ false = ap is_stopped (sym a.books_are) ∙ c.requires.going in
     let P : Comparison → Type 0 = λ k. TakenIn w (stop_of w k) s (books_of c.shut_everyone.new.books) (known_by c.args.self.now.known) c.args.entries.now.items c.shut_everyone.new.entries.items (g.M.Mode.stands c.args.self.now.mode) in
     subst P (sym c.in-Differs.is)
-    (acted-by (shut_all t.books.crew) _ t (books_of c.shut_everyone.new.books) _ c.args.entries.now.items c.shut_everyone.new.entries.items _
-    (choose-second (is_stopped s.books) (is_stopped t.books) [] (shut_all t.books.crew) (outputs_of_joining w s.books t) going stopped)
+    (acted-by (shut_all t.books.members) _ t (books_of c.shut_everyone.new.books) _ c.args.entries.now.items c.shut_everyone.new.entries.items _
+    (choose-second (is_stopped s.books) (is_stopped t.books) [] (shut_all t.books.members) (outputs_of_joining w s.books t) going stopped)
     (acted-shut t b (books_of c.shut_everyone.new.books) _ c.args.entries.now.items c.shut_everyone.new.entries.items _ at c.in_ok-shut_everyone-in-Differs.ensures.told c.in_ok-shut_everyone-in-Differs.ensures.noted)))
 
 pub returns-in_ok-join-in-First : goal.returns-in_ok-join-in-First

@@ -4,7 +4,7 @@ use Rattle.xd_journal.specs.declared.news.What.{What}
 use Rattle.xd_ledger.specs.Meaning.{with_news}
 use Rattle.xd_session.specs.declared.judge.Verdict.TheVariants.{Silent, Follows, Breach}
 use Rattle.xd_session.specs.declared.logs.WorkerLog.{WorkerLog}
-use Rattle.xd_session.specs.Crew.{books_of}
+use Rattle.xd_session.specs.Books.{books_of}
 use Rattle.xd_session.specs.Judged.{judged}
 use Rattle.xd_session.specs.Kept.{log_in, shortened}
 use Rattle.xd_session.specs.Known.{known_by}

@@ -5,7 +5,7 @@ use Rattle.std.proofs.lemmas.Bool.Decides.{nat_tests}
 use Rattle.xd_ledger.specs.declared.member.Member.{Member}
 use Rattle.xd_ledger.specs.Workers.{slot_in, started, made_ready, made_collected, made_shut, made_gone}
 use Rattle.xd_laws.proofs.Logic.{differ, cases_of, split-and, not_true, or-left}
-use Rattle.xd_laws.proofs.Crew.{has, is_member, has-member, has-same, has-set, has-kept, has-cleared, has-more, numbers, Numbered, numbers-marked, numbered-same, numbered-more, length-numbers, none-next}
+use Rattle.xd_laws.proofs.Members.{has, is_member, has-member, has-same, has-set, has-kept, has-cleared, has-more, numbers, Numbered, numbers-marked, numbered-same, numbered-more, length-numbers, none-next}
 
 -- slots
 
@@ -28,7 +28,7 @@ IsFree slot ms = (v : ℕ) → has v (λ m. m.active) ms ≡ true → slot_in v 
 
 -- workers are numbered in order, whoever was told to shut down was ready, and each slot below the limit has at most one
 -- active worker
-pub record CrewFits (ms : List Member) (limit : ℕ) : Type 0 where
+pub record MembersFit (ms : List Member) (limit : ℕ) : Type 0 where
   pub numbered : Numbered ms
   pub shut_ready : (v : ℕ) → has v (λ m. m.shut) ms ≡ true → has v (λ m. m.ready) ms ≡ true
   pub apart : (v w : ℕ) → has v (λ m. m.active) ms ≡ true → has w (λ m. m.active) ms ≡ true → slot_in v ms ≡ slot_in w ms → v ≡ w
@@ -71,8 +71,8 @@ kin-free slot ms ns k f = λ v a e. f v (sym (k.active_same v) ∙ a) (sym (k.sl
 member-marked : (v : ℕ) (change : Member → Member) (ms : List Member) → ((m : Member) → (change m).worker ≡ m.worker) → is_member v (map change ms) ≡ is_member v ms
 member-marked v change ms a = has-same v (λ m. true) change ms a (λ m. refl)
 
-pub crew-ready : (ms : List Member) (n w : ℕ) → CrewFits ms n → CrewFits (map (made_ready w) ms) n
-crew-ready ms n w c =
+pub members-ready : (ms : List Member) (n w : ℕ) → MembersFit ms n → MembersFit (map (made_ready w) ms) n
+members-ready ms n w c =
     let f = made_ready w in
     let active : (v : ℕ) → has v (λ m. m.active) (map f ms) ≡ has v (λ m. m.active) ms = λ v. has-same v (λ m. m.active) f ms (λ m. refl) (λ m. refl) in
     let slot : (v : ℕ) → slot_in v (map f ms) ≡ slot_in v ms = λ v. slot-marked v f ms (λ m. refl) (λ m. refl) in
@@ -83,8 +83,8 @@ crew-ready ms n w c =
       below = λ v h. subst (λ (x : ℕ). x < n) (sym (slot v)) (c.below v (sym (member-marked v f ms (λ m. refl)) ∙ h));
     }
 
-pub crew-collected : (ms : List Member) (n w : ℕ) → CrewFits ms n → CrewFits (map (made_collected w) ms) n
-crew-collected ms n w c =
+pub members-collected : (ms : List Member) (n w : ℕ) → MembersFit ms n → MembersFit (map (made_collected w) ms) n
+members-collected ms n w c =
     let f = made_collected w in
     let active : (v : ℕ) → has v (λ m. m.active) (map f ms) ≡ has v (λ m. m.active) ms = λ v. has-same v (λ m. m.active) f ms (λ m. refl) (λ m. refl) in
     let slot : (v : ℕ) → slot_in v (map f ms) ≡ slot_in v ms = λ v. slot-marked v f ms (λ m. refl) (λ m. refl) in
@@ -100,8 +100,8 @@ was_active v w ms h =
     let p = split-and (not (v == w)) (has v (λ m. m.active) ms) (sym (has-cleared v w (λ m. m.active) (made_gone w) ms (λ m. refl) (λ m. refl)) ∙ h) in
     (not_true (v == w) p.0, p.1)
 
-pub crew-gone : (ms : List Member) (n w : ℕ) → CrewFits ms n → CrewFits (map (made_gone w) ms) n
-crew-gone ms n w c =
+pub members-gone : (ms : List Member) (n w : ℕ) → MembersFit ms n → MembersFit (map (made_gone w) ms) n
+members-gone ms n w c =
     let f = made_gone w in
     let slot : (v : ℕ) → slot_in v (map f ms) ≡ slot_in v ms = λ v. slot-marked v f ms (λ m. refl) (λ m. refl) in
     record {
@@ -112,7 +112,7 @@ crew-gone ms n w c =
     }
 
 -- the slot of a worker that goes is free
-pub free-gone : (ms : List Member) (n w : ℕ) → CrewFits ms n → has w (λ m. m.active) ms ≡ true → IsFree (slot_in w (map (made_gone w) ms)) (map (made_gone w) ms)
+pub free-gone : (ms : List Member) (n w : ℕ) → MembersFit ms n → has w (λ m. m.active) ms ≡ true → IsFree (slot_in w (map (made_gone w) ms)) (map (made_gone w) ms)
 free-gone ms n w c h v a e =
     let f = made_gone w in
     let slot : (u : ℕ) → slot_in u (map f ms) ≡ slot_in u ms = λ u. slot-marked u f ms (λ m. refl) (λ m. refl) in
@@ -123,8 +123,8 @@ free-gone ms n w c h v a e =
 same_ready : (v w : ℕ) (ms : List Member) → (v == w) ≡ true → has w (λ m. m.ready) ms ≡ true → has v (λ m. m.ready) ms ≡ true
 same_ready v w ms e h = let q : v ≡ w = grind (arith, nat_tests) in subst (λ u. has u (λ m. m.ready) ms ≡ true) (sym q) h
 
-pub crew-shut : (ms : List Member) (n w : ℕ) → CrewFits ms n → has w (λ m. m.ready) ms ≡ true → CrewFits (map (made_shut w) ms) n
-crew-shut ms n w c r =
+pub members-shut : (ms : List Member) (n w : ℕ) → MembersFit ms n → has w (λ m. m.ready) ms ≡ true → MembersFit (map (made_shut w) ms) n
+members-shut ms n w c r =
     let f = made_shut w in
     let k = kin-shut w ms in
     record {
@@ -151,8 +151,8 @@ not_shut false false h = cc
 same_number : (w v : ℕ) (ms : List Member) → (w == v) ≡ true → is_member w ms ≡ false → is_member v ms ≡ false
 same_number w v ms e h = let q : w ≡ v = grind (arith, nat_tests) in subst (λ u. is_member u ms ≡ false) q h
 
-pub crew-start : (ms : List Member) (n slot : ℕ) → CrewFits ms n → IsFree slot ms → slot < n → CrewFits (ms ++ started (length ms) slot ∷ []) n
-crew-start ms n slot c free low =
+pub members-start : (ms : List Member) (n slot : ℕ) → MembersFit ms n → IsFree slot ms → slot < n → MembersFit (ms ++ started (length ms) slot ∷ []) n
+members-start ms n slot c free low =
     let w = length ms in
     let new = started w slot in
     let none = none-next ms c.numbered in

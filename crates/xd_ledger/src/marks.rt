@@ -44,20 +44,20 @@ fn with_mark(m: Member, worker: u32, mark: Mark) -> Member
 }
 
 // Each member with the mark, where it is the worker.
-fn mark_all(crew: &mut Vec<Member>, worker: u32, mark: Mark)
-    ensures { crew.new.items ≡ map (made mark worker) crew.old.items }
+fn mark_all(members: &mut Vec<Member>, worker: u32, mark: Mark)
+    ensures { members.new.items ≡ map (made mark worker) members.old.items }
 {
-    for i in 0..crew.len() {
-        let m = crew[i];
-        crew[i] = with_mark(m, worker, mark);
+    for i in 0..members.len() {
+        let m = members[i];
+        members[i] = with_mark(m, worker, mark);
     }
 }
 
 // The worker's slot, or 0 where it was not started.
-fn slot_in(crew: &[Member], worker: u32) -> u32
-    ensures { result ≡ slot_in worker crew.now }
+fn slot_in(members: &[Member], worker: u32) -> u32
+    ensures { result ≡ slot_in worker members.now }
 {
-    for member in crew {
+    for member in members {
         if member.worker == worker {
             return member.slot;
         }
@@ -67,10 +67,10 @@ fn slot_in(crew: &[Member], worker: u32) -> u32
 
 impl Books {
     /// Whoever was started, in order of the starts.
-    pub fn crew(&self) -> &[Member]
-        ensures { result.now ≡ self.now.crew }
+    pub fn members(&self) -> &[Member]
+        ensures { result.now ≡ self.now.members }
     {
-        &self.crew
+        &self.members
     }
 
     /// The worker was started at the slot.
@@ -79,7 +79,7 @@ impl Books {
         ensures settings { self.new.settings ≡ self.old.settings }
         ensures lists { self.new.lists ≡ self.old.lists }
     {
-        self.crew.push(Member {
+        self.members.push(Member {
             worker,
             slot,
             active: true,
@@ -95,44 +95,46 @@ impl Books {
     pub fn mark(&mut self, worker: u32, mark: Mark)
         ensures { self.new ≡ marked (made mark worker) self.old }
     {
-        mark_all(&mut self.crew, worker, mark);
+        mark_all(&mut self.members, worker, mark);
     }
 
     /// The slot of the worker, or 0 where it was not started.
     pub fn slot_of(&self, worker: u32) -> u32
         ensures { result ≡ slot_of worker self.now }
     {
-        slot_in(&self.crew, worker)
+        slot_in(&self.members, worker)
     }
 
     pub fn is_active(&self, worker: u32) -> bool
         ensures { result ≡ is_active worker self.now }
     {
-        self.crew.iter().any(|m| m.worker == worker && m.active)
+        self.members.iter().any(|m| m.worker == worker && m.active)
     }
 
     pub fn was_ready(&self, worker: u32) -> bool
         ensures { result ≡ was_ready worker self.now }
     {
-        self.crew.iter().any(|m| m.worker == worker && m.ready)
+        self.members.iter().any(|m| m.worker == worker && m.ready)
     }
 
     pub fn has_collected(&self, worker: u32) -> bool
         ensures { result ≡ has_collected worker self.now }
     {
-        self.crew.iter().any(|m| m.worker == worker && m.collected)
+        self.members
+            .iter()
+            .any(|m| m.worker == worker && m.collected)
     }
 
     /// The worker was told to shut down.
     pub fn is_shut(&self, worker: u32) -> bool
         ensures { result ≡ is_shut worker self.now }
     {
-        self.crew.iter().any(|m| m.worker == worker && m.shut)
+        self.members.iter().any(|m| m.worker == worker && m.shut)
     }
 
     pub fn some_active(&self) -> bool
         ensures { result ≡ some_active self.now }
     {
-        self.crew.iter().any(|m| m.active)
+        self.members.iter().any(|m| m.active)
     }
 }
