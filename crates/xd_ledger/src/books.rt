@@ -69,6 +69,13 @@ impl Books {
         self.settings
     }
 
+    /// How many failures there are.
+    pub fn failures(&self) -> u32
+        ensures { result ≡ self.now.failures }
+    {
+        self.failures
+    }
+
     /// The tests were shared.
     pub fn is_shared(&self) -> bool
         ensures { result ≡ self.now.shared }
