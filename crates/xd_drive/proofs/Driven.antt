@@ -102,7 +102,7 @@ broken count s j old mid new p same is stop e kills given sunk =
     )
 
 -- the journal is a whole one
-whole-by : (failed : Bool) (s : Seen) (j : Journal) (taken : List News) → IsProper s.settings [] → j.settings ≡ s.settings → j.entries.items ≡ s.entries ++ ending failed (state_of s).books
+pub whole-by : (failed : Bool) (s : Seen) (j : Journal) (taken : List News) → IsProper s.settings [] → j.settings ≡ s.settings → j.entries.items ≡ s.entries ++ ending failed (state_of s).books
     → may_close failed (state_of s).books ≡ true → StandsFor taken s → IsWhole j
 whole-by failed s j taken p same is may st =
     let k = sound-run s.settings taken p in

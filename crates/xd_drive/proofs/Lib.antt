@@ -11,6 +11,7 @@ pub mod NextListed
 pub mod Outs
 pub mod Performs
 pub mod Runs
+mod Status
 pub mod Stepped
 pub mod Texts
 pub mod Turns

@@ -15,5 +15,5 @@ mod written;
 pub use hub::Hub;
 pub use listed_hub::ListedHub;
 pub use moment::{Moment, NoWitness, Witness};
-pub use running::drive;
+pub use running::{DrivenRun, drive};
 pub use written::Written;

@@ -2,7 +2,12 @@
 ghost use Rattle.std.specs.Prelude.{◌≡◌, ◌≤◌, [], not, IfOk, OnOk};
 ghost use Rattle.xd_edge.specs.Faults.{Counted};
 ghost use Rattle.xd_ledger.specs.Ending.{stop_of};
+ghost use Rattle.xd_ledger.specs.Histories.{run_end_of};
 ghost use Rattle.xd_ledger.specs.Proper.{IsProper};
+ghost use Rattle.xd_ledger.specs.Sharing.{State};
+ghost use Rattle.xd_ledger.specs.State.{after_entries, no_one};
+ghost use Rattle.xd_report.specs.Follows.{Follows};
+ghost use Rattle.xd_report.specs.Status.{status_in, status_of};
 ghost use Rattle.xd_session.specs.Ends.{is_out_fault};
 ghost use Rattle.xd_session.specs.Stands.{StandsFor};
 ghost use Rattle.xd_drive.specs.Driven.{Drove};
@@ -18,9 +23,19 @@ use crate::{Hub, Written};
 use std::alloc::Global;
 use std::sync::Wait;
 use xd_edge::{OutOfMemory, Sink};
-use xd_journal::Journal;
+use xd_journal::{Journal, RunStop};
 use xd_ledger::Mode;
+use xd_report::Reporter;
 use xd_session::Session;
+
+/// What a session that was driven to its end came to.
+#[derive(Drop)]
+pub struct DrivenRun {
+    /// The journal, with its end.
+    pub journal: Journal,
+    /// The exit status of the journal.
+    pub status: u8,
+}
 
 // Prints the tail of a journal that was performed, and closes the output.
 fn finish<O: Sink>(alloc: Global, journal: &Journal, out: &mut O) -> Result<Written, OutOfMemory>
@@ -42,12 +57,14 @@ fn run<R: Wait, M: Mode, H: Hub, O: Sink, W: Witness<H, O>>(
     rt: &R,
     alloc: Global,
     session: &mut Session<M>,
+    reporter: &mut Reporter,
     hub: &mut H,
     out: &mut O,
     witness: &mut W,
 ) -> Result<Written, OutOfMemory>
     requires proper { IsProper session.old.settings [] }
     requires begins { StandsFor [] session.old }
+    requires follows { Follows reporter.old (after_entries (no_one session.old.settings) session.old.entries) }
     requires slots { session.old.settings.workers ≤ H.slots hub.old }
     requires fresh { HasNoMarks (H.marks hub.old) }
     ensures ends { IfOk result (λ written. EndsRun written session.new
@@ -57,19 +74,19 @@ fn run<R: Wait, M: Mode, H: Hub, O: Sink, W: Witness<H, O>>(
         (record { marks = H.marks hub.old; starts = H.starts hub.old; calls = H.calls hub.old; given = H.given hub.old; sunk = O.sunk out.old })
         (W.seen witness.new)) }
     ensures settings { OnOk result (session.new.settings ≡ session.old.settings) }
+    ensures follows { OnOk result (Follows reporter.new (after_entries (no_one session.new.settings) session.new.entries)) }
     ensures made { H.made hub.new ≡ H.made hub.old }
     ensures later { O.faults out.old ≤ O.faults out.new }
     ensures counted { IfOk result (λ written. Counted (is_whole written) (O.faults out.old) (O.faults out.new)) }
 {
     witness.look(hub, out);
     perform(alloc, hub, &session.journal().entries)?;
-    let mut reporter = reporter_of(alloc, session.journal())?;
     for _ in rt.forever() {
         if session.over() {
             let written = finish(alloc, session.journal(), out)?;
             return Ok(written);
         }
-        let written = take_news(rt, alloc, session, &mut reporter, hub, out, witness)?;
+        let written = take_news(rt, alloc, session, reporter, hub, out, witness)?;
         if let Written::Broken { performed } = written {
             return Ok(Written::Broken { performed });
         }
@@ -77,8 +94,16 @@ fn run<R: Wait, M: Mode, H: Hub, O: Sink, W: Witness<H, O>>(
     unreachable!()
 }
 
+// The exit status of a run that is over.
+fn status_over(reporter: &Reporter) -> u8
+    ensures { (s : State) → Follows reporter.now s → result ≡ status_in s (run_end_of s.books) }
+{
+    reporter.status(reporter.first_stop().unwrap_or(RunStop::Completed))
+}
+
 /// Runs a session to its end: starts its workers, steps it with the news of active workers, performs what its journal asks
-/// for, and prints the lines of each entry before the entry is performed, then the tail. Gives the journal.
+/// for, and prints the lines of each entry before the entry is performed, then the tail. Gives the journal and its
+/// exit status, which is read off the reporter that printed the lines.
 ///
 /// The journal ends with `OutFault` exactly where not all of the report could be printed, handed on and closed. The count
 /// of faults of the output rose in this call then, and is as before else. The lines of all that was performed were handed
@@ -102,11 +127,11 @@ pub fn drive<R: Wait, M: Mode, H: Hub, O: Sink, W: Witness<H, O>>(
     hub: &mut H,
     out: &mut O,
     witness: &mut W,
-) -> Result<Journal, OutOfMemory>
+) -> Result<DrivenRun, OutOfMemory>
     requires begins { StandsFor [] session }
     requires slots { session.settings.workers ≤ H.slots hub.old }
     requires fresh { HasNoMarks (H.marks hub.old) }
-    ensures drove { IfOk result (λ j. Drove session.settings j
+    ensures drove { IfOk result (λ r. Drove session.settings r.journal
         (record {
           marks = H.marks hub.old;
           starts = H.starts hub.old;
@@ -122,15 +147,28 @@ pub fn drive<R: Wait, M: Mode, H: Hub, O: Sink, W: Witness<H, O>>(
           sunk = O.sunk out.new;
         })
         (W.seen witness.new)) }
-    ensures counted { IfOk result (λ j.
-        Counted (not (is_out_fault (stop_of j))) (O.faults out.old) (O.faults out.new)) }
+    ensures status { IfOk result (λ r. r.status ≡ status_of r.journal) }
+    ensures counted { IfOk result (λ r.
+        Counted (not (is_out_fault (stop_of r.journal))) (O.faults out.old) (O.faults out.new)) }
     ensures later { O.faults out.old ≤ O.faults out.new }
     ensures made { H.made hub.new ≡ H.made hub.old }
 {
-    let written = run(rt, alloc, &mut session, hub, out, witness)?;
+    let mut reporter = reporter_of(alloc, session.journal())?;
+    let written = run(
+        rt,
+        alloc,
+        &mut session,
+        &mut reporter,
+        hub,
+        out,
+        witness,
+    )?;
     let Written::Broken { performed } = written else {
         let journal = session.close(false)?;
-        return Ok(journal);
+        return Ok(DrivenRun {
+            journal,
+            status: status_over(&reporter),
+        });
     };
     let journal = session.close(true)?;
     kill_started(
@@ -139,5 +177,8 @@ pub fn drive<R: Wait, M: Mode, H: Hub, O: Sink, W: Witness<H, O>>(
         &journal.entries[..performed],
         &journal.entries[performed..],
     )?;
-    Ok(journal)
+    Ok(DrivenRun {
+        journal,
+        status: reporter.status(RunStop::OutFault),
+    })
 }

@@ -17,6 +17,7 @@ use Rattle.xd_journal.specs.declared.settings.Settings.{Settings}
 use Rattle.xd_ledger.specs.Ending.{stop_of}
 use Rattle.xd_report.specs.Status.{status_of}
 use Rattle.xd_session.specs.Ends.{is_out_fault}
+use Rattle.xd_drive.specs.declared.running.DrivenRun.{DrivenRun}
 use Rattle.xd_drive.specs.Driven.{Broken, IsJournalOf, Whole}
 use Rattle.xd_drive.specs.Listed.{is_among, starts_of}
 use Rattle.xd_drive.specs.Marks.{no_marks}
@@ -85,20 +86,20 @@ runs_linked {A} seen ends setup now mode j calls given workers fates places firs
 }
 
 -- what is seen of a hub that stayed as it was, where the run came to its end
-pub seen_as : {Ends E H : Type 0} (ended : Result (Journal × Ends) E) (seen : Ends → List EndedLink) (setup : Setup) (old : Seen) (f : H → Seen) (before after : H) → OnOk ended (after ≡ before)
-    → IfOk ended (λ r. RunsLinked setup r.0 (seen r.1) old (f before)) → IfOk ended (λ r. RunsLinked setup r.0 (seen r.1) old (f after))
-seen_as {H = H} (Ok r) seen setup old f before after same runs = subst (λ (h : H). RunsLinked setup r.0 (seen r.1) old (f h)) (sym same) runs
+pub seen_as : {Ends E H : Type 0} (ended : Result (DrivenRun × Ends) E) (seen : Ends → List EndedLink) (setup : Setup) (old : Seen) (f : H → Seen) (before after : H) → OnOk ended (after ≡ before)
+    → IfOk ended (λ r. RunsLinked setup r.0.journal (seen r.1) old (f before)) → IfOk ended (λ r. RunsLinked setup r.0.journal (seen r.1) old (f after))
+seen_as {H = H} (Ok r) seen setup old f before after same runs = subst (λ (h : H). RunsLinked setup r.0.journal (seen r.1) old (f h)) (sym same) runs
 seen_as (Err e) seen setup old f before after same runs = tt
 
 -- a run by what was driven and what its links left
-pub linked_run : {Ends E : Type 0} (ended : Result (Journal × Ends) E) (seen : Ends → List EndedLink) (now setup : Setup) (old new : Seen) (j : Journal) (ends : Ends) (code : ℕ)
-    → now ≡ setup → ended ≡ Ok (j, ends) → code ≡ status_of j
-    → IfOk ended (λ r. IsJournalOf now.settings r.0) → IfOk ended (λ r. RunsLinked now r.0 (seen r.1) old new)
-    → IfOk ended (λ r. Counted (not (is_out_fault (stop_of r.0))) old.out_faults new.out_faults)
+pub linked_run : {Ends E : Type 0} (ended : Result (DrivenRun × Ends) E) (seen : Ends → List EndedLink) (now setup : Setup) (old new : Seen) (j : Journal) (ends : Ends) (code : ℕ)
+    → now ≡ setup → ended ≡ Ok (record { journal = j; status = code }, ends) → IfOk ended (λ r. r.0.status ≡ status_of r.0.journal)
+    → IfOk ended (λ r. IsJournalOf now.settings r.0.journal) → IfOk ended (λ r. RunsLinked now r.0.journal (seen r.1) old new)
+    → IfOk ended (λ r. Counted (not (is_out_fault (stop_of r.0.journal))) old.out_faults new.out_faults)
     → LinkedRun setup j code (seen ends) old new
 linked_run {Ends} {E} ended seen now setup old new j ends code same e status journal runs counted = record {
-  journal = subst (λ (s : Setup). IsJournalOf s.settings j) same (IfOk-at_ok (λ (r : Journal × Ends). IsJournalOf now.settings r.0) e journal);
-  status = status;
-  runs = subst (λ (s : Setup). RunsLinked s j (seen ends) old new) same (IfOk-at_ok (λ (r : Journal × Ends). RunsLinked now r.0 (seen r.1) old new) e runs);
-  counted = IfOk-at_ok (λ (r : Journal × Ends). Counted (not (is_out_fault (stop_of r.0))) old.out_faults new.out_faults) e counted;
+  journal = subst (λ (s : Setup). IsJournalOf s.settings j) same (IfOk-at_ok (λ (r : DrivenRun × Ends). IsJournalOf now.settings r.0.journal) e journal);
+  status = IfOk-at_ok (λ (r : DrivenRun × Ends). r.0.status ≡ status_of r.0.journal) e status;
+  runs = subst (λ (s : Setup). RunsLinked s j (seen ends) old new) same (IfOk-at_ok (λ (r : DrivenRun × Ends). RunsLinked now r.0.journal (seen r.1) old new) e runs);
+  counted = IfOk-at_ok (λ (r : DrivenRun × Ends). Counted (not (is_out_fault (stop_of r.0.journal))) old.out_faults new.out_faults) e counted;
 }

@@ -17,7 +17,7 @@ ghost use Rattle.xd_linked.specs.Linked.{LinkedRun, RunsLinked, Setup, ended_lin
 use std::alloc::Global;
 use std::sync::Wait;
 use xd_crew::Crew;
-use xd_drive::{NoWitness, drive};
+use xd_drive::{DrivenRun, NoWitness, drive};
 use xd_edge::{ModeKind, OutOfMemory, Sink, Text};
 use xd_group::{Children, GatewayHub, Group, LinkEnd};
 use xd_journal::{Journal, Settings};
@@ -26,7 +26,6 @@ use xd_link::{Place, Starter};
 use xd_links::{Links, join_left};
 use xd_load::{Each, Load};
 use xd_reader::Reader;
-use xd_report::status_of;
 use xd_scope::Scope;
 use xd_session::Session;
 use xd_steal::Steal;
@@ -60,20 +59,21 @@ fn run_over<R: Wait, M: Mode, St: Starter, C: Crew<Reader<St::Src>>, O: Sink>(
     session: Session<M>,
     hub: &mut GatewayHub<St, C>,
     out: &mut O,
-) -> Result<(Journal, Vec<LinkEnd<St::Src, St::Snk>>), OutOfMemory>
+) -> Result<(DrivenRun, Vec<LinkEnd<St::Src, St::Snk>>), OutOfMemory>
     requires begins { StandsFor [] session }
     requires slots { session.settings.workers ≤ vec_len hub.old.places }
     requires no_calls { noted hub.old.group.diary.calls ≡ [] }
     requires no_news { noted hub.old.group.diary.given ≡ [] }
     requires mode { hub.old.group.mode ≡ session.settings.mode }
-    ensures journal { IfOk result (λ r. IsJournalOf session.settings r.0) }
+    ensures journal { IfOk result (λ r. IsJournalOf session.settings r.0.journal) }
+    ensures status { IfOk result (λ r. r.0.status ≡ status_of r.0.journal) }
     ensures runs { IfOk result (λ r. RunsLinked
         (record {
           suite = hub.old.group.suite;
           settings = session.settings;
           places = hub.old.places.items;
         })
-        r.0
+        r.0.journal
         (map (λ l. ended_link l.worker l.killed
         (spring (St.Src.supply l.source) (St.Src.is_ended l.source) (St.Src.faults l.source))
         (St.Snk.sunk l.sink) (St.Snk.faults l.sink)) r.1.items)
@@ -92,19 +92,19 @@ fn run_over<R: Wait, M: Mode, St: Starter, C: Crew<Reader<St::Src>>, O: Sink>(
           out_faults = O.faults out.new;
         })) }
     ensures counted { IfOk result (λ r.
-        Counted (not (is_out_fault (stop_of r.0))) (O.faults out.old) (O.faults out.new)) }
+        Counted (not (is_out_fault (stop_of r.0.journal))) (O.faults out.old) (O.faults out.new)) }
     ensures later { O.faults out.old ≤ O.faults out.new }
 {
-    let journal = drive(rt, alloc, session, hub, out, &mut NoWitness)?;
+    let driven = drive(rt, alloc, session, hub, out, &mut NoWitness)?;
     let links = hub.finish(rt, alloc)?;
-    Ok((journal, links))
+    Ok((driven, links))
 }
 
 // Where memory ran out: kills the workers that are left, and waits for their ends.
 fn end_workers<R: Wait, St: Starter, C: Crew<Reader<St::Src>>>(
     rt: &R,
     hub: &mut GatewayHub<St, C>,
-    ended: &Result<(Journal, Vec<LinkEnd<St::Src, St::Snk>>), OutOfMemory>,
+    ended: &Result<(DrivenRun, Vec<LinkEnd<St::Src, St::Snk>>), OutOfMemory>,
 )
     ensures same { OnOk ended.now (hub.new ≡ hub.old) }
     ensures over { OnErr ended.now (list_all is_killed_and_reaped hub.new.children.children.items ≡ true) }
@@ -116,21 +116,19 @@ fn end_workers<R: Wait, St: Starter, C: Crew<Reader<St::Src>>>(
 
 // What the run came to, with the starter and the crew.
 fn end_of<St: Starter, C: Crew<Reader<St::Src>>>(
-    alloc: Global,
-    ended: Result<(Journal, Vec<LinkEnd<St::Src, St::Snk>>), OutOfMemory>,
+    ended: Result<(DrivenRun, Vec<LinkEnd<St::Src, St::Snk>>), OutOfMemory>,
     starter: St,
     crew: C,
 ) -> Result<Linked<St, C>, OutOfMemory>
-    ensures ended { IfOk result (λ e. ended ≡ Ok (e.journal, e.links)) }
-    ensures status { IfOk result (λ e. e.status ≡ status_of e.journal) }
+    ensures ended { IfOk result (λ e.
+        ended ≡ Ok (record { journal = e.journal; status = e.status }, e.links)) }
     ensures starter { IfOk result (λ e. e.starter ≡ starter) }
     ensures crew { IfOk result (λ e. e.crew ≡ crew) }
 {
-    let (journal, links) = ended?;
-    let status = status_of(alloc, &journal)?;
+    let (driven, links) = ended?;
     Ok(Linked {
-        status,
-        journal,
+        status: driven.status,
+        journal: driven.journal,
         links,
         starter,
         crew,
@@ -269,5 +267,5 @@ fn run_in<R: Wait, M: Mode, St: Starter, C: Crew<Reader<St::Src>>, O: Sink>(
         mut going,
     } = links;
     join_left(rt, &mut crew, &mut desk, handles, &mut going);
-    end_of(alloc, ended, starter, crew)
+    end_of(ended, starter, crew)
 }

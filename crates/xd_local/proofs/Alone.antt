@@ -159,5 +159,11 @@ pub lists-rounds : (s : State) (n : ℕ) (rs : List TestResult) (how : RunStop) 
 lists-rounds s n [] how = refl
 lists-rounds s n (r ∷ rs) how = lists-rounds (behind_one n r s) (n + 1) rs how
 
+pub failures-rounds : (s : State) (n : ℕ) (rs : List TestResult) (how : RunStop) → (after_entries s (rounds n rs ++ Over how ∷ [])).books.failures ≡ s.books.failures + failed_of rs
+failures-rounds s n [] how = sym (plus-none s.books.failures)
+failures-rounds s n (r ∷ rs) how =
+    let e : s.books.failures + failing r.outcome + failed_of rs ≡ s.books.failures + (failing r.outcome + failed_of rs) = omega arith in
+    failures-rounds (behind_one n r s) (n + 1) rs how ∙ e
+
 pub eq_same : (n : ℕ) → (n == n) ≡ true
 eq_same n = grind (arith, nat_tests)

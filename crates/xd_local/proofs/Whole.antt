@@ -28,14 +28,18 @@ use Rattle.xd_report.specs.declared.reporter.Reporter.{Reporter}
 use Rattle.xd_report.specs.Follows.{Follows}
 use Rattle.xd_report.specs.Lines.{run_lines}
 use Rattle.xd_report.specs.Printing.{ShowsEnd}
+use Rattle.xd_report.specs.Status.{status_in, status_of}
+use Rattle.xd_report.specs.Summary.{counts}
 use Rattle.xd_report.specs.Text.{run_text, text_of}
+use Rattle.xd_report.proofs.EachReport.{failed-all}
+use Rattle.xd_report.proofs.Failures.{status-faulty, status-over}
 use Rattle.xd_report.proofs.Named.{blocks-named, lines-named}
 use Rattle.xd_report.proofs.Texts.{over-same}
 use Rattle.xd_local.specs.Local.{faults_of, KeepsLimit, RunsSuite, RunsTests, local_settings, stop_after, stop_at}
 use Rattle.xd_local.specs.Outside.{Programs}
 use Rattle.xd_local.specs.Print.{AtStep, AtEnd, DidAll, FailedAt, PrintsReport, failures_in}
-use Rattle.xd_local.specs.Running.{BelowLimit, ClosedJournal, HasCollected, HasEnded, WasCollected, IsNew, RanPrinted, Running, Scene, ShowsReport, FollowsJournal, after_journal, failed_of, ids_of}
-use Rattle.xd_local.proofs.Alone.{below-at, below-first, eq_same, failures-alone, faults-alone, is_some-stop, items-alone, length-alone, lists-rounds, low-none, reports-rounds, reports_alone, stop-begun, stop_by, take-alone, unwrap-stop}
+use Rattle.xd_local.specs.Running.{BelowLimit, ClosedJournal, HasCollected, HasEnded, HasStatus, WasCollected, IsNew, RanPrinted, Running, Scene, ShowsReport, FollowsJournal, after_journal, failed_of, ids_of}
+use Rattle.xd_local.proofs.Alone.{below-at, below-first, eq_same, failures-alone, failures-rounds, faults-alone, is_some-stop, items-alone, length-alone, lists-rounds, low-none, reports-rounds, reports_alone, stop-begun, stop_by, take-alone, unwrap-stop}
 use Rattle.xd_local.proofs.Report.{failed_part}
 
 over_in-rounds : (n : ℕ) (rs : List TestResult) (how other : RunStop) → over_in (rounds n rs ++ Over how ∷ []) other ≡ how
@@ -289,6 +293,27 @@ module _ (tests : List Test) (maxfail : ℕ) (j1 : Journal) (shown : Bool) (old 
         shows = subst (λ (t : List ℕ). PrintedPart t old.sunk new.sunk) (sym text_same) (failed_part j0.settings j0.entries.items old.sunk new.sunk _ failed);
       })
 
+  -- the failures that the books keep are the failed reports
+  failures_kept : (after_entries (no_one j1.settings) j1.entries.items).books.failures ≡ (counts j1.settings j1.entries.items).failed
+  failures_kept =
+      let kept : (after_entries (no_one j1.settings) j1.entries.items).books.failures ≡ 0 + failures =
+      ap (λ (st : Settings). (after_entries (no_one st) j1.entries.items).books.failures) settings_are
+      ∙ ap (λ (es : List Entry). (after_entries (no_one (local_settings maxfail)) es).books.failures) entries_are
+      ∙ failures-rounds start 0 results how in
+      let told : (counts j1.settings j1.entries.items).failed ≡ 0 + failures_in (reports_in j1) = failed-all (no_one j1.settings) j1.entries.items (record { failed = 0; passed = 0; skipped = 0 }) in
+      omega (kept, told, failures_are, arith)
+
+  -- the exit status, by whether all was printed
+  status_by : (status : ℕ) → HasStatus shown new.run status → (b : Bool) → shown ≡ b → status ≡ status_of j1
+  status_by status h true is =
+      h.told (after_journal j0) (e.ran.told is)
+      ∙ ap (λ (st : Settings). status_in (after_entries (no_one st) j0.entries.items) how) (sym e.same_settings)
+      ∙ status-over j1 j0.entries.items how e.ended stop_is failures_kept
+  status_by status h false is = h.broken is ∙ sym (status-faulty j1 (how_broken is))
+
+  pub status_is : (status : ℕ) → HasStatus shown new.run status → status ≡ status_of j1
+  status_is status h = status_by status h shown refl
+
   -- the run, by how the output's count of faults went with it
   pub runs_tests : (before now : ℕ) → Counted shown before now
       → RunsTests tests maxfail j1 (record { out = record { sunk = old.sunk; faults = before }; programs = old.run.programs }) (record { out = record { sunk = new.sunk; faults = now }; programs = new.run.programs })
@@ -320,17 +345,27 @@ closed_as : (shown : Bool) (r : Running) (j : Journal) → ClosedJournal shown r
 closed_as true r j c told = c.entries (after_journal r.journal) (told refl)
 closed_as false r j c told = c.broken refl
 
+ended_as : (tests : List Test) (maxfail : ℕ) (r0 r1 r2 : Running) (j : Journal) (out0 out1 : Option Sunk) (shown : Bool)
+    → IsNew maxfail r0 → HasCollected tests r0 r1 → RanPrinted shown tests (record { run = r1; sunk = out0 }) (record { run = r2; sunk = out1 }) → ClosedJournal shown r2 j → Ended tests maxfail j shown (record { run = r1; sunk = out0 }) (record { run = r2; sunk = out1 })
+ended_as tests maxfail r0 r1 r2 j out0 out1 shown n c ran closed = record {
+  ran = ran;
+  settings = c.settings ∙ n.settings;
+  same_settings = closed.settings;
+  ended = closed_as shown r2 j closed ran.told;
+}
+
 -- from the words to the end
 pub whole_run : (tests : List Test) (maxfail : ℕ) (r0 r1 r2 : Running) (j : Journal) (out0 out1 : Option Sunk) (shown : Bool) (before now : ℕ) (p0 p1 : Programs)
     → IsNew maxfail r0 → r0.programs ≡ p0 → HasCollected tests r0 r1 → RanPrinted shown tests (record { run = r1; sunk = out0 }) (record { run = r2; sunk = out1 }) → Counted shown before now → ClosedJournal shown r2 j → r2.programs ≡ p1
     → RunsTests tests maxfail j (record { out = record { sunk = out0; faults = before }; programs = p0 }) (record { out = record { sunk = out1; faults = now }; programs = p1 })
 whole_run tests maxfail r0 r1 r2 j out0 out1 shown before now p0 p1 n first c ran count closed last =
-    let e : Ended tests maxfail j shown (record { run = r1; sunk = out0 }) (record { run = r2; sunk = out1 }) = record {
-      ran = ran;
-      settings = c.settings ∙ n.settings;
-      same_settings = closed.settings;
-      ended = closed_as shown r2 j closed ran.told;
-    } in
+    let e = ended_as tests maxfail r0 r1 r2 j out0 out1 shown n c ran closed in
     subst (λ (p : Programs). RunsTests tests maxfail j (record { out = record { sunk = out0; faults = before }; programs = p }) (record { out = record { sunk = out1; faults = now }; programs = p1 })) (c.programs ∙ first)
     (subst (λ (p : Programs). RunsTests tests maxfail j (record { out = record { sunk = out0; faults = before }; programs = r1.programs }) (record { out = record { sunk = out1; faults = now }; programs = p })) last
     (runs_tests tests maxfail j shown (record { run = r1; sunk = out0 }) (record { run = r2; sunk = out1 }) e before now count))
+
+-- the same of its exit status
+pub whole_status : (tests : List Test) (maxfail : ℕ) (r0 r1 r2 : Running) (j : Journal) (out0 out1 : Option Sunk) (shown : Bool) (status : ℕ)
+    → IsNew maxfail r0 → HasCollected tests r0 r1 → RanPrinted shown tests (record { run = r1; sunk = out0 }) (record { run = r2; sunk = out1 }) → ClosedJournal shown r2 j → HasStatus shown r2 status → status ≡ status_of j
+whole_status tests maxfail r0 r1 r2 j out0 out1 shown status n c ran closed h =
+    status_is tests maxfail j shown (record { run = r1; sunk = out0 }) (record { run = r2; sunk = out1 }) (ended_as tests maxfail r0 r1 r2 j out0 out1 shown n c ran closed) status h

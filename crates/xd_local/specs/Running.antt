@@ -19,6 +19,7 @@ use Rattle.xd_report.specs.declared.reporter.Reporter.{Reporter}
 use Rattle.xd_report.specs.Follows.{Follows}
 use Rattle.xd_report.specs.Lines.{lines_from, run_lines}
 use Rattle.xd_report.specs.Printing.{ShowsEnd, ShowsLines}
+use Rattle.xd_report.specs.Status.{status_in}
 use Rattle.xd_report.specs.Text.{text_of}
 use Rattle.xd_child.specs.declared.running.ChildResult.{ChildResult}
 use Rattle.xd_child.specs.Ending.{fault_count}
@@ -179,3 +180,8 @@ pub record ClosedJournal (shown : Bool) (r : Running) (j : Journal) : Type 0 whe
   pub settings : j.settings ≡ r.journal.settings
   pub entries : (s : State) → Follows r.reporter s → j.entries.items ≡ r.journal.entries.items ++ Over (stop_after shown s.books.stop) ∷ []
   pub broken : shown ≡ false → j.entries.items ≡ r.journal.entries.items ++ Over OutFault ∷ []
+
+-- the exit status, by the state that the reporter followed; where the output failed that is none of its matter
+pub record HasStatus (shown : Bool) (r : Running) (status : ℕ) : Type 0 where
+  pub told : (s : State) → Follows r.reporter s → status ≡ status_in s (stop_after shown s.books.stop)
+  pub broken : shown ≡ false → status ≡ 3

@@ -1,5 +1,6 @@
 // The tests of a suite, one after another in this program.
-ghost use Rattle.std.specs.Prelude.{IfOk};
+ghost use Rattle.std.specs.Prelude.{◌≡◌, IfOk};
+ghost use Rattle.xd_report.specs.Status.{status_of};
 ghost use Rattle.xd_local.specs.Local.{RunsTests};
 
 use crate::running::Run;
@@ -21,10 +22,11 @@ pub struct LocalSuite<K: Children> {
     pub children: K,
 }
 
-/// The journal of a run, and the programs that were handed in.
+/// The journal of a run and its exit status, and the programs that were handed in.
 #[derive(Drop)]
 pub struct LocalRun<K: Children> {
     pub journal: Journal,
+    pub status: u8,
     pub children: K,
 }
 
@@ -45,6 +47,7 @@ pub fn run_suite<R: Wait, K: Children, T: Clock, O: Sink>(
           out = record { sunk = O.sunk out.new; faults = O.faults out.new };
           programs = record { runs = K.runs r.children; faults = K.faults r.children };
         })) }
+    ensures status { IfOk result (λ r. r.status ≡ status_of r.journal) }
 {
     let mut run = Run::new(suite.alloc, suite.maxfail, suite.children);
     run.collect(&suite.tests)?;

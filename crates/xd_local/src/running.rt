@@ -11,7 +11,7 @@ ghost use Rattle.xd_report.specs.Lines.{lines_from};
 ghost use Rattle.xd_report.specs.Printing.{OnPrinted, ShowsEnd, ShowsLines};
 ghost use Rattle.xd_report.specs.Text.{tail_text};
 ghost use Rattle.xd_local.specs.Local.{local_settings, stop_after};
-ghost use Rattle.xd_local.specs.Running.{AddsRound, ClosedJournal, HasCollected, WasCollected, IsNew, NotesTest};
+ghost use Rattle.xd_local.specs.Running.{AddsRound, ClosedJournal, HasCollected, HasStatus, WasCollected, IsNew, NotesTest};
 ghost use Rattle.xd_local.specs.Running.{RanAll, RanPrinted, RanTest, FollowsJournal, after_journal, scene};
 
 use crate::local::LocalRun;
@@ -217,9 +217,10 @@ impl<K: Children> Run<K> {
         print_tail(self.alloc, &self.journal, out)
     }
 
-    // The journal with its end, and the programs.
+    // The journal with its end, its exit status, and the programs.
     pub fn close(mut self, shown: bool) -> Result<LocalRun<K>, OutOfMemory>
         ensures closed { IfOk result (λ r. ClosedJournal shown self r.journal) }
+        ensures status { IfOk result (λ r. HasStatus shown self r.status) }
         ensures children { IfOk result (λ r. self.programs ≡
             record { runs = K.runs r.children; faults = K.faults r.children }) }
     {
@@ -227,6 +228,7 @@ impl<K: Children> Run<K> {
         self.journal.push(Entry::Over { how })?;
         Ok(LocalRun {
             journal: self.journal,
+            status: self.reporter.status(how),
             children: self.children,
         })
     }

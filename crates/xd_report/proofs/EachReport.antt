@@ -18,7 +18,7 @@ use Rattle.xd_ledger.specs.Reports.{Report, Result, Crash, reports_of, reports_f
 use Rattle.xd_ledger.specs.Retry.{is_retry}
 use Rattle.xd_ledger.specs.Sharing.{State, in_books, is_full, shared_now}
 use Rattle.xd_ledger.specs.Collecting.{after_collected, collecting}
-use Rattle.xd_ledger.specs.State.{is_input, after_effect, after_entry, reached, settled}
+use Rattle.xd_ledger.specs.State.{is_input, after_effect, after_entries, after_entry, reached, settled}
 use Rattle.xd_ledger.specs.Stops.{stopped_by}
 use Rattle.xd_ledger.specs.Table.{crash_item, held, joined}
 use Rattle.xd_ledger.specs.Workers.{is_shut, made_collected, slot_of}
@@ -190,6 +190,10 @@ reached-settings s e = either (is_input e) (settled s) s s.books.settings refl r
 
 pub next-settings : (s : State) (e : Entry) → (after_entry s e).books.settings ≡ s.books.settings
 next-settings s e = after_effect-settings (reached s e) e ∙ reached-settings s e
+
+pub settings-kept : (s : State) (es : List Entry) → (after_entries s es).books.settings ≡ s.books.settings
+settings-kept s [] = refl
+settings-kept s (e ∷ es) = settings-kept (after_entry s e) es ∙ next-settings s e
 
 -- lines
 

@@ -1,5 +1,6 @@
 pub mod EachReport
 pub mod Endings
+pub mod Failures
 pub mod Kept
 pub mod Loops
 pub mod Moves
@@ -8,4 +9,5 @@ pub mod Named
 pub mod Prints
 pub mod Rising
 pub mod Rows
+pub mod Sums
 pub mod Texts

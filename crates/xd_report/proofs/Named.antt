@@ -26,7 +26,7 @@ use Rattle.xd_report.specs.Blocks.{block, block_of, blocks_from, crash_reason}
 use Rattle.xd_report.specs.EachReport.{Block, Line, Tests, Of, NodeDown, Retried, Replaces, HasNamedBlockEach, HasNamedLineEach, Names, NamesBlocks, id_in, is_failure, kept_outputs, outputs_from, outputs_of, reports_told, retried, retried_from, retried_of, text_of_line, text_of_report}
 use Rattle.xd_report.specs.Lines.{collected_line, last_of_slot, lines_from, lines_of, lost_line, replacing, run_lines}
 use Rattle.xd_report.specs.Tests.{id_of, item_id, mode_of, tests}
-use Rattle.xd_report.proofs.EachReport.{all_blocks, collected-settings, join, join_blocks, next-settings}
+use Rattle.xd_report.proofs.EachReport.{all_blocks, collected-settings, join, join_blocks, next-settings, settings-kept}
 use Rattle.xd_report.proofs.Texts.{blocks-more, lines-more}
 
 -- lines with names, put together
@@ -391,10 +391,6 @@ plan-kept : (s : State) (es : List Entry) → (after_entries s es).plan.mode ≡
 plan-kept s [] = refl
 plan-kept s (e ∷ es) =
     plan-kept (after_entry s e) es ∙ after_effect-plan (reached s e) e ∙ plan-either (is_input e) (settled s) s s.plan.mode refl refl
-
-settings-kept : (s : State) (es : List Entry) → (after_entries s es).books.settings ≡ s.books.settings
-settings-kept s [] = refl
-settings-kept s (e ∷ es) = settings-kept (after_entry s e) es ∙ next-settings s e
 
 -- the state behind the first collection
 behind : (settings : Settings) (before : List Entry) (first : Listed) → listed_in 0 (after_entries (no_one settings) before).books.lists ≡ Some first → Listing settings first (after_entries (no_one settings) before)

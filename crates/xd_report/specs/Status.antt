@@ -8,10 +8,11 @@ use Rattle.xd_journal.specs.declared.entry.Entry.{Entry}
 use Rattle.xd_journal.specs.declared.settings.Settings.{Settings}
 use Rattle.xd_journal.specs.declared.journal.Journal.{Journal}
 use Rattle.xd_journal.specs.Local.{is_local_mode}
+use Rattle.xd_ledger.specs.Sharing.{State}
 use Rattle.xd_ledger.specs.State.{state_at}
 use Rattle.xd_ledger.specs.Ending.{stop_in}
 use Rattle.xd_report.specs.Summary.{counts}
-use Rattle.xd_report.specs.Tests.{tests}
+use Rattle.xd_report.specs.Tests.{mode_of, tests}
 
 -- of a run that completed, by how many tests there are and how many failed
 abbrev pub completed_status : ℕ → ℕ → ℕ
@@ -29,6 +30,10 @@ stop_status mode OutFault _ _ = 3
 -- of a run with these settings and entries; without its end by the stop so far
 abbrev pub run_status : Settings → List Entry → ℕ
 run_status settings es = stop_status settings.mode (stop_in settings es) (tests (state_at settings es)) (counts settings es).failed
+
+-- of a run that is in this state and ends so; what counts are the failures that its books keep
+abbrev pub status_in : State → RunStop → ℕ
+status_in s how = stop_status (mode_of s) how (tests s) s.books.failures
 
 -- of the run of a journal
 -- Example: of a run that completed one test failed and the others passed: 1.

@@ -1,5 +1,5 @@
 // The items that one worker holds.
-ghost use Rattle.std.specs.Prelude.{◌≡◌, [], ◌∷◌, ◌++◌, length, OnOk, true, ◌↔◌};
+ghost use Rattle.std.specs.Prelude.{◌≡◌, [], ◌∷◌, ◌++◌, ◌-◌, drop, length, OnOk, true, ◌↔◌};
 ghost use Rattle.std.specs.List.Sorted.{IsStrictlyIncreasing};
 ghost use Rattle.xd_ledger.specs.Numbers.{first_of, without};
 
@@ -11,8 +11,8 @@ use xd_edge::OutOfMemory;
 
 /// The items that a worker holds, the one that runs first in front. Contracts see the list.
 ///
-/// A worker mostly gets items in rising order and completes the first. Where the list rises, its first item stands
-/// nowhere after it, so it is taken without a walk over the others.
+/// A worker mostly gets items in rising order, completes the first and gives back the last. Where the list rises, each item
+/// stands in it once, so the first one and the last ones are taken without a walk over the others.
 #[derive(Drop)]
 pub struct Held {
     items: VecDeque<u64>,
@@ -84,6 +84,8 @@ impl Held {
     {
         if self.rising && is_first(&self.items, items) {
             self.items.pop_front();
+        } else if self.rising && is_end(&self.items, items) {
+            self.items.truncate(self.items.len() - items.len());
         } else {
             self.walk(items);
         }
@@ -103,6 +105,22 @@ fn is_first(held: &VecDeque<u64>, items: &[u64]) -> bool
     ensures { (result ≡ true) ↔ ((length items.now ≡ 1) × (first_of items.now ≡ first_of held.now.items)) }
 {
     items.len() == 1 && items.first() == held.front()
+}
+
+// Whether they are the last ones that are held, in their order.
+fn is_end(held: &VecDeque<u64>, items: &[u64]) -> bool
+    ensures { (result ≡ true) ↔ (drop (length held.now.items - length items.now) held.now.items ≡ items.now) }
+{
+    if held.len() < items.len() {
+        return false;
+    }
+    let kept = held.len() - items.len();
+    for i in 0..items.len() {
+        if held[kept + i] != items[i] {
+            return false;
+        }
+    }
+    true
 }
 
 // Whether each one is larger than the one before it.

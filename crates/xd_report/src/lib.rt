@@ -27,5 +27,4 @@ pub use laws::{block_law, counts_law, id_law, line_law, lines_law, local_law};
 pub use lines::report_lines;
 pub use printing::{PrintFault, print_lines, print_tail, was_printed};
 pub use reporter::Reporter;
-pub use status::status_of;
 pub use summary::summary_line;

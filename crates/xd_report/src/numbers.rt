@@ -1,6 +1,6 @@
 // Numbers and lists of them. What has no room in a number has none in memory either.
 ghost use Rattle.std.specs.Prelude.{◌≡◌, ◌+◌, ◌==◌, ◌++◌, ◌∷◌, IfOk, map, sum, OnOk};
-ghost use Rattle.std.specs.List.{range_with_len, list_any};
+ghost use Rattle.std.specs.List.{list_all, list_any, range_with_len};
 
 use std::alloc::Global;
 use xd_edge::OutOfMemory;
@@ -22,6 +22,12 @@ pub fn sum_of(numbers: &[u64]) -> Result<u64, OutOfMemory>
         total = plus(total, *number)?;
     }
     Ok(total)
+}
+
+pub fn are_all_zero(numbers: &[u64]) -> bool
+    ensures { result ≡ list_all (λ n. n == 0) numbers.now }
+{
+    numbers.iter().all(|&number| number == 0)
 }
 
 /// The numbers, each that much larger.

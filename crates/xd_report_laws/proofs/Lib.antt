@@ -1,3 +1,4 @@
+pub mod Failures
 pub mod Ids
 pub mod Named
 mod Rows

@@ -10,7 +10,6 @@ use std::sync::Wait;
 use xd_edge::{Children, Clock, FileFault, Files, MAX_SUITE_BYTES, OutOfMemory, Sink, Text};
 use xd_journal::Journal;
 use xd_local::{LocalSuite, run_suite};
-use xd_report::status_of;
 use xd_suite::{Suite, SuiteFault, SuiteRefusal, SuiteWhat};
 
 const TOO_LARGE: SuiteFault = SuiteFault {
@@ -76,9 +75,8 @@ pub fn run_named<R: Wait, F: Files, K: Children, T: Clock, O: Sink, E: Sink>(
                 children: file.children,
             };
             let run = run_suite(rt, suite, clock, out)?;
-            let status = status_of(file.alloc, &run.journal)?;
             Ok(LocalEnd {
-                status,
+                status: run.status,
                 journal: Some(run.journal),
                 children: run.children,
             })

@@ -16,13 +16,12 @@ use crate::words::{news_of, number, show_bytes, show_entries};
 use std::alloc::Global;
 use std::sync::Wait;
 use std::test::Fail;
-use xd_drive::{ListedHub, drive};
+use xd_drive::{DrivenRun, ListedHub, drive};
 use xd_edge::{Indices, MemSink, ModeKind};
-use xd_journal::{Journal, Settings};
+use xd_journal::Settings;
 use xd_ledger::Mode;
 use xd_load::{Each, Load};
 use xd_note::Log;
-use xd_report::status_of;
 use xd_scope::Scope;
 use xd_session::Session;
 use xd_steal::Steal;
@@ -99,11 +98,10 @@ pub struct Ran {
     pub rest: String,
 }
 
-fn rest_of(alloc: Global, journal: &Journal, out: &MemSink) -> Result<String, Fail> {
+fn rest_of(alloc: Global, run: &DrivenRun, out: &MemSink) -> Result<String, Fail> {
     let mut text = String::new(alloc);
-    show_entries(alloc, &mut text, &journal.entries)?;
-    let status = status_of(alloc, journal)?;
-    write!(text, "~ {status} ~ ")?;
+    show_entries(alloc, &mut text, &run.journal.entries)?;
+    write!(text, "~ {} ~ ", run.status)?;
     show_bytes(&mut text, out.bytes.as_slice())?;
     Ok(text)
 }
@@ -173,9 +171,9 @@ fn run_in<R: Wait, M: Mode>(
     let mut hub = ListedHub::new(alloc, news_of(alloc, news)?, refused);
     let mut out = output_that_fails(alloc, words)?;
     let mut moments = Log::new(alloc)?;
-    let journal = drive(rt, alloc, session, &mut hub, &mut out, &mut moments)?;
+    let run = drive(rt, alloc, session, &mut hub, &mut out, &mut moments)?;
     let mut calls = String::new(alloc);
     show_entries(alloc, &mut calls, &hub.calls)?;
-    let rest = rest_of(alloc, &journal, &out)?;
+    let rest = rest_of(alloc, &run, &out)?;
     Ok(Ran { calls, rest })
 }

@@ -1,12 +1,27 @@
 use Rattle.std.proofs.Common.{[], refl, sym, ◌∙◌}
 use Rattle.xd_laws.proofs.Logic.{differ}
+use Rattle.xd_report.proofs.Failures.{status-faulty}
 use Rattle.xd_session.proofs.Lawful.{stands-proper}
 use Rattle.xd_drive.proofs.Driven.{drive-broken, drive-journal, drive-journal-broken, drive-kills, drive-whole}
+use Rattle.xd_drive.proofs.Follow.{follows-same}
 use Rattle.xd_drive.proofs.InOrder.{order-whole}
+use Rattle.xd_drive.proofs.Status.{status-driven}
 use Rattle.xd_drive.proofs.running.drive.Goals as goal
 
 pub run-requires-clause-proper : goal.run-requires-clause-proper
 run-requires-clause-proper g c = stands-proper [] c.args.session c.requires.begins
+
+pub run-requires-clause-follows : goal.run-requires-clause-follows
+run-requires-clause-follows g c = follows-same _ _ _ _ _ c.journal.ensures.settings c.journal.ensures.entries c.in_ok-reporter.ensures
+
+pub returns-in_default-clause-status : goal.returns-in_default-clause-status
+returns-in_default-clause-status g c =
+    c.status_over.ensures _ c.in_ok-written.ensures.follows
+    ∙ status-driven c.args.session.settings c.run.new.session c.in_ok-journal.journal (stands-proper [] c.args.session c.requires.begins) c.in_ok-written.ensures.settings c.in_ok-journal.ensures.settings c.in_ok-written.written _ _ c.in_default.not-Broken
+    c.in_ok-journal.ensures.entries c.in_ok-journal.ensures.stop c.in_ok-written.ensures.ends
+
+pub returns-clause-status : goal.returns-clause-status
+returns-clause-status g c = c.status.ensures.out_fault refl ∙ sym (status-faulty c.in_ok-journal-2.journal c.in_ok-journal-2.ensures.stop)
 
 pub returns-in_default-clause-drove : goal.returns-in_default-clause-drove
 returns-in_default-clause-drove g c = record {

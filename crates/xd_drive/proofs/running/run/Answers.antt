@@ -2,7 +2,6 @@ use Rattle.std.proofs.Common.{◌++◌, ◌∷◌, [], refl, sym, ◌∙◌, ap,
 use Rattle.xd_journal.specs.declared.settings.Settings.{Settings}
 use Rattle.xd_ledger.specs.Proper.{IsProper}
 use Rattle.xd_drive.specs.Written.{is_whole}
-use Rattle.xd_drive.proofs.Follow.{follows-same}
 use Rattle.xd_drive.proofs.InOrder.{order-first, order-next, order-over, order-stops}
 use Rattle.xd_drive.proofs.Loop.{begins, first-possible, going-next, over-ends, someone-first, someone-still, stop-by, takes-whole, whole-of}
 use Rattle.xd_drive.proofs.running.run.Goals as goal
@@ -20,7 +19,7 @@ loop-init g c =
       going = ([], first);
       in_order = order-first c.args.session.now _ _ _ c.requires.begins c.look.ensures;
       settings = refl;
-      reports = follows-same _ _ _ _ _ c.journal-2.ensures.settings c.journal-2.ensures.entries c.in_ok-reporter.ensures;
+      reports = c.requires.follows;
       slots = c.perform.ensures.slots;
       made = c.perform.ensures.made;
       someone = someone-first c.args.session.now _ _ c.requires.proper c.requires.begins first;

@@ -3,7 +3,7 @@ use Rattle.std.specs.Prelude.{option_map}
 use Rattle.xd_group.specs.Children.{told_of}
 use Rattle.xd_link.specs.Spring.{spring}
 use Rattle.xd_linked.specs.Linked.{Setup, ended_link}
-use Rattle.xd_linked.proofs.Facts.{by_four}
+use Rattle.xd_linked.proofs.Facts.{by_three}
 use Rattle.xd_linked.proofs.Linking.{linked_run, seen_as}
 use Rattle.xd_linked.proofs.linked.run_in.Goals as goal
 
@@ -14,11 +14,11 @@ returns-clause-ran g c =
     let now : Setup = record { suite = c.in_ok-hub.hub.group.suite; settings = c.in_ok-session.session.settings; places = c.in_ok-hub.hub.places.items } in
     let setup : Setup = record { suite = c.args.suite.path; settings = c.args.suite.settings; places = c.args.suite.places.items } in
     let same : now ≡ setup = rw (hub.suite, c.in_ok-session.ensures.settings, hub.places) refl in
-    by_four c.end_of.result c.end_of.ensures.ended c.end_of.ensures.status c.end_of.ensures.starter c.end_of.ensures.crew
-    (λ e ended status starter crew. linked_run c.run_over-ended.result
+    by_three c.end_of.result c.end_of.ensures.ended c.end_of.ensures.starter c.end_of.ensures.crew
+    (λ e ended starter crew. linked_run c.run_over-ended.result
     (λ links. map (λ l. ended_link l.worker l.killed (spring (g.St.Src.Source.supply l.source) (g.St.Src.Source.is_ended l.source) (g.St.Src.Source.faults l.source)) (g.St.Snk.Sink.sunk l.sink) (g.St.Snk.Sink.faults l.sink)) links.items)
     now setup _ _ e.journal e.links e.status
-    same ended status
+    same ended run.status
     run.journal
     (rw (starter, crew, c.join_left.ensures) (seen_as c.run_over-ended.result _ now _
     (λ h. record {
