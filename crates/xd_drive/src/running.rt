@@ -154,15 +154,7 @@ pub fn drive<R: Wait, M: Mode, H: Hub, O: Sink, W: Witness<H, O>>(
     ensures made { H.made hub.new ≡ H.made hub.old }
 {
     let mut reporter = reporter_of(alloc, session.journal())?;
-    let written = run(
-        rt,
-        alloc,
-        &mut session,
-        &mut reporter,
-        hub,
-        out,
-        witness,
-    )?;
+    let written = run(rt, alloc, &mut session, &mut reporter, hub, out, witness)?;
     let Written::Broken { performed } = written else {
         let journal = session.close(false)?;
         return Ok(DrivenRun {

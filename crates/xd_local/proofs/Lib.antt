@@ -3,3 +3,4 @@ pub mod NewLines
 pub mod Report
 pub mod Steps
 pub mod Whole
+pub mod Timings

@@ -13,12 +13,13 @@ use Rattle.xd_report.specs.Lines.{lines_from}
 use Rattle.xd_report.specs.Printing.{ShowsLines}
 use Rattle.xd_report.proofs.Texts.{after_effect-more}
 use Rattle.xd_local.specs.Running.{IsNoted, NotesTest, RanTest, Running, FollowsJournal, after_journal}
+use Rattle.xd_local.specs.Timing.{Ticking}
 
 -- the entries that came last
 new_ones : (old added new : List Entry) (from : ℕ) → new ≡ old ++ added → from ≡ length old → drop from new ≡ added
 new_ones old added new from is at = ap (λ (l : List Entry). drop from l) is ∙ drop_at old added from (sym at)
 
-module _ (test : ℕ) (args : List (List ℕ)) (from : ℕ) (old mid new : Running) (n : NotesTest test args old mid) (from_is : from ≡ length old.journal.entries.items) (same : new ≡ record mid { reporter = new.reporter }) where
+module _ (test : ℕ) (args : List (List ℕ)) (from : ℕ) (before now : Ticking) (old mid new : Running) (n : NotesTest test args before now old mid) (from_is : from ≡ length old.journal.entries.items) (same : new ≡ record mid { reporter = new.reporter }) where
   added : drop from mid.journal.entries.items ≡ round test n.result
   added = new_ones old.journal.entries.items (round test n.result) mid.journal.entries.items from n.noted.entries from_is
 
@@ -46,10 +47,11 @@ module _ (test : ℕ) (args : List (List ℕ)) (from : ℕ) (old mid new : Runni
 
   pub ran_test : (shown : Bool) (out_old out_new : Option Sunk) → ShowsLines shown (lines_from (after_journal old.journal) (drop from mid.journal.entries.items)) out_old out_new
       → (shown ≡ true → Follows new.reporter (after_entries (after_journal old.journal) (drop from mid.journal.entries.items)))
-      → RanTest shown test args (record { run = old; sunk = out_old }) (record { run = new; sunk = out_new })
+      → RanTest shown test args (record { run = old; sunk = out_old; clock = before }) (record { run = new; sunk = out_new; clock = now })
   ran_test shown out_old out_new shows follows = record {
     result = n.result;
     noted = noted;
+    timed = n.timed;
     shows = subst (λ (l : List Entry). ShowsLines shown (lines_from (after_journal old.journal) l) out_old out_new) added shows;
     told = λ is. followed (follows is);
   }

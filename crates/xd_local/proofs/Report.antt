@@ -21,14 +21,15 @@ module _ (tests : List Test) (old : Scene) where
   not_ran new ran = record {
     results = ran.results;
     so_far = ran.so_far;
+    timed = ran.timed;
     all = ran.all;
     shows = inl ran.shows;
     told = ran.told;
   }
 
   -- the tail goes to the output, and leaves the run as it was
-  pub printed : (shown : Bool) (mid : Scene) (out : Option Sunk) → RanAll true tests old mid → ShowsEnd shown (tail_text mid.run.journal) mid.sunk out → RanPrinted shown tests old (record { run = mid.run; sunk = out })
-  printed shown mid out ran shows = record { results = ran.results; so_far = ran.so_far; all = λ is. ran.all refl; shows = both shown shows; told = λ is. ran.told refl }
+  pub printed : (shown : Bool) (mid : Scene) (out : Option Sunk) → RanAll true tests old mid → ShowsEnd shown (tail_text mid.run.journal) mid.sunk out → RanPrinted shown tests old (record { run = mid.run; sunk = out; clock = mid.clock })
+  printed shown mid out ran shows = record { results = ran.results; so_far = ran.so_far; timed = ran.timed; all = λ is. ran.all refl; shows = both shown shows; told = λ is. ran.told refl }
     where
       both : (b : Bool) → ShowsEnd b (tail_text mid.run.journal) mid.sunk out → ShowsReport b (HasEnded old.run.journal.settings.maxfail tests ran.results) mid.run.journal old.sunk out
       both true tail = shows-end (run_lines mid.run.journal.settings mid.run.journal.entries.items) (tail_text mid.run.journal) old.sunk mid.sunk out ran.shows tail

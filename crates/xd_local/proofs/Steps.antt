@@ -33,9 +33,11 @@ use Rattle.xd_child.specs.Ending.{fault_count, outcome_of}
 use Rattle.xd_child.specs.Running.{RanChild}
 use Rattle.xd_local.specs.Local.{kept_by, kept_outputs, local_settings, RanTests}
 use Rattle.xd_local.specs.Outside.{Programs}
+use Rattle.xd_local.specs.Timing.{AreTimed}
 use Rattle.xd_local.specs.Print.{AtStep}
 use Rattle.xd_local.specs.Running.{child_of, failed_of, ids_of, result_faults, after_journal, WasCollected, Progress, RanAll, RanTest, Running, Scene, SoFar}
 use Rattle.xd_local.proofs.Alone.{below-next, is_some-stop, stop-begun, stop_by}
+use Rattle.xd_local.proofs.Timings.{timed_more}
 
 rounds-last : (n : ℕ) (rs : List TestResult) (r : TestResult) → rounds n (rs ++ r ∷ []) ≡ rounds n rs ++ round (n + length rs) r
 rounds-last n [] r = let same : n ≡ n + 0 = omega arith in ap (λ k. round k r) same
@@ -136,7 +138,7 @@ module _ (tests : List Test) where
       within = omega arith;
     }
 
-    module _ (begun : WasCollected tests old.run) (new : Scene) (same : new.run ≡ record (old.run) { reporter = new.run.reporter }) where
+    module _ (begun : WasCollected tests old.run) (new : Scene) (same : new.run ≡ record (old.run) { reporter = new.run.reporter }) (same_clock : new.clock ≡ old.clock) where
       entries_same : new.run.journal.entries.items ≡ local_entries (ids_of tests) []
       entries_same = ap (λ (r : Running). r.journal.entries.items) same ∙ begun.entries
 
@@ -153,6 +155,7 @@ module _ (tests : List Test) where
       start shows follows = record {
         results = [];
         so_far = first;
+        timed = same_clock;
         counted = refl;
         spent_is = ap (λ (r : Running). r.spent) same ∙ begun.nothing_kept;
         shows = subst (λ (l : List ℕ). ShowsSome l old.sunk new.sunk) (sym lines_same) shows;
@@ -163,6 +166,7 @@ module _ (tests : List Test) where
       not_collected shows = record {
         results = [];
         so_far = first;
+        timed = same_clock;
         all = λ no. cc;
         shows = record {
           before = [];
@@ -189,6 +193,7 @@ module _ (tests : List Test) where
     limited count new b p is reached = record {
       results = p.results;
       so_far = p.so_far;
+      timed = p.timed;
       all = λ _. inl (sym (reached_is new.run p.results b p.so_far is) ∙ reached);
       shows = p.shows;
       told = λ _. p.told;
@@ -242,6 +247,9 @@ module _ (tests : List Test) where
         within = omega (arith, long, within);
       }
 
+      timed : AreTimed results old.clock new.clock
+      timed = timed_more p.results more.result old.clock mid.clock new.clock p.timed more.timed
+
       abbrev added : List ℕ
       added = lines_from (after_journal mid.run.journal) (round k more.result)
 
@@ -262,6 +270,7 @@ module _ (tests : List Test) where
       go is = record {
         results = results;
         so_far = so_far;
+        timed = timed;
         counted = long;
         spent_is = more.noted.spent ∙ (let s = p.spent_is in let t = total_kept in omega arith);
         shows = subst (λ (l : List ℕ). ShowsSome l old.sunk new.sunk) (sym text)
@@ -273,10 +282,11 @@ module _ (tests : List Test) where
       stop is = record {
         results = results;
         so_far = so_far;
+        timed = timed;
         all = λ no. cc;
         shows = subst (λ (st : Settings). AtStep st es2 old.sunk new.sunk) (sym more.noted.settings) (broke (subst (λ b. ShowsLines b added mid.sunk new.sunk) is more.shows));
         told = λ no. cc;
       }
 
     pub finish : (new : Scene) → Progress (length tests) tests old new → RanAll true tests old new
-    finish new p = record { results = p.results; so_far = p.so_far; all = λ _. inr p.counted; shows = p.shows; told = λ _. p.told }
+    finish new p = record { results = p.results; so_far = p.so_far; timed = p.timed; all = λ _. inr p.counted; shows = p.shows; told = λ _. p.told }

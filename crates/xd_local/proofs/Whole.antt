@@ -37,6 +37,7 @@ use Rattle.xd_report.proofs.Named.{blocks-named, lines-named}
 use Rattle.xd_report.proofs.Texts.{over-same}
 use Rattle.xd_local.specs.Local.{faults_of, KeepsLimit, RunsSuite, RunsTests, local_settings, stop_after, stop_at}
 use Rattle.xd_local.specs.Outside.{Programs}
+use Rattle.xd_local.specs.Timing.{Ticking}
 use Rattle.xd_local.specs.Print.{AtStep, AtEnd, DidAll, FailedAt, PrintsReport, failures_in}
 use Rattle.xd_local.specs.Running.{BelowLimit, ClosedJournal, HasCollected, HasEnded, HasStatus, WasCollected, IsNew, RanPrinted, Running, Scene, ShowsReport, FollowsJournal, after_journal, failed_of, ids_of}
 use Rattle.xd_local.proofs.Alone.{below-at, below-first, eq_same, failures-alone, failures-rounds, faults-alone, is_some-stop, items-alone, length-alone, lists-rounds, low-none, reports-rounds, reports_alone, stop-begun, stop_by, take-alone, unwrap-stop}
@@ -182,11 +183,12 @@ module _ (tests : List Test) (maxfail : ℕ) (j1 : Journal) (shown : Bool) (old 
       by_end stopped true is_shown = how_printed is_shown ∙ ap (stop_at maxfail) (sym failures_are)
       by_end stopped false is_shown = absurd (stopped (how_broken is_shown))
 
-  suite : RunsSuite tests j1 old.run.programs.runs new.run.programs.runs
-  suite = record {
+  suite : (before now : ℕ) → RunsSuite tests j1 (record { out = record { sunk = old.sunk; faults = before }; programs = old.run.programs; clock = old.clock }) (record { out = record { sunk = new.sunk; faults = now }; programs = new.run.programs; clock = new.clock })
+  suite before now = record {
     results = e.ran.results;
     entries = entries_are ∙ ap (λ (s : RunStop). local_entries ids results ++ Over s ∷ []) (sym stop_is);
     ran = e.ran.so_far.ran;
+    timed = e.ran.timed;
     few_kept = e.ran.so_far.few_kept;
     few_in_all = e.ran.so_far.few_in_all;
   }
@@ -316,11 +318,11 @@ module _ (tests : List Test) (maxfail : ℕ) (j1 : Journal) (shown : Bool) (old 
 
   -- the run, by how the output's count of faults went with it
   pub runs_tests : (before now : ℕ) → Counted shown before now
-      → RunsTests tests maxfail j1 (record { out = record { sunk = old.sunk; faults = before }; programs = old.run.programs }) (record { out = record { sunk = new.sunk; faults = now }; programs = new.run.programs })
+      → RunsTests tests maxfail j1 (record { out = record { sunk = old.sunk; faults = before }; programs = old.run.programs; clock = old.clock }) (record { out = record { sunk = new.sunk; faults = now }; programs = new.run.programs; clock = new.clock })
   runs_tests before now count = record {
     legal = legal;
     settings = settings_are;
-    suite = suite;
+    suite = suite before now;
     once = once;
     limit = limit;
     names = names;
@@ -345,27 +347,29 @@ closed_as : (shown : Bool) (r : Running) (j : Journal) → ClosedJournal shown r
 closed_as true r j c told = c.entries (after_journal r.journal) (told refl)
 closed_as false r j c told = c.broken refl
 
-ended_as : (tests : List Test) (maxfail : ℕ) (r0 r1 r2 : Running) (j : Journal) (out0 out1 : Option Sunk) (shown : Bool)
-    → IsNew maxfail r0 → HasCollected tests r0 r1 → RanPrinted shown tests (record { run = r1; sunk = out0 }) (record { run = r2; sunk = out1 }) → ClosedJournal shown r2 j → Ended tests maxfail j shown (record { run = r1; sunk = out0 }) (record { run = r2; sunk = out1 })
-ended_as tests maxfail r0 r1 r2 j out0 out1 shown n c ran closed = record {
+-- from the words to the end: what the parts of a run came to
+ended_as : (tests : List Test) (maxfail : ℕ) (r0 r1 r2 : Running) (j : Journal) (out0 out1 : Option Sunk) (shown : Bool) (clock0 clock1 : Ticking)
+    → IsNew maxfail r0 → HasCollected tests r0 r1 → RanPrinted shown tests (record { run = r1; sunk = out0; clock = clock0 }) (record { run = r2; sunk = out1; clock = clock1 }) → ClosedJournal shown r2 j
+    → Ended tests maxfail j shown (record { run = r1; sunk = out0; clock = clock0 }) (record { run = r2; sunk = out1; clock = clock1 })
+ended_as tests maxfail r0 r1 r2 j out0 out1 shown clock0 clock1 n c ran closed = record {
   ran = ran;
   settings = c.settings ∙ n.settings;
   same_settings = closed.settings;
   ended = closed_as shown r2 j closed ran.told;
 }
 
--- from the words to the end
-pub whole_run : (tests : List Test) (maxfail : ℕ) (r0 r1 r2 : Running) (j : Journal) (out0 out1 : Option Sunk) (shown : Bool) (before now : ℕ) (p0 p1 : Programs)
-    → IsNew maxfail r0 → r0.programs ≡ p0 → HasCollected tests r0 r1 → RanPrinted shown tests (record { run = r1; sunk = out0 }) (record { run = r2; sunk = out1 }) → Counted shown before now → ClosedJournal shown r2 j → r2.programs ≡ p1
-    → RunsTests tests maxfail j (record { out = record { sunk = out0; faults = before }; programs = p0 }) (record { out = record { sunk = out1; faults = now }; programs = p1 })
-whole_run tests maxfail r0 r1 r2 j out0 out1 shown before now p0 p1 n first c ran count closed last =
-    let e = ended_as tests maxfail r0 r1 r2 j out0 out1 shown n c ran closed in
-    subst (λ (p : Programs). RunsTests tests maxfail j (record { out = record { sunk = out0; faults = before }; programs = p }) (record { out = record { sunk = out1; faults = now }; programs = p1 })) (c.programs ∙ first)
-    (subst (λ (p : Programs). RunsTests tests maxfail j (record { out = record { sunk = out0; faults = before }; programs = r1.programs }) (record { out = record { sunk = out1; faults = now }; programs = p })) last
-    (runs_tests tests maxfail j shown (record { run = r1; sunk = out0 }) (record { run = r2; sunk = out1 }) e before now count))
+-- the run as a whole
+pub whole_run : (tests : List Test) (maxfail : ℕ) (r0 r1 r2 : Running) (j : Journal) (out0 out1 : Option Sunk) (shown : Bool) (before now : ℕ) (p0 p1 : Programs) (clock0 clock1 : Ticking)
+    → IsNew maxfail r0 → r0.programs ≡ p0 → HasCollected tests r0 r1 → RanPrinted shown tests (record { run = r1; sunk = out0; clock = clock0 }) (record { run = r2; sunk = out1; clock = clock1 }) → Counted shown before now → ClosedJournal shown r2 j → r2.programs ≡ p1
+    → RunsTests tests maxfail j (record { out = record { sunk = out0; faults = before }; programs = p0; clock = clock0 }) (record { out = record { sunk = out1; faults = now }; programs = p1; clock = clock1 })
+whole_run tests maxfail r0 r1 r2 j out0 out1 shown before now p0 p1 clock0 clock1 n first c ran count closed last =
+    let e = ended_as tests maxfail r0 r1 r2 j out0 out1 shown clock0 clock1 n c ran closed in
+    subst (λ (p : Programs). RunsTests tests maxfail j (record { out = record { sunk = out0; faults = before }; programs = p; clock = clock0 }) (record { out = record { sunk = out1; faults = now }; programs = p1; clock = clock1 })) (c.programs ∙ first)
+    (subst (λ (p : Programs). RunsTests tests maxfail j (record { out = record { sunk = out0; faults = before }; programs = r1.programs; clock = clock0 }) (record { out = record { sunk = out1; faults = now }; programs = p; clock = clock1 })) last
+    (runs_tests tests maxfail j shown (record { run = r1; sunk = out0; clock = clock0 }) (record { run = r2; sunk = out1; clock = clock1 }) e before now count))
 
 -- the same of its exit status
-pub whole_status : (tests : List Test) (maxfail : ℕ) (r0 r1 r2 : Running) (j : Journal) (out0 out1 : Option Sunk) (shown : Bool) (status : ℕ)
-    → IsNew maxfail r0 → HasCollected tests r0 r1 → RanPrinted shown tests (record { run = r1; sunk = out0 }) (record { run = r2; sunk = out1 }) → ClosedJournal shown r2 j → HasStatus shown r2 status → status ≡ status_of j
-whole_status tests maxfail r0 r1 r2 j out0 out1 shown status n c ran closed h =
-    status_is tests maxfail j shown (record { run = r1; sunk = out0 }) (record { run = r2; sunk = out1 }) (ended_as tests maxfail r0 r1 r2 j out0 out1 shown n c ran closed) status h
+pub whole_status : (tests : List Test) (maxfail : ℕ) (r0 r1 r2 : Running) (j : Journal) (out0 out1 : Option Sunk) (shown : Bool) (status : ℕ) (clock0 clock1 : Ticking)
+    → IsNew maxfail r0 → HasCollected tests r0 r1 → RanPrinted shown tests (record { run = r1; sunk = out0; clock = clock0 }) (record { run = r2; sunk = out1; clock = clock1 }) → ClosedJournal shown r2 j → HasStatus shown r2 status → status ≡ status_of j
+whole_status tests maxfail r0 r1 r2 j out0 out1 shown status clock0 clock1 n c ran closed h =
+    status_is tests maxfail j shown (record { run = r1; sunk = out0; clock = clock0 }) (record { run = r2; sunk = out1; clock = clock1 }) (ended_as tests maxfail r0 r1 r2 j out0 out1 shown clock0 clock1 n c ran closed) status h

@@ -20,6 +20,7 @@ use Rattle.xd_ledger.specs.Reports.Report.{Result, Crash}
 use Rattle.xd_report.specs.EachReport.{NamesTests}
 use Rattle.xd_child.specs.Ending.{fault_count, outcome_of}
 use Rattle.xd_local.specs.Outside.{Reach}
+use Rattle.xd_local.specs.Timing.{AreTimed}
 use Rattle.xd_local.specs.Print.{PrintsReport, failures_in}
 
 -- without workers, and with this limit on failures; 0 is no limit
@@ -47,12 +48,13 @@ pub record RanTests (tests : List Test) (results : List TestResult) (old new : O
   pub outputs : map (λ r. r.output) results ≡ kept_outputs 0 runs
   pub added : new ≡ option_map (λ l. l ++ runs) old
 
--- The journal is the collection of these tests, their results and the end; the results are those of their programs, and
--- what they keep of their output is within the limits.
-pub record RunsSuite (tests : List Test) (j : Journal) (old new : Option (List ChildRun)) : Type 0 where
+-- The journal is the collection of these tests, their results and the end; the results are those of their programs, took as
+-- long as the clock says, and keep no more of their output than the limits allow.
+pub record RunsSuite (tests : List Test) (j : Journal) (old new : Reach) : Type 0 where
   pub results : List TestResult
   pub entries : j.entries.items ≡ local_entries (map (λ t. t.id) tests) results ++ Over (stop_of j) ∷ []
-  pub ran : RanTests tests results old new
+  pub ran : RanTests tests results old.programs.runs new.programs.runs
+  pub timed : AreTimed results old.clock new.clock
   pub few_kept : list_all (λ r. nat_le (length r.output) most_of_one) results ≡ true
   pub few_in_all : kept_by results ≤ most_of_all
 
@@ -86,7 +88,7 @@ faults_of rs = sum_by report_faults rs
 pub record RunsTests (tests : List Test) (maxfail : ℕ) (j : Journal) (old new : Reach) : Type 0 where
   pub legal : IsLegal j
   pub settings : j.settings ≡ local_settings maxfail
-  pub suite : RunsSuite tests j old.programs.runs new.programs.runs
+  pub suite : RunsSuite tests j old new
   pub once : NamesInOrder j
   pub limit : KeepsLimit maxfail j
   pub names : NamesTests j

@@ -2,6 +2,7 @@
 use Rattle.std.specs.Prelude.{ℕ, List, Option}
 use Rattle.xd_edge.specs.Children.{ChildRun}
 use Rattle.xd_edge.specs.Sink.{Sunk}
+use Rattle.xd_local.specs.Timing.{Ticking}
 
 -- an output: what it took, and its count of faults
 pub record Output : Type 0 where
@@ -13,7 +14,8 @@ pub record Programs : Type 0 where
   pub runs : Option (List ChildRun)
   pub faults : ℕ
 
--- all of it
+-- all of it, and the clock
 pub record Reach : Type 0 where
   pub out : Output
   pub programs : Programs
+  pub clock : Ticking

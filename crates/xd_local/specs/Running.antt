@@ -27,6 +27,7 @@ use Rattle.xd_child.specs.Running.{RanChild}
 use Rattle.xd_local.specs.Local.{RanTests, kept_by, local_settings, stop_after}
 use Rattle.xd_local.specs.Outside.{Programs}
 use Rattle.xd_local.specs.Print.{AtStep, FailedAt}
+use Rattle.xd_local.specs.Timing.{AreTimed, Lasts, Ticking}
 
 -- the run: its journal, the reporter that follows it, how many bytes of output it keeps, and its programs
 pub record Running : Type 0 where
@@ -35,14 +36,15 @@ pub record Running : Type 0 where
   pub spent : ℕ
   pub programs : Programs
 
--- the run, and what its output took
+-- the run, what its output took, and its clock
 pub record Scene : Type 0 where
   pub run : Running
   pub sunk : Option Sunk
+  pub clock : Ticking
 
--- these two as one value
-abbrev pub scene : Running → Option Sunk → Scene
-scene run sunk = record { run = run; sunk = sunk }
+-- these as one value, with the moments of the clock
+abbrev pub scene : Running → Option Sunk → ℕ → Option (List ℕ) → Scene
+scene run sunk moment coming = record { run = run; sunk = sunk; clock = record { moment = moment; coming = coming } }
 
 -- the state after a journal
 abbrev pub after_journal : Journal → State
@@ -96,16 +98,18 @@ pub record IsNoted (test : ℕ) (args : List (List ℕ)) (result : TestResult) (
   pub still : fault_count result.outcome ≡ 0 → new.programs.faults ≡ old.programs.faults
   pub later : old.programs.faults ≤ new.programs.faults
 
--- the same, and nothing of it was printed
-pub record NotesTest (test : ℕ) (args : List (List ℕ)) (old new : Running) : Type 0 where
+-- the same, which took as long as the clock says, and nothing of it was printed
+pub record NotesTest (test : ℕ) (args : List (List ℕ)) (before now : Ticking) (old new : Running) : Type 0 where
   pub result : TestResult
   pub noted : IsNoted test args result old new
   pub unseen : new.reporter ≡ old.reporter
+  pub timed : Lasts result.ms before now
 
 -- what one test adds to the run and its output
 pub record RanTest (shown : Bool) (test : ℕ) (args : List (List ℕ)) (old new : Scene) : Type 0 where
   pub result : TestResult
   pub noted : IsNoted test args result old.run new.run
+  pub timed : Lasts result.ms old.clock new.clock
   pub shows : ShowsLines shown (lines_from (after_journal old.run.journal) (round test result)) old.sunk new.sunk
   pub told : shown ≡ true → FollowsJournal new.run
 
@@ -144,6 +148,7 @@ pub record SoFar (results : List TestResult) (tests : List Test) (old new : Runn
 pub record Progress (count : ℕ) (tests : List Test) (old new : Scene) : Type 0 where
   pub results : List TestResult
   pub so_far : SoFar results tests old.run new.run
+  pub timed : AreTimed results old.clock new.clock
   pub counted : length results ≡ count
   pub spent_is : new.run.spent ≡ kept_by results
   pub shows : ShowsSome (run_lines new.run.journal.settings new.run.journal.entries.items) old.sunk new.sunk
@@ -163,6 +168,7 @@ ShowsReport false did_all j old new = FailedAt did_all j.settings j.entries.item
 pub record RanAll (shown : Bool) (tests : List Test) (old new : Scene) : Type 0 where
   pub results : List TestResult
   pub so_far : SoFar results tests old.run new.run
+  pub timed : AreTimed results old.clock new.clock
   pub all : shown ≡ true → HasEnded old.run.journal.settings.maxfail tests results
   pub shows : ShowsSteps shown new.run.journal old.sunk new.sunk
   pub told : shown ≡ true → FollowsJournal new.run
@@ -171,6 +177,7 @@ pub record RanAll (shown : Bool) (tests : List Test) (old new : Scene) : Type 0 
 pub record RanPrinted (shown : Bool) (tests : List Test) (old new : Scene) : Type 0 where
   pub results : List TestResult
   pub so_far : SoFar results tests old.run new.run
+  pub timed : AreTimed results old.clock new.clock
   pub all : shown ≡ true → HasEnded old.run.journal.settings.maxfail tests results
   pub shows : ShowsReport shown (HasEnded old.run.journal.settings.maxfail tests results) new.run.journal old.sunk new.sunk
   pub told : shown ≡ true → FollowsJournal new.run

@@ -42,10 +42,12 @@ pub fn run_suite<R: Wait, K: Children, T: Clock, O: Sink>(
         (record {
           out = record { sunk = O.sunk out.old; faults = O.faults out.old };
           programs = record { runs = K.runs suite.children; faults = K.faults suite.children };
+          clock = record { moment = T.moment clock.old; coming = T.coming clock.old };
         })
         (record {
           out = record { sunk = O.sunk out.new; faults = O.faults out.new };
           programs = record { runs = K.runs r.children; faults = K.faults r.children };
+          clock = record { moment = T.moment clock.new; coming = T.coming clock.new };
         })) }
     ensures status { IfOk result (λ r. r.status ≡ status_of r.journal) }
 {

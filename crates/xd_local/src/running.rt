@@ -88,7 +88,8 @@ impl<K: Children> Run<K> {
     ) -> Result<(), PrintFault>
         requires begun { WasCollected suite.now self.old }
         ensures ran { OnPrinted result (λ shown. RanPrinted shown suite.now
-            (scene self.old (O.sunk out.old)) (scene self.new (O.sunk out.new))) }
+            (scene self.old (O.sunk out.old) (T.moment clock.old) (T.coming clock.old))
+            (scene self.new (O.sunk out.new) (T.moment clock.new) (T.coming clock.new))) }
         ensures counted { OnPrinted result (λ shown.
             Counted shown (O.faults out.old) (O.faults out.new)) }
     {
@@ -108,7 +109,8 @@ impl<K: Children> Run<K> {
     ) -> Result<(), PrintFault>
         requires begun { WasCollected suite.now self.old }
         ensures ran { OnPrinted result (λ shown. RanAll shown suite.now
-            (scene self.old (O.sunk out.old)) (scene self.new (O.sunk out.new))) }
+            (scene self.old (O.sunk out.old) (T.moment clock.old) (T.coming clock.old))
+            (scene self.new (O.sunk out.new) (T.moment clock.new) (T.coming clock.new))) }
         ensures counted { OnPrinted result (λ shown.
             Counted shown (O.faults out.old) (O.faults out.new)) }
     {
@@ -143,7 +145,8 @@ impl<K: Children> Run<K> {
         requires told { FollowsJournal self.old }
         requires room { self.old.spent ≤ most_of_all }
         ensures ran { OnPrinted result (λ shown. RanTest shown test (run_at suite.now test)
-            (scene self.old (O.sunk out.old)) (scene self.new (O.sunk out.new))) }
+            (scene self.old (O.sunk out.old) (T.moment clock.old) (T.coming clock.old))
+            (scene self.new (O.sunk out.new) (T.moment clock.new) (T.coming clock.new))) }
         ensures counted { OnPrinted result (λ shown.
             Counted shown (O.faults out.old) (O.faults out.new)) }
     {
@@ -163,7 +166,10 @@ impl<K: Children> Run<K> {
     ) -> Result<(), OutOfMemory>
         requires test { test < length suite.now }
         requires room { self.old.spent ≤ most_of_all }
-        ensures notes { OnOk result (NotesTest test (run_at suite.now test) self.old self.new) }
+        ensures notes { OnOk result (NotesTest test (run_at suite.now test)
+            (record { moment = T.moment clock.old; coming = T.coming clock.old })
+            (record { moment = T.moment clock.new; coming = T.coming clock.new })
+            self.old self.new) }
     {
         let start = clock.now();
         let room = room_behind(self.spent);

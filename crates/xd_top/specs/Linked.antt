@@ -10,12 +10,14 @@ abbrev pub seen_by_run : Outside → Seen
 seen_by_run o = record { begun = option_map told_of o.starter.begun; starter_faults = o.starter.faults; crew_faults = o.crews.readers; sunk = o.streams.out.sunk; out_faults = o.streams.out.faults }
 
 -- The suite was run on workers. Its file is read by them, and the programs of its tests are theirs: this program reads no
--- file, and starts no program of a test.
+-- file, starts no program of a test, hands no job to the crew that runs programs, and does not ask its clock.
 pub record RunsOnWorkers (setup : Setup) (j : Journal) (code : ℕ) (links : List EndedLink) (old new : Outside) : Type 0 where
   pub run : LinkedRun setup j code links (seen_by_run old) (seen_by_run new)
   pub quiet : new.streams.err ≡ old.streams.err
   pub no_file : new.streams.files ≡ old.streams.files
   pub no_program : new.programs ≡ old.programs
+  pub no_runner : new.crews.runners ≡ old.crews.runners
+  pub no_moment : new.clock ≡ old.clock
 
 -- What the words of a run on workers came to: always a run.
 -- Example: the suite file is missing: each worker says so, the run has a journal, and its status is 2.

@@ -5,6 +5,7 @@ use Rattle.xd_journal.specs.declared.journal.Journal.{Journal}
 use Rattle.xd_report.specs.Status.{status_of}
 use Rattle.xd_local.specs.Local.{RunsTests}
 use Rattle.xd_local.specs.Outside.{Programs, Reach}
+use Rattle.xd_local.specs.Timing.{Ticking}
 use Rattle.xd_top.specs.Outside.{Outside, Streams}
 use Rattle.xd_top.specs.Refusal.{HasSuite, RefusesSuite}
 
@@ -22,14 +23,15 @@ pub record LocalResult : Type 0 where
 pub record Around : Type 0 where
   pub streams : Streams
   pub programs : Programs
+  pub clock : Ticking
 
 -- these, of all that is outside
 abbrev pub around : Outside → Around
-around o = record { streams = o.streams; programs = o.programs }
+around o = record { streams = o.streams; programs = o.programs; clock = record { moment = o.clock.moment; coming = o.clock.coming } }
 
 -- what the run of the tests sees of these
 abbrev pub reach_of : Around → Reach
-reach_of a = record { out = a.streams.out; programs = a.programs }
+reach_of a = record { out = a.streams.out; programs = a.programs; clock = a.clock }
 
 -- The suite file of this name was run: its tests, with their journal, and the status of the journal.
 -- Example: the suite file lists no test: the run has a journal, and its status is 5.

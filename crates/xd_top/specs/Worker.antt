@@ -50,12 +50,13 @@ pub record ServesLink (place : Place) (l : EndedLink) (status : ℕ) (old new : 
   pub complete : IfSome l.link.spring.supply (λ s. AreGood old.files.held (all_bytes s) (scene_at (unwritten l.link.sunk) 0 old) (scene_at l.link.sunk l.link.writes new)
       → StoodStill 0 l.link.spring.faults → AreStill (scene_at (unwritten l.link.sunk) 0 old) (scene_at l.link.sunk l.link.writes new) → status ≡ 0)
 
--- The link to this place could not be started.
+-- The link to this place could not be started. All but the starter is as it was: no file was read, no program was started, no
+-- job was handed to a crew, and the clock was not asked.
 pub record StartsNone (place : Place) (status : ℕ) (old new : Workplace) : Type 0 where
   pub three : status ≡ 3
   pub fault : Rose old.starter.faults new.starter.faults
   pub asked : new.starter.begun ≡ option_map (with_failure place) old.starter.begun
-  pub no_child : new.programs.runs ≡ old.programs.runs
+  pub nothing_else : new ≡ record old { starter = new.starter }
 
 -- What serving one link came to, by that link.
 abbrev pub DidServe : Place → List EndedLink → ℕ → Workplace → Workplace → Type 0

@@ -55,6 +55,7 @@ pub fn run_named<R: Wait, F: Files, K: Children, T: Clock, O: Sink, E: Sink>(
             err = record { sunk = E.sunk err.old; faults = E.faults err.old };
           };
           programs = record { runs = K.runs file.children; faults = K.faults file.children };
+          clock = record { moment = T.moment clock.old; coming = T.coming clock.old };
         })
         (record {
           streams = record {
@@ -63,8 +64,10 @@ pub fn run_named<R: Wait, F: Files, K: Children, T: Clock, O: Sink, E: Sink>(
             err = record { sunk = E.sunk err.new; faults = E.faults err.new };
           };
           programs = record { runs = K.runs e.children; faults = K.faults e.children };
+          clock = record { moment = T.moment clock.new; coming = T.coming clock.new };
         })) }
-    ensures no_child { IfOk result (λ e. IfNone e.journal (e.children ≡ file.children)) }
+    ensures no_child { IfOk result (λ e.
+        IfNone e.journal ((e.children ≡ file.children) × (clock.new ≡ clock.old))) }
 {
     match read_suite(file.alloc, &file.suite, files)? {
         Ok(tests) => {

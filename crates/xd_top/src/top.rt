@@ -110,8 +110,9 @@ pub fn xdrun<
         })) }
     ensures no_link { IfOk result (λ e. has_links (plan_of words.now) ≡ false →
         (e.links.items ≡ []) × (e.starter ≡ starter) × (e.crew ≡ crew)) }
+    ensures no_runner { has_links (plan_of words.now) ≡ false → runner.new ≡ runner.old }
     ensures no_child { IfOk result (λ e. has_links (plan_of words.now) ≡ false →
-        IfNone e.journal (e.children ≡ children)) }
+        IfNone e.journal ((e.children ≡ children) × (clock.new ≡ clock.old))) }
 {
     let end = match plan_of(alloc, words)? {
         Plan::Local { suite, maxfail } => {

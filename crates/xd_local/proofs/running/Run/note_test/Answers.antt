@@ -1,6 +1,7 @@
 use Rattle.std.proofs.Common.{List, ℕ, ◌+◌, ◌-◌, ap, length, refl, subst}
 use Rattle.xd_suite.specs.Tests.{run_at}
 use Rattle.xd_child.specs.Running.{RanChild}
+use Rattle.xd_local.proofs.Timings.{lasts}
 use Rattle.xd_local.proofs.running.Run.note_test.Goals as goal
 
 pub returns : goal.returns
@@ -18,5 +19,8 @@ returns g c = record {
       later = c.run_child.ensures.later;
     };
     unseen = refl;
+    timed = lasts c.now-start.result c.now.result _ (record { moment = g.T.Clock.moment c.now-start.new.self; coming = g.T.Clock.coming c.now-start.new.self }) _
+        (record { later = c.now-start.ensures.later; last = c.now-start.ensures.last; told = c.now-start.ensures.told; next = c.now-start.ensures.next })
+        (record { later = c.now.ensures.later; last = c.now.ensures.last; told = c.now.ensures.told; next = c.now.ensures.next });
   });
 }

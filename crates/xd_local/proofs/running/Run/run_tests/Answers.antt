@@ -9,12 +9,12 @@ pub returns-in_err-print_from-clause-ran : goal.returns-in_err-print_from-clause
 returns-in_err-print_from-clause-ran g c =
     let failed = err_from_is_err_and c.from_residual.result c.from_residual.ensures.1 in
     rw (failed.1) (ends_on failed.0 _ _ _ failed.2
-    (λ shows. not_collected c.args.suite.now (record { run = c.args.self.now; sunk = g.O.Sink.sunk c.args.out.now }) c.requires.begun.settings c.requires.begun (record { run = c.print_from.new.self; sunk = g.O.Sink.sunk c.print_from.new.out }) c.print_from.ensures.keeps shows)
+    (λ shows. not_collected c.args.suite.now (record { run = c.args.self.now; sunk = g.O.Sink.sunk c.args.out.now; clock = record { moment = g.T.Clock.moment c.args.clock.now; coming = g.T.Clock.coming c.args.clock.now } }) c.requires.begun.settings c.requires.begun (record { run = c.print_from.new.self; sunk = g.O.Sink.sunk c.print_from.new.out; clock = record { moment = g.T.Clock.moment c.args.clock.now; coming = g.T.Clock.coming c.args.clock.now } }) c.print_from.ensures.keeps refl shows)
     (c.in_err-print_from.ensures.shows (no_one c.args.self.now.journal.settings) c.requires.begun.unseen))
 
 pub loop-test-init : goal.loop-test-init
 loop-test-init g c = record {
-  progress = start c.args.suite.now (record { run = c.args.self.now; sunk = g.O.Sink.sunk c.args.out.now }) c.requires.begun.settings c.requires.begun (record { run = c.print_from.new.self; sunk = g.O.Sink.sunk c.print_from.new.out }) c.print_from.ensures.keeps
+  progress = start c.args.suite.now (record { run = c.args.self.now; sunk = g.O.Sink.sunk c.args.out.now; clock = record { moment = g.T.Clock.moment c.args.clock.now; coming = g.T.Clock.coming c.args.clock.now } }) c.requires.begun.settings c.requires.begun (record { run = c.print_from.new.self; sunk = g.O.Sink.sunk c.print_from.new.out; clock = record { moment = g.T.Clock.moment c.args.clock.now; coming = g.T.Clock.coming c.args.clock.now } }) c.print_from.ensures.keeps refl
       (c.in_ok-print_from.ensures.shows (no_one c.args.self.now.journal.settings) c.requires.begun.unseen)
       (c.in_ok-print_from.ensures.follows (no_one c.args.self.now.journal.settings) c.requires.begun.unseen);
   still = c.in_ok-print_from.ensures.counted.still refl;
