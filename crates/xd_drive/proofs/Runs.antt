@@ -12,13 +12,13 @@ use Rattle.xd_journal.specs.declared.news.What.TheVariants as what
 use Rattle.xd_journal.specs.declared.entry.Ids.{Ids}
 use Rattle.xd_journal.specs.declared.entry.Ids.TheVariants as ids
 use Rattle.xd_journal.specs.declared.entry.Entry.{Entry}
-use Rattle.xd_journal.specs.declared.entry.Entry.TheVariants.{Ready, Collected, Done, Back, Finished, Refused, Down, NotStarted, Start, Run, RunAll, Steal, Shutdown, Kill, Over}
+use Rattle.xd_journal.specs.declared.entry.Entry.TheVariants.{Ready, Collected, Done, Back, Finished, Refused, Down, NotStarted}
 use Rattle.xd_ledger.specs.declared.member.Listed.{Listed}
 use Rattle.xd_ledger.specs.Plan.{is_scope}
 use Rattle.xd_ledger.specs.Workers.{is_active}
 use Rattle.xd_ledger.specs.Collections.{listed, differ_at}
 use Rattle.xd_ledger.specs.Sharing.{State}
-use Rattle.xd_ledger.specs.State.{settled, after_entry, after_effect, after_entries, no_one, state_at}
+use Rattle.xd_ledger.specs.State.{settled, after_effect, after_entries, no_one, state_at}
 use Rattle.xd_ledger.specs.Outputs.{outputs, after_input}
 use Rattle.xd_ledger.specs.Histories.{after_starts, after_inputs}
 use Rattle.xd_ledger.specs.Proper.{IsProper, may_follow, all_may_follow, names_head, has_workers}
@@ -30,12 +30,14 @@ use Rattle.xd_laws.proofs.Turns.{Tidy}
 use Rattle.xd_laws.proofs.Rule.{Rule}
 use Rattle.xd_laws.proofs.Outputs.{outputs-fit}
 use Rattle.xd_laws.proofs.Runs.{begun-holds, all-hold}
+use Rattle.xd_laws.proofs.Walk.{input-of}
 use Rattle.xd_laws.proofs.InMode.{InMode}
 use Rattle.xd_laws.proofs.LoadRule.{load_rule}
 use Rattle.xd_laws.proofs.StealRule.{steal_rule}
 use Rattle.xd_laws.proofs.EachRule.{each_rule}
 use Rattle.xd_laws.proofs.ScopeInputs.{Scoped}
 use Rattle.xd_laws.proofs.ScopeRule.{scope_rule, scoped-none}
+use Rattle.xd_session.proofs.Closing.{state-grown}
 use Rattle.xd_drive.specs.Marks.{is_ready, is_end}
 
 -- the worker leaves by this entry
@@ -137,26 +139,8 @@ after_input-more : (s : State) (es : List Entry) (e : Entry) → after_inputs s 
 after_input-more s [] e = refl
 after_input-more s (x ∷ xs) e = after_input-more (after_input s x) xs e
 
-next-input : (x : State) (e : Entry) → may_follow (settled x) e ≡ true → after_entry x e ≡ after_effect (settled x) e
-next-input x (Ready w) h = refl
-next-input x (Collected w g) h = refl
-next-input x (Done w i u m o) h = refl
-next-input x (Back w is) h = refl
-next-input x (Finished w) h = refl
-next-input x (Refused w t) h = refl
-next-input x (Down w c o) h = refl
-next-input x (NotStarted w) h = refl
-next-input x (Start w slot) h = absurd (differ h)
-next-input x (Run w is) h = absurd (differ h)
-next-input x (RunAll w) h = absurd (differ h)
-next-input x (Steal w is) h = absurd (differ h)
-next-input x (Shutdown w) h = absurd (differ h)
-next-input x (Kill w) h = absurd (differ h)
-next-input x (Over how) h = absurd (differ h)
-
 pub state-more : (settings : Settings) (es : List Entry) (e : Entry) (outs : List Entry) → may_follow (state_at settings es) e ≡ true → state_at settings (es ++ e ∷ outs) ≡ settled (after_entries (after_effect (state_at settings es) e) outs)
-state-more settings es e outs h =
-    ap settled (fold-append after_entry (no_one settings) es (e ∷ outs) ∙ ap (λ (u : State). after_entries u outs) (next-input (after_entries (no_one settings) es) e h))
+state-more settings es e outs h = state-grown settings es outs e (input-of (state_at settings es) e h)
 
 -- the run with an input, or none
 run_with : TheRun → News → Option Entry → TheRun

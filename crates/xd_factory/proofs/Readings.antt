@@ -130,42 +130,39 @@ reconfigure-reads c b n = record { read = tt; only = λ said k. absurd k.says; r
     faults fault.TooManyOpen k = absurd k
     faults fault.OutOfMemory k = absurd k
 
+-- a message whose value was read has no fault
+sound_value : (k : Kind) (c : ℕ) (b : List ℕ) (v : Value) (w : Word) → is_unnumbered (message k c b) ≡ false → (k ≡ kind.Reconfigure → ⊥) → (k ≡ kind.CloseError → ⊥) → ValueReads b (Ok v)
+    → (f : SideFault) → Misread (message k c b) f → IsFault f (Ok w)
+sound_value k c b v w n u e h fault.BadNumber m = let z = m in cc
+sound_value k c b v w n u e h fault.Unsupported m = u m
+sound_value k c b v w n u e h (fault.BadPayload what) m = h.refuses m.at what m.first
+sound_value k c b v w n u e h fault.NotText m = e m.error
+sound_value k c b v w n u e h fault.Finished m = m
+sound_value k c b v w n u e h fault.TooManyOpen m = m
+sound_value k c b v w n u e h fault.OutOfMemory m = m
+
+-- the numbers of a value that was read, and its channel's
+value_small : (c : ℕ) (b : List ℕ) (v : Value) → c ≤ 2147483647 → ValueReads b (Ok v) → (n : ℕ) → is_in n (channels (view v) ++ c ∷ []) ≡ true → n ≤ 2147483647
+value_small c b v s h = both_small (channels (view v)) (c ∷ []) (payload_small (view v) b h.read) (one_small c s)
+
 -- a value was read
 pub exec-reads : (c : ℕ) (b : List ℕ) (v : Value) → c ≤ 2147483647 → is_unnumbered (message kind.Exec c b) ≡ false → ValueReads b (Ok v) → MessageReads (message kind.Exec c b) (Ok (word.Exec c v))
 exec-reads c b v s n h = record {
   read = record { numbered = n; says = (view v, h.read, refl) };
   only = λ said k. let e : view v ≡ k.says.0 = h.only k.says.0 k.says.1 in k.says.2 ∙ ap (Exec c) (sym e);
   refused = tt;
-  refuses = faults;
-  numbers = both_small (channels (view v)) (c ∷ []) (payload_small (view v) b h.read) (one_small c s);
+  refuses = sound_value kind.Exec c b v (word.Exec c v) n (λ e. cc) (λ e. cc) h;
+  numbers = value_small c b v s h;
 }
-  where
-    faults : (f : SideFault) → Misread (message kind.Exec c b) f → IsFault f (Ok (word.Exec c v))
-    faults fault.BadNumber k = let z = k in cc
-    faults fault.Unsupported k = let z = k in cc
-    faults (fault.BadPayload what) k = h.refuses k.at what k.first
-    faults fault.NotText k = let z = k.error in cc
-    faults fault.Finished k = k
-    faults fault.TooManyOpen k = k
-    faults fault.OutOfMemory k = k
 
 pub item-reads : (c : ℕ) (b : List ℕ) (v : Value) → c ≤ 2147483647 → is_unnumbered (message kind.Item c b) ≡ false → ValueReads b (Ok v) → MessageReads (message kind.Item c b) (Ok (word.Data c v))
 item-reads c b v s n h = record {
   read = record { numbered = n; says = (view v, h.read, refl) };
   only = λ said k. let e : view v ≡ k.says.0 = h.only k.says.0 k.says.1 in k.says.2 ∙ ap (Data c) (sym e);
   refused = tt;
-  refuses = faults;
-  numbers = both_small (channels (view v)) (c ∷ []) (payload_small (view v) b h.read) (one_small c s);
+  refuses = sound_value kind.Item c b v (word.Data c v) n (λ e. cc) (λ e. cc) h;
+  numbers = value_small c b v s h;
 }
-  where
-    faults : (f : SideFault) → Misread (message kind.Item c b) f → IsFault f (Ok (word.Data c v))
-    faults fault.BadNumber k = let z = k in cc
-    faults fault.Unsupported k = let z = k in cc
-    faults (fault.BadPayload what) k = h.refuses k.at what k.first
-    faults fault.NotText k = let z = k.error in cc
-    faults fault.Finished k = k
-    faults fault.TooManyOpen k = k
-    faults fault.OutOfMemory k = k
 
 pub error-reads : (c : ℕ) (b : List ℕ) (cs : List ℕ) → c ≤ 2147483647 → is_unnumbered (message kind.CloseError c b) ≡ false → TextReads b (Ok cs) → MessageReads (message kind.CloseError c b) (Ok (word.Close c (Some cs)))
 error-reads c b cs s n h = record {

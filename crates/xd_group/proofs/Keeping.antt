@@ -82,40 +82,33 @@ same_number u w h = grind (arith, nat_tests)
 other_worker : (u v w : ℕ) → (u == w) ≡ true → (v ≡ w → ⊥) → (u == v) ≡ false
 other_worker u v w h n = other_test u v (λ e. n (sym e ∙ same_number u w h))
 
+-- an order is one of four
+pub by_order : (P : Entry → Type 0) (w : ℕ) → ((u : ℕ) (is : List ℕ) → is_order w (entry.Run u is) ≡ true → P (entry.Run u is)) → ((u : ℕ) → is_order w (entry.RunAll u) ≡ true → P (entry.RunAll u))
+    → ((u : ℕ) (is : List ℕ) → is_order w (entry.Steal u is) ≡ true → P (entry.Steal u is)) → ((u : ℕ) → is_order w (entry.Shutdown u) ≡ true → P (entry.Shutdown u)) → (e : Entry) → is_order w e ≡ true → P e
+by_order P w run run_all steal shutdown (entry.Ready a0) h = absurd (cc h)
+by_order P w run run_all steal shutdown (entry.Collected a0 a1) h = absurd (cc h)
+by_order P w run run_all steal shutdown (entry.Done a0 a1 a2 a3 a4) h = absurd (cc h)
+by_order P w run run_all steal shutdown (entry.Back a0 a1) h = absurd (cc h)
+by_order P w run run_all steal shutdown (entry.Finished a0) h = absurd (cc h)
+by_order P w run run_all steal shutdown (entry.Refused a0 a1) h = absurd (cc h)
+by_order P w run run_all steal shutdown (entry.Down a0 a1 a2) h = absurd (cc h)
+by_order P w run run_all steal shutdown (entry.NotStarted a0) h = absurd (cc h)
+by_order P w run run_all steal shutdown (entry.Start a0 a1) h = absurd (cc h)
+by_order P w run run_all steal shutdown (entry.Run a0 a1) h = run a0 a1 h
+by_order P w run run_all steal shutdown (entry.RunAll a0) h = run_all a0 h
+by_order P w run run_all steal shutdown (entry.Steal a0 a1) h = steal a0 a1 h
+by_order P w run run_all steal shutdown (entry.Shutdown a0) h = shutdown a0 h
+by_order P w run run_all steal shutdown (entry.Kill a0) h = absurd (cc h)
+by_order P w run run_all steal shutdown (entry.Over a0) h = absurd (cc h)
+
 pub order_other : (v w : ℕ) (e : Entry) → is_order w e ≡ true → (v ≡ w → ⊥) → is_order v e ≡ false
-order_other v w (entry.Ready a0) h n = absurd (cc h)
-order_other v w (entry.Collected a0 a1) h n = absurd (cc h)
-order_other v w (entry.Done a0 a1 a2 a3 a4) h n = absurd (cc h)
-order_other v w (entry.Back a0 a1) h n = absurd (cc h)
-order_other v w (entry.Finished a0) h n = absurd (cc h)
-order_other v w (entry.Refused a0 a1) h n = absurd (cc h)
-order_other v w (entry.Down a0 a1 a2) h n = absurd (cc h)
-order_other v w (entry.NotStarted a0) h n = absurd (cc h)
-order_other v w (entry.Start a0 a1) h n = absurd (cc h)
-order_other v w (entry.Run a0 a1) h n = false_and _ _ (other_worker a0 v w (and_left _ _ h) n)
-order_other v w (entry.RunAll a0) h n = other_worker a0 v w h n
-order_other v w (entry.Steal a0 a1) h n = false_and _ _ (other_worker a0 v w (and_left _ _ h) n)
-order_other v w (entry.Shutdown a0) h n = other_worker a0 v w h n
-order_other v w (entry.Kill a0) h n = absurd (cc h)
-order_other v w (entry.Over a0) h n = absurd (cc h)
+order_other v w e h n =
+    by_order (λ (x : Entry). is_order v x ≡ false) w (λ u is k. false_and _ _ (other_worker u v w (and_left _ _ k) n)) (λ u k. other_worker u v w k n)
+    (λ u is k. false_and _ _ (other_worker u v w (and_left _ _ k) n)) (λ u k. other_worker u v w k n) e h
 
 -- an order is no start
 pub order_starts : (u w : ℕ) (e : Entry) → is_order w e ≡ true → is_start_of u e ≡ false
-order_starts u w (entry.Ready a0) h = absurd (cc h)
-order_starts u w (entry.Collected a0 a1) h = absurd (cc h)
-order_starts u w (entry.Done a0 a1 a2 a3 a4) h = absurd (cc h)
-order_starts u w (entry.Back a0 a1) h = absurd (cc h)
-order_starts u w (entry.Finished a0) h = absurd (cc h)
-order_starts u w (entry.Refused a0 a1) h = absurd (cc h)
-order_starts u w (entry.Down a0 a1 a2) h = absurd (cc h)
-order_starts u w (entry.NotStarted a0) h = absurd (cc h)
-order_starts u w (entry.Start a0 a1) h = absurd (cc h)
-order_starts u w (entry.Run a0 a1) h = refl
-order_starts u w (entry.RunAll a0) h = refl
-order_starts u w (entry.Steal a0 a1) h = refl
-order_starts u w (entry.Shutdown a0) h = refl
-order_starts u w (entry.Kill a0) h = absurd (cc h)
-order_starts u w (entry.Over a0) h = absurd (cc h)
+order_starts u w e h = by_order (λ (x : Entry). is_start_of u x ≡ false) w (λ v is k. refl) (λ v k. refl) (λ v is k. refl) (λ v k. refl) e h
 
 or_left : (a b : Bool) → (a || b) ≡ false → a ≡ false
 or_left true b h = absurd (cc h)

@@ -21,7 +21,7 @@ use Rattle.xd_group.specs.declared.child.Child.{Child}
 use Rattle.xd_group.specs.declared.fate.Fate.{Fate}
 use Rattle.xd_group.specs.declared.fate.Fate.TheVariants as fate
 use Rattle.xd_group.proofs.FateFacts.{among_with, not_with}
-use Rattle.xd_group.proofs.Keeping.{either_worker, same_some, started_before}
+use Rattle.xd_group.proofs.Keeping.{by_order, either_worker, same_some, started_before}
 
 -- ---- kills among the calls
 
@@ -52,21 +52,7 @@ killed_here v calls all e is h = ap (was_killed v) is ∙ (list_any-append (is_k
 
 -- an order is no kill
 pub order_kills : (u w : ℕ) (e : Entry) → is_order w e ≡ true → is_kill_of u e ≡ false
-order_kills u w (entry.Ready a0) h = absurd (cc h)
-order_kills u w (entry.Collected a0 a1) h = absurd (cc h)
-order_kills u w (entry.Done a0 a1 a2 a3 a4) h = absurd (cc h)
-order_kills u w (entry.Back a0 a1) h = absurd (cc h)
-order_kills u w (entry.Finished a0) h = absurd (cc h)
-order_kills u w (entry.Refused a0 a1) h = absurd (cc h)
-order_kills u w (entry.Down a0 a1 a2) h = absurd (cc h)
-order_kills u w (entry.NotStarted a0) h = absurd (cc h)
-order_kills u w (entry.Start a0 a1) h = absurd (cc h)
-order_kills u w (entry.Run a0 a1) h = refl
-order_kills u w (entry.RunAll a0) h = refl
-order_kills u w (entry.Steal a0 a1) h = refl
-order_kills u w (entry.Shutdown a0) h = refl
-order_kills u w (entry.Kill a0) h = absurd (cc h)
-order_kills u w (entry.Over a0) h = absurd (cc h)
+order_kills u w e h = by_order (λ (x : Entry). is_kill_of u x ≡ false) w (λ v is k. refl) (λ v k. refl) (λ v is k. refl) (λ v k. refl) e h
 
 -- ---- a child that was killed
 

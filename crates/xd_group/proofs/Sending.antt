@@ -95,14 +95,13 @@ sent_more false true closed s0 s1 f0 f1 ms all m is sent w c l =
       part = λ e. (over_zero f0 f1 c, subst (λ (x : List ℕ). IfSome s1 (λ s. s.bytes ≡ take (length s.bytes) x)) (sym bytes) (now_part s0 s1 (frames ms) (frame m) closed (sent.whole refl) w));
     }
 
+-- behind a fault nothing is said of a close
+still_sent : (before after : Bool) (s : Option Sunk) (f : ℕ) (ms : List MessageView) → SentAs true before s f ms → SentAs true after s f ms
+still_sent before after s f ms sent = record { whole = λ e. absurd (cc e); part = sent.part }
+
 pub sent_last : (b0 b1 closed : Bool) (s0 s1 : Option Sunk) (f0 f1 : ℕ) (ms all : List MessageView) (m : MessageView) → all ≡ ms ++ m ∷ [] → SentAs b0 closed s0 f0 ms
     → ClosesMore b0 b1 (frame m) s0 s1 → CountBehind b0 b1 f0 f1 → f0 ≤ f1 → SentAs b1 true s1 f1 all
-sent_last true true closed s0 s1 f0 f1 ms all m is sent w c l =
-    let bytes : frames all ≡ frames ms ++ frame m = ap frames is ∙ open_frames ms m in
-    record {
-      whole = λ e. absurd (cc e);
-      part = λ e. (omega (arith, l, (sent.part refl).0), subst (λ (x : List ℕ). IfSome s1 (λ s. s.bytes ≡ take (length s.bytes) x)) (sym bytes) (still_part s0 s1 (frames ms) (frame m) w.1 (sent.part refl).1));
-    }
+sent_last true true closed s0 s1 f0 f1 ms all m is sent w c l = still_sent closed true s1 f1 all (sent_more true true closed s0 s1 f0 f1 ms all m is sent w c l)
 sent_last true false closed s0 s1 f0 f1 ms all m is sent w c l = absurd (let z = w.0 in cc z)
 sent_last false false closed s0 s1 f0 f1 ms all m is sent w c l =
     let bytes : frames all ≡ frames ms ++ frame m = ap frames is ∙ open_frames ms m in
@@ -110,12 +109,7 @@ sent_last false false closed s0 s1 f0 f1 ms all m is sent w c l =
       whole = λ e. subst (λ (x : List ℕ). IfSome s1 (λ s. s ≡ record { bytes = x; flushed = length x; closed = true })) (sym bytes) (whole_closed s0 s1 (frames ms) (frame m) closed (sent.whole refl) w);
       part = λ e. absurd (cc e);
     }
-sent_last false true closed s0 s1 f0 f1 ms all m is sent w c l =
-    let bytes : frames all ≡ frames ms ++ frame m = ap frames is ∙ open_frames ms m in
-    record {
-      whole = λ e. absurd (cc e);
-      part = λ e. (over_zero f0 f1 c, subst (λ (x : List ℕ). IfSome s1 (λ s. s.bytes ≡ take (length s.bytes) x)) (sym bytes) (now_part s0 s1 (frames ms) (frame m) closed (sent.whole refl) w));
-    }
+sent_last false true closed s0 s1 f0 f1 ms all m is sent w c l = still_sent closed true s1 f1 all (sent_more false true closed s0 s1 f0 f1 ms all m is sent w c l)
 
 pub sent_none : (s : Option Sunk) (f : ℕ) → IfSome s (λ t. t ≡ record { bytes = []; flushed = 0; closed = false }) → SentAs false false s f []
 sent_none s f e = record { whole = λ g. e; part = λ g. absurd (cc g) }

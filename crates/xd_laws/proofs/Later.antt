@@ -8,7 +8,7 @@ use Rattle.xd_journal.specs.declared.entry.Entry.{Entry}
 use Rattle.xd_journal.specs.declared.entry.Entry.TheVariants.{Ready, Collected, Done, Back, Finished, Refused, Down, NotStarted, Start, Run, RunAll, Steal, Shutdown, Kill, Over}
 use Rattle.xd_ledger.specs.declared.seat.Seat.{Seat}
 use Rattle.xd_ledger.specs.Numbers.{among, without}
-use Rattle.xd_ledger.specs.Table.{seat_shut, workers_of, assigned}
+use Rattle.xd_ledger.specs.Table.{Table, seat_shut, workers_of, assigned}
 use Rattle.xd_ledger.specs.Plan.{Plan, items_named, slot_items}
 use Rattle.xd_ledger.specs.Workers.{made_shut, slot_in, slot_of}
 use Rattle.xd_ledger.specs.Sharing.{State}
@@ -54,23 +54,28 @@ pub record Later (s t : State) : Type 0 where
   pub sizes : t.plan.sizes ≡ s.plan.sizes
   pub mode : t.plan.mode ≡ s.plan.mode
 
-pub later-same : (s : State) → Later s s
-later-same s = record {
+-- where only the table and the plan change
+later-table : (s : State) (u : Table) (p : Plan) → workers_of u ≡ workers_of s.books.table → ((v : ℕ) → seat_shut v s.books.table ≡ true → seat_shut v u ≡ true)
+    → ((x : ℕ) → among x u.pool ≡ true → among x s.books.table.pool ≡ true) → p.sizes ≡ s.plan.sizes → p.mode ≡ s.plan.mode → Later s (record s { books = record (s.books) { table = u }; plan = p })
+later-table s u p rota told pool sizes mode = record {
   active = λ v. refl;
   ready = λ v. refl;
   collected = λ v. refl;
   slots = λ v. refl;
   shut = λ v h. h;
-  rota = refl;
-  told = λ v h. h;
-  pool = λ x h. h;
+  rota = rota;
+  told = told;
+  pool = pool;
   settings = refl;
   stop = refl;
   shutting = refl;
   shared = refl;
-  sizes = refl;
-  mode = refl;
+  sizes = sizes;
+  mode = mode;
 }
+
+pub later-same : (s : State) → Later s s
+later-same s = later-table s s.books.table s.plan refl (λ v h. h) (λ x h. h) refl refl
 
 pub later-then : (s t u : State) → Later s t → Later t u → Later s u
 later-then s t u a b = record {
@@ -97,22 +102,8 @@ later-given : (s : State) (w : ℕ) (items : List ℕ) (p : Plan) → p.sizes �
     → Later s (record s { books = record (s.books) { table = assigned w items s.books.table }; plan = p })
 later-given s w items p a b =
     let f : Seat → Seat = λ x. record x { held = x.held ++ items } in
-    record {
-      active = λ v. refl;
-      ready = λ v. refl;
-      collected = λ v. refl;
-      slots = λ v. refl;
-      shut = λ v h. h;
-      rota = workers-change w f s.books.table.rota (λ x. refl);
-      told = λ v h. told-change v w f s.books.table.rota (λ x. refl) (λ x. refl) ∙ h;
-      pool = λ x h. still-among x items s.books.table.pool h;
-      settings = refl;
-      stop = refl;
-      shutting = refl;
-      shared = refl;
-      sizes = a;
-      mode = b;
-    }
+    later-table s (assigned w items s.books.table) p (workers-change w f s.books.table.rota (λ x. refl)) (λ v h. told-change v w f s.books.table.rota (λ x. refl) (λ x. refl) ∙ h)
+    (λ x h. still-among x items s.books.table.pool h) a b
 
 pub later-shutdown : (s : State) (w : ℕ) → Later s (after_effect s (Shutdown w))
 later-shutdown s w =
@@ -137,22 +128,7 @@ later-shutdown s w =
 later-output : (s : State) (e : Entry) → is_plain e ≡ true → Later s (after_effect s e)
 later-output s (Run w is) h = later-given s w (items_named (slot_of w s.books) is s.plan) (after_effect s (Run w is)).plan refl refl
 later-output s (RunAll w) h = later-given s w (slot_items (slot_of w s.books) s.plan) s.plan refl refl
-later-output s (Steal w is) h = record {
-  active = λ v. refl;
-  ready = λ v. refl;
-  collected = λ v. refl;
-  slots = λ v. refl;
-  shut = λ v k. k;
-  rota = refl;
-  told = λ v k. k;
-  pool = λ x k. k;
-  settings = refl;
-  stop = refl;
-  shutting = refl;
-  shared = refl;
-  sizes = refl;
-  mode = refl;
-}
+later-output s (Steal w is) h = later-table s s.books.table (after_effect s (Steal w is)).plan refl (λ v k. k) (λ x k. k) refl refl
 later-output s (Shutdown w) h = later-shutdown s w
 later-output s (Kill w) h = later-same s
 later-output s (Start w slot) h = absurd (differ h)

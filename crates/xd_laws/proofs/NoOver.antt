@@ -16,11 +16,10 @@ use Rattle.xd_ledger.specs.Books.{Books}
 use Rattle.xd_ledger.specs.Workers.{is_shut, slot_of, waiting}
 use Rattle.xd_ledger.specs.Stops.{is_shutting, is_stopped}
 use Rattle.xd_ledger.specs.Sharing.{State}
-use Rattle.xd_ledger.specs.State.{after_entries, after_effect, settles}
+use Rattle.xd_ledger.specs.State.{is_input, after_entries, after_effect, settles}
 use Rattle.xd_ledger.specs.Outputs.{acts_of, outputs_of_death, outputs_of_joining, closing, outputs, own_outputs, shut_all, slots_of_rota, after_input, turn_of, unless_stopped}
 use Rattle.xd_ledger.specs.Histories.{after_starts, run_end_of, first_starts, grown, journal_of, starts_from}
 use Rattle.xd_ledger.specs.Ending.{ending, kills, over_in}
-use Rattle.xd_ledger.specs.Proper.{all_may_follow, may_follow}
 use Rattle.xd_laws.proofs.Logic.{and, differ, in_both, split-and}
 use Rattle.xd_laws.proofs.Turned.{Kept, turned-keeps}
 
@@ -107,34 +106,34 @@ no-over-outputs s e =
 
 -- what a worker may say
 
-no-over-input : (s : State) (e : Entry) → may_follow s e ≡ true → no_over e ≡ true
-no-over-input s (Ready w) h = refl
-no-over-input s (Collected w g) h = refl
-no-over-input s (Done w i u m o) h = refl
-no-over-input s (Back w is) h = refl
-no-over-input s (Finished w) h = refl
-no-over-input s (Refused w t) h = refl
-no-over-input s (Down w c o) h = refl
-no-over-input s (NotStarted w) h = refl
-no-over-input s (Start w slot) h = refl
-no-over-input s (Run w is) h = refl
-no-over-input s (RunAll w) h = refl
-no-over-input s (Steal w is) h = refl
-no-over-input s (Shutdown w) h = refl
-no-over-input s (Kill w) h = refl
-no-over-input s (Over how) h = absurd (differ h)
+no-over-input : (e : Entry) → is_input e ≡ true → no_over e ≡ true
+no-over-input (Run w is) h = refl
+no-over-input (RunAll w) h = refl
+no-over-input (Steal w is) h = refl
+no-over-input (Shutdown w) h = refl
+no-over-input (Start w slot) h = refl
+no-over-input (Kill w) h = refl
+no-over-input (Over how) h = absurd (differ h)
+no-over-input (Ready w) h = refl
+no-over-input (Collected w g) h = refl
+no-over-input (Done w i u m o) h = refl
+no-over-input (Back w is) h = refl
+no-over-input (Finished w) h = refl
+no-over-input (Refused w t) h = refl
+no-over-input (Down w c o) h = refl
+no-over-input (NotStarted w) h = refl
 
 no-over-starts : (w n : ℕ) → NoOver (starts_from w n)
 no-over-starts w zero = refl
 no-over-starts w (suc n) = no-over-starts (w + 1) n
 
-no-over-grown : (s : State) (es : List Entry) → all_may_follow s es ≡ true → NoOver (grown s es)
+no-over-grown : (s : State) (es : List Entry) → list_all is_input es ≡ true → NoOver (grown s es)
 no-over-grown s [] h = refl
 no-over-grown s (e ∷ es) h =
-    let p = split-and (may_follow s e) (all_may_follow (after_input s e) es) h in
-    join (e ∷ outputs s e) (grown (after_input s e) es) (and (no-over-input s e p.0) (no-over-outputs s e)) (no-over-grown (after_input s e) es p.1)
+    let p = split-and (is_input e) (list_all is_input es) h in
+    join (e ∷ outputs s e) (grown (after_input s e) es) (and (no-over-input e p.0) (no-over-outputs s e)) (no-over-grown (after_input s e) es p.1)
 
-pub no-over-journal : (settings : Settings) (inputs : List Entry) → all_may_follow (after_starts settings) inputs ≡ true → NoOver (journal_of settings inputs)
+pub no-over-journal : (settings : Settings) (inputs : List Entry) → list_all is_input inputs ≡ true → NoOver (journal_of settings inputs)
 no-over-journal settings inputs h = join (first_starts settings) (grown (after_starts settings) inputs) (no-over-starts 0 settings.workers) (no-over-grown (after_starts settings) inputs h)
 
 -- the end says how

@@ -1,6 +1,7 @@
 -- A walk over a proper journal: each entry comes behind a tidy state as what a worker may say, or as an output in order.
 use Rattle.std.proofs.Common.{◌≡◌, ℕ, zero, suc, ◌+◌, List, [], ◌∷◌, ◌++◌, length, Bool, true, false, refl, ap, sym, ◌∙◌, subst, inl, inr, append_assoc, length-append}
 use Rattle.std.specs.Prelude.{◌⊎◌, if◌then◌else◌}
+use Rattle.std.specs.List.{list_all}
 use Rattle.std.proofs.lemmas.List.{append-nil}
 use Rattle.xd_journal.specs.declared.settings.Settings.{Settings}
 use Rattle.xd_journal.specs.declared.entry.Entry.{Entry}
@@ -49,6 +50,10 @@ input-of s (Steal w is) h = absurd (differ h)
 input-of s (Shutdown w) h = absurd (differ h)
 input-of s (Kill w) h = absurd (differ h)
 input-of s (Over how) h = absurd (differ h)
+
+pub all-inputs : (s : State) (es : List Entry) → all_may_follow s es ≡ true → list_all is_input es ≡ true
+all-inputs s [] h = refl
+all-inputs s (e ∷ es) h = (let p = split-and (may_follow s e) (all_may_follow (after_input s e) es) h in and (input-of s e p.0) (all-inputs (after_input s e) es p.1))
 
 output-of : (s : State) (e : Entry) → is_orderly s e ≡ true → is_input e ≡ false
 output-of s (Start w slot) h = refl

@@ -22,7 +22,7 @@ use Rattle.xd_laws.specs.Stopped.{StopsBy}
 use Rattle.xd_laws.specs.Whole.{EndsRightly, IsWhole, NamesEach, tests_in}
 use Rattle.xd_laws.proofs.Logic.{cases_of}
 use Rattle.xd_laws.proofs.Turns.{after_entries-join}
-use Rattle.xd_laws.proofs.Walk.{journal-state, reports-append}
+use Rattle.xd_laws.proofs.Walk.{all-inputs, journal-state, reports-append}
 use Rattle.xd_laws.proofs.NoOver.{NoOver, no-over-journal, stop-failed, stop-over}
 use Rattle.xd_laws.proofs.Stopping.{Tells, keeps_tells, stops-behind, tells-none}
 use Rattle.xd_laws.proofs.Laws.{journal-keeps, over-shared, reported_once, shared_total, lawful, none-reported}
@@ -61,7 +61,7 @@ module _ (j : Journal) (w : IsWhole j) where
       ∙ ap (λ (rs : List Report). reports j.settings es ++ rs) (end-reports (after_entries (no_one j.settings) es) w.out_failed b) ∙ append-nil (reports j.settings es)
 
   quiet : NoOver (journal_of j.settings w.inputs)
-  quiet = no-over-journal j.settings w.inputs w.proper.follow
+  quiet = no-over-journal j.settings w.inputs (all-inputs (after_starts j.settings) w.inputs w.proper.follow)
 
   -- how it ended, by whether the output failed
   stop-by : (failed : Bool) → w.out_failed ≡ failed → stop_of j ≡ over_in (journal_of j.settings w.inputs ++ ending failed (after_inputs (after_starts j.settings) w.inputs).books) (run_end_of (state_at j.settings j.entries.items).books)

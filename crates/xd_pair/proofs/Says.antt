@@ -259,35 +259,28 @@ pub seen_back : (odd : Bool) (a : Actor) (wire : List Said) (m : Move) (c : ℕ)
 seen_back odd a wire m c u = open_or_ended (is_seen (a.part c).slot) (is_seen (a.part c).slot ≡ false) (λ h. let z = seen_stays odd a wire m c h in cc) (λ h. h)
 
 -- a number that was not seen and of which nothing comes stays so
+unseen_not : (change : Slot Tree → Slot Tree) → is_seen (change Unseen) ≡ false → (s : Slot Tree) → is_seen s ≡ false → is_seen (change s) ≡ false
+unseen_not change e Unseen u = e
+unseen_not change e (Here s) u = absurd (let z = u in cc)
+unseen_not change e Gone u = absurd (let z = u in cc)
+
 pub received_not : (s : Slot Tree) → is_seen s ≡ false → is_seen (received_slot s) ≡ false
-received_not Unseen u = refl
-received_not (Here s) u = absurd (let z = u in cc)
-received_not Gone u = absurd (let z = u in cc)
+received_not s u = unseen_not received_slot refl s u
 
 pub hooked_not : (s : Slot Tree) → is_seen s ≡ false → is_seen (hooked_slot s) ≡ false
-hooked_not Unseen u = refl
-hooked_not (Here s) u = absurd (let z = u in cc)
-hooked_not Gone u = absurd (let z = u in cc)
+hooked_not s u = unseen_not hooked_slot refl s u
 
 pub closed_not : (s : Slot Tree) → is_seen s ≡ false → is_seen (closed_slot s) ≡ false
-closed_not Unseen u = refl
-closed_not (Here s) u = absurd (let z = u in cc)
-closed_not Gone u = absurd (let z = u in cc)
+closed_not s u = unseen_not closed_slot refl s u
 
 pub ended_not : (s : Slot Tree) → is_seen s ≡ false → is_seen (function_ended_slot s) ≡ false
-ended_not Unseen u = refl
-ended_not (Here s) u = absurd (let z = u in cc)
-ended_not Gone u = absurd (let z = u in cc)
+ended_not s u = unseen_not function_ended_slot refl s u
 
 pub given_up_not : (s : Slot Tree) → is_seen s ≡ false → is_seen (given_up_slot s) ≡ false
-given_up_not Unseen u = refl
-given_up_not (Here s) u = absurd (let z = u in cc)
-given_up_not Gone u = absurd (let z = u in cc)
+given_up_not s u = unseen_not given_up_slot refl s u
 
 pub lost_not : (s : Slot Tree) → is_seen s ≡ false → is_seen (lost_slot s) ≡ false
-lost_not Unseen u = refl
-lost_not (Here s) u = absurd (let z = u in cc)
-lost_not Gone u = absurd (let z = u in cc)
+lost_not s u = unseen_not lost_slot refl s u
 
 pub append_empty : (xs ys : List Note) → xs ++ ys ≡ [] → (xs ≡ []) × (ys ≡ [])
 append_empty [] ys h = (refl, h)

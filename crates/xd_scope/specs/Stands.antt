@@ -14,6 +14,8 @@ use Rattle.xd_ledger.specs.Turn.{Turn, in_turn, shut_each}
 use Rattle.xd_ledger.specs.Plan.{Handed, Plan, is_scope}
 use Rattle.xd_ledger.specs.ScopeModes.{give_unit, refill}
 use Rattle.xd_ledger.specs.Turn.{enough}
+use Rattle.xd_scope.specs.declared.refill.Deal.{Deal}
+use Rattle.xd_scope.specs.declared.refill.Deal.TheVariants as deals
 use Rattle.xd_scope.specs.declared.units.Units.{Units}
 
 -- the units of this worker, in order of assignment
@@ -44,6 +46,11 @@ pub record IsAt (t : Turn) (table : Table) (acts : List Entry) (u : Units) : Typ
 -- a unit, where the worker holds fewer tests than it needs
 abbrev pub give_where_few : ℕ → Turn → Turn
 give_where_few worker t = if nat_lt (length (held worker t.table)) enough then give_unit worker t else t
+
+-- what a worker gets: a unit, or a refill
+abbrev pub dealt_to : Deal → ℕ → Turn → Turn
+dealt_to deals.FirstUnit worker t = give_unit worker t
+dealt_to deals.Refill worker t = refill worker t
 
 -- the first k of these workers get a unit each, and then each of them is refilled; the others are shut down, the
 -- last one first

@@ -7,7 +7,7 @@ ghost use Rattle.xd_ledger.specs.Turn.{enough};
 ghost use Rattle.xd_ledger.specs.Suits.{AreInPool};
 ghost use Rattle.xd_ledger.specs.Table.{in_rota, workers_of};
 ghost use Rattle.xd_ledger.specs.Turn.{in_turn};
-ghost use Rattle.xd_scope.specs.Stands.{IsAt, Keeps, give_where_few};
+ghost use Rattle.xd_scope.specs.Stands.{IsAt, Keeps, dealt_to, give_where_few};
 
 use crate::given::add_given;
 use crate::units::{Units, next_unit};
@@ -119,31 +119,40 @@ pub(crate) fn refill_one(
     Ok(())
 }
 
-// The first `count` workers of the rota get a unit each.
-pub(crate) fn give_each(
+// What each worker of a part of the rota gets.
+#[derive(Clone, Copy)]
+pub(crate) enum Deal {
+    FirstUnit,
+    Refill,
+}
+
+// The worker gets its part of the deal.
+fn deal_one(
     alloc: Global,
-    count: u32,
+    deal: Deal,
+    worker: u32,
     units: &mut Units,
     ledger: &mut Ledger,
     acts: &mut Vec<Entry>,
 ) -> Result<(), OutOfMemory>
-    requires within { count ≤ length (workers_of ledger.old) }
+    requires seated { in_rota worker ledger.old ≡ true }
     requires fits { AreInPool units.old.queue.items ledger.old.pool }
     ensures turned { OnOk result ((p : Plan) → Keeps units.old p →
-        IsAt (in_turn give_unit (take count (workers_of ledger.old)) (turn ledger.old p acts.old.items)) ledger.new acts.new.items units.new) }
+        IsAt (dealt_to deal worker (turn ledger.old p acts.old.items)) ledger.new acts.new.items units.new) }
     ensures fits { OnOk result (AreInPool units.new.queue.items ledger.new.pool) }
     ensures rota { OnOk result (workers_of ledger.new ≡ workers_of ledger.old) }
 {
-    for place in 0..count {
-        let worker = ledger.rota_at(place);
-        give_unit(alloc, worker, units, ledger, acts)?;
+    match deal {
+        Deal::FirstUnit => give_unit(alloc, worker, units, ledger, acts)?,
+        Deal::Refill => refill_one(alloc, worker, units, ledger, acts)?,
     }
     Ok(())
 }
 
-// The first `count` workers of the rota are refilled.
-pub(crate) fn refill_each(
+// The first `count` workers of the rota get their parts of the deal.
+pub(crate) fn deal_each(
     alloc: Global,
+    deal: Deal,
     count: u32,
     units: &mut Units,
     ledger: &mut Ledger,
@@ -152,13 +161,13 @@ pub(crate) fn refill_each(
     requires within { count ≤ length (workers_of ledger.old) }
     requires fits { AreInPool units.old.queue.items ledger.old.pool }
     ensures turned { OnOk result ((p : Plan) → Keeps units.old p →
-        IsAt (in_turn refill (take count (workers_of ledger.old)) (turn ledger.old p acts.old.items)) ledger.new acts.new.items units.new) }
+        IsAt (in_turn (dealt_to deal) (take count (workers_of ledger.old)) (turn ledger.old p acts.old.items)) ledger.new acts.new.items units.new) }
     ensures fits { OnOk result (AreInPool units.new.queue.items ledger.new.pool) }
     ensures rota { OnOk result (workers_of ledger.new ≡ workers_of ledger.old) }
 {
     for place in 0..count {
         let worker = ledger.rota_at(place);
-        refill_one(alloc, worker, units, ledger, acts)?;
+        deal_one(alloc, deal, worker, units, ledger, acts)?;
     }
     Ok(())
 }
@@ -175,6 +184,6 @@ pub(crate) fn refill_all(
         IsAt (refill_all (turn ledger.old p acts.old.items)) ledger.new acts.new.items units.new) }
 {
     let count = ledger.rota_len();
-    refill_each(alloc, count, units, ledger, acts)?;
+    deal_each(alloc, Deal::Refill, count, units, ledger, acts)?;
     Ok(())
 }

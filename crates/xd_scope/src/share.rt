@@ -8,7 +8,7 @@ ghost use Rattle.xd_ledger.specs.Table.{workers_of};
 ghost use Rattle.xd_ledger.specs.Turn.{shut_each};
 ghost use Rattle.xd_scope.specs.Stands.{IsAt, Keeps, served_share};
 
-use crate::refill::{give_each, refill_each};
+use crate::refill::{Deal, deal_each};
 use crate::units::Units;
 use std::alloc::Global;
 use xd_edge::OutOfMemory;
@@ -44,8 +44,8 @@ fn serve(
     ensures rota { OnOk result (workers_of ledger.new ≡ workers_of ledger.old) }
 {
     shut_surplus(count, ledger, acts)?;
-    give_each(alloc, count, units, ledger, acts)?;
-    refill_each(alloc, count, units, ledger, acts)?;
+    deal_each(alloc, Deal::FirstUnit, count, units, ledger, acts)?;
+    deal_each(alloc, Deal::Refill, count, units, ledger, acts)?;
     Ok(())
 }
 

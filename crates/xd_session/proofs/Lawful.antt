@@ -1,5 +1,5 @@
 -- The journal of a session is legal, so far and with its end.
-use Rattle.std.proofs.Common.{◌≡◌, ℕ, List, [], ◌∷◌, ◌++◌, Bool, true, refl, ap, sym, ◌∙◌, subst, inl, inr}
+use Rattle.std.proofs.Common.{◌≡◌, ℕ, List, [], ◌++◌, Bool, true, refl, ap, sym, ◌∙◌, subst, inl, inr}
 use Rattle.std.specs.List.{list_all}
 use Rattle.xd_journal.specs.declared.settings.Settings.{Settings}
 use Rattle.xd_journal.specs.declared.journal.Journal.{Journal}
@@ -9,12 +9,12 @@ use Rattle.xd_ledger.specs.Books.{Books}
 use Rattle.xd_ledger.specs.Plan.{Plan}
 use Rattle.xd_ledger.specs.Sharing.{State}
 use Rattle.xd_ledger.specs.State.{is_input, state_at}
-use Rattle.xd_ledger.specs.Outputs.{after_input}
 use Rattle.xd_ledger.specs.Histories.{after_starts, journal_of}
 use Rattle.xd_ledger.specs.Ending.{ending, may_close, stop_of}
 use Rattle.xd_ledger.specs.Legal.{EndsWith, IsLegal}
-use Rattle.xd_ledger.specs.Proper.{IsProper, all_may_follow, may_follow}
-use Rattle.xd_laws.proofs.Logic.{and, split-and}
+use Rattle.xd_ledger.specs.Proper.{IsProper}
+use Rattle.xd_laws.proofs.NoOver.{no-over-journal}
+use Rattle.xd_laws.proofs.Walk.{all-inputs, journal-state}
 use Rattle.xd_session.specs.declared.logs.WorkerLog.{WorkerLog}
 use Rattle.xd_session.specs.Ends.{is_out_fault, last_stop}
 use Rattle.xd_session.specs.Known.{Known}
@@ -22,16 +22,11 @@ use Rattle.xd_session.specs.Rules.{InStep}
 use Rattle.xd_session.specs.Stands.{Seen, StandsFor, state_of}
 use Rattle.xd_session.proofs.Begin.{begun-proper}
 use Rattle.xd_session.proofs.Closing.{append-nil}
-use Rattle.xd_session.proofs.Ends.{ending-stop, no-over-journal, told-so}
-use Rattle.xd_session.proofs.Steps.{input-of, journal-state}
+use Rattle.xd_session.proofs.Ends.{ending-stop, told-so}
 
 -- whoever stands for news has settings of a proper run
 pub stands-proper : (taken : List News) (s : Seen) → StandsFor taken s → IsProper s.settings []
 stands-proper taken s st = begun-proper s.settings st.can_begin
-
-all-inputs : (s : State) (es : List Entry) → all_may_follow s es ≡ true → list_all is_input es ≡ true
-all-inputs s [] h = refl
-all-inputs s (e ∷ es) h = (let p = split-and (may_follow s e) (all_may_follow (after_input s e) es) h in and (input-of s e p.0) (all-inputs (after_input s e) es p.1))
 
 module _ (settings : Settings) (entries : List Entry) (logs : List WorkerLog) (spent : ℕ) (b : Books) (kn : Known) (st : Plan → Type 0) (k : InStep settings entries logs spent b kn st) (j : Journal) (same : j.settings ≡ settings) where
   inputs-are : list_all is_input k.inputs ≡ true

@@ -24,6 +24,7 @@ use Rattle.xd_laws.proofs.Logic.{cases_of, differ}
 use Rattle.xd_laws.proofs.OwingRuns.{owed}
 use Rattle.xd_laws.proofs.Placed.{due_times}
 use Rattle.xd_laws.proofs.Turns.{Tidy}
+use Rattle.xd_laws.proofs.Walk.{journal-state}
 use Rattle.xd_session.specs.declared.logs.WorkerLog.{WorkerLog}
 use Rattle.xd_session.specs.History.{Run as SoFar, entries_with, input_of, run_of, said_by}
 use Rattle.xd_session.specs.Joining.{IsBare, IsToJoin}
@@ -33,7 +34,7 @@ use Rattle.xd_session.specs.Rules.{At, InStep}
 use Rattle.xd_session.specs.Stands.{Seen, StandsFor}
 use Rattle.xd_session.specs.Told.{Steady, Told, TookNews}
 use Rattle.xd_session.proofs.Joins.{AllCollected, joins-behind}
-use Rattle.xd_session.proofs.Steps.{journal-more, journal-state, logs-more, meaning-follows, meaning-short, orderly-next, proper-more, run-more, run-taken, short-twice, sound-run, spent-more, state-next}
+use Rattle.xd_session.proofs.Steps.{journal-more, logs-more, meaning-follows, meaning-short, orderly-next, proper-more, run-more, run-taken, short-twice, sound-run, spent-more, state-next}
 use Rattle.xd_session.proofs.Waiting.{AllTold, shut-where, told-behind}
 
 -- a session in step stands for a state of a proper run

@@ -21,58 +21,22 @@ use Rattle.xd_ledger.specs.Outputs.{outputs, after_input}
 use Rattle.xd_ledger.specs.Proper.{IsProper, all_may_follow, may_follow, names_head}
 use Rattle.xd_ledger.specs.Retry.{is_retry}
 use Rattle.xd_ledger.specs.Sharing.{State}
-use Rattle.xd_ledger.specs.State.{after_entries, is_input, after_effect, no_one, settled, state_at}
+use Rattle.xd_ledger.specs.State.{after_effect, state_at}
 use Rattle.xd_ledger.specs.Workers.{is_active}
 use Rattle.xd_laws.proofs.Laws.{orderly}
 use Rattle.xd_laws.proofs.Logic.{and, differ, split-and}
+use Rattle.xd_laws.proofs.Walk.{input-of}
 use Rattle.xd_session.specs.declared.logs.WorkerLog.{WorkerLog}
 use Rattle.xd_session.specs.History.{IsProperRun, Run as SoFar, after_news, begun_run, entries_with, input_of, inputs_with, run_of, said_by, state_with}
 use Rattle.xd_session.specs.Kept.{log_in, shortened}
-use Rattle.xd_session.proofs.Closing.{after_entries-append}
+use Rattle.xd_session.proofs.Closing.{state-grown}
 
 -- the state behind one more input
-
-pub state-grown : (settings : Settings) (es outs : List Entry) (e : Entry) → is_input e ≡ true → state_at settings (es ++ e ∷ outs) ≡ settled (after_entries (after_effect (state_at settings es) e) outs)
-state-grown settings es outs e h =
-    let raw : State = after_entries (no_one settings) es in
-    let a : after_entries (no_one settings) (es ++ e ∷ outs) ≡ after_entries raw (e ∷ outs) = after_entries-append (no_one settings) es (e ∷ outs) in
-    let f : Bool → State = λ b. settled (after_entries (after_effect (if b then settled raw else raw) e) outs) in
-    ap settled a ∙ ap f h
-
-pub input-of : (s : State) (e : Entry) → may_follow s e ≡ true → is_input e ≡ true
-input-of s (Ready w) h = refl
-input-of s (Collected w g) h = refl
-input-of s (Done w i u m o) h = refl
-input-of s (Back w i) h = refl
-input-of s (Finished w) h = refl
-input-of s (Refused w t) h = refl
-input-of s (Down w c o) h = refl
-input-of s (NotStarted w) h = refl
-input-of s (Start w slot) h = absurd (differ h)
-input-of s (Run w is) h = absurd (differ h)
-input-of s (RunAll w) h = absurd (differ h)
-input-of s (Steal w is) h = absurd (differ h)
-input-of s (Shutdown w) h = absurd (differ h)
-input-of s (Kill w) h = absurd (differ h)
-input-of s (Over how) h = absurd (differ h)
 
 pub state-next : (settings : Settings) (es : List Entry) (e : Entry) → may_follow (state_at settings es) e ≡ true → state_at settings (es ++ e ∷ outputs (state_at settings es) e) ≡ after_input (state_at settings es) e
 state-next settings es e h = state-grown settings es (outputs (state_at settings es) e) e (input-of (state_at settings es) e h)
 
 -- a journal grows by its inputs
-
-grown-state : (settings : Settings) (es ins : List Entry) → all_may_follow (state_at settings es) ins ≡ true → state_at settings (es ++ grown (state_at settings es) ins) ≡ after_inputs (state_at settings es) ins
-grown-state settings es [] h = ap (state_at settings) (append-nil es)
-grown-state settings es (i ∷ ins) h =
-    let s = state_at settings es in
-    let p = split-and (may_follow s i) (all_may_follow (after_input s i) ins) h in
-    let one : List Entry = i ∷ outputs s i in
-    let now : state_at settings (es ++ one) ≡ after_input s i = state-next settings es i p.0 in
-    let ih = grown-state settings (es ++ one) ins (ap (λ u. all_may_follow u ins) now ∙ p.1) in
-    ap (state_at settings) (sym (append_assoc es one (grown (after_input s i) ins)) ∙ ap (λ u. (es ++ one) ++ grown u ins) (sym now)) ∙ ih ∙ ap (λ u. after_inputs u ins) now
-
-pub journal-state : (settings : Settings) (ins : List Entry) → all_may_follow (after_starts settings) ins ≡ true → state_at settings (journal_of settings ins) ≡ after_inputs (after_starts settings) ins
-journal-state settings ins h = grown-state settings (first_starts settings) ins h
 
 grown-more : (s : State) (ins : List Entry) (e : Entry) → grown s (ins ++ e ∷ []) ≡ grown s ins ++ (e ∷ outputs (after_inputs s ins) e)
 grown-more s [] e = append-nil (e ∷ outputs s e)

@@ -12,5 +12,5 @@ returns c = λ p h.
     (let ws = workers_of c.args.ledger.now in
     let t = turn c.args.ledger.now p c.args.acts.now.items in
     let all = take_all c.rota_len-count.result ws (omega (arith, c.rota_len-count.ensures)) in
-    is-at-same (in_turn refill (take c.rota_len-count.result ws) t) (in_turn refill ws t) c.refill_each.new.ledger c.refill_each.new.acts.items c.refill_each.new.units
-    (ap (λ (vs : List ℕ). in_turn refill vs t) all) (c.in_ok-refill_each.ensures.turned p h))
+    is-at-same (in_turn refill (take c.rota_len-count.result ws) t) (in_turn refill ws t) c.deal_each.new.ledger c.deal_each.new.acts.items c.deal_each.new.units
+    (ap (λ (vs : List ℕ). in_turn refill vs t) all) (c.in_ok-deal_each.ensures.turned p h))

@@ -11,23 +11,23 @@ use Rattle.xd_scope.proofs.Shares.{is-at-turn, pool-shut_each, workers-shut_each
 use Rattle.xd_scope.proofs.Turned.{then-step}
 use Rattle.xd_scope.proofs.share.serve.Goals as goal
 
-pub give_each-requires-clause-within : goal.give_each-requires-clause-within
-give_each-requires-clause-within c =
+pub deal_each-requires-clause-within : goal.deal_each-requires-clause-within
+deal_each-requires-clause-within c =
     let ws = workers_of c.args.ledger.now in
     let same = ap (λ (u : Turn). workers_of u.table) (c.in_ok-shut_surplus.ensures some_plan) ∙ workers-shut_each (reverse (drop c.args.count ws)) (turn c.args.ledger.now some_plan c.args.acts.now.items) in
     omega (arith, ap length same, c.requires.within)
 
-pub give_each-requires-clause-fits : goal.give_each-requires-clause-fits
-give_each-requires-clause-fits c =
+pub deal_each-requires-clause-fits : goal.deal_each-requires-clause-fits
+deal_each-requires-clause-fits c =
     let ws = workers_of c.args.ledger.now in
     let same = ap (λ (u : Turn). u.table.pool) (c.in_ok-shut_surplus.ensures some_plan) ∙ pool-shut_each (reverse (drop c.args.count ws)) (turn c.args.ledger.now some_plan c.args.acts.now.items) in
     subst (λ (pool : List ℕ). AreInPool c.args.units.now.queue.items pool) (sym same) c.requires.fits
 
-pub refill_each-requires-clause-within : goal.refill_each-requires-clause-within
-refill_each-requires-clause-within c =
+pub deal_each-2-requires-clause-within : goal.deal_each-2-requires-clause-within
+deal_each-2-requires-clause-within c =
     let ws = workers_of c.args.ledger.now in
     let same = ap (λ (u : Turn). workers_of u.table) (c.in_ok-shut_surplus.ensures some_plan) ∙ workers-shut_each (reverse (drop c.args.count ws)) (turn c.args.ledger.now some_plan c.args.acts.now.items) in
-    omega (arith, ap length same, ap length c.in_ok-give_each.ensures.rota, c.requires.within)
+    omega (arith, ap length same, ap length c.in_ok-deal_each.ensures.rota, c.requires.within)
 
 pub returns-clause-turned : goal.returns-clause-turned
 returns-clause-turned c = λ p h.
@@ -35,15 +35,15 @@ returns-clause-turned c = λ p h.
     let k = c.args.count in
     let t = turn c.args.ledger.now p c.args.acts.now.items in
     let same = ap (λ (u : Turn). workers_of u.table) (c.in_ok-shut_surplus.ensures some_plan) ∙ workers-shut_each (reverse (drop k ws)) (turn c.args.ledger.now some_plan c.args.acts.now.items) in
-    let still = c.in_ok-give_each.ensures.rota ∙ same in
+    let still = c.in_ok-deal_each.ensures.rota ∙ same in
     let one = is-at-turn (shut_each (reverse (drop k ws)) t) c.shut_surplus.new.ledger p c.shut_surplus.new.acts.items c.args.units.now (c.in_ok-shut_surplus.ensures p) h in
-    let two = then-step (in_turn give_unit (take k ws)) (shut_each (reverse (drop k ws)) t) c.shut_surplus.new.ledger c.shut_surplus.new.acts.items c.args.units.now c.give_each.new.ledger c.give_each.new.acts.items c.give_each.new.units one
-    (λ q j. subst (λ (vs : List ℕ). IsAt (in_turn give_unit (take k vs) (turn c.shut_surplus.new.ledger q c.shut_surplus.new.acts.items)) c.give_each.new.ledger c.give_each.new.acts.items c.give_each.new.units) same (c.in_ok-give_each.ensures.turned q j)) in
-    then-step (in_turn refill (take k ws)) (in_turn give_unit (take k ws) (shut_each (reverse (drop k ws)) t)) c.give_each.new.ledger c.give_each.new.acts.items c.give_each.new.units c.refill_each.new.ledger c.refill_each.new.acts.items c.refill_each.new.units two
-    (λ q j. subst (λ (vs : List ℕ). IsAt (in_turn refill (take k vs) (turn c.give_each.new.ledger q c.give_each.new.acts.items)) c.refill_each.new.ledger c.refill_each.new.acts.items c.refill_each.new.units) still (c.in_ok-refill_each.ensures.turned q j)))
+    let two = then-step (in_turn give_unit (take k ws)) (shut_each (reverse (drop k ws)) t) c.shut_surplus.new.ledger c.shut_surplus.new.acts.items c.args.units.now c.deal_each.new.ledger c.deal_each.new.acts.items c.deal_each.new.units one
+    (λ q j. subst (λ (vs : List ℕ). IsAt (in_turn give_unit (take k vs) (turn c.shut_surplus.new.ledger q c.shut_surplus.new.acts.items)) c.deal_each.new.ledger c.deal_each.new.acts.items c.deal_each.new.units) same (c.in_ok-deal_each.ensures.turned q j)) in
+    then-step (in_turn refill (take k ws)) (in_turn give_unit (take k ws) (shut_each (reverse (drop k ws)) t)) c.deal_each.new.ledger c.deal_each.new.acts.items c.deal_each.new.units c.deal_each-2.new.ledger c.deal_each-2.new.acts.items c.deal_each-2.new.units two
+    (λ q j. subst (λ (vs : List ℕ). IsAt (in_turn refill (take k vs) (turn c.deal_each.new.ledger q c.deal_each.new.acts.items)) c.deal_each-2.new.ledger c.deal_each-2.new.acts.items c.deal_each-2.new.units) still (c.in_ok-deal_each-2.ensures.turned q j)))
 
 pub returns-clause-rota : goal.returns-clause-rota
 returns-clause-rota c =
     let ws = workers_of c.args.ledger.now in
     let same = ap (λ (u : Turn). workers_of u.table) (c.in_ok-shut_surplus.ensures some_plan) ∙ workers-shut_each (reverse (drop c.args.count ws)) (turn c.args.ledger.now some_plan c.args.acts.now.items) in
-    c.in_ok-refill_each.ensures.rota ∙ c.in_ok-give_each.ensures.rota ∙ same
+    c.in_ok-deal_each-2.ensures.rota ∙ c.in_ok-deal_each.ensures.rota ∙ same

@@ -1,16 +1,15 @@
 use Rattle.std.proofs.Common.{◌≡◌, take}
 use Rattle.xd_ledger.specs.Calls.{turn}
 use Rattle.xd_ledger.specs.Plan.{Plan}
-use Rattle.xd_ledger.specs.ScopeModes.{give_unit}
 use Rattle.xd_ledger.specs.Suits.{AreInPool}
 use Rattle.xd_ledger.specs.Table.{workers_of}
 use Rattle.xd_ledger.specs.Turn.{in_turn}
-use Rattle.xd_scope.specs.Stands.{IsAt, Keeps}
-use Rattle.xd_scope.proofs.refill.give_each.Given as goal
+use Rattle.xd_scope.specs.Stands.{IsAt, Keeps, dealt_to}
+use Rattle.xd_scope.proofs.refill.deal_each.Given as goal
 
 abbrev pub invariant-loop-place : goal.invariant-loop-place
 invariant-loop-place l = record {
   rota : workers_of l.ledger ≡ workers_of l.fn.ledger;
   fits : AreInPool l.units.queue.items l.ledger.pool;
-  turned : (p : Plan) → Keeps l.fn.units p → IsAt (in_turn give_unit (take l.place (workers_of l.fn.ledger)) (turn l.fn.ledger p l.fn.acts.items)) l.ledger l.acts.items l.units;
+  turned : (p : Plan) → Keeps l.fn.units p → IsAt (in_turn (dealt_to l.fn.deal) (take l.place (workers_of l.fn.ledger)) (turn l.fn.ledger p l.fn.acts.items)) l.ledger l.acts.items l.units;
 }
