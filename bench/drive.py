@@ -249,13 +249,13 @@ fn run_in<R: Wait + Clock, M: Mode>(
     let Ok(begun) = Instant::now(rt) else {
         return Ok(None);
     };
-    let journal = drive(rt, alloc, session, &mut hub, &mut out, &mut NoWitness)?;
+    let run = drive(rt, alloc, session, &mut hub, &mut out, &mut NoWitness)?;
     let Ok(took) = begun.elapsed(rt) else {
         return Ok(None);
     };
     Ok(Some(Ran {
         micros: took.as_micros(),
-        entries: journal.entries.len(),
+        entries: run.journal.entries.len(),
         bytes: out.bytes,
     }))
 }

@@ -1,16 +1,15 @@
 -- What the rota tells of a worker, and of each list.
-use Rattle.std.proofs.Common.{◌≡◌, ℕ, ◌+◌, ◌≤◌, ◌<◌, List, [], ◌∷◌, length, get_or, set, nat_lt, Bool, true, false, not, refl, ap, sym, subst, ◌∙◌, arith}
-use Rattle.std.specs.Prelude.{if◌then◌else◌, ◌==◌, map}
+use Rattle.std.proofs.Common.{◌≡◌, ℕ, ◌≤◌, ◌<◌, List, [], ◌∷◌, length, get_or, set, nat_lt, true, false, not, refl, ap, sym, subst, ◌∙◌, arith}
+use Rattle.std.specs.Prelude.{◌==◌}
 use Rattle.std.specs.List.{list_any, list_all}
 use Rattle.std.proofs.lemmas.Bool.Decides.{nat_tests}
 use Rattle.xd_ledger.specs.declared.post.Post.{Post}
-use Rattle.xd_ledger.specs.Chains.{Lists, chain_at, chains_of}
+use Rattle.xd_ledger.specs.Chains.{Lists, chain_at}
 use Rattle.xd_ledger.specs.Numbers.{times}
-use Rattle.xd_ledger.specs.Posts.{seat_of, seats, chains_in, chain_in, place_in, table_of, IsKept}
-use Rattle.xd_ledger.specs.Sound.{IsSound}
+use Rattle.xd_ledger.specs.Posts.{seats, chains_in, chain_in, place_in, table_of, IsKept}
 use Rattle.xd_ledger.specs.Table.{Table, in_rota, seat_shut, shut_down}
 use Rattle.xd_ledger.proofs.ChainMoves.{by_cases}
-use Rattle.xd_ledger.proofs.Kept.{Has, has, shut_table, shut_kept}
+use Rattle.xd_ledger.proofs.Kept.{has, shut_table, shut_kept}
 use Rattle.xd_ledger.proofs.Links.{same}
 use Rattle.xd_ledger.proofs.Posts.{any-posts, place-in, shut-posts}
 

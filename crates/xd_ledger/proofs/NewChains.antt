@@ -1,5 +1,5 @@
 -- New chains stand.
-use Rattle.std.proofs.Common.{◌≡◌, ℕ, zero, suc, ◌+◌, ◌-◌, ◌≤◌, ◌<◌, List, [], ◌∷◌, ◌++◌, Bool, true, false, length, length-append, get_or, nat_lt, refl, ap, sym, subst, ◌∙◌, arith}
+use Rattle.std.proofs.Common.{◌≡◌, ℕ, zero, suc, ◌+◌, ◌≤◌, ◌<◌, List, [], ◌∷◌, ◌++◌, false, length, length-append, nat_lt, refl, ap, sym, subst, ◌∙◌, arith}
 use Rattle.std.specs.Prelude.{◌==◌, if◌then◌else◌, replicate}
 use Rattle.std.specs.List.{range_with_len}
 use Rattle.std.proofs.lemmas.Bool.Decides.{nat_tests}
@@ -9,7 +9,7 @@ use Rattle.xd_ledger.specs.Numbers.{times}
 use Rattle.xd_ledger.specs.Chains.{at, owner_of, no_chain, chain, Nexts, Backs, IsLinkedChain, AreChains, changed}
 use Rattle.xd_ledger.proofs.Counts.{times-range}
 use Rattle.xd_ledger.proofs.Links.{same}
-use Rattle.xd_ledger.proofs.ChainMoves.{by_cases, equals, changed-here, changed-else, Gives, chains-walk, chains-same, chain-past, chains-long, stands-below, stands-walk, gives}
+use Rattle.xd_ledger.proofs.ChainMoves.{by_cases, equals, changed-here, changed-else, Gives, chain-past, chains-long, stands-below, stands-walk, gives}
 
 nexts_same : (n m : List ℕ) (u : ℕ) (xs : List ℕ) (e : ℕ) → ((y : ℕ) → 1 ≤ times y (u ∷ xs) → at m y ≡ at n y) → Nexts n u xs e → Nexts m u xs e
 nexts_same n m u [] e s h = (let t = same u in let k : 1 ≤ times u (u ∷ []) = grind (arith, nat_tests) in s u k ∙ h)

@@ -1,12 +1,12 @@
 -- The moves of a turn keep the rota's workers, and go on one by one.
-use Rattle.std.proofs.Common.{◌≡◌, ℕ, zero, suc, ◌+◌, ◌<◌, List, [], ◌∷◌, ◌++◌, take, length, get_or, Bool, true, false, refl, ap, sym, ◌∙◌, arith, map}
+use Rattle.std.proofs.Common.{◌≡◌, ℕ, zero, suc, ◌+◌, ◌<◌, List, [], ◌∷◌, ◌++◌, take, length, get_or, true, refl, ap, sym, ◌∙◌, arith, map}
 use Rattle.std.proofs.lemmas.List.{length-map, take_more}
-use Rattle.std.specs.Prelude.{if◌then◌else◌, ◌==◌, None}
+use Rattle.std.specs.Prelude.{◌==◌, None}
 use Rattle.std.specs.List.{list_any}
 use Rattle.std.proofs.lemmas.Bool.Decides.{nat_tests}
 use Rattle.xd_edge.specs.declared.mode.ModeKind.TheVariants.{Local}
 use Rattle.xd_ledger.specs.declared.seat.Seat.{Seat}
-use Rattle.xd_ledger.specs.Table.{Table, at_seat, workers_of, in_rota, seat_shut}
+use Rattle.xd_ledger.specs.Table.{Table, at_seat, workers_of, in_rota}
 use Rattle.xd_ledger.specs.Plan.{Plan}
 use Rattle.xd_ledger.specs.Turn.{Turn, in_turn, give, shut}
 

@@ -1,7 +1,7 @@
 -- Lists of the numbers below some number, each in one of them at most, kept by their neighbours: for each place the one
 -- after it and the one before it. The places are the numbers, and after them an end for each list, which stands before
 -- its first number and after its last.
-use Rattle.std.specs.Prelude.{◌≡◌, ℕ, zero, suc, ◌+◌, ◌==◌, ◌≤◌, ◌<◌, Bool, true, false, List, [], ◌∷◌, ◌++◌, take, drop, length, get_or, Option, Some, None, if◌then◌else◌}
+use Rattle.std.specs.Prelude.{◌≡◌, ℕ, zero, suc, ◌+◌, ◌==◌, ◌≤◌, ◌<◌, Bool, false, List, [], ◌∷◌, ◌++◌, take, drop, length, get_or, Option, Some, None, if◌then◌else◌}
 use Rattle.xd_ledger.specs.Numbers.{times, without}
 
 -- the number that stands at the place; 0 where none does

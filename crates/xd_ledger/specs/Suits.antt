@@ -6,7 +6,7 @@ use Rattle.xd_ledger.specs.Table.{Table, workers_of}
 use Rattle.xd_ledger.specs.Plan.{Plan, is_each, is_scope}
 use Rattle.xd_ledger.specs.Orderly.{not_empty}
 use Rattle.xd_ledger.specs.Modes.{ModeCall}
-use Rattle.xd_ledger.specs.Modes.ModeCall.{Share, Joined, TestDone, TestsBack, Died}
+use Rattle.xd_ledger.specs.Modes.ModeCall.{Share}
 
 -- the tests of these units
 abbrev pub tests_of : List (List ℕ) → List ℕ

@@ -1,7 +1,6 @@
 use Rattle.std.proofs.Common.{◌≡◌, ap, ◌∙◌, arith, List, ℕ, [], ◌∷◌, ◌++◌, length, ◌<◌}
 use Rattle.std.proofs.lemmas.Grind.{common_steps}
 use Rattle.xd_ledger.specs.Chains.{chain_at, chains_of}
-use Rattle.xd_ledger.proofs.ChainMoves.{Gives}
 use Rattle.xd_ledger.proofs.NewChains.{added}
 use Rattle.xd_ledger.proofs.chains.Chains.add.Goals as goal
 

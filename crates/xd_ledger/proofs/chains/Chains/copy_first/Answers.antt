@@ -1,7 +1,7 @@
-use Rattle.std.proofs.Common.{◌≡◌, ◌+◌, ◌<◌, ◌∙◌, ◌++◌, ◌∷◌, [], List, ℕ, ap, sym, arith, drop, length}
+use Rattle.std.proofs.Common.{◌+◌, ◌<◌, ◌∙◌, ◌++◌, ◌∷◌, [], List, ℕ, ap, sym, arith, drop, length}
 use Rattle.std.proofs.lemmas.Grind.{common_steps}
 use Rattle.xd_ledger.specs.Chains.{chain_at, number_count, first_or}
-use Rattle.xd_ledger.proofs.Walks.{WalksOn, walks_on}
+use Rattle.xd_ledger.proofs.Walks.{walks_on}
 use Rattle.xd_ledger.proofs.chains.Chains.copy_first.Goals as goal
 
 pub index-place-requires-in-loop-i : goal.index-place-requires-in-loop-i

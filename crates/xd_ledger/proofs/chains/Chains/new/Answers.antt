@@ -1,4 +1,3 @@
-use Rattle.std.proofs.Common.{◌≡◌, ◌∙◌, arith}
 use Rattle.std.specs.List.{range_with_len}
 use Rattle.xd_ledger.specs.Chains.{chain_at}
 use Rattle.xd_ledger.proofs.NewChains.{one_list}

@@ -1,4 +1,4 @@
-use Rattle.std.proofs.Common.{◌≡◌, ◌∙◌, ◌<◌, ◌≤◌, ap, sym, arith, length, true, false}
+use Rattle.std.proofs.Common.{◌∙◌, ◌<◌, ◌≤◌, ap, arith, length}
 use Rattle.std.proofs.lemmas.Grind.{common_steps}
 use Rattle.xd_ledger.specs.Chains.{number_count}
 use Rattle.xd_ledger.proofs.ChainCalls.{next_is_at, not_owned}

@@ -1,6 +1,6 @@
-use Rattle.std.proofs.Common.{◌≡◌, ap, ◌∙◌, List, ℕ, [], ◌∷◌, ◌++◌}
+use Rattle.std.proofs.Common.{ap, ◌∙◌, List, ℕ, [], ◌∷◌, ◌++◌}
 use Rattle.std.specs.List.{range_with_len}
-use Rattle.xd_ledger.proofs.NewChains.{IsNew, new_gives}
+use Rattle.xd_ledger.proofs.NewChains.{new_gives}
 use Rattle.xd_ledger.proofs.chains.Chains.one.Goals as goal
 
 pub invariant_of-result : goal.invariant_of-result

@@ -1,7 +1,6 @@
 use Rattle.std.proofs.Common.{◌≡◌, ◌+◌, ◌∙◌, ap, arith, length, get_or}
 use Rattle.std.proofs.lemmas.Grind.{common_steps}
-use Rattle.xd_ledger.proofs.ChainCalls.{PutRoom, put_room_at, put_done}
-use Rattle.xd_ledger.proofs.ChainMoves.{Gives}
+use Rattle.xd_ledger.proofs.ChainCalls.{put_room_at, put_done}
 use Rattle.xd_ledger.proofs.chains.Chains.put.Goals as goal
 
 pub index_mut-requires : goal.index_mut-requires

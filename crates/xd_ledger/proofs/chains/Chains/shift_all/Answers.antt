@@ -1,4 +1,4 @@
-use Rattle.std.proofs.Common.{◌≡◌, ◌∙◌, ap, refl, arith, take, List, ℕ}
+use Rattle.std.proofs.Common.{◌∙◌, ap, refl, arith, take, List, ℕ}
 use Rattle.xd_ledger.specs.Chains.{chain_at, shifted}
 use Rattle.xd_ledger.proofs.ChainCalls.{shift_none, shift_more, still_there, take-next, take-whole}
 use Rattle.xd_ledger.proofs.chains.Chains.shift_all.Goals as goal

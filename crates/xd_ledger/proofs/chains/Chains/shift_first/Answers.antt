@@ -1,7 +1,7 @@
 use Rattle.std.proofs.Common.{◌≡◌, ◌+◌, ◌∙◌, ap, arith, get_or, length}
 use Rattle.std.proofs.lemmas.Grind.{common_steps}
 use Rattle.xd_ledger.specs.Chains.{chain_at}
-use Rattle.xd_ledger.proofs.ChainCalls.{FirstIs, first_is_at, first_shifted}
+use Rattle.xd_ledger.proofs.ChainCalls.{first_is_at, first_shifted}
 use Rattle.xd_ledger.proofs.chains.Chains.shift_first.Goals as goal
 
 pub shift-requires-clause-within : goal.shift-requires-clause-within

@@ -1,8 +1,7 @@
-use Rattle.std.proofs.Common.{◌≡◌, arith, ◌∙◌, ap}
+use Rattle.std.proofs.Common.{arith, ap}
 use Rattle.std.proofs.lemmas.Grind.{common_steps}
-use Rattle.xd_ledger.specs.Chains.{chain_at, number_count}
-use Rattle.xd_ledger.proofs.ChainCalls.{TakeRoom, take_room_at, take_done}
-use Rattle.xd_ledger.proofs.ChainMoves.{Gives}
+use Rattle.xd_ledger.specs.Chains.{number_count}
+use Rattle.xd_ledger.proofs.ChainCalls.{take_room_at, take_done}
 use Rattle.xd_ledger.proofs.chains.Chains.take.Goals as goal
 
 pub index-next-requires : goal.index-next-requires

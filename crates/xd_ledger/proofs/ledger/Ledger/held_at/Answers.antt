@@ -1,11 +1,10 @@
-use Rattle.std.proofs.Common.{◌≡◌, ◌∙◌, ◌<◌, ap, sym, subst, arith, length, take, drop, List, ℕ}
-use Rattle.std.specs.Prelude.{slice_index, ◌==◌}
+use Rattle.std.proofs.Common.{◌≡◌, ◌∙◌, ◌<◌, ap, sym, subst, arith, length, List, ℕ}
+use Rattle.std.specs.Prelude.{slice_index}
 use Rattle.std.specs.Vec.{vec_capacity}
 use Rattle.xd_ledger.specs.Chains.{chain_at, chains_of}
-use Rattle.xd_ledger.specs.Numbers.{times, first_of}
 use Rattle.xd_ledger.specs.Posts.{chain_in}
 use Rattle.xd_ledger.specs.Table.{held}
-use Rattle.xd_ledger.proofs.Kept.{Has, has_at}
+use Rattle.xd_ledger.proofs.Kept.{has_at}
 use Rattle.xd_ledger.proofs.ledger.Ledger.held_at.Goals as goal
 
 pub at-requires-clause-known : goal.at-requires-clause-known

@@ -1,10 +1,9 @@
-use Rattle.std.proofs.Common.{◌≡◌, ap, ◌∙◌, sym, subst, refl, arith, ℕ, ◌<◌, length, true, false}
+use Rattle.std.proofs.Common.{◌≡◌, ap, ◌∙◌, sym, subst, ◌<◌, length}
 use Rattle.std.specs.Vec.{vec_capacity}
-use Rattle.xd_ledger.specs.Chains.{chain_at, chains_of, final_of, ahead, behind}
-use Rattle.xd_ledger.specs.Numbers.{among, first_of}
+use Rattle.xd_ledger.specs.Chains.{chain_at, chains_of}
 use Rattle.xd_ledger.specs.Posts.{chain_in}
 use Rattle.xd_ledger.specs.Table.{held}
-use Rattle.xd_ledger.proofs.Kept.{Has, has_at}
+use Rattle.xd_ledger.proofs.Kept.{has_at}
 use Rattle.xd_ledger.proofs.ledger.Ledger.held_len.Goals as goal
 
 pub len-requires : goal.len-requires

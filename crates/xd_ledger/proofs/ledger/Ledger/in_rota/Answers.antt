@@ -1,10 +1,7 @@
-use Rattle.std.proofs.Common.{◌≡◌, ◌∙◌, ◌<◌, ap, sym, not, arith, length}
+use Rattle.std.proofs.Common.{◌∙◌, ap, not}
 use Rattle.std.specs.Prelude.{◌==◌}
-use Rattle.std.specs.List.{list_all}
 use Rattle.std.specs.Vec.{vec_capacity}
-use Rattle.std.proofs.lemmas.Grind.{common_steps}
-use Rattle.xd_ledger.specs.Chains.{chain_at, chains_of}
-use Rattle.xd_ledger.specs.Posts.{chain_in, place_in}
+use Rattle.xd_ledger.specs.Posts.{chain_in}
 use Rattle.xd_ledger.proofs.Marked.{in_rota_is}
 use Rattle.xd_ledger.proofs.ledger.Ledger.in_rota.Goals as goal
 

@@ -1,10 +1,7 @@
-use Rattle.std.proofs.Common.{◌≡◌, ◌∙◌, ◌<◌, ap, sym, not, arith, length}
-use Rattle.std.specs.Prelude.{◌==◌}
-use Rattle.std.specs.List.{list_all}
+use Rattle.std.proofs.Common.{◌∙◌, ap, arith}
 use Rattle.std.specs.Vec.{vec_capacity}
 use Rattle.std.proofs.lemmas.Grind.{common_steps}
-use Rattle.xd_ledger.specs.Chains.{chain_at, chains_of}
-use Rattle.xd_ledger.specs.Posts.{chain_in, place_in}
+use Rattle.xd_ledger.specs.Posts.{place_in}
 use Rattle.xd_ledger.proofs.Marked.{place_fits, is_shut_is}
 use Rattle.xd_ledger.proofs.ledger.Ledger.is_shut.Goals as goal
 

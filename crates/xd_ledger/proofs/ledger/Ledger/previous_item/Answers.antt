@@ -1,10 +1,10 @@
-use Rattle.std.proofs.Common.{◌≡◌, ap, ◌∙◌, sym, List, ℕ}
+use Rattle.std.proofs.Common.{ap, ◌∙◌, sym}
 use Rattle.std.specs.Vec.{vec_capacity}
-use Rattle.xd_ledger.specs.Chains.{chain_at, final_of, ahead, behind}
-use Rattle.xd_ledger.specs.Numbers.{among, first_of}
+use Rattle.xd_ledger.specs.Chains.{final_of, ahead}
+use Rattle.xd_ledger.specs.Numbers.{among}
 use Rattle.xd_ledger.specs.Posts.{chain_in}
 use Rattle.xd_ledger.specs.Table.{held}
-use Rattle.xd_ledger.proofs.Kept.{Has, has_at}
+use Rattle.xd_ledger.proofs.Kept.{has_at}
 use Rattle.xd_ledger.proofs.ledger.Ledger.previous_item.Goals as goal
 
 pub returns-clause-held : goal.returns-clause-held
