@@ -53,7 +53,7 @@ module _ (j : Journal) (w : IsWhole j) where
       ap (state_at j.settings) w.entries ∙ ap settled (after_entries-join (no_one j.settings) es (ending w.out_failed b) ∙ end-moved (after_entries (no_one j.settings) es) w.out_failed b)
       ∙ journal-state j.settings w.inputs w.proper.follow
 
-  reports-whole : reports_in j ≡ reports j.settings (journal_of j.settings w.inputs)
+  pub reports-whole : reports_in j ≡ reports j.settings (journal_of j.settings w.inputs)
   reports-whole =
       let es = journal_of j.settings w.inputs in
       let b = (after_inputs (after_starts j.settings) w.inputs).books in

@@ -1,5 +1,5 @@
 -- What holds where a report could not be printed.
-use Rattle.std.proofs.Common.{◌≡◌, Bool, true, false, Result, Ok, Err, refl, subst, sym}
+use Rattle.std.proofs.Common.{◌≡◌, Bool, true, false, Result, Err, subst, sym}
 use Rattle.std.specs.Prelude.{⊤}
 use Rattle.xd_report.specs.declared.printing.PrintFault.{PrintFault}
 use Rattle.xd_report.specs.declared.printing.PrintFault.TheVariants.{Failed, OutOfMemory}

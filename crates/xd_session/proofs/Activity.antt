@@ -1,10 +1,8 @@
 -- A worker is active from its start up to the entry that ended it.
 use Rattle.std.proofs.Common.{◌≡◌, ℕ, List, [], ◌∷◌, ◌++◌, map, Bool, true, false, not, ◌&&◌, ◌||◌, refl, ap, sym, ◌∙◌, subst, arith, inl, inr}
-use Rattle.std.specs.Prelude.{◌==◌, if◌then◌else◌}
-use Rattle.std.specs.List.{list_any}
+use Rattle.std.specs.Prelude.{◌==◌}
 use Rattle.std.proofs.lemmas.Bool.Decides.{nat_tests}
 use Rattle.std.proofs.lemmas.List.Folds.{list_any-append}
-use Rattle.xd_journal.specs.declared.entry.Ids.{Ids}
 use Rattle.xd_journal.specs.declared.settings.Settings.{Settings}
 use Rattle.xd_journal.specs.declared.entry.Entry.{Entry}
 use Rattle.xd_journal.specs.declared.entry.Entry.TheVariants.{Ready, Collected, Done, Back, Finished, Refused, Down, NotStarted, Start, Run, RunAll, Steal, Shutdown, Kill, Over}
@@ -15,13 +13,12 @@ use Rattle.xd_ledger.specs.Histories.{after_starts, journal_of, after_inputs}
 use Rattle.xd_ledger.specs.Orderly.{is_orderly}
 use Rattle.xd_ledger.specs.Proper.{IsProper, may_follow}
 use Rattle.xd_ledger.specs.Sharing.{State, in_books}
-use Rattle.xd_ledger.specs.State.{after_effect, no_one}
+use Rattle.xd_ledger.specs.State.{after_effect}
 use Rattle.xd_ledger.specs.Workers.{has_collected, is_active, is_shut, made_collected, made_gone, made_ready, made_shut, started, was_ready}
-use Rattle.xd_ledger.specs.Proper.{are_ids}
 use Rattle.xd_laws.proofs.Members.{has, has-cleared, has-member, has-more, has-same, is_member}
 use Rattle.xd_laws.proofs.Inputs.{collecting-keeps}
 use Rattle.xd_laws.proofs.Laws.{journal-keeps}
-use Rattle.xd_laws.proofs.Logic.{cases_of, differ, not_true, split-and, split-or}
+use Rattle.xd_laws.proofs.Logic.{differ, not_true, split-and, split-or}
 use Rattle.xd_laws.proofs.Walk.{Keeps}
 use Rattle.xd_session.specs.Part.{is_end_of, is_ended}
 

@@ -1,7 +1,7 @@
 -- What is asked of a worker's head and of what it holds behind it, by the numbers that the worker uses.
-use Rattle.std.proofs.Common.{◌≡◌, ℕ, ◌+◌, ◌<◌, ◌≤◌, List, [], ◌∷◌, ◌++◌, drop, length, map, refl, ap, sym, subst, ◌∙◌, arith, Bool, true, false, not, ◌&&◌, ◌||◌, inl, inr}
+use Rattle.std.proofs.Common.{◌≡◌, ℕ, ◌+◌, ◌<◌, ◌≤◌, List, [], ◌∷◌, drop, length, map, refl, ap, sym, subst, ◌∙◌, arith, Bool, true, false, not, ◌&&◌, inl, inr}
 use Rattle.std.specs.Prelude.{if◌then◌else◌, ◌==◌, ◌^◌, nat_lt, Option, Some, None, SomeIff, is_some, is_none, nat_le, sum, take}
-use Rattle.std.specs.List.{list_all, list_any, range_with_len}
+use Rattle.std.specs.List.{list_all, list_any}
 use Rattle.std.proofs.lemmas.Bool.Decides.{nat_tests}
 use Rattle.std.specs.Str.{bytes_eq}
 use Rattle.std.proofs.lemmas.Slice.Eq.{bytes_eq-Decides}
@@ -23,7 +23,7 @@ use Rattle.xd_edge.specs.Limits.{most_tests}
 use Rattle.xd_ledger.specs.Proper.{is_id, may_follow, may_give_back, names_head, no_text_twice}
 use Rattle.xd_ledger.specs.Sharing.{State}
 use Rattle.xd_ledger.specs.Sound.{most_items}
-use Rattle.xd_ledger.specs.Table.{Table, all_items, held, held_by_all, in_rota}
+use Rattle.xd_ledger.specs.Table.{Table, all_items, held, in_rota}
 use Rattle.xd_ledger.specs.Workers.{has_collected, is_active, slot_of, was_ready}
 use Rattle.xd_laws.specs.Called.{Reached}
 use Rattle.xd_laws.proofs.Calls.{tidy-reached}

@@ -1,7 +1,6 @@
 -- What the journal of a session has of one worker is what its news mean.
-use Rattle.std.proofs.Common.{◌≡◌, ℕ, zero, suc, ◌+◌, List, [], ◌∷◌, ◌++◌, map, Bool, true, false, not, ◌&&◌, ◌||◌, refl, ap, sym, ◌∙◌, subst, arith, inl, inr, append_assoc}
-use Rattle.std.specs.Prelude.{◌==◌, ◌⊎◌, if◌then◌else◌, filter, fold, Option, Some, None}
-use Rattle.std.specs.List.{list_any}
+use Rattle.std.proofs.Common.{◌≡◌, ℕ, zero, suc, ◌+◌, List, [], ◌∷◌, ◌++◌, Bool, true, false, not, ◌&&◌, ◌||◌, refl, ap, sym, ◌∙◌, subst, arith, inl, inr, append_assoc}
+use Rattle.std.specs.Prelude.{◌==◌, ◌⊎◌, if◌then◌else◌, Option, Some, None}
 use Rattle.std.proofs.lemmas.Bool.Decides.{nat_tests}
 use Rattle.std.proofs.lemmas.List.{append-nil}
 use Rattle.std.proofs.lemmas.List.Elements.{filter-append}
@@ -11,7 +10,6 @@ use Rattle.xd_journal.specs.declared.entry.Cause.{Cause}
 use Rattle.xd_journal.specs.declared.entry.Cause.TheVariants.{Breach}
 use Rattle.xd_journal.specs.declared.entry.Entry.{Entry}
 use Rattle.xd_journal.specs.declared.entry.Entry.TheVariants.{Ready, Collected, Done, Back, Finished, Refused, Down, NotStarted, Start, Run, RunAll, Steal, Shutdown, Kill, Over}
-use Rattle.xd_journal.specs.declared.entry.Outcome.{Outcome}
 use Rattle.xd_journal.specs.declared.news.News.{News}
 use Rattle.xd_journal.specs.declared.news.What.{What}
 use Rattle.xd_journal.specs.declared.news.What.TheVariants as what
@@ -23,10 +21,8 @@ use Rattle.xd_ledger.specs.Proper.{IsProper, may_follow, names_head}
 use Rattle.xd_ledger.specs.Sharing.{State}
 use Rattle.xd_ledger.specs.State.{after_effect}
 use Rattle.xd_ledger.specs.Workers.{has_member, is_active}
-use Rattle.xd_ledger.specs.Collections.{listed}
 use Rattle.xd_laws.proofs.Logic.{and, cases_of, differ, in_both, or-right, split-and}
-use Rattle.xd_session.specs.Compared.{comparison, ids_to_list}
-use Rattle.xd_session.specs.History.{IsProperRun, Run as SoFar, after_news, begun_run, entries_with, input_of, run_of, said_by}
+use Rattle.xd_session.specs.History.{IsProperRun, Run as SoFar, entries_with, input_of, run_of, said_by}
 use Rattle.xd_session.specs.Part.{EndsWorker, HasPart, MeansEach, as_list, inputs_by, is_end_of, is_ended, is_of_log, is_said_by, meant_behind, meant_by}
 use Rattle.xd_session.proofs.Activity.{Active, active-behind}
 use Rattle.xd_session.proofs.Shares.{given-is}

@@ -1,6 +1,5 @@
 -- Retries of crashed tests, and the plan behind a death.
-use Rattle.std.proofs.Common.{◌≡◌, ℕ, ◌+◌, ◌-◌, List, [], ◌∷◌, ◌++◌, drop, length, refl, ap, sym, ◌∙◌, arith, cond, Bool, true, false, ◌&&◌, append_assoc, length-append}
-use Rattle.std.specs.Prelude.{◌==◌, count_by, if◌then◌else◌}
+use Rattle.std.proofs.Common.{◌≡◌, ℕ, ◌-◌, List, [], ◌∷◌, ◌++◌, drop, length, refl, ap, sym, ◌∙◌, arith, Bool, true, false, append_assoc, length-append}
 use Rattle.xd_ledger.specs.Books.{Books}
 use Rattle.xd_ledger.specs.Calls.{death_plan, last_of}
 use Rattle.xd_ledger.specs.Numbers.{times}

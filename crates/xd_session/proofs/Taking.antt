@@ -1,17 +1,17 @@
 -- What the verdict on a piece of news says of its meaning.
-use Rattle.std.proofs.Common.{◌≡◌, ℕ, ◌+◌, ◌≤◌, List, [], ◌∷◌, ◌++◌, length, refl, ap, sym, subst, ◌∙◌, Bool, true, false, not, ◌&&◌, arith}
+use Rattle.std.proofs.Common.{◌≡◌, ℕ, ◌+◌, ◌≤◌, List, [], ◌∷◌, length, refl, ap, sym, subst, ◌∙◌, Bool, true, false, not, ◌&&◌, arith}
 use Rattle.std.specs.Prelude.{if◌then◌else◌, ◌==◌, nat_le, Option, Some, None}
 use Rattle.std.specs.List.{list_all}
 use Rattle.std.proofs.lemmas.Bool.Decides.{nat_tests}
 use Rattle.xd_journal.specs.declared.entry.Entry.{Entry}
-use Rattle.xd_journal.specs.declared.entry.Entry.TheVariants.{Ready, Collected, Done, Back, Finished, Refused, Down, NotStarted}
+use Rattle.xd_journal.specs.declared.entry.Entry.TheVariants.{Ready, Collected, Done, Back, Finished, Refused, NotStarted}
 use Rattle.xd_journal.specs.declared.entry.Ids.{Ids}
 use Rattle.xd_journal.specs.declared.entry.Outcome.{Outcome}
 use Rattle.xd_journal.specs.declared.news.What.{What}
 use Rattle.xd_journal.specs.declared.news.What.TheVariants as what
 use Rattle.xd_journal.specs.Kept.{most_of_all}
 use Rattle.xd_ledger.specs.Books.{Books}
-use Rattle.xd_ledger.specs.Meaning.{Log, any_open, breach, given_ids, is_of, is_open_log, kept_at_death, may_start_log, meaning_of, output_of, spent_by, with_news}
+use Rattle.xd_ledger.specs.Meaning.{Log, any_open, breach, given_ids, is_of, is_open_log, may_start_log, meaning_of, output_of, spent_by, with_news}
 use Rattle.xd_ledger.specs.Plan.{Plan}
 use Rattle.xd_edge.specs.Limits.{most_tests}
 use Rattle.xd_ledger.specs.Proper.{are_ids, is_id, may_follow, names_head, no_text_twice}
@@ -20,7 +20,6 @@ use Rattle.xd_ledger.specs.Table.{held}
 use Rattle.xd_ledger.specs.Workers.{has_collected, is_active, is_shut, was_ready}
 use Rattle.xd_laws.proofs.Logic.{and, not_true, split-and}
 use Rattle.xd_laws.proofs.Placed.{empty_of}
-use Rattle.xd_session.specs.declared.judge.Verdict.{Verdict}
 use Rattle.xd_session.specs.declared.judge.Verdict.TheVariants.{Silent, Follows, Breach}
 use Rattle.xd_session.specs.declared.logs.WorkerLog.{WorkerLog}
 use Rattle.xd_session.specs.Judged.{follows_where, judged, silent_where}

@@ -10,7 +10,7 @@ use Rattle.xd_ledger.specs.Plan.{Plan, is_each}
 use Rattle.xd_ledger.specs.Sharing.{State, ids_at, in_books, joining, shared_plan, sizes_from}
 use Rattle.xd_ledger.specs.Stops.{is_stopped, stopped_by}
 use Rattle.xd_ledger.specs.Table.{Table, all_items, has_joined}
-use Rattle.xd_ledger.specs.Workers.{has_collected, is_shut, was_ready}
+use Rattle.xd_ledger.specs.Workers.{is_shut}
 use Rattle.xd_session.specs.Known.{Known}
 use Rattle.xd_session.specs.Rules.{Acted}
 

@@ -1,5 +1,5 @@
 -- What is to be done with a piece of news.
-use Rattle.std.specs.Prelude.{ℕ, Bool, not, ◌&&◌, List, Option, Some, None, if◌then◌else◌}
+use Rattle.std.specs.Prelude.{ℕ, Bool, not, ◌&&◌, Option, Some, None, if◌then◌else◌}
 use Rattle.xd_journal.specs.declared.news.What.{What}
 use Rattle.xd_journal.specs.declared.news.What.TheVariants as what
 use Rattle.xd_journal.specs.declared.entry.Entry.TheVariants.{Ready, Back, Finished, Refused, NotStarted}

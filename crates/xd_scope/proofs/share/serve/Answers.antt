@@ -23,8 +23,8 @@ deal_each-requires-clause-fits c =
     let same = ap (λ (u : Turn). u.table.pool) (c.in_ok-shut_surplus.ensures some_plan) ∙ pool-shut_each (reverse (drop c.args.count ws)) (turn c.args.ledger.now some_plan c.args.acts.now.items) in
     subst (λ (pool : List ℕ). AreInPool c.args.units.now.queue.items pool) (sym same) c.requires.fits
 
-pub deal_each-2-requires-clause-within : goal.deal_each-2-requires-clause-within
-deal_each-2-requires-clause-within c =
+pub deal_each-requires-2-clause-within : goal.deal_each-requires-2-clause-within
+deal_each-requires-2-clause-within c =
     let ws = workers_of c.args.ledger.now in
     let same = ap (λ (u : Turn). workers_of u.table) (c.in_ok-shut_surplus.ensures some_plan) ∙ workers-shut_each (reverse (drop c.args.count ws)) (turn c.args.ledger.now some_plan c.args.acts.now.items) in
     omega (arith, ap length same, ap length c.in_ok-deal_each.ensures.rota, c.requires.within)

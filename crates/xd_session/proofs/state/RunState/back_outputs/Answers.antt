@@ -1,17 +1,8 @@
-use Rattle.std.proofs.Common.{◌≡◌, ◌++◌, ◌∷◌, [], ap, sym, subst, refl, ◌∙◌, List, ℕ, Bool, length, true, false}
-use Rattle.std.specs.Prelude.{if◌then◌else◌}
-use Rattle.xd_journal.specs.declared.entry.Entry.{Entry}
-use Rattle.xd_journal.specs.declared.entry.Entry.TheVariants.{Ready, Done, Back, Finished, Refused, Down, NotStarted, Start, Shutdown, Kill}
-use Rattle.xd_ledger.specs.Books.{Books, marked}
-use Rattle.xd_ledger.specs.Modes.ModeCall.{Died, TestDone, TestsBack}
-use Rattle.xd_ledger.specs.Outputs.{acts_of, outputs_of_death, shut_all}
-use Rattle.xd_ledger.specs.Sharing.{State}
-use Rattle.xd_ledger.specs.State.{after_effect, settles}
-use Rattle.xd_ledger.specs.Stops.{is_shutting, is_stopped}
-use Rattle.xd_ledger.specs.Workers.{made_gone, made_ready, slot_of}
+use Rattle.std.proofs.Common.{◌≡◌, [], ap, sym, ◌∙◌, true, false}
+use Rattle.xd_ledger.specs.Modes.ModeCall.{TestsBack}
+use Rattle.xd_ledger.specs.Outputs.{acts_of}
+use Rattle.xd_ledger.specs.Stops.{is_stopped}
 use Rattle.xd_session.specs.Books.{books_of}
-use Rattle.xd_session.specs.Known.{known_by}
-use Rattle.xd_session.specs.Rules.{told_to_shut}
 use Rattle.xd_session.proofs.Acts.{acted-by, acted-none, choose-no, choose-yes, stopped-at}
 use Rattle.xd_session.proofs.state.RunState.back_outputs.Goals as goal
 

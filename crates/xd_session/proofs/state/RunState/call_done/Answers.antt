@@ -1,12 +1,4 @@
-use Rattle.std.proofs.Common.{◌≡◌, ap, subst, sym, ◌∙◌, ℕ}
-use Rattle.xd_ledger.specs.Books.{Books}
-use Rattle.xd_ledger.specs.Calls.{Turned, last_of}
-use Rattle.xd_ledger.specs.Modes.ModeCall.{Died, Joined, TestDone, TestsBack}
-use Rattle.xd_ledger.specs.Plan.{Plan}
-use Rattle.xd_ledger.specs.Deaths.{down_plan}
-use Rattle.xd_ledger.specs.Suits.{Suits}
-use Rattle.xd_ledger.specs.Workers.{slot_of}
-use Rattle.std.specs.Prelude.{None}
+use Rattle.xd_ledger.specs.Modes.ModeCall.{TestDone}
 use Rattle.xd_session.specs.Books.{books_of}
 use Rattle.xd_session.specs.Known.{known_by}
 use Rattle.xd_session.proofs.Acts.{acted-call, as-before, suits-by}

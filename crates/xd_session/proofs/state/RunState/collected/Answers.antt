@@ -1,28 +1,19 @@
-use Rattle.std.proofs.Common.{◌≡◌, ◌++◌, ◌∷◌, [], ap, sym, subst, refl, ◌∙◌, List, ℕ, length, map, true, false}
-use Rattle.std.specs.Prelude.{None, Some}
+use Rattle.std.proofs.Common.{◌≡◌, ◌++◌, ◌∷◌, [], ap, sym, subst, ◌∙◌, List, ℕ, true, false}
 use Rattle.xd_journal.specs.declared.entry.Entry.{Entry}
 use Rattle.xd_journal.specs.declared.entry.Entry.TheVariants.{Collected}
 use Rattle.xd_journal.specs.declared.entry.Ids.{Ids}
-use Rattle.xd_journal.specs.declared.entry.RunStop.TheVariants.{Unequal}
-use Rattle.xd_ledger.specs.declared.member.Listed.{Listed}
 use Rattle.xd_ledger.specs.Books.{Books}
-use Rattle.xd_ledger.specs.Calls.{Turned}
 use Rattle.xd_ledger.specs.Collections.{listed}
-use Rattle.xd_ledger.specs.Modes.ModeCall.{Joined, Share}
-use Rattle.xd_ledger.specs.Outputs.{outputs_of_joining, shut_all, slots_of_rota}
-use Rattle.xd_ledger.specs.Plan.{Plan}
-use Rattle.xd_ledger.specs.Sharing.{State, is_full}
-use Rattle.xd_ledger.specs.Stops.{is_stopped, stopped_by}
-use Rattle.xd_ledger.specs.Suits.{Suits}
-use Rattle.xd_ledger.specs.Workers.{is_shut, slot_of}
+use Rattle.xd_ledger.specs.Sharing.{State}
+use Rattle.xd_ledger.specs.Stops.{is_stopped}
+use Rattle.xd_ledger.specs.Workers.{is_shut}
 use Rattle.xd_session.specs.declared.lists.Comparison.{Comparison}
-use Rattle.xd_session.specs.Compared.{comparison, ids_to_list, stop_of}
+use Rattle.xd_session.specs.Compared.{comparison, ids_to_list}
 use Rattle.xd_session.specs.Books.{books_of}
-use Rattle.xd_session.specs.Joining.{TakenIn, filled, taken_in}
-use Rattle.xd_session.specs.Known.{Known, known_by}
-use Rattle.xd_session.specs.Rules.{At, Ruled}
+use Rattle.xd_session.specs.Known.{known_by}
+use Rattle.xd_session.specs.Rules.{Ruled}
 use Rattle.xd_ledger.specs.Books.{marked}
-use Rattle.xd_ledger.specs.Table.{Table, has_joined}
+use Rattle.xd_ledger.specs.Table.{has_joined}
 use Rattle.xd_ledger.specs.Workers.{made_collected}
 use Rattle.xd_session.specs.Joining.{IsBare}
 use Rattle.xd_session.proofs.Acts.{finish}

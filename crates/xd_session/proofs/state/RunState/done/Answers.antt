@@ -1,17 +1,15 @@
-use Rattle.std.proofs.Common.{◌≡◌, ◌++◌, ◌∷◌, [], ap, sym, subst, refl, ◌∙◌, List, ℕ, Bool, length, true, false}
+use Rattle.std.proofs.Common.{◌≡◌, ◌∷◌, [], ap, sym, ◌∙◌, List, Bool}
 use Rattle.std.specs.Prelude.{if◌then◌else◌}
 use Rattle.xd_journal.specs.declared.entry.Entry.{Entry}
-use Rattle.xd_journal.specs.declared.entry.Entry.TheVariants.{Ready, Done, Back, Finished, Refused, Down, NotStarted, Start, Shutdown, Kill}
-use Rattle.xd_ledger.specs.Books.{Books, marked}
-use Rattle.xd_ledger.specs.Modes.ModeCall.{Died, TestDone, TestsBack}
-use Rattle.xd_ledger.specs.Outputs.{acts_of, outputs_of_death, shut_all}
+use Rattle.xd_journal.specs.declared.entry.Entry.TheVariants.{Done}
+use Rattle.xd_ledger.specs.Modes.ModeCall.{TestDone}
+use Rattle.xd_ledger.specs.Outputs.{acts_of, shut_all}
 use Rattle.xd_ledger.specs.Sharing.{State}
-use Rattle.xd_ledger.specs.State.{after_effect, settles}
-use Rattle.xd_ledger.specs.Stops.{is_shutting, is_stopped}
-use Rattle.xd_ledger.specs.Workers.{is_active, made_gone, made_ready, slot_of}
+use Rattle.xd_ledger.specs.State.{after_effect}
+use Rattle.xd_ledger.specs.Stops.{is_stopped}
+use Rattle.xd_ledger.specs.Workers.{is_active}
 use Rattle.xd_session.specs.Books.{books_of}
 use Rattle.xd_session.specs.Known.{known_by}
-use Rattle.xd_session.specs.Rules.{told_to_shut}
 use Rattle.xd_session.proofs.Acts.{acted-by, finish}
 use Rattle.xd_session.proofs.Judging.{done-found, done-stopped, no-head, where-head}
 use Rattle.xd_laws.proofs.Calls.{done-called}

@@ -1,4 +1,4 @@
-use Rattle.std.proofs.Common.{ap, sym, ◌∙◌, refl}
+use Rattle.std.proofs.Common.{ap, sym, ◌∙◌}
 use Rattle.std.specs.Prelude.{is_some}
 use Rattle.xd_session.proofs.Judging.{head-is, named-in, where-none}
 use Rattle.xd_session.specs.Books.{books_of}

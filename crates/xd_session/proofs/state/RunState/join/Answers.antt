@@ -1,26 +1,7 @@
-use Rattle.std.proofs.Common.{◌≡◌, ◌++◌, ◌∷◌, [], ap, sym, subst, refl, ◌∙◌, List, ℕ, length, map, true, false}
-use Rattle.std.specs.Prelude.{None, Some}
-use Rattle.xd_journal.specs.declared.entry.Entry.{Entry}
-use Rattle.xd_journal.specs.declared.entry.Entry.TheVariants.{Collected}
-use Rattle.xd_journal.specs.declared.entry.Ids.{Ids}
-use Rattle.xd_journal.specs.declared.entry.RunStop.TheVariants.{Unequal}
-use Rattle.xd_ledger.specs.declared.member.Listed.{Listed}
+use Rattle.std.proofs.Common.{◌≡◌, ap, sym, refl, ◌∙◌, true, false}
 use Rattle.xd_ledger.specs.Books.{Books}
-use Rattle.xd_ledger.specs.Calls.{Turned}
-use Rattle.xd_ledger.specs.Collections.{listed}
-use Rattle.xd_ledger.specs.Modes.ModeCall.{Joined, Share}
-use Rattle.xd_ledger.specs.Outputs.{outputs_of_joining, shut_all, slots_of_rota}
-use Rattle.xd_ledger.specs.Plan.{Plan}
 use Rattle.xd_ledger.specs.Sharing.{State, is_full}
-use Rattle.xd_ledger.specs.Stops.{is_stopped, stopped_by}
-use Rattle.xd_ledger.specs.Suits.{Suits}
-use Rattle.xd_ledger.specs.Workers.{is_shut, slot_of}
-use Rattle.xd_session.specs.declared.lists.Comparison.{Comparison}
-use Rattle.xd_session.specs.Compared.{comparison, ids_to_list, stop_of}
 use Rattle.xd_session.specs.Books.{books_of}
-use Rattle.xd_session.specs.Joining.{TakenIn, filled, taken_in}
-use Rattle.xd_session.specs.Known.{Known, known_by}
-use Rattle.xd_session.specs.Rules.{At, Ruled}
 use Rattle.xd_session.proofs.Shares.{at-seated, calls-joined, full-unshared, joined-by, may-share, seated_in}
 use Rattle.xd_session.proofs.state.RunState.join.Goals as goal
 

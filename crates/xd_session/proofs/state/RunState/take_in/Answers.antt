@@ -1,28 +1,18 @@
-use Rattle.std.proofs.Common.{◌≡◌, ◌++◌, ◌∷◌, [], ap, sym, subst, refl, ◌∙◌, List, ℕ, length, map, true, false}
+use Rattle.std.proofs.Common.{◌≡◌, [], ap, sym, subst, ◌∙◌, true, false}
 use Rattle.std.specs.Prelude.{None, Option, Some}
 use Rattle.std.proofs.Common.{inl, inr}
 use Rattle.xd_journal.specs.declared.entry.RunStop.{RunStop}
-use Rattle.xd_journal.specs.declared.entry.Entry.{Entry}
-use Rattle.xd_journal.specs.declared.entry.Entry.TheVariants.{Collected}
-use Rattle.xd_journal.specs.declared.entry.Ids.{Ids}
 use Rattle.xd_journal.specs.declared.entry.RunStop.TheVariants.{Unequal}
-use Rattle.xd_ledger.specs.declared.member.Listed.{Listed}
 use Rattle.xd_ledger.specs.Books.{Books}
-use Rattle.xd_ledger.specs.Calls.{Turned}
-use Rattle.xd_ledger.specs.Collections.{listed}
-use Rattle.xd_ledger.specs.Modes.ModeCall.{Joined, Share}
-use Rattle.xd_ledger.specs.Outputs.{outputs_of_joining, shut_all, slots_of_rota}
-use Rattle.xd_ledger.specs.Plan.{Plan}
-use Rattle.xd_ledger.specs.Sharing.{State, is_full}
+use Rattle.xd_ledger.specs.Outputs.{outputs_of_joining, shut_all}
+use Rattle.xd_ledger.specs.Sharing.{State}
 use Rattle.xd_ledger.specs.Stops.{is_stopped, stopped_by}
-use Rattle.xd_ledger.specs.Suits.{Suits}
-use Rattle.xd_ledger.specs.Workers.{is_shut, slot_of}
 use Rattle.xd_session.specs.declared.lists.Comparison.{Comparison}
-use Rattle.xd_session.specs.Compared.{comparison, ids_to_list, stop_of}
+use Rattle.xd_session.specs.Compared.{stop_of}
 use Rattle.xd_session.specs.Books.{books_of}
-use Rattle.xd_session.specs.Joining.{TakenIn, filled, taken_in}
-use Rattle.xd_session.specs.Known.{Known, known_by}
-use Rattle.xd_session.specs.Rules.{At, Ruled}
+use Rattle.xd_session.specs.Joining.{TakenIn, taken_in}
+use Rattle.xd_session.specs.Known.{known_by}
+use Rattle.xd_session.specs.Rules.{At}
 use Rattle.xd_session.proofs.Acts.{acted-by, acted-shut, choose-second, is_stopped-by, stopped-at}
 use Rattle.xd_session.proofs.Shares.{taken-joined}
 use Rattle.xd_session.proofs.state.RunState.take_in.Goals as goal

@@ -1,7 +1,7 @@
-use Rattle.std.proofs.Common.{◌≡◌, ◌+◌, ◌∷◌, [], ap, sym, ◌∙◌, ℕ, arith}
+use Rattle.std.proofs.Common.{◌≡◌, ◌∷◌, [], ap, sym, ◌∙◌, ℕ, arith}
 use Rattle.std.specs.Prelude.{Option}
 use Rattle.xd_journal.specs.declared.entry.Entry.{Entry}
-use Rattle.xd_journal.specs.declared.entry.Entry.TheVariants.{Back, Collected, Finished, NotStarted}
+use Rattle.xd_journal.specs.declared.entry.Entry.TheVariants.{Back, Finished, NotStarted}
 use Rattle.xd_journal.specs.declared.news.What.{What}
 use Rattle.xd_journal.specs.declared.news.What.TheVariants as what
 use Rattle.xd_ledger.specs.Meaning.{Log, breach, given_ids, meaning_of, spent_by}

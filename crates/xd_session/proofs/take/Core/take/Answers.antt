@@ -1,6 +1,5 @@
 use Rattle.std.proofs.Common.{◌≡◌, ap, sym, subst, ◌∙◌, ℕ, List}
 use Rattle.std.specs.Prelude.{◌==◌, if◌then◌else◌}
-use Rattle.xd_journal.specs.declared.news.What.{What}
 use Rattle.xd_ledger.specs.Meaning.{with_news}
 use Rattle.xd_session.specs.declared.judge.Verdict.TheVariants.{Silent, Follows, Breach}
 use Rattle.xd_session.specs.declared.logs.WorkerLog.{WorkerLog}
