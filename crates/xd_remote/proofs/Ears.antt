@@ -1,9 +1,9 @@
 -- The messages of a link are heard in one way.
-use Rattle.std.proofs.Common.{◌≡◌, ℕ, List, [], ◌∷◌, ◌++◌, Bool, true, false, refl, sym, ap, subst, ◌∙◌, arith}
+use Rattle.std.proofs.Common.{◌≡◌, ℕ, List, [], ◌∷◌, ◌++◌, Bool, true, false, refl, sym, ap, subst, ◌∙◌}
 use Rattle.xd_frame.specs.Message.{MessageView}
 use Rattle.xd_factory.specs.declared.faults.SideFault.{SideFault}
-use Rattle.xd_factory.specs.Said.{Said as Word, Means, names_of}
-use Rattle.xd_factory.specs.Table.{Refused as IsFaulty, opened_count}
+use Rattle.xd_factory.specs.Said.{Said as Word, Means}
+use Rattle.xd_factory.specs.Table.{Refused as IsFaulty}
 use Rattle.xd_factory.specs.SideTable.{ChannelTable, Counts}
 use Rattle.xd_factory.proofs.SideTables.{new_in}
 use Rattle.xd_factory.proofs.Meanings.{not_refused, one_meaning}

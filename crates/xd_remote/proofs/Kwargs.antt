@@ -1,6 +1,6 @@
 -- Keyword arguments, one after another.
 use Rattle.std.proofs.Common.{◌≡◌, ℕ, List, [], ◌∷◌, ◌++◌, refl, ap}
-use Rattle.xd_value.specs.Tree.{Pairs, pair, text}
+use Rattle.xd_value.specs.Tree.{pair, text}
 use Rattle.xd_value.specs.View.{view}
 use Rattle.xd_value.specs.Reading.{snoc_pair}
 use Rattle.xd_value.specs.declared.value.Value.{Value}

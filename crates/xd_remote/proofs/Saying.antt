@@ -1,5 +1,5 @@
 -- What a call that says something answers, step by step.
-use Rattle.std.proofs.Common.{◌≡◌, ℕ, List, [], Bool, true, false, Option, Some, None, Result, Ok, Err, refl, sym, ap, subst, ◌∙◌}
+use Rattle.std.proofs.Common.{◌≡◌, ℕ, List, [], Bool, true, false, Option, None, Result, Ok, Err, refl, sym, ap, subst, ◌∙◌}
 use Rattle.std.specs.Prelude.{is_some}
 use Rattle.xd_value.specs.declared.writing.DumpFault.{DumpFault}
 use Rattle.xd_frame.specs.Message.{MessageView, frame}

@@ -1,14 +1,12 @@
 -- Channel 1 can be sent on until the news say that the worker has ended.
-use Rattle.std.proofs.Common.{◌≡◌, ℕ, List, [], ◌∷◌, ◌++◌, Bool, true, false, Option, Some, None, refl, sym, ap, subst, ◌∙◌, arith}
+use Rattle.std.proofs.Common.{◌≡◌, ℕ, List, [], ◌∷◌, Bool, true, false, Option, Some, None, refl, sym, ap, subst, ◌∙◌}
 use Rattle.std.specs.Prelude.{◌==◌, ◌||◌, ◌%◌, is_some, option_to_list, if◌then◌else◌}
-use Rattle.std.specs.List.{list_any}
 use Rattle.std.proofs.lemmas.Bool.{eqb-true, eq-eqb}
 use Rattle.std.proofs.lemmas.List.Folds.{list_any-append}
 use Rattle.xd_value.specs.Tree.{Tree}
-use Rattle.xd_channel.specs.State.{EndState, end_of, put_gives}
+use Rattle.xd_channel.specs.State.{end_of}
 use Rattle.xd_channel.specs.declared.end.End.{End}
 use Rattle.xd_channel.specs.declared.end.End.TheVariants as end
-use Rattle.xd_factory.specs.declared.parity.Parity.{Parity}
 use Rattle.xd_factory.specs.declared.taken.Taken.TheVariants as taken
 use Rattle.xd_factory.specs.Numbers.{is_in, is_mine}
 use Rattle.xd_factory.specs.Said.{Said as Word, Status, Exec, Data, Close, Last, Terminate, names_of}
@@ -22,7 +20,7 @@ use Rattle.xd_remote.specs.declared.gateway.Gateway.{Gateway}
 use Rattle.xd_remote.specs.News.{Came, Ear, Heard, Refused, Said, all_news, came_news, close_of, ear_after, ear_with, is_finish, log_hooked, news_by}
 use Rattle.xd_remote.specs.Stands.{StandsFor}
 use Rattle.xd_remote.specs.Told.{has_last, is_last}
-use Rattle.xd_remote.specs.View.{channels_of, side_of}
+use Rattle.xd_remote.specs.View.{side_of}
 
 abbrev IsOpen : Slot Tree → Type 0
 IsOpen Unseen = ⊥

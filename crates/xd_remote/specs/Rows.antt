@@ -1,5 +1,5 @@
 -- Worked rows of the news of a link.
-use Rattle.std.specs.Prelude.{◌≡◌, refl, ℕ, List, [], ◌∷◌, None, Some, pos, codes}
+use Rattle.std.specs.Prelude.{◌≡◌, refl, [], ◌∷◌, None, Some, pos, codes}
 use Rattle.xd_value.specs.Tree.{bytes, text, int, channel, pair, no_pairs}
 use Rattle.xd_factory.specs.Said.{Said as Word, Data, Close, Last}
 use Rattle.xd_journal.specs.declared.news.What.TheVariants as what

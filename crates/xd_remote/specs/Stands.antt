@@ -1,5 +1,5 @@
 -- A gateway to a worker, and the messages that it took.
-use Rattle.std.specs.Prelude.{◌≡◌, List, [], ◌∷◌, Option, Some, None, is_some, false, Result, Ok, Err}
+use Rattle.std.specs.Prelude.{◌≡◌, List, ◌∷◌, Option, Some, None, is_some, false, Result, Ok, Err}
 use Rattle.xd_frame.specs.Message.{MessageView}
 use Rattle.xd_factory.specs.declared.parity.Parity.TheVariants.{Odd}
 use Rattle.xd_factory.specs.SideTable.{new_table}

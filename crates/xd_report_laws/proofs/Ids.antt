@@ -1,27 +1,25 @@
 -- The ids of the items of a run.
-use Rattle.std.proofs.Common.{◌≡◌, ℕ, zero, suc, ◌+◌, ◌-◌, ◌≤◌, ◌<◌, List, [], ◌∷◌, ◌++◌, length, take, Bool, true, false, refl, ap, sym, ◌∙◌, subst, arith, inl, inr, length-append}
+use Rattle.std.proofs.Common.{◌≡◌, ℕ, zero, suc, ◌+◌, ◌-◌, ◌≤◌, ◌<◌, List, [], ◌∷◌, ◌++◌, length, take, Bool, true, false, refl, ap, sym, ◌∙◌, subst, arith, length-append}
 use Rattle.std.specs.Prelude.{if◌then◌else◌, sum, slice_index, slice_index_or, Option, Some, None, is_some}
 use Rattle.std.proofs.lemmas.List.{append-nil, get_or-append-add, get_or_append_left}
 use Rattle.xd_edge.specs.declared.mode.ModeKind.{ModeKind}
 use Rattle.xd_journal.specs.declared.entry.Ids.{Ids}
-use Rattle.xd_journal.specs.declared.settings.Settings.{Settings}
 use Rattle.xd_journal.specs.declared.entry.Entry.{Entry}
 use Rattle.xd_journal.specs.declared.entry.Entry.TheVariants.{Ready, Collected, Done, Back, Finished, Refused, Down, NotStarted, Start, Run, RunAll, Steal, Shutdown, Kill, Over}
 use Rattle.xd_journal.specs.declared.journal.Journal.{Journal}
 use Rattle.xd_ledger.specs.declared.member.Listed.{Listed}
 use Rattle.xd_ledger.specs.Numbers.{among}
 use Rattle.xd_ledger.specs.Plan.{base, is_each, slot_items}
-use Rattle.xd_ledger.specs.Books.{Books, marked}
+use Rattle.xd_ledger.specs.Books.{marked}
 use Rattle.xd_ledger.specs.Workers.{made_collected, slot_of}
 use Rattle.xd_ledger.specs.Collections.{ids_of, key, listed, listed_in, lists_with, unequal, with_list}
 use Rattle.xd_ledger.specs.Sharing.{State, ids_at, in_books, sizes_from}
 use Rattle.xd_ledger.specs.State.{after_effect, state_at}
-use Rattle.xd_laws.specs.Collected.{collected, slots}
+use Rattle.xd_laws.specs.Collected.{slots}
 use Rattle.xd_laws.specs.Whole.{tests_in}
 use Rattle.xd_laws.proofs.Counts.{bounds-of_range}
 use Rattle.xd_laws.proofs.EachTurns.{sum-more}
 use Rattle.xd_laws.proofs.Inputs.{collecting-keeps, still_shared}
-use Rattle.xd_laws.proofs.Logic.{cases_of, differ}
 use Rattle.xd_laws.proofs.Shared.{Listing, listed-kept}
 use Rattle.xd_report.specs.Tests.{id_of}
 use Rattle.xd_report_laws.specs.ItemIds.{ids_from, ids_in, item_ids}

@@ -1,10 +1,9 @@
 -- The report of a whole journal names each item by its id.
 use Rattle.std.proofs.Common.{◌≡◌, ℕ, ◌+◌, ◌-◌, List, [], ◌∷◌, ◌++◌, map, take, Bool, true, false, refl, ap, sym, ◌∙◌, subst, arith, inl, inr}
-use Rattle.std.specs.Prelude.{◌==◌, ◌&&◌, if◌then◌else◌, filter, slice_index_or, sum, Option, Some, None}
+use Rattle.std.specs.Prelude.{if◌then◌else◌, filter, slice_index_or, sum, Some}
 use Rattle.std.specs.List.{list_any}
 use Rattle.std.proofs.lemmas.Bool.Decides.{nat_tests}
 use Rattle.xd_journal.specs.declared.settings.Settings.{Settings}
-use Rattle.xd_journal.specs.declared.entry.Cause.{Cause}
 use Rattle.xd_journal.specs.declared.entry.Outcome.{Outcome}
 use Rattle.xd_journal.specs.declared.entry.RunStop.TheVariants.{OutFault}
 use Rattle.xd_journal.specs.declared.entry.Entry.{Entry}
@@ -22,14 +21,13 @@ use Rattle.xd_ledger.specs.Orderly.{is_orderly}
 use Rattle.xd_ledger.specs.Proper.{is_head, may_follow}
 use Rattle.xd_ledger.specs.Reports.{Report, Result, Crash, item_of}
 use Rattle.xd_ledger.specs.Sharing.{State}
-use Rattle.xd_ledger.specs.State.{after_entries, after_effect, after_entry, no_one, reached, settled, state_at}
+use Rattle.xd_ledger.specs.State.{after_entries, after_effect, after_entry, no_one, reached}
 use Rattle.xd_laws.specs.Whole.{IsWhole}
 use Rattle.xd_laws.proofs.Laws.{journal-keeps}
 use Rattle.xd_laws.proofs.Logic.{cases_of, differ, split-and}
 use Rattle.xd_laws.proofs.Placed.{Placed, head_among, one_item, shared-of_held}
 use Rattle.xd_laws.proofs.Shared.{Listing, keeps_listing, listing-none}
 use Rattle.xd_laws.proofs.Slots.{OwnSlot, own-input, own-none, own-output}
-use Rattle.xd_laws.proofs.Turns.{Tidy}
 use Rattle.xd_laws.proofs.Walk.{Keeps}
 use Rattle.xd_laws.proofs.Whole.{state-whole}
 use Rattle.xd_report.specs.EachReport.{id_in}

@@ -1,4 +1,4 @@
-use Rattle.std.proofs.Common.{◌≡◌, ◌<◌, ◌+◌, sym, ◌∙◌, Some}
+use Rattle.std.proofs.Common.{◌+◌, sym, ◌∙◌}
 use Rattle.xd_value.specs.declared.value.Value.{Value}
 use Rattle.xd_factory.specs.declared.taken.Taken.{Taken}
 use Rattle.xd_factory.specs.declared.faults.SideFault.TheVariants.{TooManyOpen}
