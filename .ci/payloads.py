@@ -2,7 +2,7 @@
 
 What stands as bytes was written by the real execnet 1.9, by `Message(code, channel, payload).to_io(..)` and
 `dumps_internal(value)` of execnet.gateway_base, but for what it does not write: the spellings of older versions, low
-integers, and bytes that are no payload. The texts are those of docs/USING.md.
+integers, keys that are the same in Python, and bytes that are no payload. The texts are those of docs/USING.md.
 """
 
 # Payloads, and their values as they are printed.
@@ -65,6 +65,12 @@ VALUES = [
 LOW_INTEGERS = [
     (b"H\0\0\0\x0b-2147483649Q", "-2147483649"),
     (b"H\0\0\0(-170141183460469231731687303715884105728Q", "-170141183460469231731687303715884105728"),
+]
+
+# Keys that execnet holds for the same, so that it writes one of them, and that are two here.
+SAME_IN_PYTHON = [
+    (b"RF\0\0\0\x01O\0\0\0\x02Q", "{True, 1}"),
+    (b"F\0\0\0\x01F\0\0\0\x02E\0\0\0\x02F\0\0\0\x02F\0\0\0\x01E\0\0\0\x02O\0\0\0\x02Q", "{frozenset({1, 2}), frozenset({2, 1})}"),
 ]
 
 # Payloads that are read and never written, and what is written in their place.

@@ -12,7 +12,7 @@ import struct
 
 STATUS, RECONFIGURE, TERMINATE, EXEC, DATA, CLOSE, ERROR, LAST = range(8)
 NAMES = ["STATUS", "RECONFIGURE", "TERMINATE", "EXEC", "DATA", "CLOSE", "CLOSE_ERROR", "LAST_MESSAGE"]
-HOW_MANY = 200
+HOW_MANY = 210
 
 
 # ---- writing
@@ -448,6 +448,15 @@ def fixed():
     yield [done(duration=-1)]
     yield [done(index=4294967296)]
     yield [done(index=True)]
+    yield [done(outcome="failed", code=4294967297)]
+    yield [done(outcome="skipped", duration=4294967296)]
+    yield [done(duration="12")]
+    yield [call("runtest_protocol_complete", duration=12, code=3, outcome="failed", item_index=0)]
+    whole = {"item_index": 0, "outcome": "failed", "code": 3, "duration": 12}
+    for missing in whole:
+        yield [call("runtest_protocol_complete", **{key: whole[key] for key in whole if key != missing})]
+    yield [call("workerfinished", exitstatus=1)]
+    yield [call("shutdown")]
     for bad in (b"", b"L", b"LQL", b"LLQ", b"?Q", b"DQ", b"F\0\0Q", b"N\0\0\0\1\xffQ", b"B\0\0\0\0Q", b"K\0\0\0\1Q", b"JKP", b"JLLPLLPQ", b"@\0\0\0\1Q", b"H\0\0\0\1-Q", b"A\0\0\0\5xQ", b"JK\0\0\0\0LPQ", b"LLO\0\0\0\2Q"):
         yield [Message(DATA, 1, payload=bad), READY]
     yield [Message(DATA, 1, payload=form((Raw(b"S" + number(11) + b"workerready", ""), {})) + b"Q")]

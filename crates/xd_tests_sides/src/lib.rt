@@ -1,16 +1,5 @@
-//! Tests of values, and of the two sides of a link: of the channels of a side and of two sides together, of commands and
-//! events as values, and of gateways.
+//! Tests of what a worker's link means: of the news that a gateway makes of lists of messages.
 #![tactic(auto)]
 
 #[cfg(test)]
-mod factory;
-#[cfg(test)]
-mod gateway;
-#[cfg(test)]
-mod pair;
-#[cfg(test)]
 mod remote;
-#[cfg(test)]
-mod told;
-#[cfg(test)]
-mod value;

@@ -9,16 +9,14 @@ use xd_edge::{Indices, MemSink, Text};
 use xd_factory::Parity;
 use xd_frame::Framer;
 use xd_journal::{Outcome, What};
-use xd_remote::{Gateway, GatewayFault};
+use xd_remote::Gateway;
 use xd_value::Value;
 
-// STATUS on channel 1, the item 5 on channel 1, GATEWAY_TERMINATE.
-const ASKED: &[u8] =
-    b"\x00\0\0\0\x01\0\0\0\0\x04\0\0\0\x01\0\0\0\x06F\0\0\0\x05Q\x02\0\0\0\0\0\0\0\0";
-
-// A gateway whose sink fails at these calls.
-fn gateway_over(alloc: Global, fails: Vec<u32>) -> Result<Gateway<MemSink>, Fail> {
-    let sink = MemSink::new(alloc, 1000, Indices { items: fails })?;
+fn gateway(alloc: Global) -> Result<Gateway<MemSink>, Fail> {
+    let never = Indices {
+        items: Vec::new(alloc),
+    };
+    let sink = MemSink::new(alloc, 1000, never)?;
     Ok(Gateway::new(alloc, Parity::Odd, sink))
 }
 
@@ -36,53 +34,6 @@ fn run_tests(alloc: Global, gateway: &mut Gateway<MemSink>) -> Result<u32, Fail>
     let kwargs = vec![in alloc; suite, dist]?;
     let number = gateway.remote_exec(&name, kwargs)?;
     Ok(number)
-}
-
-fn asked(gateway: &mut Gateway<MemSink>) -> Result<u32, GatewayFault> {
-    gateway.remote_status()
-}
-
-// Why a call was refused, where it was.
-fn said(gateway: &mut Gateway<MemSink>) -> Option<GatewayFault> {
-    gateway.say(1, &Value::Int(5)).err()
-}
-
-fn ended(gateway: &mut Gateway<MemSink>) -> Option<GatewayFault> {
-    gateway.exit().err()
-}
-
-// The call of the sink that fails, how many calls of the gateway are answered by Ok, and how many bytes were written and
-// were handed on.
-const FAULTS: [(u32, usize, usize, usize); 8] = [
-    (0, 0, 0, 0),
-    (1, 0, 9, 0),
-    (2, 1, 9, 9),
-    (3, 1, 18, 9),
-    (4, 1, 24, 9),
-    (5, 2, 24, 24),
-    (6, 2, 33, 24),
-    (7, 2, 33, 33),
-];
-
-#[test]
-fn after_a_fault_of_the_sink_nothing_is_written(rt: HostRuntime) -> Result<(), Fail> {
-    let alloc = rt.alloc();
-    let lost = Some(GatewayFault::SendFault);
-    for (call, answered, bytes, flushed) in FAULTS {
-        let fails = vec![in alloc; call]?;
-        let mut gateway = gateway_over(alloc, fails)?;
-        assert_eq!(rt; asked(&mut gateway).is_ok(), 0 < answered);
-        assert_eq!(rt; said(&mut gateway) == lost, answered < 2);
-        assert_eq!(rt; ended(&mut gateway), lost);
-        assert_eq!(rt; ended(&mut gateway), lost);
-        assert_eq!(rt; said(&mut gateway), lost);
-        let sink = gateway.into_sink();
-        assert_eq!(rt; sink.bytes.len(), bytes);
-        assert_eq!(rt; sink.flushed, flushed);
-        assert!(rt; ASKED.starts_with(sink.bytes.as_slice()));
-        assert!(rt; !sink.closed);
-    }
-    Ok(())
 }
 
 fn write_numbers(out: &mut String, numbers: &[u32]) -> Result<(), AllocError> {
@@ -158,7 +109,7 @@ fn write_news(out: &mut String, news: &What) -> Result<(), AllocError> {
 
 // The news of the messages that these bytes are, in words.
 fn news_of(alloc: Global, bytes: &[u8]) -> Result<String, Fail> {
-    let mut gateway = gateway_over(alloc, Vec::new(alloc))?;
+    let mut gateway = gateway(alloc)?;
     let _ = run_tests(alloc, &mut gateway)?;
     let mut framer = Framer::new(alloc);
     framer.feed(bytes)?;
