@@ -1,5 +1,12 @@
-//! Tests of what a worker's link means: of the news that a gateway makes of lists of messages.
+//! Tests of what the built program does not do: values that cannot be written, and calls of two sides of a link; and of the
+//! news that a gateway makes of lists of messages.
 #![tactic(auto)]
 
 #[cfg(test)]
+mod pair;
+#[cfg(test)]
 mod remote;
+#[cfg(test)]
+mod told;
+#[cfg(test)]
+mod value;
