@@ -109,8 +109,8 @@ pub fn xdrun<
           clock = ticking (T.moment clock.new) (T.coming clock.new);
         })) }
     ensures no_link { IfOk result (λ e. has_links (plan_of words.now) ≡ false →
-        (e.links.items ≡ []) × (e.starter ≡ starter) × (e.crew ≡ crew)) }
-    ensures no_runner { has_links (plan_of words.now) ≡ false → runner.new ≡ runner.old }
+        (e.links.items ≡ []) × (e.starter ≡ starter) × (e.crew ≡ crew)
+        × (runner.new ≡ runner.old)) }
     ensures no_child { IfOk result (λ e. has_links (plan_of words.now) ≡ false →
         IfNone e.journal ((e.children ≡ children) × (clock.new ≡ clock.old))) }
 {

@@ -1,7 +1,7 @@
 -- Where `run_tests` was called, no call is another call of it.
-use Rattle.std.proofs.Common.{ℕ, Bool, true, false, Option, Some, None}
+use Rattle.std.proofs.Common.{Bool, true, false, Option, Some, None}
 use Rattle.std.specs.Prelude.{if◌then◌else◌}
-use Rattle.xd_value.specs.Tree.{Tree, Trees, Pairs, none, truth, int, bytes, text, list, tuple, set, frozenset, dict, channel, no_trees, tree}
+use Rattle.xd_value.specs.Tree.{Tree, Pairs, none, truth, int, bytes, text, list, tuple, set, frozenset, dict, channel, no_trees, tree}
 use Rattle.xd_gateway.specs.Calls.{has_text_keys}
 use Rattle.xd_worker.specs.declared.function.Called.{Called}
 use Rattle.xd_worker.specs.declared.function.Called.TheVariants.{Runs, Refused}

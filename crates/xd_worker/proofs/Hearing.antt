@@ -1,6 +1,5 @@
 -- What the side answers to a message.
 use Rattle.std.proofs.Common.{◌≡◌, ℕ, ◌≤◌, List, Bool, true, false, Option, Some, None, Err, refl, sym, ◌∙◌}
-use Rattle.std.proofs.Math.Path.{fun_ext}
 use Rattle.std.specs.Prelude.{if◌then◌else◌}
 use Rattle.xd_value.specs.Tree.{Tree}
 use Rattle.xd_frame.specs.Message.{MessageView}
@@ -12,16 +11,14 @@ use Rattle.xd_channel.specs.declared.answers.Arrived.{Arrived}
 use Rattle.xd_channel.specs.declared.answers.Arrived.TheVariants as arrived
 use Rattle.xd_channel.specs.declared.end.End.TheVariants.{LastMessage}
 use Rattle.xd_factory.specs.declared.taken.Taken.TheVariants as taken
-use Rattle.xd_factory.specs.declared.side.Side.{Side}
 use Rattle.xd_factory.specs.declared.faults.SideFault.{SideFault}
 use Rattle.xd_factory.specs.declared.faults.SideFault.TheVariants as fault
 use Rattle.xd_factory.specs.Numbers.{is_mine}
 use Rattle.xd_factory.specs.Said.{Said, Status, Exec, Data, Close, Last, Terminate, SaysBy, Means, IsFault}
 use Rattle.xd_factory.specs.Slot.{Slot, Unseen, Here, Gone, is_new, named_slot, item_gives}
-use Rattle.xd_factory.specs.Table.{heard_slot, arrived_answer, ended_answer, end_answer, Refused, IsRefused}
-use Rattle.xd_factory.specs.View.{slot_of_number, parity_of, next_of, fault_of, is_finished, KeepsRest}
-use Rattle.xd_factory.specs.SideTable.{ChannelTable, Counts, channel_table, heard, answer}
-use Rattle.xd_factory.specs.SideTable.{RefusedBy, MustRefuse}
+use Rattle.xd_factory.specs.Table.{arrived_answer, ended_answer, end_answer, Refused, IsRefused}
+use Rattle.xd_factory.specs.SideTable.{ChannelTable, Counts, answer}
+use Rattle.xd_factory.specs.SideTable.{MustRefuse}
 use Rattle.xd_factory.proofs.SideTables.{new_in, reason}
 use Rattle.xd_worker.specs.Stands.{IsSmall, IsFaultAt, IsThisFault, worker_fault}
 

@@ -7,8 +7,6 @@ use Rattle.std.proofs.lemmas.List.{append-nil}
 use Rattle.xd_value.specs.Tree.{Tree}
 use Rattle.xd_frame.specs.Message.{MessageView}
 use Rattle.xd_channel.specs.State.{after_close, is_done}
-use Rattle.xd_factory.specs.declared.parity.Parity.{Parity}
-use Rattle.xd_factory.specs.declared.faults.SideFault.{SideFault}
 use Rattle.xd_factory.specs.declared.faults.OpenFault.{OpenFault}
 use Rattle.xd_factory.specs.declared.faults.OpenFault.TheVariants as openfault
 use Rattle.xd_factory.specs.declared.faults.CloseFault.{CloseFault}
@@ -16,7 +14,7 @@ use Rattle.xd_factory.specs.declared.faults.CloseFault.TheVariants as close
 use Rattle.xd_factory.specs.declared.side.Side.{Side}
 use Rattle.xd_factory.specs.Slot.{Slot, Unseen, Here, Gone, is_seen, closed_slot, function_ended_slot}
 use Rattle.xd_factory.specs.Table.{close_refusal, closing_message, IsRefusal}
-use Rattle.xd_factory.specs.View.{slot_of_number, parity_of, next_of, fault_of, is_finished, entry_count, KeepsRest}
+use Rattle.xd_factory.specs.View.{slot_of_number, next_of, is_finished, entry_count, KeepsRest}
 use Rattle.xd_factory.specs.SideTable.{ChannelTable, Counts, channel_table, changed_at}
 use Rattle.xd_factory.proofs.SideTables.{tables, same_table}
 use Rattle.xd_worker.specs.Logs.{CanOpen}

@@ -1,5 +1,5 @@
 -- What a list of inputs makes a worker say and start. The last of them stands first.
-use Rattle.std.specs.Prelude.{◌≡◌, ◌<◌, ℕ, List, [], ◌∷◌, ◌++◌, length, ◌&&◌, Bool, Option, Some, None, is_none, Result, Ok, Err, codes}
+use Rattle.std.specs.Prelude.{◌≡◌, ◌<◌, ℕ, List, [], ◌∷◌, ◌++◌, length, ◌&&◌, Bool, Some, is_none, Result, Ok, Err, codes}
 use Rattle.std.specs.Str.{encode_utf8_all}
 use Rattle.xd_frame.specs.Message.{MessageView}
 use Rattle.xd_factory.specs.declared.faults.SideFault.{SideFault}
