@@ -1,5 +1,5 @@
 -- The exit status of a session that was driven to its end.
-use Rattle.std.proofs.Common.{◌≡◌, ℕ, List, ◌++◌, false, true, sym, ◌∙◌, ap, subst}
+use Rattle.std.proofs.Common.{◌≡◌, ℕ, [], ◌++◌, false, sym, ◌∙◌, ap, subst}
 use Rattle.xd_journal.specs.declared.journal.Journal.{Journal}
 use Rattle.xd_journal.specs.declared.settings.Settings.{Settings}
 use Rattle.xd_ledger.specs.Ending.{ending, stop_of}
