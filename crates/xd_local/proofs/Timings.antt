@@ -1,5 +1,5 @@
 -- How long tests took.
-use Rattle.std.proofs.Common.{◌≡◌, ℕ, ◌+◌, ◌-◌, List, [], ◌∷◌, ◌++◌, refl, sym, subst, arith}
+use Rattle.std.proofs.Common.{◌≡◌, ℕ, ◌+◌, ◌-◌, List, [], ◌∷◌, ◌++◌, refl, subst, arith}
 use Rattle.xd_journal.specs.Local.{TestResult}
 use Rattle.xd_local.specs.Timing.{AreTimed, Lasts, Ticking, Ticks}
 

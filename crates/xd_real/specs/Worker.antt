@@ -1,5 +1,5 @@
 -- What the system is asked for where a worker is to be a program of its own.
-use Rattle.std.specs.Prelude.{ℕ, List, Option, Some, None}
+use Rattle.std.specs.Prelude.{ℕ, List, Option, Some}
 use Rattle.std.specs.Process.{var_after}
 use Rattle.std.specs.Str.{encode_utf8_all}
 
