@@ -1,5 +1,5 @@
 -- A command has a payload.
-use Rattle.std.proofs.Common.{not, ◌&&◌, length-append, Err, ◌≡◌, ◌∙◌, ℕ, suc, ◌+◌, ◌*◌, ◌<◌, ◌≤◌, ◌^◌, max, nat_lt, ℤ, pos, Bool, true, false, List, [], ◌∷◌, ◌++◌, length, map, Ok, refl, ap, sym, subst, arith}
+use Rattle.std.proofs.Common.{not, ◌&&◌, length-append, Err, ◌≡◌, ℕ, suc, ◌+◌, ◌*◌, ◌<◌, ◌≤◌, max, nat_lt, pos, Bool, true, false, List, [], ◌∷◌, ◌++◌, length, map, Ok, refl, ap, sym, subst, arith}
 use Rattle.std.specs.Prelude.{codes, if◌then◌else◌}
 use Rattle.std.specs.Int.{w32, to_be_bytes}
 use Rattle.std.specs.Str.{encode_utf8_all}
@@ -8,7 +8,7 @@ use Rattle.std.proofs.lemmas.Fmt.{length-decimal-le}
 use Rattle.std.proofs.lemmas.Bool.{le-ltb}
 use Rattle.xd_edge.specs.Limits.{most_tests}
 use Rattle.xd_value.specs.declared.writing.DumpFault.TheVariants as fault
-use Rattle.xd_value.specs.Tree.{Tree, Trees, Pairs, none, int, text, list, dict, tuple, no_trees, tree, no_pairs, pair, depth, trees_depth}
+use Rattle.xd_value.specs.Tree.{Tree, Trees, int, text, list, no_pairs, depth, trees_depth}
 use Rattle.xd_value.specs.View.{trees_of}
 use Rattle.xd_value.specs.Canonical.{Test, Hashable, Distinct, Channels, all_pass, trees_pass, dumped, canonical, form, item_forms, int_form}
 use Rattle.xd_gateway.specs.declared.order.Order.{Order}

@@ -1,5 +1,5 @@
 -- What links show.
-use Rattle.std.specs.Prelude.{◌≡◌, ℕ, true, List, [], ◌++◌, Option, Some, None, IfSome, map}
+use Rattle.std.specs.Prelude.{◌≡◌, true, List, [], ◌++◌, Option, Some, None, IfSome, map}
 use Rattle.xd_link.specs.Spring.{Spring}
 use Rattle.xd_reader.specs.Reads.{PutsAll}
 use Rattle.xd_reader.specs.declared.news.LinkNews.{LinkNews}

@@ -1,18 +1,15 @@
 -- How long tests ran: one moment more.
-use Rattle.std.proofs.Common.{◌≡◌, ℕ, ◌+◌, ◌-◌, ◌≤◌, List, [], ◌∷◌, ◌++◌, length, drop, Option, Some, None, refl, ap, sym, ◌∙◌, subst, arith}
-use Rattle.std.specs.Prelude.{IfSome, IsSome, option_map}
+use Rattle.std.proofs.Common.{◌≡◌, ℕ, ◌+◌, ◌-◌, List, [], ◌∷◌, length, Option, Some, None, refl, ap, ◌∙◌, subst, arith}
+use Rattle.std.specs.Prelude.{IfSome, IsSome}
 use Rattle.std.proofs.lemmas.List.{append-nil}
-use Rattle.xd_edge.specs.Clock.{next_moment}
 use Rattle.xd_edge.specs.Files.{Held}
-use Rattle.xd_journal.specs.declared.entry.Outcome.{Outcome}
-use Rattle.xd_reader.specs.declared.news.LinkNews.TheVariants as news
 use Rattle.xd_worker.specs.declared.input.WorkerInput.{WorkerInput}
 use Rattle.xd_worker.specs.declared.input.WorkerInput.TheVariants.{Message, SuiteBytes, SuiteTooLarge, SuiteUnread, Output, ChildDone, LinkEnd}
 use Rattle.xd_listen.specs.News.{dones, news_in}
 use Rattle.xd_listen.specs.Suites.{FilesGave}
 use Rattle.xd_listen.specs.Seen.{Seen}
 use Rattle.xd_listen.specs.Serves.{Beside, Owed, ServesSoFar, Setting}
-use Rattle.xd_listen.specs.Timing.{AreMeasured, AreTimed, Ticking, Ticks, Times, durations_in, one_if, ticking}
+use Rattle.xd_listen.specs.Timing.{AreMeasured, AreTimed, Ticking, Ticks, Times, durations_in, one_if}
 use Rattle.xd_listen.proofs.Counting.{dones_done, dones_piece}
 
 -- each end of a program came with a duration

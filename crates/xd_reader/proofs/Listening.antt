@@ -16,7 +16,7 @@ use Rattle.xd_frame.specs.Kind.{kind_of}
 use Rattle.xd_frame.specs.Message.{MessageView, max_channel, max_payload}
 use Rattle.xd_frame.specs.Framer.{FramerView, StandsFor, fresh}
 use Rattle.xd_frame.specs.Pull.{HoldsLess, Pulls, few, lasting, refusal_by, pull_fault_of}
-use Rattle.xd_frame.specs.Stream.{behind, header_in_front, messages, parts, parts_within, rest, rest_by, rest_of, Rest, Clean, Unfinished, Refused, end_meaning}
+use Rattle.xd_frame.specs.Stream.{behind, header_in_front, messages, rest, rest_by, rest_of, Rest, Clean, Unfinished, Refused, end_meaning}
 use Rattle.xd_frame.proofs.Front.{err_front}
 use Rattle.xd_link.specs.Source.{Gave}
 use Rattle.xd_link.specs.Spring.{ReadToEnd, Spring}
@@ -25,7 +25,7 @@ use Rattle.xd_reader.specs.declared.news.LinkNews.{LinkNews}
 use Rattle.xd_reader.specs.declared.news.LinkNews.TheVariants.{Message}
 use Rattle.xd_reader.specs.declared.news.LinkStop.{LinkStop}
 use Rattle.xd_reader.specs.declared.news.LinkStop.TheVariants as stop
-use Rattle.xd_reader.specs.Judged.{greeting, link_messages, link_stop, stop_of}
+use Rattle.xd_reader.specs.Judged.{greeting, stop_of}
 use Rattle.xd_reader.specs.Reads.{GoLess, Puts, Reads, StopsAt}
 use Rattle.xd_reader.specs.Reading.{Listens, Steps, stop_of_fault}
 

@@ -1,6 +1,6 @@
 -- What a runner started is over.
-use Rattle.std.proofs.Common.{◌≡◌, ℕ, List, [], ◌∷◌, ◌++◌, Option, Some, None, map, refl, sym, ap, ◌∙◌, subst, inl, inr}
-use Rattle.std.specs.Prelude.{◌⊎◌, All, IsSome, option_map}
+use Rattle.std.proofs.Common.{◌≡◌, ℕ, List, [], ◌∷◌, ◌++◌, Option, Some, None, map, refl, sym, subst, inl, inr}
+use Rattle.std.specs.Prelude.{◌⊎◌, All, IsSome}
 use Rattle.std.proofs.lemmas.List.Elements.{All-cons, All-nil, All-push}
 use Rattle.xd_edge.specs.Children.{ChildRun}
 use Rattle.xd_journal.specs.declared.entry.Outcome.{Outcome}

@@ -1,6 +1,6 @@
 -- Orders that are taken and run one after another.
 use Rattle.std.proofs.Common.{◌≡◌, ℕ, zero, suc, ◌+◌, ◌<◌, ◌≤◌, ◌-◌, ◌^◌, List, [], ◌∷◌, ◌++◌, length, Option, Some, None, map, refl, sym, ap, ◌∙◌, subst, append_assoc, arith, inl, inr, Result, Ok, Err, true, false}
-use Rattle.std.specs.Prelude.{option_map, All, slice_get, slice_set, sum_by, OnErr, OnOk, is_err}
+use Rattle.std.specs.Prelude.{option_map, slice_get, slice_set, OnErr, OnOk, is_err}
 use Rattle.std.proofs.lemmas.List.{append-nil, map-append}
 use Rattle.std.proofs.lemmas.List.Elements.{All-nil, All-push}
 use Rattle.std.proofs.lemmas.List.Sums.{sum_by-append}
@@ -14,7 +14,7 @@ use Rattle.xd_reader.specs.declared.news.LinkNews.{LinkNews}
 use Rattle.xd_reader.specs.declared.news.LinkNews.TheVariants.{End}
 use Rattle.xd_reader.specs.declared.news.LinkStop.TheVariants.{OutOfMemory}
 use Rattle.xd_child.specs.Ending.{fault_count, outcome_of}
-use Rattle.xd_runner.specs.Orders.{ArePieces, EndsCut, EndsWell, IsCommand, Mails, Order, Runs, RunsOrders, Seen, TakesOf, ToldOfProgram, all_news, ran_of, told_news}
+use Rattle.xd_runner.specs.Orders.{ArePieces, IsCommand, Mails, Order, Runs, RunsOrders, Seen, TakesOf, ToldOfProgram, all_news, ran_of, told_news}
 use Rattle.xd_runner.specs.Programs.{AreRun, CameTo, Ran, faults_of}
 use Rattle.xd_runner.specs.Running.{RunsOne, RunsPart}
 

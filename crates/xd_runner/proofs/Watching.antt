@@ -1,10 +1,9 @@
 -- A program, from its start to its end.
 use Rattle.std.proofs.Common.{◌≡◌, ℕ, ◌≤◌, List, [], ◌∷◌, ◌++◌, Bool, true, false, Option, Some, None, map, refl, sym, ap, ◌∙◌, subst, append_assoc, arith, inl, inr, Result, Ok, Err}
-use Rattle.std.specs.Prelude.{option_map, All, IfOk, OnErr}
+use Rattle.std.specs.Prelude.{option_map, IfOk, OnErr}
 use Rattle.std.proofs.lemmas.List.{append-nil, map-append}
 use Rattle.std.proofs.lemmas.List.Elements.{All-nil, All-push}
 use Rattle.xd_edge.specs.Children.{ChildRun, AddsRun, ChangesRun, IsNext, change_at, not_started, running, with_last, with_output, with_read_fault}
-use Rattle.xd_edge.specs.declared.children.Fate.{Fate}
 use Rattle.xd_edge.specs.Faults.{Counted, Rose, RoseBy}
 use Rattle.xd_edge.specs.MemChildren.{whole_output}
 use Rattle.xd_edge.proofs.ChildLemmas.{change_at_end, change_at_not, change_at_twice}
@@ -13,7 +12,7 @@ use Rattle.xd_journal.specs.declared.entry.Outcome.TheVariants.{Failed}
 use Rattle.xd_reader.specs.declared.news.LinkNews.{LinkNews}
 use Rattle.xd_reader.specs.declared.news.LinkNews.TheVariants.{Output, ChildDone}
 use Rattle.xd_child.specs.Ending.{Waited, fault_count, fate_so, outcome_of}
-use Rattle.xd_runner.specs.Orders.{IsPiece, Order, Seen, seen}
+use Rattle.xd_runner.specs.Orders.{IsPiece, Seen, seen}
 use Rattle.xd_runner.specs.Programs.{CameTo, read_so}
 use Rattle.xd_runner.specs.Running.{PutsOutput, HeardPart, RunsOne, RunsPart, RunsTo, Waits, Watches, WatchesPart}
 use Rattle.xd_child.proofs.Waiting.{faults_to_end, still_to_end}

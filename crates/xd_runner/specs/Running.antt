@@ -1,5 +1,5 @@
 -- Inner words: one program, from its start to its end.
-use Rattle.std.specs.Prelude.{◌≡◌, ℕ, ◌≤◌, ◌⊎◌, Bool, List, [], ◌∷◌, ◌++◌, Option, Some, map, All}
+use Rattle.std.specs.Prelude.{◌≡◌, ℕ, ◌≤◌, ◌⊎◌, Bool, List, [], ◌++◌, Option, Some, map, All}
 use Rattle.xd_edge.specs.Children.{ChildRun, ChangesRun, with_last, with_output}
 use Rattle.xd_edge.specs.declared.children.Fate.{Fate}
 use Rattle.xd_edge.specs.Faults.{RoseBy}

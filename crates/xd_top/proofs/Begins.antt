@@ -1,5 +1,5 @@
 -- A run that words ask for can begin.
-use Rattle.std.proofs.Common.{◌≡◌, ◌≢◌, ℕ, ◌≤◌, List, true, refl}
+use Rattle.std.proofs.Common.{◌≡◌, ◌≢◌, ℕ, List, true, refl}
 use Rattle.std.proofs.lemmas.Bool.{le-leb}
 use Rattle.xd_edge.specs.declared.mode.ModeKind.{ModeKind}
 use Rattle.xd_edge.specs.declared.mode.ModeKind.TheVariants.{Each, Load, LoadFile, LoadGroup, LoadScope, Local, WorkSteal}

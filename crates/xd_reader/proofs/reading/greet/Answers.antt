@@ -1,4 +1,4 @@
-use Rattle.std.proofs.Common.{refl, rules, slice_index_or, ◌≡◌, ◌∷◌, [], Bool, false}
+use Rattle.std.proofs.Common.{refl, rules, slice_index_or, ◌≡◌, ◌∷◌, [], false}
 use Rattle.std.specs.Prelude.{◌==◌}
 use Rattle.xd_link.specs.Source.{Gave}
 use Rattle.xd_link.specs.Spring.{spring}

@@ -1,4 +1,4 @@
-use Rattle.std.proofs.Common.{ℕ, ◌≤◌, ◌∙◌, List, ap, arith, length, refl, rules, take}
+use Rattle.std.proofs.Common.{ℕ, ◌∙◌, ap, refl, rules, take}
 use Rattle.xd_post.specs.Post.{put}
 use Rattle.xd_runner.specs.Orders.{IsPiece}
 use Rattle.xd_runner.proofs.Watching.{heard_all, heard_more, heard_none, heard_part, heard_unread, on_err}

@@ -2,8 +2,6 @@ use Rattle.std.proofs.Common.{◌≡◌, refl, rules}
 use Rattle.xd_edge.specs.Children.{AddsRun, not_started}
 use Rattle.xd_edge.specs.Faults.{Rose}
 use Rattle.xd_post.specs.Post.{put}
-use Rattle.xd_runner.specs.Orders.{seen}
-use Rattle.xd_runner.specs.Running.{RunsPart, RunsTo, Watches, WatchesPart}
 use Rattle.xd_runner.proofs.Watching.{if_ok_so, on_err_so, runs_never, runs_none, runs_part, runs_to}
 use Rattle.xd_runner.proofs.program.run_program.Goals as goal
 
