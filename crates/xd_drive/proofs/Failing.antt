@@ -19,7 +19,7 @@ use Rattle.xd_edge.proofs.PrintLemmas.{broken-part, printed_is_part}
 use Rattle.xd_drive.proofs.Texts.{lines-behind, silent, tail-behind, text-behind}
 
 module _ (x : Settings) (taken : List News) (count : ℕ) (es : List Entry) (old new : Option Sunk) where
-  -- entries behind that print nothing change nothing of it
+  -- entries after that print nothing change nothing of it
   module _ (ys : List Entry) (quiet : list_all silent ys ≡ true) (within : count ≤ length es) where
     first-are : take count (es ++ ys) ≡ take count es
     first-are = take-append-le count es ys within

@@ -1,4 +1,4 @@
--- The marks of a hub agree with the run behind a piece of news.
+-- The marks of a hub agree with the run after a piece of news.
 use Rattle.std.proofs.Common.{◌≡◌, ℕ, List, map, Bool, true, false, not, ◌&&◌, ◌||◌, refl, ap, sym, ◌∙◌, subst, arith, inl, inr}
 use Rattle.std.specs.Prelude.{◌==◌, ◌⊎◌, if◌then◌else◌}
 use Rattle.std.proofs.lemmas.Bool.Decides.{nat_tests}
@@ -25,7 +25,7 @@ active w ms = has w (λ m. m.active) ms
 abbrev pub ready : ℕ → List Member → Bool
 ready w ms = has w (λ m. m.ready) ms
 
--- the members behind an input
+-- the members after an input
 pub record MembersBehind (before : List Member) (e : Entry) (behind : List Member) : Type 0 where
   pub members : (v : ℕ) → is_member v behind ≡ is_member v before
   pub active : (v : ℕ) → active v behind ≡ (active v before && not (leaves v e))

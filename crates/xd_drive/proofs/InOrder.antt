@@ -142,7 +142,7 @@ pub order-over : (written : Written) (s : Seen) (j : Journal) (old : Scene) (ms 
 order-over Whole s j old ms a b is e o = o
 order-over (Broken count) s j old ms a b is e o = subst (λ (k : ℕ). ToldInOrder s.settings k s.entries old ms) (sym (e.0 ∙ ap length is)) o
 
--- behind the end of the journal
+-- after the end of the journal
 
 order-ended : (failed : Bool) (count : ℕ) (j : Journal) (s : Seen) (old : Scene) (ms : Option (List Scene)) → j.settings ≡ s.settings → j.entries.items ≡ s.entries ++ ending failed (state_of s).books → count ≤ length s.entries → ToldInOrder s.settings count s.entries old ms
     → ToldInOrder j.settings count j.entries.items old ms

@@ -150,7 +150,7 @@ plain-joining limit w b t =
     in_both (Plain (steals_in t) limit) b.shared joined (if t.books.shared then shared else []) (λ h. plain-acts limit (Joined w (slot_of w t.books)) t)
     (λ h. in_both (Plain (steals_in t) limit) t.books.shared shared [] (λ k. plain-acts limit (Share (slots_of_rota t.books)) t) (λ k. refl))
 
--- the outputs of an input: behind the end of a worker its kill, and then, as behind any other, orders and starts
+-- the outputs of an input: after the end of a worker its kill, and then, as after any other, orders and starts
 abbrev pub kills_first : Entry → List Entry
 kills_first (Down w cause output) = Kill w ∷ []
 kills_first _ = []

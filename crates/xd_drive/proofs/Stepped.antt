@@ -1,4 +1,4 @@
--- A session behind one more piece of news.
+-- A session after one more piece of news.
 use Rattle.std.proofs.Common.{◌≡◌, ℕ, ◌-◌, ◌≤◌, List, [], ◌∷◌, ◌++◌, length, take, drop, Bool, true, false, ◌&&◌, ◌||◌, Option, Some, None, refl, sym, ◌∙◌, ap, subst, arith, inl, inr, length-append}
 use Rattle.std.specs.Prelude.{◌==◌, if◌then◌else◌}
 use Rattle.std.proofs.Math.Path.{fun_ext}
@@ -174,7 +174,7 @@ module _ (s : Seen) (proper : IsProper s.settings []) (n : News) (old mid : Scen
         all_possible-same slots slots1 (heard_by n old.marks) mid.marks (added_by s.settings taken n) sl heard
         (step-possible s.settings proper slots old.marks taken n room (bounded s.settings proper taken) (agrees-run taken st) (on-run taken st))
 
-    -- it is taken, and s1 is the session behind it
+    -- it is taken, and s1 is the session after it
     module _ (s1 : Seen) (stands : (taken : List News) → StandsFor taken s → StandsFor (taken ++ n ∷ []) s1) (same : s1.settings ≡ s.settings) (new : Scene) (taken : List News) (st : StandsFor taken s) where
       abbrev es : List Entry
       es = added_by s.settings taken n

@@ -102,7 +102,7 @@ refusal-silent w (RunAll v ∷ ys) h = absurd (differ h)
 refusal-silent w (Steal v is ∷ ys) h = absurd (differ h)
 refusal-silent w (Shutdown v ∷ ys) h = absurd (differ h)
 
--- behind others
+-- after others
 
 module _ (ys : List Entry) (h : list_all silent ys ≡ true) where
   after_effect-behind : (s : State) (xs : List Entry) → after_entries s (xs ++ ys) ≡ after_entries s xs

@@ -1,4 +1,4 @@
--- One piece of news of an active worker: what it adds can be performed, and the marks agree behind it.
+-- One piece of news of an active worker: what it adds can be performed, and the marks agree after it.
 use Rattle.std.proofs.Common.{◌≡◌, ℕ, zero, suc, ◌+◌, ◌≤◌, ◌<◌, List, [], ◌∷◌, ◌++◌, Bool, true, false, not, ◌&&◌, refl, ap, sym, ◌∙◌, subst, arith, inl, inr}
 use Rattle.std.specs.Prelude.{◌==◌, fold, Option, Some, None}
 use Rattle.std.proofs.lemmas.List.{append-nil}

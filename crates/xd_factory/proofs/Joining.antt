@@ -26,7 +26,7 @@ module _ (f mid g : ℕ → Option ℕ) (n a d : ℕ) (forward : Forward f) (apa
     (reach : d ≡ unwrap_or (f (n + 1)) n)
     (put : (q : ℕ) → mid q ≡ cond (is_at (nat_cmp a) q) (Some d) (f q))
     (taken : (q : ℕ) → g q ≡ cond (is_at (nat_cmp (n + 1)) q) None (mid q)) where
-  -- the run behind the number, if one begins there
+  -- the run after the number, if one begins there
   right : ((f (n + 1) ≡ Some d) × (n + 1 ≤ d)) ⊎ (d ≡ n)
   right = by_case (f (n + 1)) refl
     where
@@ -136,7 +136,7 @@ or_right : (a b : Bool) → a || b ≡ false → b ≡ true → ⊥
 or_right true b h k = absurd (let z = h in cc)
 or_right false b h k = absurd (let z : true ≡ false = sym k ∙ h in cc)
 
--- the numbers behind the joining are those before it and the number
+-- the numbers after the joining are those before it and the number
 pub joined_has : (m mid t : BTreeMap ℕ ℕ) (n a d : ℕ) → IsOrdered nat_cmp m → IsOrdered nat_cmp t → Forward (get nat_cmp m) → Apart (get nat_cmp m)
     → a ≤ n → (a < n → get nat_cmp m a ≡ Some (n - 1))
     → ((q : ℕ) → (b : ℕ) → get nat_cmp m q ≡ Some b → q ≤ n → b < n)

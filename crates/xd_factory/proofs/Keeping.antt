@@ -149,7 +149,7 @@ took_keeps old new p q said t h e g a k = same_parity new p q (Take_message said
     (λ c. subst (λ (x : Taken Tree). SlotStands (new c) (took_deeds (is_mine p c) c said x (deeds p c h))) (sym g)
     (subst (λ (s : Slot Tree). SlotStands s (took_deeds (is_mine p c) c said (answer_of p old said) (deeds p c h))) (sym (a c)) (heard_stands p old said c (deeds p c h) (k c))))
 
--- behind a refusal, the numbers that opened
+-- after a refusal, the numbers that opened
 abbrev opened_there : (mine : Bool) (s t : Slot Tree) → OpensAtMost mine s t → Bool
 opened_there mine s t (inl e) = false
 opened_there mine s t (inr e) = true

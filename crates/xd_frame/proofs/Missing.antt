@@ -1,4 +1,4 @@
--- What is missing of a message, and what stands in front behind a read of no more than that.
+-- What is missing of a message, and what stands in front after a read of no more than that.
 use Rattle.std.proofs.Common.{◌≡◌, ℕ, ◌+◌, ◌-◌, ◌≤◌, ◌<◌, ◌⊎◌, inl, inr, List, ◌++◌, length, take, Some, None, Result, Ok, Err, refl, sym, ap, ◌∙◌, arith, length-append}
 use Rattle.std.proofs.lemmas.Bool.{cases_lt}
 use Rattle.std.proofs.lemmas.Grind.{common_steps}
@@ -24,7 +24,7 @@ unfolding header_in_front
 long_none a l e =
     elim (chosen (nat_lt (length a) 9) (Ok None) (with_payload (header_read (take 9 a)) (length a)) (Ok None) e) [ inl w ↦ absurd (grind (arith, common_steps, w.0, l)) | inr w ↦ w.1 ]
 
--- a header that is read, and less than its payload behind it
+-- a header that is read, and less than its payload after it
 pub record Begun (a : List ℕ) : Type 0 where
   pub header : Header
   pub read : header_read (take 9 a) ≡ Ok header
@@ -73,7 +73,7 @@ missing_some a e = by (front_none a e)
     by (inl l) = omega (arith, missing_few a l)
     by (inr b) = omega (arith, missing_begun a b, b.less)
 
--- a message that is whole behind such a read is all of the bytes
+-- a message that is whole after such a read is all of the bytes
 pub just_whole : (a p : List ℕ) (h : Header) → header_in_front a ≡ Ok None → length p ≤ missing a → header_in_front (a ++ p) ≡ Ok (Some h) → length (a ++ p) ≡ 9 + h.length
 just_whole a p h e l w = by (front_none a e)
   where
@@ -85,7 +85,7 @@ just_whole a p h e l w = by (front_none a e)
         let one : b.header ≡ h = cc in
         omega (arith, missing_begun a b, b.less, length-append a p, (some_front (a ++ p) h w).1, l, ap (λ (x : Header). x.length) one)
 
--- a header that is refused behind such a read is all of the bytes
+-- a header that is refused after such a read is all of the bytes
 pub just_refused : (a p : List ℕ) (f : FrameFault) → header_in_front a ≡ Ok None → length p ≤ missing a → header_in_front (a ++ p) ≡ Err f → (header_read (a ++ p) ≡ Err f) × (length (a ++ p) ≡ 9)
 just_refused a p f e l w = by (front_none a e)
   where

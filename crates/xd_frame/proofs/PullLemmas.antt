@@ -79,7 +79,7 @@ less_front a (few l) g = none_few a l
 less_front a (begun h read l) g = none_begun a h read l
 less_front a (refused f read l) g = none_by a (header_in_front a) refl g (λ h e. let wrong : ok h ≡ Err f = sym (some_front a h e).0 ∙ (ap header_read (take_all 9 a (omega arith)) ∙ read) in cc)
 
--- ---- what stands behind a pull
+-- ---- what stands after a pull
 
 nothing : messages [] ≡ []
 unfolding parts parts_within
@@ -150,7 +150,7 @@ module _ (s t : FramerView) (before after : Spring) (waits : s.waiting ≡ []) (
   g : GoesOn s
   g = goes_on s goes
 
-  -- no message is whole behind the bytes that were read
+  -- no message is whole after the bytes that were read
   stands_more : (piece given : List ℕ) (taken : List MessageView) → messages (s.held ++ piece) ≡ [] → behind (s.held ++ piece) ≡ s.held ++ piece → t.held ≡ s.held ++ piece → StandsFor s given taken → StandsFor t (given ++ piece) (taken ++ [])
   stands_more piece given taken m b h k =
       subst (λ (l : List MessageView). StandsFor t (given ++ piece) l) (sym (append-nil taken))

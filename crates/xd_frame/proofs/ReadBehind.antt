@@ -1,4 +1,4 @@
--- Bytes that a read puts behind others.
+-- Bytes that a read puts after others.
 use Rattle.std.proofs.Common.{◌≡◌, ℕ, ◌+◌, ◌-◌, ◌≤◌, ◌<◌, Bool, true, cond, List, ◌++◌, length, take, drop, get_or, sym, ap, ◌∙◌, arith, append_assoc, length-append, ◌⊎◌, inl, inr}
 use Rattle.std.specs.Prelude.{replicate}
 use Rattle.std.proofs.lemmas.List.{take_all, take_at, drop_at, take-take, take-append-le, length-replicate, length-take, length-drop, get_or_past}
@@ -6,7 +6,7 @@ use Rattle.std.proofs.lemmas.Bool.{cases_lt}
 use Rattle.std.proofs.Math.Seq.{take-add}
 use Rattle.xd_frame.specs.Stream.{AreBytes}
 
--- room was made behind the old bytes
+-- room was made after the old bytes
 pub resized : (old now lent : List ℕ) (b s n : ℕ) (ok : Bool) → ok ≡ true → b ≡ length old → n ≡ length old → now ≡ cond ok (take (b + s) old ++ replicate (b + s - n) 0) old → lent ≡ now → (take b lent ≡ old) × (length lent ≡ b + s)
 resized old now lent b s n ok e at again is same =
     let all : take (b + s) old ≡ old = take_all (b + s) old (omega arith) in

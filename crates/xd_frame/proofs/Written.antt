@@ -37,7 +37,7 @@ pub one_print : {T E : Type 0} (r : Result T E) (broken : Bool) (bytes : List �
 one_print (Ok x) broken bytes old new is ok part = subst (λ (b : Bool). Writes (not b) bytes old new) (sym is) ok
 one_print (Err e) broken bytes old new is ok part = subst (λ (b : Bool). Writes (not b) bytes old new) (sym is) (printed_part bytes old new part)
 
--- a print behind others, none of which failed
+-- a print after others, none of which failed
 pub next_print : {T E : Type 0} (r : Result T E) (before broken : Bool) (bytes : List ℕ) (old new : Option Sunk) → before ≡ false → broken ≡ is_err r → OnOk r (Printed bytes old new) → OnErr r (TookPart bytes old new) → WritesMore before broken bytes old new
 next_print r false broken bytes old new unbroken is ok part = one_print r broken bytes old new is ok part
 next_print r true broken bytes old new unbroken is ok part = cc

@@ -79,7 +79,7 @@ changed_map n h g [] same = refl
 changed_map zero h g (l ∷ ls) same = ap (λ (a : AskedOfLink). a ∷ map link_asked ls) (same l)
 changed_map (suc n) h g (l ∷ ls) same = ap (λ (rest : List AskedOfLink). link_asked l ∷ rest) (changed_map n h g ls same)
 
--- the link of a child is so far behind the first
+-- the link of a child stands so far from the first
 there : (n : ℕ) (cs : List (Option Child)) (k : ℕ) (c : Child) (f : Child → Child) (g : AskedOfLink → AskedOfLink) → AreNumbered n cs → slice_get cs k ≡ Some (Some c) → child_asked (f c) ≡ g (child_asked c)
     → (m : ℕ) × (c.link ≡ n + m) × (changed m g (children_asked cs) ≡ children_asked (changed_at k f cs))
 there n [] k c f g a e h = absurd (cc e)
@@ -135,7 +135,7 @@ none_changed (None ∷ cs) zero f h = refl
 none_changed (Some c ∷ cs) zero f h = absurd (h c refl)
 none_changed (o ∷ cs) (suc k) f h = ap (λ (l : List (Option Child)). o ∷ l) (none_changed cs k f (λ c e. h c e))
 
--- ---- what a starter tells behind a call
+-- ---- what a starter tells after a call
 
 rose_later : (n a b c : ℕ) → b ≤ c → RoseBy n a b → RoseBy n a c
 rose_later n a b c l r h = omega (arith, r (omega arith))

@@ -140,7 +140,7 @@ kwargs_are items k l v w suite m is a b c d =
     ∙ (ap (λ (x : List ℕ). pair (text (codes "suite")) (text suite) (pair (text x) (view w) no_pairs)) second
     ∙ ap (λ (x : Tree). pair (text (codes "suite")) (text suite) (pair (text (codes "dist")) x no_pairs)) d)))
 
--- a write that failed is no want of memory
+-- a write that failed is no lack of memory
 pub not_memory : (f : GatewayFault) (r : Result (Unit {0}) GatewayFault) → f ≡ SendFault → r ≡ Err f → r ≡ Err OutOfMemory → ⊥
 not_memory SendFault r e q z = let h = sym q ∙ z in cc h
 not_memory (Channel g) r e q z = absurd (cc e)

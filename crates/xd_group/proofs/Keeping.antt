@@ -114,7 +114,7 @@ or_left : (a b : Bool) → (a || b) ≡ false → a ≡ false
 or_left true b h = absurd (cc h)
 or_left false b h = refl
 
--- who is not started behind a call was not before
+-- who is not started after a call was not before
 pub started_before : (u : ℕ) (calls all : List Entry) (e : Entry) → all ≡ calls ++ e ∷ [] → was_started u all ≡ false → was_started u calls ≡ false
 started_before u calls all e is h = or_left (was_started u calls) (list_any (is_start_of u) (e ∷ [])) (sym (list_any-append (is_start_of u) calls (e ∷ [])) ∙ (sym (ap (was_started u) is) ∙ h))
 
@@ -159,7 +159,7 @@ or_end : (a b : Bool) → (a || b) ≡ true → b ≡ false → a ≡ true
 or_end true b h f = refl
 or_end false b h f = absurd (let z : true ≡ false = sym h ∙ f in cc z)
 
--- who was started behind a call that is no start was started before
+-- who was started after a call that is no start was started before
 pub started_same : (u : ℕ) (calls all : List Entry) (e : Entry) → all ≡ calls ++ e ∷ [] → is_start_of u e ≡ false → was_started u all ≡ true → was_started u calls ≡ true
 started_same u calls all e is h t =
     or_end (was_started u calls) (list_any (is_start_of u) (e ∷ [])) (sym (list_any-append (is_start_of u) calls (e ∷ [])) ∙ (sym (ap (was_started u) is) ∙ t)) (rw h refl)

@@ -49,7 +49,7 @@ whole_closed : (s0 s1 : Option Sunk) (all more : List ℕ) (closed : Bool) → I
 whole_closed None s1 all more closed w p = subst (λ (o : Option Sunk). IfSome o (λ s. s ≡ record { bytes = all ++ more; flushed = length (all ++ more); closed = true })) (sym p) tt
 whole_closed (Some s) s1 all more closed w p = subst (λ (o : Option Sunk). IfSome o (λ s. s ≡ record { bytes = all ++ more; flushed = length (all ++ more); closed = true })) (sym p) (ap (λ (t : Sunk). with_close (with_flush (with_bytes more t))) w)
 
--- a first part of some bytes is one of them with more behind
+-- a first part of some bytes is one of them with more after
 part_longer : (l all more : List ℕ) → l ≡ take (length l) all → l ≡ take (length l) (all ++ more)
 part_longer l all more e = e ∙ sym (take-append-le (length l) all more (short l all e))
   where
@@ -60,7 +60,7 @@ still_part : (s0 s1 : Option Sunk) (all more : List ℕ) → s1 ≡ s0 → IfSom
 still_part None s1 all more e p = subst (λ (o : Option Sunk). IfSome o (λ s. s.bytes ≡ take (length s.bytes) (all ++ more))) (sym e) tt
 still_part (Some s) s1 all more e p = subst (λ (o : Option Sunk). IfSome o (λ s. s.bytes ≡ take (length s.bytes) (all ++ more))) (sym e) (part_longer s.bytes all more p)
 
--- a first part of more bytes behind all
+-- a first part of more bytes after all
 first_part : (l all more : List ℕ) (n : ℕ) → n ≤ length more → l ≡ all ++ take n more → l ≡ take (length l) (all ++ more)
 first_part l all more n h e =
     let size : length l ≡ length all + n = ap length e ∙ length-append all (take n more) ∙ ap (λ (k : ℕ). length all + k) (length-take-le n more h) in
@@ -95,7 +95,7 @@ sent_more false true closed s0 s1 f0 f1 ms all m is sent w c l =
       part = λ e. (over_zero f0 f1 c, subst (λ (x : List ℕ). IfSome s1 (λ s. s.bytes ≡ take (length s.bytes) x)) (sym bytes) (now_part s0 s1 (frames ms) (frame m) closed (sent.whole refl) w));
     }
 
--- behind a fault nothing is said of a close
+-- after a fault nothing is said of a close
 still_sent : (before after : Bool) (s : Option Sunk) (f : ℕ) (ms : List MessageView) → SentAs true before s f ms → SentAs true after s f ms
 still_sent before after s f ms sent = record { whole = λ e. absurd (cc e); part = sent.part }
 

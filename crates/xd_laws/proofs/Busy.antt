@@ -13,7 +13,7 @@ use Rattle.xd_laws.proofs.Rota.{has_seat, is_told, told-change, told-shut, untol
 use Rattle.xd_laws.proofs.Queue.{held-shut}
 use Rattle.xd_laws.proofs.EachTurns.{pool-shut}
 
--- the worker was told to shut down, or a test stands behind its first one
+-- the worker was told to shut down, or a test stands after its first one
 abbrev pub has_work : ℕ → Table → Bool
 has_work w t = seat_shut w t || nat_le 2 (length (held w t))
 
@@ -55,7 +55,7 @@ work-shut v w t h = elim (split-or (seat_shut v t) (nat_le 2 (length (held v t))
   | inr k ↦ or-right (seat_shut v (shut_down w t)) (nat_le 2 (length (held v (shut_down w t)))) (ap (λ (xs : List ℕ). nat_le 2 (length xs)) (held-shut v w t.rota) ∙ k)
 ]
 
--- a step for a worker: an empty pool stays so, whoever has work still has it, and the worker has work behind it where the
+-- a step for a worker: an empty pool stays so, whoever has work still has it, and the worker has work after it where the
 -- pool is not empty
 pub record Employs (f : ℕ → Turn → Turn) (w : ℕ) (t : Turn) : Type 0 where
   pub spent : t.table.pool ≡ [] → (f w t).table.pool ≡ []
@@ -129,7 +129,7 @@ pub give-all : (w : ℕ) (items : List ℕ) (t : Turn) → items ≡ t.table.poo
 give-all w [] t e = sym e
 give-all w (i ∷ is) t e = ap (λ (xs : List ℕ). without (i ∷ is) xs) (sym e) ∙ without-self (i ∷ is)
 
--- so many are given that the worker has two, or all that there are
+-- n are given that the worker has two, or all that there are
 pub front-work : (w n : ℕ) (t : Turn) → has_seat w t.table.rota ≡ true → 2 ≤ length (held w t.table) + n → ((give_front w n t).table.pool ≡ []) ⊎ (has_work w (give_front w n t).table ≡ true)
 front-work w n t h k = elim (cases_of (nat_le (length t.table.pool) n)) [
   | inl l ↦ inl (give-all w (take n t.table.pool) t (taken-all n t.table.pool (grind (arith, nat_tests, l))))

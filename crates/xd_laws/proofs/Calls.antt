@@ -1,4 +1,4 @@
--- The calls of the mode behind the inputs of a proper run, in every mode.
+-- The calls of the mode after the inputs of a proper run, in every mode.
 use Rattle.std.proofs.Common.{◌≡◌, ℕ, ◌<◌, List, [], ◌∷◌, length, map, true, false, not, refl, ap, sym, ◌∙◌, subst, arith}
 use Rattle.std.specs.Prelude.{nat_lt}
 use Rattle.std.specs.List.{list_all, list_any}
@@ -116,7 +116,7 @@ called X rule s c d h x f =
       plan = a.plan;
     }
 
--- behind each input, where the mode keeps its rule
+-- after each input, where the mode keeps its rule
 
 done-by : (X : State → Type 0) → Rule X → (w i : ℕ) (u : Outcome) (m : ℕ) (o : List ℕ) (s : State) → Tidy s → X s → may_follow s (Done w i u m o) ≡ true → Called (TestDone w m) (after_effect s (Done w i u m o))
 done-by X rule w i u m o s d x h =
@@ -186,7 +186,7 @@ module _ (P : State → Type 0) (f : (X : State → Type 0) → Rule X → (s : 
   in-mode LoadGroup m = holds-by Scoped scope_rule P (f Scoped scope_rule) settings inputs (scoped-none settings (ap is_scope m)) p
   in-mode WorkSteal m = holds-by (InMode WorkSteal) steal_rule P (f (InMode WorkSteal) steal_rule) settings inputs m p
 
-  -- what holds in each mode that keeps its rule holds behind every proper run
+  -- what holds in each mode that keeps its rule holds after every proper run
   pub in-each-mode : P (after_inputs (after_starts settings) inputs)
   in-each-mode = in-mode settings.mode refl
 

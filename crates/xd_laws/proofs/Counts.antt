@@ -98,7 +98,7 @@ pub all_among-of : (xs ys : List ℕ) → ((x : ℕ) → among x xs ≡ true →
 all_among-of [] ys h = refl
 all_among-of (x ∷ xs) ys h = and (h x (grind (arith, nat_tests))) (all_among-of xs ys (λ y k. h y (grind (arith, nat_tests, k))))
 
--- what is left behind more of a list is left behind less of it
+-- what is left after more of a list is left after less of it
 pub all_among-drops : (j k : ℕ) (xs : List ℕ) → j ≤ k → all_among (drop k xs) (drop j xs) ≡ true
 all_among-drops zero k xs h = all_among-drop k (drop k xs) xs (all_among-self (drop k xs))
 all_among-drops (suc j) zero xs h = absurd (omega (arith, h))

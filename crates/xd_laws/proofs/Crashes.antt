@@ -82,7 +82,7 @@ dies u (Shutdown v) a m w x h = none-there a m (Crash w x) (Dies u (Shutdown v) 
 dies u (Kill v) a m w x h = none-there a m (Crash w x) (Dies u (Kill v) a w x) h
 dies u (Over how) a m w x h = none-there a m (Crash w x) (Dies u (Over how) a w x) h
 
--- the same behind a state
+-- the same after a state
 record DeathFrom (s : State) (es : List Entry) (earlier : List Report) (w x : ℕ) : Type 0 where
   before : List Entry
   cause : Cause

@@ -115,7 +115,7 @@ seated-of_slot : (v w slot : ℕ) (items : List ℕ) (t : Turn) → has_seat v (
 seated-of_slot v w slot [] t = refl
 seated-of_slot v w slot (i ∷ is) t = seat-change v w (λ s. record s { held = s.held ++ (i ∷ is) }) t.table.rota (λ s. refl)
 
--- behind a call everyone in the rota is told
+-- after a call everyone in the rota is told
 all-told : (s : State) (c : ModeCall) → is_each s.plan.mode ≡ true → CallFits s c → OthersTold s c → (v : ℕ) → InRota s v → seat_shut v (each_turn c (turn_of s)).table ≡ true
 all-told s (Share slots) e f o v a =
     let ws = workers_of s.books.table in

@@ -41,7 +41,7 @@ none-of_none : (n : ℕ) → sum (take n []) ≡ 0
 none-of_none zero = refl
 none-of_none (suc n) = refl
 
--- the slots' parts stand one behind another
+-- the slots' parts stand one after another
 parts-apart : (a b : ℕ) (sizes : List ℕ) → a < b → sum (take a sizes) + slice_index sizes a ≤ sum (take b sizes)
 parts-apart a b [] h = omega (arith, none-of_none a, none-of_none b)
 parts-apart a zero (x ∷ xs) h = absurd (omega (arith, h))
@@ -202,7 +202,7 @@ good-share s slots e d h f =
     subst (λ (xs : List ℕ). Good s (give_slots ws xs (turn_of s))) (sym f.slots_are)
     (good-slots s ws (turn_of s) e (record { good = good-first s d h; same = refl }) (all_among-self ws) (rota-distinct s d) (rota-apart s d) take).good
 
--- a worker joins behind the share
+-- a worker joins after the share
 
 named-back : (b : ℕ) (items : List ℕ) → ((x : ℕ) → among x items ≡ true → b ≤ x) → map (λ i. b + i) (map (λ item. item - b) items) ≡ items
 named-back b [] h = refl

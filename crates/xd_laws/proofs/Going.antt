@@ -1,4 +1,4 @@
--- What holds behind each whole rule of a run: calls of the mode, stops, and the last Shutdowns keep it.
+-- What holds after each whole rule of a run: calls of the mode, stops, and the last Shutdowns keep it.
 use Rattle.std.proofs.Common.{◌≡◌, ℕ, ◌<◌, List, [], ◌∷◌, length, map, Bool, true, false, not, ◌&&◌, ◌||◌, refl, ap, sym, ◌∙◌, subst, arith, inl, inr}
 use Rattle.std.specs.Prelude.{if◌then◌else◌, ◌==◌, Option, Some, None, is_some}
 use Rattle.std.specs.List.{list_any}
@@ -147,7 +147,7 @@ tells-waiting v (m ∷ ms) h = elim (cases_of (is_waiting m)) [
       ]))
 ]
 
--- behind a Shutdown for each that waits, everyone is told
+-- after a Shutdown for each that waits, everyone is told
 pub told-all : (s : State) → Tidy s → all_orderly s (shut_all s.books.members) ≡ true → AllTold (after_entries s (shut_all s.books.members))
 told-all s d o v a r =
     let ms = s.books.members in
@@ -204,7 +204,7 @@ owing-later s now after told same n l g = record {
   going = λ h. g;
 }
 
--- whoever is active and was told nothing is so behind it
+-- whoever is active and was told nothing is so after it
 abbrev pub StillOpen : State → State → Type 0
 StillOpen s t = (v : ℕ) → has v (λ m. m.active) s.books.members ≡ true → has v (λ m. m.shut) s.books.members ≡ false → (has v (λ m. m.active) t.books.members ≡ true) × (has v (λ m. m.shut) t.books.members ≡ false)
 

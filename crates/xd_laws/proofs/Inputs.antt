@@ -1,4 +1,4 @@
--- The state behind an input that may follow is tidy.
+-- The state after an input that may follow is tidy.
 use Rattle.std.proofs.Common.{◌≡◌, ℕ, zero, suc, ◌+◌, List, [], ◌∷◌, map, Bool, true, false, refl, ap, sym, ◌∙◌, arith, length, not}
 use Rattle.std.specs.Prelude.{Some, None, Option, is_some, ◌==◌, if◌then◌else◌}
 use Rattle.std.specs.List.{range_with_len}

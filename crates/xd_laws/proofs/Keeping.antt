@@ -42,12 +42,12 @@ pub record AllThere (s : State) : Type 0 where
   pub rota : InRota s someone
   pub full : length s.books.table.rota ≡ s.books.settings.workers
 
--- what is known of the pool ahead of a call
+-- what is known of the pool before a call
 abbrev pub Expects : State → ModeCall → Type 0
 Expects s (Share slots) = AllThere s
 Expects s _ = Awaited s
 
--- the state behind a mode's part of a death, and behind the start that replaces the worker
+-- the state after a mode's part of a death, and after the start that replaces the worker
 abbrev pub buried_acts : State → List Entry
 buried_acts s = if s.books.shared then acts_of Died s else []
 
@@ -128,7 +128,7 @@ module _ (X : State → Type 0) (server : Server X) where
             ])
       ]
 
-  -- who waits ahead of the call waits behind it, where the pool is not empty
+  -- who waits before the call waits after it, where the pool is not empty
   plain-still : (s : State) (c : ModeCall) → Tidy s → s.books.shared ≡ true → X s → CallFits s c → Awaited s → Awaited (after_entries s (acts_of c s))
   plain-still s c d h x f o y a =
       let m = after_entries s (acts_of c s) in

@@ -78,7 +78,7 @@ by_mode WorkSteal settings inputs m p = by_rule (InMode WorkSteal) steal_rule se
 pub lawful : (settings : Settings) (inputs : List Entry) → IsProper settings inputs → Lawful settings inputs
 lawful settings inputs p = by_mode settings.mode settings inputs refl p
 
--- what each entry keeps holds behind a proper journal
+-- what each entry keeps holds after a proper journal
 pub journal-keeps : (settings : Settings) (inputs : List Entry) (R : State → List Entry → Type 0) → Keeps settings R → IsProper settings inputs → R (no_one settings) []
     → R (after_inputs (after_starts settings) inputs) (journal_of settings inputs)
 journal-keeps settings inputs R k p r =
@@ -181,7 +181,7 @@ none-reported settings inputs p h x =
     let same : times x (items_told (reports settings (journal_of settings inputs))) ≡ times x s.books.table.reported = ap (λ (xs : List ℕ). times x xs) l.told in
     omega (arith, same, reported-within x s.books.table, none)
 
--- what each entry keeps holds behind each part of a proper journal
+-- what each entry keeps holds after each part of a proper journal
 pub part-keeps : (settings : Settings) (inputs : List Entry) (R : State → List Entry → Type 0) → Keeps settings R → IsProper settings inputs → R (no_one settings) []
     → (before after : List Entry) → journal_of settings inputs ≡ before ++ after → R (state_at settings before) before
 part-keeps settings inputs R k p r before after e =

@@ -128,7 +128,7 @@ down-fit X rule s w a d t x =
     unless-fit X rule s.books now (outputs_of_death w now) t x
     (λ j k. death-fit X rule now w t x (free-gone ms s.books.settings.workers w d.members a) (t.members.below w member))
 
--- the outputs of an input, where the state behind it is tidy
+-- the outputs of an input, where the state after it is tidy
 pub own-fit : (X : State → Type 0) → Rule X → (s : State) (e : Entry) → may_follow s e ≡ true → Tidy s → Tidy (after_effect s e) → X (after_effect s e) → Fit X (after_effect s e) (own_outputs s e (after_effect s e))
 own-fit X rule s (Ready w) h d t x = ready-fit X rule s w h d t x
 own-fit X rule s (Collected w g) h d t x = collected-fit X rule s w g d t x

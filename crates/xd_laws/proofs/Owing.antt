@@ -1,4 +1,4 @@
--- What holds behind each whole rule of a run, and that someone owes the next step by it.
+-- What holds after each whole rule of a run, and that someone owes the next step by it.
 use Rattle.std.proofs.Common.{◌≡◌, ℕ, ◌≤◌, ◌<◌, List, [], ◌∷◌, length, map, Bool, true, false, not, ◌&&◌, ◌||◌, refl, ap, sym, ◌∙◌, subst, arith, inl, inr}
 use Rattle.std.specs.Prelude.{◌==◌, ◌⊎◌, nat_le, nat_lt, Option, Some, None, is_none}
 use Rattle.std.specs.List.{list_all, list_any}
@@ -283,7 +283,7 @@ shared-owes s d g h f = by s.books.table.pool refl s.plan.steal refl
     by [] e None q = by_seats (third-false (length s.books.table.pool == 0) (is_none s.plan.steal) (list_all (λ x. nat_lt (length x.held) 2) s.books.table.rota)
         (ap (λ (ys : List ℕ). length ys == 0) e) (ap is_none q) f)
 
--- behind a whole rule of a run that is not over
+-- after a whole rule of a run that is not over
 pub owing-owes : (s : State) → Tidy s → Owing s → (settles s ≡ true → s.books.shutting ≡ true) → is_over s.books ≡ false → someone_owes s ≡ true
 owing-owes s d o settled h = elim (cases_of (is_shutting s.books)) [
   | inl k ↦ shutting-owes s d (o.told k) (some-left (is_shutting s.books) (some_active s.books) k h)

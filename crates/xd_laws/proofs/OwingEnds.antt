@@ -48,7 +48,7 @@ other-by v w f h n = elim (cases_of (v == w)) [
   | inr k ↦ k
 ]
 
--- behind a worker's end whoever has collected and was told nothing is in the rota
+-- after a worker's end whoever has collected and was told nothing is in the rota
 pub seated-gone : (s t : State) (w : ℕ) → t.books.members ≡ map (made_gone w) s.books.members → t.books.table.rota ≡ without_seat w s.books.table.rota → Seated s → Seated t
 seated-gone s t w members rota k v a c n =
     let p = was_active v w s.books.members (ap (λ (ms : List Member). has v (λ m. m.active) ms) (sym members) ∙ a) in

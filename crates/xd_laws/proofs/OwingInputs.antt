@@ -1,4 +1,4 @@
--- Behind each input, and all that follows it, someone owes the next step.
+-- After each input, and all that follows it, someone owes the next step.
 use Rattle.std.proofs.Common.{◌≡◌, ℕ, List, [], ◌∷◌, true, false, not, refl, sym, ◌∙◌, subst, inl, inr}
 use Rattle.std.specs.Prelude.{◌==◌}
 use Rattle.xd_journal.specs.declared.entry.Entry.{Entry}

@@ -33,7 +33,7 @@ use Rattle.xd_laws.proofs.OwingEnds.{other-by}
 use Rattle.xd_laws.proofs.OwingCalls.{call-owing}
 
 module _ (X : State → Type 0) (k : Keeper X) where
-  -- what a worker's joining keeps, ahead of the call of the mode
+  -- what a worker's joining keeps, before the call of the mode
   record Came (s now : State) (w : ℕ) : Type 0 where
     told : is_shutting s.books ≡ true → AllTold now
     shutting : now.books.shutting ≡ s.books.shutting
@@ -70,7 +70,7 @@ module _ (X : State → Type 0) (k : Keeper X) where
     abbrev come : State
     come = in_books (λ b. record b { table = joined w b.table }) before
 
-    -- the state behind it is one of these two
+    -- the state after it is one of these two
     by_full : (P : State → Type 0) (now : State) → now ≡ joining w before → (is_full come.books ≡ true → P (shared_now come)) → (is_full come.books ≡ false → P come) → P now
     by_full P now e a b = subst P (sym e) (in_both P (is_full come.books) (shared_now come) come a b)
 

@@ -1,4 +1,4 @@
--- Behind each whole rule of a run that is not over someone owes the next step.
+-- After each whole rule of a run that is not over someone owes the next step.
 use Rattle.std.proofs.Common.{◌≡◌, ℕ, zero, suc, ◌+◌, ◌≤◌, ◌<◌, List, [], ◌∷◌, length, Bool, true, false, ◌&&◌, ◌||◌, refl, ap, sym, ◌∙◌, subst, arith, inl, inr}
 use Rattle.std.specs.Prelude.{◌==◌, nat_le, Some, None}
 use Rattle.std.proofs.lemmas.Bool.Decides.{nat_tests}
@@ -34,7 +34,7 @@ use Rattle.xd_laws.proofs.OwingInputs.{step-owing}
 
 -- the first starts
 
--- so many workers were started, each at the slot of its number, and nothing else happened
+-- n workers were started, each at the slot of its number, and nothing else happened
 record Opening (s : State) (w : ℕ) : Type 0 where
   rota : s.books.table ≡ fresh []
   shared : s.books.shared ≡ false
@@ -137,7 +137,7 @@ all-owing X k s (e ∷ es) h d p o =
     let q = split-and (may_follow s e) (all_may_follow (after_input s e) es) h in
     all-owing X k (after_input s e) es q.1 (after_input-holds X k.rule s e q.0 d) (spent-step X k.rule s e q.0 d.tidy d.also p) (step-owing X k s e q.0 d.tidy d.also p o)
 
--- behind a whole rule the mark is set where nothing is left to hand out
+-- after a whole rule the mark is set where nothing is left to hand out
 abbrev IsMarked : State → Type 0
 IsMarked s = settles s ≡ true → s.books.shutting ≡ true
 

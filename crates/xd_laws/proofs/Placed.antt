@@ -1,4 +1,4 @@
--- Behind each entry every item stands in one place.
+-- After each entry every item stands in one place.
 use Rattle.std.proofs.Common.{◌≡◌, ℕ, ◌+◌, List, [], ◌∷◌, ◌++◌, drop, length, map, Bool, true, false, not, ◌&&◌, refl, ap, sym, ◌∙◌, subst, arith, inl, inr}
 use Rattle.std.specs.Prelude.{if◌then◌else◌, ◌==◌, Some, None, Option, slice_index, is_none}
 use Rattle.std.specs.List.{list_any, range_with_len}

@@ -71,7 +71,7 @@ queue-shut t p ms w q = record {
 
 -- the first unit is handed out
 
--- the plan behind that
+-- the plan after that
 abbrev pub handed_out : ℕ → List ℕ → List (List ℕ) → Plan → Plan
 handed_out w u us p = record p { queue = us; given = with_handed w u p }
 
@@ -132,7 +132,7 @@ left-within x w t p ms once q = elim (cases_of (in_rota w t)) [
       subst (λ (xs : List ℕ). times x (tests_of (units_left w xs p.given)) ≤ times x xs) (sym none) (let k = tests-left x w [] p.given in omega (arith, k)))
 ]
 
--- the plan of a mode with scopes behind a death
+-- the plan of a mode with scopes after a death
 abbrev pub buried_plan : ℕ → List ℕ → List ℕ → Plan → Plan
 buried_plan w retried rest p = record p { queue = unless_empty retried ++ (p.queue ++ units_left w rest p.given); steal = None }
 

@@ -1,5 +1,5 @@
 -- A worked run that the laws speak of: it is proper, it is over without a stop, and its reports are of all its tests.
--- Behind it stands what the laws rule out.
+-- After it stands what the laws rule out.
 use Rattle.std.specs.Prelude.{◌≡◌, List, [], ◌∷◌, true, false, None}
 use Rattle.std.proofs.Common.{refl, arith, ◌≤◌, take}
 use Rattle.xd_edge.specs.declared.mode.ModeKind.TheVariants.{Load}

@@ -26,7 +26,7 @@ use Rattle.xd_laws.proofs.Queue.{QueueFits}
 use Rattle.xd_laws.proofs.MembersFit.{Kin, IsFree, kin-length, kin-free, members-start}
 use Rattle.xd_laws.proofs.Turns.{Calm, MayShut, Tidy, Good, InRota, after_entries-first, after_entries-join, all_orderly-join, tidy-quiet, orderly-shutdown}
 
--- outputs in order, behind which the state is tidy and this holds of it
+-- outputs in order, after which the state is tidy and this holds of it
 pub record Fit (X : State → Type 0) (s : State) (es : List Entry) : Type 0 where
   pub orderly : all_orderly s es ≡ true
   pub tidy : Tidy (after_entries s es)
@@ -105,7 +105,7 @@ calm-start s w slot c = record {
   unshut = λ a b v. has-more v (λ m. m.shut) s.books.members (started w slot) ∙ ap (λ (q : Bool). q || (w == v && false)) (c.unshut a b v) ∙ and-false (w == v);
 }
 
--- a Start of the next number at a free slot, behind outputs that start no one
+-- a Start of the next number at a free slot, after outputs that start no one
 pub fit-start : (X : State → Type 0) → Rule X → (s : State) (es : List Entry) (slot : ℕ) → Turned X s es → IsFree slot s.books.members
     → slot < s.books.settings.workers → Fit X (after_entries s es) (Start (length s.books.members) slot ∷ [])
 fit-start X rule s es slot t free low =

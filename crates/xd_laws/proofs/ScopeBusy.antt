@@ -1,4 +1,4 @@
--- Behind each turn of a mode with scopes the pool is empty, or each worker has work.
+-- After each turn of a mode with scopes the pool is empty, or each worker has work.
 use Rattle.std.proofs.Common.{◌≡◌, ℕ, zero, suc, ◌+◌, ◌≤◌, List, [], ◌∷◌, ◌++◌, length, take, drop, reverse, true, false, ◌||◌, refl, ap, sym, ◌∙◌, subst, arith, inl, inr}
 use Rattle.std.specs.Prelude.{if◌then◌else◌, ◌==◌, ◌⊎◌, nat_le, nat_lt, None}
 use Rattle.std.proofs.lemmas.Bool.Decides.{nat_tests}

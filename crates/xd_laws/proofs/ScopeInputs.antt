@@ -1,4 +1,4 @@
--- In the modes with scopes the queue fits the table behind each input.
+-- In the modes with scopes the queue fits the table after each input.
 use Rattle.std.proofs.Common.{◌≡◌, ℕ, List, [], ◌∷◌, ◌++◌, drop, length, map, Bool, true, false, not, ◌&&◌, ◌||◌, refl, ap, sym, ◌∙◌, subst, arith, inl, inr}
 use Rattle.std.specs.Prelude.{◌==◌, None, sum}
 use Rattle.std.specs.List.{range_with_len}

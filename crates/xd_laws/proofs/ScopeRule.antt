@@ -35,7 +35,7 @@ scope-fine s (TestDone w ms) d h k f = fine-refill s w (turn_of s) k.mode f (rec
 scope-fine s TestsBack d h k f = record { good = good-first s d h; queue = k.queue }
 scope-fine s Died d h k f = fine-refill_all s k.mode (record { good = good-first s d h; queue = k.queue })
 
--- the state behind a turn
+-- the state after a turn
 scoped-turn : (s : State) (t : Turn) → IsScoped s → Fine s t → Scoped (after_entries s t.acts)
 scoped-turn s t k f =
     let m = after_entries s t.acts in

@@ -56,7 +56,7 @@ run-scope w u p h = rw h
 plan-scope : (w : ℕ) (u : List ℕ) (us : List (List ℕ)) (p : Plan) → is_scope p.mode ≡ true → p.queue ≡ u ∷ us → run_plan w u p ≡ handed_out w u us p
 plan-scope w u us p h e = run-scope w u p h ∙ handed-front w u us p e
 
--- the turn behind the first unit
+-- the turn after the first unit
 abbrev pub with_unit : ℕ → List ℕ → List (List ℕ) → Turn → Turn
 with_unit w u us t = record { table = assigned w u t.table; plan = handed_out w u us t.plan; acts = t.acts ++ Run w u ∷ [] }
 
@@ -85,7 +85,7 @@ fine-unit s w u us t k a f unshut e =
 pub unit-none : (w : ℕ) (t : Turn) → t.plan.queue ≡ [] → give_unit w t ≡ t
 unit-none w t e = rw e refl
 
--- what holds behind a unit that is handed out
+-- what holds after a unit that is handed out
 pub unit-by : (P : Turn → Type 0) (w : ℕ) (t : Turn) → P t → ((u : List ℕ) (us : List (List ℕ)) → t.plan.queue ≡ u ∷ us → P (with_unit w u us t)) → P (give_unit w t)
 unit-by P w t p k = by t.plan.queue refl
   where
@@ -157,7 +157,7 @@ pub among-reverse : (x : ℕ) (xs : List ℕ) → among x (reverse xs) ≡ among
 among-reverse x [] = refl
 among-reverse x (y ∷ xs) = ap (λ (zs : List ℕ). among x zs) (reverse-append (y ∷ []) xs) ∙ among-join x (reverse xs) (y ∷ []) ∙ grind (arith, nat_tests, among-reverse x xs)
 
--- who stands in front does not stand behind
+-- whoever stands in front does not stand again
 pub front-only : (v n : ℕ) (ws : List ℕ) → all_distinct ws ≡ true → among v (take n ws) ≡ true → among v (drop n ws) ≡ false
 front-only v zero ws d h = absurd (differ h)
 front-only v (suc n) [] d h = absurd (differ h)

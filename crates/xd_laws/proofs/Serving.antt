@@ -66,7 +66,7 @@ rule-both X Y rule more = record {
 abbrev pub OthersWork : ℕ → State → Type 0
 OthersWork w s = (s.books.table.pool ≡ []) ⊎ ((v : ℕ) → InRota s v → (v == w) ≡ false → has_work v s.books.table ≡ true)
 
--- what is known of the workers ahead of a call
+-- what is known of the workers before a call
 abbrev pub Ahead : State → ModeCall → Type 0
 Ahead s (TestDone w ms) = OthersWork w s
 Ahead s _ = Unit {0}

@@ -248,7 +248,7 @@ spent-settled s k = record {
   ];
 }
 
--- behind a whole rule, and behind whole runs
+-- after a whole rule, and after whole runs
 
 pub spent-step : (X : State → Type 0) → Rule X → (s : State) (e : Entry) → may_follow s e ≡ true → Tidy s → X s → Spent s → Spent (after_input s e)
 spent-step X rule s e h d x k =

@@ -1,4 +1,4 @@
--- Behind each turn of mode worksteal the pool is empty, or each worker has work.
+-- After each turn of mode worksteal the pool is empty, or each worker has work.
 use Rattle.std.proofs.Common.{◌≡◌, ℕ, ◌+◌, ◌/◌, ◌≤◌, List, [], ◌∷◌, length, take, map, Bool, true, false, not, ◌&&◌, ◌||◌, refl, sym, ◌∙◌, subst, arith, inl, inr}
 use Rattle.std.specs.Prelude.{◌==◌, nat_le, nat_lt, filter, Option, Some, None}
 use Rattle.std.proofs.lemmas.Bool.Decides.{nat_tests}

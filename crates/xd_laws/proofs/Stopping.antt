@@ -89,7 +89,7 @@ or-nothing : (a : Option RunStop) → or_stop a None ≡ a
 or-nothing None = refl
 or-nothing (Some how) = refl
 
--- the stop that an entry brings comes behind those before it
+-- the stop that an entry brings comes after those before it
 record Adds (settings : Settings) (s t : State) (es : List Entry) (e : Entry) : Type 0 where
   new : Option RunStop
   stop_is : t.books.stop ≡ or_stop s.books.stop new
@@ -163,7 +163,7 @@ result-fails false i j w (Failed code) = refl
 result-fails false i j w Passed = refl
 result-fails false i j w Skipped = refl
 
--- the limit on failures, behind an entry that brings so many in all
+-- the limit on failures, after an entry that brings n in all
 
 limit-none : (b : Books) → at_limit b ≡ None → reaches b.settings.maxfail b.failures ≡ false
 limit-none b h = by (reaches b.settings.maxfail b.failures) h
@@ -179,7 +179,7 @@ limit-some b how h = by (reaches b.settings.maxfail b.failures) h
     by true q = (cc, refl)
     by false q = absurd cc
 
--- what the limit says where the state behind the entry counts these failures
+-- what the limit says where the state after the entry counts these failures
 limit-brings : (settings : Settings) (es : List Entry) (e : Entry) (b : Books) (how : RunStop) → b.settings ≡ settings → b.failures ≡ failures (reports settings (es ++ e ∷ [])) → Under settings es
     → at_limit b ≡ Some how → Brings settings es e how
 limit-brings settings es e b how same f u h =

@@ -127,7 +127,7 @@ told-input s (Shutdown w) h k = absurd (differ h)
 told-input s (Kill w) h k = absurd (differ h)
 told-input s (Over how) h k = absurd (differ h)
 
--- an input comes behind a settled state
+-- an input comes after a settled state
 input-first : (x : State) (e : Entry) (es : List Entry) → may_follow (settled x) e ≡ true → reports_from x (e ∷ es) ≡ reports_of (settled x) e ++ reports_from (after_effect (settled x) e) es
 input-first x (Ready w) es h = refl
 input-first x (Collected w g) es h = refl

@@ -34,7 +34,7 @@ pub record Tidy (s : State) : Type 0 where
   pub members : MembersFit s.books.members s.books.settings.workers
   pub calm : Calm s
 
--- workers may be told to shut down: behind a stop or the share
+-- workers may be told to shut down: after a stop or the share
 abbrev pub MayShut : State → Type 0
 MayShut s = (is_stopped s.books || s.books.shared) ≡ true
 

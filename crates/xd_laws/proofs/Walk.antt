@@ -1,4 +1,4 @@
--- A walk over a proper journal: each entry comes behind a tidy state as what a worker may say, or as an output in order.
+-- A walk over a proper journal: each entry comes after a tidy state as what a worker may say, or as an output in order.
 use Rattle.std.proofs.Common.{◌≡◌, ℕ, zero, suc, ◌+◌, List, [], ◌∷◌, ◌++◌, length, Bool, true, false, refl, ap, sym, ◌∙◌, subst, inl, inr, append_assoc, length-append}
 use Rattle.std.specs.Prelude.{◌⊎◌, if◌then◌else◌}
 use Rattle.std.specs.List.{list_all}
@@ -23,7 +23,7 @@ use Rattle.xd_laws.proofs.Rule.{Rule}
 use Rattle.xd_laws.proofs.Outputs.{outputs-fit}
 use Rattle.xd_laws.proofs.Runs.{Holds, begun-holds, after_input-holds, placed-none}
 
--- how an entry may come behind a state
+-- how an entry may come after a state
 abbrev pub Comes : State → Entry → Type 0
 Comes s e = (Tidy s × (may_follow s e ≡ true)) ⊎ (Placed s × (is_orderly s e ≡ true))
 
@@ -171,11 +171,11 @@ module _ (settings : Settings) (R : State → List Entry → Type 0) (k : Keeps 
       let c_next : AllCome (after_entries (no_one settings) (es ++ e ∷ [])) more = subst (λ (v : State). AllCome v more) (sym same) c.1 in
       subst (λ (xs : List Entry). R (after_entries (no_one settings) xs) xs) (append_assoc es (e ∷ []) more) (walk-from (es ++ e ∷ []) more c_next r_next)
 
-  -- it holds behind each part of a journal
+  -- it holds after each part of a journal
   pub walk : (es : List Entry) → AllCome (no_one settings) es → R (no_one settings) [] → R (after_entries (no_one settings) es) es
   walk es c r = walk-from [] es c r
 
--- the state behind a journal is that behind its inputs
+-- the state after a journal is that after its inputs
 
 state-grown : (x : State) (es : List Entry) → all_may_follow (settled x) es ≡ true → settled (after_entries x (grown (settled x) es)) ≡ after_inputs (settled x) es
 state-grown x [] h = refl

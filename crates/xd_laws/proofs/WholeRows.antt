@@ -146,7 +146,7 @@ crashed = dealt ++ Down 0 Ended [] ∷ Kill 0 ∷ []
 crashed-head : IsDeath three crashed [] 0 0
 crashed-head = record { before = dealt; cause = Ended; output = []; after = Kill 0 ∷ []; are = refl; head = refl; final = refl; reported = refl }
 
--- it stands for the test behind the head
+-- it stands for the test after the head
 crash_behind_head : first_of (held 0 (state_at three dealt).books.table) ≡ Some 2 → ⊥
 crash_behind_head h = absurd cc
 

@@ -132,7 +132,7 @@ put_first_done n p o c now k x end first ck e s h b f ee ef ec =
     (subst (λ i. Gives (set (set n (length o + k) x) x i) (set (set p x (length o + k)) i x) (set o x k) (set c k (at c k + 1)) (changed k (x ∷ chain n o c k) (chain n o c))) gf (put_first_gives n p o c k x s h2 b2 f2))) in
     subst (λ (l : Lists). k < chains_of l → x < number_count l → is_free x l ≡ true → Gives (set (set n end x) x first) (set (set p x end) first x) (set o x k) (set c k (ck + 1)) (changed k (x ∷ chain_at l k) (chain_at l))) e body h b f
 
--- lists behind two changes
+-- lists after two changes
 
 pub shift_two : (from to x : ℕ) (old mid now : ℕ → List ℕ) → (from == to) ≡ false → ((j : ℕ) → mid j ≡ changed from (without (x ∷ []) (old from)) old j) → ((j : ℕ) → now j ≡ changed to (mid to ++ x ∷ []) mid j)
     → (j : ℕ) → now j ≡ shifted from to (x ∷ []) old j
@@ -273,7 +273,7 @@ pour_some i from to old mid f a h =
     let m : length (mid from) ≡ length (drop i (old from)) = ap length (a from ∙ poured-from i from to old from (swapped from to f) (same from)) in
     omega (arith, length-drop i (old from))
 
--- the first number of a list, as the place behind its end
+-- the first number of a list, as the place after its end
 pub record FirstIs (x : ℕ) (xs : List ℕ) : Type 0 where
   pub one : take 1 xs ≡ x ∷ []
   pub rest : without (x ∷ []) xs ≡ drop 1 xs

@@ -1,4 +1,4 @@
--- A number leaves its chain or goes to an end of one, and each chain stands behind it.
+-- A number leaves its chain or goes to an end of one, and each chain stands after it.
 use Rattle.std.proofs.Common.{◌≡◌, ℕ, ◌+◌, ◌-◌, ◌≤◌, ◌<◌, List, [], ◌∷◌, ◌++◌, Bool, true, false, length, length-append, get_or, set, nat_lt, refl, ap, sym, subst, ◌∙◌, arith}
 use Rattle.std.specs.Prelude.{◌==◌}
 use Rattle.std.proofs.lemmas.Bool.Decides.{nat_tests}
@@ -344,7 +344,7 @@ put_first_are n p o c lists k x s h below free =
     linked_are n p o c lists k x e (at n e) (x ∷ xs) s h below free e_there f_there
     (subst (λ i. IsLinkedChain (set (set n e x) x i) (set (set p x e) i x) (set o x k) e k (at c k + 1) (x ∷ xs)) (sym first) put)
 
--- the chains behind the writes are these lists, and they stand
+-- the chains after the writes are these lists, and they stand
 pub record Gives (n p o c : List ℕ) (lists : ℕ → List ℕ) : Type 0 where
   pub stand : AreChains n p o c (chain n o c)
   pub are : (j : ℕ) → chain n o c j ≡ lists j

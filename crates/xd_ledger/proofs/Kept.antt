@@ -89,7 +89,7 @@ pub leave_table : (w : ℕ) (l : Lists) (ps : List Post) (reported who : List �
     → table_of (chain_at l) (filter (λ q. not (q.worker == w)) ps) reported who ≡ left_rota w (table_of (chain_at l) ps reported who)
 leave_table w l ps reported who h = table-eq _ _ _ _ _ _ who refl (seats-left w (chain_in w ps) (chain_at l) (chain_at l) ps h.marked (λ j d f. refl)) refl
 
--- behind the worker's head, where it has one, and the pouring of the rest into the pool
+-- after the worker's head, where it has one, and the pouring of the rest into the pool
 pub die_table : (w : ℕ) (retry : Bool) (l : Lists) (now : ℕ → List ℕ) (ps : List Post) (reported reported2 who : List ℕ) → Has w l ps reported who → reported2 ≡ reported ++ crash_item retry (chain_at l (chain_in w ps))
     → now 0 ≡ retried_item retry (chain_at l (chain_in w ps)) ++ (chain_at l 0 ++ drop 1 (chain_at l (chain_in w ps))) → SameOthers (chain_in w ps) (chain_at l) now
     → table_of now (filter (λ q. not (q.worker == w)) ps) reported2 who ≡ died w retry (table_of (chain_at l) ps reported who)

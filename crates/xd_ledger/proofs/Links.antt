@@ -1,4 +1,4 @@
--- Numbers linked with their neighbours, behind writes.
+-- Numbers linked with their neighbours, after writes.
 use Rattle.std.proofs.Common.{◌≡◌, ℕ, suc, ◌+◌, ◌≤◌, List, [], ◌∷◌, ◌++◌, true, false, length, refl, ap, ◌∙◌, arith}
 use Rattle.std.specs.Prelude.{◌==◌}
 use Rattle.std.proofs.lemmas.Bool.Decides.{nat_tests}
@@ -67,7 +67,7 @@ pub times-first : (e : ℕ) (xs : List ℕ) → 1 ≤ times (first_or e xs) (e �
 times-first e [] = grind (arith, nat_tests)
 times-first e (x ∷ xs) = grind (arith, nat_tests)
 
--- a place that stands once is not the last of what is behind it
+-- a place that stands once is not the last of what is after it
 apart : (u x : ℕ) (xs : List ℕ) → times u (x ∷ xs) ≡ 0 → (last_or x xs == u) ≡ false
 apart u x xs h = let k = times-last x xs in grind (arith, nat_tests)
 

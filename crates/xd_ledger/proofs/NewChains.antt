@@ -73,7 +73,7 @@ add_are n p o c end s room e =
 pub add_gives : (n p o c : List ℕ) (end : ℕ) → AreChains n p o c (chain n o c) → length c < 4000000000 → end ≡ length n → Gives (n ++ end ∷ []) (p ++ end ∷ []) o (c ++ 0 ∷ []) (chain n o c)
 add_gives n p o c end s room e = gives _ _ _ _ _ (add_are n p o c end s room e) (λ j h. (let l = length-append c (0 ∷ []) in let i : length c ≤ j = omega arith in chain-past n o c j i))
 
--- a single one with so many numbers
+-- a single one with n numbers
 
 nexts_range : (n : List ℕ) (a m end : ℕ) → ((i : ℕ) → i < end → at n i ≡ i + 1) → a + m + 1 ≡ end → Nexts n a (range_with_len (a + 1) m) end
 nexts_range n a zero end f h = (let i : a < end = omega arith in let j : a + 1 ≡ end = omega arith in f a i ∙ j)
@@ -91,7 +91,7 @@ backs_all : (p : List ℕ) (len : ℕ) → ((i : ℕ) → i < len → at p (i + 
 backs_all p zero f z = z
 backs_all p (suc m) f z = (z, backs_range p 0 m (suc m) f (omega arith))
 
--- what the owners of so many numbers say
+-- what the owners of n numbers say
 owner-new : (len x : ℕ) → owner_of (replicate len 0) x ≡ (if nat_lt x len then 0 else no_chain)
 owner-new len x = by_cases (nat_lt x len)
     (λ t. (let i : x < len = grind (arith, nat_tests) in get_or-replicate len x 0 no_chain i ∙ sym (ap (λ b. if b then 0 else no_chain) t)))

@@ -21,7 +21,7 @@ pub a_test_of_99_ms_is_not_slow : journal_of of_two (Ready 0 ∷ Collected 0 (id
     ≡ (Start 0 0 ∷ Start 1 1 ∷ Ready 0 ∷ Collected 0 (ids.List hundred_ids) ∷ Ready 1 ∷ Collected 1 ids.Same ∷ Run 0 (0 ∷ 1 ∷ 2 ∷ 3 ∷ 4 ∷ 5 ∷ 6 ∷ 7 ∷ 8 ∷ 9 ∷ 10 ∷ 11 ∷ []) ∷ Run 1 (12 ∷ 13 ∷ 14 ∷ 15 ∷ 16 ∷ 17 ∷ 18 ∷ 19 ∷ 20 ∷ 21 ∷ 22 ∷ 23 ∷ []) ∷ Done 0 0 Passed 5 [] ∷ Done 0 1 Passed 5 [] ∷ Done 0 2 Passed 5 [] ∷ Done 0 3 Passed 99 [] ∷ Run 0 (24 ∷ 25 ∷ 26 ∷ 27 ∷ 28 ∷ 29 ∷ 30 ∷ 31 ∷ 32 ∷ 33 ∷ 34 ∷ []) ∷ [])
 a_test_of_99_ms_is_not_slow = refl
 
--- behind slow tests a worker is refilled only once it holds fewer than two
+-- after slow tests a worker is refilled only once it holds fewer than two
 pub a_slow_test_leaves_two : journal_of of_two (Ready 0 ∷ Collected 0 (ids.List hundred_ids) ∷ Ready 1 ∷ Collected 1 ids.Same ∷ Done 0 0 Passed 100 [] ∷ Done 0 1 Passed 100 [] ∷ Done 0 2 Passed 100 [] ∷ Done 0 3 Passed 100 [] ∷ Done 0 4 Passed 100 [] ∷ Done 0 5 Passed 100 [] ∷ Done 0 6 Passed 100 [] ∷ Done 0 7 Passed 100 [] ∷ Done 0 8 Passed 100 [] ∷ Done 0 9 Passed 100 [] ∷ Done 0 10 Passed 100 [] ∷ [])
     ≡ (Start 0 0 ∷ Start 1 1 ∷ Ready 0 ∷ Collected 0 (ids.List hundred_ids) ∷ Ready 1 ∷ Collected 1 ids.Same ∷ Run 0 (0 ∷ 1 ∷ 2 ∷ 3 ∷ 4 ∷ 5 ∷ 6 ∷ 7 ∷ 8 ∷ 9 ∷ 10 ∷ 11 ∷ []) ∷ Run 1 (12 ∷ 13 ∷ 14 ∷ 15 ∷ 16 ∷ 17 ∷ 18 ∷ 19 ∷ 20 ∷ 21 ∷ 22 ∷ 23 ∷ []) ∷ Done 0 0 Passed 100 [] ∷ Done 0 1 Passed 100 [] ∷ Done 0 2 Passed 100 [] ∷ Done 0 3 Passed 100 [] ∷ Done 0 4 Passed 100 [] ∷ Done 0 5 Passed 100 [] ∷ Done 0 6 Passed 100 [] ∷ Done 0 7 Passed 100 [] ∷ Done 0 8 Passed 100 [] ∷ Done 0 9 Passed 100 [] ∷ Done 0 10 Passed 100 [] ∷ Run 0 (24 ∷ 25 ∷ 26 ∷ 27 ∷ 28 ∷ 29 ∷ 30 ∷ 31 ∷ 32 ∷ 33 ∷ 34 ∷ 35 ∷ 36 ∷ 37 ∷ 38 ∷ 39 ∷ 40 ∷ 41 ∷ []) ∷ [])
 a_slow_test_leaves_two = refl
@@ -31,7 +31,7 @@ pub a_new_worker_gets_two : journal_of (record of_two { chunk = Some 1 }) (Ready
     ≡ (Start 0 0 ∷ Start 1 1 ∷ Ready 0 ∷ Collected 0 (ids.List ten_ids) ∷ Ready 1 ∷ Collected 1 ids.Same ∷ Run 0 (0 ∷ 1 ∷ []) ∷ Run 1 (2 ∷ 3 ∷ []) ∷ Down 0 Ended [] ∷ Kill 0 ∷ Start 2 0 ∷ Ready 2 ∷ Collected 2 ids.Same ∷ Run 2 (4 ∷ 5 ∷ []) ∷ [])
 a_new_worker_gets_two = refl
 
--- a death refills everyone as behind a fast test
+-- a death refills everyone as after a fast test
 pub a_death_refills_behind_slow_tests : journal_of of_two (Ready 0 ∷ Collected 0 (ids.List hundred_ids) ∷ Ready 1 ∷ Collected 1 ids.Same ∷ Done 0 0 Passed 100 [] ∷ Done 0 1 Passed 100 [] ∷ Done 0 2 Passed 100 [] ∷ Done 0 3 Passed 100 [] ∷ Done 0 4 Passed 100 [] ∷ Done 0 5 Passed 100 [] ∷ Done 0 6 Passed 100 [] ∷ Down 1 Ended [] ∷ [])
     ≡ (Start 0 0 ∷ Start 1 1 ∷ Ready 0 ∷ Collected 0 (ids.List hundred_ids) ∷ Ready 1 ∷ Collected 1 ids.Same ∷ Run 0 (0 ∷ 1 ∷ 2 ∷ 3 ∷ 4 ∷ 5 ∷ 6 ∷ 7 ∷ 8 ∷ 9 ∷ 10 ∷ 11 ∷ []) ∷ Run 1 (12 ∷ 13 ∷ 14 ∷ 15 ∷ 16 ∷ 17 ∷ 18 ∷ 19 ∷ 20 ∷ 21 ∷ 22 ∷ 23 ∷ []) ∷ Done 0 0 Passed 100 [] ∷ Done 0 1 Passed 100 [] ∷ Done 0 2 Passed 100 [] ∷ Done 0 3 Passed 100 [] ∷ Done 0 4 Passed 100 [] ∷ Done 0 5 Passed 100 [] ∷ Done 0 6 Passed 100 [] ∷ Down 1 Ended [] ∷ Kill 1 ∷ Run 0 (24 ∷ 25 ∷ 26 ∷ 27 ∷ 28 ∷ 29 ∷ 30 ∷ 31 ∷ 32 ∷ 33 ∷ 34 ∷ 35 ∷ 36 ∷ 37 ∷ 38 ∷ 39 ∷ 40 ∷ 41 ∷ 42 ∷ 43 ∷ 44 ∷ 45 ∷ 46 ∷ 47 ∷ 48 ∷ 49 ∷ 50 ∷ 51 ∷ 52 ∷ 53 ∷ 54 ∷ 55 ∷ 56 ∷ 57 ∷ 58 ∷ 59 ∷ 60 ∷ 61 ∷ []) ∷ Start 2 1 ∷ [])
 a_death_refills_behind_slow_tests = refl

@@ -1,4 +1,4 @@
--- The posts of a rota, and the seats that they stand for behind a move of lists.
+-- The posts of a rota, and the seats that they stand for after a move of lists.
 use Rattle.std.proofs.Common.{◌≡◌, ℕ, zero, suc, ◌+◌, ◌≤◌, ◌<◌, List, [], ◌∷◌, ◌++◌, drop, length, get_or, set, Bool, true, false, not, refl, ap, sym, subst, ◌∙◌, arith}
 use Rattle.std.specs.Prelude.{if◌then◌else◌, ◌==◌, filter, map}
 use Rattle.std.specs.List.{list_any}

@@ -39,7 +39,7 @@ a_crashed_test_is_tried_again = refl
 pub a_retried_test_is_first : (state_at once_more (shared_three ++ Down 0 Ended [] ∷ [])).books.table.pool ≡ 0 ∷ 2 ∷ []
 a_retried_test_is_first = refl
 
--- of ten tests: before those that wait, and the rest behind them
+-- of ten tests: before those that wait, and the rest after them
 abbrev shared_ten : List Entry
 shared_ten = Start 0 0 ∷ Start 1 1 ∷ Ready 0 ∷ Collected 0 (ids.List ten_ids) ∷ Ready 1 ∷ Collected 1 ids.Same ∷ Run 0 (0 ∷ 1 ∷ []) ∷ Run 1 (2 ∷ 3 ∷ []) ∷ []
 
@@ -75,7 +75,7 @@ a_retry_is_a_death = refl
 pub the_last_death_is_no_retry : reports (record once_more { restarts = 1; retries = 2 }) tried_twice ≡ Crash 2 0 ∷ []
 the_last_death_is_no_retry = refl
 
--- behind a stop nothing is tried again
+-- after a stop nothing is tried again
 pub a_stopped_run_tries_nothing_again : reports (record once_more { maxfail = 1 }) (shared_three ++ (Done 1 1 (Failed (pos 1)) 5 [] ∷ Down 0 Ended [] ∷ [])) ≡ Result 1 1 (Failed (pos 1)) ∷ Crash 0 0 ∷ []
 a_stopped_run_tries_nothing_again = refl
 

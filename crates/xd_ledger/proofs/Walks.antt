@@ -46,7 +46,7 @@ walks_on n p o c now k i place e s = subst (λ (l : Lists). k < chains_of l → 
       onward = λ v g. (let j : suc i ≡ i + 1 = omega arith in get_or_read n place v f g 0 ∙ ap (at n) q ∙ next-drop n (length o + k) xs (length o + k) i here.nexts l ∙ ap (λ m. first_or (length o + k) (drop m xs)) j);
     }))
 
--- the place behind the end
+-- the place after the end
 pub walk_starts : (n p o c : List ℕ) (now : Lists) (k v : ℕ) → record { next = n; owner = o; counts = c } ≡ now → AreChains n p o c (chain n o c) → k < chains_of now → v ≡ get_or n (length o + k) v → v ≡ first_or (length o + k) (chain_at now k)
 walk_starts n p o c now k v e s = subst (λ (l : Lists). k < chains_of l → v ≡ get_or n (length o + k) v → v ≡ first_or (length o + k) (chain_at l k)) e
     (λ h r. (let here = s.stands k h in let nf = s.nexts_fit in let f : length o + k < length n = omega arith in get_or_read n (length o + k) v f r 0 ∙ next-of n (length o + k) (chain n o c k) (length o + k) here.nexts))

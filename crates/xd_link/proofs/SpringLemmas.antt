@@ -11,7 +11,7 @@ pub gave_none : (old : Option Supply) → Gave [] old old
 gave_none None = (refl, tt)
 gave_none (Some s) = (ap Some (ap (λ (g : List ℕ). record { given = g; left = s.left }) (sym (append-nil s.given))), refl)
 
--- bytes that were given behind others
+-- bytes that were given after others
 pub gave_more : (a b : List ℕ) (old mid new : Option Supply) → Gave a old mid → Gave b mid new → Gave (a ++ b) old new
 gave_more a b None mid new x y = (y.0 ∙ ap (option_map (with_given (length b))) x.0, tt)
 gave_more a b (Some s) mid new x y =

@@ -1,4 +1,4 @@
--- A worker that has greeted, and a link that is not served behind that.
+-- A worker that has greeted, and a link that is not served after that.
 use Rattle.std.proofs.Common.{◌≡◌, ℕ, ◌≤◌, List, [], ◌∷◌, ◌++◌, Bool, true, false, not, ◌&&◌, Option, Some, None, option_map, Result, Ok, Err, refl, ap, sym, ◌∙◌, subst, arith, inl}
 use Rattle.std.specs.Prelude.{◌⊎◌, OnOk, OnErr, is_ok}
 use Rattle.std.proofs.lemmas.List.{append-nil}
@@ -24,7 +24,7 @@ use Rattle.xd_listen.specs.Seen.{Seen}
 use Rattle.xd_listen.specs.Serves.{ServesSoFar, Setting, beside, nothing, setting, two}
 use Rattle.xd_listen.specs.Speaking.{greeting}
 use Rattle.xd_listen.specs.Spoke.{Speaks, Spoke, Voice, voice}
-use Rattle.xd_listen.specs.Timing.{Ticking}
+use Rattle.xd_edge.specs.Clock.{Ticking}
 use Rattle.xd_listen.proofs.Tellings.{rose_earlier, rose_later}
 
 -- ---- the desk

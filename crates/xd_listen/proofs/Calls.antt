@@ -1,4 +1,4 @@
--- What one input makes of a call of `run_tests`: where no test runs, the one that runs behind it is the one that it
+-- What one input makes of a call of `run_tests`: where no test runs, the one that runs after it is the one that it
 -- starts; where one runs, its output leaves it, and its end makes room for the next.
 use Rattle.std.proofs.Common.{◌≡◌, ℕ, zero, suc, ◌+◌, List, [], ◌∷◌, ◌++◌, length, take, drop, Bool, true, false, ◌&&◌, Option, Some, None, refl, ap, sym, ◌∙◌, ◌<◌, arith}
 use Rattle.std.specs.Prelude.{map, if◌then◌else◌}
@@ -69,7 +69,7 @@ settled_fresh room t f r = go t.call.running refl
     go true h = f
     go false h = moved_fresh room (left t.call) t refl h (no_run t f h) r
 
--- the running test stays where the line grows behind it
+-- the running test stays where the line grows after it
 head_more : (e : ℕ) (l more : List LineEntry) (n : ℕ) → head_test (drop e l) ≡ Some n → head_test (drop e (l ++ more)) ≡ Some n
 head_more zero [] more n h = cc
 head_more zero (Test k ∷ l) more n h = h
@@ -85,7 +85,7 @@ head_front zero (suc k) (Mark ∷ l) more n lt h = cc
 head_front (suc e) (suc k) [] more n lt h = cc
 head_front (suc e) (suc k) (p ∷ l) more n lt h = head_front e k l more n (omega (arith, lt)) h
 
--- the line changed behind what runs
+-- the line changed after what runs
 abbrev lined : List LineEntry → Turn → Turn
 lined ps t = record t { call = record (t.call) { line = ps } }
 

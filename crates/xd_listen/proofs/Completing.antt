@@ -37,13 +37,13 @@ refused_front : (a : List ℕ) (fault : FrameFault) → rest_of a ≡ Refused fa
 refused_front [] fault e = cc
 refused_front (b ∷ a) fault e = err_by (header_in_front (b ∷ a)) fault e
 
--- behind a header that is refused more bytes change nothing
+-- after a header that is refused more bytes change nothing
 pub refused_more : (a b : List ℕ) (fault : FrameFault) → rest a ≡ Refused fault → (messages (a ++ b) ≡ messages a) × (rest (a ++ b) ≡ Refused fault)
 refused_more a b fault e =
     let says = front_says (behind a ++ b) (Err fault) (err_front-append (behind a) b fault (refused_front (behind a) fault e)) in
     (messages-append a b ∙ (ap (λ (l : List MessageView). messages a ++ l) says.0 ∙ append-nil (messages a)), ap rest_of (behind-append a b) ∙ says.2)
 
--- a message that is refused is so with more bytes behind it
+-- a message that is refused is so with more bytes after it
 pub to_refused_more : (a b : List ℕ) (taken : List MessageView) (h : List Heard) (fault : SideFault) → TookToRefused (messages a) taken h fault → TookToRefused (messages (a ++ b)) taken h fault
 to_refused_more a b taken h fault t =
     let more = messages (behind a ++ b) in

@@ -83,7 +83,7 @@ at_most : (o : Option ℕ) → one_if o ≤ 1
 at_most None = omega arith
 at_most (Some m) = omega arith
 
--- so many programs at most are to come
+-- n programs at most are to come
 still_drained : (item : LinkNews) (b : Bool) (o : Option ℕ) (n : ℕ) (got : List LinkNews) → (b ≡ false → n ≤ dones got + one_if o) → is_short_by 1 item b ≡ false → n ≤ dones (got ++ item ∷ []) + one_if (still_started 1 item o)
 still_drained (news.Message m) b o n got d e = let x = d e in let y = dones-append got (news.Message m ∷ []) in omega (arith, x, y)
 still_drained (news.End why) b o n got d e = cc

@@ -32,7 +32,8 @@ use Rattle.xd_listen.specs.Joined.{Sources}
 use Rattle.xd_listen.specs.News.{dones, news_in}
 use Rattle.xd_listen.specs.Seen.{Seen}
 use Rattle.xd_listen.specs.Serves.{Beside, NoneEmpty, Setting}
-use Rattle.xd_listen.specs.Timing.{Ticking, Times}
+use Rattle.xd_edge.specs.Clock.{Ticking}
+use Rattle.xd_listen.specs.Timing.{Times}
 use Rattle.xd_listen.specs.Spoke.{Spoke, Voice, voice}
 use Rattle.xd_listen.proofs.Counting.{dones-append}
 use Rattle.xd_listen.proofs.Puts.{Fronts, end_behind, fronts, message_behind}

@@ -35,7 +35,8 @@ use Rattle.xd_listen.specs.Halts.{door_behind}
 use Rattle.xd_listen.specs.News.{dones, news_of_input, news_in}
 use Rattle.xd_listen.specs.Seen.{Seen, is_door_shut}
 use Rattle.xd_listen.specs.Serves.{Beside, beside, FromLink, IsBusy, IsListening, ReadsSo, RunsSo, ServesSoFar, Setting, owed_of_link, of_program, to_start}
-use Rattle.xd_listen.specs.Timing.{Ticking, Ticks, AreTimed, durations_in, one_if}
+use Rattle.xd_edge.specs.Clock.{Ticking, Ticks}
+use Rattle.xd_listen.specs.Timing.{AreMeasuredSince, durations_in, one_if}
 use Rattle.xd_listen.specs.Spoke.{Spoke, Voice, voice}
 use Rattle.xd_listen.proofs.Counting.{dones_done, dones_piece}
 use Rattle.xd_listen.proofs.Busy.{Keeps, link_end_keeps, message_keeps}
@@ -69,11 +70,11 @@ runs_at (Some k) u e y =
     subst (λ (l : List (List (List ℕ))). RunsSo None l (after_turn u)) (sym (ap (λ (r : Option ℕ). map (run_at u.duties.tests) (option_to_list r)) e))
     (record { test = k; runs = runs; busy = y.busy (running_some (call_of_service u.duties.service) k runs) }, refl, refl)
 
--- behind an input where none ran
+-- after an input where none ran
 pub ready_runs : (u : Turn) → Ready u → RunsSo None (commands_of u) (after_turn u)
 ready_runs u y = runs_at u.run u refl y
 
--- behind an input while one ran, which runs on
+-- after an input while one ran, which runs on
 pub kept_runs : (moment : ℕ) (u : Turn) (test : ℕ) → running_test (call_of_service u.duties.service) ≡ Some test → rests (call_of_service u.duties.service).phase ≡ false → u.run ≡ None → RunsSo (Some moment) (commands_of u) (after_turn u)
 kept_runs moment u test runs busy none = subst (λ (l : List (List (List ℕ))). RunsSo (Some moment) l (after_turn u)) (sym (no_commands u none)) (record { test = test; runs = runs; busy = busy })
 
@@ -122,7 +123,7 @@ message_did : (started : Option ℕ) (w : Worker) (m : MessageView) (g : Heard) 
 message_did None w m g d is o u r = did_idle (is_terminate_kind m.kind) d (turn_by w g) o (message_came w m g.came g.channels is (record { idle = r; unstopped = u }))
 message_did (Some moment) w m g d is o u r = did_busy moment (is_terminate_kind m.kind) d (turn_by w g) r.test (keeps_message w m g.came g.channels r.test is r.runs r.busy u)
 
--- the items of the reader behind a message
+-- the items of the reader after a message
 link_behind : (b : Bool) (m : MessageView) (d : Door) (inputs : List WorkerInput) (got : List LinkNews) → d ≡ door.Open → is_terminate_kind m.kind ≡ b → FromLink d inputs got → FromLink (door_behind b d) (Message m ∷ inputs) (got ++ news.Message m ∷ [])
 link_behind b m d inputs got o e f = by b e
   where
@@ -371,7 +372,7 @@ module _ (a : Setting) (now : Beside) (s : Seen) (core : WorkerCore) (broken : B
         last = λ z. refl;
         whole = λ z. cc;
         count = g.count;
-        timed = subst (λ (l : List ℕ). AreTimed s.started l a.clock now.clock) (sym (untimed a.held (Rose now.file_faults files1) path i g.inputs gave)) g.timed;
+        timed = subst (λ (l : List ℕ). AreMeasuredSince s.started l a.clock now.clock) (sym (untimed a.held (Rose now.file_faults files1) path i g.inputs gave)) g.timed;
         some = g.some;
         ring = g.ring;
         runs = subst (λ (o : Option ℕ). RunsSo o (commands_of u) (after_turn u)) (sym g.reads.1) (ready_runs u d.ready);

@@ -18,7 +18,7 @@ tail_is a b xs ys e = cc
 message_is : (m n : MessageView) (xs ys : List LinkNews) → news.Message m ∷ xs ≡ news.Message n ∷ ys → m ≡ n
 message_is m n xs ys e = cc
 
--- Messages and what is behind them, against messages and one end.
+-- Messages and what is after them, against messages and one end.
 pub record Fronts (ms all : List MessageView) (behind : List LinkNews) (why : LinkStop) : Type 0 where
   pub rest : List MessageView
   pub all_is : all ≡ ms ++ rest
@@ -32,7 +32,7 @@ fronts (m ∷ ms) (n ∷ all) behind why e =
     let s = message_is n m (map news.Message all ++ news.End why ∷ []) (map news.Message ms ++ behind) e in
     record { rest = f.rest; all_is = ap (λ (x : MessageView). x ∷ all) s ∙ ap (λ (l : List MessageView). m ∷ l) f.all_is; behind_is = f.behind_is }
 
--- behind the messages stands an end
+-- after the messages stands an end
 pub end_behind : (ms all : List MessageView) (later : List LinkNews) (stop why : LinkStop) → map news.Message all ++ news.End why ∷ [] ≡ map news.Message ms ++ (news.End stop ∷ later) → (all ≡ ms) × (stop ≡ why)
 end_behind ms all later stop why e = by f.rest f.all_is f.behind_is
   where
@@ -43,7 +43,7 @@ end_behind ms all later stop why e = by f.rest f.all_is f.behind_is
     by [] a b = (a ∙ append-nil ms, (let z = b in cc))
     by (m ∷ rest) a b = cc
 
--- behind the messages stands another
+-- after the messages stands another
 pub message_behind : (ms all : List MessageView) (m : MessageView) (later : List LinkNews) (why : LinkStop) → map news.Message all ++ news.End why ∷ [] ≡ map news.Message ms ++ (news.Message m ∷ later) → (rest : List MessageView) × (all ≡ ms ++ m ∷ rest)
 message_behind ms all m later why e = by f.rest f.all_is f.behind_is
   where

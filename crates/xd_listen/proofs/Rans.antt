@@ -17,7 +17,7 @@ use Rattle.xd_listen.proofs.Counting.{dones-append}
 abbrev ran : List ℕ → Outcome → Ran
 ran output outcome = record { output = output; outcome = outcome }
 
--- the programs that ended among these items, where this was printed before them, and what was printed behind the last end
+-- the programs that ended among these items, where this was printed before them, and what was printed after the last end
 abbrev pub rans : List ℕ → List LinkNews → List Ran
 rans out [] = []
 rans out (news.Message m ∷ ns) = rans out ns

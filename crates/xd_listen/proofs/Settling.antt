@@ -1,4 +1,4 @@
--- What a worker that listens does behind an input, and why it ceases.
+-- What a worker that listens does after an input, and why it ceases.
 use Rattle.std.proofs.Common.{◌≡◌, ℕ, ◌+◌, ◌≤◌, ◌<◌, List, [], ◌∷◌, ◌++◌, length, map, Bool, true, false, not, ◌&&◌, Option, Some, None, refl, ap, sym, ◌∙◌, subst, arith, append_assoc, inl, inr}
 use Rattle.std.specs.Prelude.{is_none, is_some, IsSome}
 use Rattle.std.proofs.lemmas.List.{append-nil, length-append}
@@ -31,7 +31,8 @@ use Rattle.xd_listen.specs.Halts.{Ceased, Ceases, CeasesBy, Goes, IsStrange, IsU
 use Rattle.xd_listen.specs.News.{dones, news_in}
 use Rattle.xd_listen.specs.Seen.{Seen, is_door_shut}
 use Rattle.xd_listen.specs.Serves.{Beside, beside, FromLink, HeardEnd, HeardLast, IsBusy, IsListening, NoneEmpty, RunsTest, RunsSo, ServesSoFar, Setting, nothing, owed_of_link, of_program, to_start}
-use Rattle.xd_listen.specs.Timing.{Ticking, Ticks, durations_in, one_if}
+use Rattle.xd_edge.specs.Clock.{Ticking, Ticks}
+use Rattle.xd_listen.specs.Timing.{durations_in, one_if}
 use Rattle.xd_listen.specs.Spoke.{Spoke, voice}
 use Rattle.xd_listen.proofs.Counting.{dones-append}
 use Rattle.xd_listen.proofs.Timings.{begun_at, times_of}

@@ -1,4 +1,4 @@
--- What one input makes of a worker that serves its link: which test runs behind it, and what it asks for.
+-- What one input makes of a worker that serves its link: which test runs after it, and what it asks for.
 use Rattle.std.proofs.Common.{◌≡◌, ℕ, List, [], ◌∷◌, Bool, true, false, Option, Some, None, refl, ap, sym, ◌∙◌, subst}
 use Rattle.std.specs.Prelude.{if◌then◌else◌}
 use Rattle.xd_value.specs.Tree.{Tree}

@@ -38,7 +38,7 @@ speaks_more false false h g bytes first mid new whole is s m =
     let says = (turn_by (worker_after h) g).talk.says in
     subst (λ (l : List ℕ). Printed l first new) (ap (λ (l : List ℕ). written (all_said h) ++ l) is ∙ sym (written_more (all_said h) says)) (printed_more (written (all_said h)) bytes first mid new s m)
 
--- the count of a sink behind what was written next
+-- the count of a sink after what was written next
 pub count_more : (b0 b1 : Bool) (a b c : ℕ) → CountAfter (not b0) a b → CountBehind b0 b1 b c → CountAfter (not b1) a c
 count_more true true a b c x y = subst (λ (n : ℕ). Rose a n) (sym y.1) x
 count_more true false a b c x y = let z = y.0 in cc

@@ -9,7 +9,8 @@ use Rattle.xd_listen.specs.News.{dones, news_in}
 use Rattle.xd_listen.specs.Suites.{FilesGave}
 use Rattle.xd_listen.specs.Seen.{Seen}
 use Rattle.xd_listen.specs.Serves.{Beside, Owed, ServesSoFar, Setting}
-use Rattle.xd_listen.specs.Timing.{AreMeasured, AreTimed, Ticking, Ticks, Times, durations_in, one_if}
+use Rattle.xd_edge.specs.Clock.{Ticking, Ticks}
+use Rattle.xd_listen.specs.Timing.{AreMeasured, AreMeasuredSince, Times, durations_in, one_if}
 use Rattle.xd_listen.proofs.Counting.{dones_done, dones_piece}
 
 -- each end of a program came with a duration
@@ -31,17 +32,17 @@ times_of a now owed s g = record {
 }
 
 -- a program begins at a moment
-pub begun_at : (o : Option ℕ) (durations : List ℕ) (moment : ℕ) (old mid new : Ticking) → o ≡ None → AreTimed o durations old mid → Ticks moment mid new → AreTimed (Some moment) durations old new
+pub begun_at : (o : Option ℕ) (durations : List ℕ) (moment : ℕ) (old mid new : Ticking) → o ≡ None → AreMeasuredSince o durations old mid → Ticks moment mid new → AreMeasuredSince (Some moment) durations old new
 begun_at None durations moment old mid new e t k = (mid, t, k)
 begun_at (Some m) durations moment old mid new e t k = cc
 
 -- the program that runs ends at a moment
-pub ended_at : (o : Option ℕ) (durations : List ℕ) (ms : ℕ) (old mid new : Ticking) → IsSome o → AreTimed o durations old mid → IfSome o (λ start. Ticks (start + ms) mid new) → AreMeasured (ms ∷ durations) old new
+pub ended_at : (o : Option ℕ) (durations : List ℕ) (ms : ℕ) (old mid new : Ticking) → IsSome o → AreMeasuredSince o durations old mid → IfSome o (λ start. Ticks (start + ms) mid new) → AreMeasured (ms ∷ durations) old new
 ended_at None durations ms old mid new e t k = cc
 ended_at (Some start) durations ms old mid new e t k = (t.0, t.1, record { start = start; mid = mid; begins = t.2; ends = k })
 
 -- the program that runs began at the clock's last moment, and so it lasted up to the next one
-pub lasted : (o : Option ℕ) (start end ms : ℕ) (durations : List ℕ) (old mid new : Ticking) → o ≡ Some start → AreTimed o durations old mid → Ticks end mid new → ms ≡ end - start → IfSome o (λ s. Ticks (s + ms) mid new)
+pub lasted : (o : Option ℕ) (start end ms : ℕ) (durations : List ℕ) (old mid new : Ticking) → o ≡ Some start → AreMeasuredSince o durations old mid → Ticks end mid new → ms ≡ end - start → IfSome o (λ s. Ticks (s + ms) mid new)
 lasted None start end ms durations old mid new e t k m = cc
 lasted (Some s) start end ms durations old mid new e t k m =
     let same : s ≡ start = cc in

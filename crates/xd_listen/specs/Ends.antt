@@ -21,7 +21,8 @@ use Rattle.xd_listen.specs.declared.stop.Stop.{Stop}
 use Rattle.xd_listen.specs.declared.stop.Stop.TheVariants as stop
 use Rattle.xd_listen.specs.Halts.{is_sink_whole, status_of}
 use Rattle.xd_listen.specs.Spoke.{Spoke, Voice, voice}
-use Rattle.xd_listen.specs.Timing.{Ticking, Times}
+use Rattle.xd_edge.specs.Clock.{Ticking}
+use Rattle.xd_listen.specs.Timing.{Times}
 
 -- what is seen of the outside, the link's source apart: the sink, the programs, the files, how often each of the two crews
 -- refused a job, and the clock

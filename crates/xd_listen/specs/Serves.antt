@@ -24,7 +24,8 @@ use Rattle.xd_listen.specs.declared.server.Door.TheVariants as door
 use Rattle.xd_listen.specs.News.{dones, news_in}
 use Rattle.xd_listen.specs.Seen.{Seen, is_door_shut}
 use Rattle.xd_listen.specs.Spoke.{Spoke, Voice, voice}
-use Rattle.xd_listen.specs.Timing.{AreTimed, Ticking, durations_in, one_if}
+use Rattle.xd_edge.specs.Clock.{Ticking}
+use Rattle.xd_listen.specs.Timing.{AreMeasuredSince, durations_in, one_if}
 
 -- what stays while a link is served: the files, the sink, the files' faults and the clock before it, and the rings of the
 -- reader, of the runner and of the orders
@@ -165,7 +166,7 @@ pub record ServesSoFar (a : Setting) (now : Beside) (owed : Owed) (s : Seen) : T
   pub last : owed.starts ≡ true → left ≡ last_commands history
   pub whole : owed.starts ≡ false → s.broken ≡ false
   pub count : length s.orders ≡ dones of_runner + one_if s.started
-  pub timed : AreTimed s.started (durations_in inputs) a.clock now.clock
+  pub timed : AreMeasuredSince s.started (durations_in inputs) a.clock now.clock
   pub some : NoneEmpty s.orders
   pub ring : s.ring ≡ a.orders
   pub runs : RunsSo s.started left (worker_after history)

@@ -1,31 +1,8 @@
 -- How long the programs of tests ran, by the moments that a clock gives, in milliseconds.
-use Rattle.std.specs.Prelude.{◌≡◌, ◌≤◌, ℕ, ◌+◌, List, [], ◌∷◌, length, drop, Option, Some, None, option_map, IfSome}
-use Rattle.xd_edge.specs.Clock.{next_moment}
+use Rattle.std.specs.Prelude.{◌≡◌, ℕ, ◌+◌, List, [], ◌∷◌, length, Option, Some, None}
+use Rattle.xd_edge.specs.Clock.{Lasts, Ticking, Ticks}
 use Rattle.xd_worker.specs.declared.input.WorkerInput.{WorkerInput}
 use Rattle.xd_worker.specs.declared.input.WorkerInput.TheVariants.{Message, SuiteBytes, SuiteTooLarge, SuiteUnread, Output, ChildDone, LinkEnd}
-
--- what is seen of a clock: the last moment that it gave, and those that it will give, where it tells them
-pub record Ticking : Type 0 where
-  pub moment : ℕ
-  pub coming : Option (List ℕ)
-
--- a clock that gave this moment last, and is to give these
-abbrev pub ticking : ℕ → Option (List ℕ) → Ticking
-ticking moment coming = record { moment = moment; coming = coming }
-
--- The clock gave this moment next.
-pub record Ticks (moment : ℕ) (old new : Ticking) : Type 0 where
-  pub later : old.moment ≤ moment
-  pub last : new.moment ≡ moment
-  pub told : IfSome old.coming (λ ms. moment ≡ next_moment old.moment ms)
-  pub next : new.coming ≡ option_map (drop 1) old.coming
-
--- The clock gave a moment, and then one that is that many milliseconds later.
-pub record Lasts (ms : ℕ) (old new : Ticking) : Type 0 where
-  pub start : ℕ
-  pub mid : Ticking
-  pub begins : Ticks start old mid
-  pub ends : Ticks (start + ms) mid new
 
 -- For each of these durations, of which the last stands first, the clock gave the moments of its begin and its end, one
 -- duration after the other, and no other moment.
@@ -35,9 +12,9 @@ AreMeasured [] old new = new ≡ old
 AreMeasured (ms ∷ durations) old new = (mid : Ticking) × AreMeasured durations old mid × Lasts ms mid new
 
 -- Where a program runs that began at this moment, the clock gave that moment after all others.
-abbrev pub AreTimed : Option ℕ → List ℕ → Ticking → Ticking → Type 0
-AreTimed None durations old new = AreMeasured durations old new
-AreTimed (Some start) durations old new = (mid : Ticking) × AreMeasured durations old mid × Ticks start mid new
+abbrev pub AreMeasuredSince : Option ℕ → List ℕ → Ticking → Ticking → Type 0
+AreMeasuredSince None durations old new = AreMeasured durations old new
+AreMeasuredSince (Some start) durations old new = (mid : Ticking) × AreMeasured durations old mid × Ticks start mid new
 
 -- the durations that the worker was told with the ends of its tests, the last one first
 abbrev pub durations_in : List WorkerInput → List ℕ
@@ -60,4 +37,4 @@ one_if (Some moment) = 1
 pub record Times (inputs : List WorkerInput) (started : List (List (List ℕ))) (old new : Ticking) : Type 0 where
   pub running : Option ℕ
   pub each : length started ≡ length (durations_in inputs) + one_if running
-  pub timed : AreTimed running (durations_in inputs) old new
+  pub timed : AreMeasuredSince running (durations_in inputs) old new

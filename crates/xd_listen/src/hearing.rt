@@ -5,7 +5,7 @@ ghost use Rattle.xd_listen.specs.Halts.{CeasesBy, Goes, door_behind, over_by};
 ghost use Rattle.xd_listen.specs.Inputs.{is_terminate_kind};
 ghost use Rattle.xd_listen.specs.Seen.{seen};
 ghost use Rattle.xd_listen.specs.Serves.{Beside, RunsTest, ServesSoFar, Setting, beside, nothing, owed_of_link, of_program, to_start};
-ghost use Rattle.xd_listen.specs.Timing.{Ticking, Ticks, ticking};
+ghost use Rattle.xd_edge.specs.Clock.{Ticking, Ticks, ticking};
 ghost use Rattle.xd_listen.specs.declared.server.Door.TheVariants.{Open};
 ghost use Rattle.xd_reader.specs.declared.news.LinkNews.TheVariants as news;
 ghost use Rattle.xd_reader.specs.declared.news.LinkStop.TheVariants as link;

@@ -10,7 +10,7 @@ ghost use Rattle.xd_listen.specs.Ends.{Served, scene};
 ghost use Rattle.xd_listen.specs.Seen.{seen};
 ghost use Rattle.xd_listen.specs.Serves.{ServesSoFar, beside, nothing, setting};
 ghost use Rattle.xd_listen.specs.Spoke.{Spoke, voice};
-ghost use Rattle.xd_listen.specs.Timing.{Ticking, ticking};
+ghost use Rattle.xd_edge.specs.Clock.{Ticking, ticking};
 ghost use Rattle.xd_worker.specs.Stands.{Stood};
 
 use crate::finishing::{finish, unserved};

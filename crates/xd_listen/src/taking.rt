@@ -3,7 +3,7 @@ ghost use Rattle.std.specs.Prelude.{◌≡◌, ℕ, Ok, Some, None, IfOk};
 ghost use Rattle.xd_listen.specs.Halts.{Goes, unless_shut};
 ghost use Rattle.xd_listen.specs.Seen.{is_door_shut, seen};
 ghost use Rattle.xd_listen.specs.Serves.{Beside, ServesSoFar, Setting, beside, nothing, of_inbox, owed_of_link, of_program, to_start};
-ghost use Rattle.xd_listen.specs.Timing.{ticking};
+ghost use Rattle.xd_edge.specs.Clock.{ticking};
 ghost use Rattle.xd_reader.specs.declared.news.LinkNews.TheVariants as news;
 ghost use Rattle.xd_reader.specs.declared.news.LinkStop.TheVariants as link;
 ghost use Rattle.xd_worker.specs.Stands.{Stood};

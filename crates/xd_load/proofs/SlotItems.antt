@@ -86,7 +86,7 @@ slots-apart a b x counts n i = elim (cases_order a b) [
 other-slot : (a b : ℕ) (slots : List ℕ) → all_distinct (b ∷ slots) ≡ true → among a slots ≡ true → a ≡ b → ⊥
 other-slot a b slots d h e = grind (arith, nat_tests)
 
--- behind a slot's worker the others' items still wait
+-- after a slot's worker the others' items still wait
 pub waiting-more : (s : ℕ) (slots counts pool : List ℕ) → all_distinct (s ∷ slots) ≡ true → AreWaiting (s ∷ slots) counts pool → AreWaiting slots counts (without (items_in s counts) pool)
 waiting-more s slots counts pool d w = λ a x h i.
     (let in_pool : among x pool ≡ true = w a x (grind (arith, nat_tests)) i in
@@ -163,7 +163,7 @@ stands-in_pool xs ys k x h at =
     let a : among x xs ≡ true = ap (λ (z : ℕ). among z xs) at ∙ among-at xs k h in
     among-append x xs ys ∙ rw a
 
--- the turn behind a RunAll
+-- the turn after a RunAll
 pub told : (w slot : ℕ) (counts : List ℕ) (p : Plan) (t u : Table) (acts now : List Entry) → InSlots counts p → u ≡ assigned w (items_in slot counts) t → now ≡ acts ++ RunAll w ∷ []
     → turn u p now ≡ record (turn t p acts) { table = assigned w (slot_items slot p) t; acts = acts ++ RunAll w ∷ [] }
 told w slot counts p t u acts now h a b =

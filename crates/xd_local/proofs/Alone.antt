@@ -34,7 +34,7 @@ reports_alone n (r ∷ rs) = Result 0 n r.outcome ∷ reports_alone (n + 1) rs
 item-alone : (slot n : ℕ) (p : Plan) → p.mode ≡ Local → items_named slot (n ∷ []) p ≡ n ∷ []
 item-alone slot n p e = ap (λ (m : ModeKind). if is_each m then map (λ i. base slot p + i) (n ∷ []) else n ∷ []) e
 
--- the state behind one test
+-- the state after one test
 abbrev behind_one : ℕ → TestResult → State → State
 behind_one n r s = after_entries s (round n r)
 
@@ -108,7 +108,7 @@ done-stop limit items Passed b same none low = ap (λ (x : Option RunStop). or_s
 done-stop limit items Skipped b same none low = ap (λ (x : Option RunStop). or_stop x None) none ∙ sym (low-none limit (b.failures + 0) (ap (reaches limit) (plus-none b.failures) ∙ low))
 done-stop limit items (Failed code) b same none low = ap (λ (x : Option RunStop). or_stop x (stop_by b.settings.maxfail (b.failures + 1))) none ∙ ap (λ k. stop_by k (b.failures + 1)) same
 
--- behind these results, none but the last of which may have reached the limit
+-- after these results, none but the last of which may have reached the limit
 stop-rounds : (limit : ℕ) (s : State) (n : ℕ) (rs : List TestResult) → s.books.settings.maxfail ≡ limit → s.books.stop ≡ stop_by limit s.books.failures → BelowLimit limit s.books.failures rs
     → (after_entries s (rounds n rs)).books.stop ≡ stop_by limit (s.books.failures + failed_of rs)
 stop-rounds limit s n [] same at below = at ∙ ap (stop_by limit) (sym (plus-none s.books.failures))

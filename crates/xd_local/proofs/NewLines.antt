@@ -13,7 +13,7 @@ use Rattle.xd_report.specs.Lines.{lines_from}
 use Rattle.xd_report.specs.Printing.{ShowsLines}
 use Rattle.xd_report.proofs.Texts.{after_effect-more}
 use Rattle.xd_local.specs.Running.{IsNoted, NotesTest, RanTest, Running, FollowsJournal, after_journal}
-use Rattle.xd_local.specs.Timing.{Ticking}
+use Rattle.xd_edge.specs.Clock.{Ticking}
 
 -- the entries that came last
 new_ones : (old added new : List Entry) (from : ℕ) → new ≡ old ++ added → from ≡ length old → drop from new ≡ added

@@ -178,7 +178,7 @@ module _ (tests : List Test) where
         told = λ no. cc;
       }
 
-    -- the state behind the first tests has the stop that their failures make
+    -- the state after the first tests has the stop that their failures make
     stop_behind : (r : Running) (results : List TestResult) → SoFar results tests old.run r → (after_journal r.journal).books.stop ≡ stop_by limit (failed_of results)
     stop_behind r results so_far =
         ap (λ (st : Settings). (after_entries (no_one st) r.journal.entries.items).books.stop) (so_far.settings ∙ is_local)
@@ -188,7 +188,7 @@ module _ (tests : List Test) where
     reached_is : (r : Running) (results : List TestResult) (b : Bool) → SoFar results tests old.run r → b ≡ is_stopped (after_journal r.journal).books → b ≡ reaches limit (failed_of results)
     reached_is r results b so_far is = is ∙ ap is_some (stop_behind r results so_far) ∙ is_some-stop limit (failed_of results)
 
-    -- behind the test that reached the limit
+    -- after the test that reached the limit
     pub limited : (count : ℕ) (new : Scene) (b : Bool) → Progress count tests old new → b ≡ is_stopped (after_journal new.run.journal).books → b ≡ true → RanAll true tests old new
     limited count new b p is reached = record {
       results = p.results;

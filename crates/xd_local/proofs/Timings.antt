@@ -1,7 +1,8 @@
 -- How long tests took.
 use Rattle.std.proofs.Common.{◌≡◌, ℕ, ◌+◌, ◌-◌, List, [], ◌∷◌, ◌++◌, refl, subst, arith}
 use Rattle.xd_journal.specs.Local.{TestResult}
-use Rattle.xd_local.specs.Timing.{AreTimed, Lasts, Ticking, Ticks}
+use Rattle.xd_edge.specs.Clock.{Lasts, Ticking, Ticks}
+use Rattle.xd_local.specs.Timing.{AreTimed}
 
 -- the clock was asked twice
 pub lasts : (start end : ℕ) (old mid new : Ticking) → Ticks start old mid → Ticks end mid new → Lasts (end - start) old new

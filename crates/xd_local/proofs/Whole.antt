@@ -37,7 +37,7 @@ use Rattle.xd_report.proofs.Named.{blocks-named, lines-named}
 use Rattle.xd_report.proofs.Texts.{over-same}
 use Rattle.xd_local.specs.Local.{faults_of, KeepsLimit, RunsSuite, RunsTests, local_settings, stop_after, stop_at}
 use Rattle.xd_local.specs.Outside.{Programs}
-use Rattle.xd_local.specs.Timing.{Ticking}
+use Rattle.xd_edge.specs.Clock.{Ticking}
 use Rattle.xd_local.specs.Print.{AtStep, AtEnd, DidAll, FailedAt, PrintsReport, failures_in}
 use Rattle.xd_local.specs.Running.{BelowLimit, ClosedJournal, HasCollected, HasEnded, HasStatus, WasCollected, IsNew, RanPrinted, Running, Scene, ShowsReport, FollowsJournal, after_journal, failed_of, ids_of}
 use Rattle.xd_local.proofs.Alone.{below-at, below-first, eq_same, failures-alone, failures-rounds, faults-alone, is_some-stop, items-alone, length-alone, lists-rounds, low-none, reports-rounds, reports_alone, stop-begun, stop_by, take-alone, unwrap-stop}
@@ -77,7 +77,7 @@ module _ (tests : List Test) (maxfail : ℕ) (j1 : Journal) (shown : Bool) (old 
   stop_is : stop_of j1 ≡ how
   stop_is = ap (λ (es : List Entry). over_in es (run_end_of (state_at j1.settings j1.entries.items).books)) entries_are ∙ over_in-rounds 0 results how (run_end_of (state_at j1.settings j1.entries.items).books)
 
-  -- behind the collection
+  -- after the collection
   abbrev start : State
   start = after_entry (no_one (local_settings maxfail)) (Collected 0 (Listed ids))
 
@@ -168,7 +168,7 @@ module _ (tests : List Test) (maxfail : ℕ) (j1 : Journal) (shown : Bool) (old 
     ends = ends;
   })
 
-  -- no test was run behind the one that reached the limit
+  -- no test was run after the one that reached the limit
   limit : KeepsLimit maxfail j1
   limit = record {
     none_behind = λ k h.

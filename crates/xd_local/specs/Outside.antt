@@ -2,7 +2,7 @@
 use Rattle.std.specs.Prelude.{ℕ, List, Option}
 use Rattle.xd_edge.specs.Children.{ChildRun}
 use Rattle.xd_edge.specs.Sink.{Sunk}
-use Rattle.xd_local.specs.Timing.{Ticking}
+use Rattle.xd_edge.specs.Clock.{Ticking}
 
 -- an output: what it took, and its count of faults
 pub record Output : Type 0 where

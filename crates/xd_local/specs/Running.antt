@@ -27,7 +27,8 @@ use Rattle.xd_child.specs.Running.{RanChild}
 use Rattle.xd_local.specs.Local.{RanTests, kept_by, local_settings, stop_after}
 use Rattle.xd_local.specs.Outside.{Programs}
 use Rattle.xd_local.specs.Print.{AtStep, FailedAt}
-use Rattle.xd_local.specs.Timing.{AreTimed, Lasts, Ticking}
+use Rattle.xd_edge.specs.Clock.{Lasts, Ticking}
+use Rattle.xd_local.specs.Timing.{AreTimed}
 
 -- the run: its journal, the reporter that follows it, how many bytes of output it keeps, and its programs
 pub record Running : Type 0 where

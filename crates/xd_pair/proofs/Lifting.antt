@@ -22,7 +22,7 @@ run-append : (es : List Step) (e : Step) (w : World) → run (es ++ e ∷ []) w 
 run-append [] e w = refl
 run-append (x ∷ es) e w = run-append es e (happens w x)
 
--- a side that takes messages behind a move took them before it
+-- a side that takes messages after a move took them before it
 never : (b : Bool) → b || true ≡ false → ⊥
 never true h = let z = h in cc
 never false h = let z = h in cc

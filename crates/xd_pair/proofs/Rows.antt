@@ -44,7 +44,7 @@ answer_closed = refl
 not_let_go : ((run late_answer start).odd.part 1).let_go ≡ false
 not_let_go = refl
 
--- the items ahead of the CHANNEL_CLOSE, which stands last
+-- the items before the CHANNEL_CLOSE, which stands last
 all_said : all_notes 1 (run late_answer start).odd.taken ≡ Lasts ∷ Item (int (pos 9)) ∷ Ends None ∷ []
 all_said = refl
 
@@ -86,7 +86,7 @@ handed_twice law =
     let one : length (int (pos 7) ∷ int (pos 7) ∷ more) ≡ 1 = ap length law.prefix.1 in
     omega (one, arith)
 
--- an orderly end came, and an item that was sent ahead of it did not
+-- an orderly end came, and an item that was sent before it did not
 item_lost : Law (record untouched { ended = true }) (int (pos 7) ∷ []) (Item (int (pos 7)) ∷ Ends None ∷ []) → ⊥
 item_lost law =
     let one : 0 ≡ 1 = ap length (law.whole refl refl refl) in

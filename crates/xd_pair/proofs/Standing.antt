@@ -1,4 +1,4 @@
--- Behind a call, a side stands for the actor behind the move.
+-- After a call, a side stands for the actor after the move.
 use Rattle.std.proofs.Common.{◌≡◌, ℕ, Bool, true, false, sym, ap, subst, ◌∙◌}
 use Rattle.std.specs.Prelude.{◌==◌, is_some, if◌then◌else◌}
 use Rattle.xd_value.specs.Tree.{Tree}

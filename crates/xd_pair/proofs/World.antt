@@ -112,7 +112,7 @@ total odd a wire Take_message = total_if (a.failed || a.finished) odd a wire
 total odd a wire (Refuse names) = refl
 total odd a wire Finish_receiving = refl
 
--- what is said comes behind what was said
+-- what is said comes after what was said
 said_more : (c : ℕ) (taken wire new : List Said) → all_notes c (taken ++ (wire ++ new)) ≡ all_notes c (taken ++ wire) ++ all_notes c new
 said_more c taken wire new = ap (all_notes c) (sym (append_assoc taken wire new)) ∙ all_notes-append c (taken ++ wire) new
 

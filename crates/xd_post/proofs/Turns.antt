@@ -6,7 +6,7 @@ use Rattle.std.proofs.lemmas.List.{get_or_past}
 use Rattle.xd_post.specs.Mails.{NoneKnown, NoneFrom, NoneAhead}
 
 module _ {T : Type 0} where
-  -- where those up to the last know nothing, none behind does either
+  -- where those up to the last know nothing, none after does either
   behind : (known : List (List T)) (from count k : ℕ) → length known ≤ count → NoneFrom known from count → from ≤ k → get_or known k [] ≡ []
   behind known from count k size none low =
       elim (cases_lt k count) [ inl below ↦ none k low below | inr past ↦ get_or_past known k [] (omega arith) ]

@@ -3,7 +3,7 @@ use std::alloc::Global;
 use std::sync::{Arc, Condvar, Mutex, Wait};
 use xd_edge::OutOfMemory;
 
-// A count of rings behind a lock. No two threads see it differ, so a ring between a look and a wait is not missed.
+// A count of rings, guarded by a lock. No two threads see it differ, so a ring between a look and a wait is not missed.
 #[derive(Drop)]
 struct Tower {
     rings: Mutex<u64>,

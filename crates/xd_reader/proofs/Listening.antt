@@ -180,7 +180,7 @@ module _ (old new : FramerView) (s0 s1 : Spring) (bytes : List ℕ) (taken : Lis
       cause ReadFault p = p.count
       cause OutOfMemory p = p.count
 
--- ---- one read behind others
+-- ---- one read after others
 
 -- the count stood still up to this moment
 stops_from : (why : LinkStop) (greeted : Bool) (bytes : List ℕ) (s0 mid s1 : Spring) → mid.faults ≡ s0.faults → StopsAt why greeted bytes mid s1 → StopsAt why greeted bytes s0 s1

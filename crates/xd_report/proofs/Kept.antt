@@ -39,7 +39,7 @@ without_kept w (s ∷ ss) =
       | false ↦ ap (λ (l : List Seat). bare_seat s ∷ l) rest
     ]
 
--- what stands of the seats behind a change
+-- what stands of the seats after a change
 pub changed_kept : (w : ℕ) (change : Seat → Seat) (ss : List Seat) (old new : List Holder) → ((s : Seat) → bare_seat (change s) ≡ change (bare_seat s)) → map bare_seat ss ≡ map seat_of old → map seat_of new ≡ at_seat w change (map seat_of old) → map bare_seat (at_seat w change ss) ≡ map seat_of new
 changed_kept w change ss old new same before now = change_kept w change ss same ∙ ap (at_seat w change) before ∙ sym now
 

@@ -40,7 +40,7 @@ named settings ids s test local l =
     ap (λ (m : ModeKind). slice_index_or (ids_at (if is_each m then slot_of 0 s.books else 0) s.books.lists) test []) mode
     ∙ ap (λ (x : List (List ℕ)). slice_index_or x test []) l.listed
 
--- the line of a result behind a state of such a run
+-- the line of a result after a state of such a run
 line-of : (settings : Settings) (ids : List (List ℕ)) (s : State) (test : ℕ) (r : TestResult) → settings.mode ≡ Local → Lists settings ids s
     → lines_from s (round test r) ≡ result_line Local 0 r.outcome (slice_index_or ids test []) ++ []
 line-of settings ids s test r local l =
@@ -66,7 +66,7 @@ lines-of-rounds settings ids s test (r ∷ rs) local few l =
     ∙ ap₂ (λ (x y : List ℕ). x ++ y) one rest
     ∙ sym (ap (λ (x : List (List ℕ)). test_lines x (r ∷ rs)) (drop_more ids test [] (omega (few, arith))))
 
--- the state behind the collection
+-- the state after the collection
 collected : (settings : Settings) (ids : List (List ℕ)) → settings.mode ≡ Local → Lists settings ids (after_collected 0 (Listed ids) (settled (no_one settings)))
 collected settings ids local =
     let s = in_books (on_table (joined 0)) (in_books (λ b. marked (made_collected 0) (with_list 0 (Listed ids) b)) (settled (no_one settings))) in

@@ -26,6 +26,6 @@ pub joins : (w : ℕ) (how : Option RunStop) (s : State) → is_shut w s.books �
 joins w None s shut none = rw shut refl
 joins w (Some h) s shut none = absurd (cc)
 
--- the mark that is set ahead of an input
+-- the mark that is set before an input
 pub reach : (r : Reporter) (s : State) (e : Entry) → Follows r s → Follows r (reached s e)
 reach r s e f = elim (is_input e) as (λ b. Follows r (if b then settled s else s)) [ true ↦ settle r s f | false ↦ f ]

@@ -392,7 +392,7 @@ plan-kept s [] = refl
 plan-kept s (e ∷ es) =
     plan-kept (after_entry s e) es ∙ after_effect-plan (reached s e) e ∙ plan-either (is_input e) (settled s) s s.plan.mode refl refl
 
--- the state behind the first collection
+-- the state after the first collection
 behind : (settings : Settings) (before : List Entry) (first : Listed) → listed_in 0 (after_entries (no_one settings) before).books.lists ≡ Some first → Listing settings first (after_entries (no_one settings) before)
 behind settings before first first_is = record {
   set = settings-kept (no_one settings) before;

@@ -18,7 +18,7 @@ use Rattle.xd_report.specs.StopLine.{line_of_stop, refusal, refused_line}
 use Rattle.xd_report.specs.Summary.{counted, counted_from, counts, summary_text}
 use Rattle.xd_report.specs.Text.{run_text}
 
--- three pieces behind what stood there
+-- three pieces after what stood there
 pub three_more : (before a b c x y z : List ℕ) → x ≡ before ++ a → y ≡ x ++ b → z ≡ y ++ c → z ≡ before ++ (a ++ (b ++ c))
 three_more before a b c x y z first second third =
     third ∙ ap (λ (l : List ℕ). l ++ c) (second ∙ ap (λ (l : List ℕ). l ++ b) first) ∙ append_assoc (before ++ a) b c ∙ append_assoc before a (b ++ c)
@@ -65,7 +65,7 @@ module _ (s : State) (es : List Entry) (i : ℕ) (e : Entry) (within : i < lengt
   pub counted-step : (n : Counts) → counted_from s (take (i + 1) es) n ≡ counted (reached before e) e (counted_from s (take i es) n)
   counted-step n = ap (λ (l : List Entry). counted_from s l n) one_more ∙ counted-more s (take i es) (e ∷ []) n
 
--- the line of a collection comes behind it
+-- the line of a collection comes after it
 module _ (s : State) (was : Bool) (out0 out1 out2 : List ℕ) (shared : s.books.shared ≡ was) where
   abbrev pub Tells : Entry → Type 0
   Tells e = out1 ≡ out0 ++ lines_told (reached s e) e → out2 ≡ out1 ++ collected_line was (after_entry s e) → out2 ≡ out0 ++ lines_of (reached s e) e

@@ -41,7 +41,7 @@ pub fn each_more(alloc: Global, base: u64, numbers: &[u32]) -> Result<Vec<u64>, 
     Ok(more)
 }
 
-/// So many numbers from the first one on.
+/// n numbers from the first one on.
 pub fn numbers_from(alloc: Global, first: u64, count: u64) -> Result<Vec<u64>, OutOfMemory>
     ensures { IfOk result (λ numbers. numbers.items ≡ range_with_len first count) }
 {

@@ -91,7 +91,7 @@ ids-kept o l ls a (suc n) h =
     let rest = ids-kept o l ls (a + 1) n (λ k p q. h k (omega (arith, p)) (omega (arith, q))) in
     ap (λ (xs : List (List ℕ)). xs ++ ids_from (lists_with o l ls) (a + 1) n) here ∙ ap (λ (xs : List (List ℕ)). ids_at a ls ++ xs) rest
 
--- the tests stay shared behind an entry, and their ids stay
+-- the tests stay shared after an entry, and their ids stay
 pub record Stays (s t : State) : Type 0 where
   pub shared : t.books.shared ≡ true
   pub ids : item_ids t.books ≡ item_ids s.books

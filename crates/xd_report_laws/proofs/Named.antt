@@ -130,7 +130,7 @@ record Named (settings : Settings) (s : State) (es : List Entry) : Type 0 where
   in_slots : OwnSlot s
   right : (name : Report → List ℕ) → IsName name s → AllRight name (no_one settings) es
 
--- a name by the ids behind an entry is one by those before it
+-- a name by the ids after an entry is one by those before it
 name-before : (name : Report → List ℕ) (s : State) (e : Entry) → Listing s → IsName name (after_effect s e) → IsName name s
 name-before name s e k is h = (let t = stays s e k h in is t.shared ∙ ap id_in t.ids)
 

@@ -24,7 +24,7 @@ a_run = Ready 0 ∷ Collected 0 (ids.List ((97 ∷ []) ∷ (98 ∷ []) ∷ [])) 
 a_run-proper : IsProper two_slots a_run
 a_run-proper = record { mode = refl; some_worker = refl; few_workers = refl; few_restarts = refl; follow = refl }
 
--- so it is item 2, behind the two of slot 0
+-- so it is item 2, after the two of slot 0
 a_run-reports : reports two_slots (journal_of two_slots a_run) ≡ Result 1 2 Passed ∷ []
 a_run-reports = refl
 

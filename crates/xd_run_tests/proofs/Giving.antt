@@ -1,4 +1,4 @@
--- Tests that are put behind the queue.
+-- Tests that are put after the queue.
 use Rattle.std.proofs.Common.{◌≡◌, ℕ, ◌+◌, ◌<◌, ◌≤◌, ◌≢◌, List, [], ◌∷◌, ◌++◌, length, take, drop, get_or, Bool, true, false, ◌||◌, ◌&&◌, Some, None, refl, ap, sym, subst, ◌∙◌, append_assoc, arith, get_or-set_same, get_or-set_other}
 use Rattle.std.specs.Prelude.{◌==◌, slice_index_or, slice_set, map, nat_lt, not}
 use borrow.Author.Tests.{eqb-true, eqb-false}
@@ -44,7 +44,7 @@ right_false : (a b : Bool) → (a || b) ≡ false → a ≡ false
 right_false true b e = e
 right_false false b e = refl
 
--- a free test is put behind the queue
+-- a free test is put after the queue
 pub queued_one : (stands : List Standing) (ahead q : List LineEntry) (m : ℕ) → m < length stands → get_or stands m Free ≡ Free → EachStandsAt stands ahead q → EachStandsAt (slice_set stands m Queued) ahead (q ++ Test m ∷ [])
 queued_one stands ahead q m in_suite free h = record { at = λ n lt. go n (rw length-set at lt) (m == n) refl }
   where

@@ -1,4 +1,4 @@
--- How the parts stand for a call behind a move.
+-- How the parts stand for a call after a move.
 use Rattle.std.proofs.Common.{◌≡◌, ℕ, ◌+◌, ◌≤◌, List, [], ◌∷◌, ◌++◌, length, drop, Bool, true, false, ◌||◌, ◌&&◌, Option, Some, None, refl, ap, sym, subst, ◌∙◌, append_assoc, arith}
 use Rattle.std.specs.Prelude.{option_to_list, if◌then◌else◌, map, is_some, not}
 use Rattle.std.proofs.Math.ListN.{length-set}
@@ -120,7 +120,7 @@ test_from_left (Some r) b l x e h = subst (λ (v : Bool). Some r.test ≡ (if v 
 pub same_next : (s r : RunTests) → r ≡ record s { queue = r.queue; stands = r.stands } → r ≡ record s { queue = r.queue; next = r.next; stands = r.stands }
 same_next s r o = o ∙ ap (λ (n : Option LineEntry). record s { queue = r.queue; next = n; stands = r.stands }) (sym (ap (λ (x : RunTests). x.next) o))
 
--- places are put behind the line
+-- places are put after the line
 pub lined_call : (s r : RunTests) (c : FunctionCall) (ps : List LineEntry) → c.phase ≡ Serving → r ≡ record s { queue = r.queue; stands = r.stands } → length r.stands.items ≡ length s.stands.items → r.queue.items ≡ s.queue.items ++ ps
     → ((ahead : List LineEntry) → EachStandsAt s.stands.items ahead s.queue.items → EachStandsAt r.stands.items ahead r.queue.items) → once (c.line ++ ps) ≡ true → IsCall s c → IsCall r (record c { line = c.line ++ ps })
 lined_call s r c ps serves o size qu st once_more h =

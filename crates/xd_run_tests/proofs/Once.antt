@@ -66,7 +66,7 @@ once_given size l (n ∷ ns) e h =
     let fresh : has_test n l ≡ false = not_true _ (and_last (nat_lt n size) (not (has_test n l)) here) in
     subst (λ (x : List LineEntry). once x ≡ true) (append_assoc l (Test n ∷ []) (map Test ns)) (once_given size (l ++ Test n ∷ []) ns rest (once_snoc n l fresh h))
 
--- a test ahead of the queue is not in it
+-- a test before the queue is not in it
 pub once_apart : (n : ℕ) (a q : List LineEntry) → once (a ++ q) ≡ true → has_test n a ≡ true → has_test n q ≡ false
 once_apart n [] q h e = let z : false ≡ true = e in cc
 once_apart n (Mark ∷ a) q h e = once_apart n a q h e

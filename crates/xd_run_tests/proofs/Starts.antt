@@ -69,11 +69,11 @@ once_first (Test m ∷ a) b h =
     both (not (has_test m a)) (once a) (ap not (neither (has_test m a) (has_test m b) (sym (has_test-append m a b) ∙ fresh))) (once_first a b (last (not (has_test m (a ++ b))) (once (a ++ b)) h))
 once_first (Mark ∷ a) b h = once_first a b h
 
--- so many places of the line are gone through
+-- n places of the line are gone through
 abbrev gone_by : FunctionCall → ℕ
 gone_by c = c.ended + (if c.running then 1 else 0)
 
--- the tests that were started, those of a turn behind these, are those that are gone through
+-- the tests that were started, those of a turn after these, are those that are gone through
 record Begun (s : List ℕ) (t : Turn) : Type 0 where
   gone : List LineEntry
   rest : List LineEntry
@@ -167,7 +167,7 @@ settled_begun s room t serves b = go t.call.running refl
     go true e = b
     go false e = moved_begun s room t (left t.call) e refl serves b
 
--- places are put behind the line
+-- places are put after the line
 longer_begun : (s : List ℕ) (t : Turn) (ps : List LineEntry) → once (t.call.line ++ ps) ≡ true → (t.call.phase ≡ Awaiting → ⊥) → Begun s t → Begun s (record t { call = record (t.call) { line = t.call.line ++ ps } })
 longer_begun s t ps once_more serves b = record {
   gone = b.gone;

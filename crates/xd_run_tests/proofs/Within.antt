@@ -77,7 +77,7 @@ head_in size [] n e h = cc
 head_in size (Test m ∷ l) n e h = let same : m ≡ n = (let z = e in cc) in subst (λ (x : ℕ). nat_lt x size ≡ true) same (and_first (nat_lt m size) (within size l) h)
 head_in size (Mark ∷ l) n e h = cc
 
--- the tests of a turn are those of its suite, which has so many
+-- the tests of a turn are those of its suite, which has n
 record Within (k : ℕ) (t : Turn) : Type 0 where
   size_is : t.call.size ≡ k
   line_in : within t.call.size t.call.line ≡ true

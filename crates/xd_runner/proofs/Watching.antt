@@ -18,7 +18,7 @@ use Rattle.xd_runner.specs.Running.{PutsOutput, HeardPart, RunsOne, RunsPart, Ru
 use Rattle.xd_child.proofs.Waiting.{faults_to_end, still_to_end}
 use lib.IntN.{negsuc}
 
--- ---- one change of a run behind another
+-- ---- one change of a run after another
 
 changed : (k : ℕ) (f : ChildRun → ChildRun) (run : ChildRun) (old mid new : Option (List ChildRun)) → IsNext k old → AddsRun run old mid → ChangesRun k f mid new → AddsRun (f run) old new
 changed k f run None mid new next added changes = changes ∙ ap (option_map (change_at k f)) added
@@ -50,7 +50,7 @@ output_end k place a b old mid new e none x y = subst (λ (l : List ℕ). Change
 pub output_part : (k place : ℕ) (a : List ℕ) (old mid new : Option (List ChildRun)) → k ≡ place → ChangesRun place (with_output a) old mid → ChangesRun k with_read_fault mid new → ChangesRun place (read_so false a) old new
 output_part k place a old mid new e x y = changes_twice place with_read_fault (with_output a) (read_so false a) old mid new (λ r. refl) x (changes_at k place with_read_fault mid new e y)
 
--- what was read to the end behind other output
+-- what was read to the end after other output
 read_on : (whole : Bool) (a b : List ℕ) (r : ChildRun) → read_so whole b (with_output a r) ≡ read_so whole (a ++ b) r
 read_on true a b r = more_output a b r
 read_on false a b r = ap with_read_fault (more_output a b r)

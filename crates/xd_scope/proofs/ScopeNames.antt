@@ -117,7 +117,7 @@ none-in bs u lack = elim (cases_Bool (has_colons (chars bs))) [
       absurd (not-lacking bs r.0 r.1 (length (encode_utf8_all r.0)) u r.2 refl (lack (length (encode_utf8_all r.0)) (omega (arith, w)))))
 ]
 
--- none stands ahead of the first
+-- none stands before the first
 none-ahead : (bs rest : List ℕ) (i : ℕ) → IsUtf8 bs → IsUtf8 (take i bs) → length (take i bs) ≡ i → drop i bs ≡ 58 ∷ 58 ∷ rest → ((k : ℕ) → k < i → LacksTextAt colons bs k) → has_colons (chars (take i bs) ++ 58 ∷ []) ≡ false
 none-ahead bs rest i u f n h lack = elim (cases_Bool (has_colons (chars (take i bs) ++ 58 ∷ []))) [
   | inr k ↦ k
@@ -134,7 +134,7 @@ none-ahead bs rest i u f n h lack = elim (cases_Bool (has_colons (chars (take i 
       absurd (not-lacking bs r.0 (r.1 ++ 58 ∷ chars rest) (length (encode_utf8_all r.0)) u e refl (lack (length (encode_utf8_all r.0)) (omega (arith, a, b, d)))))
 ]
 
--- none stands behind the last
+-- none stands after the last
 none-behind : (bs rest : List ℕ) (i : ℕ) → IsUtf8 bs → IsUtf8 (take i bs) → length (take i bs) ≡ i → drop i bs ≡ 58 ∷ 58 ∷ rest → ((k : ℕ) → i < k → k ≤ length bs → LacksTextAt colons bs k) → has_colons (58 ∷ chars rest) ≡ false
 none-behind bs rest i u f n h lack = elim (cases_Bool (has_colons (58 ∷ chars rest))) [
   | inr k ↦ k

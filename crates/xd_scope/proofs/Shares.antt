@@ -13,7 +13,7 @@ use Rattle.xd_ledger.proofs.Turns.{workers-shut_turn}
 use Rattle.xd_scope.specs.declared.units.Units.{Units}
 use Rattle.xd_scope.specs.Stands.{IsAt, Keeps, served_share}
 
--- the workers behind the first so many, the last one first
+-- the workers after the first n, the last one first
 
 pub length-last : (ws : List ℕ) (k : ℕ) → length (reverse (drop k ws)) ≡ length ws - k
 length-last ws k = length-reverse (drop k ws) ∙ length-drop k ws

@@ -25,7 +25,7 @@ use Rattle.xd_session.specs.Part.{is_end_of, is_ended}
 abbrev Acts : ℕ → List Member → Bool
 Acts w ms = has w (λ m. m.active) ms
 
--- behind these entries the worker is active where it was started and none of them ended it, and whoever was ended was started
+-- after these entries the worker is active where it was started and none of them ended it, and whoever was ended was started
 pub record Active (w : ℕ) (ms : List Member) (es : List Entry) : Type 0 where
   pub active : Acts w ms ≡ (is_member w ms && not (is_ended w es))
   pub known : is_ended w es ≡ true → is_member w ms ≡ true
@@ -44,7 +44,7 @@ or-false-true : (b : Bool) → (b || false) ≡ true → b ≡ true
 or-false-true true h = refl
 or-false-true false h = h
 
--- the marks of the worker, behind an entry that starts no one
+-- the marks of the worker, after an entry that starts no one
 active-more : (w : ℕ) (ms ns : List Member) (es : List Entry) (e : Entry) → is_member w ns ≡ is_member w ms → Acts w ns ≡ (not (is_end_of w e) && Acts w ms)
     → (is_end_of w e ≡ true → is_member w ms ≡ true) → Active w ms es → Active w ns (es ++ e ∷ [])
 active-more w ms ns es e same now started k =
@@ -100,7 +100,7 @@ active-started w v slot ms es e none new k =
       known = λ h. member ∙ ap (λ (q : Bool). q || b) (k.known (or-false-true (is_ended w es) (sym more ∙ h)));
     }
 
--- behind each entry
+-- after each entry
 
 abbrev Now : ℕ → State → List Entry → Type 0
 Now w s es = Active w s.books.members es

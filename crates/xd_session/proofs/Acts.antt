@@ -130,7 +130,7 @@ acted-append xs ys s b c k j e0 e1 e2 st0 st x y = record {
   entries_are = y.entries_are ∙ ap (λ es. es ++ ys) x.entries_are ∙ append_assoc e0 xs ys;
 }
 
--- behind a stop a mode stands for nothing
+-- after a stop a mode stands for nothing
 pub stopped-at : (s : State) (b : Books) (k : Known) (stands : Plan → Type 0) → is_stopped b ≡ true → b ≡ s.books → k ≡ known_of s.plan → At s b k stands
 stopped-at s b k stands h e d = record { books_are = e; known_is = d; stands_for = λ q. absurd (differ (sym (ap is_stopped e ∙ q) ∙ h)) }
 

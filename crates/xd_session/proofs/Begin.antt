@@ -22,7 +22,7 @@ use Rattle.xd_session.specs.Stands.{CanBegin}
 abbrev pub with_members : Settings → List Member → State
 with_members settings ms = record (no_one settings) { books = record ((no_one settings).books) { members = ms } }
 
--- the first so many workers
+-- the first n workers
 abbrev pub members_from : ℕ → ℕ → List Member
 members_from w zero = []
 members_from w (suc n) = started w w ∷ members_from (w + 1) n

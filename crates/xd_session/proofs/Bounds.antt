@@ -33,7 +33,7 @@ use Rattle.xd_session.proofs.Begin.{starts-spend}
 use Rattle.xd_session.proofs.Shares.{given-is}
 use Rattle.xd_session.proofs.Steps.{none-some, outputs-orderly, same-entry, sound-next, sound-run, spent-more}
 
--- the input keeps few bytes, and where so many are kept there is room for them
+-- the input keeps few bytes, and where n are kept there is room for them
 record Fits (spent : ℕ) (e : Entry) : Type 0 where
   few : keeps_few e ≡ true
   room : spent_by (e ∷ []) ≤ most_of_all - spent

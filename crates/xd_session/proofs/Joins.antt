@@ -141,7 +141,7 @@ joins-outputs s (e ∷ es) h k =
     let p = split-and (is_orderly s e) (all_orderly (after_effect s e) es) h in
     subst (λ (u : State). AllCollected u) (sym (after_entries-first s e es p.0)) (joins-outputs (after_effect s e) es p.1 (joins-output s e p.0 k))
 
--- behind the inputs of a proper run, each of whose outputs are in order
+-- after the inputs of a proper run, each of whose outputs are in order
 joins-all : (s : State) (ins : List Entry) → all_may_follow s ins ≡ true → is_orderly_run s ins ≡ true → AllCollected s → AllCollected (after_inputs s ins)
 joins-all s [] h d k = k
 joins-all s (e ∷ ins) h d k =

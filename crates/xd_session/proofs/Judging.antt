@@ -1,4 +1,4 @@
--- What is asked of a worker's head and of what it holds behind it, by the numbers that the worker uses.
+-- What is asked of a worker's head and of what it holds after it, by the numbers that the worker uses.
 use Rattle.std.proofs.Common.{◌≡◌, ℕ, ◌+◌, ◌<◌, ◌≤◌, List, [], ◌∷◌, drop, length, map, refl, ap, sym, subst, ◌∙◌, arith, Bool, true, false, not, ◌&&◌, inl, inr}
 use Rattle.std.specs.Prelude.{if◌then◌else◌, ◌==◌, ◌^◌, nat_lt, Option, Some, None, SomeIff, is_some, is_none, nat_le, sum, take}
 use Rattle.std.specs.List.{list_all, list_any}
@@ -115,7 +115,7 @@ held-low s w x d h = elim (cases_of (nat_lt x (total s.plan))) [
 pub held-small : (s : State) (w x : ℕ) → Reached s → sum s.plan.sizes ≤ most_items → among x (held w s.books.table) ≡ true → x < 2 ^ 32
 held-small s w x r few h = (let a = held-low s w x (tidy-reached s r) h in omega (arith, a, few))
 
--- behind the head stands what is held and is not the head
+-- after the head stands what is held and is not the head
 pub behind-head : (item : ℕ) (hs : List ℕ) → all_distinct hs ≡ true → among item (drop 1 hs) ≡ (among item hs && not (is_some (where_is item (first_of hs))))
 behind-head item [] d = refl
 behind-head item (h ∷ hs) d = grind (arith, nat_tests, d)
@@ -244,7 +244,7 @@ unseated w x t h = sym (ap (is_behind x) (no_seat-held w t.rota h) ∙ nothing-b
     nothing-behind true = refl
     nothing-behind false = refl
 
--- behind the head of a worker of a run
+-- after the head of a worker of a run
 
 behind-small : (x : ℕ) (hs : List ℕ) → all_distinct hs ≡ true → ((y : ℕ) → among y hs ≡ true → y < 2 ^ 32) → is_behind x hs ≡ among x (drop 1 hs)
 behind-small x hs d k = elim (cases_of (among x hs)) [
@@ -264,7 +264,7 @@ all-behind : (first : ℕ) (is hs : List ℕ) → all_distinct hs ≡ true → (
 all-behind first [] hs d k = refl
 all-behind first (i ∷ is) hs d k = ap (λ b. b && list_all (λ j. is_behind (first + j) hs) is) (behind-small (first + i) hs d k) ∙ ap (λ b. among (first + i) (drop 1 hs) && b) (all-behind first is hs d k)
 
--- the worker's numbers name tests behind its head where the ledger says so of each
+-- the worker's numbers name tests after its head where the ledger says so of each
 pub named_behind : (w : ℕ) (is : List ℕ) (s : State) (b : Books) (k : Known) → Reached s → b ≡ s.books → k ≡ known_of s.plan → sum k.sizes ≤ most_items
     → list_all (λ i. is_behind (first_item (slot_of w b) k + i) (held w b.table)) is ≡ all_among (items_named (slot_of w s.books) is s.plan) (drop 1 (held w s.books.table))
 named_behind w is s b k r e d few =

@@ -275,7 +275,7 @@ or-one : (b : Bool) → (b || false) ≡ true → b ≡ true
 or-one true h = refl
 or-one false h = h
 
--- nothing of a list is left behind an end
+-- nothing of a list is left after an end
 abbrev NoneBehind : ℕ → List Entry → Type 0
 NoneBehind w xs = (before after : List Entry) (e : Entry) → xs ≡ before ++ e ∷ after → is_end_of w e ≡ true → after ≡ []
 

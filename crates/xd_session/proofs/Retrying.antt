@@ -1,4 +1,4 @@
--- Retries of crashed tests, and the plan behind a death.
+-- Retries of crashed tests, and the plan after a death.
 use Rattle.std.proofs.Common.{◌≡◌, ℕ, ◌-◌, List, [], ◌∷◌, ◌++◌, drop, length, refl, ap, sym, ◌∙◌, arith, Bool, true, false, append_assoc, length-append}
 use Rattle.xd_ledger.specs.Books.{Books}
 use Rattle.xd_ledger.specs.Calls.{death_plan, last_of}
@@ -20,7 +20,7 @@ use Rattle.xd_laws.proofs.Unshared.{down-unshared}
 pub no-retry : (w : ℕ) (b : Books) → held w b.table ≡ [] → is_retry w b ≡ false
 no-retry w b h = ap (λ (hs : List ℕ). retries_first hs b) h
 
--- of the pool behind a death the first item is the one that was retried, where one was
+-- of the pool after a death the first item is the one that was retried, where one was
 
 first-retried : (retry : Bool) (hs ys : List ℕ) → (hs ≡ [] → retry ≡ false) → retried_item retry (retried_item retry hs ++ ys) ≡ retried_item retry hs
 first-retried false hs ys h = refl
@@ -38,7 +38,7 @@ last-behind xs ys =
     let e : length (xs ++ ys) - length ys ≡ length xs = (let l = length-append xs ys in omega (arith, l)) in
     ap (λ n. drop n (xs ++ ys)) e ∙ drop-front xs ys
 
--- so the plan behind it is known by the pool
+-- so the plan after it is known by the pool
 pub plan-by-pool : (w : ℕ) (retry : Bool) (rest : ℕ) (b : Books) (p : Plan) → retry ≡ is_retry w b → rest ≡ length (drop 1 (held w b.table))
     → death_plan w retry rest (down_books w retry b).table.pool p ≡ down_plan w (retried_item retry (held w b.table)) (drop 1 (held w b.table)) p
 plan-by-pool w retry rest b p r n =

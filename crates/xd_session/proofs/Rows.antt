@@ -46,7 +46,7 @@ a_retry : (run_of (record alone { retries = 1 }) two_losses).entries
     ∷ Down 1 Ended (105 ∷ []) ∷ Kill 1 ∷ Start 2 0 ∷ [])
 a_retry = refl
 
--- a worker collects behind its end
+-- a worker collects after its end
 abbrev collects_late : List Entry
 collects_late = Start 0 0 ∷ Ready 0 ∷ Down 0 Ended [] ∷ Kill 0 ∷ Start 1 0 ∷ Collected 0 (ids.List ((97 ∷ []) ∷ [])) ∷ []
 

@@ -116,7 +116,7 @@ not-full : (w : ℕ) (s : State) (shared : Bool) → s.books.shared ≡ shared �
 not-full w s true e h = rw e
 not-full w s false e h = absurd (differ h)
 
--- behind the share the mode hears of the worker
+-- after the share the mode hears of the worker
 pub calls-joined : (w : ℕ) (s : State) (b : Books) (k : Known) (stands : Plan → Type 0) → At (seated_in w s) b k stands → MayJoin w s → s.books.shared ≡ true
     → Calls (Joined w (slot_of w (seated_in w s).books)) (seated_in w s) b k stands
 calls-joined w s b k stands a m h = record { at = a; going = m.going; called = subst (λ (u : State). Called (Joined w (slot_of w s.books)) u) (not-full w s true h refl) (m.hears h) }
@@ -219,7 +219,7 @@ may-take_in w own s c b k stands a e u h n =
     let g : Ids = ids_to_list (comparison own o) own in
     may-join w g s a.reached (ap (may_follow s) (sym (given-is w own s)) ∙ a.follows) u h (unequal-is w own o ∙ ap (stop_of w) (sym e) ∙ n)
 
--- behind a stop whoever may give its collection was told to shut down
+-- after a stop whoever may give its collection was told to shut down
 pub going-on : (w : ℕ) (b : Books) → (is_stopped b ≡ true → is_shut w b ≡ true) → is_shut w b ≡ false → is_stopped b ≡ false
 going-on w b told u = elim (cases_of (is_stopped b)) [
   | inl h ↦ absurd (differ (sym u ∙ told h))

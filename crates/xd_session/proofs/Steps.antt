@@ -31,7 +31,7 @@ use Rattle.xd_session.specs.History.{IsProperRun, Run as SoFar, after_news, begu
 use Rattle.xd_session.specs.Kept.{log_in, shortened}
 use Rattle.xd_session.proofs.Closing.{state-grown}
 
--- the state behind one more input
+-- the state after one more input
 
 pub state-next : (settings : Settings) (es : List Entry) (e : Entry) → may_follow (state_at settings es) e ≡ true → state_at settings (es ++ e ∷ outputs (state_at settings es) e) ≡ after_input (state_at settings es) e
 state-next settings es e h = state-grown settings es (outputs (state_at settings es) e) e (input-of (state_at settings es) e h)

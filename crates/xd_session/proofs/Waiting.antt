@@ -1,4 +1,4 @@
--- Behind a stop each active worker that was ready has been told to shut down.
+-- After a stop each active worker that was ready has been told to shut down.
 use Rattle.std.proofs.Common.{◌≡◌, ℕ, zero, suc, ◌+◌, List, [], ◌∷◌, ◌++◌, map, Bool, true, false, not, ◌&&◌, ◌||◌, refl, ap, sym, ◌∙◌, arith, inl, inr}
 use Rattle.std.specs.Prelude.{if◌then◌else◌, ◌==◌, filter, Option, Some, None}
 use Rattle.std.specs.List.{list_any}
@@ -32,7 +32,7 @@ use Rattle.xd_laws.proofs.Turns.{after_entries-first}
 abbrev Waits : ℕ → List Member → Bool
 Waits v ms = has v is_waiting ms
 
--- behind a stop no one waits to be told
+-- after a stop no one waits to be told
 abbrev pub AllTold : State → Type 0
 AllTold s = is_stopped s.books ≡ true → (v : ℕ) → Waits v s.books.members ≡ false
 
@@ -150,7 +150,7 @@ leaves-outputs s (e ∷ es) h =
       λ v. ap (λ (u : State). Waits v u.books.members) first ∙ rest.1 v ∙ ap (λ b. not (told v es) && b) (one.1 v) ∙ and-both (is_told v e) (told v es) (Waits v s.books.members),
     )
 
--- an input: behind a stop its own outputs tell whoever waits
+-- an input: after a stop its own outputs tell whoever waits
 
 abbrev NoneWaits : List Member → Type 0
 NoneWaits ms = (v : ℕ) → Waits v ms ≡ false

@@ -106,7 +106,7 @@ fn seat(alloc: Global, worker: u32, books: &mut RunBooks) -> Result<(), OutOfMem
     Ok(())
 }
 
-// So many tests of each slot come into the pool, and the mode deals them.
+// n tests of each slot come into the pool, and the mode deals them.
 fn deal<M: Mode>(
     alloc: Global,
     slots: &[u32],

@@ -86,7 +86,7 @@ most-next t w k d h e =
     let r = seat_at t w k d h e in
     ap (λ ss. most (open_in ss)) r.follows ∙ (let a = r.shut in let b = r.holds in let c = r.named in grind (arith, nat_tests))
 
--- who is the first that holds so many
+-- who is the first that holds n
 abbrev pub first_in : ℕ → List Seat → Option ℕ
 first_in n ss = option_map (λ s. s.worker) (first_with n (open_in ss))
 
@@ -137,7 +137,7 @@ among-at (w ∷ ws) vs (suc i) a h = grind (arith, nat_tests, among-at ws vs i)
 pub seated_at : (ws : List ℕ) (t u : Table) (i : ℕ) → all_among ws (workers_of t) ≡ true → workers_of u ≡ workers_of t → i < length ws → in_rota (get_or ws i 0) u ≡ true
 seated_at ws t u i a s h = any-among (get_or ws i 0) u.rota (ap (among (get_or ws i 0)) s ∙ among-at ws (workers_of t) i a h)
 
--- the seat of whoever is first to hold so many
+-- the seat of whoever is first to hold n
 pub record FirstIs (w : ℕ) (found : Option Seat) (ss : List Seat) : Type 0 where
   pub seat : Seat
   pub is : found ≡ Some seat

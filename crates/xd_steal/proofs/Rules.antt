@@ -46,7 +46,7 @@ victim_is w t d h =
     let r = first_is (most (open_seats t)) w t.rota d h in
     record { seat = r.seat; is = r.is; named = r.named; seated = r.seated; holds = r.holds }
 
--- how many are asked of a worker that holds so many
+-- how many are asked of a worker that holds n
 abbrev pub number_for : ℕ → ℕ
 number_for n = min (n / kept_part) (n - enough)
 

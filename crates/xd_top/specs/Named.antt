@@ -5,7 +5,7 @@ use Rattle.xd_journal.specs.declared.journal.Journal.{Journal}
 use Rattle.xd_report.specs.Status.{status_of}
 use Rattle.xd_local.specs.Local.{RunsTests}
 use Rattle.xd_local.specs.Outside.{Programs, Reach}
-use Rattle.xd_local.specs.Timing.{Ticking}
+use Rattle.xd_edge.specs.Clock.{Ticking}
 use Rattle.xd_top.specs.Outside.{Outside, Streams}
 use Rattle.xd_top.specs.Refusal.{HasSuite, RefusesSuite}
 

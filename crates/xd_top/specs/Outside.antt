@@ -2,7 +2,7 @@
 use Rattle.std.specs.Prelude.{ℕ, Option}
 use Rattle.xd_edge.specs.Files.{Held}
 use Rattle.xd_link.specs.Starter.{Begun}
-use Rattle.xd_listen.specs.Timing.{Ticking}
+use Rattle.xd_edge.specs.Clock.{Ticking}
 use Rattle.xd_local.specs.Outside.{Output, Programs}
 
 -- the files: what they hold, and their count of faults

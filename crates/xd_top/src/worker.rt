@@ -2,7 +2,7 @@
 ghost use Rattle.std.specs.Prelude.{◌≡◌, None, map, IfOk};
 ghost use Rattle.xd_link.specs.Spring.{spring};
 ghost use Rattle.xd_linked.specs.Linked.{ended_link};
-ghost use Rattle.xd_listen.specs.Timing.{ticking};
+ghost use Rattle.xd_edge.specs.Clock.{ticking};
 ghost use Rattle.xd_top.specs.Worker.{DidServe};
 
 use crate::top::RunEnd;

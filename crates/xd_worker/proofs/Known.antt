@@ -39,7 +39,7 @@ abbrev Fits : Bool → Option Service → ℕ → Type 0
 Fits owed None m = Unit {0}
 Fits owed (Some s) m = FitsSize owed (call_after s.given).size m
 
--- the same behind one more input
+-- the same after one more input
 abbrev FitsBehind : Input → Bool → Option Service → ℕ → Type 0
 FitsBehind i owed None m = Unit {0}
 FitsBehind i owed (Some s) m = FitsSize owed (size_behind (call_after s.given).phase i (call_after s.given).size) m

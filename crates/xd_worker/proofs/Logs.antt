@@ -104,7 +104,7 @@ sorted_once (x ∷ xs) s = both (not (is_in x xs)) (once_in xs) (ap not (absent_
 pub counted_once : {slot : ℕ → Slot Tree} {n : ℕ} (k : Counts slot n) → once_in k.numbers ≡ true
 counted_once k = sorted_once k.numbers k.rising
 
--- at most so many numbers are in the table
+-- at most n numbers are in the table
 abbrev pub Short : (ℕ → Slot Tree) → ℕ → Type 0
 Short slot n = (xs : List ℕ) → once_in xs ≡ true → ((c : ℕ) → is_in c xs ≡ true → is_here (slot c) ≡ true) → length xs ≤ n
 
@@ -187,7 +187,7 @@ heard_keeps mine c said s e = subst (λ (m : Bool). Keeps s (told_slot m c said 
 even_log : (n c : ℕ) → c + 2 ≡ number_of_log n → is_mine Even c ≡ true
 even_log n c e = let z : c % 2 ≡ 0 = omega (arith, e) in rw z refl
 
--- so many logs opened, and the last one is in the table, or none is
+-- n logs opened, and the last one is in the table, or none is
 pub record Evens (t : ChannelTable) (n : ℕ) (o : Bool) : Type 0 where
   pub even : t.parity ≡ Even
   pub next_is : t.next ≡ number_of_log n

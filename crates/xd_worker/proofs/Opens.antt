@@ -69,7 +69,7 @@ told_table : (n : ℕ) (o : Option Tree) (d : Talk) → (told_tree n o d).table 
 told_table n None d = refl
 told_table n (Some v) d = refl
 
--- without a log that is open at most so many numbers are in the table
+-- without a log that is open at most n numbers are in the table
 abbrev SpareBy : Bool → ChannelTable → ℕ → Type 0
 SpareBy true t n = (log : ℕ) → log + 2 ≡ number_of_log n → Short (changed_at log function_ended_slot t).slot 4095
 SpareBy false t n = Short t.slot 4095

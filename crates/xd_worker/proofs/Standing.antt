@@ -1,4 +1,4 @@
--- How the parts stand for a turn behind a call.
+-- How the parts stand for a turn after a call.
 use Rattle.std.proofs.Common.{◌≡◌, ℕ, List, [], ◌∷◌, ◌++◌, Bool, true, false, Option, Some, None, refl, sym, ap, subst, ◌∙◌}
 use Rattle.std.specs.Prelude.{if◌then◌else◌, is_some, unwrap_or, codes, Result, Ok, Err}
 use Rattle.std.proofs.lemmas.List.{append-nil}
@@ -100,7 +100,7 @@ fed_by r function s i room n acts h e f a b =
       run_is = b;
     })
 
--- the call of `run_tests` behind one more input
+-- the call of `run_tests` after one more input
 pub given_to : Option Service → Input → ℕ → Option Service
 given_to None i n = None
 given_to (Some s) i n = Some (record s { given = given_in s i n ∷ s.given })

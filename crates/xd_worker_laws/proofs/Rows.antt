@@ -18,7 +18,7 @@ waits = refl
 test_left : left (call_after one_waits) ≡ Test 0 ∷ []
 test_left = refl
 
--- a call that would let a test wait with a mark behind it
+-- a call that would let a test wait with a mark after it
 stuck : WaitsForNext (record new_call { phase = Serving; line = Test 0 ∷ Mark ∷ [] }) → ⊥
 stuck w = by (w refl refl)
   where

@@ -7,7 +7,7 @@ use Rattle.xd_listen.specs.Ends.{Served, scene}
 use Rattle.xd_listen.specs.Halts.{Goes, at_sink}
 use Rattle.xd_listen.specs.Seen.{Seen, seen}
 use Rattle.xd_listen.specs.Serves.{Beside, Setting, beside, setting}
-use Rattle.xd_listen.specs.Timing.{ticking}
+use Rattle.xd_edge.specs.Clock.{ticking}
 use Rattle.xd_listen.specs.Joined.{Joined, Sources, back}
 use Rattle.xd_listen.proofs.Beginning.{unserved}
 use Rattle.xd_listen.proofs.Completing.{calm, complete, goes_wrong}
@@ -81,7 +81,7 @@ returns-in-Err-start-clause-wrong g c = goes_wrong _ _ _ _ _ _ (no_reader g (goa
 
 -- ---- the link was served
 
--- what stays, what came before and came of it, and what the server was at the end, with the sink as it was ahead of its close
+-- what stays, what came before and came of it, and what the server was at the end, with the sink as it was before its close
 abbrev stays : (g : Over) → Else-server-2 g → Setting
 stays g c = setting (g.F.Files.held c.args.files.now) (g.N.Sink.sunk c.args.link.sink) (g.N.Sink.faults c.args.link.sink) (g.F.Files.faults c.args.files.now) (ticking (g.T.Clock.moment c.args.clock.now) (g.T.Clock.coming c.args.clock.now))
     (ring_of_sender c.in_ok-opened.opened.from_link) (ring_of_sender c.in_ok-opened.opened.from_programs) (ring_of_sender c.in_ok-opened.opened.server.orders)

@@ -1,6 +1,6 @@
 use Rattle.std.proofs.Common.{◌∙◌, refl}
 use Rattle.xd_link.specs.Spring.{spring}
-use Rattle.xd_listen.specs.Timing.{ticking}
+use Rattle.xd_edge.specs.Clock.{ticking}
 use Rattle.xd_top.specs.Outside.{Workplace}
 use Rattle.xd_top.specs.Worker.{scene_at}
 use Rattle.xd_top.proofs.Workers.{links_one, served_link, serves_link}

@@ -2,7 +2,7 @@ use Rattle.std.proofs.Common.{◌≡◌, ℕ}
 use Rattle.xd_ledger.specs.Chains.{chain_at, number_count, chains_of, poured}
 use Rattle.xd_ledger.proofs.chains.Chains.pour.Given as goal
 
--- so many numbers have gone
+-- n numbers have gone
 abbrev pub invariant-loop-i : goal.invariant-loop-i
 invariant-loop-i l = record {
   lists : (j : ℕ) → chain_at l.self j ≡ poured l.i l.from l.to (chain_at l.fn.self) j;

@@ -2,7 +2,7 @@ use Rattle.std.proofs.Common.{◌≡◌}
 use Rattle.xd_worker.specs.Stands.{Stood}
 use Rattle.xd_listen.specs.Seen.{seen}
 use Rattle.xd_listen.specs.Serves.{ServesSoFar, Setting, nothing, beside}
-use Rattle.xd_listen.specs.Timing.{ticking}
+use Rattle.xd_edge.specs.Clock.{ticking}
 use Rattle.xd_listen.proofs.server.Server.listen.Given as goal
 
 abbrev pub invariant-loop : goal.invariant-loop

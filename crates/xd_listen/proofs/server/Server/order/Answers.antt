@@ -2,7 +2,7 @@ use Rattle.std.proofs.Common.{sym, subst, ◌∙◌, ◌<◌, List, ℕ, Some, l
 use Rattle.xd_post.specs.Post.{Ring, put}
 use Rattle.xd_listen.specs.Seen.{seen}
 use Rattle.xd_listen.specs.Serves.{ServesSoFar, nothing, beside}
-use Rattle.xd_listen.specs.Timing.{ticking}
+use Rattle.xd_edge.specs.Clock.{ticking}
 use Rattle.xd_listen.proofs.Settling.{ordered}
 use Rattle.xd_listen.proofs.server.Server.order.Goals as goal
 

@@ -4,7 +4,7 @@ use Rattle.xd_listen.specs.declared.server.Halt.{Halt}
 use Rattle.xd_listen.specs.Halts.{Goes}
 use Rattle.xd_listen.specs.Seen.{seen}
 use Rattle.xd_listen.specs.Serves.{beside}
-use Rattle.xd_listen.specs.Timing.{ticking}
+use Rattle.xd_edge.specs.Clock.{ticking}
 use Rattle.xd_listen.proofs.Settling.{broken_ceases, idle_goes, not_none, runs_on}
 use Rattle.xd_listen.proofs.server.Server.settle.Goals as goal
 

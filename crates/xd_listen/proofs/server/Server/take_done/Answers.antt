@@ -1,7 +1,8 @@
 use Rattle.xd_reader.specs.declared.news.LinkNews.TheVariants as news
 use Rattle.xd_listen.specs.Seen.{seen}
 use Rattle.xd_listen.proofs.Settling.{uncalled}
-use Rattle.xd_listen.specs.Timing.{durations_in, ticking}
+use Rattle.xd_edge.specs.Clock.{ticking}
+use Rattle.xd_listen.specs.Timing.{durations_in}
 use Rattle.xd_listen.proofs.Items.{none_started}
 use Rattle.xd_listen.proofs.Timings.{lasted}
 use Rattle.xd_listen.proofs.server.Server.take_done.Goals as goal

@@ -7,7 +7,7 @@ use Rattle.xd_listen.specs.declared.server.Halt.{Halt}
 use Rattle.xd_listen.specs.Halts.{Goes}
 use Rattle.xd_listen.specs.Seen.{seen}
 use Rattle.xd_listen.specs.Serves.{ServesSoFar, owed_of_link, beside}
-use Rattle.xd_listen.specs.Timing.{ticking}
+use Rattle.xd_edge.specs.Clock.{ticking}
 use Rattle.xd_listen.proofs.Dropping.{noted_now}
 use Rattle.xd_listen.proofs.Items.{cut_unless, header_unless, strange_unless, unread_unless}
 use Rattle.xd_listen.proofs.server.Server.take_end.Goals as goal

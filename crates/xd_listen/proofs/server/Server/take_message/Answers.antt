@@ -4,7 +4,7 @@ use Rattle.xd_worker.specs.declared.input.WorkerFault.{WorkerFault}
 use Rattle.xd_listen.specs.Halts.{CeasesBy}
 use Rattle.xd_listen.specs.Seen.{seen}
 use Rattle.xd_listen.specs.Serves.{beside}
-use Rattle.xd_listen.specs.Timing.{ticking}
+use Rattle.xd_edge.specs.Clock.{ticking}
 use Rattle.xd_listen.proofs.Settling.{dropped}
 use Rattle.xd_listen.proofs.server.Server.take_message.Goals as goal
 

@@ -5,7 +5,7 @@ use Rattle.xd_listen.specs.declared.server.Halt.{Halt}
 use Rattle.xd_listen.specs.Halts.{Goes, IsStrange}
 use Rattle.xd_listen.specs.Seen.{seen}
 use Rattle.xd_listen.specs.Serves.{beside}
-use Rattle.xd_listen.specs.Timing.{ticking}
+use Rattle.xd_edge.specs.Clock.{ticking}
 use Rattle.xd_listen.proofs.Items.{strange_unless}
 use Rattle.xd_listen.proofs.server.Server.take_of_link.Goals as goal
 
