@@ -79,7 +79,8 @@ impl<V: Drop> ChannelEnd<V> {
     pub fn arrive(&mut self, item: V) -> Result<Arrived<V>, OutOfMemory>
         ensures gives { IfOk result (λ arrived. arrived ≡ arrive_gives self.old item) }
         ensures after { IfOk result (λ _. self.new ≡ after_arrive self.old item) }
-        ensures history { (h : List (EndCall V)) → IfOk result (λ arrived. Stands self.old h → Stands self.new (Arrive item arrived ∷ h)) }
+        ensures history { (h : List (EndCall V)) →
+            IfOk result (λ arrived. Stands self.old h → Stands self.new (Arrive item arrived ∷ h)) }
         ensures refused { OnErr result (self.new ≡ self.old) }
     {
         if self.marker.is_some() {
@@ -98,7 +99,8 @@ impl<V: Drop> ChannelEnd<V> {
     pub fn peer_close(&mut self, error: Option<Text>) -> Option<End>
         ensures gives { result ≡ put_gives self.old (end_of error) }
         ensures after { self.new ≡ after_peer_close self.old (end_of error) }
-        ensures history { (h : List (EndCall V)) → Stands self.old h → Stands self.new (Peer_close error ∷ h) }
+        ensures history { (h : List (EndCall V)) → Stands self.old h →
+            Stands self.new (Peer_close error ∷ h) }
     {
         self.sending = false;
         self.put(End::of(error))
@@ -108,7 +110,8 @@ impl<V: Drop> ChannelEnd<V> {
     pub fn peer_last(&mut self) -> Option<End>
         ensures gives { result ≡ put_gives self.old End.LastMessage }
         ensures after { self.new ≡ after_put self.old End.LastMessage }
-        ensures history { (h : List (EndCall V)) → Stands self.old h → Stands self.new (Peer_last ∷ h) }
+        ensures history { (h : List (EndCall V)) → Stands self.old h →
+            Stands self.new (Peer_last ∷ h) }
     {
         self.put(End::LastMessage)
     }
@@ -143,7 +146,8 @@ impl<V: Drop> ChannelEnd<V> {
     pub fn give_up(&mut self) -> GivenUp
         ensures gives { result ≡ give_up_gives self.old }
         ensures after { self.new ≡ after_give_up self.old }
-        ensures history { (h : List (EndCall V)) → Stands self.old h → Stands self.new (Give_up ∷ h) }
+        ensures history { (h : List (EndCall V)) → Stands self.old h →
+            Stands self.new (Give_up ∷ h) }
     {
         if !self.sending || self.marker.is_some() {
             self.sending = false;
@@ -161,7 +165,8 @@ impl<V: Drop> ChannelEnd<V> {
     pub fn set_callback(&mut self) -> Result<Waiting<V>, HasCallback>
         ensures gives { waiting_of result ≡ hook_gives self.old }
         ensures after { self.new ≡ after_hook self.old }
-        ensures history { (h : List (EndCall V)) → Stands self.old h → Stands self.new (Set_callback (waiting_of result) ∷ h) }
+        ensures history { (h : List (EndCall V)) → Stands self.old h →
+            Stands self.new (Set_callback (waiting_of result) ∷ h) }
     {
         if self.callback {
             return Err(HasCallback);
@@ -176,7 +181,8 @@ impl<V: Drop> ChannelEnd<V> {
     pub fn receive(&mut self) -> Result<Got<V>, HasCallback>
         ensures gives { result ≡ receive_gives self.old }
         ensures after { self.new ≡ after_receive self.old }
-        ensures history { (h : List (EndCall V)) → Stands self.old h → Stands self.new (Receive result ∷ h) }
+        ensures history { (h : List (EndCall V)) → Stands self.old h →
+            Stands self.new (Receive result ∷ h) }
     {
         if self.callback {
             return Err(HasCallback);

@@ -16,9 +16,11 @@ pub fn wait_for<R: Wait, K: Children>(
     is_whole: bool,
 ) -> Outcome
     requires { IsTrue (K.is_read child) }
-    ensures waited { Waited is_whole (K.place child) result (K.runs children.old) (K.runs children.new) }
+    ensures waited { Waited is_whole (K.place child) result (K.runs children.old)
+        (K.runs children.new) }
     ensures later { K.faults children.old ≤ K.faults children.new }
-    ensures faults { is_whole ≡ true → RoseBy (fault_count result) (K.faults children.old) (K.faults children.new) }
+    ensures faults { is_whole ≡ true →
+        RoseBy (fault_count result) (K.faults children.old) (K.faults children.new) }
     ensures still { fault_count result ≡ 0 → K.faults children.new ≡ K.faults children.old }
 {
     match children.wait(rt, child) {

@@ -69,7 +69,8 @@ fn take_job<J: Job, R: Wait>(rt: &R, call: &Parker, from: &mut Consumer<J>) -> J
 // Takes the next job and runs it.
 fn run_next<J: Job, R: Wait>(rt: &R, call: Arc<Parker>, from: Consumer<J>) -> Ran<J, J::Out>
     ensures same { SameConsumer from result.from }
-    ensures ran { (job : J) × (received result.from ≡ received from ++ job ∷ []) × J.gives job result.out }
+    ensures ran { (job : J) × (received result.from ≡ received from ++ job ∷ [])
+        × J.gives job result.out }
 {
     let mut from = from;
     let next = take_job(rt, &call, &mut from);

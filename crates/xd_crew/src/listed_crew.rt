@@ -39,8 +39,10 @@ impl<J: Job, R: Threads + Drop> Crew<J> for ListedCrew<J, R> {
         ensures started { IfOk result (λ handle. handle.job.value ≡ job) }
         ensures back { IfErr result (λ back. back ≡ job) }
         ensures counted { Counted (is_ok result) self.old.plan.faults self.new.plan.faults }
-        ensures listed { list_any (λ n. n == self.old.plan.calls) self.old.plan.fails ≡ true → IsErr result }
-        ensures next { self.old.plan.calls < 2 ^ 64 - 1 → self.new.plan.calls ≡ self.old.plan.calls + 1 }
+        ensures listed { list_any (λ n. n == self.old.plan.calls) self.old.plan.fails ≡ true →
+            IsErr result }
+        ensures next { self.old.plan.calls < 2 ^ 64 - 1 →
+            self.new.plan.calls ≡ self.old.plan.calls + 1 }
         ensures fails { self.new.plan.fails ≡ self.old.plan.fails }
     {
         if self.plan.step().is_err() {

@@ -41,7 +41,8 @@ impl ListedHub {
         ensures given { result.given.items ≡ [] }
         ensures started { result.started ≡ [] }
         ensures calls { result.calls.items ≡ [] }
-        ensures fresh { (w : ℕ) → marks_by result.started result.calls.items result.given.items w ≡ no_marks }
+        ensures fresh { (w : ℕ) →
+            marks_by result.started result.calls.items result.given.items w ≡ no_marks }
     {
         ListedHub {
             news,
@@ -71,7 +72,8 @@ fn is_breach(what: &What) -> bool
 
 // The next piece of news in the list that may be given; those before it are dropped.
 fn next_listed(news: &mut VecDeque<News>, started: &[u32]) -> Option<News>
-    ensures gives { from_started started.now news.old.items ≡ option_to_list result ++ news.new.items }
+    ensures gives { from_started started.now news.old.items ≡ option_to_list result
+        ++ news.new.items }
     ensures may { IfSome result (λ n. may_give started.now n ≡ true) }
     ensures spent { IsNone result → news.new.items ≡ [] }
 {
@@ -113,8 +115,10 @@ fn next_news(news: &mut VecDeque<News>, started: &[u32], turn: &mut usize) -> Ne
 impl ListedHub {
     // Where the start of the worker is to be refused, that is the next news.
     fn refuse(&mut self, worker: u32) -> Result<(), OutOfMemory>
-        ensures news { OnOk result (self.new.news.items ≡ refusal_of worker self.old.refused ++ self.old.news.items) }
-        ensures rest { (self.new.given ≡ self.old.given) × (self.new.started ≡ self.old.started) × (self.new.calls ≡ self.old.calls) × (self.new.refused ≡ self.old.refused) }
+        ensures news { OnOk result
+            (self.new.news.items ≡ refusal_of worker self.old.refused ++ self.old.news.items) }
+        ensures rest { (self.new.given ≡ self.old.given) × (self.new.started ≡ self.old.started)
+            × (self.new.calls ≡ self.old.calls) × (self.new.refused ≡ self.old.refused) }
     {
         if is_among(worker, &self.refused.items) {
             self.news.push_front(News {
@@ -145,8 +149,10 @@ impl Hub for ListedHub {
         requires new { is_among worker self.old.started ≡ false }
         requires slot { slot < 32 }
         ensures started { OnOk result (self.new.started ≡ self.old.started ++ worker ∷ []) }
-        ensures called { OnOk result (self.new.calls.items ≡ self.old.calls.items ++ Start worker slot ∷ []) }
-        ensures news { OnOk result (self.new.news.items ≡ refusal_of worker self.old.refused ++ self.old.news.items) }
+        ensures called { OnOk result
+            (self.new.calls.items ≡ self.old.calls.items ++ Start worker slot ∷ []) }
+        ensures news { OnOk result
+            (self.new.news.items ≡ refusal_of worker self.old.refused ++ self.old.news.items) }
         ensures given { OnOk result (self.new.given.items ≡ self.old.given.items) }
         ensures refused { self.new.refused ≡ self.old.refused }
     {
@@ -160,8 +166,10 @@ impl Hub for ListedHub {
 
     fn say(&mut self, alloc: Global, worker: u32, order: &Entry) -> Result<(), OutOfMemory>
         requires order { is_order worker order.now ≡ true }
-        requires told { may_tell (marks_by self.old.started self.old.calls.items self.old.given.items worker) ≡ true }
-        ensures called { OnOk result (self.new.calls.items ≡ self.old.calls.items ++ order.now ∷ []) }
+        requires told { may_tell (marks_by self.old.started self.old.calls.items
+            self.old.given.items worker) ≡ true }
+        ensures called { OnOk result
+            (self.new.calls.items ≡ self.old.calls.items ++ order.now ∷ []) }
         ensures news { self.new.news ≡ self.old.news }
         ensures started { OnOk result (self.new.started ≡ self.old.started) }
         ensures given { OnOk result (self.new.given.items ≡ self.old.given.items) }
@@ -190,9 +198,11 @@ impl Hub for ListedHub {
         ensures started { IfOk result (λ n. is_among n.worker self.old.started ≡ true) }
         ensures no_breach { IfOk result (λ n. is_breach n.what ≡ false) }
         ensures given { IfOk result (λ n. self.new.given.items ≡ self.old.given.items ++ n ∷ []) }
-        ensures same { OnOk result ((self.new.started ≡ self.old.started) × (self.new.calls ≡ self.old.calls)) }
+        ensures same { OnOk result ((self.new.started ≡ self.old.started)
+            × (self.new.calls ≡ self.old.calls)) }
         ensures refused { self.new.refused ≡ self.old.refused }
-        ensures listed { IfOk result (λ n. GivesListed self.old.started self.old.news.items n self.new.news.items) }
+        ensures listed { IfOk result (λ n.
+            GivesListed self.old.started self.old.news.items n self.new.news.items) }
     {
         let news = next_news(&mut self.news, &self.started.items, &mut self.turn);
         self.given.push(copy_news(alloc, &news)?)?;

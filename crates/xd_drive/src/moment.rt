@@ -15,7 +15,15 @@ pub trait Witness<H: Hub, O: Sink> {
 
     /// Looks at the two as they stand now.
     fn look(&mut self, hub: &H, out: &O)
-        ensures { seen self.new ≡ option_map (λ l. l ++ (record { marks = H.marks hub.now; starts = H.starts hub.now; calls = H.calls hub.now; given = H.given hub.now; sunk = O.sunk out.now }) ∷ []) (seen self.old) };
+        ensures { seen self.new ≡ option_map (λ l.
+            l ++ (record {
+              marks = H.marks hub.now;
+              starts = H.starts hub.now;
+              calls = H.calls hub.now;
+              given = H.given hub.now;
+              sunk = O.sunk out.now;
+            }) ∷ [])
+            (seen self.old) };
 }
 
 /// How a hub and an output stood at one moment. Clauses alone read it, and it keeps nothing of the two.

@@ -40,15 +40,45 @@ fn tell_entries<H: Hub, O: Sink, W: Witness<H, O>>(
 ) -> Result<bool, OutOfMemory>
     requires order { from ≤ to }
     requires within { to ≤ length journal.now.entries.items }
-    requires follows { Follows reporter.old (after_entries (no_one journal.now.settings) (take from journal.now.entries.items)) }
-    requires possible { all_possible (H.slots hub.old) (H.marks hub.old) (entries_between from to journal.now.entries.items) ≡ true }
-    ensures tells { IfOk result (λ shown. TellsEntries shown (entries_between from to journal.now.entries.items) (lines_between journal.now from to)
-        (record { marks = H.marks hub.old; starts = H.starts hub.old; calls = H.calls hub.old; given = H.given hub.old; sunk = O.sunk out.old })
-        (record { marks = H.marks hub.new; starts = H.starts hub.new; calls = H.calls hub.new; given = H.given hub.new; sunk = O.sunk out.new })) }
-    ensures follows { OnOk result (Follows reporter.new (after_entries (no_one journal.now.settings) (take to journal.now.entries.items))) }
+    requires follows { Follows reporter.old
+        (after_entries (no_one journal.now.settings) (take from journal.now.entries.items)) }
+    requires possible { all_possible (H.slots hub.old) (H.marks hub.old)
+        (entries_between from to journal.now.entries.items) ≡ true }
+    ensures tells { IfOk result (λ shown.
+        TellsEntries shown (entries_between from to journal.now.entries.items)
+        (lines_between journal.now from to)
+        (record {
+          marks = H.marks hub.old;
+          starts = H.starts hub.old;
+          calls = H.calls hub.old;
+          given = H.given hub.old;
+          sunk = O.sunk out.old;
+        })
+        (record {
+          marks = H.marks hub.new;
+          starts = H.starts hub.new;
+          calls = H.calls hub.new;
+          given = H.given hub.new;
+          sunk = O.sunk out.new;
+        })) }
+    ensures follows { OnOk result
+        (Follows reporter.new (after_entries (no_one journal.now.settings)
+        (take to journal.now.entries.items))) }
     ensures notes { IfOk result (λ shown. NotesTurn shown
-        (record { marks = H.marks hub.old; starts = H.starts hub.old; calls = H.calls hub.old; given = H.given hub.old; sunk = O.sunk out.old })
-        (record { marks = H.marks hub.new; starts = H.starts hub.new; calls = H.calls hub.new; given = H.given hub.new; sunk = O.sunk out.new })
+        (record {
+          marks = H.marks hub.old;
+          starts = H.starts hub.old;
+          calls = H.calls hub.old;
+          given = H.given hub.old;
+          sunk = O.sunk out.old;
+        })
+        (record {
+          marks = H.marks hub.new;
+          starts = H.starts hub.new;
+          calls = H.calls hub.new;
+          given = H.given hub.new;
+          sunk = O.sunk out.new;
+        })
         (W.seen witness.old) (W.seen witness.new)) }
     ensures slots { H.slots hub.new ≡ H.slots hub.old }
     ensures made { H.made hub.new ≡ H.made hub.old }
@@ -83,19 +113,51 @@ fn tell_news<M: Mode, H: Hub, O: Sink, W: Witness<H, O>>(
     witness: &mut W,
 ) -> Result<bool, OutOfMemory>
     requires stands { (taken : List News) × StandsFor taken session.old }
-    requires follows { Follows reporter.old (after_entries (no_one session.old.settings) session.old.entries) }
+    requires follows { Follows reporter.old
+        (after_entries (no_one session.old.settings) session.old.entries) }
     requires active { is_active news.worker (state_of session.old).books ≡ true }
-    requires possible { (taken : List News) → StandsFor taken session.old → all_possible (H.slots hub.old) (H.marks hub.old) (added_by session.old.settings taken news) ≡ true }
-    ensures stands { OnOk result ((taken : List News) → StandsFor taken session.old → StandsFor (taken ++ news ∷ []) session.new) }
+    requires possible { (taken : List News) → StandsFor taken session.old →
+        all_possible (H.slots hub.old) (H.marks hub.old)
+        (added_by session.old.settings taken news) ≡ true }
+    ensures stands { OnOk result ((taken : List News) → StandsFor taken session.old →
+        StandsFor (taken ++ news ∷ []) session.new) }
     ensures settings { session.new.settings ≡ session.old.settings }
-    ensures tells { IfOk result (λ shown. (taken : List News) → StandsFor taken session.old → TellsEntries shown (added_by session.old.settings taken news) (lines_from (after_entries (no_one session.old.settings) session.old.entries) (added_by session.old.settings taken news))
-        (record { marks = H.marks hub.old; starts = H.starts hub.old; calls = H.calls hub.old; given = H.given hub.old; sunk = O.sunk out.old })
-        (record { marks = H.marks hub.new; starts = H.starts hub.new; calls = H.calls hub.new; given = H.given hub.new; sunk = O.sunk out.new })) }
+    ensures tells { IfOk result (λ shown. (taken : List News) → StandsFor taken session.old →
+        TellsEntries shown (added_by session.old.settings taken news)
+        (lines_from (after_entries (no_one session.old.settings) session.old.entries)
+        (added_by session.old.settings taken news))
+        (record {
+          marks = H.marks hub.old;
+          starts = H.starts hub.old;
+          calls = H.calls hub.old;
+          given = H.given hub.old;
+          sunk = O.sunk out.old;
+        })
+        (record {
+          marks = H.marks hub.new;
+          starts = H.starts hub.new;
+          calls = H.calls hub.new;
+          given = H.given hub.new;
+          sunk = O.sunk out.new;
+        })) }
     ensures notes { IfOk result (λ shown. NotesTurn shown
-        (record { marks = H.marks hub.old; starts = H.starts hub.old; calls = H.calls hub.old; given = H.given hub.old; sunk = O.sunk out.old })
-        (record { marks = H.marks hub.new; starts = H.starts hub.new; calls = H.calls hub.new; given = H.given hub.new; sunk = O.sunk out.new })
+        (record {
+          marks = H.marks hub.old;
+          starts = H.starts hub.old;
+          calls = H.calls hub.old;
+          given = H.given hub.old;
+          sunk = O.sunk out.old;
+        })
+        (record {
+          marks = H.marks hub.new;
+          starts = H.starts hub.new;
+          calls = H.calls hub.new;
+          given = H.given hub.new;
+          sunk = O.sunk out.new;
+        })
         (W.seen witness.old) (W.seen witness.new)) }
-    ensures follows { OnOk result (Follows reporter.new (after_entries (no_one session.new.settings) session.new.entries)) }
+    ensures follows { OnOk result
+        (Follows reporter.new (after_entries (no_one session.new.settings) session.new.entries)) }
     ensures slots { H.slots hub.new ≡ H.slots hub.old }
     ensures made { H.made hub.new ≡ H.made hub.old }
     ensures later { O.faults out.old ≤ O.faults out.new }
@@ -128,22 +190,49 @@ pub(crate) fn take_news<R: Wait, M: Mode, H: Hub, O: Sink, W: Witness<H, O>>(
 ) -> Result<Written, OutOfMemory>
     requires proper { IsProper session.old.settings [] }
     requires stands { (taken : List News) × StandsFor taken session.old }
-    requires follows { Follows reporter.old (after_entries (no_one session.old.settings) session.old.entries) }
+    requires follows { Follows reporter.old
+        (after_entries (no_one session.old.settings) session.old.entries) }
     requires slots { session.old.settings.workers ≤ H.slots hub.old }
     requires agrees { Agrees (state_of session.old).books (H.marks hub.old) }
     requires someone { (w : ℕ) × ((H.marks hub.old w).started ≡ true) }
     ensures takes { IfOk result (λ written. (n : News) × TakesNews n written session.old session.new
-        (record { marks = H.marks hub.old; starts = H.starts hub.old; calls = H.calls hub.old; given = H.given hub.old; sunk = O.sunk out.old })
-        (record { marks = H.marks hub.new; starts = H.starts hub.new; calls = H.calls hub.new; given = H.given hub.new; sunk = O.sunk out.new })) }
+        (record {
+          marks = H.marks hub.old;
+          starts = H.starts hub.old;
+          calls = H.calls hub.old;
+          given = H.given hub.old;
+          sunk = O.sunk out.old;
+        })
+        (record {
+          marks = H.marks hub.new;
+          starts = H.starts hub.new;
+          calls = H.calls hub.new;
+          given = H.given hub.new;
+          sunk = O.sunk out.new;
+        })) }
     ensures notes { IfOk result (λ written. NotesNews written session.old session.new
-        (record { marks = H.marks hub.old; starts = H.starts hub.old; calls = H.calls hub.old; given = H.given hub.old; sunk = O.sunk out.old })
-        (record { marks = H.marks hub.new; starts = H.starts hub.new; calls = H.calls hub.new; given = H.given hub.new; sunk = O.sunk out.new })
+        (record {
+          marks = H.marks hub.old;
+          starts = H.starts hub.old;
+          calls = H.calls hub.old;
+          given = H.given hub.old;
+          sunk = O.sunk out.old;
+        })
+        (record {
+          marks = H.marks hub.new;
+          starts = H.starts hub.new;
+          calls = H.calls hub.new;
+          given = H.given hub.new;
+          sunk = O.sunk out.new;
+        })
         (W.seen witness.old) (W.seen witness.new)) }
-    ensures follows { OnOk result (Follows reporter.new (after_entries (no_one session.new.settings) session.new.entries)) }
+    ensures follows { OnOk result
+        (Follows reporter.new (after_entries (no_one session.new.settings) session.new.entries)) }
     ensures slots { H.slots hub.new ≡ H.slots hub.old }
     ensures made { H.made hub.new ≡ H.made hub.old }
     ensures later { O.faults out.old ≤ O.faults out.new }
-    ensures counted { IfOk result (λ written. Counted (is_whole written) (O.faults out.old) (O.faults out.new)) }
+    ensures counted { IfOk result (λ written.
+        Counted (is_whole written) (O.faults out.old) (O.faults out.new)) }
 {
     let news = hub.next(rt, alloc)?;
     if !session.is_active(news.worker) {

@@ -10,8 +10,11 @@ use xd_journal::Entry;
 // Calls the hub for one entry, where it is an output.
 fn perform_one<H: Hub>(alloc: Global, hub: &mut H, entry: &Entry) -> Result<(), OutOfMemory>
     requires { possible (H.slots hub.old) (H.marks hub.old) entry.now ≡ true }
-    ensures performs { OnOk result (Performs (entry.now ∷ []) (H.starts hub.old) (H.starts hub.new) (H.calls hub.old) (H.calls hub.new)) }
-    ensures marks { OnOk result ((w : ℕ) → H.marks hub.new w ≡ marks_after_entry entry.now (H.marks hub.old) w) }
+    ensures performs { OnOk result
+        (Performs (entry.now ∷ []) (H.starts hub.old) (H.starts hub.new) (H.calls hub.old)
+        (H.calls hub.new)) }
+    ensures marks { OnOk result ((w : ℕ) →
+        H.marks hub.new w ≡ marks_after_entry entry.now (H.marks hub.old) w) }
     ensures given { OnOk result (H.given hub.new ≡ H.given hub.old) }
     ensures slots { H.slots hub.new ≡ H.slots hub.old }
     ensures made { H.made hub.new ≡ H.made hub.old }
@@ -37,8 +40,11 @@ pub(crate) fn perform<H: Hub>(
     entries: &[Entry],
 ) -> Result<(), OutOfMemory>
     requires { all_possible (H.slots hub.old) (H.marks hub.old) entries.now ≡ true }
-    ensures performs { OnOk result (Performs entries.now (H.starts hub.old) (H.starts hub.new) (H.calls hub.old) (H.calls hub.new)) }
-    ensures marks { OnOk result ((w : ℕ) → H.marks hub.new w ≡ marks_after entries.now (H.marks hub.old) w) }
+    ensures performs { OnOk result
+        (Performs entries.now (H.starts hub.old) (H.starts hub.new) (H.calls hub.old)
+        (H.calls hub.new)) }
+    ensures marks { OnOk result ((w : ℕ) →
+        H.marks hub.new w ≡ marks_after entries.now (H.marks hub.old) w) }
     ensures given { OnOk result (H.given hub.new ≡ H.given hub.old) }
     ensures slots { H.slots hub.new ≡ H.slots hub.old }
     ensures made { H.made hub.new ≡ H.made hub.old }
@@ -80,9 +86,14 @@ fn kill_one<H: Hub>(
     done: &[Entry],
     entry: &Entry,
 ) -> Result<(), OutOfMemory>
-    requires { all_possible (H.slots hub.old) (H.marks hub.old) (kills_of_started done.now (entry.now ∷ [])) ≡ true }
-    ensures performs { OnOk result (Performs (kills_of_started done.now (entry.now ∷ [])) (H.starts hub.old) (H.starts hub.new) (H.calls hub.old) (H.calls hub.new)) }
-    ensures marks { OnOk result ((w : ℕ) → H.marks hub.new w ≡ marks_after (kills_of_started done.now (entry.now ∷ [])) (H.marks hub.old) w) }
+    requires { all_possible (H.slots hub.old) (H.marks hub.old)
+        (kills_of_started done.now (entry.now ∷ [])) ≡ true }
+    ensures performs { OnOk result
+        (Performs (kills_of_started done.now (entry.now ∷ [])) (H.starts hub.old) (H.starts hub.new)
+        (H.calls hub.old) (H.calls hub.new)) }
+    ensures marks { OnOk result ((w : ℕ) →
+        H.marks hub.new w ≡ marks_after (kills_of_started done.now (entry.now ∷ []))
+        (H.marks hub.old) w) }
     ensures given { OnOk result (H.given hub.new ≡ H.given hub.old) }
     ensures slots { H.slots hub.new ≡ H.slots hub.old }
     ensures made { H.made hub.new ≡ H.made hub.old }
@@ -101,8 +112,11 @@ pub(crate) fn kill_started<H: Hub>(
     done: &[Entry],
     entries: &[Entry],
 ) -> Result<(), OutOfMemory>
-    requires { all_possible (H.slots hub.old) (H.marks hub.old) (kills_of_started done.now entries.now) ≡ true }
-    ensures performs { OnOk result (Performs (kills_of_started done.now entries.now) (H.starts hub.old) (H.starts hub.new) (H.calls hub.old) (H.calls hub.new)) }
+    requires { all_possible (H.slots hub.old) (H.marks hub.old)
+        (kills_of_started done.now entries.now) ≡ true }
+    ensures performs { OnOk result
+        (Performs (kills_of_started done.now entries.now) (H.starts hub.old) (H.starts hub.new)
+        (H.calls hub.old) (H.calls hub.new)) }
     ensures given { OnOk result (H.given hub.new ≡ H.given hub.old) }
     ensures made { H.made hub.new ≡ H.made hub.old }
 {

@@ -14,7 +14,8 @@ use xd_report::{Reporter, print_lines, print_tail, was_printed};
 
 /// A reporter that went over the journal so far.
 pub(crate) fn reporter_of(alloc: Global, journal: &Journal) -> Result<Reporter, OutOfMemory>
-    ensures { IfOk result (λ r. Follows r (after_entries (no_one journal.now.settings) journal.now.entries.items)) }
+    ensures { IfOk result (λ r.
+        Follows r (after_entries (no_one journal.now.settings) journal.now.entries.items)) }
 {
     let mut reporter = Reporter::new(alloc, journal.settings);
     reporter.follow(alloc, &journal.entries)?;
@@ -33,9 +34,13 @@ pub(crate) fn print_between<O: Sink>(
 ) -> Result<bool, OutOfMemory>
     requires order { from ≤ to }
     requires within { to ≤ length journal.now.entries.items }
-    requires follows { Follows reporter.old (after_entries (no_one journal.now.settings) (take from journal.now.entries.items)) }
-    ensures shows { IfOk result (λ shown. ShowsLines shown (lines_between journal.now from to) (O.sunk out.old) (O.sunk out.new)) }
-    ensures follows { OnOk result (Follows reporter.new (after_entries (no_one journal.now.settings) (take to journal.now.entries.items))) }
+    requires follows { Follows reporter.old
+        (after_entries (no_one journal.now.settings) (take from journal.now.entries.items)) }
+    ensures shows { IfOk result (λ shown.
+        ShowsLines shown (lines_between journal.now from to) (O.sunk out.old) (O.sunk out.new)) }
+    ensures follows { OnOk result
+        (Follows reporter.new (after_entries (no_one journal.now.settings)
+        (take to journal.now.entries.items))) }
     ensures later { O.faults out.old ≤ O.faults out.new }
     ensures counted { IfOk result (λ shown. Counted shown (O.faults out.old) (O.faults out.new)) }
 {
@@ -50,7 +55,8 @@ pub(crate) fn print_end<O: Sink>(
     journal: &Journal,
     out: &mut O,
 ) -> Result<bool, OutOfMemory>
-    ensures shows { IfOk result (λ shown. ShowsEnd shown (tail_text journal.now) (O.sunk out.old) (O.sunk out.new)) }
+    ensures shows { IfOk result (λ shown.
+        ShowsEnd shown (tail_text journal.now) (O.sunk out.old) (O.sunk out.new)) }
     ensures later { O.faults out.old ≤ O.faults out.new }
     ensures counted { IfOk result (λ shown. Counted shown (O.faults out.old) (O.faults out.new)) }
 {

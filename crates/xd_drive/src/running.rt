@@ -39,9 +39,11 @@ pub struct DrivenRun {
 
 // Prints the tail of a journal that was performed, and closes the output.
 fn finish<O: Sink>(alloc: Global, journal: &Journal, out: &mut O) -> Result<Written, OutOfMemory>
-    ensures ends { IfOk result (λ written. EndsTail written journal.now (O.sunk out.old) (O.sunk out.new)) }
+    ensures ends { IfOk result (λ written.
+        EndsTail written journal.now (O.sunk out.old) (O.sunk out.new)) }
     ensures later { O.faults out.old ≤ O.faults out.new }
-    ensures counted { IfOk result (λ written. Counted (is_whole written) (O.faults out.old) (O.faults out.new)) }
+    ensures counted { IfOk result (λ written.
+        Counted (is_whole written) (O.faults out.old) (O.faults out.new)) }
 {
     let shown = print_end(alloc, journal, out)?;
     if shown {
@@ -64,20 +66,43 @@ fn run<R: Wait, M: Mode, H: Hub, O: Sink, W: Witness<H, O>>(
 ) -> Result<Written, OutOfMemory>
     requires proper { IsProper session.old.settings [] }
     requires begins { StandsFor [] session.old }
-    requires follows { Follows reporter.old (after_entries (no_one session.old.settings) session.old.entries) }
+    requires follows { Follows reporter.old
+        (after_entries (no_one session.old.settings) session.old.entries) }
     requires slots { session.old.settings.workers ≤ H.slots hub.old }
     requires fresh { HasNoMarks (H.marks hub.old) }
     ensures ends { IfOk result (λ written. EndsRun written session.new
-        (record { marks = H.marks hub.old; starts = H.starts hub.old; calls = H.calls hub.old; given = H.given hub.old; sunk = O.sunk out.old })
-        (record { marks = H.marks hub.new; starts = H.starts hub.new; calls = H.calls hub.new; given = H.given hub.new; sunk = O.sunk out.new })) }
-    ensures in_order { IfOk result (λ written. ToldInOrder session.new.settings (performed_of written session.new.entries) session.new.entries
-        (record { marks = H.marks hub.old; starts = H.starts hub.old; calls = H.calls hub.old; given = H.given hub.old; sunk = O.sunk out.old })
+        (record {
+          marks = H.marks hub.old;
+          starts = H.starts hub.old;
+          calls = H.calls hub.old;
+          given = H.given hub.old;
+          sunk = O.sunk out.old;
+        })
+        (record {
+          marks = H.marks hub.new;
+          starts = H.starts hub.new;
+          calls = H.calls hub.new;
+          given = H.given hub.new;
+          sunk = O.sunk out.new;
+        })) }
+    ensures in_order { IfOk result (λ written.
+        ToldInOrder session.new.settings
+        (performed_of written session.new.entries) session.new.entries
+        (record {
+          marks = H.marks hub.old;
+          starts = H.starts hub.old;
+          calls = H.calls hub.old;
+          given = H.given hub.old;
+          sunk = O.sunk out.old;
+        })
         (W.seen witness.new)) }
     ensures settings { OnOk result (session.new.settings ≡ session.old.settings) }
-    ensures follows { OnOk result (Follows reporter.new (after_entries (no_one session.new.settings) session.new.entries)) }
+    ensures follows { OnOk result
+        (Follows reporter.new (after_entries (no_one session.new.settings) session.new.entries)) }
     ensures made { H.made hub.new ≡ H.made hub.old }
     ensures later { O.faults out.old ≤ O.faults out.new }
-    ensures counted { IfOk result (λ written. Counted (is_whole written) (O.faults out.old) (O.faults out.new)) }
+    ensures counted { IfOk result (λ written.
+        Counted (is_whole written) (O.faults out.old) (O.faults out.new)) }
 {
     witness.look(hub, out);
     perform(alloc, hub, &session.journal().entries)?;

@@ -14,7 +14,8 @@ pub(crate) struct Runs {
     // the last number of each run, under its first
     lasts: BTreeMap<u32, u32>,
     ghost forward: { (a : ℕ) → (b : ℕ) → get nat_cmp lasts a ≡ Some b → a ≤ b },
-    ghost apart: { (a : ℕ) → (b : ℕ) → (c : ℕ) → get nat_cmp lasts a ≡ Some b → a < c → IsSome (get nat_cmp lasts c) → b + 1 < c },
+    ghost apart: { (a : ℕ) → (b : ℕ) → (c : ℕ) → get nat_cmp lasts a ≡ Some b → a < c →
+        IsSome (get nat_cmp lasts c) → b + 1 < c },
 }
 
 // The first and the last number of a run.
@@ -69,9 +70,12 @@ impl Runs {
     fn first_joined(&self, number: u32) -> Option<u32>
         ensures known { IfNone result (has self.now number ≡ true) }
         ensures below { IfSome result (λ a. a ≤ number) }
-        ensures starts { IfSome result (λ a. a < number → get nat_cmp self.now.lasts a ≡ Some (number - 1)) }
-        ensures free { IfSome result (λ a. (q : ℕ) → (b : ℕ) → get nat_cmp self.now.lasts q ≡ Some b → q ≤ number → b < number) }
-        ensures ends { IfSome result (λ a. (q : ℕ) → (b : ℕ) → get nat_cmp self.now.lasts q ≡ Some b → b + 1 ≡ number → q ≡ a) }
+        ensures starts { IfSome result (λ a. a < number →
+            get nat_cmp self.now.lasts a ≡ Some (number - 1)) }
+        ensures free { IfSome result (λ a. (q : ℕ) → (b : ℕ) →
+            get nat_cmp self.now.lasts q ≡ Some b → q ≤ number → b < number) }
+        ensures ends { IfSome result (λ a. (q : ℕ) → (b : ℕ) →
+            get nat_cmp self.now.lasts q ≡ Some b → b + 1 ≡ number → q ≡ a) }
     {
         match self.run_before(number) {
             Some(run) if number <= run.last => None,
@@ -84,7 +88,8 @@ impl Runs {
     fn run_before(&self, number: u32) -> Option<Run>
         ensures run { IfSome result (λ r. get nat_cmp self.now.lasts r.first ≡ Some r.last) }
         ensures before { IfSome result (λ r. r.first ≤ number) }
-        ensures greatest { IfSome result (λ r. (q : ℕ) → q ≤ number → IsSome (get nat_cmp self.now.lasts q) → q ≤ r.first) }
+        ensures greatest { IfSome result (λ r. (q : ℕ) → q ≤ number →
+            IsSome (get nat_cmp self.now.lasts q) → q ≤ r.first) }
         ensures ordered { IsOrdered nat_cmp self.now.lasts }
         ensures none { IfNone result ((q : ℕ) → q ≤ number → get nat_cmp self.now.lasts q ≡ None) }
     {

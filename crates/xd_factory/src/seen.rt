@@ -35,8 +35,10 @@ impl Seen {
     pub(crate) fn insert(&mut self, parity: Parity, number: u32) -> Result<(), AllocError>
         requires peer { is_mine parity number ≡ false }
         requires number { number ≤ 2147483647 }
-        ensures ok { OnOk result ((next : ℕ) → (c : ℕ) → is_known parity next self.new c ≡ (number == c) || is_known parity next self.old c) }
-        ensures err { OnErr result ((next : ℕ) → (c : ℕ) → is_known parity next self.new c ≡ is_known parity next self.old c) }
+        ensures ok { OnOk result ((next : ℕ) → (c : ℕ) →
+            is_known parity next self.new c ≡ (number == c) || is_known parity next self.old c) }
+        ensures err { OnErr result ((next : ℕ) → (c : ℕ) →
+            is_known parity next self.new c ≡ is_known parity next self.old c) }
     {
         self.places.insert(number / 2)
     }

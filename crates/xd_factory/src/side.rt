@@ -41,7 +41,8 @@ pub struct Side {
     ghost own: { is_mine parity next ≡ true },
     ghost positive: { 0 < next },
     ghost few: { tree.btree_map_len ends ≤ 4096 },
-    ghost known: { (c : ℕ) → IsSome (tree.get nat_cmp ends c) → is_known parity next seen c ≡ true },
+    ghost known: { (c : ℕ) → IsSome (tree.get nat_cmp ends c) →
+        is_known parity next seen c ≡ true },
     ghost numbers: { (c : ℕ) → is_known parity next seen c ≡ true → c ≤ 2147483647 },
 }
 
@@ -77,7 +78,8 @@ impl Side {
     pub fn status(&self) -> u32
         ensures count { result ≡ entry_count self.now }
         ensures numbers { result ≡ length (numbers_of self.now) }
-        ensures entries { (c : ℕ) → is_here (slot_of_number self.now c) ≡ is_in c (numbers_of self.now) }
+        ensures entries { (c : ℕ) →
+            is_here (slot_of_number self.now c) ≡ is_in c (numbers_of self.now) }
         ensures once { IsStrictlySortedBy nat_cmp (numbers_of self.now) }
     {
         self.ends.len() as u32
@@ -106,7 +108,9 @@ impl Side {
 
     // An entry that is done leaves the table.
     fn settle(&mut self, number: u32, done: bool)
-        ensures slots { (c : ℕ) → slot_of_number self.new c ≡ (if number == c then left_slot done (slot_of_number self.old c) else slot_of_number self.old c) }
+        ensures slots { (c : ℕ) →
+            slot_of_number self.new c ≡ (if number == c then left_slot done
+            (slot_of_number self.old c) else slot_of_number self.old c) }
         ensures rest { KeepsRest self.old self.new }
     {
         if done {

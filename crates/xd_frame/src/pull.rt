@@ -45,7 +45,9 @@ pub fn pull_bytes<R: Wait, S: Source>(
     held: &mut Vec<u8>,
     source: &mut S,
 ) -> Result<Pulled, PullFault>
-    ensures { Draws result held.old.items held.new.items (spring (S.supply source.old) (S.is_ended source.old) (S.faults source.old)) (spring (S.supply source.new) (S.is_ended source.new) (S.faults source.new)) }
+    ensures { Draws result held.old.items held.new.items
+        (spring (S.supply source.old) (S.is_ended source.old) (S.faults source.old))
+        (spring (S.supply source.new) (S.is_ended source.new) (S.faults source.new)) }
 {
     let size = missing(held.as_slice()).min(BLOCK);
     let read = read_on(rt, held, size, source)?;
@@ -91,8 +93,14 @@ fn read_on<R: Wait, S: Source>(
     source: &mut S,
 ) -> Result<usize, PullFault>
     requires { size ≤ 65536 }
-    ensures read { IfOk result (λ n. ReadsOn n size held.old.items held.new.items (spring (S.supply source.old) (S.is_ended source.old) (S.faults source.old)) (spring (S.supply source.new) (S.is_ended source.new) (S.faults source.new))) }
-    ensures unread { IfErr result (λ fault. Unread fault held.old.items held.new.items (spring (S.supply source.old) (S.is_ended source.old) (S.faults source.old)) (spring (S.supply source.new) (S.is_ended source.new) (S.faults source.new))) }
+    ensures read { IfOk result (λ n.
+        ReadsOn n size held.old.items held.new.items
+        (spring (S.supply source.old) (S.is_ended source.old) (S.faults source.old))
+        (spring (S.supply source.new) (S.is_ended source.new) (S.faults source.new))) }
+    ensures unread { IfErr result (λ fault.
+        Unread fault held.old.items held.new.items
+        (spring (S.supply source.old) (S.is_ended source.old) (S.faults source.old))
+        (spring (S.supply source.new) (S.is_ended source.new) (S.faults source.new))) }
 {
     let begun = held.len();
     if held.resize(begun + size, 0).is_err() {

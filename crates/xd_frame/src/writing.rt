@@ -21,7 +21,8 @@ pub fn print_frame<N: Sink>(sink: &mut N, message: &Message) -> Result<(), Faile
 /// Writes the messages and hands them on; or takes a first part of them, and hands on nothing, where the sink failed.
 pub fn print_frames<N: Sink>(sink: &mut N, messages: &[Message]) -> Result<(), Failed>
     ensures ok { OnOk result (Printed (frames messages.now) (N.sunk sink.old) (N.sunk sink.new)) }
-    ensures part { OnErr result (TookPart (frames messages.now) (N.sunk sink.old) (N.sunk sink.new)) }
+    ensures part { OnErr result
+        (TookPart (frames messages.now) (N.sunk sink.old) (N.sunk sink.new)) }
     ensures counted { Counted (is_ok result) (N.faults sink.old) (N.faults sink.new) }
 {
     write_frames(sink, messages)?;
@@ -32,7 +33,8 @@ pub fn print_frames<N: Sink>(sink: &mut N, messages: &[Message]) -> Result<(), F
 /// Writes the messages; or takes a first part of them where the sink failed.
 pub fn write_frames<N: Sink>(sink: &mut N, messages: &[Message]) -> Result<(), Failed>
     ensures ok { OnOk result (Took (frames messages.now) (N.sunk sink.old) (N.sunk sink.new)) }
-    ensures part { OnErr result (TookPart (frames messages.now) (N.sunk sink.old) (N.sunk sink.new)) }
+    ensures part { OnErr result
+        (TookPart (frames messages.now) (N.sunk sink.old) (N.sunk sink.new)) }
     ensures counted { Counted (is_ok result) (N.faults sink.old) (N.faults sink.new) }
 {
     for message in messages {

@@ -19,7 +19,9 @@ pub(crate) struct Call<'a> {
 
 /// The call that a value is.
 pub(crate) fn call_of(value: &Value) -> Option<Call<'_>>
-    ensures { option_map (λ c. record { name = c.name.now; kwargs = pair_views c.kwargs.now }) result ≡ call_in (view value.now) }
+    ensures { option_map (λ c.
+        record { name = c.name.now; kwargs = pair_views c.kwargs.now }) result ≡ call_in
+        (view value.now) }
 {
     let Value::Tuple(items) = value else {
         return None;
@@ -32,7 +34,9 @@ pub(crate) fn call_of(value: &Value) -> Option<Call<'_>>
 
 /// The call of a text with a dict that has text keys.
 fn call_by<'a>(name: &'a Value, kwargs: &'a Value) -> Option<Call<'a>>
-    ensures { option_map (λ c. record { name = c.name.now; kwargs = pair_views c.kwargs.now }) result ≡ call_by (view name.now) (view kwargs.now) }
+    ensures { option_map (λ c.
+        record { name = c.name.now; kwargs = pair_views c.kwargs.now }) result ≡ call_by
+        (view name.now) (view kwargs.now) }
 {
     match (name, kwargs) {
         (Value::Text(name), Value::Dict(kwargs)) => {

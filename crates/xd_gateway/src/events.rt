@@ -125,7 +125,8 @@ fn event_called(alloc: Global, call: &Call<'_>) -> Result<Option<What>, OutOfMem
 }
 
 fn log_start_at(kwargs: &[(Value, Value)]) -> Option<What>
-    ensures { result ≡ both (λ n log. What.LogStart n log) (index_at (pair_views kwargs.now)) (log_at (pair_views kwargs.now)) }
+    ensures { result ≡ both (λ n log. What.LogStart n log) (index_at (pair_views kwargs.now))
+        (log_at (pair_views kwargs.now)) }
 {
     let index = index_at(kwargs)?;
     let log = channel_at(kwargs, "log")?;

@@ -48,7 +48,8 @@ pub(crate) fn integer_at(kwargs: &[(Value, Value)], key: &str) -> Option<i128>
 /// The text under a key.
 pub fn text_at<'a>(kwargs: &'a [(Value, Value)], key: &str) -> Option<&'a Text>
     requires { IsWord key.now }
-    ensures { option_map (λ t. t.now) result ≡ option_and_then text_in_tree (value_at key.now (pair_views kwargs.now)) }
+    ensures { option_map (λ t. t.now) result ≡ option_and_then text_in_tree
+        (value_at key.now (pair_views kwargs.now)) }
 {
     match value_at(kwargs, key)? {
         Value::Text(text) => Some(text),
@@ -70,7 +71,8 @@ pub(crate) fn channel_at(kwargs: &[(Value, Value)], key: &str) -> Option<u32>
 /// The items of the list under a key.
 fn items_at<'a>(kwargs: &'a [(Value, Value)], key: &str) -> Option<&'a [Value]>
     requires { IsWord key.now }
-    ensures { option_map (λ v. views v.now) result ≡ option_and_then items_of (value_at key.now (pair_views kwargs.now)) }
+    ensures { option_map (λ v. views v.now) result ≡ option_and_then items_of
+        (value_at key.now (pair_views kwargs.now)) }
 {
     match value_at(kwargs, key)? {
         Value::List(items) => Some(items.as_slice()),
@@ -147,7 +149,9 @@ pub(crate) fn texts_at(
     key: &str,
 ) -> Result<Option<Texts>, OutOfMemory>
     requires { IsWord key.now }
-    ensures { IfOk result (λ r. r ≡ option_and_then (each_of text_in_tree) (option_and_then items_of (value_at key.now (pair_views kwargs.now)))) }
+    ensures { IfOk result (λ r.
+        r ≡ option_and_then (each_of text_in_tree)
+        (option_and_then items_of (value_at key.now (pair_views kwargs.now)))) }
 {
     let Some(values) = items_at(kwargs, key) else {
         return Ok(None);
@@ -162,7 +166,8 @@ pub(crate) fn entry_of(
     value: Value,
 ) -> Result<(Value, Value), OutOfMemory>
     requires { IsWord key.now }
-    ensures { IfOk result (λ p. (ps : List (Value × Value)) → pair_views (p ∷ ps) ≡ pair (text key.now) (view value) (pair_views ps)) }
+    ensures { IfOk result (λ p. (ps : List (Value × Value)) →
+        pair_views (p ∷ ps) ≡ pair (text key.now) (view value) (pair_views ps)) }
 {
     let key = word_value(alloc, key)?;
     Ok((key, value))

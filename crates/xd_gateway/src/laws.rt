@@ -21,11 +21,13 @@ pub fn event_law()
 
 /// An order with at most 50,000 numbers of tests has a payload: it is never refused for its depth or its length.
 pub fn order_payload_law()
-    ensures { (o : Order) → IsOrder o → IsFew o → dumped (order_tree o) ≡ Ok (canonical (order_tree o)) }
+    ensures { (o : Order) → IsOrder o → IsFew o →
+        dumped (order_tree o) ≡ Ok (canonical (order_tree o)) }
 {}
 
 /// The call of `run_tests` for the path of a suite file and the word of a mode has a payload, each of at most 65,536 bytes.
 pub fn call_payload_law()
-    ensures { (suite mode : List ℕ) → length (encode_utf8_all suite) ≤ 65536 → length (encode_utf8_all mode) ≤ 65536
+    ensures { (suite mode : List ℕ) → length (encode_utf8_all suite) ≤ 65536 →
+        length (encode_utf8_all mode) ≤ 65536
         → dumped (run_tests_call suite mode) ≡ Ok (canonical (run_tests_call suite mode)) }
 {}

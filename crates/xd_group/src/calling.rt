@@ -78,7 +78,8 @@ pub(crate) fn call_worker<N: Sink + Drop>(
     requires short { length (encode_utf8_all suite.now) ≤ 65536 }
     requires new { IsNew gateway.old }
     ensures lost { IfOk result (λ b. b ≡ is_broken gateway.new) }
-    ensures prints { OnOk result (PrintsOn N.sunk N.faults gateway.old gateway.new (frame (call_message suite.now mode))) }
+    ensures prints { OnOk result
+        (PrintsOn N.sunk N.faults gateway.old gateway.new (frame (call_message suite.now mode))) }
     ensures stands { OnOk result (StandsFor gateway.new []) }
 {
     let name = Text::of(alloc, "run_tests")?;
@@ -98,8 +99,10 @@ pub(crate) fn write_order<N: Sink + Drop>(
     value: &Value,
 ) -> Result<bool, OutOfMemory>
     ensures lost { IfOk result (λ b. b ≡ is_broken gateway.new) }
-    ensures writes { (e : Entry) → Some (view value.now) ≡ option_map order_tree (order_of e) → send_refusal (slot_of_number (side_of gateway.old) 1) ≡ None
-        → OnOk result (WritesOrder (order_message e) (line_of N.sunk N.faults gateway.old) (line_of N.sunk N.faults gateway.new)) }
+    ensures writes { (e : Entry) → Some (view value.now) ≡ option_map order_tree (order_of e) →
+        send_refusal (slot_of_number (side_of gateway.old) 1) ≡ None
+        → OnOk result (WritesOrder (order_message e) (line_of N.sunk N.faults gateway.old)
+        (line_of N.sunk N.faults gateway.new)) }
     ensures stands { (h : List Heard) → StandsFor gateway.old h → StandsFor gateway.new h }
 {
     match gateway.say(1, value) {
@@ -123,7 +126,8 @@ pub(crate) fn end_worker<N: Sink + Drop>(gateway: &mut Gateway<N>) -> bool
 // Closes the link to the worker. Says whether the sink failed, now or before.
 pub(crate) fn close_link<N: Sink + Drop>(gateway: &mut Gateway<N>) -> bool
     ensures lost { result ≡ is_broken gateway.new }
-    ensures closes { ClosesNow (line_of N.sunk N.faults gateway.old) (line_of N.sunk N.faults gateway.new) }
+    ensures closes { ClosesNow (line_of N.sunk N.faults gateway.old)
+        (line_of N.sunk N.faults gateway.new) }
     ensures stands { (h : List Heard) → StandsFor gateway.old h → StandsFor gateway.new h }
 {
     gateway.close().is_err()

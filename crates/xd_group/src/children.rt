@@ -18,7 +18,8 @@ pub struct Children<St: Starter> {
     /// The starter as it was at first.
     pub first: Snapshot<St>,
     ghost told: { ∥ TellsLinks (St.begun first.value) (St.begun starter) children.items ∥₁ },
-    ghost few: { RoseBy (failed_starts children.items) (St.faults first.value) (St.faults starter) },
+    ghost few: { RoseBy (failed_starts children.items) (St.faults first.value)
+        (St.faults starter) },
 }
 
 /// The two directions of a link that was started.
@@ -55,12 +56,21 @@ impl<St: Starter> Children<St> {
         alloc: Global,
         place: &Place,
     ) -> Result<Option<Opened<St::Src, St::Snk>>, OutOfMemory>
-        ensures starts { IfOk result (λ r. starts_told (St.begun self.new.starter) ≡ option_map (λ ss. ss ++ record { place = place.now; failed = is_none r } ∷ []) (starts_told (St.begun self.old.starter))) }
-        ensures child { IfOk result (λ r. (link : ℕ) × (self.new.children.items ≡ self.old.children.items ++ option_map (λ o. fresh_child link) r ∷ [])) }
-        ensures same { OnErr result ((starts_told (St.begun self.new.starter) ≡ starts_told (St.begun self.old.starter)) × (self.new.children.items ≡ self.old.children.items)) }
+        ensures starts { IfOk result (λ r.
+            starts_told (St.begun self.new.starter) ≡ option_map (λ ss.
+            ss ++ record { place = place.now; failed = is_none r } ∷ [])
+            (starts_told (St.begun self.old.starter))) }
+        ensures child { IfOk result (λ r. (link : ℕ)
+            × (self.new.children.items ≡ self.old.children.items
+            ++ option_map (λ o. fresh_child link) r ∷ [])) }
+        ensures same { OnErr result
+            ((starts_told (St.begun self.new.starter) ≡ starts_told (St.begun self.old.starter))
+            × (self.new.children.items ≡ self.old.children.items)) }
         ensures first { self.new.first ≡ self.old.first }
-        ensures nothing_given { IfOk result (λ r. IfSome r (λ o. IfSome (St.Src.supply o.source) (λ s. s.given ≡ []))) }
-        ensures nothing_taken { IfOk result (λ r. IfSome r (λ o. IfSome (St.Snk.sunk o.sink) (λ s. s ≡ unused))) }
+        ensures nothing_given { IfOk result (λ r.
+            IfSome r (λ o. IfSome (St.Src.supply o.source) (λ s. s.given ≡ []))) }
+        ensures nothing_taken { IfOk result (λ r.
+            IfSome r (λ o. IfSome (St.Snk.sunk o.sink) (λ s. s ≡ unused))) }
         ensures no_reads { IfOk result (λ r. IfSome r (λ o. St.Src.faults o.source ≡ 0)) }
         ensures no_writes { IfOk result (λ r. IfSome r (λ o. St.Snk.faults o.sink ≡ 0)) }
     {
@@ -86,7 +96,8 @@ impl<St: Starter> Children<St> {
     /// Kills the child of this number, where there is one that was not killed before.
     pub fn cut(&mut self, number: Option<usize>)
         ensures children { self.new.children.items ≡ cut_by number self.old.children.items }
-        ensures starts { starts_told (St.begun self.new.starter) ≡ starts_told (St.begun self.old.starter) }
+        ensures starts { starts_told (St.begun self.new.starter) ≡ starts_told
+            (St.begun self.old.starter) }
         ensures first { self.new.first ≡ self.old.first }
     {
         if let Some(number) = number {
@@ -95,8 +106,10 @@ impl<St: Starter> Children<St> {
     }
 
     fn kill(&mut self, number: usize)
-        ensures children { self.new.children.items ≡ changed_at number killed_child self.old.children.items }
-        ensures starts { starts_told (St.begun self.new.starter) ≡ starts_told (St.begun self.old.starter) }
+        ensures children { self.new.children.items ≡ changed_at number killed_child
+            self.old.children.items }
+        ensures starts { starts_told (St.begun self.new.starter) ≡ starts_told
+            (St.begun self.old.starter) }
         ensures first { self.new.first ≡ self.old.first }
     {
         let Some(child) = self.child_at(number) else {
@@ -116,9 +129,12 @@ impl<St: Starter> Children<St> {
     /// Waits for the child of this number, where there is one that was not waited for before. Says whether its kill was
     /// asked for.
     pub fn reap<R: Wait>(&mut self, rt: &R, number: usize) -> bool
-        ensures children { self.new.children.items ≡ changed_at number reaped_child self.old.children.items }
-        ensures starts { starts_told (St.begun self.new.starter) ≡ starts_told (St.begun self.old.starter) }
-        ensures killed { (c : Child) → slice_get self.old.children.items number ≡ Some (Some c) → result ≡ c.is_killed }
+        ensures children { self.new.children.items ≡ changed_at number reaped_child
+            self.old.children.items }
+        ensures starts { starts_told (St.begun self.new.starter) ≡ starts_told
+            (St.begun self.old.starter) }
+        ensures killed { (c : Child) → slice_get self.old.children.items number ≡ Some (Some c) →
+            result ≡ c.is_killed }
         ensures first { self.new.first ≡ self.old.first }
     {
         let Some(child) = self.child_at(number) else {
@@ -140,7 +156,8 @@ impl<St: Starter> Children<St> {
     pub fn bury<R: Wait>(&mut self, rt: &R)
         ensures children { self.new.children.items ≡ all_buried self.old.children.items }
         ensures buried { list_all is_buried self.new.children.items ≡ true }
-        ensures starts { starts_told (St.begun self.new.starter) ≡ starts_told (St.begun self.old.starter) }
+        ensures starts { starts_told (St.begun self.new.starter) ≡ starts_told
+            (St.begun self.old.starter) }
         ensures first { self.new.first ≡ self.old.first }
     {
         for number in 0..self.children.len() {
@@ -150,8 +167,10 @@ impl<St: Starter> Children<St> {
 
     // Waits for the child of this number, where it was killed.
     fn bury_at<R: Wait>(&mut self, rt: &R, number: usize)
-        ensures children { self.new.children.items ≡ changed_at number buried_child self.old.children.items }
-        ensures starts { starts_told (St.begun self.new.starter) ≡ starts_told (St.begun self.old.starter) }
+        ensures children { self.new.children.items ≡ changed_at number buried_child
+            self.old.children.items }
+        ensures starts { starts_told (St.begun self.new.starter) ≡ starts_told
+            (St.begun self.old.starter) }
         ensures first { self.new.first ≡ self.old.first }
     {
         let Some(child) = self.child_at(number) else {
@@ -176,9 +195,11 @@ impl<St: Starter> Children<St> {
 
     // The child of this number.
     fn child_at(&self, number: usize) -> Option<Child>
-        ensures some { IfSome result (λ c. slice_get self.now.children.items number ≡ Some (Some c)) }
+        ensures some { IfSome result (λ c.
+            slice_get self.now.children.items number ≡ Some (Some c)) }
         ensures within { OnSome result (number < vec_len self.now.children) }
-        ensures none { IfNone result ((c : Child) → slice_get self.now.children.items number ≡ Some (Some c) → ⊥) }
+        ensures none { IfNone result ((c : Child) →
+            slice_get self.now.children.items number ≡ Some (Some c) → ⊥) }
     {
         if number >= self.children.len() {
             return None;

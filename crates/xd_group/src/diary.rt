@@ -61,8 +61,10 @@ impl Diary {
 
     /// The start of a worker, and what became of it.
     pub fn note_start(&mut self, worker: u32, slot: u32, fate: Fate) -> Result<(), OutOfMemory>
-        ensures calls { OnOk result (noted self.new.calls ≡ noted self.old.calls ++ Start worker slot ∷ []) }
-        ensures workers { OnOk result (self.new.workers.items ≡ self.old.workers.items ++ worker ∷ []) }
+        ensures calls { OnOk result
+            (noted self.new.calls ≡ noted self.old.calls ++ Start worker slot ∷ []) }
+        ensures workers { OnOk result
+            (self.new.workers.items ≡ self.old.workers.items ++ worker ∷ []) }
         ensures fates { OnOk result (self.new.fates.items ≡ self.old.fates.items ++ fate ∷ []) }
         ensures given { noted self.new.given ≡ noted self.old.given }
         ensures waiting { self.new.waiting ≡ self.old.waiting }
@@ -77,7 +79,8 @@ impl Diary {
 
     /// Where the link of the number is not read, its worker's next news is that it was not started.
     pub fn note_unlinked(&mut self, number: u32, fate: Fate) -> Result<(), OutOfMemory>
-        ensures waiting { OnOk result (self.new.waiting.items ≡ self.old.waiting.items ++ wait_one (is_linked fate) number) }
+        ensures waiting { OnOk result
+            (self.new.waiting.items ≡ self.old.waiting.items ++ wait_one (is_linked fate) number) }
         ensures calls { noted self.new.calls ≡ noted self.old.calls }
         ensures given { noted self.new.given ≡ noted self.old.given }
         ensures workers { self.new.workers ≡ self.old.workers }
@@ -157,7 +160,8 @@ impl Diary {
     /// The number of a worker's link.
     pub fn place_of(&self, worker: u32) -> Option<usize>
         ensures some { IfSome result (λ at. slice_get self.now.workers.items at ≡ Some worker) }
-        ensures none { IfNone result ((k : ℕ) → slice_get self.now.workers.items k ≡ Some worker → ⊥) }
+        ensures none { IfNone result ((k : ℕ) → slice_get self.now.workers.items k ≡ Some worker →
+            ⊥) }
     {
         for at in 0..self.workers.len() {
             if self.workers[at] == worker {

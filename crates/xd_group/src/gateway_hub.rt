@@ -51,8 +51,14 @@ pub struct GatewayHub<St: Starter, C: Crew<Reader<St::Src>>> {
     pub places: Vec<Place>,
     pub children: Children<St>,
     pub group: Group<St::Src, St::Snk, C>,
-    ghost in_step: { group.is_whole ≡ true → ∥ ChildrenInStep places.items (starts_told (St.begun children.first.value)) (starts_told (St.begun children.starter)) children.children.items (noted group.diary.calls) group.diary.fates.items ∥₁ },
-    ghost kills: { group.is_whole ≡ true → ∥ KilledSo children.children.items (noted group.diary.calls) group.diary.workers.items group.diary.fates.items (losses_of group.posts.items) ∥₁ },
+    ghost in_step: { group.is_whole ≡ true →
+        ∥ ChildrenInStep places.items (starts_told (St.begun children.first.value))
+        (starts_told (St.begun children.starter)) children.children.items
+        (noted group.diary.calls) group.diary.fates.items ∥₁ },
+    ghost kills: { group.is_whole ≡ true →
+        ∥ KilledSo children.children.items
+        (noted group.diary.calls) group.diary.workers.items group.diary.fates.items
+        (losses_of group.posts.items) ∥₁ },
 }
 
 impl<St: Starter, C: Crew<Reader<St::Src>>> GatewayHub<St, C> {
@@ -68,8 +74,10 @@ impl<St: Starter, C: Crew<Reader<St::Src>>> GatewayHub<St, C> {
     ) -> Result<GatewayHub<St, C>, OutOfMemory>
         requires short { length (encode_utf8_all suite) ≤ 65536 }
         ensures places { IfOk result (λ h. h.places ≡ places) }
-        ensures starter { IfOk result (λ h. (h.children.starter ≡ starter) × (h.children.first.value ≡ starter)) }
-        ensures crew { IfOk result (λ h. (h.group.links.crew ≡ crew) × (h.group.first.value ≡ crew)) }
+        ensures starter { IfOk result (λ h. (h.children.starter ≡ starter)
+            × (h.children.first.value ≡ starter)) }
+        ensures crew { IfOk result (λ h. (h.group.links.crew ≡ crew)
+            × (h.group.first.value ≡ crew)) }
         ensures suite { IfOk result (λ h. h.group.suite ≡ suite) }
         ensures mode { IfOk result (λ h. h.group.mode ≡ mode) }
         ensures calls { IfOk result (λ h. noted h.group.diary.calls ≡ []) }
@@ -99,7 +107,8 @@ impl<St: Starter, C: Crew<Reader<St::Src>>> GatewayHub<St, C> {
     fn bury<R: Wait>(&mut self, rt: &R)
         ensures buried { list_all is_buried self.new.children.children.items ≡ true }
         ensures group { self.new.group ≡ self.old.group }
-        ensures first { (self.new.places ≡ self.old.places) × (self.new.children.first ≡ self.old.children.first) }
+        ensures first { (self.new.places ≡ self.old.places)
+            × (self.new.children.first ≡ self.old.children.first) }
     {
         self.children.bury(rt);
     }
@@ -107,16 +116,24 @@ impl<St: Starter, C: Crew<Reader<St::Src>>> GatewayHub<St, C> {
     // Takes an item of a link, where no child that was killed is still to be waited for.
     fn take<R: Wait>(&mut self, rt: &R) -> Result<Option<News>, OutOfMemory>
         requires buried { list_all is_buried self.old.children.children.items ≡ true }
-        requires none_waits { self.old.group.is_whole ≡ true → self.old.group.diary.waiting.items ≡ [] }
-        ensures started { IfOk result (λ r. IfSome r (λ n. IsStarted (noted self.old.group.diary.calls) n.worker)) }
-        ensures given { IfOk result (λ r. IfSome r (λ n. noted self.new.group.diary.given ≡ noted self.old.group.diary.given ++ n ∷ [])) }
+        requires none_waits { self.old.group.is_whole ≡ true →
+            self.old.group.diary.waiting.items ≡ [] }
+        ensures started { IfOk result (λ r.
+            IfSome r (λ n. IsStarted (noted self.old.group.diary.calls) n.worker)) }
+        ensures given { IfOk result (λ r.
+            IfSome r (λ n. noted self.new.group.diary.given ≡ noted self.old.group.diary.given
+            ++ n ∷ [])) }
         ensures no_breach { IfOk result (λ r. IfSome r (λ n. is_breach n.what ≡ false)) }
-        ensures silent { IfOk result (λ r. IfNone r (noted self.new.group.diary.given ≡ noted self.old.group.diary.given)) }
+        ensures silent { IfOk result (λ r.
+            IfNone r (noted self.new.group.diary.given ≡ noted self.old.group.diary.given)) }
         ensures waiting { self.new.group.diary.waiting ≡ self.old.group.diary.waiting }
         ensures calls { noted self.new.group.diary.calls ≡ noted self.old.group.diary.calls }
         ensures whole { OnOk result (self.new.group.is_whole ≡ self.old.group.is_whole) }
-        ensures made { (self.new.group.suite ≡ self.old.group.suite) × (self.new.group.mode ≡ self.old.group.mode) }
-        ensures first { (self.new.places ≡ self.old.places) × (self.new.children.first ≡ self.old.children.first) × (self.new.group.first ≡ self.old.group.first) }
+        ensures made { (self.new.group.suite ≡ self.old.group.suite)
+            × (self.new.group.mode ≡ self.old.group.mode) }
+        ensures first { (self.new.places ≡ self.old.places)
+            × (self.new.children.first ≡ self.old.children.first)
+            × (self.new.group.first ≡ self.old.group.first) }
     {
         let Step { news, cut } = self.group.step(rt)?;
         self.children.cut(cut);
@@ -125,16 +142,24 @@ impl<St: Starter, C: Crew<Reader<St::Src>>> GatewayHub<St, C> {
 
     // Waits for the children that were killed, and takes an item of a link.
     fn step<R: Wait>(&mut self, rt: &R) -> Result<Option<News>, OutOfMemory>
-        requires none_waits { self.old.group.is_whole ≡ true → self.old.group.diary.waiting.items ≡ [] }
-        ensures started { IfOk result (λ r. IfSome r (λ n. IsStarted (noted self.old.group.diary.calls) n.worker)) }
-        ensures given { IfOk result (λ r. IfSome r (λ n. noted self.new.group.diary.given ≡ noted self.old.group.diary.given ++ n ∷ [])) }
+        requires none_waits { self.old.group.is_whole ≡ true →
+            self.old.group.diary.waiting.items ≡ [] }
+        ensures started { IfOk result (λ r.
+            IfSome r (λ n. IsStarted (noted self.old.group.diary.calls) n.worker)) }
+        ensures given { IfOk result (λ r.
+            IfSome r (λ n. noted self.new.group.diary.given ≡ noted self.old.group.diary.given
+            ++ n ∷ [])) }
         ensures no_breach { IfOk result (λ r. IfSome r (λ n. is_breach n.what ≡ false)) }
-        ensures silent { IfOk result (λ r. IfNone r (noted self.new.group.diary.given ≡ noted self.old.group.diary.given)) }
+        ensures silent { IfOk result (λ r.
+            IfNone r (noted self.new.group.diary.given ≡ noted self.old.group.diary.given)) }
         ensures waiting { self.new.group.diary.waiting ≡ self.old.group.diary.waiting }
         ensures calls { noted self.new.group.diary.calls ≡ noted self.old.group.diary.calls }
         ensures whole { OnOk result (self.new.group.is_whole ≡ self.old.group.is_whole) }
-        ensures made { (self.new.group.suite ≡ self.old.group.suite) × (self.new.group.mode ≡ self.old.group.mode) }
-        ensures first { (self.new.places ≡ self.old.places) × (self.new.children.first ≡ self.old.children.first) × (self.new.group.first ≡ self.old.group.first) }
+        ensures made { (self.new.group.suite ≡ self.old.group.suite)
+            × (self.new.group.mode ≡ self.old.group.mode) }
+        ensures first { (self.new.places ≡ self.old.places)
+            × (self.new.children.first ≡ self.old.children.first)
+            × (self.new.group.first ≡ self.old.group.first) }
     {
         self.bury(rt);
         let news = self.take(rt)?;
@@ -150,34 +175,89 @@ impl<St: Starter, C: Crew<Reader<St::Src>>> GatewayHub<St, C> {
     ) -> Result<(), OutOfMemory>
         requires over { self.old.group.is_whole ≡ false }
         requires there { number < length self.old.group.diary.workers.items }
-        requires late { (first : List (Option Settled)) × ∥ Late first (news_of (mails self.old.group.links.desk)) (pages_of self.old.group.posts.items) ∥₁ }
-        requires kept { KeptFrom number (map is_some self.old.group.spares.items) self.old.group.diary.fates.items }
-        requires ended { EndedFrom number (ends_of self.old.group.posts.items) self.old.group.diary.fates.items }
-        ensures kept { OnOk result (KeptFrom (number + 1) (map is_some self.new.group.spares.items) self.old.group.diary.fates.items) }
-        ensures ended { OnOk result (EndedFrom (number + 1) (ends_of self.new.group.posts.items) self.old.group.diary.fates.items) }
-        ensures runs { (suite : List ℕ) (mode : ModeKind) (taken : List (Option (List LinkNews))) (calls : List Entry) (given : List News) (pages : List (Option Page))
+        requires late { (first : List (Option Settled))
+            × ∥ Late first (news_of (mails self.old.group.links.desk))
+            (pages_of self.old.group.posts.items) ∥₁ }
+        requires kept { KeptFrom number
+            (map is_some self.old.group.spares.items) self.old.group.diary.fates.items }
+        requires ended { EndedFrom number
+            (ends_of self.old.group.posts.items) self.old.group.diary.fates.items }
+        ensures kept { OnOk result
+            (KeptFrom (number + 1) (map is_some self.new.group.spares.items)
+            self.old.group.diary.fates.items) }
+        ensures ended { OnOk result
+            (EndedFrom (number + 1) (ends_of self.new.group.posts.items)
+            self.old.group.diary.fates.items) }
+        ensures runs { (suite : List ℕ) (mode : ModeKind) (taken : List (Option (List LinkNews)))
+            (calls : List Entry) (given : List News) (pages : List (Option Page))
             → ∥ Kept suite mode taken calls given self.old.group.diary.workers.items pages ∥₁
-            → ∥ Late (map settled_at pages) (news_of (mails self.old.group.links.desk)) (pages_of self.old.group.posts.items) ∥₁
-            → All (λ l. ∥ RanSo suite mode given calls (workers_with is_refused self.old.group.diary.workers.items self.old.group.diary.fates.items) l.worker (link_of (spring (St.Src.supply l.source) (St.Src.is_ended l.source) (St.Src.faults l.source)) (St.Snk.sunk l.sink) (St.Snk.faults l.sink)) ∥₁) ends.old.items
-            → OnOk result (All (λ l. ∥ RanSo suite mode given calls (workers_with is_refused self.old.group.diary.workers.items self.old.group.diary.fates.items) l.worker (link_of (spring (St.Src.supply l.source) (St.Src.is_ended l.source) (St.Src.faults l.source)) (St.Snk.sunk l.sink) (St.Snk.faults l.sink)) ∥₁) ends.new.items) }
-        ensures late { (first : List (Option Settled)) → ∥ Late first (news_of (mails self.old.group.links.desk)) (pages_of self.old.group.posts.items) ∥₁
-            → OnOk result (∥ Late first (news_of (mails self.new.group.links.desk)) (pages_of self.new.group.posts.items) ∥₁) }
-        ensures workers { map (λ l. l.worker) ends.old.items ≡ workers_with has_link (take number self.old.group.diary.workers.items) (take number self.old.group.diary.fates.items)
-            → OnOk result (map (λ l. l.worker) ends.new.items ≡ workers_with has_link (take (number + 1) self.old.group.diary.workers.items) (take (number + 1) self.old.group.diary.fates.items)) }
-        ensures asked { map is_some self.old.children.children.items ≡ map has_link self.old.group.diary.fates.items → children_asked (take number self.old.children.children.items) ≡ map (λ l. end_told l.killed) ends.old.items
-            → OnOk result (children_asked (take (number + 1) self.new.children.children.items) ≡ map (λ l. end_told l.killed) ends.new.items) }
-        ensures crew { (C.faults self.new.group.links.crew ≡ C.faults self.old.group.links.crew) × (self.new.group.first ≡ self.old.group.first) }
-        ensures killed { (suite : List ℕ) (mode : ModeKind) (taken : List (Option (List LinkNews))) (calls : List Entry) (given : List News) (pages : List (Option Page)) (lost : List Bool)
-            → ∥ Kept suite mode taken calls given self.old.group.diary.workers.items pages ∥₁ → map is_some self.old.children.children.items ≡ map has_link self.old.group.diary.fates.items → ∥ KilledSo self.old.children.children.items calls self.old.group.diary.workers.items self.old.group.diary.fates.items lost ∥₁
-            → (slice_get lost number ≡ Some true → slice_get (losses_of self.old.group.posts.items) number ≡ Some true)
-            → ((w : ℕ) → slice_get self.old.group.diary.workers.items number ≡ Some w → slice_get self.old.group.diary.fates.items number ≡ Some Linked → list_any says_send_fault (said_by w given) ≡ true → slice_get lost number ≡ Some true)
-            → All (λ l. ∥ EndKilledSo calls given (workers_with is_refused self.old.group.diary.workers.items self.old.group.diary.fates.items) l.worker l.killed (St.Snk.faults l.sink) ∥₁) ends.old.items
-            → OnOk result (All (λ l. ∥ EndKilledSo calls given (workers_with is_refused self.old.group.diary.workers.items self.old.group.diary.fates.items) l.worker l.killed (St.Snk.faults l.sink) ∥₁) ends.new.items) }
-        ensures kills { (calls : List Entry) (lost : List Bool) → ∥ KilledSo self.old.children.children.items calls self.old.group.diary.workers.items self.old.group.diary.fates.items lost ∥₁
-            → OnOk result (∥ KilledSo self.new.children.children.items calls self.old.group.diary.workers.items self.old.group.diary.fates.items lost ∥₁) }
-        ensures others { OnOk result ((k : ℕ) → number < k → slice_get (losses_of self.old.group.posts.items) k ≡ Some true → slice_get (losses_of self.new.group.posts.items) k ≡ Some true) }
-        ensures linked { map is_some self.new.children.children.items ≡ map is_some self.old.children.children.items }
-        ensures starts { starts_told (St.begun self.new.children.starter) ≡ starts_told (St.begun self.old.children.starter) }
+            → ∥ Late (map settled_at pages) (news_of (mails self.old.group.links.desk))
+            (pages_of self.old.group.posts.items) ∥₁
+            → All (λ l. ∥ RanSo suite mode given calls
+            (workers_with is_refused self.old.group.diary.workers.items
+            self.old.group.diary.fates.items) l.worker
+            (link_of (spring (St.Src.supply l.source) (St.Src.is_ended l.source)
+            (St.Src.faults l.source)) (St.Snk.sunk l.sink) (St.Snk.faults l.sink)) ∥₁)
+            ends.old.items
+            → OnOk result (All (λ l. ∥ RanSo suite mode given calls
+            (workers_with is_refused self.old.group.diary.workers.items
+            self.old.group.diary.fates.items) l.worker
+            (link_of (spring (St.Src.supply l.source) (St.Src.is_ended l.source)
+            (St.Src.faults l.source)) (St.Snk.sunk l.sink) (St.Snk.faults l.sink)) ∥₁)
+            ends.new.items) }
+        ensures late { (first : List (Option Settled)) →
+            ∥ Late first (news_of (mails self.old.group.links.desk))
+            (pages_of self.old.group.posts.items) ∥₁
+            → OnOk result (∥ Late first (news_of (mails self.new.group.links.desk))
+            (pages_of self.new.group.posts.items) ∥₁) }
+        ensures workers { map (λ l. l.worker) ends.old.items ≡ workers_with has_link
+            (take number self.old.group.diary.workers.items)
+            (take number self.old.group.diary.fates.items)
+            → OnOk result (map (λ l. l.worker) ends.new.items ≡ workers_with has_link
+            (take (number + 1) self.old.group.diary.workers.items)
+            (take (number + 1) self.old.group.diary.fates.items)) }
+        ensures asked { map is_some self.old.children.children.items ≡ map has_link
+            self.old.group.diary.fates.items →
+            children_asked (take number self.old.children.children.items) ≡ map (λ l. end_told
+            l.killed) ends.old.items
+            → OnOk result (children_asked
+            (take (number + 1) self.new.children.children.items) ≡ map (λ l. end_told l.killed)
+            ends.new.items) }
+        ensures crew { (C.faults self.new.group.links.crew ≡ C.faults self.old.group.links.crew)
+            × (self.new.group.first ≡ self.old.group.first) }
+        ensures killed { (suite : List ℕ) (mode : ModeKind) (taken : List (Option (List LinkNews)))
+            (calls : List Entry) (given : List News) (pages : List (Option Page)) (lost : List Bool)
+            → ∥ Kept suite mode taken calls given self.old.group.diary.workers.items pages ∥₁ →
+            map is_some self.old.children.children.items ≡ map has_link
+            self.old.group.diary.fates.items →
+            ∥ KilledSo self.old.children.children.items calls self.old.group.diary.workers.items
+            self.old.group.diary.fates.items lost ∥₁
+            → (slice_get lost number ≡ Some true →
+            slice_get (losses_of self.old.group.posts.items) number ≡ Some true)
+            → ((w : ℕ) → slice_get self.old.group.diary.workers.items number ≡ Some w →
+            slice_get self.old.group.diary.fates.items number ≡ Some Linked →
+            list_any says_send_fault (said_by w given) ≡ true →
+            slice_get lost number ≡ Some true)
+            → All (λ l. ∥ EndKilledSo calls given
+            (workers_with is_refused self.old.group.diary.workers.items
+            self.old.group.diary.fates.items) l.worker l.killed (St.Snk.faults l.sink) ∥₁)
+            ends.old.items
+            → OnOk result (All (λ l. ∥ EndKilledSo calls given
+            (workers_with is_refused self.old.group.diary.workers.items
+            self.old.group.diary.fates.items) l.worker l.killed (St.Snk.faults l.sink) ∥₁)
+            ends.new.items) }
+        ensures kills { (calls : List Entry) (lost : List Bool) →
+            ∥ KilledSo self.old.children.children.items calls self.old.group.diary.workers.items
+            self.old.group.diary.fates.items lost ∥₁
+            → OnOk result (∥ KilledSo self.new.children.children.items calls
+            self.old.group.diary.workers.items self.old.group.diary.fates.items lost ∥₁) }
+        ensures others { OnOk result ((k : ℕ) → number < k →
+            slice_get (losses_of self.old.group.posts.items) k ≡ Some true →
+            slice_get (losses_of self.new.group.posts.items) k ≡ Some true) }
+        ensures linked { map is_some self.new.children.children.items ≡ map is_some
+            self.old.children.children.items }
+        ensures starts { starts_told (St.begun self.new.children.starter) ≡ starts_told
+            (St.begun self.old.children.starter) }
         ensures first { self.new.children.first ≡ self.old.children.first }
         ensures over { self.new.group.is_whole ≡ false }
         ensures diary { self.new.group.diary ≡ self.old.group.diary }
@@ -207,18 +287,41 @@ impl<St: Starter, C: Crew<Reader<St::Src>>> GatewayHub<St, C> {
         rt: &R,
         alloc: Global,
     ) -> Result<Vec<LinkEnd<St::Src, St::Snk>>, OutOfMemory>
-        ensures runs { IfOk result (λ ends. All (λ l. ∥ RanSo self.old.group.suite self.old.group.mode (noted self.old.group.diary.given) (noted self.old.group.diary.calls) (workers_with is_refused self.old.group.diary.workers.items self.old.group.diary.fates.items) l.worker
-            (link_of (spring (St.Src.supply l.source) (St.Src.is_ended l.source) (St.Src.faults l.source)) (St.Snk.sunk l.sink) (St.Snk.faults l.sink)) ∥₁) ends.items) }
-        ensures workers { IfOk result (λ ends. map (λ l. l.worker) ends.items ≡ workers_with has_link self.old.group.diary.workers.items self.old.group.diary.fates.items) }
-        ensures listed { self.old.group.diary.workers.items ≡ workers_started (noted self.old.group.diary.calls) }
-        ensures begun { IfOk result (λ ends. option_map told_of (St.begun self.new.children.starter) ≡ option_map (λ b. record {
-          starts = b.starts ++ all_started self.old.places.items (starts_of (noted self.old.group.diary.calls)) self.old.group.diary.fates.items;
-          links = map link_asked b.links ++ map (λ l. end_told l.killed) ends.items;
-        }) (St.begun self.old.children.first.value)) }
-        ensures killed { IfOk result (λ ends. All (λ l. ∥ EndKilledSo (noted self.old.group.diary.calls) (noted self.old.group.diary.given) (workers_with is_refused self.old.group.diary.workers.items self.old.group.diary.fates.items) l.worker l.killed (St.Snk.faults l.sink) ∥₁) ends.items) }
-        ensures unlinked { OnOk result ((w : ℕ) → is_among w (workers_with is_linked self.old.group.diary.workers.items self.old.group.diary.fates.items) ≡ false → ∥ SaidUnlinked (noted self.old.group.diary.given) w ∥₁) }
-        ensures few_refused { OnOk result (RoseFor (count_with is_refused self.old.group.diary.fates.items) (C.faults self.old.group.first.value) (C.faults self.new.group.links.crew)) }
-        ensures few_unlinked { OnOk result (RoseBy (count_with is_unlinked self.old.group.diary.fates.items) (St.faults self.old.children.first.value) (St.faults self.new.children.starter)) }
+        ensures runs { IfOk result (λ ends.
+            All (λ l. ∥ RanSo self.old.group.suite self.old.group.mode
+            (noted self.old.group.diary.given) (noted self.old.group.diary.calls)
+            (workers_with is_refused self.old.group.diary.workers.items
+            self.old.group.diary.fates.items) l.worker
+            (link_of (spring (St.Src.supply l.source) (St.Src.is_ended l.source)
+            (St.Src.faults l.source)) (St.Snk.sunk l.sink) (St.Snk.faults l.sink)) ∥₁)
+            ends.items) }
+        ensures workers { IfOk result (λ ends.
+            map (λ l. l.worker) ends.items ≡ workers_with has_link
+            self.old.group.diary.workers.items self.old.group.diary.fates.items) }
+        ensures listed { self.old.group.diary.workers.items ≡ workers_started
+            (noted self.old.group.diary.calls) }
+        ensures begun { IfOk result (λ ends.
+            option_map told_of (St.begun self.new.children.starter) ≡ option_map (λ b. record {
+              starts = b.starts ++ all_started self.old.places.items
+                  (starts_of (noted self.old.group.diary.calls)) self.old.group.diary.fates.items;
+              links = map link_asked b.links ++ map (λ l. end_told l.killed) ends.items;
+            }) (St.begun self.old.children.first.value)) }
+        ensures killed { IfOk result (λ ends.
+            All (λ l. ∥ EndKilledSo (noted self.old.group.diary.calls)
+            (noted self.old.group.diary.given)
+            (workers_with is_refused self.old.group.diary.workers.items
+            self.old.group.diary.fates.items) l.worker l.killed (St.Snk.faults l.sink) ∥₁)
+            ends.items) }
+        ensures unlinked { OnOk result ((w : ℕ) →
+            is_among w (workers_with is_linked self.old.group.diary.workers.items
+            self.old.group.diary.fates.items) ≡ false →
+            ∥ SaidUnlinked (noted self.old.group.diary.given) w ∥₁) }
+        ensures few_refused { OnOk result
+            (RoseFor (count_with is_refused self.old.group.diary.fates.items)
+            (C.faults self.old.group.first.value) (C.faults self.new.group.links.crew)) }
+        ensures few_unlinked { OnOk result
+            (RoseBy (count_with is_unlinked self.old.group.diary.fates.items)
+            (St.faults self.old.children.first.value) (St.faults self.new.children.starter)) }
     {
         let Ok(count) = u32::try_from(self.group.diary.workers.len()) else {
             return Err(OutOfMemory);
@@ -234,7 +337,9 @@ impl<St: Starter, C: Crew<Reader<St::Src>>> GatewayHub<St, C> {
     /// Where memory ran out: kills each child that is left, and waits for it. From then on the hub is only to be taken apart.
     pub fn abandon<R: Wait>(&mut self, rt: &R)
         ensures over { list_all is_killed_and_reaped self.new.children.children.items ≡ true }
-        ensures first { (self.new.places ≡ self.old.places) × (self.new.children.first ≡ self.old.children.first) × (self.new.group.first ≡ self.old.group.first) }
+        ensures first { (self.new.places ≡ self.old.places)
+            × (self.new.children.first ≡ self.old.children.first)
+            × (self.new.group.first ≡ self.old.group.first) }
     {
         self.group.is_whole = false;
         self.children.abandon(rt);
@@ -257,14 +362,24 @@ impl<St: Starter, C: Crew<Reader<St::Src>>> Hub for GatewayHub<St, C> {
     ghost given = { λ h. Some (noted h.group.diary.given) };
 
     fn start(&mut self, alloc: Global, worker: u32, slot: u32) -> Result<(), OutOfMemory>
-        requires new { (marks_told (noted self.old.group.diary.calls) (noted self.old.group.diary.given) worker).started ≡ false }
+        requires new { (marks_told (noted self.old.group.diary.calls)
+            (noted self.old.group.diary.given) worker).started ≡ false }
         requires slot { slot < vec_len self.old.places }
-        ensures marks { OnOk result ((w : ℕ) → marks_told (noted self.new.group.diary.calls) (noted self.new.group.diary.given) w ≡ marked_started worker w (marks_told (noted self.old.group.diary.calls) (noted self.old.group.diary.given) w)) }
-        ensures called { OnOk result (noted self.new.group.diary.calls ≡ noted self.old.group.diary.calls ++ Start worker slot ∷ []) }
-        ensures given { OnOk result (noted self.new.group.diary.given ≡ noted self.old.group.diary.given) }
-        ensures first { (self.new.places ≡ self.old.places) × (self.new.children.first ≡ self.old.children.first) × (self.new.group.first ≡ self.old.group.first) }
+        ensures marks { OnOk result ((w : ℕ) →
+            marks_told (noted self.new.group.diary.calls)
+            (noted self.new.group.diary.given) w ≡ marked_started worker w
+            (marks_told (noted self.old.group.diary.calls) (noted self.old.group.diary.given) w)) }
+        ensures called { OnOk result
+            (noted self.new.group.diary.calls ≡ noted self.old.group.diary.calls
+            ++ Start worker slot ∷ []) }
+        ensures given { OnOk result
+            (noted self.new.group.diary.given ≡ noted self.old.group.diary.given) }
+        ensures first { (self.new.places ≡ self.old.places)
+            × (self.new.children.first ≡ self.old.children.first)
+            × (self.new.group.first ≡ self.old.group.first) }
         ensures whole { OnOk result (self.new.group.is_whole ≡ self.old.group.is_whole) }
-        ensures made { (self.new.group.suite ≡ self.old.group.suite) × (self.new.group.mode ≡ self.old.group.mode) }
+        ensures made { (self.new.group.suite ≡ self.old.group.suite)
+            × (self.new.group.mode ≡ self.old.group.mode) }
     {
         let number = self.children.children.len();
         match self.children.start(alloc, &self.places[slot as usize])? {
@@ -283,13 +398,23 @@ impl<St: Starter, C: Crew<Reader<St::Src>>> Hub for GatewayHub<St, C> {
 
     fn say(&mut self, alloc: Global, worker: u32, order: &Entry) -> Result<(), OutOfMemory>
         requires order { is_order worker order.now ≡ true }
-        requires told { may_tell (marks_told (noted self.old.group.diary.calls) (noted self.old.group.diary.given) worker) ≡ true }
-        ensures marks { OnOk result ((w : ℕ) → marks_told (noted self.new.group.diary.calls) (noted self.new.group.diary.given) w ≡ marks_told (noted self.old.group.diary.calls) (noted self.old.group.diary.given) w) }
-        ensures called { OnOk result (noted self.new.group.diary.calls ≡ noted self.old.group.diary.calls ++ order.now ∷ []) }
-        ensures given { OnOk result (noted self.new.group.diary.given ≡ noted self.old.group.diary.given) }
-        ensures first { (self.new.places ≡ self.old.places) × (self.new.children.first ≡ self.old.children.first) × (self.new.group.first ≡ self.old.group.first) }
+        requires told { may_tell (marks_told (noted self.old.group.diary.calls)
+            (noted self.old.group.diary.given) worker) ≡ true }
+        ensures marks { OnOk result ((w : ℕ) →
+            marks_told (noted self.new.group.diary.calls)
+            (noted self.new.group.diary.given) w ≡ marks_told (noted self.old.group.diary.calls)
+            (noted self.old.group.diary.given) w) }
+        ensures called { OnOk result
+            (noted self.new.group.diary.calls ≡ noted self.old.group.diary.calls
+            ++ order.now ∷ []) }
+        ensures given { OnOk result
+            (noted self.new.group.diary.given ≡ noted self.old.group.diary.given) }
+        ensures first { (self.new.places ≡ self.old.places)
+            × (self.new.children.first ≡ self.old.children.first)
+            × (self.new.group.first ≡ self.old.group.first) }
         ensures whole { OnOk result (self.new.group.is_whole ≡ self.old.group.is_whole) }
-        ensures made { (self.new.group.suite ≡ self.old.group.suite) × (self.new.group.mode ≡ self.old.group.mode) }
+        ensures made { (self.new.group.suite ≡ self.old.group.suite)
+            × (self.new.group.mode ≡ self.old.group.mode) }
     {
         let cut = self.group.say(alloc, worker, order)?;
         self.children.cut(cut);
@@ -297,28 +422,44 @@ impl<St: Starter, C: Crew<Reader<St::Src>>> Hub for GatewayHub<St, C> {
     }
 
     fn kill(&mut self, worker: u32)
-        requires started { (marks_told (noted self.old.group.diary.calls) (noted self.old.group.diary.given) worker).started ≡ true }
-        requires once { (marks_told (noted self.old.group.diary.calls) (noted self.old.group.diary.given) worker).killed ≡ false }
-        ensures called { noted self.new.group.diary.calls ≡ noted self.old.group.diary.calls ++ Kill worker ∷ [] }
+        requires started { (marks_told (noted self.old.group.diary.calls)
+            (noted self.old.group.diary.given) worker).started ≡ true }
+        requires once { (marks_told (noted self.old.group.diary.calls)
+            (noted self.old.group.diary.given) worker).killed ≡ false }
+        ensures called { noted self.new.group.diary.calls ≡ noted self.old.group.diary.calls
+            ++ Kill worker ∷ [] }
         ensures given { noted self.new.group.diary.given ≡ noted self.old.group.diary.given }
-        ensures first { (self.new.places ≡ self.old.places) × (self.new.children.first ≡ self.old.children.first) × (self.new.group.first ≡ self.old.group.first) }
+        ensures first { (self.new.places ≡ self.old.places)
+            × (self.new.children.first ≡ self.old.children.first)
+            × (self.new.group.first ≡ self.old.group.first) }
         ensures whole { self.new.group.is_whole ≡ self.old.group.is_whole }
-        ensures made { (self.new.group.suite ≡ self.old.group.suite) × (self.new.group.mode ≡ self.old.group.mode) }
+        ensures made { (self.new.group.suite ≡ self.old.group.suite)
+            × (self.new.group.mode ≡ self.old.group.mode) }
     {
         let cut = self.group.kill(worker);
         self.children.cut(cut);
     }
 
     fn next<R: Wait>(&mut self, rt: &R, _alloc: Global) -> Result<News, OutOfMemory>
-        requires someone { (w : ℕ) × ((marks_told (noted self.old.group.diary.calls) (noted self.old.group.diary.given) w).started ≡ true) }
+        requires someone { (w : ℕ)
+            × ((marks_told (noted self.old.group.diary.calls)
+            (noted self.old.group.diary.given) w).started ≡ true) }
         ensures started { IfOk result (λ n. IsStarted (noted self.old.group.diary.calls) n.worker) }
         ensures no_breach { IfOk result (λ n. is_breach n.what ≡ false) }
-        ensures marks { IfOk result (λ n. (w : ℕ) → marks_told (noted self.new.group.diary.calls) (noted self.new.group.diary.given) w ≡ marked_heard n w (marks_told (noted self.old.group.diary.calls) (noted self.old.group.diary.given) w)) }
-        ensures given { IfOk result (λ n. noted self.new.group.diary.given ≡ noted self.old.group.diary.given ++ n ∷ []) }
-        ensures calls { OnOk result (noted self.new.group.diary.calls ≡ noted self.old.group.diary.calls) }
-        ensures first { (self.new.places ≡ self.old.places) × (self.new.children.first ≡ self.old.children.first) × (self.new.group.first ≡ self.old.group.first) }
+        ensures marks { IfOk result (λ n. (w : ℕ) →
+            marks_told (noted self.new.group.diary.calls)
+            (noted self.new.group.diary.given) w ≡ marked_heard n w
+            (marks_told (noted self.old.group.diary.calls) (noted self.old.group.diary.given) w)) }
+        ensures given { IfOk result (λ n.
+            noted self.new.group.diary.given ≡ noted self.old.group.diary.given ++ n ∷ []) }
+        ensures calls { OnOk result
+            (noted self.new.group.diary.calls ≡ noted self.old.group.diary.calls) }
+        ensures first { (self.new.places ≡ self.old.places)
+            × (self.new.children.first ≡ self.old.children.first)
+            × (self.new.group.first ≡ self.old.group.first) }
         ensures whole { OnOk result (self.new.group.is_whole ≡ self.old.group.is_whole) }
-        ensures made { (self.new.group.suite ≡ self.old.group.suite) × (self.new.group.mode ≡ self.old.group.mode) }
+        ensures made { (self.new.group.suite ≡ self.old.group.suite)
+            × (self.new.group.mode ≡ self.old.group.mode) }
     {
         if let Some(news) = self.group.next_unlinked() {
             return Ok(news);

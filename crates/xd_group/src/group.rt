@@ -39,11 +39,18 @@ pub struct Group<S: Source + Drop, N: Sink + Drop, C: Crew<Reader<S>>> {
     pub mode: ModeKind,
     pub is_whole: bool,
     ghost short: { length (encode_utf8_all suite) ≤ 65536 },
-    ghost kept: { is_whole ≡ true → ∥ Kept suite mode (news_of (mails links.desk)) (noted diary.calls) (noted diary.given) diary.workers.items (pages_of posts.items) ∥₁ },
-    ghost few: { is_whole ≡ true → RoseFor (count_with is_refused diary.fates.items) (C.faults first.value) (C.faults links.crew) },
-    ghost seats: { is_whole ≡ true → map is_some (pages_of posts.items) ≡ map is_linked diary.fates.items },
+    ghost kept: { is_whole ≡ true →
+        ∥ Kept suite mode (news_of (mails links.desk)) (noted diary.calls)
+        (noted diary.given) diary.workers.items (pages_of posts.items) ∥₁ },
+    ghost few: { is_whole ≡ true →
+        RoseFor (count_with is_refused diary.fates.items) (C.faults first.value)
+        (C.faults links.crew) },
+    ghost seats: { is_whole ≡ true →
+        map is_some (pages_of posts.items) ≡ map is_linked diary.fates.items },
     ghost spared: { is_whole ≡ true → map is_some spares.items ≡ map is_refused diary.fates.items },
-    ghost unsaid: { is_whole ≡ true → ∥ Unsaid (noted diary.given) diary.workers.items (pages_of posts.items) diary.waiting.items ∥₁ },
+    ghost unsaid: { is_whole ≡ true →
+        ∥ Unsaid (noted diary.given) diary.workers.items
+        (pages_of posts.items) diary.waiting.items ∥₁ },
 }
 
 /// What a link left: its worker, its two directions, and whether its kill was asked for.
@@ -115,14 +122,19 @@ impl<S: Source + Drop, N: Sink + Drop, C: Crew<Reader<S>>> Group<S, N, C> {
         order: &Entry,
     ) -> Result<Option<usize>, OutOfMemory>
         requires order { is_order worker order.now ≡ true }
-        requires told { may_tell (marks_told (noted self.old.diary.calls) (noted self.old.diary.given) worker) ≡ true }
-        ensures called { OnOk result (noted self.new.diary.calls ≡ noted self.old.diary.calls ++ order.now ∷ []) }
+        requires told { may_tell (marks_told (noted self.old.diary.calls)
+            (noted self.old.diary.given) worker) ≡ true }
+        ensures called { OnOk result
+            (noted self.new.diary.calls ≡ noted self.old.diary.calls ++ order.now ∷ []) }
         ensures given { noted self.new.diary.given ≡ noted self.old.diary.given }
-        ensures starts { (self.new.diary.workers ≡ self.old.diary.workers) × (self.new.diary.fates ≡ self.old.diary.fates) }
+        ensures starts { (self.new.diary.workers ≡ self.old.diary.workers)
+            × (self.new.diary.fates ≡ self.old.diary.fates) }
         ensures whole { OnOk result (self.new.is_whole ≡ self.old.is_whole) }
         ensures over { OnErr result (self.new.is_whole ≡ false) }
-        ensures cut { IfOk result (λ cut. Loses cut (losses_of self.old.posts.items) (losses_of self.new.posts.items)) }
-        ensures made { (self.new.suite ≡ self.old.suite) × (self.new.mode ≡ self.old.mode) × (self.new.first ≡ self.old.first) }
+        ensures cut { IfOk result (λ cut.
+            Loses cut (losses_of self.old.posts.items) (losses_of self.new.posts.items)) }
+        ensures made { (self.new.suite ≡ self.old.suite) × (self.new.mode ≡ self.old.mode)
+            × (self.new.first ≡ self.old.first) }
     {
         if !self.is_whole {
             return Err(OutOfMemory);
@@ -140,17 +152,23 @@ impl<S: Source + Drop, N: Sink + Drop, C: Crew<Reader<S>>> Group<S, N, C> {
     /// Takes an item of a link, and gives its news, where nobody is still to be told of whose link is not read.
     pub(crate) fn step<R: Wait>(&mut self, rt: &R) -> Result<Step, OutOfMemory>
         requires none_waits { self.old.is_whole ≡ true → self.old.diary.waiting.items ≡ [] }
-        ensures started { IfOk result (λ r. IfSome r.news (λ n. IsStarted (noted self.old.diary.calls) n.worker)) }
-        ensures given { IfOk result (λ r. IfSome r.news (λ n. noted self.new.diary.given ≡ noted self.old.diary.given ++ n ∷ [])) }
-        ensures silent { IfOk result (λ r. IfNone r.news (noted self.new.diary.given ≡ noted self.old.diary.given)) }
+        ensures started { IfOk result (λ r.
+            IfSome r.news (λ n. IsStarted (noted self.old.diary.calls) n.worker)) }
+        ensures given { IfOk result (λ r.
+            IfSome r.news (λ n. noted self.new.diary.given ≡ noted self.old.diary.given ++ n ∷ [])) }
+        ensures silent { IfOk result (λ r.
+            IfNone r.news (noted self.new.diary.given ≡ noted self.old.diary.given)) }
         ensures no_breach { IfOk result (λ r. IfSome r.news (λ n. is_breach n.what ≡ false)) }
         ensures waiting { self.new.diary.waiting ≡ self.old.diary.waiting }
         ensures calls { noted self.new.diary.calls ≡ noted self.old.diary.calls }
-        ensures starts { (self.new.diary.workers ≡ self.old.diary.workers) × (self.new.diary.fates ≡ self.old.diary.fates) }
+        ensures starts { (self.new.diary.workers ≡ self.old.diary.workers)
+            × (self.new.diary.fates ≡ self.old.diary.fates) }
         ensures whole { OnOk result (self.new.is_whole ≡ self.old.is_whole) }
         ensures over { OnErr result (self.new.is_whole ≡ false) }
-        ensures cut { IfOk result (λ r. Loses r.cut (losses_of self.old.posts.items) (losses_of self.new.posts.items)) }
-        ensures made { (self.new.suite ≡ self.old.suite) × (self.new.mode ≡ self.old.mode) × (self.new.first ≡ self.old.first) }
+        ensures cut { IfOk result (λ r.
+            Loses r.cut (losses_of self.old.posts.items) (losses_of self.new.posts.items)) }
+        ensures made { (self.new.suite ≡ self.old.suite) × (self.new.mode ≡ self.old.mode)
+            × (self.new.first ≡ self.old.first) }
     {
         if !self.is_whole {
             return Err(OutOfMemory);
@@ -172,9 +190,12 @@ impl<S: Source + Drop, N: Sink + Drop, C: Crew<Reader<S>>> Group<S, N, C> {
     // Starts a reader. The source comes back where the crew refused it.
     fn read(links: &mut Links<S, C>, source: S) -> Result<Option<S>, OutOfMemory>
         requires nothing_given { IfSome (S.supply source) (λ s. s.given ≡ []) }
-        ensures news { (suite : List ℕ) (mode : ModeKind) → IfOk result (λ r. news_of (mails links.new.desk) ≡ news_of (mails links.old.desk) ++ taken_of (page_opened suite mode (is_none r)) ∷ []) }
+        ensures news { (suite : List ℕ) (mode : ModeKind) →
+            IfOk result (λ r. news_of (mails links.new.desk) ≡ news_of (mails links.old.desk)
+            ++ taken_of (page_opened suite mode (is_none r)) ∷ []) }
         ensures back { IfOk result (λ r. IfSome r (λ back. back ≡ source)) }
-        ensures crew { IfOk result (λ r. Counted (is_none r) (C.faults links.old.crew) (C.faults links.new.crew)) }
+        ensures crew { IfOk result (λ r.
+            Counted (is_none r) (C.faults links.old.crew) (C.faults links.new.crew)) }
     {
         if !links.has_room() {
             return Err(OutOfMemory);
@@ -196,16 +217,21 @@ impl<S: Source + Drop, N: Sink + Drop, C: Crew<Reader<S>>> Group<S, N, C> {
         suite: &Text,
         mode: ModeKind,
     ) -> Result<Seat, OutOfMemory>
-        requires nothing_given { IfSome back (λ source. IfSome (S.supply source) (λ s. s.given ≡ [])) }
+        requires nothing_given { IfSome back (λ source.
+            IfSome (S.supply source) (λ s. s.given ≡ [])) }
         requires no_reads { IfSome back (λ source. S.faults source ≡ 0) }
         requires nothing_taken { IfSome (N.sunk sink) (λ s. s ≡ unused) }
         requires no_writes { N.faults sink ≡ 0 }
         requires short { length (encode_utf8_all suite.now) ≤ 65536 }
         ensures linked { IfOk result (λ r. is_linked r.fate ≡ is_none back) }
         ensures started { IfOk result (λ r. has_link r.fate ≡ true) }
-        ensures pages { OnOk result (pages_of posts.new.items ≡ pages_of posts.old.items ++ page_opened suite.now mode (is_none back) ∷ []) }
-        ensures cut { IfOk result (λ r. CutsLast r.fate r.is_cut (losses_of posts.old.items) (losses_of posts.new.items)) }
-        ensures kept { IfOk result (λ r. map is_some spares.new.items ≡ map is_some spares.old.items ++ is_refused r.fate ∷ []) }
+        ensures pages { OnOk result
+            (pages_of posts.new.items ≡ pages_of posts.old.items
+            ++ page_opened suite.now mode (is_none back) ∷ []) }
+        ensures cut { IfOk result (λ r.
+            CutsLast r.fate r.is_cut (losses_of posts.old.items) (losses_of posts.new.items)) }
+        ensures kept { IfOk result (λ r.
+            map is_some spares.new.items ≡ map is_some spares.old.items ++ is_refused r.fate ∷ []) }
     {
         match back {
             None => {
@@ -241,15 +267,21 @@ impl<S: Source + Drop, N: Sink + Drop, C: Crew<Reader<S>>> Group<S, N, C> {
         requires no_reads { S.faults source ≡ 0 }
         requires nothing_taken { IfSome (N.sunk sink) (λ s. s ≡ unused) }
         requires no_writes { N.faults sink ≡ 0 }
-        ensures called { OnOk result (noted self.new.diary.calls ≡ noted self.old.diary.calls ++ Start worker slot ∷ []) }
+        ensures called { OnOk result
+            (noted self.new.diary.calls ≡ noted self.old.diary.calls ++ Start worker slot ∷ []) }
         ensures given { OnOk result (noted self.new.diary.given ≡ noted self.old.diary.given) }
-        ensures workers { OnOk result (self.new.diary.workers.items ≡ self.old.diary.workers.items ++ worker ∷ []) }
-        ensures fates { IfOk result (λ r. self.new.diary.fates.items ≡ self.old.diary.fates.items ++ r.fate ∷ []) }
+        ensures workers { OnOk result
+            (self.new.diary.workers.items ≡ self.old.diary.workers.items ++ worker ∷ []) }
+        ensures fates { IfOk result (λ r.
+            self.new.diary.fates.items ≡ self.old.diary.fates.items ++ r.fate ∷ []) }
         ensures started { IfOk result (λ r. has_link r.fate ≡ true) }
         ensures whole { OnOk result (self.new.is_whole ≡ self.old.is_whole) }
         ensures over { OnErr result (self.new.is_whole ≡ false) }
-        ensures cut { IfOk result (λ r. CutsLast r.fate r.is_cut (losses_of self.old.posts.items) (losses_of self.new.posts.items)) }
-        ensures made { (self.new.suite ≡ self.old.suite) × (self.new.mode ≡ self.old.mode) × (self.new.first ≡ self.old.first) }
+        ensures cut { IfOk result (λ r.
+            CutsLast r.fate r.is_cut (losses_of self.old.posts.items)
+            (losses_of self.new.posts.items)) }
+        ensures made { (self.new.suite ≡ self.old.suite) × (self.new.mode ≡ self.old.mode)
+            × (self.new.first ≡ self.old.first) }
     {
         let was_whole = self.is_whole;
         self.is_whole = false;
@@ -275,14 +307,19 @@ impl<S: Source + Drop, N: Sink + Drop, C: Crew<Reader<S>>> Group<S, N, C> {
     /// Starts a worker whose link was not started.
     pub fn skip(&mut self, worker: u32, slot: u32) -> Result<(), OutOfMemory>
         requires new { was_started worker (noted self.old.diary.calls) ≡ false }
-        ensures called { OnOk result (noted self.new.diary.calls ≡ noted self.old.diary.calls ++ Start worker slot ∷ []) }
+        ensures called { OnOk result
+            (noted self.new.diary.calls ≡ noted self.old.diary.calls ++ Start worker slot ∷ []) }
         ensures given { OnOk result (noted self.new.diary.given ≡ noted self.old.diary.given) }
-        ensures workers { OnOk result (self.new.diary.workers.items ≡ self.old.diary.workers.items ++ worker ∷ []) }
-        ensures fates { OnOk result (self.new.diary.fates.items ≡ self.old.diary.fates.items ++ Unlinked ∷ []) }
+        ensures workers { OnOk result
+            (self.new.diary.workers.items ≡ self.old.diary.workers.items ++ worker ∷ []) }
+        ensures fates { OnOk result
+            (self.new.diary.fates.items ≡ self.old.diary.fates.items ++ Unlinked ∷ []) }
         ensures whole { OnOk result (self.new.is_whole ≡ self.old.is_whole) }
         ensures over { OnErr result (self.new.is_whole ≡ false) }
-        ensures lost { OnOk result (losses_of self.new.posts.items ≡ losses_of self.old.posts.items ++ false ∷ []) }
-        ensures made { (self.new.suite ≡ self.old.suite) × (self.new.mode ≡ self.old.mode) × (self.new.first ≡ self.old.first) }
+        ensures lost { OnOk result
+            (losses_of self.new.posts.items ≡ losses_of self.old.posts.items ++ false ∷ []) }
+        ensures made { (self.new.suite ≡ self.old.suite) × (self.new.mode ≡ self.old.mode)
+            × (self.new.first ≡ self.old.first) }
     {
         let was_whole = self.is_whole;
         self.is_whole = false;
@@ -303,14 +340,19 @@ impl<S: Source + Drop, N: Sink + Drop, C: Crew<Reader<S>>> Group<S, N, C> {
 
     /// Notes that a worker is killed. Gives the number of its link.
     pub fn kill(&mut self, worker: u32) -> Option<usize>
-        ensures called { noted self.new.diary.calls ≡ noted self.old.diary.calls ++ Kill worker ∷ [] }
+        ensures called { noted self.new.diary.calls ≡ noted self.old.diary.calls
+            ++ Kill worker ∷ [] }
         ensures given { noted self.new.diary.given ≡ noted self.old.diary.given }
-        ensures some { IfSome result (λ at. slice_get self.old.diary.workers.items at ≡ Some worker) }
-        ensures none { IfNone result ((k : ℕ) → slice_get self.old.diary.workers.items k ≡ Some worker → ⊥) }
+        ensures some { IfSome result (λ at.
+            slice_get self.old.diary.workers.items at ≡ Some worker) }
+        ensures none { IfNone result ((k : ℕ) →
+            slice_get self.old.diary.workers.items k ≡ Some worker → ⊥) }
         ensures whole { self.new.is_whole ≡ self.old.is_whole }
         ensures posts { self.new.posts ≡ self.old.posts }
-        ensures made { (self.new.suite ≡ self.old.suite) × (self.new.mode ≡ self.old.mode) × (self.new.first ≡ self.old.first) }
-        ensures starts { (self.new.diary.workers ≡ self.old.diary.workers) × (self.new.diary.fates ≡ self.old.diary.fates) }
+        ensures made { (self.new.suite ≡ self.old.suite) × (self.new.mode ≡ self.old.mode)
+            × (self.new.first ≡ self.old.first) }
+        ensures starts { (self.new.diary.workers ≡ self.old.diary.workers)
+            × (self.new.diary.fates ≡ self.old.diary.fates) }
     {
         self.diary.note_call(&Entry::Kill { worker });
         self.diary.place_of(worker)
@@ -320,14 +362,19 @@ impl<S: Source + Drop, N: Sink + Drop, C: Crew<Reader<S>>> Group<S, N, C> {
     pub fn next_unlinked(&mut self) -> Option<News>
         ensures started { IfSome result (λ n. IsStarted (noted self.old.diary.calls) n.worker) }
         ensures no_breach { IfSome result (λ n. is_breach n.what ≡ false) }
-        ensures waited { self.old.is_whole ≡ true → SaysNext self.old.diary.workers.items self.old.diary.waiting.items self.new.diary.waiting.items result }
-        ensures given { IfSome result (λ n. noted self.new.diary.given ≡ noted self.old.diary.given ++ n ∷ []) }
+        ensures waited { self.old.is_whole ≡ true →
+            SaysNext self.old.diary.workers.items self.old.diary.waiting.items
+            self.new.diary.waiting.items result }
+        ensures given { IfSome result (λ n.
+            noted self.new.diary.given ≡ noted self.old.diary.given ++ n ∷ []) }
         ensures silent { IfNone result (noted self.new.diary.given ≡ noted self.old.diary.given) }
         ensures calls { noted self.new.diary.calls ≡ noted self.old.diary.calls }
-        ensures starts { (self.new.diary.workers ≡ self.old.diary.workers) × (self.new.diary.fates ≡ self.old.diary.fates) }
+        ensures starts { (self.new.diary.workers ≡ self.old.diary.workers)
+            × (self.new.diary.fates ≡ self.old.diary.fates) }
         ensures whole { self.new.is_whole ≡ self.old.is_whole }
         ensures posts { self.new.posts ≡ self.old.posts }
-        ensures made { (self.new.suite ≡ self.old.suite) × (self.new.mode ≡ self.old.mode) × (self.new.first ≡ self.old.first) }
+        ensures made { (self.new.suite ≡ self.old.suite) × (self.new.mode ≡ self.old.mode)
+            × (self.new.first ≡ self.old.first) }
     {
         if !self.is_whole {
             return None;
@@ -352,11 +399,16 @@ impl<S: Source + Drop, N: Sink + Drop, C: Crew<Reader<S>>> Group<S, N, C> {
         links: &mut Links<S, C>,
         posts: &mut Vec<Option<Post<N>>>,
     ) -> Result<(), OutOfMemory>
-        requires late { (first : List (Option Settled)) × ∥ Late first (news_of (mails links.old.desk)) (pages_of posts.old.items) ∥₁ }
-        ensures late { (first : List (Option Settled)) → ∥ Late first (news_of (mails links.old.desk)) (pages_of posts.old.items) ∥₁
-            → OnOk result (∥ Late first (news_of (mails links.new.desk)) (pages_of posts.new.items) ∥₁) }
-        ensures seats { OnOk result (map is_some (pages_of posts.new.items) ≡ map is_some (pages_of posts.old.items)) }
-        ensures keeps { OnOk result (KeepsLost (losses_of posts.old.items) (losses_of posts.new.items)) }
+        requires late { (first : List (Option Settled))
+            × ∥ Late first (news_of (mails links.old.desk)) (pages_of posts.old.items) ∥₁ }
+        ensures late { (first : List (Option Settled)) →
+            ∥ Late first (news_of (mails links.old.desk)) (pages_of posts.old.items) ∥₁
+            → OnOk result (∥ Late first (news_of (mails links.new.desk))
+            (pages_of posts.new.items) ∥₁) }
+        ensures seats { OnOk result
+            (map is_some (pages_of posts.new.items) ≡ map is_some (pages_of posts.old.items)) }
+        ensures keeps { OnOk result
+            (KeepsLost (losses_of posts.old.items) (losses_of posts.new.items)) }
         ensures crew { links.new.crew ≡ links.old.crew }
     {
         let (number, item) = links.next(rt);
@@ -370,12 +422,17 @@ impl<S: Source + Drop, N: Sink + Drop, C: Crew<Reader<S>>> Group<S, N, C> {
         links: &mut Links<S, C>,
         posts: &mut Vec<Option<Post<N>>>,
     ) -> Result<(), OutOfMemory>
-        requires late { (first : List (Option Settled)) × ∥ Late first (news_of (mails links.old.desk)) (pages_of posts.old.items) ∥₁ }
-        ensures late { (first : List (Option Settled)) → ∥ Late first (news_of (mails links.old.desk)) (pages_of posts.old.items) ∥₁
-            → OnOk result (∥ Late first (news_of (mails links.new.desk)) (pages_of posts.new.items) ∥₁) }
+        requires late { (first : List (Option Settled))
+            × ∥ Late first (news_of (mails links.old.desk)) (pages_of posts.old.items) ∥₁ }
+        ensures late { (first : List (Option Settled)) →
+            ∥ Late first (news_of (mails links.old.desk)) (pages_of posts.old.items) ∥₁
+            → OnOk result (∥ Late first (news_of (mails links.new.desk))
+            (pages_of posts.new.items) ∥₁) }
         ensures ended { OnOk result (list_all has_ended posts.new.items ≡ true) }
-        ensures seats { OnOk result (map is_some (pages_of posts.new.items) ≡ map is_some (pages_of posts.old.items)) }
-        ensures keeps { OnOk result (KeepsLost (losses_of posts.old.items) (losses_of posts.new.items)) }
+        ensures seats { OnOk result
+            (map is_some (pages_of posts.new.items) ≡ map is_some (pages_of posts.old.items)) }
+        ensures keeps { OnOk result
+            (KeepsLost (losses_of posts.old.items) (losses_of posts.new.items)) }
         ensures crew { links.new.crew ≡ links.old.crew }
     {
         for _ in rt.forever() {
@@ -389,10 +446,15 @@ impl<S: Source + Drop, N: Sink + Drop, C: Crew<Reader<S>>> Group<S, N, C> {
 
     /// Takes from the links until nothing more is to come of any. From now on nothing is told and nothing said.
     pub fn settle<R: Wait>(&mut self, rt: &R) -> Result<(), OutOfMemory>
-        ensures late { OnOk result (∥ Late (map settled_at (pages_of self.old.posts.items)) (news_of (mails self.new.links.desk)) (pages_of self.new.posts.items) ∥₁) }
-        ensures ended { OnOk result (EndedFrom 0 (ends_of self.new.posts.items) self.old.diary.fates.items) }
-        ensures keeps { OnOk result (KeepsLost (losses_of self.old.posts.items) (losses_of self.new.posts.items)) }
-        ensures crew { (self.new.links.crew ≡ self.old.links.crew) × (self.new.first ≡ self.old.first) }
+        ensures late { OnOk result
+            (∥ Late (map settled_at (pages_of self.old.posts.items))
+            (news_of (mails self.new.links.desk)) (pages_of self.new.posts.items) ∥₁) }
+        ensures ended { OnOk result
+            (EndedFrom 0 (ends_of self.new.posts.items) self.old.diary.fates.items) }
+        ensures keeps { OnOk result
+            (KeepsLost (losses_of self.old.posts.items) (losses_of self.new.posts.items)) }
+        ensures crew { (self.new.links.crew ≡ self.old.links.crew)
+            × (self.new.first ≡ self.old.first) }
         ensures spares { self.new.spares ≡ self.old.spares }
         ensures whole { OnOk result (self.old.is_whole ≡ true) }
         ensures over { self.new.is_whole ≡ false }
@@ -413,15 +475,24 @@ impl<S: Source + Drop, N: Sink + Drop, C: Crew<Reader<S>>> Group<S, N, C> {
         number: u32,
         worker: u32,
     ) -> Ended<S, N>
-        requires late { (first : List (Option Settled)) × ∥ Late first (news_of (mails links.old.desk)) (pages_of posts.old.items) ∥₁ }
+        requires late { (first : List (Option Settled))
+            × ∥ Late first (news_of (mails links.old.desk)) (pages_of posts.old.items) ∥₁ }
         requires ended { slice_get (ends_of posts.old.items) number ≡ Some true }
-        ensures ran { (first : List (Option Settled)) → ∥ Late first (news_of (mails links.old.desk)) (pages_of posts.old.items) ∥₁
-            → ∥ RanAt first number (link_of (spring (S.supply result.source) (S.is_ended result.source) (S.faults result.source)) (N.sunk result.sink) (N.faults result.sink)) ∥₁ }
-        ensures late { (first : List (Option Settled)) → ∥ Late first (news_of (mails links.old.desk)) (pages_of posts.old.items) ∥₁
+        ensures ran { (first : List (Option Settled)) →
+            ∥ Late first (news_of (mails links.old.desk)) (pages_of posts.old.items) ∥₁
+            → ∥ RanAt first number (link_of
+            (spring (S.supply result.source) (S.is_ended result.source)
+            (S.faults result.source)) (N.sunk result.sink) (N.faults result.sink)) ∥₁ }
+        ensures late { (first : List (Option Settled)) →
+            ∥ Late first (news_of (mails links.old.desk)) (pages_of posts.old.items) ∥₁
             → ∥ Late first (news_of (mails links.new.desk)) (pages_of posts.new.items) ∥₁ }
-        ensures lost { slice_get (losses_of posts.old.items) number ≡ Some true → 0 < N.faults result.sink }
-        ensures others { ((k : ℕ) → number < k → slice_get (losses_of posts.old.items) k ≡ Some true → slice_get (losses_of posts.new.items) k ≡ Some true)
-            × ((k : ℕ) → number < k → slice_get (ends_of posts.old.items) k ≡ Some true → slice_get (ends_of posts.new.items) k ≡ Some true) }
+        ensures lost { slice_get (losses_of posts.old.items) number ≡ Some true →
+            0 < N.faults result.sink }
+        ensures others { ((k : ℕ) → number < k →
+            slice_get (losses_of posts.old.items) k ≡ Some true →
+            slice_get (losses_of posts.new.items) k ≡ Some true)
+            × ((k : ℕ) → number < k → slice_get (ends_of posts.old.items) k ≡ Some true →
+            slice_get (ends_of posts.new.items) k ≡ Some true) }
         ensures crew { C.faults links.new.crew ≡ C.faults links.old.crew }
         ensures worker { result.worker ≡ worker }
     {
@@ -437,9 +508,13 @@ impl<S: Source + Drop, N: Sink + Drop, C: Crew<Reader<S>>> Group<S, N, C> {
     // Gives the link of this number that was kept and not read.
     fn end_spare(spares: &mut Vec<Option<Spare<S, N>>>, number: u32, worker: u32) -> Ended<S, N>
         requires kept { slice_get (map is_some spares.old.items) number ≡ Some true }
-        ensures unused { Unused (link_of (spring (S.supply result.source) (S.is_ended result.source) (S.faults result.source)) (N.sunk result.sink) (N.faults result.sink)) }
+        ensures unused { Unused (link_of
+            (spring (S.supply result.source) (S.is_ended result.source) (S.faults result.source))
+            (N.sunk result.sink) (N.faults result.sink)) }
         ensures worker { result.worker ≡ worker }
-        ensures others { (k : ℕ) → number < k → slice_get (map is_some spares.old.items) k ≡ Some true → slice_get (map is_some spares.new.items) k ≡ Some true }
+        ensures others { (k : ℕ) → number < k →
+            slice_get (map is_some spares.old.items) k ≡ Some true →
+            slice_get (map is_some spares.new.items) k ≡ Some true }
     {
         let Spare { source, sink } = take_kept(spares, number as usize);
         Ended {
@@ -453,22 +528,43 @@ impl<S: Source + Drop, N: Sink + Drop, C: Crew<Reader<S>>> Group<S, N, C> {
     pub(crate) fn end_link(&mut self, number: u32) -> Option<Ended<S, N>>
         requires over { self.old.is_whole ≡ false }
         requires there { number < length self.old.diary.workers.items }
-        requires late { (first : List (Option Settled)) × ∥ Late first (news_of (mails self.old.links.desk)) (pages_of self.old.posts.items) ∥₁ }
-        requires kept { KeptFrom number (map is_some self.old.spares.items) self.old.diary.fates.items }
-        requires ended { EndedFrom number (ends_of self.old.posts.items) self.old.diary.fates.items }
-        ensures kept { KeptFrom (number + 1) (map is_some self.new.spares.items) self.old.diary.fates.items }
-        ensures ended { EndedFrom (number + 1) (ends_of self.new.posts.items) self.old.diary.fates.items }
-        ensures ran { (first : List (Option Settled)) → ∥ Late first (news_of (mails self.old.links.desk)) (pages_of self.old.posts.items) ∥₁ → slice_get self.old.diary.fates.items number ≡ Some Linked
-            → IfSome result (λ e. ∥ RanAt first number (link_of (spring (S.supply e.source) (S.is_ended e.source) (S.faults e.source)) (N.sunk e.sink) (N.faults e.sink)) ∥₁) }
+        requires late { (first : List (Option Settled))
+            × ∥ Late first (news_of (mails self.old.links.desk))
+            (pages_of self.old.posts.items) ∥₁ }
+        requires kept { KeptFrom number
+            (map is_some self.old.spares.items) self.old.diary.fates.items }
+        requires ended { EndedFrom number
+            (ends_of self.old.posts.items) self.old.diary.fates.items }
+        ensures kept { KeptFrom (number + 1)
+            (map is_some self.new.spares.items) self.old.diary.fates.items }
+        ensures ended { EndedFrom (number + 1)
+            (ends_of self.new.posts.items) self.old.diary.fates.items }
+        ensures ran { (first : List (Option Settled)) →
+            ∥ Late first (news_of (mails self.old.links.desk)) (pages_of self.old.posts.items) ∥₁ →
+            slice_get self.old.diary.fates.items number ≡ Some Linked
+            → IfSome result (λ e. ∥ RanAt first number
+            (link_of (spring (S.supply e.source) (S.is_ended e.source) (S.faults e.source))
+            (N.sunk e.sink) (N.faults e.sink)) ∥₁) }
         ensures unused { slice_get self.old.diary.fates.items number ≡ Some Refused
-            → IfSome result (λ e. Unused (link_of (spring (S.supply e.source) (S.is_ended e.source) (S.faults e.source)) (N.sunk e.sink) (N.faults e.sink))) }
-        ensures late { (first : List (Option Settled)) → ∥ Late first (news_of (mails self.old.links.desk)) (pages_of self.old.posts.items) ∥₁
-            → ∥ Late first (news_of (mails self.new.links.desk)) (pages_of self.new.posts.items) ∥₁ }
-        ensures fate { (f : Fate) × (slice_get self.old.diary.fates.items number ≡ Some f) × (is_some result ≡ has_link f) }
-        ensures worker { IfSome result (λ e. slice_get self.old.diary.workers.items number ≡ Some e.worker) }
-        ensures lost { slice_get self.old.diary.fates.items number ≡ Some Linked → IfSome result (λ e. slice_get (losses_of self.old.posts.items) number ≡ Some true → 0 < N.faults e.sink) }
-        ensures others { (k : ℕ) → number < k → slice_get (losses_of self.old.posts.items) k ≡ Some true → slice_get (losses_of self.new.posts.items) k ≡ Some true }
-        ensures crew { (C.faults self.new.links.crew ≡ C.faults self.old.links.crew) × (self.new.first ≡ self.old.first) }
+            → IfSome result (λ e. Unused
+            (link_of (spring (S.supply e.source) (S.is_ended e.source) (S.faults e.source))
+            (N.sunk e.sink) (N.faults e.sink))) }
+        ensures late { (first : List (Option Settled)) →
+            ∥ Late first (news_of (mails self.old.links.desk)) (pages_of self.old.posts.items) ∥₁
+            → ∥ Late first (news_of (mails self.new.links.desk))
+            (pages_of self.new.posts.items) ∥₁ }
+        ensures fate { (f : Fate) × (slice_get self.old.diary.fates.items number ≡ Some f)
+            × (is_some result ≡ has_link f) }
+        ensures worker { IfSome result (λ e.
+            slice_get self.old.diary.workers.items number ≡ Some e.worker) }
+        ensures lost { slice_get self.old.diary.fates.items number ≡ Some Linked →
+            IfSome result (λ e. slice_get (losses_of self.old.posts.items) number ≡ Some true →
+            0 < N.faults e.sink) }
+        ensures others { (k : ℕ) → number < k →
+            slice_get (losses_of self.old.posts.items) k ≡ Some true →
+            slice_get (losses_of self.new.posts.items) k ≡ Some true }
+        ensures crew { (C.faults self.new.links.crew ≡ C.faults self.old.links.crew)
+            × (self.new.first ≡ self.old.first) }
         ensures over { self.new.is_whole ≡ false }
         ensures diary { self.new.diary ≡ self.old.diary }
     {

@@ -50,11 +50,16 @@ pub struct Post<N: Sink + Drop> {
     pub is_known: bool,
     ghost lost: { is_known ≡ true → is_lost ≡ is_broken gateway },
     ghost closed: { is_known ≡ true → is_closed ≡ (has_left (noted said) || is_ended) },
-    ghost heard: { is_known ≡ true → ∥ HeardSo gateway is_ended is_lost (noted taken) (noted said ++ noted late) ∥₁ },
-    ghost sent: { is_known ≡ true → ∥ SentAs is_lost is_closed (N.sunk (sink_of gateway)) (N.faults (sink_of gateway)) (to_link suite.value mode (noted told) (noted said)) ∥₁ },
-    ghost faults: { is_known ≡ true → list_any says_send_fault (noted said) ≡ true → is_lost ≡ true },
+    ghost heard: { is_known ≡ true →
+        ∥ HeardSo gateway is_ended is_lost (noted taken) (noted said ++ noted late) ∥₁ },
+    ghost sent: { is_known ≡ true →
+        ∥ SentAs is_lost is_closed (N.sunk (sink_of gateway)) (N.faults (sink_of gateway))
+        (to_link suite.value mode (noted told) (noted said)) ∥₁ },
+    ghost faults: { is_known ≡ true → list_any says_send_fault (noted said) ≡ true →
+        is_lost ≡ true },
     ghost whole: { is_known ≡ true → is_ended ≡ true
-        → ∥ EndsWhole (noted said ++ noted late) (to_link suite.value mode (noted told) (noted said)) (N.sunk (sink_of gateway)) ∥₁ },
+        → ∥ EndsWhole (noted said ++ noted late)
+        (to_link suite.value mode (noted told) (noted said)) (N.sunk (sink_of gateway)) ∥₁ },
 }
 
 #[derive(Drop)]
@@ -91,7 +96,10 @@ fn judge<N: Sink + Drop>(
     is_lost: bool,
     item: LinkNews,
 ) -> Result<Judged, OutOfMemory>
-    ensures hears { (taken : List LinkNews) (said : List What) → HeardSo gateway.old is_ended is_lost taken said → IfOk result (λ r. HeardSo gateway.new r.is_ended is_lost (taken ++ item ∷ []) (said ++ option_to_list r.news)) }
+    ensures hears { (taken : List LinkNews) (said : List What) →
+        HeardSo gateway.old is_ended is_lost taken said →
+        IfOk result (λ r. HeardSo gateway.new r.is_ended is_lost (taken ++ item ∷ [])
+        (said ++ option_to_list r.news)) }
     ensures no_breach { IfOk result (λ r. IfSome r.news (λ x. is_breach x ≡ false)) }
     ensures sink { sink_of gateway.new ≡ sink_of gateway.old }
     ensures broken { is_broken gateway.new ≡ is_broken gateway.old }
@@ -162,15 +170,25 @@ fn end_behind<N: Sink + Drop>(
     is_lost: bool,
     news: &Option<What>,
 ) -> Ended
-    ensures closed { (said : List What) (was : Bool) → StaysEnded was is_ended news.now → is_closed ≡ (has_left said || was) → result.is_closed ≡ (has_left (said ++ option_to_list news.now) || is_ended) }
+    ensures closed { (said : List What) (was : Bool) → StaysEnded was is_ended news.now →
+        is_closed ≡ (has_left said || was) →
+        result.is_closed ≡ (has_left (said ++ option_to_list news.now) || is_ended) }
     ensures lost { is_lost ≡ is_broken gateway.old → result.is_lost ≡ is_broken gateway.new }
-    ensures sent { (suite : List ℕ) (mode : ModeKind) (told : List Entry) (said : List What) (was : Bool) → StaysEnded was is_ended news.now → is_lost ≡ is_broken gateway.old → is_closed ≡ (has_left said || was) → SentAs is_lost is_closed (N.sunk (sink_of gateway.old)) (N.faults (sink_of gateway.old)) (to_link suite mode told said)
-        → SentAs result.is_lost result.is_closed (N.sunk (sink_of gateway.new)) (N.faults (sink_of gateway.new)) (to_link suite mode told (said ++ option_to_list news.now)) }
+    ensures sent { (suite : List ℕ) (mode : ModeKind) (told : List Entry) (said : List What)
+        (was : Bool) → StaysEnded was is_ended news.now → is_lost ≡ is_broken gateway.old →
+        is_closed ≡ (has_left said || was) →
+        SentAs is_lost is_closed (N.sunk (sink_of gateway.old)) (N.faults (sink_of gateway.old))
+        (to_link suite mode told said)
+        → SentAs result.is_lost result.is_closed (N.sunk (sink_of gateway.new))
+        (N.faults (sink_of gateway.new))
+        (to_link suite mode told (said ++ option_to_list news.now)) }
     ensures keeps { is_lost ≡ is_broken gateway.old → is_lost ≡ true → result.is_lost ≡ true }
     ensures whole { (messages : List MessageView) → has_left (option_to_list news.now) ≡ false
         → IfSome (N.sunk (sink_of gateway.old)) (HandedOn messages)
         → IfSome (N.sunk (sink_of gateway.new)) (HandedOn messages) }
-    ensures heard { (ended : Bool) (taken : List LinkNews) (said : List What) → is_lost ≡ is_broken gateway.old → HeardSo gateway.old ended is_lost taken said → HeardSo gateway.new ended result.is_lost taken said }
+    ensures heard { (ended : Bool) (taken : List LinkNews) (said : List What) →
+        is_lost ≡ is_broken gateway.old → HeardSo gateway.old ended is_lost taken said →
+        HeardSo gateway.new ended result.is_lost taken said }
 {
     if is_closed {
         return Ended { is_closed, is_lost };
@@ -244,9 +262,11 @@ impl<N: Sink + Drop> Post<N> {
         requires known { self.old.is_known ≡ true }
         requires on_time { is_nothing (noted self.old.late) ≡ true }
         requires going { list_any is_end (noted self.old.said) ≡ false }
-        ensures same { (self.new.suite ≡ self.old.suite) × (self.new.mode ≡ self.old.mode) × (noted self.new.taken ≡ noted self.old.taken) }
+        ensures same { (self.new.suite ≡ self.old.suite) × (self.new.mode ≡ self.old.mode)
+            × (noted self.new.taken ≡ noted self.old.taken) }
         ensures told { OnOk result (noted self.new.told ≡ noted self.old.told ++ order.now ∷ []) }
-        ensures said { (noted self.new.said ≡ noted self.old.said) × (noted self.new.late ≡ noted self.old.late) }
+        ensures said { (noted self.new.said ≡ noted self.old.said)
+            × (noted self.new.late ≡ noted self.old.late) }
         ensures lost { IfOk result (λ b. b ≡ self.new.is_lost) }
         ensures keeps { OnOk result (self.old.is_lost ≡ true → self.new.is_lost ≡ true) }
         ensures known { OnOk result (self.new.is_known ≡ true) }
@@ -264,9 +284,11 @@ impl<N: Sink + Drop> Post<N> {
     pub fn hear(&mut self, item: LinkNews) -> Result<HeardNews, OutOfMemory>
         requires known { self.old.is_known ≡ true }
         requires on_time { is_nothing (noted self.old.late) ≡ true }
-        ensures same { (self.new.suite ≡ self.old.suite) × (self.new.mode ≡ self.old.mode) × (noted self.new.told ≡ noted self.old.told) }
+        ensures same { (self.new.suite ≡ self.old.suite) × (self.new.mode ≡ self.old.mode)
+            × (noted self.new.told ≡ noted self.old.told) }
         ensures taken { OnOk result (noted self.new.taken ≡ noted self.old.taken ++ item ∷ []) }
-        ensures said { IfOk result (λ r. noted self.new.said ≡ noted self.old.said ++ option_to_list r.what) }
+        ensures said { IfOk result (λ r.
+            noted self.new.said ≡ noted self.old.said ++ option_to_list r.what) }
         ensures late { noted self.new.late ≡ noted self.old.late }
         ensures lost { IfOk result (λ r. r.is_cut ≡ self.new.is_lost) }
         ensures keeps { OnOk result (self.old.is_lost ≡ true → self.new.is_lost ≡ true) }
@@ -302,7 +324,8 @@ impl<N: Sink + Drop> Post<N> {
     /// Takes an item of the link when nothing is said or written any more.
     pub fn hear_late(&mut self, item: LinkNews) -> Result<(), OutOfMemory>
         requires known { self.old.is_known ≡ true }
-        ensures same { (self.new.suite ≡ self.old.suite) × (self.new.mode ≡ self.old.mode) × (noted self.new.told ≡ noted self.old.told) }
+        ensures same { (self.new.suite ≡ self.old.suite) × (self.new.mode ≡ self.old.mode)
+            × (noted self.new.told ≡ noted self.old.told) }
         ensures taken { OnOk result (noted self.new.taken ≡ noted self.old.taken ++ item ∷ []) }
         ensures said { noted self.new.said ≡ noted self.old.said }
         ensures keeps { OnOk result (self.old.is_lost ≡ true → self.new.is_lost ≡ true) }

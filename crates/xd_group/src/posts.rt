@@ -27,9 +27,12 @@ pub fn tell_at<N: Sink + Drop>(
 ) -> Result<bool, OutOfMemory>
     requires order { IsSome (order_of order.now) }
     requires told { ∥ IsToldAt (pages_of posts.old.items) at ∥₁ }
-    ensures told { OnOk result (ToldAt order.now at (pages_of posts.old.items) (pages_of posts.new.items)) }
-    ensures seats { OnOk result (map is_some (pages_of posts.new.items) ≡ map is_some (pages_of posts.old.items)) }
-    ensures lost { IfOk result (λ b. Loses (then_some b at) (losses_of posts.old.items) (losses_of posts.new.items)) }
+    ensures told { OnOk result
+        (ToldAt order.now at (pages_of posts.old.items) (pages_of posts.new.items)) }
+    ensures seats { OnOk result
+        (map is_some (pages_of posts.new.items) ≡ map is_some (pages_of posts.old.items)) }
+    ensures lost { IfOk result (λ b.
+        Loses (then_some b at) (losses_of posts.old.items) (losses_of posts.new.items)) }
 {
     if at >= posts.len() {
         unreachable!()
@@ -48,10 +51,13 @@ pub fn hear_at<N: Sink + Drop>(
     item: LinkNews,
 ) -> Result<HeardNews, OutOfMemory>
     requires heard { ∥ IsHeardAt (pages_of posts.old.items) at ∥₁ }
-    ensures heard { IfOk result (λ r. HeardAt item r.what at (pages_of posts.old.items) (pages_of posts.new.items)) }
+    ensures heard { IfOk result (λ r.
+        HeardAt item r.what at (pages_of posts.old.items) (pages_of posts.new.items)) }
     ensures no_breach { IfOk result (λ r. IfSome r.what (λ x. is_breach x ≡ false)) }
-    ensures seats { OnOk result (map is_some (pages_of posts.new.items) ≡ map is_some (pages_of posts.old.items)) }
-    ensures lost { IfOk result (λ r. Loses (then_some r.is_cut at) (losses_of posts.old.items) (losses_of posts.new.items)) }
+    ensures seats { OnOk result
+        (map is_some (pages_of posts.new.items) ≡ map is_some (pages_of posts.old.items)) }
+    ensures lost { IfOk result (λ r.
+        Loses (then_some r.is_cut at) (losses_of posts.old.items) (losses_of posts.new.items)) }
 {
     if at >= posts.len() {
         unreachable!()
@@ -70,9 +76,12 @@ pub fn hear_late_at<N: Sink + Drop>(
     item: LinkNews,
 ) -> Result<(), OutOfMemory>
     requires late { ∥ IsLateAt (pages_of posts.old.items) at ∥₁ }
-    ensures late { OnOk result (LateAt item at (pages_of posts.old.items) (pages_of posts.new.items)) }
-    ensures seats { OnOk result (map is_some (pages_of posts.new.items) ≡ map is_some (pages_of posts.old.items)) }
-    ensures keeps { OnOk result (KeepsLost (losses_of posts.old.items) (losses_of posts.new.items)) }
+    ensures late { OnOk result
+        (LateAt item at (pages_of posts.old.items) (pages_of posts.new.items)) }
+    ensures seats { OnOk result
+        (map is_some (pages_of posts.new.items) ≡ map is_some (pages_of posts.old.items)) }
+    ensures keeps { OnOk result
+        (KeepsLost (losses_of posts.old.items) (losses_of posts.new.items)) }
 {
     if at >= posts.len() {
         unreachable!()
@@ -111,8 +120,11 @@ pub fn push_post<N: Sink + Drop>(
 ) -> Result<bool, OutOfMemory>
     requires nothing_taken { IfSome (N.sunk sink) (λ s. s ≡ unused) }
     requires short { length (encode_utf8_all suite.now) ≤ 65536 }
-    ensures pages { OnOk result (pages_of posts.new.items ≡ pages_of posts.old.items ++ page_opened suite.now mode true ∷ []) }
-    ensures lost { IfOk result (λ b. losses_of posts.new.items ≡ losses_of posts.old.items ++ b ∷ []) }
+    ensures pages { OnOk result
+        (pages_of posts.new.items ≡ pages_of posts.old.items
+        ++ page_opened suite.now mode true ∷ []) }
+    ensures lost { IfOk result (λ b.
+        losses_of posts.new.items ≡ losses_of posts.old.items ++ b ∷ []) }
 {
     posts.reserve(1)?;
     let post = Post::begin(alloc, sink, suite, mode)?;
@@ -124,7 +136,8 @@ pub fn push_post<N: Sink + Drop>(
 /// Adds a number that has no link.
 pub fn push_none<N: Sink + Drop>(posts: &mut Vec<Option<Post<N>>>) -> Result<(), OutOfMemory>
     ensures pages { OnOk result (pages_of posts.new.items ≡ pages_of posts.old.items ++ None ∷ []) }
-    ensures lost { OnOk result (losses_of posts.new.items ≡ losses_of posts.old.items ++ false ∷ []) }
+    ensures lost { OnOk result
+        (losses_of posts.new.items ≡ losses_of posts.old.items ++ false ∷ []) }
 {
     posts.push(None)?;
     Ok(())
@@ -145,10 +158,13 @@ fn leave<N: Sink + Drop>(post: Post<N>) -> N
 pub fn leave_at<N: Sink + Drop>(posts: &mut Vec<Option<Post<N>>>, at: usize) -> N
     requires known { ∥ IsLateAt (pages_of posts.old.items) at ∥₁ }
     requires ended { slice_get (ends_of posts.old.items) at ≡ Some true }
-    ensures ends { (p : Page) × (slice_get (pages_of posts.old.items) at ≡ Some (Some p)) × ∥ EndsSo p (N.sunk result) (N.faults result) ∥₁ }
+    ensures ends { (p : Page) × (slice_get (pages_of posts.old.items) at ≡ Some (Some p))
+        × ∥ EndsSo p (N.sunk result) (N.faults result) ∥₁ }
     ensures lost { slice_get (losses_of posts.old.items) at ≡ Some true → 0 < N.faults result }
-    ensures others { (k : ℕ) → at < k → slice_get (losses_of posts.old.items) k ≡ Some true → slice_get (losses_of posts.new.items) k ≡ Some true }
-    ensures ended { (k : ℕ) → at < k → slice_get (ends_of posts.old.items) k ≡ Some true → slice_get (ends_of posts.new.items) k ≡ Some true }
+    ensures others { (k : ℕ) → at < k → slice_get (losses_of posts.old.items) k ≡ Some true →
+        slice_get (losses_of posts.new.items) k ≡ Some true }
+    ensures ended { (k : ℕ) → at < k → slice_get (ends_of posts.old.items) k ≡ Some true →
+        slice_get (ends_of posts.new.items) k ≡ Some true }
     ensures gone { pages_of posts.new.items ≡ slice_set (pages_of posts.old.items) at None }
 {
     if at >= posts.len() {

@@ -22,7 +22,8 @@ pub fn keep<A: Source + Drop, B: Sink + Drop>(
     spares: &mut Vec<Option<Spare<A, B>>>,
     spare: Option<Spare<A, B>>,
 ) -> Result<(), OutOfMemory>
-    ensures { OnOk result (map is_some spares.new.items ≡ map is_some spares.old.items ++ is_some spare ∷ []) }
+    ensures { OnOk result (map is_some spares.new.items ≡ map is_some spares.old.items
+        ++ is_some spare ∷ []) }
 {
     spares.push(spare)?;
     Ok(())
@@ -34,7 +35,8 @@ pub fn take_kept<A: Source + Drop, B: Sink + Drop>(
     at: usize,
 ) -> Spare<A, B>
     requires kept { slice_get (map is_some spares.old.items) at ≡ Some true }
-    ensures others { (k : ℕ) → at < k → slice_get (map is_some spares.old.items) k ≡ Some true → slice_get (map is_some spares.new.items) k ≡ Some true }
+    ensures others { (k : ℕ) → at < k → slice_get (map is_some spares.old.items) k ≡ Some true →
+        slice_get (map is_some spares.new.items) k ≡ Some true }
 {
     if at >= spares.len() {
         unreachable!()

@@ -31,7 +31,8 @@ impl Model for Chains {
 
     ghost view = { λ l. record { next = l.next.items; owner = l.owner.items; counts = l.counts.items } };
 
-    ghost invariant = { λ l. AreChains l.next.items l.previous.items l.owner.items l.counts.items (chain l.next.items l.owner.items l.counts.items) };
+    ghost invariant = { λ l. AreChains l.next.items l.previous.items l.owner.items l.counts.items
+        (chain l.next.items l.owner.items l.counts.items) };
 }
 
 // These numbers, in order, after the others.
@@ -85,7 +86,8 @@ impl Chains {
     pub(crate) fn new(alloc: Global, items: u32, chains: u32) -> Result<Chains, AllocError>
         requires few { items ≤ 1600000 }
         requires some { (1 ≤ chains) × (chains ≤ 4000000000) }
-        ensures lists { IfOk result (λ l. (j : ℕ) → chain_at l j ≡ changed 0 (range_with_len 0 items) (λ _. []) j) }
+        ensures lists { IfOk result (λ l. (j : ℕ) →
+            chain_at l j ≡ changed 0 (range_with_len 0 items) (λ _. []) j) }
         ensures chains { IfOk result (λ l. chains_of l ≡ chains) }
     {
         let mut made = Chains::one(alloc, items)?;
@@ -100,7 +102,8 @@ impl Chains {
         requires { chains_of self.old < 4000000000 }
         ensures lists { (j : ℕ) → chain_at self.new j ≡ chain_at self.old j }
         ensures items { number_count self.new ≡ number_count self.old }
-        ensures chains { chains_of self.new ≡ (if is_ok result then chains_of self.old + 1 else chains_of self.old) }
+        ensures chains { chains_of
+            self.new ≡ (if is_ok result then chains_of self.old + 1 else chains_of self.old) }
     {
         self.next.reserve(1)?;
         self.previous.reserve(1)?;
@@ -116,7 +119,9 @@ impl Chains {
     pub(crate) fn take(&mut self, chain: u32, item: u32)
         requires known { chain < chains_of self.old }
         requires within { among item (chain_at self.old chain) ≡ true }
-        ensures lists { (j : ℕ) → chain_at self.new j ≡ changed chain (without (item ∷ []) (chain_at self.old chain)) (chain_at self.old) j }
+        ensures lists { (j : ℕ) →
+            chain_at self.new j ≡ changed chain (without (item ∷ []) (chain_at self.old chain))
+            (chain_at self.old) j }
         ensures free { is_free item self.new ≡ true }
         ensures items { number_count self.new ≡ number_count self.old }
         ensures chains { chains_of self.new ≡ chains_of self.old }
@@ -135,7 +140,9 @@ impl Chains {
         requires known { chain < chains_of self.old }
         requires below { item < number_count self.old }
         requires free { is_free item self.old ≡ true }
-        ensures lists { (j : ℕ) → chain_at self.new j ≡ changed chain (chain_at self.old chain ++ item ∷ []) (chain_at self.old) j }
+        ensures lists { (j : ℕ) →
+            chain_at self.new j ≡ changed chain (chain_at self.old chain ++ item ∷ [])
+            (chain_at self.old) j }
         ensures items { number_count self.new ≡ number_count self.old }
         ensures chains { chains_of self.new ≡ chains_of self.old }
     {
@@ -154,7 +161,9 @@ impl Chains {
         requires known { chain < chains_of self.old }
         requires below { item < number_count self.old }
         requires free { is_free item self.old ≡ true }
-        ensures lists { (j : ℕ) → chain_at self.new j ≡ changed chain (item ∷ chain_at self.old chain) (chain_at self.old) j }
+        ensures lists { (j : ℕ) →
+            chain_at self.new j ≡ changed chain (item ∷ chain_at self.old chain)
+            (chain_at self.old) j }
         ensures items { number_count self.new ≡ number_count self.old }
         ensures chains { chains_of self.new ≡ chains_of self.old }
     {
@@ -173,7 +182,8 @@ impl Chains {
         requires known { (from < chains_of self.old) × (to < chains_of self.old) }
         requires within { among item (chain_at self.old from) ≡ true }
         requires apart { (from == to) ≡ false }
-        ensures lists { (j : ℕ) → chain_at self.new j ≡ shifted from to (item ∷ []) (chain_at self.old) j }
+        ensures lists { (j : ℕ) →
+            chain_at self.new j ≡ shifted from to (item ∷ []) (chain_at self.old) j }
         ensures items { number_count self.new ≡ number_count self.old }
         ensures chains { chains_of self.new ≡ chains_of self.old }
     {
@@ -187,7 +197,8 @@ impl Chains {
         requires within { all_among items.now (chain_at self.old from) ≡ true }
         requires distinct { all_distinct items.now ≡ true }
         requires apart { (from == to) ≡ false }
-        ensures lists { (j : ℕ) → chain_at self.new j ≡ shifted from to items.now (chain_at self.old) j }
+        ensures lists { (j : ℕ) →
+            chain_at self.new j ≡ shifted from to items.now (chain_at self.old) j }
         ensures items { number_count self.new ≡ number_count self.old }
         ensures chains { chains_of self.new ≡ chains_of self.old }
     {
@@ -250,7 +261,8 @@ impl Chains {
 
     // The number after this one in its list.
     pub(crate) fn next(&self, item: u32) -> Option<u32>
-        ensures { (k : ℕ) → k < chains_of self.now → among item (chain_at self.now k) ≡ true → result ≡ first_of (behind item (chain_at self.now k)) }
+        ensures { (k : ℕ) → k < chains_of self.now → among item (chain_at self.now k) ≡ true →
+            result ≡ first_of (behind item (chain_at self.now k)) }
     {
         if (item as usize) < self.owner.len() {
             self.item_at(self.next[item as usize])
@@ -261,7 +273,8 @@ impl Chains {
 
     // The number before this one in its list.
     pub(crate) fn previous(&self, item: u32) -> Option<u32>
-        ensures { (k : ℕ) → k < chains_of self.now → among item (chain_at self.now k) ≡ true → result ≡ final_of (ahead item (chain_at self.now k)) }
+        ensures { (k : ℕ) → k < chains_of self.now → among item (chain_at self.now k) ≡ true →
+            result ≡ final_of (ahead item (chain_at self.now k)) }
     {
         if (item as usize) < self.owner.len() {
             self.item_at(self.previous[item as usize])
@@ -299,7 +312,8 @@ impl Chains {
     ) -> Result<Indices, OutOfMemory>
         requires known { chain < chains_of self.now }
         requires enough { count ≤ length (chain_at self.now chain) }
-        ensures { IfOk result (λ v. v ≡ drop (length (chain_at self.now chain) - count) (chain_at self.now chain)) }
+        ensures { IfOk result (λ v.
+            v ≡ drop (length (chain_at self.now chain) - count) (chain_at self.now chain)) }
     {
         let mut items = Vec::with_capacity(alloc, count as usize)?;
         let mut place = self.previous[self.owner.len() + chain as usize];
@@ -341,7 +355,9 @@ impl Chains {
     pub(crate) fn pour(&mut self, from: u32, to: u32)
         requires known { (from < chains_of self.old) × (to < chains_of self.old) }
         requires apart { (from == to) ≡ false }
-        ensures lists { (j : ℕ) → chain_at self.new j ≡ poured (length (chain_at self.old from)) from to (chain_at self.old) j }
+        ensures lists { (j : ℕ) →
+            chain_at self.new j ≡ poured (length (chain_at self.old from)) from to
+            (chain_at self.old) j }
         ensures items { number_count self.new ≡ number_count self.old }
         ensures chains { chains_of self.new ≡ chains_of self.old }
     {

@@ -24,7 +24,8 @@ impl Model for Joined {
 
     ghost view = { λ j. j.workers.items };
 
-    ghost invariant = { λ j. (worker : ℕ) → contains nat_cmp j.known worker ≡ among worker j.workers.items };
+    ghost invariant = { λ j. (worker : ℕ) →
+        contains nat_cmp j.known worker ≡ among worker j.workers.items };
 }
 
 impl Joined {

@@ -21,7 +21,8 @@ pub fn is_each(mode: ModeKind) -> bool
 
 // The collection of a slot.
 fn listed_in(lists: &[Listed], slot: u32) -> Option<&Listed>
-    ensures { MatchOption result (listed_in slot lists.now ≡ None) (λ l. listed_in slot lists.now ≡ Some l.now) }
+    ensures { MatchOption result (listed_in slot lists.now ≡ None) (λ l.
+        listed_in slot lists.now ≡ Some l.now) }
 {
     for listed in lists {
         if listed.slot == slot {
@@ -98,7 +99,8 @@ impl Books {
 
     /// The collection with which the worker's is compared, where it stands.
     pub fn listed(&self, worker: u32) -> Option<&Listed>
-        ensures { MatchOption result (listed worker self.now ≡ None) (λ l. listed worker self.now ≡ Some l.now) }
+        ensures { MatchOption result (listed worker self.now ≡ None) (λ l.
+            listed worker self.now ≡ Some l.now) }
     {
         listed_in(&self.lists, self.key(worker))
     }

@@ -27,7 +27,9 @@ pub fn give_front(
     acts: &mut Vec<Entry>,
 ) -> Result<(), OutOfMemory>
     requires { in_rota worker ledger.old ≡ true }
-    ensures { OnOk result ((p : Plan) → turn ledger.new p acts.new.items ≡ give_front worker count (turn ledger.old p acts.old.items)) }
+    ensures { OnOk result ((p : Plan) →
+        turn ledger.new p acts.new.items ≡ give_front worker count
+        (turn ledger.old p acts.old.items)) }
 {
     if count == 0 || ledger.pool_len() == 0 {
         return Ok(());
@@ -39,7 +41,8 @@ pub fn give_front(
 /// The worker is told to shut down, where it was not yet.
 pub fn shut(worker: u32, ledger: &mut Ledger, acts: &mut Vec<Entry>) -> Result<(), OutOfMemory>
     requires { in_rota worker ledger.old ≡ true }
-    ensures { OnOk result ((p : Plan) → turn ledger.new p acts.new.items ≡ shut worker (turn ledger.old p acts.old.items)) }
+    ensures { OnOk result ((p : Plan) →
+        turn ledger.new p acts.new.items ≡ shut worker (turn ledger.old p acts.old.items)) }
 {
     if ledger.is_shut(worker) {
         return Ok(());
@@ -51,7 +54,8 @@ pub fn shut(worker: u32, ledger: &mut Ledger, acts: &mut Vec<Entry>) -> Result<(
 /// Each worker of the rota is told to shut down, in order, where it was not yet.
 pub fn shut_rota(ledger: &mut Ledger, acts: &mut Vec<Entry>) -> Result<(), OutOfMemory>
     ensures { OnOk result ((p : Plan) →
-        turn ledger.new p acts.new.items ≡ shut_each (workers_of ledger.old) (turn ledger.old p acts.old.items)) }
+        turn ledger.new p acts.new.items ≡ shut_each (workers_of ledger.old)
+        (turn ledger.old p acts.old.items)) }
 {
     for place in 0..ledger.rota_len() {
         let worker = ledger.rota_at(place);

@@ -17,7 +17,8 @@ use xd_edge::{Indices, OutOfMemory};
 // Each post's list has fewer numbers than that.
 fn all_below(chains: &Chains, rota: &[Post], count: u32) -> bool
     requires { list_all (λ q. nat_lt q.chain (chains_of chains.now)) rota.now ≡ true }
-    ensures { result ≡ list_all (λ q. nat_lt (length (chain_at chains.now q.chain)) count) rota.now }
+    ensures { result ≡ list_all
+        (λ q. nat_lt (length (chain_at chains.now q.chain)) count) rota.now }
 {
     for i in 0..rota.len() {
         if chains.len(rota[i].chain) >= count {
@@ -144,8 +145,10 @@ impl Ledger {
     /// The item after this one in the list in which it stands: the pool, or what a worker of the rota holds.
     pub fn next_item(&self, item: u32) -> Option<u32>
         requires stands { among item (self.now.pool ++ held_by_all self.now.rota) ≡ true }
-        ensures pool { among item self.now.pool ≡ true → result ≡ first_of (behind item self.now.pool) }
-        ensures held { (w : ℕ) → in_rota w self.now ≡ true → among item (held w self.now) ≡ true → result ≡ first_of (behind item (held w self.now)) }
+        ensures pool { among item self.now.pool ≡ true →
+            result ≡ first_of (behind item self.now.pool) }
+        ensures held { (w : ℕ) → in_rota w self.now ≡ true → among item (held w self.now) ≡ true →
+            result ≡ first_of (behind item (held w self.now)) }
     {
         self.chains.next(item)
     }
@@ -153,8 +156,10 @@ impl Ledger {
     /// The item before this one in the list in which it stands: the pool, or what a worker of the rota holds.
     pub fn previous_item(&self, item: u32) -> Option<u32>
         requires stands { among item (self.now.pool ++ held_by_all self.now.rota) ≡ true }
-        ensures pool { among item self.now.pool ≡ true → result ≡ final_of (ahead item self.now.pool) }
-        ensures held { (w : ℕ) → in_rota w self.now ≡ true → among item (held w self.now) ≡ true → result ≡ final_of (ahead item (held w self.now)) }
+        ensures pool { among item self.now.pool ≡ true →
+            result ≡ final_of (ahead item self.now.pool) }
+        ensures held { (w : ℕ) → in_rota w self.now ≡ true → among item (held w self.now) ≡ true →
+            result ≡ final_of (ahead item (held w self.now)) }
     {
         self.chains.previous(item)
     }

@@ -95,7 +95,9 @@ impl Books {
 
     // One more failure, where there was one.
     fn count_failure(&mut self, failed: bool) -> Result<(), OutOfMemory>
-        ensures counted { OnOk result (self.new ≡ record self.old { failures = self.old.failures + (if failed then 1 else 0) }) }
+        ensures counted { OnOk result
+            (self.new ≡ record self.old
+            { failures = self.old.failures + (if failed then 1 else 0) }) }
         ensures settings { self.new.settings ≡ self.old.settings }
         ensures lists { self.new.lists ≡ self.old.lists }
     {
@@ -123,7 +125,8 @@ impl Books {
 
     // A death, of a worker that held this at its head, where it held any.
     fn lose(&mut self, head: Option<u64>, retry: bool) -> Result<(), OutOfMemory>
-        ensures lost { OnOk result ((items : List ℕ) → head ≡ first_of items → self.new ≡ lost_with retry items self.old) }
+        ensures lost { OnOk result ((items : List ℕ) → head ≡ first_of items →
+            self.new ≡ lost_with retry items self.old) }
         ensures settings { self.new.settings ≡ self.old.settings }
         ensures lists { self.new.lists ≡ self.old.lists }
     {
@@ -138,7 +141,8 @@ impl Books {
     /// The worker went down, with this item at its head where it held any; one that is not tried again counts as a failure. A
     /// death can reach both limits.
     pub fn bury(&mut self, worker: u32, head: Option<u64>, retry: bool) -> Result<(), OutOfMemory>
-        ensures buried { OnOk result ((items : List ℕ) → head ≡ first_of items → self.new ≡ limited worker (gone worker (lost_with retry items self.old))) }
+        ensures buried { OnOk result ((items : List ℕ) → head ≡ first_of items →
+            self.new ≡ limited worker (gone worker (lost_with retry items self.old))) }
         ensures settings { self.new.settings ≡ self.old.settings }
         ensures lists { self.new.lists ≡ self.old.lists }
     {

@@ -107,7 +107,8 @@ fn end_workers<R: Wait, St: Starter, C: Crew<Reader<St::Src>>>(
     ended: &Result<(DrivenRun, Vec<LinkEnd<St::Src, St::Snk>>), OutOfMemory>,
 )
     ensures same { OnOk ended.now (hub.new ≡ hub.old) }
-    ensures over { OnErr ended.now (list_all is_killed_and_reaped hub.new.children.children.items ≡ true) }
+    ensures over { OnErr ended.now
+        (list_all is_killed_and_reaped hub.new.children.children.items ≡ true) }
 {
     if ended.is_err() {
         hub.abandon(rt);

@@ -21,7 +21,9 @@ pub struct Links<S: Source + Drop, C: Crew<Reader<S>>> {
     /// Of which links the end was not taken yet.
     pub going: Vec<bool>,
     ghost rings: { map ring_of_mail (mails desk) ≡ map (ring_of_link C.job_of) handles.items },
-    ghost fresh: { (k : ℕ) (source : S) (s : Supply) → slice_get (sources_of C.job_of handles.items) k ≡ Some (Some source) → S.supply source ≡ Some s → s.given ≡ [] },
+    ghost fresh: { (k : ℕ) (source : S) (s : Supply) →
+        slice_get (sources_of C.job_of handles.items) k ≡ Some (Some source) →
+        S.supply source ≡ Some s → s.given ≡ [] },
 }
 
 // Notes of a link that its end was taken.
@@ -77,7 +79,8 @@ impl<S: Source + Drop, C: Crew<Reader<S>>> Links<S, C> {
     ghost use Rattle.xd_reader.specs.declared.news.LinkNews.{LinkNews};
 
     pub fn new(alloc: Global, crew: C) -> Result<Links<S, C>, OutOfMemory>
-        ensures none { IfOk result (λ r. (news_of (mails r.desk) ≡ []) × (sources_of C.job_of r.handles.items ≡ [])) }
+        ensures none { IfOk result (λ r. (news_of (mails r.desk) ≡ [])
+            × (sources_of C.job_of r.handles.items ≡ [])) }
         ensures crew { IfOk result (λ r. r.crew ≡ crew) }
     {
         let bell = Bell::new(alloc)?;
@@ -94,8 +97,10 @@ impl<S: Source + Drop, C: Crew<Reader<S>>> Links<S, C> {
     pub fn next<R: Wait>(&mut self, rt: &R) -> (u32, LinkNews)
         ensures sources { self.new.handles ≡ self.old.handles }
         ensures crew { self.new.crew ≡ self.old.crew }
-        ensures news { (got : List LinkNews) × (slice_get (news_of (mails self.old.desk)) result.0 ≡ Some (Some got))
-            × (news_of (mails self.new.desk) ≡ slice_set (news_of (mails self.old.desk)) result.0 (Some (got ++ result.1 ∷ []))) }
+        ensures news { (got : List LinkNews)
+            × (slice_get (news_of (mails self.old.desk)) result.0 ≡ Some (Some got))
+            × (news_of (mails self.new.desk) ≡ slice_set (news_of (mails self.old.desk)) result.0
+            (Some (got ++ result.1 ∷ []))) }
     {
         let (number, item) = self.desk.wait(rt);
         note_end(&mut self.going, number as usize, &item);
@@ -107,14 +112,22 @@ impl<S: Source + Drop, C: Crew<Reader<S>>> Links<S, C> {
         requires room { length (news_of (mails self.old.desk)) < 4294967295 }
         requires nothing_given { IfSome (S.supply source) (λ s. s.given ≡ []) }
         ensures later { C.faults self.old.crew ≤ C.faults self.new.crew }
-        ensures still { IfOk result (λ r. OnOk r (C.faults self.new.crew ≡ C.faults self.old.crew)) }
-        ensures opened { IfOk result (λ r. IfOk r (λ number. (number ≡ length (news_of (mails self.old.desk)))
-            × (sources_of C.job_of self.new.handles.items ≡ sources_of C.job_of self.old.handles.items ++ Some source ∷ [])
+        ensures still { IfOk result (λ r.
+            OnOk r (C.faults self.new.crew ≡ C.faults self.old.crew)) }
+        ensures opened { IfOk result (λ r.
+            IfOk r (λ number. (number ≡ length (news_of (mails self.old.desk)))
+            × (sources_of C.job_of self.new.handles.items ≡ sources_of C.job_of
+            self.old.handles.items ++ Some source ∷ [])
             × (news_of (mails self.new.desk) ≡ news_of (mails self.old.desk) ++ Some [] ∷ []))) }
         ensures back { IfOk result (λ r. IfErr r (λ back. back ≡ source)) }
-        ensures rose { IfOk result (λ r. IfErr r (λ back. Rose (C.faults self.old.crew) (C.faults self.new.crew))) }
-        ensures shut { IfOk result (λ r. IfErr r (λ back. sources_of C.job_of self.new.handles.items ≡ sources_of C.job_of self.old.handles.items ++ None ∷ [])) }
-        ensures silent { IfOk result (λ r. IfErr r (λ back. news_of (mails self.new.desk) ≡ news_of (mails self.old.desk) ++ None ∷ [])) }
+        ensures rose { IfOk result (λ r.
+            IfErr r (λ back. Rose (C.faults self.old.crew) (C.faults self.new.crew))) }
+        ensures shut { IfOk result (λ r.
+            IfErr r (λ back. sources_of C.job_of self.new.handles.items ≡ sources_of C.job_of
+            self.old.handles.items ++ None ∷ [])) }
+        ensures silent { IfOk result (λ r.
+            IfErr r (λ back. news_of (mails self.new.desk) ≡ news_of (mails self.old.desk)
+            ++ None ∷ [])) }
     {
         self.handles.reserve(1)?;
         self.going.reserve(1)?;
@@ -150,8 +163,11 @@ impl<S: Source + Drop, C: Crew<Reader<S>>> Links<S, C> {
     pub fn skip(&mut self) -> Result<(), OutOfMemory>
         requires { length (news_of (mails self.old.desk)) < 4294967295 }
         ensures crew { self.new.crew ≡ self.old.crew }
-        ensures news { OnOk result (news_of (mails self.new.desk) ≡ news_of (mails self.old.desk) ++ None ∷ []) }
-        ensures sources { OnOk result (sources_of C.job_of self.new.handles.items ≡ sources_of C.job_of self.old.handles.items ++ None ∷ []) }
+        ensures news { OnOk result
+            (news_of (mails self.new.desk) ≡ news_of (mails self.old.desk) ++ None ∷ []) }
+        ensures sources { OnOk result
+            (sources_of C.job_of self.new.handles.items ≡ sources_of C.job_of self.old.handles.items
+            ++ None ∷ []) }
     {
         self.handles.reserve(1)?;
         self.going.reserve(1)?;
@@ -165,7 +181,9 @@ impl<S: Source + Drop, C: Crew<Reader<S>>> Links<S, C> {
 
     /// Whether the number has a link.
     pub fn has_link(&self, number: u32) -> bool
-        ensures { IsTrue result → (source : S) × (slice_get (sources_of C.job_of self.now.handles.items) number ≡ Some (Some source)) }
+        ensures { IsTrue result →
+            (source : S) × (slice_get (sources_of C.job_of self.now.handles.items) number ≡ Some
+            (Some source)) }
     {
         let at = number as usize;
         if at >= self.handles.len() {
@@ -176,12 +194,17 @@ impl<S: Source + Drop, C: Crew<Reader<S>>> Links<S, C> {
 
     /// Joins the link's reader and closes the link.
     pub fn close(&mut self, number: u32) -> Closed<S>
-        requires { (source : S) × (slice_get (sources_of C.job_of self.old.handles.items) number ≡ Some (Some source)) }
+        requires { (source : S) × (slice_get
+            (sources_of C.job_of self.old.handles.items) number ≡ Some (Some source)) }
         ensures crew { C.faults self.new.crew ≡ C.faults self.old.crew }
-        ensures run { (got : List LinkNews) → slice_get (news_of (mails self.old.desk)) number ≡ Some (Some got)
-            → LinkRead (spring (S.supply result.source) (S.is_ended result.source) (S.faults result.source)) got }
-        ensures news { news_of (mails self.new.desk) ≡ slice_set (news_of (mails self.old.desk)) number None }
-        ensures sources { sources_of C.job_of self.new.handles.items ≡ slice_set (sources_of C.job_of self.old.handles.items) number None }
+        ensures run { (got : List LinkNews) →
+            slice_get (news_of (mails self.old.desk)) number ≡ Some (Some got)
+            → LinkRead (spring (S.supply result.source) (S.is_ended result.source)
+            (S.faults result.source)) got }
+        ensures news { news_of (mails self.new.desk) ≡ slice_set
+            (news_of (mails self.old.desk)) number None }
+        ensures sources { sources_of C.job_of self.new.handles.items ≡ slice_set
+            (sources_of C.job_of self.old.handles.items) number None }
     {
         match self.handles[number as usize].take() {
             Some(handle) => {

@@ -15,8 +15,10 @@ use xd_reader::{LinkNews, LinkStop};
 impl<N: Sink> Server<N> {
     /// Closes the sink for good. Says whether it could be.
     pub fn close(&mut self) -> bool
-        ensures closes { Closes result (N.sunk self.old.speaker.sink) (N.sunk self.new.speaker.sink) (N.faults self.old.speaker.sink) (N.faults self.new.speaker.sink) }
-        ensures rest { self.new ≡ record (self.old) { speaker = record (self.old.speaker) { sink = self.new.speaker.sink } } }
+        ensures closes { Closes result (N.sunk self.old.speaker.sink) (N.sunk self.new.speaker.sink)
+            (N.faults self.old.speaker.sink) (N.faults self.new.speaker.sink) }
+        ensures rest { self.new ≡ record (self.old)
+            { speaker = record (self.old.speaker) { sink = self.new.speaker.sink } } }
     {
         self.speaker.sink.close().is_ok()
     }
@@ -24,7 +26,10 @@ impl<N: Sink> Server<N> {
     /// Takes and drops what comes, until the reader's end and the end of the running test were taken, so that neither job
     /// waits for room. Gives the reader's end.
     pub fn drain<R: Wait>(&mut self, rt: &R) -> LinkStop
-        ensures goes { (a : Setting) (now : Beside) (halt : Halt) (sunk : Option Sunk) (faults : ℕ) → Goes (Some halt) a now (at_sink sunk faults (seen N.sunk N.faults self.old)) → Goes (Some halt) a now (at_sink sunk faults (seen N.sunk N.faults self.new)) }
+        ensures goes { (a : Setting) (now : Beside) (halt : Halt) (sunk : Option Sunk)
+            (faults : ℕ) → Goes (Some halt) a now
+            (at_sink sunk faults (seen N.sunk N.faults self.old)) →
+            Goes (Some halt) a now (at_sink sunk faults (seen N.sunk N.faults self.new)) }
         ensures ended { self.new.link_stop ≡ Some result }
         ensures idle { self.new.started ≡ None }
         ensures speaker { self.new.speaker ≡ self.old.speaker }
@@ -43,7 +48,10 @@ impl<N: Sink> Server<N> {
 
     // Takes the next item, and drops it.
     fn drop_next<R: Wait>(&mut self, rt: &R)
-        ensures goes { (a : Setting) (now : Beside) (halt : Halt) (sunk : Option Sunk) (faults : ℕ) → Goes (Some halt) a now (at_sink sunk faults (seen N.sunk N.faults self.old)) → Goes (Some halt) a now (at_sink sunk faults (seen N.sunk N.faults self.new)) }
+        ensures goes { (a : Setting) (now : Beside) (halt : Halt) (sunk : Option Sunk)
+            (faults : ℕ) → Goes (Some halt) a now
+            (at_sink sunk faults (seen N.sunk N.faults self.old)) →
+            Goes (Some halt) a now (at_sink sunk faults (seen N.sunk N.faults self.new)) }
         ensures speaker { self.new.speaker ≡ self.old.speaker }
         ensures orders { self.new.orders ≡ self.old.orders }
     {

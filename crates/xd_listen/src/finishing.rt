@@ -29,14 +29,26 @@ pub fn finish<S: Source + Drop, N: Sink + Drop, K: Children>(
     read: ReaderEnd<S>,
     ran: RunnerEnd<K>,
 ) -> ServeEnd<S, N, K>
-    requires { (a : Setting) × (now : Beside) × (before : Sources) × (s : Seen) × Goes (Some halt) a now s × (mails server.desk ≡ s.mails)
-        × Joined a before s stop (ring_of_sender server.orders) (put server.orders) (back (spring (S.supply read.source) (S.is_ended read.source) (S.faults read.source)) (programs (K.runs ran.children) (K.faults ran.children)) (ring_of_sender read.sender) (put read.sender) (ring_of_sender ran.sender) (put ran.sender) (mails ran.orders)) }
-    ensures served { (a : Setting) (now : Beside) (before : Sources) (s : Seen) (readers runners : ℕ) → Goes (Some halt) a now s → (mails server.desk ≡ s.mails)
-        → Joined a before s stop (ring_of_sender server.orders) (put server.orders) (back (spring (S.supply read.source) (S.is_ended read.source) (S.faults read.source)) (programs (K.runs ran.children) (K.faults ran.children)) (ring_of_sender read.sender) (put read.sender) (ring_of_sender ran.sender) (put ran.sender) (mails ran.orders))
-        → Closes is_closed s.sunk (N.sunk server.speaker.sink) s.sink_faults (N.faults server.speaker.sink)
-        → Served result.status a.held before.source (spring (S.supply result.source) (S.is_ended result.source) (S.faults result.source))
-        (scene a.first.sunk a.first.sink_faults before.programs.runs before.programs.faults a.first.file_faults readers runners a.clock)
-        (scene (N.sunk result.sink) (N.faults result.sink) (K.runs result.children) (K.faults result.children) now.file_faults readers runners now.clock) }
+    requires { (a : Setting) × (now : Beside) × (before : Sources) × (s : Seen)
+        × Goes (Some halt) a now s × (mails server.desk ≡ s.mails)
+        × Joined a before s stop (ring_of_sender server.orders) (put server.orders)
+        (back (spring (S.supply read.source) (S.is_ended read.source) (S.faults read.source))
+        (programs (K.runs ran.children) (K.faults ran.children)) (ring_of_sender read.sender)
+        (put read.sender) (ring_of_sender ran.sender) (put ran.sender) (mails ran.orders)) }
+    ensures served { (a : Setting) (now : Beside) (before : Sources) (s : Seen)
+        (readers runners : ℕ) → Goes (Some halt) a now s → (mails server.desk ≡ s.mails)
+        → Joined a before s stop (ring_of_sender server.orders) (put server.orders)
+        (back (spring (S.supply read.source) (S.is_ended read.source) (S.faults read.source))
+        (programs (K.runs ran.children) (K.faults ran.children)) (ring_of_sender read.sender)
+        (put read.sender) (ring_of_sender ran.sender) (put ran.sender) (mails ran.orders))
+        → Closes is_closed s.sunk (N.sunk server.speaker.sink) s.sink_faults
+        (N.faults server.speaker.sink)
+        → Served result.status a.held before.source
+        (spring (S.supply result.source) (S.is_ended result.source) (S.faults result.source))
+        (scene a.first.sunk a.first.sink_faults before.programs.runs before.programs.faults
+        a.first.file_faults readers runners a.clock)
+        (scene (N.sunk result.sink) (N.faults result.sink) (K.runs result.children)
+        (K.faults result.children) now.file_faults readers runners now.clock) }
 {
     let Server {
         alloc: _,
@@ -104,7 +116,9 @@ pub fn unserved<S: Source + Drop, N: Sink + Drop, K: Children>(
     ensures status { result.status ≡ 3 }
     ensures source { result.source ≡ source }
     ensures children { result.children ≡ children }
-    ensures closes { (closed : Bool) × Closes closed (N.sunk speaker.sink) (N.sunk result.sink) (N.faults speaker.sink) (N.faults result.sink) }
+    ensures closes { (closed : Bool)
+        × Closes closed (N.sunk speaker.sink) (N.sunk result.sink) (N.faults speaker.sink)
+        (N.faults result.sink) }
 {
     let mut sink = speaker.sink;
     let _closed = sink.close();

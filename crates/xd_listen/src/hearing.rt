@@ -26,9 +26,13 @@ impl<N: Sink> Server<N> {
     /// Steps the worker with a message. Gives the path of a suite that is to be read.
     pub fn hear_message(&mut self, message: Message) -> Result<Option<Text>, WorkerFault>
         requires is_open { self.old.door ≡ Open }
-        ensures heard { (a : Setting) (now : Beside) → ServesSoFar a now (owed_of_link (news.Message message)) (seen N.sunk N.faults self.old) →
+        ensures heard { (a : Setting) (now : Beside) →
+            ServesSoFar a now (owed_of_link (news.Message message))
+            (seen N.sunk N.faults self.old) →
             IfOk result (λ path. ServesSoFar a now (to_start path) (seen N.sunk N.faults self.new)) }
-        ensures refused { (a : Setting) (now : Beside) → ServesSoFar a now (owed_of_link (news.Message message)) (seen N.sunk N.faults self.old) →
+        ensures refused { (a : Setting) (now : Beside) →
+            ServesSoFar a now (owed_of_link (news.Message message))
+            (seen N.sunk N.faults self.old) →
             IfErr result (λ fault. CeasesBy fault a now (seen N.sunk N.faults self.new)) }
         ensures stood { Stood self.old.speaker.core → OnOk result (Stood self.new.speaker.core) }
     {
@@ -45,7 +49,8 @@ impl<N: Sink> Server<N> {
     /// Steps the worker with the link's end.
     pub fn hear_end(&mut self) -> Result<(), OutOfMemory>
         requires is_open { self.old.door ≡ Open }
-        ensures heard { (a : Setting) (now : Beside) → ServesSoFar a now (owed_of_link (news.End link.Ended)) (seen N.sunk N.faults self.old) →
+        ensures heard { (a : Setting) (now : Beside) →
+            ServesSoFar a now (owed_of_link (news.End link.Ended)) (seen N.sunk N.faults self.old) →
             OnOk result (ServesSoFar a now (to_start None) (seen N.sunk N.faults self.new)) }
         ensures stood { Stood self.old.speaker.core → OnOk result (Stood self.new.speaker.core) }
     {
@@ -58,7 +63,8 @@ impl<N: Sink> Server<N> {
     pub fn hear_output(&mut self, piece: Blob) -> Result<(), OutOfMemory>
         requires runs { IsSome self.old.started }
         requires few { length piece ≤ most_piece_bytes }
-        ensures heard { (a : Setting) (now : Beside) → ServesSoFar a now (of_program (news.Output piece)) (seen N.sunk N.faults self.old) →
+        ensures heard { (a : Setting) (now : Beside) →
+            ServesSoFar a now (of_program (news.Output piece)) (seen N.sunk N.faults self.old) →
             OnOk result (ServesSoFar a now (to_start None) (seen N.sunk N.faults self.new)) }
         ensures stood { Stood self.old.speaker.core → OnOk result (Stood self.new.speaker.core) }
     {
@@ -69,9 +75,12 @@ impl<N: Sink> Server<N> {
     /// Steps the worker with the end of the running test, and how many milliseconds it ran.
     pub fn hear_done(&mut self, outcome: Outcome, ms: u64) -> Result<(), OutOfMemory>
         requires runs { IsSome self.old.started }
-        ensures heard { (a : Setting) (files : ℕ) (old new : Ticking) → IfSome self.old.started (λ start. Ticks (start + ms) old new) →
-            ServesSoFar a (beside files old) (of_program (news.ChildDone outcome)) (seen N.sunk N.faults self.old) →
-            OnOk result (ServesSoFar a (beside files new) (to_start None) (seen N.sunk N.faults self.new)) }
+        ensures heard { (a : Setting) (files : ℕ) (old new : Ticking) →
+            IfSome self.old.started (λ start. Ticks (start + ms) old new) →
+            ServesSoFar a (beside files old) (of_program (news.ChildDone outcome))
+            (seen N.sunk N.faults self.old) →
+            OnOk result (ServesSoFar a (beside files new) (to_start None)
+            (seen N.sunk N.faults self.new)) }
         ensures stood { Stood self.old.speaker.core → OnOk result (Stood self.new.speaker.core) }
     {
         let _acts = self.speaker.tell(WorkerInput::ChildDone { outcome, ms })?;
@@ -82,8 +91,11 @@ impl<N: Sink> Server<N> {
     /// Reads the suite file of a path, if there is one, and tells the worker.
     pub fn read<F: Files>(&mut self, files: &mut F, path: Option<Text>) -> Result<(), OutOfMemory>
         requires whole { self.old.speaker.is_broken ≡ false }
-        ensures read { (a : Setting) (clock : Ticking) → F.held files.old ≡ a.held → ServesSoFar a (beside (F.faults files.old) clock) (to_start path) (seen N.sunk N.faults self.old) →
-            OnOk result (ServesSoFar a (beside (F.faults files.new) clock) (to_start None) (seen N.sunk N.faults self.new)) }
+        ensures read { (a : Setting) (clock : Ticking) → F.held files.old ≡ a.held →
+            ServesSoFar a (beside (F.faults files.old) clock) (to_start path)
+            (seen N.sunk N.faults self.old) →
+            OnOk result (ServesSoFar a (beside (F.faults files.new) clock) (to_start None)
+            (seen N.sunk N.faults self.new)) }
         ensures stood { Stood self.old.speaker.core → OnOk result (Stood self.new.speaker.core) }
         ensures kept { F.held files.new ≡ F.held files.old }
     {
@@ -98,8 +110,11 @@ impl<N: Sink> Server<N> {
 
     fn read_path<F: Files>(&mut self, files: &mut F, path: &Text) -> Result<(), OutOfMemory>
         requires whole { self.old.speaker.is_broken ≡ false }
-        ensures read { (a : Setting) (clock : Ticking) → F.held files.old ≡ a.held → ServesSoFar a (beside (F.faults files.old) clock) (to_start (Some path.now)) (seen N.sunk N.faults self.old) →
-            OnOk result (ServesSoFar a (beside (F.faults files.new) clock) (to_start None) (seen N.sunk N.faults self.new)) }
+        ensures read { (a : Setting) (clock : Ticking) → F.held files.old ≡ a.held →
+            ServesSoFar a (beside (F.faults files.old) clock) (to_start (Some path.now))
+            (seen N.sunk N.faults self.old) →
+            OnOk result (ServesSoFar a (beside (F.faults files.new) clock) (to_start None)
+            (seen N.sunk N.faults self.new)) }
         ensures stood { Stood self.old.speaker.core → OnOk result (Stood self.new.speaker.core) }
         ensures kept { F.held files.new ≡ F.held files.old }
     {
@@ -119,8 +134,12 @@ impl<N: Sink> Server<N> {
         requires rests { self.old.started ≡ None }
         requires whole { self.old.speaker.is_broken ≡ false }
         requires runs { RunsTest test self.old.speaker.core }
-        ensures ordered { (a : Setting) (files : ℕ) → ServesSoFar a (beside files (ticking (T.moment clock.old) (T.coming clock.old))) (to_start None) (seen N.sunk N.faults self.old) →
-            OnOk result (ServesSoFar a (beside files (ticking (T.moment clock.new) (T.coming clock.new))) nothing (seen N.sunk N.faults self.new)) }
+        ensures ordered { (a : Setting) (files : ℕ) →
+            ServesSoFar a (beside files (ticking (T.moment clock.old) (T.coming clock.old)))
+            (to_start None) (seen N.sunk N.faults self.old) →
+            OnOk result (ServesSoFar a
+            (beside files (ticking (T.moment clock.new) (T.coming clock.new))) nothing
+            (seen N.sunk N.faults self.new)) }
         ensures core { self.new.speaker.core ≡ self.old.speaker.core }
     {
         let command = copy_texts(self.alloc, self.speaker.core.command(test))?;
@@ -137,8 +156,12 @@ impl<N: Sink> Server<N> {
         clock: &mut T,
     ) -> Result<Option<Halt>, OutOfMemory>
         requires stood { Stood self.old.speaker.core }
-        ensures goes { (a : Setting) (files : ℕ) → ServesSoFar a (beside files (ticking (T.moment clock.old) (T.coming clock.old))) (to_start None) (seen N.sunk N.faults self.old) →
-            IfOk result (λ halt. Goes halt a (beside files (ticking (T.moment clock.new) (T.coming clock.new))) (seen N.sunk N.faults self.new)) }
+        ensures goes { (a : Setting) (files : ℕ) →
+            ServesSoFar a (beside files (ticking (T.moment clock.old) (T.coming clock.old)))
+            (to_start None) (seen N.sunk N.faults self.old) →
+            IfOk result (λ halt. Goes halt a
+            (beside files (ticking (T.moment clock.new) (T.coming clock.new)))
+            (seen N.sunk N.faults self.new)) }
         ensures core { self.new.speaker.core ≡ self.old.speaker.core }
     {
         if self.speaker.is_broken {

@@ -51,9 +51,19 @@ struct Opened<N: Sink + Drop> {
 }
 
 fn open<N: Sink + Drop>(alloc: Global, sink: N) -> Result<Opened<N>, OutOfMemory>
-    ensures spoke { (held : Option Held) (files : ℕ) → IfOk result (λ o. Spoke held [] [] (not o.server.speaker.is_broken) (voice (N.sunk sink) (N.faults sink) files) (voice (N.sunk o.server.speaker.sink) (N.faults o.server.speaker.sink) files)) }
-    ensures serves { (held : Option Held) (files : ℕ) (clock : Ticking) → IfOk result (λ o. o.server.speaker.is_broken ≡ false → ServesSoFar (setting held (N.sunk sink) (N.faults sink) files clock (ring_of_sender o.from_link) (ring_of_sender o.from_programs) (ring_of_sender o.server.orders)) (beside files clock) nothing (seen N.sunk N.faults o.server)) }
-    ensures fresh { IfOk result (λ o. (put o.from_link ≡ []) × (put o.from_programs ≡ []) × (put o.server.orders ≡ []) × (mails o.orders ≡ Some (ring_of_sender o.server.orders, []) ∷ [])) }
+    ensures spoke { (held : Option Held) (files : ℕ) →
+        IfOk result (λ o. Spoke held [] [] (not o.server.speaker.is_broken)
+        (voice (N.sunk sink) (N.faults sink) files)
+        (voice (N.sunk o.server.speaker.sink) (N.faults o.server.speaker.sink) files)) }
+    ensures serves { (held : Option Held) (files : ℕ) (clock : Ticking) →
+        IfOk result (λ o. o.server.speaker.is_broken ≡ false →
+        ServesSoFar (setting held (N.sunk sink) (N.faults sink) files clock
+        (ring_of_sender o.from_link) (ring_of_sender o.from_programs)
+        (ring_of_sender o.server.orders)) (beside files clock) nothing
+        (seen N.sunk N.faults o.server)) }
+    ensures fresh { IfOk result (λ o. (put o.from_link ≡ []) × (put o.from_programs ≡ [])
+        × (put o.server.orders ≡ [])
+        × (mails o.orders ≡ Some (ring_of_sender o.server.orders, []) ∷ [])) }
     ensures stood { IfOk result (λ o. Stood o.server.speaker.core) }
 {
     let mut desk = Desk::new(alloc, Bell::new(alloc)?);
@@ -199,7 +209,9 @@ fn end_idle<R: Wait, K: Children, D: Crew<Runner<K>>>(
     runner: &mut D,
     running: D::Handle,
 ) -> K
-    requires fresh { (put orders ≡ []) × (mails (D.job_of running).orders ≡ Some (ring_of_sender orders, []) ∷ []) × (put (D.job_of running).sender ≡ []) }
+    requires fresh { (put orders ≡ [])
+        × (mails (D.job_of running).orders ≡ Some (ring_of_sender orders, []) ∷ [])
+        × (put (D.job_of running).sender ≡ []) }
     ensures runs { K.runs result ≡ K.runs (D.job_of running).children }
     ensures faults { K.faults result ≡ K.faults (D.job_of running).children }
     ensures still { D.faults runner.new ≡ D.faults runner.old }

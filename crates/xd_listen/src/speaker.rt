@@ -44,13 +44,19 @@ impl<N: Sink> Speaker<N> {
 
     /// One input. What the worker says to it is written and handed on.
     pub fn hear(&mut self, input: WorkerInput) -> Result<WorkerActions, WorkerFault>
-        ensures answers { (h : List Heard) → StandsFor self.old.core h → IfOk result (Answers self.new.core (worker_after h) input) }
-        ensures refused { (h : List Heard) → StandsFor self.old.core h → IfErr result (FaultHasReason (worker_after h) input) }
+        ensures answers { (h : List Heard) → StandsFor self.old.core h →
+            IfOk result (Answers self.new.core (worker_after h) input) }
+        ensures refused { (h : List Heard) → StandsFor self.old.core h →
+            IfErr result (FaultHasReason (worker_after h) input) }
         ensures stood { Stood self.old.core → OnOk result (Stood self.new.core) }
-        ensures writes { IfOk result (λ acts. WritesMore self.old.is_broken self.new.is_broken (frames acts.say) (N.sunk self.old.sink) (N.sunk self.new.sink)) }
+        ensures writes { IfOk result (λ acts.
+            WritesMore self.old.is_broken self.new.is_broken (frames acts.say)
+            (N.sunk self.old.sink) (N.sunk self.new.sink)) }
         ensures silent { OnErr result (N.sunk self.new.sink ≡ N.sunk self.old.sink) }
         ensures as_before { OnErr result (self.new.is_broken ≡ self.old.is_broken) }
-        ensures count { IfOk result (λ acts. CountBehind self.old.is_broken self.new.is_broken (N.faults self.old.sink) (N.faults self.new.sink)) }
+        ensures count { IfOk result (λ acts.
+            CountBehind self.old.is_broken self.new.is_broken (N.faults self.old.sink)
+            (N.faults self.new.sink)) }
         ensures still { OnErr result (N.faults self.new.sink ≡ N.faults self.old.sink) }
         ensures later { N.faults self.old.sink ≤ N.faults self.new.sink }
     {
@@ -65,10 +71,15 @@ impl<N: Sink> Speaker<N> {
 
     /// One input that is no message. The side refuses messages alone.
     pub fn tell(&mut self, input: WorkerInput) -> Result<WorkerActions, OutOfMemory>
-        ensures answers { (h : List Heard) → StandsFor self.old.core h → IfOk result (Answers self.new.core (worker_after h) input) }
+        ensures answers { (h : List Heard) → StandsFor self.old.core h →
+            IfOk result (Answers self.new.core (worker_after h) input) }
         ensures stood { Stood self.old.core → OnOk result (Stood self.new.core) }
-        ensures writes { IfOk result (λ acts. WritesMore self.old.is_broken self.new.is_broken (frames acts.say) (N.sunk self.old.sink) (N.sunk self.new.sink)) }
-        ensures count { IfOk result (λ acts. CountBehind self.old.is_broken self.new.is_broken (N.faults self.old.sink) (N.faults self.new.sink)) }
+        ensures writes { IfOk result (λ acts.
+            WritesMore self.old.is_broken self.new.is_broken (frames acts.say)
+            (N.sunk self.old.sink) (N.sunk self.new.sink)) }
+        ensures count { IfOk result (λ acts.
+            CountBehind self.old.is_broken self.new.is_broken (N.faults self.old.sink)
+            (N.faults self.new.sink)) }
         ensures later { N.faults self.old.sink ≤ N.faults self.new.sink }
     {
         match self.hear(input) {
@@ -79,8 +90,10 @@ impl<N: Sink> Speaker<N> {
 
     fn say(&mut self, messages: &[Message])
         ensures core { self.new.core ≡ self.old.core }
-        ensures writes { WritesMore self.old.is_broken self.new.is_broken (frames messages.now) (N.sunk self.old.sink) (N.sunk self.new.sink) }
-        ensures count { CountBehind self.old.is_broken self.new.is_broken (N.faults self.old.sink) (N.faults self.new.sink) }
+        ensures writes { WritesMore self.old.is_broken self.new.is_broken (frames messages.now)
+            (N.sunk self.old.sink) (N.sunk self.new.sink) }
+        ensures count { CountBehind self.old.is_broken self.new.is_broken (N.faults self.old.sink)
+            (N.faults self.new.sink) }
         ensures later { N.faults self.old.sink ≤ N.faults self.new.sink }
     {
         if !self.is_broken {

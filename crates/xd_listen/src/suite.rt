@@ -13,7 +13,8 @@ pub fn read_suite<F: Files>(
     files: &mut F,
     path: &Text,
 ) -> Result<WorkerInput, OutOfMemory>
-    ensures gave { IfOk result (FilesGave (F.held files.old) (Rose (F.faults files.old) (F.faults files.new)) path.now) }
+    ensures gave { IfOk result
+        (FilesGave (F.held files.old) (Rose (F.faults files.old) (F.faults files.new)) path.now) }
     ensures kept { F.held files.new ≡ F.held files.old }
     ensures later { F.faults files.old ≤ F.faults files.new }
 {

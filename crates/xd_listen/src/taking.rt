@@ -26,8 +26,13 @@ impl<N: Sink> Server<N> {
         clock: &mut T,
     ) -> Result<Halt, OutOfMemory>
         requires stood { Stood self.old.speaker.core }
-        ensures goes { (a : Setting) → F.held files.old ≡ a.held → ServesSoFar a (beside (F.faults files.old) (ticking (T.moment clock.old) (T.coming clock.old))) nothing (seen N.sunk N.faults self.old) →
-            IfOk result (λ halt. Goes (Some halt) a (beside (F.faults files.new) (ticking (T.moment clock.new) (T.coming clock.new))) (seen N.sunk N.faults self.new)) }
+        ensures goes { (a : Setting) → F.held files.old ≡ a.held →
+            ServesSoFar a (beside (F.faults files.old)
+            (ticking (T.moment clock.old) (T.coming clock.old))) nothing
+            (seen N.sunk N.faults self.old) →
+            IfOk result (λ halt. Goes (Some halt) a
+            (beside (F.faults files.new) (ticking (T.moment clock.new) (T.coming clock.new)))
+            (seen N.sunk N.faults self.new)) }
     {
         for _ in rt.forever() {
             let (inbox, news) = self.desk.wait(rt);
@@ -48,8 +53,13 @@ impl<N: Sink> Server<N> {
         news: LinkNews,
     ) -> Result<Option<Halt>, OutOfMemory>
         requires stood { Stood self.old.speaker.core }
-        ensures goes { (a : Setting) → F.held files.old ≡ a.held → ServesSoFar a (beside (F.faults files.old) (ticking (T.moment clock.old) (T.coming clock.old))) (of_inbox inbox news) (seen N.sunk N.faults self.old) →
-            IfOk result (λ halt. Goes halt a (beside (F.faults files.new) (ticking (T.moment clock.new) (T.coming clock.new))) (seen N.sunk N.faults self.new)) }
+        ensures goes { (a : Setting) → F.held files.old ≡ a.held →
+            ServesSoFar a (beside (F.faults files.old)
+            (ticking (T.moment clock.old) (T.coming clock.old))) (of_inbox inbox news)
+            (seen N.sunk N.faults self.old) →
+            IfOk result (λ halt. Goes halt a
+            (beside (F.faults files.new) (ticking (T.moment clock.new) (T.coming clock.new)))
+            (seen N.sunk N.faults self.new)) }
         ensures stood { result ≡ Ok None → Stood self.new.speaker.core }
         ensures kept { F.held files.new ≡ F.held files.old }
     {
@@ -70,8 +80,13 @@ impl<N: Sink> Server<N> {
         news: LinkNews,
     ) -> Result<Option<Halt>, OutOfMemory>
         requires stood { Stood self.old.speaker.core }
-        ensures goes { (a : Setting) → F.held files.old ≡ a.held → ServesSoFar a (beside (F.faults files.old) (ticking (T.moment clock.old) (T.coming clock.old))) (owed_of_link news) (seen N.sunk N.faults self.old) →
-            IfOk result (λ halt. Goes halt a (beside (F.faults files.new) (ticking (T.moment clock.new) (T.coming clock.new))) (seen N.sunk N.faults self.new)) }
+        ensures goes { (a : Setting) → F.held files.old ≡ a.held →
+            ServesSoFar a (beside (F.faults files.old)
+            (ticking (T.moment clock.old) (T.coming clock.old))) (owed_of_link news)
+            (seen N.sunk N.faults self.old) →
+            IfOk result (λ halt. Goes halt a
+            (beside (F.faults files.new) (ticking (T.moment clock.new) (T.coming clock.new)))
+            (seen N.sunk N.faults self.new)) }
         ensures stood { result ≡ Ok None → Stood self.new.speaker.core }
         ensures kept { F.held files.new ≡ F.held files.old }
     {
@@ -108,8 +123,13 @@ impl<N: Sink> Server<N> {
         message: Message,
     ) -> Result<Option<Halt>, OutOfMemory>
         requires stood { Stood self.old.speaker.core }
-        ensures goes { (a : Setting) → F.held files.old ≡ a.held → ServesSoFar a (beside (F.faults files.old) (ticking (T.moment clock.old) (T.coming clock.old))) (owed_of_link (news.Message message)) (seen N.sunk N.faults self.old) →
-            IfOk result (λ halt. Goes halt a (beside (F.faults files.new) (ticking (T.moment clock.new) (T.coming clock.new))) (seen N.sunk N.faults self.new)) }
+        ensures goes { (a : Setting) → F.held files.old ≡ a.held →
+            ServesSoFar a (beside (F.faults files.old)
+            (ticking (T.moment clock.old) (T.coming clock.old)))
+            (owed_of_link (news.Message message)) (seen N.sunk N.faults self.old) →
+            IfOk result (λ halt. Goes halt a
+            (beside (F.faults files.new) (ticking (T.moment clock.new) (T.coming clock.new)))
+            (seen N.sunk N.faults self.new)) }
         ensures stood { result ≡ Ok None → Stood self.new.speaker.core }
         ensures kept { F.held files.new ≡ F.held files.old }
     {
@@ -136,8 +156,13 @@ impl<N: Sink> Server<N> {
         path: Option<Text>,
     ) -> Result<Option<Halt>, OutOfMemory>
         requires stood { Stood self.old.speaker.core }
-        ensures goes { (a : Setting) → F.held files.old ≡ a.held → ServesSoFar a (beside (F.faults files.old) (ticking (T.moment clock.old) (T.coming clock.old))) (to_start path) (seen N.sunk N.faults self.old) →
-            IfOk result (λ halt. Goes halt a (beside (F.faults files.new) (ticking (T.moment clock.new) (T.coming clock.new))) (seen N.sunk N.faults self.new)) }
+        ensures goes { (a : Setting) → F.held files.old ≡ a.held →
+            ServesSoFar a (beside (F.faults files.old)
+            (ticking (T.moment clock.old) (T.coming clock.old))) (to_start path)
+            (seen N.sunk N.faults self.old) →
+            IfOk result (λ halt. Goes halt a
+            (beside (F.faults files.new) (ticking (T.moment clock.new) (T.coming clock.new)))
+            (seen N.sunk N.faults self.new)) }
         ensures stood { result ≡ Ok None → Stood self.new.speaker.core }
         ensures kept { F.held files.new ≡ F.held files.old }
     {
@@ -157,8 +182,12 @@ impl<N: Sink> Server<N> {
         stop: LinkStop,
     ) -> Result<Option<Halt>, OutOfMemory>
         requires stood { Stood self.old.speaker.core }
-        ensures goes { (a : Setting) (files : ℕ) → ServesSoFar a (beside files (ticking (T.moment clock.old) (T.coming clock.old))) (owed_of_link (news.End stop)) (seen N.sunk N.faults self.old) →
-            IfOk result (λ halt. Goes halt a (beside files (ticking (T.moment clock.new) (T.coming clock.new))) (seen N.sunk N.faults self.new)) }
+        ensures goes { (a : Setting) (files : ℕ) →
+            ServesSoFar a (beside files (ticking (T.moment clock.old) (T.coming clock.old)))
+            (owed_of_link (news.End stop)) (seen N.sunk N.faults self.old) →
+            IfOk result (λ halt. Goes halt a
+            (beside files (ticking (T.moment clock.new) (T.coming clock.new)))
+            (seen N.sunk N.faults self.new)) }
         ensures stood { result ≡ Ok None → Stood self.new.speaker.core }
     {
         self.link_stop = Some(stop);
@@ -178,8 +207,12 @@ impl<N: Sink> Server<N> {
     // The link ended at a message's edge.
     fn end<R: Wait, T: Clock>(&mut self, rt: &R, clock: &mut T) -> Result<Option<Halt>, OutOfMemory>
         requires stood { Stood self.old.speaker.core }
-        ensures goes { (a : Setting) (files : ℕ) → ServesSoFar a (beside files (ticking (T.moment clock.old) (T.coming clock.old))) (owed_of_link (news.End link.Ended)) (seen N.sunk N.faults self.old) →
-            IfOk result (λ halt. Goes halt a (beside files (ticking (T.moment clock.new) (T.coming clock.new))) (seen N.sunk N.faults self.new)) }
+        ensures goes { (a : Setting) (files : ℕ) →
+            ServesSoFar a (beside files (ticking (T.moment clock.old) (T.coming clock.old)))
+            (owed_of_link (news.End link.Ended)) (seen N.sunk N.faults self.old) →
+            IfOk result (λ halt. Goes halt a
+            (beside files (ticking (T.moment clock.new) (T.coming clock.new)))
+            (seen N.sunk N.faults self.new)) }
         ensures stood { result ≡ Ok None → Stood self.new.speaker.core }
     {
         if self.door.is_shut() {
@@ -197,8 +230,12 @@ impl<N: Sink> Server<N> {
         news: LinkNews,
     ) -> Result<Option<Halt>, OutOfMemory>
         requires stood { Stood self.old.speaker.core }
-        ensures goes { (a : Setting) (files : ℕ) → ServesSoFar a (beside files (ticking (T.moment clock.old) (T.coming clock.old))) (of_program news) (seen N.sunk N.faults self.old) →
-            IfOk result (λ halt. Goes halt a (beside files (ticking (T.moment clock.new) (T.coming clock.new))) (seen N.sunk N.faults self.new)) }
+        ensures goes { (a : Setting) (files : ℕ) →
+            ServesSoFar a (beside files (ticking (T.moment clock.old) (T.coming clock.old)))
+            (of_program news) (seen N.sunk N.faults self.old) →
+            IfOk result (λ halt. Goes halt a
+            (beside files (ticking (T.moment clock.new) (T.coming clock.new)))
+            (seen N.sunk N.faults self.new)) }
         ensures stood { result ≡ Ok None → Stood self.new.speaker.core }
     {
         match news {
@@ -220,7 +257,8 @@ impl<N: Sink> Server<N> {
 
     // A runner puts an end only where memory ran out, and then its program runs no more.
     fn take_runner_end(&mut self, stop: LinkStop) -> Result<Halt, OutOfMemory>
-        ensures goes { (a : Setting) (now : Beside) → ServesSoFar a now (of_program (news.End stop)) (seen N.sunk N.faults self.old) →
+        ensures goes { (a : Setting) (now : Beside) →
+            ServesSoFar a now (of_program (news.End stop)) (seen N.sunk N.faults self.old) →
             IfOk result (λ halt. Goes (Some halt) a now (seen N.sunk N.faults self.new)) }
     {
         match stop {
@@ -239,8 +277,12 @@ impl<N: Sink> Server<N> {
         piece: Blob,
     ) -> Result<Option<Halt>, OutOfMemory>
         requires stood { Stood self.old.speaker.core }
-        ensures goes { (a : Setting) (files : ℕ) → ServesSoFar a (beside files (ticking (T.moment clock.old) (T.coming clock.old))) (of_program (news.Output piece)) (seen N.sunk N.faults self.old) →
-            IfOk result (λ halt. Goes halt a (beside files (ticking (T.moment clock.new) (T.coming clock.new))) (seen N.sunk N.faults self.new)) }
+        ensures goes { (a : Setting) (files : ℕ) →
+            ServesSoFar a (beside files (ticking (T.moment clock.old) (T.coming clock.old)))
+            (of_program (news.Output piece)) (seen N.sunk N.faults self.old) →
+            IfOk result (λ halt. Goes halt a
+            (beside files (ticking (T.moment clock.new) (T.coming clock.new)))
+            (seen N.sunk N.faults self.new)) }
         ensures stood { result ≡ Ok None → Stood self.new.speaker.core }
     {
         if self.started.is_none() {
@@ -261,8 +303,12 @@ impl<N: Sink> Server<N> {
         outcome: Outcome,
     ) -> Result<Option<Halt>, OutOfMemory>
         requires stood { Stood self.old.speaker.core }
-        ensures goes { (a : Setting) (files : ℕ) → ServesSoFar a (beside files (ticking (T.moment clock.old) (T.coming clock.old))) (of_program (news.ChildDone outcome)) (seen N.sunk N.faults self.old) →
-            IfOk result (λ halt. Goes halt a (beside files (ticking (T.moment clock.new) (T.coming clock.new))) (seen N.sunk N.faults self.new)) }
+        ensures goes { (a : Setting) (files : ℕ) →
+            ServesSoFar a (beside files (ticking (T.moment clock.old) (T.coming clock.old)))
+            (of_program (news.ChildDone outcome)) (seen N.sunk N.faults self.old) →
+            IfOk result (λ halt. Goes halt a
+            (beside files (ticking (T.moment clock.new) (T.coming clock.new)))
+            (seen N.sunk N.faults self.new)) }
         ensures stood { result ≡ Ok None → Stood self.new.speaker.core }
     {
         let Some(start) = self.started else {

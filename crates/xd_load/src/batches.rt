@@ -47,7 +47,8 @@ fn give(
 ) -> Result<(), OutOfMemory>
     requires { in_rota worker ledger.old ≡ true }
     ensures { OnOk result ((p : Plan) →
-        turn ledger.new p acts.new.items ≡ give_unless_shut count worker (turn ledger.old p acts.old.items)) }
+        turn ledger.new p acts.new.items ≡ give_unless_shut count worker
+        (turn ledger.old p acts.old.items)) }
 {
     if !ledger.is_shut(worker) {
         give_front(alloc, worker, count, ledger, acts)?;
@@ -109,7 +110,8 @@ fn give_each(
     acts: &mut Vec<Entry>,
 ) -> Result<(), OutOfMemory>
     ensures given { OnOk result ((p : Plan) →
-        turn ledger.new p acts.new.items ≡ in_turn (give_unless_shut count) (workers_of ledger.old) (turn ledger.old p acts.old.items)) }
+        turn ledger.new p acts.new.items ≡ in_turn (give_unless_shut count) (workers_of ledger.old)
+        (turn ledger.old p acts.old.items)) }
     ensures same { OnOk result (workers_of ledger.new ≡ workers_of ledger.old) }
 {
     for place in 0..ledger.rota_len() {

@@ -20,7 +20,8 @@ pub struct Each {
 impl Each {
     /// The mode at the start of a run.
     pub fn new(alloc: Global) -> Each
-        ensures { (p : Plan) → p.mode ≡ InModeEach → p.sizes ≡ [] → p.steal ≡ None → ⟦<Each as Mode>⟧.stands result p }
+        ensures { (p : Plan) → p.mode ≡ InModeEach → p.sizes ≡ [] → p.steal ≡ None →
+            ⟦<Each as Mode>⟧.stands result p }
     {
         Each {
             sizes: Sizes::none(alloc),

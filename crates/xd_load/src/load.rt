@@ -21,7 +21,8 @@ impl Load {
     /// The mode at the start of a run: at most `chunk` tests beyond what a worker needs are given at once, or all of
     /// them where there is no such number.
     pub fn new(chunk: Option<u32>) -> Load
-        ensures { (p : Plan) → p.mode ≡ InModeLoad → p.chunk ≡ chunk → p.sizes ≡ [] → p.steal ≡ None → ⟦<Load as Mode>⟧.stands result p }
+        ensures { (p : Plan) → p.mode ≡ InModeLoad → p.chunk ≡ chunk → p.sizes ≡ [] →
+            p.steal ≡ None → ⟦<Load as Mode>⟧.stands result p }
     {
         Load { chunk, tests: 0 }
     }

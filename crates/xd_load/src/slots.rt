@@ -26,7 +26,8 @@ fn tell_all(
 ) -> Result<(), OutOfMemory>
     requires seated { in_rota worker ledger.old ≡ true }
     requires waiting { all_among (items_in slot sizes.now) ledger.old.pool ≡ true }
-    ensures table { OnOk result (ledger.new ≡ assigned worker (items_in slot sizes.now) ledger.old) }
+    ensures table { OnOk result
+        (ledger.new ≡ assigned worker (items_in slot sizes.now) ledger.old) }
     ensures acts { OnOk result (acts.new.items ≡ acts.old.items ++ RunAll worker ∷ []) }
 {
     let items = sizes.items(alloc, slot)?;
@@ -79,7 +80,8 @@ pub(crate) fn share(
 // The item too, where it is one of the `size` items from the first on.
 fn add_within(item: u32, first: u32, size: u32, items: &mut Vec<u32>) -> Result<(), OutOfMemory>
     requires { first + size < 2 ^ 32 }
-    ensures { OnOk result (items.new.items ≡ items.old.items ++ filter (λ i. among i (range_with_len first size)) (item ∷ [])) }
+    ensures { OnOk result (items.new.items ≡ items.old.items
+        ++ filter (λ i. among i (range_with_len first size)) (item ∷ [])) }
 {
     if first <= item && item < first + size {
         items.push(item)?;
@@ -95,7 +97,8 @@ fn remainder(
     ledger: &Ledger,
 ) -> Result<Indices, OutOfMemory>
     requires { all_distinct ledger.now.pool ≡ true }
-    ensures { IfOk result (λ r. r ≡ filter (λ i. among i (items_in slot sizes.now)) ledger.now.pool) }
+    ensures { IfOk result (λ r.
+        r ≡ filter (λ i. among i (items_in slot sizes.now)) ledger.now.pool) }
 {
     let first = sizes.first(slot);
     let size = sizes.at(slot);
@@ -134,7 +137,8 @@ fn give_of_slot(
     requires distinct { all_distinct items.now ≡ true }
     requires within { all_among items.now ledger.old.pool ≡ true }
     ensures { OnOk result ((p : Plan) → InSlots sizes.now p →
-        turn ledger.new p acts.new.items ≡ give_of_slot worker slot items.now (turn ledger.old p acts.old.items)) }
+        turn ledger.new p acts.new.items ≡ give_of_slot worker slot items.now
+        (turn ledger.old p acts.old.items)) }
 {
     if items.len() == 0 {
         return Ok(());

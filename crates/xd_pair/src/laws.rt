@@ -60,7 +60,8 @@ pub fn take_law()
         → (items : ℕ → List Tree) → (end : ℕ → Option End)
         → IsTake even new odd left items end → PairStands odd even steps
         → PairStands left new (steps ++ Even Take_message ∷ [])
-        × Hands (run steps start).even (run (steps ++ Even Take_message ∷ []) start).even items end }
+        × Hands (run steps start).even
+        (run (steps ++ Even Take_message ∷ []) start).even items end }
 {}
 
 /// A message that one of two sides refuses is a step of their history.

@@ -135,7 +135,8 @@ impl<T: Drop> Desk<T> {
     /// Closes an inbox by its sender, which this thread holds. The others keep their numbers.
     pub fn close_with(&mut self, inbox: u32, sender: Sender<T>) -> Emptied<T>
         requires { (got : List T) × HasMail (mails self.old) inbox (ring_of_sender sender) got }
-        ensures emptied { (got : List T) → HasMail (mails self.old) inbox (ring_of_sender sender) got
+        ensures emptied { (got : List T) →
+            HasMail (mails self.old) inbox (ring_of_sender sender) got
             → Empties result.rest got (put sender) }
         ensures closed { mails self.new ≡ slice_set (mails self.old) inbox None }
         ensures turn { turn self.new ≡ turn self.old }

@@ -64,11 +64,17 @@ impl<S: Source + Drop> Reader<S> {
 impl<S: Source + Drop> Job for Reader<S> {
     type Out = ReaderEnd<S>;
 
-    ghost gives = { λ job out. PutsAll job.greeted (spring (S.supply job.source) (S.is_ended job.source) (S.faults job.source)) (spring (S.supply out.source) (S.is_ended out.source) (S.faults out.source)) (put job.sender) (put out.sender)
+    ghost gives = { λ job out.
+        PutsAll job.greeted (spring (S.supply job.source) (S.is_ended job.source)
+        (S.faults job.source)) (spring (S.supply out.source) (S.is_ended out.source)
+        (S.faults out.source)) (put job.sender) (put out.sender)
         × (ring_of_sender out.sender ≡ ring_of_sender job.sender) };
 
     fn run<R: Wait>(self, rt: &R) -> ReaderEnd<S>
-        ensures puts { PutsAll self.greeted (spring (S.supply self.source) (S.is_ended self.source) (S.faults self.source)) (spring (S.supply result.source) (S.is_ended result.source) (S.faults result.source)) (put self.sender) (put result.sender) }
+        ensures puts { PutsAll self.greeted
+            (spring (S.supply self.source) (S.is_ended self.source) (S.faults self.source))
+            (spring (S.supply result.source) (S.is_ended result.source) (S.faults result.source))
+            (put self.sender) (put result.sender) }
         ensures ring { ring_of_sender result.sender ≡ ring_of_sender self.sender }
     {
         let Reader {

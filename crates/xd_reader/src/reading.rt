@@ -24,7 +24,10 @@ pub fn read_link<R: Wait, S: Source>(
     sender: &mut Sender<LinkNews>,
     greeted: bool,
 ) -> LinkStop
-    ensures puts { Puts greeted (spring (S.supply source.old) (S.is_ended source.old) (S.faults source.old)) (spring (S.supply source.new) (S.is_ended source.new) (S.faults source.new)) (put sender.old) (put sender.new) result }
+    ensures puts { Puts greeted
+        (spring (S.supply source.old) (S.is_ended source.old) (S.faults source.old))
+        (spring (S.supply source.new) (S.is_ended source.new) (S.faults source.new))
+        (put sender.old) (put sender.new) result }
     ensures ring { ring_of_sender sender.new ≡ ring_of_sender sender.old }
 {
     if !greeted {
@@ -38,7 +41,9 @@ pub fn read_link<R: Wait, S: Source>(
 
 // Reads the greeting. Gives why the link is read no more, if it is not.
 fn greet<R: Wait, S: Source>(rt: &R, source: &mut S) -> Option<LinkStop>
-    ensures greets { Greets result (spring (S.supply source.old) (S.is_ended source.old) (S.faults source.old)) (spring (S.supply source.new) (S.is_ended source.new) (S.faults source.new)) }
+    ensures greets { Greets result
+        (spring (S.supply source.old) (S.is_ended source.old) (S.faults source.old))
+        (spring (S.supply source.new) (S.is_ended source.new) (S.faults source.new)) }
 {
     let mut first = [0u8; 1];
     match source.read(rt, &mut first) {
@@ -61,7 +66,10 @@ fn read_messages<R: Wait, S: Source>(
     source: &mut S,
     sender: &mut Sender<LinkNews>,
 ) -> LinkStop
-    ensures puts { Puts false (spring (S.supply source.old) (S.is_ended source.old) (S.faults source.old)) (spring (S.supply source.new) (S.is_ended source.new) (S.faults source.new)) (put sender.old) (put sender.new) result }
+    ensures puts { Puts false
+        (spring (S.supply source.old) (S.is_ended source.old) (S.faults source.old))
+        (spring (S.supply source.new) (S.is_ended source.new) (S.faults source.new))
+        (put sender.old) (put sender.new) result }
     ensures ring { ring_of_sender sender.new ≡ ring_of_sender sender.old }
 {
     let mut framer = Framer::new(alloc);
@@ -82,7 +90,10 @@ fn read_next<R: Wait, S: Source>(
 ) -> Option<LinkStop>
     requires { framer.old.waiting ≡ [] }
     ensures steps { (bytes : List ℕ) (taken : List MessageView) → Listens bytes taken framer.old →
-        Steps result bytes taken framer.new (spring (S.supply source.old) (S.is_ended source.old) (S.faults source.old)) (spring (S.supply source.new) (S.is_ended source.new) (S.faults source.new)) (put sender.old) (put sender.new) }
+        Steps result bytes taken framer.new
+        (spring (S.supply source.old) (S.is_ended source.old) (S.faults source.old))
+        (spring (S.supply source.new) (S.is_ended source.new) (S.faults source.new))
+        (put sender.old) (put sender.new) }
     ensures ring { ring_of_sender sender.new ≡ ring_of_sender sender.old }
     ensures none_waits { framer.new.waiting ≡ [] }
 {

@@ -20,7 +20,8 @@ pub fn worker_of(
     ensures words { IfOk result (λ c. command_args c ≡ codes "worker" ∷ []) }
     ensures folder { IfOk result (λ c. command_dir c ≡ option_map encode_utf8_all chdir.now) }
     ensures inherits { IfOk result (λ c. clears_env c ≡ false) }
-    ensures vars { IfOk result (λ c. (name : List ℕ) → command_var c name ≡ var_set env.now name None) }
+    ensures vars { IfOk result (λ c. (name : List ℕ) →
+        command_var c name ≡ var_set env.now name None) }
 {
     let mut command = Command::new(alloc, program.as_str())?;
     command.arg("worker")?;
@@ -44,7 +45,8 @@ fn set_folder(command: &mut Command, chdir: &Option<Text>) -> Result<(), AllocEr
 }
 
 fn set_vars(command: &mut Command, pairs: &[(Text, Text)]) -> Result<(), AllocError>
-    ensures vars { OnOk result ((name : List ℕ) → command_var command.new name ≡ var_set pairs.now name (command_var command.old name)) }
+    ensures vars { OnOk result ((name : List ℕ) →
+        command_var command.new name ≡ var_set pairs.now name (command_var command.old name)) }
     ensures call { OnOk result (SameProgramAndArgs command.old command.new) }
     ensures folder { OnOk result (SameDir command.old command.new) }
     ensures clears { OnOk result (clears_env command.new ≡ clears_env command.old) }
@@ -56,8 +58,11 @@ fn set_vars(command: &mut Command, pairs: &[(Text, Text)]) -> Result<(), AllocEr
 }
 
 fn set_var(command: &mut Command, name: &Text, value: &Text) -> Result<(), AllocError>
-    ensures set { OnOk result (command_var command.new (encode_utf8_all name.now) ≡ Some (Some (encode_utf8_all value.now))) }
-    ensures others { OnOk result (SameOtherVars command.old command.new (encode_utf8_all name.now)) }
+    ensures set { OnOk result
+        (command_var command.new (encode_utf8_all name.now) ≡ Some
+        (Some (encode_utf8_all value.now))) }
+    ensures others { OnOk result
+        (SameOtherVars command.old command.new (encode_utf8_all name.now)) }
     ensures call { OnOk result (SameProgramAndArgs command.old command.new) }
     ensures folder { OnOk result (SameDir command.old command.new) }
     ensures clears { OnOk result (clears_env command.new ≡ clears_env command.old) }

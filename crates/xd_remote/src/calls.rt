@@ -31,7 +31,8 @@ impl<K: Sink> Gateway<K> {
         kwargs: Vec<(Text, Value)>,
     ) -> Result<u32, GatewayFault>
         ensures broken { is_broken self.old ≡ true → IsLost self.old self.new result }
-        ensures says { SaysOn K.sunk K.faults self.old self.new (exec_wanted name.now (kwargs_of kwargs.items)) result }
+        ensures says { SaysOn K.sunk K.faults self.old self.new
+            (exec_wanted name.now (kwargs_of kwargs.items)) result }
         ensures number { IfOk result (λ n. n ≡ next_of (side_of self.old)) }
         ensures channels { OpensOn exec_opened self.old self.new result }
         ensures finished { has_finished self.new ≡ has_finished self.old }
@@ -67,7 +68,8 @@ impl<K: Sink> Gateway<K> {
     /// Sends a value on a channel.
     pub fn say(&mut self, number: u32, value: &Value) -> Result<(), GatewayFault>
         ensures broken { is_broken self.old ≡ true → IsLost self.old self.new result }
-        ensures says { SaysOn K.sunk K.faults self.old self.new (say_wanted number (view value.now)) result }
+        ensures says { SaysOn K.sunk K.faults self.old self.new
+            (say_wanted number (view value.now)) result }
         ensures rest { KeepsChannels self.old self.new }
         ensures stands { (h : List Heard) → StandsFor self.old h → StandsFor self.new h }
     {

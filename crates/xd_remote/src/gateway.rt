@@ -76,7 +76,8 @@ impl<K: Sink> Gateway<K> {
     /// Closes the sink, and writes nothing more.
     pub fn close(&mut self) -> Result<(), GatewayFault>
         ensures answer { result ≡ write_answer (is_broken self.new) }
-        ensures closes { ClosesNow (line_of K.sunk K.faults self.old) (line_of K.sunk K.faults self.new) }
+        ensures closes { ClosesNow (line_of K.sunk K.faults self.old)
+            (line_of K.sunk K.faults self.new) }
         ensures rest { KeepsChannels self.old self.new }
         ensures stands { (h : List Heard) → StandsFor self.old h → StandsFor self.new h }
     {
@@ -86,10 +87,12 @@ impl<K: Sink> Gateway<K> {
 
     /// Takes a message of the other side. What comes on the channel of a call is handed out.
     pub fn take(&mut self, message: Message) -> Result<Taken, SideFault>
-        ensures taken { IfOk result (IsTaken message (channels_of self.old) (channels_of self.new)) }
+        ensures taken { IfOk result
+            (IsTaken message (channels_of self.old) (channels_of self.new)) }
         ensures refused { IfErr result (IsFaultOf (channels_of self.old) message) }
         ensures fails { IfErr result (λ fault. (channels_of self.new).fault ≡ Some fault) }
-        ensures refuses { (f : SideFault) → IsToRefuse (channels_of self.old) message f → IsFault f result }
+        ensures refuses { (f : SideFault) → IsToRefuse (channels_of self.old) message f →
+            IsFault f result }
         ensures line { KeepsLine self.old self.new }
         ensures finished { has_finished self.new ≡ has_finished self.old }
     {
@@ -122,7 +125,8 @@ impl<K: Sink> Gateway<K> {
     }
 
     fn close_sink(&mut self)
-        ensures closes { ClosesNow (line_of K.sunk K.faults self.old) (line_of K.sunk K.faults self.new) }
+        ensures closes { ClosesNow (line_of K.sunk K.faults self.old)
+            (line_of K.sunk K.faults self.new) }
         ensures rest { KeepsChannels self.old self.new }
     {
         if self.is_broken {

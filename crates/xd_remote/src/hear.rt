@@ -27,7 +27,8 @@ impl<K: Sink> Gateway<K> {
     /// Takes a message of a worker, and gives the news that it means; `None` where it means none. A message that the side
     /// refuses is stray.
     pub fn hear(&mut self, message: Message) -> Result<Option<What>, OutOfMemory>
-        ensures hears { (h : List Heard) → StandsFor self.old h → IfOk result (HearsMore self.new h message) }
+        ensures hears { (h : List Heard) → StandsFor self.old h →
+            IfOk result (HearsMore self.new h message) }
         ensures kind { IfOk result IsOfMessage }
         ensures line { KeepsLine self.old self.new }
     {
@@ -42,10 +43,13 @@ impl<K: Sink> Gateway<K> {
 
     // A message that was taken: a log gets its callback, and that the worker has finished is kept.
     fn heed(&mut self, taken: Taken) -> Result<Option<What>, OutOfMemory>
-        ensures news { IfOk result (λ news. news ≡ news_by (has_finished self.old) (taken_tree taken)) }
+        ensures news { IfOk result (λ news.
+            news ≡ news_by (has_finished self.old) (taken_tree taken)) }
         ensures kind { IfOk result IsOfMessage }
-        ensures channels { IfOk result (λ news. channels_of self.new ≡ log_hooked news (channels_of self.old)) }
-        ensures finished { IfOk result (λ news. has_finished self.new ≡ (has_finished self.old || is_finish news)) }
+        ensures channels { IfOk result (λ news.
+            channels_of self.new ≡ log_hooked news (channels_of self.old)) }
+        ensures finished { IfOk result (λ news.
+            has_finished self.new ≡ (has_finished self.old || is_finish news)) }
         ensures line { KeepsLine self.old self.new }
     {
         let news = news_of(self.alloc, self.has_finished, taken)?;

@@ -23,10 +23,12 @@ pub fn empty(alloc: Global) -> Blob
 
 /// Takes a message.
 pub fn take(side: &mut Side, message: Message) -> Result<Taken, SideFault>
-    ensures taken { IfOk result (IsTaken message (channel_table side.old) (channel_table side.new)) }
+    ensures taken { IfOk result
+        (IsTaken message (channel_table side.old) (channel_table side.new)) }
     ensures refused { IfErr result (IsFaultOf (channel_table side.old) message) }
     ensures fails { IfErr result (λ fault. (channel_table side.new).fault ≡ Some fault) }
-    ensures refuses { (fault : SideFault) → IsToRefuse (channel_table side.old) message fault → IsFault fault result }
+    ensures refuses { (fault : SideFault) → IsToRefuse (channel_table side.old) message fault →
+        IsFault fault result }
 {
     // Why a message is refused is told by how many channels there are.
     prove!(side.status() <= xd_factory::MAX_ENTRIES);

@@ -32,7 +32,9 @@ pub fn failure_block(alloc: Global, journal: &Journal, at: usize) -> Result<Blob
 pub fn is_failed_at(alloc: Global, journal: &Journal, at: usize) -> Result<bool, OutOfMemory>
     requires { at < length journal.now.entries.items }
     ensures failed { IfOk result (λ failed. failed ≡ true → IsFailedAt journal.now at) }
-    ensures exact { IfOk result (λ failed. HoldsAt (λ e. is_failed_report (state_before journal.now at) e ≡ failed) journal.now.entries.items at) }
+    ensures exact { IfOk result (λ failed.
+        HoldsAt (λ e. is_failed_report (state_before journal.now at) e ≡ failed)
+        journal.now.entries.items at) }
 {
     let mut reporter = Reporter::new(alloc, journal.settings);
     reporter.follow(alloc, &journal.entries[..at])?;
@@ -47,7 +49,8 @@ impl Reporter {
         out: &mut Vec<u8>,
         entry: &Entry,
     ) -> Result<(), OutOfMemory>
-        ensures { (s : State) → Follows self.now s → OnOk result (out.new.items ≡ out.old.items ++ block_of s entry.now) }
+        ensures { (s : State) → Follows self.now s →
+            OnOk result (out.new.items ≡ out.old.items ++ block_of s entry.now) }
     {
         match entry {
             Entry::Done {
@@ -77,7 +80,8 @@ impl Reporter {
         worker: u32,
         output: &[u8],
     ) -> Result<(), OutOfMemory>
-        ensures { (s : State) → Follows self.now s → OnOk result (out.new.items ≡ out.old.items ++ crash_block worker output.now s) }
+        ensures { (s : State) → Follows self.now s →
+            OnOk result (out.new.items ≡ out.old.items ++ crash_block worker output.now s) }
     {
         let Some(item) = self.crash_of(worker) else {
             return Ok(());
@@ -112,7 +116,8 @@ fn add_heading(
     worker: u32,
     id: &str,
 ) -> Result<(), OutOfMemory>
-    ensures { OnOk result (out.new.items ≡ out.old.items ++ heading_line mode worker (chars id.now)) }
+    ensures { OnOk result (out.new.items ≡ out.old.items
+        ++ heading_line mode worker (chars id.now)) }
 {
     add_text(out, "==== ")?;
     add_tag(alloc, out, mode, worker)?;
@@ -144,7 +149,8 @@ fn add_crash_reason(
     worker: u32,
     id: &str,
 ) -> Result<(), OutOfMemory>
-    ensures { OnOk result (out.new.items ≡ out.old.items ++ crash_reason mode worker (chars id.now)) }
+    ensures { OnOk result (out.new.items ≡ out.old.items
+        ++ crash_reason mode worker (chars id.now)) }
 {
     add_text(out, "worker '")?;
     add_name(alloc, out, mode, worker)?;

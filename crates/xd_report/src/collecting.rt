@@ -45,7 +45,8 @@ impl Reporter {
         worker: u32,
         given: &Ids,
     ) -> Result<(), OutOfMemory>
-        ensures { (s : State) → Follows self.old s → OnOk result (Follows self.new (after_collected worker given.now s)) }
+        ensures { (s : State) → Follows self.old s →
+            OnOk result (Follows self.new (after_collected worker given.now s)) }
     {
         let differs = self.unequal(worker, given)?;
         self.list(alloc, worker, given)?;
@@ -63,7 +64,8 @@ impl Reporter {
 
     // The stop of a collection that differs from the one that it is compared with.
     fn unequal(&self, worker: u32, given: &Ids) -> Result<Option<RunStop>, OutOfMemory>
-        ensures { (s : State) → Follows self.now s → IfOk result (λ stop. stop ≡ unequal worker given.now (listed worker s.books)) }
+        ensures { (s : State) → Follows self.now s →
+            IfOk result (λ stop. stop ≡ unequal worker given.now (listed worker s.books)) }
     {
         let Ids::List(own) = given else {
             return Ok(None);
@@ -83,7 +85,9 @@ impl Reporter {
 
     // A collection that is the first of its slot is kept, and the worker has collected.
     fn list(&mut self, alloc: Global, worker: u32, given: &Ids) -> Result<(), OutOfMemory>
-        ensures { (s : State) → Follows self.old s → OnOk result (Follows self.new (in_books (λ b. marked (made_collected worker) (with_list worker given.now b)) s)) }
+        ensures { (s : State) → Follows self.old s →
+            OnOk result (Follows self.new
+            (in_books (λ b. marked (made_collected worker) (with_list worker given.now b)) s)) }
     {
         self.books.list(alloc, worker, ids_of(given))?;
         self.books.mark(worker, Mark::Collected);
@@ -92,7 +96,8 @@ impl Reporter {
 
     // A worker joins the rota, and the last one that was missing brings the share.
     fn join(&mut self, alloc: Global, worker: u32) -> Result<(), OutOfMemory>
-        ensures { (s : State) → Follows self.old s → OnOk result (Follows self.new (joining worker s)) }
+        ensures { (s : State) → Follows self.old s →
+            OnOk result (Follows self.new (joining worker s)) }
     {
         self.sit(alloc, worker)?;
         self.share_where_full(alloc)
@@ -100,14 +105,16 @@ impl Reporter {
 
     // A worker joins the rota.
     fn sit(&mut self, alloc: Global, worker: u32) -> Result<(), OutOfMemory>
-        ensures { (s : State) → Follows self.old s → OnOk result (Follows self.new (in_books (on_table (joined worker)) s)) }
+        ensures { (s : State) → Follows self.old s →
+            OnOk result (Follows self.new (in_books (on_table (joined worker)) s)) }
     {
         holder::join(alloc, &mut self.rota, worker)?;
         Ok(())
     }
 
     fn share_where_full(&mut self, alloc: Global) -> Result<(), OutOfMemory>
-        ensures { (s : State) → Follows self.old s → OnOk result (Follows self.new (share_where_full s)) }
+        ensures { (s : State) → Follows self.old s →
+            OnOk result (Follows self.new (share_where_full s)) }
     {
         let workers = self.books.settings().workers;
         if !self.books.is_shared() && self.rota.len() == workers as usize {
@@ -119,7 +126,9 @@ impl Reporter {
 
     // How many tests each slot has.
     fn sizes_now(&self, alloc: Global) -> Result<Vec<u64>, OutOfMemory>
-        ensures { (s : State) → Follows self.now s → IfOk result (λ sizes. sizes.items ≡ (planned s.books.lists s.books.settings.workers s.plan).sizes) }
+        ensures { (s : State) → Follows self.now s →
+            IfOk result (λ sizes. sizes.items ≡ (planned s.books.lists s.books.settings.workers
+            s.plan).sizes) }
     {
         let settings = self.books.settings();
         let slots = if is_each(settings.mode) {

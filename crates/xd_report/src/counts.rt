@@ -35,7 +35,8 @@ impl Counts {
 impl Reporter {
     /// Counts the report of an entry, where it has one.
     pub(crate) fn count(&self, counts: &mut Counts, entry: &Entry) -> Result<(), OutOfMemory>
-        ensures { (s : State) → Follows self.now s → OnOk result (counts.new ≡ counted s entry.now counts.old) }
+        ensures { (s : State) → Follows self.now s →
+            OnOk result (counts.new ≡ counted s entry.now counts.old) }
     {
         match entry {
             Entry::Done {
@@ -66,8 +67,10 @@ impl Reporter {
         counts: &mut Counts,
         entries: &[Entry],
     ) -> Result<(), OutOfMemory>
-        ensures counts { (s : State) → Follows self.old s → OnOk result (counts.new ≡ counted_from s entries.now counts.old) }
-        ensures follows { (s : State) → Follows self.old s → OnOk result (Follows self.new (after_entries s entries.now)) }
+        ensures counts { (s : State) → Follows self.old s →
+            OnOk result (counts.new ≡ counted_from s entries.now counts.old) }
+        ensures follows { (s : State) → Follows self.old s →
+            OnOk result (Follows self.new (after_entries s entries.now)) }
     {
         for entry in entries {
             self.count(counts, entry)?;

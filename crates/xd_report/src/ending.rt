@@ -38,8 +38,10 @@ impl Reporter {
         out: &mut Vec<u8>,
         entries: &[Entry],
     ) -> Result<(), OutOfMemory>
-        ensures blocks { (s : State) → Follows self.old s → OnOk result (out.new.items ≡ out.old.items ++ blocks_from s entries.now) }
-        ensures follows { (s : State) → Follows self.old s → OnOk result (Follows self.new (after_entries s entries.now)) }
+        ensures blocks { (s : State) → Follows self.old s →
+            OnOk result (out.new.items ≡ out.old.items ++ blocks_from s entries.now) }
+        ensures follows { (s : State) → Follows self.old s →
+            OnOk result (Follows self.new (after_entries s entries.now)) }
     {
         for entry in entries {
             self.add_block(alloc, out, entry)?;

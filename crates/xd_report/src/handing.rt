@@ -18,7 +18,8 @@ use xd_ledger::Mark;
 impl Reporter {
     // A worker was started.
     pub(crate) fn start(&mut self, worker: u32, slot: u32) -> Result<(), OutOfMemory>
-        ensures { (s : State) → Follows self.old s → OnOk result (Follows self.new (after_effect s (Start worker slot))) }
+        ensures { (s : State) → Follows self.old s →
+            OnOk result (Follows self.new (after_effect s (Start worker slot))) }
     {
         self.books.start(worker, slot)?;
         Ok(())
@@ -26,7 +27,8 @@ impl Reporter {
 
     // A worker is there.
     pub(crate) fn ready(&mut self, worker: u32)
-        ensures { (s : State) → Follows self.old s → Follows self.new (after_effect s (Ready worker)) }
+        ensures { (s : State) → Follows self.old s →
+            Follows self.new (after_effect s (Ready worker)) }
     {
         self.books.mark(worker, Mark::Ready);
     }
@@ -38,7 +40,8 @@ impl Reporter {
         worker: u32,
         indices: &[u32],
     ) -> Result<(), OutOfMemory>
-        ensures { (s : State) → Follows self.old s → OnOk result (Follows self.new (after_run worker indices.now s)) }
+        ensures { (s : State) → Follows self.old s →
+            OnOk result (Follows self.new (after_run worker indices.now s)) }
     {
         let items = self.items(alloc, worker, indices)?;
         holder::add_held(&mut self.rota, worker, &items)?;
@@ -47,7 +50,8 @@ impl Reporter {
 
     // A worker is given all tests of its slot.
     pub(crate) fn assign_all(&mut self, alloc: Global, worker: u32) -> Result<(), OutOfMemory>
-        ensures { (s : State) → Follows self.old s → OnOk result (Follows self.new (after_run_all worker s)) }
+        ensures { (s : State) → Follows self.old s →
+            OnOk result (Follows self.new (after_run_all worker s)) }
     {
         let base = self.base(worker)?;
         let items = numbers_from(alloc, base, self.size(worker))?;
@@ -62,7 +66,8 @@ impl Reporter {
         worker: u32,
         indices: &[u32],
     ) -> Result<(), OutOfMemory>
-        ensures { (s : State) → Follows self.old s → OnOk result (Follows self.new (after_back worker indices.now s)) }
+        ensures { (s : State) → Follows self.old s →
+            OnOk result (Follows self.new (after_back worker indices.now s)) }
     {
         let items = self.items(alloc, worker, indices)?;
         holder::take_held(&mut self.rota, worker, &items);
@@ -71,7 +76,8 @@ impl Reporter {
 
     // A worker is told to shut down.
     pub(crate) fn tell(&mut self, worker: u32)
-        ensures { (s : State) → Follows self.old s → Follows self.new (after_effect s (Shutdown worker)) }
+        ensures { (s : State) → Follows self.old s →
+            Follows self.new (after_effect s (Shutdown worker)) }
     {
         self.books.mark(worker, Mark::Shut);
     }

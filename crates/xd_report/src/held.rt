@@ -102,14 +102,16 @@ impl Held {
 
 // Whether they are the first one that is held, and no other.
 fn is_first(held: &VecDeque<u64>, items: &[u64]) -> bool
-    ensures { (result ≡ true) ↔ ((length items.now ≡ 1) × (first_of items.now ≡ first_of held.now.items)) }
+    ensures { (result ≡ true) ↔ ((length items.now ≡ 1)
+        × (first_of items.now ≡ first_of held.now.items)) }
 {
     items.len() == 1 && items.first() == held.front()
 }
 
 // Whether they are the last ones that are held, in their order.
 fn is_end(held: &VecDeque<u64>, items: &[u64]) -> bool
-    ensures { (result ≡ true) ↔ (drop (length held.now.items - length items.now) held.now.items ≡ items.now) }
+    ensures { (result ≡ true) ↔
+        (drop (length held.now.items - length items.now) held.now.items ≡ items.now) }
 {
     if held.len() < items.len() {
         return false;

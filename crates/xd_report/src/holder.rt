@@ -29,7 +29,8 @@ pub fn head_in(rota: &[Holder], worker: u32) -> Option<u64>
 
 /// The worker gets these after what it holds.
 pub fn add_held(rota: &mut [Holder], worker: u32, items: &[u64]) -> Result<(), OutOfMemory>
-    ensures { OnOk result (map seat_of rota.new ≡ at_seat worker (λ s. record s { held = s.held ++ items.now }) (map seat_of rota.old)) }
+    ensures { OnOk result (map seat_of rota.new ≡ at_seat worker (λ s.
+        record s { held = s.held ++ items.now }) (map seat_of rota.old)) }
 {
     for holder in rota.iter_mut() {
         holder.add(worker, items)?;
@@ -39,7 +40,8 @@ pub fn add_held(rota: &mut [Holder], worker: u32, items: &[u64]) -> Result<(), O
 
 /// The worker holds these no more.
 pub fn take_held(rota: &mut [Holder], worker: u32, items: &[u64])
-    ensures { map seat_of rota.new ≡ at_seat worker (λ s. record s { held = without items.now s.held }) (map seat_of rota.old) }
+    ensures { map seat_of rota.new ≡ at_seat worker (λ s.
+        record s { held = without items.now s.held }) (map seat_of rota.old) }
 {
     for holder in rota.iter_mut() {
         holder.take(worker, items);
@@ -55,7 +57,8 @@ pub fn leave(rota: &mut Vec<Holder>, worker: u32)
 
 /// The worker joins the rota at its end.
 pub fn join(alloc: Global, rota: &mut Vec<Holder>, worker: u32) -> Result<(), OutOfMemory>
-    ensures { OnOk result (map seat_of rota.new.items ≡ map seat_of rota.old.items ++ record { worker = worker; held = []; shut = false } ∷ []) }
+    ensures { OnOk result (map seat_of rota.new.items ≡ map seat_of rota.old.items
+        ++ record { worker = worker; held = []; shut = false } ∷ []) }
 {
     rota.push(Holder {
         worker,
@@ -66,7 +69,8 @@ pub fn join(alloc: Global, rota: &mut Vec<Holder>, worker: u32) -> Result<(), Ou
 
 impl Holder {
     fn add(&mut self, worker: u32, items: &[u64]) -> Result<(), OutOfMemory>
-        ensures { OnOk result (seat_of self.new ≡ (if self.old.worker == worker then record (seat_of self.old) { held = self.old.held ++ items.now } else seat_of self.old)) }
+        ensures { OnOk result (seat_of self.new ≡ (if self.old.worker == worker then record
+            (seat_of self.old) { held = self.old.held ++ items.now } else seat_of self.old)) }
     {
         if self.worker == worker {
             self.held.add(items)?;
@@ -75,7 +79,8 @@ impl Holder {
     }
 
     fn take(&mut self, worker: u32, items: &[u64])
-        ensures { seat_of self.new ≡ (if self.old.worker == worker then record (seat_of self.old) { held = without items.now self.old.held } else seat_of self.old) }
+        ensures { seat_of self.new ≡ (if self.old.worker == worker then record (seat_of self.old)
+            { held = without items.now self.old.held } else seat_of self.old) }
     {
         if self.worker == worker {
             self.held.take(items);

@@ -39,8 +39,10 @@ impl Reporter {
     /// The lines of the entries that come next, each ended by a newline. The cost of a result does not grow with what
     /// came before. After it ran out of memory the reporter is given up.
     pub fn lines(&mut self, alloc: Global, entries: &[Entry]) -> Result<Blob, OutOfMemory>
-        ensures lines { (s : State) → Follows self.old s → IfOk result (λ lines. lines ≡ lines_from s entries.now) }
-        ensures follows { (s : State) → Follows self.old s → OnOk result (Follows self.new (after_entries s entries.now)) }
+        ensures lines { (s : State) → Follows self.old s →
+            IfOk result (λ lines. lines ≡ lines_from s entries.now) }
+        ensures follows { (s : State) → Follows self.old s →
+            OnOk result (Follows self.new (after_entries s entries.now)) }
     {
         let mut bytes = Vec::new(alloc);
         for entry in entries {
@@ -51,7 +53,8 @@ impl Reporter {
 
     /// Goes over the entries that come next. After it ran out of memory the reporter is given up.
     pub fn follow(&mut self, alloc: Global, entries: &[Entry]) -> Result<(), OutOfMemory>
-        ensures { (s : State) → Follows self.old s → OnOk result (Follows self.new (after_entries s entries.now)) }
+        ensures { (s : State) → Follows self.old s →
+            OnOk result (Follows self.new (after_entries s entries.now)) }
     {
         for entry in entries {
             self.note(alloc, entry)?;
@@ -66,8 +69,11 @@ impl Reporter {
         out: &mut Vec<u8>,
         entry: &Entry,
     ) -> Result<(), OutOfMemory>
-        ensures lines { (s : State) → Follows self.old s → OnOk result (out.new.items ≡ out.old.items ++ lines_of (reached s entry.now) entry.now) }
-        ensures follows { (s : State) → Follows self.old s → OnOk result (Follows self.new (after_entry s entry.now)) }
+        ensures lines { (s : State) → Follows self.old s →
+            OnOk result (out.new.items ≡ out.old.items
+            ++ lines_of (reached s entry.now) entry.now) }
+        ensures follows { (s : State) → Follows self.old s →
+            OnOk result (Follows self.new (after_entry s entry.now)) }
     {
         let was_shared = self.books.is_shared();
         self.add_told(alloc, out, entry)?;
@@ -80,7 +86,8 @@ impl Reporter {
 
     // The lines that the state before an entry tells; those of a collection are told by the state after it.
     fn add_told(&self, alloc: Global, out: &mut Vec<u8>, entry: &Entry) -> Result<(), OutOfMemory>
-        ensures { (s : State) → Follows self.now s → OnOk result (out.new.items ≡ out.old.items ++ lines_told s entry.now) }
+        ensures { (s : State) → Follows self.now s →
+            OnOk result (out.new.items ≡ out.old.items ++ lines_told s entry.now) }
     {
         match entry {
             Entry::Done {
@@ -105,7 +112,8 @@ impl Reporter {
         out: &mut Vec<u8>,
         was_shared: bool,
     ) -> Result<(), OutOfMemory>
-        ensures { (s : State) → Follows self.now s → OnOk result (out.new.items ≡ out.old.items ++ collected_line was_shared s) }
+        ensures { (s : State) → Follows self.now s →
+            OnOk result (out.new.items ≡ out.old.items ++ collected_line was_shared s) }
     {
         let mode = self.mode();
         if is_local(mode) || (self.books.is_shared() && !was_shared) {
@@ -123,7 +131,9 @@ impl Reporter {
         index: u32,
         outcome: Outcome,
     ) -> Result<(), OutOfMemory>
-        ensures { (s : State) → Follows self.now s → OnOk result (out.new.items ≡ out.old.items ++ result_line (mode_of s) worker outcome (id_of worker index s)) }
+        ensures { (s : State) → Follows self.now s →
+            OnOk result (out.new.items ≡ out.old.items
+            ++ result_line (mode_of s) worker outcome (id_of worker index s)) }
     {
         add_tag(alloc, out, self.mode(), worker)?;
         add_text(out, outcome_text(outcome))?;
@@ -138,7 +148,8 @@ impl Reporter {
         worker: u32,
         why: &str,
     ) -> Result<(), OutOfMemory>
-        ensures { (s : State) → Follows self.now s → OnOk result (out.new.items ≡ out.old.items ++ down_line (mode_of s) worker why.now) }
+        ensures { (s : State) → Follows self.now s →
+            OnOk result (out.new.items ≡ out.old.items ++ down_line (mode_of s) worker why.now) }
     {
         add_tag(alloc, out, self.mode(), worker)?;
         add_text(out, "node down: ")?;
@@ -148,7 +159,8 @@ impl Reporter {
 
     // The line of the test at a worker's head.
     fn add_lost(&self, alloc: Global, out: &mut Vec<u8>, worker: u32) -> Result<(), OutOfMemory>
-        ensures { (s : State) → Follows self.now s → OnOk result (out.new.items ≡ out.old.items ++ lost_head_line worker s) }
+        ensures { (s : State) → Follows self.now s →
+            OnOk result (out.new.items ≡ out.old.items ++ lost_head_line worker s) }
     {
         let Some(item) = self.head(worker) else {
             return Ok(());
@@ -166,7 +178,9 @@ impl Reporter {
         worker: u32,
         cause: Cause,
     ) -> Result<(), OutOfMemory>
-        ensures { (s : State) → Follows self.now s → OnOk result (out.new.items ≡ out.old.items ++ (down_line (mode_of s) worker (cause_text cause) ++ lost_head_line worker s)) }
+        ensures { (s : State) → Follows self.now s →
+            OnOk result (out.new.items ≡ out.old.items
+            ++ (down_line (mode_of s) worker (cause_text cause) ++ lost_head_line worker s)) }
     {
         self.add_down(alloc, out, worker, cause_text(cause))?;
         self.add_lost(alloc, out, worker)?;
@@ -175,7 +189,8 @@ impl Reporter {
 
     // The last worker of a slot so far.
     fn last_of_slot(&self, slot: u32) -> Option<u32>
-        ensures { (s : State) → Follows self.now s → result ≡ last_of_slot slot s.books.members None }
+        ensures { (s : State) → Follows self.now s →
+            result ≡ last_of_slot slot s.books.members None }
     {
         last_of_slot(self.books.members(), slot)
     }
@@ -202,7 +217,8 @@ fn add_lost_line(
     worker: u32,
     id: &str,
 ) -> Result<(), OutOfMemory>
-    ensures { OnOk result (out.new.items ≡ out.old.items ++ lost_line retry mode worker (chars id.now)) }
+    ensures { OnOk result (out.new.items ≡ out.old.items
+        ++ lost_line retry mode worker (chars id.now)) }
 {
     add_tag(alloc, out, mode, worker)?;
     add_text(out, lost_text(retry))?;

@@ -52,7 +52,8 @@ pub fn add_plain(alloc: Global, out: &mut Vec<u8>, text: &str) -> Result<(), Out
 }
 
 fn printable_text(alloc: Global, text: &str) -> Result<String, OutOfMemory>
-    ensures { IfOk result (λ line. string_bytes line ≡ encode_utf8_all (map printable (chars text.now))) }
+    ensures { IfOk result (λ line.
+        string_bytes line ≡ encode_utf8_all (map printable (chars text.now))) }
 {
     let line: String = text.chars().map(|c| printable(c)).collect(alloc)?;
     Ok(line)

@@ -50,11 +50,13 @@ pub fn print_lines<O: Sink>(
     out: &mut O,
 ) -> Result<(), PrintFault>
     ensures shows { (s : State) → Follows reporter.old s
-        → OnPrinted result (λ shown. ShowsLines shown (lines_from s entries.now) (O.sunk out.old) (O.sunk out.new)) }
+        → OnPrinted result (λ shown.
+        ShowsLines shown (lines_from s entries.now) (O.sunk out.old) (O.sunk out.new)) }
     ensures follows { (s : State) → Follows reporter.old s
         → OnPrinted result (λ shown. Follows reporter.new (after_entries s entries.now)) }
     ensures later { O.faults out.old ≤ O.faults out.new }
-    ensures counted { OnPrinted result (λ shown. Counted shown (O.faults out.old) (O.faults out.new)) }
+    ensures counted { OnPrinted result (λ shown.
+        Counted shown (O.faults out.old) (O.faults out.new)) }
 {
     let lines = reporter.lines(alloc, entries)?;
     print_some(out, lines.as_slice())?;
@@ -75,9 +77,11 @@ fn print_some<O: Sink>(out: &mut O, bytes: &[u8]) -> Result<(), Failed>
 
 /// Prints the tail of the report, and closes the output.
 pub fn print_tail<O: Sink>(alloc: Global, journal: &Journal, out: &mut O) -> Result<(), PrintFault>
-    ensures shows { OnPrinted result (λ shown. ShowsEnd shown (tail_text journal.now) (O.sunk out.old) (O.sunk out.new)) }
+    ensures shows { OnPrinted result (λ shown.
+        ShowsEnd shown (tail_text journal.now) (O.sunk out.old) (O.sunk out.new)) }
     ensures later { O.faults out.old ≤ O.faults out.new }
-    ensures counted { OnPrinted result (λ shown. Counted shown (O.faults out.old) (O.faults out.new)) }
+    ensures counted { OnPrinted result (λ shown.
+        Counted shown (O.faults out.old) (O.faults out.new)) }
 {
     let tail = tail(alloc, journal)?;
     print(out, tail.as_slice())?;

@@ -38,7 +38,8 @@ impl Reporter {
 
     // The ids of a worker's tests.
     pub(crate) fn ids(&self, worker: u32) -> &[Text]
-        ensures { (s : State) → Follows self.now s → result.now ≡ ids_at (key worker s.books) s.books.lists }
+        ensures { (s : State) → Follows self.now s →
+            result.now ≡ ids_at (key worker s.books) s.books.lists }
     {
         self.books.ids_at(self.books.key(worker))
     }
@@ -52,7 +53,8 @@ impl Reporter {
 
     // The id of an item of a worker's slot.
     pub(crate) fn item_id(&self, worker: u32, item: u64) -> Result<&str, OutOfMemory>
-        ensures { (s : State) → Follows self.now s → IfOk result (λ id. chars id.now ≡ item_id worker item s) }
+        ensures { (s : State) → Follows self.now s →
+            IfOk result (λ id. chars id.now ≡ item_id worker item s) }
     {
         let base = self.base(worker)?;
         Ok(self.id_of(worker, item.saturating_sub(base)))
@@ -85,7 +87,8 @@ impl Reporter {
 
     // The first item of a worker's slot.
     pub(crate) fn base(&self, worker: u32) -> Result<u64, OutOfMemory>
-        ensures { (s : State) → Follows self.now s → IfOk result (λ n. n ≡ base (slot_of worker s.books) s.plan) }
+        ensures { (s : State) → Follows self.now s →
+            IfOk result (λ n. n ≡ base (slot_of worker s.books) s.plan) }
     {
         if !is_each(self.books.settings().mode) {
             return Ok(0);
@@ -102,7 +105,9 @@ impl Reporter {
         worker: u32,
         indices: &[u32],
     ) -> Result<Vec<u64>, OutOfMemory>
-        ensures { (s : State) → Follows self.now s → IfOk result (λ items. items.items ≡ items_named (slot_of worker s.books) indices.now s.plan) }
+        ensures { (s : State) → Follows self.now s →
+            IfOk result (λ items. items.items ≡ items_named
+            (slot_of worker s.books) indices.now s.plan) }
     {
         let base = self.base(worker)?;
         let items = each_more(alloc, base, indices)?;
@@ -111,7 +116,8 @@ impl Reporter {
 
     // How many tests a worker's slot has.
     pub(crate) fn size(&self, worker: u32) -> u64
-        ensures { (s : State) → Follows self.now s → result ≡ slice_index s.plan.sizes (slot_of worker s.books) }
+        ensures { (s : State) → Follows self.now s →
+            result ≡ slice_index s.plan.sizes (slot_of worker s.books) }
     {
         match self.sizes.get(self.slot_of(worker) as usize) {
             Some(size) => *size,

@@ -40,7 +40,8 @@ impl Reporter {
 
     // One entry more.
     pub fn note(&mut self, alloc: Global, entry: &Entry) -> Result<(), OutOfMemory>
-        ensures { (s : State) → Follows self.old s → OnOk result (Follows self.new (after_entry s entry.now)) }
+        ensures { (s : State) → Follows self.old s →
+            OnOk result (Follows self.new (after_entry s entry.now)) }
     {
         match entry {
             Entry::Start { worker, slot } => self.start(*worker, *slot),

@@ -23,7 +23,8 @@ use xd_ledger::Mark;
 impl Reporter {
     // The first stop counts.
     pub(crate) fn stop_by(&mut self, how: RunStop)
-        ensures { (s : State) → Follows self.old s → Follows self.new (in_books (stopped_by (Some how)) s) }
+        ensures { (s : State) → Follows self.old s →
+            Follows self.new (in_books (stopped_by (Some how)) s) }
     {
         self.books.stop_by(how);
     }
@@ -36,7 +37,8 @@ impl Reporter {
         index: u32,
         outcome: Outcome,
     ) -> Result<(), OutOfMemory>
-        ensures { (s : State) (ms : ℕ) (output : List ℕ) → Follows self.old s → OnOk result (Follows self.new (after_effect s (Done worker index outcome ms output))) }
+        ensures { (s : State) (ms : ℕ) (output : List ℕ) → Follows self.old s →
+            OnOk result (Follows self.new (after_effect s (Done worker index outcome ms output))) }
     {
         self.report(alloc, worker, index)?;
         self.books.score(outcome)?;
@@ -45,7 +47,10 @@ impl Reporter {
 
     // The worker holds a test no more.
     fn report(&mut self, alloc: Global, worker: u32, index: u32) -> Result<(), OutOfMemory>
-        ensures { (s : State) → Follows self.old s → OnOk result (Follows self.new (in_books (on_table (completed_first worker (items_named (slot_of worker s.books) (index ∷ []) s.plan))) s)) }
+        ensures { (s : State) → Follows self.old s →
+            OnOk result (Follows self.new
+            (in_books (on_table (completed_first worker
+            (items_named (slot_of worker s.books) (index ∷ []) s.plan))) s)) }
     {
         let item = plus(self.base(worker)?, index as u64)?;
         holder::take_held(&mut self.rota, worker, &[item]);
@@ -54,7 +59,8 @@ impl Reporter {
 
     // A worker finished.
     pub(crate) fn leave(&mut self, worker: u32)
-        ensures { (s : State) → Follows self.old s → Follows self.new (after_effect s (Finished worker)) }
+        ensures { (s : State) → Follows self.old s →
+            Follows self.new (after_effect s (Finished worker)) }
     {
         holder::leave(&mut self.rota, worker);
         self.books.mark(worker, Mark::Gone);
@@ -62,7 +68,8 @@ impl Reporter {
 
     // A worker could not collect.
     pub(crate) fn refuse(&mut self, worker: u32)
-        ensures { (s : State) (text : List ℕ) → Follows self.old s → Follows self.new (after_effect s (Refused worker text)) }
+        ensures { (s : State) (text : List ℕ) → Follows self.old s →
+            Follows self.new (after_effect s (Refused worker text)) }
     {
         self.books.mark(worker, Mark::Gone);
         self.books.stop_by(RunStop::CollectError { worker });
@@ -70,7 +77,8 @@ impl Reporter {
 
     // A worker went down.
     pub(crate) fn bury(&mut self, worker: u32) -> Result<(), OutOfMemory>
-        ensures { (s : State) → Follows self.old s → OnOk result (Follows self.new (after_down worker s)) }
+        ensures { (s : State) → Follows self.old s →
+            OnOk result (Follows self.new (after_down worker s)) }
     {
         let head = self.head(worker);
         let retry = self.is_retry(worker);

@@ -31,7 +31,8 @@ impl Reporter {
 
     // Of a run that completed.
     fn completed_status(&self) -> u8
-        ensures { (s : State) → Follows self.now s → result ≡ completed_status (tests s) s.books.failures }
+        ensures { (s : State) → Follows self.now s →
+            result ≡ completed_status (tests s) s.books.failures }
     {
         if self.has_no_tests() {
             5

@@ -144,7 +144,8 @@ fn add_refused(
     worker: u32,
     text: &str,
 ) -> Result<(), OutOfMemory>
-    ensures { OnOk result (out.new.items ≡ out.old.items ++ refused_line mode worker (chars text.now)) }
+    ensures { OnOk result (out.new.items ≡ out.old.items
+        ++ refused_line mode worker (chars text.now)) }
 {
     add_text(out, "collection failed on ")?;
     add_name(alloc, out, mode, worker)?;

@@ -77,9 +77,14 @@ impl RunTests {
     pub fn step(&mut self, input: Input, room: bool) -> Result<Acts, OutOfMemory>
         // A suite's tests can be counted.
         requires { CanTake input }
-        ensures asks { (h : List Given) → StandsFor self.old h → IfOk result (λ acts. acts.asks.items ≡ (turn_after h (record { input = input; room = room })).asks) }
-        ensures run { (h : List Given) → StandsFor self.old h → IfOk result (λ acts. acts.run ≡ (turn_after h (record { input = input; room = room })).run) }
-        ensures history { (h : List Given) → StandsFor self.old h → OnOk result (StandsFor self.new (record { input = input; room = room } ∷ h)) }
+        ensures asks { (h : List Given) → StandsFor self.old h →
+            IfOk result (λ acts. acts.asks.items ≡ (turn_after h
+            (record { input = input; room = room })).asks) }
+        ensures run { (h : List Given) → StandsFor self.old h →
+            IfOk result (λ acts. acts.run ≡ (turn_after h
+            (record { input = input; room = room })).run) }
+        ensures history { (h : List Given) → StandsFor self.old h →
+            OnOk result (StandsFor self.new (record { input = input; room = room } ∷ h)) }
     {
         let acts = self.answer(input, room)?;
         Ok(acts)
@@ -87,7 +92,8 @@ impl RunTests {
 
     fn answer(&mut self, input: Input, room: bool) -> Result<Acts, OutOfMemory>
         requires { CanTake input }
-        ensures { (c : FunctionCall) → IsCall self.old c → IsReady self.old c → IfOk result (λ acts. Stands self.new acts (answered room input (turn_of c))) }
+        ensures { (c : FunctionCall) → IsCall self.old c → IsReady self.old c →
+            IfOk result (λ acts. Stands self.new acts (answered room input (turn_of c))) }
     {
         let mut acts = Acts {
             asks: Vec::new(self.alloc),
@@ -99,7 +105,9 @@ impl RunTests {
 
     fn take(&mut self, acts: &mut Acts, input: Input, room: bool) -> Result<(), OutOfMemory>
         requires { CanTake input }
-        ensures { (t : Turn) → Stands self.old acts.old t → OnOk result (Stands self.new acts.new (answered_in self.old.phase (test_of self.old.running) room input t)) }
+        ensures { (t : Turn) → Stands self.old acts.old t →
+            OnOk result (Stands self.new acts.new
+            (answered_in self.old.phase (test_of self.old.running) room input t)) }
     {
         match input {
             Input::Command(order) => self.hear(acts, order, room),

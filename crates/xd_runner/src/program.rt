@@ -25,7 +25,9 @@ pub fn carry_out<R: Wait, K: Children>(
     orders: &mut Desk<Texts>,
     sender: &mut Sender<LinkNews>,
 )
-    ensures runs { RunsOrders (mails orders.old) (mails orders.new) (seen (K.runs children.old) (K.faults children.old)) (seen (K.runs children.new) (K.faults children.new)) (put sender.old) (put sender.new) }
+    ensures runs { RunsOrders (mails orders.old) (mails orders.new)
+        (seen (K.runs children.old) (K.faults children.old))
+        (seen (K.runs children.new) (K.faults children.new)) (put sender.old) (put sender.new) }
     ensures ring { ring_of_sender sender.new ≡ ring_of_sender sender.old }
 {
     for _ in rt.forever() {
@@ -50,8 +52,12 @@ fn run_order<R: Wait, K: Children>(
     order: &[Text],
 ) -> Result<(), OutOfMemory>
     requires { 0 < length order.now }
-    ensures ran { OnOk result (RunsOne order.now (seen (K.runs children.old) (K.faults children.old)) (seen (K.runs children.new) (K.faults children.new)) (put sender.old) (put sender.new)) }
-    ensures part { OnErr result (RunsPart order.now (seen (K.runs children.old) (K.faults children.old)) (seen (K.runs children.new) (K.faults children.new)) (put sender.old) (put sender.new)) }
+    ensures ran { OnOk result
+        (RunsOne order.now (seen (K.runs children.old) (K.faults children.old))
+        (seen (K.runs children.new) (K.faults children.new)) (put sender.old) (put sender.new)) }
+    ensures part { OnErr result
+        (RunsPart order.now (seen (K.runs children.old) (K.faults children.old))
+        (seen (K.runs children.new) (K.faults children.new)) (put sender.old) (put sender.new)) }
     ensures ring { ring_of_sender sender.new ≡ ring_of_sender sender.old }
 {
     let outcome = run_program(rt, alloc, children, sender, order)?;
@@ -68,8 +74,12 @@ fn run_program<R: Wait, K: Children>(
     order: &[Text],
 ) -> Result<Outcome, OutOfMemory>
     requires { 0 < length order.now }
-    ensures ran { IfOk result (λ outcome. RunsTo outcome order.now (seen (K.runs children.old) (K.faults children.old)) (seen (K.runs children.new) (K.faults children.new)) (put sender.old) (put sender.new)) }
-    ensures part { OnErr result (RunsPart order.now (seen (K.runs children.old) (K.faults children.old)) (seen (K.runs children.new) (K.faults children.new)) (put sender.old) (put sender.new)) }
+    ensures ran { IfOk result (λ outcome.
+        RunsTo outcome order.now (seen (K.runs children.old) (K.faults children.old))
+        (seen (K.runs children.new) (K.faults children.new)) (put sender.old) (put sender.new)) }
+    ensures part { OnErr result
+        (RunsPart order.now (seen (K.runs children.old) (K.faults children.old))
+        (seen (K.runs children.new) (K.faults children.new)) (put sender.old) (put sender.new)) }
     ensures ring { ring_of_sender sender.new ≡ ring_of_sender sender.old }
 {
     match children.start(alloc, order) {
@@ -87,8 +97,12 @@ fn watch<R: Wait, K: Children>(
     sender: &mut Sender<LinkNews>,
     child: K::Child,
 ) -> Result<Outcome, OutOfMemory>
-    ensures watched { IfOk result (λ outcome. Watches outcome (K.place child) (seen (K.runs children.old) (K.faults children.old)) (seen (K.runs children.new) (K.faults children.new)) (put sender.old) (put sender.new)) }
-    ensures part { OnErr result (WatchesPart (K.place child) (seen (K.runs children.old) (K.faults children.old)) (seen (K.runs children.new) (K.faults children.new)) (put sender.old) (put sender.new)) }
+    ensures watched { IfOk result (λ outcome.
+        Watches outcome (K.place child) (seen (K.runs children.old) (K.faults children.old))
+        (seen (K.runs children.new) (K.faults children.new)) (put sender.old) (put sender.new)) }
+    ensures part { OnErr result
+        (WatchesPart (K.place child) (seen (K.runs children.old) (K.faults children.old))
+        (seen (K.runs children.new) (K.faults children.new)) (put sender.old) (put sender.new)) }
     ensures ring { ring_of_sender sender.new ≡ ring_of_sender sender.old }
 {
     let mut child = child;
@@ -112,9 +126,14 @@ fn hear_output<R: Wait, K: Children>(
 ) -> Result<bool, OutOfMemory>
     ensures same_child { K.place child.new ≡ K.place child.old }
     ensures is_read { OnOk result (IsTrue (K.is_read child.new)) }
-    ensures heard { IfOk result (λ whole. PutsOutput whole (K.place child.old) (K.runs children.old) (K.runs children.new) (put sender.old) (put sender.new)) }
-    ensures counted { IfOk result (λ whole. Counted whole (K.faults children.old) (K.faults children.new)) }
-    ensures part { OnErr result (HeardPart (K.place child.old) (K.runs children.old) (K.runs children.new) (put sender.old) (put sender.new)) }
+    ensures heard { IfOk result (λ whole.
+        PutsOutput whole (K.place child.old) (K.runs children.old) (K.runs children.new)
+        (put sender.old) (put sender.new)) }
+    ensures counted { IfOk result (λ whole.
+        Counted whole (K.faults children.old) (K.faults children.new)) }
+    ensures part { OnErr result
+        (HeardPart (K.place child.old) (K.runs children.old) (K.runs children.new) (put sender.old)
+        (put sender.new)) }
     ensures later { K.faults children.old ≤ K.faults children.new }
     ensures ring { ring_of_sender sender.new ≡ ring_of_sender sender.old }
 {
@@ -149,7 +168,9 @@ fn put_piece<R: Wait>(
 fn drop_output<R: Wait, K: Children>(rt: &R, children: &mut K, child: &mut K::Child) -> bool
     ensures same_child { K.place child.new ≡ K.place child.old }
     ensures is_read { IsTrue (K.is_read child.new) }
-    ensures gave { (output : List ℕ) × ChangesRun (K.place child.old) (read_so result output) (K.runs children.old) (K.runs children.new) }
+    ensures gave { (output : List ℕ)
+        × ChangesRun (K.place child.old) (read_so result output) (K.runs children.old)
+        (K.runs children.new) }
     ensures later { K.faults children.old ≤ K.faults children.new }
 {
     let mut buffer = [0u8; MAX_PIECE_BYTES];

@@ -75,11 +75,17 @@ impl<K: Children> Runner<K> {
 impl<K: Children> Job for Runner<K> {
     type Out = RunnerEnd<K>;
 
-    ghost gives = { λ job out. RunsOrders (mails job.orders) (mails out.orders) (seen (K.runs job.children) (K.faults job.children)) (seen (K.runs out.children) (K.faults out.children)) (put job.sender) (put out.sender)
+    ghost gives = { λ job out.
+        RunsOrders (mails job.orders) (mails out.orders)
+        (seen (K.runs job.children) (K.faults job.children))
+        (seen (K.runs out.children) (K.faults out.children)) (put job.sender) (put out.sender)
         × (ring_of_sender out.sender ≡ ring_of_sender job.sender) };
 
     fn run<R: Wait>(self, rt: &R) -> RunnerEnd<K>
-        ensures runs { RunsOrders (mails self.orders) (mails result.orders) (seen (K.runs self.children) (K.faults self.children)) (seen (K.runs result.children) (K.faults result.children)) (put self.sender) (put result.sender) }
+        ensures runs { RunsOrders (mails self.orders) (mails result.orders)
+            (seen (K.runs self.children) (K.faults self.children))
+            (seen (K.runs result.children) (K.faults result.children)) (put self.sender)
+            (put result.sender) }
         ensures ring { ring_of_sender result.sender ≡ ring_of_sender self.sender }
         ensures over { AreOver (K.runs self.children) (K.runs result.children) }
     {

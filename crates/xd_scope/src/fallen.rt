@@ -32,7 +32,8 @@ fn last_items(alloc: Global, rest: u32, ledger: &Ledger) -> Result<BTreeSet<u32>
 
 // The test too, where it is among the items.
 fn add_if_left(test: u32, items: &BTreeSet<u32>, tests: &mut Vec<u32>) -> Result<(), OutOfMemory>
-    ensures { OnOk result (tests.new.items ≡ tests.old.items ++ filter (λ t. contains nat_cmp items.now t) (test ∷ [])) }
+    ensures { OnOk result (tests.new.items ≡ tests.old.items
+        ++ filter (λ t. contains nat_cmp items.now t) (test ∷ [])) }
 {
     if items.contains(&test) {
         tests.push(test)?;
@@ -97,7 +98,8 @@ pub(crate) fn keep_rest(
 ) -> Result<(), OutOfMemory>
     requires { all_distinct ledger.now.pool ≡ true }
     ensures { OnOk result (
-        queue.new.items ≡ queue.old.items ++ left_of_each (last_of rest ledger.now.pool) (given_to worker given.now)) }
+        queue.new.items ≡ queue.old.items
+        ++ left_of_each (last_of rest ledger.now.pool) (given_to worker given.now)) }
 {
     let Some(units) = units_of(worker, given) else {
         return Ok(());
@@ -114,7 +116,8 @@ pub(crate) fn keep_retried(
     ledger: &Ledger,
     queue: &mut VecDeque<Indices>,
 ) -> Result<(), OutOfMemory>
-    ensures { OnOk result (queue.new.items ≡ unless_empty (retried_item retried ledger.now.pool) ++ queue.old.items) }
+    ensures { OnOk result (queue.new.items ≡ unless_empty (retried_item retried ledger.now.pool)
+        ++ queue.old.items) }
 {
     if !retried {
         return Ok(());

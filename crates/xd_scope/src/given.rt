@@ -24,7 +24,8 @@ impl Model for WorkerUnits {
 // The worker's units, which leave the map.
 fn taken(alloc: Global, worker: u32, given: &mut BTreeMap<u32, WorkerUnits>) -> WorkerUnits
     ensures units { result ≡ given_to worker given.old }
-    ensures others { (w : ℕ) → given_to w given.new ≡ (if worker == w then [] else given_to w given.old) }
+    ensures others { (w : ℕ) →
+        given_to w given.new ≡ (if worker == w then [] else given_to w given.old) }
 {
     match given.remove(&worker) {
         Some(units) => units,
@@ -42,7 +43,8 @@ pub(crate) fn add_given(
     given: &mut BTreeMap<u32, WorkerUnits>,
 ) -> Result<(), OutOfMemory>
     ensures { OnOk result ((w : ℕ) →
-        given_to w given.new ≡ (if worker == w then given_to w given.old ++ tests ∷ [] else given_to w given.old)) }
+        given_to w given.new ≡ (if worker == w then given_to w given.old
+        ++ tests ∷ [] else given_to w given.old)) }
 {
     let mut units = taken(alloc, worker, given);
     units.items.push(tests)?;

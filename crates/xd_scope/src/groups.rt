@@ -24,7 +24,8 @@ fn place_of(places: &BTreeMap<&str, usize>, scope: &str) -> Option<usize>
 // One more test of the unit at this place.
 fn add_test(units: &mut Vec<Indices>, place: usize, test: u32) -> Result<(), OutOfMemory>
     requires { place < length units.old.items }
-    ensures { OnOk result (units.new.items ≡ slice_set units.old.items place (slice_index_or units.old.items place [] ++ test ∷ [])) }
+    ensures { OnOk result (units.new.items ≡ slice_set units.old.items place
+        (slice_index_or units.old.items place [] ++ test ∷ [])) }
 {
     units[place].items.push(test)?;
     Ok(())
@@ -48,7 +49,8 @@ fn add<'a>(
     units: &mut Vec<Indices>,
 ) -> Result<(), OutOfMemory>
     requires { (gs : List Group) × AreGrouped gs places.old units.old.items }
-    ensures { OnOk result ((gs : List Group) → AreGrouped gs places.old units.old.items → AreGrouped (added (chars scope.now) test gs) places.new units.new.items) }
+    ensures { OnOk result ((gs : List Group) → AreGrouped gs places.old units.old.items →
+        AreGrouped (added (chars scope.now) test gs) places.new units.new.items) }
 {
     match place_of(places, scope) {
         Some(place) => {

@@ -30,7 +30,8 @@ pub(crate) fn give_unit(
     requires seated { in_rota worker ledger.old ≡ true }
     requires fits { AreInPool units.old.queue.items ledger.old.pool }
     ensures turned { OnOk result ((p : Plan) → Keeps units.old p →
-        IsAt (give_unit worker (turn ledger.old p acts.old.items)) ledger.new acts.new.items units.new) }
+        IsAt (give_unit worker (turn ledger.old p acts.old.items)) ledger.new acts.new.items
+        units.new) }
     ensures fits { OnOk result (AreInPool units.new.queue.items ledger.new.pool) }
     ensures rota { OnOk result (workers_of ledger.new ≡ workers_of ledger.old) }
 {
@@ -58,7 +59,8 @@ fn give_where_few(
     requires seated { in_rota worker ledger.old ≡ true }
     requires fits { AreInPool units.old.queue.items ledger.old.pool }
     ensures turned { OnOk result ((p : Plan) → Keeps units.old p →
-        IsAt (give_where_few worker (turn ledger.old p acts.old.items)) ledger.new acts.new.items units.new) }
+        IsAt (give_where_few worker (turn ledger.old p acts.old.items)) ledger.new acts.new.items
+        units.new) }
     ensures fits { OnOk result (AreInPool units.new.queue.items ledger.new.pool) }
     ensures rota { OnOk result (workers_of ledger.new ≡ workers_of ledger.old) }
 {
@@ -80,7 +82,8 @@ fn give_enough(
     requires seated { in_rota worker ledger.old ≡ true }
     requires fits { AreInPool units.old.queue.items ledger.old.pool }
     ensures turned { OnOk result ((p : Plan) → Keeps units.old p →
-        IsAt (give_more enough worker (give_unit worker (turn ledger.old p acts.old.items))) ledger.new acts.new.items units.new) }
+        IsAt (give_more enough worker (give_unit worker (turn ledger.old p acts.old.items)))
+        ledger.new acts.new.items units.new) }
     ensures fits { OnOk result (AreInPool units.new.queue.items ledger.new.pool) }
     ensures rota { OnOk result (workers_of ledger.new ≡ workers_of ledger.old) }
 {
@@ -138,7 +141,8 @@ fn deal_one(
     requires seated { in_rota worker ledger.old ≡ true }
     requires fits { AreInPool units.old.queue.items ledger.old.pool }
     ensures turned { OnOk result ((p : Plan) → Keeps units.old p →
-        IsAt (dealt_to deal worker (turn ledger.old p acts.old.items)) ledger.new acts.new.items units.new) }
+        IsAt (dealt_to deal worker (turn ledger.old p acts.old.items)) ledger.new acts.new.items
+        units.new) }
     ensures fits { OnOk result (AreInPool units.new.queue.items ledger.new.pool) }
     ensures rota { OnOk result (workers_of ledger.new ≡ workers_of ledger.old) }
 {
@@ -161,7 +165,8 @@ pub(crate) fn deal_each(
     requires within { count ≤ length (workers_of ledger.old) }
     requires fits { AreInPool units.old.queue.items ledger.old.pool }
     ensures turned { OnOk result ((p : Plan) → Keeps units.old p →
-        IsAt (in_turn (dealt_to deal) (take count (workers_of ledger.old)) (turn ledger.old p acts.old.items)) ledger.new acts.new.items units.new) }
+        IsAt (in_turn (dealt_to deal) (take count (workers_of ledger.old))
+        (turn ledger.old p acts.old.items)) ledger.new acts.new.items units.new) }
     ensures fits { OnOk result (AreInPool units.new.queue.items ledger.new.pool) }
     ensures rota { OnOk result (workers_of ledger.new ≡ workers_of ledger.old) }
 {

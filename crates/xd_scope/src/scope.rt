@@ -25,7 +25,8 @@ impl Scope {
     /// order in which they first appear, else the largest first.
     pub fn new(alloc: Global, kind: ModeKind, reorder: bool) -> Scope
         requires { is_scope kind ≡ true }
-        ensures { (p : Plan) → p.mode ≡ kind → p.reorder ≡ reorder → p.queue ≡ [] → p.given ≡ [] → p.steal ≡ None → ⟦<Scope as Mode>⟧.stands result p }
+        ensures { (p : Plan) → p.mode ≡ kind → p.reorder ≡ reorder → p.queue ≡ [] → p.given ≡ [] →
+            p.steal ≡ None → ⟦<Scope as Mode>⟧.stands result p }
     {
         Scope {
             units: Units {

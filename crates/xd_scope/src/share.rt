@@ -19,7 +19,8 @@ use xd_ledger::{Ledger, shut, shut_rota};
 fn shut_surplus(count: u32, ledger: &mut Ledger, acts: &mut Vec<Entry>) -> Result<(), OutOfMemory>
     requires { count ≤ length (workers_of ledger.old) }
     ensures { OnOk result ((p : Plan) →
-        turn ledger.new p acts.new.items ≡ shut_each (reverse (drop count (workers_of ledger.old))) (turn ledger.old p acts.old.items)) }
+        turn ledger.new p acts.new.items ≡ shut_each (reverse (drop count (workers_of ledger.old)))
+        (turn ledger.old p acts.old.items)) }
 {
     let surplus = ledger.rota_len() - count;
     for done in 0..surplus {
@@ -40,7 +41,8 @@ fn serve(
     requires within { count ≤ length (workers_of ledger.old) }
     requires fits { AreInPool units.old.queue.items ledger.old.pool }
     ensures turned { OnOk result ((p : Plan) → Keeps units.old p →
-        IsAt (served_share count (workers_of ledger.old) (turn ledger.old p acts.old.items)) ledger.new acts.new.items units.new) }
+        IsAt (served_share count (workers_of ledger.old) (turn ledger.old p acts.old.items))
+        ledger.new acts.new.items units.new) }
     ensures rota { OnOk result (workers_of ledger.new ≡ workers_of ledger.old) }
 {
     shut_surplus(count, ledger, acts)?;
@@ -56,7 +58,8 @@ fn shut_where_spent(
     acts: &mut Vec<Entry>,
 ) -> Result<(), OutOfMemory>
     ensures { OnOk result ((p : Plan) → Keeps units.now p →
-        IsAt (shut_where_spent (turn ledger.old p acts.old.items)) ledger.new acts.new.items units.now) }
+        IsAt (shut_where_spent (turn ledger.old p acts.old.items)) ledger.new acts.new.items
+        units.now) }
 {
     if units.queue.len() == 0 {
         shut_rota(ledger, acts)?;

@@ -14,5 +14,6 @@ pub struct RunBooks {
     pub ledger: Ledger,
     ghost few: { list_all (λ l. nat_le (length l.ids) most_tests) kept.lists ≡ true },
     ghost few_workers: { nat_le kept.settings.workers most_workers ≡ true },
-    ghost ordered: { list_all (λ l. list_all is_id l.ids && no_text_twice l.ids) kept.lists ≡ true },
+    ghost ordered: { list_all
+        (λ l. list_all is_id l.ids && no_text_twice l.ids) kept.lists ≡ true },
 }

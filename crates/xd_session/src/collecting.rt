@@ -98,7 +98,8 @@ fn is_full(books: &RunBooks) -> bool
 // The worker joins the rota.
 fn seat(alloc: Global, worker: u32, books: &mut RunBooks) -> Result<(), OutOfMemory>
     requires { has_joined worker books.old.ledger ≡ false }
-    ensures books { OnOk result (books_of books.new ≡ on_table (joined worker) (books_of books.old)) }
+    ensures books { OnOk result
+        (books_of books.new ≡ on_table (joined worker) (books_of books.old)) }
     ensures seated { OnOk result (in_rota worker books.new.ledger ≡ true) }
     ensures bare { OnOk result (IsBare books.old.ledger → IsBare books.new.ledger) }
 {
@@ -145,7 +146,8 @@ fn deal_all<M: Mode>(
         Suits (Share (slots_of_rota b)) (shared_in kind b) pooled (M.stands mode.old) }
     ensures sizes { IfOk result (λ sizes. sizes ≡ sizes_in kind (books_of books.old)) }
     ensures few { IfOk result (λ sizes. sum sizes ≤ most_items) }
-    ensures books { OnOk result (books_of books.new ≡ on_table (λ t. books.new.ledger) (books_of books.old)) }
+    ensures books { OnOk result
+        (books_of books.new ≡ on_table (λ t. books.new.ledger) (books_of books.old)) }
     ensures dealt { OnOk result ((p : Plan) → M.stands mode.old p →
         let b = books_of books.old in
         let pooled = filled (sizes_in kind b) books.old.ledger in
@@ -175,9 +177,16 @@ impl<M: Mode> RunState<M> {
     // All tests come into the pool, and the mode deals them.
     fn share(&mut self, alloc: Global, entries: &mut Vec<Entry>) -> Result<(), OutOfMemory>
         requires bare { IsBare self.old.books.ledger }
-        requires at { (s : State) × (At s (books_of self.old.books) (known_by self.old.known) (M.stands self.old.mode) × MayShare s) }
-        ensures { OnOk result ((s : State) → At s (books_of self.old.books) (known_by self.old.known) (M.stands self.old.mode) → MayShare s →
-            Acted (acts_of (Share (slots_of_rota s.books)) (shared_now s)) (shared_now s) (books_of self.new.books) (known_by self.new.known) entries.old.items entries.new.items (M.stands self.new.mode)) }
+        requires at { (s : State)
+            × (At s (books_of self.old.books) (known_by self.old.known) (M.stands self.old.mode)
+            × MayShare s) }
+        ensures { OnOk result ((s : State) →
+            At s (books_of self.old.books) (known_by self.old.known) (M.stands self.old.mode) →
+            MayShare s →
+            Acted (acts_of (Share (slots_of_rota s.books)) (shared_now s)) (shared_now s)
+            (books_of self.new.books)
+            (known_by self.new.known) entries.old.items entries.new.items
+            (M.stands self.new.mode)) }
     {
         let mut acts = Vec::new(alloc);
         let sizes = deal_all(
@@ -202,9 +211,16 @@ impl<M: Mode> RunState<M> {
     ) -> Result<(), OutOfMemory>
         requires new { has_joined worker self.old.books.ledger ≡ false }
         requires bare { (books_of self.old.books).shared ≡ false → IsBare self.old.books.ledger }
-        requires at { (s : State) × (At s (books_of self.old.books) (known_by self.old.known) (M.stands self.old.mode) × MayJoin worker s) }
-        ensures { OnOk result ((s : State) → At s (books_of self.old.books) (known_by self.old.known) (M.stands self.old.mode) → MayJoin worker s →
-            Acted (outputs_of_joining worker s.books (joining worker s)) (joining worker s) (books_of self.new.books) (known_by self.new.known) entries.old.items entries.new.items (M.stands self.new.mode)) }
+        requires at { (s : State)
+            × (At s (books_of self.old.books) (known_by self.old.known) (M.stands self.old.mode)
+            × MayJoin worker s) }
+        ensures { OnOk result ((s : State) →
+            At s (books_of self.old.books) (known_by self.old.known) (M.stands self.old.mode) →
+            MayJoin worker s →
+            Acted (outputs_of_joining worker s.books (joining worker s)) (joining worker s)
+            (books_of self.new.books)
+            (known_by self.new.known) entries.old.items entries.new.items
+            (M.stands self.new.mode)) }
     {
         seat(alloc, worker, &mut self.books)?;
         if self.books.kept.is_shared() {
@@ -229,9 +245,15 @@ impl<M: Mode> RunState<M> {
         requires new { has_joined worker self.old.books.ledger ≡ false }
         requires bare { (books_of self.old.books).shared ≡ false → IsBare self.old.books.ledger }
         requires going { is_stopped (books_of self.old.books) ≡ false }
-        requires at { stop_of worker comparison ≡ None → (s : State) × (At s (books_of self.old.books) (known_by self.old.known) (M.stands self.old.mode) × MayJoin worker s) }
-        ensures { OnOk result ((s : State) → At s (books_of self.old.books) (known_by self.old.known) (M.stands self.old.mode) → (stop_of worker comparison ≡ None → MayJoin worker s) →
-            TakenIn worker (stop_of worker comparison) s (books_of self.new.books) (known_by self.new.known) entries.old.items entries.new.items (M.stands self.new.mode)) }
+        requires at { stop_of worker comparison ≡ None →
+            (s : State) × (At s (books_of self.old.books) (known_by self.old.known)
+            (M.stands self.old.mode) × MayJoin worker s) }
+        ensures { OnOk result ((s : State) →
+            At s (books_of self.old.books) (known_by self.old.known) (M.stands self.old.mode) →
+            (stop_of worker comparison ≡ None → MayJoin worker s) →
+            TakenIn worker (stop_of worker comparison) s (books_of self.new.books)
+            (known_by self.new.known) entries.old.items entries.new.items
+            (M.stands self.new.mode)) }
     {
         match comparison {
             Comparison::Differs { other, place } => {
@@ -261,9 +283,15 @@ impl<M: Mode> RunState<M> {
         requires few { length own ≤ most_tests }
         requires ordered { (list_all is_id own && no_text_twice own) ≡ true }
         requires joins { IsToJoin worker (books_of self.old.books) }
-        requires at { (s : State) × Comes (given_ids worker own s) s (books_of self.old.books) (known_by self.old.known) (M.stands self.old.mode) }
-        ensures { OnOk result ((s : State) → Comes (given_ids worker own s) s (books_of self.old.books) (known_by self.old.known) (M.stands self.old.mode) →
-            Ruled s (given_ids worker own s) (books_of self.new.books) (known_by self.new.known) entries.old.items entries.new.items (M.stands self.new.mode)) }
+        requires at { (s : State)
+            × Comes (given_ids worker own s) s (books_of self.old.books) (known_by self.old.known)
+            (M.stands self.old.mode) }
+        ensures { OnOk result ((s : State) →
+            Comes (given_ids worker own s) s (books_of self.old.books) (known_by self.old.known)
+            (M.stands self.old.mode) →
+            Ruled s (given_ids worker own s) (books_of self.new.books)
+            (known_by self.new.known) entries.old.items entries.new.items
+            (M.stands self.new.mode)) }
     {
         let shut = self.books.kept.is_shut(worker);
         let taken = self.books.take_list(alloc, worker, own)?;

@@ -13,7 +13,8 @@ use xd_ledger::Member;
 
 // A Kill of the member, where it is active.
 fn kill_where_active(m: Member, entries: &mut Vec<Entry>) -> Result<(), OutOfMemory>
-    ensures { OnOk result (entries.new.items ≡ entries.old.items ++ (if m.active then entry.Kill m.worker ∷ [] else [])) }
+    ensures { OnOk result (entries.new.items ≡ entries.old.items
+        ++ (if m.active then entry.Kill m.worker ∷ [] else [])) }
 {
     if !m.active {
         return Ok(());
@@ -39,7 +40,8 @@ pub(crate) fn end(
     books: &RunBooks,
     entries: &mut Vec<Entry>,
 ) -> Result<(), OutOfMemory>
-    ensures { OnOk result (entries.new.items ≡ entries.old.items ++ ending out_failed (books_of books.now)) }
+    ensures { OnOk result (entries.new.items ≡ entries.old.items
+        ++ ending out_failed (books_of books.now)) }
 {
     if !out_failed {
         let how = books.kept.first_stop().unwrap_or(RunStop::Completed);

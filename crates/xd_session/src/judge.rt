@@ -77,7 +77,9 @@ impl<M: Mode> RunState<M> {
 
     // The worker holds each of these tests after its head.
     fn are_behind_head(&self, worker: u32, indices: &[u32]) -> bool
-        ensures { result ≡ list_all (λ i. is_behind (first_item (slot_of worker (books_of self.now.books)) (known_by self.now.known) + i) (held worker self.now.books.ledger)) indices.now }
+        ensures { result ≡ list_all
+            (λ i. is_behind (first_item (slot_of worker (books_of self.now.books))
+            (known_by self.now.known) + i) (held worker self.now.books.ledger)) indices.now }
     {
         let first = self.known.first_item(self.books.kept.slot_of(worker));
         indices
@@ -88,7 +90,8 @@ impl<M: Mode> RunState<M> {
     // These tests answer the open steal: none, or all that were asked for, where the worker may give them.
     #[tactic(auto, using(crate::proofs::Judging::named_behind))]
     fn may_give_back(&self, worker: u32, indices: &[u32]) -> bool
-        ensures { (s : State) → At s (books_of self.now.books) (known_by self.now.known) (M.stands self.now.mode) → Reached s → result ≡ may_give_back worker indices.now s }
+        ensures { (s : State) → At s (books_of self.now.books) (known_by self.now.known)
+            (M.stands self.now.mode) → Reached s → result ≡ may_give_back worker indices.now s }
     {
         let Some(steal) = &self.known.steal else {
             return false;
@@ -104,7 +107,9 @@ impl<M: Mode> RunState<M> {
 
     // The log of the head may start: it is its first, and its number is even and above the earlier ones.
     fn may_start(&self, worker: u32, index: u32, number: u32, logs: &Logs) -> bool
-        ensures { (s : State) → At s (books_of self.now.books) (known_by self.now.known) (M.stands self.now.mode) → result ≡ may_start_log worker index number (log_in worker logs.now) s }
+        ensures { (s : State) → At s (books_of self.now.books) (known_by self.now.known)
+            (M.stands self.now.mode) →
+            result ≡ may_start_log worker index number (log_in worker logs.now) s }
     {
         self.head_named(worker, index).is_some()
             && !logs.is_of(worker, index)
@@ -114,8 +119,10 @@ impl<M: Mode> RunState<M> {
 
     // The test is the head, and its log is closed.
     fn may_end(&self, worker: u32, index: u32, logs: &Logs) -> bool
-        ensures { (s : State) → At s (books_of self.now.books) (known_by self.now.known) (M.stands self.now.mode) →
-            result ≡ (names_head worker index s && is_of index (log_in worker logs.now) && not (any_open (log_in worker logs.now))) }
+        ensures { (s : State) → At s (books_of self.now.books) (known_by self.now.known)
+            (M.stands self.now.mode) →
+            result ≡ (names_head worker index s && is_of index (log_in worker logs.now) && not
+            (any_open (log_in worker logs.now))) }
     {
         self.head_named(worker, index).is_some()
             && logs.is_of(worker, index)
@@ -125,7 +132,8 @@ impl<M: Mode> RunState<M> {
     // A worker that was told to shut down, has collected and holds nothing may end.
     fn may_finish(&self, worker: u32) -> bool
         requires { is_active worker (books_of self.now.books) ≡ true }
-        ensures { (s : State) → At s (books_of self.now.books) (known_by self.now.known) (M.stands self.now.mode) → result ≡ may_follow s (entry.Finished worker) }
+        ensures { (s : State) → At s (books_of self.now.books) (known_by self.now.known)
+            (M.stands self.now.mode) → result ≡ may_follow s (entry.Finished worker) }
     {
         self.books.kept.is_shut(worker)
             && self.books.kept.has_collected(worker)
@@ -136,7 +144,9 @@ impl<M: Mode> RunState<M> {
     #[tactic(auto, using(crate::proofs::Judging::may_collect, crate::proofs::Judging::not_ready, crate::proofs::Judging::did_collect))]
     fn may_collect(&self, alloc: Global, worker: u32, own: &Texts) -> Result<bool, OutOfMemory>
         requires { is_active worker (books_of self.now.books) ≡ true }
-        ensures { IfOk result (λ b. (s : State) → At s (books_of self.now.books) (known_by self.now.known) (M.stands self.now.mode) → b ≡ may_follow s (given_ids worker own.now s)) }
+        ensures { IfOk result (λ b. (s : State) →
+            At s (books_of self.now.books) (known_by self.now.known) (M.stands self.now.mode) →
+            b ≡ may_follow s (given_ids worker own.now s)) }
     {
         if !self.books.kept.was_ready(worker) || self.books.kept.has_collected(worker) {
             return Ok(false);
@@ -154,7 +164,9 @@ impl<M: Mode> RunState<M> {
         logs: &Logs,
     ) -> Result<Verdict, OutOfMemory>
         requires { is_active worker (books_of self.now.books) ≡ true }
-        ensures { IfOk result (λ v. (s : State) → At s (books_of self.now.books) (known_by self.now.known) (M.stands self.now.mode) → Reached s → v ≡ judged worker (log_in worker logs.now) s what.now) }
+        ensures { IfOk result (λ v. (s : State) →
+            At s (books_of self.now.books) (known_by self.now.known) (M.stands self.now.mode) →
+            Reached s → v ≡ judged worker (log_in worker logs.now) s what.now) }
     {
         let verdict = match what {
             What::Ready | What::NotStarted => follows_where(!self.books.kept.was_ready(worker)),

@@ -93,7 +93,8 @@ impl KnownPlan {
 
     // The worker went: a steal from it is open no more.
     pub(crate) fn forget_steal_of(&mut self, worker: u32)
-        ensures { known_by self.new ≡ record (known_by self.old) { steal = steal_without worker (known_by self.old).steal } }
+        ensures { known_by self.new ≡ record (known_by self.old)
+            { steal = steal_without worker (known_by self.old).steal } }
     {
         let Some(steal) = &self.steal else {
             return;

@@ -72,7 +72,8 @@ fn are_distinct(alloc: Global, texts: &[Text]) -> Result<bool, OutOfMemory>
 
 // The collection is within its bounds.
 pub(crate) fn are_in_order(alloc: Global, ids: &Texts) -> Result<bool, OutOfMemory>
-    ensures { IfOk result (λ b. b ≡ (nat_le (length ids.now) most_tests && list_all is_id ids.now && no_text_twice ids.now)) }
+    ensures { IfOk result (λ b.
+        b ≡ (nat_le (length ids.now) most_tests && list_all is_id ids.now && no_text_twice ids.now)) }
 {
     if ids.items.len() > MAX_TESTS as usize || !are_all_ids(&ids.items) {
         return Ok(false);
@@ -127,7 +128,8 @@ impl RunBooks {
     fn list(&mut self, alloc: Global, worker: u32, own: &[Text]) -> Result<(), OutOfMemory>
         requires few { length own.now ≤ most_tests }
         requires ordered { (list_all is_id own.now && no_text_twice own.now) ≡ true }
-        ensures { OnOk result (books_of self.new ≡ with_list worker (ids.List own.now) (books_of self.old)) }
+        ensures { OnOk result (books_of self.new ≡ with_list worker (ids.List own.now)
+            (books_of self.old)) }
     {
         self.kept.list(alloc, worker, own)?;
         Ok(())
@@ -142,9 +144,14 @@ impl RunBooks {
     ) -> Result<TakenList, OutOfMemory>
         requires few { length own ≤ most_tests }
         requires ordered { (list_all is_id own && no_text_twice own) ≡ true }
-        ensures comparison { IfOk result (λ t. t.comparison ≡ comparison own (listed worker (books_of self.old))) }
-        ensures ids { IfOk result (λ t. t.ids ≡ ids_to_list (comparison own (listed worker (books_of self.old))) own) }
-        ensures books { OnOk result (books_of self.new ≡ with_list worker (ids_to_list (comparison own (listed worker (books_of self.old))) own) (books_of self.old)) }
+        ensures comparison { IfOk result (λ t.
+            t.comparison ≡ comparison own (listed worker (books_of self.old))) }
+        ensures ids { IfOk result (λ t.
+            t.ids ≡ ids_to_list (comparison own (listed worker (books_of self.old))) own) }
+        ensures books { OnOk result
+            (books_of self.new ≡ with_list worker
+            (ids_to_list (comparison own (listed worker (books_of self.old))) own)
+            (books_of self.old)) }
     {
         let comparison = self.compare(worker, &own.items)?;
         self.list(alloc, worker, &own.items)?;

@@ -143,7 +143,9 @@ impl Logs {
 
     // This log is the worker's last one.
     fn put(&mut self, log: WorkerLog) -> Result<(), OutOfMemory>
-        ensures { OnOk result ((v : ℕ) → log_in v self.new ≡ (if v == log.worker then Some (log_of_item log) else log_in v self.old)) }
+        ensures { OnOk result ((v : ℕ) →
+            log_in v self.new ≡ (if v == log.worker then Some
+            (log_of_item log) else log_in v self.old)) }
     {
         let place = place_of(&self.items, log.worker);
         if place < self.items.len() {
@@ -162,7 +164,10 @@ impl Logs {
         index: u32,
         number: u32,
     ) -> Result<(), OutOfMemory>
-        ensures { OnOk result ((v : ℕ) → log_in v self.new ≡ (if v == worker then shortened (with_news (log_in v self.old) (what.LogStart index number)) else log_in v self.old)) }
+        ensures { OnOk result ((v : ℕ) →
+            log_in v self.new ≡ (if v == worker then shortened
+            (with_news (log_in v self.old) (what.LogStart index number)) else log_in v
+            self.old)) }
     {
         self.put(WorkerLog {
             worker,
@@ -176,7 +181,10 @@ impl Logs {
 
     // More bytes of the worker's last log, of which the first ones are kept.
     fn add(&mut self, worker: u32, piece: &[u8]) -> Result<(), OutOfMemory>
-        ensures { OnOk result ((v number : ℕ) → log_in v self.new ≡ (if v == worker then shortened (with_news (log_in v self.old) (what.Piece number piece.now)) else log_in v self.old)) }
+        ensures { OnOk result ((v number : ℕ) →
+            log_in v self.new ≡ (if v == worker then shortened
+            (with_news (log_in v self.old) (what.Piece number piece.now)) else log_in v
+            self.old)) }
     {
         let place = place_of(&self.items, worker);
         if place < self.items.len() {
@@ -188,7 +196,9 @@ impl Logs {
 
     // The worker's last log is closed.
     fn close(&mut self, worker: u32)
-        ensures { (v number : ℕ) → log_in v self.new ≡ (if v == worker then with_news (log_in v self.old) (what.LogClosed number) else log_in v self.old) }
+        ensures { (v number : ℕ) →
+            log_in v self.new ≡ (if v == worker then with_news (log_in v self.old)
+            (what.LogClosed number) else log_in v self.old) }
     {
         let place = place_of(&self.items, worker);
         if place < self.items.len() {
@@ -204,7 +214,8 @@ impl Logs {
         what: &What,
     ) -> Result<(), OutOfMemory>
         ensures { OnOk result (((v : ℕ) → log_in v self.old ≡ shortened (log_in v self.old)) →
-            (v : ℕ) → log_in v self.new ≡ (if v == worker then shortened (with_news (log_in v self.old) what.now) else log_in v self.old)) }
+            (v : ℕ) → log_in v self.new ≡ (if v == worker then shortened
+            (with_news (log_in v self.old) what.now) else log_in v self.old)) }
     {
         match what {
             What::LogStart { index, log } => self.start(alloc, worker, *index, *log)?,

@@ -54,8 +54,10 @@ pub(crate) fn shut_everyone(
     books: &mut RunBooks,
     entries: &mut Vec<Entry>,
 ) -> Result<(), OutOfMemory>
-    ensures told { OnOk result (books_of books.new ≡ told_all (waiting (books_of books.old).members) (books_of books.old)) }
-    ensures noted { OnOk result (entries.new.items ≡ entries.old.items ++ shut_all (books_of books.old).members) }
+    ensures told { OnOk result
+        (books_of books.new ≡ told_all (waiting (books_of books.old).members) (books_of books.old)) }
+    ensures noted { OnOk result
+        (entries.new.items ≡ entries.old.items ++ shut_all (books_of books.old).members) }
 {
     let workers = books.waiting(alloc)?;
     tell_all(&workers.items, books, entries)?;
@@ -68,8 +70,12 @@ pub(crate) fn tell_where_shutting(
     books: &mut RunBooks,
     entries: &mut Vec<Entry>,
 ) -> Result<(), OutOfMemory>
-    ensures told { OnOk result (books_of books.new ≡ (if is_shutting (books_of books.old) then told_to_shut worker (books_of books.old) else books_of books.old)) }
-    ensures noted { OnOk result (entries.new.items ≡ entries.old.items ++ (if is_shutting (books_of books.old) then entry.Shutdown worker ∷ [] else [])) }
+    ensures told { OnOk result
+        (books_of books.new ≡ (if is_shutting (books_of books.old) then told_to_shut worker
+        (books_of books.old) else books_of books.old)) }
+    ensures noted { OnOk result
+        (entries.new.items ≡ entries.old.items
+        ++ (if is_shutting (books_of books.old) then entry.Shutdown worker ∷ [] else [])) }
 {
     if !books.kept.is_shutting() {
         return Ok(());
@@ -81,7 +87,8 @@ pub(crate) fn tell_where_shutting(
 
 // The marks of the workers after an output of the mode.
 fn follow_one(act: &Entry, books: &mut RunBooks)
-    ensures { books_of books.new ≡ record (books_of books.old) { members = told_by (books_of books.old).members act.now } }
+    ensures { books_of books.new ≡ record (books_of books.old)
+        { members = told_by (books_of books.old).members act.now } }
 {
     if let Entry::Shutdown { worker } = act {
         books.mark(*worker, Mark::Shut);
@@ -90,7 +97,8 @@ fn follow_one(act: &Entry, books: &mut RunBooks)
 
 // The marks of the workers after these outputs of the mode.
 pub(crate) fn follow(acts: &[Entry], books: &mut RunBooks)
-    ensures { books_of books.new ≡ record (books_of books.old) { members = members_told acts.now (books_of books.old).members } }
+    ensures { books_of books.new ≡ record (books_of books.old)
+        { members = members_told acts.now (books_of books.old).members } }
 {
     for i in 0..acts.len() {
         follow_one(&acts[i], books);

@@ -28,7 +28,8 @@ use xd_ledger::{Mark, Mode};
 impl<M: Mode> RunState<M> {
     // Nothing is left to hand out.
     fn settles(&self) -> bool
-        ensures { (s : State) → At s (books_of self.now.books) (known_by self.now.known) (M.stands self.now.mode) → result ≡ settles s }
+        ensures { (s : State) → At s (books_of self.now.books) (known_by self.now.known)
+            (M.stands self.now.mode) → result ≡ settles s }
     {
         if self.books.kept.is_stopped() {
             return false;
@@ -42,8 +43,11 @@ impl<M: Mode> RunState<M> {
         alloc: Global,
         entries: &mut Vec<Entry>,
     ) -> Result<(), OutOfMemory>
-        ensures { OnOk result ((s : State) → At s (books_of self.old.books) (known_by self.old.known) (M.stands self.old.mode) →
-            DidClosing s (books_of self.new.books) (known_by self.new.known) entries.old.items entries.new.items (M.stands self.new.mode)) }
+        ensures { OnOk result ((s : State) →
+            At s (books_of self.old.books) (known_by self.old.known) (M.stands self.old.mode) →
+            DidClosing s (books_of self.new.books)
+            (known_by self.new.known) entries.old.items entries.new.items
+            (M.stands self.new.mode)) }
     {
         if !self.settles() {
             return Ok(());
@@ -58,9 +62,13 @@ impl<M: Mode> RunState<M> {
 
     // The item at the worker's head, where the worker's number for a test names it.
     pub(crate) fn head_named(&self, worker: u32, index: u32) -> Option<u32>
-        ensures seated { (item : ℕ) → result ≡ Some item → in_rota worker self.now.books.ledger ≡ true }
-        ensures only { (s : State) → books_of self.now.books ≡ s.books → known_by self.now.known ≡ known_of s.plan → is_some result ≡ names_head worker index s }
-        ensures named { result ≡ where_is (first_item (slot_of worker (books_of self.now.books)) (known_by self.now.known) + index) (first_of (held worker self.now.books.ledger)) }
+        ensures seated { (item : ℕ) → result ≡ Some item →
+            in_rota worker self.now.books.ledger ≡ true }
+        ensures only { (s : State) → books_of self.now.books ≡ s.books →
+            known_by self.now.known ≡ known_of s.plan → is_some result ≡ names_head worker index s }
+        ensures named { result ≡ where_is
+            (first_item (slot_of worker (books_of self.now.books))
+            (known_by self.now.known) + index) (first_of (held worker self.now.books.ledger)) }
     {
         if !self.books.ledger.in_rota(worker) {
             return None;
@@ -77,8 +85,11 @@ impl<M: Mode> RunState<M> {
         entries: &mut Vec<Entry>,
     ) -> Result<(), OutOfMemory>
         requires { is_stopped (books_of self.old.books) ≡ true }
-        ensures { OnOk result ((s : State) → books_of self.old.books ≡ s.books → known_by self.old.known ≡ known_of s.plan →
-            Acted (if before then [] else shut_all s.books.members) s (books_of self.new.books) (known_by self.new.known) entries.old.items entries.new.items (M.stands self.new.mode)) }
+        ensures { OnOk result ((s : State) → books_of self.old.books ≡ s.books →
+            known_by self.old.known ≡ known_of s.plan →
+            Acted (if before then [] else shut_all s.books.members) s (books_of self.new.books)
+            (known_by self.new.known) entries.old.items entries.new.items
+            (M.stands self.new.mode)) }
     {
         if before {
             return Ok(());
@@ -94,8 +105,11 @@ impl<M: Mode> RunState<M> {
         worker: u32,
         entries: &mut Vec<Entry>,
     ) -> Result<(), OutOfMemory>
-        ensures { OnOk result ((s : State) → At s (books_of self.old.books) (known_by self.old.known) (M.stands self.old.mode) →
-            Ruled s (entry.Ready worker) (books_of self.new.books) (known_by self.new.known) entries.old.items entries.new.items (M.stands self.new.mode)) }
+        ensures { OnOk result ((s : State) →
+            At s (books_of self.old.books) (known_by self.old.known) (M.stands self.old.mode) →
+            Ruled s (entry.Ready worker) (books_of self.new.books)
+            (known_by self.new.known) entries.old.items entries.new.items
+            (M.stands self.new.mode)) }
     {
         note(Entry::Ready { worker }, entries)?;
         self.books.mark(worker, Mark::Ready);
@@ -116,9 +130,16 @@ impl<M: Mode> RunState<M> {
     ) -> Result<(), OutOfMemory>
         requires late { before ≡ true → is_stopped (books_of self.old.books) ≡ true }
         requires seated { in_rota worker self.old.books.ledger ≡ true }
-        requires at { is_stopped (books_of self.old.books) ≡ false → (s : State) × Calls (TestDone worker ms) s (books_of self.old.books) (known_by self.old.known) (M.stands self.old.mode) }
-        ensures { OnOk result ((s : State) → At s (books_of self.old.books) (known_by self.old.known) (M.stands self.old.mode) → (is_stopped s.books ≡ false → Called (TestDone worker ms) s) →
-            Acted (if before then [] else if is_stopped s.books then shut_all s.books.members else acts_of (TestDone worker ms) s) s (books_of self.new.books) (known_by self.new.known) entries.old.items entries.new.items (M.stands self.new.mode)) }
+        requires at { is_stopped (books_of self.old.books) ≡ false →
+            (s : State) × Calls (TestDone worker ms) s (books_of self.old.books)
+            (known_by self.old.known) (M.stands self.old.mode) }
+        ensures { OnOk result ((s : State) →
+            At s (books_of self.old.books) (known_by self.old.known) (M.stands self.old.mode) →
+            (is_stopped s.books ≡ false → Called (TestDone worker ms) s) →
+            Acted (if before then [] else if is_stopped s.books then shut_all s.books.members
+            else acts_of (TestDone worker ms) s) s (books_of self.new.books)
+            (known_by self.new.known) entries.old.items entries.new.items
+            (M.stands self.new.mode)) }
     {
         if self.books.kept.is_stopped() {
             self.stop_outputs(alloc, before, entries)?;
@@ -139,9 +160,14 @@ impl<M: Mode> RunState<M> {
         output: Blob,
         entries: &mut Vec<Entry>,
     ) -> Result<(), OutOfMemory>
-        requires { (s : State) × Comes (entry.Done worker index outcome ms output) s (books_of self.old.books) (known_by self.old.known) (M.stands self.old.mode) }
-        ensures { OnOk result ((s : State) → Comes (entry.Done worker index outcome ms output) s (books_of self.old.books) (known_by self.old.known) (M.stands self.old.mode) →
-            Ruled s (entry.Done worker index outcome ms output) (books_of self.new.books) (known_by self.new.known) entries.old.items entries.new.items (M.stands self.new.mode)) }
+        requires { (s : State) × Comes (entry.Done worker index outcome ms output) s
+            (books_of self.old.books) (known_by self.old.known) (M.stands self.old.mode) }
+        ensures { OnOk result ((s : State) →
+            Comes (entry.Done worker index outcome ms output) s (books_of self.old.books)
+            (known_by self.old.known) (M.stands self.old.mode) →
+            Ruled s (entry.Done worker index outcome ms output) (books_of self.new.books)
+            (known_by self.new.known) entries.old.items entries.new.items
+            (M.stands self.new.mode)) }
     {
         let before = self.books.kept.is_stopped();
         let Some(item) = self.head_named(worker, index) else {
@@ -165,8 +191,12 @@ impl<M: Mode> RunState<M> {
 
     // The items that the worker's numbers name.
     fn items_of(&self, alloc: Global, worker: u32, indices: &[u32]) -> Result<Indices, OutOfMemory>
-        requires { list_all (λ i. nat_lt (first_item (slot_of worker (books_of self.now.books)) (known_by self.now.known) + i) (2 ^ 32)) indices.now ≡ true }
-        ensures { IfOk result (λ items. items ≡ map (λ i. first_item (slot_of worker (books_of self.now.books)) (known_by self.now.known) + i) indices.now) }
+        requires { list_all (λ i. nat_lt
+            (first_item (slot_of worker (books_of self.now.books)) (known_by self.now.known) + i)
+            (2 ^ 32)) indices.now ≡ true }
+        ensures { IfOk result (λ items.
+            items ≡ map (λ i. first_item (slot_of worker (books_of self.now.books))
+            (known_by self.now.known) + i) indices.now) }
     {
         let first = self.known.first_item(self.books.kept.slot_of(worker));
         let mut items = Vec::new(alloc);
@@ -183,9 +213,17 @@ impl<M: Mode> RunState<M> {
         worker: u32,
         entries: &mut Vec<Entry>,
     ) -> Result<(), OutOfMemory>
-        requires { is_stopped (books_of self.old.books) ≡ false → (s : State) × Calls TestsBack s (books_of self.old.books) (known_by self.old.known) (Before (λ p. record p { steal = None }) (M.stands self.old.mode)) }
-        ensures { OnOk result ((s : State) → At s (books_of self.old.books) (known_by self.old.known) (Before (λ p. record p { steal = None }) (M.stands self.old.mode)) → (is_stopped s.books ≡ false → Called TestsBack s) →
-            Acted (if is_stopped s.books then [] else acts_of TestsBack s) s (books_of self.new.books) (known_by self.new.known) entries.old.items entries.new.items (M.stands self.new.mode)) }
+        requires { is_stopped (books_of self.old.books) ≡ false →
+            (s : State) × Calls TestsBack s (books_of self.old.books) (known_by self.old.known)
+            (Before (λ p. record p { steal = None }) (M.stands self.old.mode)) }
+        ensures { OnOk result ((s : State) →
+            At s (books_of self.old.books) (known_by self.old.known)
+            (Before (λ p. record p { steal = None }) (M.stands self.old.mode)) →
+            (is_stopped s.books ≡ false → Called TestsBack s) →
+            Acted (if is_stopped s.books then [] else acts_of TestsBack s) s
+            (books_of self.new.books)
+            (known_by self.new.known) entries.old.items entries.new.items
+            (M.stands self.new.mode)) }
     {
         if self.books.kept.is_stopped() {
             return Ok(());
@@ -202,9 +240,14 @@ impl<M: Mode> RunState<M> {
         indices: Indices,
         entries: &mut Vec<Entry>,
     ) -> Result<(), OutOfMemory>
-        requires { (s : State) × Comes (entry.Back worker indices) s (books_of self.old.books) (known_by self.old.known) (M.stands self.old.mode) }
-        ensures { OnOk result ((s : State) → Comes (entry.Back worker indices) s (books_of self.old.books) (known_by self.old.known) (M.stands self.old.mode) →
-            Ruled s (entry.Back worker indices) (books_of self.new.books) (known_by self.new.known) entries.old.items entries.new.items (M.stands self.new.mode)) }
+        requires { (s : State) × Comes (entry.Back worker indices) s (books_of self.old.books)
+            (known_by self.old.known) (M.stands self.old.mode) }
+        ensures { OnOk result ((s : State) →
+            Comes (entry.Back worker indices) s (books_of self.old.books) (known_by self.old.known)
+            (M.stands self.old.mode) →
+            Ruled s (entry.Back worker indices) (books_of self.new.books)
+            (known_by self.new.known) entries.old.items entries.new.items
+            (M.stands self.new.mode)) }
     {
         let items = self.items_of(alloc, worker, &indices.items)?;
         note(Entry::Back { worker, indices }, entries)?;
@@ -223,8 +266,11 @@ impl<M: Mode> RunState<M> {
         entries: &mut Vec<Entry>,
     ) -> Result<(), OutOfMemory>
         requires { held worker self.old.books.ledger ≡ [] }
-        ensures { OnOk result ((s : State) → At s (books_of self.old.books) (known_by self.old.known) (M.stands self.old.mode) →
-            Ruled s (entry.Finished worker) (books_of self.new.books) (known_by self.new.known) entries.old.items entries.new.items (M.stands self.new.mode)) }
+        ensures { OnOk result ((s : State) →
+            At s (books_of self.old.books) (known_by self.old.known) (M.stands self.old.mode) →
+            Ruled s (entry.Finished worker) (books_of self.new.books)
+            (known_by self.new.known) entries.old.items entries.new.items
+            (M.stands self.new.mode)) }
     {
         note(Entry::Finished { worker }, entries)?;
         self.books.leave(worker);
@@ -241,8 +287,11 @@ impl<M: Mode> RunState<M> {
         text: Text,
         entries: &mut Vec<Entry>,
     ) -> Result<(), OutOfMemory>
-        ensures { OnOk result ((s : State) → At s (books_of self.old.books) (known_by self.old.known) (M.stands self.old.mode) →
-            Ruled s (entry.Refused worker text) (books_of self.new.books) (known_by self.new.known) entries.old.items entries.new.items (M.stands self.new.mode)) }
+        ensures { OnOk result ((s : State) →
+            At s (books_of self.old.books) (known_by self.old.known) (M.stands self.old.mode) →
+            Ruled s (entry.Refused worker text) (books_of self.new.books)
+            (known_by self.new.known) entries.old.items entries.new.items
+            (M.stands self.new.mode)) }
     {
         let before = self.books.kept.is_stopped();
         note(Entry::Refused { worker, text }, entries)?;
@@ -263,9 +312,17 @@ impl<M: Mode> RunState<M> {
         retried: bool,
         entries: &mut Vec<Entry>,
     ) -> Result<(), OutOfMemory>
-        requires { (books_of self.old.books).shared ≡ true → (s : State) × Calls Died s (books_of self.old.books) (known_by self.old.known) (Before (death_plan worker retried rest self.old.books.ledger.pool) (M.stands self.old.mode)) }
-        ensures { OnOk result ((s : State) → At s (books_of self.old.books) (known_by self.old.known) (Before (death_plan worker retried rest self.old.books.ledger.pool) (M.stands self.old.mode)) → MayDie s (M.stands self.old.mode) →
-            Acted (if s.books.shared then acts_of Died s else []) s (books_of self.new.books) (known_by self.new.known) entries.old.items entries.new.items (M.stands self.new.mode)) }
+        requires { (books_of self.old.books).shared ≡ true →
+            (s : State) × Calls Died s (books_of self.old.books) (known_by self.old.known)
+            (Before (death_plan worker retried rest self.old.books.ledger.pool)
+            (M.stands self.old.mode)) }
+        ensures { OnOk result ((s : State) →
+            At s (books_of self.old.books) (known_by self.old.known)
+            (Before (death_plan worker retried rest self.old.books.ledger.pool)
+            (M.stands self.old.mode)) → MayDie s (M.stands self.old.mode) →
+            Acted (if s.books.shared then acts_of Died s else []) s (books_of self.new.books)
+            (known_by self.new.known) entries.old.items entries.new.items
+            (M.stands self.new.mode)) }
     {
         if !self.books.kept.is_shared() {
             return Ok(());
@@ -283,9 +340,17 @@ impl<M: Mode> RunState<M> {
         retried: bool,
         entries: &mut Vec<Entry>,
     ) -> Result<(), OutOfMemory>
-        requires { (books_of self.old.books).shared ≡ true → (s : State) × Calls Died s (books_of self.old.books) (known_by self.old.known) (Before (death_plan worker retried rest self.old.books.ledger.pool) (M.stands self.old.mode)) }
-        ensures { OnOk result ((s : State) → At s (books_of self.old.books) (known_by self.old.known) (Before (death_plan worker retried rest self.old.books.ledger.pool) (M.stands self.old.mode)) → MayDie s (M.stands self.old.mode) →
-            Acted (outputs_of_death worker s) s (books_of self.new.books) (known_by self.new.known) entries.old.items entries.new.items (M.stands self.new.mode)) }
+        requires { (books_of self.old.books).shared ≡ true →
+            (s : State) × Calls Died s (books_of self.old.books) (known_by self.old.known)
+            (Before (death_plan worker retried rest self.old.books.ledger.pool)
+            (M.stands self.old.mode)) }
+        ensures { OnOk result ((s : State) →
+            At s (books_of self.old.books) (known_by self.old.known)
+            (Before (death_plan worker retried rest self.old.books.ledger.pool)
+            (M.stands self.old.mode)) → MayDie s (M.stands self.old.mode) →
+            Acted (outputs_of_death worker s) s (books_of self.new.books)
+            (known_by self.new.known) entries.old.items entries.new.items
+            (M.stands self.new.mode)) }
     {
         let slot = self.books.kept.slot_of(worker);
         let number = self.books.next_worker()?;
@@ -312,11 +377,20 @@ impl<M: Mode> RunState<M> {
         entries: &mut Vec<Entry>,
     ) -> Result<(), OutOfMemory>
         requires late { before ≡ true → is_stopped (books_of self.old.books) ≡ true }
-        requires at { is_stopped (books_of self.old.books) ≡ false → (books_of self.old.books).shared ≡ true →
-            (s : State) × Calls Died s (books_of self.old.books) (known_by self.old.known) (Before (death_plan worker retried rest self.old.books.ledger.pool) (M.stands self.old.mode)) }
-        ensures { OnOk result ((s : State) → At s (books_of self.old.books) (known_by self.old.known) (Before (death_plan worker retried rest self.old.books.ledger.pool) (M.stands self.old.mode)) →
+        requires at { is_stopped (books_of self.old.books) ≡ false →
+            (books_of self.old.books).shared ≡ true →
+            (s : State) × Calls Died s (books_of self.old.books) (known_by self.old.known)
+            (Before (death_plan worker retried rest self.old.books.ledger.pool)
+            (M.stands self.old.mode)) }
+        ensures { OnOk result ((s : State) →
+            At s (books_of self.old.books) (known_by self.old.known)
+            (Before (death_plan worker retried rest self.old.books.ledger.pool)
+            (M.stands self.old.mode)) →
             (is_stopped s.books ≡ false → MayDie s (M.stands self.old.mode)) →
-            Acted (if before then [] else if is_stopped s.books then shut_all s.books.members else outputs_of_death worker s) s (books_of self.new.books) (known_by self.new.known) entries.old.items entries.new.items (M.stands self.new.mode)) }
+            Acted (if before then [] else if is_stopped s.books then shut_all s.books.members
+            else outputs_of_death worker s) s (books_of self.new.books)
+            (known_by self.new.known) entries.old.items entries.new.items
+            (M.stands self.new.mode)) }
     {
         if self.books.kept.is_stopped() {
             self.stop_outputs(alloc, before, entries)?;
@@ -336,9 +410,14 @@ impl<M: Mode> RunState<M> {
         output: Blob,
         entries: &mut Vec<Entry>,
     ) -> Result<(), OutOfMemory>
-        requires { (s : State) × Comes (entry.Down worker cause output) s (books_of self.old.books) (known_by self.old.known) (M.stands self.old.mode) }
-        ensures { OnOk result ((s : State) → Comes (entry.Down worker cause output) s (books_of self.old.books) (known_by self.old.known) (M.stands self.old.mode) →
-            Ruled s (entry.Down worker cause output) (books_of self.new.books) (known_by self.new.known) entries.old.items entries.new.items (M.stands self.new.mode)) }
+        requires { (s : State) × Comes (entry.Down worker cause output) s (books_of self.old.books)
+            (known_by self.old.known) (M.stands self.old.mode) }
+        ensures { OnOk result ((s : State) →
+            Comes (entry.Down worker cause output) s (books_of self.old.books)
+            (known_by self.old.known) (M.stands self.old.mode) →
+            Ruled s (entry.Down worker cause output) (books_of self.new.books)
+            (known_by self.new.known) entries.old.items entries.new.items
+            (M.stands self.new.mode)) }
     {
         let before = self.books.kept.is_stopped();
         let retried = self.books.is_retry(worker);
@@ -365,9 +444,14 @@ impl<M: Mode> RunState<M> {
         worker: u32,
         entries: &mut Vec<Entry>,
     ) -> Result<(), OutOfMemory>
-        requires { (s : State) × Comes (entry.NotStarted worker) s (books_of self.old.books) (known_by self.old.known) (M.stands self.old.mode) }
-        ensures { OnOk result ((s : State) → Comes (entry.NotStarted worker) s (books_of self.old.books) (known_by self.old.known) (M.stands self.old.mode) →
-            Ruled s (entry.NotStarted worker) (books_of self.new.books) (known_by self.new.known) entries.old.items entries.new.items (M.stands self.new.mode)) }
+        requires { (s : State) × Comes (entry.NotStarted worker) s (books_of self.old.books)
+            (known_by self.old.known) (M.stands self.old.mode) }
+        ensures { OnOk result ((s : State) →
+            Comes (entry.NotStarted worker) s (books_of self.old.books) (known_by self.old.known)
+            (M.stands self.old.mode) →
+            Ruled s (entry.NotStarted worker) (books_of self.new.books)
+            (known_by self.new.known) entries.old.items entries.new.items
+            (M.stands self.new.mode)) }
     {
         let before = self.books.kept.is_stopped();
         let retried = self.books.is_retry(worker);

@@ -84,7 +84,8 @@ impl RunBooks {
     pub(crate) fn give_back(&mut self, worker: u32, items: &[u32]) -> Result<(), OutOfMemory>
         requires distinct { all_distinct items.now ≡ true }
         requires holds { all_among items.now (held worker self.old.ledger) ≡ true }
-        ensures { OnOk result (books_of self.new ≡ on_table (given_back worker items.now) (books_of self.old)) }
+        ensures { OnOk result (books_of self.new ≡ on_table (given_back worker items.now)
+            (books_of self.old)) }
     {
         give_where(&mut self.ledger, worker, items)?;
         Ok(())
@@ -109,7 +110,8 @@ impl RunBooks {
     ) -> Result<(), OutOfMemory>
         requires seated { in_rota worker self.old.ledger ≡ true }
         requires head { first_of (held worker self.old.ledger) ≡ Some item }
-        ensures done { OnOk result (books_of self.new ≡ done_books worker (item ∷ []) outcome (books_of self.old)) }
+        ensures done { OnOk result
+            (books_of self.new ≡ done_books worker (item ∷ []) outcome (books_of self.old)) }
         ensures seated { OnOk result (in_rota worker self.new.ledger ≡ true) }
     {
         self.ledger.complete(worker, item);
@@ -127,7 +129,8 @@ impl RunBooks {
 
     // The worker died; a head that is not tried again counts as a failure. Gives how many tests came back after the head.
     pub(crate) fn bury(&mut self, worker: u32, retry: bool) -> Result<u32, OutOfMemory>
-        ensures buried { OnOk result (books_of self.new ≡ down_books worker retry (books_of self.old)) }
+        ensures buried { OnOk result
+            (books_of self.new ≡ down_books worker retry (books_of self.old)) }
         ensures rest { IfOk result (λ n. n ≡ length (drop 1 (held worker self.old.ledger))) }
     {
         let death = die_where(&mut self.ledger, worker, retry);

@@ -45,14 +45,18 @@ impl<M: Mode> Model for Session<M> {
 
     ghost view = { λ s. record { settings = s.journal.settings; entries = s.journal.entries.items; logs = s.core.logs; whole = s.whole } };
 
-    ghost invariant = { λ s. s.whole ≡ true → InStep s.journal.settings s.journal.entries.items s.core.logs s.core.spent (books_of s.core.state.books) (known_by s.core.state.known) (M.stands s.core.state.mode) };
+    ghost invariant = { λ s. s.whole ≡ true →
+        InStep s.journal.settings s.journal.entries.items s.core.logs s.core.spent
+        (books_of s.core.state.books) (known_by s.core.state.known) (M.stands s.core.state.mode) };
 }
 
 // The first workers are started, each at the slot of its number.
 fn start_all(workers: u32, books: &mut RunBooks, journal: &mut Journal) -> Result<(), OutOfMemory>
     requires started { books_of books.old ≡ (no_one (books_of books.old).settings).books }
     requires empty { journal.old.entries.items ≡ [] }
-    ensures books { OnOk result (books_of books.new ≡ (after_entries (no_one (books_of books.old).settings) (starts_from 0 workers)).books) }
+    ensures books { OnOk result
+        (books_of books.new ≡ (after_entries (no_one (books_of books.old).settings)
+        (starts_from 0 workers)).books) }
     ensures entries { OnOk result (journal.new.entries.items ≡ starts_from 0 workers) }
     ensures settings { journal.new.settings ≡ journal.old.settings }
 {
@@ -73,7 +77,8 @@ impl<M: Mode> Session<M> {
         requires settings { CanBegin settings }
         requires fresh { M.stands mode (no_one settings).plan }
         ensures stands { IfOk result (λ s. StandsFor [] s) }
-        ensures owes { IfOk result (λ s. is_over (state_of s).books ≡ false → someone_owes (state_of s) ≡ true) }
+        ensures owes { IfOk result (λ s. is_over (state_of s).books ≡ false →
+            someone_owes (state_of s) ≡ true) }
         ensures settings { IfOk result (λ s. s.settings ≡ settings) }
     {
         let mut books = RunBooks::new(alloc, settings)?;
@@ -100,10 +105,13 @@ impl<M: Mode> Session<M> {
     pub fn step(&mut self, alloc: Global, news: News) -> Result<Step, OutOfMemory>
         requires whole { self.old.whole ≡ true }
         requires active { is_active news.worker (state_of self.old).books ≡ true }
-        ensures stands { OnOk result ((taken : List News) → StandsFor taken self.old → StandsFor (taken ++ news ∷ []) self.new) }
+        ensures stands { OnOk result ((taken : List News) → StandsFor taken self.old →
+            StandsFor (taken ++ news ∷ []) self.new) }
         ensures whole { OnOk result (self.new.whole ≡ true) }
-        ensures owes { OnOk result (is_over (state_of self.new).books ≡ false → someone_owes (state_of self.new) ≡ true) }
-        ensures places { IfOk result (λ p. (p.from ≡ length self.old.entries) × (p.to ≡ length self.new.entries)) }
+        ensures owes { OnOk result (is_over (state_of self.new).books ≡ false →
+            someone_owes (state_of self.new) ≡ true) }
+        ensures places { IfOk result (λ p. (p.from ≡ length self.old.entries)
+            × (p.to ≡ length self.new.entries)) }
         ensures settings { self.new.settings ≡ self.old.settings }
         ensures given_up { OnErr result (self.new.whole ≡ false) }
     {
@@ -150,7 +158,8 @@ impl<M: Mode> Session<M> {
         requires whole { self.whole ≡ true }
         requires done { may_close out_failed (state_of self).books ≡ true }
         ensures settings { IfOk result (λ j. j.settings ≡ self.settings) }
-        ensures entries { IfOk result (λ j. j.entries.items ≡ self.entries ++ ending out_failed (state_of self).books) }
+        ensures entries { IfOk result (λ j.
+            j.entries.items ≡ self.entries ++ ending out_failed (state_of self).books) }
         ensures stop { IfOk result (λ j. stop_of j ≡ last_stop out_failed (state_of self).books) }
         ensures told { IfOk result (λ j. is_out_fault (stop_of j) ≡ out_failed) }
         ensures legal { IfOk result IsLegal }

@@ -36,8 +36,12 @@ pub(crate) fn take_acts(
     known: &mut KnownPlan,
     entries: &mut Vec<Entry>,
 ) -> Result<(), OutOfMemory>
-    ensures books { OnOk result (books_of books.new ≡ record (books_of books.old) { members = members_told acts.old.items (books_of books.old).members }) }
-    ensures known { OnOk result (known_by known.new ≡ record (known_by known.old) { steal = steal_told acts.old.items (known_by known.old).steal }) }
+    ensures books { OnOk result
+        (books_of books.new ≡ record (books_of books.old)
+        { members = members_told acts.old.items (books_of books.old).members }) }
+    ensures known { OnOk result
+        (known_by known.new ≡ record (known_by known.old)
+        { steal = steal_told acts.old.items (known_by known.old).steal }) }
     ensures entries { OnOk result (entries.new.items ≡ entries.old.items ++ acts.old.items) }
 {
     follow(acts, books);
@@ -55,9 +59,15 @@ impl<M: Mode> RunState<M> {
         entries: &mut Vec<Entry>,
     ) -> Result<(), OutOfMemory>
         requires seated { in_rota worker self.old.books.ledger ≡ true }
-        requires at { (s : State) × Calls (Joined worker (slot_of worker s.books)) s (books_of self.old.books) (known_by self.old.known) (M.stands self.old.mode) }
-        ensures { OnOk result ((s : State) → Calls (Joined worker (slot_of worker s.books)) s (books_of self.old.books) (known_by self.old.known) (M.stands self.old.mode) →
-            Acted (acts_of (Joined worker (slot_of worker s.books)) s) s (books_of self.new.books) (known_by self.new.known) entries.old.items entries.new.items (M.stands self.new.mode)) }
+        requires at { (s : State)
+            × Calls (Joined worker (slot_of worker s.books)) s (books_of self.old.books)
+            (known_by self.old.known) (M.stands self.old.mode) }
+        ensures { OnOk result ((s : State) →
+            Calls (Joined worker (slot_of worker s.books)) s (books_of self.old.books)
+            (known_by self.old.known) (M.stands self.old.mode) →
+            Acted (acts_of (Joined worker (slot_of worker s.books)) s) s (books_of self.new.books)
+            (known_by self.new.known) entries.old.items entries.new.items
+            (M.stands self.new.mode)) }
     {
         let slot = self.books.kept.slot_of(worker);
         let mut acts = Vec::new(alloc);
@@ -77,9 +87,15 @@ impl<M: Mode> RunState<M> {
         entries: &mut Vec<Entry>,
     ) -> Result<(), OutOfMemory>
         requires seated { in_rota worker self.old.books.ledger ≡ true }
-        requires at { (s : State) × Calls (TestDone worker ms) s (books_of self.old.books) (known_by self.old.known) (M.stands self.old.mode) }
-        ensures { OnOk result ((s : State) → Calls (TestDone worker ms) s (books_of self.old.books) (known_by self.old.known) (M.stands self.old.mode) →
-            Acted (acts_of (TestDone worker ms) s) s (books_of self.new.books) (known_by self.new.known) entries.old.items entries.new.items (M.stands self.new.mode)) }
+        requires at { (s : State)
+            × Calls (TestDone worker ms) s (books_of self.old.books) (known_by self.old.known)
+            (M.stands self.old.mode) }
+        ensures { OnOk result ((s : State) →
+            Calls (TestDone worker ms) s (books_of self.old.books) (known_by self.old.known)
+            (M.stands self.old.mode) →
+            Acted (acts_of (TestDone worker ms) s) s (books_of self.new.books)
+            (known_by self.new.known) entries.old.items entries.new.items
+            (M.stands self.new.mode)) }
     {
         let mut acts = Vec::new(alloc);
         self.mode
@@ -95,9 +111,15 @@ impl<M: Mode> RunState<M> {
         worker: u32,
         entries: &mut Vec<Entry>,
     ) -> Result<(), OutOfMemory>
-        requires { (s : State) × Calls TestsBack s (books_of self.old.books) (known_by self.old.known) (Before (λ p. record p { steal = None }) (M.stands self.old.mode)) }
-        ensures { OnOk result ((s : State) → Calls TestsBack s (books_of self.old.books) (known_by self.old.known) (Before (λ p. record p { steal = None }) (M.stands self.old.mode)) →
-            Acted (acts_of TestsBack s) s (books_of self.new.books) (known_by self.new.known) entries.old.items entries.new.items (M.stands self.new.mode)) }
+        requires { (s : State) × Calls TestsBack s (books_of self.old.books)
+            (known_by self.old.known)
+            (Before (λ p. record p { steal = None }) (M.stands self.old.mode)) }
+        ensures { OnOk result ((s : State) →
+            Calls TestsBack s (books_of self.old.books) (known_by self.old.known)
+            (Before (λ p. record p { steal = None }) (M.stands self.old.mode)) →
+            Acted (acts_of TestsBack s) s (books_of self.new.books)
+            (known_by self.new.known) entries.old.items entries.new.items
+            (M.stands self.new.mode)) }
     {
         let mut acts = Vec::new(alloc);
         self.mode
@@ -117,9 +139,16 @@ impl<M: Mode> RunState<M> {
         retried: bool,
         entries: &mut Vec<Entry>,
     ) -> Result<(), OutOfMemory>
-        requires { (s : State) × Calls Died s (books_of self.old.books) (known_by self.old.known) (Before (death_plan worker retried rest self.old.books.ledger.pool) (M.stands self.old.mode)) }
-        ensures { OnOk result ((s : State) → Calls Died s (books_of self.old.books) (known_by self.old.known) (Before (death_plan worker retried rest self.old.books.ledger.pool) (M.stands self.old.mode)) →
-            Acted (acts_of Died s) s (books_of self.new.books) (known_by self.new.known) entries.old.items entries.new.items (M.stands self.new.mode)) }
+        requires { (s : State) × Calls Died s (books_of self.old.books) (known_by self.old.known)
+            (Before (death_plan worker retried rest self.old.books.ledger.pool)
+            (M.stands self.old.mode)) }
+        ensures { OnOk result ((s : State) →
+            Calls Died s (books_of self.old.books) (known_by self.old.known)
+            (Before (death_plan worker retried rest self.old.books.ledger.pool)
+            (M.stands self.old.mode)) →
+            Acted (acts_of Died s) s (books_of self.new.books)
+            (known_by self.new.known) entries.old.items entries.new.items
+            (M.stands self.new.mode)) }
     {
         let mut acts = Vec::new(alloc);
         self.mode.died(

@@ -44,7 +44,11 @@ impl<M: Mode> Core<M> {
     // The first bytes of the output so far of the test at the worker's head, as many as there is room for.
     fn head_output(&self, alloc: Global, worker: u32) -> Result<Blob, OutOfMemory>
         requires { self.now.spent ≤ most_of_all }
-        ensures first { IfOk result (λ b. (s : State) → At s (books_of self.now.state.books) (known_by self.now.state.known) (M.stands self.now.state.mode) → b ≡ take (room_behind self.now.spent) (head_bytes worker (log_in worker self.now.logs) s)) }
+        ensures first { IfOk result (λ b. (s : State) →
+            At s (books_of self.now.state.books) (known_by self.now.state.known)
+            (M.stands self.now.state.mode) →
+            b ≡ take (room_behind self.now.spent)
+            (head_bytes worker (log_in worker self.now.logs) s)) }
         ensures low { IfOk result (λ b. self.now.spent + length b ≤ most_of_all) }
     {
         let count = MOST_OF_ONE.min(MOST_OF_ALL - self.spent);
@@ -63,7 +67,10 @@ impl<M: Mode> Core<M> {
     // What is kept where the worker goes down: none of a test that is tried again.
     fn kept_output(&self, alloc: Global, worker: u32) -> Result<Blob, OutOfMemory>
         requires { self.now.spent ≤ most_of_all }
-        ensures kept { IfOk result (λ b. (s : State) → At s (books_of self.now.state.books) (known_by self.now.state.known) (M.stands self.now.state.mode) → b ≡ kept_at_death worker (log_in worker self.now.logs) self.now.spent s) }
+        ensures kept { IfOk result (λ b. (s : State) →
+            At s (books_of self.now.state.books) (known_by self.now.state.known)
+            (M.stands self.now.state.mode) →
+            b ≡ kept_at_death worker (log_in worker self.now.logs) self.now.spent s) }
         ensures low { IfOk result (λ b. self.now.spent + length b ≤ most_of_all) }
     {
         if self.state.books.is_retry(worker) {
@@ -76,7 +83,10 @@ impl<M: Mode> Core<M> {
     // What is kept of a test that ended: output of a failed one alone.
     fn output_of(&self, alloc: Global, worker: u32, outcome: Outcome) -> Result<Blob, OutOfMemory>
         requires { self.now.spent ≤ most_of_all }
-        ensures kept { IfOk result (λ b. (s : State) → At s (books_of self.now.state.books) (known_by self.now.state.known) (M.stands self.now.state.mode) → b ≡ output_of worker outcome (log_in worker self.now.logs) self.now.spent s) }
+        ensures kept { IfOk result (λ b. (s : State) →
+            At s (books_of self.now.state.books) (known_by self.now.state.known)
+            (M.stands self.now.state.mode) →
+            b ≡ output_of worker outcome (log_in worker self.now.logs) self.now.spent s) }
         ensures low { IfOk result (λ b. self.now.spent + length b ≤ most_of_all) }
     {
         match outcome {
@@ -98,9 +108,17 @@ impl<M: Mode> Core<M> {
     ) -> Result<(), OutOfMemory>
         requires low { self.old.spent ≤ most_of_all }
         requires active { is_active worker (books_of self.old.state.books) ≡ true }
-        requires at { (s : State) × Steady s (books_of self.old.state.books) (known_by self.old.state.known) (M.stands self.old.state.mode) }
-        ensures told { OnOk result ((s : State) → Steady s (books_of self.old.state.books) (known_by self.old.state.known) (M.stands self.old.state.mode) →
-            Told (Some (entry.Down worker cause (kept_at_death worker (log_in worker self.old.logs) self.old.spent s))) s entries.old.items entries.new.items self.old.spent self.new.spent (books_of self.new.state.books) (known_by self.new.state.known) (M.stands self.new.state.mode)) }
+        requires at { (s : State)
+            × Steady s (books_of self.old.state.books) (known_by self.old.state.known)
+            (M.stands self.old.state.mode) }
+        ensures told { OnOk result ((s : State) →
+            Steady s (books_of self.old.state.books) (known_by self.old.state.known)
+            (M.stands self.old.state.mode) →
+            Told (Some (entry.Down worker cause
+            (kept_at_death worker (log_in worker self.old.logs) self.old.spent s))) s
+            entries.old.items entries.new.items self.old.spent self.new.spent
+            (books_of self.new.state.books) (known_by self.new.state.known)
+            (M.stands self.new.state.mode)) }
         ensures logs { self.new.logs ≡ self.old.logs }
     {
         let output = self.kept_output(alloc, worker)?;
@@ -120,10 +138,20 @@ impl<M: Mode> Core<M> {
         entries: &mut Vec<Entry>,
     ) -> Result<(), OutOfMemory>
         requires low { self.old.spent ≤ most_of_all }
-        requires at { (s : State) × (Steady s (books_of self.old.state.books) (known_by self.old.state.known) (M.stands self.old.state.mode) × (judged worker (log_in worker self.old.logs) s (what.Done index outcome ms) ≡ Follows)) }
+        requires at { (s : State)
+            × (Steady s (books_of self.old.state.books) (known_by self.old.state.known)
+            (M.stands self.old.state.mode)
+            × (judged worker (log_in worker self.old.logs) s
+            (what.Done index outcome ms) ≡ Follows)) }
         requires active { is_active worker (books_of self.old.state.books) ≡ true }
-        ensures told { OnOk result ((s : State) → Steady s (books_of self.old.state.books) (known_by self.old.state.known) (M.stands self.old.state.mode) → judged worker (log_in worker self.old.logs) s (what.Done index outcome ms) ≡ Follows →
-            Told (meaning_of worker (log_in worker self.old.logs) self.old.spent s (what.Done index outcome ms)) s entries.old.items entries.new.items self.old.spent self.new.spent (books_of self.new.state.books) (known_by self.new.state.known) (M.stands self.new.state.mode)) }
+        ensures told { OnOk result ((s : State) →
+            Steady s (books_of self.old.state.books) (known_by self.old.state.known)
+            (M.stands self.old.state.mode) →
+            judged worker (log_in worker self.old.logs) s (what.Done index outcome ms) ≡ Follows →
+            Told (meaning_of worker (log_in worker self.old.logs) self.old.spent s
+            (what.Done index outcome ms)) s entries.old.items entries.new.items self.old.spent
+            self.new.spent (books_of self.new.state.books) (known_by self.new.state.known)
+            (M.stands self.new.state.mode)) }
         ensures logs { self.new.logs ≡ self.old.logs }
     {
         let output = self.output_of(alloc, worker, outcome)?;
@@ -143,10 +171,21 @@ impl<M: Mode> Core<M> {
     ) -> Result<(), OutOfMemory>
         requires low { self.old.spent ≤ most_of_all }
         requires active { is_active worker (books_of self.old.state.books) ≡ true }
-        requires joins { has_collected worker (books_of self.old.state.books) ≡ false → was_ready worker (books_of self.old.state.books) ≡ true → IsToJoin worker (books_of self.old.state.books) }
-        requires at { (s : State) × (Steady s (books_of self.old.state.books) (known_by self.old.state.known) (M.stands self.old.state.mode) × (judged worker (log_in worker self.old.logs) s what ≡ Follows)) }
-        ensures told { OnOk result ((s : State) → Steady s (books_of self.old.state.books) (known_by self.old.state.known) (M.stands self.old.state.mode) → judged worker (log_in worker self.old.logs) s what ≡ Follows →
-            Told (meaning_of worker (log_in worker self.old.logs) self.old.spent s what) s entries.old.items entries.new.items self.old.spent self.new.spent (books_of self.new.state.books) (known_by self.new.state.known) (M.stands self.new.state.mode)) }
+        requires joins { has_collected worker (books_of self.old.state.books) ≡ false →
+            was_ready worker (books_of self.old.state.books) ≡ true →
+            IsToJoin worker (books_of self.old.state.books) }
+        requires at { (s : State)
+            × (Steady s (books_of self.old.state.books) (known_by self.old.state.known)
+            (M.stands self.old.state.mode)
+            × (judged worker (log_in worker self.old.logs) s what ≡ Follows)) }
+        ensures told { OnOk result ((s : State) →
+            Steady s (books_of self.old.state.books) (known_by self.old.state.known)
+            (M.stands self.old.state.mode) →
+            judged worker (log_in worker self.old.logs) s what ≡ Follows →
+            Told (meaning_of worker (log_in worker self.old.logs) self.old.spent s what) s
+            entries.old.items entries.new.items self.old.spent self.new.spent
+            (books_of self.new.state.books) (known_by self.new.state.known)
+            (M.stands self.new.state.mode)) }
         ensures logs { self.new.logs ≡ self.old.logs }
     {
         match what {
@@ -185,10 +224,19 @@ impl<M: Mode> Core<M> {
     ) -> Result<(), OutOfMemory>
         requires low { self.old.spent ≤ most_of_all }
         requires active { is_active worker (books_of self.old.state.books) ≡ true }
-        requires joins { has_collected worker (books_of self.old.state.books) ≡ false → was_ready worker (books_of self.old.state.books) ≡ true → IsToJoin worker (books_of self.old.state.books) }
-        requires at { (s : State) × Steady s (books_of self.old.state.books) (known_by self.old.state.known) (M.stands self.old.state.mode) }
-        ensures { OnOk result ((s : State) → Steady s (books_of self.old.state.books) (known_by self.old.state.known) (M.stands self.old.state.mode) → ((v : ℕ) → log_in v self.old.logs ≡ shortened (log_in v self.old.logs)) →
-            TookNews worker what s self.old.logs self.new.logs entries.old.items entries.new.items self.old.spent self.new.spent (books_of self.new.state.books) (known_by self.new.state.known) (M.stands self.new.state.mode)) }
+        requires joins { has_collected worker (books_of self.old.state.books) ≡ false →
+            was_ready worker (books_of self.old.state.books) ≡ true →
+            IsToJoin worker (books_of self.old.state.books) }
+        requires at { (s : State)
+            × Steady s (books_of self.old.state.books) (known_by self.old.state.known)
+            (M.stands self.old.state.mode) }
+        ensures { OnOk result ((s : State) →
+            Steady s (books_of self.old.state.books) (known_by self.old.state.known)
+            (M.stands self.old.state.mode) →
+            ((v : ℕ) → log_in v self.old.logs ≡ shortened (log_in v self.old.logs)) →
+            TookNews worker what s self.old.logs self.new.logs entries.old.items entries.new.items
+            self.old.spent self.new.spent (books_of self.new.state.books)
+            (known_by self.new.state.known) (M.stands self.new.state.mode)) }
     {
         match self.state.judge(alloc, worker, &what, &self.logs)? {
             Verdict::Follows => self.follow(alloc, worker, what, entries)?,

@@ -62,7 +62,8 @@ fn print_items(out: &mut Text, items: &[Value]) -> Result<(), AllocError>
 /// Items between two characters.
 #[cycle(print)]
 fn print_between(out: &mut Text, first: char, items: &[Value], last: char) -> Result<(), AllocError>
-    ensures { OnOk result (out.new ≡ out.old ++ between (first ∷ []) (shown_items [] (views items.now)) (last ∷ [])) }
+    ensures { OnOk result (out.new ≡ out.old
+        ++ between (first ∷ []) (shown_items [] (views items.now)) (last ∷ [])) }
 {
     put_char(out, first)?;
     print_items(out, items)?;
@@ -73,7 +74,8 @@ fn print_between(out: &mut Text, first: char, items: &[Value], last: char) -> Re
 #[cycle(print)]
 fn print_tuple(out: &mut Text, items: &[Value]) -> Result<(), AllocError>
     ensures { OnOk result (out.new ≡ out.old
-        ++ between (40 ∷ []) (shown_items [] (views items.now)) (tuple_end (count (views items.now)))) }
+        ++ between (40 ∷ []) (shown_items [] (views items.now))
+        (tuple_end (count (views items.now)))) }
 {
     put_char(out, '(')?;
     print_items(out, items)?;

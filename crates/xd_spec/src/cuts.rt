@@ -12,8 +12,10 @@ pub fn cut_at(mark: char, text: &str) -> Option<(&str, &str)>
 
 /// The first part of a spec, and what stands after its `//`.
 pub fn cut_part(text: &str) -> Option<(&str, &str)>
-    ensures parts { MatchOption result (spec_parts text.now ≡ text.now ∷ []) (λ p. spec_parts text.now ≡ p.0.now ∷ spec_parts p.1.now) }
-    ensures shorter { MatchOption result (length text.now ≡ length text.now) (λ p. length p.1.now < length text.now) }
+    ensures parts { MatchOption result (spec_parts text.now ≡ text.now ∷ []) (λ p.
+        spec_parts text.now ≡ p.0.now ∷ spec_parts p.1.now) }
+    ensures shorter { MatchOption result (length text.now ≡ length text.now) (λ p.
+        length p.1.now < length text.now) }
 {
     text.split_once("//")
 }

@@ -55,7 +55,8 @@ impl Draft {
         key: &str,
         value: Option<&str>,
     ) -> Result<Result<Draft, SpecFault>, OutOfMemory>
-        ensures { IfOk result (λ r. r ≡ with_key self key.now (option_map (λ v. v.now) value.entry)) }
+        ensures { IfOk result (λ r.
+            r ≡ with_key self key.now (option_map (λ v. v.now) value.entry)) }
     {
         if is_bad_key(key) {
             Ok(Err(SpecFault::BadKey))
@@ -90,7 +91,8 @@ impl Draft {
         alloc: Global,
         value: Option<&str>,
     ) -> Result<Result<Draft, SpecFault>, OutOfMemory>
-        ensures { IfOk result (λ r. r ≡ with_socket self (option_and_then address_in (option_map (λ v. v.now) value.entry))) }
+        ensures { IfOk result (λ r.
+            r ≡ with_socket self (option_and_then address_in (option_map (λ v. v.now) value.entry))) }
     {
         let Some(value) = value else {
             return Ok(Err(SpecFault::BadKey));
@@ -135,7 +137,8 @@ impl Draft {
         key: &str,
         value: Option<&str>,
     ) -> Result<Result<Draft, SpecFault>, OutOfMemory>
-        ensures { IfOk result (λ r. r ≡ with_pair self (cut_at 58 key.now) (option_map (λ v. v.now) value.entry)) }
+        ensures { IfOk result (λ r.
+            r ≡ with_pair self (cut_at 58 key.now) (option_map (λ v. v.now) value.entry)) }
     {
         match cut_at(':', key) {
             Some((kind, name)) if kind == "env" && !name.is_empty() => {
@@ -151,7 +154,8 @@ impl Draft {
         name: &str,
         value: Option<&str>,
     ) -> Result<Result<Draft, SpecFault>, OutOfMemory>
-        ensures { IfOk result (λ r. r ≡ with_variable self name.now (option_map (λ v. v.now) value.entry)) }
+        ensures { IfOk result (λ r.
+            r ≡ with_variable self name.now (option_map (λ v. v.now) value.entry)) }
     {
         let Some(value) = value else {
             return Ok(Err(SpecFault::BadKey));

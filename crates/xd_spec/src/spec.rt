@@ -18,7 +18,8 @@ impl Spec {
     /// The place that the spec names.
     pub fn parse(alloc: Global, text: &Text) -> Result<Place, SpecFault>
         ensures read { IfOk result (λ p. spec_of (encode_utf8_all text.now) ≡ Ok p) }
-        ensures refused { IfErr result (λ f. f ≢ NoMemory → spec_of (encode_utf8_all text.now) ≡ Err f) }
+        ensures refused { IfErr result (λ f. f ≢ NoMemory →
+            spec_of (encode_utf8_all text.now) ≡ Err f) }
     {
         match place_in(alloc, text.as_str()) {
             Ok(read) => read,

@@ -19,7 +19,8 @@ const MAX_WORKERS: u32 = 32;
 pub fn expand_tx(alloc: Global, texts: &[Text]) -> Result<Vec<Place>, SpecFault>
     ensures read { IfOk result (λ ps. tx_of (map encode_utf8_all texts.now) ≡ Ok ps.items) }
     ensures few { IfOk result (λ ps. length ps.items ≤ 32) }
-    ensures refused { IfErr result (λ f. f ≢ NoMemory → tx_of (map encode_utf8_all texts.now) ≡ Err f) }
+    ensures refused { IfErr result (λ f. f ≢ NoMemory →
+        tx_of (map encode_utf8_all texts.now) ≡ Err f) }
 {
     let places = match places_of(alloc, texts) {
         Ok(Ok(places)) => places,
@@ -87,7 +88,8 @@ fn add_copies(
 
 // How many workers a word is for, and its spec.
 fn counted(word: &str) -> Result<(u32, &str), SpecFault>
-    ensures { MatchResult result (λ p. count_and_spec word.now ≡ Ok (p.0, p.1.now)) (λ f. count_and_spec word.now ≡ Err f) }
+    ensures { MatchResult result (λ p. count_and_spec word.now ≡ Ok (p.0, p.1.now)) (λ f.
+        count_and_spec word.now ≡ Err f) }
 {
     match cut_at('*', word) {
         Some((count, spec)) if all_digits(count) => match number_in(MAX_WORKERS, count) {

@@ -69,7 +69,9 @@ fn ask(
     requires seated { in_rota worker ledger.now ≡ true }
     requires enough { count ≤ length (held worker ledger.now) }
     ensures open { OnOk result (asked.new ≡ Some worker) }
-    ensures asks { OnOk result (acts.new.items ≡ acts.old.items ++ Steal worker (last_of count (held worker ledger.now)) ∷ []) }
+    ensures asks { OnOk result
+        (acts.new.items ≡ acts.old.items
+        ++ Steal worker (last_of count (held worker ledger.now)) ∷ []) }
 {
     let indices = ledger.last_items(alloc, worker, count)?;
     acts.push(Entry::Steal { worker, indices })?;
@@ -88,7 +90,8 @@ fn ask_or_shut(
     requires seats { all_distinct (workers_of ledger.old) ≡ true }
     requires seated { all_among workers.now (workers_of ledger.old) ≡ true }
     ensures { OnOk result ((p : Plan) → StandsFor asked.old p →
-        MatchesTurn (asks_or_shuts workers.now (victim ledger.old) (turn ledger.old p acts.old.items)) ledger.new acts.new.items asked.new) }
+        MatchesTurn (asks_or_shuts workers.now (victim ledger.old)
+        (turn ledger.old p acts.old.items)) ledger.new acts.new.items asked.new) }
 {
     let Some(worker) = victim(ledger) else {
         return shut_all(workers, ledger, acts);
@@ -110,7 +113,8 @@ fn after_dealing(
 ) -> Result<(), OutOfMemory>
     requires { all_distinct (workers_of ledger.old) ≡ true }
     ensures { OnOk result ((p : Plan) → StandsFor asked.old p →
-        MatchesTurn (after_dealing (turn ledger.old p acts.old.items)) ledger.new acts.new.items asked.new) }
+        MatchesTurn (after_dealing (turn ledger.old p acts.old.items)) ledger.new acts.new.items
+        asked.new) }
 {
     let workers = idle(alloc, ledger)?;
     if workers.items.is_empty() || asked.is_some() {

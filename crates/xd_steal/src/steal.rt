@@ -28,7 +28,8 @@ fn asked_without(worker: u32, asked: Option<u32>) -> Option<u32>
 impl Steal {
     /// The mode at the start of a run: no steal is open.
     pub fn new() -> Steal
-        ensures { (p : Plan) → p.mode ≡ WorkSteal → p.steal ≡ None → ⟦<Steal as Mode>⟧.stands result p }
+        ensures { (p : Plan) → p.mode ≡ WorkSteal → p.steal ≡ None →
+            ⟦<Steal as Mode>⟧.stands result p }
     {
         Steal { asked: None }
     }

@@ -15,7 +15,8 @@ pub(crate) const ENOUGH: u32 = 2;
 // The worker may be told and is idle.
 fn is_idle(worker: u32, ledger: &Ledger) -> bool
     requires { in_rota worker ledger.now ≡ true }
-    ensures { result ≡ (not (seat_shut worker ledger.now) && nat_lt (length (held worker ledger.now)) enough) }
+    ensures { result ≡ (not (seat_shut worker ledger.now) && nat_lt
+        (length (held worker ledger.now)) enough) }
 {
     !ledger.is_shut(worker) && ledger.held_len(worker) < ENOUGH
 }
@@ -62,7 +63,8 @@ fn most(ledger: &Ledger) -> u32
 // The worker may be told and holds that many.
 fn holds_open(worker: u32, count: u32, ledger: &Ledger) -> bool
     requires { in_rota worker ledger.now ≡ true }
-    ensures { result ≡ (not (seat_shut worker ledger.now) && (length (held worker ledger.now) == count)) }
+    ensures { result ≡ (not (seat_shut worker ledger.now) &&
+        (length (held worker ledger.now) == count)) }
 {
     !ledger.is_shut(worker) && ledger.held_len(worker) == count
 }

@@ -21,7 +21,8 @@ use xd_edge::{MAX_TESTS, OutOfMemory, Text, Texts};
 /// The tests of a file, or its first fault.
 pub fn read_suite(alloc: Global, table: &Table) -> Result<Vec<Test>, SuiteRefusal>
     ensures good { IfOk result (λ _. broken_rule (table_view table.now) ≡ None) }
-    ensures tests { IfOk result (λ tests. tests.items ≡ tests_of (test_items (table_view table.now))) }
+    ensures tests { IfOk result (λ tests.
+        tests.items ≡ tests_of (test_items (table_view table.now))) }
     ensures runs { IfOk result (λ tests. All (λ t. 0 < length t.run) tests.items) }
     ensures few { IfOk result (λ tests. length tests.items ≤ most_tests) }
     ensures new_ids { IfOk result (λ tests. fault_of_ids tests.items ≡ None) }
@@ -69,10 +70,13 @@ fn read_tests(alloc: Global, array: &Array) -> Result<Vec<Test>, SuiteRefusal>
 
 // The test, or the first rule that it breaks.
 fn read_test(alloc: Global, value: &Value) -> Result<Result<Test, SuiteWhat>, OutOfMemory>
-    ensures test { IfOk result (λ read. IfOk read (λ t. t ≡ test_of (members_of (view value.now)))) }
-    ensures good { IfOk result (λ read. IfOk read (λ _. fault_of_test (members_of (view value.now)) ≡ None)) }
+    ensures test { IfOk result (λ read.
+        IfOk read (λ t. t ≡ test_of (members_of (view value.now)))) }
+    ensures good { IfOk result (λ read.
+        IfOk read (λ _. fault_of_test (members_of (view value.now)) ≡ None)) }
     ensures run { IfOk result (λ read. IfOk read (λ t. 0 < length t.run)) }
-    ensures refused { IfOk result (λ read. IfErr read (λ what. fault_of_test (members_of (view value.now)) ≡ Some what)) }
+    ensures refused { IfOk result (λ read.
+        IfErr read (λ what. fault_of_test (members_of (view value.now)) ≡ Some what)) }
 {
     // What is no table has no key. A file with such a test was refused before.
     let Some(table) = value.as_table() else {

@@ -28,7 +28,8 @@ impl Model for Suite {
 
     ghost view = { λ s. s.tests.items };
 
-    ghost invariant = { λ s. (length s.tests.items ≤ most_tests) × All (λ t. 0 < length t.run) s.tests.items × (fault_of_ids s.tests.items ≡ None) };
+    ghost invariant = { λ s. (length s.tests.items ≤ most_tests)
+        × All (λ t. 0 < length t.run) s.tests.items × (fault_of_ids s.tests.items ≡ None) };
 }
 
 impl Suite {

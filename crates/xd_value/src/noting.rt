@@ -117,7 +117,8 @@ fn note_dict(
     pairs: &[(Value, Value)],
     room: u32,
 ) -> Result<bool, AllocError>
-    ensures shallow { IfOk result (λ b. b ≡ not (nat_lt room (depth (dict (pair_views pairs.now))))) }
+    ensures shallow { IfOk result (λ b.
+        b ≡ not (nat_lt room (depth (dict (pair_views pairs.now))))) }
     ensures noted { IfOk result (λ b. b ≡ true
         → Noted faults.old faults.new (λ x. all_pass x (dict (pair_views pairs.now)))) }
 {
@@ -137,7 +138,8 @@ fn note_pairs(
     pairs: &[(Value, Value)],
     room: u32,
 ) -> Result<bool, AllocError>
-    ensures shallow { IfOk result (λ b. b ≡ not (nat_lt room (depth (dict (pair_views pairs.now))))) }
+    ensures shallow { IfOk result (λ b.
+        b ≡ not (nat_lt room (depth (dict (pair_views pairs.now))))) }
     ensures noted { IfOk result (λ b. b ≡ true
         → Noted faults.old faults.new (λ x. pairs_pass x (pair_views pairs.now))) }
 {

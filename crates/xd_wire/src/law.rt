@@ -9,8 +9,10 @@ use xd_value::{fault_law, prefix_law};
 
 /// Each file of messages has a text, and no other, and it has a fault or none.
 pub fn a_file_has_one_text()
-    ensures some { (bytes : List ℕ) → AreBytes bytes → (text : List ℕ) × (faulty : Bool) × IsWireText bytes text faulty }
-    ensures one { (bytes a b : List ℕ) (e f : Bool) → IsWireText bytes a e → IsWireText bytes b f → (a ≡ b) × (e ≡ f) }
+    ensures some { (bytes : List ℕ) → AreBytes bytes →
+        (text : List ℕ) × (faulty : Bool) × IsWireText bytes text faulty }
+    ensures one { (bytes a b : List ℕ) (e f : Bool) → IsWireText bytes a e → IsWireText bytes b f →
+        (a ≡ b) × (e ≡ f) }
 {
     messages_are_the_longest();
     fault_law();

@@ -60,7 +60,8 @@ fn reads_value(kind: Kind) -> bool
 
 /// Makes the string the name of a message, its channel and the length of its payload.
 fn write_start(line: &mut String, header: Header) -> Result<(), OutOfMemory>
-    ensures { OnOk result (string_bytes line.new ≡ line_start header.kind header.channel header.length) }
+    ensures { OnOk result (string_bytes line.new ≡ line_start header.kind header.channel
+        header.length) }
 {
     line.clear();
     line.push_str(name_of_kind(header.kind))?;

@@ -31,9 +31,11 @@ pub fn print_messages<O: Sink>(
     // The file has a text, and the answer says whether a fault ends it.
     ensures text { IfOk result (HasText bytes.now) }
     // What the output took is that text, or a first part of it.
-    ensures prints { (text : List ℕ) (faulty : Bool) → IsWireText bytes.now text faulty → Prints result text faulty (O.sunk out.old) (O.sunk out.new) }
+    ensures prints { (text : List ℕ) (faulty : Bool) → IsWireText bytes.now text faulty →
+        Prints result text faulty (O.sunk out.old) (O.sunk out.new) }
     ensures failed { result ≡ Ok WireEnd.OutFailed → Rose (O.faults out.old) (O.faults out.new) }
-    ensures still { IfOk result (λ how. how ≢ WireEnd.OutFailed → O.faults out.new ≡ O.faults out.old) }
+    ensures still { IfOk result (λ how. how ≢ WireEnd.OutFailed →
+        O.faults out.new ≡ O.faults out.old) }
     ensures later { O.faults out.old ≤ O.faults out.new }
 {
     let written = write_lines(alloc, bytes, out)?;
@@ -63,7 +65,8 @@ fn write_lines<O: Sink>(
     out: &mut O,
 ) -> Result<Result<bool, Failed>, OutOfMemory>
     ensures leaves { Leaves result (texts_at bytes.now 0) (O.sunk out.old) (O.sunk out.new) }
-    ensures failed { IfOk result (λ written. OnErr written (Rose (O.faults out.old) (O.faults out.new))) }
+    ensures failed { IfOk result (λ written.
+        OnErr written (Rose (O.faults out.old) (O.faults out.new))) }
     ensures still { IfOk result (λ written. OnOk written (O.faults out.new ≡ O.faults out.old)) }
     ensures later { O.faults out.old ≤ O.faults out.new }
 {

@@ -17,7 +17,8 @@ pub fn main_matches<'a, 'b>(
     alloc: Global,
     words: &'a [&'b str],
 ) -> Result<Option<ArgMatches<'a>>, OutOfMemory>
-    ensures { IfOk result (λ r. option_map (λ m. rows_of (found_of m)) r ≡ rows_in main_app (map (λ w. w.now) words.now)) }
+    ensures { IfOk result (λ r.
+        option_map (λ m. rows_of (found_of m)) r ≡ rows_in main_app (map (λ w. w.now) words.now)) }
 {
     let command = main_command(alloc)?;
     let matches = matches_in(command, words)?;
@@ -29,7 +30,8 @@ pub fn wire_matches<'a, 'b>(
     alloc: Global,
     words: &'a [&'b str],
 ) -> Result<Option<ArgMatches<'a>>, OutOfMemory>
-    ensures { IfOk result (λ r. option_map (λ m. rows_of (found_of m)) r ≡ rows_in wire_app (map (λ w. w.now) words.now)) }
+    ensures { IfOk result (λ r.
+        option_map (λ m. rows_of (found_of m)) r ≡ rows_in wire_app (map (λ w. w.now) words.now)) }
 {
     let command = wire_command(alloc)?;
     let matches = matches_in(command, words)?;
@@ -41,7 +43,8 @@ pub fn worker_matches<'a, 'b>(
     alloc: Global,
     words: &'a [&'b str],
 ) -> Result<Option<ArgMatches<'a>>, OutOfMemory>
-    ensures { IfOk result (λ r. option_map (λ m. rows_of (found_of m)) r ≡ rows_in worker_app (map (λ w. w.now) words.now)) }
+    ensures { IfOk result (λ r.
+        option_map (λ m. rows_of (found_of m)) r ≡ rows_in worker_app (map (λ w. w.now) words.now)) }
 {
     let matches = matches_in(worker_command(alloc), words)?;
     Ok(matches)
@@ -52,7 +55,9 @@ pub fn socketserver_matches<'a, 'b>(
     alloc: Global,
     words: &'a [&'b str],
 ) -> Result<Option<ArgMatches<'a>>, OutOfMemory>
-    ensures { IfOk result (λ r. option_map (λ m. rows_of (found_of m)) r ≡ rows_in socketserver_app (map (λ w. w.now) words.now)) }
+    ensures { IfOk result (λ r.
+        option_map (λ m. rows_of (found_of m)) r ≡ rows_in socketserver_app
+        (map (λ w. w.now) words.now)) }
 {
     let command = socketserver_command(alloc)?;
     let matches = matches_in(command, words)?;
@@ -65,7 +70,9 @@ fn matches_in<'a, 'b>(
     words: &'a [&'b str],
 ) -> Result<Option<ArgMatches<'a>>, OutOfMemory>
     requires { is_simple_and_free (app_of command) ≡ true }
-    ensures { IfOk result (λ r. option_map (λ m. rows_of (found_of m)) r ≡ rows_in (app_of command.entry) (map (λ w. w.now) words.now)) }
+    ensures { IfOk result (λ r.
+        option_map (λ m. rows_of (found_of m)) r ≡ rows_in (app_of command.entry)
+        (map (λ w. w.now) words.now)) }
 {
     match command.try_get_matches_from(words) {
         Ok(matches) => Ok(Some(matches)),
@@ -103,7 +110,8 @@ pub fn flag(matches: &ArgMatches, id: &str) -> bool
 
 /// The values of an option that may stand several times.
 pub fn values(alloc: Global, matches: &ArgMatches, id: &str) -> Result<Texts, OutOfMemory>
-    ensures { IfOk result (λ texts. texts ≡ texts_of (all_of id.now (rows_of (found_of matches.now)))) }
+    ensures { IfOk result (λ texts.
+        texts ≡ texts_of (all_of id.now (rows_of (found_of matches.now)))) }
 {
     match strings(matches, id) {
         Some(values) => {
@@ -117,7 +125,8 @@ pub fn values(alloc: Global, matches: &ArgMatches, id: &str) -> Result<Texts, Ou
 }
 
 fn strings<'a, 'b>(matches: &'b ArgMatches<'a>, id: &str) -> Option<&'b [&'a str]>
-    ensures { option_map (λ s. map (λ v. v.now) s.now) result ≡ all_of id.now (rows_of (found_of matches.now)) }
+    ensures { option_map (λ s. map (λ v. v.now) s.now) result ≡ all_of id.now
+        (rows_of (found_of matches.now)) }
 {
     matches.get_strs(id)
 }

@@ -102,7 +102,8 @@ fn plan_of_texts(alloc: Global, words: &[&str]) -> Result<Plan, OutOfMemory>
 }
 
 fn worker_plan(alloc: Global, words: &[&str]) -> Result<Plan, OutOfMemory>
-    ensures plan { IfOk result (λ plan. plan ≡ worker_plan (rows_in worker_app (map (λ w. w.now) words.now))) }
+    ensures plan { IfOk result (λ plan.
+        plan ≡ worker_plan (rows_in worker_app (map (λ w. w.now) words.now))) }
     ensures fits { IfOk result Fits }
 {
     match worker_matches(alloc, words)? {
@@ -112,7 +113,8 @@ fn worker_plan(alloc: Global, words: &[&str]) -> Result<Plan, OutOfMemory>
 }
 
 fn wire_plan(alloc: Global, words: &[&str]) -> Result<Plan, OutOfMemory>
-    ensures plan { IfOk result (λ plan. plan ≡ wire_plan (rows_in wire_app (map (λ w. w.now) words.now))) }
+    ensures plan { IfOk result (λ plan.
+        plan ≡ wire_plan (rows_in wire_app (map (λ w. w.now) words.now))) }
     ensures fits { IfOk result Fits }
 {
     let Some(matches) = wire_matches(alloc, words)? else {
@@ -127,7 +129,8 @@ fn wire_plan(alloc: Global, words: &[&str]) -> Result<Plan, OutOfMemory>
 }
 
 fn socketserver_plan(alloc: Global, words: &[&str]) -> Result<Plan, OutOfMemory>
-    ensures plan { IfOk result (λ plan. plan ≡ socketserver_plan (rows_in socketserver_app (map (λ w. w.now) words.now))) }
+    ensures plan { IfOk result (λ plan.
+        plan ≡ socketserver_plan (rows_in socketserver_app (map (λ w. w.now) words.now))) }
     ensures fits { IfOk result Fits }
 {
     let Some(matches) = socketserver_matches(alloc, words)? else {
@@ -150,7 +153,8 @@ fn serve_at(alloc: Global, address: &str) -> Result<Plan, OutOfMemory>
 }
 
 fn main_plan(alloc: Global, words: &[&str]) -> Result<Plan, OutOfMemory>
-    ensures plan { IfOk result (λ plan. plan ≡ main_plan (rows_in main_app (map (λ w. w.now) words.now))) }
+    ensures plan { IfOk result (λ plan.
+        plan ≡ main_plan (rows_in main_app (map (λ w. w.now) words.now))) }
     ensures fits { IfOk result Fits }
 {
     match main_matches(alloc, words)? {

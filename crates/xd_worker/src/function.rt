@@ -86,7 +86,8 @@ fn call_of(
     kwargs: &Value,
     started: bool,
 ) -> Result<Called, OutOfMemory>
-    ensures { IfOk result (λ c. c ≡ call_of started (view source.now) (view file.now) (view name.now) (view kwargs.now)) }
+    ensures { IfOk result (λ c.
+        c ≡ call_of started (view source.now) (view file.now) (view name.now) (view kwargs.now)) }
 {
     if is_plain(source, file) {
         let called = named(name, kwargs, started)?;

@@ -44,8 +44,10 @@ pub fn send(
     number: u32,
     value: &Value,
 ) -> Result<Sent, OutOfMemory>
-    ensures talk { OnOk result (talk_of side.new say.new ≡ sent number (view value.now) (talk_of side.old say.old)) }
-    ensures how { IfOk result (λ how. how ≡ sent_how (payload_on number (view value.now) (channel_table side.old))) }
+    ensures talk { OnOk result
+        (talk_of side.new say.new ≡ sent number (view value.now) (talk_of side.old say.old)) }
+    ensures how { IfOk result (λ how.
+        how ≡ sent_how (payload_on number (view value.now) (channel_table side.old))) }
 {
     match side.send(number, value) {
         Ok(message) => {
@@ -66,7 +68,8 @@ pub fn tell(
     number: u32,
     event: &What,
 ) -> Result<(), OutOfMemory>
-    ensures { OnOk result (talk_of side.new say.new ≡ event_told number event.now (talk_of side.old say.old)) }
+    ensures { OnOk result (talk_of side.new say.new ≡ event_told number event.now
+        (talk_of side.old say.old)) }
 {
     match event {
         What::Ready
@@ -85,7 +88,9 @@ pub fn tell(
 
 // The log of a test that starts opens.
 fn open_if_start(side: &mut Side, event: &What) -> Result<(), OutOfMemory>
-    ensures { (says : List MessageView) → AllOpen (logs_opened_by event.now (channel_table side.old)) → OnOk result (talk_of side.new says ≡ opening event.now (talk_of side.old says)) }
+    ensures { (says : List MessageView) →
+        AllOpen (logs_opened_by event.now (channel_table side.old)) →
+        OnOk result (talk_of side.new says ≡ opening event.now (talk_of side.old says)) }
 {
     match event {
         What::LogStart { .. } => open_log(side),
@@ -101,7 +106,9 @@ pub fn announce(
     number: u32,
     event: &What,
 ) -> Result<(), OutOfMemory>
-    ensures { AllOpen (logs_opened_by event.now (channel_table side.old)) → OnOk result (talk_of side.new say.new ≡ event_told number event.now (opening event.now (talk_of side.old say.old))) }
+    ensures { AllOpen (logs_opened_by event.now (channel_table side.old)) →
+        OnOk result (talk_of side.new say.new ≡ event_told number event.now
+        (opening event.now (talk_of side.old say.old))) }
 {
     open_if_start(side, event)?;
     tell(alloc, side, say, number, event)
@@ -114,7 +121,8 @@ pub fn send_piece(
     number: u32,
     piece: Blob,
 ) -> Result<(), OutOfMemory>
-    ensures { OnOk result (talk_of side.new say.new ≡ sent number (bytes piece) (talk_of side.old say.old)) }
+    ensures { OnOk result (talk_of side.new say.new ≡ sent number (bytes piece)
+        (talk_of side.old say.old)) }
 {
     let value = Value::Bytes(piece);
     let _ = send(side, say, number, &value)?;
@@ -123,7 +131,8 @@ pub fn send_piece(
 
 /// Opens the channel of a log, where it can open.
 fn open_log(side: &mut Side) -> Result<(), OutOfMemory>
-    ensures { (number : ℕ) → CanOpen number (channel_table side.old) → OnOk result (channel_table side.new ≡ opened (channel_table side.old)) }
+    ensures { (number : ℕ) → CanOpen number (channel_table side.old) →
+        OnOk result (channel_table side.new ≡ opened (channel_table side.old)) }
 {
     // Whether it can is told by how many channels there are.
     prove!(side.status() <= xd_factory::MAX_ENTRIES);
@@ -139,8 +148,11 @@ fn open_log(side: &mut Side) -> Result<(), OutOfMemory>
 
 // Closes a channel.
 fn close(side: &mut Side, say: &mut Messages, number: u32) -> Result<(), OutOfMemory>
-    ensures table { OnOk result (channel_table side.new ≡ changed_at number closed_slot (channel_table side.old)) }
-    ensures says { OnOk result (say.new ≡ say.old ++ option_to_list (close_says number None ((channel_table side.old).slot number))) }
+    ensures table { OnOk result
+        (channel_table side.new ≡ changed_at number closed_slot (channel_table side.old)) }
+    ensures says { OnOk result
+        (say.new ≡ say.old ++ option_to_list
+        (close_says number None ((channel_table side.old).slot number))) }
 {
     match side.close(number, None) {
         Ok(Some(message)) => {
@@ -157,7 +169,8 @@ fn close(side: &mut Side, say: &mut Messages, number: u32) -> Result<(), OutOfMe
 
 // Drops what waits on a channel. The number leaves the table.
 fn drop_channel(side: &mut Side, number: u32) -> Result<(), OutOfMemory>
-    ensures { OnOk result (channel_table side.new ≡ changed_at number function_ended_slot (channel_table side.old)) }
+    ensures { OnOk result (channel_table side.new ≡ changed_at number function_ended_slot
+        (channel_table side.old)) }
 {
     let Err(fault) = side.end_function(number, None) else {
         return Ok(());
@@ -189,7 +202,8 @@ pub fn end_function(
     other: Option<Text>,
 ) -> Result<(), OutOfMemory>
     requires { is_long other ≡ false }
-    ensures { OnOk result (talk_of side.new say.new ≡ function_ended number text other (talk_of side.old say.old)) }
+    ensures { OnOk result (talk_of side.new say.new ≡ function_ended number text other
+        (talk_of side.old say.old)) }
 {
     match side.end_function(number, text) {
         Ok(message) => {
@@ -213,8 +227,11 @@ fn end_shortly(
     text: Option<Text>,
 ) -> Result<(), OutOfMemory>
     requires { is_long text ≡ false }
-    ensures table { OnOk result (channel_table side.new ≡ changed_at number function_ended_slot (channel_table side.old)) }
-    ensures says { OnOk result (say.new ≡ say.old ++ (if is_seen ((channel_table side.old).slot number) then closing_message number text ∷ [] else [])) }
+    ensures table { OnOk result
+        (channel_table side.new ≡ changed_at number function_ended_slot (channel_table side.old)) }
+    ensures says { OnOk result
+        (say.new ≡ say.old ++ (if is_seen
+        ((channel_table side.old).slot number) then closing_message number text ∷ [] else [])) }
 {
     match side.end_function(number, text) {
         Ok(message) => {
@@ -243,7 +260,8 @@ pub fn tell_status(
     functions: usize,
 ) -> Result<(), OutOfMemory>
     requires { number ≤ 2147483647 }
-    ensures { OnOk result ((side : Side) → talk_of side say.new ≡ status_told number channels functions (talk_of side say.old)) }
+    ensures { OnOk result ((side : Side) →
+        talk_of side say.new ≡ status_told number channels functions (talk_of side say.old)) }
 {
     let value = status_value(alloc, channels, functions)?;
     match dumps(alloc, &value) {

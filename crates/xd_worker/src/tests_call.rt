@@ -39,7 +39,8 @@ impl TestsCall {
 
     // A table with that many channels is not full, the log of the running test apart.
     fn has_room(&self, channels: u32) -> bool
-        ensures { (s : Service) (i : Input) → IsService self.now s → result ≡ (given_in s i channels).room }
+        ensures { (s : Service) (i : Input) → IsService self.now s →
+            result ≡ (given_in s i channels).room }
     {
         let others = match self.runs() {
             None => channels,
@@ -50,7 +51,8 @@ impl TestsCall {
 
     fn feed(&mut self, input: Input, channels: u32) -> Result<Fed, OutOfMemory>
         requires { CanTake input }
-        ensures { (s : Service) → IsService self.old s → IfOk result (λ fed. FedBy (Some self.new) s (given_in s input channels) fed) }
+        ensures { (s : Service) → IsService self.old s →
+            IfOk result (λ fed. FedBy (Some self.new) s (given_in s input channels) fed) }
     {
         let room = self.has_room(channels);
         let acts = self.function.step(input, room)?;
@@ -71,7 +73,8 @@ pub fn feed(
     channels: u32,
 ) -> Result<Option<Fed>, OutOfMemory>
     requires { CanTake input }
-    ensures { (s : Option Service) → AreServices tests_call.old s → IfOk result (HasFed tests_call.new s input channels) }
+    ensures { (s : Option Service) → AreServices tests_call.old s →
+        IfOk result (HasFed tests_call.new s input channels) }
 {
     match tests_call {
         None => Ok(None),

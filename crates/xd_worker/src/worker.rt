@@ -71,14 +71,20 @@ impl WorkerCore {
 
     /// One input. After a fault each input is answered by the same fault.
     pub fn step(&mut self, input: WorkerInput) -> Result<WorkerActions, WorkerFault>
-        ensures answers { (h : List Heard) → StandsFor self.old h → IfOk result (Answers self.new (worker_after h) input) }
-        ensures refused { (h : List Heard) → StandsFor self.old h → IfErr result (FaultHasReason (worker_after h) input) }
-        ensures refuses { (h : List Heard) (fault : SideFault) → StandsFor self.old h → IsToRefuse (worker_after h) input fault → IsThisFault fault result }
-        ensures failed { (fault : WorkerFault) → fault_in self.old ≡ Some fault → (result ≡ Err fault) × (self.new ≡ self.old) }
+        ensures answers { (h : List Heard) → StandsFor self.old h →
+            IfOk result (Answers self.new (worker_after h) input) }
+        ensures refused { (h : List Heard) → StandsFor self.old h →
+            IfErr result (FaultHasReason (worker_after h) input) }
+        ensures refuses { (h : List Heard) (fault : SideFault) → StandsFor self.old h →
+            IsToRefuse (worker_after h) input fault → IsThisFault fault result }
+        ensures failed { (fault : WorkerFault) → fault_in self.old ≡ Some fault →
+            (result ≡ Err fault) × (self.new ≡ self.old) }
         ensures fails { IfErr result (λ fault. fault_in self.new ≡ Some fault) }
-        ensures asked { (h : List Heard) → StandsFor self.old h → IfErr result (λ fault. AskedAtFault self.new (worker_after h)) }
+        ensures asked { (h : List Heard) → StandsFor self.old h →
+            IfErr result (λ fault. AskedAtFault self.new (worker_after h)) }
         ensures stood { Stood self.old → OnOk result (Stood self.new) }
-        ensures command { Stood self.old → IfOk result (λ acts. (test : ℕ) → acts.run ≡ Some test → HasTest self.new test) }
+        ensures command { Stood self.old →
+            IfOk result (λ acts. (test : ℕ) → acts.run ≡ Some test → HasTest self.new test) }
     {
         if let Some(fault) = self.fault {
             return Err(fault);
@@ -104,9 +110,12 @@ impl WorkerCore {
     }
 
     fn answer(&mut self, input: WorkerInput) -> Result<WorkerActions, WorkerFault>
-        ensures answers { (w : Worker) → IsWorker self.old w → LogsOpen w → IfOk result (Answers self.new w input) }
-        ensures refused { (w : Worker) → IsWorker self.old w → IfErr result (FaultHasReason w input) }
-        ensures refuses { (w : Worker) (fault : SideFault) → IsWorker self.old w → IsToRefuse w input fault → IsThisFault fault result }
+        ensures answers { (w : Worker) → IsWorker self.old w → LogsOpen w →
+            IfOk result (Answers self.new w input) }
+        ensures refused { (w : Worker) → IsWorker self.old w →
+            IfErr result (FaultHasReason w input) }
+        ensures refuses { (w : Worker) (fault : SideFault) → IsWorker self.old w →
+            IsToRefuse w input fault → IsThisFault fault result }
     {
         let mut acts = WorkerActions {
             say: Messages {
@@ -125,9 +134,12 @@ impl WorkerCore {
     }
 
     fn take(&mut self, acts: &mut WorkerActions, input: WorkerInput) -> Result<(), WorkerFault>
-        ensures does { (w : Worker) → Stands self.old acts.old (turn_of w) → LogsOpen w → OnOk result (Does self.new acts.new w input) }
-        ensures refused { (w : Worker) → Stands self.old acts.old (turn_of w) → IfErr result (FaultHasReason w input) }
-        ensures refuses { (w : Worker) (fault : SideFault) → Stands self.old acts.old (turn_of w) → IsToRefuse w input fault → IsThisFault fault result }
+        ensures does { (w : Worker) → Stands self.old acts.old (turn_of w) → LogsOpen w →
+            OnOk result (Does self.new acts.new w input) }
+        ensures refused { (w : Worker) → Stands self.old acts.old (turn_of w) →
+            IfErr result (FaultHasReason w input) }
+        ensures refuses { (w : Worker) (fault : SideFault) → Stands self.old acts.old (turn_of w) →
+            IsToRefuse w input fault → IsThisFault fault result }
     {
         match input {
             WorkerInput::Message(message) => self.take_message(acts, message),
@@ -161,7 +173,8 @@ impl WorkerCore {
     /// A suite file was asked for, and neither its bytes nor a refusal came yet. After a fault it says what it said
     /// before.
     pub fn awaits_suite(&self) -> bool
-        ensures owed { (h : List Heard) → StandsFor self.now h → result ≡ (worker_after h).duties.owed }
+        ensures owed { (h : List Heard) → StandsFor self.now h →
+            result ≡ (worker_after h).duties.owed }
         ensures at_fault { (w : Worker) → AskedAtFault self.now w → result ≡ w.duties.owed }
     {
         match self.fault_asked() {
@@ -172,9 +185,12 @@ impl WorkerCore {
 
     /// The test that runs. After a fault it says what it said before.
     pub fn runs(&self) -> Option<u32>
-        ensures running { (h : List Heard) → StandsFor self.now h → result ≡ running_in (worker_after h).duties.service }
-        ensures command { (h : List Heard) (test : ℕ) → StandsFor self.now h → result ≡ Some test → HasTest self.now test }
-        ensures at_fault { (w : Worker) → AskedAtFault self.now w → result ≡ running_in w.duties.service }
+        ensures running { (h : List Heard) → StandsFor self.now h →
+            result ≡ running_in (worker_after h).duties.service }
+        ensures command { (h : List Heard) (test : ℕ) → StandsFor self.now h → result ≡ Some test →
+            HasTest self.now test }
+        ensures at_fault { (w : Worker) → AskedAtFault self.now w →
+            result ≡ running_in w.duties.service }
     {
         match self.fault_asked() {
             Some(asked) => asked.test,
@@ -195,7 +211,8 @@ impl WorkerCore {
 
     // The worker is to end, and no test runs.
     fn is_over(&self) -> bool
-        ensures { (d : Duties) → AreDuties self.now d → result ≡ (d.stopped && is_none (running_in d.service)) }
+        ensures { (d : Duties) → AreDuties self.now d →
+            result ≡ (d.stopped && is_none (running_in d.service)) }
     {
         self.stopped && self.running().is_none()
     }
@@ -212,7 +229,8 @@ impl WorkerCore {
     /// The program of a test of the suite that was read, with its arguments.
     pub fn command(&self, test: u32) -> &[Text]
         requires { HasTest self.now test }
-        ensures run { (h : List Heard) → StandsFor self.now h → result.now ≡ run_at (worker_after h).duties.tests test }
+        ensures run { (h : List Heard) → StandsFor self.now h →
+            result.now ≡ run_at (worker_after h).duties.tests test }
         ensures program { 0 < length result.now }
     {
         match &self.suite {
@@ -230,7 +248,8 @@ impl WorkerCore {
 
     // The function of `run_tests` has ended.
     fn end_service(&mut self)
-        ensures { (a : WorkerActions) (t : Turn) → Stands self.old a t → Stands self.new a (ended_service t) }
+        ensures { (a : WorkerActions) (t : Turn) → Stands self.old a t →
+            Stands self.new a (ended_service t) }
     {
         if let Some(tests_call) = &mut self.tests_call {
             tests_call.ended = true;
@@ -239,7 +258,8 @@ impl WorkerCore {
 
     // Does what `run_tests` asks for.
     fn carry(&mut self, acts: &mut WorkerActions, channel: u32, ask: Ask) -> Result<(), OutOfMemory>
-        ensures { (t : Turn) → Stands self.old acts.old t → AllOpen (asked channel ask t).logs → OnOk result (Stands self.new acts.new (asked channel ask t)) }
+        ensures { (t : Turn) → Stands self.old acts.old t → AllOpen (asked channel ask t).logs →
+            OnOk result (Stands self.new acts.new (asked channel ask t)) }
     {
         match ask {
             Ask::Tell(event) => {
@@ -268,7 +288,9 @@ impl WorkerCore {
         channel: u32,
         asks: Vec<Ask>,
     ) -> Result<(), OutOfMemory>
-        ensures { (t : Turn) → Stands self.old acts.old t → AllOpen (all_asked channel asks.items t).logs → OnOk result (Stands self.new acts.new (all_asked channel asks.items t)) }
+        ensures { (t : Turn) → Stands self.old acts.old t →
+            AllOpen (all_asked channel asks.items t).logs →
+            OnOk result (Stands self.new acts.new (all_asked channel asks.items t)) }
     {
         for ask in asks {
             self.carry(acts, channel, ask)?;
@@ -284,7 +306,8 @@ impl WorkerCore {
         channels: u32,
     ) -> Result<(), OutOfMemory>
         requires { CanTake input }
-        ensures { (t : Turn) → Stands self.old acts.old t → AllOpen (fed input channels t).logs → OnOk result (Stands self.new acts.new (fed input channels t)) }
+        ensures { (t : Turn) → Stands self.old acts.old t → AllOpen (fed input channels t).logs →
+            OnOk result (Stands self.new acts.new (fed input channels t)) }
     {
         let Some(fed) = feed(&mut self.tests_call, input, channels)? else {
             return Ok(());
@@ -296,7 +319,8 @@ impl WorkerCore {
 
     // Nothing is said any more, and no test starts.
     fn stop(&mut self, acts: &mut WorkerActions, channels: u32) -> Result<(), OutOfMemory>
-        ensures { (t : Turn) → Stands self.old acts.old t → AllOpen (stopped channels t).logs → OnOk result (Stands self.new acts.new (stopped channels t)) }
+        ensures { (t : Turn) → Stands self.old acts.old t → AllOpen (stopped channels t).logs →
+            OnOk result (Stands self.new acts.new (stopped channels t)) }
     {
         self.stopped = true;
         self.feed(acts, Input::Stop, channels)?;

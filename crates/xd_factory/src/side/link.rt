@@ -18,13 +18,19 @@ impl Side {
     /// The link has ended. Each channel without an end gets one, and no channel opens any more. What is answered are
     /// the ends for the callbacks, in order of numbers.
     pub fn finish_receiving(&mut self) -> Result<Vec<(u32, End)>, OutOfMemory>
-        ensures owed { IfOk result (λ ends. ends.items ≡ owed_of (slot_of_number self.old) (numbers_of self.old)) }
-        ensures slots { OnOk result ((c : ℕ) → slot_of_number self.new c ≡ lost_slot (slot_of_number self.old c)) }
-        ensures history { (h : List Act) → SideStands self.old h → OnOk result (SideStands self.new (Finish_receiving ∷ h)) }
+        ensures owed { IfOk result (λ ends.
+            ends.items ≡ owed_of (slot_of_number self.old) (numbers_of self.old)) }
+        ensures slots { OnOk result ((c : ℕ) →
+            slot_of_number self.new c ≡ lost_slot (slot_of_number self.old c)) }
+        ensures history { (h : List Act) → SideStands self.old h →
+            OnOk result (SideStands self.new (Finish_receiving ∷ h)) }
         ensures finished { OnOk result (is_finished self.new ≡ true) }
         ensures fault { OnOk result (fault_of self.new ≡ fault_or (fault_of self.old) Finished) }
-        ensures same { (parity_of self.new ≡ parity_of self.old) × (next_of self.new ≡ next_of self.old) }
-        ensures err { OnErr result (((c : ℕ) → slot_of_number self.new c ≡ slot_of_number self.old c) × KeepsRest self.old self.new) }
+        ensures same { (parity_of self.new ≡ parity_of self.old)
+            × (next_of self.new ≡ next_of self.old) }
+        ensures err { OnErr result
+            (((c : ℕ) → slot_of_number self.new c ≡ slot_of_number self.old c)
+            × KeepsRest self.old self.new) }
     {
         match self.lose_all() {
             Ok(owed) => {
@@ -40,7 +46,8 @@ impl Side {
         ensures slots { (c : ℕ) → slot_of_number self.new c ≡ slot_of_number self.old c }
         ensures finished { is_finished self.new ≡ true }
         ensures fault { fault_of self.new ≡ fault_or (fault_of self.old) Finished }
-        ensures same { (parity_of self.new ≡ parity_of self.old) × (next_of self.new ≡ next_of self.old) }
+        ensures same { (parity_of self.new ≡ parity_of self.old)
+            × (next_of self.new ≡ next_of self.old) }
     {
         self.finished = true;
         if self.fault.is_none() {
@@ -50,9 +57,12 @@ impl Side {
 
     // The link is lost at each number of the table. The ends that callbacks are owed, in order of numbers.
     fn lose_all(&mut self) -> Result<Vec<(u32, End)>, OutOfMemory>
-        ensures owed { IfOk result (λ ends. ends.items ≡ owed_of (slot_of_number self.old) (numbers_of self.old)) }
-        ensures slots { OnOk result ((c : ℕ) → slot_of_number self.new c ≡ lost_slot (slot_of_number self.old c)) }
-        ensures err { OnErr result ((c : ℕ) → slot_of_number self.new c ≡ slot_of_number self.old c) }
+        ensures owed { IfOk result (λ ends.
+            ends.items ≡ owed_of (slot_of_number self.old) (numbers_of self.old)) }
+        ensures slots { OnOk result ((c : ℕ) →
+            slot_of_number self.new c ≡ lost_slot (slot_of_number self.old c)) }
+        ensures err { OnErr result ((c : ℕ) →
+            slot_of_number self.new c ≡ slot_of_number self.old c) }
         ensures rest { KeepsRest self.old self.new }
     {
         let numbers = self.numbers()?;
@@ -69,8 +79,11 @@ impl Side {
     // The link is lost at one number, and the end that a callback is owed goes into the list.
     fn lose_into(&mut self, number: u32, owed: &mut Vec<(u32, End)>)
         requires { vec_len owed.old < vec_capacity owed.old }
-        ensures owed { owed.new.items ≡ owed.old.items ++ owed_at number (lost_gives (slot_of_number self.old number)) }
-        ensures slots { (c : ℕ) → slot_of_number self.new c ≡ (if number == c then lost_slot (slot_of_number self.old c) else slot_of_number self.old c) }
+        ensures owed { owed.new.items ≡ owed.old.items
+            ++ owed_at number (lost_gives (slot_of_number self.old number)) }
+        ensures slots { (c : ℕ) →
+            slot_of_number self.new c ≡ (if number == c then lost_slot
+            (slot_of_number self.old c) else slot_of_number self.old c) }
         ensures room { vec_capacity owed.old ≤ vec_capacity owed.new }
         ensures count { vec_len owed.new ≤ vec_len owed.old + 1 }
         ensures rest { KeepsRest self.old self.new }
@@ -87,7 +100,9 @@ impl Side {
     // The link is lost at one number.
     fn lose(&mut self, number: u32) -> Option<End>
         ensures gives { result ≡ lost_gives (slot_of_number self.old number) }
-        ensures slots { (c : ℕ) → slot_of_number self.new c ≡ (if number == c then lost_slot (slot_of_number self.old c) else slot_of_number self.old c) }
+        ensures slots { (c : ℕ) →
+            slot_of_number self.new c ≡ (if number == c then lost_slot
+            (slot_of_number self.old c) else slot_of_number self.old c) }
         ensures rest { KeepsRest self.old self.new }
     {
         match self.ends.get_mut(&number) {

@@ -27,14 +27,21 @@ impl Side {
         ensures number { IfOk result (λ n. n ≡ next_of self.old) }
         ensures next { OnOk result (next_of self.new ≡ next_of self.old + 2) }
         ensures unseen { IfOk result (λ n. slot_of_number self.old n ≡ Unseen) }
-        ensures slots { IfOk result (λ n. (c : ℕ) → slot_of_number self.new c ≡ (if n == c then Here fresh else slot_of_number self.old c)) }
-        ensures history { (h : List Act) → SideStands self.old h → IfOk result (λ n. SideStands self.new (Open_channel n ∷ h)) }
-        ensures rest { (parity_of self.new ≡ parity_of self.old) × (fault_of self.new ≡ fault_of self.old) × (is_finished self.new ≡ is_finished self.old) }
+        ensures slots { IfOk result (λ n. (c : ℕ) →
+            slot_of_number self.new c ≡ (if n == c then Here fresh else slot_of_number self.old c)) }
+        ensures history { (h : List Act) → SideStands self.old h →
+            IfOk result (λ n. SideStands self.new (Open_channel n ∷ h)) }
+        ensures rest { (parity_of self.new ≡ parity_of self.old)
+            × (fault_of self.new ≡ fault_of self.old)
+            × (is_finished self.new ≡ is_finished self.old) }
 
         ensures finished { IsErrOf result OpenFault.Finished ↔ (is_finished self.old ≡ true) }
-        ensures full { is_finished self.old ≡ false → (IsErrOf result OpenFault.TooManyOpen ↔ (entry_count self.old ≡ MAX_ENTRIES)) }
-        ensures spent { is_finished self.old ≡ false → entry_count self.old ≢ MAX_ENTRIES → (IsErrOf result OpenFault.NumbersSpent ↔ (MAX_NUMBER < next_of self.old)) }
-        ensures err { OnErr result ((c : ℕ) → slot_of_number self.new c ≡ slot_of_number self.old c) }
+        ensures full { is_finished self.old ≡ false →
+            (IsErrOf result OpenFault.TooManyOpen ↔ (entry_count self.old ≡ MAX_ENTRIES)) }
+        ensures spent { is_finished self.old ≡ false → entry_count self.old ≢ MAX_ENTRIES →
+            (IsErrOf result OpenFault.NumbersSpent ↔ (MAX_NUMBER < next_of self.old)) }
+        ensures err { OnErr result ((c : ℕ) →
+            slot_of_number self.new c ≡ slot_of_number self.old c) }
         ensures same { OnErr result (KeepsRest self.old self.new) }
     {
         if self.finished {
@@ -58,7 +65,8 @@ impl Side {
 
     /// The message that sends a value on a channel.
     pub fn send(&mut self, number: u32, value: &Value) -> Result<Message, SendFault>
-        ensures answer { IsSent number result (sent_gives (send_refusal (slot_of_number self.old number)) (dumped (view value.now))) }
+        ensures answer { IsSent number result
+            (sent_gives (send_refusal (slot_of_number self.old number)) (dumped (view value.now))) }
         ensures payload { IfOk result (λ message. IsPayload (view value.now) message.payload) }
         ensures same { self.new ≡ self.old }
     {
@@ -84,13 +92,20 @@ impl Side {
 
     /// Closes a channel, with the text of an error where there is one, and gives the message that tells the peer.
     pub fn close(&mut self, number: u32, error: Option<Text>) -> Result<Option<Message>, CloseFault>
-        ensures answer { IfOk result (λ says. says ≡ close_says number error (slot_of_number self.old number)) }
-        ensures accepted { OnOk result (close_refusal (is_seen (slot_of_number self.old number)) (is_long error) ≡ None) }
+        ensures answer { IfOk result (λ says.
+            says ≡ close_says number error (slot_of_number self.old number)) }
+        ensures accepted { OnOk result
+            (close_refusal (is_seen (slot_of_number self.old number)) (is_long error) ≡ None) }
         ensures payload { OnOk result (HasErrorPayload error) }
-        ensures refused { IfErr result (IsRefusal (close_refusal (is_seen (slot_of_number self.old number)) (is_long error))) }
-        ensures slots { OnOk result ((c : ℕ) → slot_of_number self.new c ≡ (if number == c then closed_slot (slot_of_number self.old c) else slot_of_number self.old c)) }
-        ensures history { (h : List Act) → SideStands self.old h → OnOk result (SideStands self.new (Close number ∷ h)) }
-        ensures err { OnErr result ((c : ℕ) → slot_of_number self.new c ≡ slot_of_number self.old c) }
+        ensures refused { IfErr result
+            (IsRefusal (close_refusal (is_seen (slot_of_number self.old number)) (is_long error))) }
+        ensures slots { OnOk result ((c : ℕ) →
+            slot_of_number self.new c ≡ (if number == c then closed_slot
+            (slot_of_number self.old c) else slot_of_number self.old c)) }
+        ensures history { (h : List Act) → SideStands self.old h →
+            OnOk result (SideStands self.new (Close number ∷ h)) }
+        ensures err { OnErr result ((c : ℕ) →
+            slot_of_number self.new c ≡ slot_of_number self.old c) }
         ensures rest { KeepsRest self.old self.new }
     {
         if !self.knows(number) {
@@ -106,12 +121,18 @@ impl Side {
     /// Ends the channel of a function: what still waits there is dropped, and the peer is always told.
     pub fn end_function(&mut self, number: u32, error: Option<Text>) -> Result<Message, CloseFault>
         ensures answer { IfOk result (λ message. message ≡ closing_message number error) }
-        ensures accepted { OnOk result (close_refusal (is_seen (slot_of_number self.old number)) (is_long error) ≡ None) }
+        ensures accepted { OnOk result
+            (close_refusal (is_seen (slot_of_number self.old number)) (is_long error) ≡ None) }
         ensures payload { OnOk result (HasErrorPayload error) }
-        ensures refused { IfErr result (IsRefusal (close_refusal (is_seen (slot_of_number self.old number)) (is_long error))) }
-        ensures slots { OnOk result ((c : ℕ) → slot_of_number self.new c ≡ (if number == c then function_ended_slot (slot_of_number self.old c) else slot_of_number self.old c)) }
-        ensures history { (h : List Act) → SideStands self.old h → OnOk result (SideStands self.new (End_function number ∷ h)) }
-        ensures err { OnErr result ((c : ℕ) → slot_of_number self.new c ≡ slot_of_number self.old c) }
+        ensures refused { IfErr result
+            (IsRefusal (close_refusal (is_seen (slot_of_number self.old number)) (is_long error))) }
+        ensures slots { OnOk result ((c : ℕ) →
+            slot_of_number self.new c ≡ (if number == c then function_ended_slot
+            (slot_of_number self.old c) else slot_of_number self.old c)) }
+        ensures history { (h : List Act) → SideStands self.old h →
+            OnOk result (SideStands self.new (End_function number ∷ h)) }
+        ensures err { OnErr result ((c : ℕ) →
+            slot_of_number self.new c ≡ slot_of_number self.old c) }
         ensures rest { KeepsRest self.old self.new }
     {
         if !self.knows(number) {
@@ -124,10 +145,14 @@ impl Side {
 
     /// Lets go of a channel, and gives the message that tells the peer.
     pub fn give_up(&mut self, number: u32) -> Result<Option<Message>, Unknown>
-        ensures answer { IfOk result (λ says. says ≡ giving_says number (give_up_says (slot_of_number self.old number))) }
+        ensures answer { IfOk result (λ says.
+            says ≡ giving_says number (give_up_says (slot_of_number self.old number))) }
         ensures unknown { IsErr result ↔ (is_seen (slot_of_number self.old number) ≡ false) }
-        ensures slots { (c : ℕ) → slot_of_number self.new c ≡ (if number == c then given_up_slot (slot_of_number self.old c) else slot_of_number self.old c) }
-        ensures history { (h : List Act) → SideStands self.old h → SideStands self.new (Give_up number ∷ h) }
+        ensures slots { (c : ℕ) →
+            slot_of_number self.new c ≡ (if number == c then given_up_slot
+            (slot_of_number self.old c) else slot_of_number self.old c) }
+        ensures history { (h : List Act) → SideStands self.old h →
+            SideStands self.new (Give_up number ∷ h) }
         ensures rest { KeepsRest self.old self.new }
     {
         if !self.knows(number) {
@@ -142,12 +167,17 @@ impl Side {
 
     /// Sets a callback on a channel, and gives all that waits for it. On a closed channel that is the end alone.
     pub fn set_callback(&mut self, number: u32) -> Result<Waiting, HookFault>
-        ensures items { IfOk result (λ w. map view w.items.items ≡ hook_items (slot_of_number self.old number)) }
+        ensures items { IfOk result (λ w.
+            map view w.items.items ≡ hook_items (slot_of_number self.old number)) }
         ensures end { IfOk result (λ w. w.end ≡ hook_end (slot_of_number self.old number)) }
         ensures accepted { OnOk result (hook_fault (slot_of_number self.old number) ≡ None) }
-        ensures refused { IfErr result (λ fault. hook_fault (slot_of_number self.old number) ≡ Some fault) }
-        ensures slots { (c : ℕ) → slot_of_number self.new c ≡ (if number == c then hooked_slot (slot_of_number self.old c) else slot_of_number self.old c) }
-        ensures history { (h : List Act) → SideStands self.old h → SideStands self.new (Set_callback number (hooked_trees result) ∷ h) }
+        ensures refused { IfErr result (λ fault.
+            hook_fault (slot_of_number self.old number) ≡ Some fault) }
+        ensures slots { (c : ℕ) →
+            slot_of_number self.new c ≡ (if number == c then hooked_slot
+            (slot_of_number self.old c) else slot_of_number self.old c) }
+        ensures history { (h : List Act) → SideStands self.old h →
+            SideStands self.new (Set_callback number (hooked_trees result) ∷ h) }
         ensures rest { KeepsRest self.old self.new }
     {
         match self.hook_entry(number) {
@@ -159,8 +189,11 @@ impl Side {
     /// The first item that waits on a channel; else its end; else nothing yet. A closed channel gives its end each time.
     pub fn receive(&mut self, number: u32) -> Result<Got, HookFault>
         ensures answer { IsGot result (receive_answer (slot_of_number self.old number)) }
-        ensures slots { (c : ℕ) → slot_of_number self.new c ≡ (if number == c then received_slot (slot_of_number self.old c) else slot_of_number self.old c) }
-        ensures history { (h : List Act) → SideStands self.old h → SideStands self.new (Receive number (received_trees result) ∷ h) }
+        ensures slots { (c : ℕ) →
+            slot_of_number self.new c ≡ (if number == c then received_slot
+            (slot_of_number self.old c) else slot_of_number self.old c) }
+        ensures history { (h : List Act) → SideStands self.old h →
+            SideStands self.new (Receive number (received_trees result) ∷ h) }
         ensures rest { KeepsRest self.old self.new }
     {
         match self.receive_entry(number) {
@@ -171,11 +204,15 @@ impl Side {
 
     // Sets a callback on the entry, if there is one.
     fn hook_entry(&mut self, number: u32) -> Result<Waiting, HookFault>
-        ensures items { IfOk result (λ w. map view w.items.items ≡ hook_items (slot_of_number self.old number)) }
+        ensures items { IfOk result (λ w.
+            map view w.items.items ≡ hook_items (slot_of_number self.old number)) }
         ensures end { IfOk result (λ w. w.end ≡ hook_end (slot_of_number self.old number)) }
         ensures accepted { OnOk result (hook_fault (slot_of_number self.old number) ≡ None) }
-        ensures refused { IfErr result (λ fault. hook_fault (slot_of_number self.old number) ≡ Some fault) }
-        ensures slots { (c : ℕ) → slot_of_number self.new c ≡ (if number == c then hooked_slot (slot_of_number self.old c) else slot_of_number self.old c) }
+        ensures refused { IfErr result (λ fault.
+            hook_fault (slot_of_number self.old number) ≡ Some fault) }
+        ensures slots { (c : ℕ) →
+            slot_of_number self.new c ≡ (if number == c then hooked_slot
+            (slot_of_number self.old c) else slot_of_number self.old c) }
         ensures rest { KeepsRest self.old self.new }
     {
         match self.ends.get_mut(&number) {
@@ -203,7 +240,9 @@ impl Side {
     // Receives from the entry, if there is one.
     fn receive_entry(&mut self, number: u32) -> Result<Got, HookFault>
         ensures answer { IsGot result (receive_answer (slot_of_number self.old number)) }
-        ensures slots { (c : ℕ) → slot_of_number self.new c ≡ (if number == c then received_slot (slot_of_number self.old c) else slot_of_number self.old c) }
+        ensures slots { (c : ℕ) →
+            slot_of_number self.new c ≡ (if number == c then received_slot
+            (slot_of_number self.old c) else slot_of_number self.old c) }
         ensures rest { KeepsRest self.old self.new }
     {
         match self.ends.get_mut(&number) {
@@ -229,7 +268,9 @@ impl Side {
     // Closes the entry, if there is one.
     fn close_entry(&mut self, number: u32) -> Closing
         ensures answer { result ≡ close_gives_at (slot_of_number self.old number) }
-        ensures slots { (c : ℕ) → slot_of_number self.new c ≡ (if number == c then closed_slot (slot_of_number self.old c) else slot_of_number self.old c) }
+        ensures slots { (c : ℕ) →
+            slot_of_number self.new c ≡ (if number == c then closed_slot
+            (slot_of_number self.old c) else slot_of_number self.old c) }
         ensures rest { KeepsRest self.old self.new }
     {
         match self.ends.get_mut(&number) {
@@ -246,7 +287,9 @@ impl Side {
     // Lets go of the entry, if there is one.
     fn give_up_entry(&mut self, number: u32) -> GivenUp
         ensures answer { result ≡ give_up_says (slot_of_number self.old number) }
-        ensures slots { (c : ℕ) → slot_of_number self.new c ≡ (if number == c then given_up_slot (slot_of_number self.old c) else slot_of_number self.old c) }
+        ensures slots { (c : ℕ) →
+            slot_of_number self.new c ≡ (if number == c then given_up_slot
+            (slot_of_number self.old c) else slot_of_number self.old c) }
         ensures rest { KeepsRest self.old self.new }
     {
         match self.ends.get_mut(&number) {

@@ -27,23 +27,40 @@ impl Side {
     /// After a refusal the side has failed: it refuses each later message for the same reason. A message that means
     /// nothing opens no number; another one that is refused may have opened numbers that it names.
     pub fn take_message(&mut self, message: Message) -> Result<Taken, SideFault>
-        ensures failed { (fault : SideFault) → fault_of self.old ≡ Some fault → (result ≡ Err fault) × (self.new ≡ self.old) }
+        ensures failed { (fault : SideFault) → fault_of self.old ≡ Some fault →
+            (result ≡ Err fault) × (self.new ≡ self.old) }
         ensures fails { IfErr result (λ fault. fault_of self.new ≡ Some fault) }
         ensures good { OnOk result ((fault_of self.old ≡ None) × KeepsRest self.old self.new) }
-        ensures same { (parity_of self.new ≡ parity_of self.old) × (next_of self.new ≡ next_of self.old) × (is_finished self.new ≡ is_finished self.old) }
+        ensures same { (parity_of self.new ≡ parity_of self.old)
+            × (next_of self.new ≡ next_of self.old)
+            × (is_finished self.new ≡ is_finished self.old) }
 
         ensures read { IfOk result (λ _. (said : Said) × Means message said) }
-        ensures answer { (said : Said) → Means message said → IfOk result (λ taken. taken_tree taken ≡ answer_of (parity_of self.old) (slot_of_number self.old) said) }
-        ensures slots { (said : Said) → Means message said → OnOk result ((c : ℕ) → slot_of_number self.new c ≡ heard_slot (parity_of self.old) said c (slot_of_number self.old c)) }
+        ensures answer { (said : Said) → Means message said →
+            IfOk result (λ taken. taken_tree taken ≡ answer_of (parity_of self.old)
+            (slot_of_number self.old) said) }
+        ensures slots { (said : Said) → Means message said →
+            OnOk result ((c : ℕ) → slot_of_number self.new c ≡ heard_slot
+            (parity_of self.old) said c (slot_of_number self.old c)) }
 
-        ensures history { (h : List Act) → (said : Said) → SideStands self.old h → Means message said → IfOk result (λ taken. SideStands self.new (Take_message said (taken_tree taken) ∷ h)) }
+        ensures history { (h : List Act) → (said : Said) → SideStands self.old h →
+            Means message said → IfOk result (λ taken.
+            SideStands self.new (Take_message said (taken_tree taken) ∷ h)) }
 
-        ensures refused { fault_of self.old ≡ None → IfErr result (IsRefused (entry_count self.old) (new_at self.old) message) }
-        ensures refuses { (fault : SideFault) → fault_of self.old ≡ None → Refused (entry_count self.old) (new_at self.old) message fault → IsFault fault result }
-        ensures err { OnErr result ((c : ℕ) → OpensAtMost (is_mine (parity_of self.old) c) (slot_of_number self.old c) (slot_of_number self.new c)) }
-        ensures others { (said : Said) → Means message said → OnErr result ((c : ℕ) → is_in c (names_of said) ≡ false → slot_of_number self.new c ≡ slot_of_number self.old c) }
-        ensures unread { (fault : SideFault) → Misread message fault → (c : ℕ) → slot_of_number self.new c ≡ slot_of_number self.old c }
-        ensures failed_history { (h : List Act) → SideStands self.old h → OnErr result ((which : ℕ → Bool) × SideStands self.new (Refuse which ∷ h)) }
+        ensures refused { fault_of self.old ≡ None →
+            IfErr result (IsRefused (entry_count self.old) (new_at self.old) message) }
+        ensures refuses { (fault : SideFault) → fault_of self.old ≡ None →
+            Refused (entry_count self.old) (new_at self.old) message fault → IsFault fault result }
+        ensures err { OnErr result ((c : ℕ) →
+            OpensAtMost (is_mine (parity_of self.old) c) (slot_of_number self.old c)
+            (slot_of_number self.new c)) }
+        ensures others { (said : Said) → Means message said →
+            OnErr result ((c : ℕ) → is_in c (names_of said) ≡ false →
+            slot_of_number self.new c ≡ slot_of_number self.old c) }
+        ensures unread { (fault : SideFault) → Misread message fault → (c : ℕ) →
+            slot_of_number self.new c ≡ slot_of_number self.old c }
+        ensures failed_history { (h : List Act) → SideStands self.old h →
+            OnErr result ((which : ℕ → Bool) × SideStands self.new (Refuse which ∷ h)) }
     {
         if let Some(fault) = self.fault {
             return Err(fault);
@@ -60,13 +77,24 @@ impl Side {
     // Takes a message at a side that has not failed.
     fn take(&mut self, message: Message) -> Result<Taken, SideFault>
         ensures read { IfOk result (λ _. (said : Said) × Means message said) }
-        ensures answer { (said : Said) → Means message said → IfOk result (λ taken. taken_tree taken ≡ answer_of (parity_of self.old) (slot_of_number self.old) said) }
-        ensures slots { (said : Said) → Means message said → OnOk result ((c : ℕ) → slot_of_number self.new c ≡ heard_slot (parity_of self.old) said c (slot_of_number self.old c)) }
-        ensures refused { IfErr result (IsRefused (entry_count self.old) (new_at self.old) message) }
-        ensures refuses { (fault : SideFault) → Refused (entry_count self.old) (new_at self.old) message fault → IsFault fault result }
-        ensures err { OnErr result ((c : ℕ) → OpensAtMost (is_mine (parity_of self.old) c) (slot_of_number self.old c) (slot_of_number self.new c)) }
-        ensures others { (said : Said) → Means message said → OnErr result ((c : ℕ) → is_in c (names_of said) ≡ false → slot_of_number self.new c ≡ slot_of_number self.old c) }
-        ensures unread { (fault : SideFault) → Misread message fault → (c : ℕ) → slot_of_number self.new c ≡ slot_of_number self.old c }
+        ensures answer { (said : Said) → Means message said →
+            IfOk result (λ taken. taken_tree taken ≡ answer_of (parity_of self.old)
+            (slot_of_number self.old) said) }
+        ensures slots { (said : Said) → Means message said →
+            OnOk result ((c : ℕ) → slot_of_number self.new c ≡ heard_slot
+            (parity_of self.old) said c (slot_of_number self.old c)) }
+        ensures refused { IfErr result
+            (IsRefused (entry_count self.old) (new_at self.old) message) }
+        ensures refuses { (fault : SideFault) →
+            Refused (entry_count self.old) (new_at self.old) message fault → IsFault fault result }
+        ensures err { OnErr result ((c : ℕ) →
+            OpensAtMost (is_mine (parity_of self.old) c) (slot_of_number self.old c)
+            (slot_of_number self.new c)) }
+        ensures others { (said : Said) → Means message said →
+            OnErr result ((c : ℕ) → is_in c (names_of said) ≡ false →
+            slot_of_number self.new c ≡ slot_of_number self.old c) }
+        ensures unread { (fault : SideFault) → Misread message fault → (c : ℕ) →
+            slot_of_number self.new c ≡ slot_of_number self.old c }
         ensures rest { KeepsRest self.old self.new }
     {
         match read_message(self.alloc, &message) {
@@ -81,12 +109,22 @@ impl Side {
     // Does what a message says.
     fn hear(&mut self, word: Word) -> Result<Taken, SideFault>
         requires { (c : ℕ) → is_in c (mentions (said_of word)) ≡ true → c ≤ 2147483647 }
-        ensures answer { IfOk result (λ taken. taken_tree taken ≡ answer_of (parity_of self.old) (slot_of_number self.old) (said_of word)) }
-        ensures slots { OnOk result ((c : ℕ) → slot_of_number self.new c ≡ heard_slot (parity_of self.old) (said_of word) c (slot_of_number self.old c)) }
-        ensures fits { OnOk result (entry_count self.old + opened_count (new_at self.old) (names_of (said_of word)) ≤ 4096) }
-        ensures refused { IfErr result (IsHearFault (entry_count self.old + opened_count (new_at self.old) (names_of (said_of word)))) }
-        ensures err { OnErr result ((c : ℕ) → OpensAtMost (is_mine (parity_of self.old) c) (slot_of_number self.old c) (slot_of_number self.new c)) }
-        ensures others { OnErr result ((c : ℕ) → is_in c (names_of (said_of word)) ≡ false → slot_of_number self.new c ≡ slot_of_number self.old c) }
+        ensures answer { IfOk result (λ taken.
+            taken_tree taken ≡ answer_of (parity_of self.old) (slot_of_number self.old)
+            (said_of word)) }
+        ensures slots { OnOk result ((c : ℕ) →
+            slot_of_number self.new c ≡ heard_slot (parity_of self.old) (said_of word) c
+            (slot_of_number self.old c)) }
+        ensures fits { OnOk result
+            (entry_count self.old + opened_count (new_at self.old) (names_of (said_of word)) ≤ 4096) }
+        ensures refused { IfErr result
+            (IsHearFault (entry_count self.old + opened_count (new_at self.old)
+            (names_of (said_of word)))) }
+        ensures err { OnErr result ((c : ℕ) →
+            OpensAtMost (is_mine (parity_of self.old) c) (slot_of_number self.old c)
+            (slot_of_number self.new c)) }
+        ensures others { OnErr result ((c : ℕ) → is_in c (names_of (said_of word)) ≡ false →
+            slot_of_number self.new c ≡ slot_of_number self.old c) }
         ensures rest { KeepsRest self.old self.new }
     {
         match word {
@@ -102,12 +140,23 @@ impl Side {
     // The peer calls a function: the channels of its value open, and its own number where it is new.
     fn hear_call(&mut self, number: u32, value: Value) -> Result<Taken, SideFault>
         requires { (c : ℕ) → is_in c (names_in number (view value)) ≡ true → c ≤ 2147483647 }
-        ensures answer { IfOk result (λ taken. taken_tree taken ≡ answer_of (parity_of self.old) (slot_of_number self.old) (Exec number (view value))) }
-        ensures slots { OnOk result ((c : ℕ) → slot_of_number self.new c ≡ named_in (is_mine (parity_of self.old) c) (is_in c (names_in number (view value))) (slot_of_number self.old c)) }
-        ensures fits { OnOk result (entry_count self.old + opened_count (new_at self.old) (names_in number (view value)) ≤ 4096) }
-        ensures refused { IfErr result (IsHearFault (entry_count self.old + opened_count (new_at self.old) (names_in number (view value)))) }
-        ensures err { OnErr result ((c : ℕ) → OpensAtMost (is_mine (parity_of self.old) c) (slot_of_number self.old c) (slot_of_number self.new c)) }
-        ensures others { OnErr result ((c : ℕ) → is_in c (names_in number (view value)) ≡ false → slot_of_number self.new c ≡ slot_of_number self.old c) }
+        ensures answer { IfOk result (λ taken.
+            taken_tree taken ≡ answer_of (parity_of self.old) (slot_of_number self.old)
+            (Exec number (view value))) }
+        ensures slots { OnOk result ((c : ℕ) →
+            slot_of_number self.new c ≡ named_in (is_mine (parity_of self.old) c)
+            (is_in c (names_in number (view value))) (slot_of_number self.old c)) }
+        ensures fits { OnOk result
+            (entry_count self.old + opened_count (new_at self.old)
+            (names_in number (view value)) ≤ 4096) }
+        ensures refused { IfErr result
+            (IsHearFault (entry_count self.old + opened_count (new_at self.old)
+            (names_in number (view value)))) }
+        ensures err { OnErr result ((c : ℕ) →
+            OpensAtMost (is_mine (parity_of self.old) c) (slot_of_number self.old c)
+            (slot_of_number self.new c)) }
+        ensures others { OnErr result ((c : ℕ) → is_in c (names_in number (view value)) ≡ false →
+            slot_of_number self.new c ≡ slot_of_number self.old c) }
         ensures rest { KeepsRest self.old self.new }
     {
         let opens = self.opens(number);
@@ -126,12 +175,23 @@ impl Side {
     // An item comes: the channels of its value open, and its own number where it is new.
     fn hear_item(&mut self, number: u32, value: Value) -> Result<Taken, SideFault>
         requires { (c : ℕ) → is_in c (names_in number (view value)) ≡ true → c ≤ 2147483647 }
-        ensures answer { IfOk result (λ taken. taken_tree taken ≡ answer_of (parity_of self.old) (slot_of_number self.old) (Data number (view value))) }
-        ensures slots { OnOk result ((c : ℕ) → slot_of_number self.new c ≡ heard_slot (parity_of self.old) (Data number (view value)) c (slot_of_number self.old c)) }
-        ensures fits { OnOk result (entry_count self.old + opened_count (new_at self.old) (names_in number (view value)) ≤ 4096) }
-        ensures refused { IfErr result (IsHearFault (entry_count self.old + opened_count (new_at self.old) (names_in number (view value)))) }
-        ensures err { OnErr result ((c : ℕ) → OpensAtMost (is_mine (parity_of self.old) c) (slot_of_number self.old c) (slot_of_number self.new c)) }
-        ensures others { OnErr result ((c : ℕ) → is_in c (names_in number (view value)) ≡ false → slot_of_number self.new c ≡ slot_of_number self.old c) }
+        ensures answer { IfOk result (λ taken.
+            taken_tree taken ≡ answer_of (parity_of self.old) (slot_of_number self.old)
+            (Data number (view value))) }
+        ensures slots { OnOk result ((c : ℕ) →
+            slot_of_number self.new c ≡ heard_slot (parity_of self.old) (Data number (view value)) c
+            (slot_of_number self.old c)) }
+        ensures fits { OnOk result
+            (entry_count self.old + opened_count (new_at self.old)
+            (names_in number (view value)) ≤ 4096) }
+        ensures refused { IfErr result
+            (IsHearFault (entry_count self.old + opened_count (new_at self.old)
+            (names_in number (view value)))) }
+        ensures err { OnErr result ((c : ℕ) →
+            OpensAtMost (is_mine (parity_of self.old) c) (slot_of_number self.old c)
+            (slot_of_number self.new c)) }
+        ensures others { OnErr result ((c : ℕ) → is_in c (names_in number (view value)) ≡ false →
+            slot_of_number self.new c ≡ slot_of_number self.old c) }
         ensures rest { KeepsRest self.old self.new }
     {
         match self.name_value(number, &value) {
@@ -148,10 +208,15 @@ impl Side {
     // The peer closes a channel.
     fn hear_close(&mut self, number: u32, error: Option<Text>) -> Result<Taken, SideFault>
         requires { number ≤ 2147483647 }
-        ensures answer { IfOk result (λ taken. taken_tree taken ≡ end_answer number (slot_of_number self.old number) (end_of error)) }
-        ensures slots { OnOk result ((c : ℕ) → slot_of_number self.new c ≡ (if number == c then peer_closed_slot (is_mine (parity_of self.old) c) (slot_of_number self.old c) (end_of error) else slot_of_number self.old c)) }
+        ensures answer { IfOk result (λ taken.
+            taken_tree taken ≡ end_answer number (slot_of_number self.old number) (end_of error)) }
+        ensures slots { OnOk result ((c : ℕ) →
+            slot_of_number self.new c ≡ (if number == c then peer_closed_slot
+            (is_mine (parity_of self.old) c) (slot_of_number self.old c)
+            (end_of error) else slot_of_number self.old c)) }
         ensures refused { IfErr result IsNoMemory }
-        ensures err { OnErr result ((c : ℕ) → slot_of_number self.new c ≡ slot_of_number self.old c) }
+        ensures err { OnErr result ((c : ℕ) →
+            slot_of_number self.new c ≡ slot_of_number self.old c) }
         ensures rest { KeepsRest self.old self.new }
     {
         match self.ends.get_mut(&number) {
@@ -172,10 +237,15 @@ impl Side {
     // The peer sends no more on a channel.
     fn hear_last(&mut self, number: u32) -> Result<Taken, SideFault>
         requires { number ≤ 2147483647 }
-        ensures answer { IfOk result (λ taken. taken_tree taken ≡ end_answer number (slot_of_number self.old number) End.LastMessage) }
-        ensures slots { OnOk result ((c : ℕ) → slot_of_number self.new c ≡ (if number == c then peer_last_slot (is_mine (parity_of self.old) c) (slot_of_number self.old c) else slot_of_number self.old c)) }
+        ensures answer { IfOk result (λ taken.
+            taken_tree taken ≡ end_answer number (slot_of_number self.old number) End.LastMessage) }
+        ensures slots { OnOk result ((c : ℕ) →
+            slot_of_number self.new c ≡ (if number == c then peer_last_slot
+            (is_mine (parity_of self.old) c)
+            (slot_of_number self.old c) else slot_of_number self.old c)) }
         ensures refused { IfErr result IsNoMemory }
-        ensures err { OnErr result ((c : ℕ) → slot_of_number self.new c ≡ slot_of_number self.old c) }
+        ensures err { OnErr result ((c : ℕ) →
+            slot_of_number self.new c ≡ slot_of_number self.old c) }
         ensures rest { KeepsRest self.old self.new }
     {
         match self.ends.get_mut(&number) {
@@ -197,10 +267,17 @@ impl Side {
     fn shut(&mut self, number: u32) -> Result<(), SideFault>
         requires number { number ≤ 2147483647 }
         requires absent { is_here (slot_of_number self.old number) ≡ false }
-        ensures closed { OnOk result ((c : ℕ) → (end : End) → slot_of_number self.new c ≡ (if number == c then peer_closed_slot (is_mine (parity_of self.old) c) (slot_of_number self.old c) end else slot_of_number self.old c)) }
-        ensures last { OnOk result ((c : ℕ) → slot_of_number self.new c ≡ (if number == c then peer_last_slot (is_mine (parity_of self.old) c) (slot_of_number self.old c) else slot_of_number self.old c)) }
+        ensures closed { OnOk result ((c : ℕ) → (end : End) →
+            slot_of_number self.new c ≡ (if number == c then peer_closed_slot
+            (is_mine (parity_of self.old) c)
+            (slot_of_number self.old c) end else slot_of_number self.old c)) }
+        ensures last { OnOk result ((c : ℕ) →
+            slot_of_number self.new c ≡ (if number == c then peer_last_slot
+            (is_mine (parity_of self.old) c)
+            (slot_of_number self.old c) else slot_of_number self.old c)) }
         ensures refused { IfErr result IsNoMemory }
-        ensures err { OnErr result ((c : ℕ) → slot_of_number self.new c ≡ slot_of_number self.old c) }
+        ensures err { OnErr result ((c : ℕ) →
+            slot_of_number self.new c ≡ slot_of_number self.old c) }
         ensures rest { KeepsRest self.old self.new }
     {
         match self.mark_seen(number) {
@@ -213,9 +290,13 @@ impl Side {
     fn mark_seen(&mut self, number: u32) -> Result<(), SideFault>
         requires number { number ≤ 2147483647 }
         requires absent { is_here (slot_of_number self.old number) ≡ false }
-        ensures slots { OnOk result ((c : ℕ) → slot_of_number self.new c ≡ (if number == c then shut_slot (is_mine (parity_of self.old) c) (slot_of_number self.old c) else slot_of_number self.old c)) }
+        ensures slots { OnOk result ((c : ℕ) →
+            slot_of_number self.new c ≡ (if number == c then shut_slot
+            (is_mine (parity_of self.old) c)
+            (slot_of_number self.old c) else slot_of_number self.old c)) }
         ensures refused { IfErr result IsNoMemory }
-        ensures err { OnErr result ((c : ℕ) → slot_of_number self.new c ≡ slot_of_number self.old c) }
+        ensures err { OnErr result ((c : ℕ) →
+            slot_of_number self.new c ≡ slot_of_number self.old c) }
         ensures rest { KeepsRest self.old self.new }
     {
         if self.is_own(number) {
@@ -237,11 +318,21 @@ impl Side {
     // The channels of a value open, and a number.
     fn name_value(&mut self, number: u32, value: &Value) -> Result<(), SideFault>
         requires { (c : ℕ) → is_in c (names_in number (view value.now)) ≡ true → c ≤ 2147483647 }
-        ensures ok { OnOk result ((c : ℕ) → slot_of_number self.new c ≡ named_in (is_mine (parity_of self.old) c) (is_in c (names_in number (view value.now))) (slot_of_number self.old c)) }
-        ensures fits { OnOk result (entry_count self.old + opened_count (new_at self.old) (names_in number (view value.now)) ≤ 4096) }
-        ensures refused { IfErr result (IsHearFault (entry_count self.old + opened_count (new_at self.old) (names_in number (view value.now)))) }
-        ensures err { OnErr result ((c : ℕ) → OpensAtMost (is_mine (parity_of self.old) c) (slot_of_number self.old c) (slot_of_number self.new c)) }
-        ensures others { OnErr result ((c : ℕ) → is_in c (names_in number (view value.now)) ≡ false → slot_of_number self.new c ≡ slot_of_number self.old c) }
+        ensures ok { OnOk result ((c : ℕ) →
+            slot_of_number self.new c ≡ named_in (is_mine (parity_of self.old) c)
+            (is_in c (names_in number (view value.now))) (slot_of_number self.old c)) }
+        ensures fits { OnOk result
+            (entry_count self.old + opened_count (new_at self.old)
+            (names_in number (view value.now)) ≤ 4096) }
+        ensures refused { IfErr result
+            (IsHearFault (entry_count self.old + opened_count (new_at self.old)
+            (names_in number (view value.now)))) }
+        ensures err { OnErr result ((c : ℕ) →
+            OpensAtMost (is_mine (parity_of self.old) c) (slot_of_number self.old c)
+            (slot_of_number self.new c)) }
+        ensures others { OnErr result ((c : ℕ) →
+            is_in c (names_in number (view value.now)) ≡ false →
+            slot_of_number self.new c ≡ slot_of_number self.old c) }
         ensures rest { KeepsRest self.old self.new }
     {
         let Ok(named) = value.channels(self.alloc) else {
@@ -260,11 +351,18 @@ impl Side {
     // These numbers open, each where it is the peer's and was never seen.
     fn name_all(&mut self, numbers: &[u32]) -> Result<(), SideFault>
         requires { (c : ℕ) → is_in c numbers.now ≡ true → c ≤ 2147483647 }
-        ensures ok { OnOk result ((c : ℕ) → slot_of_number self.new c ≡ named_in (is_mine (parity_of self.old) c) (is_in c numbers.now) (slot_of_number self.old c)) }
-        ensures fits { OnOk result (entry_count self.old + opened_count (new_at self.old) numbers.now ≤ 4096) }
-        ensures refused { IfErr result (IsHearFault (entry_count self.old + opened_count (new_at self.old) numbers.now)) }
-        ensures err { OnErr result ((c : ℕ) → OpensAtMost (is_mine (parity_of self.old) c) (slot_of_number self.old c) (slot_of_number self.new c)) }
-        ensures others { OnErr result ((c : ℕ) → is_in c numbers.now ≡ false → slot_of_number self.new c ≡ slot_of_number self.old c) }
+        ensures ok { OnOk result ((c : ℕ) →
+            slot_of_number self.new c ≡ named_in (is_mine (parity_of self.old) c)
+            (is_in c numbers.now) (slot_of_number self.old c)) }
+        ensures fits { OnOk result
+            (entry_count self.old + opened_count (new_at self.old) numbers.now ≤ 4096) }
+        ensures refused { IfErr result
+            (IsHearFault (entry_count self.old + opened_count (new_at self.old) numbers.now)) }
+        ensures err { OnErr result ((c : ℕ) →
+            OpensAtMost (is_mine (parity_of self.old) c) (slot_of_number self.old c)
+            (slot_of_number self.new c)) }
+        ensures others { OnErr result ((c : ℕ) → is_in c numbers.now ≡ false →
+            slot_of_number self.new c ≡ slot_of_number self.old c) }
         ensures rest { KeepsRest self.old self.new }
     {
         for number in numbers {
@@ -279,10 +377,17 @@ impl Side {
     // A number opens where it is the peer's and was never seen.
     fn name(&mut self, number: u32) -> Result<(), SideFault>
         requires { number ≤ 2147483647 }
-        ensures ok { OnOk result ((c : ℕ) → slot_of_number self.new c ≡ (if number == c then named_slot (is_mine (parity_of self.old) c) (slot_of_number self.old c) else slot_of_number self.old c)) }
-        ensures count { OnOk result (entry_count self.new ≡ entry_count self.old + (if new_at self.old number then 1 else 0)) }
-        ensures refused { IfErr result (IsNameFault (entry_count self.old) (new_at self.old number)) }
-        ensures err { OnErr result ((c : ℕ) → slot_of_number self.new c ≡ slot_of_number self.old c) }
+        ensures ok { OnOk result ((c : ℕ) →
+            slot_of_number self.new c ≡ (if number == c then named_slot
+            (is_mine (parity_of self.old) c)
+            (slot_of_number self.old c) else slot_of_number self.old c)) }
+        ensures count { OnOk result
+            (entry_count self.new ≡ entry_count self.old
+            + (if new_at self.old number then 1 else 0)) }
+        ensures refused { IfErr result
+            (IsNameFault (entry_count self.old) (new_at self.old number)) }
+        ensures err { OnErr result ((c : ℕ) →
+            slot_of_number self.new c ≡ slot_of_number self.old c) }
         ensures rest { KeepsRest self.old self.new }
     {
         if !self.opens(number) {
@@ -309,10 +414,14 @@ impl Side {
 
     // An item comes on a number, after the opening of what it names.
     fn deliver(&mut self, number: u32, item: Value) -> Result<Arrived, SideFault>
-        ensures answer { IfOk result (λ arrived. arrived_tree arrived ≡ item_gives (slot_of_number self.old number) (view item)) }
-        ensures ok { OnOk result ((c : ℕ) → slot_of_number self.new c ≡ (if number == c then item_slot (slot_of_number self.old c) (view item) else slot_of_number self.old c)) }
+        ensures answer { IfOk result (λ arrived.
+            arrived_tree arrived ≡ item_gives (slot_of_number self.old number) (view item)) }
+        ensures ok { OnOk result ((c : ℕ) →
+            slot_of_number self.new c ≡ (if number == c then item_slot (slot_of_number self.old c)
+            (view item) else slot_of_number self.old c)) }
         ensures refused { IfErr result IsNoMemory }
-        ensures err { OnErr result ((c : ℕ) → slot_of_number self.new c ≡ slot_of_number self.old c) }
+        ensures err { OnErr result ((c : ℕ) →
+            slot_of_number self.new c ≡ slot_of_number self.old c) }
         ensures rest { KeepsRest self.old self.new }
     {
         match self.ends.get_mut(&number) {

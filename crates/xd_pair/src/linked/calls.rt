@@ -21,8 +21,11 @@ impl LinkedSide {
         ensures number { IfOk result (λ n. n ≡ next_of self.old.side) }
         ensures err { OnErr result (Stays self.old self.new) }
         ensures finished { IsErrOf result OpenFault.Finished ↔ (is_finished self.old.side ≡ true) }
-        ensures full { is_finished self.old.side ≡ false → (IsErrOf result OpenFault.TooManyOpen ↔ (entry_count self.old.side ≡ MAX_ENTRIES)) }
-        ensures spent { is_finished self.old.side ≡ false → entry_count self.old.side ≢ MAX_ENTRIES → (IsErrOf result OpenFault.NumbersSpent ↔ (2147483647 < next_of self.old.side)) }
+        ensures full { is_finished self.old.side ≡ false →
+            (IsErrOf result OpenFault.TooManyOpen ↔ (entry_count self.old.side ≡ MAX_ENTRIES)) }
+        ensures spent { is_finished self.old.side ≡ false →
+            entry_count self.old.side ≢ MAX_ENTRIES →
+            (IsErrOf result OpenFault.NumbersSpent ↔ (2147483647 < next_of self.old.side)) }
     {
         match self.side.open_channel() {
             Ok(number) => Ok(number),

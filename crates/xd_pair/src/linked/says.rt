@@ -111,7 +111,8 @@ impl LinkedSide {
     pub fn close(&mut self, number: u32, error: Option<Text>) -> Result<(), CloseFault>
         ensures step { OnOk result (IsMove self.old self.new (Close number error)) }
         ensures refused { IfErr result
-            (IsRefusal (close_refusal (is_seen (slot_of_number self.old.side number)) (is_long error))) }
+            (IsRefusal (close_refusal (is_seen (slot_of_number self.old.side number))
+            (is_long error))) }
         ensures err { OnErr result (Stays self.old self.new) }
     {
         if self.said.reserve(1).is_err() {
@@ -130,7 +131,8 @@ impl LinkedSide {
     pub fn end_function(&mut self, number: u32, error: Option<Text>) -> Result<(), CloseFault>
         ensures step { OnOk result (IsMove self.old self.new (End_function number error)) }
         ensures refused { IfErr result
-            (IsRefusal (close_refusal (is_seen (slot_of_number self.old.side number)) (is_long error))) }
+            (IsRefusal (close_refusal (is_seen (slot_of_number self.old.side number))
+            (is_long error))) }
         ensures err { OnErr result (Stays self.old self.new) }
     {
         if self.said.reserve(1).is_err() {

@@ -29,8 +29,13 @@ impl RunTests {
 
     /// Puts a test at the queue's end. The answer is false where it is beyond the suite or stands in the line.
     fn append(&mut self, test: u32) -> Result<bool, OutOfMemory>
-        ensures others { self.new ≡ record self.old { queue = self.new.queue; stands = self.new.stands } }
-        ensures appends { IfOk result (Appends self.old.stands.items self.old.queue.items self.new.stands.items self.new.queue.items (test ∷ [])) }
+        ensures others { self.new ≡ record self.old {
+          queue = self.new.queue;
+          stands = self.new.stands;
+        } }
+        ensures appends { IfOk result
+            (Appends self.old.stands.items self.old.queue.items self.new.stands.items
+            self.new.queue.items (test ∷ [])) }
     {
         if !self.is_free(test) {
             return Ok(false);
@@ -42,8 +47,11 @@ impl RunTests {
 
     /// Puts tests at the queue's end. Where the answer is false the queue is of no use from then on.
     fn append_all(&mut self, tests: &[u32]) -> Result<bool, OutOfMemory>
-        ensures others { OnOk result (self.new ≡ record self.old { queue = self.new.queue; stands = self.new.stands }) }
-        ensures appends { IfOk result (Appends self.old.stands.items self.old.queue.items self.new.stands.items self.new.queue.items tests.now) }
+        ensures others { OnOk result
+            (self.new ≡ record self.old { queue = self.new.queue; stands = self.new.stands }) }
+        ensures appends { IfOk result
+            (Appends self.old.stands.items self.old.queue.items self.new.stands.items
+            self.new.queue.items tests.now) }
     {
         for test in tests {
             if !self.append(*test)? {
@@ -55,7 +63,8 @@ impl RunTests {
 
     /// Tests are given: they stand at the line's end, or the command is bad.
     fn give(&mut self, acts: &mut Acts, tests: &[u32], room: bool) -> Result<(), OutOfMemory>
-        ensures { (t : Turn) → t.call.phase ≡ Serving → Stands self.old acts.old t → OnOk result (Stands self.new acts.new (given room tests.now t)) }
+        ensures { (t : Turn) → t.call.phase ≡ Serving → Stands self.old acts.old t →
+            OnOk result (Stands self.new acts.new (given room tests.now t)) }
     {
         if self.append_all(tests)? {
             self.settle(acts, room)
@@ -65,7 +74,10 @@ impl RunTests {
     }
 
     fn mark(&mut self) -> Result<(), OutOfMemory>
-        ensures others { self.new ≡ record self.old { queue = self.new.queue; stands = self.new.stands } }
+        ensures others { self.new ≡ record self.old {
+          queue = self.new.queue;
+          stands = self.new.stands;
+        } }
         ensures stands { self.new.stands.items ≡ self.old.stands.items }
         ensures queue { OnOk result (self.new.queue.items ≡ self.old.queue.items ++ Mark ∷ []) }
     {
@@ -75,7 +87,8 @@ impl RunTests {
 
     /// A shutdown mark stands at the line's end.
     fn shut(&mut self, acts: &mut Acts, room: bool) -> Result<(), OutOfMemory>
-        ensures { (t : Turn) → t.call.phase ≡ Serving → Stands self.old acts.old t → OnOk result (Stands self.new acts.new (told room (Some Shutdown) t)) }
+        ensures { (t : Turn) → t.call.phase ≡ Serving → Stands self.old acts.old t →
+            OnOk result (Stands self.new acts.new (told room (Some Shutdown) t)) }
     {
         self.mark()?;
         self.settle(acts, room)
@@ -94,7 +107,8 @@ impl RunTests {
 
     /// An item of the channel while the function serves.
     fn tell(&mut self, acts: &mut Acts, item: Option<Order>, room: bool) -> Result<(), OutOfMemory>
-        ensures { (t : Turn) → t.call.phase ≡ Serving → Stands self.old acts.old t → OnOk result (Stands self.new acts.new (told room item t)) }
+        ensures { (t : Turn) → t.call.phase ≡ Serving → Stands self.old acts.old t →
+            OnOk result (Stands self.new acts.new (told room item t)) }
     {
         match item {
             None => self.end_early(acts, Ending::BadCommand),
@@ -115,7 +129,8 @@ impl RunTests {
         item: Option<Order>,
         room: bool,
     ) -> Result<(), OutOfMemory>
-        ensures { (t : Turn) → t.call.phase ≡ self.old.phase → Stands self.old acts.old t → OnOk result (Stands self.new acts.new (heard_in self.old.phase room item t)) }
+        ensures { (t : Turn) → t.call.phase ≡ self.old.phase → Stands self.old acts.old t →
+            OnOk result (Stands self.new acts.new (heard_in self.old.phase room item t)) }
     {
         match self.phase {
             Phase::Awaiting => {
@@ -134,7 +149,8 @@ impl RunTests {
         mut waiting: VecDeque<Option<Order>>,
         room: bool,
     ) -> Result<(), OutOfMemory>
-        ensures { (t : Turn) → Stands self.old acts.old t → OnOk result (Stands self.new acts.new (all_heard room waiting.items t)) }
+        ensures { (t : Turn) → Stands self.old acts.old t →
+            OnOk result (Stands self.new acts.new (all_heard room waiting.items t)) }
     {
         while let Some(item) = waiting.pop_front() {
             self.hear(acts, item, room)?;

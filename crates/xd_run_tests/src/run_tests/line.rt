@@ -18,7 +18,8 @@ impl RunTests {
 
     /// The function ends.
     pub(super) fn finish(&mut self, acts: &mut Acts, text: Option<Text>) -> Result<(), OutOfMemory>
-        ensures { (t : Turn) → HoldsInAnyPhase self.old acts.old t → OnOk result (Stands self.new acts.new (over text t)) }
+        ensures { (t : Turn) → HoldsInAnyPhase self.old acts.old t →
+            OnOk result (Stands self.new acts.new (over text t)) }
     {
         request(acts, Ask::End(text))?;
         self.phase = Phase::Over;
@@ -36,7 +37,8 @@ impl RunTests {
 
     /// An early end, which waits for the running test.
     pub(super) fn end_early(&mut self, acts: &mut Acts, ending: Ending) -> Result<(), OutOfMemory>
-        ensures { (t : Turn) → HoldsInAnyPhase self.old acts.old t → OnOk result (Stands self.new acts.new (ended_early ending t)) }
+        ensures { (t : Turn) → HoldsInAnyPhase self.old acts.old t →
+            OnOk result (Stands self.new acts.new (ended_early ending t)) }
     {
         if self.running.is_some() {
             self.phase = Phase::Ending(ending);
@@ -49,10 +51,15 @@ impl RunTests {
 
     /// The queue's front becomes the next entry.
     fn advance(&mut self)
-        ensures queue { self.old.queue.items ≡ option_to_list self.new.next ++ self.new.queue.items }
+        ensures queue { self.old.queue.items ≡ option_to_list self.new.next
+            ++ self.new.queue.items }
         ensures none { self.new.next ≡ None → self.new.queue.items ≡ [] }
         ensures stands { self.new.stands.items ≡ passing_some self.old.stands.items self.new.next }
-        ensures others { self.new ≡ record self.old { queue = self.new.queue; next = self.new.next; stands = self.new.stands } }
+        ensures others { self.new ≡ record self.old {
+          queue = self.new.queue;
+          next = self.new.next;
+          stands = self.new.stands;
+        } }
     {
         self.next = self.queue.pop_front();
         if let Some(LineEntry::Test(test)) = self.next {
@@ -64,7 +71,8 @@ impl RunTests {
 
     /// Where there is no next entry, the queue's front is it.
     fn ready(&mut self)
-        ensures call { (c : FunctionCall) → c.phase ≡ Serving → self.old.running ≡ None → IsCall self.old c → IsCall self.new c }
+        ensures call { (c : FunctionCall) → c.phase ≡ Serving → self.old.running ≡ None →
+            IsCall self.old c → IsCall self.new c }
         ensures ready { self.new.next ≡ None → self.new.queue.items ≡ [] }
         ensures running { self.new.running ≡ self.old.running }
     {
@@ -81,7 +89,10 @@ impl RunTests {
 
     /// The next test runs, where the side has a channel for its log.
     fn start(&mut self, acts: &mut Acts, test: u32, room: bool) -> Result<(), OutOfMemory>
-        ensures { (t : Turn) (p : LineEntry) (q : List LineEntry) → t.call.phase ≡ Serving → self.old.running ≡ None → self.old.next ≡ Some (Test test) → self.old.queue.items ≡ p ∷ q → Moves self.old acts.old t → OnOk result (Stands self.new acts.new (moved_on room (Test test ∷ (p ∷ q)) t)) }
+        ensures { (t : Turn) (p : LineEntry) (q : List LineEntry) → t.call.phase ≡ Serving →
+            self.old.running ≡ None → self.old.next ≡ Some (Test test) →
+            self.old.queue.items ≡ p ∷ q → Moves self.old acts.old t →
+            OnOk result (Stands self.new acts.new (moved_on room (Test test ∷ (p ∷ q)) t)) }
     {
         if room && self.next_log <= 2147483647 {
             let log = self.next_log;
@@ -100,7 +111,9 @@ impl RunTests {
 
     /// Where nothing runs, a mark that is reached ends the function, and a test with an entry after it starts.
     fn move_on(&mut self, acts: &mut Acts, room: bool) -> Result<(), OutOfMemory>
-        ensures { (t : Turn) → t.call.phase ≡ Serving → self.old.running ≡ None → Stands self.old acts.old t → OnOk result (Stands self.new acts.new (moved_on room (left t.call) t)) }
+        ensures { (t : Turn) → t.call.phase ≡ Serving → self.old.running ≡ None →
+            Stands self.old acts.old t →
+            OnOk result (Stands self.new acts.new (moved_on room (left t.call) t)) }
     {
         match self.next {
             None => Ok(()),
@@ -119,7 +132,8 @@ impl RunTests {
     }
 
     pub(super) fn settle(&mut self, acts: &mut Acts, room: bool) -> Result<(), OutOfMemory>
-        ensures { (t : Turn) → t.call.phase ≡ Serving → Moves self.old acts.old t → OnOk result (Stands self.new acts.new (line_settled room t)) }
+        ensures { (t : Turn) → t.call.phase ≡ Serving → Moves self.old acts.old t →
+            OnOk result (Stands self.new acts.new (line_settled room t)) }
     {
         if self.running.is_some() {
             return Ok(());

@@ -19,7 +19,9 @@ impl RunTests {
         ms: u64,
         room: bool,
     ) -> Result<(), OutOfMemory>
-        ensures { (t : Turn) → Stands self.old acts.old t → OnOk result (Stands self.new acts.new (done_of (test_of self.old.running) self.old.phase room outcome ms t)) }
+        ensures { (t : Turn) → Stands self.old acts.old t →
+            OnOk result (Stands self.new acts.new
+            (done_of (test_of self.old.running) self.old.phase room outcome ms t)) }
     {
         match self.running {
             None => Ok(()),
@@ -49,7 +51,8 @@ impl RunTests {
         outcome: Outcome,
         ms: u64,
     ) -> Result<(), OutOfMemory>
-        ensures { (t : Turn) → self.old.running ≡ Some running → Stands self.old acts.old t → OnOk result (Moves self.new acts.new (told_done running.test outcome ms t)) }
+        ensures { (t : Turn) → self.old.running ≡ Some running → Stands self.old acts.old t →
+            OnOk result (Moves self.new acts.new (told_done running.test outcome ms t)) }
     {
         let close = Ask::CloseLog { log: running.log };
         let done = What::Done {
@@ -70,7 +73,8 @@ impl RunTests {
         running: Running,
         bytes: Blob,
     ) -> Result<(), OutOfMemory>
-        ensures { (t : Turn) → self.old.running ≡ Some running → Stands self.old acts.old t → OnOk result (Stands self.new acts.new (put_out bytes t)) }
+        ensures { (t : Turn) → self.old.running ≡ Some running → Stands self.old acts.old t →
+            OnOk result (Stands self.new acts.new (put_out bytes t)) }
     {
         let all = bytes.as_slice();
         let left = (MOST_OF_ONE as usize).saturating_sub(self.sent);
@@ -90,7 +94,9 @@ impl RunTests {
     }
 
     pub(super) fn hear_output(&mut self, acts: &mut Acts, bytes: Blob) -> Result<(), OutOfMemory>
-        ensures { (t : Turn) → Stands self.old acts.old t → OnOk result (Stands self.new acts.new (output_fed (test_of self.old.running) self.old.phase bytes t)) }
+        ensures { (t : Turn) → Stands self.old acts.old t →
+            OnOk result (Stands self.new acts.new
+            (output_fed (test_of self.old.running) self.old.phase bytes t)) }
     {
         match self.running {
             None => Ok(()),

@@ -91,7 +91,11 @@ impl RunTests {
         left: &mut VecDeque<LineEntry>,
     ) -> Result<(), OutOfMemory>
         ensures others { self.new ≡ record self.old { stands = self.new.stands } }
-        ensures sorted { (ns : List ℕ) (before : List Standing) (queue rest : List LineEntry) → AreMarked marks.now ns → TakenOut ns before queue self.old.stands.items (entry ∷ rest) back.old.items left.old.items → OnOk result (TakenOut ns before queue self.new.stands.items rest back.new.items left.new.items) }
+        ensures sorted { (ns : List ℕ) (before : List Standing) (queue rest : List LineEntry) →
+            AreMarked marks.now ns → TakenOut ns before queue self.old.stands.items
+            (entry ∷ rest) back.old.items left.old.items →
+            OnOk result (TakenOut ns before queue self.new.stands.items rest back.new.items
+            left.new.items) }
     {
         match entry {
             LineEntry::Test(test) => {
@@ -109,8 +113,11 @@ impl RunTests {
 
     /// The marked tests leave the queue.
     fn take_out(&mut self, marks: &[bool]) -> Result<Vec<u32>, OutOfMemory>
-        ensures others { OnOk result (self.new ≡ record self.old { queue = self.new.queue; stands = self.new.stands }) }
-        ensures taken { (ns : List ℕ) → AreMarked marks.now ns → IfOk result (λ back. TakenOut ns self.old.stands.items self.old.queue.items self.new.stands.items [] back.items self.new.queue.items) }
+        ensures others { OnOk result
+            (self.new ≡ record self.old { queue = self.new.queue; stands = self.new.stands }) }
+        ensures taken { (ns : List ℕ) → AreMarked marks.now ns →
+            IfOk result (λ back. TakenOut ns self.old.stands.items self.old.queue.items
+            self.new.stands.items [] back.items self.new.queue.items) }
     {
         let mut back = Vec::new(self.alloc);
         let mut left = VecDeque::new(self.alloc);
@@ -123,7 +130,8 @@ impl RunTests {
 
     /// Asked tests go back, where all of them are in the queue.
     pub(super) fn steal(&mut self, acts: &mut Acts, tests: &[u32]) -> Result<(), OutOfMemory>
-        ensures { (t : Turn) → t.call.phase ≡ Serving → Stands self.old acts.old t → OnOk result (Stands self.new acts.new (stolen_if tests.now t)) }
+        ensures { (t : Turn) → t.call.phase ≡ Serving → Stands self.old acts.old t →
+            OnOk result (Stands self.new acts.new (stolen_if tests.now t)) }
     {
         match self.asked_tests(tests)? {
             Asked::Bad => self.end_early(acts, Ending::BadCommand),

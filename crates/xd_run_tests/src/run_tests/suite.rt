@@ -17,7 +17,8 @@ impl RunTests {
 
     /// The receiving direction of the channel ended.
     pub(super) fn end_hearing(&mut self, acts: &mut Acts) -> Result<(), OutOfMemory>
-        ensures { (t : Turn) → Stands self.old acts.old t → OnOk result (Stands self.new acts.new (receiving_ended_in self.old.phase t)) }
+        ensures { (t : Turn) → Stands self.old acts.old t →
+            OnOk result (Stands self.new acts.new (receiving_ended_in self.old.phase t)) }
     {
         match self.phase {
             Phase::Awaiting | Phase::Serving => self.end_early(acts, Ending::ReceivingEnded),
@@ -27,7 +28,8 @@ impl RunTests {
 
     /// The suite cannot be taken.
     pub(super) fn refuse(&mut self, acts: &mut Acts, text: Text) -> Result<(), OutOfMemory>
-        ensures { (t : Turn) → Stands self.old acts.old t → OnOk result (Stands self.new acts.new (suite_refused_in self.old.phase text t)) }
+        ensures { (t : Turn) → Stands self.old acts.old t →
+            OnOk result (Stands self.new acts.new (suite_refused_in self.old.phase text t)) }
     {
         match self.phase {
             Phase::Awaiting => self.finish(acts, Some(text)),
@@ -50,7 +52,8 @@ impl RunTests {
         room: bool,
     ) -> Result<(), OutOfMemory>
         requires { length ids < 2 ^ 32 }
-        ensures { (t : Turn) → Stands self.old acts.old t → OnOk result (Stands self.new acts.new (collected_in self.old.phase room ids t)) }
+        ensures { (t : Turn) → Stands self.old acts.old t →
+            OnOk result (Stands self.new acts.new (collected_in self.old.phase room ids t)) }
     {
         match self.phase {
             Phase::Awaiting => {
@@ -65,7 +68,8 @@ impl RunTests {
     /// The function serves a suite of that many tests from now on. What waited is handed out.
     fn open(&mut self, size: u32) -> Result<VecDeque<Option<Order>>, OutOfMemory>
         ensures waited { IfOk result (λ w. w.items ≡ self.old.waiting.items) }
-        ensures opened { (c : FunctionCall) → IsCall self.old c → OnOk result (IsCall self.new (serving_suite size c)) }
+        ensures opened { (c : FunctionCall) → IsCall self.old c →
+            OnOk result (IsCall self.new (serving_suite size c)) }
         ensures ready { OnOk result (self.new.queue.items ≡ []) }
     {
         self.stands = vec![in self.alloc; Standing::Free; size as usize]?;

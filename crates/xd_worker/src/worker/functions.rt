@@ -33,7 +33,8 @@ impl WorkerCore {
         number: u32,
         fault: CallFault,
     ) -> Result<(), OutOfMemory>
-        ensures { (t : Turn) → Stands self.old acts.old t → OnOk result (Stands self.new acts.new (refused number fault t)) }
+        ensures { (t : Turn) → Stands self.old acts.old t →
+            OnOk result (Stands self.new acts.new (refused number fault t)) }
     {
         let text = self.error_of(fault)?;
         end_function(&mut self.side, &mut acts.say, number, Some(text), None)?;
@@ -58,7 +59,8 @@ impl WorkerCore {
         number: u32,
         text: Option<Text>,
     ) -> Result<(), OutOfMemory>
-        ensures { (t : Turn) → Stands self.old acts.old t → OnOk result (Stands self.new acts.new (failed number text t)) }
+        ensures { (t : Turn) → Stands self.old acts.old t →
+            OnOk result (Stands self.new acts.new (failed number text t)) }
     {
         let other = fail_word(self.alloc)?;
         let text = self.text_or_fail(text)?;
@@ -73,7 +75,8 @@ impl WorkerCore {
     }
 
     fn begin_echo(&mut self, number: u32) -> Result<(), OutOfMemory>
-        ensures { (a : WorkerActions) (t : Turn) → Stands self.old a t → OnOk result (Stands self.new a (echo_begun number t)) }
+        ensures { (a : WorkerActions) (t : Turn) → Stands self.old a t →
+            OnOk result (Stands self.new a (echo_begun number t)) }
     {
         self.echoes.push(number)?;
         begin_function(&mut self.side, number);
@@ -87,7 +90,8 @@ impl WorkerCore {
         suite: Text,
         mode: ModeKind,
     ) -> Result<(), OutOfMemory>
-        ensures { (t : Turn) → Stands self.old acts.old t → OnOk result (Stands self.new acts.new (tests_begun number suite mode t)) }
+        ensures { (t : Turn) → Stands self.old acts.old t →
+            OnOk result (Stands self.new acts.new (tests_begun number suite mode t)) }
     {
         begin_function(&mut self.side, number);
         tell(
@@ -114,7 +118,8 @@ impl WorkerCore {
         number: u32,
         function: Function,
     ) -> Result<(), OutOfMemory>
-        ensures { (t : Turn) → Stands self.old acts.old t → OnOk result (Stands self.new acts.new (called number (Runs function) t)) }
+        ensures { (t : Turn) → Stands self.old acts.old t →
+            OnOk result (Stands self.new acts.new (called number (Runs function) t)) }
     {
         match function {
             Function::Echo => {
@@ -138,7 +143,8 @@ impl WorkerCore {
         number: u32,
         call: Called,
     ) -> Result<(), OutOfMemory>
-        ensures { (t : Turn) → Stands self.old acts.old t → OnOk result (Stands self.new acts.new (called number call t)) }
+        ensures { (t : Turn) → Stands self.old acts.old t →
+            OnOk result (Stands self.new acts.new (called number call t)) }
     {
         match call {
             Called::Runs(function) => {
@@ -159,7 +165,9 @@ impl WorkerCore {
         number: u32,
         value: &Value,
     ) -> Result<(), OutOfMemory>
-        ensures { (t : Turn) → Stands self.old acts.old t → OnOk result (Stands self.new acts.new (called number (called_in (is_called t.duties.service) (view value.now)) t)) }
+        ensures { (t : Turn) → Stands self.old acts.old t →
+            OnOk result (Stands self.new acts.new
+            (called number (called_in (is_called t.duties.service) (view value.now)) t)) }
     {
         let call = read_call(value, self.tests_call.is_some())?;
         self.begin(acts, number, call)?;
@@ -173,7 +181,8 @@ impl WorkerCore {
         number: u32,
         text: Option<Text>,
     ) -> Result<(), OutOfMemory>
-        ensures { (t : Turn) → Stands self.old acts.old t → OnOk result (Stands self.new acts.new (echo_ended number text t)) }
+        ensures { (t : Turn) → Stands self.old acts.old t →
+            OnOk result (Stands self.new acts.new (echo_ended number text t)) }
     {
         end_function(&mut self.side, &mut acts.say, number, text, None)?;
         self.forget_echo(number);
@@ -202,7 +211,8 @@ impl WorkerCore {
         number: u32,
         value: &Value,
     ) -> Result<(), OutOfMemory>
-        ensures { (t : Turn) → Stands self.old acts.old t → OnOk result (Stands self.new acts.new (echoed number (view value.now) t)) }
+        ensures { (t : Turn) → Stands self.old acts.old t →
+            OnOk result (Stands self.new acts.new (echoed number (view value.now) t)) }
     {
         match send(&mut self.side, &mut acts.say, number, value)? {
             Sent::Said => Ok(()),

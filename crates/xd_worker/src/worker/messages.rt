@@ -41,7 +41,8 @@ impl WorkerCore {
 
     // The channel is that of `run_tests`.
     fn is_service(&self, number: u32) -> bool
-        ensures { (s : Option Service) → AreServices self.now.tests_call s → result ≡ is_service s number }
+        ensures { (s : Option Service) → AreServices self.now.tests_call s →
+            result ≡ is_service s number }
     {
         match &self.tests_call {
             None => false,
@@ -56,7 +57,8 @@ impl WorkerCore {
         channels: u32,
     ) -> Result<(), OutOfMemory>
         requires { number ≤ 2147483647 }
-        ensures { (t : Turn) → Stands self.old acts.old t → OnOk result (Stands self.new acts.new (did (taken.Status number) channels t)) }
+        ensures { (t : Turn) → Stands self.old acts.old t →
+            OnOk result (Stands self.new acts.new (did (taken.Status number) channels t)) }
     {
         let functions = self.functions();
         tell_status(self.alloc, &mut acts.say, number, channels, functions)?;
@@ -71,7 +73,10 @@ impl WorkerCore {
         value: &Value,
         channels: u32,
     ) -> Result<(), OutOfMemory>
-        ensures { (t : Turn) → Stands self.old acts.old t → AllOpen (did (taken.Handed number (view value.now)) channels t).logs → OnOk result (Stands self.new acts.new (did (taken.Handed number (view value.now)) channels t)) }
+        ensures { (t : Turn) → Stands self.old acts.old t →
+            AllOpen (did (taken.Handed number (view value.now)) channels t).logs →
+            OnOk result (Stands self.new acts.new
+            (did (taken.Handed number (view value.now)) channels t)) }
     {
         if self.is_service(number) {
             let order = value_order(self.alloc, value)?;
@@ -90,7 +95,9 @@ impl WorkerCore {
         number: u32,
         channels: u32,
     ) -> Result<(), OutOfMemory>
-        ensures { (t : Turn) (end : End) → Stands self.old acts.old t → AllOpen (did (taken.EndHanded number end) channels t).logs → OnOk result (Stands self.new acts.new (did (taken.EndHanded number end) channels t)) }
+        ensures { (t : Turn) (end : End) → Stands self.old acts.old t →
+            AllOpen (did (taken.EndHanded number end) channels t).logs →
+            OnOk result (Stands self.new acts.new (did (taken.EndHanded number end) channels t)) }
     {
         if self.is_service(number) {
             self.feed(acts, Input::ReceivingEnded, channels)?;
@@ -109,7 +116,9 @@ impl WorkerCore {
         channels: u32,
     ) -> Result<(), OutOfMemory>
         requires { IsSmall (taken_tree taken) }
-        ensures { (t : Turn) → Stands self.old acts.old t → AllOpen (did (taken_tree taken) channels t).logs → OnOk result (Stands self.new acts.new (did (taken_tree taken) channels t)) }
+        ensures { (t : Turn) → Stands self.old acts.old t →
+            AllOpen (did (taken_tree taken) channels t).logs →
+            OnOk result (Stands self.new acts.new (did (taken_tree taken) channels t)) }
     {
         match taken {
             Taken::Status(number) => {
@@ -143,7 +152,10 @@ impl WorkerCore {
         taken: Taken,
     ) -> Result<(), OutOfMemory>
         requires { IsSmall (taken_tree taken) }
-        ensures { OnOk result ((n : ℕ) × Counts (slot_of_number self.old.side) n × ((t : Turn) → Stands self.old acts.old t → AllOpen (did_unless t.duties.stopped (taken_tree taken) n t).logs → Stands self.new acts.new (did_unless t.duties.stopped (taken_tree taken) n t))) }
+        ensures { OnOk result ((n : ℕ) × Counts (slot_of_number self.old.side) n
+            × ((t : Turn) → Stands self.old acts.old t →
+            AllOpen (did_unless t.duties.stopped (taken_tree taken) n t).logs →
+            Stands self.new acts.new (did_unless t.duties.stopped (taken_tree taken) n t))) }
     {
         let channels = self.channels();
         if self.stopped {
@@ -159,9 +171,12 @@ impl WorkerCore {
         acts: &mut WorkerActions,
         message: Message,
     ) -> Result<(), WorkerFault>
-        ensures does { (w : Worker) → Stands self.old acts.old (turn_of w) → LogsOpen w → OnOk result (Does self.new acts.new w (MessageCame message)) }
-        ensures refused { (w : Worker) → Stands self.old acts.old (turn_of w) → IfErr result (FaultHasReason w (MessageCame message)) }
-        ensures refuses { (w : Worker) (fault : SideFault) → Stands self.old acts.old (turn_of w) → IsToRefuse w (MessageCame message) fault → IsThisFault fault result }
+        ensures does { (w : Worker) → Stands self.old acts.old (turn_of w) → LogsOpen w →
+            OnOk result (Does self.new acts.new w (MessageCame message)) }
+        ensures refused { (w : Worker) → Stands self.old acts.old (turn_of w) →
+            IfErr result (FaultHasReason w (MessageCame message)) }
+        ensures refuses { (w : Worker) (fault : SideFault) → Stands self.old acts.old (turn_of w) →
+            IsToRefuse w (MessageCame message) fault → IsThisFault fault result }
     {
         let number = message.channel;
         let taken = match take(&mut self.side, number, message) {
@@ -176,7 +191,8 @@ impl WorkerCore {
 
     // The link ended.
     pub(super) fn take_link_end(&mut self, acts: &mut WorkerActions) -> Result<(), OutOfMemory>
-        ensures { (w : Worker) → Stands self.old acts.old (turn_of w) → LogsOpen w → OnOk result (Does self.new acts.new w LinkEnd) }
+        ensures { (w : Worker) → Stands self.old acts.old (turn_of w) → LogsOpen w →
+            OnOk result (Does self.new acts.new w LinkEnd) }
     {
         lose(&mut self.side)?;
         let channels = self.channels();
@@ -209,9 +225,11 @@ fn fault_of(fault: SideFault) -> WorkerFault
 fn take(side: &mut Side, number: u32, message: Message) -> Result<Taken, WorkerFault>
     requires small { number ≤ 2147483647 }
     requires number { number ≡ message.channel }
-    ensures heard { IfOk result (TakesMessage message (channel_table side.old) (channel_table side.new)) }
+    ensures heard { IfOk result
+        (TakesMessage message (channel_table side.old) (channel_table side.new)) }
     ensures refused { IfErr result (IsFaultAt (channel_table side.old) message) }
-    ensures refuses { (fault : SideFault) → RefusedAt (channel_table side.old) message fault → IsThisFault fault result }
+    ensures refuses { (fault : SideFault) → RefusedAt (channel_table side.old) message fault →
+        IsThisFault fault result }
 {
     // Why a message is refused is told by how many channels there are.
     prove!(side.status() <= xd_factory::MAX_ENTRIES);

@@ -22,7 +22,8 @@ impl WorkerCore {
 
     // The ids of a suite, in the mode of the call.
     fn ids(&self, suite: &Suite) -> Result<Texts, OutOfMemory>
-        ensures ids { (s : Option Service) → AreServices self.now.tests_call s → IfOk result (λ ids. ids ≡ ids_of s suite.now) }
+        ensures ids { (s : Option Service) → AreServices self.now.tests_call s →
+            IfOk result (λ ids. ids ≡ ids_of s suite.now) }
         ensures few { IfOk result (λ ids. length ids < 2 ^ 32) }
     {
         match &self.tests_call {
@@ -43,7 +44,9 @@ impl WorkerCore {
         suite: Suite,
         channels: u32,
     ) -> Result<(), OutOfMemory>
-        ensures { (t : Turn) → Stands self.old acts.old t → AllOpen (suite_read suite channels t).logs → OnOk result (Stands self.new acts.new (suite_read suite channels t)) }
+        ensures { (t : Turn) → Stands self.old acts.old t →
+            AllOpen (suite_read suite channels t).logs →
+            OnOk result (Stands self.new acts.new (suite_read suite channels t)) }
     {
         let ids = self.ids(&suite)?;
         let input = collection(self.alloc, ids)?;
@@ -59,7 +62,9 @@ impl WorkerCore {
         text: Text,
         channels: u32,
     ) -> Result<(), OutOfMemory>
-        ensures { (t : Turn) → Stands self.old acts.old t → AllOpen (suite_refused text channels t).logs → OnOk result (Stands self.new acts.new (suite_refused text channels t)) }
+        ensures { (t : Turn) → Stands self.old acts.old t →
+            AllOpen (suite_refused text channels t).logs →
+            OnOk result (Stands self.new acts.new (suite_refused text channels t)) }
     {
         self.owed = false;
         self.feed(acts, Input::SuiteRefused(text), channels)?;
@@ -72,7 +77,8 @@ impl WorkerCore {
         acts: &mut WorkerActions,
         bytes: Blob,
     ) -> Result<(), OutOfMemory>
-        ensures { (w : Worker) → Stands self.old acts.old (turn_of w) → LogsOpen w → OnOk result (Does self.new acts.new w (SuiteBytes bytes)) }
+        ensures { (w : Worker) → Stands self.old acts.old (turn_of w) → LogsOpen w →
+            OnOk result (Does self.new acts.new w (SuiteBytes bytes)) }
     {
         let channels = self.channels();
         match read_suite(self.alloc, &bytes)? {
@@ -93,7 +99,9 @@ impl WorkerCore {
         suite: Suite,
         channels: u32,
     ) -> Result<(), OutOfMemory>
-        ensures { (t : Turn) → Stands self.old acts.old t → AllOpen (turned (SuiteRead suite) channels t).logs → OnOk result (Stands self.new acts.new (turned (SuiteRead suite) channels t)) }
+        ensures { (t : Turn) → Stands self.old acts.old t →
+            AllOpen (turned (SuiteRead suite) channels t).logs →
+            OnOk result (Stands self.new acts.new (turned (SuiteRead suite) channels t)) }
     {
         if self.owed {
             self.hold(acts, suite, channels)?;
@@ -107,7 +115,9 @@ impl WorkerCore {
         text: Text,
         channels: u32,
     ) -> Result<(), OutOfMemory>
-        ensures { (t : Turn) → Stands self.old acts.old t → AllOpen (turned (NoSuite text) channels t).logs → OnOk result (Stands self.new acts.new (turned (NoSuite text) channels t)) }
+        ensures { (t : Turn) → Stands self.old acts.old t →
+            AllOpen (turned (NoSuite text) channels t).logs →
+            OnOk result (Stands self.new acts.new (turned (NoSuite text) channels t)) }
     {
         if self.owed {
             self.refuse_suite(acts, text, channels)?;
@@ -117,7 +127,8 @@ impl WorkerCore {
 
     // The suite file is too large.
     pub(super) fn take_large(&mut self, acts: &mut WorkerActions) -> Result<(), OutOfMemory>
-        ensures { (w : Worker) → Stands self.old acts.old (turn_of w) → LogsOpen w → OnOk result (Does self.new acts.new w SuiteTooLarge) }
+        ensures { (w : Worker) → Stands self.old acts.old (turn_of w) → LogsOpen w →
+            OnOk result (Does self.new acts.new w SuiteTooLarge) }
     {
         let channels = self.channels();
         let text = large_suite_word(self.alloc)?;
@@ -127,7 +138,8 @@ impl WorkerCore {
 
     // The suite file cannot be read.
     pub(super) fn take_unread(&mut self, acts: &mut WorkerActions) -> Result<(), OutOfMemory>
-        ensures { (w : Worker) → Stands self.old acts.old (turn_of w) → LogsOpen w → OnOk result (Does self.new acts.new w SuiteUnread) }
+        ensures { (w : Worker) → Stands self.old acts.old (turn_of w) → LogsOpen w →
+            OnOk result (Does self.new acts.new w SuiteUnread) }
     {
         let channels = self.channels();
         let text = unread_suite_word(self.alloc)?;
@@ -141,7 +153,8 @@ impl WorkerCore {
         acts: &mut WorkerActions,
         bytes: Blob,
     ) -> Result<(), OutOfMemory>
-        ensures { (w : Worker) → Stands self.old acts.old (turn_of w) → LogsOpen w → OnOk result (Does self.new acts.new w (Output bytes)) }
+        ensures { (w : Worker) → Stands self.old acts.old (turn_of w) → LogsOpen w →
+            OnOk result (Does self.new acts.new w (Output bytes)) }
     {
         let channels = self.channels();
         self.feed(acts, Input::Output(bytes), channels)?;
@@ -155,7 +168,8 @@ impl WorkerCore {
         outcome: Outcome,
         ms: u64,
     ) -> Result<(), OutOfMemory>
-        ensures { (w : Worker) → Stands self.old acts.old (turn_of w) → LogsOpen w → OnOk result (Does self.new acts.new w (ChildDone outcome ms)) }
+        ensures { (w : Worker) → Stands self.old acts.old (turn_of w) → LogsOpen w →
+            OnOk result (Does self.new acts.new w (ChildDone outcome ms)) }
     {
         let channels = self.channels();
         self.feed(acts, Input::Done { outcome, ms }, channels)?;
