@@ -1,5 +1,0 @@
-//! Tests of the ledger.
-#![tactic(auto)]
-
-#[cfg(test)]
-mod moves;
