@@ -21,13 +21,13 @@ use Rattle.xd_report_laws.proofs.Named.{names-items}
 use Rattle.xd_session.specs.Bounded.{IsBounded}
 use Rattle.xd_session.specs.Ends.{last_stop}
 use Rattle.xd_session.specs.History.{run_of}
-use Rattle.xd_session.specs.Stands.{Seen, StandsFor, state_of}
+use Rattle.xd_session.specs.Stands.{SessionSeen, StandsFor, state_of}
 use Rattle.xd_session.proofs.Steps.{sound-run}
 use Rattle.xd_drive.specs.declared.written.Written.{Written}
 use Rattle.xd_drive.specs.declared.written.Written.TheVariants.{Whole as WholeAt, Broken as BrokenAt}
 use Rattle.xd_drive.specs.Driven.{Broken, Ended, IsJournalOf, Whole, run_given}
 use Rattle.xd_drive.specs.Failing.{FailedAt}
-use Rattle.xd_drive.specs.Going.{EndsRun, Scene}
+use Rattle.xd_drive.specs.Going.{EndsRun, HubScene}
 use Rattle.xd_drive.specs.Moments.{ToldInOrder, performed_of}
 use Rattle.xd_drive.specs.Performing.{AddsAll, Performs, all_possible, is_call, is_start, kills_of_started}
 use Rattle.xd_report.specs.Printing.{ShowsEnd}
@@ -47,7 +47,7 @@ over-performs es b s0 s1 c0 c1 p = record {
   calls = subst (λ (l : List Entry). AddsAll l c0 c1) (sym (filter-append is_call es (Over (run_end_of b) ∷ []) ∙ append-nil (filter is_call es))) p.calls;
 }
 
-module _ (failed : Bool) (s : Seen) (given : List News) (j : Journal) (p : IsProper s.settings []) (same : j.settings ≡ s.settings) (entries_are : j.entries.items ≡ s.entries ++ ending failed (state_of s).books) (st : StandsFor (taken_of s.settings given) s) where
+module _ (failed : Bool) (s : SessionSeen) (given : List News) (j : Journal) (p : IsProper s.settings []) (same : j.settings ≡ s.settings) (entries_are : j.entries.items ≡ s.entries ++ ending failed (state_of s).books) (st : StandsFor (taken_of s.settings given) s) where
   ended : may_close failed (state_of s).books ≡ true → stop_of j ≡ last_stop failed (state_of s).books → Ended failed given j
   ended may stop = record {
     entries = entries_are ∙ ap (λ (es : List Entry). es ++ ending failed (state_of s).books) st.entries
@@ -60,7 +60,7 @@ module _ (failed : Bool) (s : Seen) (given : List News) (j : Journal) (p : IsPro
   text-same : text_of j ≡ run_text s.settings s.entries
   text-same = text-is j s.settings (s.entries ++ ending failed (state_of s).books) same entries_are ∙ text-behind (ending failed (state_of s).books) (silent-ending failed (state_of s).books) s.settings s.entries
 
-pub whole : (s : Seen) (j : Journal) (old new : Scene) → IsProper s.settings [] → j.settings ≡ s.settings → j.entries.items ≡ s.entries ++ ending false (state_of s).books → stop_of j ≡ last_stop false (state_of s).books → EndsRun WholeAt s old new
+pub whole : (s : SessionSeen) (j : Journal) (old new : HubScene) → IsProper s.settings [] → j.settings ≡ s.settings → j.entries.items ≡ s.entries ++ ending false (state_of s).books → stop_of j ≡ last_stop false (state_of s).books → EndsRun WholeAt s old new
     → (given : List News) × Whole given j old new
 whole s j old new p same is stop e =
     let f = e.1 in (
@@ -73,7 +73,7 @@ whole s j old new p same is stop e =
       },
     )
 
-pub kills-left : (count : ℕ) (s : Seen) (j : Journal) (old new : Scene) (slots : ℕ) → j.entries.items ≡ s.entries ++ ending true (state_of s).books → EndsRun (BrokenAt count) s old new
+pub kills-left : (count : ℕ) (s : SessionSeen) (j : Journal) (old new : HubScene) (slots : ℕ) → j.entries.items ≡ s.entries ++ ending true (state_of s).books → EndsRun (BrokenAt count) s old new
     → all_possible slots new.marks (kills_of_started (take count j.entries.items) (drop count j.entries.items)) ≡ true
 kills-left count s j old new slots is e =
     let f = e.1 in
@@ -81,7 +81,7 @@ kills-left count s j old new slots is e =
     ∙ ap (λ (es : List Entry). all_possible slots new.marks (kills_of_started es (drop count (s.entries ++ ending true (state_of s).books)))) (take-append-le count s.entries (ending true (state_of s).books) f.within)
     ∙ ap (λ (es : List Entry). all_possible slots new.marks (kills_of_started (take count s.entries) es)) (drop-append-le count s.entries (ending true (state_of s).books) f.within) ∙ f.kills slots
 
-pub broken : (count : ℕ) (s : Seen) (j : Journal) (old mid new : Scene) → IsProper s.settings [] → j.settings ≡ s.settings → j.entries.items ≡ s.entries ++ ending true (state_of s).books → stop_of j ≡ last_stop true (state_of s).books → EndsRun (BrokenAt count) s old mid
+pub broken : (count : ℕ) (s : SessionSeen) (j : Journal) (old mid new : HubScene) → IsProper s.settings [] → j.settings ≡ s.settings → j.entries.items ≡ s.entries ++ ending true (state_of s).books → stop_of j ≡ last_stop true (state_of s).books → EndsRun (BrokenAt count) s old mid
     → Performs (kills_of_started (take count j.entries.items) (drop count j.entries.items)) mid.starts new.starts mid.calls new.calls → new.given ≡ mid.given → new.sunk ≡ mid.sunk → (given : List News) × Broken count given j old new
 broken count s j old mid new p same is stop e kills given sunk =
     let f = e.1 in
@@ -102,7 +102,7 @@ broken count s j old mid new p same is stop e kills given sunk =
     )
 
 -- the journal is a whole one
-pub whole-by : (failed : Bool) (s : Seen) (j : Journal) (taken : List News) → IsProper s.settings [] → j.settings ≡ s.settings → j.entries.items ≡ s.entries ++ ending failed (state_of s).books
+pub whole-by : (failed : Bool) (s : SessionSeen) (j : Journal) (taken : List News) → IsProper s.settings [] → j.settings ≡ s.settings → j.entries.items ≡ s.entries ++ ending failed (state_of s).books
     → may_close failed (state_of s).books ≡ true → StandsFor taken s → IsWhole j
 whole-by failed s j taken p same is may st =
     let k = sound-run s.settings taken p in
@@ -117,7 +117,7 @@ whole-by failed s j taken p same is may st =
           ∙ ap (λ (x : Settings). journal_of x ins ++ ending failed (after_inputs (after_starts x) ins).books) (sym same);
     }
 
-journal-by : (failed : Bool) (s : Seen) (j : Journal) (taken : List News) → IsProper s.settings [] → j.settings ≡ s.settings → j.entries.items ≡ s.entries ++ ending failed (state_of s).books
+journal-by : (failed : Bool) (s : SessionSeen) (j : Journal) (taken : List News) → IsProper s.settings [] → j.settings ≡ s.settings → j.entries.items ≡ s.entries ++ ending failed (state_of s).books
     → may_close failed (state_of s).books ≡ true → IsLegal j → StandsFor taken s → IsJournalOf s.settings j
 journal-by failed s j taken p same is may legal st =
     let w = whole-by failed s j taken p same is may st in
@@ -136,30 +136,30 @@ slices n a b es p q =
     ap (λ (x : List Entry). kills_of_started (take n x) (take (length b - n) (drop n b))) p ∙ ap (λ (y : List Entry). kills_of_started (take n es) (take (length y - n) (drop n y))) q
     ∙ ap (kills_of_started (take n es)) (take_rest es n)
 
-module _ (settings : Settings) (s : Seen) (j : Journal) (proper : IsProper settings []) (kept : s.settings ≡ settings) (same : j.settings ≡ s.settings) (written : Written) where
+module _ (settings : Settings) (s : SessionSeen) (j : Journal) (proper : IsProper settings []) (kept : s.settings ≡ settings) (same : j.settings ≡ s.settings) (written : Written) where
   still : IsProper s.settings []
   still = subst (λ (x : Settings). IsProper x []) (sym kept) proper
 
-  pub drive-journal : (old new : Scene) → ((x : ℕ) → written ≡ BrokenAt x → ⊥) → j.entries.items ≡ s.entries ++ ending false (state_of s).books → IsLegal j → EndsRun written s old new → IsJournalOf settings j
+  pub drive-journal : (old new : HubScene) → ((x : ℕ) → written ≡ BrokenAt x → ⊥) → j.entries.items ≡ s.entries ++ ending false (state_of s).books → IsLegal j → EndsRun written s old new → IsJournalOf settings j
   drive-journal old new none is legal e =
       let f = subst (λ (o : Written). EndsRun o s old new) (whole-of written none) e in
       subst (λ (x : Settings). IsJournalOf x j) kept (journal-by false s j (taken_of s.settings (f.0)) still same is f.1.over legal f.1.stands)
 
-  pub drive-journal-broken : (count : ℕ) → written ≡ BrokenAt count → (old new : Scene) → j.entries.items ≡ s.entries ++ ending true (state_of s).books → IsLegal j → EndsRun written s old new → IsJournalOf settings j
+  pub drive-journal-broken : (count : ℕ) → written ≡ BrokenAt count → (old new : HubScene) → j.entries.items ≡ s.entries ++ ending true (state_of s).books → IsLegal j → EndsRun written s old new → IsJournalOf settings j
   drive-journal-broken count some old new is legal e =
       let f = subst (λ (o : Written). EndsRun o s old new) some e in
       subst (λ (x : Settings). IsJournalOf x j) kept (journal-by true s j (taken_of s.settings (f.0)) still same is refl legal f.1.stands)
 
-  pub drive-whole : (old new : Scene) → ((x : ℕ) → written ≡ BrokenAt x → ⊥) → j.entries.items ≡ s.entries ++ ending false (state_of s).books → stop_of j ≡ last_stop false (state_of s).books → EndsRun written s old new
+  pub drive-whole : (old new : HubScene) → ((x : ℕ) → written ≡ BrokenAt x → ⊥) → j.entries.items ≡ s.entries ++ ending false (state_of s).books → stop_of j ≡ last_stop false (state_of s).books → EndsRun written s old new
       → (given : List News) × Whole given j old new
   drive-whole old new none is stop e = whole s j old new still same is stop (subst (λ (o : Written). EndsRun o s old new) (whole-of written none) e)
 
   module _ (count : ℕ) (some : written ≡ BrokenAt count) (is : j.entries.items ≡ s.entries ++ ending true (state_of s).books) (a b : List Entry) (first : a ≡ j.entries.items) (second : b ≡ j.entries.items) where
-    pub drive-kills : (old mid : Scene) (slots : ℕ) → EndsRun written s old mid → all_possible slots mid.marks (kills_of_started (take count a) (take (length b - count) (drop count b))) ≡ true
+    pub drive-kills : (old mid : HubScene) (slots : ℕ) → EndsRun written s old mid → all_possible slots mid.marks (kills_of_started (take count a) (take (length b - count) (drop count b))) ≡ true
     drive-kills old mid slots e =
         ap (all_possible slots mid.marks) (slices count a b j.entries.items first second) ∙ kills-left count s j old mid slots is (subst (λ (o : Written). EndsRun o s old mid) some e)
 
-    pub drive-broken : (old mid new : Scene) (ms : Option (List Scene)) → stop_of j ≡ last_stop true (state_of s).books → EndsRun written s old mid → Performs (kills_of_started (take count a) (take (length b - count) (drop count b))) mid.starts new.starts mid.calls new.calls
+    pub drive-broken : (old mid new : HubScene) (ms : Option (List HubScene)) → stop_of j ≡ last_stop true (state_of s).books → EndsRun written s old mid → Performs (kills_of_started (take count a) (take (length b - count) (drop count b))) mid.starts new.starts mid.calls new.calls
         → new.given ≡ mid.given → new.sunk ≡ mid.sunk → ToldInOrder s.settings (performed_of written s.entries) s.entries old ms
         → (n : ℕ) × (given : List News) × Broken n given j old new × ToldInOrder j.settings n j.entries.items old ms
     drive-broken old mid new ms stop e kills given sunk o =

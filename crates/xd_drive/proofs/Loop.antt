@@ -23,13 +23,13 @@ use Rattle.xd_ledger.specs.Proper.{IsProper}
 use Rattle.xd_report.specs.Lines.{lines_from, lines_of, run_lines}
 use Rattle.xd_report.specs.Text.{run_tail, run_text, tail_text}
 use Rattle.xd_session.specs.History.{run_of}
-use Rattle.xd_session.specs.Stands.{Seen, StandsFor, state_of}
+use Rattle.xd_session.specs.Stands.{SessionSeen, StandsFor, state_of}
 use Rattle.xd_laws.proofs.Logic.{and, cases_of, differ}
 use Rattle.xd_laws.proofs.Members.{has}
 use Rattle.xd_drive.specs.declared.written.Written.{Written}
 use Rattle.xd_drive.specs.declared.written.Written.TheVariants.{Whole, Broken}
 use Rattle.xd_drive.specs.Agrees.{Agrees}
-use Rattle.xd_drive.specs.Going.{EndsRun, EndsTail, Finished, Going, HasNoMarks, Scene, Stopped, TakesNews, Untold}
+use Rattle.xd_drive.specs.Going.{EndsRun, EndsTail, Finished, Going, HasNoMarks, HubScene, Stopped, TakesNews, Untold}
 use Rattle.xd_drive.specs.Marks.{Marks}
 use Rattle.xd_drive.specs.Performing.{AddsAll, Performs, marks_after, marks_after_entry, all_possible, is_start_of, kills_of_started, was_started}
 use Rattle.xd_edge.specs.Printing.{BreaksOff, ShowsSome}
@@ -90,10 +90,10 @@ lines-join s (x ∷ xs) ys = ap (λ (l : List ℕ). lines_of (reached s x) x ++ 
 pub taken-more : (settings : Settings) (given : List News) (n : News) → taken_of settings (given ++ n ∷ []) ≡ taken_with settings (taken_of settings given) n
 taken-more settings given n = fold-append (taken_with settings) [] given (n ∷ [])
 
-stands-more : (given : List News) (n : News) (s0 s1 : Seen) → s1.settings ≡ s0.settings → StandsFor (taken_with s0.settings (taken_of s0.settings given) n) s1 → StandsFor (taken_of s1.settings (given ++ n ∷ [])) s1
+stands-more : (given : List News) (n : News) (s0 s1 : SessionSeen) → s1.settings ≡ s0.settings → StandsFor (taken_with s0.settings (taken_of s0.settings given) n) s1 → StandsFor (taken_of s1.settings (given ++ n ∷ [])) s1
 stands-more given n s0 s1 same st = subst (λ (t : List News). StandsFor t s1) (sym (taken-more s0.settings given n) ∙ ap (λ (x : Settings). taken_of x (given ++ n ∷ [])) (sym same)) st
 
-module _ (given : List News) (n : News) (s0 s1 : Seen) (old mid new : Scene) (g : Going given s0 old mid) where
+module _ (given : List News) (n : News) (s0 s1 : SessionSeen) (old mid new : HubScene) (g : Going given s0 old mid) where
   lines-more : (more : List Entry) → s1.settings ≡ s0.settings → s1.entries ≡ s0.entries ++ more → run_lines s1.settings s1.entries ≡ run_lines s0.settings s0.entries ++ lines_from (after_entries (no_one s0.settings) s0.entries) more
   lines-more more same is = ap (λ (x : Settings). run_lines x s1.entries) same ∙ ap (run_lines s0.settings) is ∙ lines-join (no_one s0.settings) s0.entries more
 
@@ -159,7 +159,7 @@ module _ (given : List News) (n : News) (s0 s1 : Seen) (old mid new : Scene) (g 
 
 -- the tail
 
-module _ (given : List News) (s : Seen) (old mid new : Scene) (g : Going given s old mid) (starts_same : new.starts ≡ mid.starts) (calls_same : new.calls ≡ mid.calls) (given_same : new.given ≡ mid.given) (marks_same : (w : ℕ) → new.marks w ≡ mid.marks w)
+module _ (given : List News) (s : SessionSeen) (old mid new : HubScene) (g : Going given s old mid) (starts_same : new.starts ≡ mid.starts) (calls_same : new.calls ≡ mid.calls) (given_same : new.given ≡ mid.given) (marks_same : (w : ℕ) → new.marks w ≡ mid.marks w)
     (j : Journal) (settings_are : j.settings ≡ s.settings) (entries_are : j.entries.items ≡ s.entries) where
   tail-same : tail_text j ≡ run_tail s.settings s.entries
   tail-same = tail-is j s.settings s.entries settings_are entries_are
@@ -207,7 +207,7 @@ module _ (given : List News) (s : Seen) (old mid new : Scene) (g : Going given s
 
 -- the beginning
 
-pub going-first : (s : Seen) (slots : ℕ) (old new : Scene) → s.settings.workers ≤ slots → StandsFor [] s → HasNoMarks old.marks → Performs s.entries old.starts new.starts old.calls new.calls
+pub going-first : (s : SessionSeen) (slots : ℕ) (old new : HubScene) → s.settings.workers ≤ slots → StandsFor [] s → HasNoMarks old.marks → Performs s.entries old.starts new.starts old.calls new.calls
     → ((w : ℕ) → new.marks w ≡ marks_after s.entries old.marks w) → new.given ≡ old.given → new.sunk ≡ old.sunk → Going [] s old new
 going-first s slots old new l st fresh performed marks given sunk =
     let b = starts s.settings slots old.marks l fresh in
@@ -222,39 +222,39 @@ going-first s slots old new l st fresh performed marks given sunk =
       shows = inl (ap (run_lines s.settings) st.entries ∙ first-lines s.settings, sunk);
     }
 
-pub first-possible : (s : Seen) (slots : ℕ) (marks : ℕ → Marks) (es : List Entry) → s.settings.workers ≤ slots → StandsFor [] s → HasNoMarks marks → es ≡ s.entries → all_possible slots marks es ≡ true
+pub first-possible : (s : SessionSeen) (slots : ℕ) (marks : ℕ → Marks) (es : List Entry) → s.settings.workers ≤ slots → StandsFor [] s → HasNoMarks marks → es ≡ s.entries → all_possible slots marks es ≡ true
 first-possible s slots marks es l st fresh is = ap (all_possible slots marks) (is ∙ st.entries) ∙ (starts s.settings slots marks l fresh).possible
 
 -- someone was started
 
-pub someone-first : (s : Seen) (old new : Scene) → IsProper s.settings [] → StandsFor [] s → Going [] s old new → (w : ℕ) × ((new.marks w).started ≡ true)
+pub someone-first : (s : SessionSeen) (old new : HubScene) → IsProper s.settings [] → StandsFor [] s → Going [] s old new → (w : ℕ) × ((new.marks w).started ≡ true)
 someone-first s old new p st g = (0, g.started 0 ∙ ap (was_started 0) st.entries ∙ by_count s.settings.workers p.some_worker)
   where
     by_count : (k : ℕ) → Rattle.std.specs.Prelude.nat_le 1 k ≡ true → was_started 0 (starts_from 0 k) ≡ true
     by_count zero h = absurd (differ h)
     by_count (suc k) h = refl
 
-pub someone-still : (n : News) (s0 s1 : Seen) (mid new : Scene) → TakesNews n Whole s0 s1 mid new → (w : ℕ) × ((mid.marks w).started ≡ true) → (w : ℕ) × ((new.marks w).started ≡ true)
+pub someone-still : (n : News) (s0 s1 : SessionSeen) (mid new : HubScene) → TakesNews n Whole s0 s1 mid new → (w : ℕ) × ((mid.marks w).started ≡ true) → (w : ℕ) × ((new.marks w).started ≡ true)
 someone-still n s0 s1 mid new t w = (w.0, t.told.1.started w.0 ∙ ap (λ (b : Bool). b || was_started w.0 (t.told.0)) w.1)
 
 -- what the last step of the loop comes to
 
-pub begins : (s : Seen) (slots : ℕ) (old new : Scene) (es : List Entry) → es ≡ s.entries → s.settings.workers ≤ slots → StandsFor [] s → HasNoMarks old.marks → Performs es old.starts new.starts old.calls new.calls
+pub begins : (s : SessionSeen) (slots : ℕ) (old new : HubScene) (es : List Entry) → es ≡ s.entries → s.settings.workers ≤ slots → StandsFor [] s → HasNoMarks old.marks → Performs es old.starts new.starts old.calls new.calls
     → ((w : ℕ) → new.marks w ≡ marks_after es old.marks w) → new.given ≡ old.given → new.sunk ≡ old.sunk → Going [] s old new
 begins s slots old new es is l st fresh performed marks given sunk =
     going-first s slots old new l st fresh (subst (λ (x : List Entry). Performs x old.starts new.starts old.calls new.calls) is performed) (λ w. marks w ∙ ap (λ (x : List Entry). marks_after x old.marks w) is) given sunk
 
-pub over-ends : (given : List News) (s : Seen) (old mid new : Scene) (g : Going given s old mid) (starts_same : new.starts ≡ mid.starts) (calls_same : new.calls ≡ mid.calls) (given_same : new.given ≡ mid.given) (marks_same : (w : ℕ) → new.marks w ≡ mid.marks w)
+pub over-ends : (given : List News) (s : SessionSeen) (old mid new : HubScene) (g : Going given s old mid) (starts_same : new.starts ≡ mid.starts) (calls_same : new.calls ≡ mid.calls) (given_same : new.given ≡ mid.given) (marks_same : (w : ℕ) → new.marks w ≡ mid.marks w)
     (j : Journal) → j.settings ≡ s.settings → j.entries.items ≡ s.entries → is_over (state_of s).books ≡ true → IsProper s.settings [] → (written : Written) → EndsTail written j mid.sunk new.sunk → EndsRun written s old new
 over-ends given s old mid new g a b c d j e f over p Whole t = (given, finished given s old mid new g a b c d j e f over t)
 over-ends given s old mid new g a b c d j e f over p (Broken count) t = (given, unfinished given s old mid new g a b c d j e f over p count (t.0 ∙ ap length f) t.1)
 
-pub stop-by : (given : List News) (n : News) (s0 s1 : Seen) (old mid new : Scene) → Going given s0 old mid → IsProper s0.settings [] → (written : Written) (count : ℕ) → written ≡ Broken count → TakesNews n written s0 s1 mid new → (all : List News) × Stopped all count s1 old new
+pub stop-by : (given : List News) (n : News) (s0 s1 : SessionSeen) (old mid new : HubScene) → Going given s0 old mid → IsProper s0.settings [] → (written : Written) (count : ℕ) → written ≡ Broken count → TakesNews n written s0 s1 mid new → (all : List News) × Stopped all count s1 old new
 stop-by given n s0 s1 old mid new g p written count is t = (given ++ n ∷ [], going-stop given n s0 s1 old mid new g p count (subst (λ (o : Written). TakesNews n o s0 s1 mid new) is t))
 
 pub whole-of : (o : Written) → ((x : ℕ) → o ≡ Broken x → ⊥) → o ≡ Whole
 whole-of Whole h = refl
 whole-of (Broken x) h = absurd (h x refl)
 
-pub takes-whole : (n : News) (s0 s1 : Seen) (mid new : Scene) (written : Written) → ((x : ℕ) → written ≡ Broken x → ⊥) → TakesNews n written s0 s1 mid new → TakesNews n Whole s0 s1 mid new
+pub takes-whole : (n : News) (s0 s1 : SessionSeen) (mid new : HubScene) (written : Written) → ((x : ℕ) → written ≡ Broken x → ⊥) → TakesNews n written s0 s1 mid new → TakesNews n Whole s0 s1 mid new
 takes-whole n s0 s1 mid new written h t = subst (λ (o : Written). TakesNews n o s0 s1 mid new) (whole-of written h) t

@@ -20,11 +20,11 @@ use Rattle.xd_report.specs.declared.reporter.Reporter.{Reporter}
 use Rattle.xd_report.specs.Follows.{Follows}
 use Rattle.xd_report.specs.Lines.{lines_between, lines_from}
 use Rattle.xd_session.specs.History.{Run as TheRun, input_of, run_of}
-use Rattle.xd_session.specs.Stands.{Seen, StandsFor, state_of}
+use Rattle.xd_session.specs.Stands.{SessionSeen, StandsFor, state_of}
 use Rattle.xd_laws.proofs.Logic.{split-and, split-or}
 use Rattle.xd_drive.specs.declared.written.Written.TheVariants.{Whole, Broken}
 use Rattle.xd_drive.specs.Agrees.{Agrees}
-use Rattle.xd_drive.specs.Going.{Scene, TakesNews, TellsEntries, added_by}
+use Rattle.xd_drive.specs.Going.{HubScene, TakesNews, TellsEntries, added_by}
 use Rattle.xd_drive.specs.Marks.{Marks, is_end, marked_heard}
 use Rattle.xd_drive.specs.Performing.{AddsAll, Performs, marks_after, marks_after_entry, all_possible, entries_between, is_start_of, was_started}
 use Rattle.xd_report.specs.Printing.{ShowsLines}
@@ -36,7 +36,7 @@ use Rattle.xd_drive.proofs.Runs.{in_run, run-more}
 use Rattle.xd_drive.proofs.Turns.{bounded, entries-added, heard_by, step-agrees, step-possible}
 
 -- the state of a session is the one of the run that it stands for
-pub state-is : (s : Seen) (taken : List News) → IsProper s.settings [] → StandsFor taken s → state_of s ≡ (run_of s.settings taken).state
+pub state-is : (s : SessionSeen) (taken : List News) → IsProper s.settings [] → StandsFor taken s → state_of s ≡ (run_of s.settings taken).state
 state-is s taken p st = ap (state_at s.settings) st.entries ∙ (in_run s.settings p taken).behind
 
 new_ones : (old more new : List Entry) → new ≡ old ++ more → take (length new - length old) (drop (length old) new) ≡ more
@@ -47,7 +47,7 @@ new_ones old more new is =
 old_ones : (old more new : List Entry) → new ≡ old ++ more → take (length old) new ≡ old
 old_ones old more new is = ap (take (length old)) is ∙ Rattle.std.proofs.Math.Seq.take-append_seam old more
 
-module _ (s0 s1 : Seen) (taken : List News) (n : News) (st0 : StandsFor taken s0) (st1 : StandsFor (taken ++ n ∷ []) s1) (same : s1.settings ≡ s0.settings) where
+module _ (s0 s1 : SessionSeen) (taken : List News) (n : News) (st0 : StandsFor taken s0) (st1 : StandsFor (taken ++ n ∷ []) s1) (same : s1.settings ≡ s0.settings) where
   abbrev more : List Entry
   more = added_by s0.settings taken n
 
@@ -80,7 +80,7 @@ module _ (s0 s1 : Seen) (taken : List News) (n : News) (st0 : StandsFor taken s0
     follows-behind r f = follows-same r j.settings s1.settings (take to j.entries.items) s1.entries settings_are
         (ap (λ (k : ℕ). take k j.entries.items) last ∙ ap (take (length s1.entries)) entries_are ∙ take_all (length s1.entries) s1.entries (omega arith)) f
 
-pub tells-as : (shown : Bool) (es fs : List Entry) (a b : List ℕ) (old new : Scene) → es ≡ fs → a ≡ b → TellsEntries shown es a old new → TellsEntries shown fs b old new
+pub tells-as : (shown : Bool) (es fs : List Entry) (a b : List ℕ) (old new : HubScene) → es ≡ fs → a ≡ b → TellsEntries shown es a old new → TellsEntries shown fs b old new
 tells-as shown es fs a b old new e l t = subst (λ (x : List Entry). TellsEntries shown x b old new) e (subst (λ (x : List ℕ). TellsEntries shown es x old new) l t)
 
 -- the news of a worker that is not active
@@ -128,7 +128,7 @@ adds-nothing None new h = h
 adds-nothing (Some l) new h = h ∙ ap Some (append-nil l)
 
 -- a piece of news that was given
-module _ (s : Seen) (proper : IsProper s.settings []) (n : News) (old mid : Scene)
+module _ (s : SessionSeen) (proper : IsProper s.settings []) (n : News) (old mid : HubScene)
     (gave : AddsAll (n ∷ []) old.given mid.given) (heard : (w : ℕ) → mid.marks w ≡ marked_heard n w (old.marks w)) (starts : mid.starts ≡ old.starts) (calls : mid.calls ≡ old.calls) (sunk : mid.sunk ≡ old.sunk)
     (agrees : Agrees (state_of s).books old.marks) (known : (old.marks n.worker).started ≡ true) where
   marks-are : mid.marks ≡ (λ w. marked_heard n w (old.marks w))
@@ -175,7 +175,7 @@ module _ (s : Seen) (proper : IsProper s.settings []) (n : News) (old mid : Scen
         (step-possible s.settings proper slots old.marks taken n room (bounded s.settings proper taken) (agrees-run taken st) (on-run taken st))
 
     -- it is taken, and s1 is the session after it
-    module _ (s1 : Seen) (stands : (taken : List News) → StandsFor taken s → StandsFor (taken ++ n ∷ []) s1) (same : s1.settings ≡ s.settings) (new : Scene) (taken : List News) (st : StandsFor taken s) where
+    module _ (s1 : SessionSeen) (stands : (taken : List News) → StandsFor taken s → StandsFor (taken ++ n ∷ []) s1) (same : s1.settings ≡ s.settings) (new : HubScene) (taken : List News) (st : StandsFor taken s) where
       abbrev es : List Entry
       es = added_by s.settings taken n
 

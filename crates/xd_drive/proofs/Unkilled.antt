@@ -5,7 +5,7 @@ use Rattle.std.proofs.lemmas.Bool.Decides.{nat_tests}
 use Rattle.std.proofs.lemmas.List.Folds.{list_any-append}
 use Rattle.xd_journal.specs.declared.entry.Entry.{Entry}
 use Rattle.xd_journal.specs.declared.entry.Entry.TheVariants.{Kill}
-use Rattle.xd_drive.specs.Listed.{is_among, is_kill_of, unkilled, was_killed}
+use Rattle.xd_drive.specs.Listed.{is_listed, is_kill_of, unkilled, was_killed}
 
 pub unkilled-most : (calls : List Entry) (ws : List ℕ) → unkilled calls ws ≤ length ws
 unkilled-most calls [] = omega arith
@@ -23,6 +23,6 @@ fewer : (w : ℕ) (calls : List Entry) (ws : List ℕ) → unkilled (calls ++ Ki
 fewer w calls [] = omega arith
 fewer w calls (v ∷ vs) = grind (arith, nat_tests, killed_then v w calls, fewer w calls vs)
 
-pub unkilled-kill : (w : ℕ) (calls : List Entry) (ws : List ℕ) → is_among w ws ≡ true → was_killed w calls ≡ false → unkilled (calls ++ Kill w ∷ []) ws + 1 ≤ unkilled calls ws
+pub unkilled-kill : (w : ℕ) (calls : List Entry) (ws : List ℕ) → is_listed w ws ≡ true → was_killed w calls ≡ false → unkilled (calls ++ Kill w ∷ []) ws + 1 ≤ unkilled calls ws
 unkilled-kill w calls [] h k = absurd (cc)
 unkilled-kill w calls (v ∷ vs) h k = grind (arith, nat_tests, killed_then v w calls, fewer w calls vs, unkilled-kill w calls vs)

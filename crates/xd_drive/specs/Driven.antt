@@ -13,7 +13,7 @@ use Rattle.xd_session.specs.Bounded.{IsBounded}
 use Rattle.xd_session.specs.Ends.{is_out_fault, last_stop}
 use Rattle.xd_session.specs.History.{Run, run_of}
 use Rattle.xd_drive.specs.Failing.{FailedAt}
-use Rattle.xd_drive.specs.Going.{Scene}
+use Rattle.xd_drive.specs.Going.{HubScene}
 use Rattle.xd_drive.specs.Moments.{ToldInOrder}
 use Rattle.xd_drive.specs.Performing.{AddsAll, Performs, kills_of_started}
 use Rattle.xd_report.specs.Printing.{ShowsEnd}
@@ -31,7 +31,7 @@ pub record Ended (failed : Bool) (given : List News) (j : Journal) : Type 0 wher
   pub stop : stop_of j ≡ last_stop failed (run_given j.settings given).state.books
 
 -- The run is over: what the journal asks for was performed, and its whole report was printed.
-pub record Whole (given : List News) (j : Journal) (old new : Scene) : Type 0 where
+pub record Whole (given : List News) (j : Journal) (old new : HubScene) : Type 0 where
   pub ended : Ended false given j
   pub gave : AddsAll given old.given new.given
   pub performed : Performs j.entries.items old.starts new.starts old.calls new.calls
@@ -40,7 +40,7 @@ pub record Whole (given : List News) (j : Journal) (old new : Scene) : Type 0 wh
 -- The output failed: `count` entries were performed, each after its lines, and of the others the kills of the workers
 -- that these had started; of the report a first part was taken.
 -- Example: the flush after a death's lines fails: its Start is not called for, and so no Kill of that worker.
-pub record Broken (count : ℕ) (given : List News) (j : Journal) (old new : Scene) : Type 0 where
+pub record Broken (count : ℕ) (given : List News) (j : Journal) (old new : HubScene) : Type 0 where
   pub ended : Ended true given j
   pub gave : AddsAll given old.given new.given
   pub performed : Performs (take count j.entries.items ++ kills_of_started (take count j.entries.items) (drop count j.entries.items)) old.starts new.starts old.calls new.calls
@@ -60,7 +60,7 @@ pub record IsJournalOf (run : Settings) (j : Journal) : Type 0 where
 -- What a session came to that was driven to its end, by what was seen of the hub and the output before and after it, and at
 -- the moments between, where these are told: its journal, by whether the output failed, and each entry performed after its
 -- lines.
-pub record Drove (run : Settings) (j : Journal) (old new : Scene) (seen : Option (List Scene)) : Type 0 where
+pub record Drove (run : Settings) (j : Journal) (old new : HubScene) (seen : Option (List HubScene)) : Type 0 where
   pub journal : IsJournalOf run j
   pub whole : is_out_fault (stop_of j) ≡ false → (given : List News) × Whole given j old new
   pub broken : is_out_fault (stop_of j) ≡ true → (count : ℕ) × (given : List News) × Broken count given j old new

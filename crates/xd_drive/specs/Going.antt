@@ -14,7 +14,7 @@ use Rattle.xd_ledger.specs.Workers.{is_active}
 use Rattle.xd_report.specs.Lines.{lines_from, run_lines}
 use Rattle.xd_report.specs.Text.{run_text, tail_text}
 use Rattle.xd_session.specs.History.{input_of, run_of}
-use Rattle.xd_session.specs.Stands.{Seen, StandsFor, state_of}
+use Rattle.xd_session.specs.Stands.{SessionSeen, StandsFor, state_of}
 use Rattle.xd_drive.specs.declared.written.Written.{Written}
 use Rattle.xd_drive.specs.declared.written.Written.TheVariants.{Whole, Broken}
 use Rattle.xd_drive.specs.Agrees.{Agrees}
@@ -26,7 +26,7 @@ use Rattle.xd_report.specs.Printing.{ShowsEnd, ShowsLines}
 use Rattle.xd_drive.specs.Taken.{taken_of, taken_with}
 
 -- what is seen of a hub and of the output
-pub record Scene : Type 0 where
+pub record HubScene : Type 0 where
   pub marks : ℕ → Marks
   pub starts : Option (List Entry)
   pub calls : Option (List Entry)
@@ -35,7 +35,7 @@ pub record Scene : Type 0 where
 
 -- All that the news told was printed and performed.
 -- Example: the line of a result is printed and flushed, and the Run after it is told to its worker.
-pub record Going (given : List News) (s : Seen) (old new : Scene) : Type 0 where
+pub record Going (given : List News) (s : SessionSeen) (old new : HubScene) : Type 0 where
   pub stands : StandsFor (taken_of s.settings given) s
   pub gave : AddsAll given old.given new.given
   pub performed : Performs s.entries old.starts new.starts old.calls new.calls
@@ -45,7 +45,7 @@ pub record Going (given : List News) (s : Seen) (old new : Scene) : Type 0 where
 
 -- The output failed: `count` entries were performed, and of what is left, and of the end, the kills of the workers that
 -- were started can be asked for.
-pub record Stopped (given : List News) (count : ℕ) (s : Seen) (old new : Scene) : Type 0 where
+pub record Stopped (given : List News) (count : ℕ) (s : SessionSeen) (old new : HubScene) : Type 0 where
   pub stands : StandsFor (taken_of s.settings given) s
   pub gave : AddsAll given old.given new.given
   pub performed : Performs (take count s.entries) old.starts new.starts old.calls new.calls
@@ -65,14 +65,14 @@ added_by settings taken n = entries_added (run_of settings taken).state (input_o
 
 -- These entries were performed and their lines printed, or nothing of it was performed and a first part of the lines
 -- taken.
-pub record TellsEntries (shown : Bool) (es : List Entry) (lines : List ℕ) (old new : Scene) : Type 0 where
+pub record TellsEntries (shown : Bool) (es : List Entry) (lines : List ℕ) (old new : HubScene) : Type 0 where
   pub performed : Performs (if shown then es else []) old.starts new.starts old.calls new.calls
   pub marks : (w : ℕ) → new.marks w ≡ marks_after (if shown then es else []) old.marks w
   pub given : new.given ≡ old.given
   pub shows : ShowsLines shown lines old.sunk new.sunk
 
 -- What one piece of news adds: it was printed and performed.
-pub record PerformsNews (more : List Entry) (s_old s_new : Seen) (old new : Scene) : Type 0 where
+pub record PerformsNews (more : List Entry) (s_old s_new : SessionSeen) (old new : HubScene) : Type 0 where
   pub entries : s_new.entries ≡ s_old.entries ++ more
   pub performed : Performs more old.starts new.starts old.calls new.calls
   pub agrees : Agrees (state_of s_new).books new.marks
@@ -80,7 +80,7 @@ pub record PerformsNews (more : List Entry) (s_old s_new : Seen) (old new : Scen
   pub shows : ShowsSome (lines_from (after_entries (no_one s_old.settings) s_old.entries) more) old.sunk new.sunk
 
 -- Of the lines of what one piece of news adds a first part was taken, and nothing of it was performed.
-pub record Untold (n : News) (count : ℕ) (more : List Entry) (s_old s_new : Seen) (old new : Scene) : Type 0 where
+pub record Untold (n : News) (count : ℕ) (more : List Entry) (s_old s_new : SessionSeen) (old new : HubScene) : Type 0 where
   pub entries : s_new.entries ≡ s_old.entries ++ more
   pub count_is : count ≡ length s_old.entries
   pub active : is_active n.worker (state_of s_old).books ≡ true
@@ -92,19 +92,19 @@ pub record Untold (n : News) (count : ℕ) (more : List Entry) (s_old s_new : Se
   pub shows : TookPart (lines_from (after_entries (no_one s_old.settings) s_old.entries) more) old.sunk new.sunk
 
 -- What one piece of news adds was printed and performed, or the output failed at its lines.
-abbrev pub TellsNews : News → Written → Seen → Seen → Scene → Scene → Type 0
+abbrev pub TellsNews : News → Written → SessionSeen → SessionSeen → HubScene → HubScene → Type 0
 TellsNews n Whole s_old s_new old new = (more : List Entry) × PerformsNews more s_old s_new old new
 TellsNews n (Broken count) s_old s_new old new = (more : List Entry) × Untold n count more s_old s_new old new
 
 -- One piece of news was given; where its worker is active it was taken.
-pub record TakesNews (n : News) (written : Written) (s_old s_new : Seen) (old new : Scene) : Type 0 where
+pub record TakesNews (n : News) (written : Written) (s_old s_new : SessionSeen) (old new : HubScene) : Type 0 where
   pub gave : AddsAll (n ∷ []) old.given new.given
   pub settings : s_new.settings ≡ s_old.settings
   pub stands : (taken : List News) → StandsFor taken s_old → StandsFor (taken_with s_old.settings taken n) s_new
   pub told : TellsNews n written s_old s_new old new
 
 -- The run is over, and its whole report was printed.
-pub record Finished (given : List News) (s : Seen) (old new : Scene) : Type 0 where
+pub record Finished (given : List News) (s : SessionSeen) (old new : HubScene) : Type 0 where
   pub stands : StandsFor (taken_of s.settings given) s
   pub gave : AddsAll given old.given new.given
   pub performed : Performs s.entries old.starts new.starts old.calls new.calls
@@ -112,7 +112,7 @@ pub record Finished (given : List News) (s : Seen) (old new : Scene) : Type 0 wh
   pub shows : ShowsEnd true (run_text s.settings s.entries) old.sunk new.sunk
 
 -- How the run came to its end: it is over, or the output failed with `count` entries performed.
-abbrev pub EndsRun : Written → Seen → Scene → Scene → Type 0
+abbrev pub EndsRun : Written → SessionSeen → HubScene → HubScene → Type 0
 EndsRun Whole s old new = (given : List News) × Finished given s old new
 EndsRun (Broken count) s old new = (given : List News) × Stopped given count s old new
 

@@ -9,38 +9,38 @@ use Rattle.xd_journal.specs.declared.news.News.{News}
 use Rattle.xd_note.specs.Noted.{noted}
 use Rattle.xd_note.specs.declared.log.Log.{Log}
 use Rattle.xd_report.specs.Lines.{run_lines}
-use Rattle.xd_session.specs.Stands.{Seen}
+use Rattle.xd_session.specs.Stands.{SessionSeen}
 use Rattle.xd_drive.specs.declared.written.Written.{Written}
 use Rattle.xd_drive.specs.declared.written.Written.TheVariants.{Whole, Broken}
-use Rattle.xd_drive.specs.Going.{Scene}
+use Rattle.xd_drive.specs.Going.{HubScene}
 use Rattle.xd_drive.specs.Marks.{Marks}
 use Rattle.xd_drive.specs.Performing.{Performs}
 use Rattle.xd_drive.specs.declared.moment.Moment.{Moment}
 
 module _ {H O : Type 0} (marks : H → ℕ → Marks) (starts calls : H → Option (List Entry)) (given : H → Option (List News)) (sunk : O → Option Sunk) where
   -- what is seen of the hub and the output of a moment, by what these tell
-  abbrev pub scene_at : Moment H O → Scene
+  abbrev pub scene_at : Moment H O → HubScene
   scene_at m = record { marks = marks m.hub.value; starts = starts m.hub.value; calls = calls m.hub.value; given = given m.hub.value; sunk = sunk m.out.value }
 
   -- the same of each moment that was noted
-  abbrev pub scenes_of : Log (Moment H O) → List Scene
+  abbrev pub scenes_of : Log (Moment H O) → List HubScene
   scenes_of moments = map scene_at (noted moments)
 
 -- What is printed and performed together notes the moment between: the hub was as it had been, the output as it came to be.
 -- Where the output failed it notes none.
-abbrev pub NotesTurn : Bool → Scene → Scene → Option (List Scene) → Option (List Scene) → Type 0
-NotesTurn true old new before after = (m : Scene) × (after ≡ option_map (λ l. l ++ m ∷ []) before) × (m.starts ≡ old.starts) × (m.calls ≡ old.calls) × (m.sunk ≡ new.sunk)
+abbrev pub NotesTurn : Bool → HubScene → HubScene → Option (List HubScene) → Option (List HubScene) → Type 0
+NotesTurn true old new before after = (m : HubScene) × (after ≡ option_map (λ l. l ++ m ∷ []) before) × (m.starts ≡ old.starts) × (m.calls ≡ old.calls) × (m.sunk ≡ new.sunk)
 NotesTurn false old new before after = after ≡ before
 
 -- A piece of news notes a moment, or none where it adds nothing to the journal or the output failed.
-abbrev pub NotesNews : Written → Seen → Seen → Scene → Scene → Option (List Scene) → Option (List Scene) → Type 0
+abbrev pub NotesNews : Written → SessionSeen → SessionSeen → HubScene → HubScene → Option (List HubScene) → Option (List HubScene) → Type 0
 NotesNews Whole s_old s_new old new before after = NotesTurn true old new before after ⊎ ((s_new.entries ≡ s_old.entries) × (after ≡ before))
 NotesNews (Broken count) s_old s_new old new before after = after ≡ before
 
 -- At this moment the hub had been called for no more than entries before the one at this place, and the output had taken and
 -- handed on the lines of that entry and of all before it.
 -- Example: gw0 dies and gw1 replaces it: the lines of both were handed on, and gw1 was not started.
-pub record IsBetween (settings : Settings) (es : List Entry) (place : ℕ) (old m : Scene) : Type 0 where
+pub record IsBetween (settings : Settings) (es : List Entry) (place : ℕ) (old m : HubScene) : Type 0 where
   pub called : ℕ
   pub ahead : called ≤ place
   pub performed : Performs (take called es) old.starts m.starts old.calls m.calls
@@ -50,11 +50,11 @@ pub record IsBetween (settings : Settings) (es : List Entry) (place : ℕ) (old 
   pub shows : ShowsSome (run_lines settings (take told es)) old.sunk m.sunk
 
 -- Each of the first `count` entries had such a moment before it.
-abbrev pub InOrder : Settings → ℕ → List Entry → Scene → List Scene → Type 0
+abbrev pub InOrder : Settings → ℕ → List Entry → HubScene → List HubScene → Type 0
 InOrder settings count es old moments = (place : ℕ) → place < count → Any (λ m. IsBetween settings es place old m) moments
 
 -- the same, where the moments are told
-abbrev pub ToldInOrder : Settings → ℕ → List Entry → Scene → Option (List Scene) → Type 0
+abbrev pub ToldInOrder : Settings → ℕ → List Entry → HubScene → Option (List HubScene) → Type 0
 ToldInOrder settings count es old seen = IfSome seen (InOrder settings count es old)
 
 -- how many entries were performed: all, or `count` where the output failed

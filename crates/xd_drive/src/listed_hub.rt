@@ -2,7 +2,7 @@
 ghost use Rattle.std.specs.Prelude.{◌≡◌, ◌<◌, ◌≤◌, ◌+◌, ◌++◌, ◌∷◌, [], ℕ, Some, true, false, option_to_list, vec_len, vec_capacity, IfOk, IfSome, IsNone, OnOk};
 ghost use Rattle.xd_journal.specs.declared.entry.Entry.TheVariants.{Start, Kill};
 ghost use Rattle.xd_drive.specs.Calls.{is_order};
-ghost use Rattle.xd_drive.specs.Listed.{GivesListed, from_started, is_among, marks_by, may_give, others_of, refusal_of, starts_of, unkilled, was_killed};
+ghost use Rattle.xd_drive.specs.Listed.{GivesListed, from_started, is_listed, marks_by, may_give, others_of, refusal_of, starts_of, unkilled, was_killed};
 ghost use Rattle.xd_drive.specs.Marks.{is_breach, may_tell, no_marks};
 
 use crate::Hub;
@@ -58,7 +58,7 @@ impl ListedHub {
 }
 
 fn is_among(worker: u32, workers: &[u32]) -> bool
-    ensures { result ≡ is_among worker workers.now }
+    ensures { result ≡ is_listed worker workers.now }
 {
     workers.iter().any(|&other| other == worker)
 }
@@ -87,8 +87,8 @@ fn next_listed(news: &mut VecDeque<News>, started: &[u32]) -> Option<News>
 
 // Whose turn it is to be gone. The next turn is the next worker's.
 fn next_gone(started: &[u32], turn: &mut usize) -> u32
-    requires { (w : ℕ) × (is_among w started.now ≡ true) }
-    ensures { is_among result started.now ≡ true }
+    requires { (w : ℕ) × (is_listed w started.now ≡ true) }
+    ensures { is_listed result started.now ≡ true }
 {
     let place = if *turn < started.len() { *turn } else { 0 };
     *turn = place + 1;
@@ -97,8 +97,8 @@ fn next_gone(started: &[u32], turn: &mut usize) -> u32
 
 // The next piece of news of a worker that was started, or that one of them is gone.
 fn next_news(news: &mut VecDeque<News>, started: &[u32], turn: &mut usize) -> News
-    requires { (w : ℕ) × (is_among w started.now ≡ true) }
-    ensures started { is_among result.worker started.now ≡ true }
+    requires { (w : ℕ) × (is_listed w started.now ≡ true) }
+    ensures started { is_listed result.worker started.now ≡ true }
     ensures no_breach { is_breach result.what ≡ false }
     ensures listed { GivesListed started.now news.old.items result news.new.items }
 {
@@ -146,7 +146,7 @@ impl Hub for ListedHub {
     ghost given = { λ h. Some h.given.items };
 
     fn start(&mut self, _alloc: Global, worker: u32, slot: u32) -> Result<(), OutOfMemory>
-        requires new { is_among worker self.old.started ≡ false }
+        requires new { is_listed worker self.old.started ≡ false }
         requires slot { slot < 32 }
         ensures started { OnOk result (self.new.started ≡ self.old.started ++ worker ∷ []) }
         ensures called { OnOk result
@@ -182,7 +182,7 @@ impl Hub for ListedHub {
     }
 
     fn kill(&mut self, worker: u32)
-        requires started { is_among worker self.old.started ≡ true }
+        requires started { is_listed worker self.old.started ≡ true }
         requires once { was_killed worker self.old.calls.items ≡ false }
         ensures called { self.new.calls.items ≡ self.old.calls.items ++ Kill worker ∷ [] }
         ensures news { self.new.news ≡ self.old.news }
@@ -194,8 +194,8 @@ impl Hub for ListedHub {
     }
 
     fn next<R: Wait>(&mut self, _rt: &R, alloc: Global) -> Result<News, OutOfMemory>
-        requires someone { (w : ℕ) × (is_among w self.old.started ≡ true) }
-        ensures started { IfOk result (λ n. is_among n.worker self.old.started ≡ true) }
+        requires someone { (w : ℕ) × (is_listed w self.old.started ≡ true) }
+        ensures started { IfOk result (λ n. is_listed n.worker self.old.started ≡ true) }
         ensures no_breach { IfOk result (λ n. is_breach n.what ≡ false) }
         ensures given { IfOk result (λ n. self.new.given.items ≡ self.old.given.items ++ n ∷ []) }
         ensures same { OnOk result ((self.new.started ≡ self.old.started)

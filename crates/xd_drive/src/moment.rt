@@ -1,6 +1,6 @@
 // How a hub and an output stood at a moment.
 ghost use Rattle.std.specs.Prelude.{◌≡◌, ◌∷◌, ◌++◌, [], List, Option, Some, None, option_map};
-ghost use Rattle.xd_drive.specs.Going.{Scene};
+ghost use Rattle.xd_drive.specs.Going.{HubScene};
 ghost use Rattle.xd_drive.specs.Moments.{scenes_of};
 
 use crate::Hub;
@@ -11,7 +11,7 @@ use xd_note::Log;
 /// What looks at a hub and an output at moments of a run. Clauses alone read it.
 pub trait Witness<H: Hub, O: Sink> {
     /// What it saw, or `None` where it does not tell.
-    ghost seen: { Self → Option (List Scene) };
+    ghost seen: { Self → Option (List HubScene) };
 
     /// Looks at the two as they stand now.
     fn look(&mut self, hub: &H, out: &O)

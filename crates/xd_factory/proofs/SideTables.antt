@@ -11,7 +11,7 @@ use Rattle.xd_factory.specs.Said.{Said}
 use Rattle.xd_factory.specs.Numbers.{is_mine}
 use Rattle.xd_factory.specs.Slot.{Slot, is_new}
 use Rattle.xd_factory.specs.Table.{Refused, heard_slot}
-use Rattle.xd_factory.specs.SideTable.{ChannelTable, Counts, RefusedBy, MustRefuse, channel_table, changed_at, heard}
+use Rattle.xd_factory.specs.SideTable.{ChannelTable, Counts, RefusedBy, MustRefuse, channel_table, changed_at, heard_of_message}
 use Rattle.xd_factory.specs.View.{slot_of_number, parity_of, next_of, fault_of, is_finished, KeepsRest}
 
 pub tables : (s s' : ℕ → Slot Tree) (p p' : Parity) (n n' : ℕ) (f f' : Option SideFault) (l l' : Bool) → s ≡ s' → p ≡ p' → n ≡ n' → f ≡ f' → l ≡ l'
@@ -29,7 +29,7 @@ kept_all old new s k =
     tables (slot_of_number new) (slot_of_number old) (parity_of new) (parity_of old) (next_of new) (next_of old) (fault_of new) (fault_of old) (is_finished new) (is_finished old)
     (fun_ext s) k.parity k.next k.fault k.finished
 
-pub heard_table : (old new : Side) (said : Said) → ((c : ℕ) → slot_of_number new c ≡ heard_slot (parity_of old) said c (slot_of_number old c)) → KeepsRest old new → channel_table new ≡ heard said (channel_table old)
+pub heard_table : (old new : Side) (said : Said) → ((c : ℕ) → slot_of_number new c ≡ heard_slot (parity_of old) said c (slot_of_number old c)) → KeepsRest old new → channel_table new ≡ heard_of_message said (channel_table old)
 heard_table old new said s k =
     tables (slot_of_number new) (λ c. heard_slot (parity_of old) said c (slot_of_number old c)) (parity_of new) (parity_of old) (next_of new) (next_of old) (fault_of new) (fault_of old) (is_finished new) (is_finished old)
     (fun_ext s) k.parity k.next k.fault k.finished

@@ -8,5 +8,5 @@ abbrev pub is_between : ℕ → ℕ × ℕ → Bool
 is_between c run = nat_le run.0 c && nat_le c run.1
 
 -- the number stands in one of the runs
-abbrev pub has : Runs → ℕ → Bool
-has s c = list_any (is_between c) s.lasts.entries
+abbrev pub in_runs : Runs → ℕ → Bool
+in_runs s c = list_any (is_between c) s.lasts.entries

@@ -42,8 +42,8 @@ abbrev pub opened : ChannelTable → ChannelTable
 opened t = record t { slot = λ c. if t.next == c then Here fresh else t.slot c; next = t.next + 2 }
 
 -- a message was taken
-abbrev pub heard : Said → ChannelTable → ChannelTable
-heard said t = record t { slot = λ c. heard_slot t.parity said c (t.slot c) }
+abbrev pub heard_of_message : Said → ChannelTable → ChannelTable
+heard_of_message said t = record t { slot = λ c. heard_slot t.parity said c (t.slot c) }
 
 -- what a message does
 abbrev pub answer : Said → ChannelTable → Taken Tree

@@ -26,11 +26,11 @@ struct Run {
 }
 
 impl Runs {
-    ghost use Rattle.xd_factory.specs.Runs.{has};
+    ghost use Rattle.xd_factory.specs.Runs.{in_runs};
 
     /// No numbers.
     pub(crate) fn new(alloc: Global) -> Runs
-        ensures none { (c : ℕ) → has result c ≡ false }
+        ensures none { (c : ℕ) → in_runs result c ≡ false }
     {
         Runs {
             lasts: BTreeMap::new(alloc),
@@ -39,7 +39,7 @@ impl Runs {
 
     /// Whether the number is in the set.
     pub(crate) fn contains(&self, number: u32) -> bool
-        ensures { result ≡ has self.now number }
+        ensures { result ≡ in_runs self.now number }
     {
         match self.run_before(number) {
             Some(run) => number <= run.last,
@@ -50,8 +50,8 @@ impl Runs {
     /// Adds a number, which may be in the set. Runs that it joins become one.
     pub(crate) fn insert(&mut self, number: u32) -> Result<(), AllocError>
         requires { number < 4294967295 }
-        ensures ok { OnOk result ((c : ℕ) → has self.new c ≡ (number == c) || has self.old c) }
-        ensures err { OnErr result ((c : ℕ) → has self.new c ≡ has self.old c) }
+        ensures ok { OnOk result ((c : ℕ) → in_runs self.new c ≡ (number == c) || in_runs self.old c) }
+        ensures err { OnErr result ((c : ℕ) → in_runs self.new c ≡ in_runs self.old c) }
     {
         let Some(first) = self.first_joined(number) else {
             return Ok(());
@@ -68,7 +68,7 @@ impl Runs {
 
     // The first number of the run that the number lengthens, or the number itself; none where it is in the set.
     fn first_joined(&self, number: u32) -> Option<u32>
-        ensures known { IfNone result (has self.now number ≡ true) }
+        ensures known { IfNone result (in_runs self.now number ≡ true) }
         ensures below { IfSome result (λ a. a ≤ number) }
         ensures starts { IfSome result (λ a. a < number →
             get nat_cmp self.now.lasts a ≡ Some (number - 1)) }

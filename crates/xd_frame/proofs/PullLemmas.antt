@@ -13,7 +13,7 @@ use Rattle.xd_frame.specs.declared.pull.PullFault.{PullFault}
 use Rattle.xd_frame.specs.declared.pull.PullFault.TheVariants.{Bad, ReadFault, OutOfMemory}
 use Rattle.xd_frame.specs.Message.{MessageView, frame, frames}
 use Rattle.xd_frame.specs.Header.{header_read}
-use Rattle.xd_frame.specs.Stream.{AreBytes, Clean, Rest, Refused, Unfinished, behind, end_meaning, header_in_front, message_of, messages, parts, parts_within, rest, rest_by, rest_of}
+use Rattle.xd_frame.specs.Stream.{AreBytes, Clean, Rest, Refused, Unfinished, left_over, end_meaning, header_in_front, message_of, messages, parts, parts_within, rest, rest_by, rest_of}
 use Rattle.xd_frame.specs.Framer.{FramerView, Holds, fresh, StandsFor, feed_gives}
 use Rattle.xd_frame.specs.Pull.{AnswersTo, CountsSo, HoldsLess, IsLess, Pulls, few, begun, refused, missing, refusal_by, pull_fault_of, whole_of}
 use Rattle.xd_frame.specs.Pulling.{Draws, DrawsSo, is_out_of_memory}
@@ -62,16 +62,16 @@ none_by a (Ok None) e g never = e
 none_by a (Ok (Some h)) e g never = absurd (never h e)
 none_by a (Err f) e g never = let wrong : feed_gives (Refused f) ≡ Ok tt = sym (ap feed_gives (refused_rest a f e)) ∙ g in cc
 
-whole_once : (bytes : List ℕ) (h : Header) → header_in_front (behind bytes) ≡ Ok (Some h) → ⊥
+whole_once : (bytes : List ℕ) (h : Header) → header_in_front (left_over bytes) ≡ Ok (Some h) → ⊥
 whole_once bytes h e =
-    let says = front_says (behind bytes) (Ok (Some h)) e in
-    let twice : messages bytes ≡ messages bytes ++ messages (behind bytes) = sym (ap messages (append-nil bytes)) ∙ (messages-append bytes [] ∙ ap (λ (b : List ℕ). messages bytes ++ messages b) (append-nil (behind bytes))) in
-    omega (arith, ap length twice, length-append (messages bytes) (messages (behind bytes)), ap length says.0)
+    let says = front_says (left_over bytes) (Ok (Some h)) e in
+    let twice : messages bytes ≡ messages bytes ++ messages (left_over bytes) = sym (ap messages (append-nil bytes)) ∙ (messages-append bytes [] ∙ ap (λ (b : List ℕ). messages bytes ++ messages b) (append-nil (left_over bytes))) in
+    omega (arith, ap length twice, length-append (messages bytes) (messages (left_over bytes)), ap length says.0)
 
 none_standing : (s : FramerView) (given : List ℕ) (taken : List MessageView) → GoesOn s → StandsFor s given taken → header_in_front s.held ≡ Ok None
 none_standing s given taken g k =
     let whole = k.whole g.failed in
-    let held : s.held ≡ behind given = held_is (rest given) s.held (behind given) (subst (λ (r : Rest). feed_gives r ≡ Ok tt) whole.ends g.readable) whole.holds in
+    let held : s.held ≡ left_over given = held_is (rest given) s.held (left_over given) (subst (λ (r : Rest). feed_gives r ≡ Ok tt) whole.ends g.readable) whole.holds in
     none_by s.held (header_in_front s.held) refl g.readable (λ h e. whole_once given h (sym (ap header_in_front held) ∙ e))
 
 less_front : (a : List ℕ) → IsLess a → feed_gives (rest_of a) ≡ Ok tt → header_in_front a ≡ Ok None
@@ -85,7 +85,7 @@ nothing : messages [] ≡ []
 unfolding parts parts_within
 nothing = refl
 
-nothing_behind : behind [] ≡ []
+nothing_behind : left_over [] ≡ []
 unfolding parts parts_within
 nothing_behind = refl
 
@@ -98,7 +98,7 @@ nil_past n a e = nil_of (drop n a) (omega (arith, length-drop n a))
 stands_same : (s t : FramerView) (given : List ℕ) (taken : List MessageView) → t.waiting ≡ s.waiting → t.held ≡ s.held → (t.failed ≡ false → s.failed ≡ false) → StandsFor s given taken → StandsFor t given taken
 stands_same s t given taken w h f k = record {
   first = (k.first.0, k.first.1 ∙ ap (λ (l : List MessageView). (taken ++ l) ++ k.first.0) (sym w));
-  whole = λ x. let o = k.whole (f x) in record { all = ap (λ (l : List MessageView). taken ++ l) w ∙ o.all; ends = ap rest_of h ∙ o.ends; holds = subst (λ (b : List ℕ). Holds (rest given) b (behind given)) (sym h) o.holds };
+  whole = λ x. let o = k.whole (f x) in record { all = ap (λ (l : List MessageView). taken ++ l) w ∙ o.all; ends = ap rest_of h ∙ o.ends; holds = subst (λ (b : List ℕ). Holds (rest given) b (left_over given)) (sym h) o.holds };
 }
 
 unread : (s t : FramerView) (given piece : List ℕ) (taken : List MessageView) → piece ≡ [] → t.waiting ≡ s.waiting → t.held ≡ s.held → (t.failed ≡ false → s.failed ≡ false) → StandsFor s given taken → StandsFor t (given ++ piece) (taken ++ [])
@@ -151,7 +151,7 @@ module _ (s t : FramerView) (before after : Spring) (waits : s.waiting ≡ []) (
   g = goes_on s goes
 
   -- no message is whole after the bytes that were read
-  stands_more : (piece given : List ℕ) (taken : List MessageView) → messages (s.held ++ piece) ≡ [] → behind (s.held ++ piece) ≡ s.held ++ piece → t.held ≡ s.held ++ piece → StandsFor s given taken → StandsFor t (given ++ piece) (taken ++ [])
+  stands_more : (piece given : List ℕ) (taken : List MessageView) → messages (s.held ++ piece) ≡ [] → left_over (s.held ++ piece) ≡ s.held ++ piece → t.held ≡ s.held ++ piece → StandsFor s given taken → StandsFor t (given ++ piece) (taken ++ [])
   stands_more piece given taken m b h k =
       subst (λ (l : List MessageView). StandsFor t (given ++ piece) l) (sym (append-nil taken))
       (feed_takes s t given piece taken g.failed g.readable (none_waits ∙ (sym m ∙ ap (λ (l : List MessageView). l ++ messages (s.held ++ piece)) (sym waits))) (h ∙ sym b) k)
@@ -162,7 +162,7 @@ module _ (s t : FramerView) (before after : Spring) (waits : s.waiting ≡ []) (
       let says = front_says all (Ok (Some h)) e in
       let past : drop (9 + h.length) all ≡ [] = nil_past (9 + h.length) all size in
       let one : messages all ≡ m ∷ [] = says.0 ∙ (ap (λ (l : List ℕ). message_of h all ∷ messages l) past ∙ (ap (λ (l : List MessageView). message_of h all ∷ l) nothing ∙ ap (λ (x : MessageView). x ∷ []) (sym is))) in
-      let last : behind all ≡ [] = says.1 ∙ (ap behind past ∙ nothing_behind) in
+      let last : left_over all ≡ [] = says.1 ∙ (ap left_over past ∙ nothing_behind) in
       let u : FramerView = record { waiting = m ∷ []; held = []; failed = false; cut = false } in
       next_moves u t (given ++ piece) taken (m ∷ []) (ap (λ (l : List MessageView). m ∷ l) (sym none_waits)) none ok
       (feed_takes s u given piece taken g.failed g.readable (sym one ∙ ap (λ (l : List MessageView). l ++ messages all) (sym waits)) (sym last) k)

@@ -11,7 +11,7 @@ use Rattle.xd_journal.specs.declared.news.What.{What}
 use Rattle.xd_journal.specs.declared.news.What.TheVariants.{Ready, Collected, LogStart, Piece, LogClosed, Done, Back, Finished, Closed, Stray, Gone, NotStarted}
 use Rattle.xd_gateway.specs.declared.order.Order.{Order}
 use Rattle.xd_gateway.specs.declared.order.Order.TheVariants.{RunTests, RunAll, Steal, Shutdown}
-use Rattle.xd_gateway.specs.Kwargs.{AreIndices, both, each_of, index_of, text_in_tree, number_below}
+use Rattle.xd_gateway.specs.Kwargs.{AreIndices, both, each_of, test_index_of, text_in_tree, number_below}
 use Rattle.xd_gateway.specs.Orders.{order_tree, tree_order, IsOrder}
 use Rattle.xd_gateway.specs.Events.{event_tree, tree_event, IsEvent, is_failure_code}
 
@@ -22,7 +22,7 @@ texts_read (t ∷ ts) = ap (both (λ x xs. x ∷ xs) (Some t)) (texts_read ts)
 number_read : (n limit : ℕ) → n < limit → number_below limit (pos n) ≡ Some n
 number_read n limit lt = ap (λ (b : Bool). if b then Some n else None) (lt-ltb n limit lt)
 
-indices_read : (ns : List ℕ) → AreIndices ns → each_of index_of (trees_of (map (λ n. int (pos n)) ns)) ≡ Some ns
+indices_read : (ns : List ℕ) → AreIndices ns → each_of test_index_of (trees_of (map (λ n. int (pos n)) ns)) ≡ Some ns
 indices_read [] h = refl
 indices_read (n ∷ ns) h = ap₂ (both (λ x xs. x ∷ xs)) (number_read n 4294967296 h.0) (indices_read ns h.1)
 

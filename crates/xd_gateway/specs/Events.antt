@@ -9,7 +9,7 @@ use Rattle.xd_journal.specs.declared.entry.Outcome.TheVariants.{Passed, Skipped,
 use Rattle.xd_journal.specs.declared.news.What.{What}
 use Rattle.xd_journal.specs.declared.news.What.TheVariants.{Ready, Collected, LogStart, Done, Back, Finished}
 use Rattle.xd_gateway.specs.Calls.{Call, call_as_value, call_in}
-use Rattle.xd_gateway.specs.Kwargs.{AreIndices, both, value_at, number_below, integer_of, text_in_tree, channel_of, items_of, index_of, each_of, indices_at, indices_kwargs}
+use Rattle.xd_gateway.specs.Kwargs.{AreIndices, both, value_at, number_below, integer_of, text_in_tree, channel_of, items_of, test_index_of, each_of, indices_at, indices_kwargs}
 
 -- an outcome by its word
 abbrev pub outcome_word : Outcome → List ℕ
@@ -50,7 +50,7 @@ ids_under_key ps = option_and_then (each_of text_in_tree) (option_and_then items
 
 -- the number of a test under the key `item_index`
 abbrev pub index_at : Pairs → Option ℕ
-index_at ps = option_and_then index_of (value_at (codes "item_index") ps)
+index_at ps = option_and_then test_index_of (value_at (codes "item_index") ps)
 
 -- the channel under the key `log`
 abbrev pub log_at : Pairs → Option ℕ

@@ -48,8 +48,8 @@ items_of (list ts) = Some ts
 items_of _ = None
 
 -- the number of a test: an integer from 0 to 4294967295
-abbrev pub index_of : Tree → Option ℕ
-index_of t = option_and_then (number_below 4294967296) (integer_of t)
+abbrev pub test_index_of : Tree → Option ℕ
+test_index_of t = option_and_then (number_below 4294967296) (integer_of t)
 
 -- each value by the same rule, where it gives something for each
 abbrev pub each_of : {A : Type 0} → (Tree → Option A) → Trees → Option (List A)
@@ -58,7 +58,7 @@ each_of f (tree t ts) = both (λ x xs. x ∷ xs) (f t) (each_of f ts)
 
 -- the numbers of tests under the key `indices`, where it has a list of such numbers
 abbrev pub indices_at : Pairs → Option (List ℕ)
-indices_at ps = option_and_then (each_of index_of) (option_and_then items_of (value_at (codes "indices") ps))
+indices_at ps = option_and_then (each_of test_index_of) (option_and_then items_of (value_at (codes "indices") ps))
 
 -- the numbers of tests, as they are written under the key `indices`
 abbrev pub indices_kwargs : List ℕ → Pairs

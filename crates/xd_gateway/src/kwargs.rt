@@ -3,7 +3,7 @@ ghost use Rattle.std.specs.Prelude.{◌≡◌, option_map, option_and_then, IfOk
 ghost use Rattle.xd_value.specs.Tree.{text, int, list, pair};
 ghost use Rattle.xd_value.specs.View.{view, views, pair_views, trees_of};
 ghost use Rattle.xd_value.specs.declared.value.Value.{Value};
-ghost use Rattle.xd_gateway.specs.Kwargs.{is_key, value_at, number_below, integer_of, text_in_tree, channel_of, items_of, index_of, each_of, indices_at, indices_kwargs, AreIndices};
+ghost use Rattle.xd_gateway.specs.Kwargs.{is_key, value_at, number_below, integer_of, text_in_tree, channel_of, items_of, test_index_of, each_of, indices_at, indices_kwargs, AreIndices};
 ghost use Rattle.xd_gateway.specs.Words.{IsWord};
 
 use crate::word::{is_word, word_value};
@@ -82,7 +82,7 @@ fn items_at<'a>(kwargs: &'a [(Value, Value)], key: &str) -> Option<&'a [Value]>
 
 /// The number of a test.
 fn index_of(value: &Value) -> Option<u32>
-    ensures { result ≡ index_of (view value.now) }
+    ensures { result ≡ test_index_of (view value.now) }
 {
     match value {
         Value::Int(n) => index_from(*n),
@@ -103,7 +103,7 @@ pub(crate) fn duration_from(n: i128) -> Option<u64>
 }
 
 fn indices_of(alloc: Global, values: &[Value]) -> Result<Option<Indices>, OutOfMemory>
-    ensures { IfOk result (λ r. r ≡ each_of index_of (views values.now)) }
+    ensures { IfOk result (λ r. r ≡ each_of test_index_of (views values.now)) }
 {
     let mut items = Vec::new(alloc);
     for value in values {

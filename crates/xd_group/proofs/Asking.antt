@@ -10,7 +10,7 @@ use Rattle.xd_link.specs.Starter.{Begun, IsNextLink, as_killed, as_reaped, fresh
 use Rattle.xd_link.specs.declared.place.Place.{Place}
 use Rattle.xd_link.specs.declared.starter.LinkRun.{LinkRun}
 use Rattle.xd_link.specs.declared.starter.Reaped.TheVariants.{Never}
-use Rattle.xd_group.specs.Children.{AreNumbered, AskedOfLink, TellsLinks, children_asked, child_asked, link_asked, all_buried, buried_child, changed_at, is_buried, failed_starts, fresh_child, is_killed_and_reaped, killed_child, reaped_child, starts_told}
+use Rattle.xd_group.specs.Children.{AreNumbered, AskedOfLink, TellsLinks, children_asked, child_asked, link_asked, all_buried, buried_child, child_changed_at, is_buried, failed_starts, fresh_child, is_killed_and_reaped, killed_child, reaped_child, starts_told}
 use Rattle.xd_group.specs.declared.child.Child.{Child}
 
 -- ---- one more child
@@ -81,7 +81,7 @@ changed_map (suc n) h g (l ∷ ls) same = ap (λ (rest : List AskedOfLink). link
 
 -- the link of a child stands so far from the first
 there : (n : ℕ) (cs : List (Option Child)) (k : ℕ) (c : Child) (f : Child → Child) (g : AskedOfLink → AskedOfLink) → AreNumbered n cs → slice_get cs k ≡ Some (Some c) → child_asked (f c) ≡ g (child_asked c)
-    → (m : ℕ) × (c.link ≡ n + m) × (changed m g (children_asked cs) ≡ children_asked (changed_at k f cs))
+    → (m : ℕ) × (c.link ≡ n + m) × (changed m g (children_asked cs) ≡ children_asked (child_changed_at k f cs))
 there n [] k c f g a e h = absurd (cc e)
 there n (None ∷ cs) zero c f g a e h = absurd (cc e)
 there n (None ∷ cs) (suc k) c f g a e h = there n cs k c f g a e h
@@ -98,7 +98,7 @@ behind (p ∷ pre) xs m g =
     let next : length (p ∷ pre) + m ≡ suc (length pre + m) = omega arith in
     ap (λ (k : ℕ). changed k g (p ∷ (pre ++ xs))) next ∙ ap (λ (l : List AskedOfLink). p ∷ l) (behind pre xs m g)
 
-numbered_same : (n : ℕ) (cs : List (Option Child)) (k : ℕ) (f : Child → Child) → ((c : Child) → (f c).link ≡ c.link) → AreNumbered n cs → AreNumbered n (changed_at k f cs)
+numbered_same : (n : ℕ) (cs : List (Option Child)) (k : ℕ) (f : Child → Child) → ((c : Child) → (f c).link ≡ c.link) → AreNumbered n cs → AreNumbered n (child_changed_at k f cs)
 numbered_same n [] k f h a = tt
 numbered_same n (None ∷ cs) zero f h a = a
 numbered_same n (None ∷ cs) (suc k) f h a = numbered_same n cs k f h a
@@ -106,7 +106,7 @@ numbered_same n (Some d ∷ cs) zero f h a = (h d ∙ a.0, a.1)
 numbered_same n (Some d ∷ cs) (suc k) f h a = (a.0, numbered_same (suc n) cs k f h a.1)
 
 tells_changed : (first now next : Option Begun) (cs : List (Option Child)) (k : ℕ) (c : Child) (f : Child → Child) (h : LinkRun → LinkRun) (g : AskedOfLink → AskedOfLink) → ((c : Child) → (f c).link ≡ c.link) → ((l : LinkRun) → link_asked (h l) ≡ g (link_asked l)) → child_asked (f c) ≡ g (child_asked c)
-    → slice_get cs k ≡ Some (Some c) → next ≡ option_map (with_link c.link h) now → TellsLinks first now cs → TellsLinks first next (changed_at k f cs)
+    → slice_get cs k ≡ Some (Some c) → next ≡ option_map (with_link c.link h) now → TellsLinks first now cs → TellsLinks first next (child_changed_at k f cs)
 tells_changed None now next cs k c f h g same does asks at e t = e ∙ ap (option_map (with_link c.link h)) t
 tells_changed (Some b) now next cs k c f h g same does asks at e t =
     let it = there (length b.links) cs k c f g t.3 at asks in (
@@ -117,19 +117,19 @@ tells_changed (Some b) now next cs k c f h g same does asks at e t =
       numbered_same (length b.links) cs k f same t.3,
     )
 
-set_changed : (cs : List (Option Child)) (k : ℕ) (c : Child) (f : Child → Child) → slice_get cs k ≡ Some (Some c) → set cs k (Some (f c)) ≡ changed_at k f cs
+set_changed : (cs : List (Option Child)) (k : ℕ) (c : Child) (f : Child → Child) → slice_get cs k ≡ Some (Some c) → set cs k (Some (f c)) ≡ child_changed_at k f cs
 set_changed [] k c f e = refl
 set_changed (o ∷ cs) zero c f e = let same : o ≡ Some c = cc e in ap (λ (x : Option Child). x ∷ cs) (sym (ap (option_map f) same))
 set_changed (o ∷ cs) (suc k) c f e = ap (λ (l : List (Option Child)). o ∷ l) (set_changed cs k c f e)
 
 -- where the child was asked for it before, nothing changes
-pub unchanged : (cs : List (Option Child)) (k : ℕ) (c : Child) (f : Child → Child) → slice_get cs k ≡ Some (Some c) → f c ≡ c → cs ≡ changed_at k f cs
+pub unchanged : (cs : List (Option Child)) (k : ℕ) (c : Child) (f : Child → Child) → slice_get cs k ≡ Some (Some c) → f c ≡ c → cs ≡ child_changed_at k f cs
 unchanged [] k c f e h = refl
 unchanged (o ∷ cs) zero c f e h = let same : o ≡ Some c = cc e in ap (λ (x : Option Child). x ∷ cs) (same ∙ (ap Some (sym h) ∙ sym (ap (option_map f) same)))
 unchanged (o ∷ cs) (suc k) c f e h = ap (λ (l : List (Option Child)). o ∷ l) (unchanged cs k c f e h)
 
 -- nor where there is no child
-pub none_changed : (cs : List (Option Child)) (k : ℕ) (f : Child → Child) → ((c : Child) → slice_get cs k ≡ Some (Some c) → ⊥) → cs ≡ changed_at k f cs
+pub none_changed : (cs : List (Option Child)) (k : ℕ) (f : Child → Child) → ((c : Child) → slice_get cs k ≡ Some (Some c) → ⊥) → cs ≡ child_changed_at k f cs
 none_changed [] k f h = refl
 none_changed (None ∷ cs) zero f h = refl
 none_changed (Some c ∷ cs) zero f h = absurd (h c refl)
@@ -140,7 +140,7 @@ none_changed (o ∷ cs) (suc k) f h = ap (λ (l : List (Option Child)). o ∷ l)
 rose_later : (n a b c : ℕ) → b ≤ c → RoseBy n a b → RoseBy n a c
 rose_later n a b c l r h = omega (arith, r (omega arith))
 
-failed_same : (cs : List (Option Child)) (k : ℕ) (f : Child → Child) → failed_starts (changed_at k f cs) ≡ failed_starts cs
+failed_same : (cs : List (Option Child)) (k : ℕ) (f : Child → Child) → failed_starts (child_changed_at k f cs) ≡ failed_starts cs
 failed_same [] k f = refl
 failed_same (None ∷ cs) zero f = refl
 failed_same (Some c ∷ cs) zero f = refl
@@ -180,13 +180,13 @@ tells_reaped first now next cs all k c at not is e t =
 abbrev as_child : ℕ → Bool → Bool → Child
 as_child link killed reaped = record { link = link; is_killed = killed; is_reaped = reaped }
 
-pub killed_again : (cs : List (Option Child)) (k : ℕ) (c : Child) → slice_get cs k ≡ Some (Some c) → c.is_killed ≡ true → cs ≡ changed_at k killed_child cs
+pub killed_again : (cs : List (Option Child)) (k : ℕ) (c : Child) → slice_get cs k ≡ Some (Some c) → c.is_killed ≡ true → cs ≡ child_changed_at k killed_child cs
 killed_again cs k c e h = unchanged cs k c killed_child e (ap (λ (b : Bool). as_child c.link b c.is_reaped) (sym h))
 
-pub reaped_again : (cs : List (Option Child)) (k : ℕ) (c : Child) → slice_get cs k ≡ Some (Some c) → c.is_reaped ≡ true → cs ≡ changed_at k reaped_child cs
+pub reaped_again : (cs : List (Option Child)) (k : ℕ) (c : Child) → slice_get cs k ≡ Some (Some c) → c.is_reaped ≡ true → cs ≡ child_changed_at k reaped_child cs
 reaped_again cs k c e h = unchanged cs k c reaped_child e (ap (λ (b : Bool). as_child c.link c.is_killed b) (sym h))
 
-pub changed_set : (cs : List (Option Child)) (k : ℕ) (c : Child) (f : Child → Child) → slice_get cs k ≡ Some (Some c) → slice_set cs k (Some (f c)) ≡ changed_at k f cs
+pub changed_set : (cs : List (Option Child)) (k : ℕ) (c : Child) (f : Child → Child) → slice_get cs k ≡ Some (Some c) → slice_set cs k (Some (f c)) ≡ child_changed_at k f cs
 changed_set cs k c f e = set_changed cs k c f e
 
 -- the starts that are told are not changed by what is asked of a link
@@ -220,23 +220,23 @@ and_right : (a b : Bool) → (a && b) ≡ true → b ≡ true
 and_right true b h = h
 and_right false b h = absurd (cc h)
 
-over_more : (cs : List (Option Child)) (k : ℕ) → list_all is_killed_and_reaped (take k cs) ≡ true → list_all is_killed_and_reaped (take (suc k) (changed_at k reaped_child (changed_at k killed_child cs))) ≡ true
+over_more : (cs : List (Option Child)) (k : ℕ) → list_all is_killed_and_reaped (take k cs) ≡ true → list_all is_killed_and_reaped (take (suc k) (child_changed_at k reaped_child (child_changed_at k killed_child cs))) ≡ true
 over_more [] k h = refl
 over_more (o ∷ cs) zero h = and_true (is_killed_and_reaped (option_map reaped_child (option_map killed_child o))) true (over_kept o) refl
 over_more (o ∷ cs) (suc k) h = and_true (is_killed_and_reaped o) _ (and_left (is_killed_and_reaped o) (list_all is_killed_and_reaped (take k cs)) h) (over_more cs k (and_right (is_killed_and_reaped o) (list_all is_killed_and_reaped (take k cs)) h))
 
 -- one more child is over
-pub over_next : (cs killed reaped : List (Option Child)) (k j : ℕ) → j ≡ suc k → killed ≡ changed_at k killed_child cs → reaped ≡ changed_at k reaped_child killed → list_all is_killed_and_reaped (take k cs) ≡ true → list_all is_killed_and_reaped (take j reaped) ≡ true
+pub over_next : (cs killed reaped : List (Option Child)) (k j : ℕ) → j ≡ suc k → killed ≡ child_changed_at k killed_child cs → reaped ≡ child_changed_at k reaped_child killed → list_all is_killed_and_reaped (take k cs) ≡ true → list_all is_killed_and_reaped (take j reaped) ≡ true
 over_next cs killed reaped k j is a b h =
-    ap (λ (n : ℕ). list_all is_killed_and_reaped (take n reaped)) is ∙ (ap (λ (l : List (Option Child)). list_all is_killed_and_reaped (take (suc k) l)) (b ∙ ap (changed_at k reaped_child) a) ∙ over_more cs k h)
+    ap (λ (n : ℕ). list_all is_killed_and_reaped (take n reaped)) is ∙ (ap (λ (l : List (Option Child)). list_all is_killed_and_reaped (take (suc k) l)) (b ∙ ap (child_changed_at k reaped_child) a) ∙ over_more cs k h)
 
-changed_length : (cs : List (Option Child)) (k : ℕ) (f : Child → Child) → length (changed_at k f cs) ≡ length cs
+changed_length : (cs : List (Option Child)) (k : ℕ) (f : Child → Child) → length (child_changed_at k f cs) ≡ length cs
 changed_length [] k f = refl
 changed_length (o ∷ cs) zero f = refl
 changed_length (o ∷ cs) (suc k) f = omega (arith, changed_length cs k f)
 
-pub over_length : (cs killed reaped : List (Option Child)) (k : ℕ) → killed ≡ changed_at k killed_child cs → reaped ≡ changed_at k reaped_child killed → length reaped ≡ length cs
-over_length cs killed reaped k a b = ap length (b ∙ ap (changed_at k reaped_child) a) ∙ (changed_length (changed_at k killed_child cs) k reaped_child ∙ changed_length cs k killed_child)
+pub over_length : (cs killed reaped : List (Option Child)) (k : ℕ) → killed ≡ child_changed_at k killed_child cs → reaped ≡ child_changed_at k reaped_child killed → length reaped ≡ length cs
+over_length cs killed reaped k a b = ap length (b ∙ ap (child_changed_at k reaped_child) a) ∙ (changed_length (child_changed_at k killed_child cs) k reaped_child ∙ changed_length cs k killed_child)
 
 -- all are over
 pub over_all : (cs : List (Option Child)) (n : ℕ) → n ≡ length cs → list_all is_killed_and_reaped (take n cs) ≡ true → list_all is_killed_and_reaped cs ≡ true
@@ -277,14 +277,14 @@ not_false true h = refl
 not_false false h = absurd (cc h)
 
 -- a child that was killed is waited for
-pub buried_killed : (cs : List (Option Child)) (k : ℕ) (c : Child) → slice_get cs k ≡ Some (Some c) → c.is_killed ≡ true → changed_at k reaped_child cs ≡ changed_at k buried_child cs
+pub buried_killed : (cs : List (Option Child)) (k : ℕ) (c : Child) → slice_get cs k ≡ Some (Some c) → c.is_killed ≡ true → child_changed_at k reaped_child cs ≡ child_changed_at k buried_child cs
 buried_killed [] k c e h = refl
 buried_killed (None ∷ cs) zero c e h = refl
 buried_killed (Some d ∷ cs) zero c e h = let same : d ≡ c = cc e in let it : d.is_killed ≡ true = ap (λ (x : Child). x.is_killed) same ∙ h in ap (λ (b : Bool). Some (as_child d.link d.is_killed b) ∷ cs) (sym (or_first d.is_reaped d.is_killed it))
 buried_killed (o ∷ cs) (suc k) c e h = ap (λ (l : List (Option Child)). o ∷ l) (buried_killed cs k c e h)
 
 -- one that was not is left
-pub buried_other : (cs : List (Option Child)) (k : ℕ) (c : Child) → slice_get cs k ≡ Some (Some c) → c.is_killed ≡ false → cs ≡ changed_at k buried_child cs
+pub buried_other : (cs : List (Option Child)) (k : ℕ) (c : Child) → slice_get cs k ≡ Some (Some c) → c.is_killed ≡ false → cs ≡ child_changed_at k buried_child cs
 buried_other cs k c e h = unchanged cs k c buried_child e (ap (λ (b : Bool). as_child c.link c.is_killed b) (or_same c.is_reaped c.is_killed h))
 
 -- the first children are buried
@@ -293,10 +293,10 @@ buried_to zero cs = cs
 buried_to (suc n) [] = []
 buried_to (suc n) (o ∷ cs) = option_map buried_child o ∷ buried_to n cs
 
-pub buried_next : (n j : ℕ) (cs now next : List (Option Child)) → j ≡ suc n → next ≡ changed_at n buried_child now → now ≡ buried_to n cs → next ≡ buried_to j cs
-buried_next n j cs now next is a b = a ∙ (ap (changed_at n buried_child) b ∙ (one n cs ∙ ap (λ (m : ℕ). buried_to m cs) (sym is)))
+pub buried_next : (n j : ℕ) (cs now next : List (Option Child)) → j ≡ suc n → next ≡ child_changed_at n buried_child now → now ≡ buried_to n cs → next ≡ buried_to j cs
+buried_next n j cs now next is a b = a ∙ (ap (child_changed_at n buried_child) b ∙ (one n cs ∙ ap (λ (m : ℕ). buried_to m cs) (sym is)))
   where
-    one : (n : ℕ) (cs : List (Option Child)) → changed_at n buried_child (buried_to n cs) ≡ buried_to (suc n) cs
+    one : (n : ℕ) (cs : List (Option Child)) → child_changed_at n buried_child (buried_to n cs) ≡ buried_to (suc n) cs
     one zero [] = refl
     one zero (o ∷ cs) = refl
     one (suc n) [] = refl

@@ -31,7 +31,7 @@ use Rattle.xd_remote.specs.declared.fault.GatewayFault.{GatewayFault}
 use Rattle.xd_remote.specs.declared.fault.GatewayFault.TheVariants.{SendFault, Channel, Opening, OutOfMemory}
 use Rattle.xd_remote.specs.declared.gateway.Gateway.{Gateway}
 use Rattle.xd_remote.specs.Calls.{Wanted, call_tree, exec_by, exec_message, exec_wanted, item_message, item_wanted, kwargs_of, open_refusal, opening_wanted, say_wanted}
-use Rattle.xd_remote.specs.Line.{GatewaySink, Prints, Says}
+use Rattle.xd_remote.specs.Line.{GatewaySink, PrintsBytes, Says}
 use Rattle.xd_remote.specs.Stands.{IsNew}
 use Rattle.xd_remote.specs.View.{IsLost, SaysOn, is_broken, line_of, side_of}
 use Rattle.xd_report.specs.Names.{mode_text}
@@ -79,8 +79,8 @@ module _ {K : Type 0} where
       ap (λ (x : List ℕ). dumped (call_tree x kwargs)) n ∙ (ap (λ (x : Pairs). dumped (call_tree (codes "run_tests") x)) k ∙ call_dumped suite (mode_text m) short (mode_short m)) in
       call_by s (dumped (call_tree name kwargs)) (canonical (run_tests_call suite (mode_text m))) all none next
 
-pub as_wanted : (wanted : Wanted) (m n : MessageView) (a b : GatewaySink) → wanted ≡ Ok m → wanted ≡ Ok n → Prints (frame n) a b → Prints (frame m) a b
-as_wanted wanted m n a b e f p = let same : Ok n ≡ Ok m = sym f ∙ e in let is : n ≡ m = cc same in subst (λ (x : MessageView). Prints (frame x) a b) is p
+pub as_wanted : (wanted : Wanted) (m n : MessageView) (a b : GatewaySink) → wanted ≡ Ok m → wanted ≡ Ok n → PrintsBytes (frame n) a b → PrintsBytes (frame m) a b
+as_wanted wanted m n a b e f p = let same : Ok n ≡ Ok m = sym f ∙ e in let is : n ≡ m = cc same in subst (λ (x : MessageView). PrintsBytes (frame x) a b) is p
 
 pub not_refused : (wanted : Wanted) (m : MessageView) (f : GatewayFault) → wanted ≡ Ok m → wanted ≡ Err f → ⊥
 not_refused wanted m f e g = let both : Ok m ≡ Err f = sym e ∙ g in cc both
@@ -147,7 +147,7 @@ not_memory (Channel g) r e q z = absurd (cc e)
 not_memory (Opening g) r e q z = absurd (cc e)
 not_memory OutOfMemory r e q z = absurd (cc e)
 
-pub said_call : (T : Type 0) (f : GatewayFault) (wanted : Wanted) (m : MessageView) (a b : GatewaySink) → f ≡ SendFault → Says {T = T} wanted a b (Err f) → wanted ≡ Ok m → Prints (frame m) a b
+pub said_call : (T : Type 0) (f : GatewayFault) (wanted : Wanted) (m : MessageView) (a b : GatewaySink) → f ≡ SendFault → Says {T = T} wanted a b (Err f) → wanted ≡ Ok m → PrintsBytes (frame m) a b
 said_call T SendFault wanted m a b e s w = as_wanted wanted m s.0 a b w s.1 s.3
 said_call T (Channel g) wanted m a b e s w = absurd (cc e)
 said_call T (Opening g) wanted m a b e s w = absurd (cc e)

@@ -13,9 +13,9 @@ use Rattle.xd_links.specs.Links.{ring_of_link, ring_of_mail, sources_of}
 use Rattle.xd_links.specs.Runs.{news_of}
 use Rattle.xd_group.specs.Fates.{EndedFrom, is_linked}
 use Rattle.xd_group.specs.Heard.{says_send_fault}
-use Rattle.xd_group.specs.Kept.{Kept, said_by}
+use Rattle.xd_group.specs.Kept.{Kept, said_of_worker}
 use Rattle.xd_group.specs.Late.{IsLateAt, Late, Settled}
-use Rattle.xd_group.specs.Pages.{HasPage, Page, taken_of}
+use Rattle.xd_group.specs.Pages.{HasPage, Page, taken_of_link}
 use Rattle.xd_group.specs.PostView.{ends_of, has_ended, losses_of, page_by, pages_of}
 use Rattle.xd_group.specs.declared.fate.Fate.{Fate}
 use Rattle.xd_group.specs.declared.fate.Fate.TheVariants as fate
@@ -62,7 +62,7 @@ module _ {N : Type 0} {g : _} where
 
   -- where the news of a worker whose link is read say that a send failed, a write to its link failed
   pub said_lost : (suite : List ℕ) (mode : ModeKind) (taken : List (Option (List LinkNews))) (calls : List Entry) (given : List News) (workers : List ℕ) (xs : List (Option (Post N g))) (fates : List Fate) (k w : ℕ) → Kept suite mode taken calls given workers (pages_of xs) → map is_some (pages_of xs) ≡ map is_linked fates
-      → slice_get workers k ≡ Some w → slice_get fates k ≡ Some fate.Linked → list_any says_send_fault (said_by w given) ≡ true → slice_get (losses_of xs) k ≡ Some true
+      → slice_get workers k ≡ Some w → slice_get fates k ≡ Some fate.Linked → list_any says_send_fault (said_of_worker w given) ≡ true → slice_get (losses_of xs) k ≡ Some true
   said_lost suite mode taken calls given workers xs fates k w kept seats at is h =
       let it = page_read xs fates k seats is in
       fault_lost xs k it.0 it.1 ((kept.own k it.0 it.1).known) (ap (list_any says_send_fault) (kept.said k w it.0 at it.1) ∙ h)
@@ -90,7 +90,7 @@ module _ {S H : Type 0} (f : H → Reader S) where
   source_of_taken (m ∷ ms) (h ∷ hs) (suc k) got r e = let rest : map ring_of_mail ms ≡ map (ring_of_link f) hs = cc r in source_of_taken ms hs k got rest e
 
   taken_there : (first : List (Option Settled)) (taken : List (Option (List LinkNews))) (pages : List (Option Page)) (k : ℕ) (p : Page) → slice_get pages k ≡ Some (Some p) → Late first taken pages → slice_get taken k ≡ Some (Some p.taken)
-  taken_there first taken pages k p e late = ap (λ (l : List (Option (List LinkNews))). slice_get l k) (sym late.takes) ∙ map_read taken_of pages k (Some p) e
+  taken_there first taken pages k p e late = ap (λ (l : List (Option (List LinkNews))). slice_get l k) (sym late.takes) ∙ map_read taken_of_link pages k (Some p) e
 
   pub source_late : (first : List (Option Settled)) (mails : List (Option (Ring × List LinkNews))) (links : List (Option H)) (pages : List (Option Page)) (k : ℕ) (p : Page) → map ring_of_mail mails ≡ map (ring_of_link f) links → slice_get pages k ≡ Some (Some p) → ∥ Late first (news_of mails) pages ∥₁ → (s : S) × (slice_get (sources_of f links) k ≡ Some (Some s))
   source_late first mails links pages k p r e late = by (slice_get (sources_of f links) k) refl

@@ -14,16 +14,16 @@ use Rattle.xd_reader.specs.declared.news.LinkNews.{LinkNews}
 use Rattle.xd_links.specs.Runs.{LinkRead}
 use Rattle.xd_links.proofs.Places.{set_read}
 use Rattle.xd_group.specs.Ends.{EndsSo}
-use Rattle.xd_drive.specs.Listed.{is_among}
+use Rattle.xd_drive.specs.Listed.{is_listed}
 use Rattle.xd_group.specs.Fates.{has_link, is_refused, workers_with}
 use Rattle.xd_group.specs.Returned.{RanSo}
 use Rattle.xd_group.specs.Unused.{Unused}
 use Rattle.xd_group.specs.declared.fate.Fate.{Fate}
 use Rattle.xd_group.specs.declared.fate.Fate.TheVariants as fate
-use Rattle.xd_group.specs.Kept.{Kept, orders_to, said_by}
+use Rattle.xd_group.specs.Kept.{Kept, orders_to, said_of_worker}
 use Rattle.xd_group.specs.Late.{IsLateAt, Late, LateAt, RanAt, Settled, late_page, settled_at, settled_of}
 use Rattle.xd_group.specs.LinkRun.{Link, LinkRun, link_of}
-use Rattle.xd_group.specs.Pages.{Page, taken_of}
+use Rattle.xd_group.specs.Pages.{Page, taken_of_link}
 use Rattle.xd_group.proofs.FateFacts.{among_with, not_with}
 use Rattle.xd_group.proofs.Keeping.{map_read, page_taken}
 use Rattle.xd_group.proofs.Running.{link_run}
@@ -56,7 +56,7 @@ late_heard first taken next_taken pages next k item got was then hear late =
     let new = hear it.0 it.1 in
     let q = late_page item new.0 it.0 in
     record {
-      takes = ap (map taken_of) new.1 ∙ (map-set taken_of pages k (Some q) ∙ (ap (λ (l : List (Option (List LinkNews))). set l k (Some (p.taken ++ item ∷ []))) late.takes ∙ (ap (λ (l : List LinkNews). set taken k (Some (l ++ item ∷ []))) it.2 ∙ sym then)));
+      takes = ap (map taken_of_link) new.1 ∙ (map-set taken_of_link pages k (Some q) ∙ (ap (λ (l : List (Option (List LinkNews))). set l k (Some (p.taken ++ item ∷ []))) late.takes ∙ (ap (λ (l : List LinkNews). set taken k (Some (l ++ item ∷ []))) it.2 ∙ sym then)));
       same = λ i x pi. same_set first pages k i q x ((late.same k p there).0, refl) late.same (set_read pages k i (Some q) (Some x) (ap (λ (l : List (Option Page)). slice_get l i) (sym new.1) ∙ pi));
     }
 
@@ -70,7 +70,7 @@ same_closed first pages k i x all (inr b) = all i x b.1
 pub late_closed : (first : List (Option Settled)) (taken next_taken : List (Option (List LinkNews))) (pages next : List (Option Page)) (k : ℕ) → next_taken ≡ slice_set taken k None → next ≡ slice_set pages k None → Late first taken pages → Late first next_taken next
 late_closed first taken next_taken pages next k then new late =
     record {
-      takes = ap (map taken_of) new ∙ (map-set taken_of pages k None ∙ (ap (λ (l : List (Option (List LinkNews))). set l k None) late.takes ∙ sym then));
+      takes = ap (map taken_of_link) new ∙ (map-set taken_of_link pages k None ∙ (ap (λ (l : List (Option (List LinkNews))). set l k None) late.takes ∙ sym then));
       same = λ i x pi. same_closed first pages k i x late.same (set_read pages k i None (Some x) (ap (λ (l : List (Option Page)). slice_get l i) (sym new) ∙ pi));
     }
 
@@ -78,7 +78,7 @@ late_closed first taken next_taken pages next k then new late =
 pub ran_at : (first : List (Option Settled)) (taken : List (Option (List LinkNews))) (pages : List (Option Page)) (k : ℕ) (p : Page) (now : Spring) (sunk : Option Sunk) (writes : ℕ)
     → slice_get pages k ≡ Some (Some p) → ((got : List LinkNews) → slice_get taken k ≡ Some (Some got) → LinkRead now got) → EndsSo p sunk writes → Late first taken pages → RanAt first k (link_of now sunk writes)
 ran_at first taken pages k p now sunk writes there read ends late =
-    let was : slice_get taken k ≡ Some (Some p.taken) = ap (λ (l : List (Option (List LinkNews))). slice_get l k) (sym late.takes) ∙ map_read taken_of pages k (Some p) there in
+    let was : slice_get taken k ≡ Some (Some p.taken) = ap (λ (l : List (Option (List LinkNews))). slice_get l k) (sym late.takes) ∙ map_read taken_of_link pages k (Some p) there in
     record { settled = settled_of p; at = (late.same k p there).0; run = link_run now sunk writes p (read p.taken was) ends }
 
 settled_page : (pages : List (Option Page)) (k : ℕ) (s : Settled) → slice_get (map settled_at pages) k ≡ Some (Some s) → (p : Page) × (slice_get pages k ≡ Some (Some p)) × (settled_of p ≡ s)
@@ -89,14 +89,14 @@ settled_page (o ∷ ps) (suc k) s e = settled_page ps k s e
 
 -- and so it ran as its worker was told and said
 pub run_by : (suite : List ℕ) (mode : ModeKind) (taken : List (Option (List LinkNews))) (calls : List Entry) (given : List News) (workers : List ℕ) (pages : List (Option Page)) (k w : ℕ) (l : Link)
-    → slice_get workers k ≡ Some w → Kept suite mode taken calls given workers pages → RanAt (map settled_at pages) k l → LinkRun suite mode (said_by w given) (orders_to w calls) l
+    → slice_get workers k ≡ Some w → Kept suite mode taken calls given workers pages → RanAt (map settled_at pages) k l → LinkRun suite mode (said_of_worker w given) (orders_to w calls) l
 run_by suite mode taken calls given workers pages k w l at kept ran =
     let it = settled_page pages k ran.settled ran.at in
     let p = it.0 in
     let own = kept.own k p it.1 in
     let run : LinkRun p.suite p.mode p.said p.told l = subst (λ (s : Settled). LinkRun s.suite s.mode s.said s.told l) (sym it.2) ran.run in
-    subst (λ (s : List ℕ). LinkRun s mode (said_by w given) (orders_to w calls) l) own.suite_is
-    (subst (λ (m : ModeKind). LinkRun p.suite m (said_by w given) (orders_to w calls) l) own.mode_is
+    subst (λ (s : List ℕ). LinkRun s mode (said_of_worker w given) (orders_to w calls) l) own.suite_is
+    (subst (λ (m : ModeKind). LinkRun p.suite m (said_of_worker w given) (orders_to w calls) l) own.mode_is
     (subst (λ (x : List What). LinkRun p.suite p.mode x (orders_to w calls) l) (kept.said k w p at it.1)
     (subst (λ (e : List Entry). LinkRun p.suite p.mode p.said e l) (kept.told k w p at it.1) run)))
 
@@ -115,6 +115,6 @@ by_no false P Q e q = q
 pub ran_so : (suite : List ℕ) (mode : ModeKind) (taken : List (Option (List LinkNews))) (calls : List Entry) (given : List News) (workers : List ℕ) (pages : List (Option Page)) (fates : List Fate) (k w : ℕ) (l : Link) (f : Fate) → slice_get workers k ≡ Some w → slice_get fates k ≡ Some f → has_link f ≡ true
     → (slice_get fates k ≡ Some fate.Linked → ∥ RanAt (map settled_at pages) k l ∥₁) → (slice_get fates k ≡ Some fate.Refused → Unused l) → ∥ Kept suite mode taken calls given workers pages ∥₁ → ∥ RanSo suite mode given calls (workers_with is_refused workers fates) w l ∥₁
 ran_so suite mode taken calls given workers pages fates k w l fate.Unlinked at is h ran un kept = absurd (cc h)
-ran_so suite mode taken calls given workers pages fates k w l fate.Refused at is h ran un kept = ∣ by_yes (is_among w (workers_with is_refused workers fates)) (Unused l) (LinkRun suite mode (said_by w given) (orders_to w calls) l) (among_with is_refused workers fates k w fate.Refused at is refl) (un is) ∣₁
+ran_so suite mode taken calls given workers pages fates k w l fate.Refused at is h ran un kept = ∣ by_yes (is_listed w (workers_with is_refused workers fates)) (Unused l) (LinkRun suite mode (said_of_worker w given) (orders_to w calls) l) (among_with is_refused workers fates k w fate.Refused at is refl) (un is) ∣₁
 ran_so suite mode taken calls given workers pages fates k w l fate.Linked at is h ran un kept =
-    ∥∥₁_map₂ kept (ran is) (λ kp r. by_no (is_among w (workers_with is_refused workers fates)) (Unused l) (LinkRun suite mode (said_by w given) (orders_to w calls) l) (not_with is_refused workers fates k w fate.Linked kp.apart at is refl) (run_by suite mode taken calls given workers pages k w l at kp r))
+    ∥∥₁_map₂ kept (ran is) (λ kp r. by_no (is_listed w (workers_with is_refused workers fates)) (Unused l) (LinkRun suite mode (said_of_worker w given) (orders_to w calls) l) (not_with is_refused workers fates k w fate.Linked kp.apart at is refl) (run_by suite mode taken calls given workers pages k w l at kp r))

@@ -3,8 +3,8 @@ use Rattle.std.proofs.Common.{◌≡◌, ◌<◌, ℕ, zero, suc, List, [], ◌�
 use Rattle.std.specs.Prelude.{◌==◌, ◌||◌, if◌then◌else◌, is_some, slice_get, option_map}
 use Rattle.std.proofs.lemmas.Bool.Decides.{nat_tests}
 use Rattle.std.proofs.lemmas.List.{map-append}
-use Rattle.xd_drive.specs.Listed.{is_among}
-use Rattle.xd_group.specs.Children.{AskedOfLink, children_asked, child_asked, changed_at, failed_starts, reaped_child}
+use Rattle.xd_drive.specs.Listed.{is_listed}
+use Rattle.xd_group.specs.Children.{AskedOfLink, children_asked, child_asked, child_changed_at, failed_starts, reaped_child}
 use Rattle.xd_group.specs.Fates.{KeptFrom, SoFrom, has_link, is_refused, is_unlinked, workers_with}
 use Rattle.xd_group.specs.Few.{count_with}
 use Rattle.xd_group.specs.Returned.{end_told}
@@ -42,7 +42,7 @@ with_next which ws fs k j w f is a b = ap (λ (n : ℕ). workers_with which (tak
 
 -- ---- who is among them
 
-head_among : (x w : ℕ) (xs : List ℕ) → x ≡ w → is_among w (x ∷ xs) ≡ true
+head_among : (x w : ℕ) (xs : List ℕ) → x ≡ w → is_listed w (x ∷ xs) ≡ true
 head_among x w xs e = rw (same x w e) refl
   where
     same : (x w : ℕ) → x ≡ w → (x == w) ≡ true
@@ -52,18 +52,18 @@ or_right : (a b : Bool) → b ≡ true → (a || b) ≡ true
 or_right true b h = refl
 or_right false b h = h
 
-among_if : (b : Bool) (x w : ℕ) (xs : List ℕ) → is_among w xs ≡ true → is_among w (if b then x ∷ xs else xs) ≡ true
-among_if true x w xs h = or_right (x == w) (is_among w xs) h
+among_if : (b : Bool) (x w : ℕ) (xs : List ℕ) → is_listed w xs ≡ true → is_listed w (if b then x ∷ xs else xs) ≡ true
+among_if true x w xs h = or_right (x == w) (is_listed w xs) h
 among_if false x w xs h = h
 
-pub among_with : (which : Fate → Bool) (ws : List ℕ) (fs : List Fate) (k w : ℕ) (f : Fate) → slice_get ws k ≡ Some w → slice_get fs k ≡ Some f → which f ≡ true → is_among w (workers_with which ws fs) ≡ true
+pub among_with : (which : Fate → Bool) (ws : List ℕ) (fs : List Fate) (k w : ℕ) (f : Fate) → slice_get ws k ≡ Some w → slice_get fs k ≡ Some f → which f ≡ true → is_listed w (workers_with which ws fs) ≡ true
 among_with which [] fs k w f a b h = absurd (cc a)
 among_with which (x ∷ ws) [] k w f a b h = absurd (cc b)
 among_with which (x ∷ ws) (g ∷ fs) zero w f a b h =
     let same : x ≡ w = cc a in
     let fate : g ≡ f = cc b in
     let yes : which g ≡ true = ap which fate ∙ h in
-    ap (λ (b : Bool). is_among w (if b then x ∷ workers_with which ws fs else workers_with which ws fs)) yes ∙ head_among x w (workers_with which ws fs) same
+    ap (λ (b : Bool). is_listed w (if b then x ∷ workers_with which ws fs else workers_with which ws fs)) yes ∙ head_among x w (workers_with which ws fs) same
 among_with which (x ∷ ws) (g ∷ fs) (suc k) w f a b h = among_if (which g) x w (workers_with which ws fs) (among_with which ws fs k w f a b h)
 
 -- a place of a worker with such a fate
@@ -80,18 +80,18 @@ behind which x ws g fs w p = record { at = suc p.at; fate = p.fate; is = p.is; w
 same_number : (u w : ℕ) → (u == w) ≡ true → u ≡ w
 same_number u w h = grind (arith, nat_tests)
 
-placed : (which : Fate → Bool) (ws : List ℕ) (fs : List Fate) (w : ℕ) → is_among w (workers_with which ws fs) ≡ true → Placed which ws fs w
+placed : (which : Fate → Bool) (ws : List ℕ) (fs : List Fate) (w : ℕ) → is_listed w (workers_with which ws fs) ≡ true → Placed which ws fs w
 placed which [] fs w h = absurd (cc h)
 placed which (x ∷ ws) [] w h = absurd (cc h)
 placed which (x ∷ ws) (g ∷ fs) w h = by (λ r. behind which x ws g fs w (placed which ws fs w r)) (which g) refl
   where
-    here : (is_among w (workers_with which ws fs) ≡ true → Placed which (x ∷ ws) (g ∷ fs) w) → (b : Bool) → (x == w) ≡ b → which g ≡ true → ((x == w) || is_among w (workers_with which ws fs)) ≡ true → Placed which (x ∷ ws) (g ∷ fs) w
+    here : (is_listed w (workers_with which ws fs) ≡ true → Placed which (x ∷ ws) (g ∷ fs) w) → (b : Bool) → (x == w) ≡ b → which g ≡ true → ((x == w) || is_listed w (workers_with which ws fs)) ≡ true → Placed which (x ∷ ws) (g ∷ fs) w
     here later true e s h = record { at = 0; fate = g; is = ap Some (same_number x w e); was = refl; so = s }
-    here later false e s h = later (sym (ap (λ (b : Bool). b || is_among w (workers_with which ws fs)) e) ∙ h)
+    here later false e s h = later (sym (ap (λ (b : Bool). b || is_listed w (workers_with which ws fs)) e) ∙ h)
 
-    by : (is_among w (workers_with which ws fs) ≡ true → Placed which (x ∷ ws) (g ∷ fs) w) → (b : Bool) → which g ≡ b → Placed which (x ∷ ws) (g ∷ fs) w
-    by later true s = here later (x == w) refl s (sym (ap (λ (b : Bool). is_among w (if b then x ∷ workers_with which ws fs else workers_with which ws fs)) s) ∙ h)
-    by later false s = later (sym (ap (λ (b : Bool). is_among w (if b then x ∷ workers_with which ws fs else workers_with which ws fs)) s) ∙ h)
+    by : (is_listed w (workers_with which ws fs) ≡ true → Placed which (x ∷ ws) (g ∷ fs) w) → (b : Bool) → which g ≡ b → Placed which (x ∷ ws) (g ∷ fs) w
+    by later true s = here later (x == w) refl s (sym (ap (λ (b : Bool). is_listed w (if b then x ∷ workers_with which ws fs else workers_with which ws fs)) s) ∙ h)
+    by later false s = later (sym (ap (λ (b : Bool). is_listed w (if b then x ∷ workers_with which ws fs else workers_with which ws fs)) s) ∙ h)
 
 no_way : (b : Bool) → b ≡ true → b ≡ false → ⊥
 no_way true t f = cc f
@@ -101,10 +101,10 @@ same_some : {X : Type 0} (o : Option X) (x y : X) → o ≡ Some x → o ≡ Som
 same_some o x y e f = let both : Some x ≡ Some y = sym e ∙ f in cc
 
 -- a worker that was started once, with another fate, is not among them
-pub not_with : (which : Fate → Bool) (ws : List ℕ) (fs : List Fate) (k w : ℕ) (f : Fate) → ((k l w : ℕ) → slice_get ws k ≡ Some w → slice_get ws l ≡ Some w → k ≡ l) → slice_get ws k ≡ Some w → slice_get fs k ≡ Some f → which f ≡ false → is_among w (workers_with which ws fs) ≡ false
-not_with which ws fs k w f apart a b h = by (is_among w (workers_with which ws fs)) refl
+pub not_with : (which : Fate → Bool) (ws : List ℕ) (fs : List Fate) (k w : ℕ) (f : Fate) → ((k l w : ℕ) → slice_get ws k ≡ Some w → slice_get ws l ≡ Some w → k ≡ l) → slice_get ws k ≡ Some w → slice_get fs k ≡ Some f → which f ≡ false → is_listed w (workers_with which ws fs) ≡ false
+not_with which ws fs k w f apart a b h = by (is_listed w (workers_with which ws fs)) refl
   where
-    by : (c : Bool) → is_among w (workers_with which ws fs) ≡ c → is_among w (workers_with which ws fs) ≡ false
+    by : (c : Bool) → is_listed w (workers_with which ws fs) ≡ c → is_listed w (workers_with which ws fs) ≡ false
     by false e = e
     by true e =
         let p = placed which ws fs w e in
@@ -145,16 +145,16 @@ same_map : (f : Child → Child) (o : Option Child) → is_some (option_map f o)
 same_map f None = refl
 same_map f (Some c) = refl
 
-pub changed_linked : (cs : List (Option Child)) (k : ℕ) (f : Child → Child) → map is_some (changed_at k f cs) ≡ map is_some cs
+pub changed_linked : (cs : List (Option Child)) (k : ℕ) (f : Child → Child) → map is_some (child_changed_at k f cs) ≡ map is_some cs
 changed_linked [] k f = refl
 changed_linked (o ∷ cs) zero f = ap (λ (b : Bool). b ∷ map is_some cs) (same_map f o)
 changed_linked (o ∷ cs) (suc k) f = ap (λ (l : List Bool). is_some o ∷ l) (changed_linked cs k f)
 
 -- what was asked of the children up to one that was reaped
-pub asked_next : (cs : List (Option Child)) (k j : ℕ) (c : Child) → j ≡ suc k → slice_get cs k ≡ Some (Some c) → children_asked (take j (changed_at k reaped_child cs)) ≡ children_asked (take k cs) ++ end_told c.is_killed ∷ []
-asked_next cs k j c is e = ap (λ (n : ℕ). children_asked (take n (changed_at k reaped_child cs))) is ∙ next cs k e
+pub asked_next : (cs : List (Option Child)) (k j : ℕ) (c : Child) → j ≡ suc k → slice_get cs k ≡ Some (Some c) → children_asked (take j (child_changed_at k reaped_child cs)) ≡ children_asked (take k cs) ++ end_told c.is_killed ∷ []
+asked_next cs k j c is e = ap (λ (n : ℕ). children_asked (take n (child_changed_at k reaped_child cs))) is ∙ next cs k e
   where
-    next : (cs : List (Option Child)) (k : ℕ) → slice_get cs k ≡ Some (Some c) → children_asked (take (suc k) (changed_at k reaped_child cs)) ≡ children_asked (take k cs) ++ end_told c.is_killed ∷ []
+    next : (cs : List (Option Child)) (k : ℕ) → slice_get cs k ≡ Some (Some c) → children_asked (take (suc k) (child_changed_at k reaped_child cs)) ≡ children_asked (take k cs) ++ end_told c.is_killed ∷ []
     next [] k e = absurd (cc e)
     next (None ∷ cs) zero e = absurd (cc e)
     next (Some d ∷ cs) zero e = let same : d ≡ c = cc e in ap (λ (x : Child). end_told x.is_killed ∷ []) same

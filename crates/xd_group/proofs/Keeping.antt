@@ -22,8 +22,8 @@ use Rattle.std.specs.Prelude.{IsSome}
 use Rattle.xd_gateway.specs.Orders.{order_of}
 use Rattle.xd_drive.specs.Marks.{is_breach, is_end, is_ready, may_tell}
 use Rattle.xd_links.proofs.Places.{push_read, set_read}
-use Rattle.xd_group.specs.Pages.{Page, HasPage, HeardAt, IsHeardAt, IsToldAt, ToldAt, heard_page, told_page, taken_of, page_opened, first_page}
-use Rattle.xd_group.specs.Kept.{IsOwn, Kept, orders_to, said_by}
+use Rattle.xd_group.specs.Pages.{Page, HasPage, HeardAt, IsHeardAt, IsToldAt, ToldAt, heard_page, told_page, taken_of_link, page_opened, first_page}
+use Rattle.xd_group.specs.Kept.{IsOwn, Kept, orders_to, said_of_worker}
 use Rattle.xd_group.specs.Tells.{marks_told}
 
 -- ---- places of a list
@@ -32,7 +32,7 @@ pub same_some : {X : Type 0} (o : Option X) (x y : X) → o ≡ Some x → o ≡
 same_some o x y e f = let both : Some x ≡ Some y = sym e ∙ f in cc
 
 -- the page of a link from which something was taken
-pub page_taken : (pages : List (Option Page)) (k : ℕ) (got : List LinkNews) → slice_get (map taken_of pages) k ≡ Some (Some got) → (p : Page) × (slice_get pages k ≡ Some (Some p)) × (p.taken ≡ got)
+pub page_taken : (pages : List (Option Page)) (k : ℕ) (got : List LinkNews) → slice_get (map taken_of_link pages) k ≡ Some (Some got) → (p : Page) × (slice_get pages k ≡ Some (Some p)) × (p.taken ≡ got)
 page_taken [] k got e = absurd (cc e)
 page_taken (None ∷ ps) zero got e = absurd (cc e)
 page_taken (Some p ∷ ps) zero got e = (p, refl, cc e)
@@ -58,12 +58,12 @@ filter_more p xs all x is h = ap (filter p) is ∙ (filter-append p xs (x ∷ []
 filter_same : {X : Type 0} (p : X → Bool) (xs all : List X) (x : X) → all ≡ xs ++ x ∷ [] → p x ≡ false → filter p all ≡ filter p xs
 filter_same p xs all x is h = ap (filter p) is ∙ (filter-append p xs (x ∷ []) ∙ (ap (λ (l : List _). filter p xs ++ l) (filter_no p x h) ∙ append-nil (filter p xs)))
 
-pub said_more : (w : ℕ) (given all : List News) (n : News) → all ≡ given ++ n ∷ [] → n.worker ≡ w → said_by w all ≡ said_by w given ++ n.what ∷ []
+pub said_more : (w : ℕ) (given all : List News) (n : News) → all ≡ given ++ n ∷ [] → n.worker ≡ w → said_of_worker w all ≡ said_of_worker w given ++ n.what ∷ []
 said_more w given all n is e =
     let here : (n.worker == w) ≡ true = ap (λ (k : ℕ). k == w) e ∙ equal_self w in
     ap (map (λ (m : News). m.what)) (filter_more (λ m. m.worker == w) given all n is here) ∙ map-append (λ (m : News). m.what) (filter (λ m. m.worker == w) given) (n ∷ [])
 
-pub said_same : (w : ℕ) (given all : List News) (n : News) → all ≡ given ++ n ∷ [] → (n.worker ≡ w → ⊥) → said_by w all ≡ said_by w given
+pub said_same : (w : ℕ) (given all : List News) (n : News) → all ≡ given ++ n ∷ [] → (n.worker ≡ w → ⊥) → said_of_worker w all ≡ said_of_worker w given
 said_same w given all n is h = ap (map (λ (m : News). m.what)) (filter_same (λ m. m.worker == w) given all n is (other_test n.worker w h))
 
 -- ---- orders
@@ -150,8 +150,8 @@ own_set : (suite : List ℕ) (mode : ModeKind) (pages : List (Option Page)) (k i
 own_set suite mode pages k i q x o all (inl a) = let same : q ≡ x = (let e = a.1 in sym (cc e)) in subst (λ (p : Page). IsOwn suite mode p) same o
 own_set suite mode pages k i q x o all (inr b) = all i x b.1
 
-silent_set : (workers : List ℕ) (pages : List (Option Page)) (k i v : ℕ) (q : Page) (given : List News) → ((k w : ℕ) → slice_get workers k ≡ Some w → slice_get pages k ≡ Some None → list_any is_ready (said_by w given) ≡ false) → slice_get workers i ≡ Some v
-    → ((i ≡ k) × (None ≡ Some q)) ⊎ ((i ≡ k → ⊥) × (slice_get pages i ≡ Some None)) → list_any is_ready (said_by v given) ≡ false
+silent_set : (workers : List ℕ) (pages : List (Option Page)) (k i v : ℕ) (q : Page) (given : List News) → ((k w : ℕ) → slice_get workers k ≡ Some w → slice_get pages k ≡ Some None → list_any is_ready (said_of_worker w given) ≡ false) → slice_get workers i ≡ Some v
+    → ((i ≡ k) × (None ≡ Some q)) ⊎ ((i ≡ k → ⊥) × (slice_get pages i ≡ Some None)) → list_any is_ready (said_of_worker v given) ≡ false
 silent_set workers pages k i v q given all wi (inl a) = absurd (let e = a.1 in cc e)
 silent_set workers pages k i v q given all wi (inr b) = all i v wi b.1
 
@@ -181,8 +181,8 @@ told_by calls all workers pages k w i v e p x is order at there told apart wi (i
     told i v x wi b.1 ∙ sym (others v w calls all e is order (λ same. b.0 (apart i k v wi (at ∙ ap Some (sym same)))))
 
 said_so : (given : List News) (workers : List ℕ) (pages : List (Option Page)) (k i v : ℕ) (e : Entry) (p x : Page) → slice_get pages k ≡ Some (Some p)
-    → ((k w : ℕ) (p : Page) → slice_get workers k ≡ Some w → slice_get pages k ≡ Some (Some p) → p.said ≡ said_by w given) → slice_get workers i ≡ Some v
-    → ((i ≡ k) × (Some x ≡ Some (told_page e p))) ⊎ ((i ≡ k → ⊥) × (slice_get pages i ≡ Some (Some x))) → x.said ≡ said_by v given
+    → ((k w : ℕ) (p : Page) → slice_get workers k ≡ Some w → slice_get pages k ≡ Some (Some p) → p.said ≡ said_of_worker w given) → slice_get workers i ≡ Some v
+    → ((i ≡ k) × (Some x ≡ Some (told_page e p))) ⊎ ((i ≡ k → ⊥) × (slice_get pages i ≡ Some (Some x))) → x.said ≡ said_of_worker v given
 said_so given workers pages k i v e p x there said wi (inl a) =
     let page : x ≡ told_page e p = let both = a.1 in cc in
     ap (λ (y : Page). y.said) page ∙ said i v p wi (ap (slice_get pages) a.0 ∙ there)
@@ -195,7 +195,7 @@ kept_told suite mode taken calls all given workers pages next k w e is at on ord
     let q = told_page e has.0 in
     let new = to has.0 has.1 in
     record {
-      takes = ap (map taken_of) new ∙ (map-set taken_of pages k (Some q) ∙ (set_same (map taken_of pages) k (Some p.taken) (map_read taken_of pages k (Some p) has.1) ∙ kept.takes));
+      takes = ap (map taken_of_link) new ∙ (map-set taken_of_link pages k (Some q) ∙ (set_same (map taken_of_link pages) k (Some p.taken) (map_read taken_of_link pages k (Some p) has.1) ∙ kept.takes));
       count = kept.count ∙ sym (ap length new ∙ set_length pages k (Some q));
       told = λ i v x wi pi. told_by calls all workers pages k w i v e p x is order at has.1 kept.told kept.apart wi (set_read pages k i (Some q) (Some x) (ap (λ (l : List (Option Page)). slice_get l i) (sym new) ∙ pi));
       said = λ i v x wi pi. said_so given workers pages k i v e p x has.1 kept.said wi (set_read pages k i (Some q) (Some x) (ap (λ (l : List (Option Page)). slice_get l i) (sym new) ∙ pi));
@@ -212,12 +212,12 @@ kept_told suite mode taken calls all given workers pages next k w e is at on ord
 abbrev pub news_of_worker : ℕ → Option What → Option News
 news_of_worker w what = option_map (λ x. record { worker = w; what = x }) what
 
-said_self : (w : ℕ) (given all : List News) (what : Option What) → all ≡ given ++ option_to_list (news_of_worker w what) → said_by w all ≡ said_by w given ++ option_to_list what
-said_self w given all None is = ap (said_by w) (is ∙ append-nil given) ∙ sym (append-nil (said_by w given))
+said_self : (w : ℕ) (given all : List News) (what : Option What) → all ≡ given ++ option_to_list (news_of_worker w what) → said_of_worker w all ≡ said_of_worker w given ++ option_to_list what
+said_self w given all None is = ap (said_of_worker w) (is ∙ append-nil given) ∙ sym (append-nil (said_of_worker w given))
 said_self w given all (Some x) is = said_more w given all (record { worker = w; what = x }) is refl
 
-pub said_other : (v w : ℕ) (given all : List News) (what : Option What) → all ≡ given ++ option_to_list (news_of_worker w what) → (v ≡ w → ⊥) → said_by v all ≡ said_by v given
-said_other v w given all None is h = ap (said_by v) (is ∙ append-nil given)
+pub said_other : (v w : ℕ) (given all : List News) (what : Option What) → all ≡ given ++ option_to_list (news_of_worker w what) → (v ≡ w → ⊥) → said_of_worker v all ≡ said_of_worker v given
+said_other v w given all None is h = ap (said_of_worker v) (is ∙ append-nil given)
 said_other v w given all (Some x) is h = said_same v given all (record { worker = w; what = x }) is (λ e. h (sym e))
 
 heard_told : (calls : List Entry) (workers : List ℕ) (pages : List (Option Page)) (k i v : ℕ) (item : LinkNews) (what : Option What) (p x : Page) → slice_get pages k ≡ Some (Some p)
@@ -229,18 +229,18 @@ heard_told calls workers pages k i v item what p x there told wi (inl a) =
 heard_told calls workers pages k i v item what p x there told wi (inr b) = told i v x wi b.1
 
 heard_said : (given all : List News) (workers : List ℕ) (pages : List (Option Page)) (k w i v : ℕ) (item : LinkNews) (what : Option What) (p x : Page) → all ≡ given ++ option_to_list (news_of_worker w what) → slice_get workers k ≡ Some w → slice_get pages k ≡ Some (Some p)
-    → ((k w : ℕ) (p : Page) → slice_get workers k ≡ Some w → slice_get pages k ≡ Some (Some p) → p.said ≡ said_by w given) → ((k l w : ℕ) → slice_get workers k ≡ Some w → slice_get workers l ≡ Some w → k ≡ l) → slice_get workers i ≡ Some v
-    → ((i ≡ k) × (Some x ≡ Some (heard_page item what p))) ⊎ ((i ≡ k → ⊥) × (slice_get pages i ≡ Some (Some x))) → x.said ≡ said_by v all
+    → ((k w : ℕ) (p : Page) → slice_get workers k ≡ Some w → slice_get pages k ≡ Some (Some p) → p.said ≡ said_of_worker w given) → ((k l w : ℕ) → slice_get workers k ≡ Some w → slice_get workers l ≡ Some w → k ≡ l) → slice_get workers i ≡ Some v
+    → ((i ≡ k) × (Some x ≡ Some (heard_page item what p))) ⊎ ((i ≡ k → ⊥) × (slice_get pages i ≡ Some (Some x))) → x.said ≡ said_of_worker v all
 heard_said given all workers pages k w i v item what p x is at there said apart wi (inl a) =
     let same : v ≡ w = same_some (slice_get workers k) v w (ap (slice_get workers) (sym a.0) ∙ wi) at in
     let page : x ≡ heard_page item what p = let both = a.1 in cc in
-    ap (λ (y : Page). y.said) page ∙ (ap (λ (l : List What). l ++ option_to_list what) (said k w p at there) ∙ (sym (said_self w given all what is) ∙ ap (λ (u : ℕ). said_by u all) (sym same)))
+    ap (λ (y : Page). y.said) page ∙ (ap (λ (l : List What). l ++ option_to_list what) (said k w p at there) ∙ (sym (said_self w given all what is) ∙ ap (λ (u : ℕ). said_of_worker u all) (sym same)))
 heard_said given all workers pages k w i v item what p x is at there said apart wi (inr b) =
     said i v x wi b.1 ∙ sym (said_other v w given all what is (λ same. b.0 (apart i k v wi (at ∙ ap Some (sym same)))))
 
 heard_silent : (given all : List News) (workers : List ℕ) (pages : List (Option Page)) (k w i v : ℕ) (q : Page) (what : Option What) → all ≡ given ++ option_to_list (news_of_worker w what) → slice_get workers k ≡ Some w
-    → ((k w : ℕ) → slice_get workers k ≡ Some w → slice_get pages k ≡ Some None → list_any is_ready (said_by w given) ≡ false) → ((k l w : ℕ) → slice_get workers k ≡ Some w → slice_get workers l ≡ Some w → k ≡ l) → slice_get workers i ≡ Some v
-    → ((i ≡ k) × (None ≡ Some q)) ⊎ ((i ≡ k → ⊥) × (slice_get pages i ≡ Some None)) → list_any is_ready (said_by v all) ≡ false
+    → ((k w : ℕ) → slice_get workers k ≡ Some w → slice_get pages k ≡ Some None → list_any is_ready (said_of_worker w given) ≡ false) → ((k l w : ℕ) → slice_get workers k ≡ Some w → slice_get workers l ≡ Some w → k ≡ l) → slice_get workers i ≡ Some v
+    → ((i ≡ k) × (None ≡ Some q)) ⊎ ((i ≡ k → ⊥) × (slice_get pages i ≡ Some None)) → list_any is_ready (said_of_worker v all) ≡ false
 heard_silent given all workers pages k w i v q what is at silent apart wi (inl a) = absurd (let e = a.1 in cc e)
 heard_silent given all workers pages k w i v q what is at silent apart wi (inr b) =
     ap (list_any is_ready) (said_other v w given all what is (λ same. b.0 (apart i k v wi (at ∙ ap Some (sym same))))) ∙ silent i v wi b.1
@@ -256,7 +256,7 @@ kept_heard suite mode taken next_taken calls given all workers pages next k w it
     let new = hear it.0 it.1 in
     let is = added ∙ ap (λ (n : Option News). given ++ option_to_list n) news_is in
     record {
-      takes = ap (map taken_of) new ∙ (map-set taken_of pages k (Some q) ∙ (ap (λ (l : List (Option (List LinkNews))). set l k (Some (p.taken ++ item ∷ []))) kept.takes ∙ (ap (λ (l : List LinkNews). set taken k (Some (l ++ item ∷ []))) it.2 ∙ sym then)));
+      takes = ap (map taken_of_link) new ∙ (map-set taken_of_link pages k (Some q) ∙ (ap (λ (l : List (Option (List LinkNews))). set l k (Some (p.taken ++ item ∷ []))) kept.takes ∙ (ap (λ (l : List LinkNews). set taken k (Some (l ++ item ∷ []))) it.2 ∙ sym then)));
       count = kept.count ∙ sym (ap length new ∙ set_length pages k (Some q));
       told = λ i v x wi pi. heard_told calls workers pages k i v item what p x there kept.told wi (set_read pages k i (Some q) (Some x) (ap (λ (l : List (Option Page)). slice_get l i) (sym new) ∙ pi));
       said = λ i v x wi pi. heard_said given all workers pages k w i v item what p x is at there kept.said kept.apart wi (set_read pages k i (Some q) (Some x) (ap (λ (l : List (Option Page)). slice_get l i) (sym new) ∙ pi));
@@ -309,11 +309,11 @@ or_none true b h f = absurd (cc h)
 or_none false b h f = f
 
 -- that a worker was not started does not make it ready
-not_ready : (v : ℕ) (given all : List News) (n : News) → n.what ≡ whats.NotStarted → all ≡ given ++ n ∷ [] → list_any is_ready (said_by v given) ≡ false → list_any is_ready (said_by v all) ≡ false
+not_ready : (v : ℕ) (given all : List News) (n : News) → n.what ≡ whats.NotStarted → all ≡ given ++ n ∷ [] → list_any is_ready (said_of_worker v given) ≡ false → list_any is_ready (said_of_worker v all) ≡ false
 not_ready v given all n not is h = by (either_worker n.worker v)
   where
-    by : ((n.worker ≡ v) ⊎ (n.worker ≡ v → ⊥)) → list_any is_ready (said_by v all) ≡ false
-    by (inl e) = ap (list_any is_ready) (said_more v given all n is e) ∙ (list_any-append is_ready (said_by v given) (n.what ∷ []) ∙ or_none _ _ h (ap (λ (x : What). list_any is_ready (x ∷ [])) not))
+    by : ((n.worker ≡ v) ⊎ (n.worker ≡ v → ⊥)) → list_any is_ready (said_of_worker v all) ≡ false
+    by (inl e) = ap (list_any is_ready) (said_more v given all n is e) ∙ (list_any-append is_ready (said_of_worker v given) (n.what ∷ []) ∙ or_none _ _ h (ap (λ (x : What). list_any is_ready (x ∷ [])) not))
     by (inr f) = ap (list_any is_ready) (said_same v given all n is f) ∙ h
 
 -- news of a worker that has no link
@@ -337,9 +337,9 @@ told_new : (suite : List ℕ) (mode : ModeKind) (i : ℕ) (w v : ℕ) (b : Bool)
 told_new suite mode i w v false x calls same e z = absurd (cc e)
 told_new suite mode i w v true x calls same e z = let page : x ≡ first_page suite mode = cc e in ap (λ (p : Page). p.told) page ∙ (sym z ∙ ap (λ (u : ℕ). orders_to u calls) (sym same))
 
-said_new : (suite : List ℕ) (mode : ModeKind) (i : ℕ) (w v : ℕ) (b : Bool) (x : Page) (given : List News) → v ≡ w → Some x ≡ page_opened suite mode b → said_by w given ≡ [] → x.said ≡ said_by v given
+said_new : (suite : List ℕ) (mode : ModeKind) (i : ℕ) (w v : ℕ) (b : Bool) (x : Page) (given : List News) → v ≡ w → Some x ≡ page_opened suite mode b → said_of_worker w given ≡ [] → x.said ≡ said_of_worker v given
 said_new suite mode i w v false x given same e z = absurd (cc e)
-said_new suite mode i w v true x given same e z = let page : x ≡ first_page suite mode = cc e in ap (λ (p : Page). p.said) page ∙ (sym z ∙ ap (λ (u : ℕ). said_by u given) (sym same))
+said_new suite mode i w v true x given same e z = let page : x ≡ first_page suite mode = cc e in ap (λ (p : Page). p.said) page ∙ (sym z ∙ ap (λ (u : ℕ). said_of_worker u given) (sym same))
 
 past : {X : Type 0} (xs : List X) (i n : ℕ) (x : X) → i ≡ n → n ≡ length xs → slice_get xs i ≡ Some x → ⊥
 past xs i n x e z at = absurd (omega (arith, slice_get_within xs i x at, e, z))
@@ -351,8 +351,8 @@ start_told suite mode calls workers pages i v w b x size z told (inl a) (inr d) 
 start_told suite mode calls workers pages i v w b x size z told (inr a) (inl c) = absurd (past workers i (length pages) v c.0 (sym size) a)
 start_told suite mode calls workers pages i v w b x size z told (inr a) (inr d) = told i v x a d
 
-start_said : (suite : List ℕ) (mode : ModeKind) (given : List News) (workers : List ℕ) (pages : List (Option Page)) (i v w : ℕ) (b : Bool) (x : Page) → length workers ≡ length pages → said_by w given ≡ [] → ((k w : ℕ) (p : Page) → slice_get workers k ≡ Some w → slice_get pages k ≡ Some (Some p) → p.said ≡ said_by w given)
-    → ((i ≡ length workers) × (v ≡ w)) ⊎ (slice_get workers i ≡ Some v) → ((i ≡ length pages) × (Some x ≡ page_opened suite mode b)) ⊎ (slice_get pages i ≡ Some (Some x)) → x.said ≡ said_by v given
+start_said : (suite : List ℕ) (mode : ModeKind) (given : List News) (workers : List ℕ) (pages : List (Option Page)) (i v w : ℕ) (b : Bool) (x : Page) → length workers ≡ length pages → said_of_worker w given ≡ [] → ((k w : ℕ) (p : Page) → slice_get workers k ≡ Some w → slice_get pages k ≡ Some (Some p) → p.said ≡ said_of_worker w given)
+    → ((i ≡ length workers) × (v ≡ w)) ⊎ (slice_get workers i ≡ Some v) → ((i ≡ length pages) × (Some x ≡ page_opened suite mode b)) ⊎ (slice_get pages i ≡ Some (Some x)) → x.said ≡ said_of_worker v given
 start_said suite mode given workers pages i v w b x size z said (inl a) (inl c) = said_new suite mode i w v b x given a.1 c.1 z
 start_said suite mode given workers pages i v w b x size z said (inl a) (inr d) = absurd (past pages i (length workers) (Some x) a.0 size d)
 start_said suite mode given workers pages i v w b x size z said (inr a) (inl c) = absurd (past workers i (length pages) v c.0 (sym size) a)
@@ -364,9 +364,9 @@ start_own suite mode pages i true x own (inl a) = let same : first_page suite mo
 start_own suite mode pages i false x own (inl a) = absurd (let e = a.1 in cc e)
 start_own suite mode pages i b x own (inr d) = own i x d
 
-start_silent : (suite : List ℕ) (mode : ModeKind) (given : List News) (workers : List ℕ) (pages : List (Option Page)) (i v w : ℕ) (b : Bool) → length workers ≡ length pages → said_by w given ≡ [] → ((k w : ℕ) → slice_get workers k ≡ Some w → slice_get pages k ≡ Some None → list_any is_ready (said_by w given) ≡ false)
-    → ((i ≡ length workers) × (v ≡ w)) ⊎ (slice_get workers i ≡ Some v) → ((i ≡ length pages) × (None ≡ page_opened suite mode b)) ⊎ (slice_get pages i ≡ Some None) → list_any is_ready (said_by v given) ≡ false
-start_silent suite mode given workers pages i v w b size z silent (inl a) c = ap (λ (u : ℕ). list_any is_ready (said_by u given)) a.1 ∙ ap (list_any is_ready) z
+start_silent : (suite : List ℕ) (mode : ModeKind) (given : List News) (workers : List ℕ) (pages : List (Option Page)) (i v w : ℕ) (b : Bool) → length workers ≡ length pages → said_of_worker w given ≡ [] → ((k w : ℕ) → slice_get workers k ≡ Some w → slice_get pages k ≡ Some None → list_any is_ready (said_of_worker w given) ≡ false)
+    → ((i ≡ length workers) × (v ≡ w)) ⊎ (slice_get workers i ≡ Some v) → ((i ≡ length pages) × (None ≡ page_opened suite mode b)) ⊎ (slice_get pages i ≡ Some None) → list_any is_ready (said_of_worker v given) ≡ false
+start_silent suite mode given workers pages i v w b size z silent (inl a) c = ap (λ (u : ℕ). list_any is_ready (said_of_worker u given)) a.1 ∙ ap (list_any is_ready) z
 start_silent suite mode given workers pages i v w b size z silent (inr a) (inl c) = absurd (past workers i (length pages) v c.0 (sym size) a)
 start_silent suite mode given workers pages i v w b size z silent (inr a) (inr d) = silent i v a d
 
@@ -394,14 +394,14 @@ start_apart calls workers k l v w known z apart (inr c) (inl b) = absurd (not_st
 start_apart calls workers k l v w known z apart (inr c) (inr d) = apart k l v c d
 
 pub kept_started : (suite : List ℕ) (mode : ModeKind) (taken next_taken : List (Option (List LinkNews))) (calls all : List Entry) (given : List News) (workers next_workers : List ℕ) (pages next : List (Option Page)) (w slot : ℕ) (b : Bool)
-    → all ≡ calls ++ entry.Start w slot ∷ [] → was_started w calls ≡ false → All (λ u. was_started u calls ≡ true) workers → next_workers ≡ workers ++ w ∷ [] → next_taken ≡ taken ++ taken_of (page_opened suite mode b) ∷ [] → next ≡ pages ++ page_opened suite mode b ∷ []
+    → all ≡ calls ++ entry.Start w slot ∷ [] → was_started w calls ≡ false → All (λ u. was_started u calls ≡ true) workers → next_workers ≡ workers ++ w ∷ [] → next_taken ≡ taken ++ taken_of_link (page_opened suite mode b) ∷ [] → next ≡ pages ++ page_opened suite mode b ∷ []
     → Kept suite mode taken calls given workers pages → Kept suite mode next_taken all given next_workers next
 kept_started suite mode taken next_taken calls all given workers next_workers pages next w slot b is fresh known more_workers more_taken more kept =
     let none = λ (v : ℕ). calls_same v calls all (entry.Start w slot) is refl in
     let at = λ (i v : ℕ) (wi : slice_get next_workers i ≡ Some v). push_read workers i w v (ap (λ (l : List ℕ). slice_get l i) (sym more_workers) ∙ wi) in
     let page = λ (i : ℕ) (x : Page) (pi : slice_get next i ≡ Some (Some x)). push_read pages i (page_opened suite mode b) (Some x) (ap (λ (l : List (Option Page)). slice_get l i) (sym more) ∙ pi) in
     record {
-      takes = ap (map taken_of) more ∙ (map-append taken_of pages (page_opened suite mode b ∷ []) ∙ (ap (λ (l : List (Option (List LinkNews))). l ++ taken_of (page_opened suite mode b) ∷ []) kept.takes ∙ sym more_taken));
+      takes = ap (map taken_of_link) more ∙ (map-append taken_of_link pages (page_opened suite mode b ∷ []) ∙ (ap (λ (l : List (Option (List LinkNews))). l ++ taken_of_link (page_opened suite mode b) ∷ []) kept.takes ∙ sym more_taken));
       count = ap length more_workers ∙ (length-append workers (w ∷ []) ∙ (ap (λ (n : ℕ). n + 1) kept.count ∙ (sym (length-append pages (page_opened suite mode b ∷ [])) ∙ sym (ap length more))));
       told = λ i v x wi pi. start_told suite mode calls workers pages i v w b x kept.count (kept.new_told w fresh) kept.told (at i v wi) (page i x pi) ∙ sym (none v);
       said = λ i v x wi pi. start_said suite mode given workers pages i v w b x kept.count (kept.new_said w fresh) kept.said (at i v wi) (page i x pi);
@@ -423,11 +423,11 @@ given_none given all (Some n) e = tt
 
 -- ---- where a worker may be told, and what can be heard
 
-any_said : (f : What → Bool) (w : ℕ) (given : List News) → list_any (λ n. n.worker == w && f n.what) given ≡ list_any f (said_by w given)
+any_said : (f : What → Bool) (w : ℕ) (given : List News) → list_any (λ n. n.worker == w && f n.what) given ≡ list_any f (said_of_worker w given)
 any_said f w [] = refl
 any_said f w (n ∷ ns) = by (n.worker == w) refl (any_said f w ns)
   where
-    by : (b : Bool) → (n.worker == w) ≡ b → list_any (λ n. n.worker == w && f n.what) ns ≡ list_any f (said_by w ns) → list_any (λ n. n.worker == w && f n.what) (n ∷ ns) ≡ list_any f (said_by w (n ∷ ns))
+    by : (b : Bool) → (n.worker == w) ≡ b → list_any (λ n. n.worker == w && f n.what) ns ≡ list_any f (said_of_worker w ns) → list_any (λ n. n.worker == w && f n.what) (n ∷ ns) ≡ list_any f (said_of_worker w (n ∷ ns))
     by true h more = rw h (ap (λ (b : Bool). f n.what || b) more)
     by false h more = rw h more
 
@@ -439,10 +439,10 @@ not_true : (b : Bool) → not b ≡ true → b ≡ false
 not_true true h = absurd (cc h)
 not_true false h = refl
 
-told_ready : (calls : List Entry) (given : List News) (w : ℕ) → may_tell (marks_told calls given w) ≡ true → list_any is_ready (said_by w given) ≡ true
+told_ready : (calls : List Entry) (given : List News) (w : ℕ) → may_tell (marks_told calls given w) ≡ true → list_any is_ready (said_of_worker w given) ≡ true
 told_ready calls given w h = sym (any_said is_ready w given) ∙ and_left _ _ h
 
-told_going : (calls : List Entry) (given : List News) (w : ℕ) → may_tell (marks_told calls given w) ≡ true → list_any is_end (said_by w given) ≡ false
+told_going : (calls : List Entry) (given : List News) (w : ℕ) → may_tell (marks_told calls given w) ≡ true → list_any is_end (said_of_worker w given) ≡ false
 told_going calls given w h = sym (any_said is_end w given) ∙ not_true _ (and_right (marks_told calls given w).ready (not (marks_told calls given w).ended) h)
 
 both_ways : {X : Type 0} (b : Bool) → b ≡ true → b ≡ false → X
@@ -455,7 +455,7 @@ told_place suite mode taken calls given workers pages w h none kept = by (was_st
   where
     by : (b : Bool) → was_started w calls ≡ b → ⊥
     by true t = let at = kept.placed w t in none at.0 at.1
-    by false f = both_ways (list_any is_ready (said_by w given)) (told_ready calls given w h) (ap (list_any is_ready) (kept.new_said w f))
+    by false f = both_ways (list_any is_ready (said_of_worker w given)) (told_ready calls given w h) (ap (list_any is_ready) (kept.new_said w f))
 
 page_there : (workers : List ℕ) (pages : List (Option Page)) (k w : ℕ) → length workers ≡ length pages → slice_get workers k ≡ Some w → (o : Option Page) × (slice_get pages k ≡ Some o)
 page_there workers pages k w size e = there pages k (let n = slice_get_within workers k w e in omega (arith, n, size))
@@ -470,7 +470,7 @@ pub told_at : (suite : List ℕ) (mode : ModeKind) (taken : List (Option (List L
 told_at suite mode taken calls given workers pages k w h at kept = let there = page_there workers pages k w kept.count at in by there.0 there.1
   where
     by : (o : Option Page) → slice_get pages k ≡ Some o → IsToldAt pages k
-    by None e = both_ways (list_any is_ready (said_by w given)) (told_ready calls given w h) (kept.silent k w at e)
+    by None e = both_ways (list_any is_ready (said_of_worker w given)) (told_ready calls given w h) (kept.silent k w at e)
     by (Some p) e = record { page = p; at = e; known = (kept.own k p e).known; on_time = (kept.own k p e).on_time; going = ap (list_any is_end) (kept.said k w p at e) ∙ told_going calls given w h }
 
 -- a link from which something was taken can be heard
@@ -493,7 +493,7 @@ worker_there suite mode taken calls given workers pages k got at none kept =
 pub kept_first : (suite : List ℕ) (mode : ModeKind) (taken : List (Option (List LinkNews))) (calls : List Entry) (given : List News) (workers : List ℕ) (pages : List (Option Page)) → taken ≡ [] → calls ≡ [] → given ≡ [] → workers ≡ [] → pages ≡ [] → Kept suite mode taken calls given workers pages
 kept_first suite mode taken calls given workers pages t c g w p =
     record {
-      takes = ap (map taken_of) p ∙ sym t;
+      takes = ap (map taken_of_link) p ∙ sym t;
       count = ap length w ∙ sym (ap length p);
       told = λ k v x wi pi. let e : slice_get [] k ≡ Some v = ap (λ (l : List ℕ). slice_get l k) (sym w) ∙ wi in absurd (cc e);
       said = λ k v x wi pi. let e : slice_get [] k ≡ Some v = ap (λ (l : List ℕ). slice_get l k) (sym w) ∙ wi in absurd (cc e);
@@ -502,12 +502,12 @@ kept_first suite mode taken calls given workers pages t c g w p =
       placed = λ u s. let e : false ≡ true = ap (was_started u) (sym c) ∙ s in absurd (cc e);
       apart = λ k l v wi wj. let e : slice_get [] k ≡ Some v = ap (λ (l : List ℕ). slice_get l k) (sym w) ∙ wi in absurd (cc e);
       new_told = λ u f. ap (orders_to u) c;
-      new_said = λ u f. ap (said_by u) g;
+      new_said = λ u f. ap (said_of_worker u) g;
     }
 
-ready_started : (b : Bool) (calls : List Entry) (given : List News) (w : ℕ) → was_started w calls ≡ b → ((w : ℕ) → was_started w calls ≡ false → said_by w given ≡ []) → list_any is_ready (said_by w given) ≡ true → was_started w calls ≡ true
+ready_started : (b : Bool) (calls : List Entry) (given : List News) (w : ℕ) → was_started w calls ≡ b → ((w : ℕ) → was_started w calls ≡ false → said_of_worker w given ≡ []) → list_any is_ready (said_of_worker w given) ≡ true → was_started w calls ≡ true
 ready_started true calls given w e new r = e
-ready_started false calls given w e new r = both_ways (list_any is_ready (said_by w given)) r (ap (list_any is_ready) (new w e))
+ready_started false calls given w e new r = both_ways (list_any is_ready (said_of_worker w given)) r (ap (list_any is_ready) (new w e))
 
 pub kept_told_at : (suite : List ℕ) (mode : ModeKind) (taken : List (Option (List LinkNews))) (calls all : List Entry) (given : List News) (workers : List ℕ) (pages next : List (Option Page)) (k w : ℕ) (e : Entry)
     → all ≡ calls ++ e ∷ [] → slice_get workers k ≡ Some w → may_tell (marks_told calls given w) ≡ true → is_order w e ≡ true → ToldAt e k pages next → Kept suite mode taken calls given workers pages → Kept suite mode taken all given workers next

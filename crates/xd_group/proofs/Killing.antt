@@ -9,13 +9,13 @@ use Rattle.xd_journal.specs.declared.entry.Entry.{Entry}
 use Rattle.xd_journal.specs.declared.entry.Entry.TheVariants as entry
 use Rattle.xd_journal.specs.declared.news.News.{News}
 use Rattle.xd_drive.specs.Calls.{is_order}
-use Rattle.xd_drive.specs.Listed.{is_among, is_kill_of, was_killed}
+use Rattle.xd_drive.specs.Listed.{is_listed, is_kill_of, was_killed}
 use Rattle.xd_drive.specs.Performing.{was_started}
 use Rattle.xd_links.proofs.Places.{push_read}
-use Rattle.xd_group.specs.Children.{all_buried, buried_child, changed_at, cut_by, fresh_child, killed_child, reaped_child}
+use Rattle.xd_group.specs.Children.{all_buried, buried_child, child_changed_at, cut_by, fresh_child, killed_child, reaped_child}
 use Rattle.xd_group.specs.Fates.{has_link, is_refused, workers_with}
 use Rattle.xd_group.specs.Heard.{says_send_fault}
-use Rattle.xd_group.specs.Kept.{said_by}
+use Rattle.xd_group.specs.Kept.{said_of_worker}
 use Rattle.xd_group.specs.Kills.{EndKilledSo, KeepsLost, KilledSo, Loses, LostAt}
 use Rattle.xd_group.specs.declared.child.Child.{Child}
 use Rattle.xd_group.specs.declared.fate.Fate.{Fate}
@@ -69,7 +69,7 @@ at_first : (o : Option Child) (cs : List (Option Child)) (c : Child) → option_
 at_first None cs c e = absurd (cc e)
 at_first (Some d) cs c e = let same : killed_child d ≡ c = cc e in Killed d refl refl (sym same)
 
-changed_from : (cs : List (Option Child)) (j k : ℕ) (c : Child) → slice_get (changed_at j killed_child cs) k ≡ Some (Some c) → CutFrom cs (Some j) k c
+changed_from : (cs : List (Option Child)) (j k : ℕ) (c : Child) → slice_get (child_changed_at j killed_child cs) k ≡ Some (Some c) → CutFrom cs (Some j) k c
 changed_from [] j k c e = absurd (cc e)
 changed_from (o ∷ cs) zero zero c e = at_first o cs c (cc e)
 changed_from (o ∷ cs) zero (suc k) c e = AsBefore (λ h. cc h) e
@@ -325,7 +325,7 @@ kills_start cs cs_all calls all workers ws fates fs lost next w slot o f cut fai
 
 -- ---- in the end
 
-reaped_from : (cs : List (Option Child)) (j k : ℕ) (c : Child) → slice_get (changed_at j reaped_child cs) k ≡ Some (Some c) → (d : Child) × (slice_get cs k ≡ Some (Some d)) × (c.is_killed ≡ d.is_killed)
+reaped_from : (cs : List (Option Child)) (j k : ℕ) (c : Child) → slice_get (child_changed_at j reaped_child cs) k ≡ Some (Some c) → (d : Child) × (slice_get cs k ≡ Some (Some d)) × (c.is_killed ≡ d.is_killed)
 reaped_from [] j k c e = absurd (cc e)
 reaped_from (None ∷ cs) zero zero c e = absurd (cc e)
 reaped_from (Some d ∷ cs) zero zero c e = let same : reaped_child d ≡ c = cc e in (d, refl, ap (λ (x : Child). x.is_killed) (sym same))
@@ -334,7 +334,7 @@ reaped_from (o ∷ cs) (suc j) zero c e = (c, e, refl)
 reaped_from (o ∷ cs) (suc j) (suc k) c e = reaped_from cs j k c e
 
 -- a child was waited for
-pub kills_reaped : (cs cs_all : List (Option Child)) (calls : List Entry) (workers : List ℕ) (fates : List Fate) (lost : List Bool) (j : ℕ) → cs_all ≡ changed_at j reaped_child cs → KilledSo cs calls workers fates lost → KilledSo cs_all calls workers fates lost
+pub kills_reaped : (cs cs_all : List (Option Child)) (calls : List Entry) (workers : List ℕ) (fates : List Fate) (lost : List Bool) (j : ℕ) → cs_all ≡ child_changed_at j reaped_child cs → KilledSo cs calls workers fates lost → KilledSo cs_all calls workers fates lost
 kills_reaped cs cs_all calls workers fates lost j is s =
     record {
       wherever = λ k w c wi ci h. let it = reaped_from cs j k c (ap (λ (l : List (Option Child)). slice_get l k) (sym is) ∙ ci) in it.2 ∙ s.wherever k w it.0 wi it.1 h;
@@ -345,7 +345,7 @@ kills_reaped cs cs_all calls workers fates lost j is s =
     }
 
 ends_alone : (calls : List Entry) (workers : List ℕ) (fates : List Fate) (lost : List Bool) (k w : ℕ) (f : Fate) (writes : ℕ) → slice_get workers k ≡ Some w → slice_get fates k ≡ Some f → has_link f ≡ true → (slice_get fates k ≡ Some fate.Linked → slice_get lost k ≡ Some true → 0 < writes)
-    → (was_killed w calls ≡ true) ⊎ ((slice_get fates k ≡ Some fate.Refused) ⊎ (slice_get lost k ≡ Some true)) → (was_killed w calls ≡ true) ⊎ ((is_among w (workers_with is_refused workers fates) ≡ true) ⊎ (0 < writes))
+    → (was_killed w calls ≡ true) ⊎ ((slice_get fates k ≡ Some fate.Refused) ⊎ (slice_get lost k ≡ Some true)) → (was_killed w calls ≡ true) ⊎ ((is_listed w (workers_with is_refused workers fates) ≡ true) ⊎ (0 < writes))
 ends_alone calls workers fates lost k w f writes wi is link some (inl h) = inl h
 ends_alone calls workers fates lost k w f writes wi is link some (inr (inl r)) = inr (inl (among_with is_refused workers fates k w fate.Refused wi r refl))
 ends_alone calls workers fates lost k w fate.Unlinked writes wi is link some (inr (inr l)) = absurd (cc link)
@@ -353,10 +353,10 @@ ends_alone calls workers fates lost k w fate.Refused writes wi is link some (inr
 ends_alone calls workers fates lost k w fate.Linked writes wi is link some (inr (inr l)) = inr (inr (some is l))
 
 -- a worker that is among those whose readers were refused was started once, and so
-ends_refused : (workers : List ℕ) (fates : List Fate) (k w : ℕ) (f : Fate) → ((k l v : ℕ) → slice_get workers k ≡ Some v → slice_get workers l ≡ Some v → k ≡ l) → slice_get workers k ≡ Some w → slice_get fates k ≡ Some f → has_link f ≡ true → is_among w (workers_with is_refused workers fates) ≡ true → slice_get fates k ≡ Some fate.Refused
+ends_refused : (workers : List ℕ) (fates : List Fate) (k w : ℕ) (f : Fate) → ((k l v : ℕ) → slice_get workers k ≡ Some v → slice_get workers l ≡ Some v → k ≡ l) → slice_get workers k ≡ Some w → slice_get fates k ≡ Some f → has_link f ≡ true → is_listed w (workers_with is_refused workers fates) ≡ true → slice_get fates k ≡ Some fate.Refused
 ends_refused workers fates k w fate.Unlinked apart wi is link h = absurd (cc link)
 ends_refused workers fates k w fate.Refused apart wi is link h = is
-ends_refused workers fates k w fate.Linked apart wi is link h = absurd (no_way (is_among w (workers_with is_refused workers fates)) h (not_with is_refused workers fates k w fate.Linked apart wi is refl))
+ends_refused workers fates k w fate.Linked apart wi is link h = absurd (no_way (is_listed w (workers_with is_refused workers fates)) h (not_with is_refused workers fates k w fate.Linked apart wi is refl))
 
 -- a worker of whose link it is said that a send failed was killed
 ends_fault : (cs : List (Option Child)) (calls : List Entry) (workers : List ℕ) (fates : List Fate) (lost : List Bool) (k w : ℕ) (c : Child) (f : Fate) → slice_get workers k ≡ Some w → slice_get fates k ≡ Some f → has_link f ≡ true → slice_get cs k ≡ Some (Some c)
@@ -367,7 +367,7 @@ ends_fault cs calls workers fates lost k w c fate.Linked wi is link ci said s = 
 
 -- a link is given back
 pub end_killed : (cs : List (Option Child)) (calls : List Entry) (given : List News) (workers : List ℕ) (fates : List Fate) (lost : List Bool) (k w : ℕ) (c : Child) (f : Fate) (killed : Bool) (writes : ℕ) → slice_get workers k ≡ Some w → slice_get fates k ≡ Some f → has_link f ≡ true → slice_get cs k ≡ Some (Some c) → killed ≡ c.is_killed
-    → (slice_get fates k ≡ Some fate.Linked → slice_get lost k ≡ Some true → 0 < writes) → ((v : ℕ) → slice_get workers k ≡ Some v → slice_get fates k ≡ Some fate.Linked → list_any says_send_fault (said_by v given) ≡ true → slice_get lost k ≡ Some true)
+    → (slice_get fates k ≡ Some fate.Linked → slice_get lost k ≡ Some true → 0 < writes) → ((v : ℕ) → slice_get workers k ≡ Some v → slice_get fates k ≡ Some fate.Linked → list_any says_send_fault (said_of_worker v given) ≡ true → slice_get lost k ≡ Some true)
     → ((k l v : ℕ) → slice_get workers k ≡ Some v → slice_get workers l ≡ Some v → k ≡ l) → KilledSo cs calls workers fates lost → EndKilledSo calls given (workers_with is_refused workers fates) w killed writes
 end_killed cs calls given workers fates lost k w c f killed writes wi is link ci same some said apart s =
     record {

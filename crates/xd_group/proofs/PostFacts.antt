@@ -23,7 +23,7 @@ use Rattle.xd_drive.specs.Marks.{is_breach, is_end}
 use Rattle.xd_factory.specs.Table.{send_refusal}
 use Rattle.xd_factory.specs.View.{slot_of_number}
 use Rattle.xd_remote.specs.Calls.{terminate_message}
-use Rattle.xd_remote.specs.Line.{Closes, ClosesNow, GatewaySink, Prints}
+use Rattle.xd_remote.specs.Line.{ClosesSink, ClosesNow, GatewaySink, PrintsBytes}
 use Rattle.xd_remote.specs.News.{Heard, all_messages, all_news}
 use Rattle.xd_remote.specs.Stands.{HearsMore, IsOfMessage, StandsFor, heard_as}
 use Rattle.xd_remote.specs.Told.{is_last}
@@ -81,7 +81,7 @@ sent_order l0 l1 closed a b suite mode told all e said x y is runs sent w =
     (sent_by_order (order_message e) a b closed suite mode told all e said is runs refl (subst (λ (l : Bool). SentAs l closed a.sunk a.faults (to_link suite mode told said)) x sent) w)
 
 -- the call of the worker
-pub sent_call : (l1 : Bool) (a b : GatewaySink) (suite : List ℕ) (mode : ModeKind) (told : List Entry) (said : List What) → l1 ≡ b.broken → a.broken ≡ false → IfSome a.sunk (λ s. s ≡ unused) → told ≡ [] → said ≡ [] → Prints (frame (call_message suite mode)) a b
+pub sent_call : (l1 : Bool) (a b : GatewaySink) (suite : List ℕ) (mode : ModeKind) (told : List Entry) (said : List What) → l1 ≡ b.broken → a.broken ≡ false → IfSome a.sunk (λ s. s ≡ unused) → told ≡ [] → said ≡ [] → PrintsBytes (frame (call_message suite mode)) a b
     → SentAs l1 false b.sunk b.faults (to_link suite mode told said)
 sent_call l1 a b suite mode told said y z fresh nothing none w =
     let m = call_message suite mode in
@@ -142,7 +142,7 @@ link_ended suite mode told said more runs t =
     ap (λ (b : Bool). call_message suite mode ∷ (filter_map order_message told ++ terminate_once b)) (sym (left_now said more t)) ∙ ap (λ (l : List MessageView). l ++ terminate_message ∷ []) (sym (open_link suite mode told said runs))
 
 pub sent_ended : (l0 l1 closed was : Bool) (a b : GatewaySink) (suite : List ℕ) (mode : ModeKind) (told : List Entry) (said more : List What) → l0 ≡ a.broken → l1 ≡ b.broken → closed ≡ (has_left said || was) → closed ≡ false → has_left more ≡ true
-    → SentAs l0 closed a.sunk a.faults (to_link suite mode told said) → Closes (frame terminate_message) a b → SentAs l1 true b.sunk b.faults (to_link suite mode told (said ++ more))
+    → SentAs l0 closed a.sunk a.faults (to_link suite mode told said) → ClosesSink (frame terminate_message) a b → SentAs l1 true b.sunk b.faults (to_link suite mode told (said ++ more))
 sent_ended l0 l1 closed was a b suite mode told said more x y e unshut t sent w =
     subst (λ (l : Bool). SentAs l true b.sunk b.faults (to_link suite mode told (said ++ more))) (sym y)
     (sent_last a.broken b.broken closed a.sunk b.sunk a.faults b.faults (to_link suite mode told said) (to_link suite mode told (said ++ more)) terminate_message (link_ended suite mode told said more (neither_first (has_left said) was (sym e ∙ unshut)) t)
@@ -183,7 +183,7 @@ order_keeps (Some m) l0 l1 a b x y w e = y ∙ by a.broken b.broken (sym x ∙ e
     by true q t c = c.0
     by false q t c = absurd (cc t)
 
-pub close_keeps : (bytes : List ℕ) (l0 l1 : Bool) (a b : GatewaySink) → l0 ≡ a.broken → l1 ≡ b.broken → Closes bytes a b → l0 ≡ true → l1 ≡ true
+pub close_keeps : (bytes : List ℕ) (l0 l1 : Bool) (a b : GatewaySink) → l0 ≡ a.broken → l1 ≡ b.broken → ClosesSink bytes a b → l0 ≡ true → l1 ≡ true
 close_keeps bytes l0 l1 a b x y w e = y ∙ by a.broken b.broken (sym x ∙ e) w.count
   where
     by : (p q : Bool) → p ≡ true → CountBehind p q a.faults b.faults → q ≡ true

@@ -10,11 +10,11 @@ use Rattle.xd_journal.specs.declared.news.News.{News}
 use Rattle.xd_journal.specs.declared.news.What.{What}
 use Rattle.xd_journal.specs.declared.news.What.TheVariants.{NotStarted}
 use Rattle.xd_reader.specs.declared.news.LinkNews.{LinkNews}
-use Rattle.xd_drive.specs.Listed.{is_among}
+use Rattle.xd_drive.specs.Listed.{is_listed}
 use Rattle.xd_drive.specs.Performing.{was_started}
 use Rattle.xd_links.proofs.Places.{push_read}
 use Rattle.xd_group.specs.Fates.{is_linked, workers_with}
-use Rattle.xd_group.specs.Kept.{Kept, said_by}
+use Rattle.xd_group.specs.Kept.{Kept, said_of_worker}
 use Rattle.xd_group.specs.Pages.{HasPage, Page, page_opened}
 use Rattle.xd_group.specs.Unsaid.{IsWaiting, SaidUnlinked, Unsaid, wait_one}
 use Rattle.xd_group.specs.declared.fate.Fate.{Fate}
@@ -148,14 +148,14 @@ unsaid_said given all workers pages waiting rest k n not added is at apart u =
       said = λ j v e f. of j v e f nothing (either_worker j k);
     }
   where
-    other_said : (j v : ℕ) → slice_get workers j ≡ Some v → (j ≡ k → ⊥) → IsWaiting j waiting ⊎ (said_by v given ≡ NotStarted ∷ []) → IsWaiting j rest ⊎ (said_by v all ≡ NotStarted ∷ [])
+    other_said : (j v : ℕ) → slice_get workers j ≡ Some v → (j ≡ k → ⊥) → IsWaiting j waiting ⊎ (said_of_worker v given ≡ NotStarted ∷ []) → IsWaiting j rest ⊎ (said_of_worker v all ≡ NotStarted ∷ [])
     other_said j v e h (inl i) = inl (still_waits waiting rest k j is h i)
     other_said j v e h (inr was) = inr (said_same v given all n added (λ w. h (apart j k n.worker (e ∙ ap Some (sym w)) at)) ∙ was)
 
-    of : (j v : ℕ) → slice_get workers j ≡ Some v → slice_get pages j ≡ Some None → said_by n.worker given ≡ [] → (j ≡ k) ⊎ (j ≡ k → ⊥) → IsWaiting j rest ⊎ (said_by v all ≡ NotStarted ∷ [])
+    of : (j v : ℕ) → slice_get workers j ≡ Some v → slice_get pages j ≡ Some None → said_of_worker n.worker given ≡ [] → (j ≡ k) ⊎ (j ≡ k → ⊥) → IsWaiting j rest ⊎ (said_of_worker v all ≡ NotStarted ∷ [])
     of j v e f nothing (inl h) =
         let its : n.worker ≡ v = same_some (slice_get workers k) n.worker v at (ap (slice_get workers) (sym h) ∙ e) in
-        inr (said_more v given all n added its ∙ (ap (λ (l : List What). l ++ n.what ∷ []) (ap (λ (u : ℕ). said_by u given) (sym its) ∙ nothing) ∙ ap (λ (x : What). x ∷ []) not))
+        inr (said_more v given all n added its ∙ (ap (λ (l : List What). l ++ n.what ∷ []) (ap (λ (u : ℕ). said_of_worker u given) (sym its) ∙ nothing) ∙ ap (λ (x : What). x ∷ []) not))
     of j v e f nothing (inr h) = other_said j v e h (u.said j v e f)
 
 -- ---- a start
@@ -194,7 +194,7 @@ waits_new waiting true n h = absurd (cc h)
 waits_new waiting false n h = last waiting n
 
 pub unsaid_started : (suite : List ℕ) (mode : ModeKind) (given : List News) (workers ws : List ℕ) (pages next : List (Option Page)) (waiting waits : List ℕ) (w n : ℕ) (b : Bool) → ws ≡ workers ++ w ∷ [] → next ≡ pages ++ page_opened suite mode b ∷ [] → waits ≡ waiting ++ wait_one b n → n ≡ length pages
-    → length workers ≡ length pages → said_by w given ≡ [] → Unsaid given workers pages waiting → Unsaid given ws next waits
+    → length workers ≡ length pages → said_of_worker w given ≡ [] → Unsaid given workers pages waiting → Unsaid given ws next waits
 unsaid_started suite mode given workers ws pages next waiting waits w n b wis is wait at count nothing u =
     record {
       waits = λ i k v e f. held i k v (ap (λ (l : List ℕ). slice_get l k) (sym wis) ∙ f) (from i k e);
@@ -206,11 +206,11 @@ unsaid_started suite mode given workers ws pages next waiting waits w n b wis is
     from : (i k : ℕ) → slice_get waits i ≡ Some k → (slice_get waiting i ≡ Some k) ⊎ ((b ≡ false) × (i ≡ length waiting) × (k ≡ n))
     from i k e = waited waiting b n i k (ap (λ (l : List ℕ). slice_get l i) (sym wait) ∙ e)
 
-    its : (v k : ℕ) → ((k ≡ length workers) × (v ≡ w)) ⊎ (slice_get workers k ≡ Some v) → k ≡ n → said_by v given ≡ []
-    its v k (inl a) h = ap (λ (x : ℕ). said_by x given) a.1 ∙ nothing
+    its : (v k : ℕ) → ((k ≡ length workers) × (v ≡ w)) ⊎ (slice_get workers k ≡ Some v) → k ≡ n → said_of_worker v given ≡ []
+    its v k (inl a) h = ap (λ (x : ℕ). said_of_worker x given) a.1 ∙ nothing
     its v k (inr c) h = absurd (omega (arith, slice_get_within workers k v c, h, at, count))
 
-    held : (i k v : ℕ) → slice_get (workers ++ w ∷ []) k ≡ Some v → (slice_get waiting i ≡ Some k) ⊎ ((b ≡ false) × (i ≡ length waiting) × (k ≡ n)) → (said_by v given ≡ []) × (slice_get next k ≡ Some None)
+    held : (i k v : ℕ) → slice_get (workers ++ w ∷ []) k ≡ Some v → (slice_get waiting i ≡ Some k) ⊎ ((b ≡ false) × (i ≡ length waiting) × (k ≡ n)) → (said_of_worker v given ≡ []) × (slice_get next k ≡ Some None)
     held i k v f (inl e) =
         let was = u.waits i k v e (worker_was workers w k v f (u.below i k e)) in
         (was.0, ap (λ (l : List (Option Page)). slice_get l k) is ∙ page_front pages (page_opened suite mode b ∷ []) k was.1)
@@ -235,11 +235,11 @@ unsaid_started suite mode given workers ws pages next waiting waits w n b wis is
     in_all : (i k : ℕ) → slice_get (waiting ++ wait_one b n) i ≡ Some k → slice_get waits i ≡ Some k
     in_all i k e = ap (λ (l : List ℕ). slice_get l i) wait ∙ e
 
-    still : (k v : ℕ) → IsWaiting k waiting ⊎ (said_by v given ≡ NotStarted ∷ []) → IsWaiting k waits ⊎ (said_by v given ≡ NotStarted ∷ [])
+    still : (k v : ℕ) → IsWaiting k waiting ⊎ (said_of_worker v given ≡ NotStarted ∷ []) → IsWaiting k waits ⊎ (said_of_worker v given ≡ NotStarted ∷ [])
     still k v (inl (i, e)) = inl (i, in_all i k (front waiting (wait_one b n) i k e))
     still k v (inr was) = inr was
 
-    of : (k v : ℕ) → ((k ≡ length workers) × (v ≡ w)) ⊎ (slice_get workers k ≡ Some v) → ((k ≡ length pages) × (None ≡ page_opened suite mode b)) ⊎ (slice_get pages k ≡ Some None) → IsWaiting k waits ⊎ (said_by v given ≡ NotStarted ∷ [])
+    of : (k v : ℕ) → ((k ≡ length workers) × (v ≡ w)) ⊎ (slice_get workers k ≡ Some v) → ((k ≡ length pages) × (None ≡ page_opened suite mode b)) ⊎ (slice_get pages k ≡ Some None) → IsWaiting k waits ⊎ (said_of_worker v given ≡ NotStarted ∷ [])
     of k v (inl a) (inl p) = inl (length waiting, in_all (length waiting) k (waits_new waiting b n (not_opened suite mode b p.1) ∙ ap Some (at ∙ sym p.0)))
     of k v (inl a) (inr p) = absurd (omega (arith, slice_get_within pages k None p, a.0, count))
     of k v (inr c) (inl p) = absurd (omega (arith, slice_get_within workers k v c, p.0, count))
@@ -264,15 +264,15 @@ no_way false t f = cc t
 
 -- a worker without a link that is read
 pub said_unlinked : (suite : List ℕ) (mode : ModeKind) (taken : List (Option (List LinkNews))) (calls : List Entry) (given : List News) (workers : List ℕ) (pages : List (Option Page)) (fates : List Fate) (waiting : List ℕ) (w : ℕ) → length fates ≡ length workers → map is_some pages ≡ map is_linked fates
-    → is_among w (workers_with is_linked workers fates) ≡ false → Kept suite mode taken calls given workers pages → Unsaid given workers pages waiting → SaidUnlinked given w
+    → is_listed w (workers_with is_linked workers fates) ≡ false → Kept suite mode taken calls given workers pages → Unsaid given workers pages waiting → SaidUnlinked given w
 said_unlinked suite mode taken calls given workers pages fates waiting w matched seats out kept u = by (was_started w calls) refl
   where
-    as_said : (k : ℕ) → slice_get workers k ≡ Some w → IsWaiting k waiting ⊎ (said_by w given ≡ NotStarted ∷ []) → SaidUnlinked given w
+    as_said : (k : ℕ) → slice_get workers k ≡ Some w → IsWaiting k waiting ⊎ (said_of_worker w given ≡ NotStarted ∷ []) → SaidUnlinked given w
     as_said k at (inl (i, e)) = inl (u.waits i k w e at).0
     as_said k at (inr was) = inr was
 
     of : (k : ℕ) → slice_get workers k ≡ Some w → (f : Fate) → slice_get fates k ≡ Some f → (b : Bool) → is_linked f ≡ b → SaidUnlinked given w
-    of k at f is true h = absurd (no_way (is_among w (workers_with is_linked workers fates)) (among_with is_linked workers fates k w f at is h) out)
+    of k at f is true h = absurd (no_way (is_listed w (workers_with is_linked workers fates)) (among_with is_linked workers fates k w f at is h) out)
     of k at f is false h = as_said k at (u.said k w at (no_page pages fates k f seats is h))
 
     by : (b : Bool) → was_started w calls ≡ b → SaidUnlinked given w

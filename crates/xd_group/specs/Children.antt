@@ -77,15 +77,15 @@ abbrev pub buried_child : Child → Child
 buried_child c = record { link = c.link; is_killed = c.is_killed; is_reaped = c.is_reaped || c.is_killed }
 
 -- the child at the place was changed so, where there is one
-abbrev pub changed_at : ℕ → (Child → Child) → List (Option Child) → List (Option Child)
-changed_at k f [] = []
-changed_at zero f (o ∷ cs) = option_map f o ∷ cs
-changed_at (suc k) f (o ∷ cs) = o ∷ changed_at k f cs
+abbrev pub child_changed_at : ℕ → (Child → Child) → List (Option Child) → List (Option Child)
+child_changed_at k f [] = []
+child_changed_at zero f (o ∷ cs) = option_map f o ∷ cs
+child_changed_at (suc k) f (o ∷ cs) = o ∷ child_changed_at k f cs
 
 -- the children, of which the one at the place was killed, where there is a place
 abbrev pub cut_by : Option ℕ → List (Option Child) → List (Option Child)
 cut_by None cs = cs
-cut_by (Some k) cs = changed_at k killed_child cs
+cut_by (Some k) cs = child_changed_at k killed_child cs
 
 -- the child was killed and waited for, where there is one
 abbrev pub is_killed_and_reaped : Option Child → Bool

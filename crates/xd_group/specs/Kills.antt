@@ -3,11 +3,11 @@ use Rattle.std.specs.Prelude.{◌≡◌, ◌⊎◌, ◌<◌, ◌||◌, ◌∷◌
 use Rattle.std.specs.List.{list_any}
 use Rattle.xd_journal.specs.declared.entry.Entry.{Entry}
 use Rattle.xd_journal.specs.declared.news.News.{News}
-use Rattle.xd_drive.specs.Listed.{is_among, was_killed}
+use Rattle.xd_drive.specs.Listed.{is_listed, was_killed}
 use Rattle.xd_drive.specs.Performing.{was_started}
 use Rattle.xd_group.specs.Fates.{is_refused}
 use Rattle.xd_group.specs.Heard.{says_send_fault}
-use Rattle.xd_group.specs.Kept.{said_by}
+use Rattle.xd_group.specs.Kept.{said_of_worker}
 use Rattle.xd_group.specs.declared.child.Child.{Child}
 use Rattle.xd_group.specs.declared.fate.Fate.{Fate}
 use Rattle.xd_group.specs.declared.fate.Fate.TheVariants.{Refused}
@@ -44,6 +44,6 @@ pub record KilledSo (children : List (Option Child)) (calls : List Entry) (worke
 -- asked for, too, where the worker's news say that a send failed.
 pub record EndKilledSo (calls : List Entry) (given : List News) (refused : List ℕ) (w : ℕ) (killed : Bool) (writes : ℕ) : Type 0 where
   pub wherever : was_killed w calls ≡ true → killed ≡ true
-  pub at_refused : is_among w refused ≡ true → killed ≡ true
-  pub at_send_fault : list_any says_send_fault (said_by w given) ≡ true → killed ≡ true
-  pub only : killed ≡ true → (was_killed w calls ≡ true) ⊎ ((is_among w refused ≡ true) ⊎ (0 < writes))
+  pub at_refused : is_listed w refused ≡ true → killed ≡ true
+  pub at_send_fault : list_any says_send_fault (said_of_worker w given) ≡ true → killed ≡ true
+  pub only : killed ≡ true → (was_killed w calls ≡ true) ⊎ ((is_listed w refused ≡ true) ⊎ (0 < writes))

@@ -5,7 +5,7 @@ use Rattle.xd_journal.specs.declared.entry.Entry.{Entry}
 use Rattle.xd_journal.specs.declared.news.What.{What}
 use Rattle.xd_reader.specs.declared.news.LinkNews.{LinkNews}
 use Rattle.xd_group.specs.LinkRun.{Link, LinkRun}
-use Rattle.xd_group.specs.Pages.{Page, taken_of}
+use Rattle.xd_group.specs.Pages.{Page, taken_of_link}
 
 -- what stays of a page
 pub record Settled : Type 0 where
@@ -25,7 +25,7 @@ settled_at (Some p) = Some (settled_of p)
 
 -- Each link that is still open has what the desk gave of it, and was told and said what it was when the hub began to end.
 pub record Late (first : List (Option Settled)) (taken : List (Option (List LinkNews))) (pages : List (Option Page)) : Type 0 where
-  pub takes : map taken_of pages ≡ taken
+  pub takes : map taken_of_link pages ≡ taken
   pub same : (k : ℕ) (p : Page) → slice_get pages k ≡ Some (Some p) → (slice_get first k ≡ Some (Some (settled_of p))) × (p.known ≡ true)
 
 -- the page after one more item of its link, with all that was heard late by then

@@ -36,9 +36,9 @@ abbrev pub heard_page : LinkNews → Option What → Page → Page
 heard_page item what p = record { suite = p.suite; mode = p.mode; taken = p.taken ++ item ∷ []; told = p.told; said = p.said ++ option_to_list what; late = p.late; known = true }
 
 -- what was taken of the link, where it has a page
-abbrev pub taken_of : Option Page → Option (List LinkNews)
-taken_of None = None
-taken_of (Some p) = Some p.taken
+abbrev pub taken_of_link : Option Page → Option (List LinkNews)
+taken_of_link None = None
+taken_of_link (Some p) = Some p.taken
 
 -- the link at the place was told the order, and no other changed
 abbrev pub ToldAt : Entry → ℕ → List (Option Page) → List (Option Page) → Type 0

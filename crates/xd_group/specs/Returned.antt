@@ -4,16 +4,16 @@ use Rattle.xd_edge.specs.declared.mode.ModeKind.{ModeKind}
 use Rattle.xd_journal.specs.declared.entry.Entry.{Entry}
 use Rattle.xd_journal.specs.declared.news.News.{News}
 use Rattle.xd_link.specs.declared.starter.Reaped.TheVariants.{Once}
-use Rattle.xd_drive.specs.Listed.{is_among}
+use Rattle.xd_drive.specs.Listed.{is_listed}
 use Rattle.xd_group.specs.Children.{AskedOfLink}
-use Rattle.xd_group.specs.Kept.{orders_to, said_by}
+use Rattle.xd_group.specs.Kept.{orders_to, said_of_worker}
 use Rattle.xd_group.specs.LinkRun.{Link, LinkRun}
 use Rattle.xd_group.specs.Unused.{Unused}
 
 -- It ran by the news of its worker and the orders to it; where the crew refused its reader, it was not used.
 -- Example: gw1's reader is refused: its link is killed, and gave and took nothing.
 abbrev pub RanSo : List ℕ → ModeKind → List News → List Entry → List ℕ → ℕ → Link → Type 0
-RanSo suite mode given calls refused w l = MatchBool (is_among w refused) (Unused l) (LinkRun suite mode (said_by w given) (orders_to w calls) l)
+RanSo suite mode given calls refused w l = MatchBool (is_listed w refused) (Unused l) (LinkRun suite mode (said_of_worker w given) (orders_to w calls) l)
 
 -- what the starter tells of it
 abbrev pub end_told : Bool → AskedOfLink

@@ -33,7 +33,7 @@ impl<St: Starter> Children<St> {
     ghost use Rattle.std.specs.Prelude.{◌≡◌, ◌∷◌, ◌++◌, [], ℕ, Some, Option, option_map, is_none, IfOk, IfSome, IfNone, true, OnErr, OnSome, slice_get, vec_len, ◌<◌};
     ghost use Rattle.std.specs.List.{list_all};
     ghost use Rattle.xd_link.specs.FreshLink.{unused};
-    ghost use Rattle.xd_group.specs.Children.{all_buried, buried_child, changed_at, cut_by, is_buried, fresh_child, is_killed_and_reaped, killed_child, reaped_child, starts_told};
+    ghost use Rattle.xd_group.specs.Children.{all_buried, buried_child, child_changed_at, cut_by, is_buried, fresh_child, is_killed_and_reaped, killed_child, reaped_child, starts_told};
     ghost use Rattle.xd_group.specs.declared.child.Child.{Child};
 
     /// Nothing was started.
@@ -106,7 +106,7 @@ impl<St: Starter> Children<St> {
     }
 
     fn kill(&mut self, number: usize)
-        ensures children { self.new.children.items ≡ changed_at number killed_child
+        ensures children { self.new.children.items ≡ child_changed_at number killed_child
             self.old.children.items }
         ensures starts { starts_told (St.begun self.new.starter) ≡ starts_told
             (St.begun self.old.starter) }
@@ -129,7 +129,7 @@ impl<St: Starter> Children<St> {
     /// Waits for the child of this number, where there is one that was not waited for before. Says whether its kill was
     /// asked for.
     pub fn reap<R: Wait>(&mut self, rt: &R, number: usize) -> bool
-        ensures children { self.new.children.items ≡ changed_at number reaped_child
+        ensures children { self.new.children.items ≡ child_changed_at number reaped_child
             self.old.children.items }
         ensures starts { starts_told (St.begun self.new.starter) ≡ starts_told
             (St.begun self.old.starter) }
@@ -167,7 +167,7 @@ impl<St: Starter> Children<St> {
 
     // Waits for the child of this number, where it was killed.
     fn bury_at<R: Wait>(&mut self, rt: &R, number: usize)
-        ensures children { self.new.children.items ≡ changed_at number buried_child
+        ensures children { self.new.children.items ≡ child_changed_at number buried_child
             self.old.children.items }
         ensures starts { starts_told (St.begun self.new.starter) ≡ starts_told
             (St.begun self.old.starter) }

@@ -5,7 +5,7 @@ ghost use Rattle.std.specs.List.{list_all, list_any};
 ghost use Rattle.xd_journal.specs.declared.entry.Entry.TheVariants.{Start, Kill};
 ghost use Rattle.xd_link.specs.Spring.{spring};
 ghost use Rattle.xd_drive.specs.Calls.{is_order};
-ghost use Rattle.xd_drive.specs.Listed.{is_among, starts_of, others_of};
+ghost use Rattle.xd_drive.specs.Listed.{is_listed, starts_of, others_of};
 ghost use Rattle.xd_drive.specs.Marks.{is_breach, marked_heard, marked_started, may_tell};
 ghost use Rattle.xd_note.specs.Noted.{noted};
 ghost use Rattle.xd_journal.specs.declared.entry.Entry.{Entry};
@@ -14,7 +14,7 @@ ghost use Rattle.xd_reader.specs.declared.news.LinkNews.{LinkNews};
 ghost use Rattle.xd_edge.specs.declared.mode.ModeKind.{ModeKind};
 ghost use Rattle.xd_post.specs.Mails.{mails};
 ghost use Rattle.xd_links.specs.Runs.{news_of};
-ghost use Rattle.xd_group.specs.Kept.{Kept, orders_to, said_by};
+ghost use Rattle.xd_group.specs.Kept.{Kept, orders_to, said_of_worker};
 ghost use Rattle.xd_group.specs.Late.{Late, Settled, settled_at};
 ghost use Rattle.xd_group.specs.LinkRun.{link_of};
 ghost use Rattle.xd_group.specs.Children.{children_asked, link_asked, is_buried, is_killed_and_reaped, starts_told, told_of};
@@ -236,7 +236,7 @@ impl<St: Starter, C: Crew<Reader<St::Src>>> GatewayHub<St, C> {
             slice_get (losses_of self.old.group.posts.items) number ≡ Some true)
             → ((w : ℕ) → slice_get self.old.group.diary.workers.items number ≡ Some w →
             slice_get self.old.group.diary.fates.items number ≡ Some Linked →
-            list_any says_send_fault (said_by w given) ≡ true →
+            list_any says_send_fault (said_of_worker w given) ≡ true →
             slice_get lost number ≡ Some true)
             → All (λ l. ∥ EndKilledSo calls given
             (workers_with is_refused self.old.group.diary.workers.items
@@ -313,7 +313,7 @@ impl<St: Starter, C: Crew<Reader<St::Src>>> GatewayHub<St, C> {
             self.old.group.diary.fates.items) l.worker l.killed (St.Snk.faults l.sink) ∥₁)
             ends.items) }
         ensures unlinked { OnOk result ((w : ℕ) →
-            is_among w (workers_with is_linked self.old.group.diary.workers.items
+            is_listed w (workers_with is_linked self.old.group.diary.workers.items
             self.old.group.diary.fates.items) ≡ false →
             ∥ SaidUnlinked (noted self.old.group.diary.given) w ∥₁) }
         ensures few_refused { OnOk result

@@ -104,7 +104,7 @@ impl<S: Source + Drop, N: Sink + Drop, C: Crew<Reader<S>>> Group<S, N, C> {
     ghost use Rattle.xd_group.specs.declared.fate.Fate.{Fate};
     ghost use Rattle.xd_group.specs.declared.fate.Fate.TheVariants.{Linked, Refused, Unlinked};
     ghost use Rattle.xd_group.specs.Fates.{EndedFrom, has_link, is_linked};
-    ghost use Rattle.xd_group.specs.Pages.{taken_of, page_opened};
+    ghost use Rattle.xd_group.specs.Pages.{taken_of_link, page_opened};
     ghost use Rattle.xd_group.specs.Unsaid.{SaysNext};
     ghost use Rattle.xd_group.specs.Unused.{Unused};
     ghost use Rattle.xd_group.specs.Late.{Late, RanAt, Settled, settled_at};
@@ -192,7 +192,7 @@ impl<S: Source + Drop, N: Sink + Drop, C: Crew<Reader<S>>> Group<S, N, C> {
         requires nothing_given { IfSome (S.supply source) (λ s. s.given ≡ []) }
         ensures news { (suite : List ℕ) (mode : ModeKind) →
             IfOk result (λ r. news_of (mails links.new.desk) ≡ news_of (mails links.old.desk)
-            ++ taken_of (page_opened suite mode (is_none r)) ∷ []) }
+            ++ taken_of_link (page_opened suite mode (is_none r)) ∷ []) }
         ensures back { IfOk result (λ r. IfSome r (λ back. back ≡ source)) }
         ensures crew { IfOk result (λ r.
             Counted (is_none r) (C.faults links.old.crew) (C.faults links.new.crew)) }

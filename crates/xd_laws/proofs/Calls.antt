@@ -23,7 +23,7 @@ use Rattle.xd_ledger.specs.Sharing.{State, in_books}
 use Rattle.xd_ledger.specs.State.{after_effect, no_one}
 use Rattle.xd_ledger.specs.Outputs.{slots_of_rota}
 use Rattle.xd_ledger.specs.Stops.{is_stopped}
-use Rattle.xd_ledger.specs.Suits.{AreInPool, CallSuits, CanShare, tests_of}
+use Rattle.xd_ledger.specs.Suits.{AreInPool, CallSuits, CanShare, tests_of_units}
 use Rattle.xd_ledger.specs.Histories.{after_starts, after_inputs}
 use Rattle.xd_ledger.specs.Proper.{IsProper, has_workers, is_head, may_follow}
 use Rattle.xd_laws.specs.Called.{Called, Reached}
@@ -53,8 +53,8 @@ in-pool : (s : State) → Tidy s → QueueFits s.books.table s.plan s.books.memb
 in-pool s d q =
     let pool = s.books.table.pool in
     record {
-      distinct = distinct-of_times (tests_of s.plan.queue) (λ x. (let a = q.whole x in let b = at_most_once s d.placed x in let c = times-table x s.books.table in omega (arith, a, b, c)));
-      within = all_among-of (tests_of s.plan.queue) pool (λ x h. (let a = among-times x (tests_of s.plan.queue) h in let b = q.whole x in times-among x pool (omega (arith, a, b))));
+      distinct = distinct-of_times (tests_of_units s.plan.queue) (λ x. (let a = q.whole x in let b = at_most_once s d.placed x in let c = times-table x s.books.table in omega (arith, a, b, c)));
+      within = all_among-of (tests_of_units s.plan.queue) pool (λ x h. (let a = among-times x (tests_of_units s.plan.queue) h in let b = q.whole x in times-among x pool (omega (arith, a, b))));
       filled = q.filled;
     }
 

@@ -15,7 +15,7 @@ use Rattle.xd_ledger.specs.Numbers.{among, without}
 use Rattle.xd_ledger.specs.Table.{Table, assigned, held, retried_item, seat_shut, shut_down, workers_of}
 use Rattle.xd_ledger.specs.Plan.{Plan, base, is_each, slot_items, total}
 use Rattle.xd_ledger.specs.Turn.{Turn, shut}
-use Rattle.xd_ledger.specs.Each.{give_all, give_of_slot, give_slots, joins, remainder, share}
+use Rattle.xd_ledger.specs.Each.{give_all, give_of_slot, give_slots, joins, remainder, each_share}
 use Rattle.xd_ledger.specs.Modes.{ModeCall, each_turn, turned}
 use Rattle.xd_ledger.specs.Modes.ModeCall.{Share, Joined, TestDone, TestsBack, Died}
 use Rattle.xd_ledger.specs.Workers.{is_active, made_gone, slot_in, slot_of, started}
@@ -174,7 +174,7 @@ some-slot y p e h =
 
 -- all are handed out at the share, as each slot has its worker
 none-left : (s : State) (slots : List ℕ) → is_each s.plan.mode ≡ true → Tidy s → IsFresh s slots → length s.books.table.rota ≡ s.books.settings.workers
-    → (y : ℕ) → among y (share slots (turn_of s)).table.pool ≡ true → ⊥
+    → (y : ℕ) → among y (each_share slots (turn_of s)).table.pool ≡ true → ⊥
 none-left s slots e d f full y h =
     let ws = workers_of s.books.table in
     let slot : ℕ → ℕ = λ w. slot_of w s.books in

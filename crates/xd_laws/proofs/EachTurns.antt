@@ -10,7 +10,7 @@ use Rattle.xd_ledger.specs.Numbers.{among, without, all_distinct, all_among, tim
 use Rattle.xd_ledger.specs.Table.{Table, in_rota, seat_shut, workers_of, assigned, shut_down}
 use Rattle.xd_ledger.specs.Plan.{Plan, base, items_named, slot_items, total, is_each, is_scope}
 use Rattle.xd_ledger.specs.Turn.{Turn, shut}
-use Rattle.xd_ledger.specs.Each.{give_all, give_slots, share, remainder, give_of_slot, joins}
+use Rattle.xd_ledger.specs.Each.{give_all, give_slots, each_share, remainder, give_of_slot, joins}
 use Rattle.xd_ledger.specs.Workers.{is_shut, slot_of}
 use Rattle.xd_ledger.specs.Sharing.{State}
 use Rattle.xd_ledger.specs.State.{after_entries}
@@ -192,7 +192,7 @@ rota-apart s d v u a b e =
     let f = d.placed.fits in
     d.members.apart v u (f.active v (seat-among v s.books.table.rota ∙ a)) (f.active u (seat-among u s.books.table.rota ∙ b)) e
 
-pub good-share : (s : State) (slots : List ℕ) → is_each s.plan.mode ≡ true → Tidy s → s.books.shared ≡ true → IsFresh s slots → Good s (share slots (turn_of s))
+pub good-share : (s : State) (slots : List ℕ) → is_each s.plan.mode ≡ true → Tidy s → s.books.shared ≡ true → IsFresh s slots → Good s (each_share slots (turn_of s))
 good-share s slots e d h f =
     let ws = workers_of s.books.table in
     let take : (v : ℕ) → among v ws ≡ true → MayTake s (turn_of s) v = λ v a. record {

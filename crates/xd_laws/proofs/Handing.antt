@@ -75,20 +75,20 @@ fair-topped ms w t f =
     let n = load.more pool workers (chunk_of t.plan) holds in
     in_both Fair (load.is_due pool workers holds ms) (give_front w n t) t (λ h. fair-give w (take n t.table.pool) t f) (λ h. f)
 
-pub fair-refill : (ms w : ℕ) (t : Turn) → Fair t → Fair (load.refill ms w t)
+pub fair-refill : (ms w : ℕ) (t : Turn) → Fair t → Fair (load.load_refill ms w t)
 fair-refill ms w t f = in_both Fair (seat_shut w t.table) t (elim t.table.pool as (λ _. Turn) [ [] ↦ shut w t | x ∷ xs ↦ load.topped_up ms w t ]) (λ h. f) (λ h. by t.table.pool refl)
   where
     by : (pool : List ℕ) → t.table.pool ≡ pool → Fair (elim pool as (λ _. Turn) [ [] ↦ shut w t | x ∷ xs ↦ load.topped_up ms w t ])
     by [] e = fair-shut w t e f
     by (x ∷ xs) e = fair-topped ms w t f
 
-pub fair-refill_all : (t : Turn) → Fair t → Fair (load.refill_all t)
-fair-refill_all t f = in_turn-all Fair (load.refill 0) (λ w u g. fair-refill 0 w u g) (workers_of t.table) t f
+pub fair-refill_all : (t : Turn) → Fair t → Fair (load.load_refill_all t)
+fair-refill_all t f = in_turn-all Fair (load.load_refill 0) (λ w u g. fair-refill 0 w u g) (workers_of t.table) t f
 
 fair-guarded : (n w : ℕ) (t : Turn) → Fair t → Fair (load.give_unless_shut n w t)
 fair-guarded n w t f = in_both Fair (seat_shut w t.table) t (give_front w n t) (λ h. f) (λ h. fair-give w (take n t.table.pool) t f)
 
-fair-dealt : (t : Turn) → Fair t → Fair (load.dealt t)
+fair-dealt : (t : Turn) → Fair t → Fair (load.dealt_singly t)
 fair-dealt t f =
     let tests = length t.table.pool in
     let ws = workers_of t.table in
@@ -97,11 +97,11 @@ fair-dealt t f =
     (λ h. in_turn-all Fair (load.give_unless_shut 1) (λ w u g. fair-guarded 1 w u g) (ws ++ ws) t f)
     (λ h. in_turn-all Fair (load.give_unless_shut n) (λ w u g. fair-guarded n w u g) ws t f)
 
-pub fair-share : (t : Turn) → Fair t → Fair (load.share t)
-fair-share t f = by (load.dealt t).table.pool refl
+pub fair-share : (t : Turn) → Fair t → Fair (load.load_share t)
+fair-share t f = by (load.dealt_singly t).table.pool refl
   where
-    by : (pool : List ℕ) → (load.dealt t).table.pool ≡ pool → Fair (elim pool as (λ _. Turn) [ [] ↦ shut_each (workers_of (load.dealt t).table) (load.dealt t) | x ∷ xs ↦ load.dealt t ])
-    by [] e = fair-shut_each (workers_of (load.dealt t).table) (load.dealt t) e (fair-dealt t f)
+    by : (pool : List ℕ) → (load.dealt_singly t).table.pool ≡ pool → Fair (elim pool as (λ _. Turn) [ [] ↦ shut_each (workers_of (load.dealt_singly t).table) (load.dealt_singly t) | x ∷ xs ↦ load.dealt_singly t ])
+    by [] e = fair-shut_each (workers_of (load.dealt_singly t).table) (load.dealt_singly t) e (fair-dealt t f)
     by (x ∷ xs) e = fair-dealt t f
 
 -- worksteal
@@ -183,7 +183,7 @@ serves-rule s plain g = by (steal.idle t.table) refl
         (let idle : (w : ℕ) → among w (v ∷ vs) ≡ true → IsOpen w t.table.rota = λ w a. idle-open w t.table.rota (one_seat-turn s t g) (ap (λ (xs : List ℕ). among w xs) e ∙ a) in
         serves-after s (steal.dealt (v ∷ vs) t) (good-dealt s (v ∷ vs) t plain g idle) (dealt-all s (v ∷ vs) t first) (dealt-spent v vs t))
 
-pub serves-share : (s : State) → IsPlain s.plan.mode → Good s (turn_of s) → Serves s (steal.share (turn_of s))
+pub serves-share : (s : State) → IsPlain s.plan.mode → Good s (turn_of s) → Serves s (steal.steal_share (turn_of s))
 serves-share s plain g = by s.books.table.pool
   where
     by : (pool : List ℕ) → Serves s (elim pool as (λ _. Turn) [ [] ↦ turn_of s | x ∷ xs ↦ steal.rule (turn_of s) ])

@@ -6,7 +6,7 @@ use Rattle.xd_ledger.specs.Numbers.{among, without}
 use Rattle.xd_ledger.specs.Table.{held, seat_shut, workers_of}
 use Rattle.xd_ledger.specs.Plan.{chunk_of}
 use Rattle.xd_ledger.specs.Turn.{Turn, give, give_front, shut, in_turn, shut_each}
-use Rattle.xd_ledger.specs.Load.{is_due, more, topped_up, refill, refill_all, first_batch, give_unless_shut, dealt, share}
+use Rattle.xd_ledger.specs.Load.{is_due, more, topped_up, load_refill, load_refill_all, first_batch, give_unless_shut, dealt_singly, load_share}
 use Rattle.xd_ledger.specs.Turn.{enough}
 use Rattle.xd_ledger.specs.Sharing.{State}
 use Rattle.xd_laws.proofs.Logic.{cases_of, or-left, or-right, in_both}
@@ -57,21 +57,21 @@ topped-here ms w t seat =
     (λ h. front-work w n t seat (more-enough holds (pool / workers / 2) (chunk_of t.plan)))
     (λ h. (let rich = rich-unless_due holds (pool / workers / 4) ms h in inr (or-right (seat_shut w t.table) (nat_le 2 holds) (grind (arith, nat_tests, rich)))))
 
-refill-spent : (ms w : ℕ) (t : Turn) → t.table.pool ≡ [] → (refill ms w t).table.pool ≡ []
+refill-spent : (ms w : ℕ) (t : Turn) → t.table.pool ≡ [] → (load_refill ms w t).table.pool ≡ []
 refill-spent ms w t e = in_both (λ (u : Turn). u.table.pool ≡ []) (seat_shut w t.table) t (elim t.table.pool as (λ _. Turn) [ [] ↦ shut w t | x ∷ xs ↦ topped_up ms w t ]) (λ h. e) (λ h. by t.table.pool)
   where
     by : (pool : List ℕ) → (elim pool as (λ _. Turn) [ [] ↦ shut w t | x ∷ xs ↦ topped_up ms w t ]).table.pool ≡ []
     by [] = pool-shut w t ∙ e
     by (x ∷ xs) = topped-spent ms w t e
 
-refill-still : (v ms w : ℕ) (t : Turn) → has_work v t.table ≡ true → has_work v (refill ms w t).table ≡ true
+refill-still : (v ms w : ℕ) (t : Turn) → has_work v t.table ≡ true → has_work v (load_refill ms w t).table ≡ true
 refill-still v ms w t k = in_both (λ (u : Turn). has_work v u.table ≡ true) (seat_shut w t.table) t (elim t.table.pool as (λ _. Turn) [ [] ↦ shut w t | x ∷ xs ↦ topped_up ms w t ]) (λ h. k) (λ h. by t.table.pool)
   where
     by : (pool : List ℕ) → has_work v (elim pool as (λ _. Turn) [ [] ↦ shut w t | x ∷ xs ↦ topped_up ms w t ]).table ≡ true
     by [] = shut-still v w t k
     by (x ∷ xs) = topped-still v ms w t k
 
-refill-here : (ms w : ℕ) (t : Turn) → has_seat w t.table.rota ≡ true → Served w (refill ms w t)
+refill-here : (ms w : ℕ) (t : Turn) → has_seat w t.table.rota ≡ true → Served w (load_refill ms w t)
 refill-here ms w t seat =
     in_both (Served w) (seat_shut w t.table) t (elim t.table.pool as (λ _. Turn) [ [] ↦ shut w t | x ∷ xs ↦ topped_up ms w t ])
     (λ h. inr (or-left (seat_shut w t.table) (nat_le 2 (length (held w t.table))) h)) (λ h. by t.table.pool refl)
@@ -80,12 +80,12 @@ refill-here ms w t seat =
     by [] e = inl (pool-shut w t ∙ e)
     by (x ∷ xs) e = topped-here ms w t seat
 
-pub refill-employs : (ms w : ℕ) (t : Turn) → has_seat w t.table.rota ≡ true → Employs (refill ms) w t
+pub refill-employs : (ms w : ℕ) (t : Turn) → has_seat w t.table.rota ≡ true → Employs (load_refill ms) w t
 refill-employs ms w t seat = record { spent = refill-spent ms w t; still = λ v k. refill-still v ms w t k; here = refill-here ms w t seat }
 
-pub refill_all-work : (s : State) (t : Turn) → IsPlain s.plan.mode → Good s t → AllWork (workers_of t.table) (refill_all t).table
+pub refill_all-work : (s : State) (t : Turn) → IsPlain s.plan.mode → Good s t → AllWork (workers_of t.table) (load_refill_all t).table
 refill_all-work s t plain g =
-    work-through (Good s) (refill 0) (workers_of s.books.table) (λ w u a h. good-refill s 0 w u plain a h) (λ w u a h. refill-employs 0 w u (in_rota-of s u w h a)) (workers_of t.table) t (rota-all s t g) g
+    work-through (Good s) (load_refill 0) (workers_of s.books.table) (λ w u a h. good-refill s 0 w u plain a h) (λ w u a h. refill-employs 0 w u (in_rota-of s u w h a)) (workers_of t.table) t (rota-all s t g) g
 
 -- the share
 
@@ -146,7 +146,7 @@ among-twice v (x ∷ xs) ys h k = elim (cases_of (among v (x ∷ xs))) [
   | inr a ↦ among-twice v xs ys (grind (arith, nat_tests, a, h)) (λ u b. k u (grind (arith, nat_tests, b)))
 ]
 
-dealt-work : (s : State) (t : Turn) → IsPlain s.plan.mode → Good s t → ((v : ℕ) → among v (workers_of t.table) ≡ true → seat_shut v t.table ≡ false) → AllWork (workers_of t.table) (dealt t).table
+dealt-work : (s : State) (t : Turn) → IsPlain s.plan.mode → Good s t → ((v : ℕ) → among v (workers_of t.table) ≡ true → seat_shut v t.table ≡ false) → AllWork (workers_of t.table) (dealt_singly t).table
 dealt-work s t plain g k =
     let tests = length t.table.pool in
     let ws = workers_of t.table in
@@ -158,9 +158,9 @@ dealt-work s t plain g k =
     (λ h. work-through (Good s) (give_unless_shut n) (workers_of s.books.table) (λ w u a x. good-guarded s n w u plain a x)
     (λ w u a x. guarded-employs n w u (batch-enough _ (chunk_of t.plan)) (in_rota-of s u w x a)) ws t (rota-all s t g) g)
 
-pub share-work : (s : State) (t : Turn) → IsPlain s.plan.mode → Good s t → ((v : ℕ) → among v (workers_of t.table) ≡ true → seat_shut v t.table ≡ false) → AllWork (workers_of t.table) (share t).table
-share-work s t plain g k = by (dealt t).table.pool refl
+pub share-work : (s : State) (t : Turn) → IsPlain s.plan.mode → Good s t → ((v : ℕ) → among v (workers_of t.table) ≡ true → seat_shut v t.table ≡ false) → AllWork (workers_of t.table) (load_share t).table
+share-work s t plain g k = by (dealt_singly t).table.pool refl
   where
-    by : (pool : List ℕ) → (dealt t).table.pool ≡ pool → AllWork (workers_of t.table) (elim pool as (λ _. Turn) [ [] ↦ shut_each (workers_of (dealt t).table) (dealt t) | x ∷ xs ↦ dealt t ]).table
-    by [] e = inl (shut_each-pool (workers_of (dealt t).table) (dealt t) ∙ e)
+    by : (pool : List ℕ) → (dealt_singly t).table.pool ≡ pool → AllWork (workers_of t.table) (elim pool as (λ _. Turn) [ [] ↦ shut_each (workers_of (dealt_singly t).table) (dealt_singly t) | x ∷ xs ↦ dealt_singly t ]).table
+    by [] e = inl (shut_each-pool (workers_of (dealt_singly t).table) (dealt_singly t) ∙ e)
     by (x ∷ xs) e = dealt-work s t plain g k

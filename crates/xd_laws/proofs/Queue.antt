@@ -10,7 +10,7 @@ use Rattle.xd_ledger.specs.Table.{Table, crash_item, held, held_in, in_rota, at_
 use Rattle.xd_ledger.specs.Plan.{Plan, Handed, with_handed}
 use Rattle.xd_ledger.specs.Units.{units_left, unless_empty}
 use Rattle.xd_ledger.specs.Orderly.{not_empty}
-use Rattle.xd_ledger.specs.Suits.{tests_of}
+use Rattle.xd_ledger.specs.Suits.{tests_of_units}
 use Rattle.xd_laws.proofs.Logic.{differ, cases_of, split-and, split-or, not_true}
 use Rattle.xd_laws.proofs.Counts.{times-append, times-without, among-times}
 use Rattle.xd_laws.proofs.Rota.{has_seat, seat-change, seat-left, seat-joined}
@@ -49,7 +49,7 @@ held-joined v (x ∷ ss) s h = grind (arith, nat_tests, held-joined v ss s)
 -- the units in the queue have tests of the pool alone, and none is empty; whatever was given to a worker of the rota is
 -- held by it or reported; who has not collected got nothing; and no steal is open
 pub record QueueFits (t : Table) (p : Plan) (ms : List Member) : Type 0 where
-  pub whole : (x : ℕ) → times x (tests_of p.queue) ≤ times x t.pool
+  pub whole : (x : ℕ) → times x (tests_of_units p.queue) ≤ times x t.pool
   pub filled : none_empty p.queue ≡ true
   pub given : (w x : ℕ) → in_rota w t ≡ true → times x (given_to w p.given) ≤ times x (held w t) + times x t.reported
   pub late : (w : ℕ) → has w (λ m. m.collected) ms ≡ false → given_to w p.given ≡ []
@@ -84,8 +84,8 @@ pub queue-given : (t : Table) (p : Plan) (ms : List Member) (w : ℕ) (u : List 
 queue-given t p ms w u us once collected e q =
     let new : Handed = record { worker = w; tests = u } in
     record {
-      whole = λ x. (let a : times x (u ++ tests_of us) ≤ times x t.pool = subst (λ (vs : List (List ℕ)). times x (tests_of vs) ≤ times x t.pool) e (q.whole x) in
-          grind (arith, nat_tests, a, times-append x u (tests_of us), times-without x u t.pool, among-times x u, once x, times-table x t));
+      whole = λ x. (let a : times x (u ++ tests_of_units us) ≤ times x t.pool = subst (λ (vs : List (List ℕ)). times x (tests_of_units vs) ≤ times x t.pool) e (q.whole x) in
+          grind (arith, nat_tests, a, times-append x u (tests_of_units us), times-without x u t.pool, among-times x u, once x, times-table x t));
       filled = (split-and (not_empty u) (none_empty us) (ap none_empty (sym e) ∙ q.filled)).1;
       given = λ v x h. (let rota : has_seat v t.rota ≡ true = sym (seat-change v w (λ s. record s { held = s.held ++ u }) t.rota (λ s. refl)) ∙ h in
           let a : times x (given_to v (p.given ++ new ∷ [])) ≡ times x (given_to v p.given ++ (if w == v then u else [])) = ap (λ (xs : List ℕ). times x xs) (given-more v p.given new) in
@@ -124,12 +124,12 @@ queue-left t p ms w q = record {
 }
 
 -- what is left of the units of a worker is part of what it held
-left-within : (x w : ℕ) (t : Table) (p : Plan) (ms : List Member) → AtMostOnce t → QueueFits t p ms → times x (tests_of (units_left w (drop 1 (held w t)) p.given)) ≤ times x (drop 1 (held w t))
+left-within : (x w : ℕ) (t : Table) (p : Plan) (ms : List Member) → AtMostOnce t → QueueFits t p ms → times x (tests_of_units (units_left w (drop 1 (held w t)) p.given)) ≤ times x (drop 1 (held w t))
 left-within x w t p ms once q = elim (cases_of (in_rota w t)) [
   | inl r ↦ grind (arith, nat_tests, tests-left x w (drop 1 (held w t)) p.given, q.given w x r, once x, times-table x t, held-within x w t.rota, among-times x (drop 1 (held w t)))
   | inr r ↦
       (let none : drop 1 (held w t) ≡ [] = ap (λ (xs : List ℕ). drop 1 xs) (held-none w t.rota r) in
-      subst (λ (xs : List ℕ). times x (tests_of (units_left w xs p.given)) ≤ times x xs) (sym none) (let k = tests-left x w [] p.given in omega (arith, k)))
+      subst (λ (xs : List ℕ). times x (tests_of_units (units_left w xs p.given)) ≤ times x xs) (sym none) (let k = tests-left x w [] p.given in omega (arith, k)))
 ]
 
 -- the plan of a mode with scopes after a death

@@ -8,12 +8,12 @@ use Rattle.xd_ledger.specs.Numbers.{among, all_among, times, without}
 use Rattle.xd_ledger.specs.Table.{Table, held, seat_shut, shut_down, workers_of}
 use Rattle.xd_ledger.specs.Plan.{Plan}
 use Rattle.xd_ledger.specs.Turn.{Turn, shut, in_turn, shut_each}
-use Rattle.xd_ledger.specs.ScopeModes.{give_unit, give_more, refill, shut_where_spent, share}
+use Rattle.xd_ledger.specs.ScopeModes.{give_unit, give_more, scope_refill, shut_where_spent, scope_share}
 use Rattle.xd_ledger.specs.Turn.{enough}
 use Rattle.xd_ledger.specs.Sharing.{State}
 use Rattle.xd_ledger.specs.Outputs.{turn_of}
 use Rattle.xd_ledger.specs.Orderly.{not_empty}
-use Rattle.xd_ledger.specs.Suits.{tests_of}
+use Rattle.xd_ledger.specs.Suits.{tests_of_units}
 use Rattle.xd_ledger.proofs.Handing.{give_unit-front}
 use Rattle.xd_laws.proofs.Logic.{differ, cases_of, or-left, or-right, split-and, split-or, in_both}
 use Rattle.xd_laws.proofs.Counts.{times-append, times-without, all_among-take, all_among-of, all_among-drop, all_among-self, among_of-all_among, empty-of_times}
@@ -27,10 +27,10 @@ use Rattle.xd_laws.proofs.Handing.{Fair, fair-shut, fair-shut_each, hand-more, i
 
 -- the units in the queue have each test of the pool
 abbrev pub Covers : Table → Plan → Type 0
-Covers t p = (x : ℕ) → times x t.pool ≤ times x (tests_of p.queue)
+Covers t p = (x : ℕ) → times x t.pool ≤ times x (tests_of_units p.queue)
 
 pub covers-spent : (t : Table) (p : Plan) → Covers t p → p.queue ≡ [] → t.pool ≡ []
-covers-spent t p c e = empty-of_times t.pool (λ x. (let k : times x t.pool ≤ 0 = subst (λ (q : List (List ℕ)). times x t.pool ≤ times x (tests_of q)) e (c x) in omega (arith, k)))
+covers-spent t p c e = empty-of_times t.pool (λ x. (let k : times x t.pool ≤ 0 = subst (λ (q : List (List ℕ)). times x t.pool ≤ times x (tests_of_units q)) e (c x) in omega (arith, k)))
 
 pub none-there : (x : ℕ) (u : List ℕ) → among x u ≡ false → times x u ≡ 0
 none-there x [] h = refl
@@ -38,8 +38,8 @@ none-there x (y ∷ u) h = grind (arith, nat_tests, none-there x u)
 
 covers-with : (w : ℕ) (u : List ℕ) (us : List (List ℕ)) (t : Turn) → t.plan.queue ≡ u ∷ us → Covers t.table t.plan → Covers (with_unit w u us t).table (with_unit w u us t).plan
 covers-with w u us t e c x =
-    let a : times x t.table.pool ≤ times x (u ++ tests_of us) = subst (λ (q : List (List ℕ)). times x t.table.pool ≤ times x (tests_of q)) e (c x) in
-    let b = times-append x u (tests_of us) in
+    let a : times x t.table.pool ≤ times x (u ++ tests_of_units us) = subst (λ (q : List (List ℕ)). times x t.table.pool ≤ times x (tests_of_units q)) e (c x) in
+    let b = times-append x u (tests_of_units us) in
     let d = times-without x u t.table.pool in
     elim (cases_of (among x u)) [
       | inl h ↦ (let z : times x (without u t.table.pool) ≡ 0 = d ∙ rw h refl in omega (arith, z))
@@ -50,7 +50,7 @@ more-keeps : (P : Turn → Type 0) (w : ℕ) → ((t : Turn) → P t → P (give
 more-keeps P w k zero t p = p
 more-keeps P w k (suc n) t p = in_both P (nat_lt (length (held w t.table)) enough) (give_more n w (give_unit w t)) t (λ h. more-keeps P w k n (give_unit w t) (k t p)) (λ h. p)
 
-pub refill-keeps : (P : Turn → Type 0) (w : ℕ) → ((t : Turn) → P t → P (give_unit w t)) → (t : Turn) → P t → (t.plan.queue ≡ [] → P (shut w t)) → P (refill w t)
+pub refill-keeps : (P : Turn → Type 0) (w : ℕ) → ((t : Turn) → P t → P (give_unit w t)) → (t : Turn) → P t → (t.plan.queue ≡ [] → P (shut w t)) → P (scope_refill w t)
 refill-keeps P w k t p spent =
     in_both P (seat_shut w t.table) t (elim t.plan.queue as (λ _. Turn) [ [] ↦ shut w t | u ∷ us ↦ (if nat_lt enough (length (held w t.table)) then t else give_more enough w (give_unit w t)) ])
     (λ h. p) (λ h. by t.plan.queue refl)
@@ -70,16 +70,16 @@ covered-unit w t c = unit-by IsCovered w t c (λ u us e. covers-with w u us t e 
 covered-shut : (w : ℕ) (t : Turn) → IsCovered t → IsCovered (shut w t)
 covered-shut w t c = in_both IsCovered (seat_shut w t.table) t (record t { table = shut_down w t.table; acts = t.acts ++ Shutdown w ∷ [] }) (λ h. c) (λ h. c)
 
-pub covered-refill : (w : ℕ) (t : Turn) → IsCovered t → IsCovered (refill w t)
+pub covered-refill : (w : ℕ) (t : Turn) → IsCovered t → IsCovered (scope_refill w t)
 covered-refill w t c = refill-keeps IsCovered w (λ u k. covered-unit w u k) t c (λ e. covered-shut w t c)
 
-pub covered-refills : (ws : List ℕ) (t : Turn) → IsCovered t → IsCovered (in_turn refill ws t)
-covered-refills ws t c = in_turn-all IsCovered refill (λ w u k. covered-refill w u k) ws t c
+pub covered-refills : (ws : List ℕ) (t : Turn) → IsCovered t → IsCovered (in_turn scope_refill ws t)
+covered-refills ws t c = in_turn-all IsCovered scope_refill (λ w u k. covered-refill w u k) ws t c
 
 pub covered-shuts : (ws : List ℕ) (t : Turn) → IsCovered t → IsCovered (shut_each ws t)
 covered-shuts ws t c = in_turn-all IsCovered shut (λ w u k. covered-shut w u k) ws t c
 
-pub covered-share : (t : Turn) → IsCovered t → IsCovered (share t)
+pub covered-share : (t : Turn) → IsCovered t → IsCovered (scope_share t)
 covered-share t c = by t.table.pool
   where
     k : ℕ
@@ -89,7 +89,7 @@ covered-share t c = by t.table.pool
     ws = workers_of t.table
 
     last : Turn
-    last = in_turn refill (take k ws) (in_turn give_unit (take k ws) (shut_each (reverse (drop k ws)) t))
+    last = in_turn scope_refill (take k ws) (in_turn give_unit (take k ws) (shut_each (reverse (drop k ws)) t))
 
     done : IsCovered last
     done = covered-refills (take k ws) (in_turn give_unit (take k ws) (shut_each (reverse (drop k ws)) t))
@@ -105,7 +105,7 @@ covered-share t c = by t.table.pool
 
 -- a worker has work
 
-spent-refill : (w : ℕ) (t : Turn) → t.table.pool ≡ [] → (refill w t).table.pool ≡ []
+spent-refill : (w : ℕ) (t : Turn) → t.table.pool ≡ [] → (scope_refill w t).table.pool ≡ []
 spent-refill w t e = refill-keeps (λ (u : Turn). u.table.pool ≡ []) w (λ u k. spent-unit u k) t e (λ z. pool-shut w t ∙ e)
   where
     spent-unit : (u : Turn) → u.table.pool ≡ [] → (give_unit w u).table.pool ≡ []
@@ -114,7 +114,7 @@ spent-refill w t e = refill-keeps (λ (u : Turn). u.table.pool ≡ []) w (λ u k
 unit-still : (v w : ℕ) (t : Turn) → has_work v t.table ≡ true → has_work v (give_unit w t).table ≡ true
 unit-still v w t h = unit-by (λ (y : Turn). has_work v y.table ≡ true) w t h (λ u us e. work-give v w u t.table h)
 
-still-refill : (v w : ℕ) (t : Turn) → has_work v t.table ≡ true → has_work v (refill w t).table ≡ true
+still-refill : (v w : ℕ) (t : Turn) → has_work v t.table ≡ true → has_work v (scope_refill w t).table ≡ true
 still-refill v w t h = refill-keeps (λ (y : Turn). has_work v y.table ≡ true) w (λ u k. unit-still v w u k) t h (λ e. shut-still v w t h)
 
 -- the turn of a mode with scopes, and its queue covers the pool
@@ -170,7 +170,7 @@ served-more s w t k a f unshut =
       | inr h ↦ inr (rich w last.table h)
     ]
 
-here-refill : (s : State) (w : ℕ) (t : Turn) → IsScoped s → InRota s w → Ample s t → Served w (refill w t)
+here-refill : (s : State) (w : ℕ) (t : Turn) → IsScoped s → InRota s w → Ample s t → Served w (scope_refill w t)
 here-refill s w t k a f =
     in_both (Served w) (seat_shut w t.table) t (elim t.plan.queue as (λ _. Turn) [ [] ↦ shut w t | u ∷ us ↦ (if nat_lt enough (length (held w t.table)) then t else give_more enough w (give_unit w t)) ])
     (λ h. inr (or-left (seat_shut w t.table) (nat_le 2 (length (held w t.table))) h)) (λ h. by h t.plan.queue)
@@ -179,14 +179,14 @@ here-refill s w t k a f =
     by h [] = inr (shut-work w t (in_rota-of s t w f.fine.good a))
     by h (u ∷ us) = in_both (Served w) (nat_lt enough (length (held w t.table))) t (give_more enough w (give_unit w t)) (λ z. inr (rich w t.table (grind (arith, nat_tests, z)))) (λ z. served-more s w t k a f h)
 
-pub refill-employs : (s : State) (w : ℕ) (t : Turn) → IsScoped s → InRota s w → Ample s t → Employs refill w t
+pub refill-employs : (s : State) (w : ℕ) (t : Turn) → IsScoped s → InRota s w → Ample s t → Employs scope_refill w t
 refill-employs s w t k a f = record { spent = spent-refill w t; still = λ v h. still-refill v w t h; here = here-refill s w t k a f }
 
-pub ample-refill : (s : State) (w : ℕ) (t : Turn) → IsScoped s → InRota s w → Ample s t → Ample s (refill w t)
+pub ample-refill : (s : State) (w : ℕ) (t : Turn) → IsScoped s → InRota s w → Ample s t → Ample s (scope_refill w t)
 ample-refill s w t k a f = record { fine = fine-refill s w t k a f.fine; covers = covered-refill w t f.covers }
 
-pub refills-work : (s : State) (ws : List ℕ) (t : Turn) → IsScoped s → all_among ws (workers_of s.books.table) ≡ true → Ample s t → AllWork ws (in_turn refill ws t).table
-refills-work s ws t k h f = work-through (Ample s) refill (workers_of s.books.table) (λ w u a z. ample-refill s w u k a z) (λ w u a z. refill-employs s w u k a z) ws t h f
+pub refills-work : (s : State) (ws : List ℕ) (t : Turn) → IsScoped s → all_among ws (workers_of s.books.table) ≡ true → Ample s t → AllWork ws (in_turn scope_refill ws t).table
+refills-work s ws t k h f = work-through (Ample s) scope_refill (workers_of s.books.table) (λ w u a z. ample-refill s w u k a z) (λ w u a z. refill-employs s w u k a z) ws t h f
 
 -- the share
 
@@ -261,7 +261,7 @@ module _ (s : State) (k : IsScoped s) (d : Tidy s) (unshut : (v : ℕ) → InRot
   covered = in_turn-all IsCovered give_unit (λ w u z. covered-unit w u z) front first (covered-shuts back begins c)
 
   abbrev last : Turn
-  last = in_turn refill front units
+  last = in_turn scope_refill front units
 
   front-work : AllWork front last.table
   front-work = refills-work s front units k ahead (record { fine = dealt.fine; covers = covered })
@@ -269,7 +269,7 @@ module _ (s : State) (k : IsScoped s) (d : Tidy s) (unshut : (v : ℕ) → InRot
   back-work : (v : ℕ) → among v (drop n ws) ≡ true → has_work v last.table ≡ true
   back-work v h =
       let told = shuts-work v back begins (among-reverse v (drop n ws) ∙ h) (seat-among v s.books.table.rota ∙ among_of-all_among v (drop n ws) ws (all_among-drop n (drop n ws) ws (all_among-self (drop n ws))) h) in
-      in_turn-all (λ (u : Turn). has_work v u.table ≡ true) refill (λ w u z. still-refill v w u z) front units
+      in_turn-all (λ (u : Turn). has_work v u.table ≡ true) scope_refill (λ w u z. still-refill v w u z) front units
       (in_turn-all (λ (u : Turn). has_work v u.table ≡ true) give_unit (λ w u z. unit-still v w u z) front first told)
 
   last-work : AllWork ws last.table
@@ -278,7 +278,7 @@ module _ (s : State) (k : IsScoped s) (d : Tidy s) (unshut : (v : ℕ) → InRot
     | inr h ↦ inr (λ v a. elim (split-or (among v front) (among v (drop n ws)) (among-split v n ws a)) [ inl b ↦ h v b | inr b ↦ back-work v b ])
   ]
 
-  pub share-work : AllWork ws (share begins).table
+  pub share-work : AllWork ws (scope_share begins).table
   share-work = by s.books.table.pool refl
     where
       kept : (vs : List ℕ) (u : Turn) → AllWork ws u.table → AllWork ws (shut_each vs u).table
@@ -307,14 +307,14 @@ fair-unit w t f = unit-by Fair w t f (λ u us e. record {
 both-unit : (w : ℕ) (t : Turn) → FairCover t → FairCover (give_unit w t)
 both-unit w t f = record { fair = fair-unit w t f.fair; covers = covered-unit w t f.covers }
 
-both-refill : (w : ℕ) (t : Turn) → FairCover t → FairCover (refill w t)
+both-refill : (w : ℕ) (t : Turn) → FairCover t → FairCover (scope_refill w t)
 both-refill w t f = refill-keeps FairCover w (λ u z. both-unit w u z) t f (λ e. record { fair = fair-shut w t (covers-spent t.table t.plan f.covers e) f.fair; covers = covered-shut w t f.covers })
 
-pub fair-refill : (w : ℕ) (t : Turn) → Fair t → Covers t.table t.plan → Fair (refill w t)
+pub fair-refill : (w : ℕ) (t : Turn) → Fair t → Covers t.table t.plan → Fair (scope_refill w t)
 fair-refill w t f c = (both-refill w t (record { fair = f; covers = c })).fair
 
-pub fair-refills : (ws : List ℕ) (t : Turn) → Fair t → Covers t.table t.plan → Fair (in_turn refill ws t)
-fair-refills ws t f c = (in_turn-all FairCover refill (λ w u z. both-refill w u z) ws t (record { fair = f; covers = c })).fair
+pub fair-refills : (ws : List ℕ) (t : Turn) → Fair t → Covers t.table t.plan → Fair (in_turn scope_refill ws t)
+fair-refills ws t f c = (in_turn-all FairCover scope_refill (λ w u z. both-refill w u z) ws t (record { fair = f; covers = c })).fair
 
 drop-all : (n : ℕ) (xs : List ℕ) → length xs ≤ n → drop n xs ≡ []
 drop-all zero [] h = refl
@@ -322,7 +322,7 @@ drop-all (suc n) [] h = refl
 drop-all zero (x ∷ xs) h = absurd (omega (arith, h))
 drop-all (suc n) (x ∷ xs) h = drop-all n xs (omega (arith, h))
 
-pub fair-share : (t : Turn) → Fair t → Covers t.table t.plan → Fair (share t)
+pub fair-share : (t : Turn) → Fair t → Covers t.table t.plan → Fair (scope_share t)
 fair-share t f c = by t.table.pool refl
   where
     k : ℕ
@@ -356,14 +356,14 @@ fair-share t f c = by t.table.pool refl
     dealt_fair : Fair two
     dealt_fair = elim (cases_of (nat_le k (length vs))) [ inl h ↦ many (grind (arith, nat_tests, h)) | inr h ↦ few (grind (arith, nat_tests, h)) ]
 
-    last_one : FairCover (in_turn refill (take k vs) two)
-    last_one = in_turn-all FairCover refill (λ w u z. both-refill w u z) (take k vs) two (record { fair = dealt_fair; covers = covers })
+    last_one : FairCover (in_turn scope_refill (take k vs) two)
+    last_one = in_turn-all FairCover scope_refill (λ w u z. both-refill w u z) (take k vs) two (record { fair = dealt_fair; covers = covers })
 
-    spent_by : (q : List (List ℕ)) → (in_turn refill (take k vs) two).plan.queue ≡ q
-        → Fair (elim q as (λ _. Turn) [ [] ↦ shut_each (workers_of (in_turn refill (take k vs) two).table) (in_turn refill (take k vs) two) | u ∷ us ↦ in_turn refill (take k vs) two ])
-    spent_by [] e = fair-shut_each (workers_of (in_turn refill (take k vs) two).table) (in_turn refill (take k vs) two) (covers-spent (in_turn refill (take k vs) two).table (in_turn refill (take k vs) two).plan last_one.covers e) last_one.fair
+    spent_by : (q : List (List ℕ)) → (in_turn scope_refill (take k vs) two).plan.queue ≡ q
+        → Fair (elim q as (λ _. Turn) [ [] ↦ shut_each (workers_of (in_turn scope_refill (take k vs) two).table) (in_turn scope_refill (take k vs) two) | u ∷ us ↦ in_turn scope_refill (take k vs) two ])
+    spent_by [] e = fair-shut_each (workers_of (in_turn scope_refill (take k vs) two).table) (in_turn scope_refill (take k vs) two) (covers-spent (in_turn scope_refill (take k vs) two).table (in_turn scope_refill (take k vs) two).plan last_one.covers e) last_one.fair
     spent_by (u ∷ us) e = last_one.fair
 
-    by : (pool : List ℕ) → t.table.pool ≡ pool → Fair (elim pool as (λ _. Turn) [ [] ↦ t | x ∷ xs ↦ shut_where_spent (in_turn refill (take k vs) two) ])
+    by : (pool : List ℕ) → t.table.pool ≡ pool → Fair (elim pool as (λ _. Turn) [ [] ↦ t | x ∷ xs ↦ shut_where_spent (in_turn scope_refill (take k vs) two) ])
     by [] e = f
-    by (x ∷ xs) e = spent_by (in_turn refill (take k vs) two).plan.queue refl
+    by (x ∷ xs) e = spent_by (in_turn scope_refill (take k vs) two).plan.queue refl

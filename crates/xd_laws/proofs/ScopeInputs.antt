@@ -20,7 +20,7 @@ use Rattle.xd_ledger.specs.Deaths.{down_plan}
 use Rattle.xd_ledger.specs.Results.{completed_first}
 use Rattle.xd_ledger.specs.State.{after_effect}
 use Rattle.xd_ledger.specs.Proper.{may_follow, are_ids}
-use Rattle.xd_ledger.specs.Suits.{tests_of}
+use Rattle.xd_ledger.specs.Suits.{tests_of_units}
 use Rattle.xd_laws.proofs.Logic.{differ, cases_of, split-and, not_true}
 use Rattle.xd_laws.proofs.Places.{AtMostOnce}
 use Rattle.xd_laws.proofs.Members.{has, has-same, has-kept, has-more}
@@ -62,7 +62,7 @@ queue-shared s k =
     let queue = planned-queue ls n s.plan k.mode.scope in
     let total_ : sum (planned ls n s.plan).sizes ≡ length ids = ap sum (planned-sizes ls n s.plan k.mode.each) ∙ omega arith in
     record {
-      whole = λ x. (let a : times x (tests_of (planned ls n s.plan).queue) ≡ times x (range_with_len 0 (length ids)) = ap (λ (q : List (List ℕ)). times x (tests_of q)) queue ∙ tests-units x s.plan.mode s.plan.reorder ids in
+      whole = λ x. (let a : times x (tests_of_units (planned ls n s.plan).queue) ≡ times x (range_with_len 0 (length ids)) = ap (λ (q : List (List ℕ)). times x (tests_of_units q)) queue ∙ tests-units x s.plan.mode s.plan.reorder ids in
           let b : times x (range_with_len 0 (sum (planned ls n s.plan).sizes)) ≡ times x (range_with_len 0 (length ids)) = ap (λ (t : ℕ). times x (range_with_len 0 t)) total_ in
           omega (arith, a, b));
       filled = ap none_empty queue ∙ none_empty-units s.plan.mode s.plan.reorder ids;

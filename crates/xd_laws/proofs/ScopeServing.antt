@@ -14,7 +14,7 @@ use Rattle.xd_ledger.specs.Table.{Table, at_seat, held, held_in, joined, retried
 use Rattle.xd_ledger.specs.Plan.{Plan, is_each, is_scope, items_named}
 use Rattle.xd_ledger.specs.Turn.{Turn, shut, in_turn, shut_each}
 use Rattle.xd_ledger.specs.Units.{units_left, unless_empty}
-use Rattle.xd_ledger.specs.ScopeModes.{give_unit, refill, shut_where_spent, share}
+use Rattle.xd_ledger.specs.ScopeModes.{give_unit, scope_refill, shut_where_spent, scope_share}
 use Rattle.xd_ledger.specs.Modes.{ModeCall, scope_turn}
 use Rattle.xd_ledger.specs.Modes.ModeCall.{Share, Joined, TestDone, TestsBack, Died}
 use Rattle.xd_ledger.specs.Books.{marked}
@@ -27,7 +27,7 @@ use Rattle.xd_ledger.specs.Results.{completed_first}
 use Rattle.xd_ledger.specs.State.{after_effect, after_entries, no_one}
 use Rattle.xd_ledger.specs.Outputs.{acts_of, turn_of}
 use Rattle.xd_ledger.specs.Proper.{may_follow}
-use Rattle.xd_ledger.specs.Suits.{tests_of}
+use Rattle.xd_ledger.specs.Suits.{tests_of_units}
 use Rattle.xd_laws.proofs.Logic.{differ, cases_of, in_both}
 use Rattle.xd_laws.proofs.Counts.{all_among-self, times-append, times-cut, times-without}
 use Rattle.xd_laws.proofs.Rota.{seat-among}
@@ -107,7 +107,7 @@ filled-shared s scope each f =
     let queue = planned-queue ls n s.plan scope in
     let total_ : sum (planned ls n s.plan).sizes ≡ length ids = ap sum (planned-sizes ls n s.plan each) ∙ omega arith in
     record {
-      covers = λ x. (let a : times x (tests_of (planned ls n s.plan).queue) ≡ times x (range_with_len 0 (length ids)) = ap (λ (q : List (List ℕ)). times x (tests_of q)) queue ∙ tests-units x s.plan.mode s.plan.reorder ids in
+      covers = λ x. (let a : times x (tests_of_units (planned ls n s.plan).queue) ≡ times x (range_with_len 0 (length ids)) = ap (λ (q : List (List ℕ)). times x (tests_of_units q)) queue ∙ tests-units x s.plan.mode s.plan.reorder ids in
           let b : times x (range_with_len 0 (sum (planned ls n s.plan).sizes)) ≡ times x (range_with_len 0 (length ids)) = ap (λ (t : ℕ). times x (range_with_len 0 t)) total_ in
           omega (arith, a, b));
       given = f.given;
@@ -129,8 +129,8 @@ filled-down s w k f =
     let left = units_left w rest s.plan.given in
     record {
       covers = λ x.
-          (let q : times x (tests_of (down_plan w first rest s.plan).queue) ≡ times x (tests_of (unless_empty first ++ (s.plan.queue ++ left))) =
-          ap (λ (q : List (List ℕ)). times x (tests_of q)) (left-queue w first rest s.plan k.mode.scope) in
+          (let q : times x (tests_of_units (down_plan w first rest s.plan).queue) ≡ times x (tests_of_units (unless_empty first ++ (s.plan.queue ++ left))) =
+          ap (λ (q : List (List ℕ)). times x (tests_of_units q)) (left-queue w first rest s.plan k.mode.scope) in
           let n = tests-append x (unless_empty first) (s.plan.queue ++ left) in
           let o = times-unless_empty x first in
           let a = tests-append x s.plan.queue left in
@@ -141,7 +141,7 @@ filled-down s w k f =
           let g = f.given w x in
           let cut = times-cut x items in
           elim (cases_of (among x rest)) [
-            | inl h ↦ (let e : times x (tests_of left) ≡ times x (given_to w s.plan.given) = d ∙ rw h refl in omega (arith, q, n, o, a, m, b, c, e, g, cut))
+            | inl h ↦ (let e : times x (tests_of_units left) ≡ times x (given_to w s.plan.given) = d ∙ rw h refl in omega (arith, q, n, o, a, m, b, c, e, g, cut))
             | inr h ↦ omega (arith, q, n, o, a, m, b, c, none-there x rest h)
           ]);
       given = λ v x. (let a = held-left x v w s.books.table.rota in let b = f.given v x in omega (arith, a, b));
@@ -191,10 +191,10 @@ given-shut : (w : ℕ) (t : Turn) → IsGiven t → IsGiven (shut w t)
 given-shut w t g = in_both IsGiven (seat_shut w t.table) t (record t { table = shut_down w t.table; acts = t.acts ++ Shutdown w ∷ [] }) (λ h. g)
     (λ h v x. (let a = ap (λ (xs : List ℕ). times x xs) (held-shut v w t.table.rota) in let b = g v x in omega (arith, a, b)))
 
-given-refill : (w : ℕ) (t : Turn) → IsGiven t → IsGiven (refill w t)
+given-refill : (w : ℕ) (t : Turn) → IsGiven t → IsGiven (scope_refill w t)
 given-refill w t g = refill-keeps IsGiven w (λ u k. given-unit w u k) t g (λ e. given-shut w t g)
 
-given-share : (t : Turn) → IsGiven t → IsGiven (share t)
+given-share : (t : Turn) → IsGiven t → IsGiven (scope_share t)
 given-share t g = by t.table.pool
   where
     k : ℕ
@@ -209,17 +209,17 @@ given-share t g = by t.table.pool
     two : IsGiven (in_turn give_unit (take k ws) (shut_each (reverse (drop k ws)) t))
     two = in_turn-all IsGiven give_unit (λ w u z. given-unit w u z) (take k ws) (shut_each (reverse (drop k ws)) t) one
 
-    three : IsGiven (in_turn refill (take k ws) (in_turn give_unit (take k ws) (shut_each (reverse (drop k ws)) t)))
-    three = in_turn-all IsGiven refill (λ w u z. given-refill w u z) (take k ws) (in_turn give_unit (take k ws) (shut_each (reverse (drop k ws)) t)) two
+    three : IsGiven (in_turn scope_refill (take k ws) (in_turn give_unit (take k ws) (shut_each (reverse (drop k ws)) t)))
+    three = in_turn-all IsGiven scope_refill (λ w u z. given-refill w u z) (take k ws) (in_turn give_unit (take k ws) (shut_each (reverse (drop k ws)) t)) two
 
     spent : (last : Turn) → IsGiven last → (q : List (List ℕ)) → IsGiven (elim q as (λ _. Turn) [ [] ↦ shut_each (workers_of last.table) last | u ∷ us ↦ last ])
     spent last z [] = in_turn-all IsGiven shut (λ w u y. given-shut w u y) (workers_of last.table) last z
     spent last z (u ∷ us) = z
 
-    by : (pool : List ℕ) → IsGiven (elim pool as (λ _. Turn) [ [] ↦ t | x ∷ xs ↦ shut_where_spent (in_turn refill (take k ws) (in_turn give_unit (take k ws) (shut_each (reverse (drop k ws)) t))) ])
+    by : (pool : List ℕ) → IsGiven (elim pool as (λ _. Turn) [ [] ↦ t | x ∷ xs ↦ shut_where_spent (in_turn scope_refill (take k ws) (in_turn give_unit (take k ws) (shut_each (reverse (drop k ws)) t))) ])
     by [] = g
-    by (x ∷ xs) = spent (in_turn refill (take k ws) (in_turn give_unit (take k ws) (shut_each (reverse (drop k ws)) t))) three
-        (in_turn refill (take k ws) (in_turn give_unit (take k ws) (shut_each (reverse (drop k ws)) t))).plan.queue
+    by (x ∷ xs) = spent (in_turn scope_refill (take k ws) (in_turn give_unit (take k ws) (shut_each (reverse (drop k ws)) t))) three
+        (in_turn scope_refill (take k ws) (in_turn give_unit (take k ws) (shut_each (reverse (drop k ws)) t))).plan.queue
 
 turn-covers : (s : State) (c : ModeCall) → Filled s → Covers (scope_turn c (turn_of s)).table (scope_turn c (turn_of s)).plan
 turn-covers s (Share slots) f = covered-share (turn_of s) f.covers
@@ -230,10 +230,10 @@ turn-covers s Died f = covered-refills (workers_of s.books.table) (turn_of s) f.
 
 turn-given : (s : State) (c : ModeCall) → Filled s → IsGiven (scope_turn c (turn_of s))
 turn-given s (Share slots) f = given-share (turn_of s) f.given
-turn-given s (Joined w slot) f = in_turn-all IsGiven refill (λ w u z. given-refill w u z) (workers_of s.books.table) (turn_of s) f.given
+turn-given s (Joined w slot) f = in_turn-all IsGiven scope_refill (λ w u z. given-refill w u z) (workers_of s.books.table) (turn_of s) f.given
 turn-given s (TestDone w ms) f = given-refill w (turn_of s) f.given
 turn-given s TestsBack f = f.given
-turn-given s Died f = in_turn-all IsGiven refill (λ w u z. given-refill w u z) (workers_of s.books.table) (turn_of s) f.given
+turn-given s Died f = in_turn-all IsGiven scope_refill (λ w u z. given-refill w u z) (workers_of s.books.table) (turn_of s) f.given
 
 scope_beside : Beside Scoped Filled
 scope_beside = record {
@@ -269,7 +269,7 @@ scope-work : (s : State) (c : ModeCall) → Tidy s → s.books.shared ≡ true �
 scope-work s (Share slots) d h x f b o =
     share-work s x.first.mode d (λ v a. sym (d.placed.fits.marks v (seat-among v s.books.table.rota ∙ a)) ∙ f.unshut v) (ample s d h x).fine x.second.covers
 scope-work s (Joined w slot) d h x f b o = refills-work s (workers_of s.books.table) (turn_of s) x.first.mode (all_among-self (workers_of s.books.table)) (ample s d h x)
-scope-work s (TestDone w ms) d h x f b o = one-work refill w s (refill-employs s w (turn_of s) x.first.mode f (ample s d h x)) o
+scope-work s (TestDone w ms) d h x f b o = one-work scope_refill w s (refill-employs s w (turn_of s) x.first.mode f (ample s d h x)) o
 scope-work s TestsBack d h x f b o = absurd (no-scope s.plan.mode x.first.mode.scope (b refl))
 scope-work s Died d h x f b o = refills-work s (workers_of s.books.table) (turn_of s) x.first.mode (all_among-self (workers_of s.books.table)) (ample s d h x)
 

@@ -9,7 +9,7 @@ use Rattle.xd_ledger.specs.Table.{Table, held, seat_shut, workers_of, assigned, 
 use Rattle.xd_ledger.specs.Plan.{Plan, is_each, is_scope}
 use Rattle.xd_ledger.specs.Turn.{Turn, shut, in_turn, shut_each}
 use Rattle.xd_ledger.specs.Units.{unit_handed}
-use Rattle.xd_ledger.specs.ScopeModes.{give_unit, give_more, refill, refill_all, shut_where_spent, share}
+use Rattle.xd_ledger.specs.ScopeModes.{give_unit, give_more, scope_refill, scope_refill_all, shut_where_spent, scope_share}
 use Rattle.xd_ledger.specs.Turn.{enough}
 use Rattle.xd_ledger.specs.Workers.{slot_of}
 use Rattle.xd_ledger.specs.Sharing.{State}
@@ -17,7 +17,7 @@ use Rattle.xd_ledger.specs.Handing.{run_plan}
 use Rattle.xd_ledger.specs.State.{after_entries}
 use Rattle.xd_ledger.specs.Outputs.{turn_of}
 use Rattle.xd_ledger.specs.Orderly.{not_empty}
-use Rattle.xd_ledger.specs.Suits.{tests_of}
+use Rattle.xd_ledger.specs.Suits.{tests_of_units}
 use Rattle.xd_ledger.proofs.Handing.{give_unit-front, handed-front}
 use Rattle.xd_laws.proofs.Logic.{differ, split-and, in_both}
 use Rattle.xd_laws.proofs.Counts.{times-append, among-times, times-among, distinct-of_times, all_among-of, all_among-self, all_among-take, all_among-drop, among_of-all_among}
@@ -66,7 +66,7 @@ fine-unit s w u us t k a f unshut e =
     let m = after_entries s t.acts in
     let once = turn-once s t g in
     let within : (x : ℕ) → times x u ≤ times x t.table.pool = λ x.
-    (let q : times x (u ++ tests_of us) ≤ times x t.table.pool = subst (λ (vs : List (List ℕ)). times x (tests_of vs) ≤ times x t.table.pool) e (f.queue.whole x) in omega (arith, q, times-append x u (tests_of us))) in
+    (let q : times x (u ++ tests_of_units us) ≤ times x t.table.pool = subst (λ (vs : List (List ℕ)). times x (tests_of_units vs) ≤ times x t.table.pool) e (f.queue.whole x) in omega (arith, q, times-append x u (tests_of_units us))) in
     let filled : not_empty u ≡ true = (split-and (not_empty u) (none_empty us) (ap none_empty (sym e) ∙ f.queue.filled)).0 in
     let distinct : all_distinct u ≡ true = distinct-of_times u (λ x. omega (arith, within x, once x, times-table x t.table)) in
     let inside : all_among u t.table.pool ≡ true = all_among-of u t.table.pool (λ x h. times-among x t.table.pool (omega (arith, within x, among-times x u h))) in
@@ -113,15 +113,15 @@ refill-by s w [] t k a f unshut = fine-shut s w t a f
 refill-by s w (u ∷ us) t k a f unshut = in_both (Fine s) (nat_lt enough (length (held w t.table))) t (give_more enough w (give_unit w t)) (λ h. f)
     (λ h. fine-give_more s enough w (give_unit w t) k a (fine-give_unit s w t k a f unshut) (told-give_unit w w t ∙ unshut))
 
-pub fine-refill : (s : State) (w : ℕ) (t : Turn) → IsScoped s → InRota s w → Fine s t → Fine s (refill w t)
+pub fine-refill : (s : State) (w : ℕ) (t : Turn) → IsScoped s → InRota s w → Fine s t → Fine s (scope_refill w t)
 fine-refill s w t k a f =
     in_both (Fine s) (seat_shut w t.table) t (elim t.plan.queue as (λ _. Turn) [ [] ↦ shut w t | u ∷ us ↦ (if nat_lt enough (length (held w t.table)) then t else give_more enough w (give_unit w t)) ])
     (λ h. f) (λ h. refill-by s w t.plan.queue t k a f h)
 
-fine-refills : (s : State) (ws : List ℕ) (t : Turn) → IsScoped s → all_among ws (workers_of s.books.table) ≡ true → Fine s t → Fine s (in_turn refill ws t)
-fine-refills s ws t k h f = in_turn-keeps (Fine s) refill (workers_of s.books.table) (λ w u a g. fine-refill s w u k a g) ws t h f
+fine-refills : (s : State) (ws : List ℕ) (t : Turn) → IsScoped s → all_among ws (workers_of s.books.table) ≡ true → Fine s t → Fine s (in_turn scope_refill ws t)
+fine-refills s ws t k h f = in_turn-keeps (Fine s) scope_refill (workers_of s.books.table) (λ w u a g. fine-refill s w u k a g) ws t h f
 
-pub fine-refill_all : (s : State) → IsScoped s → Fine s (turn_of s) → Fine s (refill_all (turn_of s))
+pub fine-refill_all : (s : State) → IsScoped s → Fine s (turn_of s) → Fine s (scope_refill_all (turn_of s))
 fine-refill_all s k f = fine-refills s (workers_of s.books.table) (turn_of s) k (all_among-self (workers_of s.books.table)) f
 
 -- the share
@@ -172,7 +172,7 @@ share-by : (s : State) (pool : List ℕ) (t : Turn) (shared : Turn) → Fine s t
 share-by s [] t u f g = f
 share-by s (x ∷ xs) t u f g = g
 
-pub fine-share : (s : State) → IsScoped s → Tidy s → ((v : ℕ) → InRota s v → seat_shut v s.books.table ≡ false) → Fine s (turn_of s) → Fine s (share (turn_of s))
+pub fine-share : (s : State) → IsScoped s → Tidy s → ((v : ℕ) → InRota s v → seat_shut v s.books.table ≡ false) → Fine s (turn_of s) → Fine s (scope_share (turn_of s))
 fine-share s k d unshut f =
     let t = turn_of s in
     let n = length t.plan.queue in
@@ -185,5 +185,5 @@ fine-share s k d unshut f =
     let untold : (v : ℕ) → among v front ≡ true → seat_shut v first.table ≡ false = λ v h.
     told-others v back t (among-reverse v (drop n ws) ∙ front-only v n ws (rota-distinct s d) h) ∙ unshut v (among_of-all_among v front ws ahead h) in
     let units = fine-units s front first k ahead (record { fine = fine-shut_each s back t behind f; untold = untold }) in
-    let last = in_turn refill front (in_turn give_unit front first) in
+    let last = in_turn scope_refill front (in_turn give_unit front first) in
     share-by s t.table.pool t (shut_where_spent last) f (spent-by s last.plan.queue last (fine-refills s front (in_turn give_unit front first) k ahead units.fine))

@@ -9,7 +9,7 @@ use Rattle.xd_journal.specs.declared.entry.Entry.TheVariants.{Ready, Collected, 
 use Rattle.xd_ledger.specs.Table.{workers_of}
 use Rattle.xd_ledger.specs.Plan.{Plan, UnansweredSteal, is_each}
 use Rattle.xd_ledger.specs.Turn.{Turn}
-use Rattle.xd_ledger.specs.Load.{refill}
+use Rattle.xd_ledger.specs.Load.{load_refill}
 use Rattle.xd_ledger.specs.Modes.{ModeCall, turned, load_turn, worksteal_turn}
 use Rattle.xd_ledger.specs.Modes.ModeCall.{Share, Joined, TestDone, TestsBack, Died}
 use Rattle.xd_ledger.specs.Books.{marked}
@@ -148,7 +148,7 @@ load-work : (s : State) (c : ModeCall) → Tidy s → s.books.shared ≡ true �
 load-work s (Share slots) d h x f b o =
     load.share-work s (turn_of s) (load_plain s x.first) (good-first s d h) (λ v a. sym (d.placed.fits.marks v (seat-among v s.books.table.rota ∙ a)) ∙ f.unshut v)
 load-work s (Joined w slot) d h x f b o = load.refill_all-work s (turn_of s) (load_plain s x.first) (good-first s d h)
-load-work s (TestDone w ms) d h x f b o = one-work (refill ms) w s (load.refill-employs ms w (turn_of s) (in_rota-of s (turn_of s) w (good-first s d h) f)) o
+load-work s (TestDone w ms) d h x f b o = one-work (load_refill ms) w s (load.refill-employs ms w (turn_of s) (in_rota-of s (turn_of s) w (good-first s d h) f)) o
 load-work s TestsBack d h x f b o = absurd (load-back s x.first (b refl))
 load-work s Died d h x f b o = load.refill_all-work s (turn_of s) (load_plain s x.first) (good-first s d h)
 

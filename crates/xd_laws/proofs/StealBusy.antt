@@ -7,7 +7,7 @@ use Rattle.xd_ledger.specs.Numbers.{among}
 use Rattle.xd_ledger.specs.Table.{held_in, workers_of}
 use Rattle.xd_ledger.specs.Plan.{UnansweredSteal}
 use Rattle.xd_ledger.specs.Turn.{Turn, give_front, shut_each}
-use Rattle.xd_ledger.specs.Worksteal.{idle, dealt, victim, steal_count, asks, asks_or_shuts, after_dealing, rule, share}
+use Rattle.xd_ledger.specs.Worksteal.{idle, dealt, victim, steal_count, asks, asks_or_shuts, after_dealing, rule, steal_share}
 use Rattle.xd_ledger.specs.Turn.{enough}
 use Rattle.xd_laws.proofs.Logic.{differ, cases_of, in_both}
 use Rattle.xd_laws.proofs.Rota.{is_told}
@@ -86,7 +86,7 @@ rule-work t = by (idle t.table) refl
     by [] e = inr (λ v a. working v t.table.rota (unmapped (filter is_idle t.table.rota) e) a)
     by (v ∷ vs) e = inl (after-pool (dealt (v ∷ vs) t) ∙ dealt-spent v vs t)
 
-pub share-work : (t : Turn) → AllWork (workers_of t.table) (share t).table
+pub share-work : (t : Turn) → AllWork (workers_of t.table) (steal_share t).table
 share-work t = by t.table.pool refl
   where
     by : (pool : List ℕ) → t.table.pool ≡ pool → AllWork (workers_of t.table) (elim pool as (λ _. Turn) [ [] ↦ t | x ∷ xs ↦ rule t ]).table

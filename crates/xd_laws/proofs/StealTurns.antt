@@ -8,7 +8,7 @@ use Rattle.xd_ledger.specs.Numbers.{among, all_distinct, all_among}
 use Rattle.xd_ledger.specs.Table.{Table, held, held_in, in_rota, workers_of}
 use Rattle.xd_ledger.specs.Plan.{Plan, UnansweredSteal}
 use Rattle.xd_ledger.specs.Turn.{Turn, give, give_front, shut_each}
-use Rattle.xd_ledger.specs.Worksteal.{idle, dealt, open_seats, most, first_with, victim, steal_count, asks, asks_or_shuts, after_dealing, rule, share}
+use Rattle.xd_ledger.specs.Worksteal.{idle, dealt, open_seats, most, first_with, victim, steal_count, asks, asks_or_shuts, after_dealing, rule, steal_share}
 use Rattle.xd_ledger.specs.Turn.{enough}
 use Rattle.xd_ledger.specs.Workers.{is_shut}
 use Rattle.xd_ledger.specs.Sharing.{State}
@@ -193,5 +193,5 @@ share-by : (s : State) (pool : List ℕ) (t : Turn) → IsPlain s.plan.mode → 
 share-by s [] t plain g = g
 share-by s (x ∷ xs) t plain g = good-rule s t plain g
 
-pub good-share : (s : State) (t : Turn) → IsPlain s.plan.mode → Good s t → Good s (share t)
+pub good-share : (s : State) (t : Turn) → IsPlain s.plan.mode → Good s t → Good s (steal_share t)
 good-share s t plain g = share-by s t.table.pool t plain g

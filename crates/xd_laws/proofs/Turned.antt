@@ -50,14 +50,14 @@ module _ (T : Turn → Type 0) (k : Kept T) where
 
   -- mode load
 
-  t-refill : (ms w : ℕ) (t : Turn) → T t → T (load.refill ms w t)
+  t-refill : (ms w : ℕ) (t : Turn) → T t → T (load.load_refill ms w t)
   t-refill ms w t a = in_both T (seat_shut w t.table) t _ (λ h. a) (λ h. by_list t.table.pool (shut w t) (λ x xs. load.topped_up ms w t) (t-shut w t a)
       (λ x xs. in_both T (load.is_due (length t.table.pool) (length (workers_of t.table)) (length (held w t.table)) ms) _ t (λ h2. t-give w _ t a) (λ h2. a)))
 
   t-give_unless_shut : (count w : ℕ) (t : Turn) → T t → T (load.give_unless_shut count w t)
   t-give_unless_shut count w t a = in_both T (seat_shut w t.table) t _ (λ h. a) (λ h. t-give w _ t a)
 
-  t-dealt : (t : Turn) → T t → T (load.dealt t)
+  t-dealt : (t : Turn) → T t → T (load.dealt_singly t)
   t-dealt t a =
       let ws = workers_of t.table in
       in_both T (nat_lt (length t.table.pool) (enough * length ws)) _ _
@@ -65,11 +65,11 @@ module _ (T : Turn → Type 0) (k : Kept T) where
       (λ h. t-in_turn (load.give_unless_shut (load.first_batch (length t.table.pool) (length ws) (chunk_of t.plan))) (t-give_unless_shut _) ws t a)
 
   t-load : (c : ModeCall) (t : Turn) → T t → T (load_turn c t)
-  t-load (Share slots) t a = t-shut_where_empty (load.dealt t) (t-dealt t a)
-  t-load (Joined w slot) t a = t-in_turn (load.refill 0) (t-refill 0) (workers_of t.table) t a
+  t-load (Share slots) t a = t-shut_where_empty (load.dealt_singly t) (t-dealt t a)
+  t-load (Joined w slot) t a = t-in_turn (load.load_refill 0) (t-refill 0) (workers_of t.table) t a
   t-load (TestDone w ms) t a = t-refill ms w t a
   t-load TestsBack t a = a
-  t-load Died t a = t-in_turn (load.refill 0) (t-refill 0) (workers_of t.table) t a
+  t-load Died t a = t-in_turn (load.load_refill 0) (t-refill 0) (workers_of t.table) t a
 
   -- mode each
 
@@ -129,29 +129,29 @@ module _ (T : Turn → Type 0) (k : Kept T) where
   t-give_more zero w t a = a
   t-give_more (suc n) w t a = in_both T (nat_lt (length (held w t.table)) enough) (scopes.give_more n w (scopes.give_unit w t)) t (λ h. t-give_more n w (scopes.give_unit w t) (t-give_unit w t a)) (λ h. a)
 
-  t-scope_refill : (w : ℕ) (t : Turn) → T t → T (scopes.refill w t)
+  t-scope_refill : (w : ℕ) (t : Turn) → T t → T (scopes.scope_refill w t)
   t-scope_refill w t a = in_both T (seat_shut w t.table) t _ (λ h. a) (λ h. by_list t.plan.queue (shut w t) _ (t-shut w t a)
       (λ u us. in_both T (nat_lt enough (length (held w t.table))) t (scopes.give_more enough w (scopes.give_unit w t)) (λ h2. a) (λ h2. t-give_more enough w (scopes.give_unit w t) (t-give_unit w t a))))
 
   t-shut_where_spent : (t : Turn) → T t → T (scopes.shut_where_spent t)
   t-shut_where_spent t a = by_list t.plan.queue (shut_each (workers_of t.table) t) (λ u us. t) (t-shut_each (workers_of t.table) t a) (λ u us. a)
 
-  t-scope_dealt : (n : ℕ) (ws : List ℕ) (t : Turn) → T t → T (scopes.shut_where_spent (in_turn scopes.refill (take n ws) (in_turn scopes.give_unit (take n ws) (shut_each (reverse (drop n ws)) t))))
+  t-scope_dealt : (n : ℕ) (ws : List ℕ) (t : Turn) → T t → T (scopes.shut_where_spent (in_turn scopes.scope_refill (take n ws) (in_turn scopes.give_unit (take n ws) (shut_each (reverse (drop n ws)) t))))
   t-scope_dealt n ws t a =
       let shut_off = shut_each (reverse (drop n ws)) t in
       let given = in_turn scopes.give_unit (take n ws) shut_off in
       let b = t-in_turn scopes.give_unit t-give_unit (take n ws) shut_off (t-shut_each (reverse (drop n ws)) t a) in
-      t-shut_where_spent (in_turn scopes.refill (take n ws) given) (t-in_turn scopes.refill t-scope_refill (take n ws) given b)
+      t-shut_where_spent (in_turn scopes.scope_refill (take n ws) given) (t-in_turn scopes.scope_refill t-scope_refill (take n ws) given b)
 
-  t-scope_share : (t : Turn) → T t → T (scopes.share t)
+  t-scope_share : (t : Turn) → T t → T (scopes.scope_share t)
   t-scope_share t a = by_list t.table.pool t _ a (λ x xs. t-scope_dealt (length t.plan.queue) (workers_of t.table) t a)
 
   t-scope : (c : ModeCall) (t : Turn) → T t → T (scope_turn c t)
   t-scope (Share slots) t a = t-scope_share t a
-  t-scope (Joined w slot) t a = t-in_turn scopes.refill t-scope_refill (workers_of t.table) t a
+  t-scope (Joined w slot) t a = t-in_turn scopes.scope_refill t-scope_refill (workers_of t.table) t a
   t-scope (TestDone w ms) t a = t-scope_refill w t a
   t-scope TestsBack t a = a
-  t-scope Died t a = t-in_turn scopes.refill t-scope_refill (workers_of t.table) t a
+  t-scope Died t a = t-in_turn scopes.scope_refill t-scope_refill (workers_of t.table) t a
 
   -- what the moves keep, the rule of each mode keeps
   pub turned-keeps : (m : ModeKind) (c : ModeCall) (t : Turn) → T t → T (turned m c t)

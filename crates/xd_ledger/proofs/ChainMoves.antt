@@ -4,7 +4,7 @@ use Rattle.std.specs.Prelude.{◌==◌}
 use Rattle.std.proofs.lemmas.Bool.Decides.{nat_tests}
 use Rattle.std.proofs.lemmas.List.{length-set, get_or_past, get_or-set_same, get_or-set_other}
 use Rattle.xd_ledger.specs.Numbers.{times, among, without}
-use Rattle.xd_ledger.specs.Chains.{at, owner_of, no_chain, walk, chain, Nexts, Backs, IsLinkedChain, AreChains, changed, first_or, last_or, ahead, behind}
+use Rattle.xd_ledger.specs.Chains.{at, owner_of, no_chain, walk, chain, Nexts, Backs, IsLinkedChain, AreChains, changed, first_or, last_or, ahead, part_after}
 use Rattle.xd_ledger.proofs.Counts.{few_of-kind}
 use Rattle.xd_ledger.proofs.Links.{walked, swapped, same, nexts_else, backs_else, nexts_put, backs_put, nexts_first, backs_first, nexts_taken, backs_taken, next-at, back-at, next-of, back-of, around, times-append, times-first, times-last, without-around}
 
@@ -193,8 +193,8 @@ among-once x (y ∷ xs) h = grind (arith, nat_tests, among-once x xs)
 
 -- what leads from a number of a chain, and back
 pub record Around (n p o : List ℕ) (e x : ℕ) (xs : List ℕ) : Type 0 where
-  pub split : xs ≡ ahead x xs ++ x ∷ behind x xs
-  pub next_is : at n x ≡ first_or e (behind x xs)
+  pub split : xs ≡ ahead x xs ++ x ∷ part_after x xs
+  pub next_is : at n x ≡ first_or e (part_after x xs)
   pub back_is : at p x ≡ last_or e (ahead x xs)
   pub next_there : 1 ≤ times (at n x) (e ∷ xs)
   pub back_there : 1 ≤ times (at p x) (e ∷ xs)
@@ -202,7 +202,7 @@ pub record Around (n p o : List ℕ) (e x : ℕ) (xs : List ℕ) : Type 0 where
 pub stands-around : (n p o : List ℕ) (e k c x : ℕ) (xs : List ℕ) → IsLinkedChain n p o e k c xs → among x xs ≡ true → Around n p o e x xs
 stands-around n p o e k c x xs s a =
     let hs = ahead x xs in
-    let ts = behind x xs in
+    let ts = part_after x xs in
     let w : xs ≡ hs ++ x ∷ ts = around x xs a in
     let nx : at n x ≡ first_or e ts = next-at n e hs x ts e (subst (λ ys. Nexts n e ys e) w s.nexts) in
     let bx : at p x ≡ last_or e hs = back-at p e hs x ts e (subst (λ ys. Backs p e ys e) w s.backs) in
@@ -228,7 +228,7 @@ taken_are n p o c lists k x s h a =
     let e = b + k in
     let xs = lists k in
     let hs = ahead x xs in
-    let ts = behind x xs in
+    let ts = part_after x xs in
     let long = chains-long n p o c lists s k h in
     let here = s.stands k h in
     let w = stands-around n p o e k (at c k) x xs here a in

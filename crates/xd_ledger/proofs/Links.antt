@@ -4,7 +4,7 @@ use Rattle.std.specs.Prelude.{◌==◌}
 use Rattle.std.proofs.lemmas.Bool.Decides.{nat_tests}
 use Rattle.std.proofs.lemmas.Grind.{common_steps}
 use Rattle.xd_ledger.specs.Numbers.{times, among, without}
-use Rattle.xd_ledger.specs.Chains.{at, walk, Nexts, Backs, first_or, last_or, ahead, behind}
+use Rattle.xd_ledger.specs.Chains.{at, walk, Nexts, Backs, first_or, last_or, ahead, part_after}
 
 -- the two differ at this place at most
 abbrev pub SameBut : ℕ → List ℕ → List ℕ → Type 0
@@ -143,7 +143,7 @@ backs_taken p q u (y ∷ hs) x ts e one comes others h =
 
 -- a list around a number of it
 
-pub around : (x : ℕ) (xs : List ℕ) → among x xs ≡ true → xs ≡ ahead x xs ++ x ∷ behind x xs
+pub around : (x : ℕ) (xs : List ℕ) → among x xs ≡ true → xs ≡ ahead x xs ++ x ∷ part_after x xs
 around x [] h = cc
 around x (y ∷ ys) h = grind (arith, nat_tests, common_steps, around x ys)
 

@@ -4,7 +4,7 @@ use Rattle.std.proofs.lemmas.List.{drop_more}
 use Rattle.std.specs.Prelude.{◌||◌, ◌==◌, filter}
 use Rattle.std.specs.List.{range_with_len}
 use Rattle.std.proofs.lemmas.Bool.Decides.{nat_tests}
-use Rattle.xd_ledger.specs.Chains.{ahead, behind, final_of}
+use Rattle.xd_ledger.specs.Chains.{ahead, part_after, final_of}
 use Rattle.xd_ledger.specs.Numbers.{among, all_among, all_distinct, first_of}
 
 -- parts of a list
@@ -79,7 +79,7 @@ first-drop xs k h = ap first_of (drop_more xs k 0 h)
 not-first : (x y : ℕ) (xs : List ℕ) → all_distinct (x ∷ xs) ≡ true → among y xs ≡ true → (y == x) ≡ false
 not-first x y xs d h = grind (arith, nat_tests)
 
-pub behind-at : (xs : List ℕ) (k : ℕ) → k < length xs → all_distinct xs ≡ true → behind (get_or xs k 0) xs ≡ drop (k + 1) xs
+pub behind-at : (xs : List ℕ) (k : ℕ) → k < length xs → all_distinct xs ≡ true → part_after (get_or xs k 0) xs ≡ drop (k + 1) xs
 behind-at [] k h d = absurd (omega arith)
 behind-at (x ∷ xs) zero h d = grind (arith, nat_tests)
 behind-at (x ∷ xs) (suc k) h d =

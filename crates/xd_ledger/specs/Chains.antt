@@ -97,9 +97,9 @@ ahead x [] = []
 ahead x (y ∷ ys) = if x == y then [] else y ∷ ahead x ys
 
 -- the part of the list after the number; empty where the number does not stand there
-abbrev pub behind : ℕ → List ℕ → List ℕ
-behind x [] = []
-behind x (y ∷ ys) = if x == y then ys else behind x ys
+abbrev pub part_after : ℕ → List ℕ → List ℕ
+part_after x [] = []
+part_after x (y ∷ ys) = if x == y then ys else part_after x ys
 
 -- the first number of the list; the other one where it is empty
 abbrev pub first_or : ℕ → List ℕ → ℕ

@@ -9,15 +9,15 @@ use Rattle.xd_ledger.specs.Modes.{ModeCall}
 use Rattle.xd_ledger.specs.Modes.ModeCall.{Share}
 
 -- the tests of these units
-abbrev pub tests_of : List (List ℕ) → List ℕ
-tests_of [] = []
-tests_of (u ∷ us) = u ++ tests_of us
+abbrev pub tests_of_units : List (List ℕ) → List ℕ
+tests_of_units [] = []
+tests_of_units (u ∷ us) = u ++ tests_of_units us
 
 -- the units have tests of the pool alone, each once, and none is empty
 -- Example: the unit of 0 and 1 with a pool of 1 alone suits no call.
 pub record AreInPool (queue : List (List ℕ)) (pool : List ℕ) : Type 0 where
-  pub distinct : all_distinct (tests_of queue) ≡ true
-  pub within : all_among (tests_of queue) pool ≡ true
+  pub distinct : all_distinct (tests_of_units queue) ≡ true
+  pub within : all_among (tests_of_units queue) pool ≡ true
   pub filled : list_all not_empty queue ≡ true
 
 -- all items are in the pool, in order, and each worker of the rota has a slot of its own

@@ -2,7 +2,7 @@
 ghost use Rattle.std.specs.Prelude.{nat_lt, ◌≡◌, ◌<◌, ◌≤◌, ◌++◌, ℕ, length, slice_index, true, IfOk};
 ghost use Rattle.std.specs.List.{list_all};
 ghost use Rattle.xd_ledger.specs.Calls.{last_of};
-ghost use Rattle.xd_ledger.specs.Chains.{chain_at, chains_of, ahead, behind, final_of};
+ghost use Rattle.xd_ledger.specs.Chains.{chain_at, chains_of, ahead, part_after, final_of};
 ghost use Rattle.xd_ledger.specs.Numbers.{among, first_of};
 ghost use Rattle.xd_ledger.specs.Posts.{chains_in};
 ghost use Rattle.xd_ledger.specs.Table.{has_joined, held, held_by_all, in_rota, seat_shut, workers_of};
@@ -146,9 +146,9 @@ impl Ledger {
     pub fn next_item(&self, item: u32) -> Option<u32>
         requires stands { among item (self.now.pool ++ held_by_all self.now.rota) ≡ true }
         ensures pool { among item self.now.pool ≡ true →
-            result ≡ first_of (behind item self.now.pool) }
+            result ≡ first_of (part_after item self.now.pool) }
         ensures held { (w : ℕ) → in_rota w self.now ≡ true → among item (held w self.now) ≡ true →
-            result ≡ first_of (behind item (held w self.now)) }
+            result ≡ first_of (part_after item (held w self.now)) }
     {
         self.chains.next(item)
     }

@@ -18,7 +18,7 @@ use Rattle.xd_report.specs.Status.{status_of}
 use Rattle.xd_session.specs.Ends.{is_out_fault}
 use Rattle.xd_drive.specs.declared.running.DrivenRun.{DrivenRun}
 use Rattle.xd_drive.specs.Driven.{Broken, IsJournalOf, Whole}
-use Rattle.xd_drive.specs.Listed.{is_among, starts_of}
+use Rattle.xd_drive.specs.Listed.{is_listed, starts_of}
 use Rattle.xd_drive.specs.Marks.{no_marks}
 use Rattle.xd_group.specs.Children.{AskedOfLink, ToldByStarter, link_asked, told_of}
 use Rattle.xd_group.specs.Fates.{has_link, is_linked, is_refused, is_unlinked, workers_with}
@@ -29,7 +29,7 @@ use Rattle.xd_group.specs.Returned.{RanSo, end_told}
 use Rattle.xd_group.specs.Tells.{marks_told, workers_started}
 use Rattle.xd_group.specs.Unsaid.{SaidUnlinked}
 use Rattle.xd_group.specs.declared.fate.Fate.{Fate}
-use Rattle.xd_linked.specs.Linked.{DrivesTo, EndedLink, LinkedRun, RunsLinked, Seen, Setup, scene_told}
+use Rattle.xd_linked.specs.Linked.{DrivesTo, EndedLink, LinkedRun, RunsLinked, LinksSeen, Setup, scene_told}
 
 -- a hub that was called for nothing and gave nothing has marked no worker
 pub unmarked : (calls : List Entry) (given : List News) → calls ≡ [] → given ≡ [] → (w : ℕ) → marks_told calls given w ≡ no_marks
@@ -61,7 +61,7 @@ pub runs_linked : {A : Type 0} (seen : A → EndedLink) (ends : List A) (setup :
     → All (λ a. ∥ RanSo now mode given calls (workers_with is_refused workers fates) (seen a).worker (seen a).link ∥₁) ends
     → last ≡ option_map (λ b. record { starts = b.starts ++ all_started places (starts_of calls) fates; links = map link_asked b.links ++ map (λ a. end_told (seen a).killed) ends }) first
     → All (λ a. ∥ EndKilledSo calls given (workers_with is_refused workers fates) (seen a).worker (seen a).killed (seen a).link.writes ∥₁) ends
-    → ((w : ℕ) → is_among w (workers_with is_linked workers fates) ≡ false → ∥ SaidUnlinked given w ∥₁)
+    → ((w : ℕ) → is_listed w (workers_with is_linked workers fates) ≡ false → ∥ SaidUnlinked given w ∥₁)
     → RoseFor (count_with is_refused fates) crew_old crew_new → RoseBy (count_with is_unlinked fates) starter_old starter_new
     → RunsLinked setup j (map seen ends) (record { begun = option_map told_of first; starter_faults = starter_old; crew_faults = crew_old; sunk = s0; out_faults = out_old }) (record { begun = last; starter_faults = starter_new; crew_faults = crew_new; sunk = s1; out_faults = out_new })
 runs_linked {A} seen ends setup now mode j calls given workers fates places first last starter_old starter_new crew_old crew_new out_old out_new s0 s1 same in_mode listed at drives all each begun killed unlinked refused failed = record {
@@ -79,19 +79,19 @@ runs_linked {A} seen ends setup now mode j calls given workers fates places firs
       (begun_from first last (all_started places (starts_of calls) fates) (map (λ a. end_told (seen a).killed) ends) begun));
   killed = All-map (λ l. ∥ EndKilledSo calls given (workers_with is_refused (workers_started calls) fates) l.worker l.killed l.link.writes ∥₁) seen ends
       (subst (λ (ws : List ℕ). All (λ a. ∥ EndKilledSo calls given (workers_with is_refused ws fates) (seen a).worker (seen a).killed (seen a).link.writes ∥₁) ends) listed killed);
-  unlinked = λ w out. unlinked w (ap (λ (ws : List ℕ). is_among w (workers_with is_linked ws fates)) listed ∙ out);
+  unlinked = λ w out. unlinked w (ap (λ (ws : List ℕ). is_listed w (workers_with is_linked ws fates)) listed ∙ out);
   few_refused = refused;
   few_unlinked = failed;
 }
 
 -- what is seen of a hub that stayed as it was, where the run came to its end
-pub seen_as : {Ends E H : Type 0} (ended : Result (DrivenRun × Ends) E) (seen : Ends → List EndedLink) (setup : Setup) (old : Seen) (f : H → Seen) (before after : H) → OnOk ended (after ≡ before)
+pub seen_as : {Ends E H : Type 0} (ended : Result (DrivenRun × Ends) E) (seen : Ends → List EndedLink) (setup : Setup) (old : LinksSeen) (f : H → LinksSeen) (before after : H) → OnOk ended (after ≡ before)
     → IfOk ended (λ r. RunsLinked setup r.0.journal (seen r.1) old (f before)) → IfOk ended (λ r. RunsLinked setup r.0.journal (seen r.1) old (f after))
 seen_as {H = H} (Ok r) seen setup old f before after same runs = subst (λ (h : H). RunsLinked setup r.0.journal (seen r.1) old (f h)) (sym same) runs
 seen_as (Err e) seen setup old f before after same runs = tt
 
 -- a run by what was driven and what its links left
-pub linked_run : {Ends E : Type 0} (ended : Result (DrivenRun × Ends) E) (seen : Ends → List EndedLink) (now setup : Setup) (old new : Seen) (j : Journal) (ends : Ends) (code : ℕ)
+pub linked_run : {Ends E : Type 0} (ended : Result (DrivenRun × Ends) E) (seen : Ends → List EndedLink) (now setup : Setup) (old new : LinksSeen) (j : Journal) (ends : Ends) (code : ℕ)
     → now ≡ setup → ended ≡ Ok (record { journal = j; status = code }, ends) → IfOk ended (λ r. r.0.status ≡ status_of r.0.journal)
     → IfOk ended (λ r. IsJournalOf now.settings r.0.journal) → IfOk ended (λ r. RunsLinked now r.0.journal (seen r.1) old new)
     → IfOk ended (λ r. Counted (not (is_out_fault (stop_of r.0.journal))) old.out_faults new.out_faults)

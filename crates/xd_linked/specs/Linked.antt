@@ -12,8 +12,8 @@ use Rattle.xd_ledger.specs.Ending.{stop_of}
 use Rattle.xd_report.specs.Status.{status_of}
 use Rattle.xd_session.specs.Ends.{is_out_fault}
 use Rattle.xd_drive.specs.Driven.{Broken, IsJournalOf, Whole}
-use Rattle.xd_drive.specs.Going.{Scene}
-use Rattle.xd_drive.specs.Listed.{is_among, others_of, starts_of}
+use Rattle.xd_drive.specs.Going.{HubScene}
+use Rattle.xd_drive.specs.Listed.{is_listed, others_of, starts_of}
 use Rattle.xd_group.specs.Children.{ToldByStarter}
 use Rattle.xd_group.specs.Fates.{has_link, is_linked, is_refused, is_unlinked, workers_with}
 use Rattle.xd_group.specs.Few.{RoseFor, count_with}
@@ -33,7 +33,7 @@ pub record Setup : Type 0 where
   pub places : List Place
 
 -- what is seen of a hub that took these calls and gave these news, and of the output
-abbrev pub scene_told : List Entry → List News → Option Sunk → Scene
+abbrev pub scene_told : List Entry → List News → Option Sunk → HubScene
 scene_told calls given sunk = record { marks = marks_told calls given; starts = Some (starts_of calls); calls = Some (others_of calls); given = Some given; sunk = sunk }
 
 -- The journal is what the hub's news made of the run, what it asks for was told to the hub, and its report was printed; or the
@@ -54,7 +54,7 @@ abbrev pub ended_link : ℕ → Bool → Spring → Option Sunk → ℕ → Ende
 ended_link worker killed s sunk writes = record { worker = worker; killed = killed; link = link_of s sunk writes }
 
 -- what is seen of the outside of a run: what the starter tells, the counts of faults of starter and crew, and the output
-pub record Seen : Type 0 where
+pub record LinksSeen : Type 0 where
   pub begun : Option ToldByStarter
   pub starter_faults : ℕ
   pub crew_faults : ℕ
@@ -69,7 +69,7 @@ AddsBegun places calls fates links old new = new ≡ option_map (λ b. record { 
 -- A run with workers: what the hub took and gave made the journal and its report. Each start of a worker has a fate:
 -- no link, a link whose reader was refused, or a link that was read. The links are those of the starts, in order; each that was
 -- read gave its worker's news and took its worker's orders, from its start to its end, and each other one was not used.
-pub record RunsLinked (setup : Setup) (j : Journal) (links : List EndedLink) (old new : Seen) : Type 0 where
+pub record RunsLinked (setup : Setup) (j : Journal) (links : List EndedLink) (old new : LinksSeen) : Type 0 where
   pub calls : List Entry
   pub given : List News
   pub fates : List Fate
@@ -78,13 +78,13 @@ pub record RunsLinked (setup : Setup) (j : Journal) (links : List EndedLink) (ol
   pub each : All (λ l. ∥ RanSo setup.suite setup.settings.mode given calls (workers_with is_refused (workers_started calls) fates) l.worker l.link ∥₁) links
   pub begun : AddsBegun setup.places calls fates links old.begun new.begun
   pub killed : All (λ l. ∥ EndKilledSo calls given (workers_with is_refused (workers_started calls) fates) l.worker l.killed l.link.writes ∥₁) links
-  pub unlinked : (w : ℕ) → is_among w (workers_with is_linked (workers_started calls) fates) ≡ false → ∥ SaidUnlinked given w ∥₁
+  pub unlinked : (w : ℕ) → is_listed w (workers_with is_linked (workers_started calls) fates) ≡ false → ∥ SaidUnlinked given w ∥₁
   pub few_refused : RoseFor (count_with is_refused fates) old.crew_faults new.crew_faults
   pub few_unlinked : RoseBy (count_with is_unlinked fates) old.starter_faults new.starter_faults
 
 -- A run of a suite on workers: its journal, its exit status, its links, and the outside.
 -- Example: gw1 was told to run test 1: its sink took the frame of that order, and its result stands among gw1's news.
-pub record LinkedRun (setup : Setup) (j : Journal) (code : ℕ) (links : List EndedLink) (old new : Seen) : Type 0 where
+pub record LinkedRun (setup : Setup) (j : Journal) (code : ℕ) (links : List EndedLink) (old new : LinksSeen) : Type 0 where
   pub journal : IsJournalOf setup.settings j
   pub status : code ≡ status_of j
   pub runs : RunsLinked setup j links old new

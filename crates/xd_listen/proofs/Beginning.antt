@@ -18,7 +18,7 @@ use Rattle.xd_listen.specs.declared.server.Door.TheVariants as door
 use Rattle.xd_listen.specs.declared.stop.Stop.{Stop}
 use Rattle.xd_listen.specs.declared.stop.Stop.TheVariants as stop
 use Rattle.xd_listen.specs.Ends.{Closes, Ends, IsCause, RunsPrograms, Scene, Served, voice_of}
-use Rattle.xd_listen.specs.Halts.{is_sink_whole, status_of}
+use Rattle.xd_listen.specs.Halts.{is_sink_whole, worker_status_of}
 use Rattle.xd_listen.specs.Programs.{AreLeft}
 use Rattle.xd_listen.specs.Seen.{Seen}
 use Rattle.xd_listen.specs.Serves.{ServesSoFar, Setting, beside, nothing, setting, two}
@@ -135,7 +135,7 @@ module _ (held : Option Held) (s : Spring) (old new : Scene) (broken closed : Bo
       none_added None = refl
       none_added (Some x) = ap Some (sym (append-nil x))
 
-  ends_so : (why : Stop) → status_of why ≡ 3 → (not broken && closed) ≡ is_sink_whole why → IsCause why [] [] [] s s old new → Ends why held s s old new
+  ends_so : (why : Stop) → worker_status_of why ≡ 3 → (not broken && closed) ≡ is_sink_whole why → IsCause why [] [] [] s s old new → Ends why held s s old new
   unfolding none_run
   ends_so why three whole cause = record {
     bytes = [];

@@ -7,7 +7,7 @@ use Rattle.xd_frame.specs.Message.{MessageView}
 use Rattle.xd_factory.specs.declared.taken.Taken.{Taken}
 use Rattle.xd_factory.specs.declared.taken.Taken.TheVariants.{Kept, Handed, EndKept, EndHanded, Dropped, Status, Exec, Terminate}
 use Rattle.xd_factory.specs.Said.{Said, Means}
-use Rattle.xd_factory.specs.SideTable.{answer, heard as heard_by, lost}
+use Rattle.xd_factory.specs.SideTable.{answer, heard_of_message as heard_by, lost}
 use Rattle.xd_gateway.specs.declared.order.Order.{Order}
 use Rattle.xd_gateway.specs.declared.order.Order.TheVariants.{RunTests, RunAll, Steal, Shutdown}
 use Rattle.xd_gateway.specs.Orders.{tree_order}
@@ -24,7 +24,7 @@ use Rattle.xd_run_tests.specs.declared.ask.Ask.TheVariants.{Tell}
 use Rattle.xd_run_tests.specs.declared.input.Input.{Input}
 use Rattle.xd_run_tests.specs.declared.input.Input.TheVariants as input
 use Rattle.xd_run_tests.specs.Line.{FunctionCall, left, front, queue, running_test, head_test, can_give, can_ask, all_queued, kept, taken}
-use Rattle.xd_run_tests.specs.Turns.{Turn as Act, turn_of as act_of, answered, over, ended_early, ending_text, asking, moved_on, line_settled, given, stolen, stolen_if, told, heard_in, receiving_ended_in}
+use Rattle.xd_run_tests.specs.Turns.{CallTurn as Act, call_turn_of as act_of, answered, over, ended_early, ending_text, asking, moved_on, line_settled, given, stolen, stolen_if, told, item_heard_in, receiving_ended_in}
 use Rattle.xd_run_tests.specs.History.{call_after, turn_after}
 use Rattle.xd_worker.specs.declared.function.Called.{Called}
 use Rattle.xd_worker.specs.declared.function.Called.TheVariants.{Runs, Refused}
@@ -34,8 +34,8 @@ use Rattle.xd_worker.specs.declared.talk.Sent.TheVariants as how
 use Rattle.xd_worker.specs.Functions.{called_in}
 use Rattle.xd_worker.proofs.CalledOnce.{IsOther, called_other}
 use Rattle.xd_worker.specs.Talk.{sent_how, payload_on}
-use Rattle.xd_worker.specs.Worker.{Service, Worker, Turn, turn_of}
-use Rattle.xd_worker.specs.Turns.{Told, LinkEnded, at_talk, given_in, fed, fed_to, called, is_called, is_service, echoed, echoed_how, echo_ended, stopped, did, did_unless, took, turned}
+use Rattle.xd_worker.specs.Worker.{Service, Worker, WorkerTurn, worker_turn_of}
+use Rattle.xd_worker.specs.Turns.{Told, LinkEnded, at_talk, given_in, fed, fed_to, called, is_called, is_service, echoed, echoed_how, echo_ended, worker_stopped, did, did_unless, took, worker_turned}
 use Rattle.xd_listen.specs.Running.{call_of_service, rests}
 use Rattle.xd_listen.specs.Inputs.{is_terminate_kind}
 use Rattle.xd_listen.proofs.Facts.{running_some}
@@ -137,7 +137,7 @@ told_busy n room (Some RunAll) t f = given_busy n room (range_with_len 0 t.call.
 told_busy n room (Some (Steal ns)) t f = stolen_if_busy n ns t f
 told_busy n room (Some Shutdown) t f = settled_busy n room (lined (t.call.line ++ Mark ∷ []) t) (longer_busy n t (Mark ∷ []) f)
 
-heard_busy : (n : ℕ) (room : Bool) (o : Option Order) (t : Act) (p : Phase) → rests p ≡ false → Busy n t → Busy n (heard_in p room o t)
+heard_busy : (n : ℕ) (room : Bool) (o : Option Order) (t : Act) (p : Phase) → rests p ≡ false → Busy n t → Busy n (item_heard_in p room o t)
 heard_busy n room o t Awaiting r f = cc
 heard_busy n room o t Serving r f = told_busy n room o t f
 heard_busy n room o t (phase.Ending e) r f = f
@@ -167,14 +167,14 @@ stop_spares = record { busy = λ room c n e r. record { test = e; run = refl; bu
 -- ---- the worker
 
 -- The test runs on, none is started, and no suite is asked for.
-pub record Keeps (n : ℕ) (last : Bool) (u : Turn) : Type 0 where
+pub record Keeps (n : ℕ) (last : Bool) (u : WorkerTurn) : Type 0 where
   pub test : running_test (call_of_service u.duties.service) ≡ Some n
   pub busy : rests (call_of_service u.duties.service).phase ≡ false
   pub run : u.run ≡ None
   pub suite : u.suite ≡ None
   pub stopped : u.duties.stopped ≡ last
 
-fed_keeps : (i : Input) (k n : ℕ) (last : Bool) (t : Turn) → Spares i → Keeps n last t → Keeps n last (fed i k t)
+fed_keeps : (i : Input) (k n : ℕ) (last : Bool) (t : WorkerTurn) → Spares i → Keeps n last t → Keeps n last (fed i k t)
 fed_keeps i k n last t spares f = go t.duties.service refl
   where
     go : (s : Option Service) → t.duties.service ≡ s → Keeps n last (fed_to s i k t)
@@ -191,7 +191,7 @@ fed_keeps i k n last t spares f = go t.duties.service refl
           stopped = same.stopped ∙ f.stopped;
         }
 
-other_keeps : (k n : ℕ) (last : Bool) (c : Called) (t : Turn) → IsOther c → Keeps n last t → Keeps n last (called k c t)
+other_keeps : (k n : ℕ) (last : Bool) (c : Called) (t : WorkerTurn) → IsOther c → Keeps n last t → Keeps n last (called k c t)
 other_keeps k n last (Runs function.Echo) t o f = record { test = f.test; busy = f.busy; run = f.run; suite = f.suite; stopped = f.stopped }
 other_keeps k n last (Runs (function.Fail x)) t o f = record { test = f.test; busy = f.busy; run = f.run; suite = f.suite; stopped = f.stopped }
 other_keeps k n last (Runs (function.RunTests path mode)) t o f = absurd o
@@ -202,16 +202,16 @@ is_called_if : (s : Option Service) (n : ℕ) → running_test (call_of_service 
 is_called_if None n e = cc
 is_called_if (Some s) n e = refl
 
-echoed_keeps : (h : Sent) (k n : ℕ) (last : Bool) (v : Tree) (t : Turn) → Keeps n last t → Keeps n last (echoed_how h k v t)
+echoed_keeps : (h : Sent) (k n : ℕ) (last : Bool) (v : Tree) (t : WorkerTurn) → Keeps n last t → Keeps n last (echoed_how h k v t)
 echoed_keeps how.Said k n last v t f = record { test = f.test; busy = f.busy; run = f.run; suite = f.suite; stopped = f.stopped }
 echoed_keeps how.LeftOut k n last v t f = f
 echoed_keeps how.Unwritten k n last v t f = record { test = f.test; busy = f.busy; run = f.run; suite = f.suite; stopped = f.stopped }
 
-stopped_keeps : (k n : ℕ) (last : Bool) (t : Turn) → Keeps n last t → Keeps n true (stopped k t)
+stopped_keeps : (k n : ℕ) (last : Bool) (t : WorkerTurn) → Keeps n last t → Keeps n true (worker_stopped k t)
 stopped_keeps k n last t f = fed_keeps input.Stop k n true (record t { duties = record (t.duties) { stopped = true } }) stop_spares
     (record { test = f.test; busy = f.busy; run = f.run; suite = f.suite; stopped = refl })
 
-did_keeps : (a : Taken Tree) (k n : ℕ) (t : Turn) → Keeps n false t → Keeps n (is_terminate a) (did a k t)
+did_keeps : (a : Taken Tree) (k n : ℕ) (t : WorkerTurn) → Keeps n false t → Keeps n (is_terminate a) (did a k t)
 did_keeps (Status c) k n t f = record { test = f.test; busy = f.busy; run = f.run; suite = f.suite; stopped = f.stopped }
 did_keeps (Exec c v) k n t f = go (is_called t.duties.service) (is_called_if t.duties.service n f.test)
   where
@@ -235,16 +235,16 @@ did_keeps Dropped k n t f = f
 
 -- a message
 pub message_keeps : (w : Worker) (m : MessageView) (s : Said) (k n : ℕ) → Means m s → running_test (call_of_service w.duties.service) ≡ Some n → rests (call_of_service w.duties.service).phase ≡ false → w.duties.stopped ≡ false
-    → Keeps n (is_terminate_kind m.kind) (turned (Told s) k (turn_of w))
-message_keeps w m s k n means runs busy unstopped = subst (λ (b : Bool). Keeps n b (took s k (turn_of w))) (answer_last s w.table ∙ kind_last m.kind m.channel m.payload s means.says) (go w.duties.stopped unstopped)
+    → Keeps n (is_terminate_kind m.kind) (worker_turned (Told s) k (worker_turn_of w))
+message_keeps w m s k n means runs busy unstopped = subst (λ (b : Bool). Keeps n b (took s k (worker_turn_of w))) (answer_last s w.table ∙ kind_last m.kind m.channel m.payload s means.says) (go w.duties.stopped unstopped)
   where
-    u : Turn
-    u = at_talk (λ d. record d { table = heard_by s d.table }) (turn_of w)
+    u : WorkerTurn
+    u = at_talk (λ d. record d { table = heard_by s d.table }) (worker_turn_of w)
 
     go : (b : Bool) → b ≡ false → Keeps n (is_terminate (answer s w.table)) (did_unless b (answer s w.table) k u)
     go true h = cc
     go false h = did_keeps (answer s w.table) k n u (record { test = runs; busy = busy; run = refl; suite = refl; stopped = unstopped })
 
 -- the link's end
-pub link_end_keeps : (w : Worker) (k n : ℕ) → running_test (call_of_service w.duties.service) ≡ Some n → rests (call_of_service w.duties.service).phase ≡ false → w.duties.stopped ≡ false → Keeps n true (turned LinkEnded k (turn_of w))
-link_end_keeps w k n runs busy unstopped = stopped_keeps k n false (at_talk (λ d. record d { table = lost d.table }) (turn_of w)) (record { test = runs; busy = busy; run = refl; suite = refl; stopped = unstopped })
+pub link_end_keeps : (w : Worker) (k n : ℕ) → running_test (call_of_service w.duties.service) ≡ Some n → rests (call_of_service w.duties.service).phase ≡ false → w.duties.stopped ≡ false → Keeps n true (worker_turned LinkEnded k (worker_turn_of w))
+link_end_keeps w k n runs busy unstopped = stopped_keeps k n false (at_talk (λ d. record d { table = lost d.table }) (worker_turn_of w)) (record { test = runs; busy = busy; run = refl; suite = refl; stopped = unstopped })

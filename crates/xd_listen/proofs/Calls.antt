@@ -19,11 +19,11 @@ use Rattle.xd_run_tests.specs.declared.ask.Ask.TheVariants.{Tell}
 use Rattle.xd_run_tests.specs.declared.input.Input.{Input}
 use Rattle.xd_run_tests.specs.declared.input.Input.TheVariants as input
 use Rattle.xd_run_tests.specs.Line.{FunctionCall, left, front, queue, running_test, head_test, can_give, can_ask, all_queued, kept, taken}
-use Rattle.xd_run_tests.specs.Turns.{Turn, turn_of, answered, answered_in, over, ended_early, ending_text, asking, finished, test_started, has_log, too_many_channels, moved_on, line_settled, given, stolen, stolen_if, told, heard_in, heard, all_heard, serving_suite, collected_in, receiving_ended_in, suite_refused_in, put_out, output_fed, told_done, done_in, stopped}
+use Rattle.xd_run_tests.specs.Turns.{CallTurn, call_turn_of, answered, answered_in, over, ended_early, ending_text, asking, finished, test_started, has_log, too_many_channels, moved_on, line_settled, given, stolen, stolen_if, told, item_heard_in, item_heard, all_heard, serving_suite, collected_in, receiving_ended_in, suite_refused_in, put_out, output_fed, told_done, done_in, call_stopped}
 use Rattle.xd_listen.specs.Running.{rests}
 
 -- The test that runs is the one that this turn starts.
-pub record Fresh (t : Turn) : Type 0 where
+pub record Fresh (t : CallTurn) : Type 0 where
   pub test : running_test t.call ≡ t.run
   pub some : t.run ≡ None → t.call.running ≡ false
   pub busy : t.call.running ≡ true → rests t.call.phase ≡ false
@@ -32,27 +32,27 @@ none_if : (b : Bool) (x : Option ℕ) → b ≡ false → (if b then x else None
 none_if true x e = cc
 none_if false x e = refl
 
-pub idle : (t : Turn) → t.call.running ≡ false → t.run ≡ None → Fresh t
+pub idle : (t : CallTurn) → t.call.running ≡ false → t.run ≡ None → Fresh t
 idle t e n = record {
   test = none_if t.call.running (head_test (left t.call)) e ∙ sym n;
   some = λ z. e;
   busy = λ z. let x = sym e ∙ z in cc;
 }
 
-no_run : (t : Turn) → Fresh t → t.call.running ≡ false → t.run ≡ None
+no_run : (t : CallTurn) → Fresh t → t.call.running ≡ false → t.run ≡ None
 no_run t f e = sym f.test ∙ none_if t.call.running (head_test (left t.call)) e
 
-early_fresh : (t : Turn) (e : Ending) → Fresh t → Fresh (ended_early e t)
+early_fresh : (t : CallTurn) (e : Ending) → Fresh t → Fresh (ended_early e t)
 early_fresh t e f = go t.call.running refl
   where
     go : (b : Bool) → t.call.running ≡ b → Fresh (if b then record t { call = record (t.call) { phase = phase.Ending e } } else over (ending_text e) t)
     go true h = record { test = f.test; some = f.some; busy = λ z. refl }
     go false h = idle (over (ending_text e) t) h (no_run t f h)
 
-asking_fresh : (t : Turn) (asks : List Ask) → Fresh t → Fresh (asking asks t)
+asking_fresh : (t : CallTurn) (asks : List Ask) → Fresh t → Fresh (asking asks t)
 asking_fresh t asks f = record { test = f.test; some = f.some; busy = f.busy }
 
-moved_fresh : (room : Bool) (ps : List LineEntry) (t : Turn) → left t.call ≡ ps → t.call.running ≡ false → t.run ≡ None → rests t.call.phase ≡ false → Fresh (moved_on room ps t)
+moved_fresh : (room : Bool) (ps : List LineEntry) (t : CallTurn) → left t.call ≡ ps → t.call.running ≡ false → t.run ≡ None → rests t.call.phase ≡ false → Fresh (moved_on room ps t)
 moved_fresh room [] t l e n r = idle t e n
 moved_fresh room (Mark ∷ ps) t l e n r = idle (finished t) e n
 moved_fresh room (Test k ∷ []) t l e n r = idle t e n
@@ -62,7 +62,7 @@ moved_fresh room (Test k ∷ (p ∷ ps)) t l e n r = go (room && has_log t.call.
     go true = record { test = ap head_test l; some = λ z. cc; busy = λ z. r }
     go false = idle (over (Some too_many_channels) t) e n
 
-settled_fresh : (room : Bool) (t : Turn) → Fresh t → rests t.call.phase ≡ false → Fresh (line_settled room t)
+settled_fresh : (room : Bool) (t : CallTurn) → Fresh t → rests t.call.phase ≡ false → Fresh (line_settled room t)
 settled_fresh room t f r = go t.call.running refl
   where
     go : (b : Bool) → t.call.running ≡ b → Fresh (if b then t else moved_on room (left t.call) t)
@@ -86,10 +86,10 @@ head_front (suc e) (suc k) [] more n lt h = cc
 head_front (suc e) (suc k) (p ∷ l) more n lt h = head_front e k l more n (omega (arith, lt)) h
 
 -- the line changed after what runs
-abbrev lined : List LineEntry → Turn → Turn
+abbrev lined : List LineEntry → CallTurn → CallTurn
 lined ps t = record t { call = record (t.call) { line = ps } }
 
-lined_fresh : (t : Turn) (ps : List LineEntry) → Fresh t → ((n : ℕ) → t.call.running ≡ true → head_test (left t.call) ≡ Some n → head_test (drop t.call.ended ps) ≡ Some n) → Fresh (lined ps t)
+lined_fresh : (t : CallTurn) (ps : List LineEntry) → Fresh t → ((n : ℕ) → t.call.running ≡ true → head_test (left t.call) ≡ Some n → head_test (drop t.call.ended ps) ≡ Some n) → Fresh (lined ps t)
 lined_fresh t ps f keeps = record { test = go t.call.running refl t.run f.test f.some; some = f.some; busy = f.busy }
   where
     go : (b : Bool) → t.call.running ≡ b → (r : Option ℕ) → (if b then head_test (left t.call) else None) ≡ r → (r ≡ None → b ≡ false) → (if b then head_test (drop t.call.ended ps) else None) ≡ r
@@ -97,80 +97,80 @@ lined_fresh t ps f keeps = record { test = go t.call.running refl t.run f.test f
     go true h (Some n) e s = keeps n h e
     go false h r e s = e
 
-longer_fresh : (t : Turn) (ps : List LineEntry) → Fresh t → Fresh (lined (t.call.line ++ ps) t)
+longer_fresh : (t : CallTurn) (ps : List LineEntry) → Fresh t → Fresh (lined (t.call.line ++ ps) t)
 longer_fresh t ps f = lined_fresh t (t.call.line ++ ps) f (λ n r h. head_more t.call.ended t.call.line ps n h)
 
-front_fresh : (t : Turn) (ps : List LineEntry) → Fresh t → Fresh (lined (front t.call ++ ps) t)
+front_fresh : (t : CallTurn) (ps : List LineEntry) → Fresh t → Fresh (lined (front t.call ++ ps) t)
 front_fresh t ps f = lined_fresh t (front t.call ++ ps) f (λ n r h. go t.call.running r n h)
   where
     go : (b : Bool) → b ≡ true → (n : ℕ) → head_test (left t.call) ≡ Some n → head_test (drop t.call.ended (take (t.call.ended + (if b then 2 else 1)) t.call.line ++ ps)) ≡ Some n
     go true r n h = head_front t.call.ended (t.call.ended + 2) t.call.line ps n (omega arith) h
     go false r n h = cc
 
-given_fresh : (room : Bool) (ns : List ℕ) (t : Turn) → Fresh t → rests t.call.phase ≡ false → Fresh (given room ns t)
+given_fresh : (room : Bool) (ns : List ℕ) (t : CallTurn) → Fresh t → rests t.call.phase ≡ false → Fresh (given room ns t)
 given_fresh room ns t f r = go (can_give t.call.size t.call.line ns)
   where
     go : (b : Bool) → Fresh (if b then line_settled room (lined (t.call.line ++ map Test ns) t) else ended_early BadCommand t)
     go true = settled_fresh room (lined (t.call.line ++ map Test ns) t) (longer_fresh t (map Test ns) f) r
     go false = early_fresh t BadCommand f
 
-stolen_fresh : (ns : List ℕ) (t : Turn) → Fresh t → Fresh (stolen ns t)
+stolen_fresh : (ns : List ℕ) (t : CallTurn) → Fresh t → Fresh (stolen ns t)
 stolen_fresh ns t f = go (all_queued (queue t.call) ns)
   where
     go : (b : Bool) → Fresh (if b then asking (Tell (Back (taken ns (queue t.call))) ∷ []) (lined (front t.call ++ kept ns (queue t.call)) t) else asking (Tell (Back []) ∷ []) t)
     go true = asking_fresh (lined (front t.call ++ kept ns (queue t.call)) t) (Tell (Back (taken ns (queue t.call))) ∷ []) (front_fresh t (kept ns (queue t.call)) f)
     go false = asking_fresh t (Tell (Back []) ∷ []) f
 
-stolen_if_fresh : (ns : List ℕ) (t : Turn) → Fresh t → Fresh (stolen_if ns t)
+stolen_if_fresh : (ns : List ℕ) (t : CallTurn) → Fresh t → Fresh (stolen_if ns t)
 stolen_if_fresh ns t f = go (can_ask t.call.size [] ns)
   where
     go : (b : Bool) → Fresh (if b then stolen ns t else ended_early BadCommand t)
     go true = stolen_fresh ns t f
     go false = early_fresh t BadCommand f
 
-told_fresh : (room : Bool) (o : Option Order) (t : Turn) → Fresh t → rests t.call.phase ≡ false → Fresh (told room o t)
+told_fresh : (room : Bool) (o : Option Order) (t : CallTurn) → Fresh t → rests t.call.phase ≡ false → Fresh (told room o t)
 told_fresh room None t f r = early_fresh t BadCommand f
 told_fresh room (Some (RunTests ns)) t f r = given_fresh room ns t f r
 told_fresh room (Some RunAll) t f r = given_fresh room (range_with_len 0 t.call.size) t f r
 told_fresh room (Some (Steal ns)) t f r = stolen_if_fresh ns t f
 told_fresh room (Some Shutdown) t f r = settled_fresh room (lined (t.call.line ++ Mark ∷ []) t) (longer_fresh t (Mark ∷ []) f) r
 
-heard_fresh : (room : Bool) (o : Option Order) (t : Turn) → Fresh t → Fresh (heard room o t)
+heard_fresh : (room : Bool) (o : Option Order) (t : CallTurn) → Fresh t → Fresh (item_heard room o t)
 heard_fresh room o t f = go t.call.phase refl
   where
-    go : (p : Phase) → t.call.phase ≡ p → Fresh (heard_in p room o t)
+    go : (p : Phase) → t.call.phase ≡ p → Fresh (item_heard_in p room o t)
     go Awaiting h = record { test = f.test; some = f.some; busy = f.busy }
     go Serving h = told_fresh room o t f (ap rests h)
     go (phase.Ending e) h = f
     go Stopped h = f
     go Over h = f
 
-all_heard_fresh : (room : Bool) (os : List (Option Order)) (t : Turn) → Fresh t → Fresh (all_heard room os t)
+all_heard_fresh : (room : Bool) (os : List (Option Order)) (t : CallTurn) → Fresh t → Fresh (all_heard room os t)
 all_heard_fresh room [] t f = f
-all_heard_fresh room (o ∷ os) t f = all_heard_fresh room os (heard room o t) (heard_fresh room o t f)
+all_heard_fresh room (o ∷ os) t f = all_heard_fresh room os (item_heard room o t) (heard_fresh room o t f)
 
-collected_fresh : (room : Bool) (ids : List (List ℕ)) (t : Turn) (p : Phase) → Fresh t → t.run ≡ None → Fresh (collected_in p room ids t)
+collected_fresh : (room : Bool) (ids : List (List ℕ)) (t : CallTurn) (p : Phase) → Fresh t → t.run ≡ None → Fresh (collected_in p room ids t)
 collected_fresh room ids t Awaiting f n = all_heard_fresh room t.call.waiting (record { call = serving_suite (length ids) t.call; asks = t.asks ++ Tell (Collected ids) ∷ []; run = t.run }) (idle (record { call = serving_suite (length ids) t.call; asks = t.asks ++ Tell (Collected ids) ∷ []; run = t.run }) refl n)
 collected_fresh room ids t Serving f n = f
 collected_fresh room ids t (phase.Ending e) f n = f
 collected_fresh room ids t Stopped f n = f
 collected_fresh room ids t Over f n = f
 
-refused_fresh : (text : List ℕ) (t : Turn) (p : Phase) → Fresh t → t.call.running ≡ false → Fresh (suite_refused_in p text t)
+refused_fresh : (text : List ℕ) (t : CallTurn) (p : Phase) → Fresh t → t.call.running ≡ false → Fresh (suite_refused_in p text t)
 refused_fresh text t Awaiting f e = idle (over (Some text) t) e (no_run t f e)
 refused_fresh text t Serving f e = f
 refused_fresh text t (phase.Ending x) f e = f
 refused_fresh text t Stopped f e = f
 refused_fresh text t Over f e = f
 
-ended_fresh : (t : Turn) (p : Phase) → Fresh t → Fresh (receiving_ended_in p t)
+ended_fresh : (t : CallTurn) (p : Phase) → Fresh t → Fresh (receiving_ended_in p t)
 ended_fresh t Awaiting f = early_fresh t ReceivingEnded f
 ended_fresh t Serving f = early_fresh t ReceivingEnded f
 ended_fresh t (phase.Ending e) f = f
 ended_fresh t Stopped f = f
 ended_fresh t Over f = f
 
-output_fresh : (bytes : List ℕ) (t : Turn) (test : Option ℕ) (p : Phase) → Fresh t → t.call.running ≡ false → Fresh (output_fed test p bytes t)
+output_fresh : (bytes : List ℕ) (t : CallTurn) (test : Option ℕ) (p : Phase) → Fresh t → t.call.running ≡ false → Fresh (output_fed test p bytes t)
 output_fresh bytes t None p f e = f
 output_fresh bytes t (Some n) Awaiting f e = idle (put_out bytes t) e (no_run t f e)
 output_fresh bytes t (Some n) Serving f e = idle (put_out bytes t) e (no_run t f e)
@@ -178,14 +178,14 @@ output_fresh bytes t (Some n) (phase.Ending x) f e = idle (put_out bytes t) e (n
 output_fresh bytes t (Some n) Stopped f e = f
 output_fresh bytes t (Some n) Over f e = idle (put_out bytes t) e (no_run t f e)
 
-done_fresh : (room : Bool) (n : ℕ) (outcome : Outcome) (ms : ℕ) (t : Turn) (p : Phase) → t.call.phase ≡ p → t.run ≡ None → rests p ≡ false → Fresh (done_in p room n outcome ms t)
+done_fresh : (room : Bool) (n : ℕ) (outcome : Outcome) (ms : ℕ) (t : CallTurn) (p : Phase) → t.call.phase ≡ p → t.run ≡ None → rests p ≡ false → Fresh (done_in p room n outcome ms t)
 done_fresh room n outcome ms t Awaiting h e r = cc
 done_fresh room n outcome ms t Serving h e r = settled_fresh room (told_done n outcome ms t) (idle (told_done n outcome ms t) refl e) (ap rests h)
 done_fresh room n outcome ms t (phase.Ending x) h e r = idle (over (ending_text x) (told_done n outcome ms t)) refl e
 done_fresh room n outcome ms t Stopped h e r = idle (done_in Stopped room n outcome ms t) refl e
 done_fresh room n outcome ms t Over h e r = cc
 
-done_idle : (room : Bool) (n : ℕ) (outcome : Outcome) (ms : ℕ) (t : Turn) (p : Phase) → t.call.phase ≡ p → t.run ≡ None → t.call.running ≡ false → Fresh (done_in p room n outcome ms t)
+done_idle : (room : Bool) (n : ℕ) (outcome : Outcome) (ms : ℕ) (t : CallTurn) (p : Phase) → t.call.phase ≡ p → t.run ≡ None → t.call.running ≡ false → Fresh (done_in p room n outcome ms t)
 done_idle room n outcome ms t Awaiting h e r = idle t r e
 done_idle room n outcome ms t Serving h e r = done_fresh room n outcome ms t Serving h e refl
 done_idle room n outcome ms t (phase.Ending x) h e r = done_fresh room n outcome ms t (phase.Ending x) h e refl
@@ -193,11 +193,11 @@ done_idle room n outcome ms t Stopped h e r = done_fresh room n outcome ms t Sto
 done_idle room n outcome ms t Over h e r = idle t r e
 
 -- an input to a call of which no test runs
-pub answered_idle : (room : Bool) (f : Input) (c : FunctionCall) → c.running ≡ false → Fresh (answered room f (turn_of c))
+pub answered_idle : (room : Bool) (f : Input) (c : FunctionCall) → c.running ≡ false → Fresh (answered room f (call_turn_of c))
 answered_idle room f c e = by f (running_test c)
   where
-    t : Turn
-    t = turn_of c
+    t : CallTurn
+    t = call_turn_of c
 
     here : Fresh t
     here = idle t e refl
@@ -210,27 +210,27 @@ answered_idle room f c e = by f (running_test c)
     by (input.Output bytes) test = output_fresh bytes t test c.phase here e
     by (input.Done outcome ms) None = here
     by (input.Done outcome ms) (Some n) = done_idle room n outcome ms t c.phase refl refl e
-    by input.Stop test = idle (stopped t) e refl
+    by input.Stop test = idle (call_stopped t) e refl
 
 -- the end of the test that runs
-pub answered_end : (room : Bool) (outcome : Outcome) (ms : ℕ) (c : FunctionCall) (n : ℕ) → running_test c ≡ Some n → rests c.phase ≡ false → Fresh (answered room (input.Done outcome ms) (turn_of c))
+pub answered_end : (room : Bool) (outcome : Outcome) (ms : ℕ) (c : FunctionCall) (n : ℕ) → running_test c ≡ Some n → rests c.phase ≡ false → Fresh (answered room (input.Done outcome ms) (call_turn_of c))
 answered_end room outcome ms c n e r = by (running_test c) e
   where
-    by : (test : Option ℕ) → test ≡ Some n → Fresh (answered_in c.phase test room (input.Done outcome ms) (turn_of c))
+    by : (test : Option ℕ) → test ≡ Some n → Fresh (answered_in c.phase test room (input.Done outcome ms) (call_turn_of c))
     by None h = cc
-    by (Some m) h = done_fresh room m outcome ms (turn_of c) c.phase refl refl r
+    by (Some m) h = done_fresh room m outcome ms (call_turn_of c) c.phase refl refl r
 
 -- What output leaves: the test that runs, and nothing is started.
-pub record Printing (t : Turn) (c : FunctionCall) : Type 0 where
+pub record Printing (t : CallTurn) (c : FunctionCall) : Type 0 where
   pub test : running_test t.call ≡ running_test c
   pub running : t.call.running ≡ c.running
   pub phase_is : t.call.phase ≡ c.phase
   pub run : t.run ≡ None
 
-pub answered_output : (room : Bool) (bytes : List ℕ) (c : FunctionCall) → Printing (answered room (input.Output bytes) (turn_of c)) c
+pub answered_output : (room : Bool) (bytes : List ℕ) (c : FunctionCall) → Printing (answered room (input.Output bytes) (call_turn_of c)) c
 answered_output room bytes c = by (running_test c) c.phase
   where
-    by : (test : Option ℕ) (p : Phase) → Printing (output_fed test p bytes (turn_of c)) c
+    by : (test : Option ℕ) (p : Phase) → Printing (output_fed test p bytes (call_turn_of c)) c
     by None p = record { test = refl; running = refl; phase_is = refl; run = refl }
     by (Some n) Awaiting = record { test = refl; running = refl; phase_is = refl; run = refl }
     by (Some n) Serving = record { test = refl; running = refl; phase_is = refl; run = refl }

@@ -9,19 +9,19 @@ use Rattle.xd_factory.specs.declared.faults.SideFault.{SideFault}
 use Rattle.xd_frame.specs.declared.header.Header.{Header}
 use Rattle.xd_frame.specs.declared.fault.FrameFault.{FrameFault}
 use Rattle.xd_frame.specs.Message.{MessageView}
-use Rattle.xd_frame.specs.Stream.{header_in_front, messages, behind, rest, rest_of, rest_by, Clean, Refused}
+use Rattle.xd_frame.specs.Stream.{header_in_front, messages, left_over, rest, rest_of, rest_by, Clean, Refused}
 use Rattle.xd_frame.proofs.Front.{err_front-append}
 use Rattle.xd_frame.proofs.Framers.{front_says}
 use Rattle.xd_frame.proofs.Streams.{behind-append, messages-append}
 use Rattle.xd_frame.specs.Writing.{CountAfter}
 use Rattle.xd_link.specs.Source.{Gave, Supply}
-use Rattle.xd_worker.specs.History.{Heard}
+use Rattle.xd_worker.specs.History.{HeardInput}
 use Rattle.xd_listen.specs.declared.stop.Stop.{Stop}
 use Rattle.xd_listen.specs.declared.stop.Stop.TheVariants as stop
 use Rattle.xd_listen.specs.Inputs.{has_terminate, messages_in}
 use Rattle.xd_link.specs.Spring.{Spring}
 use Rattle.xd_listen.specs.Ends.{Ends, RunsPrograms, Scene, Served, voice_of}
-use Rattle.xd_listen.specs.Halts.{is_sink_whole, status_of}
+use Rattle.xd_listen.specs.Halts.{is_sink_whole, worker_status_of}
 use Rattle.xd_listen.specs.Spoke.{Spoke, voice}
 use Rattle.xd_listen.specs.Took.{TookAll, TookToRefused}
 use Rattle.xd_listen.specs.Programs.{AreLeft}
@@ -40,13 +40,13 @@ refused_front (b ∷ a) fault e = err_by (header_in_front (b ∷ a)) fault e
 -- after a header that is refused more bytes change nothing
 pub refused_more : (a b : List ℕ) (fault : FrameFault) → rest a ≡ Refused fault → (messages (a ++ b) ≡ messages a) × (rest (a ++ b) ≡ Refused fault)
 refused_more a b fault e =
-    let says = front_says (behind a ++ b) (Err fault) (err_front-append (behind a) b fault (refused_front (behind a) fault e)) in
+    let says = front_says (left_over a ++ b) (Err fault) (err_front-append (left_over a) b fault (refused_front (left_over a) fault e)) in
     (messages-append a b ∙ (ap (λ (l : List MessageView). messages a ++ l) says.0 ∙ append-nil (messages a)), ap rest_of (behind-append a b) ∙ says.2)
 
 -- a message that is refused is so with more bytes after it
-pub to_refused_more : (a b : List ℕ) (taken : List MessageView) (h : List Heard) (fault : SideFault) → TookToRefused (messages a) taken h fault → TookToRefused (messages (a ++ b)) taken h fault
+pub to_refused_more : (a b : List ℕ) (taken : List MessageView) (h : List HeardInput) (fault : SideFault) → TookToRefused (messages a) taken h fault → TookToRefused (messages (a ++ b)) taken h fault
 to_refused_more a b taken h fault t =
-    let more = messages (behind a ++ b) in
+    let more = messages (left_over a ++ b) in
     record {
       refused = t.refused;
       later = t.later ++ more;
@@ -79,13 +79,13 @@ both false y e = cc
 
 module _ (held : Option Held) (s0 s1 : Spring) (old new : Scene) where
   -- a link ends well, or something is wrong
-  ends_by : (why : Stop) → Ends why held s0 s1 old new → (s : Supply) → s0.supply ≡ Some s → (status_of why ≡ 0) ⊎ IsWrong why held s.left s0.faults s1.faults old new
+  ends_by : (why : Stop) → Ends why held s0 s1 old new → (s : Supply) → s0.supply ≡ Some s → (worker_status_of why ≡ 0) ⊎ IsWrong why held s.left s0.faults s1.faults old new
   ends_by why e s is = by why e
     where
       gives : (w : Stop) → (x : Ends w held s0 s1 old new) → Gave x.bytes (Some s) s1.supply
       gives w x = subst (λ (o : Option Supply). Gave x.bytes o s1.supply) is x.gave
 
-      by : (w : Stop) → Ends w held s0 s1 old new → (status_of w ≡ 0) ⊎ IsWrong w held s.left s0.faults s1.faults old new
+      by : (w : Stop) → Ends w held s0 s1 old new → (worker_status_of w ≡ 0) ⊎ IsWrong w held s.left s0.faults s1.faults old new
       by stop.NotRun x = inr x.cause.2
       by stop.Terminated x = inl refl
       by stop.Ended x = inl refl
@@ -117,7 +117,7 @@ module _ (held : Option Held) (s0 s1 : Spring) (old new : Scene) where
   pub goes_wrong : (status : ℕ) → Served status held s0 s1 old new → status ≢ 0 → IfSome s0.supply (λ s. GoesWrong held s.left s0.faults s1.faults old new)
   goes_wrong status v not_zero = go s0.supply refl
     where
-      pick : (s : Supply) → (status_of v.0 ≡ 0) ⊎ IsWrong v.0 held s.left s0.faults s1.faults old new → GoesWrong held s.left s0.faults s1.faults old new
+      pick : (s : Supply) → (worker_status_of v.0 ≡ 0) ⊎ IsWrong v.0 held s.left s0.faults s1.faults old new → GoesWrong held s.left s0.faults s1.faults old new
       pick s (inl e) = absurd (not_zero (v.1 ∙ e))
       pick s (inr w) = (v.0, w)
 
@@ -153,7 +153,7 @@ module _ (held : Option Held) (s0 s1 : Spring) (old new : Scene) where
   pub complete : (status : ℕ) → Served status held s0 s1 old new → IfSome s0.supply (λ s. AreGood held s.left old new → StoodStill s0.faults s1.faults → AreStill old new → status ≡ 0)
   complete status v = go s0.supply refl
     where
-      pick : (s : Supply) → AreGood held s.left old new → StoodStill s0.faults s1.faults → AreStill old new → (status_of v.0 ≡ 0) ⊎ IsWrong v.0 held s.left s0.faults s1.faults old new → status ≡ 0
+      pick : (s : Supply) → AreGood held s.left old new → StoodStill s0.faults s1.faults → AreStill old new → (worker_status_of v.0 ≡ 0) ⊎ IsWrong v.0 held s.left s0.faults s1.faults old new → status ≡ 0
       pick s good source still (inl e) = v.1 ∙ e
       pick s good source still (inr w) = absurd (not_wrong v.0 s.left good source still w)
 
@@ -165,7 +165,7 @@ module _ (held : Option Held) (s0 s1 : Spring) (old new : Scene) where
   pub calm : (status : ℕ) → Served status held s0 s1 old new → status ≡ 0 → IsCalm s0.faults s1.faults old new
   calm status v zero = by v.0 v.2 (sym v.1 ∙ zero)
     where
-      whole_if : (why : Stop) → status_of why ≡ 0 → is_sink_whole why ≡ true
+      whole_if : (why : Stop) → worker_status_of why ≡ 0 → is_sink_whole why ≡ true
       whole_if stop.NotRun z = cc
       whole_if stop.Terminated z = refl
       whole_if stop.Ended z = refl
@@ -175,7 +175,7 @@ module _ (held : Option Held) (s0 s1 : Spring) (old new : Scene) where
       whole_if stop.ReadFault z = cc
       whole_if stop.WriteFault z = cc
 
-      by : (why : Stop) → Ends why held s0 s1 old new → status_of why ≡ 0 → IsCalm s0.faults s1.faults old new
+      by : (why : Stop) → Ends why held s0 s1 old new → worker_status_of why ≡ 0 → IsCalm s0.faults s1.faults old new
       by why x z =
           let w = both x.wrote x.closed (x.whole ∙ whole_if why z) in
           let c = x.crews z in

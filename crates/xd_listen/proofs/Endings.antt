@@ -16,9 +16,9 @@ use Rattle.xd_reader.specs.declared.news.LinkNews.{LinkNews}
 use Rattle.xd_reader.specs.declared.news.LinkNews.TheVariants as news
 use Rattle.xd_reader.specs.declared.news.LinkStop.{LinkStop}
 use Rattle.xd_reader.specs.declared.news.LinkStop.TheVariants as link
-use Rattle.xd_reader.specs.Judged.{stop_of}
+use Rattle.xd_reader.specs.Judged.{link_stop_of}
 use Rattle.xd_reader.specs.Reads.{PutsAll, StopsAt}
-use Rattle.xd_runner.specs.Orders.{ArePieces, EndsCut, EndsWell, IsCommand, IsPiece, Mails, Order, Runs as Ran1, RunsOrders, Seen as Programs1, ToldOfProgram, all_news, ran_of, told_news}
+use Rattle.xd_runner.specs.Orders.{ArePieces, EndsCut, EndsWell, IsCommand, IsPiece, Mails, Order, Runs as Ran1, RunsOrders, ProgramsSeen as Programs1, ToldOfProgram, news_of_programs, ran_of, told_news}
 use Rattle.xd_runner.specs.Programs.{AreRun, Ran, faults_of}
 use Rattle.xd_worker.specs.History.{is_over, worker_after}
 use Rattle.xd_listen.specs.Inputs.{has_end, has_terminate, messages_in}
@@ -26,8 +26,8 @@ use Rattle.xd_listen.specs.Programs.{output_in, ran_in}
 use Rattle.xd_listen.specs.Took.{TookAll, TookToLast}
 use Rattle.xd_listen.specs.declared.stop.Stop.{Stop}
 use Rattle.xd_listen.specs.declared.stop.Stop.TheVariants as stop
-use Rattle.xd_listen.specs.Ends.{Closes, Ends, IsCause, IsStill, RunsPrograms, Scene, last_stop, terminated_by, voice_of}
-use Rattle.xd_listen.specs.Halts.{Ceased, Ceases, Strayed, IsStrange, IsUncalled, is_sink_whole, status_of}
+use Rattle.xd_listen.specs.Ends.{Closes, Ends, IsCause, IsStill, RunsPrograms, Scene, last_link_stop, terminated_by, voice_of}
+use Rattle.xd_listen.specs.Halts.{Ceased, Ceases, Strayed, IsStrange, IsUncalled, is_sink_whole, worker_status_of}
 use Rattle.xd_listen.specs.Joined.{Sources}
 use Rattle.xd_listen.specs.News.{dones, news_in}
 use Rattle.xd_listen.specs.Seen.{Seen}
@@ -82,12 +82,12 @@ done_pieces : (pieces : List (List ℕ)) (ns : List LinkNews) → dones (map new
 done_pieces [] ns = refl
 done_pieces (p ∷ pieces) ns = done_pieces pieces ns
 
-pub done_of : (ps : List ToldOfProgram) → dones (all_news ps) ≡ length ps
+pub done_of : (ps : List ToldOfProgram) → dones (news_of_programs ps) ≡ length ps
 done_of [] = refl
 done_of (p ∷ ps) =
     let a = done_pieces p.pieces (news.ChildDone p.outcome ∷ []) in
     let b = done_of ps in
-    let c = dones-append (told_news p) (all_news ps) in
+    let c = dones-append (told_news p) (news_of_programs ps) in
     omega (arith, a, b, c)
 
 -- as many programs came to an end as were ordered
@@ -103,7 +103,7 @@ ran_as_many orders rs old new r =
 -- What a runner put, where all that it was ordered was taken.
 pub record AllRan (orders : List (List (List ℕ))) (put : List LinkNews) (runs0 runs1 : Option (List ChildRun)) (faults0 faults1 : ℕ) : Type 0 where
   pub ran : List ToldOfProgram
-  pub put_is : put ≡ all_news ran
+  pub put_is : put ≡ news_of_programs ran
   pub sizes : All ArePieces ran
   pub run : AreRun orders (map ran_of ran) runs0 runs1
   pub faults : RoseBy (faults_of (map ran_of ran)) faults0 faults1
@@ -139,7 +139,7 @@ module _ (orders : List (List (List ℕ))) (some : NoneEmpty orders) (ring : Rin
       let a1 = length-append got (e.order ∷ []) in
       let b = done_of told in
       let c = dones-append of_runner more in
-      let d = dones-append (all_news told) (map news.Output e.pieces ++ news.End link.OutOfMemory ∷ []) in
+      let d = dones-append (news_of_programs told) (map news.Output e.pieces ++ news.End link.OutOfMemory ∷ []) in
       let x = done_pieces e.pieces (news.End link.OutOfMemory ∷ []) in
       let f = ap dones (sym taken ∙ (e.puts ∙ ap (λ (l : List LinkNews). l ++ (map news.Output e.pieces ++ news.End link.OutOfMemory ∷ [])) r.puts)) in
       let g = ran_as_many got (map ran_of told) s0.runs mid.runs r.run in
@@ -180,7 +180,7 @@ no_more orders put runs0 runs1 faults0 faults1 heard x more r e count =
 
 pub programs_ended : (a : Setting) (now : Beside) (why : Stop) (s : Seen) (c : Ceased a now why s) (more : List LinkNews) (put : List LinkNews) (old new : Scene)
     → put ≡ c.of_runner ++ more → AllRan s.orders put old.runs new.runs old.child_faults new.child_faults
-    → (unheard : List Ran) × (p : RunsPrograms c.inputs c.history c.left unheard old new) × (status_of why ≡ 0 → unheard ≡ []) × (p.started ≡ s.orders)
+    → (unheard : List Ran) × (p : RunsPrograms c.inputs c.history c.left unheard old new) × (worker_status_of why ≡ 0 → unheard ≡ []) × (p.started ≡ s.orders)
 programs_ended a now why s c more put old new e r =
     let later = c.unheard ++ more in
     let in_put : put ≡ news_in c.inputs ++ later = e ∙ (ap (λ (l : List LinkNews). l ++ more) c.from_programs ∙ append_assoc (news_in c.inputs) c.unheard more) in
@@ -219,17 +219,17 @@ programs_ended a now why s c more put old new e r =
 
 -- ---- the link
 
-clean_by : (r : Rest) → stop_of r ≡ link.Ended → r ≡ Clean
+clean_by : (r : Rest) → link_stop_of r ≡ link.Ended → r ≡ Clean
 clean_by Clean e = refl
 clean_by Unfinished e = cc
 clean_by (Refused f) e = cc
 
-cut_by : (r : Rest) → stop_of r ≡ link.Cut → r ≡ Unfinished
+cut_by : (r : Rest) → link_stop_of r ≡ link.Cut → r ≡ Unfinished
 cut_by Clean e = cc
 cut_by Unfinished e = refl
 cut_by (Refused f) e = cc
 
-refused_by : (r : Rest) (f : FrameFault) → stop_of r ≡ link.Garbled f → r ≡ Refused f
+refused_by : (r : Rest) (f : FrameFault) → link_stop_of r ≡ link.Garbled f → r ≡ Refused f
 refused_by Clean f e = cc
 refused_by Unfinished f e = cc
 refused_by (Refused g) f e = ap Refused (garbled g f e)
@@ -278,7 +278,7 @@ module _ (a : Setting) (now : Beside) (s : Seen) (before : Sources) (old new : S
   sink_was : Spoke a.held c.inputs c.history (is_sink_whole why) (voice_of old) (voice s.sunk s.sink_faults new.file_faults)
   sink_was = subst (λ (n : ℕ). Spoke a.held c.inputs c.history (is_sink_whole why) (voice_of old) (voice s.sunk s.sink_faults n)) (sym files_is) (subst (λ (v : Voice). Spoke a.held c.inputs c.history (is_sink_whole why) v (voice s.sunk s.sink_faults now.file_faults)) first_is c.spoke)
 
-  abbrev did : (unheard : List Ran) × (p : RunsPrograms c.inputs c.history c.left unheard old new) × (status_of why ≡ 0 → unheard ≡ []) × (p.started ≡ s.orders)
+  abbrev did : (unheard : List Ran) × (p : RunsPrograms c.inputs c.history c.left unheard old new) × (worker_status_of why ≡ 0 → unheard ≡ []) × (p.started ≡ s.orders)
   did = programs_ended a now why s c more1 runner_put old new taken1 ran
 
   times_are : Times c.inputs did.1.started old.clock new.clock
@@ -286,7 +286,7 @@ module _ (a : Setting) (now : Beside) (s : Seen) (before : Sources) (old new : S
       (subst (λ (k : Ticking). Times c.inputs s.orders k new.clock) (sym clock_is) (subst (λ (k : Ticking). Times c.inputs s.orders a.clock k) (sym clock_now) c.times))
 
   -- it ends so, where the sink was closed or not
-  ends_so : (w : Stop) → (is_sink_whole why && closed) ≡ is_sink_whole w → (status_of w ≡ 0 → status_of why ≡ 0) → IsStill w s0.faults s1.faults → IsCause w bytes c.inputs c.history s0 s1 old new → Ends w a.held s0 s1 old new
+  ends_so : (w : Stop) → (is_sink_whole why && closed) ≡ is_sink_whole w → (worker_status_of w ≡ 0 → worker_status_of why ≡ 0) → IsStill w s0.faults s1.faults → IsCause w bytes c.inputs c.history s0 s1 old new → Ends w a.held s0 s1 old new
   ends_so w whole none still cause = record {
     bytes = bytes;
     inputs = c.inputs;
@@ -312,14 +312,14 @@ module _ (a : Setting) (now : Beside) (s : Seen) (before : Sources) (old new : S
     cause = cause;
   }
 
-  three : (w : Stop) → status_of w ≡ 3 → IsStill w s0.faults s1.faults
+  three : (w : Stop) → worker_status_of w ≡ 3 → IsStill w s0.faults s1.faults
   three w e = record { still_or_rose = source_or reads.stop reads.reads.cause; still = λ z. let q = sym e ∙ z in cc }
 
   zero_still : (w : Stop) → s1.faults ≡ s0.faults → IsStill w s0.faults s1.faults
   zero_still w e = record { still_or_rose = inl e; still = λ z. e }
 
-  zero_by : (w : Stop) → w ≡ why → status_of w ≡ 0 → status_of why ≡ 0
-  zero_by w e z = ap status_of (sym e) ∙ z
+  zero_by : (w : Stop) → w ≡ why → worker_status_of w ≡ 0 → worker_status_of why ≡ 0
+  zero_by w e z = ap worker_status_of (sym e) ∙ z
 
   -- the sink was whole, and was closed
   whole_by : (w : Stop) → w ≡ why → is_sink_whole w ≡ true → closed ≡ true → (is_sink_whole why && closed) ≡ true
@@ -350,7 +350,7 @@ module _ (a : Setting) (now : Beside) (s : Seen) (before : Sources) (old new : S
       by link.ReadFault r = ends_so stop.ReadFault (whole_by stop.Terminated e refl z) (λ q. cc) (three stop.ReadFault refl) (inr t.0, r)
       by link.OutOfMemory r = well r
 
-  ended_by : (w : Stop) → w ≡ why → closed ≡ true → Ceases w c.inputs c.history c.ahead → Ends (last_stop true w reads.stop) a.held s0 s1 old new
+  ended_by : (w : Stop) → w ≡ why → closed ≡ true → Ceases w c.inputs c.history c.ahead → Ends (last_link_stop true w reads.stop) a.held s0 s1 old new
   ended_by stop.NotRun e z x = absurd x
   ended_by stop.Terminated e z x = terminated e z x reads.stop refl
   ended_by stop.Ended e z x =
@@ -377,11 +377,11 @@ module _ (a : Setting) (now : Beside) (s : Seen) (before : Sources) (old new : S
       broken_by : (y : Bool) → (is_sink_whole why && y) ≡ false
       broken_by y = ap (λ (x : Bool). x && y) (sym (ap is_sink_whole e))
 
-  pub ended : (l : LinkStop) → l ≡ reads.stop → Ends (last_stop closed why l) a.held s0 s1 old new
+  pub ended : (l : LinkStop) → l ≡ reads.stop → Ends (last_link_stop closed why l) a.held s0 s1 old new
   ended l f = by closed refl
     where
-      by : (b : Bool) → closed ≡ b → Ends (last_stop b why l) a.held s0 s1 old new
-      by true z = subst (λ (x : LinkStop). Ends (last_stop true why x) a.held s0 s1 old new) (sym f) (ended_by why refl z c.cause)
+      by : (b : Bool) → closed ≡ b → Ends (last_link_stop b why l) a.held s0 s1 old new
+      by true z = subst (λ (x : LinkStop). Ends (last_link_stop true why x) a.held s0 s1 old new) (sym f) (ended_by why refl z c.cause)
       by false z = ends_so stop.WriteFault (ap (λ (y : Bool). is_sink_whole why && y) z ∙ none (is_sink_whole why)) (λ q. cc) (three stop.WriteFault refl) (sink_rose (is_sink_whole why) sink_was.sink_count (inl z))
         where
           none : (x : Bool) → (x && false) ≡ false
@@ -404,15 +404,15 @@ pieces_fit : (pieces : List (List ℕ)) (o : Outcome) (ns : List LinkNews) → A
 pieces_fit [] o ns a f = (tt, f)
 pieces_fit (p ∷ pieces) o ns a f = ((all_head IsPiece p pieces a).1, pieces_fit pieces o ns (all_tail IsPiece p pieces a) f)
 
-all_fit : (ps : List ToldOfProgram) → All ArePieces ps → AllFit (all_news ps)
+all_fit : (ps : List ToldOfProgram) → All ArePieces ps → AllFit (news_of_programs ps)
 all_fit [] s = tt
-all_fit (p ∷ ps) s = pieces_fit p.pieces p.outcome (all_news ps) (all_head ArePieces p ps s) (all_fit ps (all_tail ArePieces p ps s))
+all_fit (p ∷ ps) s = pieces_fit p.pieces p.outcome (news_of_programs ps) (all_head ArePieces p ps s) (all_fit ps (all_tail ArePieces p ps s))
 
 fits_at : (ns : List LinkNews) (x : LinkNews) (more : List LinkNews) → AllFit (ns ++ x ∷ more) → Fits x
 fits_at [] x more f = f.0
 fits_at (n ∷ ns) x more f = fits_at ns x more f.1
 
-never_bad : (r : Rest) (b : ℕ) → stop_of r ≡ link.BadGreeting b → ⊥
+never_bad : (r : Rest) (b : ℕ) → link_stop_of r ≡ link.BadGreeting b → ⊥
 never_bad Clean b e = cc
 never_bad Unfinished b e = cc
 never_bad (Refused f) b e = cc

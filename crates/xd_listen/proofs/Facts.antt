@@ -7,9 +7,9 @@ use Rattle.xd_run_tests.specs.Line.{FunctionCall, running_test, head_test, left}
 use Rattle.xd_suite.specs.Tests.{run_at}
 use Rattle.xd_worker.specs.declared.input.WorkerInput.{WorkerInput}
 use Rattle.xd_worker.specs.declared.input.WorkerInput.TheVariants.{Message, SuiteBytes, SuiteTooLarge, SuiteUnread, Output, ChildDone, LinkEnd}
-use Rattle.xd_worker.specs.Worker.{Worker, Turn, turn_of}
-use Rattle.xd_worker.specs.Turns.{Came, Told as Says, SuiteRead, NoSuite, Printed, ChildEnded, LinkEnded, turned}
-use Rattle.xd_worker.specs.History.{Heard, Is, MessageSays, IsSuite, turn_by}
+use Rattle.xd_worker.specs.Worker.{Worker, WorkerTurn, worker_turn_of}
+use Rattle.xd_worker.specs.Turns.{Came, Told as Says, SuiteRead, NoSuite, Printed, ChildEnded, LinkEnded, worker_turned}
+use Rattle.xd_worker.specs.History.{HeardInput, Is, MessageSays, IsSuite, turn_by}
 use Rattle.xd_listen.specs.Inputs.{IsDue, has_terminate, is_terminate_kind, is_link_end, is_of_link, message_in}
 use Rattle.xd_listen.specs.Suites.{FilesGave}
 use Rattle.xd_listen.specs.Programs.{commands_of}
@@ -46,7 +46,7 @@ none_runs_if false x e = refl
 pub none_runs : (c : FunctionCall) → c.running ≡ false → running_test c ≡ None
 none_runs c e = none_runs_if c.running (head_test (left c)) e
 
-pub no_commands : (u : Turn) → u.run ≡ None → commands_of u ≡ []
+pub no_commands : (u : WorkerTurn) → u.run ≡ None → commands_of u ≡ []
 no_commands u e = ap (λ (r : Option ℕ). map (run_at u.duties.tests) (option_to_list r)) e
 
 -- an input that is of the files
@@ -55,12 +55,12 @@ pub record Aside (i : WorkerInput) : Type 0 where
   pub last : is_link_end i ≡ false
   pub message : message_in i ≡ []
   pub due : (w : Worker) → w.duties.owed ≡ true → IsDue w i
-  pub does : (w : Worker) (g : Heard) → Is i g.came → Waits w → Plain (turn_by w g)
+  pub does : (w : Worker) (g : HeardInput) → Is i g.came → Waits w → Plain (turn_by w g)
 
-refused_does : (w : Worker) (g : Heard) (text : List ℕ) → g.came ≡ NoSuite text → Waits w → Plain (turn_by w g)
-refused_does w g text e i = subst (λ (c : Came). Plain (turned c g.channels (turn_of w))) (sym e) (no_suite_does w text g.channels i)
+refused_does : (w : Worker) (g : HeardInput) (text : List ℕ) → g.came ≡ NoSuite text → Waits w → Plain (turn_by w g)
+refused_does w g text e i = subst (λ (c : Came). Plain (worker_turned c g.channels (worker_turn_of w))) (sym e) (no_suite_does w text g.channels i)
 
-read_does : (w : Worker) (b : List ℕ) (c : Came) (n : ℕ) → IsSuite b c → Waits w → Plain (turned c n (turn_of w))
+read_does : (w : Worker) (b : List ℕ) (c : Came) (n : ℕ) → IsSuite b c → Waits w → Plain (worker_turned c n (worker_turn_of w))
 read_does w b (Says said) n s i = absurd s
 read_does w b (SuiteRead tests) n s i = suite_does w tests n i
 read_does w b (NoSuite text) n s i = no_suite_does w text n i
@@ -77,7 +77,7 @@ aside held rose path (Output b) f = absurd f
 aside held rose path (ChildDone outcome ms) f = absurd f
 aside held rose path LinkEnd f = absurd f
 
-pub message_came : (w : Worker) (m : MessageView) (c : Came) (n : ℕ) → MessageSays m c → Waits w → Does (is_terminate_kind m.kind) (turned c n (turn_of w))
+pub message_came : (w : Worker) (m : MessageView) (c : Came) (n : ℕ) → MessageSays m c → Waits w → Does (is_terminate_kind m.kind) (worker_turned c n (worker_turn_of w))
 message_came w m (Says said) n s i = message_does w m said n s i
 message_came w m (SuiteRead tests) n s i = absurd s
 message_came w m (NoSuite text) n s i = absurd s

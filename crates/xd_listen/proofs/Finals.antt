@@ -11,16 +11,16 @@ use Rattle.xd_reader.specs.declared.news.LinkNews.{LinkNews}
 use Rattle.xd_reader.specs.declared.news.LinkNews.TheVariants as news
 use Rattle.xd_reader.specs.declared.news.LinkStop.{LinkStop}
 use Rattle.xd_reader.specs.Reads.{PutsAll}
-use Rattle.xd_runner.specs.Orders.{EndsCut, EndsWell, Mails, Order, RunsOrders, Seen as Programs, ToldOfProgram, ran_of}
+use Rattle.xd_runner.specs.Orders.{EndsCut, EndsWell, Mails, Order, RunsOrders, ProgramsSeen as Programs, ToldOfProgram, ran_of}
 use Rattle.xd_runner.specs.Programs.{AreRun, faults_of}
 use Rattle.xd_listen.specs.declared.server.Halt.{Halt}
 use Rattle.xd_listen.specs.declared.server.Halt.TheVariants as halt
 use Rattle.xd_listen.specs.declared.stop.Stop.{Stop}
-use Rattle.xd_listen.specs.Ends.{Closes, Scene, Served, last_stop, scene}
+use Rattle.xd_listen.specs.Ends.{Closes, Scene, Served, last_link_stop, scene}
 use Rattle.xd_edge.specs.Files.{Held}
 use Rattle.xd_listen.specs.declared.server.Server.{Server}
 use Rattle.xd_listen.specs.declared.speaker.Speaker.{Speaker}
-use Rattle.xd_listen.specs.Halts.{Ceased, Goes, Strayed, at_sink, status_of}
+use Rattle.xd_listen.specs.Halts.{Ceased, Goes, Strayed, at_sink, worker_status_of}
 use Rattle.xd_listen.specs.Joined.{Back, Joined, Sources}
 use Rattle.xd_listen.specs.News.{dones}
 use Rattle.xd_listen.specs.Seen.{Seen, seen}
@@ -100,7 +100,7 @@ module _ (a : Setting) (now : Beside) (before : Sources) (s : Seen) (stop : Link
     all_ran_of q more some taken few = all_ran s.orders some ring j.mails b.mails before.programs b.programs b.runner_put j.no_orders ordered_more q more taken few j.runs
 
     pub finished : (why : Stop) (closed : Bool) (sunk : Option Sunk) (faults readers runners : ℕ) → Ceased a now why s → Closes closed s.sunk sunk s.sink_faults faults
-        → Served (status_of (last_stop closed why stop)) a.held before.source b.source
+        → Served (worker_status_of (last_link_stop closed why stop)) a.held before.source b.source
         (scene a.first.sunk a.first.sink_faults before.programs.runs before.programs.faults a.first.file_faults readers runners a.clock)
         (scene sunk faults b.programs.runs b.programs.faults now.file_faults readers runners now.clock)
     finished why closed sunk faults readers runners c closes =
@@ -110,7 +110,7 @@ module _ (a : Setting) (now : Beside) (before : Sources) (s : Seen) (stop : Link
         let new = scene sunk faults b.programs.runs b.programs.faults now.file_faults readers runners now.clock in
         let ran = all_ran_of c.of_runner p1.0 c.some p1.1 (few_of c.of_runner (c.drained j.memory)) in
         let stopped : stop ≡ j.reads.stop = stop_is (subst (λ (o : Option LinkStop). IsEndTaken o c.of_reader) j.noted c.noted) p0.0 p0.1 in (
-          last_stop closed why stop,
+          last_link_stop closed why stop,
           refl,
           ended a now s before old new why c before.source b.source b.reader_put p0.0 p1.0 b.runner_put j.reads p0.1 (j.noted ∙ ap Some stopped) p1.1 ran closed closes refl refl refl refl refl refl stop stopped,
         )

@@ -17,9 +17,9 @@ use Rattle.xd_worker.specs.declared.input.WorkerInput.{WorkerInput}
 use Rattle.xd_worker.specs.declared.input.WorkerInput.TheVariants.{Message, SuiteBytes, SuiteTooLarge, SuiteUnread, Output, ChildDone, LinkEnd}
 use Rattle.xd_worker.specs.declared.input.WorkerActions.{WorkerActions}
 use Rattle.xd_worker.specs.declared.worker.WorkerCore.{WorkerCore}
-use Rattle.xd_worker.specs.Worker.{Worker, Turn, turn_of, after_turn}
-use Rattle.xd_worker.specs.Turns.{Came, Told as Says, SuiteRead, NoSuite, Printed, ChildEnded, LinkEnded, turned}
-use Rattle.xd_worker.specs.History.{Heard, MessageSays, turn_by, worker_after}
+use Rattle.xd_worker.specs.Worker.{Worker, WorkerTurn, worker_turn_of, after_turn}
+use Rattle.xd_worker.specs.Turns.{Came, Told as Says, SuiteRead, NoSuite, Printed, ChildEnded, LinkEnded, worker_turned}
+use Rattle.xd_worker.specs.History.{HeardInput, MessageSays, turn_by, worker_after}
 use Rattle.xd_worker.specs.Stands.{Answers, StandsFor}
 use Rattle.xd_listen.specs.Running.{call_of_service, rests}
 use Rattle.xd_listen.specs.Inputs.{IsDue, has_end, has_terminate, is_terminate_kind, is_link_end, is_of_link, message_in, messages_in}
@@ -47,7 +47,7 @@ abbrev pub spoken : WorkerCore → Bool → Option Sunk → ℕ → Seen → See
 spoken core broken sunk faults s = record s { core = core; broken = broken; sunk = sunk; sink_faults = faults }
 
 -- what an input adds
-pub spoke_more : (held : Option Held) (inputs : List WorkerInput) (h : List Heard) (b0 b1 : Bool) (first v0 v1 : Voice) (core : WorkerCore) (i : WorkerInput) (acts : WorkerActions)
+pub spoke_more : (held : Option Held) (inputs : List WorkerInput) (h : List HeardInput) (b0 b1 : Bool) (first v0 v1 : Voice) (core : WorkerCore) (i : WorkerInput) (acts : WorkerActions)
     → b0 ≡ false → Spoke held inputs h (not b0) first v0 → (a : Answers core (worker_after h) i acts) → IsDue (worker_after h) i → AnswersAsking held (Rose first.file_faults v1.file_faults) (asked_path h) i
     → (is_of_link i ≡ true → has_end inputs ≡ false) → WritesMore b0 b1 (frames acts.say) v0.sunk v1.sunk → CountBehind b0 b1 v0.sink_faults v1.sink_faults → v0.sink_faults ≤ v1.sink_faults → v0.file_faults ≤ v1.file_faults
     → Spoke held (i ∷ inputs) (a.heard ∷ h) (not b1) first v1
@@ -63,7 +63,7 @@ spoke_more held inputs h b0 b1 first v0 v1 core i acts whole t a due follows onc
 
 -- ---- which test runs
 
-runs_at : (r : Option ℕ) (u : Turn) → u.run ≡ r → Ready u → RunsSo None (commands_of u) (after_turn u)
+runs_at : (r : Option ℕ) (u : WorkerTurn) → u.run ≡ r → Ready u → RunsSo None (commands_of u) (after_turn u)
 runs_at None u e y = subst (λ (l : List (List (List ℕ))). RunsSo None l (after_turn u)) (sym (no_commands u e)) (y.some e)
 runs_at (Some k) u e y =
     let runs : running_test (call_of_service u.duties.service) ≡ Some k = y.test ∙ e in
@@ -71,14 +71,14 @@ runs_at (Some k) u e y =
     (record { test = k; runs = runs; busy = y.busy (running_some (call_of_service u.duties.service) k runs) }, refl, refl)
 
 -- after an input where none ran
-pub ready_runs : (u : Turn) → Ready u → RunsSo None (commands_of u) (after_turn u)
+pub ready_runs : (u : WorkerTurn) → Ready u → RunsSo None (commands_of u) (after_turn u)
 ready_runs u y = runs_at u.run u refl y
 
 -- after an input while one ran, which runs on
-pub kept_runs : (moment : ℕ) (u : Turn) (test : ℕ) → running_test (call_of_service u.duties.service) ≡ Some test → rests (call_of_service u.duties.service).phase ≡ false → u.run ≡ None → RunsSo (Some moment) (commands_of u) (after_turn u)
+pub kept_runs : (moment : ℕ) (u : WorkerTurn) (test : ℕ) → running_test (call_of_service u.duties.service) ≡ Some test → rests (call_of_service u.duties.service).phase ≡ false → u.run ≡ None → RunsSo (Some moment) (commands_of u) (after_turn u)
 kept_runs moment u test runs busy none = subst (λ (l : List (List (List ℕ))). RunsSo (Some moment) l (after_turn u)) (sym (no_commands u none)) (record { test = test; runs = runs; busy = busy })
 
-more_commands : (h : List Heard) (g : Heard) (orders left : List (List (List ℕ))) → commands_in h ≡ orders ++ left → left ≡ [] → commands_in (g ∷ h) ≡ orders ++ commands_of (turn_by (worker_after h) g)
+more_commands : (h : List HeardInput) (g : HeardInput) (orders left : List (List (List ℕ))) → commands_in h ≡ orders ++ left → left ≡ [] → commands_in (g ∷ h) ≡ orders ++ commands_of (turn_by (worker_after h) g)
 more_commands h g orders left e n = ap (λ (l : List (List (List ℕ))). l ++ commands_of (turn_by (worker_after h) g)) (e ∙ (ap (λ (l : List (List (List ℕ))). orders ++ l) n ∙ append-nil orders))
 
 runs_now : (started : Option ℕ) (left : List (List (List ℕ))) (w : Worker) → left ≡ [] → RunsSo started left w → RunsSo started [] w
@@ -91,27 +91,27 @@ shut_behind true d e = refl
 shut_behind false d e = sym (ap is_door_shut e)
 
 -- a message does this to the test that runs, and to what is read
-record Did (started : Option ℕ) (last : Bool) (d : Door) (u : Turn) : Type 0 where
+record Did (started : Option ℕ) (last : Bool) (d : Door) (u : WorkerTurn) : Type 0 where
   runs : RunsSo started (commands_of u) (after_turn u)
   stopped : u.duties.stopped ≡ last
   reads : ReadsSo u.suite started (commands_of u) (door_behind last d) (after_turn u)
 
-reads_by : (p : Option (List ℕ)) (b : Bool) (d : Door) (u : Turn) → d ≡ door.Open → u.suite ≡ p → Does b u → ReadsSo p None (commands_of u) (door_behind b d) (after_turn u)
+reads_by : (p : Option (List ℕ)) (b : Bool) (d : Door) (u : WorkerTurn) → d ≡ door.Open → u.suite ≡ p → Does b u → ReadsSo p None (commands_of u) (door_behind b d) (after_turn u)
 reads_by None b d u o e x = tt
 reads_by (Some path) true d u o e x = let z = sym (x.ends refl).1 ∙ e in cc
 reads_by (Some path) false d u o e x = ((x.path path e).1, refl, no_commands u (x.path path e).0, o)
 
-did_idle : (b : Bool) (d : Door) (u : Turn) → d ≡ door.Open → Does b u → Did None b d u
+did_idle : (b : Bool) (d : Door) (u : WorkerTurn) → d ≡ door.Open → Does b u → Did None b d u
 did_idle b d u o x = record { runs = ready_runs u x.ready; stopped = x.stopped; reads = reads_by u.suite b d u o refl x }
 
-did_busy : (moment : ℕ) (b : Bool) (d : Door) (u : Turn) (test : ℕ) → Keeps test b u → Did (Some moment) b d u
+did_busy : (moment : ℕ) (b : Bool) (d : Door) (u : WorkerTurn) (test : ℕ) → Keeps test b u → Did (Some moment) b d u
 did_busy moment b d u test x = record {
   runs = kept_runs moment u test x.test x.busy x.run;
   stopped = x.stopped;
   reads = subst (λ (p : Option (List ℕ)). ReadsSo p (Some moment) (commands_of u) (door_behind b d) (after_turn u)) (sym x.suite) tt;
 }
 
-keeps_message : (w : Worker) (m : MessageView) (c : Came) (k n : ℕ) → MessageSays m c → running_test (call_of_service w.duties.service) ≡ Some n → rests (call_of_service w.duties.service).phase ≡ false → w.duties.stopped ≡ false → Keeps n (is_terminate_kind m.kind) (turned c k (turn_of w))
+keeps_message : (w : Worker) (m : MessageView) (c : Came) (k n : ℕ) → MessageSays m c → running_test (call_of_service w.duties.service) ≡ Some n → rests (call_of_service w.duties.service).phase ≡ false → w.duties.stopped ≡ false → Keeps n (is_terminate_kind m.kind) (worker_turned c k (worker_turn_of w))
 keeps_message w m (Says said) k n s r b u = message_keeps w m said k n s r b u
 keeps_message w m (SuiteRead tests) k n s r b u = absurd s
 keeps_message w m (NoSuite text) k n s r b u = absurd s
@@ -119,7 +119,7 @@ keeps_message w m (Printed x) k n s r b u = absurd s
 keeps_message w m (ChildEnded outcome ms) k n s r b u = absurd s
 keeps_message w m LinkEnded k n s r b u = absurd s
 
-message_did : (started : Option ℕ) (w : Worker) (m : MessageView) (g : Heard) (d : Door) → MessageSays m g.came → d ≡ door.Open → w.duties.stopped ≡ false → RunsSo started [] w → Did started (is_terminate_kind m.kind) d (turn_by w g)
+message_did : (started : Option ℕ) (w : Worker) (m : MessageView) (g : HeardInput) (d : Door) → MessageSays m g.came → d ≡ door.Open → w.duties.stopped ≡ false → RunsSo started [] w → Did started (is_terminate_kind m.kind) d (turn_by w g)
 message_did None w m g d is o u r = did_idle (is_terminate_kind m.kind) d (turn_by w g) o (message_came w m g.came g.channels is (record { idle = r; unstopped = u }))
 message_did (Some moment) w m g d is o u r = did_busy moment (is_terminate_kind m.kind) d (turn_by w g) r.test (keeps_message w m g.came g.channels r.test is r.runs r.busy u)
 
@@ -145,7 +145,7 @@ link_behind b m d inputs got o e f = by b e
 
 module _ (a : Setting) (now : Beside) (s : Seen) (core : WorkerCore) (broken : Bool) (sunk : Option Sunk) (faults : ℕ) (acts : WorkerActions)
     (writes : WritesMore s.broken broken (frames acts.say) s.sunk sunk) (count : CountBehind s.broken broken s.sink_faults faults) (later : s.sink_faults ≤ faults) where
-  pub message_heard : (m : MessageView) (last : Bool) → is_terminate_kind m.kind ≡ last → s.door ≡ door.Open → ((h : List Heard) → StandsFor s.core h → Answers core (worker_after h) (Message m) acts)
+  pub message_heard : (m : MessageView) (last : Bool) → is_terminate_kind m.kind ≡ last → s.door ≡ door.Open → ((h : List HeardInput) → StandsFor s.core h → Answers core (worker_after h) (Message m) acts)
       → ServesSoFar a now (owed_of_link (news.Message m)) s → ServesSoFar a now (to_start acts.suite) (record (spoken core broken sunk faults s) { door = door_behind last s.door })
   message_heard m last e o answers g =
       let h = g.history in
@@ -183,15 +183,15 @@ module _ (a : Setting) (now : Beside) (s : Seen) (core : WorkerCore) (broken : B
       }
 
   -- the link's end
-  end_did : (started : Option ℕ) (w : Worker) (k : ℕ) → w.duties.stopped ≡ false → RunsSo started [] w → Did started true door.Ended (turned LinkEnded k (turn_of w))
-  end_did None w k u r = let x = link_end_does w k r in record { runs = ready_runs (turned LinkEnded k (turn_of w)) x.ready; stopped = x.stopped; reads = subst (λ (p : Option (List ℕ)). ReadsSo p None (commands_of (turned LinkEnded k (turn_of w))) door.Terminated (after_turn (turned LinkEnded k (turn_of w)))) (sym (x.ends refl).1) tt }
-  end_did (Some moment) w k u r = did_busy moment true door.Ended (turned LinkEnded k (turn_of w)) r.test (link_end_keeps w k r.test r.runs r.busy u)
+  end_did : (started : Option ℕ) (w : Worker) (k : ℕ) → w.duties.stopped ≡ false → RunsSo started [] w → Did started true door.Ended (worker_turned LinkEnded k (worker_turn_of w))
+  end_did None w k u r = let x = link_end_does w k r in record { runs = ready_runs (worker_turned LinkEnded k (worker_turn_of w)) x.ready; stopped = x.stopped; reads = subst (λ (p : Option (List ℕ)). ReadsSo p None (commands_of (worker_turned LinkEnded k (worker_turn_of w))) door.Terminated (after_turn (worker_turned LinkEnded k (worker_turn_of w)))) (sym (x.ends refl).1) tt }
+  end_did (Some moment) w k u r = did_busy moment true door.Ended (worker_turned LinkEnded k (worker_turn_of w)) r.test (link_end_keeps w k r.test r.runs r.busy u)
 
-  end_suite : (started : Option ℕ) (w : Worker) (k : ℕ) → w.duties.stopped ≡ false → RunsSo started [] w → (turned LinkEnded k (turn_of w)).suite ≡ None
+  end_suite : (started : Option ℕ) (w : Worker) (k : ℕ) → w.duties.stopped ≡ false → RunsSo started [] w → (worker_turned LinkEnded k (worker_turn_of w)).suite ≡ None
   end_suite None w k u r = ((link_end_does w k r).ends refl).1
   end_suite (Some moment) w k u r = (link_end_keeps w k r.test r.runs r.busy u).suite
 
-  pub end_heard : s.door ≡ door.Open → ((h : List Heard) → StandsFor s.core h → Answers core (worker_after h) LinkEnd acts)
+  pub end_heard : s.door ≡ door.Open → ((h : List HeardInput) → StandsFor s.core h → Answers core (worker_after h) LinkEnd acts)
       → ServesSoFar a now (owed_of_link (news.End link.Ended)) s → ServesSoFar a now (to_start None) (record (spoken core broken sunk faults s) { door = door.Ended })
   end_heard o answers g =
       let h = g.history in
@@ -201,7 +201,7 @@ module _ (a : Setting) (now : Beside) (s : Seen) (core : WorkerCore) (broken : B
       let listens : IsListening g.inputs g.of_reader = subst (λ (d : Door). FromLink d g.inputs g.of_reader) o g.from_link in
       let unstopped = g.stopped ∙ ap is_door_shut o in
       let runs = runs_now s.started g.left w (g.settled refl) g.runs in
-      let d : Did s.started true door.Ended u = subst (λ (c : Came). Did s.started true door.Ended (turned c x.heard.channels (turn_of w))) (sym x.is) (end_did s.started w x.heard.channels unstopped runs) in
+      let d : Did s.started true door.Ended u = subst (λ (c : Came). Did s.started true door.Ended (worker_turned c x.heard.channels (worker_turn_of w))) (sym x.is) (end_did s.started w x.heard.channels unstopped runs) in
       record {
         inputs = LinkEnd ∷ g.inputs;
         history = x.heard ∷ h;
@@ -212,7 +212,7 @@ module _ (a : Setting) (now : Beside) (s : Seen) (core : WorkerCore) (broken : B
             (subst (λ (p : Option (List ℕ)). AnswersAsking a.held (Rose a.first.file_faults now.file_faults) p LinkEnd) (sym g.path_is) refl)
             (λ z. listens.no_end) writes count later (omega arith);
         stands = x.worker;
-        path_is = subst (λ (c : Came). (turned c x.heard.channels (turn_of w)).suite ≡ None) (sym x.is) (end_suite s.started w x.heard.channels unstopped runs);
+        path_is = subst (λ (c : Came). (worker_turned c x.heard.channels (worker_turn_of w)).suite ≡ None) (sym x.is) (end_suite s.started w x.heard.channels unstopped runs);
         mails_are = g.mails_are;
         from_link = record {
           later = [];
@@ -241,7 +241,7 @@ module _ (a : Setting) (now : Beside) (s : Seen) (core : WorkerCore) (broken : B
   busy_of None w e r = cc
   busy_of (Some moment) w e r = r
 
-  still_runs : (started : Option ℕ) (u : Turn) → IsSome started → (test : ℕ) → running_test (call_of_service u.duties.service) ≡ Some test → rests (call_of_service u.duties.service).phase ≡ false → u.run ≡ None → RunsSo started (commands_of u) (after_turn u)
+  still_runs : (started : Option ℕ) (u : WorkerTurn) → IsSome started → (test : ℕ) → running_test (call_of_service u.duties.service) ≡ Some test → rests (call_of_service u.duties.service).phase ≡ false → u.run ≡ None → RunsSo started (commands_of u) (after_turn u)
   still_runs None u e test r b n = cc
   still_runs (Some moment) u e test r b n = kept_runs moment u test r b n
 
@@ -259,7 +259,7 @@ module _ (a : Setting) (now : Beside) (s : Seen) (core : WorkerCore) (broken : B
       by door.Terminated x = record { later = x.later; got_is = x.got_is ∙ ap (λ (l : List MessageView). map news.Message l ++ x.later) (sym same); last = subst TookToLast (sym same) x.last; no_end = end ∙ x.no_end }
       by door.Ended x = record { later = x.later; got_is = x.got_is ∙ ap (λ (l : List MessageView). map news.Message l ++ news.End link.Ended ∷ x.later) (sym same); none_last = ap has_terminate same ∙ x.none_last; end = end ∙ x.end }
 
-  pub output_heard : (piece : List ℕ) → IsSome s.started → length piece ≤ 4096 → ((h : List Heard) → StandsFor s.core h → Answers core (worker_after h) (Output piece) acts)
+  pub output_heard : (piece : List ℕ) → IsSome s.started → length piece ≤ 4096 → ((h : List HeardInput) → StandsFor s.core h → Answers core (worker_after h) (Output piece) acts)
       → ServesSoFar a now (of_program (news.Output piece)) s → ServesSoFar a now (to_start None) (spoken core broken sunk faults s)
   output_heard piece some few answers g =
       let h = g.history in
@@ -267,7 +267,7 @@ module _ (a : Setting) (now : Beside) (s : Seen) (core : WorkerCore) (broken : B
       let x = answers h g.stands in
       let u = turn_by w x.heard in
       let r : IsBusy w = busy_of s.started w some (runs_now s.started g.left w (g.settled refl) g.runs) in
-      let p : Prints (turn_of w) u = subst (λ (c : Came). Prints (turn_of w) (turned c x.heard.channels (turn_of w))) (sym x.is) (output_does w piece x.heard.channels) in
+      let p : Prints (worker_turn_of w) u = subst (λ (c : Came). Prints (worker_turn_of w) (worker_turned c x.heard.channels (worker_turn_of w))) (sym x.is) (output_does w piece x.heard.channels) in
       record {
         inputs = Output piece ∷ g.inputs;
         history = x.heard ∷ h;
@@ -297,7 +297,7 @@ module _ (a : Setting) (now : Beside) (s : Seen) (core : WorkerCore) (broken : B
         stopped = p.rest.stopped ∙ g.stopped;
       }
 
-  pub done_heard : (outcome : Outcome) (ms : ℕ) (clock : Ticking) → IsSome s.started → IfSome s.started (λ start. Ticks (start + ms) now.clock clock) → ((h : List Heard) → StandsFor s.core h → Answers core (worker_after h) (ChildDone outcome ms) acts)
+  pub done_heard : (outcome : Outcome) (ms : ℕ) (clock : Ticking) → IsSome s.started → IfSome s.started (λ start. Ticks (start + ms) now.clock clock) → ((h : List HeardInput) → StandsFor s.core h → Answers core (worker_after h) (ChildDone outcome ms) acts)
       → ServesSoFar a now (of_program (news.ChildDone outcome)) s → ServesSoFar a (beside now.file_faults clock) (to_start None) (record (spoken core broken sunk faults s) { started = None })
   done_heard outcome ms clock some measured answers g =
       let h = g.history in
@@ -305,7 +305,7 @@ module _ (a : Setting) (now : Beside) (s : Seen) (core : WorkerCore) (broken : B
       let x = answers h g.stands in
       let u = turn_by w x.heard in
       let r : IsBusy w = busy_of s.started w some (runs_now s.started g.left w (g.settled refl) g.runs) in
-      let p : Step (turn_of w) u = subst (λ (c : Came). Step (turn_of w) (turned c x.heard.channels (turn_of w))) (sym x.is) (end_does w outcome ms x.heard.channels r.test r.runs r.busy) in
+      let p : Step (worker_turn_of w) u = subst (λ (c : Came). Step (worker_turn_of w) (worker_turned c x.heard.channels (worker_turn_of w))) (sym x.is) (end_does w outcome ms x.heard.channels r.test r.runs r.busy) in
       record {
         inputs = ChildDone outcome ms ∷ g.inputs;
         history = x.heard ∷ h;
@@ -341,7 +341,7 @@ module _ (a : Setting) (now : Beside) (s : Seen) (core : WorkerCore) (broken : B
 
   -- ---- a suite
 
-  pub suite_heard : (path : List ℕ) (i : WorkerInput) (files1 : ℕ) → s.broken ≡ false → FilesGave a.held (Rose now.file_faults files1) path i → now.file_faults ≤ files1 → ((h : List Heard) → StandsFor s.core h → Answers core (worker_after h) i acts)
+  pub suite_heard : (path : List ℕ) (i : WorkerInput) (files1 : ℕ) → s.broken ≡ false → FilesGave a.held (Rose now.file_faults files1) path i → now.file_faults ≤ files1 → ((h : List HeardInput) → StandsFor s.core h → Answers core (worker_after h) i acts)
       → ServesSoFar a now (to_start (Some path)) s → ServesSoFar a (beside files1 now.clock) (to_start None) (spoken core broken sunk faults s)
   suite_heard path i files1 whole gave more answers g =
       let h = g.history in

@@ -5,7 +5,7 @@ use Rattle.xd_journal.specs.declared.entry.Outcome.{Outcome}
 use Rattle.xd_reader.specs.declared.news.LinkNews.{LinkNews}
 use Rattle.xd_reader.specs.declared.news.LinkNews.TheVariants as news
 use Rattle.xd_edge.specs.MemChildren.{whole_output}
-use Rattle.xd_runner.specs.Orders.{ToldOfProgram, all_news, ran_of}
+use Rattle.xd_runner.specs.Orders.{ToldOfProgram, news_of_programs, ran_of}
 use Rattle.xd_runner.specs.Programs.{Ran}
 use Rattle.xd_worker.specs.declared.input.WorkerInput.{WorkerInput}
 use Rattle.xd_worker.specs.declared.input.WorkerInput.TheVariants.{Message, SuiteBytes, SuiteTooLarge, SuiteUnread, Output, ChildDone, LinkEnd}
@@ -75,9 +75,9 @@ rans_pieces : (out : List ℕ) (pieces : List (List ℕ)) (o : Outcome) (ns : Li
 rans_pieces out [] o ns = ap (λ (l : List ℕ). ran l o ∷ rans [] ns) (sym (append-nil out))
 rans_pieces out (p ∷ pieces) o ns = rans_pieces (out ++ p) pieces o ns ∙ ap (λ (l : List ℕ). ran l o ∷ rans [] ns) (append_assoc out p (whole_output pieces))
 
-pub rans_of : (ps : List ToldOfProgram) → rans [] (all_news ps) ≡ map ran_of ps
+pub rans_of : (ps : List ToldOfProgram) → rans [] (news_of_programs ps) ≡ map ran_of ps
 rans_of [] = refl
-rans_of (p ∷ ps) = ap (rans []) (append_assoc (map news.Output p.pieces) (news.ChildDone p.outcome ∷ []) (all_news ps)) ∙ rans_pieces [] p.pieces p.outcome (all_news ps) ∙ ap (λ (l : List Ran). ran_of p ∷ l) (rans_of ps)
+rans_of (p ∷ ps) = ap (rans []) (append_assoc (map news.Output p.pieces) (news.ChildDone p.outcome ∷ []) (news_of_programs ps)) ∙ rans_pieces [] p.pieces p.outcome (news_of_programs ps) ∙ ap (λ (l : List Ran). ran_of p ∷ l) (rans_of ps)
 
 -- what the worker did not hear is at most one, which begins with what it heard
 pub unheard_is : (out : List ℕ) (ns : List LinkNews) → length (rans out ns) ≤ 1 → IsUnheard out (rans out ns)
@@ -113,9 +113,9 @@ more_ends [] o ns d = done_ends o ns d
 more_ends (p ∷ []) o ns d = done_ends o ns d
 more_ends (p ∷ (q ∷ pieces)) o ns d = more_ends (q ∷ pieces) o ns d
 
-ends : (ps : List ToldOfProgram) → EndsDone (all_news ps)
+ends : (ps : List ToldOfProgram) → EndsDone (news_of_programs ps)
 ends [] = tt
-ends (p ∷ ps) = subst EndsDone (sym (append_assoc (map news.Output p.pieces) (news.ChildDone p.outcome ∷ []) (all_news ps))) (more_ends p.pieces p.outcome (all_news ps) (ends ps))
+ends (p ∷ ps) = subst EndsDone (sym (append_assoc (map news.Output p.pieces) (news.ChildDone p.outcome ∷ []) (news_of_programs ps))) (more_ends p.pieces p.outcome (news_of_programs ps) (ends ps))
 
 some_done : (x : LinkNews) (more : List LinkNews) → EndsDone (x ∷ more) → 1 ≤ dones (x ∷ more)
 some_done x [] d = omega (arith, d)
@@ -127,5 +127,5 @@ behind (n ∷ []) x more d = d
 behind (n ∷ (m ∷ ns)) x more d = behind (m ∷ ns) x more d
 
 -- the last of what a runner put is the end of a program
-pub last_done : (ps : List ToldOfProgram) (ns : List LinkNews) (x : LinkNews) (more : List LinkNews) → all_news ps ≡ ns ++ x ∷ more → 1 ≤ dones (x ∷ more)
+pub last_done : (ps : List ToldOfProgram) (ns : List LinkNews) (x : LinkNews) (more : List LinkNews) → news_of_programs ps ≡ ns ++ x ∷ more → 1 ≤ dones (x ∷ more)
 last_done ps ns x more e = some_done x more (behind ns x more (subst EndsDone e (ends ps)))

@@ -16,7 +16,7 @@ use Rattle.xd_worker.specs.declared.input.WorkerFault.{WorkerFault}
 use Rattle.xd_worker.specs.declared.input.WorkerFault.TheVariants as fault
 use Rattle.xd_worker.specs.declared.worker.WorkerCore.{WorkerCore}
 use Rattle.xd_worker.specs.Worker.{Worker, running_in}
-use Rattle.xd_worker.specs.History.{Heard, is_over, worker_after}
+use Rattle.xd_worker.specs.History.{HeardInput, is_over, worker_after}
 use Rattle.xd_worker.specs.Stands.{FaultHasReason, StandsFor}
 use Rattle.xd_listen.specs.Running.{call_of_service}
 use Rattle.xd_listen.specs.Inputs.{has_terminate, messages_in}
@@ -27,7 +27,7 @@ use Rattle.xd_listen.specs.declared.server.Door.{Door}
 use Rattle.xd_listen.specs.declared.server.Door.TheVariants as door
 use Rattle.xd_listen.specs.declared.stop.Stop.{Stop}
 use Rattle.xd_listen.specs.declared.stop.Stop.TheVariants as stop
-use Rattle.xd_listen.specs.Halts.{Ceased, Ceases, CeasesBy, Goes, IsStrange, IsUncalled, Strayed, is_sink_whole, over_by, status_of}
+use Rattle.xd_listen.specs.Halts.{Ceased, Ceases, CeasesBy, Goes, IsStrange, IsUncalled, Strayed, is_sink_whole, over_by, worker_status_of}
 use Rattle.xd_listen.specs.News.{dones, news_in}
 use Rattle.xd_listen.specs.Seen.{Seen, is_door_shut}
 use Rattle.xd_listen.specs.Serves.{Beside, beside, FromLink, HeardEnd, HeardLast, IsBusy, IsListening, NoneEmpty, RunsTest, RunsSo, ServesSoFar, Setting, nothing, owed_of_link, of_program, to_start}
@@ -59,7 +59,7 @@ left_is (command ∷ more) w test e r =
     (ap (λ (l : List (List (List ℕ))). command ∷ l) r.2 ∙ ap (λ (c : List (List ℕ)). c ∷ []) (r.1 ∙ ap (run_at w.duties.tests) same), b)
 
 module _ (a : Setting) (now : Beside) (s : Seen) where
-  pub ordered : (test moment : ℕ) (command : List (List ℕ)) (clock : Ticking) → Ticks moment now.clock clock → s.started ≡ None → RunsTest test s.core → ((h : List Heard) → StandsFor s.core h → command ≡ run_at (worker_after h).duties.tests test) → 0 < length command → s.broken ≡ false
+  pub ordered : (test moment : ℕ) (command : List (List ℕ)) (clock : Ticking) → Ticks moment now.clock clock → s.started ≡ None → RunsTest test s.core → ((h : List HeardInput) → StandsFor s.core h → command ≡ run_at (worker_after h).duties.tests test) → 0 < length command → s.broken ≡ false
       → ServesSoFar a now (to_start None) s → ServesSoFar a (beside now.file_faults clock) nothing (record s { started = Some moment; orders = s.orders ++ command ∷ [] })
   ordered test moment command clock ticks none runs is some whole g =
       let h = g.history in
@@ -145,7 +145,7 @@ module _ (a : Setting) (now : Beside) (s : Seen) where
       both false b x y = x
 
   -- nothing runs
-  pub idle_goes : s.broken ≡ false → ((h : List Heard) → StandsFor s.core h → running_in (worker_after h).duties.service ≡ None) → ServesSoFar a now (to_start None) s → Goes (over_by s.door) a now s
+  pub idle_goes : s.broken ≡ false → ((h : List HeardInput) → StandsFor s.core h → running_in (worker_after h).duties.service ≡ None) → ServesSoFar a now (to_start None) s → Goes (over_by s.door) a now s
   idle_goes whole none g = by s.door refl
     where
       l : (g.left ≡ []) × (s.started ≡ None)
@@ -234,7 +234,7 @@ module _ (a : Setting) (now : Beside) (s : Seen) where
       at_most (Some m) = omega arith
 
   -- a message is refused, or the link cannot be read on
-  ceased_ahead : (why : Stop) (item : LinkNews) → is_sink_whole why ≡ true → status_of why ≡ 3 → s.door ≡ door.Open → (g : ServesSoFar a now (owed_of_link item) s) → Ceases why g.inputs g.history (item ∷ []) → Ceased a now why s
+  ceased_ahead : (why : Stop) (item : LinkNews) → is_sink_whole why ≡ true → worker_status_of why ≡ 3 → s.door ≡ door.Open → (g : ServesSoFar a now (owed_of_link item) s) → Ceases why g.inputs g.history (item ∷ []) → Ceased a now why s
   ceased_ahead why item w three o g cause =
       let x : IsListening g.inputs g.of_reader = subst (λ (d : Door). FromLink d g.inputs g.of_reader) o g.from_link in
       record {
@@ -269,12 +269,12 @@ module _ (a : Setting) (now : Beside) (s : Seen) where
       at_most None = omega arith
       at_most (Some m) = omega arith
 
-  pub end_ceases : (why : Stop) (stop : LinkStop) → is_sink_whole why ≡ true → status_of why ≡ 3 → s.door ≡ door.Open → ((inputs : List WorkerInput) (h : List Heard) → has_terminate (messages_in inputs) ≡ false → Ceases why inputs h (news.End stop ∷ [])) → ServesSoFar a now (owed_of_link (news.End stop)) s → Ceased a now why s
+  pub end_ceases : (why : Stop) (stop : LinkStop) → is_sink_whole why ≡ true → worker_status_of why ≡ 3 → s.door ≡ door.Open → ((inputs : List WorkerInput) (h : List HeardInput) → has_terminate (messages_in inputs) ≡ false → Ceases why inputs h (news.End stop ∷ [])) → ServesSoFar a now (owed_of_link (news.End stop)) s → Ceased a now why s
   end_ceases why stop w three o cause g =
       let x : IsListening g.inputs g.of_reader = subst (λ (d : Door). FromLink d g.inputs g.of_reader) o g.from_link in
       ceased_ahead why (news.End stop) w three o g (cause g.inputs g.history x.none_last)
 
-  pub message_ceases : (m : MessageView) (f : WorkerFault) → s.door ≡ door.Open → ((h : List Heard) → StandsFor s.core h → FaultHasReason (worker_after h) (Message m) f) → ServesSoFar a now (owed_of_link (news.Message m)) s → CeasesBy f a now s
+  pub message_ceases : (m : MessageView) (f : WorkerFault) → s.door ≡ door.Open → ((h : List HeardInput) → StandsFor s.core h → FaultHasReason (worker_after h) (Message m) f) → ServesSoFar a now (owed_of_link (news.Message m)) s → CeasesBy f a now s
   message_ceases m (fault.Link f) o refused g =
       let x : IsListening g.inputs g.of_reader = subst (λ (d : Door). FromLink d g.inputs g.of_reader) o g.from_link in
       ceased_ahead (stop.Message f) (news.Message m) refl refl o g (m, refl, x.none_last, x.no_end, refused g.history g.stands)

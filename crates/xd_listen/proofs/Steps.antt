@@ -21,7 +21,7 @@ use Rattle.xd_run_tests.specs.declared.ask.Ask.TheVariants.{Tell, Piece, CloseLo
 use Rattle.xd_run_tests.specs.declared.input.Input.{Input}
 use Rattle.xd_run_tests.specs.declared.input.Input.TheVariants as input
 use Rattle.xd_run_tests.specs.Line.{FunctionCall, running_test}
-use Rattle.xd_run_tests.specs.Turns.{turn_of as call_turn}
+use Rattle.xd_run_tests.specs.Turns.{call_turn_of as call_turn}
 use Rattle.xd_run_tests.specs.History.{Given, call_after, turn_after}
 use Rattle.xd_suite.specs.declared.test.Test.{Test}
 use Rattle.xd_worker.specs.declared.function.Called.{Called}
@@ -30,17 +30,17 @@ use Rattle.xd_worker.specs.declared.function.Function.TheVariants as function
 use Rattle.xd_worker.specs.declared.talk.Sent.{Sent}
 use Rattle.xd_worker.specs.declared.talk.Sent.TheVariants as how
 use Rattle.xd_worker.specs.Functions.{called_in}
-use Rattle.xd_factory.specs.SideTable.{ChannelTable, answer, heard, lost}
+use Rattle.xd_factory.specs.SideTable.{ChannelTable, answer, heard_of_message, lost}
 use Rattle.xd_worker.specs.Talk.{sent_how, payload_on}
-use Rattle.xd_worker.specs.Worker.{Service, Duties, Worker, Turn, turn_of, running_in}
-use Rattle.xd_worker.specs.Turns.{Told, SuiteRead, NoSuite, Printed, ChildEnded, LinkEnded, at_talk, asked, all_asked, ended_call, given_in, fed, fed_to, called, is_called, is_service, echoed, echoed_how, echo_ended, stopped, did, did_unless, took, suite_read, suite_refused, suite_input, ids_of, turned}
+use Rattle.xd_worker.specs.Worker.{Service, Duties, Worker, WorkerTurn, worker_turn_of, running_in}
+use Rattle.xd_worker.specs.Turns.{Told, SuiteRead, NoSuite, Printed, ChildEnded, LinkEnded, at_talk, asked, all_asked, ended_call, given_in, fed, fed_to, called, is_called, is_service, echoed, echoed_how, echo_ended, worker_stopped, did, did_unless, took, suite_read, suite_refused, suite_input, ids_to_collect, worker_turned}
 use Rattle.xd_listen.specs.Running.{call_of_service, rests}
 use Rattle.xd_listen.specs.Inputs.{is_terminate_kind}
 use Rattle.xd_listen.proofs.Calls.{Fresh, idle, answered_idle, answered_end, answered_output}
 
 -- ---- what is asked of the side leaves the work as it is
 
-pub record Same (t u : Turn) : Type 0 where
+pub record Same (t u : WorkerTurn) : Type 0 where
   pub call : call_of_service u.duties.service ≡ call_of_service t.duties.service
   pub stopped : u.duties.stopped ≡ t.duties.stopped
   pub owed : u.duties.owed ≡ t.duties.owed
@@ -52,13 +52,13 @@ ended_same : (s : Option Service) → call_of_service (ended_call s) ≡ call_of
 ended_same None = refl
 ended_same (Some s) = refl
 
-asked_same : (c : ℕ) (a : Ask) (t : Turn) → Same t (asked c a t)
+asked_same : (c : ℕ) (a : Ask) (t : WorkerTurn) → Same t (asked c a t)
 asked_same c (Tell event) t = record { call = refl; stopped = refl; owed = refl; tests = refl; suite = refl; run = refl }
 asked_same c (Piece log b) t = record { call = refl; stopped = refl; owed = refl; tests = refl; suite = refl; run = refl }
 asked_same c (CloseLog log) t = record { call = refl; stopped = refl; owed = refl; tests = refl; suite = refl; run = refl }
 asked_same c (EndAsk text) t = record { call = ended_same t.duties.service; stopped = refl; owed = refl; tests = refl; suite = refl; run = refl }
 
-pub all_same : (c : ℕ) (asks : List Ask) (t : Turn) → Same t (all_asked c asks t)
+pub all_same : (c : ℕ) (asks : List Ask) (t : WorkerTurn) → Same t (all_asked c asks t)
 all_same c [] t = record { call = refl; stopped = refl; owed = refl; tests = refl; suite = refl; run = refl }
 all_same c (a ∷ asks) t =
     let one = asked_same c a t in
@@ -68,27 +68,27 @@ all_same c (a ∷ asks) t =
 -- ---- which test runs
 
 -- The test that runs is the one that this turn starts.
-pub record Ready (u : Turn) : Type 0 where
+pub record Ready (u : WorkerTurn) : Type 0 where
   pub test : running_test (call_of_service u.duties.service) ≡ u.run
   pub some : u.run ≡ None → (call_of_service u.duties.service).running ≡ false
   pub busy : (call_of_service u.duties.service).running ≡ true → rests (call_of_service u.duties.service).phase ≡ false
 
 -- what stays
-pub record Rest (t u : Turn) : Type 0 where
+pub record Rest (t u : WorkerTurn) : Type 0 where
   pub stopped : u.duties.stopped ≡ t.duties.stopped
   pub owed : u.duties.owed ≡ t.duties.owed
   pub tests : u.duties.tests ≡ t.duties.tests
   pub suite : u.suite ≡ t.suite
 
-pub record Step (t u : Turn) : Type 0 where
+pub record Step (t u : WorkerTurn) : Type 0 where
   pub ready : Ready u
   pub rest : Rest t u
 
 -- a turn that did this to the call
-abbrev pub acted_turn : Service → Given → Turn → Turn
+abbrev pub acted_turn : Service → Given → WorkerTurn → WorkerTurn
 acted_turn s g t = record t { duties = record (t.duties) { service = Some (record s { given = g ∷ s.given }) }; run = (turn_after s.given g).run }
 
-fresh_step : (s : Service) (g : Given) (t : Turn) → Fresh (turn_after s.given g) → Step t (all_asked s.channel (turn_after s.given g).asks (acted_turn s g t))
+fresh_step : (s : Service) (g : Given) (t : WorkerTurn) → Fresh (turn_after s.given g) → Step t (all_asked s.channel (turn_after s.given g).asks (acted_turn s g t))
 fresh_step s g t f =
     let same = all_same s.channel (turn_after s.given g).asks (acted_turn s g t) in
     record {
@@ -100,7 +100,7 @@ fresh_step s g t f =
       rest = record { stopped = same.stopped; owed = same.owed; tests = same.tests; suite = same.suite };
     }
 
-ready_idle : (t : Turn) → (call_of_service t.duties.service).running ≡ false → t.run ≡ None → Ready t
+ready_idle : (t : WorkerTurn) → (call_of_service t.duties.service).running ≡ false → t.run ≡ None → Ready t
 ready_idle t e n = record {
   test = none (call_of_service t.duties.service) e ∙ sym n;
   some = λ z. e;
@@ -110,14 +110,14 @@ ready_idle t e n = record {
     none : (c : FunctionCall) → c.running ≡ false → running_test c ≡ None
     none c h = (idle (call_turn c) h refl).test
 
-fed_idle : (i : Input) (n : ℕ) (t : Turn) → (call_of_service t.duties.service).running ≡ false → t.run ≡ None → Step t (fed i n t)
+fed_idle : (i : Input) (n : ℕ) (t : WorkerTurn) → (call_of_service t.duties.service).running ≡ false → t.run ≡ None → Step t (fed i n t)
 fed_idle i n t e none = go t.duties.service refl
   where
     go : (s : Option Service) → t.duties.service ≡ s → Step t (fed_to s i n t)
     go None h = record { ready = ready_idle t e none; rest = record { stopped = refl; owed = refl; tests = refl; suite = refl } }
     go (Some s) h = fresh_step s (given_in s i n) t (answered_idle (given_in s i n).room i (call_after s.given) (sym (ap (λ (x : Option Service). (call_of_service x).running) h) ∙ e))
 
-fed_end : (outcome : Outcome) (ms n : ℕ) (t : Turn) (test : ℕ) → running_test (call_of_service t.duties.service) ≡ Some test → rests (call_of_service t.duties.service).phase ≡ false → Step t (fed (input.Done outcome ms) n t)
+fed_end : (outcome : Outcome) (ms n : ℕ) (t : WorkerTurn) (test : ℕ) → running_test (call_of_service t.duties.service) ≡ Some test → rests (call_of_service t.duties.service).phase ≡ false → Step t (fed (input.Done outcome ms) n t)
 fed_end outcome ms n t test e r = go t.duties.service refl
   where
     go : (s : Option Service) → t.duties.service ≡ s → Step t (fed_to s (input.Done outcome ms) n t)
@@ -126,13 +126,13 @@ fed_end outcome ms n t test e r = go t.duties.service refl
         (answered_end (given_in s (input.Done outcome ms) n).room outcome ms (call_after s.given) test (sym (ap (λ (x : Option Service). running_test (call_of_service x)) h) ∙ e) (sym (ap (λ (x : Option Service). rests (call_of_service x).phase) h) ∙ r))
 
 -- What output leaves.
-pub record Prints (t u : Turn) : Type 0 where
+pub record Prints (t u : WorkerTurn) : Type 0 where
   pub test : running_test (call_of_service u.duties.service) ≡ running_test (call_of_service t.duties.service)
   pub phase_is : (call_of_service u.duties.service).phase ≡ (call_of_service t.duties.service).phase
   pub run : u.run ≡ None
   pub rest : Rest t u
 
-fed_output : (bytes : List ℕ) (n : ℕ) (t : Turn) → t.run ≡ None → Prints t (fed (input.Output bytes) n t)
+fed_output : (bytes : List ℕ) (n : ℕ) (t : WorkerTurn) → t.run ≡ None → Prints t (fed (input.Output bytes) n t)
 fed_output bytes n t none = go t.duties.service refl
   where
     go : (s : Option Service) → t.duties.service ≡ s → Prints t (fed_to s (input.Output bytes) n t)
@@ -151,23 +151,23 @@ fed_output bytes n t none = go t.duties.service refl
 -- ---- messages
 
 -- nothing runs, and nothing is asked for yet
-record Calm (t : Turn) : Type 0 where
+record Calm (t : WorkerTurn) : Type 0 where
   idle : (call_of_service t.duties.service).running ≡ false
   run : t.run ≡ None
   suite : t.suite ≡ None
   unstopped : t.duties.stopped ≡ false
 
 -- What a message does: where it asks for a suite it starts no test.
-pub record Does (last : Bool) (u : Turn) : Type 0 where
+pub record Does (last : Bool) (u : WorkerTurn) : Type 0 where
   pub ready : Ready u
   pub stopped : u.duties.stopped ≡ last
   pub path : (p : List ℕ) → u.suite ≡ Some p → (u.run ≡ None) × (u.duties.owed ≡ true)
   pub ends : last ≡ true → (u.run ≡ None) × (u.suite ≡ None)
 
-calm_does : (t : Turn) → Calm t → Does false t
+calm_does : (t : WorkerTurn) → Calm t → Does false t
 calm_does t c = record { ready = ready_idle t c.idle c.run; stopped = c.unstopped; path = λ p e. let x = sym c.suite ∙ e in cc; ends = λ e. cc }
 
-step_does : (t u : Turn) → Calm t → Step t u → Does false u
+step_does : (t u : WorkerTurn) → Calm t → Step t u → Does false u
 step_does t u c s = record {
   ready = s.ready;
   stopped = s.rest.stopped ∙ c.unstopped;
@@ -176,7 +176,7 @@ step_does t u c s = record {
 }
 
 -- the same work, with other things said
-talked : (t u : Turn) → u.duties ≡ t.duties → u.run ≡ t.run → u.suite ≡ t.suite → Calm t → Calm u
+talked : (t u : WorkerTurn) → u.duties ≡ t.duties → u.run ≡ t.run → u.suite ≡ t.suite → Calm t → Calm u
 talked t u d r s c = record {
   idle = ap (λ (x : Duties). (call_of_service x.service).running) d ∙ c.idle;
   run = r ∙ c.run;
@@ -184,7 +184,7 @@ talked t u d r s c = record {
   unstopped = ap (λ (x : Duties). x.stopped) d ∙ c.unstopped;
 }
 
-called_does : (k : ℕ) (c : Called) (t : Turn) → Calm t → Does false (called k c t)
+called_does : (k : ℕ) (c : Called) (t : WorkerTurn) → Calm t → Does false (called k c t)
 called_does k (Runs function.Echo) t m = calm_does (called k (Runs function.Echo) t) (record { idle = m.idle; run = m.run; suite = m.suite; unstopped = m.unstopped })
 called_does k (Runs (function.Fail text)) t m = calm_does (called k (Runs (function.Fail text)) t) (record { idle = m.idle; run = m.run; suite = m.suite; unstopped = m.unstopped })
 called_does k (Runs (function.RunTests path mode)) t m = record {
@@ -195,19 +195,19 @@ called_does k (Runs (function.RunTests path mode)) t m = record {
 }
 called_does k (Refused fault) t m = calm_does (called k (Refused fault) t) (record { idle = m.idle; run = m.run; suite = m.suite; unstopped = m.unstopped })
 
-echoed_does : (how : Sent) (k : ℕ) (v : Tree) (t : Turn) → Calm t → Does false (echoed_how how k v t)
+echoed_does : (how : Sent) (k : ℕ) (v : Tree) (t : WorkerTurn) → Calm t → Does false (echoed_how how k v t)
 echoed_does how.Said k v t m = calm_does (echoed_how how.Said k v t) (record { idle = m.idle; run = m.run; suite = m.suite; unstopped = m.unstopped })
 echoed_does how.LeftOut k v t m = calm_does t m
 echoed_does how.Unwritten k v t m = calm_does (echoed_how how.Unwritten k v t) (record { idle = m.idle; run = m.run; suite = m.suite; unstopped = m.unstopped })
 
-stopped_does : (n : ℕ) (t : Turn) → (call_of_service t.duties.service).running ≡ false → t.run ≡ None → t.suite ≡ None → Does true (stopped n t)
+stopped_does : (n : ℕ) (t : WorkerTurn) → (call_of_service t.duties.service).running ≡ false → t.run ≡ None → t.suite ≡ None → Does true (worker_stopped n t)
 stopped_does n t e r s =
-    let u : Turn = record t { duties = record (t.duties) { stopped = true } } in
+    let u : WorkerTurn = record t { duties = record (t.duties) { stopped = true } } in
     let f = fed_idle input.Stop n u e r in
-    let none : (stopped n t).run ≡ None = quiet t.duties.service u r in
+    let none : (worker_stopped n t).run ≡ None = quiet t.duties.service u r in
     record { ready = f.ready; stopped = f.rest.stopped; path = λ p h. let x = sym (f.rest.suite ∙ s) ∙ h in cc; ends = λ h. (none, f.rest.suite ∙ s) }
   where
-    quiet : (s : Option Service) (u : Turn) → u.run ≡ None → (fed_to s input.Stop n u).run ≡ None
+    quiet : (s : Option Service) (u : WorkerTurn) → u.run ≡ None → (fed_to s input.Stop n u).run ≡ None
     quiet None u h = h
     quiet (Some s) u h = refl
 
@@ -221,7 +221,7 @@ is_terminate (Kept k) = false
 is_terminate (EndKept k) = false
 is_terminate Dropped = false
 
-did_does : (a : Taken Tree) (n : ℕ) (t : Turn) → Calm t → Does (is_terminate a) (did a n t)
+did_does : (a : Taken Tree) (n : ℕ) (t : WorkerTurn) → Calm t → Does (is_terminate a) (did a n t)
 did_does (Status k) n t c = calm_does (did (Status k) n t) (record { idle = c.idle; run = c.run; suite = c.suite; unstopped = c.unstopped })
 did_does (Exec k v) n t c = called_does k (called_in (is_called t.duties.service) v) t c
 did_does (Handed k v) n t c = go (is_service t.duties.service k)
@@ -293,11 +293,11 @@ pub record Waits (w : Worker) : Type 0 where
   pub idle : (call_of_service w.duties.service).running ≡ false
   pub unstopped : w.duties.stopped ≡ false
 
-pub message_does : (w : Worker) (m : MessageView) (s : Said) (n : ℕ) → Means m s → Waits w → Does (is_terminate_kind m.kind) (turned (Told s) n (turn_of w))
-message_does w m s n means i = subst (λ (b : Bool). Does b (took s n (turn_of w))) (answer_last s w.table ∙ kind_last m.kind m.channel m.payload s means.says) (go w.duties.stopped i.unstopped)
+pub message_does : (w : Worker) (m : MessageView) (s : Said) (n : ℕ) → Means m s → Waits w → Does (is_terminate_kind m.kind) (worker_turned (Told s) n (worker_turn_of w))
+message_does w m s n means i = subst (λ (b : Bool). Does b (took s n (worker_turn_of w))) (answer_last s w.table ∙ kind_last m.kind m.channel m.payload s means.says) (go w.duties.stopped i.unstopped)
   where
-    u : Turn
-    u = at_talk (λ d. record d { table = heard s d.table }) (turn_of w)
+    u : WorkerTurn
+    u = at_talk (λ d. record d { table = heard_of_message s d.table }) (worker_turn_of w)
 
     go : (b : Bool) → b ≡ false → Does (is_terminate (answer s w.table)) (did_unless b (answer s w.table) n u)
     go true h = cc
@@ -305,52 +305,52 @@ message_does w m s n means i = subst (λ (b : Bool). Does b (took s n (turn_of w
 
 -- ---- the other inputs
 
-pub link_end_does : (w : Worker) (n : ℕ) → (call_of_service w.duties.service).running ≡ false → Does true (turned LinkEnded n (turn_of w))
-link_end_does w n i = stopped_does n (at_talk (λ d. record d { table = lost d.table }) (turn_of w)) i refl refl
+pub link_end_does : (w : Worker) (n : ℕ) → (call_of_service w.duties.service).running ≡ false → Does true (worker_turned LinkEnded n (worker_turn_of w))
+link_end_does w n i = stopped_does n (at_talk (λ d. record d { table = lost d.table }) (worker_turn_of w)) i refl refl
 
 -- What a suite does: it asks for none.
-pub record Plain (u : Turn) : Type 0 where
+pub record Plain (u : WorkerTurn) : Type 0 where
   pub ready : Ready u
   pub unstopped : u.duties.stopped ≡ false
   pub suite : u.suite ≡ None
 
-calm_plain : (t : Turn) → Calm t → Plain t
+calm_plain : (t : WorkerTurn) → Calm t → Plain t
 calm_plain t c = record { ready = ready_idle t c.idle c.run; unstopped = c.unstopped; suite = c.suite }
 
-step_plain : (t u : Turn) → Calm t → Step t u → Plain u
+step_plain : (t u : WorkerTurn) → Calm t → Step t u → Plain u
 step_plain t u c s = record { ready = s.ready; unstopped = s.rest.stopped ∙ c.unstopped; suite = s.rest.suite ∙ c.suite }
 
-pub suite_does : (w : Worker) (ts : List Test) (n : ℕ) → Waits w → Plain (turned (SuiteRead ts) n (turn_of w))
+pub suite_does : (w : Worker) (ts : List Test) (n : ℕ) → Waits w → Plain (worker_turned (SuiteRead ts) n (worker_turn_of w))
 suite_does w ts n i = go w.duties.owed
   where
-    u : Turn
-    u = record (turn_of w) { duties = record (w.duties) { owed = false; tests = ts } }
+    u : WorkerTurn
+    u = record (worker_turn_of w) { duties = record (w.duties) { owed = false; tests = ts } }
 
     c : Calm u
     c = record { idle = i.idle; run = refl; suite = refl; unstopped = i.unstopped }
 
-    go : (b : Bool) → Plain (if b then suite_read ts n (turn_of w) else turn_of w)
-    go true = step_plain u (suite_read ts n (turn_of w)) c (fed_idle (suite_input (ids_of w.duties.service ts)) n u i.idle refl)
-    go false = calm_plain (turn_of w) (record { idle = i.idle; run = refl; suite = refl; unstopped = i.unstopped })
+    go : (b : Bool) → Plain (if b then suite_read ts n (worker_turn_of w) else worker_turn_of w)
+    go true = step_plain u (suite_read ts n (worker_turn_of w)) c (fed_idle (suite_input (ids_to_collect w.duties.service ts)) n u i.idle refl)
+    go false = calm_plain (worker_turn_of w) (record { idle = i.idle; run = refl; suite = refl; unstopped = i.unstopped })
 
-pub no_suite_does : (w : Worker) (text : List ℕ) (n : ℕ) → Waits w → Plain (turned (NoSuite text) n (turn_of w))
+pub no_suite_does : (w : Worker) (text : List ℕ) (n : ℕ) → Waits w → Plain (worker_turned (NoSuite text) n (worker_turn_of w))
 no_suite_does w text n i = go w.duties.owed
   where
-    u : Turn
-    u = record (turn_of w) { duties = record (w.duties) { owed = false } }
+    u : WorkerTurn
+    u = record (worker_turn_of w) { duties = record (w.duties) { owed = false } }
 
     c : Calm u
     c = record { idle = i.idle; run = refl; suite = refl; unstopped = i.unstopped }
 
-    go : (b : Bool) → Plain (if b then suite_refused text n (turn_of w) else turn_of w)
-    go true = step_plain u (suite_refused text n (turn_of w)) c (fed_idle (input.SuiteRefused text) n u i.idle refl)
-    go false = calm_plain (turn_of w) (record { idle = i.idle; run = refl; suite = refl; unstopped = i.unstopped })
+    go : (b : Bool) → Plain (if b then suite_refused text n (worker_turn_of w) else worker_turn_of w)
+    go true = step_plain u (suite_refused text n (worker_turn_of w)) c (fed_idle (input.SuiteRefused text) n u i.idle refl)
+    go false = calm_plain (worker_turn_of w) (record { idle = i.idle; run = refl; suite = refl; unstopped = i.unstopped })
 
-pub output_does : (w : Worker) (bytes : List ℕ) (n : ℕ) → Prints (turn_of w) (turned (Printed bytes) n (turn_of w))
-output_does w bytes n = fed_output bytes n (turn_of w) refl
+pub output_does : (w : Worker) (bytes : List ℕ) (n : ℕ) → Prints (worker_turn_of w) (worker_turned (Printed bytes) n (worker_turn_of w))
+output_does w bytes n = fed_output bytes n (worker_turn_of w) refl
 
-pub end_does : (w : Worker) (outcome : Outcome) (ms n test : ℕ) → running_test (call_of_service w.duties.service) ≡ Some test → rests (call_of_service w.duties.service).phase ≡ false → Step (turn_of w) (turned (ChildEnded outcome ms) n (turn_of w))
-end_does w outcome ms n test e r = fed_end outcome ms n (turn_of w) test e r
+pub end_does : (w : Worker) (outcome : Outcome) (ms n test : ℕ) → running_test (call_of_service w.duties.service) ≡ Some test → rests (call_of_service w.duties.service).phase ≡ false → Step (worker_turn_of w) (worker_turned (ChildEnded outcome ms) n (worker_turn_of w))
+end_does w outcome ms n test e r = fed_end outcome ms n (worker_turn_of w) test e r
 
 pub running_is : (s : Option Service) → running_in s ≡ running_test (call_of_service s)
 running_is None = refl

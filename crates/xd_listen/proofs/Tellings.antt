@@ -9,7 +9,7 @@ use Rattle.xd_frame.specs.Message.{MessageView, frame, frames}
 use Rattle.xd_frame.specs.Writing.{CountAfter, CountBehind, WritesMore}
 use Rattle.xd_worker.specs.declared.input.WorkerInput.{WorkerInput}
 use Rattle.xd_worker.specs.declared.input.WorkerInput.TheVariants.{Message, SuiteBytes, SuiteTooLarge, SuiteUnread, Output, ChildDone, LinkEnd}
-use Rattle.xd_worker.specs.History.{Heard, all_said, turn_by, worker_after}
+use Rattle.xd_worker.specs.History.{HeardInput, all_said, turn_by, worker_after}
 use Rattle.xd_listen.specs.Speaking.{written}
 use Rattle.xd_listen.specs.Spoke.{Speaks}
 use Rattle.xd_listen.specs.Suites.{AreAnswered, AnswersAsking, asked_path}
@@ -30,7 +30,7 @@ frames_more a b = flat_map-append frame a b
 pub written_more : (a b : List MessageView) → written (a ++ b) ≡ written a ++ frames b
 written_more a b = ap (λ (l : List ℕ). 49 ∷ l) (frames_more a b)
 
-pub speaks_more : (b0 b1 : Bool) (h : List Heard) (g : Heard) (bytes : List ℕ) (first mid new : Option Sunk) → b0 ≡ false → bytes ≡ frames (turn_by (worker_after h) g).talk.says
+pub speaks_more : (b0 b1 : Bool) (h : List HeardInput) (g : HeardInput) (bytes : List ℕ) (first mid new : Option Sunk) → b0 ≡ false → bytes ≡ frames (turn_by (worker_after h) g).talk.says
     → Speaks (not b0) h first mid → WritesMore b0 b1 bytes mid new → Speaks (not b1) (g ∷ h) first new
 speaks_more true b1 h g bytes first mid new whole is s m = cc
 speaks_more false true h g bytes first mid new whole is s m = (mid, s, subst (λ (l : List ℕ). PrintedPart l mid new) is m)
@@ -47,7 +47,7 @@ count_more false false a b c x y = y ∙ x
 
 -- ---- suites
 
-pub answered_later : (held : Option Held) (P Q : Type 0) → (P → Q) → (is : List WorkerInput) (h : List Heard) → AreAnswered held P is h → AreAnswered held Q is h
+pub answered_later : (held : Option Held) (P Q : Type 0) → (P → Q) → (is : List WorkerInput) (h : List HeardInput) → AreAnswered held P is h → AreAnswered held Q is h
 answered_later held P Q f [] h a = tt
 answered_later held P Q f (i ∷ is) [] a = a
 answered_later held P Q f (i ∷ is) (g ∷ h) a = (one (asked_path h) i a.0, answered_later held P Q f is h a.1)

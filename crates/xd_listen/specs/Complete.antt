@@ -7,7 +7,7 @@ use Rattle.xd_factory.specs.declared.faults.SideFault.{SideFault}
 use Rattle.xd_frame.specs.Stream.{messages, rest, Clean, Unfinished, Refused}
 use Rattle.xd_runner.specs.Programs.{Ran}
 use Rattle.xd_worker.specs.declared.input.WorkerInput.{WorkerInput}
-use Rattle.xd_worker.specs.History.{Heard}
+use Rattle.xd_worker.specs.History.{HeardInput}
 use Rattle.xd_listen.specs.declared.stop.Stop.{Stop}
 use Rattle.xd_listen.specs.declared.stop.Stop.TheVariants as stop
 use Rattle.xd_listen.specs.Ends.{RunsPrograms, Scene, voice_of}
@@ -19,7 +19,7 @@ use Rattle.xd_listen.specs.Took.{TookToRefused}
 -- these bytes; a program may run then, of which the worker did not hear to the end. GATEWAY_TERMINATE is not before it.
 pub record RefusesOne (held : Option Held) (bytes : List ℕ) (fault : SideFault) (old new : Scene) : Type 0 where
   pub inputs : List WorkerInput
-  pub history : List Heard
+  pub history : List HeardInput
   pub unheard : List Ran
   pub sunk : Option Sunk
   pub spoke : Spoke held inputs history true (voice_of old) (voice sunk new.sink_faults new.file_faults)

@@ -11,7 +11,7 @@ use Rattle.xd_link.specs.Spring.{ReadToEnd, Spring}
 use Rattle.xd_reader.specs.declared.news.LinkStop.{LinkStop}
 use Rattle.xd_reader.specs.declared.news.LinkStop.TheVariants as link
 use Rattle.xd_worker.specs.declared.input.WorkerInput.{WorkerInput}
-use Rattle.xd_worker.specs.History.{Heard, is_over, worker_after}
+use Rattle.xd_worker.specs.History.{HeardInput, is_over, worker_after}
 use Rattle.xd_listen.specs.Inputs.{has_end, messages_in}
 use Rattle.xd_runner.specs.Programs.{AreRun, Ran, faults_of}
 use Rattle.xd_listen.specs.Programs.{AreLeft, commands_in, output_in, ran_in}
@@ -19,7 +19,7 @@ use Rattle.xd_listen.specs.Took.{TookAll, TookToLast, TookToRefused}
 use Rattle.xd_listen.specs.Suites.{asked_path}
 use Rattle.xd_listen.specs.declared.stop.Stop.{Stop}
 use Rattle.xd_listen.specs.declared.stop.Stop.TheVariants as stop
-use Rattle.xd_listen.specs.Halts.{is_sink_whole, status_of}
+use Rattle.xd_listen.specs.Halts.{is_sink_whole, worker_status_of}
 use Rattle.xd_listen.specs.Spoke.{Spoke, Voice, voice}
 use Rattle.xd_edge.specs.Clock.{Ticking}
 use Rattle.xd_listen.specs.Timing.{Times}
@@ -62,7 +62,7 @@ IsUnheard heard (r ∷ (q ∷ rs)) = ⊥
 
 -- The commands that the history starts were run, but for those that are left, and the inputs tell what came of them, but
 -- for what is unheard. Their count of faults rose as often as that stands for one, and not where it stands for none.
-pub record RunsPrograms (inputs : List WorkerInput) (h : List Heard) (left : List (List (List ℕ))) (unheard : List Ran) (old new : Scene) : Type 0 where
+pub record RunsPrograms (inputs : List WorkerInput) (h : List HeardInput) (left : List (List (List ℕ))) (unheard : List Ran) (old new : Scene) : Type 0 where
   pub started : List (List (List ℕ))
   pub commands : commands_in h ≡ started ++ left
   pub run : AreRun started (ran_in inputs ++ unheard) old.runs new.runs
@@ -73,7 +73,7 @@ pub record RunsPrograms (inputs : List WorkerInput) (h : List Heard) (left : Lis
 
 -- What each end says of the bytes that were given, of what came, and of the outside.
 -- Example: where the bytes end inside a message it is Cut; where the sink cannot be closed it is WriteFault.
-abbrev pub IsCause : Stop → List ℕ → List WorkerInput → List Heard → Spring → Spring → Scene → Scene → Type 0
+abbrev pub IsCause : Stop → List ℕ → List WorkerInput → List HeardInput → Spring → Spring → Scene → Scene → Type 0
 IsCause stop.NotRun bytes inputs h s0 s1 old new =
     (bytes ≡ []) × (inputs ≡ []) × (Rose old.reader_refusals new.reader_refusals ⊎ Rose old.runner_refusals new.runner_refusals)
 IsCause stop.Terminated bytes inputs h s0 s1 old new =
@@ -100,12 +100,12 @@ pub record Closes (closed : Bool) (sunk new : Option Sunk) (faults now : ℕ) : 
 
 -- Where a link ends well neither crew refused its job.
 abbrev pub AreNotRefused : Stop → Scene → Scene → Type 0
-AreNotRefused why old new = status_of why ≡ 0 → (new.reader_refusals ≡ old.reader_refusals) × (new.runner_refusals ≡ old.runner_refusals)
+AreNotRefused why old new = worker_status_of why ≡ 0 → (new.reader_refusals ≡ old.reader_refusals) × (new.runner_refusals ≡ old.runner_refusals)
 
 -- A count is the one before, or rose; where a link ends well it is the one before.
 pub record IsStill (why : Stop) (before now : ℕ) : Type 0 where
   pub still_or_rose : (now ≡ before) ⊎ Rose before now
-  pub still : status_of why ≡ 0 → now ≡ before
+  pub still : worker_status_of why ≡ 0 → now ≡ before
 
 -- GATEWAY_TERMINATE was taken, and the reader stopped so
 abbrev pub terminated_by : LinkStop → Stop
@@ -117,16 +117,16 @@ terminated_by link.ReadFault = stop.ReadFault
 terminated_by link.OutOfMemory = stop.Terminated
 
 -- why the link is served no more, where the worker ceased so, the reader stopped so, and the sink was closed or not
-abbrev pub last_stop : Bool → Stop → LinkStop → Stop
-last_stop false why l = stop.WriteFault
-last_stop true stop.NotRun l = stop.NotRun
-last_stop true stop.Terminated l = terminated_by l
-last_stop true stop.Ended l = stop.Ended
-last_stop true stop.Cut l = stop.Cut
-last_stop true (stop.Header fault) l = stop.Header fault
-last_stop true (stop.Message fault) l = stop.Message fault
-last_stop true stop.ReadFault l = stop.ReadFault
-last_stop true stop.WriteFault l = stop.WriteFault
+abbrev pub last_link_stop : Bool → Stop → LinkStop → Stop
+last_link_stop false why l = stop.WriteFault
+last_link_stop true stop.NotRun l = stop.NotRun
+last_link_stop true stop.Terminated l = terminated_by l
+last_link_stop true stop.Ended l = stop.Ended
+last_link_stop true stop.Cut l = stop.Cut
+last_link_stop true (stop.Header fault) l = stop.Header fault
+last_link_stop true (stop.Message fault) l = stop.Message fault
+last_link_stop true stop.ReadFault l = stop.ReadFault
+last_link_stop true stop.WriteFault l = stop.WriteFault
 
 -- A link was read until this: the bytes that it gave, what came to the worker and its history, the program of which it did
 -- not hear to the end, and the one that was left. The sink took all that the worker said, or not, and then it was closed,
@@ -134,7 +134,7 @@ last_stop true stop.WriteFault l = stop.WriteFault
 pub record Ends (why : Stop) (held : Option Held) (s0 s1 : Spring) (old new : Scene) : Type 0 where
   pub bytes : List ℕ
   pub inputs : List WorkerInput
-  pub history : List Heard
+  pub history : List HeardInput
   pub left : List (List (List ℕ))
   pub unheard : List Ran
   pub wrote : Bool
@@ -150,11 +150,11 @@ pub record Ends (why : Stop) (held : Option Held) (s0 s1 : Spring) (old new : Sc
   pub programs : RunsPrograms inputs history left unheard old new
   pub times : Times inputs programs.started old.clock new.clock
   pub left_is : AreLeft wrote left history
-  pub heard : status_of why ≡ 0 → unheard ≡ []
+  pub heard : worker_status_of why ≡ 0 → unheard ≡ []
   pub source_count : IsStill why s0.faults s1.faults
   pub crews : AreNotRefused why old new
   pub cause : IsCause why bytes inputs history s0 s1 old new
 
 -- A link was served, and this is the exit status.
 abbrev pub Served : ℕ → Option Held → Spring → Spring → Scene → Scene → Type 0
-Served status held s0 s1 old new = (why : Stop) × (status ≡ status_of why) × Ends why held s0 s1 old new
+Served status held s0 s1 old new = (why : Stop) × (status ≡ worker_status_of why) × Ends why held s0 s1 old new

@@ -10,7 +10,7 @@ use Rattle.xd_reader.specs.declared.news.LinkStop.TheVariants as link
 use Rattle.xd_frame.specs.Message.{MessageView}
 use Rattle.xd_worker.specs.declared.input.WorkerInput.{WorkerInput}
 use Rattle.xd_worker.specs.declared.input.WorkerInput.TheVariants.{Message}
-use Rattle.xd_worker.specs.History.{Heard, RefusesFor, is_over, worker_after}
+use Rattle.xd_worker.specs.History.{HeardInput, RefusesFor, is_over, worker_after}
 use Rattle.xd_worker.specs.declared.input.WorkerFault.{WorkerFault}
 use Rattle.xd_worker.specs.declared.input.WorkerFault.TheVariants as fault
 use Rattle.xd_listen.specs.Inputs.{has_end, has_terminate, messages_in}
@@ -30,15 +30,15 @@ use Rattle.xd_listen.specs.Spoke.{Spoke, voice}
 use Rattle.xd_listen.specs.Timing.{Times, one_if}
 
 -- the exit status: 0 where GATEWAY_TERMINATE came or the link ended at a message's edge
-abbrev pub status_of : Stop → ℕ
-status_of stop.NotRun = 3
-status_of stop.Terminated = 0
-status_of stop.Ended = 0
-status_of stop.Cut = 3
-status_of (stop.Header fault) = 3
-status_of (stop.Message fault) = 3
-status_of stop.ReadFault = 3
-status_of stop.WriteFault = 3
+abbrev pub worker_status_of : Stop → ℕ
+worker_status_of stop.NotRun = 3
+worker_status_of stop.Terminated = 0
+worker_status_of stop.Ended = 0
+worker_status_of stop.Cut = 3
+worker_status_of (stop.Header fault) = 3
+worker_status_of (stop.Message fault) = 3
+worker_status_of stop.ReadFault = 3
+worker_status_of stop.WriteFault = 3
 
 -- the sink is whole, but where it failed
 abbrev pub is_sink_whole : Stop → Bool
@@ -52,7 +52,7 @@ is_sink_whole stop.ReadFault = true
 is_sink_whole stop.WriteFault = false
 
 -- what is known of the messages that the worker heard, and of the item after them, where it listens no more
-abbrev pub Ceases : Stop → List WorkerInput → List Heard → List LinkNews → Type 0
+abbrev pub Ceases : Stop → List WorkerInput → List HeardInput → List LinkNews → Type 0
 Ceases stop.NotRun inputs h ahead = ⊥
 Ceases stop.Terminated inputs h ahead = TookToLast (messages_in inputs) × (has_end inputs ≡ false) × (is_over (worker_after h) ≡ true)
 Ceases stop.Ended inputs h ahead = (ahead ≡ news.End link.Ended ∷ []) × (has_terminate (messages_in inputs) ≡ false) × (has_end inputs ≡ true) × (is_over (worker_after h) ≡ true)
@@ -66,7 +66,7 @@ Ceases stop.WriteFault inputs h ahead = Unit {0}
 -- ran when it ceased: one, or none.
 pub record Ceased (a : Setting) (now : Beside) (why : Stop) (s : Seen) : Type 0 where
   pub inputs : List WorkerInput
-  pub history : List Heard
+  pub history : List HeardInput
   pub of_reader : List LinkNews
   pub of_runner : List LinkNews
   pub left : List (List (List ℕ))
@@ -86,7 +86,7 @@ pub record Ceased (a : Setting) (now : Beside) (why : Stop) (s : Seen) : Type 0 
   pub count : length s.orders ≡ dones (news_in inputs) + running
   pub one : running ≤ 1
   pub times : Times inputs s.orders a.clock now.clock
-  pub idle : status_of why ≡ 0 → running ≡ 0
+  pub idle : worker_status_of why ≡ 0 → running ≡ 0
   pub some : NoneEmpty s.orders
   pub ring : s.ring ≡ a.orders
   pub drained : s.short ≡ false → length s.orders ≤ dones of_runner + one_if s.started

@@ -8,7 +8,7 @@ use Rattle.xd_worker.specs.declared.input.WorkerInput.{WorkerInput}
 use Rattle.xd_worker.specs.declared.input.WorkerInput.TheVariants.{Message, SuiteBytes, SuiteTooLarge, SuiteUnread, Output, ChildDone, LinkEnd}
 use Rattle.xd_factory.specs.SideTable.{Counts}
 use Rattle.xd_worker.specs.Worker.{Worker, running_in}
-use Rattle.xd_worker.specs.History.{Heard, Is, table_behind, worker_after}
+use Rattle.xd_worker.specs.History.{HeardInput, Is, table_behind, worker_after}
 
 -- An input comes in its time: of a suite only while one is owed, and of a program only while a test runs, in pieces of
 -- at most 4,096 bytes.
@@ -22,17 +22,17 @@ IsDue w (ChildDone outcome ms) = IsSome (running_in w.duties.service)
 IsDue w LinkEnd = Unit {0}
 
 -- an input that came to this worker, and what its history has of it
-pub record IsHeard (w : Worker) (input : WorkerInput) (g : Heard) : Type 0 where
+pub record IsHeard (w : Worker) (input : WorkerInput) (g : HeardInput) : Type 0 where
   pub is : Is input g.came
   pub counts : Counts (table_behind g.came w.table).slot g.channels
   pub due : IsDue w input
 
 -- The history is that of these inputs.
-abbrev pub AreHeard : List WorkerInput → List Heard → Type 0
-AreHeard [] [] = Unit {0}
-AreHeard [] (g ∷ h) = ⊥
-AreHeard (i ∷ is) [] = ⊥
-AreHeard (i ∷ is) (g ∷ h) = IsHeard (worker_after h) i g × AreHeard is h
+abbrev pub AreHeardInputs : List WorkerInput → List HeardInput → Type 0
+AreHeardInputs [] [] = Unit {0}
+AreHeardInputs [] (g ∷ h) = ⊥
+AreHeardInputs (i ∷ is) [] = ⊥
+AreHeardInputs (i ∷ is) (g ∷ h) = IsHeard (worker_after h) i g × AreHeardInputs is h
 
 -- the message that an input is, if it is one
 abbrev pub message_in : WorkerInput → List MessageView

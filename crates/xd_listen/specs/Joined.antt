@@ -5,7 +5,7 @@ use Rattle.xd_post.specs.Post.{Ring}
 use Rattle.xd_reader.specs.declared.news.LinkNews.{LinkNews}
 use Rattle.xd_reader.specs.declared.news.LinkStop.{LinkStop}
 use Rattle.xd_reader.specs.Reads.{PutsAll}
-use Rattle.xd_runner.specs.Orders.{Mails, RunsOrders, Seen as Programs}
+use Rattle.xd_runner.specs.Orders.{Mails, RunsOrders, ProgramsSeen as Programs}
 use Rattle.xd_listen.specs.Seen.{Seen}
 use Rattle.xd_listen.specs.Serves.{Setting}
 

@@ -5,8 +5,8 @@ use Rattle.xd_runner.specs.Programs.{Ran}
 use Rattle.xd_suite.specs.Tests.{run_at}
 use Rattle.xd_worker.specs.declared.input.WorkerInput.{WorkerInput}
 use Rattle.xd_worker.specs.declared.input.WorkerInput.TheVariants.{Message, SuiteBytes, SuiteTooLarge, SuiteUnread, Output, ChildDone, LinkEnd}
-use Rattle.xd_worker.specs.Worker.{Turn}
-use Rattle.xd_worker.specs.History.{Heard, turn_by, worker_after}
+use Rattle.xd_worker.specs.Worker.{WorkerTurn}
+use Rattle.xd_worker.specs.History.{HeardInput, turn_by, worker_after}
 
 -- what the running program printed so far
 abbrev pub output_in : List WorkerInput → List ℕ
@@ -32,20 +32,20 @@ ran_in (ChildDone outcome ms ∷ is) = ran_in is ++ record { output = output_in 
 ran_in (LinkEnd ∷ is) = ran_in is
 
 -- the commands of the tests that a turn starts, by the suite that was read
-abbrev pub commands_of : Turn → List (List (List ℕ))
+abbrev pub commands_of : WorkerTurn → List (List (List ℕ))
 commands_of t = map (run_at t.duties.tests) (option_to_list t.run)
 
 -- the commands of the tests that were started, in order
-abbrev pub commands_in : List Heard → List (List (List ℕ))
+abbrev pub commands_in : List HeardInput → List (List (List ℕ))
 commands_in [] = []
 commands_in (g ∷ h) = commands_in h ++ commands_of (turn_by (worker_after h) g)
 
 -- the commands that the last input starts
-abbrev pub last_commands : List Heard → List (List (List ℕ))
+abbrev pub last_commands : List HeardInput → List (List (List ℕ))
 last_commands [] = []
 last_commands (g ∷ h) = commands_of (turn_by (worker_after h) g)
 
 -- Every program that was to be started was run; where the sink failed, what the last input starts was left.
-abbrev pub AreLeft : Bool → List (List (List ℕ)) → List Heard → Type 0
+abbrev pub AreLeft : Bool → List (List (List ℕ)) → List HeardInput → Type 0
 AreLeft true left h = left ≡ []
 AreLeft false left h = left ≡ last_commands h

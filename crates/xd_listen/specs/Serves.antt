@@ -12,7 +12,7 @@ use Rattle.xd_suite.specs.Tests.{run_at}
 use Rattle.xd_worker.specs.declared.input.WorkerInput.{WorkerInput}
 use Rattle.xd_worker.specs.declared.worker.WorkerCore.{WorkerCore}
 use Rattle.xd_worker.specs.Worker.{Worker, running_in}
-use Rattle.xd_worker.specs.History.{Heard, worker_after}
+use Rattle.xd_worker.specs.History.{HeardInput, worker_after}
 use Rattle.xd_worker.specs.Stands.{StandsFor}
 use Rattle.xd_listen.specs.Running.{call_of_service, rests}
 use Rattle.xd_listen.specs.Inputs.{has_end, has_terminate, messages_in}
@@ -145,12 +145,12 @@ NoneEmpty (command ∷ more) = (command ≡ [] → ⊥) × NoneEmpty more
 
 -- this test runs in a worker, whatever it took
 abbrev pub RunsTest : ℕ → WorkerCore → Type 0
-RunsTest test core = (h : List Heard) → StandsFor core h → running_in (worker_after h).duties.service ≡ Some test
+RunsTest test core = (h : List HeardInput) → StandsFor core h → running_in (worker_after h).duties.service ≡ Some test
 
 -- All that was taken of the desk was done, but for what is owed: what was spoken, what was ordered, and what was measured.
 pub record ServesSoFar (a : Setting) (now : Beside) (owed : Owed) (s : Seen) : Type 0 where
   pub inputs : List WorkerInput
-  pub history : List Heard
+  pub history : List HeardInput
   pub of_reader : List LinkNews
   pub of_runner : List LinkNews
   pub left : List (List (List ℕ))

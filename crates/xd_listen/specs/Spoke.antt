@@ -6,8 +6,8 @@ use Rattle.xd_edge.specs.Sink.{Sunk, Printed, PrintedPart}
 use Rattle.xd_frame.specs.Message.{frames}
 use Rattle.xd_frame.specs.Writing.{CountAfter}
 use Rattle.xd_worker.specs.declared.input.WorkerInput.{WorkerInput}
-use Rattle.xd_worker.specs.History.{Heard, all_said, turn_by, worker_after}
-use Rattle.xd_listen.specs.Inputs.{AreHeard, EndsOnce}
+use Rattle.xd_worker.specs.History.{HeardInput, all_said, turn_by, worker_after}
+use Rattle.xd_listen.specs.Inputs.{AreHeardInputs, EndsOnce}
 use Rattle.xd_listen.specs.Suites.{AreAnswered}
 use Rattle.xd_listen.specs.Speaking.{greeting, written}
 
@@ -23,15 +23,15 @@ voice sunk sink_faults file_faults = record { sunk = sunk; sink_faults = sink_fa
 
 -- What these inputs make the worker say was written and handed on. Where the sink failed, that of all but the last input
 -- was, and a first part of what the last one makes it say.
-abbrev pub Speaks : Bool → List Heard → Option Sunk → Option Sunk → Type 0
+abbrev pub Speaks : Bool → List HeardInput → Option Sunk → Option Sunk → Type 0
 Speaks true h old new = Printed (written (all_said h)) old new
 Speaks false [] old new = PrintedPart greeting old new
 Speaks false (g ∷ h) old new = (mid : Option Sunk) × Printed (written (all_said h)) old mid × PrintedPart (frames (turn_by (worker_after h) g).talk.says) mid new
 
 -- The inputs came in their time, and what they make the worker say was written, as long as the sink is whole. The sink's
 -- count of faults is the one before, where the sink is whole, and else it rose.
-pub record Spoke (held : Option Held) (inputs : List WorkerInput) (h : List Heard) (whole : Bool) (old new : Voice) : Type 0 where
-  pub heard : AreHeard inputs h
+pub record Spoke (held : Option Held) (inputs : List WorkerInput) (h : List HeardInput) (whole : Bool) (old new : Voice) : Type 0 where
+  pub heard : AreHeardInputs inputs h
   pub ends : EndsOnce inputs
   pub answered : AreAnswered held (Rose old.file_faults new.file_faults) inputs h
   pub says : Speaks whole h old.sunk new.sunk

@@ -4,10 +4,10 @@ use Rattle.xd_edge.specs.Files.{Held, HasFile, HasLarger}
 use Rattle.xd_edge.specs.Limits.{most_suite_bytes}
 use Rattle.xd_worker.specs.declared.input.WorkerInput.{WorkerInput}
 use Rattle.xd_worker.specs.declared.input.WorkerInput.TheVariants.{Message, SuiteBytes, SuiteTooLarge, SuiteUnread, Output, ChildDone, LinkEnd}
-use Rattle.xd_worker.specs.History.{Heard, turn_by, worker_after}
+use Rattle.xd_worker.specs.History.{HeardInput, turn_by, worker_after}
 
 -- the path that the last input asked for
-abbrev pub asked_path : List Heard → Option (List ℕ)
+abbrev pub asked_path : List HeardInput → Option (List ℕ)
 asked_path [] = None
 asked_path (g ∷ h) = (turn_by (worker_after h) g).suite
 
@@ -38,7 +38,7 @@ AnswersAsking held rose None i = is_of_files i ≡ false
 AnswersAsking held rose (Some path) i = FilesGave held rose path i
 
 -- Directly after each input that asked for a path stands what the files gave for it, and nowhere else.
-abbrev pub AreAnswered : Option Held → Type 0 → List WorkerInput → List Heard → Type 0
+abbrev pub AreAnswered : Option Held → Type 0 → List WorkerInput → List HeardInput → Type 0
 AreAnswered held rose [] h = Unit {0}
 AreAnswered held rose (i ∷ is) [] = ⊥
 AreAnswered held rose (i ∷ is) (g ∷ h) = AnswersAsking held rose (asked_path h) i × AreAnswered held rose is h

@@ -3,7 +3,7 @@ use Rattle.std.specs.Prelude.{◌≡◌, true, false, List, [], ◌∷◌, ◌++
 use Rattle.xd_factory.specs.declared.faults.SideFault.{SideFault}
 use Rattle.xd_frame.specs.Message.{MessageView}
 use Rattle.xd_worker.specs.declared.input.WorkerInput.TheVariants.{Message}
-use Rattle.xd_worker.specs.History.{Heard, RefusesFor, worker_after}
+use Rattle.xd_worker.specs.History.{HeardInput, RefusesFor, worker_after}
 use Rattle.xd_listen.specs.Inputs.{has_terminate, is_terminate_kind}
 
 -- Of these messages all were taken, and GATEWAY_TERMINATE is not among them.
@@ -21,7 +21,7 @@ pub record TookToLast (taken : List MessageView) : Type 0 where
   pub none_is : has_terminate earlier ≡ false
 
 -- Of these messages those up to one that is refused were taken, and GATEWAY_TERMINATE is not among them.
-pub record TookToRefused (all taken : List MessageView) (h : List Heard) (fault : SideFault) : Type 0 where
+pub record TookToRefused (all taken : List MessageView) (h : List HeardInput) (fault : SideFault) : Type 0 where
   pub refused : MessageView
   pub later : List MessageView
   pub all_are : all ≡ taken ++ refused ∷ later

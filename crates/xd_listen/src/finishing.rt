@@ -4,7 +4,7 @@ ghost use Rattle.xd_link.specs.Spring.{spring};
 ghost use Rattle.xd_post.specs.Mails.{mails};
 ghost use Rattle.xd_post.specs.Post.{put, ring_of_sender};
 ghost use Rattle.xd_runner.specs.Orders.{seen as programs};
-ghost use Rattle.xd_listen.specs.Ends.{Closes, Served, last_stop, scene, terminated_by};
+ghost use Rattle.xd_listen.specs.Ends.{Closes, Served, last_link_stop, scene, terminated_by};
 ghost use Rattle.xd_listen.specs.Halts.{Goes};
 ghost use Rattle.xd_listen.specs.Joined.{Joined, Sources, back};
 ghost use Rattle.xd_listen.specs.Seen.{Seen};
@@ -77,7 +77,7 @@ pub fn finish<S: Source + Drop, N: Sink + Drop, K: Children>(
 
 // Why the link is served no more, where the worker ceased so, the reader stopped so, and the sink was closed or not.
 fn last_stop(is_closed: bool, why: Stop, stop: LinkStop) -> Stop
-    ensures { result ≡ last_stop is_closed why stop }
+    ensures { result ≡ last_link_stop is_closed why stop }
 {
     if !is_closed {
         return Stop::WriteFault;

@@ -23,7 +23,7 @@ pub struct Speaker<N: Sink> {
 impl<N: Sink> Speaker<N> {
     ghost use Rattle.std.specs.Prelude.{[]};
     ghost use Rattle.xd_factory.specs.declared.faults.SideFault.{SideFault};
-    ghost use Rattle.xd_worker.specs.History.{Heard, worker_after, IsToRefuse};
+    ghost use Rattle.xd_worker.specs.History.{HeardInput, worker_after, IsToRefuse};
     ghost use Rattle.xd_worker.specs.Stands.{StandsFor, Stood, Answers, FaultHasReason, IsThisFault};
 
     /// A worker to which nothing has come yet, and which has written its greeting.
@@ -44,9 +44,9 @@ impl<N: Sink> Speaker<N> {
 
     /// One input. What the worker says to it is written and handed on.
     pub fn hear(&mut self, input: WorkerInput) -> Result<WorkerActions, WorkerFault>
-        ensures answers { (h : List Heard) → StandsFor self.old.core h →
+        ensures answers { (h : List HeardInput) → StandsFor self.old.core h →
             IfOk result (Answers self.new.core (worker_after h) input) }
-        ensures refused { (h : List Heard) → StandsFor self.old.core h →
+        ensures refused { (h : List HeardInput) → StandsFor self.old.core h →
             IfErr result (FaultHasReason (worker_after h) input) }
         ensures stood { Stood self.old.core → OnOk result (Stood self.new.core) }
         ensures writes { IfOk result (λ acts.
@@ -71,7 +71,7 @@ impl<N: Sink> Speaker<N> {
 
     /// One input that is no message. The side refuses messages alone.
     pub fn tell(&mut self, input: WorkerInput) -> Result<WorkerActions, OutOfMemory>
-        ensures answers { (h : List Heard) → StandsFor self.old.core h →
+        ensures answers { (h : List HeardInput) → StandsFor self.old.core h →
             IfOk result (Answers self.new.core (worker_after h) input) }
         ensures stood { Stood self.old.core → OnOk result (Stood self.new.core) }
         ensures writes { IfOk result (λ acts.

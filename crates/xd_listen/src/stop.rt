@@ -1,6 +1,6 @@
 // Why a link is served no more.
 ghost use Rattle.std.specs.Prelude.{◌≡◌};
-ghost use Rattle.xd_listen.specs.Halts.{status_of};
+ghost use Rattle.xd_listen.specs.Halts.{worker_status_of};
 
 use xd_factory::SideFault;
 use xd_frame::FrameFault;
@@ -29,7 +29,7 @@ pub enum Stop {
 impl Stop {
     /// The exit status.
     pub fn status(self) -> u8
-        ensures { result ≡ status_of self }
+        ensures { result ≡ worker_status_of self }
     {
         match self {
             Stop::Terminated | Stop::Ended => 0,

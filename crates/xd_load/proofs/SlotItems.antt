@@ -7,7 +7,7 @@ use Rattle.std.proofs.lemmas.Bool.Decides.{nat_tests}
 use Rattle.std.proofs.lemmas.List.{drop_more, take_more}
 use Rattle.std.proofs.lemmas.List.Sums.{fold_more}
 use Rattle.xd_edge.specs.declared.mode.ModeKind.TheVariants.{Each}
-use Rattle.xd_ledger.specs.Chains.{behind}
+use Rattle.xd_ledger.specs.Chains.{part_after}
 use Rattle.xd_ledger.specs.Numbers.{among, without, all_distinct, all_among, first_of}
 use Rattle.xd_journal.specs.declared.entry.Entry.{Entry}
 use Rattle.xd_journal.specs.declared.entry.Entry.TheVariants.{RunAll}
@@ -155,8 +155,8 @@ filter-one_more test xs k x old new h at a b =
 pub item-at : (xs : List ℕ) (k x : ℕ) → k < length xs → Some x ≡ first_of (drop k xs) → x ≡ get_or xs k 0
 item-at xs k x h e = let f = first-drop xs k h in cc
 
-pub next-at : (xs : List ℕ) (k x : ℕ) (next : Option ℕ) → k < length xs → all_distinct xs ≡ true → x ≡ get_or xs k 0 → next ≡ first_of (behind x xs) → next ≡ first_of (drop (k + 1) xs)
-next-at xs k x next h d at e = e ∙ ap (λ (z : ℕ). first_of (behind z xs)) at ∙ ap first_of (behind-at xs k h d)
+pub next-at : (xs : List ℕ) (k x : ℕ) (next : Option ℕ) → k < length xs → all_distinct xs ≡ true → x ≡ get_or xs k 0 → next ≡ first_of (part_after x xs) → next ≡ first_of (drop (k + 1) xs)
+next-at xs k x next h d at e = e ∙ ap (λ (z : ℕ). first_of (part_after z xs)) at ∙ ap first_of (behind-at xs k h d)
 
 pub stands-in_pool : (xs ys : List ℕ) (k x : ℕ) → k < length xs → x ≡ get_or xs k 0 → among x (xs ++ ys) ≡ true
 stands-in_pool xs ys k x h at =

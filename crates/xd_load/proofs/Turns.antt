@@ -7,7 +7,7 @@ use Rattle.xd_edge.specs.declared.mode.ModeKind.TheVariants.{Load}
 use Rattle.xd_load.specs.Stands.{InChunks}
 use Rattle.xd_ledger.specs.Plan.{Plan, chunk_of}
 use Rattle.xd_ledger.specs.Turn.{Turn, in_turn, give_front, shut}
-use Rattle.xd_ledger.specs.Load.{refill, topped_up, more, is_due, give_unless_shut, dealt}
+use Rattle.xd_ledger.specs.Load.{load_refill, topped_up, more, is_due, give_unless_shut, dealt_singly}
 use Rattle.xd_ledger.proofs.Turns.{workers-give, workers-shut_turn, in_turn-append}
 
 pub workers-topped_up : (ms w : ℕ) (t : Turn) → workers_of (topped_up ms w t).table ≡ workers_of t.table
@@ -25,7 +25,7 @@ workers-refill_by ms w t pool true = refl
 workers-refill_by ms w t [] false = workers-shut_turn w t
 workers-refill_by ms w t (x ∷ xs) false = workers-topped_up ms w t
 
-pub workers-refill : (ms w : ℕ) (t : Turn) → workers_of (refill ms w t).table ≡ workers_of t.table
+pub workers-refill : (ms w : ℕ) (t : Turn) → workers_of (load_refill ms w t).table ≡ workers_of t.table
 workers-refill ms w t = workers-refill_by ms w t t.table.pool (seat_shut w t.table)
 
 -- some plan of mode load
@@ -42,12 +42,12 @@ workers-give_unless_by n w t false = workers-give w (take n t.table.pool) t
 pub workers-give_unless : (n w : ℕ) (t : Turn) → workers_of (give_unless_shut n w t).table ≡ workers_of t.table
 workers-give_unless n w t = workers-give_unless_by n w t (seat_shut w t.table)
 
-pub dealt-few : (t : Turn) → length t.table.pool < 2 * length (workers_of t.table) → dealt t ≡ in_turn (give_unless_shut 1) (workers_of t.table ++ workers_of t.table) t
+pub dealt-few : (t : Turn) → length t.table.pool < 2 * length (workers_of t.table) → dealt_singly t ≡ in_turn (give_unless_shut 1) (workers_of t.table ++ workers_of t.table) t
 dealt-few t h =
     let k : nat_lt (length t.table.pool) (2 * length (workers_of t.table)) ≡ true = grind (arith, nat_tests) in
     rw k
 
-pub dealt-twice : (t u v : Turn) → length t.table.pool < 2 * length (workers_of t.table) → u ≡ in_turn (give_unless_shut 1) (workers_of t.table) t → workers_of u.table ≡ workers_of t.table → v ≡ in_turn (give_unless_shut 1) (workers_of u.table) u → v ≡ dealt t
+pub dealt-twice : (t u v : Turn) → length t.table.pool < 2 * length (workers_of t.table) → u ≡ in_turn (give_unless_shut 1) (workers_of t.table) t → workers_of u.table ≡ workers_of t.table → v ≡ in_turn (give_unless_shut 1) (workers_of u.table) u → v ≡ dealt_singly t
 dealt-twice t u v h a same b =
     let k = in_turn-append (give_unless_shut 1) (workers_of t.table) (workers_of t.table) t in
     let m = dealt-few t h in

@@ -1,7 +1,7 @@
 // The batches of mode load.
 ghost use Rattle.std.specs.Prelude.{◌≡◌, ◌<◌, OnOk, true};
 ghost use Rattle.xd_ledger.specs.Calls.{turn};
-ghost use Rattle.xd_ledger.specs.Load.{more, is_due, refill, refill_all, give_unless_shut, dealt, share};
+ghost use Rattle.xd_ledger.specs.Load.{more, is_due, load_refill, load_refill_all, give_unless_shut, dealt_singly, load_share};
 ghost use Rattle.xd_ledger.specs.Plan.{Plan};
 ghost use Rattle.xd_ledger.specs.Table.{in_rota, workers_of};
 ghost use Rattle.xd_ledger.specs.Turn.{in_turn};
@@ -67,7 +67,7 @@ pub(crate) fn refill_one(
 ) -> Result<(), OutOfMemory>
     requires { in_rota worker ledger.old ≡ true }
     ensures { OnOk result ((p : Plan) → InChunks chunk p →
-        turn ledger.new p acts.new.items ≡ refill ms worker (turn ledger.old p acts.old.items)) }
+        turn ledger.new p acts.new.items ≡ load_refill ms worker (turn ledger.old p acts.old.items)) }
 {
     if ledger.is_shut(worker) {
         return Ok(());
@@ -93,7 +93,7 @@ pub(crate) fn refill_each(
     acts: &mut Vec<Entry>,
 ) -> Result<(), OutOfMemory>
     ensures { OnOk result ((p : Plan) → InChunks chunk p →
-        turn ledger.new p acts.new.items ≡ refill_all (turn ledger.old p acts.old.items)) }
+        turn ledger.new p acts.new.items ≡ load_refill_all (turn ledger.old p acts.old.items)) }
 {
     for place in 0..ledger.rota_len() {
         let worker = ledger.rota_at(place);
@@ -129,7 +129,7 @@ fn share_out(
     acts: &mut Vec<Entry>,
 ) -> Result<(), OutOfMemory>
     ensures { OnOk result ((p : Plan) → InChunks chunk p →
-        turn ledger.new p acts.new.items ≡ dealt (turn ledger.old p acts.old.items)) }
+        turn ledger.new p acts.new.items ≡ dealt_singly (turn ledger.old p acts.old.items)) }
 {
     let tests = ledger.pool_len() as u64;
     let workers = ledger.rota_len() as u64;
@@ -154,7 +154,7 @@ pub(crate) fn share_all(
     acts: &mut Vec<Entry>,
 ) -> Result<(), OutOfMemory>
     ensures { OnOk result ((p : Plan) → InChunks chunk p →
-        turn ledger.new p acts.new.items ≡ share (turn ledger.old p acts.old.items)) }
+        turn ledger.new p acts.new.items ≡ load_share (turn ledger.old p acts.old.items)) }
 {
     share_out(alloc, chunk, ledger, acts)?;
     if ledger.pool_len() == 0 {

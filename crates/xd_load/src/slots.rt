@@ -3,7 +3,7 @@ ghost use Rattle.std.specs.Prelude.{◌≡◌, ◌+◌, ◌-◌, ◌<◌, ◌^�
 ghost use Rattle.std.specs.List.{range_with_len};
 ghost use Rattle.xd_journal.specs.declared.entry.Entry.TheVariants.{RunAll};
 ghost use Rattle.xd_ledger.specs.Calls.{turn};
-ghost use Rattle.xd_ledger.specs.Each.{give_all, give_slots, give_of_slot, joins, remainder, share};
+ghost use Rattle.xd_ledger.specs.Each.{give_all, give_slots, give_of_slot, joins, remainder, each_share};
 ghost use Rattle.xd_ledger.specs.Numbers.{all_among, all_distinct, among};
 ghost use Rattle.xd_ledger.specs.Plan.{Plan};
 ghost use Rattle.xd_ledger.specs.Table.{assigned, in_rota, workers_of};
@@ -67,7 +67,7 @@ pub(crate) fn share(
     requires distinct { all_distinct slots.now ≡ true }
     requires waiting { AreWaiting slots.now sizes.now ledger.old.pool }
     ensures { OnOk result ((p : Plan) → InSlots sizes.now p →
-        turn ledger.new p acts.new.items ≡ share slots.now (turn ledger.old p acts.old.items)) }
+        turn ledger.new p acts.new.items ≡ each_share slots.now (turn ledger.old p acts.old.items)) }
 {
     for place in 0..ledger.rota_len() {
         let worker = ledger.rota_at(place);

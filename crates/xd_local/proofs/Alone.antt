@@ -22,7 +22,7 @@ use Rattle.xd_ledger.specs.Results.{done_books, failing}
 use Rattle.xd_ledger.specs.State.{after_entries, after_effect, settled}
 use Rattle.xd_ledger.specs.Workers.{slot_of}
 use Rattle.xd_child.specs.Ending.{fault_count}
-use Rattle.xd_local.specs.Local.{faults_of, report_faults, stop_at}
+use Rattle.xd_local.specs.Local.{faults_of_reports, report_faults, stop_at}
 use Rattle.xd_local.specs.Print.{failures_in}
 use Rattle.xd_local.specs.Running.{BelowLimit, failed_of, result_faults}
 
@@ -56,7 +56,7 @@ faults-from : (so_far n : ℕ) (rs : List TestResult) → fold (λ k report. k +
 faults-from so_far n [] = refl
 faults-from so_far n (r ∷ rs) = faults-from (so_far + fault_count r.outcome) (n + 1) rs
 
-pub faults-alone : (n : ℕ) (rs : List TestResult) → faults_of (reports_alone n rs) ≡ result_faults rs
+pub faults-alone : (n : ℕ) (rs : List TestResult) → faults_of_reports (reports_alone n rs) ≡ result_faults rs
 faults-alone n rs = faults-from 0 n rs
 
 -- the failures among the reports are those of the results

@@ -14,10 +14,10 @@ use Rattle.xd_report.specs.Printing.{ShowsEnd}
 use Rattle.xd_report.proofs.Prints.{shows-end}
 use Rattle.xd_report.proofs.Texts.{lines-more}
 use Rattle.xd_local.specs.Print.{AtStep, FailedAt}
-use Rattle.xd_local.specs.Running.{HasEnded, RanAll, RanPrinted, Scene, ShowsReport}
+use Rattle.xd_local.specs.Running.{HasEnded, RanAll, RanPrinted, LocalScene, ShowsReport}
 
-module _ (tests : List Test) (old : Scene) where
-  pub not_ran : (new : Scene) → RanAll false tests old new → RanPrinted false tests old new
+module _ (tests : List Test) (old : LocalScene) where
+  pub not_ran : (new : LocalScene) → RanAll false tests old new → RanPrinted false tests old new
   not_ran new ran = record {
     results = ran.results;
     so_far = ran.so_far;
@@ -28,7 +28,7 @@ module _ (tests : List Test) (old : Scene) where
   }
 
   -- the tail goes to the output, and leaves the run as it was
-  pub printed : (shown : Bool) (mid : Scene) (out : Option Sunk) → RanAll true tests old mid → ShowsEnd shown (tail_text mid.run.journal) mid.sunk out → RanPrinted shown tests old (record { run = mid.run; sunk = out; clock = mid.clock })
+  pub printed : (shown : Bool) (mid : LocalScene) (out : Option Sunk) → RanAll true tests old mid → ShowsEnd shown (tail_text mid.run.journal) mid.sunk out → RanPrinted shown tests old (record { run = mid.run; sunk = out; clock = mid.clock })
   printed shown mid out ran shows = record { results = ran.results; so_far = ran.so_far; timed = ran.timed; all = λ is. ran.all refl; shows = both shown shows; told = λ is. ran.told refl }
     where
       both : (b : Bool) → ShowsEnd b (tail_text mid.run.journal) mid.sunk out → ShowsReport b (HasEnded old.run.journal.settings.maxfail tests ran.results) mid.run.journal old.sunk out

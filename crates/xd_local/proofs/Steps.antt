@@ -31,11 +31,11 @@ use Rattle.xd_report.specs.Lines.{lines_from, run_lines}
 use Rattle.xd_report.proofs.Texts.{lines-more}
 use Rattle.xd_child.specs.Ending.{fault_count, outcome_of}
 use Rattle.xd_child.specs.Running.{RanChild}
-use Rattle.xd_local.specs.Local.{kept_by, kept_outputs, local_settings, RanTests}
+use Rattle.xd_local.specs.Local.{kept_by, kept_of_starts, local_settings, RanTests}
 use Rattle.xd_local.specs.Outside.{Programs}
 use Rattle.xd_local.specs.Timing.{AreTimed}
 use Rattle.xd_local.specs.Print.{AtStep}
-use Rattle.xd_local.specs.Running.{child_of, failed_of, ids_of, result_faults, after_journal, WasCollected, Progress, RanAll, RanTest, Running, Scene, SoFar}
+use Rattle.xd_local.specs.Running.{child_of, failed_of, ids_of_tests, result_faults, after_journal, WasCollected, Progress, RanAll, RanTest, Running, LocalScene, SoFar}
 use Rattle.xd_local.proofs.Alone.{below-next, is_some-stop, stop-begun, stop_by}
 use Rattle.xd_local.proofs.Timings.{timed_more}
 
@@ -69,12 +69,12 @@ abbrev lengths : List (List ℕ) → ℕ
 lengths [] = 0
 lengths (l ∷ ls) = length l + lengths ls
 
-kept_outputs-last : (spent : ℕ) (runs : List ChildRun) (run : ChildRun) → kept_outputs spent (runs ++ run ∷ []) ≡ kept_outputs spent runs ++ kept_at (room_behind (spent + lengths (kept_outputs spent runs))) run ∷ []
+kept_outputs-last : (spent : ℕ) (runs : List ChildRun) (run : ChildRun) → kept_of_starts spent (runs ++ run ∷ []) ≡ kept_of_starts spent runs ++ kept_at (room_behind (spent + lengths (kept_of_starts spent runs))) run ∷ []
 kept_outputs-last spent [] run = let e : spent + 0 ≡ spent = omega arith in ap (λ (n : ℕ). kept_at (room_behind n) run ∷ []) (sym e)
 kept_outputs-last spent (r ∷ rs) run =
     let k = kept_at (room_behind spent) r in
-    let e : spent + length k + lengths (kept_outputs (spent + length k) rs) ≡ spent + (length k + lengths (kept_outputs (spent + length k) rs)) = omega arith in
-    ap (λ (l : List (List ℕ)). k ∷ l) (kept_outputs-last (spent + length k) rs run ∙ ap (λ (n : ℕ). kept_outputs (spent + length k) rs ++ kept_at (room_behind n) run ∷ []) e)
+    let e : spent + length k + lengths (kept_of_starts (spent + length k) rs) ≡ spent + (length k + lengths (kept_of_starts (spent + length k) rs)) = omega arith in
+    ap (λ (l : List (List ℕ)). k ∷ l) (kept_outputs-last (spent + length k) rs run ∙ ap (λ (n : ℕ). kept_of_starts (spent + length k) rs ++ kept_at (room_behind n) run ∷ []) e)
 
 kept_by-more : (results : List TestResult) (r : TestResult) → kept_by (results ++ r ∷ []) ≡ kept_by results + length r.output
 kept_by-more [] r = omega arith
@@ -87,7 +87,7 @@ sum-outputs (r ∷ rs) = ap (λ (n : ℕ). length r.output + n) (sum-outputs rs)
 zero_more : (n : ℕ) → n ≡ 0 + n
 zero_more n = omega arith
 
-kept_total : (results : List TestResult) (runs : List ChildRun) (spent : ℕ) → map (λ r. r.output) results ≡ kept_outputs spent runs → kept_by results ≡ lengths (kept_outputs spent runs)
+kept_total : (results : List TestResult) (runs : List ChildRun) (spent : ℕ) → map (λ r. r.output) results ≡ kept_of_starts spent runs → kept_by results ≡ lengths (kept_of_starts spent runs)
 kept_total results runs spent e = sum-outputs results ∙ ap lengths e
 
 low_of : (args : List (List ℕ)) (room : ℕ) (o : Outcome) (kept : List ℕ) (old new : Option (List ChildRun)) → RanChild args room (record { outcome = o; output = kept }) old new → length kept ≤ room
@@ -114,18 +114,18 @@ module _ (tests : List Test) where
             ∙ ap (λ (x : Option Outcome). map (λ (r : TestResult). Some r.outcome) results ++ x ∷ []) more.came_to ∙ sym (map-append (λ (r : TestResult). Some r.outcome) results (r ∷ []));
         outputs = map-append (λ r. r.output) results (r ∷ [])
             ∙ ap (λ (l : List (List ℕ)). l ++ r.output ∷ []) ran.outputs
-            ∙ ap (λ (k : List ℕ). kept_outputs 0 ran.runs ++ k ∷ []) (more.kept_is ∙ kept_run run r.outcome (room_behind (kept_by results)) more.came_to)
-            ∙ ap (λ (n : ℕ). kept_outputs 0 ran.runs ++ kept_at (room_behind n) run ∷ []) (kept_total results ran.runs 0 ran.outputs ∙ zero_more (lengths (kept_outputs 0 ran.runs)))
+            ∙ ap (λ (k : List ℕ). kept_of_starts 0 ran.runs ++ k ∷ []) (more.kept_is ∙ kept_run run r.outcome (room_behind (kept_by results)) more.came_to)
+            ∙ ap (λ (n : ℕ). kept_of_starts 0 ran.runs ++ kept_at (room_behind n) run ∷ []) (kept_total results ran.runs 0 ran.outputs ∙ zero_more (lengths (kept_of_starts 0 ran.runs)))
             ∙ sym (kept_outputs-last 0 ran.runs run);
         added = added_more ran.runs run old mid new ran.added more.added;
       }
 
-  module _ (old : Scene) (is_local : old.run.journal.settings ≡ local_settings old.run.journal.settings.maxfail) where
+  module _ (old : LocalScene) (is_local : old.run.journal.settings ≡ local_settings old.run.journal.settings.maxfail) where
     abbrev limit : ℕ
     limit = old.run.journal.settings.maxfail
 
     -- no test was run yet
-    none_ran : (r : Running) → r.journal.entries.items ≡ local_entries (ids_of tests) [] → r.journal.settings ≡ old.run.journal.settings → r.programs ≡ old.run.programs → SoFar [] tests old.run r
+    none_ran : (r : Running) → r.journal.entries.items ≡ local_entries (ids_of_tests tests) [] → r.journal.settings ≡ old.run.journal.settings → r.programs ≡ old.run.programs → SoFar [] tests old.run r
     none_ran r is same_settings same = record {
       entries = is;
       settings = same_settings;
@@ -138,8 +138,8 @@ module _ (tests : List Test) where
       within = omega arith;
     }
 
-    module _ (begun : WasCollected tests old.run) (new : Scene) (same : new.run ≡ record (old.run) { reporter = new.run.reporter }) (same_clock : new.clock ≡ old.clock) where
-      entries_same : new.run.journal.entries.items ≡ local_entries (ids_of tests) []
+    module _ (begun : WasCollected tests old.run) (new : LocalScene) (same : new.run ≡ record (old.run) { reporter = new.run.reporter }) (same_clock : new.clock ≡ old.clock) where
+      entries_same : new.run.journal.entries.items ≡ local_entries (ids_of_tests tests) []
       entries_same = ap (λ (r : Running). r.journal.entries.items) same ∙ begun.entries
 
       first : SoFar [] tests old.run new.run
@@ -170,9 +170,9 @@ module _ (tests : List Test) where
         all = λ no. cc;
         shows = record {
           before = [];
-          step = local_entries (ids_of tests) [];
+          step = local_entries (ids_of_tests tests) [];
           entries = entries_same;
-          is_step = inl (ids_of tests, refl);
+          is_step = inl (ids_of_tests tests, refl);
           shows = (old.sunk, inl (refl, refl), subst (λ (es : List Entry). TookPart (run_lines new.run.journal.settings es) old.sunk new.sunk) entries_same (subst (λ (l : List ℕ). TookPart l old.sunk new.sunk) (sym lines_same) shows));
         };
         told = λ no. cc;
@@ -183,13 +183,13 @@ module _ (tests : List Test) where
     stop_behind r results so_far =
         ap (λ (st : Settings). (after_entries (no_one st) r.journal.entries.items).books.stop) (so_far.settings ∙ is_local)
         ∙ ap (λ (es : List Entry). (after_entries (no_one (local_settings limit)) es).books.stop) so_far.entries
-        ∙ stop-begun limit (after_entry (no_one (local_settings limit)) (Collected 0 (Listed (ids_of tests)))) results refl refl refl so_far.below
+        ∙ stop-begun limit (after_entry (no_one (local_settings limit)) (Collected 0 (Listed (ids_of_tests tests)))) results refl refl refl so_far.below
 
     reached_is : (r : Running) (results : List TestResult) (b : Bool) → SoFar results tests old.run r → b ≡ is_stopped (after_journal r.journal).books → b ≡ reaches limit (failed_of results)
     reached_is r results b so_far is = is ∙ ap is_some (stop_behind r results so_far) ∙ is_some-stop limit (failed_of results)
 
     -- after the test that reached the limit
-    pub limited : (count : ℕ) (new : Scene) (b : Bool) → Progress count tests old new → b ≡ is_stopped (after_journal new.run.journal).books → b ≡ true → RanAll true tests old new
+    pub limited : (count : ℕ) (new : LocalScene) (b : Bool) → Progress count tests old new → b ≡ is_stopped (after_journal new.run.journal).books → b ≡ true → RanAll true tests old new
     limited count new b p is reached = record {
       results = p.results;
       so_far = p.so_far;
@@ -199,7 +199,7 @@ module _ (tests : List Test) where
       told = λ _. p.told;
     }
 
-    module _ (k : ℕ) (mid new : Scene) (p : Progress k tests old mid) (within : k < length tests) (b : Bool) (b_is : b ≡ is_stopped (after_journal mid.run.journal).books) (go_on : b ≡ false)
+    module _ (k : ℕ) (mid new : LocalScene) (p : Progress k tests old mid) (within : k < length tests) (b : Bool) (b_is : b ≡ is_stopped (after_journal mid.run.journal).books) (go_on : b ≡ false)
         (shown : Bool) (more : RanTest shown k (run_at tests k) mid new) where
       abbrev es1 : List Entry
       es1 = mid.run.journal.entries.items
@@ -213,12 +213,12 @@ module _ (tests : List Test) where
       long : length results ≡ k + 1
       long = omega (arith, p.counted, length-append p.results (more.result ∷ []))
 
-      entries_are : local_entries (ids_of tests) results ≡ local_entries (ids_of tests) p.results ++ round k more.result
+      entries_are : local_entries (ids_of_tests tests) results ≡ local_entries (ids_of_tests tests) p.results ++ round k more.result
       entries_are =
           let at : 0 + length p.results ≡ k = omega (arith, p.counted) in
-          ap (λ (l : List Entry). local_entries (ids_of tests) [] ++ l) (rounds-last 0 p.results more.result ∙ ap (λ n. rounds 0 p.results ++ round n more.result) at)
+          ap (λ (l : List Entry). local_entries (ids_of_tests tests) [] ++ l) (rounds-last 0 p.results more.result ∙ ap (λ n. rounds 0 p.results ++ round n more.result) at)
 
-      grown : es2 ≡ local_entries (ids_of tests) results
+      grown : es2 ≡ local_entries (ids_of_tests tests) results
       grown = more.noted.entries ∙ ap (λ (l : List Entry). l ++ round k more.result) p.so_far.entries ∙ sym entries_are
 
       low : length more.result.output ≤ room_behind mid.run.spent
@@ -288,5 +288,5 @@ module _ (tests : List Test) where
         told = λ no. cc;
       }
 
-    pub finish : (new : Scene) → Progress (length tests) tests old new → RanAll true tests old new
+    pub finish : (new : LocalScene) → Progress (length tests) tests old new → RanAll true tests old new
     finish new p = record { results = p.results; so_far = p.so_far; timed = p.timed; all = λ _. inr p.counted; shows = p.shows; told = λ _. p.told }

@@ -35,11 +35,11 @@ use Rattle.xd_report.proofs.EachReport.{failed-all}
 use Rattle.xd_report.proofs.Failures.{status-faulty, status-over}
 use Rattle.xd_report.proofs.Named.{blocks-named, lines-named}
 use Rattle.xd_report.proofs.Texts.{over-same}
-use Rattle.xd_local.specs.Local.{faults_of, KeepsLimit, RunsSuite, RunsTests, local_settings, stop_after, stop_at}
+use Rattle.xd_local.specs.Local.{faults_of_reports, KeepsLimit, RunsSuite, RunsTests, local_settings, stop_after, stop_at}
 use Rattle.xd_local.specs.Outside.{Programs}
 use Rattle.xd_edge.specs.Clock.{Ticking}
 use Rattle.xd_local.specs.Print.{AtStep, AtEnd, DidAll, FailedAt, PrintsReport, failures_in}
-use Rattle.xd_local.specs.Running.{BelowLimit, ClosedJournal, HasCollected, HasEnded, HasStatus, WasCollected, IsNew, RanPrinted, Running, Scene, ShowsReport, FollowsJournal, after_journal, failed_of, ids_of}
+use Rattle.xd_local.specs.Running.{BelowLimit, ClosedJournal, HasCollected, HasEnded, HasStatus, WasCollected, IsNew, RanPrinted, Running, LocalScene, ShowsReport, FollowsJournal, after_journal, failed_of, ids_of_tests}
 use Rattle.xd_local.proofs.Alone.{below-at, below-first, eq_same, failures-alone, failures-rounds, faults-alone, is_some-stop, items-alone, length-alone, lists-rounds, low-none, reports-rounds, reports_alone, stop-begun, stop_by, take-alone, unwrap-stop}
 use Rattle.xd_local.proofs.Report.{failed_part}
 
@@ -52,13 +52,13 @@ or-true true = refl
 or-true false = refl
 
 -- A run that was printed, or was not, and its journal with the end.
-pub record Ended (tests : List Test) (maxfail : ℕ) (j : Journal) (shown : Bool) (old new : Scene) : Type 0 where
+pub record Ended (tests : List Test) (maxfail : ℕ) (j : Journal) (shown : Bool) (old new : LocalScene) : Type 0 where
   pub ran : RanPrinted shown tests old new
   pub settings : old.run.journal.settings ≡ local_settings maxfail
   pub same_settings : j.settings ≡ new.run.journal.settings
   pub ended : j.entries.items ≡ new.run.journal.entries.items ++ Over (stop_after shown (after_journal new.run.journal).books.stop) ∷ []
 
-module _ (tests : List Test) (maxfail : ℕ) (j1 : Journal) (shown : Bool) (old new : Scene) (e : Ended tests maxfail j1 shown old new) where
+module _ (tests : List Test) (maxfail : ℕ) (j1 : Journal) (shown : Bool) (old new : LocalScene) (e : Ended tests maxfail j1 shown old new) where
   abbrev ids : List (List ℕ)
   ids = map (λ t. t.id) tests
 
@@ -236,11 +236,11 @@ module _ (tests : List Test) (maxfail : ℕ) (j1 : Journal) (shown : Bool) (old 
           (subst (λ (es : List Entry). T j1.settings es ids) (sym entries_are)
           (subst (λ (st : Settings). T st (first ∷ rest) ids) (sym settings_are) x))
 
-  child_faults : RoseBy (faults_of (reports_in j1)) old.run.programs.faults new.run.programs.faults
-  child_faults = subst (λ n. RoseBy n old.run.programs.faults new.run.programs.faults) (sym (ap faults_of reports_are ∙ faults-alone 0 results)) e.ran.so_far.faults
+  child_faults : RoseBy (faults_of_reports (reports_in j1)) old.run.programs.faults new.run.programs.faults
+  child_faults = subst (λ n. RoseBy n old.run.programs.faults new.run.programs.faults) (sym (ap faults_of_reports reports_are ∙ faults-alone 0 results)) e.ran.so_far.faults
 
-  child_still : faults_of (reports_in j1) ≡ 0 → new.run.programs.faults ≡ old.run.programs.faults
-  child_still none = e.ran.so_far.still (sym (ap faults_of reports_are ∙ faults-alone 0 results) ∙ none)
+  child_still : faults_of_reports (reports_in j1) ≡ 0 → new.run.programs.faults ≡ old.run.programs.faults
+  child_still none = e.ran.so_far.still (sym (ap faults_of_reports reports_are ∙ faults-alone 0 results) ∙ none)
 
   out_fault : (before now : ℕ) → (shown ≡ false → Rose before now) → stop_of j1 ≡ OutFault → Rose before now
   out_fault before now rose stopped = by_end shown refl
@@ -338,7 +338,7 @@ module _ (tests : List Test) (maxfail : ℕ) (j1 : Journal) (shown : Bool) (old 
 pub begins : (tests : List Test) (maxfail : ℕ) (r0 r1 : Running) → IsNew maxfail r0 → HasCollected tests r0 r1 → WasCollected tests r1
 begins tests maxfail r0 r1 n c = record {
   settings = (let e = c.settings ∙ n.settings in e ∙ ap (λ (s : Settings). local_settings s.maxfail) (sym e));
-  entries = c.entries ∙ ap (λ (es : List Entry). es ++ local_entries (ids_of tests) []) n.entries;
+  entries = c.entries ∙ ap (λ (es : List Entry). es ++ local_entries (ids_of_tests tests) []) n.entries;
   unseen = subst (λ (s : Settings). Follows r1.reporter (no_one s)) (sym (c.settings ∙ n.settings)) (subst (λ (r : Reporter). Follows r (no_one (local_settings maxfail))) (sym c.reporter) n.unseen);
   nothing_kept = c.spent ∙ n.nothing_kept;
 }

@@ -28,11 +28,11 @@ abbrev pub local_settings : ℕ → Settings
 local_settings maxfail = record { mode = Local; workers = 0; maxfail = maxfail; restarts = 0; chunk = None; reorder = true; retries = 0 }
 
 -- what is kept of the output of these starts, where those before keep `spent` bytes
-abbrev pub kept_outputs : ℕ → List ChildRun → List (List ℕ)
-kept_outputs spent [] = []
-kept_outputs spent (r ∷ rs) =
+abbrev pub kept_of_starts : ℕ → List ChildRun → List (List ℕ)
+kept_of_starts spent [] = []
+kept_of_starts spent (r ∷ rs) =
     let kept = unwrap_or (option_map (λ o. kept_of o (room_behind spent) r.output) (outcome_of r.fate)) [] in
-    kept ∷ kept_outputs (spent + length kept) rs
+    kept ∷ kept_of_starts (spent + length kept) rs
 
 -- how many bytes these results keep
 abbrev pub kept_by : List TestResult → ℕ
@@ -45,7 +45,7 @@ pub record RanTests (tests : List Test) (results : List TestResult) (old new : O
   pub runs : List ChildRun
   pub commands : map (λ r. r.args) runs ≡ take (length results) (map (λ t. t.run) tests)
   pub outcomes : map (λ r. outcome_of r.fate) runs ≡ map (λ r. Some r.outcome) results
-  pub outputs : map (λ r. r.output) results ≡ kept_outputs 0 runs
+  pub outputs : map (λ r. r.output) results ≡ kept_of_starts 0 runs
   pub added : new ≡ option_map (λ l. l ++ runs) old
 
 -- The journal is the collection of these tests, their results and the end; the results are those of their programs, took as
@@ -81,8 +81,8 @@ report_faults (Result w item outcome) = fault_count outcome
 report_faults (Crash w item) = 0
 
 -- how many faults of the outside these reports stand for together
-abbrev pub faults_of : List Report → ℕ
-faults_of rs = sum_by report_faults rs
+abbrev pub faults_of_reports : List Report → ℕ
+faults_of_reports rs = sum_by report_faults rs
 
 -- A run of these tests with this limit on failures, its journal, its report and its programs.
 pub record RunsTests (tests : List Test) (maxfail : ℕ) (j : Journal) (old new : Reach) : Type 0 where
@@ -96,5 +96,5 @@ pub record RunsTests (tests : List Test) (maxfail : ℕ) (j : Journal) (old new 
   pub out_fault : stop_of j ≡ OutFault → Rose old.out.faults new.out.faults
   pub still : stop_of j ≢ OutFault → new.out.faults ≡ old.out.faults
   pub completed : StoodStill old.out.faults new.out.faults → stop_of j ≡ stop_at maxfail (failures_in (reports_in j))
-  pub child_faults : RoseBy (faults_of (reports_in j)) old.programs.faults new.programs.faults
-  pub child_still : faults_of (reports_in j) ≡ 0 → new.programs.faults ≡ old.programs.faults
+  pub child_faults : RoseBy (faults_of_reports (reports_in j)) old.programs.faults new.programs.faults
+  pub child_still : faults_of_reports (reports_in j) ≡ 0 → new.programs.faults ≡ old.programs.faults

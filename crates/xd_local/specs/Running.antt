@@ -38,14 +38,14 @@ pub record Running : Type 0 where
   pub programs : Programs
 
 -- the run, what its output took, and its clock
-pub record Scene : Type 0 where
+pub record LocalScene : Type 0 where
   pub run : Running
   pub sunk : Option Sunk
   pub clock : Ticking
 
 -- these as one value, with the moments of the clock
-abbrev pub scene : Running → Option Sunk → ℕ → Option (List ℕ) → Scene
-scene run sunk moment coming = record { run = run; sunk = sunk; clock = record { moment = moment; coming = coming } }
+abbrev pub local_scene : Running → Option Sunk → ℕ → Option (List ℕ) → LocalScene
+local_scene run sunk moment coming = record { run = run; sunk = sunk; clock = record { moment = moment; coming = coming } }
 
 -- the state after a journal
 abbrev pub after_journal : Journal → State
@@ -56,8 +56,8 @@ abbrev pub FollowsJournal : Running → Type 0
 FollowsJournal r = Follows r.reporter (after_journal r.journal)
 
 -- the ids of these tests, in order
-abbrev pub ids_of : List Test → List (List ℕ)
-ids_of tests = map (λ t. t.id) tests
+abbrev pub ids_of_tests : List Test → List (List ℕ)
+ids_of_tests tests = map (λ t. t.id) tests
 
 -- nothing was collected yet
 pub record IsNew (maxfail : ℕ) (r : Running) : Type 0 where
@@ -68,7 +68,7 @@ pub record IsNew (maxfail : ℕ) (r : Running) : Type 0 where
 
 -- the collection was noted
 pub record HasCollected (tests : List Test) (old new : Running) : Type 0 where
-  pub entries : new.journal.entries.items ≡ old.journal.entries.items ++ local_entries (ids_of tests) []
+  pub entries : new.journal.entries.items ≡ old.journal.entries.items ++ local_entries (ids_of_tests tests) []
   pub settings : new.journal.settings ≡ old.journal.settings
   pub reporter : new.reporter ≡ old.reporter
   pub spent : new.spent ≡ old.spent
@@ -77,7 +77,7 @@ pub record HasCollected (tests : List Test) (old new : Running) : Type 0 where
 -- the tests were collected, and nothing of it was printed
 pub record WasCollected (tests : List Test) (r : Running) : Type 0 where
   pub settings : r.journal.settings ≡ local_settings r.journal.settings.maxfail
-  pub entries : r.journal.entries.items ≡ local_entries (ids_of tests) []
+  pub entries : r.journal.entries.items ≡ local_entries (ids_of_tests tests) []
   pub unseen : Follows r.reporter (no_one r.journal.settings)
   pub nothing_kept : r.spent ≡ 0
 
@@ -107,7 +107,7 @@ pub record NotesTest (test : ℕ) (args : List (List ℕ)) (before now : Ticking
   pub timed : Lasts result.ms before now
 
 -- what one test adds to the run and its output
-pub record RanTest (shown : Bool) (test : ℕ) (args : List (List ℕ)) (old new : Scene) : Type 0 where
+pub record RanTest (shown : Bool) (test : ℕ) (args : List (List ℕ)) (old new : LocalScene) : Type 0 where
   pub result : TestResult
   pub noted : IsNoted test args result old.run new.run
   pub timed : Lasts result.ms old.clock new.clock
@@ -134,7 +134,7 @@ result_faults rs = sum_by (λ r. fault_count r.outcome) rs
 
 -- the first tests, as far as they came, with what the outside tells of them
 pub record SoFar (results : List TestResult) (tests : List Test) (old new : Running) : Type 0 where
-  pub entries : new.journal.entries.items ≡ local_entries (ids_of tests) results
+  pub entries : new.journal.entries.items ≡ local_entries (ids_of_tests tests) results
   pub settings : new.journal.settings ≡ old.journal.settings
   pub ran : RanTests tests results old.programs.runs new.programs.runs
   pub faults : RoseBy (result_faults results) old.programs.faults new.programs.faults
@@ -146,7 +146,7 @@ pub record SoFar (results : List TestResult) (tests : List Test) (old new : Runn
 
 -- `count` tests were run, and all lines so far were printed
 -- Example: two of three tests were run: the journal has their entries, and their lines were handed on.
-pub record Progress (count : ℕ) (tests : List Test) (old new : Scene) : Type 0 where
+pub record Progress (count : ℕ) (tests : List Test) (old new : LocalScene) : Type 0 where
   pub results : List TestResult
   pub so_far : SoFar results tests old.run new.run
   pub timed : AreTimed results old.clock new.clock
@@ -166,7 +166,7 @@ ShowsReport true did_all j old new = ShowsEnd true (text_of j) old new
 ShowsReport false did_all j old new = FailedAt did_all j.settings j.entries.items old new
 
 -- the run came to its end and its lines were printed, or the output failed at the collection or after a test
-pub record RanAll (shown : Bool) (tests : List Test) (old new : Scene) : Type 0 where
+pub record RanAll (shown : Bool) (tests : List Test) (old new : LocalScene) : Type 0 where
   pub results : List TestResult
   pub so_far : SoFar results tests old.run new.run
   pub timed : AreTimed results old.clock new.clock
@@ -175,7 +175,7 @@ pub record RanAll (shown : Bool) (tests : List Test) (old new : Scene) : Type 0 
   pub told : shown ≡ true → FollowsJournal new.run
 
 -- the same with the tail: the journal without its end, and the whole report
-pub record RanPrinted (shown : Bool) (tests : List Test) (old new : Scene) : Type 0 where
+pub record RanPrinted (shown : Bool) (tests : List Test) (old new : LocalScene) : Type 0 where
   pub results : List TestResult
   pub so_far : SoFar results tests old.run new.run
   pub timed : AreTimed results old.clock new.clock

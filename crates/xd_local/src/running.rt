@@ -12,7 +12,7 @@ ghost use Rattle.xd_report.specs.Printing.{OnPrinted, ShowsEnd, ShowsLines};
 ghost use Rattle.xd_report.specs.Text.{tail_text};
 ghost use Rattle.xd_local.specs.Local.{local_settings, stop_after};
 ghost use Rattle.xd_local.specs.Running.{AddsRound, ClosedJournal, HasCollected, HasStatus, WasCollected, IsNew, NotesTest};
-ghost use Rattle.xd_local.specs.Running.{RanAll, RanPrinted, RanTest, FollowsJournal, after_journal, scene};
+ghost use Rattle.xd_local.specs.Running.{RanAll, RanPrinted, RanTest, FollowsJournal, after_journal, local_scene};
 
 use crate::local::LocalRun;
 use std::alloc::Global;
@@ -88,8 +88,8 @@ impl<K: Children> Run<K> {
     ) -> Result<(), PrintFault>
         requires begun { WasCollected suite.now self.old }
         ensures ran { OnPrinted result (λ shown. RanPrinted shown suite.now
-            (scene self.old (O.sunk out.old) (T.moment clock.old) (T.coming clock.old))
-            (scene self.new (O.sunk out.new) (T.moment clock.new) (T.coming clock.new))) }
+            (local_scene self.old (O.sunk out.old) (T.moment clock.old) (T.coming clock.old))
+            (local_scene self.new (O.sunk out.new) (T.moment clock.new) (T.coming clock.new))) }
         ensures counted { OnPrinted result (λ shown.
             Counted shown (O.faults out.old) (O.faults out.new)) }
     {
@@ -109,8 +109,8 @@ impl<K: Children> Run<K> {
     ) -> Result<(), PrintFault>
         requires begun { WasCollected suite.now self.old }
         ensures ran { OnPrinted result (λ shown. RanAll shown suite.now
-            (scene self.old (O.sunk out.old) (T.moment clock.old) (T.coming clock.old))
-            (scene self.new (O.sunk out.new) (T.moment clock.new) (T.coming clock.new))) }
+            (local_scene self.old (O.sunk out.old) (T.moment clock.old) (T.coming clock.old))
+            (local_scene self.new (O.sunk out.new) (T.moment clock.new) (T.coming clock.new))) }
         ensures counted { OnPrinted result (λ shown.
             Counted shown (O.faults out.old) (O.faults out.new)) }
     {
@@ -145,8 +145,8 @@ impl<K: Children> Run<K> {
         requires told { FollowsJournal self.old }
         requires room { self.old.spent ≤ most_of_all }
         ensures ran { OnPrinted result (λ shown. RanTest shown test (run_at suite.now test)
-            (scene self.old (O.sunk out.old) (T.moment clock.old) (T.coming clock.old))
-            (scene self.new (O.sunk out.new) (T.moment clock.new) (T.coming clock.new))) }
+            (local_scene self.old (O.sunk out.old) (T.moment clock.old) (T.coming clock.old))
+            (local_scene self.new (O.sunk out.new) (T.moment clock.new) (T.coming clock.new))) }
         ensures counted { OnPrinted result (λ shown.
             Counted shown (O.faults out.old) (O.faults out.new)) }
     {

@@ -68,7 +68,7 @@ abbrev pub Carries : Actor → LinkedSide → List Said → Type 0
 Carries a peer wire = IsOpen a → AllMean peer.said.items wire
 
 -- the next message of the peer is taken, and this is handed out
-pub record Takes (odd : Bool) (new left : LinkedSide) (a : Actor) (wire : List Said) (items : ℕ → List Tree) (end : ℕ → Option End) : Type 0 where
+pub record TakesNext (odd : Bool) (new left : LinkedSide) (a : Actor) (wire : List Said) (items : ℕ → List Tree) (end : ℕ → Option End) : Type 0 where
   pub stands : StandsFor odd new.side (after odd a wire Take_message)
   pub carries : Carries (after odd a wire Take_message) left (wire_after a wire Take_message)
   pub hands : Hands a (after odd a wire Take_message) items end
@@ -86,7 +86,7 @@ pub record SaysNothing (old new peer left : LinkedSide) : Type 0 where
 -- from old to new a side took the next message of its peer, and left is the peer then
 pub record IsTake (old new peer left : LinkedSide) (items : ℕ → List Tree) (end : ℕ → Option End) : Type 0 where
   pub quiet : SaysNothing old new peer left
-  pub takes : (odd : Bool) (a : Actor) (wire : List Said) → StandsFor odd old.side a → Carries a peer wire → Takes odd new left a wire items end
+  pub takes : (odd : Bool) (a : Actor) (wire : List Said) → StandsFor odd old.side a → Carries a peer wire → TakesNext odd new left a wire items end
 
 -- from old to new a side refused the next message of its peer, and left is the peer then
 pub record RefusesNext (old new peer left : LinkedSide) : Type 0 where

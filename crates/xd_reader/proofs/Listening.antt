@@ -11,12 +11,12 @@ use Rattle.xd_frame.specs.declared.pull.Pulled.{Pulled}
 use Rattle.xd_frame.specs.declared.pull.Pulled.TheVariants.{More, Whole, Ended}
 use Rattle.xd_frame.specs.declared.pull.PullFault.{PullFault}
 use Rattle.xd_frame.specs.declared.pull.PullFault.TheVariants.{Bad, ReadFault, OutOfMemory}
-use Rattle.xd_frame.specs.Header.{four_bytes_at, header_read, judged}
+use Rattle.xd_frame.specs.Header.{four_bytes_at, header_read, judged_header}
 use Rattle.xd_frame.specs.Kind.{kind_of}
 use Rattle.xd_frame.specs.Message.{MessageView, max_channel, max_payload}
 use Rattle.xd_frame.specs.Framer.{FramerView, StandsFor, fresh}
 use Rattle.xd_frame.specs.Pull.{HoldsLess, Pulls, few, lasting, refusal_by, pull_fault_of}
-use Rattle.xd_frame.specs.Stream.{behind, header_in_front, messages, rest, rest_by, rest_of, Rest, Clean, Unfinished, Refused, end_meaning}
+use Rattle.xd_frame.specs.Stream.{left_over, header_in_front, messages, rest, rest_by, rest_of, Rest, Clean, Unfinished, Refused, end_meaning}
 use Rattle.xd_frame.proofs.Front.{err_front}
 use Rattle.xd_link.specs.Source.{Gave}
 use Rattle.xd_link.specs.Spring.{ReadToEnd, Spring}
@@ -25,7 +25,7 @@ use Rattle.xd_reader.specs.declared.news.LinkNews.{LinkNews}
 use Rattle.xd_reader.specs.declared.news.LinkNews.TheVariants.{Message}
 use Rattle.xd_reader.specs.declared.news.LinkStop.{LinkStop}
 use Rattle.xd_reader.specs.declared.news.LinkStop.TheVariants as stop
-use Rattle.xd_reader.specs.Judged.{greeting, stop_of}
+use Rattle.xd_reader.specs.Judged.{greeting_byte, link_stop_of}
 use Rattle.xd_reader.specs.Reads.{GoLess, Puts, Reads, StopsAt}
 use Rattle.xd_reader.specs.Reading.{Listens, Steps, stop_of_fault}
 
@@ -74,7 +74,7 @@ listens_first s new stands less = record {
 -- ---- how the bytes end
 
 -- no header is refused as one that is cut
-judged_not_cut : (kind : Option Kind) (code channel length : ℕ) → judged kind code channel length ≡ Err Cut → ⊥
+judged_not_cut : (kind : Option Kind) (code channel length : ℕ) → judged_header kind code channel length ≡ Err Cut → ⊥
 judged_not_cut None code channel length e = cc
 judged_not_cut (Some kind) code channel length e = by (nat_le channel max_channel) (nat_le length max_payload) _ _ _ e
   where
@@ -96,7 +96,7 @@ refused_front (b ∷ a) f e = by (header_in_front (b ∷ a)) e
     by (Err g) x = cc
 
 rest_not_cut : (bytes : List ℕ) → rest bytes ≡ Refused Cut → ⊥
-rest_not_cut bytes e = read_not_cut (take 9 (behind bytes)) (err_front (behind bytes) Cut (refused_front (behind bytes) Cut e)).0
+rest_not_cut bytes e = read_not_cut (take 9 (left_over bytes)) (err_front (left_over bytes) Cut (refused_front (left_over bytes) Cut e)).0
 
 -- the bytes end inside a message
 cut_means : (bytes : List ℕ) → end_meaning (rest bytes) ≡ Err Cut → rest bytes ≡ Unfinished
@@ -108,7 +108,7 @@ cut_means bytes e = by (rest bytes) e (rest_not_cut bytes)
     by (Refused f) x never = absurd (never cc)
 
 -- the bytes end with a header that is refused
-bad_means : (r : Rest) (f : FrameFault) → (f ≡ Cut → ⊥) → end_meaning r ≡ Err f → stop_of r ≡ stop.Garbled f
+bad_means : (r : Rest) (f : FrameFault) → (f ≡ Cut → ⊥) → end_meaning r ≡ Err f → link_stop_of r ≡ stop.Garbled f
 bad_means Clean f other e = cc
 bad_means Unfinished f other e = absurd (other cc)
 bad_means (Refused g) f other e = cc
@@ -146,7 +146,7 @@ module _ (old new : FramerView) (s0 s1 : Spring) (bytes : List ℕ) (taken : Lis
         so = (
           all_of new (bytes ++ p.piece) (taken ++ []) (not_failed new goes) waits (p.stands bytes taken l.stands),
           go_less new (bytes ++ p.piece) (taken ++ []) (p.less bytes taken l.less),
-          (ap stop_of answer.0, answer.2, p.count),
+          (ap link_stop_of answer.0, answer.2, p.count),
         );
       }
 
@@ -173,7 +173,7 @@ module _ (old new : FramerView) (s0 s1 : Spring) (bytes : List ℕ) (taken : Lis
       cause (Bad Cut) p =
           let answer = p.answer l.goes bytes taken l.stands in
           let ends : rest (bytes ++ p.piece) ≡ Unfinished = cut_means (bytes ++ p.piece) answer.0 in
-          (ap stop_of ends, (answer.1 ends).1, p.count)
+          (ap link_stop_of ends, (answer.1 ends).1, p.count)
       cause (Bad (BadKind code)) p = garbled (BadKind code) p (λ x. cc)
       cause (Bad (BadChannel number)) p = garbled (BadChannel number) p (λ x. cc)
       cause (Bad (BadLength number)) p = garbled (BadLength number) p (λ x. cc)
@@ -231,20 +231,20 @@ puts_stopped why framer next s0 mid s1 before between after f t = record {
 
 -- ---- the greeting
 
-pub greeted_reads : (s0 mid s1 : Spring) (before after : List LinkNews) (why : LinkStop) → Gave (greeting ∷ []) s0.supply mid.supply → mid.faults ≡ s0.faults → Puts false mid s1 before after why → Puts true s0 s1 before after why
+pub greeted_reads : (s0 mid s1 : Spring) (before after : List LinkNews) (why : LinkStop) → Gave (greeting_byte ∷ []) s0.supply mid.supply → mid.faults ≡ s0.faults → Puts false mid s1 before after why → Puts true s0 s1 before after why
 greeted_reads s0 mid s1 before after why gave still p = record {
   put = p.put;
   comes = p.comes;
   reads = record {
-    bytes = greeting ∷ p.reads.bytes;
-    gave = gave_more (greeting ∷ []) p.reads.bytes s0.supply mid.supply s1.supply gave p.reads.gave;
+    bytes = greeting_byte ∷ p.reads.bytes;
+    gave = gave_more (greeting_byte ∷ []) p.reads.bytes s0.supply mid.supply s1.supply gave p.reads.gave;
     all = p.reads.all;
     less = p.reads.less;
     cause = by why (stops_from why false p.reads.bytes s0 mid s1 still p.reads.cause);
   };
 }
   where
-    by : (w : LinkStop) → StopsAt w false p.reads.bytes s0 s1 → StopsAt w true (greeting ∷ p.reads.bytes) s0 s1
+    by : (w : LinkStop) → StopsAt w false p.reads.bytes s0 s1 → StopsAt w true (greeting_byte ∷ p.reads.bytes) s0 s1
     by stop.Ended c = c
     by stop.Cut c = c
     by (stop.Garbled f) c = c
@@ -262,11 +262,11 @@ greets_ended s0 s1 gave end still = record { bytes = []; gave = gave; all = refl
 pub greets_unread : (s0 s1 : Spring) → Gave [] s0.supply s1.supply → Rose s0.faults s1.faults → Reads true s0 s1 [] stop.ReadFault
 greets_unread s0 s1 gave rose = record { bytes = []; gave = gave; all = refl; less = refl; cause = rose }
 
-pub greets_bad : (s0 s1 : Spring) (b : ℕ) → (b == greeting) ≡ false → Gave (b ∷ []) s0.supply s1.supply → s1.faults ≡ s0.faults → Reads true s0 s1 [] (stop.BadGreeting b)
+pub greets_bad : (s0 s1 : Spring) (b : ℕ) → (b == greeting_byte) ≡ false → Gave (b ∷ []) s0.supply s1.supply → s1.faults ≡ s0.faults → Reads true s0 s1 [] (stop.BadGreeting b)
 greets_bad s0 s1 b other gave still = record {
   bytes = b ∷ [];
   gave = gave;
   all = sym (ap (λ (x : Bool). if x then messages [] else []) other);
   less = record { behind = []; bytes_are = refl; less = few (omega arith) };
-  cause = (ap (λ (x : Bool). if x then stop_of (rest []) else stop.BadGreeting b) other, still);
+  cause = (ap (λ (x : Bool). if x then link_stop_of (rest []) else stop.BadGreeting b) other, still);
 }

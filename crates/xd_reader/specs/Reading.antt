@@ -13,12 +13,12 @@ use Rattle.xd_reader.specs.declared.news.LinkNews.{LinkNews}
 use Rattle.xd_reader.specs.declared.news.LinkNews.TheVariants.{Message}
 use Rattle.xd_reader.specs.declared.news.LinkStop.{LinkStop}
 use Rattle.xd_reader.specs.declared.news.LinkStop.TheVariants as stop
-use Rattle.xd_reader.specs.Judged.{greeting}
+use Rattle.xd_reader.specs.Judged.{greeting_byte}
 use Rattle.xd_reader.specs.Reads.{GoLess, Reads, StopsAt}
 
 -- The greeting was read, or why not.
 abbrev pub Greets : Option LinkStop → Spring → Spring → Type 0
-Greets None s0 s1 = Gave (greeting ∷ []) s0.supply s1.supply × (s1.faults ≡ s0.faults)
+Greets None s0 s1 = Gave (greeting_byte ∷ []) s0.supply s1.supply × (s1.faults ≡ s0.faults)
 Greets (Some why) s0 s1 = Reads true s0 s1 [] why
 
 -- why a link is read no more that met this fault

@@ -9,7 +9,7 @@ use Rattle.xd_factory.specs.declared.faults.SideFault.{SideFault}
 use Rattle.xd_factory.specs.declared.faults.SideFault.TheVariants as fault
 use Rattle.xd_factory.specs.Slot.{hooked_slot}
 use Rattle.xd_factory.specs.Trees.{taken_tree}
-use Rattle.xd_factory.specs.SideTable.{ChannelTable, RefusedBy, answer, changed_at, heard}
+use Rattle.xd_factory.specs.SideTable.{ChannelTable, RefusedBy, answer, changed_at, heard_of_message}
 use Rattle.xd_factory.specs.View.{fault_of}
 use Rattle.xd_journal.specs.declared.news.What.{What}
 use Rattle.xd_journal.specs.declared.news.What.TheVariants as what
@@ -94,9 +94,9 @@ module _ {K : Type 0} where
       let news_are : news ≡ news_by (ear_after h).finished (answer t.said (ear_after h).table) =
       n ∙ (ap (λ (b : Bool). news_by b (taken_tree taken)) finished
       ∙ ap (λ (x : Taken Tree). news_by (ear_after h).finished x) (t.answer_is ∙ ap (answer t.said) here)) in
-      let table : channels_of new ≡ log_hooked news (heard t.said (ear_after h).table) = c ∙ ap (log_hooked news) (t.table_is ∙ ap (heard t.said) here) in
+      let table : channels_of new ≡ log_hooked news (heard_of_message t.said (ear_after h).table) = c ∙ ap (log_hooked news) (t.table_is ∙ ap (heard_of_message t.said) here) in
       let fault_is : fault_of (side_of new) ≡ None =
-      ap (λ (x : ChannelTable). x.fault) table ∙ (hooked_fault news (heard t.said (ear_after h).table) ∙ (ap (λ (x : ChannelTable). x.fault) (sym here) ∙ t.good)) in
+      ap (λ (x : ChannelTable). x.fault) table ∙ (hooked_fault news (heard_of_message t.said (ear_after h).table) ∙ (ap (λ (x : ChannelTable). x.fault) (sym here) ∙ t.good)) in
       record {
         came = Said t.said;
         is = record { good = good; means = t.means; room = subst (λ (x : ChannelTable). HasRoom x t.said) here t.room };
@@ -104,7 +104,7 @@ module _ {K : Type 0} where
         stands = record {
           are = (s.are, record { good = good; means = t.means; room = subst (λ (x : ChannelTable). HasRoom x t.said) here t.room });
           failed = ap is_some fault_is;
-          channels = λ z. table ∙ ap (λ (w : Option What). log_hooked w (heard t.said (ear_after h).table)) news_are;
+          channels = λ z. table ∙ ap (λ (w : Option What). log_hooked w (heard_of_message t.said (ear_after h).table)) news_are;
           finished = e ∙ (ap (λ (b : Bool). b || is_finish news) finished ∙ ap (λ (w : Option What). (ear_after h).finished || is_finish w) news_are);
         };
       }

@@ -9,7 +9,7 @@ use Rattle.xd_frame.specs.Writing.{CountBehind, WritesMore}
 use Rattle.xd_frame.proofs.Written.{next_print}
 use Rattle.xd_frame.specs.Message.{MessageView, frame}
 use Rattle.xd_remote.specs.Calls.{terminate_message}
-use Rattle.xd_remote.specs.Line.{ClosedBy, Closes, ClosesNow, GatewaySink, Prints}
+use Rattle.xd_remote.specs.Line.{ClosedBy, ClosesSink, ClosesNow, GatewaySink, PrintsBytes}
 
 abbrev pub line : Option Sunk → ℕ → Bool → GatewaySink
 line s f b = record { sunk = s; faults = f; broken = b }
@@ -21,11 +21,11 @@ count_behind r true b1 f0 f1 h k c = cc
 
 -- a print, where no write had failed
 pub printed : {T E : Type 0} (r : Result T E) (bytes : List ℕ) (s0 s1 : Option Sunk) (f0 f1 : ℕ) (b0 b1 : Bool) → b0 ≡ false → b1 ≡ is_err r → OnOk r (Printed bytes s0 s1) → OnErr r (TookPart bytes s0 s1)
-    → Counted (is_ok r) f0 f1 → Prints bytes (line s0 f0 b0) (line s1 f1 b1)
+    → Counted (is_ok r) f0 f1 → PrintsBytes bytes (line s0 f0 b0) (line s1 f1 b1)
 printed r bytes s0 s1 f0 f1 b0 b1 h k ok part c =
     record { writes = next_print r b0 b1 bytes s0 s1 h k ok part; count = count_behind r b0 b1 f0 f1 h k c; later = c.later }
 
-pub printed_nothing : (bytes : List ℕ) (s : Option Sunk) (f : ℕ) (b : Bool) → b ≡ true → Prints bytes (line s f b) (line s f b)
+pub printed_nothing : (bytes : List ℕ) (s : Option Sunk) (f : ℕ) (b : Bool) → b ≡ true → PrintsBytes bytes (line s f b) (line s f b)
 printed_nothing bytes s f true h = record { writes = (refl, refl); count = (refl, refl); later = omega arith }
 printed_nothing bytes s f false h = absurd (let z = h in cc)
 
@@ -60,7 +60,7 @@ print_is_part bytes (Some s) s1 p =
     )
 
 ends_by : (bytes : List ℕ) (b0 b1 b2 : Bool) (s0 s1 s2 : Option Sunk) (f0 f1 f2 : ℕ) → WritesMore b0 b1 bytes s0 s1 → CountBehind b0 b1 f0 f1 → f0 ≤ f1 → ClosedBy b1 b2 s1 s2 → CountBehind b1 b2 f1 f2 → f1 ≤ f2
-    → Closes bytes (line s0 f0 b0) (line s2 f2 b2)
+    → ClosesSink bytes (line s0 f0 b0) (line s2 f2 b2)
 ends_by bytes true true true s0 s1 s2 f0 f1 f2 w c l d e k = record { closes = (refl, d.1 ∙ w.1); count = (refl, e.1 ∙ c.1); later = omega arith }
 ends_by bytes true true false s0 s1 s2 f0 f1 f2 w c l d e k = absurd (let z = d.0 in cc)
 ends_by bytes true false b2 s0 s1 s2 f0 f1 f2 w c l d e k = absurd (let z = w.0 in cc)
@@ -71,8 +71,8 @@ ends_by bytes false false true s0 s1 s2 f0 f1 f2 w c l d e k =
     record { closes = subst (λ (o : Option Sunk). PrintedPart bytes s0 o) (sym d) (print_is_part bytes s0 s1 w); count = subst (λ (n : ℕ). Rose n f2) c e; later = omega arith }
 ends_by bytes false false false s0 s1 s2 f0 f1 f2 w c l d e k = record { closes = all_closed bytes s0 s1 s2 w d; count = e ∙ c; later = omega arith }
 
-pub ends : (bytes : List ℕ) (a b c : GatewaySink) → Prints bytes a b → ClosesNow b c → Closes bytes a c
+pub ends : (bytes : List ℕ) (a b c : GatewaySink) → PrintsBytes bytes a b → ClosesNow b c → ClosesSink bytes a c
 ends bytes a b c p q = ends_by bytes a.broken b.broken c.broken a.sunk b.sunk c.sunk a.faults b.faults c.faults p.writes p.count p.later q.closed q.count q.later
 
-pub exits : (m : MessageView) (a b c : GatewaySink) → m ≡ terminate_message → Prints (frame m) a b → ClosesNow b c → Closes (frame terminate_message) a c
-exits m a b c e p q = ends (frame terminate_message) a b c (subst (λ (x : MessageView). Prints (frame x) a b) e p) q
+pub exits : (m : MessageView) (a b c : GatewaySink) → m ≡ terminate_message → PrintsBytes (frame m) a b → ClosesNow b c → ClosesSink (frame terminate_message) a c
+exits m a b c e p q = ends (frame terminate_message) a b c (subst (λ (x : MessageView). PrintsBytes (frame x) a b) e p) q

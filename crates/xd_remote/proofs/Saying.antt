@@ -12,7 +12,7 @@ use Rattle.xd_remote.specs.declared.fault.GatewayFault.{GatewayFault}
 use Rattle.xd_remote.specs.declared.fault.GatewayFault.TheVariants.{SendFault, Channel, Opening, OutOfMemory}
 use Rattle.xd_remote.specs.declared.gateway.Gateway.{Gateway}
 use Rattle.xd_remote.specs.Calls.{Wanted, exec_by, exec_message, exec_opened, open_refusal, opened_by, opening_wanted, status_message, status_wanted}
-use Rattle.xd_remote.specs.Line.{GatewaySink, Prints, Says, write_answer}
+use Rattle.xd_remote.specs.Line.{GatewaySink, PrintsBytes, Says, write_answer}
 use Rattle.xd_remote.specs.News.{Heard}
 use Rattle.xd_remote.specs.Opening.{IsWanted, IsPayloadOf, IsUnopened}
 use Rattle.xd_remote.specs.Stands.{IsBegun, IsNew, StandsFor}
@@ -28,13 +28,13 @@ written_err : (b : Bool) (f : GatewayFault) → Err f ≡ write_answer b → (f 
 written_err true f h = (let z = h in cc, refl)
 written_err false f h = absurd (let z = h in cc)
 
-pub said : {T : Type 0} (x : T) (wanted : Wanted) (a b : GatewaySink) (m : MessageView) (u : Unit {0}) → wanted ≡ Ok m → Ok u ≡ write_answer b.broken → Prints (frame m) a b → Says wanted a b (Ok x)
+pub said : {T : Type 0} (x : T) (wanted : Wanted) (a b : GatewaySink) (m : MessageView) (u : Unit {0}) → wanted ≡ Ok m → Ok u ≡ write_answer b.broken → PrintsBytes (frame m) a b → Says wanted a b (Ok x)
 said x wanted a b m u e w p = (m, e, written_ok b.broken u w, p)
 
-cut_short : (T : Type 0) (wanted : Wanted) (a b : GatewaySink) (m : MessageView) (f : GatewayFault) → wanted ≡ Ok m → f ≡ SendFault → b.broken ≡ true → Prints (frame m) a b → Says {T = T} wanted a b (Err f)
+cut_short : (T : Type 0) (wanted : Wanted) (a b : GatewaySink) (m : MessageView) (f : GatewayFault) → wanted ≡ Ok m → f ≡ SendFault → b.broken ≡ true → PrintsBytes (frame m) a b → Says {T = T} wanted a b (Err f)
 cut_short T wanted a b m f e g k p = subst (λ (x : GatewayFault). Says {T = T} wanted a b (Err x)) (sym g) (m, e, k, p)
 
-pub cut : (T : Type 0) (wanted : Wanted) (a b : GatewaySink) (m : MessageView) (f : GatewayFault) → wanted ≡ Ok m → Err f ≡ write_answer b.broken → Prints (frame m) a b → Says {T = T} wanted a b (Err f)
+pub cut : (T : Type 0) (wanted : Wanted) (a b : GatewaySink) (m : MessageView) (f : GatewayFault) → wanted ≡ Ok m → Err f ≡ write_answer b.broken → PrintsBytes (frame m) a b → Says {T = T} wanted a b (Err f)
 cut T wanted a b m f e w p = let k = written_err b.broken f w in cut_short T wanted a b m f e k.0 k.1 p
 
 -- ---- a refusal

@@ -12,7 +12,7 @@ use Rattle.xd_factory.specs.Numbers.{is_in, is_mine}
 use Rattle.xd_factory.specs.Said.{Said as Word, Status, Exec, Data, Close, Last, Terminate, names_of}
 use Rattle.xd_factory.specs.Slot.{Slot, Unseen, Here, Gone, hooked_slot, is_new}
 use Rattle.xd_factory.specs.Table.{end_answer, ended_answer, named_in, send_refusal, told_slot}
-use Rattle.xd_factory.specs.SideTable.{ChannelTable, answer, changed_at, heard}
+use Rattle.xd_factory.specs.SideTable.{ChannelTable, answer, changed_at, heard_of_message}
 use Rattle.xd_factory.specs.View.{fault_of, slot_of_number}
 use Rattle.xd_journal.specs.declared.news.What.{What}
 use Rattle.xd_journal.specs.declared.news.What.TheVariants as what
@@ -130,7 +130,7 @@ other_end f slot n e h o k = by_test (n == 1) refl
         let p : n ≡ 1 = eqb-true n 1 q in
         absurd (let z : true ≡ false = sym (answer_is_last f (slot n) n e h p (subst (λ (x : ℕ). IsOpen (slot x)) (sym p) o)) ∙ k in cc)
 
-heard_open : (f : Bool) (t : ChannelTable) (said : Word) → f ≡ false → IsOpen (t.slot 1) → last_in (news_by f (answer said t)) ≡ false → IsOpen ((heard said t).slot 1)
+heard_open : (f : Bool) (t : ChannelTable) (said : Word) → f ≡ false → IsOpen (t.slot 1) → last_in (news_by f (answer said t)) ≡ false → IsOpen ((heard_of_message said t).slot 1)
 heard_open f t (Status n) h o k = absurd (let z : true ≡ false = k in cc)
 heard_open f t (Exec n v) h o k = absurd (let z : true ≡ false = sym (exec_is_last f (is_new (is_mine t.parity n) (t.slot n)) n v) ∙ k in cc)
 heard_open f t (Data n v) h o k = item_open (is_mine t.parity 1) (n == 1) n v (named_in (is_mine t.parity 1) (is_in 1 (names_of (Data n v))) (t.slot 1)) refl (named_open (is_mine t.parity 1) (is_in 1 (names_of (Data n v))) (t.slot 1) o)
@@ -152,7 +152,7 @@ step : (e : Ear) (came : Came) → Listening e → last_in (came_news e came) �
 step e Refused l h = absurd (let z : true ≡ false = h in cc)
 step e (Said said) l h =
     record {
-      slot = subst IsOpen (sym (hooked_keeps (came_news e (Said said)) (heard said e.table))) (heard_open e.finished e.table said l.unfinished l.slot h);
+      slot = subst IsOpen (sym (hooked_keeps (came_news e (Said said)) (heard_of_message said e.table))) (heard_open e.finished e.table said l.unfinished l.slot h);
       good = refl;
       unfinished = or_false e.finished (is_finish (came_news e (Said said))) l.unfinished (not_finish (came_news e (Said said)) h);
     }

@@ -14,7 +14,7 @@ pub record GatewaySink : Type 0 where
 
 -- The bytes are written and handed on; or a first part of them, where the sink fails now; or nothing, where it failed before.
 -- Example: the sink fails at the second byte of a header: one byte was taken, nothing was handed on, and the count rose.
-pub record Prints (bytes : List ℕ) (old new : GatewaySink) : Type 0 where
+pub record PrintsBytes (bytes : List ℕ) (old new : GatewaySink) : Type 0 where
   pub writes : WritesMore old.broken new.broken bytes old.sunk new.sunk
   pub count : CountBehind old.broken new.broken old.faults new.faults
   pub later : old.faults ≤ new.faults
@@ -26,7 +26,7 @@ ClosesMore false true bytes old new = PrintedPart bytes old new
 ClosesMore false false bytes old new = new ≡ option_map (λ s. with_close (with_flush (with_bytes bytes s))) old
 
 -- A close with these last bytes: what the sink took of them, and its count of faults, which rose where it failed now.
-pub record Closes (bytes : List ℕ) (old new : GatewaySink) : Type 0 where
+pub record ClosesSink (bytes : List ℕ) (old new : GatewaySink) : Type 0 where
   pub closes : ClosesMore old.broken new.broken bytes old.sunk new.sunk
   pub count : CountBehind old.broken new.broken old.faults new.faults
   pub later : old.faults ≤ new.faults
@@ -51,8 +51,8 @@ write_answer false = Ok tt
 -- A call that is to say a message, or that is refused before, while no write has failed: what it answers, and what it makes
 -- of the line.
 abbrev pub Says : {T : Type 0} → Result MessageView GatewayFault → GatewaySink → GatewaySink → Result T GatewayFault → Type 0
-Says wanted old new (Ok x) = (m : MessageView) × (wanted ≡ Ok m) × (new.broken ≡ false) × Prints (frame m) old new
-Says wanted old new (Err SendFault) = (m : MessageView) × (wanted ≡ Ok m) × (new.broken ≡ true) × Prints (frame m) old new
+Says wanted old new (Ok x) = (m : MessageView) × (wanted ≡ Ok m) × (new.broken ≡ false) × PrintsBytes (frame m) old new
+Says wanted old new (Err SendFault) = (m : MessageView) × (wanted ≡ Ok m) × (new.broken ≡ true) × PrintsBytes (frame m) old new
 Says wanted old new (Err (Channel f)) = (wanted ≡ Err (Channel f)) × (new ≡ old)
 Says wanted old new (Err (Opening f)) = (wanted ≡ Err (Opening f)) × (new ≡ old)
 Says wanted old new (Err OutOfMemory) = new ≡ old

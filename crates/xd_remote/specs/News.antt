@@ -14,7 +14,7 @@ use Rattle.xd_factory.specs.Numbers.{is_mine}
 use Rattle.xd_factory.specs.Said.{Said as Word, Means, names_of}
 use Rattle.xd_factory.specs.Slot.{hooked_slot, is_new}
 use Rattle.xd_factory.specs.Table.{opened_count}
-use Rattle.xd_factory.specs.SideTable.{ChannelTable, Counts, RefusedBy, answer, changed_at, heard, new_table}
+use Rattle.xd_factory.specs.SideTable.{ChannelTable, Counts, RefusedBy, answer, changed_at, heard_of_message, new_table}
 use Rattle.xd_journal.specs.declared.news.What.{What}
 use Rattle.xd_journal.specs.declared.news.What.TheVariants as what
 use Rattle.xd_gateway.specs.Events.{tree_event}
@@ -79,7 +79,7 @@ came_news e Refused = Some what.Stray
 abbrev pub ear_with : Ear → Came → Ear
 ear_with e (Said said) =
     let news = came_news e (Said said) in
-    record { table = log_hooked news (heard said e.table); failed = false; finished = e.finished || is_finish news }
+    record { table = log_hooked news (heard_of_message said e.table); failed = false; finished = e.finished || is_finish news }
 ear_with e Refused = record e { failed = true }
 
 -- a message, with what it was
@@ -132,6 +132,6 @@ AreHeard (g ∷ h) = AreHeard h × IsCame (ear_after h) g.message g.came
 -- these news are those of these messages, in order
 pub record IsNewsOf (messages : List MessageView) (news : List What) : Type 0 where
   pub heard : List Heard
-  pub are : AreHeard heard
-  pub messages_are : all_messages heard ≡ messages
-  pub news_are : all_news heard ≡ news
+  pub are : AreHeard heard_of_message
+  pub messages_are : all_messages heard_of_message ≡ messages
+  pub news_are : all_news heard_of_message ≡ news

@@ -7,7 +7,7 @@ use Rattle.xd_factory.specs.declared.faults.SideFault.{SideFault}
 use Rattle.xd_factory.specs.declared.faults.SideFault.TheVariants as fault
 use Rattle.xd_factory.specs.Said.{Said, Means}
 use Rattle.xd_factory.specs.Trees.{taken_tree}
-use Rattle.xd_factory.specs.SideTable.{ChannelTable, MustRefuse, RefusedBy, answer, heard}
+use Rattle.xd_factory.specs.SideTable.{ChannelTable, MustRefuse, RefusedBy, answer, heard_of_message}
 use Rattle.xd_remote.specs.News.{HasRoom}
 
 -- the message was taken, by what it says
@@ -17,7 +17,7 @@ pub record IsTaken (m : MessageView) (old new : ChannelTable) (taken : Taken Val
   pub means : Means m said
   pub room : HasRoom old said
   pub answer_is : taken_tree taken ≡ answer said old
-  pub table_is : new ≡ heard said old
+  pub table_is : new ≡ heard_of_message said old
 
 -- a refusal has its reason; running out of memory needs none
 abbrev pub IsFaultOf : ChannelTable → MessageView → SideFault → Type 0

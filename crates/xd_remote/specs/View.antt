@@ -7,7 +7,7 @@ use Rattle.xd_remote.specs.declared.gateway.Gateway.{Gateway}
 use Rattle.xd_remote.specs.declared.fault.GatewayFault.{GatewayFault}
 use Rattle.xd_remote.specs.declared.fault.GatewayFault.TheVariants.{SendFault}
 use Rattle.xd_remote.specs.Calls.{Wanted, opened_by}
-use Rattle.xd_remote.specs.Line.{Closes, GatewaySink, Prints, Says}
+use Rattle.xd_remote.specs.Line.{ClosesSink, GatewaySink, PrintsBytes, Says}
 
 module _ {K : Type 0} where
   -- its sink
@@ -46,11 +46,11 @@ module _ {K : Type 0} where
 
   -- these bytes were written, or not, as the line says
   abbrev pub PrintsOn : (K → Option Sunk) → (K → ℕ) → Gateway K → Gateway K → List ℕ → Type 0
-  PrintsOn sunk faults old new bytes = Prints bytes (line_of sunk faults old) (line_of sunk faults new)
+  PrintsOn sunk faults old new bytes = PrintsBytes bytes (line_of sunk faults old) (line_of sunk faults new)
 
   -- these last bytes were written and the sink was closed, or not, as the line says
   abbrev pub ClosesOn : (K → Option Sunk) → (K → ℕ) → Gateway K → Gateway K → List ℕ → Type 0
-  ClosesOn sunk faults old new bytes = Closes bytes (line_of sunk faults old) (line_of sunk faults new)
+  ClosesOn sunk faults old new bytes = ClosesSink bytes (line_of sunk faults old) (line_of sunk faults new)
 
   -- a call after a write that failed
   abbrev pub IsLost : {T : Type 0} → Gateway K → Gateway K → Result T GatewayFault → Type 0

@@ -4,7 +4,7 @@ use Rattle.xd_ledger.specs.declared.seat.Seat.{Seat}
 use Rattle.xd_ledger.specs.Plan.{Plan, base, is_each, items_named}
 use Rattle.xd_ledger.specs.Table.{at_seat, held_in, without_seat}
 use Rattle.xd_report.specs.declared.holder.Holder.{Holder}
-use Rattle.xd_report.specs.Follows.{bare_seat, seat_of}
+use Rattle.xd_report.specs.Follows.{bare_seat, seat_of_holder}
 
 pub held_kept : (w : ℕ) (ss : List Seat) → held_in w (map bare_seat ss) ≡ held_in w ss
 held_kept w [] = refl
@@ -40,10 +40,10 @@ without_kept w (s ∷ ss) =
     ]
 
 -- what stands of the seats after a change
-pub changed_kept : (w : ℕ) (change : Seat → Seat) (ss : List Seat) (old new : List Holder) → ((s : Seat) → bare_seat (change s) ≡ change (bare_seat s)) → map bare_seat ss ≡ map seat_of old → map seat_of new ≡ at_seat w change (map seat_of old) → map bare_seat (at_seat w change ss) ≡ map seat_of new
+pub changed_kept : (w : ℕ) (change : Seat → Seat) (ss : List Seat) (old new : List Holder) → ((s : Seat) → bare_seat (change s) ≡ change (bare_seat s)) → map bare_seat ss ≡ map seat_of_holder old → map seat_of_holder new ≡ at_seat w change (map seat_of_holder old) → map bare_seat (at_seat w change ss) ≡ map seat_of_holder new
 changed_kept w change ss old new same before now = change_kept w change ss same ∙ ap (at_seat w change) before ∙ sym now
 
-pub left_kept : (w : ℕ) (ss : List Seat) (old new : List Holder) → map bare_seat ss ≡ map seat_of old → map seat_of new ≡ without_seat w (map seat_of old) → map bare_seat (without_seat w ss) ≡ map seat_of new
+pub left_kept : (w : ℕ) (ss : List Seat) (old new : List Holder) → map bare_seat ss ≡ map seat_of_holder old → map seat_of_holder new ≡ without_seat w (map seat_of_holder old) → map bare_seat (without_seat w ss) ≡ map seat_of_holder new
 left_kept w ss old new before now = without_kept w ss ∙ ap (without_seat w) before ∙ sym now
 
 none_more : (xs : List ℕ) → map (λ n. 0 + n) xs ≡ xs

@@ -8,22 +8,22 @@ use Rattle.xd_ledger.specs.Sharing.{ids_at, sizes_from}
 use Rattle.xd_ledger.specs.Table.{without_seat}
 use Rattle.xd_ledger.proofs.Changed.{one_changed}
 use Rattle.xd_report.specs.declared.holder.Holder.{Holder}
-use Rattle.xd_report.specs.Follows.{seat_of}
+use Rattle.xd_report.specs.Follows.{seat_of_holder}
 
 -- the first seats are changed, and so is the next one
-pub seat_changed : (f : Seat → Seat) (xs ds : List Holder) (i : ℕ) (x y d : Holder) → map seat_of ds ≡ map f (take i (map seat_of xs)) ++ drop i (map seat_of xs) → i < length xs → length ds ≡ length xs → x ≡ get_or ds i d → seat_of y ≡ f (seat_of x)
-    → map seat_of (set ds i y) ≡ map f (take (i + 1) (map seat_of xs)) ++ drop (i + 1) (map seat_of xs)
+pub seat_changed : (f : Seat → Seat) (xs ds : List Holder) (i : ℕ) (x y d : Holder) → map seat_of_holder ds ≡ map f (take i (map seat_of_holder xs)) ++ drop i (map seat_of_holder xs) → i < length xs → length ds ≡ length xs → x ≡ get_or ds i d → seat_of_holder y ≡ f (seat_of_holder x)
+    → map seat_of_holder (set ds i y) ≡ map f (take (i + 1) (map seat_of_holder xs)) ++ drop (i + 1) (map seat_of_holder xs)
 seat_changed f xs ds i x y d e lt same at is =
-    let at_seat : seat_of x ≡ get_or (map seat_of ds) i (seat_of x) = ap seat_of at ∙ sym (get_or-map seat_of ds i d (seat_of x) (omega arith)) in
-    map-set seat_of ds i y ∙ one_changed f (map seat_of xs) (map seat_of ds) i (seat_of x) (seat_of y) (seat_of x) e (omega (arith, length-map xs seat_of)) at_seat is
+    let at_seat : seat_of_holder x ≡ get_or (map seat_of_holder ds) i (seat_of_holder x) = ap seat_of_holder at ∙ sym (get_or-map seat_of_holder ds i d (seat_of_holder x) (omega arith)) in
+    map-set seat_of_holder ds i y ∙ one_changed f (map seat_of_holder xs) (map seat_of_holder ds) i (seat_of_holder x) (seat_of_holder y) (seat_of_holder x) e (omega (arith, length-map xs seat_of_holder)) at_seat is
 
-pub left-seats : (w : ℕ) (ds : List Holder) → map seat_of (filter (λ d. not (d.worker == w)) ds) ≡ without_seat w (map seat_of ds)
+pub left-seats : (w : ℕ) (ds : List Holder) → map seat_of_holder (filter (λ d. not (d.worker == w)) ds) ≡ without_seat w (map seat_of_holder ds)
 left-seats w [] = refl
 left-seats w (d ∷ ds) =
     let rest = left-seats w ds in
-    elim (d.worker == w) as (λ b. map seat_of (if not b then d ∷ filter (λ d. not (d.worker == w)) ds else filter (λ d. not (d.worker == w)) ds) ≡ (if not b then seat_of d ∷ without_seat w (map seat_of ds) else without_seat w (map seat_of ds))) [
+    elim (d.worker == w) as (λ b. map seat_of_holder (if not b then d ∷ filter (λ d. not (d.worker == w)) ds else filter (λ d. not (d.worker == w)) ds) ≡ (if not b then seat_of_holder d ∷ without_seat w (map seat_of_holder ds) else without_seat w (map seat_of_holder ds))) [
       | true ↦ rest
-      | false ↦ ap (λ (l : List Seat). seat_of d ∷ l) rest
+      | false ↦ ap (λ (l : List Seat). seat_of_holder d ∷ l) rest
     ]
 
 -- one slot more

@@ -16,13 +16,13 @@ abbrev pub bare_seat : Seat → Seat
 bare_seat s = record s { shut = false }
 
 -- the bare seat that a holder of the reporter stands for
-abbrev pub seat_of : Holder → Seat
-seat_of h = record { worker = h.worker; held = h.held; shut = false }
+abbrev pub seat_of_holder : Holder → Seat
+seat_of_holder h = record { worker = h.worker; held = h.held; shut = false }
 
 -- it keeps the parts of this state that reports depend on
 -- Example: after a Run of 0 and 1 to gw0 it keeps that gw0 holds them, and not what their outcomes will be.
 pub record Follows (r : Reporter) (s : State) : Type 0 where
   pub books : apart s.books ≡ r.books
   pub mode : s.plan.mode ≡ r.books.settings.mode
-  pub rota : map bare_seat s.books.table.rota ≡ map seat_of r.rota.items
+  pub rota : map bare_seat s.books.table.rota ≡ map seat_of_holder r.rota.items
   pub sizes : s.plan.sizes ≡ r.sizes.items

@@ -16,7 +16,7 @@ use Rattle.xd_run_tests.specs.declared.run_tests.RunTests.{RunTests}
 use Rattle.xd_run_tests.specs.declared.phase.Phase.TheVariants.{Serving}
 use Rattle.xd_run_tests.specs.Line.{FunctionCall, number_of_log}
 use Rattle.xd_run_tests.specs.Turns.{serving_suite, without_run}
-use Rattle.xd_run_tests.specs.Stands.{IsCut, IsCall, IsLog, EachStandsAt, test_of}
+use Rattle.xd_run_tests.specs.Stands.{IsCut, IsCall, IsLog, EachStandsAt, test_of_running}
 use Rattle.xd_run_tests.proofs.Moves.{cut_at}
 
 free_all : (size : ℕ) (st : List Standing) → st ≡ replicate size Free → EachStandsAt st [] []
@@ -39,7 +39,7 @@ opened_call s r c size ph wa si st qu ne ru lo se h = record {
     sent_is = se ∙ h.held.sent_is;
     once_is = refl;
     runs_is = ap (λ (x : Option Running). is_some x) ru;
-    test_is = ap test_of ru;
+    test_is = ap test_of_running ru;
     log_is = subst (λ (x : Option Running). IsLog x r.next_log 0) (sym ru) lo;
   };
   cut = λ _. cut_at [] 0 empty (sym ru) (sym ne) (sym qu) refl;
@@ -76,7 +76,7 @@ done_call s r c run is o h = record {
     sent_is = ap (λ (x : RunTests). x.sent) o ∙ h.held.sent_is;
     once_is = h.held.once_is;
     runs_is = ap (λ (x : RunTests). is_some x.running) o;
-    test_is = ap (λ (x : RunTests). test_of x.running) o;
+    test_is = ap (λ (x : RunTests). test_of_running x.running) o;
     log_is = subst (λ (x : Option Running). IsLog x r.next_log (c.ended + 1)) (sym (ap (λ (x : RunTests). x.running) o)) (ap (λ (x : RunTests). x.next_log) o ∙ log.1);
   };
   cut = λ serves. cut_at c.line (c.ended + 1) (cut_done run s.next s.queue.items s.stands.items c.line c.ended (cut_at c.line c.ended (h.cut serves) is refl refl refl)) (sym (ap (λ (x : RunTests). x.running) o)) (sym (ap (λ (x : RunTests). x.next) o)) (sym (ap (λ (x : RunTests). x.queue.items) o)) (sym (ap (λ (x : RunTests). x.stands.items) o));

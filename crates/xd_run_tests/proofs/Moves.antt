@@ -14,8 +14,8 @@ use Rattle.xd_journal.specs.declared.news.What.TheVariants.{LogStart}
 use Rattle.xd_run_tests.specs.declared.ask.Ask.{Ask}
 use Rattle.xd_run_tests.specs.declared.ask.Ask.TheVariants.{Tell}
 use Rattle.xd_run_tests.specs.Line.{FunctionCall, has_test, left, number_of_log, head_test, can_give}
-use Rattle.xd_run_tests.specs.Turns.{Turn, moved_on, test_started, has_log, asking, over, too_many_channels}
-use Rattle.xd_run_tests.specs.Stands.{EachStandsAt, IsCut, IsCall, IsHeld, IsLog, Stands, HasActed, Appends, standing_by, once, passing_some, running_places, test_of}
+use Rattle.xd_run_tests.specs.Turns.{CallTurn, moved_on, test_started, has_log, asking, over, too_many_channels}
+use Rattle.xd_run_tests.specs.Stands.{EachStandsAt, IsCut, IsCall, IsHeld, IsLog, Stands, HasActed, Appends, standing_by, once, passing_some, running_places, test_of_running}
 use Rattle.xd_run_tests.proofs.Once.{once_given}
 use Rattle.xd_run_tests.proofs.Cut.{cut_next, cut_start, cut_left, has_test-append}
 
@@ -33,7 +33,7 @@ held_parts s r c o size h = record {
   sent_is = ap (λ (x : RunTests). x.sent) o ∙ h.sent_is;
   once_is = h.once_is;
   runs_is = ap (λ (x : RunTests). is_some x.running) o ∙ h.runs_is;
-  test_is = ap (λ (x : RunTests). test_of x.running) o ∙ h.test_is;
+  test_is = ap (λ (x : RunTests). test_of_running x.running) o ∙ h.test_is;
   log_is = subst (λ (x : Option Running). IsLog x r.next_log c.ended) (sym (ap (λ (x : RunTests). x.running) o)) (subst (λ (x : ℕ). IsLog s.running x c.ended) (sym (ap (λ (x : RunTests). x.next_log) o)) h.log_is);
 }
 
@@ -57,7 +57,7 @@ advanced s r c serves idle no_next q none st o h =
 pub left_is : (s : RunTests) (c : FunctionCall) → c.phase ≡ Serving → s.running ≡ None → IsCall s c → left c ≡ option_to_list s.next ++ s.queue.items
 left_is s c serves idle h = cut_left None s.next s.queue.items s.stands.items c.line c.ended (cut_at c.line c.ended (h.cut serves) idle refl refl refl)
 
-pub moved_at : (room : Bool) (t : Turn) (s : RunTests) (a : Acts) (l : List LineEntry) → left t.call ≡ l → Stands s a (moved_on room l t) → Stands s a (moved_on room (left t.call) t)
+pub moved_at : (room : Bool) (t : CallTurn) (s : RunTests) (a : Acts) (l : List LineEntry) → left t.call ≡ l → Stands s a (moved_on room l t) → Stands s a (moved_on room (left t.call) t)
 moved_at room t s a l e h = subst (λ (x : List LineEntry). Stands s a (moved_on room x t)) (sym e) h
 
 pub idle_log : (run : Option Running) (next ended : ℕ) → run ≡ None → IsLog run next ended → next ≡ number_of_log ended
@@ -70,7 +70,7 @@ front_is (Some x) rest p q e none = (cc, cc)
 pub left_test : (s : RunTests) (c : FunctionCall) (n : ℕ) (p : LineEntry) (q : List LineEntry) → c.phase ≡ Serving → s.running ≡ None → s.next ≡ Some (Test n) → s.queue.items ≡ p ∷ q → IsCall s c → left c ≡ Test n ∷ (p ∷ q)
 left_test s c n p q serves idle nx qu h = left_is s c serves idle h ∙ ap (λ (x : Option LineEntry). option_to_list x ++ s.queue.items) nx ∙ ap (λ (x : List LineEntry). Test n ∷ x) qu
 
-pub started_is : (s r : RunTests) (t : Turn) (n : ℕ) (p : LineEntry) (q : List LineEntry) → t.call.phase ≡ Serving → s.running ≡ None → s.next ≡ Some (Test n) → s.queue.items ≡ p ∷ q
+pub started_is : (s r : RunTests) (t : CallTurn) (n : ℕ) (p : LineEntry) (q : List LineEntry) → t.call.phase ≡ Serving → s.running ≡ None → s.next ≡ Some (Test n) → s.queue.items ≡ p ∷ q
     → r.phase ≡ s.phase → r.size ≡ s.size → r.waiting.items ≡ s.waiting.items → r.running ≡ Some (record { test = n; log = s.next_log }) → r.next_log ≡ s.next_log + 2 → r.sent ≡ 0
     → s.queue.items ≡ option_to_list r.next ++ r.queue.items → (r.next ≡ None → r.queue.items ≡ []) → r.stands.items ≡ passing_some s.stands.items r.next
     → IsCall s t.call → IsCall r (test_started n t).call
@@ -86,7 +86,7 @@ started_is s r t n p q serves idle nx qu ph si wa ru lo se rq none st h =
         suite_is = si ∙ h.held.suite_is;
         once_is = h.held.once_is;
         runs_is = ap (λ (x : Option Running). is_some x) ru;
-        test_is = ap test_of ru ∙ sym (ap head_test (left_test s t.call n p q serves idle nx qu h));
+        test_is = ap test_of_running ru ∙ sym (ap head_test (left_test s t.call n p q serves idle nx qu h));
         log_is = subst (λ (x : Option Running). IsLog x r.next_log t.call.ended) (sym ru) (log, lo ∙ ap (λ (x : ℕ). x + 2) log ∙ later t.call.ended);
       };
       cut = λ _. cut_at t.call.line t.call.ended (cut_start n s.next_log p q s.stands.items t.call.line t.call.ended (cut_at t.call.line t.call.ended (h.cut serves) idle nx qu refl)) (sym ru) (sym f.0) (sym f.1) (ap (passing_some s.stands.items) (sym f.0) ∙ sym st);
@@ -95,11 +95,11 @@ started_is s r t n p q serves idle nx qu ph si wa ru lo se rq none st h =
     later : (m : ℕ) → number_of_log m + 2 ≡ number_of_log (m + 1)
     later m = omega arith
 
-pub asked : (a b : Acts) (t : Turn) (x : Ask) → b.asks.items ≡ a.asks.items ++ x ∷ [] → b.run ≡ a.run → HasActed a t → HasActed b (asking (x ∷ []) t)
+pub asked : (a b : Acts) (t : CallTurn) (x : Ask) → b.asks.items ≡ a.asks.items ++ x ∷ [] → b.run ≡ a.run → HasActed a t → HasActed b (asking (x ∷ []) t)
 asked a b t x e r h = record { asks_are = e ∙ ap (λ (l : List Ask). l ++ x ∷ []) h.asks_are; run_is = r ∙ h.run_is }
 
 -- where a test starts
-pub started_if : (room : Bool) (t : Turn) (n : ℕ) (s : RunTests) (a : Acts) → room ≡ true → number_of_log t.call.ended ≤ 2147483647 → Stands s a (test_started n t) → Stands s a (if room && has_log t.call.ended then test_started n t else over (Some too_many_channels) t)
+pub started_if : (room : Bool) (t : CallTurn) (n : ℕ) (s : RunTests) (a : Acts) → room ≡ true → number_of_log t.call.ended ≤ 2147483647 → Stands s a (test_started n t) → Stands s a (if room && has_log t.call.ended then test_started n t else over (Some too_many_channels) t)
 started_if room t n s a r le h = subst (λ (v : Bool). Stands s a (if v then test_started n t else over (Some too_many_channels) t)) (sym (both room (has_log t.call.ended) r (le-leb _ _ le))) h
   where
     both : (a b : Bool) → a ≡ true → b ≡ true → (a && b) ≡ true
@@ -113,7 +113,7 @@ none_is None r e h = refl
 none_is (Some p) r e h = let z : true ≡ not true = e ∙ ap not h in cc
 
 -- the running test is the first of what is left
-pub test_from_left : (run : Option Running) (b : Bool) (l x : List LineEntry) → is_some run ≡ b → l ≡ running_places run ++ x → test_of run ≡ (if b then head_test l else None)
+pub test_from_left : (run : Option Running) (b : Bool) (l x : List LineEntry) → is_some run ≡ b → l ≡ running_places run ++ x → test_of_running run ≡ (if b then head_test l else None)
 test_from_left None b l x e h = subst (λ (v : Bool). None ≡ (if v then head_test l else None)) e refl
 test_from_left (Some r) b l x e h = subst (λ (v : Bool). Some r.test ≡ (if v then head_test l else None)) e (sym (ap head_test h))
 
@@ -145,7 +145,7 @@ lined_call s r c ps serves o size qu st once_more h =
         once_is = once_more;
         runs_is = held.runs_is;
         log_is = held.log_is;
-        test_is = ap test_of run ∙ test_from_left s.running c.running (drop c.ended (c.line ++ ps)) _ h.held.runs_is (cut_left s.running s.next (s.queue.items ++ ps) r.stands.items (c.line ++ ps) c.ended new);
+        test_is = ap test_of_running run ∙ test_from_left s.running c.running (drop c.ended (c.line ++ ps)) _ h.held.runs_is (cut_left s.running s.next (s.queue.items ++ ps) r.stands.items (c.line ++ ps) c.ended new);
       };
       cut = λ _. cut_at (c.line ++ ps) c.ended new (sym run) (sym nx) (sym qu) refl;
     }

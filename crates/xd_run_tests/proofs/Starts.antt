@@ -21,8 +21,8 @@ use Rattle.xd_run_tests.specs.declared.ask.Ask.TheVariants.{Tell}
 use Rattle.xd_run_tests.specs.declared.input.Input.{Input}
 use Rattle.xd_run_tests.specs.declared.input.Input.TheVariants as input
 use Rattle.xd_run_tests.specs.Line.{FunctionCall, left, front, queue, passed, running_test, head_test, has_test, is_among, can_give, can_ask, all_queued, kept, taken}
-use Rattle.xd_run_tests.specs.Turns.{Turn, turn_of, answered, over, ended_early, ending_text, asking, finished, test_started, has_log, too_many_channels, moved_on, line_settled, given, stolen, stolen_if, told, heard_in, heard, all_heard, collected_in, receiving_ended_in, suite_refused_in, put_out, output_fed, told_done, done_in, done_of, stopped}
-use Rattle.xd_run_tests.specs.History.{Given, call_after, turn_after, started_tests, distinct}
+use Rattle.xd_run_tests.specs.Turns.{CallTurn, call_turn_of, answered, over, ended_early, ending_text, asking, finished, test_started, has_log, too_many_channels, moved_on, line_settled, given, stolen, stolen_if, told, item_heard_in, item_heard, all_heard, collected_in, receiving_ended_in, suite_refused_in, put_out, output_fed, told_done, done_in, done_of, call_stopped}
+use Rattle.xd_run_tests.specs.History.{Given, call_after, turn_after, started_tests, no_number_twice}
 use Rattle.xd_run_tests.specs.Stands.{once}
 use Rattle.xd_run_tests.proofs.Cut.{has_test-append}
 use Rattle.xd_run_tests.proofs.Once.{once_given, once_mark, once_kept, not_true}
@@ -57,9 +57,9 @@ neither : (a b : Bool) → (a || b) ≡ false → a ≡ false
 neither true b e = e
 neither false b e = refl
 
-distinct_of : (l : List LineEntry) → once l ≡ true → distinct (tests_in l) ≡ true
+distinct_of : (l : List LineEntry) → once l ≡ true → no_number_twice (tests_in l) ≡ true
 distinct_of [] h = refl
-distinct_of (Test m ∷ l) h = both (not (is_among m (tests_in l))) (distinct (tests_in l)) (ap not (among_is m l) ∙ first (not (has_test m l)) (once l) h) (distinct_of l (last (not (has_test m l)) (once l) h))
+distinct_of (Test m ∷ l) h = both (not (is_among m (tests_in l))) (no_number_twice (tests_in l)) (ap not (among_is m l) ∙ first (not (has_test m l)) (once l) h) (distinct_of l (last (not (has_test m l)) (once l) h))
 distinct_of (Mark ∷ l) h = distinct_of l h
 
 once_first : (a b : List LineEntry) → once (a ++ b) ≡ true → once a ≡ true
@@ -74,7 +74,7 @@ abbrev gone_by : FunctionCall → ℕ
 gone_by c = c.ended + (if c.running then 1 else 0)
 
 -- the tests that were started, those of a turn after these, are those that are gone through
-record Begun (s : List ℕ) (t : Turn) : Type 0 where
+record Begun (s : List ℕ) (t : CallTurn) : Type 0 where
   gone : List LineEntry
   rest : List LineEntry
   line_is : t.call.line ≡ gone ++ rest
@@ -85,7 +85,7 @@ record Begun (s : List ℕ) (t : Turn) : Type 0 where
   awaits : t.call.phase ≡ Awaiting → (t.call.line ≡ []) × (t.call.running ≡ false)
 
 -- where the line and what is gone through stay
-same_line : (s : List ℕ) (t u : Turn) → u.call.line ≡ t.call.line → u.call.ended ≡ t.call.ended → u.call.running ≡ t.call.running → u.run ≡ t.run → (u.call.phase ≡ Awaiting → t.call.phase ≡ Awaiting) → Begun s t → Begun s u
+same_line : (s : List ℕ) (t u : CallTurn) → u.call.line ≡ t.call.line → u.call.ended ≡ t.call.ended → u.call.running ≡ t.call.running → u.run ≡ t.run → (u.call.phase ≡ Awaiting → t.call.phase ≡ Awaiting) → Begun s t → Begun s u
 same_line s t u line ended running run ph b = record {
   gone = b.gone;
   rest = b.rest;
@@ -100,24 +100,24 @@ same_line s t u line ended running run ph b = record {
     same : (a b : ℕ) (x y : Bool) → b ≡ a → y ≡ x → a + (if x then 1 else 0) ≡ b + (if y then 1 else 0)
     same a b x y e f = rw (e, f)
 
-ended_begun : (s : List ℕ) (t : Turn) (text : Option (List ℕ)) → Begun s t → Begun s (over text t)
+ended_begun : (s : List ℕ) (t : CallTurn) (text : Option (List ℕ)) → Begun s t → Begun s (over text t)
 ended_begun s t text b = same_line s t (over text t) refl refl refl refl (λ e. cc) b
 
-early_begun : (s : List ℕ) (t : Turn) (e : Ending) → Begun s t → Begun s (ended_early e t)
+early_begun : (s : List ℕ) (t : CallTurn) (e : Ending) → Begun s t → Begun s (ended_early e t)
 early_begun s t e b = go t.call.running
   where
     go : (v : Bool) → Begun s (if v then record t { call = record (t.call) { phase = phase.Ending e } } else over (ending_text e) t)
     go true = same_line s t (record t { call = record (t.call) { phase = phase.Ending e } }) refl refl refl refl (λ z. cc) b
     go false = ended_begun s t (ending_text e) b
 
-asking_begun : (s : List ℕ) (t : Turn) (asks : List Ask) → Begun s t → Begun s (asking asks t)
+asking_begun : (s : List ℕ) (t : CallTurn) (asks : List Ask) → Begun s t → Begun s (asking asks t)
 asking_begun s t asks b = same_line s t (asking asks t) refl refl refl refl (λ z. z) b
 
-finished_begun : (s : List ℕ) (t : Turn) → Begun s t → Begun s (finished t)
+finished_begun : (s : List ℕ) (t : CallTurn) → Begun s t → Begun s (finished t)
 finished_begun s t b = same_line s t (finished t) refl refl refl refl (λ e. cc) b
 
 -- where nothing runs, what is left is what is not gone through
-left_rest : (s : List ℕ) (t : Turn) (b : Begun s t) → t.call.running ≡ false → left t.call ≡ b.rest
+left_rest : (s : List ℕ) (t : CallTurn) (b : Begun s t) → t.call.running ≡ false → left t.call ≡ b.rest
 left_rest s t b idle = ap (drop t.call.ended) b.line_is ∙ behind b.gone b.rest t.call.ended (b.count ∙ none t.call.ended t.call.running idle)
   where
     behind : (a c : List LineEntry) (n : ℕ) → length a ≡ n → drop n (a ++ c) ≡ c
@@ -126,7 +126,7 @@ left_rest s t b idle = ap (drop t.call.ended) b.line_is ∙ behind b.gone b.rest
     none : (a : ℕ) (x : Bool) → x ≡ false → a + (if x then 1 else 0) ≡ a
     none a x e = rw e (omega arith)
 
-started_begun : (s : List ℕ) (t : Turn) (n : ℕ) (l : List LineEntry) → t.call.running ≡ false → left t.call ≡ Test n ∷ l → (t.call.phase ≡ Awaiting → ⊥) → Begun s t → Begun s (test_started n t)
+started_begun : (s : List ℕ) (t : CallTurn) (n : ℕ) (l : List LineEntry) → t.call.running ≡ false → left t.call ≡ Test n ∷ l → (t.call.phase ≡ Awaiting → ⊥) → Begun s t → Begun s (test_started n t)
 started_begun s t n l idle is serves b = record {
   gone = b.gone ++ Test n ∷ [];
   rest = l;
@@ -150,7 +150,7 @@ started_begun s t n l idle is serves b = record {
         no_more : (a : List ℕ) → a ++ [] ≡ a
         no_more a = grind (arith, common_steps)
 
-moved_begun : (s : List ℕ) (room : Bool) (t : Turn) (l : List LineEntry) → t.call.running ≡ false → left t.call ≡ l → (t.call.phase ≡ Awaiting → ⊥) → Begun s t → Begun s (moved_on room l t)
+moved_begun : (s : List ℕ) (room : Bool) (t : CallTurn) (l : List LineEntry) → t.call.running ≡ false → left t.call ≡ l → (t.call.phase ≡ Awaiting → ⊥) → Begun s t → Begun s (moved_on room l t)
 moved_begun s room t [] idle is serves b = b
 moved_begun s room t (Mark ∷ l) idle is serves b = finished_begun s t b
 moved_begun s room t (Test n ∷ []) idle is serves b = b
@@ -160,7 +160,7 @@ moved_begun s room t (Test n ∷ (p ∷ l)) idle is serves b = go (room && has_l
     go true = started_begun s t n (p ∷ l) idle is serves b
     go false = ended_begun s t (Some too_many_channels) b
 
-settled_begun : (s : List ℕ) (room : Bool) (t : Turn) → (t.call.phase ≡ Awaiting → ⊥) → Begun s t → Begun s (line_settled room t)
+settled_begun : (s : List ℕ) (room : Bool) (t : CallTurn) → (t.call.phase ≡ Awaiting → ⊥) → Begun s t → Begun s (line_settled room t)
 settled_begun s room t serves b = go t.call.running refl
   where
     go : (v : Bool) → t.call.running ≡ v → Begun s (if v then t else moved_on room (left t.call) t)
@@ -168,7 +168,7 @@ settled_begun s room t serves b = go t.call.running refl
     go false e = moved_begun s room t (left t.call) e refl serves b
 
 -- places are put after the line
-longer_begun : (s : List ℕ) (t : Turn) (ps : List LineEntry) → once (t.call.line ++ ps) ≡ true → (t.call.phase ≡ Awaiting → ⊥) → Begun s t → Begun s (record t { call = record (t.call) { line = t.call.line ++ ps } })
+longer_begun : (s : List ℕ) (t : CallTurn) (ps : List LineEntry) → once (t.call.line ++ ps) ≡ true → (t.call.phase ≡ Awaiting → ⊥) → Begun s t → Begun s (record t { call = record (t.call) { line = t.call.line ++ ps } })
 longer_begun s t ps once_more serves b = record {
   gone = b.gone;
   rest = b.rest ++ ps;
@@ -180,7 +180,7 @@ longer_begun s t ps once_more serves b = record {
   awaits = λ e. absurd (serves e);
 }
 
-given_begun : (s : List ℕ) (room : Bool) (ns : List ℕ) (t : Turn) → (t.call.phase ≡ Awaiting → ⊥) → Begun s t → Begun s (given room ns t)
+given_begun : (s : List ℕ) (room : Bool) (ns : List ℕ) (t : CallTurn) → (t.call.phase ≡ Awaiting → ⊥) → Begun s t → Begun s (given room ns t)
 given_begun s room ns t serves b = go (can_give t.call.size t.call.line ns) refl
   where
     go : (v : Bool) → can_give t.call.size t.call.line ns ≡ v → Begun s (if v then line_settled room (record t { call = record (t.call) { line = t.call.line ++ map Test ns } }) else ended_early BadCommand t)
@@ -188,7 +188,7 @@ given_begun s room ns t serves b = go (can_give t.call.size t.call.line ns) refl
     go false e = early_begun s t BadCommand b
 
 -- tests leave the queue
-taken_begun : (s : List ℕ) (ns : List ℕ) (t : Turn) → (t.call.phase ≡ Awaiting → ⊥) → Begun s t → Begun s (record t { call = record (t.call) { line = front t.call ++ kept ns (queue t.call) } })
+taken_begun : (s : List ℕ) (ns : List ℕ) (t : CallTurn) → (t.call.phase ≡ Awaiting → ⊥) → Begun s t → Begun s (record t { call = record (t.call) { line = front t.call ++ kept ns (queue t.call) } })
 taken_begun s ns t serves b =
     let split = cut b.gone b.rest t.call.line t.call.ended t.call.running b.line_is b.count in
     record {
@@ -209,7 +209,7 @@ taken_begun s ns t serves b =
     whole : (l : List LineEntry) (n : ℕ) → take n l ++ drop n l ≡ l
     whole l n = grind (arith, common_steps)
 
-stolen_begun : (s : List ℕ) (ns : List ℕ) (t : Turn) → (t.call.phase ≡ Awaiting → ⊥) → Begun s t → Begun s (stolen_if ns t)
+stolen_begun : (s : List ℕ) (ns : List ℕ) (t : CallTurn) → (t.call.phase ≡ Awaiting → ⊥) → Begun s t → Begun s (stolen_if ns t)
 stolen_begun s ns t serves b = ask (can_ask t.call.size [] ns)
   where
     go : (v : Bool) → Begun s (if v then asking (Tell (Back (taken ns (queue t.call))) ∷ []) (record t { call = record (t.call) { line = front t.call ++ kept ns (queue t.call) } }) else asking (Tell (Back []) ∷ []) t)
@@ -220,25 +220,25 @@ stolen_begun s ns t serves b = ask (can_ask t.call.size [] ns)
     ask true = go (all_queued (queue t.call) ns)
     ask false = early_begun s t BadCommand b
 
-told_begun : (s : List ℕ) (room : Bool) (o : Option Order) (t : Turn) → (t.call.phase ≡ Awaiting → ⊥) → Begun s t → Begun s (told room o t)
+told_begun : (s : List ℕ) (room : Bool) (o : Option Order) (t : CallTurn) → (t.call.phase ≡ Awaiting → ⊥) → Begun s t → Begun s (told room o t)
 told_begun s room None t serves b = early_begun s t BadCommand b
 told_begun s room (Some (RunTests ns)) t serves b = given_begun s room ns t serves b
 told_begun s room (Some RunAll) t serves b = given_begun s room (range_with_len 0 t.call.size) t serves b
 told_begun s room (Some (Steal ns)) t serves b = stolen_begun s ns t serves b
 told_begun s room (Some Shutdown) t serves b = settled_begun s room (record t { call = record (t.call) { line = t.call.line ++ Mark ∷ [] } }) serves (longer_begun s t (Mark ∷ []) (once_mark t.call.line ∙ b.once_is) serves b)
 
-heard_begun : (s : List ℕ) (p : Phase) (room : Bool) (o : Option Order) (t : Turn) → t.call.phase ≡ p → Begun s t → Begun s (heard_in p room o t)
-heard_begun s Awaiting room o t e b = same_line s t (heard_in Awaiting room o t) refl refl refl refl (λ z. z) b
+heard_begun : (s : List ℕ) (p : Phase) (room : Bool) (o : Option Order) (t : CallTurn) → t.call.phase ≡ p → Begun s t → Begun s (item_heard_in p room o t)
+heard_begun s Awaiting room o t e b = same_line s t (item_heard_in Awaiting room o t) refl refl refl refl (λ z. z) b
 heard_begun s Serving room o t e b = told_begun s room o t (λ z. let w : Serving ≡ Awaiting = sym e ∙ z in cc) b
 heard_begun s (phase.Ending x) room o t e b = b
 heard_begun s Stopped room o t e b = b
 heard_begun s Over room o t e b = b
 
-all_begun : (s : List ℕ) (room : Bool) (os : List (Option Order)) (t : Turn) → Begun s t → Begun s (all_heard room os t)
+all_begun : (s : List ℕ) (room : Bool) (os : List (Option Order)) (t : CallTurn) → Begun s t → Begun s (all_heard room os t)
 all_begun s room [] t b = b
-all_begun s room (o ∷ os) t b = all_begun s room os (heard room o t) (heard_begun s t.call.phase room o t refl b)
+all_begun s room (o ∷ os) t b = all_begun s room os (item_heard room o t) (heard_begun s t.call.phase room o t refl b)
 
-collected_begun : (s : List ℕ) (p : Phase) (room : Bool) (ids : List (List ℕ)) (t : Turn) → t.call.phase ≡ p → Begun s t → Begun s (collected_in p room ids t)
+collected_begun : (s : List ℕ) (p : Phase) (room : Bool) (ids : List (List ℕ)) (t : CallTurn) → t.call.phase ≡ p → Begun s t → Begun s (collected_in p room ids t)
 collected_begun s Awaiting room ids t e b =
     let none = b.awaits e in
     all_begun s room t.call.waiting _ (record {
@@ -260,24 +260,24 @@ collected_begun s (phase.Ending x) room ids t e b = b
 collected_begun s Stopped room ids t e b = b
 collected_begun s Over room ids t e b = b
 
-receiving_begun : (s : List ℕ) (p : Phase) (t : Turn) → Begun s t → Begun s (receiving_ended_in p t)
+receiving_begun : (s : List ℕ) (p : Phase) (t : CallTurn) → Begun s t → Begun s (receiving_ended_in p t)
 receiving_begun s Awaiting t b = early_begun s t ReceivingEnded b
 receiving_begun s Serving t b = early_begun s t ReceivingEnded b
 receiving_begun s (phase.Ending x) t b = b
 receiving_begun s Stopped t b = b
 receiving_begun s Over t b = b
 
-refused_begun : (s : List ℕ) (p : Phase) (text : List ℕ) (t : Turn) → Begun s t → Begun s (suite_refused_in p text t)
+refused_begun : (s : List ℕ) (p : Phase) (text : List ℕ) (t : CallTurn) → Begun s t → Begun s (suite_refused_in p text t)
 refused_begun s Awaiting text t b = ended_begun s t (Some text) b
 refused_begun s Serving text t b = b
 refused_begun s (phase.Ending x) text t b = b
 refused_begun s Stopped text t b = b
 refused_begun s Over text t b = b
 
-put_begun : (s : List ℕ) (bytes : List ℕ) (t : Turn) → Begun s t → Begun s (put_out bytes t)
+put_begun : (s : List ℕ) (bytes : List ℕ) (t : CallTurn) → Begun s t → Begun s (put_out bytes t)
 put_begun s bytes t b = same_line s t (put_out bytes t) refl refl refl refl (λ z. z) b
 
-output_begun : (s : List ℕ) (test : Option ℕ) (p : Phase) (bytes : List ℕ) (t : Turn) → Begun s t → Begun s (output_fed test p bytes t)
+output_begun : (s : List ℕ) (test : Option ℕ) (p : Phase) (bytes : List ℕ) (t : CallTurn) → Begun s t → Begun s (output_fed test p bytes t)
 output_begun s None p bytes t b = b
 output_begun s (Some n) Stopped bytes t b = b
 output_begun s (Some n) Awaiting bytes t b = put_begun s bytes t b
@@ -286,7 +286,7 @@ output_begun s (Some n) (phase.Ending e) bytes t b = put_begun s bytes t b
 output_begun s (Some n) Over bytes t b = put_begun s bytes t b
 
 -- the running test ended
-without_begun : (s : List ℕ) (t u : Turn) → u.call.line ≡ t.call.line → u.call.ended ≡ t.call.ended + 1 → u.call.running ≡ false → u.call.phase ≡ t.call.phase → u.run ≡ t.run → t.call.running ≡ true → t.run ≡ None → Begun s t → Begun s u
+without_begun : (s : List ℕ) (t u : CallTurn) → u.call.line ≡ t.call.line → u.call.ended ≡ t.call.ended + 1 → u.call.running ≡ false → u.call.phase ≡ t.call.phase → u.run ≡ t.run → t.call.running ≡ true → t.run ≡ None → Begun s t → Begun s u
 without_begun s t u line ended running ph run runs none b = record {
   gone = b.gone;
   rest = b.rest;
@@ -301,7 +301,7 @@ without_begun s t u line ended running ph run runs none b = record {
     next : (a c : ℕ) (x y : Bool) → c ≡ a + 1 → x ≡ true → y ≡ false → a + (if x then 1 else 0) ≡ c + (if y then 1 else 0)
     next a c x y e f g = rw (e, f, g) (omega arith)
 
-done_begun : (s : List ℕ) (p : Phase) (room : Bool) (n : ℕ) (outcome : Outcome) (ms : ℕ) (t : Turn) → t.call.phase ≡ p → t.call.running ≡ true → t.run ≡ None → Begun s t → Begun s (done_in p room n outcome ms t)
+done_begun : (s : List ℕ) (p : Phase) (room : Bool) (n : ℕ) (outcome : Outcome) (ms : ℕ) (t : CallTurn) → t.call.phase ≡ p → t.call.running ≡ true → t.run ≡ None → Begun s t → Begun s (done_in p room n outcome ms t)
 done_begun s Serving room n outcome ms t e runs none b = settled_begun s room (told_done n outcome ms t) (λ z. let w : Serving ≡ Awaiting = sym e ∙ z in cc) (without_begun s t (told_done n outcome ms t) refl refl refl refl refl runs none b)
 done_begun s (phase.Ending x) room n outcome ms t e runs none b = ended_begun s (told_done n outcome ms t) (ending_text x) (without_begun s t (told_done n outcome ms t) refl refl refl refl refl runs none b)
 done_begun s Stopped room n outcome ms t e runs none b = without_begun s t (done_in Stopped room n outcome ms t) refl refl refl refl refl runs none b
@@ -315,21 +315,21 @@ does_run c n e = go c.running refl e
     go true z h = z
     go false z h = cc
 
-done_of_begun : (s : List ℕ) (test : Option ℕ) (room : Bool) (outcome : Outcome) (ms : ℕ) (t : Turn) → running_test t.call ≡ test → t.run ≡ None → Begun s t → Begun s (done_of test t.call.phase room outcome ms t)
+done_of_begun : (s : List ℕ) (test : Option ℕ) (room : Bool) (outcome : Outcome) (ms : ℕ) (t : CallTurn) → running_test t.call ≡ test → t.run ≡ None → Begun s t → Begun s (done_of test t.call.phase room outcome ms t)
 done_of_begun s None room outcome ms t e none b = b
 done_of_begun s (Some n) room outcome ms t e none b = done_begun s t.call.phase room n outcome ms t refl (does_run t.call n e) none b
 
-answered_begun : (s : List ℕ) (room : Bool) (i : Input) (t : Turn) → t.run ≡ None → Begun s t → Begun s (answered room i t)
+answered_begun : (s : List ℕ) (room : Bool) (i : Input) (t : CallTurn) → t.run ≡ None → Begun s t → Begun s (answered room i t)
 answered_begun s room (input.Command o) t none b = heard_begun s t.call.phase room o t refl b
 answered_begun s room input.ReceivingEnded t none b = receiving_begun s t.call.phase t b
 answered_begun s room (input.Suite ids) t none b = collected_begun s t.call.phase room ids t refl b
 answered_begun s room (input.SuiteRefused text) t none b = refused_begun s t.call.phase text t b
 answered_begun s room (input.Output bytes) t none b = output_begun s (running_test t.call) t.call.phase bytes t b
 answered_begun s room (input.Done outcome ms) t none b = done_of_begun s (running_test t.call) room outcome ms t refl none b
-answered_begun s room input.Stop t none b = same_line s t (stopped t) refl refl refl refl (λ z. cc) b
+answered_begun s room input.Stop t none b = same_line s t (call_stopped t) refl refl refl refl (λ z. cc) b
 
 -- the next input comes
-next_begun : (s : List ℕ) (t : Turn) → Begun s t → Begun (s ++ option_to_list t.run) (turn_of t.call)
+next_begun : (s : List ℕ) (t : CallTurn) → Begun s t → Begun (s ++ option_to_list t.run) (call_turn_of t.call)
 next_begun s t b = record {
   gone = b.gone;
   rest = b.rest;
@@ -344,14 +344,14 @@ next_begun s t b = record {
     no_more : (a : List ℕ) → a ++ [] ≡ a
     no_more a = grind (arith, common_steps)
 
-begun_after : (h : List Given) → Begun (started_tests h) (turn_of (call_after h))
+begun_after : (h : List Given) → Begun (started_tests h) (call_turn_of (call_after h))
 begun_after [] = record { gone = []; rest = []; line_is = refl; count = refl; starts = refl; once_is = refl; idle = λ e. refl; awaits = λ e. (refl, refl) }
-begun_after (g ∷ h) = next_begun (started_tests h) (turn_after h g) (answered_begun (started_tests h) g.room g.input (turn_of (call_after h)) refl (begun_after h))
+begun_after (g ∷ h) = next_begun (started_tests h) (turn_after h g) (answered_begun (started_tests h) g.room g.input (call_turn_of (call_after h)) refl (begun_after h))
 
-pub starts_once : (h : List Given) → distinct (started_tests h) ≡ true
+pub starts_once : (h : List Given) → no_number_twice (started_tests h) ≡ true
 starts_once h =
     let b = begun_after h in
-    ap distinct (sym (no_more (started_tests h)) ∙ b.starts) ∙ distinct_of b.gone (once_first b.gone b.rest (ap once (sym b.line_is) ∙ b.once_is))
+    ap no_number_twice (sym (no_more (started_tests h)) ∙ b.starts) ∙ distinct_of b.gone (once_first b.gone b.rest (ap once (sym b.line_is) ∙ b.once_is))
   where
     no_more : (a : List ℕ) → a ++ [] ≡ a
     no_more a = grind (arith, common_steps)

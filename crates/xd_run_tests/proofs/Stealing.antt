@@ -17,8 +17,8 @@ use Rattle.xd_run_tests.specs.declared.ask.Ask.TheVariants.{Tell}
 use Rattle.xd_run_tests.specs.declared.run_tests.steal.Asked.{Asked}
 use Rattle.xd_run_tests.specs.declared.run_tests.steal.Asked.TheVariants.{Missing, Marked}
 use Rattle.xd_run_tests.specs.Line.{FunctionCall, front, queue, kept, taken, all_queued, can_ask}
-use Rattle.xd_run_tests.specs.Turns.{Turn, stolen_if, asking}
-use Rattle.xd_run_tests.specs.Stands.{AreMarked, once, IsCut, IsCall, IsReady, TakenOut, Asks, IsAsked, all_queued_at, running_places, test_of}
+use Rattle.xd_run_tests.specs.Turns.{CallTurn, stolen_if, asking}
+use Rattle.xd_run_tests.specs.Stands.{AreMarked, once, IsCut, IsCall, IsReady, TakenOut, Asks, IsAsked, all_queued_at, running_places, test_of_running}
 use Rattle.xd_run_tests.proofs.Cut.{cut_left}
 use Rattle.xd_run_tests.proofs.Once.{once_kept}
 use Rattle.xd_run_tests.proofs.Moves.{cut_at, held_parts, same_next, test_from_left}
@@ -97,7 +97,7 @@ stolen_call s r c ns back serves ready o out h =
           runs_is = held.runs_is;
           log_is = held.log_is;
           once_is = ap once (is_line ∙ ap (λ (l : List LineEntry). (old.done ++ (running_places s.running ++ option_to_list s.next)) ++ l) ok.2) ∙ once_kept ns (old.done ++ (running_places s.running ++ option_to_list s.next)) s.queue.items (ap once (sym old.line_is) ∙ h.held.once_is);
-          test_is = ap test_of run ∙ test_from_left s.running c.running (drop c.ended (front c ++ kept ns (queue c))) _ h.held.runs_is (cut_left s.running s.next r.queue.items r.stands.items (front c ++ kept ns (queue c)) c.ended new);
+          test_is = ap test_of_running run ∙ test_from_left s.running c.running (drop c.ended (front c ++ kept ns (queue c))) _ h.held.runs_is (cut_left s.running s.next r.queue.items r.stands.items (front c ++ kept ns (queue c)) c.ended new);
         };
         cut = λ _. cut_at (front c ++ kept ns (queue c)) c.ended new (sym run) (sym nx) refl refl;
       },
@@ -115,10 +115,10 @@ on_ok (Err e) P Q f h = h
 pub asked_missing : (st : List Standing) (ns : List ℕ) (a : Asked) → a ≡ Missing → IsAsked st ns a → (can_ask (length st) [] ns ≡ true) × (all_queued_at st ns ≡ false)
 asked_missing st ns a e h = let g = subst (IsAsked st ns) e h in g
 
-pub missing_turn : (t : Turn) (ns : List ℕ) → can_ask t.call.size [] ns ≡ true → all_queued (queue t.call) ns ≡ false → stolen_if ns t ≡ asking (Tell (Back []) ∷ []) t
+pub missing_turn : (t : CallTurn) (ns : List ℕ) → can_ask t.call.size [] ns ≡ true → all_queued (queue t.call) ns ≡ false → stolen_if ns t ≡ asking (Tell (Back []) ∷ []) t
 missing_turn t ns e f = rw (e, f) refl
 
-pub marked_turn : (t : Turn) (ns : List ℕ) → can_ask t.call.size [] ns ≡ true → all_queued (queue t.call) ns ≡ true → stolen_if ns t ≡ asking (Tell (Back (taken ns (queue t.call))) ∷ []) (record t { call = record (t.call) { line = front t.call ++ kept ns (queue t.call) } })
+pub marked_turn : (t : CallTurn) (ns : List ℕ) → can_ask t.call.size [] ns ≡ true → all_queued (queue t.call) ns ≡ true → stolen_if ns t ≡ asking (Tell (Back (taken ns (queue t.call))) ∷ []) (record t { call = record (t.call) { line = front t.call ++ kept ns (queue t.call) } })
 marked_turn t ns e f = rw (e, f) refl
 
 pub told_back : (old new before : List Ask) (back ns : List ℕ) → back ≡ ns → old ≡ before → new ≡ old ++ Tell (Back back) ∷ [] → new ≡ before ++ Tell (Back ns) ∷ []

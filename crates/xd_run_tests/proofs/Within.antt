@@ -19,7 +19,7 @@ use Rattle.xd_run_tests.specs.declared.ask.Ask.TheVariants.{Tell}
 use Rattle.xd_run_tests.specs.declared.input.Input.{Input}
 use Rattle.xd_run_tests.specs.declared.input.Input.TheVariants as input
 use Rattle.xd_run_tests.specs.Line.{FunctionCall, left, front, queue, passed, running_test, head_test, has_test, is_among, can_give, can_ask, all_queued, kept, taken}
-use Rattle.xd_run_tests.specs.Turns.{Turn, turn_of, answered, over, ended_early, ending_text, asking, test_started, has_log, too_many_channels, moved_on, line_settled, given, stolen, stolen_if, told, heard_in, heard, all_heard, collected_in, receiving_ended_in, suite_refused_in, put_out, output_fed, told_done, done_of}
+use Rattle.xd_run_tests.specs.Turns.{CallTurn, call_turn_of, answered, over, ended_early, ending_text, asking, test_started, has_log, too_many_channels, moved_on, line_settled, given, stolen, stolen_if, told, item_heard_in, item_heard, all_heard, collected_in, receiving_ended_in, suite_refused_in, put_out, output_fed, told_done, done_of}
 use Rattle.xd_run_tests.specs.History.{Given, call_after, turn_after, size_opened, size_behind, KnownTests}
 use Rattle.xd_run_tests.proofs.Once.{and_first, and_last, and_both}
 
@@ -78,29 +78,29 @@ head_in size (Test m ∷ l) n e h = let same : m ≡ n = (let z = e in cc) in su
 head_in size (Mark ∷ l) n e h = cc
 
 -- the tests of a turn are those of its suite, which has n
-record Within (k : ℕ) (t : Turn) : Type 0 where
+record Within (k : ℕ) (t : CallTurn) : Type 0 where
   size_is : t.call.size ≡ k
   line_in : within t.call.size t.call.line ≡ true
   run_in : is_below t.call.size t.run ≡ true
 
-ended_within : (k : ℕ) (t : Turn) (text : Option (List ℕ)) → Within k t → Within k (over text t)
+ended_within : (k : ℕ) (t : CallTurn) (text : Option (List ℕ)) → Within k t → Within k (over text t)
 ended_within k t text w = record { size_is = w.size_is; line_in = w.line_in; run_in = w.run_in }
 
-early_within : (k : ℕ) (t : Turn) (e : Ending) → Within k t → Within k (ended_early e t)
+early_within : (k : ℕ) (t : CallTurn) (e : Ending) → Within k t → Within k (ended_early e t)
 early_within k t e w = go t.call.running
   where
     go : (v : Bool) → Within k (if v then record t { call = record (t.call) { phase = phase.Ending e } } else over (ending_text e) t)
     go true = record { size_is = w.size_is; line_in = w.line_in; run_in = w.run_in }
     go false = ended_within k t (ending_text e) w
 
-started_within : (k : ℕ) (t : Turn) (n : ℕ) (l : List LineEntry) → left t.call ≡ Test n ∷ l → Within k t → Within k (test_started n t)
+started_within : (k : ℕ) (t : CallTurn) (n : ℕ) (l : List LineEntry) → left t.call ≡ Test n ∷ l → Within k t → Within k (test_started n t)
 started_within k t n l is w = record {
   size_is = w.size_is;
   line_in = w.line_in;
   run_in = and_first (nat_lt n t.call.size) (within t.call.size l) (ap (within t.call.size) (sym is) ∙ rest_in t.call.size t.call.line t.call.ended w.line_in);
 }
 
-moved_within : (k : ℕ) (room : Bool) (t : Turn) (l : List LineEntry) → left t.call ≡ l → Within k t → Within k (moved_on room l t)
+moved_within : (k : ℕ) (room : Bool) (t : CallTurn) (l : List LineEntry) → left t.call ≡ l → Within k t → Within k (moved_on room l t)
 moved_within k room t [] is w = w
 moved_within k room t (Mark ∷ l) is w = record { size_is = w.size_is; line_in = w.line_in; run_in = w.run_in }
 moved_within k room t (Test n ∷ []) is w = w
@@ -110,14 +110,14 @@ moved_within k room t (Test n ∷ (p ∷ l)) is w = go (room && has_log t.call.e
     go true = started_within k t n (p ∷ l) is w
     go false = ended_within k t (Some too_many_channels) w
 
-settled_within : (k : ℕ) (room : Bool) (t : Turn) → Within k t → Within k (line_settled room t)
+settled_within : (k : ℕ) (room : Bool) (t : CallTurn) → Within k t → Within k (line_settled room t)
 settled_within k room t w = go t.call.running
   where
     go : (v : Bool) → Within k (if v then t else moved_on room (left t.call) t)
     go true = w
     go false = moved_within k room t (left t.call) refl w
 
-given_within : (k : ℕ) (room : Bool) (ns : List ℕ) (t : Turn) → Within k t → Within k (given room ns t)
+given_within : (k : ℕ) (room : Bool) (ns : List ℕ) (t : CallTurn) → Within k t → Within k (given room ns t)
 given_within k room ns t w = go (can_give t.call.size t.call.line ns) refl
   where
     go : (v : Bool) → can_give t.call.size t.call.line ns ≡ v → Within k (if v then line_settled room (record t { call = record (t.call) { line = t.call.line ++ map Test ns } }) else ended_early BadCommand t)
@@ -125,7 +125,7 @@ given_within k room ns t w = go (can_give t.call.size t.call.line ns) refl
         (record { size_is = w.size_is; line_in = both_in t.call.size t.call.line (map Test ns) w.line_in (given_in t.call.size t.call.line ns e); run_in = w.run_in })
     go false e = early_within k t BadCommand w
 
-taken_within : (k : ℕ) (ns : List ℕ) (t : Turn) → Within k t → Within k (record t { call = record (t.call) { line = front t.call ++ kept ns (queue t.call) } })
+taken_within : (k : ℕ) (ns : List ℕ) (t : CallTurn) → Within k t → Within k (record t { call = record (t.call) { line = front t.call ++ kept ns (queue t.call) } })
 taken_within k ns t w = record {
   size_is = w.size_is;
   line_in = both_in t.call.size (front t.call) (kept ns (queue t.call)) (start_in t.call.size t.call.line (passed t.call) w.line_in)
@@ -133,10 +133,10 @@ taken_within k ns t w = record {
   run_in = w.run_in;
 }
 
-asking_within : (k : ℕ) (t : Turn) (asks : List Ask) → Within k t → Within k (asking asks t)
+asking_within : (k : ℕ) (t : CallTurn) (asks : List Ask) → Within k t → Within k (asking asks t)
 asking_within k t asks w = record { size_is = w.size_is; line_in = w.line_in; run_in = w.run_in }
 
-stolen_within : (k : ℕ) (ns : List ℕ) (t : Turn) → Within k t → Within k (stolen_if ns t)
+stolen_within : (k : ℕ) (ns : List ℕ) (t : CallTurn) → Within k t → Within k (stolen_if ns t)
 stolen_within k ns t w = ask (can_ask t.call.size [] ns)
   where
     go : (v : Bool) → Within k (if v then asking (Tell (Back (taken ns (queue t.call))) ∷ []) (record t { call = record (t.call) { line = front t.call ++ kept ns (queue t.call) } }) else asking (Tell (Back []) ∷ []) t)
@@ -147,49 +147,49 @@ stolen_within k ns t w = ask (can_ask t.call.size [] ns)
     ask true = go (all_queued (queue t.call) ns)
     ask false = early_within k t BadCommand w
 
-told_within : (k : ℕ) (room : Bool) (o : Option Order) (t : Turn) → Within k t → Within k (told room o t)
+told_within : (k : ℕ) (room : Bool) (o : Option Order) (t : CallTurn) → Within k t → Within k (told room o t)
 told_within k room None t w = early_within k t BadCommand w
 told_within k room (Some (RunTests ns)) t w = given_within k room ns t w
 told_within k room (Some RunAll) t w = given_within k room (range_with_len 0 t.call.size) t w
 told_within k room (Some (Steal ns)) t w = stolen_within k ns t w
 told_within k room (Some Shutdown) t w = settled_within k room (record t { call = record (t.call) { line = t.call.line ++ Mark ∷ [] } }) (record { size_is = w.size_is; line_in = both_in t.call.size t.call.line (Mark ∷ []) w.line_in refl; run_in = w.run_in })
 
-heard_within : (k : ℕ) (p : Phase) (room : Bool) (o : Option Order) (t : Turn) → Within k t → Within k (heard_in p room o t)
+heard_within : (k : ℕ) (p : Phase) (room : Bool) (o : Option Order) (t : CallTurn) → Within k t → Within k (item_heard_in p room o t)
 heard_within k Awaiting room o t w = record { size_is = w.size_is; line_in = w.line_in; run_in = w.run_in }
 heard_within k Serving room o t w = told_within k room o t w
 heard_within k (phase.Ending x) room o t w = w
 heard_within k Stopped room o t w = w
 heard_within k Over room o t w = w
 
-all_within : (k : ℕ) (room : Bool) (os : List (Option Order)) (t : Turn) → Within k t → Within k (all_heard room os t)
+all_within : (k : ℕ) (room : Bool) (os : List (Option Order)) (t : CallTurn) → Within k t → Within k (all_heard room os t)
 all_within k room [] t w = w
-all_within k room (o ∷ os) t w = all_within k room os (heard room o t) (heard_within k t.call.phase room o t w)
+all_within k room (o ∷ os) t w = all_within k room os (item_heard room o t) (heard_within k t.call.phase room o t w)
 
-collected_within : (k : ℕ) (p : Phase) (room : Bool) (ids : List (List ℕ)) (t : Turn) → t.run ≡ None → Within k t → Within (size_opened p ids k) (collected_in p room ids t)
+collected_within : (k : ℕ) (p : Phase) (room : Bool) (ids : List (List ℕ)) (t : CallTurn) → t.run ≡ None → Within k t → Within (size_opened p ids k) (collected_in p room ids t)
 collected_within k Awaiting room ids t none w = all_within (length ids) room t.call.waiting _ (record { size_is = refl; line_in = refl; run_in = ap (is_below (length ids)) none })
 collected_within k Serving room ids t none w = w
 collected_within k (phase.Ending x) room ids t none w = w
 collected_within k Stopped room ids t none w = w
 collected_within k Over room ids t none w = w
 
-receiving_within : (k : ℕ) (p : Phase) (t : Turn) → Within k t → Within k (receiving_ended_in p t)
+receiving_within : (k : ℕ) (p : Phase) (t : CallTurn) → Within k t → Within k (receiving_ended_in p t)
 receiving_within k Awaiting t w = early_within k t ReceivingEnded w
 receiving_within k Serving t w = early_within k t ReceivingEnded w
 receiving_within k (phase.Ending x) t w = w
 receiving_within k Stopped t w = w
 receiving_within k Over t w = w
 
-refused_within : (k : ℕ) (p : Phase) (text : List ℕ) (t : Turn) → Within k t → Within k (suite_refused_in p text t)
+refused_within : (k : ℕ) (p : Phase) (text : List ℕ) (t : CallTurn) → Within k t → Within k (suite_refused_in p text t)
 refused_within k Awaiting text t w = ended_within k t (Some text) w
 refused_within k Serving text t w = w
 refused_within k (phase.Ending x) text t w = w
 refused_within k Stopped text t w = w
 refused_within k Over text t w = w
 
-put_within : (k : ℕ) (bytes : List ℕ) (t : Turn) → Within k t → Within k (put_out bytes t)
+put_within : (k : ℕ) (bytes : List ℕ) (t : CallTurn) → Within k t → Within k (put_out bytes t)
 put_within k bytes t w = record { size_is = w.size_is; line_in = w.line_in; run_in = w.run_in }
 
-output_within : (k : ℕ) (test : Option ℕ) (p : Phase) (bytes : List ℕ) (t : Turn) → Within k t → Within k (output_fed test p bytes t)
+output_within : (k : ℕ) (test : Option ℕ) (p : Phase) (bytes : List ℕ) (t : CallTurn) → Within k t → Within k (output_fed test p bytes t)
 output_within k None p bytes t w = w
 output_within k (Some n) Stopped bytes t w = w
 output_within k (Some n) Awaiting bytes t w = put_within k bytes t w
@@ -197,7 +197,7 @@ output_within k (Some n) Serving bytes t w = put_within k bytes t w
 output_within k (Some n) (phase.Ending e) bytes t w = put_within k bytes t w
 output_within k (Some n) Over bytes t w = put_within k bytes t w
 
-done_within : (k : ℕ) (test : Option ℕ) (p : Phase) (room : Bool) (outcome : Outcome) (ms : ℕ) (t : Turn) → Within k t → Within k (done_of test p room outcome ms t)
+done_within : (k : ℕ) (test : Option ℕ) (p : Phase) (room : Bool) (outcome : Outcome) (ms : ℕ) (t : CallTurn) → Within k t → Within k (done_of test p room outcome ms t)
 done_within k None p room outcome ms t w = w
 done_within k (Some n) Serving room outcome ms t w = settled_within k room (told_done n outcome ms t) (record { size_is = w.size_is; line_in = w.line_in; run_in = w.run_in })
 done_within k (Some n) (phase.Ending x) room outcome ms t w = ended_within k (told_done n outcome ms t) (ending_text x) (record { size_is = w.size_is; line_in = w.line_in; run_in = w.run_in })
@@ -205,7 +205,7 @@ done_within k (Some n) Stopped room outcome ms t w = record { size_is = w.size_i
 done_within k (Some n) Awaiting room outcome ms t w = w
 done_within k (Some n) Over room outcome ms t w = w
 
-answered_within : (k : ℕ) (room : Bool) (i : Input) (t : Turn) → t.run ≡ None → Within k t → Within (size_behind t.call.phase i k) (answered room i t)
+answered_within : (k : ℕ) (room : Bool) (i : Input) (t : CallTurn) → t.run ≡ None → Within k t → Within (size_behind t.call.phase i k) (answered room i t)
 answered_within k room (input.Command o) t none w = heard_within k t.call.phase room o t w
 answered_within k room input.ReceivingEnded t none w = receiving_within k t.call.phase t w
 answered_within k room (input.Suite ids) t none w = collected_within k t.call.phase room ids t none w
@@ -214,12 +214,12 @@ answered_within k room (input.Output bytes) t none w = output_within k (running_
 answered_within k room (input.Done outcome ms) t none w = done_within k (running_test t.call) t.call.phase room outcome ms t w
 answered_within k room input.Stop t none w = record { size_is = w.size_is; line_in = w.line_in; run_in = w.run_in }
 
-within_after : (h : List Given) → Within (call_after h).size (turn_of (call_after h))
+within_after : (h : List Given) → Within (call_after h).size (call_turn_of (call_after h))
 within_after [] = record { size_is = refl; line_in = refl; run_in = refl }
-within_after (g ∷ h) = let w = answered_within (call_after h).size g.room g.input (turn_of (call_after h)) refl (within_after h) in record { size_is = refl; line_in = w.line_in; run_in = refl }
+within_after (g ∷ h) = let w = answered_within (call_after h).size g.room g.input (call_turn_of (call_after h)) refl (within_after h) in record { size_is = refl; line_in = w.line_in; run_in = refl }
 
 within_behind : (h : List Given) (g : Given) → Within (size_behind (call_after h).phase g.input (call_after h).size) (turn_after h g)
-within_behind h g = answered_within (call_after h).size g.room g.input (turn_of (call_after h)) refl (within_after h)
+within_behind h g = answered_within (call_after h).size g.room g.input (call_turn_of (call_after h)) refl (within_after h)
 
 running_within : (c : FunctionCall) (n : ℕ) → within c.size c.line ≡ true → running_test c ≡ Some n → n < c.size
 running_within c n w e = go c.running e

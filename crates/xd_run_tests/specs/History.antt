@@ -8,7 +8,7 @@ use Rattle.xd_run_tests.specs.declared.phase.Phase.TheVariants.{Awaiting, Servin
 use Rattle.xd_run_tests.specs.declared.phase.Phase.TheVariants as phase
 use Rattle.xd_run_tests.specs.declared.run_tests.RunTests.{RunTests}
 use Rattle.xd_run_tests.specs.Line.{FunctionCall, new_call, is_among, running_test}
-use Rattle.xd_run_tests.specs.Turns.{Turn, turn_of, answered}
+use Rattle.xd_run_tests.specs.Turns.{CallTurn, call_turn_of, answered}
 use Rattle.xd_run_tests.specs.Stands.{IsCall, IsReady}
 
 -- an input, and whether the worker's table of channels has room for a log beside that of the running test
@@ -19,11 +19,11 @@ pub record Given : Type 0 where
 -- the call after these inputs
 abbrev pub call_after : List Given → FunctionCall
 call_after [] = new_call
-call_after (g ∷ h) = (answered g.room g.input (turn_of (call_after h))).call
+call_after (g ∷ h) = (answered g.room g.input (call_turn_of (call_after h))).call
 
 -- what an input does after these
-abbrev pub turn_after : List Given → Given → Turn
-turn_after h g = answered g.room g.input (turn_of (call_after h))
+abbrev pub turn_after : List Given → Given → CallTurn
+turn_after h g = answered g.room g.input (call_turn_of (call_after h))
 
 -- all that was asked for, in order
 abbrev pub all_asks : List Given → List Ask
@@ -37,14 +37,14 @@ started_tests [] = []
 started_tests (g ∷ h) = started_tests h ++ option_to_list (turn_after h g).run
 
 -- no number stands twice
-abbrev pub distinct : List ℕ → Bool
-distinct [] = true
-distinct (n ∷ ns) = not (is_among n ns) && distinct ns
+abbrev pub no_number_twice : List ℕ → Bool
+no_number_twice [] = true
+no_number_twice (n ∷ ns) = not (is_among n ns) && no_number_twice ns
 
 -- Whatever comes, no test is started twice.
 -- Example: test 2 is given, given back and given again: it starts once.
 abbrev pub StartsOnce : Type 0
-StartsOnce = (h : List Given) → distinct (started_tests h) ≡ true
+StartsOnce = (h : List Given) → no_number_twice (started_tests h) ≡ true
 
 -- how many tests the suite has after a collection: the first one counts, which the function waits for
 abbrev pub size_opened : Phase → List (List ℕ) → ℕ → ℕ

@@ -11,7 +11,7 @@ use Rattle.xd_run_tests.specs.declared.run_tests.steal.Asked.{Asked}
 use Rattle.xd_run_tests.specs.declared.run_tests.steal.Asked.TheVariants.{Bad, Missing, Marked}
 use Rattle.xd_run_tests.specs.declared.run_tests.RunTests.{RunTests}
 use Rattle.xd_run_tests.specs.Line.{FunctionCall, running_test, number_of_log, has_test, can_give, can_ask, is_among, taken, kept}
-use Rattle.xd_run_tests.specs.Turns.{Turn}
+use Rattle.xd_run_tests.specs.Turns.{CallTurn}
 
 -- the running test as an entry of the line, if one runs
 abbrev pub running_places : Option Running → List LineEntry
@@ -19,9 +19,9 @@ running_places None = []
 running_places (Some r) = Test r.test ∷ []
 
 -- the number of the running test, if one runs
-abbrev pub test_of : Option Running → Option ℕ
-test_of None = None
-test_of (Some r) = Some r.test
+abbrev pub test_of_running : Option Running → Option ℕ
+test_of_running None = None
+test_of_running (Some r) = Some r.test
 
 -- where the tests stand once this entry is before the queue
 abbrev pub passing : List Standing → LineEntry → List Standing
@@ -134,7 +134,7 @@ pub record IsHeld (s : RunTests) (c : FunctionCall) : Type 0 where
   pub sent_is : s.sent ≡ c.sent
   pub once_is : once c.line ≡ true
   pub runs_is : is_some s.running ≡ c.running
-  pub test_is : test_of s.running ≡ running_test c
+  pub test_is : test_of_running s.running ≡ running_test c
   pub log_is : IsLog s.running s.next_log c.ended
 
 -- The parts are those of this call; while it serves, they hold its line, cut into pieces.
@@ -149,22 +149,22 @@ abbrev pub IsReady : RunTests → FunctionCall → Type 0
 IsReady s c = c.phase ≡ Serving → s.next ≡ None → s.queue.items ≡ []
 
 -- what was asked for so far, and the test to start, are those of a turn
-pub record HasActed (a : Acts) (t : Turn) : Type 0 where
+pub record HasActed (a : Acts) (t : CallTurn) : Type 0 where
   pub asks_are : a.asks.items ≡ t.asks
   pub run_is : a.run ≡ t.run
 
 -- a turn of which only what holds in every phase is known
-pub record HoldsInAnyPhase (s : RunTests) (a : Acts) (t : Turn) : Type 0 where
+pub record HoldsInAnyPhase (s : RunTests) (a : Acts) (t : CallTurn) : Type 0 where
   pub held : IsHeld s t.call
   pub acted : HasActed a t
 
 -- a turn in which the line has not moved on yet
-pub record Moves (s : RunTests) (a : Acts) (t : Turn) : Type 0 where
+pub record Moves (s : RunTests) (a : Acts) (t : CallTurn) : Type 0 where
   pub call : IsCall s t.call
   pub acted : HasActed a t
 
 -- the parts and the acts so far are those of a turn
-pub record Stands (s : RunTests) (a : Acts) (t : Turn) : Type 0 where
+pub record Stands (s : RunTests) (a : Acts) (t : CallTurn) : Type 0 where
   pub call : IsCall s t.call
   pub ready : IsReady s t.call
   pub acted : HasActed a t

@@ -43,8 +43,8 @@ pub struct RunTests {
 
 impl RunTests {
     ghost use Rattle.xd_run_tests.specs.Line.{FunctionCall, running_test};
-    ghost use Rattle.xd_run_tests.specs.Turns.{Turn, answered_in, answered, turn_of, CanTake};
-    ghost use Rattle.xd_run_tests.specs.Stands.{Stands, IsReady, IsCall, test_of};
+    ghost use Rattle.xd_run_tests.specs.Turns.{CallTurn, answered_in, answered, call_turn_of, CanTake};
+    ghost use Rattle.xd_run_tests.specs.Stands.{Stands, IsReady, IsCall, test_of_running};
     ghost use Rattle.xd_run_tests.specs.History.{Given, StandsFor, call_after, turn_after};
 
     /// A call to which nothing has come yet.
@@ -93,7 +93,7 @@ impl RunTests {
     fn answer(&mut self, input: Input, room: bool) -> Result<Acts, OutOfMemory>
         requires { CanTake input }
         ensures { (c : FunctionCall) → IsCall self.old c → IsReady self.old c →
-            IfOk result (λ acts. Stands self.new acts (answered room input (turn_of c))) }
+            IfOk result (λ acts. Stands self.new acts (answered room input (call_turn_of c))) }
     {
         let mut acts = Acts {
             asks: Vec::new(self.alloc),
@@ -105,9 +105,9 @@ impl RunTests {
 
     fn take(&mut self, acts: &mut Acts, input: Input, room: bool) -> Result<(), OutOfMemory>
         requires { CanTake input }
-        ensures { (t : Turn) → Stands self.old acts.old t →
+        ensures { (t : CallTurn) → Stands self.old acts.old t →
             OnOk result (Stands self.new acts.new
-            (answered_in self.old.phase (test_of self.old.running) room input t)) }
+            (answered_in self.old.phase (test_of_running self.old.running) room input t)) }
     {
         match input {
             Input::Command(order) => self.hear(acts, order, room),

@@ -6,7 +6,7 @@ use Rattle.xd_edge.specs.Children.{ChildRun}
 use Rattle.xd_journal.specs.declared.entry.Outcome.{Outcome}
 use Rattle.xd_reader.specs.declared.news.LinkNews.{LinkNews}
 use Rattle.xd_child.specs.Ending.{outcome_of}
-use Rattle.xd_runner.specs.Orders.{EndsCut, EndsWell, IsLeft, Mails, Order, RunsOrders, Seen, ran_of}
+use Rattle.xd_runner.specs.Orders.{EndsCut, EndsWell, IsLeft, Mails, Order, RunsOrders, ProgramsSeen, ran_of}
 use Rattle.xd_runner.specs.Programs.{AreOver, AreRun, CameTo, Ran}
 use Rattle.xd_runner.proofs.Taking.{added_more}
 
@@ -34,14 +34,14 @@ one_over order output outcome old mid new a c = record {
   added = added_more a.children c.run old mid new a.added c.added;
 }
 
-pub runs_over : (m0 m1 : Mails) (s0 s1 : Seen) (before after : List LinkNews) → RunsOrders m0 m1 s0 s1 before after → AreOver s0.runs s1.runs
+pub runs_over : (m0 m1 : Mails) (s0 s1 : ProgramsSeen) (before after : List LinkNews) → RunsOrders m0 m1 s0 s1 before after → AreOver s0.runs s1.runs
 runs_over m0 m1 s0 s1 before after r = by r.ends
   where
     first : AreOver s0.runs r.mid.runs
     first = ran_over r.orders (map ran_of r.told) s0.runs r.mid.runs r.runs.run
 
     still : s1 ≡ r.mid → AreOver s0.runs s1.runs
-    still e = subst (λ (s : Seen). AreOver s0.runs s.runs) (sym e) first
+    still e = subst (λ (s : ProgramsSeen). AreOver s0.runs s.runs) (sym e) first
 
     cut : (order : Order) (pieces : List (List ℕ)) → ((pieces ≡ []) × (s1 ≡ r.mid)) ⊎ IsLeft order pieces r.mid.runs s1.runs → AreOver s0.runs s1.runs
     cut order pieces (inl e) = still e.1

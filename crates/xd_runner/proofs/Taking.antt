@@ -14,7 +14,7 @@ use Rattle.xd_reader.specs.declared.news.LinkNews.{LinkNews}
 use Rattle.xd_reader.specs.declared.news.LinkNews.TheVariants.{End}
 use Rattle.xd_reader.specs.declared.news.LinkStop.TheVariants.{OutOfMemory}
 use Rattle.xd_child.specs.Ending.{fault_count, outcome_of}
-use Rattle.xd_runner.specs.Orders.{ArePieces, IsCommand, Mails, Order, Runs, RunsOrders, Seen, TakesOf, ToldOfProgram, all_news, ran_of, told_news}
+use Rattle.xd_runner.specs.Orders.{ArePieces, IsCommand, Mails, Order, Runs, RunsOrders, ProgramsSeen, TakesOf, ToldOfProgram, news_of_programs, ran_of, told_news}
 use Rattle.xd_runner.specs.Programs.{AreRun, CameTo, Ran, faults_of}
 use Rattle.xd_runner.specs.Running.{RunsOne, RunsPart}
 
@@ -71,9 +71,9 @@ run_more started ran args output outcome first mid new a c =
 faults_more : (ran : List Ran) (r : Ran) → faults_of (ran ++ r ∷ []) ≡ faults_of ran + fault_count r.outcome
 faults_more ran r = let e = sum_by-append (λ (x : Ran). fault_count x.outcome) ran (r ∷ []) in omega (arith, e)
 
-news_more : (told : List ToldOfProgram) (t : ToldOfProgram) → all_news (told ++ t ∷ []) ≡ all_news told ++ told_news t
+news_more : (told : List ToldOfProgram) (t : ToldOfProgram) → news_of_programs (told ++ t ∷ []) ≡ news_of_programs told ++ told_news t
 news_more [] t = append-nil (told_news t)
-news_more (x ∷ xs) t = ap (λ (l : List LinkNews). told_news x ++ l) (news_more xs t) ∙ sym (append_assoc (told_news x) (all_news xs) (told_news t))
+news_more (x ∷ xs) t = ap (λ (l : List LinkNews). told_news x ++ l) (news_more xs t) ∙ sym (append_assoc (told_news x) (news_of_programs xs) (told_news t))
 
 rose_more : (a b x y z : ℕ) → RoseBy a x y → RoseBy b y z → y ≤ z → RoseBy (a + b) x z
 rose_more a b x y z first then later = λ below.
@@ -84,13 +84,13 @@ rose_more a b x y z first then later = λ below.
 
 -- ---- so far
 
-pub record SoFar (old new : Mails) (s0 s1 : Seen) (before after : List LinkNews) : Type 0 where
+pub record SoFar (old new : Mails) (s0 s1 : ProgramsSeen) (before after : List LinkNews) : Type 0 where
   pub orders : List Order
   pub told : List ToldOfProgram
   pub took : TakesOf orders old new
   pub runs : Runs orders told s0 s1 before after
 
-pub none_yet : (mails : Mails) (s : Seen) (before : List LinkNews) → SoFar mails mails s s before before
+pub none_yet : (mails : Mails) (s : ProgramsSeen) (before : List LinkNews) → SoFar mails mails s s before before
 none_yet mails s before = record {
   orders = [];
   told = [];
@@ -106,7 +106,7 @@ none_yet mails s before = record {
   };
 }
 
-module _ (old mid new : Mails) (s0 s1 s2 : Seen) (before between after : List LinkNews) (number : ℕ) (order : Order) (f : SoFar old mid s0 s1 before between) (take : TakesAt mid new number order) where
+module _ (old mid new : Mails) (s0 s1 s2 : ProgramsSeen) (before between after : List LinkNews) (number : ℕ) (order : Order) (f : SoFar old mid s0 s1 before between) (take : TakesAt mid new number order) where
   took : TakesOf (f.orders ++ order ∷ []) old new
   took = takes_next f.orders old mid new number order f.took take
 
@@ -123,7 +123,7 @@ module _ (old mid new : Mails) (s0 s1 s2 : Seen) (before between after : List Li
         took = took;
         runs = record {
           commands = All-push IsCommand f.orders order f.runs.commands some;
-          puts = r.puts ∙ (ap (λ (l : List LinkNews). l ++ told_news r.told) f.runs.puts ∙ (append_assoc before (all_news f.told) (told_news r.told) ∙ ap (λ (l : List LinkNews). before ++ l) (sym (news_more f.told r.told))));
+          puts = r.puts ∙ (ap (λ (l : List LinkNews). l ++ told_news r.told) f.runs.puts ∙ (append_assoc before (news_of_programs f.told) (told_news r.told) ∙ ap (λ (l : List LinkNews). before ++ l) (sym (news_more f.told r.told))));
           pieces = All-push ArePieces f.told r.told f.runs.pieces r.pieces;
           run = subst (λ (l : List Ran). AreRun (f.orders ++ order ∷ []) l s0.runs s2.runs) (sym all) (run_more f.orders ran order (whole_output r.told.pieces) r.told.outcome s0.runs s1.runs s2.runs f.runs.run r.came);
           rose = subst (λ (n : ℕ). RoseBy n s0.faults s2.faults) (sym count) (rose_more (faults_of ran) (fault_count r.told.outcome) s0.faults s1.faults s2.faults f.runs.rose r.rose r.later);

@@ -12,7 +12,7 @@ use Rattle.xd_journal.specs.declared.entry.Outcome.TheVariants.{Failed}
 use Rattle.xd_reader.specs.declared.news.LinkNews.{LinkNews}
 use Rattle.xd_reader.specs.declared.news.LinkNews.TheVariants.{Output, ChildDone}
 use Rattle.xd_child.specs.Ending.{Waited, fault_count, fate_so, outcome_of}
-use Rattle.xd_runner.specs.Orders.{IsPiece, Seen, seen}
+use Rattle.xd_runner.specs.Orders.{IsPiece, ProgramsSeen, seen}
 use Rattle.xd_runner.specs.Programs.{CameTo, read_so}
 use Rattle.xd_runner.specs.Running.{PutsOutput, HeardPart, RunsOne, RunsPart, RunsTo, Waits, Watches, WatchesPart}
 use Rattle.xd_child.proofs.Waiting.{faults_to_end, still_to_end}
@@ -183,7 +183,7 @@ runs_never args old new f0 f1 before same still = record {
   later = omega (arith, still);
 }
 
-pub runs_one : (outcome : Outcome) (args : List (List ℕ)) (s0 s1 : Seen) (before mid after : List LinkNews) → RunsTo outcome args s0 s1 before mid → after ≡ mid ++ ChildDone outcome ∷ [] → RunsOne args s0 s1 before after
+pub runs_one : (outcome : Outcome) (args : List (List ℕ)) (s0 s1 : ProgramsSeen) (before mid after : List LinkNews) → RunsTo outcome args s0 s1 before mid → after ≡ mid ++ ChildDone outcome ∷ [] → RunsOne args s0 s1 before after
 runs_one outcome args s0 s1 before mid after r put = record {
   told = record { pieces = r.pieces; outcome = outcome };
   puts = put ∙ (ap (λ (l : List LinkNews). l ++ ChildDone outcome ∷ []) r.puts ∙ append_assoc before (map Output r.pieces) (ChildDone outcome ∷ []));

@@ -38,9 +38,9 @@ abbrev pub told_news : ToldOfProgram → List LinkNews
 told_news t = map Output t.pieces ++ ChildDone t.outcome ∷ []
 
 -- the news of programs that ran one after another
-abbrev pub all_news : List ToldOfProgram → List LinkNews
-all_news [] = []
-all_news (t ∷ ts) = told_news t ++ all_news ts
+abbrev pub news_of_programs : List ToldOfProgram → List LinkNews
+news_of_programs [] = []
+news_of_programs (t ∷ ts) = told_news t ++ news_of_programs ts
 
 -- a piece of output: a choice of this project
 abbrev pub IsPiece : List ℕ → Type 0
@@ -55,18 +55,18 @@ abbrev pub IsCommand : Order → Type 0
 IsCommand order = 0 < length order
 
 -- what is seen of programs at one moment: the starts that were asked for, where they are told, and the count of faults
-pub record Seen : Type 0 where
+pub record ProgramsSeen : Type 0 where
   pub runs : Option (List ChildRun)
   pub faults : ℕ
 
 -- the programs, of which these starts and this count of faults are seen
-abbrev pub seen : Option (List ChildRun) → ℕ → Seen
+abbrev pub seen : Option (List ChildRun) → ℕ → ProgramsSeen
 seen runs faults = record { runs = runs; faults = faults }
 
 -- These orders were run one after another, one child for each, and this was put of them.
-pub record Runs (orders : List Order) (told : List ToldOfProgram) (s0 s1 : Seen) (before after : List LinkNews) : Type 0 where
+pub record Runs (orders : List Order) (told : List ToldOfProgram) (s0 s1 : ProgramsSeen) (before after : List LinkNews) : Type 0 where
   pub commands : All IsCommand orders
-  pub puts : after ≡ before ++ all_news told
+  pub puts : after ≡ before ++ news_of_programs told
   pub pieces : All ArePieces told
   pub run : AreRun orders (map ran_of told) s0.runs s1.runs
   pub rose : RoseBy (faults_of (map ran_of told)) s0.faults s1.faults
@@ -74,7 +74,7 @@ pub record Runs (orders : List Order) (told : List ToldOfProgram) (s0 s1 : Seen)
   pub later : s0.faults ≤ s1.faults
 
 -- The empty list ended the orders.
-pub record EndsWell (orders : List Order) (old new : Mails) (s0 s1 : Seen) (before after : List LinkNews) : Type 0 where
+pub record EndsWell (orders : List Order) (old new : Mails) (s0 s1 : ProgramsSeen) (before after : List LinkNews) : Type 0 where
   pub took : TakesOf (orders ++ [] ∷ []) old new
   pub same : s1 ≡ s0
   pub puts : after ≡ before
@@ -85,7 +85,7 @@ IsLeft order pieces old new = (later : List ℕ) × (outcome : Outcome) × CameT
 
 -- Memory ran out at one order more: its program was not started, or first pieces of what it printed were put, and it was
 -- waited for all the same. Then came one end.
-pub record EndsCut (orders : List Order) (old new : Mails) (s0 s1 : Seen) (before after : List LinkNews) : Type 0 where
+pub record EndsCut (orders : List Order) (old new : Mails) (s0 s1 : ProgramsSeen) (before after : List LinkNews) : Type 0 where
   pub order : Order
   pub pieces : List (List ℕ)
   pub took : TakesOf (orders ++ order ∷ []) old new
@@ -96,10 +96,10 @@ pub record EndsCut (orders : List Order) (old new : Mails) (s0 s1 : Seen) (befor
   pub later : s0.faults ≤ s1.faults
 
 -- Orders were taken and run, up to the empty one, or until memory ran out.
-pub record RunsOrders (old new : Mails) (s0 s1 : Seen) (before after : List LinkNews) : Type 0 where
+pub record RunsOrders (old new : Mails) (s0 s1 : ProgramsSeen) (before after : List LinkNews) : Type 0 where
   pub orders : List Order
   pub told : List ToldOfProgram
-  pub mid : Seen
+  pub mid : ProgramsSeen
   pub sent : List LinkNews
   pub runs : Runs orders told s0 mid before sent
   pub ends : EndsWell orders old new mid s1 sent after ⊎ EndsCut orders old new mid s1 sent after

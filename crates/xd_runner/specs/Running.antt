@@ -8,7 +8,7 @@ use Rattle.xd_journal.specs.declared.entry.Outcome.{Outcome}
 use Rattle.xd_reader.specs.declared.news.LinkNews.{LinkNews}
 use Rattle.xd_reader.specs.declared.news.LinkNews.TheVariants.{Output}
 use Rattle.xd_child.specs.Ending.{fault_count, fate_so, outcome_of}
-use Rattle.xd_runner.specs.Orders.{ArePieces, IsLeft, IsPiece, Order, Seen, ToldOfProgram, told_news}
+use Rattle.xd_runner.specs.Orders.{ArePieces, IsLeft, IsPiece, Order, ProgramsSeen, ToldOfProgram, told_news}
 use Rattle.xd_runner.specs.Programs.{CameTo, read_so}
 
 -- What a program printed was put, in pieces, and then it could not be read where it was not read to its end.
@@ -34,7 +34,7 @@ pub record Waits (place : ℕ) (output : List ℕ) (outcome : Outcome) (old new 
   pub changes : ChangesRun place (λ r. with_last last (read_so whole output r)) old new
 
 -- It was watched from its start to its end.
-pub record Watches (outcome : Outcome) (place : ℕ) (s0 s1 : Seen) (before after : List LinkNews) : Type 0 where
+pub record Watches (outcome : Outcome) (place : ℕ) (s0 s1 : ProgramsSeen) (before after : List LinkNews) : Type 0 where
   pub pieces : List (List ℕ)
   pub puts : after ≡ before ++ map Output pieces
   pub sizes : All IsPiece pieces
@@ -44,7 +44,7 @@ pub record Watches (outcome : Outcome) (place : ℕ) (s0 s1 : Seen) (before afte
   pub later : s0.faults ≤ s1.faults
 
 -- Memory ran out on the way, and it was read to its end, or could not be read, and was waited for.
-pub record WatchesPart (place : ℕ) (s0 s1 : Seen) (before after : List LinkNews) : Type 0 where
+pub record WatchesPart (place : ℕ) (s0 s1 : ProgramsSeen) (before after : List LinkNews) : Type 0 where
   pub pieces : List (List ℕ)
   pub puts : after ≡ before ++ map Output pieces
   pub sizes : All IsPiece pieces
@@ -54,7 +54,7 @@ pub record WatchesPart (place : ℕ) (s0 s1 : Seen) (before after : List LinkNew
   pub later : s0.faults ≤ s1.faults
 
 -- The program of an order ran to this outcome, and what it printed was put.
-pub record RunsTo (outcome : Outcome) (order : Order) (s0 s1 : Seen) (before after : List LinkNews) : Type 0 where
+pub record RunsTo (outcome : Outcome) (order : Order) (s0 s1 : ProgramsSeen) (before after : List LinkNews) : Type 0 where
   pub pieces : List (List ℕ)
   pub puts : after ≡ before ++ map Output pieces
   pub sizes : All IsPiece pieces
@@ -64,7 +64,7 @@ pub record RunsTo (outcome : Outcome) (order : Order) (s0 s1 : Seen) (before aft
   pub later : s0.faults ≤ s1.faults
 
 -- One order was run.
-pub record RunsOne (order : Order) (s0 s1 : Seen) (before after : List LinkNews) : Type 0 where
+pub record RunsOne (order : Order) (s0 s1 : ProgramsSeen) (before after : List LinkNews) : Type 0 where
   pub told : ToldOfProgram
   pub puts : after ≡ before ++ told_news told
   pub pieces : ArePieces told
@@ -74,7 +74,7 @@ pub record RunsOne (order : Order) (s0 s1 : Seen) (before after : List LinkNews)
   pub later : s0.faults ≤ s1.faults
 
 -- Memory ran out at one order.
-pub record RunsPart (order : Order) (s0 s1 : Seen) (before after : List LinkNews) : Type 0 where
+pub record RunsPart (order : Order) (s0 s1 : ProgramsSeen) (before after : List LinkNews) : Type 0 where
   pub pieces : List (List ℕ)
   pub puts : after ≡ before ++ map Output pieces
   pub sizes : All IsPiece pieces

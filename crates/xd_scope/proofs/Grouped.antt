@@ -14,7 +14,7 @@ use denote.Ref.{Bor}
 use Rattle.xd_edge.specs.declared.mode.ModeKind.{ModeKind}
 use Rattle.xd_ledger.specs.Scopes.{scope_of}
 use Rattle.xd_ledger.specs.Units.{Group, added, grouped}
-use Rattle.xd_scope.specs.Stands.{AreGrouped, place_in}
+use Rattle.xd_scope.specs.Stands.{AreGrouped, place_of_scope}
 
 -- texts are the same where their characters are
 
@@ -58,56 +58,56 @@ at-first b o q h e = sym (ap (λ (c : Bool). if c then Some 0 else o) h) ∙ e
 at-later : (b : Bool) (o q : Option ℕ) → b ≡ false → (if b then Some 0 else o) ≡ q → o ≡ q
 at-later b o q h e = sym (ap (λ (c : Bool). if c then Some 0 else o) h) ∙ e
 
-place-found : (scope : List ℕ) (gs : List Group) (k : ℕ) → place_in scope gs ≡ Some k → k < length gs
+place-found : (scope : List ℕ) (gs : List Group) (k : ℕ) → place_of_scope scope gs ≡ Some k → k < length gs
 place-found scope [] k h = absurd (cc)
 place-found scope (g ∷ gs) k h = elim (cases_Bool (bytes_eq g.scope scope)) [
-  | inl b ↦ (let e : k ≡ 0 = (let s = at-first (bytes_eq g.scope scope) (option_map suc (place_in scope gs)) (Some k) b h in cc) in omega arith)
+  | inl b ↦ (let e : k ≡ 0 = (let s = at-first (bytes_eq g.scope scope) (option_map suc (place_of_scope scope gs)) (Some k) b h in cc) in omega arith)
   | inr b ↦
-      (let r = unmap (place_in scope gs) k (at-later (bytes_eq g.scope scope) (option_map suc (place_in scope gs)) (Some k) b h) in
+      (let r = unmap (place_of_scope scope gs) k (at-later (bytes_eq g.scope scope) (option_map suc (place_of_scope scope gs)) (Some k) b h) in
       let p = place-found scope gs r.0 r.1 in omega (arith, p, r.2))
 ]
 
 abbrev pub tests_in : List Group → List (List ℕ)
 tests_in gs = map (λ g. g.tests) gs
 
-added-found : (scope : List ℕ) (test : ℕ) (gs : List Group) (k : ℕ) → place_in scope gs ≡ Some k → tests_in (added scope test gs) ≡ set (tests_in gs) k (get_or (tests_in gs) k [] ++ test ∷ [])
+added-found : (scope : List ℕ) (test : ℕ) (gs : List Group) (k : ℕ) → place_of_scope scope gs ≡ Some k → tests_in (added scope test gs) ≡ set (tests_in gs) k (get_or (tests_in gs) k [] ++ test ∷ [])
 added-found scope test [] k h = absurd (cc)
 added-found scope test (g ∷ gs) k h = elim (cases_Bool (bytes_eq g.scope scope)) [
-  | inl b ↦ (let e : k ≡ 0 = (let s = at-first (bytes_eq g.scope scope) (option_map suc (place_in scope gs)) (Some k) b h in cc) in rw (b, e))
+  | inl b ↦ (let e : k ≡ 0 = (let s = at-first (bytes_eq g.scope scope) (option_map suc (place_of_scope scope gs)) (Some k) b h in cc) in rw (b, e))
   | inr b ↦
-      (let r = unmap (place_in scope gs) k (at-later (bytes_eq g.scope scope) (option_map suc (place_in scope gs)) (Some k) b h) in
+      (let r = unmap (place_of_scope scope gs) k (at-later (bytes_eq g.scope scope) (option_map suc (place_of_scope scope gs)) (Some k) b h) in
       let e : k ≡ suc r.0 = r.2 in
       rw (b, e) (ap (λ (vs : List (List ℕ)). g.tests ∷ vs) (added-found scope test gs r.0 r.1)))
 ]
 
-added-place : (scope : List ℕ) (test : ℕ) (gs : List Group) (key : List ℕ) (k : ℕ) → place_in scope gs ≡ Some k → place_in key (added scope test gs) ≡ place_in key gs
+added-place : (scope : List ℕ) (test : ℕ) (gs : List Group) (key : List ℕ) (k : ℕ) → place_of_scope scope gs ≡ Some k → place_of_scope key (added scope test gs) ≡ place_of_scope key gs
 added-place scope test [] key k h = absurd (cc)
 added-place scope test (g ∷ gs) key k h = elim (cases_Bool (bytes_eq g.scope scope)) [
   | inl b ↦ rw b
   | inr b ↦
-      (let r = unmap (place_in scope gs) k (at-later (bytes_eq g.scope scope) (option_map suc (place_in scope gs)) (Some k) b h) in
+      (let r = unmap (place_of_scope scope gs) k (at-later (bytes_eq g.scope scope) (option_map suc (place_of_scope scope gs)) (Some k) b h) in
       rw b (ap (λ (o : Option ℕ). if bytes_eq g.scope key then Some 0 else option_map suc o) (added-place scope test gs key r.0 r.1)))
 ]
 
 abbrev new_group : List ℕ → ℕ → Group
 new_group scope test = record { scope = scope; tests = test ∷ [] }
 
-added-new : (scope : List ℕ) (test : ℕ) (gs : List Group) → place_in scope gs ≡ None → added scope test gs ≡ gs ++ new_group scope test ∷ []
+added-new : (scope : List ℕ) (test : ℕ) (gs : List Group) → place_of_scope scope gs ≡ None → added scope test gs ≡ gs ++ new_group scope test ∷ []
 added-new scope test [] h = refl
 added-new scope test (g ∷ gs) h = elim (cases_Bool (bytes_eq g.scope scope)) [
-  | inl b ↦ absurd (let s = at-first (bytes_eq g.scope scope) (option_map suc (place_in scope gs)) None b h in cc)
+  | inl b ↦ absurd (let s = at-first (bytes_eq g.scope scope) (option_map suc (place_of_scope scope gs)) None b h in cc)
   | inr b ↦
-      (let r = unmap-none (place_in scope gs) (at-later (bytes_eq g.scope scope) (option_map suc (place_in scope gs)) None b h) in
+      (let r = unmap-none (place_of_scope scope gs) (at-later (bytes_eq g.scope scope) (option_map suc (place_of_scope scope gs)) None b h) in
       rw b (ap (λ (hs : List Group). g ∷ hs) (added-new scope test gs r)))
 ]
 
-place-new : (scope key : List ℕ) (test : ℕ) (gs : List Group) → place_in scope gs ≡ None
-    → place_in key (gs ++ new_group scope test ∷ []) ≡ (if bytes_eq scope key then Some (length gs) else place_in key gs)
+place-new : (scope key : List ℕ) (test : ℕ) (gs : List Group) → place_of_scope scope gs ≡ None
+    → place_of_scope key (gs ++ new_group scope test ∷ []) ≡ (if bytes_eq scope key then Some (length gs) else place_of_scope key gs)
 place-new scope key test [] h = refl
 place-new scope key test (g ∷ gs) h = elim (cases_Bool (bytes_eq g.scope scope)) [
-  | inl b ↦ absurd (let s = at-first (bytes_eq g.scope scope) (option_map suc (place_in scope gs)) None b h in cc)
+  | inl b ↦ absurd (let s = at-first (bytes_eq g.scope scope) (option_map suc (place_of_scope scope gs)) None b h in cc)
   | inr b ↦
-      (let r = unmap-none (place_in scope gs) (at-later (bytes_eq g.scope scope) (option_map suc (place_in scope gs)) None b h) in
+      (let r = unmap-none (place_of_scope scope gs) (at-later (bytes_eq g.scope scope) (option_map suc (place_of_scope scope gs)) None b h) in
       let i = place-new scope key test gs r in
       elim (cases_Bool (bytes_eq scope key)) [
         | inl k ↦ (let f : bytes_eq g.scope key ≡ false = ap (bytes_eq g.scope) (sym (eq-is scope key k)) ∙ b in rw (f, i, k))
@@ -125,7 +125,7 @@ place-fits gs places us s place u a e =
 pub found-step : (gs : List Group) (places : BTreeMap (Bor (List ℕ)) ℕ) (us now : List (List ℕ)) (s : List ℕ) (test place : ℕ) → IsUtf8 s → AreGrouped gs places us → get_by (λ k. slice_cmp nat_cmp s k.now) places ≡ Some place
     → now ≡ set us place (get_or us place [] ++ test ∷ []) → AreGrouped (added (chars s) test gs) places now
 found-step gs places us now s test place u a e f =
-    let h : place_in (chars s) gs ≡ Some place = sym (a.places_are s u) ∙ e in
+    let h : place_of_scope (chars s) gs ≡ Some place = sym (a.places_are s u) ∙ e in
     record {
       units_are = f ∙ ap (λ (vs : List (List ℕ)). set vs place (get_or vs place [] ++ test ∷ [])) a.units_are ∙ sym (added-found (chars s) test gs place h);
       places_are = λ bs v. a.places_are bs v ∙ sym (added-place (chars s) test gs (chars bs) place h);
@@ -135,7 +135,7 @@ pub new-step : (gs : List Group) (places now_places : BTreeMap (Bor (List ℕ)) 
     → n ≡ length us → ((cs : List ℕ) → get_by (λ k. slice_cmp nat_cmp cs k.now) now_places ≡ update bytes_eq (λ ds. get_by (λ k. slice_cmp nat_cmp ds k.now) places) s (Some n) cs)
     → now ≡ us ++ (test ∷ []) ∷ [] → AreGrouped (added (chars s) test gs) now_places now
 new-step gs places now_places us now s test n u a e len new f =
-    let h : place_in (chars s) gs ≡ None = sym (a.places_are s u) ∙ e in
+    let h : place_of_scope (chars s) gs ≡ None = sym (a.places_are s u) ∙ e in
     let grown = added-new (chars s) test gs h in
     let count : n ≡ length gs = omega (arith, len, ap length a.units_are, length-map gs (λ (g : Group). g.tests)) in
     record {
@@ -144,7 +144,7 @@ new-step gs places now_places us now s test n u a e len new f =
           (new bs ∙ ap (λ (b : Bool). cond b (Some n) (get_by (λ k. slice_cmp nat_cmp bs k.now) places)) (sym (same-chars s bs u v))
           ∙ ap (λ (m : ℕ). cond (bytes_eq (chars s) (chars bs)) (Some m) (get_by (λ k. slice_cmp nat_cmp bs k.now) places)) count
           ∙ ap (λ (o : Option ℕ). cond (bytes_eq (chars s) (chars bs)) (Some (length gs)) o) (a.places_are bs v)
-          ∙ sym (ap (place_in (chars bs)) grown ∙ place-new (chars s) (chars bs) test gs h));
+          ∙ sym (ap (place_of_scope (chars bs)) grown ∙ place-new (chars s) (chars bs) test gs h));
     }
 
 -- the next id

@@ -2,7 +2,7 @@
 use Rattle.std.proofs.Common.{◌≡◌, ℕ, List, [], ◌∷◌, true, false, not, refl, subst, arith}
 use Rattle.std.proofs.lemmas.Bool.Decides.{nat_tests}
 use Rattle.xd_ledger.specs.Numbers.{among, without, all_among, all_distinct}
-use Rattle.xd_ledger.specs.Suits.{AreInPool, tests_of}
+use Rattle.xd_ledger.specs.Suits.{AreInPool, tests_of_units}
 use Rattle.xd_ledger.proofs.Lists.{among-filter, apart, distinct-back, distinct-front, within-back, within-front}
 
 pub left-within : (c a ys : List ℕ) → all_among c ys ≡ true → ((x : ℕ) → among x c ≡ true → among x a ≡ false) → all_among c (without a ys) ≡ true
@@ -15,8 +15,8 @@ left-within (x ∷ xs) a ys h k =
 
 pub rest-in_pool : (u : List ℕ) (us : List (List ℕ)) (pool : List ℕ) → AreInPool (u ∷ us) pool → AreInPool us (without u pool)
 rest-in_pool u us pool f = record {
-  distinct = distinct-back u (tests_of us) f.distinct;
-  within = left-within (tests_of us) u pool (within-back u (tests_of us) pool f.within) (λ x i. apart x u (tests_of us) f.distinct i);
+  distinct = distinct-back u (tests_of_units us) f.distinct;
+  within = left-within (tests_of_units us) u pool (within-back u (tests_of_units us) pool f.within) (λ x i. apart x u (tests_of_units us) f.distinct i);
   filled = grind (arith, f.filled);
 }
 
@@ -30,7 +30,7 @@ pub is-next : (q : List (List ℕ)) (u : List ℕ) (us : List (List ℕ)) (pool 
 is-next q u us pool e f =
     let g = subst (λ (vs : List (List ℕ)). AreInPool vs pool) e f in
     record {
-      distinct = distinct-front u (tests_of us) g.distinct;
-      within = within-front u (tests_of us) pool g.within;
+      distinct = distinct-front u (tests_of_units us) g.distinct;
+      within = within-front u (tests_of_units us) pool g.within;
       rest = rest-in_pool u us pool g;
     }

@@ -7,7 +7,7 @@ use Rattle.std.proofs.lemmas.Bool.{cases_Bool}
 use Rattle.std.proofs.lemmas.Bool.Decides.{nat_tests}
 use Rattle.std.proofs.lemmas.List.{take-append-drop, drop_at, length-take-le}
 use Rattle.std.proofs.lemmas.Str.{chars-append, chars_from_encodes, encodes-append, encodes-chars, encode_ascii, IsUtf8-take, IsUtf8-drop, IsCharBoundary-before_ascii}
-use Rattle.xd_ledger.specs.Scopes.{before_first, before_last, group_in, has, has_colons}
+use Rattle.xd_ledger.specs.Scopes.{before_first, before_last, group_in, has_character, has_colons}
 
 abbrev pub colons : List ℕ
 colons = 58 ∷ 58 ∷ []
@@ -189,42 +189,42 @@ bool-and-false : (b : Bool) → (b && false) ≡ false
 bool-and-false true = refl
 bool-and-false false = refl
 
-has-none : (c : ℕ) (cs : List ℕ) → NonePass (λ d. d == c) cs → has c cs ≡ false
+has-none : (c : ℕ) (cs : List ℕ) → NonePass (λ d. d == c) cs → has_character c cs ≡ false
 has-none c [] h = refl
 has-none c (x ∷ cs) h = rw (h.0, has-none c cs h.1)
 
-has-in : (c : ℕ) (us vs : List ℕ) → has c (us ++ c ∷ vs) ≡ true
+has-in : (c : ℕ) (us vs : List ℕ) → has_character c (us ++ c ∷ vs) ≡ true
 has-in c [] vs = grind (arith, nat_tests)
 has-in c (x ∷ us) vs = grind (arith, nat_tests, has-in c us vs)
 
-group-none : (whole cs : List ℕ) → has 64 cs ≡ false → group_in whole cs ≡ whole
+group-none : (whole cs : List ℕ) → has_character 64 cs ≡ false → group_in whole cs ≡ whole
 group-none whole [] h = refl
 group-none whole (x ∷ cs) h =
     let a : (x == 64) ≡ false = grind (arith, nat_tests) in
-    let b : has 64 cs ≡ false = grind (arith, nat_tests) in
+    let b : has_character 64 cs ≡ false = grind (arith, nat_tests) in
     rw a (group-none whole cs b)
 
-group-behind : (whole xs ys : List ℕ) → has 64 ys ≡ false → has 93 ys ≡ false → group_in whole (xs ++ 64 ∷ ys) ≡ ys
+group-behind : (whole xs ys : List ℕ) → has_character 64 ys ≡ false → has_character 93 ys ≡ false → group_in whole (xs ++ 64 ∷ ys) ≡ ys
 group-behind whole [] ys h k = rw (h, k)
 group-behind whole (x ∷ xs) ys h k = rw (has-in 64 xs ys, bool-and-false (x == 64)) (group-behind whole xs ys h k)
 
-group-whole : (whole xs ys : List ℕ) → has 64 ys ≡ false → has 93 ys ≡ true → group_in whole (xs ++ 64 ∷ ys) ≡ whole
+group-whole : (whole xs ys : List ℕ) → has_character 64 ys ≡ false → has_character 93 ys ≡ true → group_in whole (xs ++ 64 ∷ ys) ≡ whole
 group-whole whole [] ys h k = rw (h, k) (group-none whole ys h)
 group-whole whole (x ∷ xs) ys h k = rw (has-in 64 xs ys, bool-and-false (x == 64)) (group-whole whole xs ys h k)
 
-none-of : (c : ℕ) (bs : List ℕ) → IsUtf8 bs → NoCharPasses (λ d. d == c) bs → has c (chars bs) ≡ false
-none-of c bs u m = ap (has c) (sym (chars_from_encodes m.0 bs u m.1)) ∙ has-none c m.0 m.2
+none-of : (c : ℕ) (bs : List ℕ) → IsUtf8 bs → NoCharPasses (λ d. d == c) bs → has_character c (chars bs) ≡ false
+none-of c bs u m = ap (has_character c) (sym (chars_from_encodes m.0 bs u m.1)) ∙ has-none c m.0 m.2
 
-some-of : (bs : List ℕ) (i j : ℕ) → IsUtf8 bs → HasCharAt 93 bs i j → has 93 (chars bs) ≡ true
+some-of : (bs : List ℕ) (i j : ℕ) → IsUtf8 bs → HasCharAt 93 bs i j → has_character 93 (chars bs) ≡ true
 some-of bs i j u at =
     let here : drop i bs ≡ 93 ∷ drop j bs = at.split ∙ ap (λ (z : List ℕ). z ++ drop j bs) (encode_ascii 93 (omega arith)) in
-    ap (has 93) (cut-before bs (drop j bs) i 93 (omega arith) u here ∙ ap (λ (z : List ℕ). chars (take i bs) ++ z) (chars-bracket (drop j bs))) ∙ has-in 93 (chars (take i bs)) (chars (drop j bs))
+    ap (has_character 93) (cut-before bs (drop j bs) i 93 (omega arith) u here ∙ ap (λ (z : List ℕ). chars (take i bs) ++ z) (chars-bracket (drop j bs))) ∙ has-in 93 (chars (take i bs)) (chars (drop j bs))
 
 -- the text is cut at its last '@'
 record IsCut (bs behind : List ℕ) : Type 0 where
   front : List ℕ
   whole : chars bs ≡ front ++ 64 ∷ chars behind
-  last : has 64 (chars behind) ≡ false
+  last : has_character 64 (chars behind) ≡ false
 
 utf8-behind : (bs front back : List ℕ) → IsUtf8 bs → SplitsAroundMatch (RFindsChar 64) bs front back → IsUtf8 back
 utf8-behind bs front back u m =

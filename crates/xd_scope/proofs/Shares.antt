@@ -6,7 +6,7 @@ use Rattle.std.proofs.lemmas.List.{get_or-drop, get_or-reverse, length-drop, len
 use Rattle.xd_journal.specs.declared.entry.Entry.{Entry}
 use Rattle.xd_ledger.specs.Calls.{turn}
 use Rattle.xd_ledger.specs.Plan.{Plan}
-use Rattle.xd_ledger.specs.ScopeModes.{share, shut_where_spent}
+use Rattle.xd_ledger.specs.ScopeModes.{scope_share, shut_where_spent}
 use Rattle.xd_ledger.specs.Table.{Table, workers_of}
 use Rattle.xd_ledger.specs.Turn.{Turn, shut, shut_each}
 use Rattle.xd_ledger.proofs.Turns.{workers-shut_turn}
@@ -66,18 +66,18 @@ served-same ws k n t e =
 
 -- the cases of the share
 
-share-by : (t : Turn) (pool : List ℕ) → t.table.pool ≡ pool → (length pool ≡ 0 → ⊥) → share t ≡ shut_where_spent (served_share (length t.plan.queue) (workers_of t.table) t)
+share-by : (t : Turn) (pool : List ℕ) → t.table.pool ≡ pool → (length pool ≡ 0 → ⊥) → scope_share t ≡ shut_where_spent (served_share (length t.plan.queue) (workers_of t.table) t)
 share-by t [] e h = absurd (h refl)
 share-by t (x ∷ xs) e h = rw e
 
-pub share-some : (t : Turn) → (length t.table.pool ≡ 0 → ⊥) → share t ≡ shut_where_spent (served_share (length t.plan.queue) (workers_of t.table) t)
+pub share-some : (t : Turn) → (length t.table.pool ≡ 0 → ⊥) → scope_share t ≡ shut_where_spent (served_share (length t.plan.queue) (workers_of t.table) t)
 share-some t h = share-by t t.table.pool refl h
 
-share-none-by : (t : Turn) (pool : List ℕ) → t.table.pool ≡ pool → length pool ≡ 0 → share t ≡ t
+share-none-by : (t : Turn) (pool : List ℕ) → t.table.pool ≡ pool → length pool ≡ 0 → scope_share t ≡ t
 share-none-by t [] e h = rw e
 share-none-by t (x ∷ xs) e h = absurd (omega arith)
 
-pub share-none : (t : Turn) → length t.table.pool ≡ 0 → share t ≡ t
+pub share-none : (t : Turn) → length t.table.pool ≡ 0 → scope_share t ≡ t
 share-none t h = share-none-by t t.table.pool refl h
 
 spent-by : (t : Turn) (q : List (List ℕ)) → t.plan.queue ≡ q → length q ≡ 0 → shut_where_spent t ≡ shut_each (workers_of t.table) t

@@ -5,7 +5,7 @@ use Rattle.std.proofs.lemmas.Bool.Decides.{nat_tests}
 use Rattle.xd_journal.specs.declared.entry.Entry.{Entry}
 use Rattle.xd_ledger.specs.Calls.{turn}
 use Rattle.xd_ledger.specs.Plan.{Plan}
-use Rattle.xd_ledger.specs.ScopeModes.{give_more, give_unit, refill}
+use Rattle.xd_ledger.specs.ScopeModes.{give_more, give_unit, scope_refill}
 use Rattle.xd_ledger.specs.Turn.{enough}
 use Rattle.xd_ledger.specs.Table.{Table, held, seat_shut}
 use Rattle.xd_ledger.specs.Turn.{Turn, in_turn, shut}
@@ -53,22 +53,22 @@ refill_with w t b q =
       | u ∷ us ↦ (if nat_lt enough (length (held w t.table)) then t else give_more enough w (give_unit w t))
     ])
 
-refill-is : (w : ℕ) (t : Turn) (b : Bool) (q : List (List ℕ)) → seat_shut w t.table ≡ b → t.plan.queue ≡ q → refill w t ≡ refill_with w t b q
+refill-is : (w : ℕ) (t : Turn) (b : Bool) (q : List (List ℕ)) → seat_shut w t.table ≡ b → t.plan.queue ≡ q → scope_refill w t ≡ refill_with w t b q
 refill-is w t b q h e = ap (λ (c : Bool). refill_with w t c t.plan.queue) h ∙ ap (refill_with w t b) e
 
-pub refill-shut : (w : ℕ) (t : Turn) → seat_shut w t.table ≡ true → refill w t ≡ t
+pub refill-shut : (w : ℕ) (t : Turn) → seat_shut w t.table ≡ true → scope_refill w t ≡ t
 refill-shut w t h = refill-is w t true t.plan.queue h refl
 
-pub refill-spent : (w : ℕ) (t : Turn) → seat_shut w t.table ≡ false → t.plan.queue ≡ [] → refill w t ≡ shut w t
+pub refill-spent : (w : ℕ) (t : Turn) → seat_shut w t.table ≡ false → t.plan.queue ≡ [] → scope_refill w t ≡ shut w t
 refill-spent w t h e = refill-is w t false [] h e
 
 refill-by : (w : ℕ) (t : Turn) (q : List (List ℕ)) → seat_shut w t.table ≡ false → t.plan.queue ≡ q → (length q ≡ 0 → ⊥)
-    → refill w t ≡ (if nat_lt enough (length (held w t.table)) then t else give_more enough w (give_unit w t))
+    → scope_refill w t ≡ (if nat_lt enough (length (held w t.table)) then t else give_more enough w (give_unit w t))
 refill-by w t [] h e k = absurd (k refl)
 refill-by w t (u ∷ us) h e k = refill-is w t false (u ∷ us) h e
 
 pub refill-more : (w : ℕ) (t : Turn) → seat_shut w t.table ≡ false → (length t.plan.queue ≡ 0 → ⊥)
-    → refill w t ≡ (if nat_lt enough (length (held w t.table)) then t else give_more enough w (give_unit w t))
+    → scope_refill w t ≡ (if nat_lt enough (length (held w t.table)) then t else give_more enough w (give_unit w t))
 refill-more w t h k = refill-by w t t.plan.queue h refl k
 
 pub few-gives : (w : ℕ) (t : Turn) → length (held w t.table) < 2 → give_where_few w t ≡ give_unit w t
@@ -76,7 +76,7 @@ few-gives w t h =
     let k : nat_lt (length (held w t.table)) enough ≡ true = grind (arith, nat_tests) in
     rw k
 
-pub refill-due : (w : ℕ) (t : Turn) → seat_shut w t.table ≡ false → (length t.plan.queue ≡ 0 → ⊥) → length (held w t.table) ≤ 2 → refill w t ≡ give_more enough w (give_unit w t)
+pub refill-due : (w : ℕ) (t : Turn) → seat_shut w t.table ≡ false → (length t.plan.queue ≡ 0 → ⊥) → length (held w t.table) ≤ 2 → scope_refill w t ≡ give_more enough w (give_unit w t)
 refill-due w t h k l =
     let e : nat_lt enough (length (held w t.table)) ≡ false = grind (arith, nat_tests) in
     refill-more w t h k ∙ ap (λ (b : Bool). if b then t else give_more enough w (give_unit w t)) e

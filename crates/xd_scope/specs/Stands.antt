@@ -12,7 +12,7 @@ use Rattle.xd_journal.specs.declared.entry.Entry.{Entry}
 use Rattle.xd_ledger.specs.Table.{Table, held}
 use Rattle.xd_ledger.specs.Turn.{Turn, in_turn, shut_each}
 use Rattle.xd_ledger.specs.Plan.{Handed, Plan, is_scope}
-use Rattle.xd_ledger.specs.ScopeModes.{give_unit, refill}
+use Rattle.xd_ledger.specs.ScopeModes.{give_unit, scope_refill}
 use Rattle.xd_ledger.specs.Turn.{enough}
 use Rattle.xd_scope.specs.declared.refill.Deal.{Deal}
 use Rattle.xd_scope.specs.declared.refill.Deal.TheVariants as deals
@@ -50,12 +50,12 @@ give_where_few worker t = if nat_lt (length (held worker t.table)) enough then g
 -- what a worker gets: a unit, or a refill
 abbrev pub dealt_to : Deal → ℕ → Turn → Turn
 dealt_to deals.FirstUnit worker t = give_unit worker t
-dealt_to deals.Refill worker t = refill worker t
+dealt_to deals.Refill worker t = scope_refill worker t
 
 -- the first k of these workers get a unit each, and then each of them is refilled; the others are shut down, the
 -- last one first
 abbrev pub served_share : ℕ → List ℕ → Turn → Turn
-served_share k ws t = in_turn refill (take k ws) (in_turn give_unit (take k ws) (shut_each (reverse (drop k ws)) t))
+served_share k ws t = in_turn scope_refill (take k ws) (in_turn give_unit (take k ws) (shut_each (reverse (drop k ws)) t))
 
 -- the set has these numbers
 abbrev pub IsSetOf : List ℕ → BTreeSet ℕ → Type 0
@@ -73,11 +73,11 @@ left_of_each rest (u ∷ us) = left_of rest u ++ left_of_each rest us
 
 -- the place of the scope's group, where it has one
 -- Example: after the ids `a::1`, `b::1` and `a::2` the scope `b` has place 1.
-abbrev pub place_in : List ℕ → List Group → Option ℕ
-place_in scope [] = None
-place_in scope (g ∷ gs) = if bytes_eq g.scope scope then Some 0 else option_map suc (place_in scope gs)
+abbrev pub place_of_scope : List ℕ → List Group → Option ℕ
+place_of_scope scope [] = None
+place_of_scope scope (g ∷ gs) = if bytes_eq g.scope scope then Some 0 else option_map suc (place_of_scope scope gs)
 
 -- the units are those of the groups, and the map knows the place of each scope
 pub record AreGrouped (gs : List Group) (places : BTreeMap (Bor (List ℕ)) ℕ) (us : List (List ℕ)) : Type 0 where
   pub units_are : us ≡ map (λ g. g.tests) gs
-  pub places_are : (bs : List ℕ) → IsUtf8 bs → get_by (λ k. slice_cmp nat_cmp bs k.now) places ≡ place_in (chars bs) gs
+  pub places_are : (bs : List ℕ) → IsUtf8 bs → get_by (λ k. slice_cmp nat_cmp bs k.now) places ≡ place_of_scope (chars bs) gs

@@ -2,7 +2,7 @@
 ghost use Rattle.std.specs.Prelude.{◌≡◌, ◌≤◌, OnOk, length, take, true};
 ghost use Rattle.xd_ledger.specs.Calls.{turn};
 ghost use Rattle.xd_ledger.specs.Plan.{Plan};
-ghost use Rattle.xd_ledger.specs.ScopeModes.{give_more, give_unit, refill, refill_all};
+ghost use Rattle.xd_ledger.specs.ScopeModes.{give_more, give_unit, scope_refill, scope_refill_all};
 ghost use Rattle.xd_ledger.specs.Turn.{enough};
 ghost use Rattle.xd_ledger.specs.Suits.{AreInPool};
 ghost use Rattle.xd_ledger.specs.Table.{in_rota, workers_of};
@@ -104,7 +104,7 @@ pub(crate) fn refill_one(
     requires seated { in_rota worker ledger.old ≡ true }
     requires fits { AreInPool units.old.queue.items ledger.old.pool }
     ensures turned { OnOk result ((p : Plan) → Keeps units.old p →
-        IsAt (refill worker (turn ledger.old p acts.old.items)) ledger.new acts.new.items units.new) }
+        IsAt (scope_refill worker (turn ledger.old p acts.old.items)) ledger.new acts.new.items units.new) }
     ensures fits { OnOk result (AreInPool units.new.queue.items ledger.new.pool) }
     ensures rota { OnOk result (workers_of ledger.new ≡ workers_of ledger.old) }
 {
@@ -186,7 +186,7 @@ pub(crate) fn refill_all(
 ) -> Result<(), OutOfMemory>
     requires { AreInPool units.old.queue.items ledger.old.pool }
     ensures { OnOk result ((p : Plan) → Keeps units.old p →
-        IsAt (refill_all (turn ledger.old p acts.old.items)) ledger.new acts.new.items units.new) }
+        IsAt (scope_refill_all (turn ledger.old p acts.old.items)) ledger.new acts.new.items units.new) }
 {
     let count = ledger.rota_len();
     deal_each(alloc, Deal::Refill, count, units, ledger, acts)?;

@@ -2,7 +2,7 @@
 ghost use Rattle.std.specs.Prelude.{◌≡◌, ◌≤◌, OnOk, drop, length, reverse};
 ghost use Rattle.xd_ledger.specs.Calls.{turn};
 ghost use Rattle.xd_ledger.specs.Plan.{Plan};
-ghost use Rattle.xd_ledger.specs.ScopeModes.{share, shut_where_spent};
+ghost use Rattle.xd_ledger.specs.ScopeModes.{scope_share, shut_where_spent};
 ghost use Rattle.xd_ledger.specs.Suits.{AreInPool};
 ghost use Rattle.xd_ledger.specs.Table.{workers_of};
 ghost use Rattle.xd_ledger.specs.Turn.{shut_each};
@@ -77,7 +77,7 @@ pub(crate) fn share_all(
 ) -> Result<(), OutOfMemory>
     requires fits { AreInPool units.old.queue.items ledger.old.pool }
     ensures { OnOk result ((p : Plan) → Keeps units.old p →
-        IsAt (share (turn ledger.old p acts.old.items)) ledger.new acts.new.items units.new) }
+        IsAt (scope_share (turn ledger.old p acts.old.items)) ledger.new acts.new.items units.new) }
 {
     if ledger.pool_len() == 0 {
         return Ok(());

@@ -19,13 +19,13 @@ use Rattle.xd_session.specs.declared.logs.WorkerLog.{WorkerLog}
 use Rattle.xd_session.specs.Ends.{is_out_fault, last_stop}
 use Rattle.xd_session.specs.Known.{Known}
 use Rattle.xd_session.specs.Rules.{InStep}
-use Rattle.xd_session.specs.Stands.{Seen, StandsFor, state_of}
+use Rattle.xd_session.specs.Stands.{SessionSeen, StandsFor, state_of}
 use Rattle.xd_session.proofs.Begin.{begun-proper}
 use Rattle.xd_session.proofs.Closing.{append-nil}
 use Rattle.xd_session.proofs.Ends.{ending-stop, told-so}
 
 -- whoever stands for news has settings of a proper run
-pub stands-proper : (taken : List News) (s : Seen) → StandsFor taken s → IsProper s.settings []
+pub stands-proper : (taken : List News) (s : SessionSeen) → StandsFor taken s → IsProper s.settings []
 stands-proper taken s st = begun-proper s.settings st.can_begin
 
 module _ (settings : Settings) (entries : List Entry) (logs : List WorkerLog) (spent : ℕ) (b : Books) (kn : Known) (st : Plan → Type 0) (k : InStep settings entries logs spent b kn st) (j : Journal) (same : j.settings ≡ settings) where
@@ -61,18 +61,18 @@ module _ (settings : Settings) (entries : List Entry) (logs : List WorkerLog) (s
     pub told-ended : is_out_fault (stop_of j) ≡ failed
     told-ended = ap is_out_fault stop-ended ∙ told-so failed settings entries
 
-pub record Closed (failed : Bool) (v : Seen) (j : Journal) : Type 0 where
+pub record Closed (failed : Bool) (v : SessionSeen) (j : Journal) : Type 0 where
   pub stop : stop_of j ≡ last_stop failed (state_of v).books
   pub told : is_out_fault (stop_of j) ≡ failed
   pub legal : IsLegal j
 
 -- in the words of the call
 pub closed : (settings : Settings) (entries : List Entry) (logs : List WorkerLog) (spent : ℕ) (b : Books) (kn : Known) (st : Plan → Type 0) → InStep settings entries logs spent b kn st
-    → (j : Journal) (failed whole : Bool) (v : Seen) → record { settings = settings; entries = entries; logs = logs; whole = whole } ≡ v → j.settings ≡ settings → j.entries.items ≡ entries ++ ending failed b
+    → (j : Journal) (failed whole : Bool) (v : SessionSeen) → record { settings = settings; entries = entries; logs = logs; whole = whole } ≡ v → j.settings ≡ settings → j.entries.items ≡ entries ++ ending failed b
     → may_close failed (state_of v).books ≡ true → Closed failed v j
 closed settings entries logs spent b kn st k j failed whole v e same is may =
     let own : j.entries.items ≡ entries ++ ending failed (state_at settings entries).books = is ∙ ap (λ (c : Books). entries ++ ending failed c) k.at.books_are in
-    let seen : (state_at settings entries).books ≡ (state_of v).books = ap (λ (u : Seen). (state_of u).books) e in
+    let seen : (state_at settings entries).books ≡ (state_of v).books = ap (λ (u : SessionSeen). (state_of u).books) e in
     record {
       stop = stop-ended settings entries logs spent b kn st k j same failed own ∙ ap (last_stop failed) seen;
       told = told-ended settings entries logs spent b kn st k j same failed own;

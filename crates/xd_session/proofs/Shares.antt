@@ -32,7 +32,7 @@ use Rattle.xd_laws.proofs.Calls.{Joins, joined-called, shared-called}
 use Rattle.xd_laws.proofs.Members.{has-same}
 use Rattle.xd_laws.proofs.Logic.{cases_of, differ, in_both}
 use Rattle.xd_session.specs.declared.lists.Comparison.{Comparison}
-use Rattle.xd_session.specs.Compared.{compared, comparison, ids_to_list, stop_of}
+use Rattle.xd_session.specs.Compared.{compared, comparison, ids_to_list, stop_of_comparison}
 use Rattle.xd_session.specs.Joining.{TakenIn, filled, shared_in, sizes_in, taken_in}
 use Rattle.xd_session.specs.Known.{Known, known_of}
 use Rattle.xd_session.specs.Rules.{Acted, At, Before, Calls, Comes, MayJoin, MayShare}
@@ -156,11 +156,11 @@ given-by w own (Some l) = given-one w own l.worker (differ_at l.ids own)
 pub given-is : (w : ℕ) (own : List (List ℕ)) (s : State) → given_ids w own s ≡ Collected w (ids_to_list (comparison own (listed w s.books)) own)
 given-is w own s = given-by w own (listed w s.books)
 
-unequal-by : (w : ℕ) (own : List (List ℕ)) (l : Listed) (d : Option ℕ) → d ≡ differ_at l.ids own → unequal w (ids_to_list (compared l.worker d) own) (Some l) ≡ stop_of w (compared l.worker d)
+unequal-by : (w : ℕ) (own : List (List ℕ)) (l : Listed) (d : Option ℕ) → d ≡ differ_at l.ids own → unequal w (ids_to_list (compared l.worker d) own) (Some l) ≡ stop_of_comparison w (compared l.worker d)
 unequal-by w own l None h = refl
 unequal-by w own l (Some n) h = ap (λ o. elim o as (λ _. Option RunStop) [ None ↦ None | Some place ↦ Some (Unequal w l.worker place) ]) (sym h)
 
-pub unequal-is : (w : ℕ) (own : List (List ℕ)) (o : Option Listed) → unequal w (ids_to_list (comparison own o) own) o ≡ stop_of w (comparison own o)
+pub unequal-is : (w : ℕ) (own : List (List ℕ)) (o : Option Listed) → unequal w (ids_to_list (comparison own o) own) o ≡ stop_of_comparison w (comparison own o)
 unequal-is w own None = refl
 unequal-is w own (Some l) = unequal-by w own l (differ_at l.ids own) refl
 
@@ -213,11 +213,11 @@ collecting-is w (Some how) s = refl
 
 -- a collection that differs from none lets its worker join
 pub may-take_in : (w : ℕ) (own : List (List ℕ)) (s : State) (c : Comparison) (b : Books) (k : Known) (stands : Plan → Type 0) → Comes (given_ids w own s) s b k stands → c ≡ comparison own (listed w s.books) → is_shut w s.books ≡ false
-    → is_stopped s.books ≡ false → stop_of w c ≡ None → MayJoin w (noted w (ids_to_list (comparison own (listed w s.books)) own) s)
+    → is_stopped s.books ≡ false → stop_of_comparison w c ≡ None → MayJoin w (noted w (ids_to_list (comparison own (listed w s.books)) own) s)
 may-take_in w own s c b k stands a e u h n =
     let o : Option Listed = listed w s.books in
     let g : Ids = ids_to_list (comparison own o) own in
-    may-join w g s a.reached (ap (may_follow s) (sym (given-is w own s)) ∙ a.follows) u h (unequal-is w own o ∙ ap (stop_of w) (sym e) ∙ n)
+    may-join w g s a.reached (ap (may_follow s) (sym (given-is w own s)) ∙ a.follows) u h (unequal-is w own o ∙ ap (stop_of_comparison w) (sym e) ∙ n)
 
 -- after a stop whoever may give its collection was told to shut down
 pub going-on : (w : ℕ) (b : Books) → (is_stopped b ≡ true → is_shut w b ≡ true) → is_shut w b ≡ false → is_stopped b ≡ false
@@ -228,14 +228,14 @@ going-on w b told u = elim (cases_of (is_stopped b)) [
 
 -- what a collection brings
 pub acted-collected : (w : ℕ) (own : List (List ℕ)) (s : State) (c : Comparison) (b : Books) (k : Known) (es fs : List Entry) (st : Plan → Type 0) → c ≡ comparison own (listed w s.books) → is_shut w s.books ≡ false
-    → (let m = noted w (ids_to_list (comparison own (listed w s.books)) own) s in TakenIn w (stop_of w c) m b k es fs st)
+    → (let m = noted w (ids_to_list (comparison own (listed w s.books)) own) s in TakenIn w (stop_of_comparison w c) m b k es fs st)
     → (let e = Collected w (ids_to_list (comparison own (listed w s.books)) own) in Acted (own_outputs s e (after_effect s e)) (after_effect s e) b k es fs st)
 acted-collected w own s c b k es fs st ce sh a =
     let o : Option Listed = listed w s.books in
     let g : Ids = ids_to_list (comparison own o) own in
     let m : State = noted w g s in
     let outs : State → List Entry = λ v. unless_stopped s.books v.books (outputs_of_joining w s.books v) in
-    let stops : stop_of w c ≡ unequal w g o = ap (stop_of w) ce ∙ sym (unequal-is w own o) in
+    let stops : stop_of_comparison w c ≡ unequal w g o = ap (stop_of_comparison w) ce ∙ sym (unequal-is w own o) in
     let P : Option RunStop → Type 0 = λ h. Acted (outs (taken_in w h m)) (taken_in w h m) b k es fs st in
     let a1 : P (unequal w g o) = subst P stops a in
     let Q : Bool → Type 0 = λ q. Acted (if is_shut w s.books then [] else outs (if q then m else taken_in w (unequal w g o) m)) (if q then m else taken_in w (unequal w g o) m) b k es fs st in

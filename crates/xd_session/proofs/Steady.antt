@@ -31,7 +31,7 @@ use Rattle.xd_session.specs.Joining.{IsBare, IsToJoin}
 use Rattle.xd_session.specs.Kept.{log_in, shortened}
 use Rattle.xd_session.specs.Known.{Known}
 use Rattle.xd_session.specs.Rules.{At, InStep}
-use Rattle.xd_session.specs.Stands.{Seen, StandsFor}
+use Rattle.xd_session.specs.Stands.{SessionSeen, StandsFor}
 use Rattle.xd_session.specs.Told.{Steady, Told, TookNews}
 use Rattle.xd_session.proofs.Joins.{AllCollected, joins-behind}
 use Rattle.xd_session.proofs.Steps.{journal-more, logs-more, meaning-follows, meaning-short, orderly-next, proper-more, run-more, run-taken, short-twice, sound-run, spent-more, state-next}
@@ -147,8 +147,8 @@ stands-next settings entries now logs logs_now spent spent_now b c kn kc st st_n
       logs = logs-more taken n logs logs_now f.logs t.logs_are;
     }
 
-pub stands-inside : (settings : Settings) (entries : List Entry) (logs : List WorkerLog) (whole : Bool) (v : Seen) (taken : List News) → record { settings = settings; entries = entries; logs = logs; whole = whole } ≡ v → v.whole ≡ true
+pub stands-inside : (settings : Settings) (entries : List Entry) (logs : List WorkerLog) (whole : Bool) (v : SessionSeen) (taken : List News) → record { settings = settings; entries = entries; logs = logs; whole = whole } ≡ v → v.whole ≡ true
     → StandsFor taken v → StandsFor taken (record { settings = settings; entries = entries; logs = logs; whole = true })
 stands-inside settings entries logs whole v taken e h f =
-    let w : whole ≡ true = ap (λ (u : Seen). u.whole) e ∙ h in
+    let w : whole ≡ true = ap (λ (u : SessionSeen). u.whole) e ∙ h in
     subst (λ q. StandsFor taken (record { settings = settings; entries = entries; logs = logs; whole = q })) w (subst (λ u. StandsFor taken u) (sym e) f)

@@ -27,10 +27,10 @@ ids_to_list First own = ids.List own
 ids_to_list (Differs other place) own = ids.List own
 
 -- a collection that differs stops the run
-abbrev pub stop_of : ℕ → Comparison → Option RunStop
-stop_of worker First = None
-stop_of worker Same = None
-stop_of worker (Differs other place) = Some (Unequal worker other place)
+abbrev pub stop_of_comparison : ℕ → Comparison → Option RunStop
+stop_of_comparison worker First = None
+stop_of_comparison worker Same = None
+stop_of_comparison worker (Differs other place) = Some (Unequal worker other place)
 
 -- the place of the collection of the slot, or the count of all
 abbrev pub place_in_lists : ℕ → List Listed → ℕ

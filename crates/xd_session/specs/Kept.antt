@@ -10,9 +10,9 @@ place_of worker [] = zero
 place_of worker (l ∷ ls) = if l.worker == worker then zero else suc (place_of worker ls)
 
 -- the test that the log is of, where there is a log
-abbrev pub index_of : Option Log → Option ℕ
-index_of None = None
-index_of (Some log) = Some log.index
+abbrev pub log_index_of : Option Log → Option ℕ
+log_index_of None = None
+log_index_of (Some log) = Some log.index
 
 -- the bytes of the log; none where there is no log
 abbrev pub bytes_of : Option Log → List ℕ

@@ -12,14 +12,14 @@ use Rattle.xd_session.specs.Kept.{log_in, shortened}
 use Rattle.xd_session.specs.History.{run_of, said_by}
 
 -- what callers see of a session
-pub record Seen : Type 0 where
+pub record SessionSeen : Type 0 where
   pub settings : Settings
   pub entries : List Entry  -- the journal so far
   pub logs : List WorkerLog  -- the last log of each worker that started one
   pub whole : Bool  -- no call of it ran out of memory
 
 -- the state after the journal so far
-abbrev pub state_of : Seen → State
+abbrev pub state_of : SessionSeen → State
 state_of s = state_at s.settings s.entries
 
 -- settings that a session can be made with
@@ -32,7 +32,7 @@ pub record CanBegin (settings : Settings) : Type 0 where
 
 -- the session took these news: its settings are such, its journal is that of these news, and it keeps the last log of each
 -- worker
-pub record StandsFor (taken : List News) (s : Seen) : Type 0 where
+pub record StandsFor (taken : List News) (s : SessionSeen) : Type 0 where
   pub whole : s.whole ≡ true
   pub can_begin : CanBegin s.settings
   pub entries : s.entries ≡ (run_of s.settings taken).entries

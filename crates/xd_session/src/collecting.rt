@@ -16,7 +16,7 @@ ghost use Rattle.xd_ledger.specs.Stops.{is_stopped};
 ghost use Rattle.xd_ledger.specs.Table.{has_joined, in_rota, joined};
 ghost use Rattle.xd_ledger.specs.Workers.{is_shut, slot_of};
 ghost use Rattle.xd_laws.specs.Called.{Called};
-ghost use Rattle.xd_session.specs.Compared.{stop_of};
+ghost use Rattle.xd_session.specs.Compared.{stop_of_comparison};
 ghost use Rattle.xd_session.specs.Books.{books_of};
 ghost use Rattle.xd_session.specs.Joining.{IsBare, IsToJoin, TakenIn, filled, shared_in, sizes_in};
 ghost use Rattle.xd_session.specs.Known.{known_by};
@@ -245,13 +245,13 @@ impl<M: Mode> RunState<M> {
         requires new { has_joined worker self.old.books.ledger ≡ false }
         requires bare { (books_of self.old.books).shared ≡ false → IsBare self.old.books.ledger }
         requires going { is_stopped (books_of self.old.books) ≡ false }
-        requires at { stop_of worker comparison ≡ None →
+        requires at { stop_of_comparison worker comparison ≡ None →
             (s : State) × (At s (books_of self.old.books) (known_by self.old.known)
             (M.stands self.old.mode) × MayJoin worker s) }
         ensures { OnOk result ((s : State) →
             At s (books_of self.old.books) (known_by self.old.known) (M.stands self.old.mode) →
-            (stop_of worker comparison ≡ None → MayJoin worker s) →
-            TakenIn worker (stop_of worker comparison) s (books_of self.new.books)
+            (stop_of_comparison worker comparison ≡ None → MayJoin worker s) →
+            TakenIn worker (stop_of_comparison worker comparison) s (books_of self.new.books)
             (known_by self.new.known) entries.old.items entries.new.items
             (M.stands self.new.mode)) }
     {

@@ -3,7 +3,7 @@ ghost use Rattle.std.specs.Prelude.{◌≡◌, ℕ, ◌==◌, ◌&&◌, [], ◌+
 ghost use Rattle.xd_journal.specs.declared.news.What.TheVariants as what;
 ghost use Rattle.xd_journal.specs.Kept.{most_of_one};
 ghost use Rattle.xd_ledger.specs.Meaning.{with_news, number_of, is_of, is_open_log, any_open};
-ghost use Rattle.xd_session.specs.Kept.{log_in, shortened, log_of_item, place_of, index_of, bytes_of};
+ghost use Rattle.xd_session.specs.Kept.{log_in, shortened, log_of_item, place_of, log_index_of, bytes_of};
 
 use std::alloc::Global;
 use std::marker::Model;
@@ -121,7 +121,7 @@ impl Logs {
 
     // The test that the worker's last log is of.
     pub(crate) fn index_of(&self, worker: u32) -> Option<u32>
-        ensures { result ≡ index_of (log_in worker self.now) }
+        ensures { result ≡ log_index_of (log_in worker self.now) }
     {
         let place = place_of(&self.items, worker);
         if place < self.items.len() {

@@ -36,12 +36,12 @@ pub struct Session<M: Mode> {
 
 impl<M: Mode> Model for Session<M> {
     ghost use Rattle.std.specs.Prelude.{◌≡◌, List, true};
-    ghost use Rattle.xd_session.specs.Stands.{Seen};
+    ghost use Rattle.xd_session.specs.Stands.{SessionSeen};
     ghost use Rattle.xd_session.specs.Books.{books_of};
     ghost use Rattle.xd_session.specs.Known.{known_by};
     ghost use Rattle.xd_session.specs.Rules.{InStep};
 
-    ghost Value = { Seen };
+    ghost Value = { SessionSeen };
 
     ghost view = { λ s. record { settings = s.journal.settings; entries = s.journal.entries.items; logs = s.core.logs; whole = s.whole } };
 

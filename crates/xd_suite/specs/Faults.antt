@@ -78,13 +78,13 @@ abbrev pub is_printable : ℕ → Bool
 is_printable c = nat_le 32 c && not (c == 127)
 
 -- an id or a group: at least one character, and each is printable
-abbrev pub is_id : List ℕ → Bool
-is_id id = not (length id == 0) && list_all is_printable id
+abbrev pub is_printable_id : List ℕ → Bool
+is_printable_id id = not (length id == 0) && list_all is_printable id
 
 -- a text that stands there is an id
 abbrev pub is_id_if_any : Option (List ℕ) → Bool
 is_id_if_any None = true
-is_id_if_any (Some text) = is_id (chars text)
+is_id_if_any (Some text) = is_printable_id (chars text)
 
 -- `id` and `group` are ids, as far as they are texts
 abbrev pub has_good_ids : Members → Bool

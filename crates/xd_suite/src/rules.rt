@@ -3,7 +3,7 @@ ghost use Rattle.std.specs.Prelude.{◌≡◌, ◌==◌, length};
 ghost use Rattle.std.specs.List.{list_all};
 ghost use Rattle.std.specs.Str.{chars};
 ghost use Rattle.toml.specs.View.{table_view};
-ghost use Rattle.xd_suite.specs.Faults.{fault_of_test, has_good_ids, has_group_kind, has_kinds, is_id, is_id_if_any, is_printable, lacks_key};
+ghost use Rattle.xd_suite.specs.Faults.{fault_of_test, has_good_ids, has_group_kind, has_kinds, is_printable_id, is_id_if_any, is_printable, lacks_key};
 ghost use Rattle.xd_suite.specs.Tests.{text_at};
 
 use crate::SuiteWhat;
@@ -74,7 +74,7 @@ fn is_id_at(table: &Table, key: &str) -> bool
 }
 
 fn is_id(id: &str) -> bool
-    ensures { result ≡ is_id (chars id.now) }
+    ensures { result ≡ is_printable_id (chars id.now) }
 {
     !is_empty(id) && is_printable(id)
 }

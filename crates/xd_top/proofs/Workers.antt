@@ -9,7 +9,7 @@ use Rattle.xd_link.specs.FreshLink.{unused}
 use Rattle.xd_link.specs.Source.{Gave, Supply, with_given}
 use Rattle.xd_link.specs.Starter.{with_start}
 use Rattle.xd_link.specs.declared.place.Place.{Place}
-use Rattle.xd_worker.specs.History.{Heard}
+use Rattle.xd_worker.specs.History.{HeardInput}
 use Rattle.xd_listen.specs.Complete.{AreGood, AreStill, GoesWrong, IsCalm}
 use Rattle.xd_listen.specs.Ends.{Closes, Scene, Served}
 use Rattle.xd_listen.specs.Spoke.{Speaks}
@@ -29,7 +29,7 @@ same_unwritten : (old new : Option Sunk) (f : Sunk → Sunk) → new ≡ option_
 same_unwritten None new f e = ap unwritten e
 same_unwritten (Some s) new f e = ap unwritten e
 
-spoken_unwritten : (whole : Bool) (h : List Heard) (old new : Option Sunk) → IfSome old (λ s. s ≡ unused) → Speaks whole h old new → old ≡ unwritten new
+spoken_unwritten : (whole : Bool) (h : List HeardInput) (old new : Option Sunk) → IfSome old (λ s. s ≡ unused) → Speaks whole h old new → old ≡ unwritten new
 spoken_unwritten true h old new fresh s = unwritten_by old new _ fresh s
 spoken_unwritten false [] old new fresh s = unwritten_by old new _ fresh s.2.1
 spoken_unwritten false (g ∷ h) old new fresh s = unwritten_by old s.0 _ fresh s.1 ∙ sym (same_unwritten s.0 new _ s.2.2.1)

@@ -4,7 +4,7 @@ use Rattle.std.specs.Prelude.{IfOk, OnOk}
 use Rattle.std.proofs.lemmas.List.{append-nil, drop-drop, length-take-le, length-drop}
 use Rattle.xd_frame.specs.declared.header.Header.{Header}
 use Rattle.xd_frame.specs.Message.{MessageView}
-use Rattle.xd_frame.specs.Stream.{Rest, messages, rest, rest_of, behind, message_of, FrontSays}
+use Rattle.xd_frame.specs.Stream.{Rest, messages, rest, rest_of, left_over, message_of, FrontSays}
 use Rattle.xd_value.specs.declared.fault.LoadWhat.{LoadWhat}
 use Rattle.xd_edge.specs.declared.refusals.OutOfMemory.{OutOfMemory}
 use Rattle.xd_wire.specs.Payloads.{ReadsOne}
@@ -47,7 +47,7 @@ messages_at bytes at next h front payload fe pe ne says =
     let s = subst (λ (d : List ℕ). FrontSays d (Ok (Some h))) fe says in
     let there : drop (9 + h.length) (drop at bytes) ≡ drop next bytes = drop-drop (9 + h.length) at bytes ∙ ap (λ k. drop k bytes) (sym ne) in
     let p : take h.length (drop 9 (drop at bytes)) ≡ payload = ap (take h.length) (drop-drop 9 at bytes) ∙ sym pe in
-    (s.0 ∙ (ap (λ d. message_of h (drop at bytes) ∷ messages d) there ∙ ap (λ q. message_with h q ∷ messages (drop next bytes)) p), ap rest_of (s.1 ∙ ap behind there))
+    (s.0 ∙ (ap (λ d. message_of h (drop at bytes) ∷ messages d) there ∙ ap (λ q. message_with h q ∷ messages (drop next bytes)) p), ap rest_of (s.1 ∙ ap left_over there))
 
 -- a message with a line
 pub line_leads : ReadsOne → (bytes : List ℕ) (at : ℕ) (h : Header) (front payload printed : List ℕ) → front ≡ drop at bytes → payload ≡ take h.length (drop (at + 9) bytes) → 9 + h.length ≤ length front

@@ -2,7 +2,7 @@
 use Rattle.std.proofs.Common.{◌≡◌, ℕ, zero, suc, ◌+◌, ◌⊎◌, inl, inr, Bool, true, false, List, [], ◌∷◌, ◌++◌, length, refl, sym, ap, subst, ◌∙◌, arith, append_assoc}
 use Rattle.std.specs.Prelude.{codes, encode_utf8_all}
 use Rattle.xd_frame.specs.Message.{MessageView, header, frame, frames}
-use Rattle.xd_frame.specs.Stream.{AreBytes, messages, behind, rest, Rest, Clean, Unfinished, Refused}
+use Rattle.xd_frame.specs.Stream.{AreBytes, messages, left_over, rest, Rest, Clean, Unfinished, Refused}
 use Rattle.xd_value.specs.declared.fault.LoadWhat.{LoadWhat}
 use Rattle.xd_value.specs.Tree.{Tree}
 use Rattle.xd_value.specs.Payload.{IsPayload, FirstFault}
@@ -43,8 +43,8 @@ some_from read at (m ∷ ms) end r k =
     let later : AreBytes (frames ms ++ r) = bytes_right (frame m) (frames ms ++ r) (subst AreBytes (append_assoc (frame m) (frames ms) r) k) in
     text_with at m ms end (line_or_fault (has_value m.kind) m (read m.payload (bytes_right (header m) m.payload front))) (some_from read (at + (9 + length m.payload)) ms end r later)
 
-pub some_text : ((b : List ℕ) → AreBytes b → Read b) → (bytes : List ℕ) → bytes ≡ frames (messages bytes) ++ behind bytes → AreBytes bytes → (text : List ℕ) × (faulty : Bool) × IsWireText bytes text faulty
-some_text read bytes e k = some_from read 0 (messages bytes) (rest bytes) (behind bytes) (subst AreBytes e k)
+pub some_text : ((b : List ℕ) → AreBytes b → Read b) → (bytes : List ℕ) → bytes ≡ frames (messages bytes) ++ left_over bytes → AreBytes bytes → (text : List ℕ) × (faulty : Bool) × IsWireText bytes text faulty
+some_text read bytes e k = some_from read 0 (messages bytes) (rest bytes) (left_over bytes) (subst AreBytes e k)
 
 pub one_line : (b : Bool) (m : MessageView) (x y : List ℕ) → ReadsOne → LineBy b m x → LineBy b m y → x ≡ y
 one_line false m x y one p q = p ∙ sym q

@@ -69,9 +69,9 @@ abbrev pub flag : List ℕ → List Row → Bool
 flag id rows = bytes_eq (unwrap_or (first_of id rows) []) (codes "true")
 
 -- the values of an option that may stand several times, by their characters
-abbrev pub texts_of : Option (List (List ℕ)) → List (List ℕ)
-texts_of None = []
-texts_of (Some texts) = map chars texts
+abbrev pub option_texts : Option (List (List ℕ)) → List (List ℕ)
+option_texts None = []
+option_texts (Some texts) = map chars texts
 
 -- ---- all of them
 
@@ -97,7 +97,7 @@ asked_of rows = record {
   count = number 32 (codes "n") rows;
   mode = option_and_then mode_named (first_of (codes "dist") rows);
   load = flag (codes "d") rows;
-  tx = texts_of (all_of (codes "tx") rows);
+  tx = option_texts (all_of (codes "tx") rows);
   maxfail = number 1000000 (codes "maxfail") rows;
   first = flag (codes "x") rows;
   restarts = number 1000 (codes "max-worker-restart") rows;

@@ -3,7 +3,7 @@ ghost use Rattle.std.specs.Prelude.{◌≡◌, map, option_map, IfOk, true};
 ghost use Rattle.std.specs.Str.{chars};
 ghost use Rattle.clap.specs.Words.{all_of, app_of, first_of, found_of, is_simple_and_free, rows_of};
 ghost use Rattle.clap.specs.declared.error.kind.ErrorKind.TheVariants.{OutOfMemory as NoMemory};
-ghost use Rattle.xd_words.specs.Asked.{flag, rows_in, texts_of};
+ghost use Rattle.xd_words.specs.Asked.{flag, rows_in, option_texts};
 ghost use Rattle.xd_words.specs.Command.{main_app, socketserver_app, wire_app, worker_app};
 
 use crate::command::{main_command, socketserver_command, wire_command, worker_command};
@@ -111,7 +111,7 @@ pub fn flag(matches: &ArgMatches, id: &str) -> bool
 /// The values of an option that may stand several times.
 pub fn values(alloc: Global, matches: &ArgMatches, id: &str) -> Result<Texts, OutOfMemory>
     ensures { IfOk result (λ texts.
-        texts ≡ texts_of (all_of id.now (rows_of (found_of matches.now)))) }
+        texts ≡ option_texts (all_of id.now (rows_of (found_of matches.now)))) }
 {
     match strings(matches, id) {
         Some(values) => {

@@ -25,11 +25,11 @@ use Rattle.xd_worker.specs.declared.function.Function.TheVariants as function
 use Rattle.xd_worker.specs.declared.talk.Sent.{Sent}
 use Rattle.xd_worker.specs.declared.talk.Sent.TheVariants as how
 use Rattle.xd_worker.specs.Functions.{called_in}
-use Rattle.xd_factory.specs.SideTable.{heard, answer, lost}
+use Rattle.xd_factory.specs.SideTable.{heard_of_message, answer, lost}
 use Rattle.xd_worker.specs.Talk.{sent_how, payload_on}
-use Rattle.xd_worker.specs.Worker.{Service, Turn, turn_of, running_in}
-use Rattle.xd_worker.specs.Turns.{Came, Told, SuiteRead, NoSuite, Printed, ChildEnded, LinkEnded, at_talk, ended_call, asked, all_asked, given_in, fed_to, fed, called, is_called, echo_ended, echoed, echoed_how, is_service, stopped, did, did_unless, is_written, ids_of, suite_read, suite_refused, turned}
-use Rattle.xd_worker.specs.History.{Heard, worker_after, turn_by, KnownTests}
+use Rattle.xd_worker.specs.Worker.{Service, WorkerTurn, worker_turn_of, running_in}
+use Rattle.xd_worker.specs.Turns.{Came, Told, SuiteRead, NoSuite, Printed, ChildEnded, LinkEnded, at_talk, ended_call, asked, all_asked, given_in, fed_to, fed, called, is_called, echo_ended, echoed, echoed_how, is_service, worker_stopped, did, did_unless, is_written, ids_to_collect, suite_read, suite_refused, worker_turned}
+use Rattle.xd_worker.specs.History.{HeardInput, worker_after, turn_by, KnownTests}
 
 -- the suite of `run_tests` has no more tests than were read, and none before a suite was
 abbrev FitsSize : Bool → ℕ → ℕ → Type 0
@@ -48,7 +48,7 @@ abbrev IsBelow : Option ℕ → ℕ → Type 0
 IsBelow None m = Unit {0}
 IsBelow (Some k) m = k < m
 
-record Known (t : Turn) : Type 0 where
+record Known (t : WorkerTurn) : Type 0 where
   fits : Fits t.duties.owed t.duties.service (length t.duties.tests)
   run_in : IsBelow t.run (length t.duties.tests)
 
@@ -56,13 +56,13 @@ fits_ended : (owed : Bool) (s : Option Service) (m : ℕ) → Fits owed s m → 
 fits_ended owed None m h = h
 fits_ended owed (Some s) m h = h
 
-asked_known : (c : ℕ) (a : Ask) (t : Turn) → Known t → Known (asked c a t)
+asked_known : (c : ℕ) (a : Ask) (t : WorkerTurn) → Known t → Known (asked c a t)
 asked_known c (Tell event) t k = record { fits = k.fits; run_in = k.run_in }
 asked_known c (Piece log b) t k = record { fits = k.fits; run_in = k.run_in }
 asked_known c (CloseLog log) t k = record { fits = k.fits; run_in = k.run_in }
 asked_known c (End text) t k = record { fits = fits_ended t.duties.owed t.duties.service (length t.duties.tests) k.fits; run_in = k.run_in }
 
-all_asked_known : (c : ℕ) (asks : List Ask) (t : Turn) → Known t → Known (all_asked c asks t)
+all_asked_known : (c : ℕ) (asks : List Ask) (t : WorkerTurn) → Known t → Known (all_asked c asks t)
 all_asked_known c [] t k = k
 all_asked_known c (a ∷ asks) t k = all_asked_known c asks (asked c a t) (asked_known c a t k)
 
@@ -70,7 +70,7 @@ started_in : (run : Option ℕ) (size m : ℕ) → ((k : ℕ) → run ≡ Some k
 started_in None size m f le = tt
 started_in (Some k) size m f le = let lt : k < size = f k refl in omega arith
 
-fed_known : (s : Option Service) (i : Input) (n : ℕ) (t : Turn) → FitsBehind i t.duties.owed s (length t.duties.tests) → Known t → Known (fed_to s i n t)
+fed_known : (s : Option Service) (i : Input) (n : ℕ) (t : WorkerTurn) → FitsBehind i t.duties.owed s (length t.duties.tests) → Known t → Known (fed_to s i n t)
 fed_known None i n t f k = k
 fed_known (Some s) i n t f k =
     let g = given_in s i n in
@@ -85,29 +85,29 @@ fits_same : (i : Input) (owed : Bool) (s : Option Service) (m : ℕ) → ((p : P
 fits_same i owed None m same f = f
 fits_same i owed (Some s) m same f = subst (λ (x : ℕ). FitsSize owed x m) (sym (same (call_after s.given).phase (call_after s.given).size)) f
 
-plain_fed : (i : Input) (n : ℕ) (t : Turn) → ((p : Phase) (k : ℕ) → size_behind p i k ≡ k) → Known t → Known (fed i n t)
+plain_fed : (i : Input) (n : ℕ) (t : WorkerTurn) → ((p : Phase) (k : ℕ) → size_behind p i k ≡ k) → Known t → Known (fed i n t)
 plain_fed i n t same k = fed_known t.duties.service i n t (fits_same i t.duties.owed t.duties.service (length t.duties.tests) same k.fits) k
 
 -- ---- messages
 
-called_known : (n : ℕ) (call : Called) (t : Turn) → Known t → Known (called n call t)
+called_known : (n : ℕ) (call : Called) (t : WorkerTurn) → Known t → Known (called n call t)
 called_known n (Runs function.Echo) t k = record { fits = k.fits; run_in = k.run_in }
 called_known n (Runs (function.Fail text)) t k = record { fits = k.fits; run_in = k.run_in }
 called_known n (Runs (function.RunTests path mode)) t k = record { fits = (omega arith, λ e. refl); run_in = k.run_in }
 called_known n (Refused fault) t k = record { fits = k.fits; run_in = k.run_in }
 
-echo_ended_known : (n : ℕ) (text : Option (List ℕ)) (t : Turn) → Known t → Known (echo_ended n text t)
+echo_ended_known : (n : ℕ) (text : Option (List ℕ)) (t : WorkerTurn) → Known t → Known (echo_ended n text t)
 echo_ended_known n text t k = record { fits = k.fits; run_in = k.run_in }
 
-echoed_known : (s : Sent) (n : ℕ) (v : Tree) (t : Turn) → Known t → Known (echoed_how s n v t)
+echoed_known : (s : Sent) (n : ℕ) (v : Tree) (t : WorkerTurn) → Known t → Known (echoed_how s n v t)
 echoed_known how.Said n v t k = record { fits = k.fits; run_in = k.run_in }
 echoed_known how.LeftOut n v t k = k
 echoed_known how.Unwritten n v t k = echo_ended_known n (Some (codes "item is too long")) t k
 
-stopped_known : (n : ℕ) (t : Turn) → Known t → Known (stopped n t)
+stopped_known : (n : ℕ) (t : WorkerTurn) → Known t → Known (worker_stopped n t)
 stopped_known n t k = plain_fed input.Stop n (record t { duties = record (t.duties) { stopped = true } }) (λ p x. refl) (record { fits = k.fits; run_in = k.run_in })
 
-did_known : (a : Taken Tree) (n : ℕ) (t : Turn) → Known t → Known (did a n t)
+did_known : (a : Taken Tree) (n : ℕ) (t : WorkerTurn) → Known t → Known (did a n t)
 did_known (Status c) n t k = record { fits = k.fits; run_in = k.run_in }
 did_known (Exec c v) n t k = called_known c (called_in (is_called t.duties.service) v) t k
 did_known (Handed c v) n t k = go (is_service t.duties.service c)
@@ -125,7 +125,7 @@ did_known (Kept c) n t k = k
 did_known (EndKept c) n t k = k
 did_known Dropped n t k = k
 
-did_unless_known : (b : Bool) (a : Taken Tree) (n : ℕ) (t : Turn) → Known t → Known (did_unless b a n t)
+did_unless_known : (b : Bool) (a : Taken Tree) (n : ℕ) (t : WorkerTurn) → Known t → Known (did_unless b a n t)
 did_unless_known true a n t k = k
 did_unless_known false a n t k = did_known a n t k
 
@@ -142,7 +142,7 @@ opened_fits (phase.Ending x) mode ts size e = omega (arith, e)
 opened_fits Stopped mode ts size e = omega (arith, e)
 opened_fits Over mode ts size e = omega (arith, e)
 
-suite_fits : (owed : Bool) (s : Option Service) (ts : List Test) (m : ℕ) → owed ≡ true → Fits owed s m → FitsBehind (input.Suite (ids_of s ts)) false s (length ts)
+suite_fits : (owed : Bool) (s : Option Service) (ts : List Test) (m : ℕ) → owed ≡ true → Fits owed s m → FitsBehind (input.Suite (ids_to_collect s ts)) false s (length ts)
 suite_fits owed None ts m e f = tt
 suite_fits owed (Some s) ts m e f = (opened_fits (call_after s.given).phase s.mode ts (call_after s.given).size (f.1 e), λ z. cc)
 
@@ -150,32 +150,32 @@ none_fits : (owed : Bool) (s : Option Service) (m k : ℕ) → owed ≡ true →
 none_fits owed None m k e f = tt
 none_fits owed (Some s) m k e f = let none = f.1 e in (omega (arith, none), λ z. cc)
 
-suite_known : (ts : List Test) (n : ℕ) (t : Turn) → t.duties.owed ≡ true → t.run ≡ None → Known t → Known (suite_read ts n t)
-suite_known ts n t owed none k = go (is_written (event_tree (Collected (ids_of t.duties.service ts))))
+suite_known : (ts : List Test) (n : ℕ) (t : WorkerTurn) → t.duties.owed ≡ true → t.run ≡ None → Known t → Known (suite_read ts n t)
+suite_known ts n t owed none k = go (is_written (event_tree (Collected (ids_to_collect t.duties.service ts))))
   where
-    u : Turn
+    u : WorkerTurn
     u = record t { duties = record (t.duties) { owed = false; tests = ts } }
 
     fresh : Known u
     fresh = record { fits = none_fits t.duties.owed t.duties.service (length t.duties.tests) (length ts) owed k.fits; run_in = subst (λ (r : Option ℕ). IsBelow r (length ts)) (sym none) tt }
 
-    go : (b : Bool) → Known (fed (if b then input.Suite (ids_of t.duties.service ts) else input.SuiteRefused (codes "suite is too large")) n u)
-    go true = fed_known t.duties.service (input.Suite (ids_of t.duties.service ts)) n u (suite_fits t.duties.owed t.duties.service ts (length t.duties.tests) owed k.fits) fresh
+    go : (b : Bool) → Known (fed (if b then input.Suite (ids_to_collect t.duties.service ts) else input.SuiteRefused (codes "suite is too large")) n u)
+    go true = fed_known t.duties.service (input.Suite (ids_to_collect t.duties.service ts)) n u (suite_fits t.duties.owed t.duties.service ts (length t.duties.tests) owed k.fits) fresh
     go false = plain_fed (input.SuiteRefused (codes "suite is too large")) n u (λ p x. refl) fresh
 
 not_owed : (owed : Bool) (s : Option Service) (m : ℕ) → Fits owed s m → Fits false s m
 not_owed owed None m f = f
 not_owed owed (Some s) m f = (f.0, λ z. cc)
 
-refused_known : (text : List ℕ) (n : ℕ) (t : Turn) → Known t → Known (suite_refused text n t)
+refused_known : (text : List ℕ) (n : ℕ) (t : WorkerTurn) → Known t → Known (suite_refused text n t)
 refused_known text n t k =
     plain_fed (input.SuiteRefused text) n (record t { duties = record (t.duties) { owed = false } }) (λ p x. refl)
     (record { fits = not_owed t.duties.owed t.duties.service (length t.duties.tests) k.fits; run_in = k.run_in })
 
 -- ---- inputs
 
-turned_known : (came : Came) (n : ℕ) (t : Turn) → t.run ≡ None → Known t → Known (turned came n t)
-turned_known (Told said) n t none k = did_unless_known t.duties.stopped (answer said t.talk.table) n (at_talk (λ d. record d { table = heard said d.table }) t) (record { fits = k.fits; run_in = k.run_in })
+turned_known : (came : Came) (n : ℕ) (t : WorkerTurn) → t.run ≡ None → Known t → Known (worker_turned came n t)
+turned_known (Told said) n t none k = did_unless_known t.duties.stopped (answer said t.talk.table) n (at_talk (λ d. record d { table = heard_of_message said d.table }) t) (record { fits = k.fits; run_in = k.run_in })
 turned_known (SuiteRead ts) n t none k = go t.duties.owed refl
   where
     go : (b : Bool) → t.duties.owed ≡ b → Known (if b then suite_read ts n t else t)
@@ -190,9 +190,9 @@ turned_known (Printed b) n t none k = plain_fed (input.Output b) n t (λ p x. re
 turned_known (ChildEnded outcome ms) n t none k = plain_fed (input.Done outcome ms) n t (λ p x. refl) k
 turned_known LinkEnded n t none k = stopped_known n (at_talk (λ d. record d { table = lost d.table }) t) (record { fits = k.fits; run_in = k.run_in })
 
-known_after : (h : List Heard) → Known (turn_of (worker_after h))
+known_after : (h : List HeardInput) → Known (worker_turn_of (worker_after h))
 known_after [] = record { fits = tt; run_in = tt }
-known_after (g ∷ h) = record { fits = (turned_known g.came g.channels (turn_of (worker_after h)) refl (known_after h)).fits; run_in = tt }
+known_after (g ∷ h) = record { fits = (turned_known g.came g.channels (worker_turn_of (worker_after h)) refl (known_after h)).fits; run_in = tt }
 
 -- ---- the law
 
@@ -207,5 +207,5 @@ below (Some j) m k h e = let same : j ≡ k = (let z = e in cc) in subst (λ (x 
 pub all_known_tests : KnownTests
 all_known_tests = record {
   runs = λ h k e. let d = (worker_after h).duties in running_below d.owed d.service (length d.tests) k (known_after h).fits e;
-  starts = λ h g k e. below (turn_by (worker_after h) g).run _ k (turned_known g.came g.channels (turn_of (worker_after h)) refl (known_after h)).run_in e;
+  starts = λ h g k e. below (turn_by (worker_after h) g).run _ k (turned_known g.came g.channels (worker_turn_of (worker_after h)) refl (known_after h)).run_in e;
 }

@@ -18,7 +18,7 @@ use Rattle.xd_factory.specs.Slot.{Slot, Unseen, Here, Gone, is_here, item_slot, 
 use Rattle.xd_factory.specs.Table.{named_in, told_slot}
 use Rattle.xd_run_tests.specs.Line.{number_of_log}
 use Rattle.xd_run_tests.proofs.Once.{and_last}
-use Rattle.xd_factory.specs.SideTable.{ChannelTable, Counts, changed_at, opened, heard, lost}
+use Rattle.xd_factory.specs.SideTable.{ChannelTable, Counts, changed_at, opened, heard_of_message, lost}
 
 -- ---- numbers that are in a list once
 
@@ -206,8 +206,8 @@ same_evens t u n o p q k e = record {
   held = λ z c h. let m = even_log n c h in (k c m (e.plain c m)).1 ∙ e.held z c h;
 }
 
-pub heard_evens : (said : Said) (t : ChannelTable) (n : ℕ) (o : Bool) → Evens t n o → Evens (heard said t) n o
-heard_evens said t n o e = same_evens t (heard said t) n o refl refl (λ c m. heard_keeps (is_mine t.parity c) c said (t.slot c) (ap (λ (p : Parity). is_mine p c) e.even ∙ m)) e
+pub heard_evens : (said : Said) (t : ChannelTable) (n : ℕ) (o : Bool) → Evens t n o → Evens (heard_of_message said t) n o
+heard_evens said t n o e = same_evens t (heard_of_message said t) n o refl refl (λ c m. heard_keeps (is_mine t.parity c) c said (t.slot c) (ap (λ (p : Parity). is_mine p c) e.even ∙ m)) e
 
 pub lost_evens : (t : ChannelTable) (n : ℕ) (o : Bool) → Evens t n o → Evens (lost t) n o
 lost_evens t n o e = same_evens t (lost t) n o refl refl (λ c m. lost_keeps (t.slot c)) e

@@ -41,12 +41,12 @@ use Rattle.xd_worker.specs.declared.function.CallFault.TheVariants.{BadCall, Sou
 use Rattle.xd_worker.specs.declared.function.Name.{Name}
 use Rattle.xd_worker.specs.declared.function.Name.TheVariants as name
 use Rattle.xd_worker.specs.Functions.{called_in, call_of, has_no_source, named, name_of, with_value, with_kwargs, function_of}
-use Rattle.xd_factory.specs.SideTable.{ChannelTable, Counts, changed_at, opened, heard, answer, lost}
+use Rattle.xd_factory.specs.SideTable.{ChannelTable, Counts, changed_at, opened, heard_of_message, answer, lost}
 use Rattle.xd_worker.specs.Table.{empty}
 use Rattle.xd_worker.specs.Talk.{Talk, told_tree, sent_how, payload_on, function_begun}
-use Rattle.xd_worker.specs.Worker.{Service, Duties, Turn, Opening, turn_of, after_turn, running_in}
-use Rattle.xd_worker.specs.Turns.{Came, Told, SuiteRead, NoSuite, Printed, ChildEnded, LinkEnded, at_talk, ended_call, asked, all_asked, others, given_in, fed_to, fed, tests_begun, called, is_called, echo_ended, echoed, echoed_how, is_service, stopped, did, did_unless, suite_input, ids_of, suite_read, suite_refused, turned}
-use Rattle.xd_worker.specs.History.{Heard, worker_after, turn_by, table_behind}
+use Rattle.xd_worker.specs.Worker.{Service, Duties, WorkerTurn, Opening, worker_turn_of, after_turn, running_in}
+use Rattle.xd_worker.specs.Turns.{Came, Told, SuiteRead, NoSuite, Printed, ChildEnded, LinkEnded, at_talk, ended_call, asked, all_asked, others, given_in, fed_to, fed, tests_begun, called, is_called, echo_ended, echoed, echoed_how, is_service, worker_stopped, did, did_unless, suite_input, ids_to_collect, suite_read, suite_refused, worker_turned}
+use Rattle.xd_worker.specs.History.{HeardInput, worker_after, turn_by, table_behind}
 use Rattle.xd_worker.specs.Logs.{CanOpen, AllOpen, LogLaw}
 use Rattle.xd_worker.proofs.Logs.{Plain, Evens, heard_evens, lost_evens, odd_evens, open_evens, close_evens, ended_here, Short, counted_short, counted_once, ended_short, close_short}
 
@@ -75,7 +75,7 @@ SpareBy true t n = (log : ℕ) → log + 2 ≡ number_of_log n → Short (change
 SpareBy false t n = Short t.slot 4095
 
 -- the table and the call between two asks
-record Between (P : Type 0) (room : Bool) (l : Logs) (s : Service) (stop : Bool) (t : Turn) : Type 0 where
+record Between (P : Type 0) (room : Bool) (l : Logs) (s : Service) (stop : Bool) (t : WorkerTurn) : Type 0 where
   evens : Evens t.talk.table l.count l.is_open
   linked : t.talk.table.finished ≡ false
   short : P → room ≡ true → SpareBy l.is_open t.talk.table l.count
@@ -84,7 +84,7 @@ record Between (P : Type 0) (room : Bool) (l : Logs) (s : Service) (stop : Bool)
   stopped_is : t.duties.stopped ≡ stop
 
 -- the table stays
-still : (P : Type 0) (room : Bool) (l k : Logs) (s : Service) (stop : Bool) (t u : Turn) → k ≡ l → u.talk.table ≡ t.talk.table → u.logs ≡ t.logs → u.duties ≡ t.duties → Between P room l s stop t → Between P room k s stop u
+still : (P : Type 0) (room : Bool) (l k : Logs) (s : Service) (stop : Bool) (t u : WorkerTurn) → k ≡ l → u.talk.table ≡ t.talk.table → u.logs ≡ t.logs → u.duties ≡ t.duties → Between P room l s stop t → Between P room k s stop u
 still P room l k s stop t u e f g d b = subst (λ (x : Logs). Between P room x s stop u) (sym e) (record {
   evens = subst (λ (x : ChannelTable). Evens x l.count l.is_open) (sym f) b.evens;
   linked = ap (λ (x : ChannelTable). x.finished) f ∙ b.linked;
@@ -99,7 +99,7 @@ nothing_more [] = refl
 nothing_more (o ∷ a) = ap (λ (x : List Opening). o ∷ x) (nothing_more a)
 
 -- an event that starts P no test
-quiet : (P : Type 0) (c : ℕ) (v : Option Tree) (room : Bool) (l k : Logs) (s : Service) (stop : Bool) (t : Turn) → k ≡ l → Between P room l s stop t → Between P room k s stop (record t { talk = told_tree c v t.talk; logs = t.logs ++ [] })
+quiet : (P : Type 0) (c : ℕ) (v : Option Tree) (room : Bool) (l k : Logs) (s : Service) (stop : Bool) (t : WorkerTurn) → k ≡ l → Between P room l s stop t → Between P room k s stop (record t { talk = told_tree c v t.talk; logs = t.logs ++ [] })
 quiet P c v room l k s stop t e b = still P room l k s stop t _ e (told_table c v t.talk) (nothing_more t.logs) refl b
 
 few : (t : ChannelTable) (m : ℕ) → Counts t.slot m → Short t.slot 4095 → m < 4096
@@ -114,7 +114,7 @@ opened_spare t n next short = λ log e xs o f. short xs o (λ c i. was log e c (
     was log e c false true p q h = let x = eqb-true t.next c q in let s : log ≡ c = omega (arith, x, next, e) in let y : true ≡ false = sym (eq-eqb log c s) ∙ p in cc
     was log e c false false p q h = h
 
-starts : (P : Type 0) (c n log : ℕ) (room : Bool) (l k : Logs) (s : Service) (stop : Bool) (t : Turn) → LogStep room (Tell (what.LogStart n log)) l k → Between P room l s stop t → Between P room k s stop (asked c (Tell (what.LogStart n log)) t)
+starts : (P : Type 0) (c n log : ℕ) (room : Bool) (l k : Logs) (s : Service) (stop : Bool) (t : WorkerTurn) → LogStep room (Tell (what.LogStart n log)) l k → Between P room l s stop t → Between P room k s stop (asked c (Tell (what.LogStart n log)) t)
 starts P c n log room l k s stop t h b =
     let closed : Evens t.talk.table l.count false = subst (λ (o : Bool). Evens t.talk.table l.count o) h.1 b.evens in
     let short : P → Short t.talk.table.slot 4095 = λ p. subst (λ (o : Bool). SpareBy o t.talk.table l.count) h.1 (b.short p h.0) in
@@ -133,7 +133,7 @@ starts P c n log room l k s stop t h b =
       stopped_is = b.stopped_is;
     })
 
-tells : (P : Type 0) (c : ℕ) (event : What) (room : Bool) (l k : Logs) (s : Service) (stop : Bool) (t : Turn) → LogStep room (Tell event) l k → Between P room l s stop t → Between P room k s stop (asked c (Tell event) t)
+tells : (P : Type 0) (c : ℕ) (event : What) (room : Bool) (l k : Logs) (s : Service) (stop : Bool) (t : WorkerTurn) → LogStep room (Tell event) l k → Between P room l s stop t → Between P room k s stop (asked c (Tell event) t)
 tells P c (what.LogStart n log) room l k s stop t h b = starts P c n log room l k s stop t h b
 tells P c what.Ready room l k s stop t h b = quiet P c (event_tree what.Ready) room l k s stop t h b
 tells P c (what.Collected ids) room l k s stop t h b = quiet P c (event_tree (what.Collected ids)) room l k s stop t h b
@@ -148,7 +148,7 @@ tells P c (what.Gone x) room l k s stop t h b = quiet P c (event_tree (what.Gone
 tells P c what.NotStarted room l k s stop t h b = quiet P c (event_tree what.NotStarted) room l k s stop t h b
 
 -- one ask; the channel of the function is no own number
-asked_between : (P : Type 0) (c : ℕ) → is_mine Even c ≡ false → (a : Ask) (room : Bool) (l k : Logs) (s : Service) (stop : Bool) (t : Turn) → LogStep room a l k → Between P room l s stop t → Between P room k s stop (asked c a t)
+asked_between : (P : Type 0) (c : ℕ) → is_mine Even c ≡ false → (a : Ask) (room : Bool) (l k : Logs) (s : Service) (stop : Bool) (t : WorkerTurn) → LogStep room a l k → Between P room l s stop t → Between P room k s stop (asked c a t)
 asked_between P c odd (Tell event) room l k s stop t h b = tells P c event room l k s stop t h b
 asked_between P c odd (Piece log x) room l k s stop t h b = still P room l k s stop t _ h.2 refl refl refl b
 asked_between P c odd (CloseLog log) room l k s stop t h b =
@@ -171,7 +171,7 @@ asked_between P c odd (ask.End text) room l k s stop t h b =
       stopped_is = b.stopped_is;
     })
 
-all_between : (P : Type 0) (c : ℕ) → is_mine Even c ≡ false → (asks : List Ask) (room : Bool) (l k : Logs) (s : Service) (stop : Bool) (t : Turn) → LogSteps room asks l k → Between P room l s stop t → Between P room k s stop (all_asked c asks t)
+all_between : (P : Type 0) (c : ℕ) → is_mine Even c ≡ false → (asks : List Ask) (room : Bool) (l k : Logs) (s : Service) (stop : Bool) (t : WorkerTurn) → LogSteps room asks l k → Between P room l s stop t → Between P room k s stop (all_asked c asks t)
 all_between P c odd [] room l k s stop t h b = subst (λ (x : Logs). Between P room x s stop t) (sym h) b
 all_between P c odd (a ∷ asks) room l k s stop t h b = all_between P c odd asks room h.0 k s stop (asked c a t) h.2 (asked_between P c odd a room l h.0 s stop t h.1 b)
 
@@ -191,7 +191,7 @@ abbrev IsSilent : Option Service → Type 0
 IsSilent None = Unit {0}
 IsSilent (Some s) = (call_after s.given).phase ≡ Stopped
 
-record Good (P : Type 0) (t : Turn) : Type 0 where
+record Good (P : Type 0) (t : WorkerTurn) : Type 0 where
   fits : Fits t.talk.table t.duties.service
   linked : t.talk.table.finished ≡ true → t.duties.stopped ≡ true
   silent : t.duties.stopped ≡ true → IsSilent t.duties.service
@@ -229,13 +229,13 @@ spare_by t s n false e k v r =
 
 -- ---- something comes to `run_tests`
 
-fed_some : (P : Type 0) (s : Service) (i : Input) (n : ℕ) (t : Turn) → (P → Counts t.talk.table.slot n) → Serves t.talk.table s → (t.talk.table.finished ≡ true → t.duties.stopped ≡ true) → (t.duties.stopped ≡ true → IsSilent (Some s)) → (P → AllOpen t.logs) → Good P (fed_to (Some s) i n t)
+fed_some : (P : Type 0) (s : Service) (i : Input) (n : ℕ) (t : WorkerTurn) → (P → Counts t.talk.table.slot n) → Serves t.talk.table s → (t.talk.table.finished ≡ true → t.duties.stopped ≡ true) → (t.duties.stopped ≡ true → IsSilent (Some s)) → (P → AllOpen t.logs) → Good P (fed_to (Some s) i n t)
 fed_some P s i n t k f linked silent all_open = go (is_stopped (call_after s.given).phase) refl
   where
     g : Given
     g = given_in s i n
 
-    u : Turn
+    u : WorkerTurn
     u = record t { duties = record (t.duties) { service = Some (record s { given = g ∷ s.given }) }; run = (turn_after s.given g).run }
 
     go : (v : Bool) → is_stopped (call_after s.given).phase ≡ v → Good P (all_asked s.channel (turn_after s.given g).asks u)
@@ -270,14 +270,14 @@ fed_some P s i n t k f linked silent all_open = go (is_stopped (call_after s.giv
         up true z serves = absurd (serves (silent (linked z)))
         up false z serves = refl
 
-fed_good : (P : Type 0) (i : Input) (n : ℕ) (t : Turn) → (P → Counts t.talk.table.slot n) → Good P t → Good P (fed i n t)
+fed_good : (P : Type 0) (i : Input) (n : ℕ) (t : WorkerTurn) → (P → Counts t.talk.table.slot n) → Good P t → Good P (fed i n t)
 fed_good P i n t k b = go t.duties.service refl
   where
     go : (s : Option Service) → t.duties.service ≡ s → Good P (fed_to s i n t)
     go None e = b
     go (Some s) e = fed_some P s i n t k (subst (Fits t.talk.table) e b.fits) b.linked (λ z. subst IsSilent e (b.silent z)) b.all_open
 
-stop_good : (P : Type 0) (n : ℕ) (t : Turn) → Fits t.talk.table t.duties.service → (P → AllOpen t.logs) → t.duties.stopped ≡ true → Good P (fed input.Stop n t)
+stop_good : (P : Type 0) (n : ℕ) (t : WorkerTurn) → Fits t.talk.table t.duties.service → (P → AllOpen t.logs) → t.duties.stopped ≡ true → Good P (fed input.Stop n t)
 stop_good P n t f o h = go t.duties.service refl
   where
     go : (s : Option Service) → t.duties.service ≡ s → Good P (fed_to s input.Stop n t)
@@ -292,7 +292,7 @@ odd_fits : (k : ℕ) (f : Slot Tree → Slot Tree) (t : ChannelTable) (s : Optio
 odd_fits k f t None odd e = odd_evens k f t 0 false odd e
 odd_fits k f t (Some s) odd e = record { o = e.o; evens = odd_evens k f t (begun_tests (call_after s.given)) e.o odd e.evens; runs_is = e.runs_is; odd = e.odd }
 
-heard_fits : (said : Said) (t : ChannelTable) (s : Option Service) → Fits t s → Fits (heard said t) s
+heard_fits : (said : Said) (t : ChannelTable) (s : Option Service) → Fits t s → Fits (heard_of_message said t) s
 heard_fits said t None e = heard_evens said t 0 false e
 heard_fits said t (Some s) e = record { o = e.o; evens = heard_evens said t (begun_tests (call_after s.given)) e.o e.evens; runs_is = e.runs_is; odd = e.odd }
 
@@ -384,7 +384,7 @@ again : (b : Bool) (v : Tree) → Again b (called_in b v)
 again true v = again_in v
 again false v = again_not (called_in false v)
 
-begun_good : (P : Type 0) (k : ℕ) → is_mine Even k ≡ false → (path : List ℕ) (mode : ModeKind) (t : Turn) → t.duties.service ≡ None → t.duties.stopped ≡ false → Good P t → Good P (tests_begun k path mode t)
+begun_good : (P : Type 0) (k : ℕ) → is_mine Even k ≡ false → (path : List ℕ) (mode : ModeKind) (t : WorkerTurn) → t.duties.service ≡ None → t.duties.stopped ≡ false → Good P t → Good P (tests_begun k path mode t)
 begun_good P k odd path mode t e stop b =
     let evens : Evens t.talk.table 0 false = subst (Fits t.talk.table) e b.fits in
     let same = told_table k (event_tree what.Ready) (function_begun k t.talk) in
@@ -400,7 +400,7 @@ begun_good P k odd path mode t e stop b =
       all_open = b.all_open;
     }
 
-called_good : (P : Type 0) (k : ℕ) → is_mine Even k ≡ false → (call : Called) (t : Turn) → Again (is_called t.duties.service) call → t.duties.stopped ≡ false → Good P t → Good P (called k call t)
+called_good : (P : Type 0) (k : ℕ) → is_mine Even k ≡ false → (call : Called) (t : WorkerTurn) → Again (is_called t.duties.service) call → t.duties.stopped ≡ false → Good P t → Good P (called k call t)
 called_good P k odd (Runs function.Echo) t a stop b = record { fits = odd_fits k hooked_slot t.talk.table t.duties.service odd b.fits; linked = b.linked; silent = b.silent; all_open = b.all_open }
 called_good P k odd (Runs (function.Fail x)) t a stop b = record { fits = odd_fits k function_ended_slot t.talk.table t.duties.service odd b.fits; linked = b.linked; silent = b.silent; all_open = b.all_open }
 called_good P k odd (Refused x) t a stop b = record { fits = odd_fits k function_ended_slot t.talk.table t.duties.service odd b.fits; linked = b.linked; silent = b.silent; all_open = b.all_open }
@@ -479,18 +479,18 @@ odd_answer (Close n x) t e p = by_mine n _ (λ m. plain_end n (t.slot n) (end_of
 odd_answer (Last n) t e p = by_mine n _ (λ m. plain_end n (t.slot n) LastMessage (p n m)) (odd_end n (t.slot n) LastMessage)
 odd_answer Terminate t e p = tt
 
-ended_good : (P : Type 0) (k : ℕ) (text : Option (List ℕ)) (t : Turn) → is_mine Even k ≡ false → Good P t → Good P (echo_ended k text t)
+ended_good : (P : Type 0) (k : ℕ) (text : Option (List ℕ)) (t : WorkerTurn) → is_mine Even k ≡ false → Good P t → Good P (echo_ended k text t)
 ended_good P k text t odd b = record { fits = odd_fits k function_ended_slot t.talk.table t.duties.service odd b.fits; linked = b.linked; silent = b.silent; all_open = b.all_open }
 
-echoed_good : (P : Type 0) (s : Sent) (k : ℕ) (v : Tree) (t : Turn) → is_mine Even k ≡ false → Good P t → Good P (echoed_how s k v t)
+echoed_good : (P : Type 0) (s : Sent) (k : ℕ) (v : Tree) (t : WorkerTurn) → is_mine Even k ≡ false → Good P t → Good P (echoed_how s k v t)
 echoed_good P how.Said k v t odd b = record { fits = b.fits; linked = b.linked; silent = b.silent; all_open = b.all_open }
 echoed_good P how.LeftOut k v t odd b = b
 echoed_good P how.Unwritten k v t odd b = ended_good P k (Some (codes "item is too long")) t odd b
 
-stopping_good : (P : Type 0) (n : ℕ) (t : Turn) → Good P t → Good P (stopped n t)
+stopping_good : (P : Type 0) (n : ℕ) (t : WorkerTurn) → Good P t → Good P (worker_stopped n t)
 stopping_good P n t b = stop_good P n (record t { duties = record (t.duties) { stopped = true } }) b.fits b.all_open refl
 
-did_good : (P : Type 0) (a : Taken Tree) (n : ℕ) (t : Turn) → (P → Counts t.talk.table.slot n) → OddAnswer a → t.duties.stopped ≡ false → Good P t → Good P (did a n t)
+did_good : (P : Type 0) (a : Taken Tree) (n : ℕ) (t : WorkerTurn) → (P → Counts t.talk.table.slot n) → OddAnswer a → t.duties.stopped ≡ false → Good P t → Good P (did a n t)
 did_good P (taken.Status c) n t k odd stop b = record { fits = b.fits; linked = b.linked; silent = b.silent; all_open = b.all_open }
 did_good P (taken.Exec c v) n t k odd stop b = called_good P c odd (called_in (is_called t.duties.service) v) t (again (is_called t.duties.service) v) stop b
 did_good P (taken.Handed c v) n t k odd stop b = go (is_service t.duties.service c)
@@ -508,7 +508,7 @@ did_good P (taken.Kept c) n t k odd stop b = b
 did_good P (taken.EndKept c) n t k odd stop b = b
 did_good P taken.Dropped n t k odd stop b = b
 
-did_unless_good : (P : Type 0) (x : Bool) (a : Taken Tree) (n : ℕ) (t : Turn) → t.duties.stopped ≡ x → (P → Counts t.talk.table.slot n) → OddAnswer a → Good P t → Good P (did_unless x a n t)
+did_unless_good : (P : Type 0) (x : Bool) (a : Taken Tree) (n : ℕ) (t : WorkerTurn) → t.duties.stopped ≡ x → (P → Counts t.talk.table.slot n) → OddAnswer a → Good P t → Good P (did_unless x a n t)
 did_unless_good P true a n t e k odd b = b
 did_unless_good P false a n t e k odd b = did_good P a n t k odd e b
 
@@ -518,15 +518,15 @@ even_fits t (Some s) e = (e.evens.even, e.evens.plain)
 
 -- ---- inputs
 
-turned_good : (P : Type 0) (came : Came) (n : ℕ) (t : Turn) → (P → Counts (table_behind came t.talk.table).slot n) → Good P t → Good P (turned came n t)
+turned_good : (P : Type 0) (came : Came) (n : ℕ) (t : WorkerTurn) → (P → Counts (table_behind came t.talk.table).slot n) → Good P t → Good P (worker_turned came n t)
 turned_good P (Told said) n t k b =
     let e = even_fits t.talk.table t.duties.service b.fits in
-    did_unless_good P t.duties.stopped (answer said t.talk.table) n (at_talk (λ d. record d { table = heard said d.table }) t) refl k (odd_answer said t.talk.table e.0 e.1)
+    did_unless_good P t.duties.stopped (answer said t.talk.table) n (at_talk (λ d. record d { table = heard_of_message said d.table }) t) refl k (odd_answer said t.talk.table e.0 e.1)
     (record { fits = heard_fits said t.talk.table t.duties.service b.fits; linked = b.linked; silent = b.silent; all_open = b.all_open })
 turned_good P (SuiteRead ts) n t k b = go t.duties.owed
   where
     go : (x : Bool) → Good P (if x then suite_read ts n t else t)
-    go true = fed_good P (suite_input (ids_of t.duties.service ts)) n (record t { duties = record (t.duties) { owed = false; tests = ts } }) k (record { fits = b.fits; linked = b.linked; silent = b.silent; all_open = b.all_open })
+    go true = fed_good P (suite_input (ids_to_collect t.duties.service ts)) n (record t { duties = record (t.duties) { owed = false; tests = ts } }) k (record { fits = b.fits; linked = b.linked; silent = b.silent; all_open = b.all_open })
     go false = b
 turned_good P (NoSuite text) n t k b = go t.duties.owed
   where
@@ -538,15 +538,15 @@ turned_good P (ChildEnded outcome ms) n t k b = fed_good P (input.Done outcome m
 turned_good P LinkEnded n t k b =
     stop_good P n (record (at_talk (λ d. record d { table = lost d.table }) t) { duties = record (t.duties) { stopped = true } }) (lost_fits t.talk.table t.duties.service b.fits) b.all_open refl
 
-fresh_good : (P : Type 0) (t : Turn) → Good ⊥ t → Good P (turn_of (after_turn t))
+fresh_good : (P : Type 0) (t : WorkerTurn) → Good ⊥ t → Good P (worker_turn_of (after_turn t))
 fresh_good P t b = record { fits = b.fits; linked = b.linked; silent = b.silent; all_open = λ p. tt }
 
-good_after : (h : List Heard) (P : Type 0) → Good P (turn_of (worker_after h))
+good_after : (h : List HeardInput) (P : Type 0) → Good P (worker_turn_of (worker_after h))
 good_after [] P = record { fits = none; linked = λ z. cc; silent = λ z. cc; all_open = λ p. tt }
   where
     none : Evens empty 0 false
     none = record { even = refl; next_is = refl; plain = λ c m. tt; last = λ c m z. cc; idle = λ z c m. refl; held = λ z. cc }
-good_after (g ∷ h) P = fresh_good P (turn_by (worker_after h) g) (turned_good ⊥ g.came g.channels (turn_of (worker_after h)) (λ z. absurd z) (good_after h ⊥))
+good_after (g ∷ h) P = fresh_good P (turn_by (worker_after h) g) (turned_good ⊥ g.came g.channels (worker_turn_of (worker_after h)) (λ z. absurd z) (good_after h ⊥))
 
 last_is : (t : ChannelTable) (s : Option Service) → Fits t s → (c : ℕ) → is_mine Even c ≡ true → is_here (t.slot c) ≡ true → c + 2 ≡ t.next
 last_is t None e c m h = e.last c m h ∙ sym e.next_is
@@ -554,6 +554,6 @@ last_is t (Some s) e c m h = e.evens.last c m h ∙ sym e.evens.next_is
 
 pub log_law : LogLaw
 log_law = record {
-  opens = λ h g k. let P = Counts (table_behind g.came (worker_after h).table).slot g.channels in (turned_good P g.came g.channels (turn_of (worker_after h)) (λ p. p) (good_after h P)).all_open k;
+  opens = λ h g k. let P = Counts (table_behind g.came (worker_after h).table).slot g.channels in (turned_good P g.came g.channels (worker_turn_of (worker_after h)) (λ p. p) (good_after h P)).all_open k;
   one = λ h c m z. last_is (worker_after h).table (worker_after h).duties.service (good_after h ⊥).fits c m z;
 }

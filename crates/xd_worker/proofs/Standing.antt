@@ -6,7 +6,7 @@ use Rattle.xd_value.specs.Tree.{Tree}
 use Rattle.xd_factory.specs.declared.faults.SendFault.{SendFault}
 use Rattle.xd_worker.specs.declared.talk.Sent.{Sent}
 use Rattle.xd_worker.specs.declared.talk.Sent.TheVariants as how
-use Rattle.xd_factory.specs.SideTable.{ChannelTable, Counts, channel_table, heard, answer, lost}
+use Rattle.xd_factory.specs.SideTable.{ChannelTable, Counts, channel_table, heard_of_message, answer, lost}
 use Rattle.xd_frame.specs.Message.{MessageView}
 use Rattle.xd_factory.specs.declared.side.Side.{Side}
 use Rattle.xd_run_tests.specs.declared.ask.Acts.{Acts}
@@ -33,9 +33,9 @@ use Rattle.xd_worker.specs.declared.input.WorkerFault.{WorkerFault}
 use Rattle.xd_worker.specs.declared.input.WorkerFault.TheVariants.{Link, OutOfMemory}
 use Rattle.xd_worker.specs.declared.input.WorkerInput.TheVariants.{Message}
 use Rattle.xd_factory.specs.SideTable.{RefusedBy, MustRefuse}
-use Rattle.xd_worker.specs.History.{Heard, IsToRefuse}
+use Rattle.xd_worker.specs.History.{HeardInput, IsToRefuse}
 use Rattle.xd_worker.specs.Logs.{AllOpen, LogsOpen}
-use Rattle.xd_worker.specs.Worker.{Service, Duties, Turn, Opening, Worker, turn_of, logs_opened_by}
+use Rattle.xd_worker.specs.Worker.{Service, Duties, WorkerTurn, Opening, Worker, worker_turn_of, logs_opened_by}
 use Rattle.xd_worker.specs.Turns.{at_talk, asked, all_asked, given_in, fed_to, ended_call, failed, echo_ended, echoed, echoed_how, is_called, is_written, suite_input, Told, did_unless}
 use Rattle.xd_worker.specs.Stands.{IsService, AreServices, AreDuties, Stands, FedBy, HasFed, Does, TakesMessage, FaultHasReason, IsFaultAt, RefusedAt}
 
@@ -50,7 +50,7 @@ moved c side d h = record {
 }
 
 -- something was said
-pub spoke : (c : WorkerCore) (side : Side) (a : WorkerActions) (say : List MessageView) (t : Turn) (f : Talk → Talk) → talk_of side say ≡ f (talk_of c.side a.say) → Stands c a t
+pub spoke : (c : WorkerCore) (side : Side) (a : WorkerActions) (say : List MessageView) (t : WorkerTurn) (f : Talk → Talk) → talk_of side say ≡ f (talk_of c.side a.say) → Stands c a t
     → Stands (record c { side = side }) (record a { say = say }) (at_talk f t)
 spoke c side a say t f e h = record {
   talk_is = e ∙ ap f h.talk_is;
@@ -69,14 +69,14 @@ pub last_open : (a b : List Opening) → AllOpen (a ++ b) → AllOpen b
 last_open [] b h = h
 last_open (o ∷ a) b h = last_open a b h.1
 
-pub asked_before : (c : ℕ) (a : Ask) (t : Turn) → AllOpen (asked c a t).logs → AllOpen t.logs
+pub asked_before : (c : ℕ) (a : Ask) (t : WorkerTurn) → AllOpen (asked c a t).logs → AllOpen t.logs
 asked_before c (Tell event) t h = first_open t.logs (logs_opened_by event t.talk.table) h
 asked_before c (Piece log b) t h = h
 asked_before c (CloseLog log) t h = h
 asked_before c (End text) t h = h
 
 -- an event was said, and a log opened for it
-pub announced : (c : WorkerCore) (side : Side) (a : WorkerActions) (say : List MessageView) (t : Turn) (n : ℕ) (event : What) → (AllOpen (logs_opened_by event (channel_table c.side)) → talk_of side say ≡ event_told n event (opening event (talk_of c.side a.say)))
+pub announced : (c : WorkerCore) (side : Side) (a : WorkerActions) (say : List MessageView) (t : WorkerTurn) (n : ℕ) (event : What) → (AllOpen (logs_opened_by event (channel_table c.side)) → talk_of side say ≡ event_told n event (opening event (talk_of c.side a.say)))
     → Stands c a t → AllOpen (asked n (Tell event) t).logs → Stands (record c { side = side }) (record a { say = say }) (asked n (Tell event) t)
 announced c side a say t n event g h k = record {
   talk_is =
@@ -105,17 +105,17 @@ pub given_to : Option Service → Input → ℕ → Option Service
 given_to None i n = None
 given_to (Some s) i n = Some (record s { given = given_in s i n ∷ s.given })
 
-pub fed_nothing : (r : Option TestsCall) (s : Option Service) (i : Input) (n : ℕ) (t : Turn) → HasFed r s i n None → (fed_to s i n t ≡ t) × AreServices r s
+pub fed_nothing : (r : Option TestsCall) (s : Option Service) (i : Input) (n : ℕ) (t : WorkerTurn) → HasFed r s i n None → (fed_to s i n t ≡ t) × AreServices r s
 fed_nothing r None i n t h = (refl, h)
 fed_nothing r (Some s) i n t h = absurd h
 
-pub fed_something : (r : Option TestsCall) (s : Option Service) (i : Input) (n : ℕ) (t : Turn) (f : Fed) → HasFed r s i n (Some f)
+pub fed_something : (r : Option TestsCall) (s : Option Service) (i : Input) (n : ℕ) (t : WorkerTurn) (f : Fed) → HasFed r s i n (Some f)
     → (v : Option Service) × AreServices r v × (fed_to s i n t ≡ all_asked f.channel f.acts.asks.items (record t { duties = record (t.duties) { service = v }; run = f.acts.run }))
 fed_something r None i n t f h = absurd h
 fed_something r (Some s) i n t f h =
     (Some (record s { given = given_in s i n ∷ s.given }), h.services_are, rw (h.channel_is, h.asks_are, h.run_is) refl)
 
-pub all_asked_more : (c : ℕ) (asks : List Ask) (a : Ask) (t : Turn) → all_asked c (asks ++ a ∷ []) t ≡ asked c a (all_asked c asks t)
+pub all_asked_more : (c : ℕ) (asks : List Ask) (a : Ask) (t : WorkerTurn) → all_asked c (asks ++ a ∷ []) t ≡ asked c a (all_asked c asks t)
 all_asked_more c [] a t = refl
 all_asked_more c (b ∷ asks) a t = all_asked_more c asks a (asked c b t)
 
@@ -130,10 +130,10 @@ ended_none (Some s) h = absurd h
 
 -- ---- words that are written out
 
-pub text_is : (c : WorkerCore) (a : WorkerActions) (n : ℕ) (x y : List ℕ) (t : Turn) → x ≡ y → Stands c a (echo_ended n (Some x) t) → Stands c a (echo_ended n (Some y) t)
+pub text_is : (c : WorkerCore) (a : WorkerActions) (n : ℕ) (x y : List ℕ) (t : WorkerTurn) → x ≡ y → Stands c a (echo_ended n (Some x) t) → Stands c a (echo_ended n (Some y) t)
 text_is c a n x y t e h = subst (λ (z : List ℕ). Stands c a (echo_ended n (Some z) t)) e h
 
-pub failed_is : (c : WorkerCore) (a : WorkerActions) (n : ℕ) (text : Option (List ℕ)) (x y : List ℕ) (t : Turn) → x ≡ unwrap_or text (codes "fail") → y ≡ codes "fail"
+pub failed_is : (c : WorkerCore) (a : WorkerActions) (n : ℕ) (text : Option (List ℕ)) (x y : List ℕ) (t : WorkerTurn) → x ≡ unwrap_or text (codes "fail") → y ≡ codes "fail"
     → Stands c a (at_talk (function_ended n (Some x) (Some y)) t) → Stands c a (failed n text t)
 failed_is c a n text x y t e f h =
     subst (λ (z : List ℕ). Stands c a (at_talk (function_ended n (Some (unwrap_or text (codes "fail"))) (Some z)) t)) f
@@ -145,7 +145,7 @@ unsaid : (n : ℕ) (p : Result (List ℕ) SendFault) (d : Talk) → sent_how p �
 unsaid n (Ok b) d h = absurd (let z = h in cc)
 unsaid n (Err f) d h = ap (λ (x : List MessageView). record d { says = x }) (append-nil d.says)
 
-pub left_out : (c : WorkerCore) (side : Side) (a : WorkerActions) (say : List MessageView) (t : Turn) (n : ℕ) (v : Tree) → sent_how (payload_on n v (channel_table c.side)) ≡ how.Unwritten
+pub left_out : (c : WorkerCore) (side : Side) (a : WorkerActions) (say : List MessageView) (t : WorkerTurn) (n : ℕ) (v : Tree) → sent_how (payload_on n v (channel_table c.side)) ≡ how.Unwritten
     → talk_of side say ≡ sent n v (talk_of c.side a.say) → Stands c a t → Stands (record c { side = side }) (record a { say = say }) t
 left_out c side a say t n v u e h = record {
   talk_is = e ∙ unsaid n (payload_on n v (channel_table c.side)) (talk_of c.side a.say) u ∙ h.talk_is;
@@ -154,7 +154,7 @@ left_out c side a say t n v u e h = record {
   run_is = h.run_is;
 }
 
-pub echoed_long : (c : WorkerCore) (a : WorkerActions) (t : Turn) (n : ℕ) (v : Tree) → sent_how (payload_on n v (channel_table c.side)) ≡ how.Unwritten → Stands c a t
+pub echoed_long : (c : WorkerCore) (a : WorkerActions) (t : WorkerTurn) (n : ℕ) (v : Tree) → sent_how (payload_on n v (channel_table c.side)) ≡ how.Unwritten → Stands c a t
     → echo_ended n (Some (codes "item is too long")) t ≡ echoed n v t
 echoed_long c a t n v u h =
     ap (λ (s : Sent). echoed_how s n v t) (sym (ap (λ (d : Talk). sent_how (payload_on n v d.table)) (sym h.talk_is) ∙ u))
@@ -175,20 +175,20 @@ refused_input b ids text e f h =
 
 -- ---- inputs
 
-pub counts_at : (side : Side) (say : List MessageView) (w : Worker) (n : ℕ) → talk_of side say ≡ (turn_of w).talk → Counts (slot_of_number side) n → Counts w.table.slot n
+pub counts_at : (side : Side) (say : List MessageView) (w : Worker) (n : ℕ) → talk_of side say ≡ (worker_turn_of w).talk → Counts (slot_of_number side) n → Counts w.table.slot n
 counts_at side say w n e k = subst (λ (d : Talk). Counts d.table.slot n) e k
 
-pub lost_counts : (side old : Side) (say : List MessageView) (w : Worker) (n : ℕ) → talk_of old say ≡ (turn_of w).talk → channel_table side ≡ lost (channel_table old) → Counts (slot_of_number side) n → Counts (lost w.table).slot n
+pub lost_counts : (side old : Side) (say : List MessageView) (w : Worker) (n : ℕ) → talk_of old say ≡ (worker_turn_of w).talk → channel_table side ≡ lost (channel_table old) → Counts (slot_of_number side) n → Counts (lost w.table).slot n
 lost_counts side old say w n e l k = subst (λ (t : ChannelTable). Counts t.slot n) (l ∙ ap (λ (d : Talk). lost d.table) e) k
 
-pub heard_does : (c c' : WorkerCore) (side : Side) (a a' : WorkerActions) (w : Worker) (m : MessageView) (k : Taken Value) → Stands c a (turn_of w) → LogsOpen w → TakesMessage m (channel_table c.side) (channel_table side) k
-    → (n : ℕ) → Counts (slot_of_number side) n → ((t : Turn) → Stands (record c { side = side }) a t → AllOpen (did_unless t.duties.stopped (taken_tree k) n t).logs → Stands c' a' (did_unless t.duties.stopped (taken_tree k) n t)) → Does c' a' w (Message m)
+pub heard_does : (c c' : WorkerCore) (side : Side) (a a' : WorkerActions) (w : Worker) (m : MessageView) (k : Taken Value) → Stands c a (worker_turn_of w) → LogsOpen w → TakesMessage m (channel_table c.side) (channel_table side) k
+    → (n : ℕ) → Counts (slot_of_number side) n → ((t : WorkerTurn) → Stands (record c { side = side }) a t → AllOpen (did_unless t.duties.stopped (taken_tree k) n t).logs → Stands c' a' (did_unless t.duties.stopped (taken_tree k) n t)) → Does c' a' w (Message m)
 heard_does c c' side a a' w m k h l i n counts g =
     let old : channel_table c.side ≡ w.table = ap (λ (d : Talk). d.table) h.talk_is in
-    let t = at_talk (λ d. record d { table = heard i.said d.table }) (turn_of w) in
-    let mid = spoke c side a a.say (turn_of w) (λ d. record d { table = heard i.said d.table }) (ap (λ (x : ChannelTable). record { table = x; says = a.say }) i.table_is) h in
-    let came : Heard = record { came = Told i.said; channels = n } in
-    let counted = subst (λ (x : ChannelTable). Counts x.slot n) (i.table_is ∙ ap (heard i.said) old) counts in
+    let t = at_talk (λ d. record d { table = heard_of_message i.said d.table }) (worker_turn_of w) in
+    let mid = spoke c side a a.say (worker_turn_of w) (λ d. record d { table = heard_of_message i.said d.table }) (ap (λ (x : ChannelTable). record { table = x; says = a.say }) i.table_is) h in
+    let came : HeardInput = record { came = Told i.said; channels = n } in
+    let counted = subst (λ (x : ChannelTable). Counts x.slot n) (i.table_is ∙ ap (heard_of_message i.said) old) counts in
     let does : taken_tree k ≡ answer i.said w.table = i.answer_is ∙ ap (answer i.said) old in
     let logs = subst (λ (x : Taken Tree). AllOpen (did_unless w.duties.stopped x n t).logs) (sym does) (l came counted) in
     record {

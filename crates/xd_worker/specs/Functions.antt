@@ -16,11 +16,11 @@ use Rattle.xd_worker.specs.declared.function.Name.{Name}
 use Rattle.xd_worker.specs.declared.function.Name.TheVariants as name
 
 -- the error with which a refused call ends
-abbrev pub fault_text : CallFault → List ℕ
-fault_text BadCall = codes "bad call"
-fault_text SourceText = codes "source text is refused"
-fault_text Unknown = codes "unknown function"
-fault_text Started = codes "run_tests has been started"
+abbrev pub call_fault_text : CallFault → List ℕ
+call_fault_text BadCall = codes "bad call"
+call_fault_text SourceText = codes "source text is refused"
+call_fault_text Unknown = codes "unknown function"
+call_fault_text Started = codes "run_tests has been started"
 
 -- the mode of a word
 abbrev pub mode_by_word : List ℕ → Option ModeKind

@@ -12,34 +12,34 @@ use Rattle.xd_journal.specs.declared.news.What.{What}
 use Rattle.xd_journal.specs.declared.news.What.TheVariants.{Collected}
 use Rattle.xd_worker.specs.declared.input.WorkerInput.{WorkerInput}
 use Rattle.xd_worker.specs.declared.input.WorkerInput.TheVariants.{Message, SuiteBytes, SuiteTooLarge, SuiteUnread, Output, ChildDone, LinkEnd}
-use Rattle.xd_factory.specs.SideTable.{ChannelTable, RefusedBy, MustRefuse, heard, lost}
-use Rattle.xd_worker.specs.Worker.{Worker, Turn, new_worker, turn_of, after_turn, running_in}
-use Rattle.xd_worker.specs.Turns.{Came, Told, SuiteRead, NoSuite, Printed, ChildEnded, LinkEnded, turned}
+use Rattle.xd_factory.specs.SideTable.{ChannelTable, RefusedBy, MustRefuse, heard_of_message, lost}
+use Rattle.xd_worker.specs.Worker.{Worker, WorkerTurn, new_worker, worker_turn_of, after_turn, running_in}
+use Rattle.xd_worker.specs.Turns.{Came, Told, SuiteRead, NoSuite, Printed, ChildEnded, LinkEnded, worker_turned}
 
 -- an input, and how many channels are in the table after it came, before anything is done
-pub record Heard : Type 0 where
+pub record HeardInput : Type 0 where
   pub came : Came
   pub channels : ℕ
 
 -- what an input makes a worker do
-abbrev pub turn_by : Worker → Heard → Turn
-turn_by w g = turned g.came g.channels (turn_of w)
+abbrev pub turn_by : Worker → HeardInput → WorkerTurn
+turn_by w g = worker_turned g.came g.channels (worker_turn_of w)
 
 -- the worker after these inputs
-abbrev pub worker_after : List Heard → Worker
+abbrev pub worker_after : List HeardInput → Worker
 worker_after [] = new_worker
 worker_after (g ∷ h) = after_turn (turn_by (worker_after h) g)
 
 -- all that was said, in order
 -- Example: after CHANNEL_EXEC of `fail` without a text: CHANNEL_CLOSE_ERROR with `fail`, and no test was started.
-abbrev pub all_said : List Heard → List MessageView
+abbrev pub all_said : List HeardInput → List MessageView
 all_said [] = []
 all_said (g ∷ h) = all_said h ++ (turn_by (worker_after h) g).talk.says
 
 -- A test that runs, or that is started, is one of the suite that was read.
 pub record KnownTests : Type 0 where
-  pub runs : (h : List Heard) (k : ℕ) → running_in (worker_after h).duties.service ≡ Some k → k < length (worker_after h).duties.tests
-  pub starts : (h : List Heard) (g : Heard) (k : ℕ) → (turn_by (worker_after h) g).run ≡ Some k → k < length (worker_after (g ∷ h)).duties.tests
+  pub runs : (h : List HeardInput) (k : ℕ) → running_in (worker_after h).duties.service ≡ Some k → k < length (worker_after h).duties.tests
+  pub starts : (h : List HeardInput) (g : HeardInput) (k : ℕ) → (turn_by (worker_after h) g).run ≡ Some k → k < length (worker_after (g ∷ h)).duties.tests
 
 -- the worker is to end, and no test runs
 abbrev pub is_over : Worker → Bool
@@ -82,7 +82,7 @@ Is LinkEnd came = came ≡ LinkEnded
 
 -- the table in which the channels are counted
 abbrev pub table_behind : Came → ChannelTable → ChannelTable
-table_behind (Told said) t = heard said t
+table_behind (Told said) t = heard_of_message said t
 table_behind (SuiteRead ts) t = t
 table_behind (NoSuite text) t = t
 table_behind (Printed b) t = t

@@ -20,12 +20,12 @@ use Rattle.xd_worker.specs.declared.input.WorkerFault.{WorkerFault}
 use Rattle.xd_worker.specs.declared.input.WorkerFault.TheVariants.{Link, OutOfMemory}
 use Rattle.xd_worker.specs.declared.worker.Asked.{Asked}
 use Rattle.xd_worker.specs.declared.worker.WorkerCore.{WorkerCore}
-use Rattle.xd_factory.specs.SideTable.{ChannelTable, Counts, channel_table, heard, answer}
+use Rattle.xd_factory.specs.SideTable.{ChannelTable, Counts, channel_table, heard_of_message, answer}
 use Rattle.xd_worker.specs.Talk.{talk_of}
-use Rattle.xd_worker.specs.Worker.{Service, Duties, Worker, Turn, after_turn, running_in}
+use Rattle.xd_worker.specs.Worker.{Service, Duties, Worker, WorkerTurn, after_turn, running_in}
 use Rattle.xd_worker.specs.Turns.{given_in}
 use Rattle.xd_factory.specs.SideTable.{RefusedBy, MustRefuse}
-use Rattle.xd_worker.specs.History.{Heard, Is, table_behind, turn_by, worker_after, is_over, RefusesFor}
+use Rattle.xd_worker.specs.History.{HeardInput, Is, table_behind, turn_by, worker_after, is_over, RefusesFor}
 
 -- the parts are those of this call of `run_tests`
 pub record IsService (r : TestsCall) (s : Service) : Type 0 where
@@ -42,9 +42,9 @@ AreServices None (Some s) = ⊥
 AreServices (Some r) None = ⊥
 
 -- the tests of the suite that was read, none before
-abbrev pub tests_of : Option (List Test) → List Test
-tests_of None = []
-tests_of (Some tests) = tests
+abbrev pub suite_tests_of : Option (List Test) → List Test
+suite_tests_of None = []
+suite_tests_of (Some tests) = tests
 
 -- the parts beside the channels are these duties, and no fault came
 pub record AreDuties (c : WorkerCore) (d : Duties) : Type 0 where
@@ -53,10 +53,10 @@ pub record AreDuties (c : WorkerCore) (d : Duties) : Type 0 where
   pub services_are : AreServices c.tests_call d.service
   pub echoes_are : c.echoes.items ≡ d.echoes
   pub owed_is : c.owed ≡ d.owed
-  pub tests_are : tests_of c.suite ≡ d.tests
+  pub tests_are : suite_tests_of c.suite ≡ d.tests
 
 -- the parts, and what was done so far, are those of a turn
-pub record Stands (c : WorkerCore) (a : WorkerActions) (t : Turn) : Type 0 where
+pub record Stands (c : WorkerCore) (a : WorkerActions) (t : WorkerTurn) : Type 0 where
   pub talk_is : talk_of c.side a.say ≡ t.talk
   pub duties_are : AreDuties c t.duties
   pub suite_is : a.suite ≡ t.suite
@@ -69,34 +69,34 @@ pub record IsWorker (c : WorkerCore) (w : Worker) : Type 0 where
   pub duties_are : AreDuties c w.duties
 
 -- the parts are those of the worker after these inputs
-abbrev pub StandsFor : WorkerCore → List Heard → Type 0
+abbrev pub StandsFor : WorkerCore → List HeardInput → Type 0
 StandsFor c h = IsWorker c (worker_after h)
 
 -- they are those of the worker after some inputs
 abbrev pub Stood : WorkerCore → Type 0
-Stood c = (h : List Heard) × StandsFor c h
+Stood c = (h : List HeardInput) × StandsFor c h
 
 -- the suite that was read has a test of this number
 abbrev pub HasTest : WorkerCore → ℕ → Type 0
-HasTest c k = (h : List Heard) × StandsFor c h × (k < length (worker_after h).duties.tests)
+HasTest c k = (h : List HeardInput) × StandsFor c h × (k < length (worker_after h).duties.tests)
 
 -- an input was answered by the turn that it makes
 pub record Does (c : WorkerCore) (a : WorkerActions) (w : Worker) (input : WorkerInput) : Type 0 where
-  pub heard : Heard
-  pub is : Is input heard.came
-  pub counts : Counts (table_behind heard.came w.table).slot heard.channels
-  pub stands : Stands c a (turn_by w heard)
+  pub heard : HeardInput
+  pub is : Is input heard_of_message.came
+  pub counts : Counts (table_behind heard_of_message.came w.table).slot heard_of_message.channels
+  pub stands : Stands c a (turn_by w heard_of_message)
 
 -- what an input is, and that it was answered by the turn that it makes of this worker
 pub record Answers (c : WorkerCore) (w : Worker) (input : WorkerInput) (a : WorkerActions) : Type 0 where
-  pub heard : Heard
-  pub is : Is input heard.came
-  pub counts : Counts (table_behind heard.came w.table).slot heard.channels
-  pub says : a.say ≡ (turn_by w heard).talk.says
-  pub suite : a.suite ≡ (turn_by w heard).suite
-  pub run : a.run ≡ (turn_by w heard).run
-  pub over : a.over ≡ is_over (after_turn (turn_by w heard))
-  pub worker : IsWorker c (after_turn (turn_by w heard))
+  pub heard : HeardInput
+  pub is : Is input heard_of_message.came
+  pub counts : Counts (table_behind heard_of_message.came w.table).slot heard_of_message.channels
+  pub says : a.say ≡ (turn_by w heard_of_message).talk.says
+  pub suite : a.suite ≡ (turn_by w heard_of_message).suite
+  pub run : a.run ≡ (turn_by w heard_of_message).run
+  pub over : a.over ≡ is_over (after_turn (turn_by w heard_of_message))
+  pub worker : IsWorker c (after_turn (turn_by w heard_of_message))
 
 -- a fault names its reason; running out of memory needs none
 abbrev pub FaultHasReason : Worker → WorkerInput → WorkerFault → Type 0
@@ -153,7 +153,7 @@ pub record TakesMessage (m : MessageView) (old new : ChannelTable) (a : Taken Va
   pub said : Said
   pub means : Means m said
   pub answer_is : taken_tree a ≡ answer said old
-  pub table_is : new ≡ heard said old
+  pub table_is : new ≡ heard_of_message said old
   pub small : IsSmall (taken_tree a)
 
 -- the side refuses a message for this reason, or memory ran out, which needs none

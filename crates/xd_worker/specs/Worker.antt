@@ -37,7 +37,7 @@ pub record Opening : Type 0 where
   pub table : ChannelTable
 
 -- an input's effect so far: what is said, a suite file to read, a test to start, and the logs that opened
-pub record Turn : Type 0 where
+pub record WorkerTurn : Type 0 where
   pub talk : Talk
   pub duties : Duties
   pub suite : Option (List ℕ)
@@ -58,11 +58,11 @@ abbrev pub new_worker : Worker
 new_worker = record { table = empty; duties = no_duties }
 
 -- a worker before anything was done in this turn
-abbrev pub turn_of : Worker → Turn
-turn_of w = record { talk = record { table = w.table; says = [] }; duties = w.duties; suite = None; run = None; logs = [] }
+abbrev pub worker_turn_of : Worker → WorkerTurn
+worker_turn_of w = record { talk = record { table = w.table; says = [] }; duties = w.duties; suite = None; run = None; logs = [] }
 
 -- the worker after a turn
-abbrev pub after_turn : Turn → Worker
+abbrev pub after_turn : WorkerTurn → Worker
 after_turn t = record { table = t.talk.table; duties = t.duties }
 
 -- the test that runs

@@ -3,7 +3,7 @@ ghost use Rattle.std.specs.Prelude.{◌≡◌, option_and_then, codes, IfOk};
 ghost use Rattle.xd_value.specs.View.{view, pair_views};
 ghost use Rattle.xd_gateway.specs.Kwargs.{value_at, text_in_tree};
 ghost use Rattle.xd_gateway.specs.Words.{IsWord};
-ghost use Rattle.xd_worker.specs.Functions.{called_in, call_of, named, name_of, with_kwargs, fail_called, run_tests_called, mode_by_word, fault_text, has_no_source};
+ghost use Rattle.xd_worker.specs.Functions.{called_in, call_of, named, name_of, with_kwargs, fail_called, run_tests_called, mode_by_word, call_fault_text, has_no_source};
 
 use std::alloc::Global;
 use xd_edge::{ModeKind, OutOfMemory, Text};
@@ -53,7 +53,7 @@ impl CallFault {
     /// The error with which the call ends.
     pub fn text(self) -> &'static str
         ensures ascii { IsWord result.now }
-        ensures text { result.now ≡ fault_text self }
+        ensures text { result.now ≡ call_fault_text self }
     {
         match self {
             CallFault::BadCall => "bad call",

@@ -18,17 +18,17 @@ use Rattle.xd_run_tests.specs.declared.ask.Ask.TheVariants.{Tell}
 use Rattle.xd_run_tests.specs.declared.input.Input.{Input}
 use Rattle.xd_run_tests.specs.declared.input.Input.TheVariants as input
 use Rattle.xd_run_tests.specs.Line.{left, front, queue, running_test, can_give, can_ask, all_queued, kept, taken}
-use Rattle.xd_run_tests.specs.Turns.{Turn, turn_of, answered, over, ended_early, ending_text, asking, test_started, has_log, too_many_channels, moved_on, line_settled, given, stolen, stolen_if, told, heard_in, heard, all_heard, collected_in, receiving_ended_in, suite_refused_in, output_fed, told_done, done_of}
+use Rattle.xd_run_tests.specs.Turns.{CallTurn, call_turn_of, answered, over, ended_early, ending_text, asking, test_started, has_log, too_many_channels, moved_on, line_settled, given, stolen, stolen_if, told, item_heard_in, item_heard, all_heard, collected_in, receiving_ended_in, suite_refused_in, output_fed, told_done, done_of}
 use Rattle.xd_run_tests.specs.History.{call_after}
 use Rattle.xd_worker_laws.specs.Idle.{IsIdle, IdleLaw, WaitsForNext}
 
-abbrev Waits : Turn → Type 0
+abbrev Waits : CallTurn → Type 0
 Waits t = WaitsForNext t.call
 
-ended : (t : Turn) (text : Option (List ℕ)) → Waits (over text t)
+ended : (t : CallTurn) (text : Option (List ℕ)) → Waits (over text t)
 ended t text serving idle = absurd (cc serving)
 
-early : (t : Turn) (e : Ending) → Waits (ended_early e t)
+early : (t : CallTurn) (e : Ending) → Waits (ended_early e t)
 early t e = go t.call.running
   where
     go : (v : Bool) → Waits (if v then record t { call = record (t.call) { phase = phase.Ending e } } else over (ending_text e) t)
@@ -36,7 +36,7 @@ early t e = go t.call.running
     go false = ended t (ending_text e)
 
 -- where nothing runs, what is left lets a test start, or is one test at most
-moved : (room : Bool) (t : Turn) (l : List LineEntry) → left t.call ≡ l → Waits (moved_on room l t)
+moved : (room : Bool) (t : CallTurn) (l : List LineEntry) → left t.call ≡ l → Waits (moved_on room l t)
 moved room t [] is = λ serving idle. inl is
 moved room t (Mark ∷ l) is = λ serving idle. absurd (cc serving)
 moved room t (Test n ∷ []) is = λ serving idle. inr (n, is)
@@ -46,14 +46,14 @@ moved room t (Test n ∷ (p ∷ l)) is = go (room && has_log t.call.ended)
     go true = λ serving idle. absurd (cc idle)
     go false = ended t (Some too_many_channels)
 
-moved_or_runs : (room : Bool) (t : Turn) → Waits (line_settled room t)
+moved_or_runs : (room : Bool) (t : CallTurn) → Waits (line_settled room t)
 moved_or_runs room t = go t.call.running refl
   where
     go : (v : Bool) → t.call.running ≡ v → Waits (if v then t else moved_on room (left t.call) t)
     go true runs = λ serving idle. absurd (let e : true ≡ false = sym runs ∙ idle in cc e)
     go false runs = moved room t (left t.call) refl
 
-gave : (room : Bool) (ns : List ℕ) (t : Turn) → Waits (given room ns t)
+gave : (room : Bool) (ns : List ℕ) (t : CallTurn) → Waits (given room ns t)
 gave room ns t = go (can_give t.call.size t.call.line ns)
   where
     go : (v : Bool) → Waits (if v then line_settled room (record t { call = record (t.call) { line = t.call.line ++ map Test ns } }) else ended_early BadCommand t)
@@ -80,7 +80,7 @@ same_line ns l n none =
     let halves : take n l ++ drop n l ≡ l = grind (arith, common_steps) in
     ap (λ (q : List LineEntry). take n l ++ kept ns q) none ∙ sym (ap (λ (q : List LineEntry). take n l ++ q) none) ∙ halves
 
-taken_back : (ns : List ℕ) (t : Turn) → Waits t → Waits (record t { call = record (t.call) { line = front t.call ++ kept ns (queue t.call) } })
+taken_back : (ns : List ℕ) (t : CallTurn) → Waits t → Waits (record t { call = record (t.call) { line = front t.call ++ kept ns (queue t.call) } })
 taken_back ns t w serving idle =
     let was = w serving idle in
     let same : front t.call ++ kept ns (queue t.call) ≡ t.call.line =
@@ -88,7 +88,7 @@ taken_back ns t w serving idle =
     (same_line ns t.call.line (t.call.ended + 1) (none_behind t.call.line t.call.ended was)) in
     subst (λ (l : List LineEntry). IsIdle (drop t.call.ended l)) (sym same) was
 
-stole : (ns : List ℕ) (t : Turn) → Waits t → Waits (stolen_if ns t)
+stole : (ns : List ℕ) (t : CallTurn) → Waits t → Waits (stolen_if ns t)
 stole ns t w = ask (can_ask t.call.size [] ns)
   where
     go : (v : Bool) → Waits (if v then asking (Tell (Back (taken ns (queue t.call))) ∷ []) (record t { call = record (t.call) { line = front t.call ++ kept ns (queue t.call) } }) else asking (Tell (Back []) ∷ []) t)
@@ -99,46 +99,46 @@ stole ns t w = ask (can_ask t.call.size [] ns)
     ask true = go (all_queued (queue t.call) ns)
     ask false = early t BadCommand
 
-heeded : (room : Bool) (o : Option Order) (t : Turn) → Waits t → Waits (told room o t)
+heeded : (room : Bool) (o : Option Order) (t : CallTurn) → Waits t → Waits (told room o t)
 heeded room None t w = early t BadCommand
 heeded room (Some (RunTests ns)) t w = gave room ns t
 heeded room (Some RunAll) t w = gave room (range_with_len 0 t.call.size) t
 heeded room (Some (Steal ns)) t w = stole ns t w
 heeded room (Some Shutdown) t w = moved_or_runs room (record t { call = record (t.call) { line = t.call.line ++ Mark ∷ [] } })
 
-heard_so : (p : Phase) → (room : Bool) (o : Option Order) (t : Turn) → t.call.phase ≡ p → Waits t → Waits (heard_in p room o t)
+heard_so : (p : Phase) → (room : Bool) (o : Option Order) (t : CallTurn) → t.call.phase ≡ p → Waits t → Waits (item_heard_in p room o t)
 heard_so Awaiting room o t is w = λ serving idle. absurd (let e : Awaiting ≡ Serving = sym is ∙ serving in cc e)
 heard_so Serving room o t is w = heeded room o t w
 heard_so (phase.Ending x) room o t is w = w
 heard_so Stopped room o t is w = w
 heard_so Over room o t is w = w
 
-all_so : (room : Bool) (os : List (Option Order)) (t : Turn) → Waits t → Waits (all_heard room os t)
+all_so : (room : Bool) (os : List (Option Order)) (t : CallTurn) → Waits t → Waits (all_heard room os t)
 all_so room [] t w = w
-all_so room (o ∷ os) t w = all_so room os (heard room o t) (heard_so t.call.phase room o t refl w)
+all_so room (o ∷ os) t w = all_so room os (item_heard room o t) (heard_so t.call.phase room o t refl w)
 
-collected_so : (p : Phase) (room : Bool) (ids : List (List ℕ)) (t : Turn) → Waits t → Waits (collected_in p room ids t)
+collected_so : (p : Phase) (room : Bool) (ids : List (List ℕ)) (t : CallTurn) → Waits t → Waits (collected_in p room ids t)
 collected_so Awaiting room ids t w = all_so room t.call.waiting _ (λ serving idle. inl refl)
 collected_so Serving room ids t w = w
 collected_so (phase.Ending x) room ids t w = w
 collected_so Stopped room ids t w = w
 collected_so Over room ids t w = w
 
-receiving_so : (p : Phase) (t : Turn) → Waits t → Waits (receiving_ended_in p t)
+receiving_so : (p : Phase) (t : CallTurn) → Waits t → Waits (receiving_ended_in p t)
 receiving_so Awaiting t w = early t ReceivingEnded
 receiving_so Serving t w = early t ReceivingEnded
 receiving_so (phase.Ending x) t w = w
 receiving_so Stopped t w = w
 receiving_so Over t w = w
 
-refused_so : (p : Phase) (text : List ℕ) (t : Turn) → Waits t → Waits (suite_refused_in p text t)
+refused_so : (p : Phase) (text : List ℕ) (t : CallTurn) → Waits t → Waits (suite_refused_in p text t)
 refused_so Awaiting text t w = ended t (Some text)
 refused_so Serving text t w = w
 refused_so (phase.Ending x) text t w = w
 refused_so Stopped text t w = w
 refused_so Over text t w = w
 
-output_so : (test : Option ℕ) (p : Phase) (bytes : List ℕ) (t : Turn) → Waits t → Waits (output_fed test p bytes t)
+output_so : (test : Option ℕ) (p : Phase) (bytes : List ℕ) (t : CallTurn) → Waits t → Waits (output_fed test p bytes t)
 output_so None p bytes t w = w
 output_so (Some n) Stopped bytes t w = w
 output_so (Some n) Awaiting bytes t w = w
@@ -146,7 +146,7 @@ output_so (Some n) Serving bytes t w = w
 output_so (Some n) (phase.Ending e) bytes t w = w
 output_so (Some n) Over bytes t w = w
 
-done_so : (test : Option ℕ) (p : Phase) (room : Bool) (outcome : Outcome) (ms : ℕ) (t : Turn) → t.call.phase ≡ p → Waits t → Waits (done_of test p room outcome ms t)
+done_so : (test : Option ℕ) (p : Phase) (room : Bool) (outcome : Outcome) (ms : ℕ) (t : CallTurn) → t.call.phase ≡ p → Waits t → Waits (done_of test p room outcome ms t)
 done_so None p room outcome ms t is w = w
 done_so (Some n) Serving room outcome ms t is w = moved_or_runs room (told_done n outcome ms t)
 done_so (Some n) (phase.Ending x) room outcome ms t is w = ended (told_done n outcome ms t) (ending_text x)
@@ -154,7 +154,7 @@ done_so (Some n) Stopped room outcome ms t is w = λ serving idle. absurd (let e
 done_so (Some n) Awaiting room outcome ms t is w = w
 done_so (Some n) Over room outcome ms t is w = w
 
-answered_so : (room : Bool) (i : Input) (t : Turn) → Waits t → Waits (answered room i t)
+answered_so : (room : Bool) (i : Input) (t : CallTurn) → Waits t → Waits (answered room i t)
 answered_so room (input.Command o) t w = heard_so t.call.phase room o t refl w
 answered_so room input.ReceivingEnded t w = receiving_so t.call.phase t w
 answered_so room (input.Suite ids) t w = collected_so t.call.phase room ids t w
@@ -165,4 +165,4 @@ answered_so room input.Stop t w = λ serving idle. absurd (cc serving)
 
 pub waits_after : IdleLaw
 waits_after [] = λ serving idle. inl refl
-waits_after (g ∷ h) = answered_so g.room g.input (turn_of (call_after h)) (waits_after h)
+waits_after (g ∷ h) = answered_so g.room g.input (call_turn_of (call_after h)) (waits_after h)

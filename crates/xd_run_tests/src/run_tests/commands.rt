@@ -14,7 +14,7 @@ impl RunTests {
     ghost use Rattle.xd_run_tests.specs.declared.phase.Phase.TheVariants.{Serving};
     ghost use Rattle.std.specs.List.{range_with_len};
     ghost use Rattle.xd_gateway.specs.declared.order.Order.TheVariants.{Shutdown};
-    ghost use Rattle.xd_run_tests.specs.Turns.{Turn, given, told, heard_in, all_heard};
+    ghost use Rattle.xd_run_tests.specs.Turns.{CallTurn, given, told, item_heard_in, all_heard};
     ghost use Rattle.xd_run_tests.specs.Stands.{Stands, Appends, free_at};
 
     /// The test is one of the suite that does not stand in the line.
@@ -63,7 +63,7 @@ impl RunTests {
 
     /// Tests are given: they stand at the line's end, or the command is bad.
     fn give(&mut self, acts: &mut Acts, tests: &[u32], room: bool) -> Result<(), OutOfMemory>
-        ensures { (t : Turn) → t.call.phase ≡ Serving → Stands self.old acts.old t →
+        ensures { (t : CallTurn) → t.call.phase ≡ Serving → Stands self.old acts.old t →
             OnOk result (Stands self.new acts.new (given room tests.now t)) }
     {
         if self.append_all(tests)? {
@@ -87,7 +87,7 @@ impl RunTests {
 
     /// A shutdown mark stands at the line's end.
     fn shut(&mut self, acts: &mut Acts, room: bool) -> Result<(), OutOfMemory>
-        ensures { (t : Turn) → t.call.phase ≡ Serving → Stands self.old acts.old t →
+        ensures { (t : CallTurn) → t.call.phase ≡ Serving → Stands self.old acts.old t →
             OnOk result (Stands self.new acts.new (told room (Some Shutdown) t)) }
     {
         self.mark()?;
@@ -107,7 +107,7 @@ impl RunTests {
 
     /// An item of the channel while the function serves.
     fn tell(&mut self, acts: &mut Acts, item: Option<Order>, room: bool) -> Result<(), OutOfMemory>
-        ensures { (t : Turn) → t.call.phase ≡ Serving → Stands self.old acts.old t →
+        ensures { (t : CallTurn) → t.call.phase ≡ Serving → Stands self.old acts.old t →
             OnOk result (Stands self.new acts.new (told room item t)) }
     {
         match item {
@@ -129,8 +129,8 @@ impl RunTests {
         item: Option<Order>,
         room: bool,
     ) -> Result<(), OutOfMemory>
-        ensures { (t : Turn) → t.call.phase ≡ self.old.phase → Stands self.old acts.old t →
-            OnOk result (Stands self.new acts.new (heard_in self.old.phase room item t)) }
+        ensures { (t : CallTurn) → t.call.phase ≡ self.old.phase → Stands self.old acts.old t →
+            OnOk result (Stands self.new acts.new (item_heard_in self.old.phase room item t)) }
     {
         match self.phase {
             Phase::Awaiting => {
@@ -149,7 +149,7 @@ impl RunTests {
         mut waiting: VecDeque<Option<Order>>,
         room: bool,
     ) -> Result<(), OutOfMemory>
-        ensures { (t : Turn) → Stands self.old acts.old t →
+        ensures { (t : CallTurn) → Stands self.old acts.old t →
             OnOk result (Stands self.new acts.new (all_heard room waiting.items t)) }
     {
         while let Some(item) = waiting.pop_front() {

@@ -8,8 +8,8 @@ use xd_edge::{Blob, OutOfMemory};
 use xd_journal::{MOST_OF_ONE, Outcome, What};
 
 impl RunTests {
-    ghost use Rattle.xd_run_tests.specs.Turns.{Turn, done_of, told_done, put_out, output_fed};
-    ghost use Rattle.xd_run_tests.specs.Stands.{Stands, test_of, Moves};
+    ghost use Rattle.xd_run_tests.specs.Turns.{CallTurn, done_of, told_done, put_out, output_fed};
+    ghost use Rattle.xd_run_tests.specs.Stands.{Stands, test_of_running, Moves};
 
     /// The running test ended.
     pub(super) fn complete(
@@ -19,9 +19,9 @@ impl RunTests {
         ms: u64,
         room: bool,
     ) -> Result<(), OutOfMemory>
-        ensures { (t : Turn) → Stands self.old acts.old t →
+        ensures { (t : CallTurn) → Stands self.old acts.old t →
             OnOk result (Stands self.new acts.new
-            (done_of (test_of self.old.running) self.old.phase room outcome ms t)) }
+            (done_of (test_of_running self.old.running) self.old.phase room outcome ms t)) }
     {
         match self.running {
             None => Ok(()),
@@ -51,7 +51,7 @@ impl RunTests {
         outcome: Outcome,
         ms: u64,
     ) -> Result<(), OutOfMemory>
-        ensures { (t : Turn) → self.old.running ≡ Some running → Stands self.old acts.old t →
+        ensures { (t : CallTurn) → self.old.running ≡ Some running → Stands self.old acts.old t →
             OnOk result (Moves self.new acts.new (told_done running.test outcome ms t)) }
     {
         let close = Ask::CloseLog { log: running.log };
@@ -73,7 +73,7 @@ impl RunTests {
         running: Running,
         bytes: Blob,
     ) -> Result<(), OutOfMemory>
-        ensures { (t : Turn) → self.old.running ≡ Some running → Stands self.old acts.old t →
+        ensures { (t : CallTurn) → self.old.running ≡ Some running → Stands self.old acts.old t →
             OnOk result (Stands self.new acts.new (put_out bytes t)) }
     {
         let all = bytes.as_slice();
@@ -94,9 +94,9 @@ impl RunTests {
     }
 
     pub(super) fn hear_output(&mut self, acts: &mut Acts, bytes: Blob) -> Result<(), OutOfMemory>
-        ensures { (t : Turn) → Stands self.old acts.old t →
+        ensures { (t : CallTurn) → Stands self.old acts.old t →
             OnOk result (Stands self.new acts.new
-            (output_fed (test_of self.old.running) self.old.phase bytes t)) }
+            (output_fed (test_of_running self.old.running) self.old.phase bytes t)) }
     {
         match self.running {
             None => Ok(()),

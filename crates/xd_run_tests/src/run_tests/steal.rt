@@ -36,7 +36,7 @@ impl RunTests {
     ghost use Rattle.xd_run_tests.specs.declared.line_entry.Standing.{Standing};
     ghost use Rattle.xd_run_tests.specs.declared.line_entry.Standing.TheVariants.{Free};
     ghost use Rattle.xd_run_tests.specs.Line.{left};
-    ghost use Rattle.xd_run_tests.specs.Turns.{Turn, stolen_if};
+    ghost use Rattle.xd_run_tests.specs.Turns.{CallTurn, stolen_if};
     ghost use Rattle.xd_run_tests.specs.Stands.{Stands, queued_at, IsAsked, AreMarked, TakenOut};
 
     /// Which tests a steal asks for.
@@ -130,7 +130,7 @@ impl RunTests {
 
     /// Asked tests go back, where all of them are in the queue.
     pub(super) fn steal(&mut self, acts: &mut Acts, tests: &[u32]) -> Result<(), OutOfMemory>
-        ensures { (t : Turn) → t.call.phase ≡ Serving → Stands self.old acts.old t →
+        ensures { (t : CallTurn) → t.call.phase ≡ Serving → Stands self.old acts.old t →
             OnOk result (Stands self.new acts.new (stolen_if tests.now t)) }
     {
         match self.asked_tests(tests)? {

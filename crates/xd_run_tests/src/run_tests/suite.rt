@@ -12,12 +12,12 @@ use xd_journal::What;
 
 impl RunTests {
     ghost use Rattle.xd_run_tests.specs.Line.{FunctionCall};
-    ghost use Rattle.xd_run_tests.specs.Turns.{Turn, receiving_ended_in, suite_refused_in, stopped, collected_in, serving_suite};
+    ghost use Rattle.xd_run_tests.specs.Turns.{CallTurn, receiving_ended_in, suite_refused_in, call_stopped, collected_in, serving_suite};
     ghost use Rattle.xd_run_tests.specs.Stands.{Stands, IsCall};
 
     /// The receiving direction of the channel ended.
     pub(super) fn end_hearing(&mut self, acts: &mut Acts) -> Result<(), OutOfMemory>
-        ensures { (t : Turn) → Stands self.old acts.old t →
+        ensures { (t : CallTurn) → Stands self.old acts.old t →
             OnOk result (Stands self.new acts.new (receiving_ended_in self.old.phase t)) }
     {
         match self.phase {
@@ -28,7 +28,7 @@ impl RunTests {
 
     /// The suite cannot be taken.
     pub(super) fn refuse(&mut self, acts: &mut Acts, text: Text) -> Result<(), OutOfMemory>
-        ensures { (t : Turn) → Stands self.old acts.old t →
+        ensures { (t : CallTurn) → Stands self.old acts.old t →
             OnOk result (Stands self.new acts.new (suite_refused_in self.old.phase text t)) }
     {
         match self.phase {
@@ -39,7 +39,7 @@ impl RunTests {
 
     /// GATEWAY_TERMINATE or the end of the link.
     pub(super) fn stop(&mut self)
-        ensures { (a : Acts) (t : Turn) → Stands self.old a t → Stands self.new a (stopped t) }
+        ensures { (a : Acts) (t : CallTurn) → Stands self.old a t → Stands self.new a (call_stopped t) }
     {
         self.phase = Phase::Stopped;
     }
@@ -52,7 +52,7 @@ impl RunTests {
         room: bool,
     ) -> Result<(), OutOfMemory>
         requires { length ids < 2 ^ 32 }
-        ensures { (t : Turn) → Stands self.old acts.old t →
+        ensures { (t : CallTurn) → Stands self.old acts.old t →
             OnOk result (Stands self.new acts.new (collected_in self.old.phase room ids t)) }
     {
         match self.phase {

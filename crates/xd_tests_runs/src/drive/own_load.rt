@@ -3,7 +3,7 @@
 ghost use Rattle.std.specs.Prelude.{◌≡◌, ◌<◌, [], None, Some, OnOk, true, if◌then◌else◌, option_map, unwrap_or};
 ghost use Rattle.xd_edge.specs.declared.mode.ModeKind.TheVariants.{Load as InModeLoad};
 ghost use Rattle.xd_ledger.specs.Calls.{turn};
-ghost use Rattle.xd_ledger.specs.Load.{dealt, give_unless_shut, is_due, more, refill, share};
+ghost use Rattle.xd_ledger.specs.Load.{dealt_singly, give_unless_shut, is_due, more, load_refill, load_share};
 ghost use Rattle.xd_ledger.specs.Plan.{Plan, chunk_of};
 ghost use Rattle.xd_ledger.specs.Table.{in_rota, workers_of};
 ghost use Rattle.xd_ledger.specs.Turn.{in_turn};
@@ -66,7 +66,7 @@ fn refill(
 ) -> Result<(), OutOfMemory>
     requires { in_rota worker ledger.old ≡ true }
     ensures { OnOk result ((p : Plan) → chunk_of p ≡ most →
-        turn ledger.new p acts.new.items ≡ refill ms worker (turn ledger.old p acts.old.items)) }
+        turn ledger.new p acts.new.items ≡ load_refill ms worker (turn ledger.old p acts.old.items)) }
 {
     if ledger.is_shut(worker) {
         return Ok(());
@@ -96,7 +96,7 @@ fn hand(
     requires { in_rota worker ledger.old ≡ true }
     ensures { OnOk result ((p : Plan) → chunk_of p ≡ most →
         turn ledger.new p acts.new.items ≡
-        unwrap_or (option_map give_unless_shut count) (refill 0) worker (turn ledger.old p acts.old.items)) }
+        unwrap_or (option_map give_unless_shut count) (load_refill 0) worker (turn ledger.old p acts.old.items)) }
 {
     match count {
         None => refill(alloc, most, 0, worker, ledger, acts),
@@ -115,7 +115,7 @@ fn round(
 ) -> Result<(), OutOfMemory>
     ensures turned { OnOk result ((p : Plan) → chunk_of p ≡ most →
         turn ledger.new p acts.new.items ≡
-        in_turn (unwrap_or (option_map give_unless_shut count) (refill 0)) (workers_of ledger.old) (turn ledger.old p acts.old.items)) }
+        in_turn (unwrap_or (option_map give_unless_shut count) (load_refill 0)) (workers_of ledger.old) (turn ledger.old p acts.old.items)) }
     ensures same { OnOk result (workers_of ledger.new ≡ workers_of ledger.old) }
 {
     for place in 0..ledger.rota_len() {
@@ -133,7 +133,7 @@ fn deal(
     acts: &mut Vec<Entry>,
 ) -> Result<(), OutOfMemory>
     ensures { OnOk result ((p : Plan) → chunk_of p ≡ most →
-        turn ledger.new p acts.new.items ≡ dealt (turn ledger.old p acts.old.items)) }
+        turn ledger.new p acts.new.items ≡ dealt_singly (turn ledger.old p acts.old.items)) }
 {
     let tests = ledger.pool_len() as u64;
     let workers = ledger.rota_len() as u64;
@@ -158,7 +158,7 @@ fn share_out(
     acts: &mut Vec<Entry>,
 ) -> Result<(), OutOfMemory>
     ensures { OnOk result ((p : Plan) → chunk_of p ≡ most →
-        turn ledger.new p acts.new.items ≡ share (turn ledger.old p acts.old.items)) }
+        turn ledger.new p acts.new.items ≡ load_share (turn ledger.old p acts.old.items)) }
 {
     deal(alloc, most, ledger, acts)?;
     if ledger.pool_len() == 0 {

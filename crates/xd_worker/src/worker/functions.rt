@@ -14,14 +14,14 @@ use xd_run_tests::RunTests;
 use xd_value::Value;
 
 impl WorkerCore {
-    ghost use Rattle.xd_worker.specs.Functions.{called_in, fault_text};
+    ghost use Rattle.xd_worker.specs.Functions.{called_in, call_fault_text};
     ghost use Rattle.xd_worker.specs.declared.function.Called.TheVariants.{Runs};
-    ghost use Rattle.xd_worker.specs.Worker.{Turn};
-    ghost use Rattle.xd_worker.specs.Turns.{refused, failed, echo_begun, tests_begun, called, is_called, without, echo_ended, echoed};
+    ghost use Rattle.xd_worker.specs.Worker.{WorkerTurn};
+    ghost use Rattle.xd_worker.specs.Turns.{refused, failed, echo_begun, tests_begun, called, is_called, without_one, echo_ended, echoed};
     ghost use Rattle.xd_worker.specs.Stands.{Stands};
 
     fn error_of(&self, fault: CallFault) -> Result<Text, OutOfMemory>
-        ensures { IfOk result (λ text. text ≡ fault_text fault) }
+        ensures { IfOk result (λ text. text ≡ call_fault_text fault) }
     {
         let text = Text::of(self.alloc, fault.text())?;
         Ok(text)
@@ -33,7 +33,7 @@ impl WorkerCore {
         number: u32,
         fault: CallFault,
     ) -> Result<(), OutOfMemory>
-        ensures { (t : Turn) → Stands self.old acts.old t →
+        ensures { (t : WorkerTurn) → Stands self.old acts.old t →
             OnOk result (Stands self.new acts.new (refused number fault t)) }
     {
         let text = self.error_of(fault)?;
@@ -59,7 +59,7 @@ impl WorkerCore {
         number: u32,
         text: Option<Text>,
     ) -> Result<(), OutOfMemory>
-        ensures { (t : Turn) → Stands self.old acts.old t →
+        ensures { (t : WorkerTurn) → Stands self.old acts.old t →
             OnOk result (Stands self.new acts.new (failed number text t)) }
     {
         let other = fail_word(self.alloc)?;
@@ -75,7 +75,7 @@ impl WorkerCore {
     }
 
     fn begin_echo(&mut self, number: u32) -> Result<(), OutOfMemory>
-        ensures { (a : WorkerActions) (t : Turn) → Stands self.old a t →
+        ensures { (a : WorkerActions) (t : WorkerTurn) → Stands self.old a t →
             OnOk result (Stands self.new a (echo_begun number t)) }
     {
         self.echoes.push(number)?;
@@ -90,7 +90,7 @@ impl WorkerCore {
         suite: Text,
         mode: ModeKind,
     ) -> Result<(), OutOfMemory>
-        ensures { (t : Turn) → Stands self.old acts.old t →
+        ensures { (t : WorkerTurn) → Stands self.old acts.old t →
             OnOk result (Stands self.new acts.new (tests_begun number suite mode t)) }
     {
         begin_function(&mut self.side, number);
@@ -118,7 +118,7 @@ impl WorkerCore {
         number: u32,
         function: Function,
     ) -> Result<(), OutOfMemory>
-        ensures { (t : Turn) → Stands self.old acts.old t →
+        ensures { (t : WorkerTurn) → Stands self.old acts.old t →
             OnOk result (Stands self.new acts.new (called number (Runs function) t)) }
     {
         match function {
@@ -143,7 +143,7 @@ impl WorkerCore {
         number: u32,
         call: Called,
     ) -> Result<(), OutOfMemory>
-        ensures { (t : Turn) → Stands self.old acts.old t →
+        ensures { (t : WorkerTurn) → Stands self.old acts.old t →
             OnOk result (Stands self.new acts.new (called number call t)) }
     {
         match call {
@@ -165,7 +165,7 @@ impl WorkerCore {
         number: u32,
         value: &Value,
     ) -> Result<(), OutOfMemory>
-        ensures { (t : Turn) → Stands self.old acts.old t →
+        ensures { (t : WorkerTurn) → Stands self.old acts.old t →
             OnOk result (Stands self.new acts.new
             (called number (called_in (is_called t.duties.service) (view value.now)) t)) }
     {
@@ -181,7 +181,7 @@ impl WorkerCore {
         number: u32,
         text: Option<Text>,
     ) -> Result<(), OutOfMemory>
-        ensures { (t : Turn) → Stands self.old acts.old t →
+        ensures { (t : WorkerTurn) → Stands self.old acts.old t →
             OnOk result (Stands self.new acts.new (echo_ended number text t)) }
     {
         end_function(&mut self.side, &mut acts.say, number, text, None)?;
@@ -191,13 +191,13 @@ impl WorkerCore {
 
     fn forget_echo(&mut self, number: u32)
         ensures others { self.new ≡ record self.old { echoes = self.new.echoes } }
-        ensures echoes { self.new.echoes.items ≡ without number self.old.echoes.items }
+        ensures echoes { self.new.echoes.items ≡ without_one number self.old.echoes.items }
     {
         self.echoes.retain(|channel| *channel != number);
     }
 
     fn end_long_echo(&mut self, acts: &mut WorkerActions, number: u32) -> Result<(), OutOfMemory>
-        ensures { (t : Turn) → Stands self.old acts.old t → OnOk result (Stands self.new acts.new (echo_ended number (Some (codes "item is too long")) t)) }
+        ensures { (t : WorkerTurn) → Stands self.old acts.old t → OnOk result (Stands self.new acts.new (echo_ended number (Some (codes "item is too long")) t)) }
     {
         let text = long_item_word(self.alloc)?;
         self.end_echo(acts, number, Some(text))?;
@@ -211,7 +211,7 @@ impl WorkerCore {
         number: u32,
         value: &Value,
     ) -> Result<(), OutOfMemory>
-        ensures { (t : Turn) → Stands self.old acts.old t →
+        ensures { (t : WorkerTurn) → Stands self.old acts.old t →
             OnOk result (Stands self.new acts.new (echoed number (view value.now) t)) }
     {
         match send(&mut self.side, &mut acts.say, number, value)? {

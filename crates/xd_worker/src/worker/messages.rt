@@ -22,7 +22,7 @@ impl WorkerCore {
     ghost use Rattle.xd_factory.specs.declared.taken.Taken.TheVariants as taken;
     ghost use Rattle.xd_channel.specs.declared.end.End.{End};
     ghost use Rattle.xd_worker.specs.declared.input.WorkerInput.TheVariants.{Message as MessageCame, LinkEnd};
-    ghost use Rattle.xd_worker.specs.Worker.{Worker, Turn, Service, Duties, turn_of, executing, serving};
+    ghost use Rattle.xd_worker.specs.Worker.{Worker, WorkerTurn, Service, Duties, worker_turn_of, executing, serving};
     ghost use Rattle.xd_worker.specs.Turns.{at_talk, did, did_unless, is_service};
     ghost use Rattle.xd_worker.specs.History.{IsToRefuse};
     ghost use Rattle.xd_worker.specs.Logs.{AllOpen, LogsOpen};
@@ -57,7 +57,7 @@ impl WorkerCore {
         channels: u32,
     ) -> Result<(), OutOfMemory>
         requires { number ≤ 2147483647 }
-        ensures { (t : Turn) → Stands self.old acts.old t →
+        ensures { (t : WorkerTurn) → Stands self.old acts.old t →
             OnOk result (Stands self.new acts.new (did (taken.Status number) channels t)) }
     {
         let functions = self.functions();
@@ -73,7 +73,7 @@ impl WorkerCore {
         value: &Value,
         channels: u32,
     ) -> Result<(), OutOfMemory>
-        ensures { (t : Turn) → Stands self.old acts.old t →
+        ensures { (t : WorkerTurn) → Stands self.old acts.old t →
             AllOpen (did (taken.Handed number (view value.now)) channels t).logs →
             OnOk result (Stands self.new acts.new
             (did (taken.Handed number (view value.now)) channels t)) }
@@ -95,7 +95,7 @@ impl WorkerCore {
         number: u32,
         channels: u32,
     ) -> Result<(), OutOfMemory>
-        ensures { (t : Turn) (end : End) → Stands self.old acts.old t →
+        ensures { (t : WorkerTurn) (end : End) → Stands self.old acts.old t →
             AllOpen (did (taken.EndHanded number end) channels t).logs →
             OnOk result (Stands self.new acts.new (did (taken.EndHanded number end) channels t)) }
     {
@@ -116,7 +116,7 @@ impl WorkerCore {
         channels: u32,
     ) -> Result<(), OutOfMemory>
         requires { IsSmall (taken_tree taken) }
-        ensures { (t : Turn) → Stands self.old acts.old t →
+        ensures { (t : WorkerTurn) → Stands self.old acts.old t →
             AllOpen (did (taken_tree taken) channels t).logs →
             OnOk result (Stands self.new acts.new (did (taken_tree taken) channels t)) }
     {
@@ -153,7 +153,7 @@ impl WorkerCore {
     ) -> Result<(), OutOfMemory>
         requires { IsSmall (taken_tree taken) }
         ensures { OnOk result ((n : ℕ) × Counts (slot_of_number self.old.side) n
-            × ((t : Turn) → Stands self.old acts.old t →
+            × ((t : WorkerTurn) → Stands self.old acts.old t →
             AllOpen (did_unless t.duties.stopped (taken_tree taken) n t).logs →
             Stands self.new acts.new (did_unless t.duties.stopped (taken_tree taken) n t))) }
     {
@@ -171,11 +171,11 @@ impl WorkerCore {
         acts: &mut WorkerActions,
         message: Message,
     ) -> Result<(), WorkerFault>
-        ensures does { (w : Worker) → Stands self.old acts.old (turn_of w) → LogsOpen w →
+        ensures does { (w : Worker) → Stands self.old acts.old (worker_turn_of w) → LogsOpen w →
             OnOk result (Does self.new acts.new w (MessageCame message)) }
-        ensures refused { (w : Worker) → Stands self.old acts.old (turn_of w) →
+        ensures refused { (w : Worker) → Stands self.old acts.old (worker_turn_of w) →
             IfErr result (FaultHasReason w (MessageCame message)) }
-        ensures refuses { (w : Worker) (fault : SideFault) → Stands self.old acts.old (turn_of w) →
+        ensures refuses { (w : Worker) (fault : SideFault) → Stands self.old acts.old (worker_turn_of w) →
             IsToRefuse w (MessageCame message) fault → IsThisFault fault result }
     {
         let number = message.channel;
@@ -191,7 +191,7 @@ impl WorkerCore {
 
     // The link ended.
     pub(super) fn take_link_end(&mut self, acts: &mut WorkerActions) -> Result<(), OutOfMemory>
-        ensures { (w : Worker) → Stands self.old acts.old (turn_of w) → LogsOpen w →
+        ensures { (w : Worker) → Stands self.old acts.old (worker_turn_of w) → LogsOpen w →
             OnOk result (Does self.new acts.new w LinkEnd) }
     {
         lose(&mut self.side)?;

@@ -15,15 +15,15 @@ use xd_value::{DumpFault, dumps};
 impl WorkerCore {
     ghost use Rattle.xd_worker.specs.declared.input.WorkerInput.TheVariants.{SuiteBytes, SuiteTooLarge, SuiteUnread, Output, ChildDone};
     ghost use Rattle.xd_suite.specs.declared.test.Test.{Test};
-    ghost use Rattle.xd_worker.specs.Worker.{Worker, Turn, Service, turn_of};
-    ghost use Rattle.xd_worker.specs.Turns.{SuiteRead, NoSuite, ids_of, suite_read, suite_refused, turned};
+    ghost use Rattle.xd_worker.specs.Worker.{Worker, WorkerTurn, Service, worker_turn_of};
+    ghost use Rattle.xd_worker.specs.Turns.{SuiteRead, NoSuite, ids_to_collect, suite_read, suite_refused, worker_turned};
     ghost use Rattle.xd_worker.specs.Logs.{AllOpen, LogsOpen};
     ghost use Rattle.xd_worker.specs.Stands.{Stands, AreServices, Does};
 
     // The ids of a suite, in the mode of the call.
     fn ids(&self, suite: &Suite) -> Result<Texts, OutOfMemory>
         ensures ids { (s : Option Service) → AreServices self.now.tests_call s →
-            IfOk result (λ ids. ids ≡ ids_of s suite.now) }
+            IfOk result (λ ids. ids ≡ ids_to_collect s suite.now) }
         ensures few { IfOk result (λ ids. length ids < 2 ^ 32) }
     {
         match &self.tests_call {
@@ -44,7 +44,7 @@ impl WorkerCore {
         suite: Suite,
         channels: u32,
     ) -> Result<(), OutOfMemory>
-        ensures { (t : Turn) → Stands self.old acts.old t →
+        ensures { (t : WorkerTurn) → Stands self.old acts.old t →
             AllOpen (suite_read suite channels t).logs →
             OnOk result (Stands self.new acts.new (suite_read suite channels t)) }
     {
@@ -62,7 +62,7 @@ impl WorkerCore {
         text: Text,
         channels: u32,
     ) -> Result<(), OutOfMemory>
-        ensures { (t : Turn) → Stands self.old acts.old t →
+        ensures { (t : WorkerTurn) → Stands self.old acts.old t →
             AllOpen (suite_refused text channels t).logs →
             OnOk result (Stands self.new acts.new (suite_refused text channels t)) }
     {
@@ -77,7 +77,7 @@ impl WorkerCore {
         acts: &mut WorkerActions,
         bytes: Blob,
     ) -> Result<(), OutOfMemory>
-        ensures { (w : Worker) → Stands self.old acts.old (turn_of w) → LogsOpen w →
+        ensures { (w : Worker) → Stands self.old acts.old (worker_turn_of w) → LogsOpen w →
             OnOk result (Does self.new acts.new w (SuiteBytes bytes)) }
     {
         let channels = self.channels();
@@ -99,9 +99,9 @@ impl WorkerCore {
         suite: Suite,
         channels: u32,
     ) -> Result<(), OutOfMemory>
-        ensures { (t : Turn) → Stands self.old acts.old t →
-            AllOpen (turned (SuiteRead suite) channels t).logs →
-            OnOk result (Stands self.new acts.new (turned (SuiteRead suite) channels t)) }
+        ensures { (t : WorkerTurn) → Stands self.old acts.old t →
+            AllOpen (worker_turned (SuiteRead suite) channels t).logs →
+            OnOk result (Stands self.new acts.new (worker_turned (SuiteRead suite) channels t)) }
     {
         if self.owed {
             self.hold(acts, suite, channels)?;
@@ -115,9 +115,9 @@ impl WorkerCore {
         text: Text,
         channels: u32,
     ) -> Result<(), OutOfMemory>
-        ensures { (t : Turn) → Stands self.old acts.old t →
-            AllOpen (turned (NoSuite text) channels t).logs →
-            OnOk result (Stands self.new acts.new (turned (NoSuite text) channels t)) }
+        ensures { (t : WorkerTurn) → Stands self.old acts.old t →
+            AllOpen (worker_turned (NoSuite text) channels t).logs →
+            OnOk result (Stands self.new acts.new (worker_turned (NoSuite text) channels t)) }
     {
         if self.owed {
             self.refuse_suite(acts, text, channels)?;
@@ -127,7 +127,7 @@ impl WorkerCore {
 
     // The suite file is too large.
     pub(super) fn take_large(&mut self, acts: &mut WorkerActions) -> Result<(), OutOfMemory>
-        ensures { (w : Worker) → Stands self.old acts.old (turn_of w) → LogsOpen w →
+        ensures { (w : Worker) → Stands self.old acts.old (worker_turn_of w) → LogsOpen w →
             OnOk result (Does self.new acts.new w SuiteTooLarge) }
     {
         let channels = self.channels();
@@ -138,7 +138,7 @@ impl WorkerCore {
 
     // The suite file cannot be read.
     pub(super) fn take_unread(&mut self, acts: &mut WorkerActions) -> Result<(), OutOfMemory>
-        ensures { (w : Worker) → Stands self.old acts.old (turn_of w) → LogsOpen w →
+        ensures { (w : Worker) → Stands self.old acts.old (worker_turn_of w) → LogsOpen w →
             OnOk result (Does self.new acts.new w SuiteUnread) }
     {
         let channels = self.channels();
@@ -153,7 +153,7 @@ impl WorkerCore {
         acts: &mut WorkerActions,
         bytes: Blob,
     ) -> Result<(), OutOfMemory>
-        ensures { (w : Worker) → Stands self.old acts.old (turn_of w) → LogsOpen w →
+        ensures { (w : Worker) → Stands self.old acts.old (worker_turn_of w) → LogsOpen w →
             OnOk result (Does self.new acts.new w (Output bytes)) }
     {
         let channels = self.channels();
@@ -168,7 +168,7 @@ impl WorkerCore {
         outcome: Outcome,
         ms: u64,
     ) -> Result<(), OutOfMemory>
-        ensures { (w : Worker) → Stands self.old acts.old (turn_of w) → LogsOpen w →
+        ensures { (w : Worker) → Stands self.old acts.old (worker_turn_of w) → LogsOpen w →
             OnOk result (Does self.new acts.new w (ChildDone outcome ms)) }
     {
         let channels = self.channels();

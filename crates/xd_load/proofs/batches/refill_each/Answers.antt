@@ -1,7 +1,7 @@
 use Rattle.std.proofs.Common.{◌≡◌, ◌<◌, length, get_or, ap, ◌∙◌, arith}
 use Rattle.xd_ledger.specs.Table.{workers_of}
 use Rattle.xd_ledger.specs.Turn.{Turn}
-use Rattle.xd_ledger.specs.Load.{refill}
+use Rattle.xd_ledger.specs.Load.{load_refill}
 use Rattle.xd_ledger.specs.Calls.{turn}
 use Rattle.xd_ledger.proofs.Turns.{in_rota-at, one_more}
 use Rattle.xd_load.proofs.Turns.{workers-refill, load_plan, load_plan-stands}
@@ -23,5 +23,5 @@ loop-place-preserved c =
     record {
       rota = one ∙ workers-refill 0 c.rota_at-worker.result (turn now (load_plan c.args.chunk) c.loop-place.acts.items) ∙ c.loop-place.invariant.rota;
       turned = λ p h.
-          (one_more (refill 0) c.rota_at-worker.result c.loop-place.place ws _ _ _ (step p h) (c.loop-place.invariant.turned p h) at lt);
+          (one_more (load_refill 0) c.rota_at-worker.result c.loop-place.place ws _ _ _ (step p h) (c.loop-place.invariant.turned p h) at lt);
     }

@@ -2,7 +2,7 @@ use Rattle.std.proofs.Common.{◌≡◌, take}
 use Rattle.xd_ledger.specs.Table.{workers_of}
 use Rattle.xd_ledger.specs.Plan.{Plan}
 use Rattle.xd_ledger.specs.Turn.{in_turn}
-use Rattle.xd_ledger.specs.Load.{refill}
+use Rattle.xd_ledger.specs.Load.{load_refill}
 use Rattle.xd_ledger.specs.Calls.{turn}
 use Rattle.xd_load.specs.Stands.{InChunks}
 use Rattle.xd_load.proofs.batches.refill_each.Given as goal
@@ -11,5 +11,5 @@ abbrev pub invariant-loop-place : goal.invariant-loop-place
 invariant-loop-place l = record {
   rota : workers_of l.ledger ≡ workers_of l.fn.ledger;
   turned : (p : Plan) → InChunks l.fn.chunk p →
-      turn l.ledger p l.acts.items ≡ in_turn (refill 0) (take l.place (workers_of l.fn.ledger)) (turn l.fn.ledger p l.fn.acts.items);
+      turn l.ledger p l.acts.items ≡ in_turn (load_refill 0) (take l.place (workers_of l.fn.ledger)) (turn l.fn.ledger p l.fn.acts.items);
 }

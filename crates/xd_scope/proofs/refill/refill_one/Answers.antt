@@ -1,6 +1,6 @@
 use Rattle.std.proofs.Common.{◌≡◌, ◌≤◌, ◌∙◌, false, length, sym, ap, arith}
 use Rattle.xd_ledger.specs.Calls.{turn}
-use Rattle.xd_ledger.specs.ScopeModes.{give_more, give_unit, refill}
+use Rattle.xd_ledger.specs.ScopeModes.{give_more, give_unit, scope_refill}
 use Rattle.xd_ledger.specs.Turn.{enough}
 use Rattle.xd_ledger.specs.Table.{held, seat_shut, workers_of}
 use Rattle.xd_ledger.specs.Turn.{Turn}
@@ -18,5 +18,5 @@ returns-clause-turned c = λ p h.
     let open_seat : seat_shut c.args.worker c.args.ledger.now ≡ false = sym c.is_shut.ensures ∙ c.if-is_shut.false in
     let few : length (held c.args.worker c.args.ledger.now) ≤ 2 = omega (arith, c.held_len.ensures) in
     let same = ap length h.queue in
-    is-at-same (give_more enough c.args.worker (give_unit c.args.worker t)) (refill c.args.worker t) c.give_enough.new.ledger c.give_enough.new.acts.items c.give_enough.new.units
+    is-at-same (give_more enough c.args.worker (give_unit c.args.worker t)) (scope_refill c.args.worker t) c.give_enough.new.ledger c.give_enough.new.acts.items c.give_enough.new.units
     (sym (refill-due c.args.worker t open_seat (λ e. absurd (omega (arith, e, same, c.len.ensures, c.args.units.now.queue.ok))) few)) (c.in_ok-give_enough.ensures.turned p h))

@@ -1,7 +1,7 @@
 use Rattle.std.proofs.Common.{◌∙◌, ℕ, List, take, drop, length, ap, sym, subst, arith}
 use Rattle.std.specs.Prelude.{reverse}
 use Rattle.xd_ledger.specs.Calls.{turn}
-use Rattle.xd_ledger.specs.ScopeModes.{give_unit, refill}
+use Rattle.xd_ledger.specs.ScopeModes.{give_unit, scope_refill}
 use Rattle.xd_ledger.specs.Suits.{AreInPool}
 use Rattle.xd_ledger.specs.Table.{workers_of}
 use Rattle.xd_ledger.specs.Turn.{Turn, in_turn, shut_each}
@@ -39,8 +39,8 @@ returns-clause-turned c = λ p h.
     let one = is-at-turn (shut_each (reverse (drop k ws)) t) c.shut_surplus.new.ledger p c.shut_surplus.new.acts.items c.args.units.now (c.in_ok-shut_surplus.ensures p) h in
     let two = then-step (in_turn give_unit (take k ws)) (shut_each (reverse (drop k ws)) t) c.shut_surplus.new.ledger c.shut_surplus.new.acts.items c.args.units.now c.deal_each.new.ledger c.deal_each.new.acts.items c.deal_each.new.units one
     (λ q j. subst (λ (vs : List ℕ). IsAt (in_turn give_unit (take k vs) (turn c.shut_surplus.new.ledger q c.shut_surplus.new.acts.items)) c.deal_each.new.ledger c.deal_each.new.acts.items c.deal_each.new.units) same (c.in_ok-deal_each.ensures.turned q j)) in
-    then-step (in_turn refill (take k ws)) (in_turn give_unit (take k ws) (shut_each (reverse (drop k ws)) t)) c.deal_each.new.ledger c.deal_each.new.acts.items c.deal_each.new.units c.deal_each-2.new.ledger c.deal_each-2.new.acts.items c.deal_each-2.new.units two
-    (λ q j. subst (λ (vs : List ℕ). IsAt (in_turn refill (take k vs) (turn c.deal_each.new.ledger q c.deal_each.new.acts.items)) c.deal_each-2.new.ledger c.deal_each-2.new.acts.items c.deal_each-2.new.units) still (c.in_ok-deal_each-2.ensures.turned q j)))
+    then-step (in_turn scope_refill (take k ws)) (in_turn give_unit (take k ws) (shut_each (reverse (drop k ws)) t)) c.deal_each.new.ledger c.deal_each.new.acts.items c.deal_each.new.units c.deal_each-2.new.ledger c.deal_each-2.new.acts.items c.deal_each-2.new.units two
+    (λ q j. subst (λ (vs : List ℕ). IsAt (in_turn scope_refill (take k vs) (turn c.deal_each.new.ledger q c.deal_each.new.acts.items)) c.deal_each-2.new.ledger c.deal_each-2.new.acts.items c.deal_each-2.new.units) still (c.in_ok-deal_each-2.ensures.turned q j)))
 
 pub returns-clause-rota : goal.returns-clause-rota
 returns-clause-rota c =

@@ -7,7 +7,7 @@ use Rattle.xd_ledger.specs.Plan.{items_named}
 use Rattle.xd_ledger.specs.Table.{at_seat}
 use Rattle.xd_ledger.specs.Workers.{slot_of}
 use Rattle.xd_report.specs.declared.holder.Holder.{Holder}
-use Rattle.xd_report.specs.Follows.{seat_of}
+use Rattle.xd_report.specs.Follows.{seat_of_holder}
 use Rattle.xd_report.proofs.Kept.{changed_kept}
 use Rattle.xd_report.proofs.reporter.Reporter.take_back.Goals as goal
 
@@ -16,7 +16,7 @@ returns c = λ s f.
     let items : List ℕ = items_named (slot_of c.args.worker s.books) c.args.indices.now s.plan in
     let given : c.deref.result.now ≡ items = c.deref.ensures.value ∙ c.in_ok-items.ensures s f in
     let change : Seat → Seat = λ x. record x { held = without items x.held } in
-    let now : map seat_of c.take_held.new.rota ≡ at_seat c.args.worker change (map seat_of c.args.self.now.rota.items) =
-    c.take_held.ensures ∙ ap (λ (l : List ℕ). at_seat c.args.worker (λ x. record x { held = without l x.held }) (map seat_of c.deref_mut.result.now)) given ∙ ap (λ (ds : List Holder). at_seat c.args.worker change (map seat_of ds)) c.deref_mut.ensures.value in
+    let now : map seat_of_holder c.take_held.new.rota ≡ at_seat c.args.worker change (map seat_of_holder c.args.self.now.rota.items) =
+    c.take_held.ensures ∙ ap (λ (l : List ℕ). at_seat c.args.worker (λ x. record x { held = without l x.held }) (map seat_of_holder c.deref_mut.result.now)) given ∙ ap (λ (ds : List Holder). at_seat c.args.worker change (map seat_of_holder ds)) c.deref_mut.ensures.value in
     let rota_is : (with_items c.args.self.now.rota c.take_held.new.rota).items ≡ c.take_held.new.rota = with_items_is c.args.self.now.rota c.take_held.new.rota (search rules) in
-    record { books = f.books; mode = f.mode; rota = changed_kept c.args.worker change s.books.table.rota c.args.self.now.rota.items c.take_held.new.rota (λ x. refl) f.rota now ∙ ap (map seat_of) (sym rota_is); sizes = f.sizes }
+    record { books = f.books; mode = f.mode; rota = changed_kept c.args.worker change s.books.table.rota c.args.self.now.rota.items c.take_held.new.rota (λ x. refl) f.rota now ∙ ap (map seat_of_holder) (sym rota_is); sizes = f.sizes }

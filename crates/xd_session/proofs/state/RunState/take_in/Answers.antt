@@ -8,7 +8,7 @@ use Rattle.xd_ledger.specs.Outputs.{outputs_of_joining, shut_all}
 use Rattle.xd_ledger.specs.Sharing.{State}
 use Rattle.xd_ledger.specs.Stops.{is_stopped, stopped_by}
 use Rattle.xd_session.specs.declared.lists.Comparison.{Comparison}
-use Rattle.xd_session.specs.Compared.{stop_of}
+use Rattle.xd_session.specs.Compared.{stop_of_comparison}
 use Rattle.xd_session.specs.Books.{books_of}
 use Rattle.xd_session.specs.Joining.{TakenIn, taken_in}
 use Rattle.xd_session.specs.Known.{known_by}
@@ -27,7 +27,7 @@ returns-in_ok-shut_everyone-in-Differs g c = λ s a m.
     let same : b ≡ t.books = c.stop_by.ensures ∙ ap (λ (d : Books). stopped_by (Some how) d) a.books_are in
     let at : At t b (known_by c.args.self.now.known) (g.M.Mode.stands c.args.self.now.mode) = stopped-at t b _ _ (ap is_stopped same ∙ stopped) same a.known_is in
     let going : is_stopped s.books ≡ false = ap is_stopped (sym a.books_are) ∙ c.requires.going in
-    let P : Comparison → Type 0 = λ k. TakenIn w (stop_of w k) s (books_of c.shut_everyone.new.books) (known_by c.args.self.now.known) c.args.entries.now.items c.shut_everyone.new.entries.items (g.M.Mode.stands c.args.self.now.mode) in
+    let P : Comparison → Type 0 = λ k. TakenIn w (stop_of_comparison w k) s (books_of c.shut_everyone.new.books) (known_by c.args.self.now.known) c.args.entries.now.items c.shut_everyone.new.entries.items (g.M.Mode.stands c.args.self.now.mode) in
     subst P (sym c.in-Differs.is)
     (acted-by (shut_all t.books.members) _ t (books_of c.shut_everyone.new.books) _ c.args.entries.now.items c.shut_everyone.new.entries.items _
     (choose-second (is_stopped s.books) (is_stopped t.books) [] (shut_all t.books.members) (outputs_of_joining w s.books t) going stopped)
@@ -37,6 +37,6 @@ pub returns-in_ok-join-in-First : goal.returns-in_ok-join-in-First
 returns-in_ok-join-in-First g c = λ s a m.
     (let w = c.args.worker in
     let going : is_stopped s.books ≡ false = ap is_stopped (sym a.books_are) ∙ c.requires.going in
-    let none : stop_of w c.args.comparison ≡ None = elim c.in-First.is as (λ _. stop_of w c.args.comparison ≡ None) [ inl e ↦ ap (stop_of w) e | inr e ↦ ap (stop_of w) e ] in
+    let none : stop_of_comparison w c.args.comparison ≡ None = elim c.in-First.is as (λ _. stop_of_comparison w c.args.comparison ≡ None) [ inl e ↦ ap (stop_of_comparison w) e | inr e ↦ ap (stop_of_comparison w) e ] in
     let P : Option RunStop → Type 0 = λ h. TakenIn w h s (books_of c.join.new.self.books) (known_by c.join.new.self.known) c.args.entries.now.items c.join.new.entries.items (g.M.Mode.stands c.join.new.self.mode) in
     subst P (sym none) (taken-joined w s _ _ c.args.entries.now.items c.join.new.entries.items _ going (c.in_ok-join-in-First.ensures s a (m none))))

@@ -3,7 +3,7 @@ use Rattle.std.specs.Prelude.{option_map, unwrap_or}
 use Rattle.xd_ledger.specs.Table.{workers_of}
 use Rattle.xd_ledger.specs.Plan.{Plan}
 use Rattle.xd_ledger.specs.Turn.{Turn}
-use Rattle.xd_ledger.specs.Load.{give_unless_shut, refill}
+use Rattle.xd_ledger.specs.Load.{give_unless_shut, load_refill}
 use Rattle.xd_ledger.specs.Calls.{turn}
 use Rattle.xd_ledger.proofs.Turns.{in_rota-at, one_more, some_plan}
 use Rattle.xd_load.proofs.Turns.{workers-give_unless, workers-refill}
@@ -14,7 +14,7 @@ abbrev plan_of : ℕ → Plan
 plan_of most = record some_plan { chunk = Some most }
 
 abbrev step : Option ℕ → ℕ → Turn → Turn
-step count = unwrap_or (option_map give_unless_shut count) (refill 0)
+step count = unwrap_or (option_map give_unless_shut count) (load_refill 0)
 
 workers-step : (count : Option ℕ) (w : ℕ) (t : Turn) → workers_of (step count w t).table ≡ workers_of t.table
 workers-step None w t = workers-refill 0 w t
