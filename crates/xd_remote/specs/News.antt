@@ -132,6 +132,6 @@ AreHeard (g ∷ h) = AreHeard h × IsCame (ear_after h) g.message g.came
 -- these news are those of these messages, in order
 pub record IsNewsOf (messages : List MessageView) (news : List What) : Type 0 where
   pub heard : List Heard
-  pub are : AreHeard heard_of_message
-  pub messages_are : all_messages heard_of_message ≡ messages
-  pub news_are : all_news heard_of_message ≡ news
+  pub are : AreHeard heard
+  pub messages_are : all_messages heard ≡ messages
+  pub news_are : all_news heard ≡ news

@@ -83,20 +83,20 @@ HasTest c k = (h : List HeardInput) × StandsFor c h × (k < length (worker_afte
 -- an input was answered by the turn that it makes
 pub record Does (c : WorkerCore) (a : WorkerActions) (w : Worker) (input : WorkerInput) : Type 0 where
   pub heard : HeardInput
-  pub is : Is input heard_of_message.came
-  pub counts : Counts (table_behind heard_of_message.came w.table).slot heard_of_message.channels
-  pub stands : Stands c a (turn_by w heard_of_message)
+  pub is : Is input heard.came
+  pub counts : Counts (table_behind heard.came w.table).slot heard.channels
+  pub stands : Stands c a (turn_by w heard)
 
 -- what an input is, and that it was answered by the turn that it makes of this worker
 pub record Answers (c : WorkerCore) (w : Worker) (input : WorkerInput) (a : WorkerActions) : Type 0 where
   pub heard : HeardInput
-  pub is : Is input heard_of_message.came
-  pub counts : Counts (table_behind heard_of_message.came w.table).slot heard_of_message.channels
-  pub says : a.say ≡ (turn_by w heard_of_message).talk.says
-  pub suite : a.suite ≡ (turn_by w heard_of_message).suite
-  pub run : a.run ≡ (turn_by w heard_of_message).run
-  pub over : a.over ≡ is_over (after_turn (turn_by w heard_of_message))
-  pub worker : IsWorker c (after_turn (turn_by w heard_of_message))
+  pub is : Is input heard.came
+  pub counts : Counts (table_behind heard.came w.table).slot heard.channels
+  pub says : a.say ≡ (turn_by w heard).talk.says
+  pub suite : a.suite ≡ (turn_by w heard).suite
+  pub run : a.run ≡ (turn_by w heard).run
+  pub over : a.over ≡ is_over (after_turn (turn_by w heard))
+  pub worker : IsWorker c (after_turn (turn_by w heard))
 
 -- a fault names its reason; running out of memory needs none
 abbrev pub FaultHasReason : Worker → WorkerInput → WorkerFault → Type 0
