@@ -47,49 +47,49 @@ fn expect_runs<R: Wait + Abort>(rt: &R, alloc: Global, runs: &str) -> Result<(),
 
 #[test]
 fn worked_runs_have_their_journals_and_texts(rt: HostRuntime) -> Result<(), Fail> {
-    expect_runs(&rt, rt.alloc(), worked_runs::RUNS)?;
-    expect_runs(&rt, rt.alloc(), worked_modes::RUNS)
+    expect_runs(&rt, rt.alloc(), worked_runs::runs())?;
+    expect_runs(&rt, rt.alloc(), worked_modes::runs())
 }
 
 #[test]
 fn breaches_and_their_neighbours_have_their_journals(rt: HostRuntime) -> Result<(), Fail> {
-    expect_runs(&rt, rt.alloc(), breaches::RUNS)?;
-    expect_runs(&rt, rt.alloc(), other_breaches::RUNS)
+    expect_runs(&rt, rt.alloc(), breaches::runs())?;
+    expect_runs(&rt, rt.alloc(), other_breaches::runs())
 }
 
 #[test]
 fn random_runs_are_those_of_the_model(rt: HostRuntime) -> Result<(), Fail> {
-    expect_runs(&rt, rt.alloc(), random_runs::RUNS)
+    expect_runs(&rt, rt.alloc(), random_runs::runs())
 }
 
 #[test]
 fn random_runs_of_other_modes_are_those_of_the_model(rt: HostRuntime) -> Result<(), Fail> {
-    expect_runs(&rt, rt.alloc(), other_modes::RUNS)?;
-    expect_runs(&rt, rt.alloc(), drawn_load_and_each::RUNS)?;
-    expect_runs(&rt, rt.alloc(), drawn_scopes::RUNS)?;
-    expect_runs(&rt, rt.alloc(), drawn_groups_and_steals::RUNS)
+    expect_runs(&rt, rt.alloc(), other_modes::runs())?;
+    expect_runs(&rt, rt.alloc(), drawn_load_and_each::runs())?;
+    expect_runs(&rt, rt.alloc(), drawn_scopes::runs())?;
+    expect_runs(&rt, rt.alloc(), drawn_groups_and_steals::runs())
 }
 
 #[test]
 fn runs_in_which_crashed_tests_are_tried_again_are_those_of_the_model(
     rt: HostRuntime,
 ) -> Result<(), Fail> {
-    expect_runs(&rt, rt.alloc(), retried_runs::RUNS)?;
-    expect_runs(&rt, rt.alloc(), retried_modes::RUNS)
+    expect_runs(&rt, rt.alloc(), retried_runs::runs())?;
+    expect_runs(&rt, rt.alloc(), retried_modes::runs())
 }
 
 #[test]
 fn runs_in_a_mode_load_of_the_tests_own_are_the_same(rt: HostRuntime) -> Result<(), Fail> {
-    expect_runs_by(&rt, rt.alloc(), LoadBy::Tests, worked_runs::RUNS)?;
-    expect_runs_by(&rt, rt.alloc(), LoadBy::Tests, random_runs::RUNS)?;
-    expect_runs_by(&rt, rt.alloc(), LoadBy::Tests, drawn_load_and_each::RUNS)?;
-    expect_runs_by(&rt, rt.alloc(), LoadBy::Tests, retried_runs::RUNS)
+    expect_runs_by(&rt, rt.alloc(), LoadBy::Tests, worked_runs::runs())?;
+    expect_runs_by(&rt, rt.alloc(), LoadBy::Tests, random_runs::runs())?;
+    expect_runs_by(&rt, rt.alloc(), LoadBy::Tests, drawn_load_and_each::runs())?;
+    expect_runs_by(&rt, rt.alloc(), LoadBy::Tests, retried_runs::runs())
 }
 
 #[test]
 fn behind_a_failing_output_only_kills_are_asked_for(rt: HostRuntime) -> Result<(), Fail> {
     let alloc = rt.alloc();
-    for line in failing_outputs::RUNS.lines() {
+    for line in failing_outputs::runs().lines() {
         let (name, line) = next_field(line)?;
         let (settings, line) = next_field(line)?;
         let (news, wanted) = next_field(line)?;

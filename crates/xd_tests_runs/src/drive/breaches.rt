@@ -3,7 +3,7 @@
 // are those of a model of the rules, and of a reading of the table of breaches, that were written apart from them.
 //
 // No steal is ever open in mode load, so whatever is given back there is a breach.
-pub(crate) const RUNS: &str = "\
+const RUNS: &str = "\
      ready twice ~ 1,0,0,-,- ~ R0 R0 ~ s0,0 R0 G0,b k0 o:restarts,0,0 ~ 1 ~ [gw0] node down: rules broken/worker gw0 crashed and worker restarting disabled/no tests ran/\n\
      not ready twice ~ 1,0,0,-,- ~ R0 ~ s0,0 R0 G0,e k0 o:restarts,0,0 ~ 1 ~ [gw0] node down: Not properly terminated/worker gw0 crashed and worker restarting disabled/no tests ran/\n\
      a collection before it is ready ~ 1,0,0,-,- ~ C0:a ~ s0,0 G0,b k0 o:restarts,0,0 ~ 1 ~ [gw0] node down: rules broken/worker gw0 crashed and worker restarting disabled/no tests ran/\n\
@@ -69,3 +69,7 @@ pub(crate) const RUNS: &str = "\
      not started, but ready ~ 1,0,0,-,- ~ R0 N0 ~ s0,0 R0 G0,b k0 o:restarts,0,0 ~ 1 ~ [gw0] node down: rules broken/worker gw0 crashed and worker restarting disabled/no tests ran/\n\
      not not started, but ready ~ 1,0,0,-,- ~ N0 ~ s0,0 N0 o:restarts,0,0 ~ 1 ~ [gw0] node down: not started/worker gw0 crashed and worker restarting disabled/no tests ran/\n\
      what no worker may send ~ 1,0,0,-,- ~ R0 Z0 ~ s0,0 R0 G0,b k0 o:restarts,0,0 ~ 1 ~ [gw0] node down: rules broken/worker gw0 crashed and worker restarting disabled/no tests ran/";
+
+pub(crate) fn runs() -> &'static str {
+    RUNS
+}

@@ -1,7 +1,7 @@
 // News that break the rules of a worker, and beside each the nearest that do not, in each mode but load; in worksteal answers
 // to a steal, too. The words are those of `script`. The journals, statuses and texts are those of a model of the rules that was
 // written apart from them.
-pub(crate) const RUNS: &str = "\
+const RUNS: &str = "\
      each: ready twice ~ 1,0,0,-,-,each ~ R0 R0 ~ s0,0 R0 G0,b k0 o:restarts,0,0 ~ 1 ~ [gw0] node down: rules broken/worker gw0 crashed and worker restarting disabled/no tests ran/\n\
      each: not ready twice ~ 1,0,0,-,-,each ~ R0 ~ s0,0 R0 G0,e k0 o:restarts,0,0 ~ 1 ~ [gw0] node down: Not properly terminated/worker gw0 crashed and worker restarting disabled/no tests ran/\n\
      each: a collection before it is ready ~ 1,0,0,-,-,each ~ C0:a ~ s0,0 G0,b k0 o:restarts,0,0 ~ 1 ~ [gw0] node down: rules broken/worker gw0 crashed and worker restarting disabled/no tests ran/\n\
@@ -326,3 +326,7 @@ pub(crate) const RUNS: &str = "\
      worksteal: a second answer ~ 2,0,0,-,-,worksteal ~ R0 C0#6 R1 C1#6 T0,0,p,5 T0,1,p,5 B1,5 B1 ~ s0,0 s1,1 R0 C0#6 R1 C1= r0,0-2 r1,3-5 D0,0,p,5 D0,1,p,5 t1,5 B1,5 r0,5 G1,b k1 h0 G0,e k0 o:restarts,1,0 ~ 1 ~ 6 tests on 2 workers, worksteal/[gw0] PASSED t0/[gw0] PASSED t1/[gw1] node down: rules broken/[gw1] CRASHED t3/[gw0] node down: Not properly terminated/[gw0] CRASHED t2/==== [gw1] t3 ====/worker 'gw1' crashed while running 't3'/==== [gw0] t2 ====/worker 'gw0' crashed while running 't2'/worker gw1 crashed and worker restarting disabled/2 failed, 2 passed/\n\
      worksteal: an answer with the head ~ 2,0,0,-,-,worksteal ~ R0 C0#6 R1 C1#6 T0,0,p,5 T0,1,p,5 T1,3,p,5 T1,4,p,5 B1,5 ~ s0,0 s1,1 R0 C0#6 R1 C1= r0,0-2 r1,3-5 D0,0,p,5 D0,1,p,5 t1,5 D1,3,p,5 D1,4,p,5 G1,b k1 h0 G0,e k0 o:restarts,1,0 ~ 1 ~ 6 tests on 2 workers, worksteal/[gw0] PASSED t0/[gw0] PASSED t1/[gw1] PASSED t3/[gw1] PASSED t4/[gw1] node down: rules broken/[gw1] CRASHED t5/[gw0] node down: Not properly terminated/[gw0] CRASHED t2/==== [gw1] t5 ====/worker 'gw1' crashed while running 't5'/==== [gw0] t2 ====/worker 'gw0' crashed while running 't2'/worker gw1 crashed and worker restarting disabled/2 failed, 4 passed/\n\
      worksteal: an answer with a test that has ended ~ 2,0,0,-,-,worksteal ~ R0 C0#10 R1 C1#10 T0,0,p,5 T0,1,p,5 T0,2,p,5 T0,3,p,5 T1,5,p,5 T1,6,p,5 T1,7,p,5 T1,8,p,5 B1,8,9 ~ s0,0 s1,1 R0 C0#10 R1 C1= r0,0-4 r1,5-9 D0,0,p,5 D0,1,p,5 D0,2,p,5 D0,3,p,5 t1,8-9 D1,5,p,5 D1,6,p,5 D1,7,p,5 D1,8,p,5 G1,b k1 h0 G0,e k0 o:restarts,1,0 ~ 1 ~ 10 tests on 2 workers, worksteal/[gw0] PASSED t0/[gw0] PASSED t1/[gw0] PASSED t2/[gw0] PASSED t3/[gw1] PASSED t5/[gw1] PASSED t6/[gw1] PASSED t7/[gw1] PASSED t8/[gw1] node down: rules broken/[gw1] CRASHED t9/[gw0] node down: Not properly terminated/[gw0] CRASHED t4/==== [gw1] t9 ====/worker 'gw1' crashed while running 't9'/==== [gw0] t4 ====/worker 'gw0' crashed while running 't4'/worker gw1 crashed and worker restarting disabled/2 failed, 8 passed/";
+
+pub(crate) fn runs() -> &'static str {
+    RUNS
+}

@@ -2,7 +2,7 @@
 // chunks, deaths, workers that do not start, refusals, collections that differ, breaches, news of workers that are gone,
 // kept output, and outputs that fail. The words are those of `script`. The journals, statuses and texts are those of a model
 // of the rules that was written apart from them.
-pub(crate) const RUNS: &str = "\
+const RUNS: &str = "\
      0 ~ 3,0,5,1,6 ~ N0 R1 C1:a|b|c R3 R2 C3:a|b|c G2,c R4 C4:a|b|c T4,2,p,5 T1,0,p,100,why/ F1 F4 T3,1,p,100 F3 ~ s0,0 s1,1 s2,2 N0 s3,0 R1 C1:a|b|c R3 R2 C3= G2,c k2 s4,2 R4 C4= r1,0 r3,1 r4,2 h1 h3 h4 D4,2,p,5 k1 k3 k4 o:out ~ 3 ~ [gw0] node down: not started/replacing crashed worker gw0/[gw2] node down: message cut short/replacing crashed worker gw2/3 tests on 3 workers, load/\n\
      1 ~ 3,0,1,-,9 ~ R2 R1 R0 C1:a C0:a C2:a F2 T1,0,p,5,no F1 G0,s R3 C3:a F3 ~ s0,0 s1,1 s2,2 R2 R1 R0 C1:a C0= C2= r1,0 h1 h0 h2 F2 D1,0,p,5 F1 G0,s k0 s3,0 R3 h3 C3= F3 o:completed ~ 0 ~ 1 tests on 3 workers, load/[gw1] PASSED a/[gw0] node down: send fault/replacing crashed worker gw0/1 passed/\n\
      2 ~ 1,0,5,2,7 ~ R0 C0:a|b|c L0,0,6 P0,6,d/ E0,6 G0,r R1 C1:a|b|c G1,g R2 C2:a|b|c T2,1,-1,5 F2 ~ s0,0 R0 C0:a|b|c r0,0-1 G0,r,d/ k0 s1,0 R1 C1= r1,2,1 G1,g k1 s2,0 R2 C2= r2,1 h2 D2,1,-1,5 k2 o:out ~ 3 ~ 3 tests on 1 workers, load/[gw0] node down: read fault/[gw0] CRASHED a/replacing crashed worker gw0/[gw1] node down: bad message/[gw1] CRASHED c/replacing crashed worker gw1/[gw2] FAILED b/\n\
@@ -203,3 +203,7 @@ pub(crate) const RUNS: &str = "\
      197 ~ 4,0,5,-,- ~ R0 R3 G0,e R4 C4: R2 G4,e R1 C3: R5 C1: C5: D3,4,p,5 R6 C6: C2: F5 F1 F6 F2 ~ s0,0 s1,1 s2,2 s3,3 R0 R3 G0,e k0 s4,0 R4 C4: R2 G4,e k4 s5,0 R1 C3= R5 C1= C5= G3,b k3 s6,3 R6 C6= C2= h1 h5 h6 h2 F5 F1 F6 F2 o:completed ~ 5 ~ [gw0] node down: Not properly terminated/replacing crashed worker gw0/[gw4] node down: Not properly terminated/replacing crashed worker gw4/[gw3] node down: rules broken/replacing crashed worker gw3/0 tests on 4 workers, load/no tests ran/\n\
      198 ~ 2,0,1,-,- ~ N0 R1 R2 C2:a|b|c|d|e|f|g|h|i|i G1,c ~ s0,0 s1,1 N0 s2,0 R1 R2 G2,b k2 h1 G1,c k1 o:restarts,2,1 ~ 1 ~ [gw0] node down: not started/replacing crashed worker gw0/[gw2] node down: rules broken/[gw1] node down: message cut short/maximum crashed workers reached: 1/no tests ran/\n\
      199 ~ 3,2,2,-,- ~ N2 R0 C0:a|b|c R1 C1:a|b|c R3 C3:a|b|c T1,1,s,100,why/ F1 T0,0,-3,100,no G3,r F0 ~ s0,0 s1,1 s2,2 N2 s3,2 R0 C0:a|b|c R1 C1= R3 C3= r0,0 r1,1 r3,2 h0 h1 h3 D1,1,s,100 F1 D0,0,-3,100,no G3,r k3 F0 o:maxfail,2 ~ 2 ~ [gw2] node down: not started/replacing crashed worker gw2/3 tests on 3 workers, load/[gw1] SKIPPED b/[gw0] FAILED a/[gw3] node down: read fault/[gw3] CRASHED c/==== [gw0] a ====/could not be read/---- output: 2 bytes ----/no/==== [gw3] c ====/worker 'gw3' crashed while running 'c'/stopping after 2 failures/2 failed, 1 skipped/";
+
+pub(crate) fn runs() -> &'static str {
+    RUNS
+}

@@ -1,7 +1,7 @@
 // Runs of mode load in which a crashed test is tried again: first worked ones, what each shows is its name; then runs from
 // lists of news that were drawn at random (tools/draw.py). The words are those of `script`. The journals, statuses and texts
 // are those of a model of the rules that was written apart from them.
-pub(crate) const RUNS: &str = "\
+const RUNS: &str = "\
      a crashed test is tried again first of the pool, and is CRASHED at its second death ~ 2,0,8,-,-,load,r1 ~ R0 C0:a|b|c R1 C1:a|b|c G0,e R2 C2:a|b|c G2,e R3 C3:a|b|c T1,1,p,5 F1 T3,2,p,5 F3 ~ s0,0 s1,1 R0 C0:a|b|c R1 C1= r0,0 r1,1 r0,2 h0 h1 G0,e k0 s2,0 R2 C2= r2,0,2 G2,e k2 s3,0 R3 C3= r3,2 h3 D1,1,p,5 F1 D3,2,p,5 F3 o:completed ~ 1 ~ 3 tests on 2 workers, load/[gw0] node down: Not properly terminated/[gw0] RETRY a/replacing crashed worker gw0/[gw2] node down: Not properly terminated/[gw2] CRASHED a/replacing crashed worker gw2/[gw1] PASSED b/[gw3] PASSED c/==== [gw2] a ====/worker 'gw2' crashed while running 'a'/1 failed, 2 passed/\n\
      a death that is more than the restarts is no retry ~ 2,0,0,-,-,load,r1 ~ R0 C0:a|b|c|d R1 C1:a|b|c|d G0,e T1,2,p,5 T1,3,p,5 F1 ~ s0,0 s1,1 R0 C0:a|b|c|d R1 C1= r0,0-1 r1,2-3 h0 h1 G0,e k0 D1,2,p,5 D1,3,p,5 F1 o:restarts,0,0 ~ 1 ~ 4 tests on 2 workers, load/[gw0] node down: Not properly terminated/[gw0] CRASHED a/[gw1] PASSED c/[gw1] PASSED d/==== [gw0] a ====/worker 'gw0' crashed while running 'a'/worker gw0 crashed and worker restarting disabled/1 failed, 2 passed/\n\
      no more retries than the setting says, one of them behind a breach ~ 1,0,8,-,-,load,r2 ~ R0 C0:a|b R0 R1 C1:a|b G1,e R2 C2:a|b G2,e R3 C3:a|b T3,1,p,5 F3 ~ s0,0 R0 C0:a|b r0,0-1 h0 G0,b k0 s1,0 R1 C1= r1,0-1 G1,e k1 s2,0 R2 C2= r2,0-1 G2,e k2 s3,0 R3 C3= r3,1 h3 D3,1,p,5 F3 o:completed ~ 1 ~ 2 tests on 1 workers, load/[gw0] node down: rules broken/[gw0] RETRY a/replacing crashed worker gw0/[gw1] node down: Not properly terminated/[gw1] RETRY a/replacing crashed worker gw1/[gw2] node down: Not properly terminated/[gw2] CRASHED a/replacing crashed worker gw2/[gw3] PASSED b/==== [gw2] a ====/worker 'gw2' crashed while running 'a'/1 failed, 1 passed/\n\
@@ -209,3 +209,7 @@ pub(crate) const RUNS: &str = "\
      load 197 ~ 2,0,0,3,-,load,r1 ~ R1 C1:t0 R0 G0,g F1 ~ s0,0 s1,1 R1 C1:t0 R0 G0,g k0 h1 F1 o:restarts,0,0 ~ 1 ~ [gw0] node down: bad message/worker gw0 crashed and worker restarting disabled/no tests ran/\n\
      load 198 ~ 4,0,8,3,-,load,r1 ~ R1 R3 R0 R2 C2:t0 C0:t0 C3:t0 G1,c R4 C4:t0 F3 F4 F0 T2,0,p,100 F2 ~ s0,0 s1,1 s2,2 s3,3 R1 R3 R0 R2 C2:t0 C0= C3= G1,c k1 s4,1 R4 C4= r2,0 h2 h0 h3 h4 F3 F4 F0 D2,0,p,100 F2 o:completed ~ 0 ~ [gw1] node down: message cut short/replacing crashed worker gw1/1 tests on 4 workers, load/[gw2] PASSED t0/1 passed/\n\
      load 199 ~ 3,2,2,3,-,load,r1 ~ R1 N0 R3 C3:t0|t1 C1:t0|t1 G3,g G1,c R4 G4,c R2 C2:t0|t1 G2,e ~ s0,0 s1,1 s2,2 R1 N0 s3,0 R3 C3:t0|t1 C1= G3,g k3 s4,0 G1,c k1 R4 h4 G4,c k4 R2 h2 C2= G2,e k2 o:restarts,1,2 ~ 1 ~ [gw0] node down: not started/replacing crashed worker gw0/[gw3] node down: bad message/replacing crashed worker gw3/[gw1] node down: message cut short/[gw4] node down: message cut short/[gw2] node down: Not properly terminated/maximum crashed workers reached: 2/no tests ran/";
+
+pub(crate) fn runs() -> &'static str {
+    RUNS
+}
