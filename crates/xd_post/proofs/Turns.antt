@@ -1,5 +1,5 @@
 -- The inboxes of a desk in turn, from the first one upwards and then from 0 on: which of them know nothing.
-use Rattle.std.proofs.Common.{◌≡◌, ℕ, ◌<◌, ◌≤◌, List, [], Option, Some, None, length, get_or, sym, ◌∙◌, ap, inl, inr, arith}
+use Rattle.std.proofs.Common.{◌≡◌, ℕ, ◌<◌, ◌≤◌, ◌⊎◌, List, [], Option, Some, None, length, get_or, sym, ◌∙◌, ap, inl, inr, arith}
 use Rattle.std.specs.Option.{IfNone, IfSome}
 use Rattle.std.proofs.lemmas.Bool.{cases_lt}
 use Rattle.std.proofs.lemmas.List.{get_or_past}
@@ -40,3 +40,8 @@ module _ {T : Type 0} where
   none_at_all old mid new first count None size none same ahead last =
       let knew : NoneKnown old = λ k. nowhere old first count k size none (none_along mid old 0 first same ahead) in
       (knew, λ k. ap (λ l. get_or l k []) (last ∙ same) ∙ knew k)
+
+  -- what is known is as at first, or nothing was known at first: where nothing is known now, nothing was at first
+  pub none_at_first : (first now : List (List T)) → (now ≡ first) ⊎ NoneKnown first → NoneKnown now → NoneKnown first
+  none_at_first first now (inl same) none = λ k. ap (λ l. get_or l k []) (sym same) ∙ none k
+  none_at_first first now (inr none) later = none

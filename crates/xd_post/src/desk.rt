@@ -121,6 +121,7 @@ impl<T: Drop> Desk<T> {
     pub fn wait<R: Wait>(&mut self, rt: &R) -> (u32, T)
         ensures takes { TakesAt (mails self.old) (mails self.new) result.0 result.1 }
         ensures turn { turn self.new ≡ result.0 + 1 }
+        ensures passed { NoneAhead (knows self.old) (turn self.old) result.0 }
     {
         for _ in rt.forever() {
             let seen = self.bell.count(rt);
