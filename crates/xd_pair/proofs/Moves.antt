@@ -2,14 +2,14 @@
 use Rattle.std.proofs.Common.{◌≡◌, ℕ, List, [], ◌∷◌, ◌++◌, Bool, true, false, Option, None, Ok, refl, sym, ap, subst, ◌∙◌, append_assoc}
 use Rattle.std.specs.Prelude.{◌==◌, ◌&&◌, if◌then◌else◌}
 use Rattle.std.specs.Option.{option_to_list}
-use Rattle.std.proofs.lemmas.Bool.{and_parts}
+use Rattle.std.proofs.lemmas.Bool.{and_parts, eqb-true}
 use Rattle.xd_value.specs.Tree.{Tree}
 use Rattle.xd_value.specs.Channels.{channels}
 use Rattle.xd_value.specs.Payload.{IsPayload}
 use Rattle.xd_value.specs.Canonical.{dumped}
 use Rattle.xd_frame.specs.declared.kind.Kind.TheVariants as kind
 use Rattle.xd_frame.specs.Message.{MessageView}
-use Rattle.xd_factory.specs.Slot.{Slot, is_seen, is_here, closed_slot, function_ended_slot, given_up_slot, give_up_says}
+use Rattle.xd_factory.specs.Slot.{Slot, Unseen, Here, Gone, is_seen, is_here, closed_slot, function_ended_slot, given_up_slot, give_up_says}
 use Rattle.xd_factory.specs.Said.{Said, Exec, Data, Means}
 use Rattle.xd_factory.specs.Said as message
 use Rattle.xd_factory.specs.Table.{is_long, HasErrorPayload, close_refusal, closing_message, close_says, giving_says, send_refusal, sent_gives}
@@ -18,7 +18,7 @@ use Rattle.xd_factory.specs.declared.side.Side.{Side}
 use Rattle.xd_pair.specs.Part as part
 use Rattle.xd_pair.specs.Pair.{Actor, Send, Call, Answer, Close, End_function, Give_up, knows, can_send, can_call, can_answer}
 use Rattle.xd_pair.specs.Messages.{AllMean, AddsMessages}
-use Rattle.xd_pair.specs.Stands.{IsMove, IsMoveIf}
+use Rattle.xd_pair.specs.Stands.{IsMove, IsMoveIf, Stays}
 use Rattle.xd_pair.specs.declared.linked.LinkedSide.{LinkedSide}
 use Rattle.xd_pair.proofs.Says.{differ, unasked, here_seen, may_seen}
 use Rattle.xd_pair.proofs.Payloads.{close_means}
@@ -131,3 +131,20 @@ answer_moves old new n v b none m end p d empty is end_is side more odd a wire n
 -- the room for a message changes nothing that is on the way
 pub behind : (old room new more : List MessageView) → room ≡ old → new ≡ room ++ more → new ≡ old ++ more
 behind old room new more e h = h ∙ ap (λ (ms : List MessageView). ms ++ more) e
+
+-- a number that was never opened is let go, and nothing changes
+given_up_unseen : (s : Slot Tree) → is_seen s ≡ false → given_up_slot s ≡ s
+given_up_unseen Unseen h = refl
+given_up_unseen (Here x) h = absurd (let z = h in cc)
+given_up_unseen Gone h = absurd (let z = h in cc)
+
+stays_by : (s : Side) (n c : ℕ) → is_seen (slot_of_number s n) ≡ false → (b : Bool) → n == c ≡ b → (if b then given_up_slot (slot_of_number s c) else slot_of_number s c) ≡ slot_of_number s c
+stays_by s n c u true q = given_up_unseen (slot_of_number s c) (ap (λ (x : ℕ). is_seen (slot_of_number s x)) (sym (eqb-true n c q)) ∙ u)
+stays_by s n c u false q = refl
+
+pub unknown_stays : (old new : LinkedSide) (n : ℕ) → is_seen (slot_of_number old.side n) ≡ false → ChangesAt old.side new.side n given_up_slot → new.said.items ≡ old.said.items → Stays old new
+unknown_stays old new n u change said = record { slots = λ c. change.slots c ∙ stays_by old.side n c u (n == c) refl; rest = change.rest; said = said }
+
+pub not_unseen : (b : Bool) → (b ≡ false → false ≡ true) → b ≡ true
+not_unseen true h = refl
+not_unseen false h = h refl

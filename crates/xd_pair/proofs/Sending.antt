@@ -87,7 +87,7 @@ call_said n v b h p d = let e = dumped_is v b d in
     (call_means n v b h p (subst (λ (x : List ℕ). length x ≤ 16777216) e.0 e.1))
 
 -- what the answer of a send says of the slot and the payload
-gives_parts : (f : Option SendFault) (r : Result (List ℕ) DumpFault) (b : List ℕ) → sent_gives f r ≡ Ok b → (f ≡ None) × (r ≡ Ok b)
+pub gives_parts : (f : Option SendFault) (r : Result (List ℕ) DumpFault) (b : List ℕ) → sent_gives f r ≡ Ok b → (f ≡ None) × (r ≡ Ok b)
 gives_parts (Some f) r b h = absurd (let z = h in cc)
 gives_parts None (Ok x) b h = let e : x ≡ b = cc in (refl, ap Ok e)
 gives_parts None (Err f) b h = absurd (let z = h in cc)

@@ -1,13 +1,17 @@
 -- When a side of the program stands for an actor of the law, and when a call of it is a move of the law. A choice of
 -- this project.
-use Rattle.std.specs.Prelude.{◌≡◌, ℕ, ◌||◌, is_some, List, Bool, true, false, Option}
+use Rattle.std.specs.Prelude.{◌≡◌, ℕ, ◌||◌, is_some, List, [], ◌∷◌, Bool, true, false, Option, Some, None}
 use Rattle.xd_value.specs.Tree.{Tree}
 use Rattle.xd_value.specs.Channels.{channels}
 use Rattle.xd_channel.specs.declared.end.End.{End}
 use Rattle.xd_factory.specs.Slot.{is_seen}
-use Rattle.xd_factory.specs.Said.{Said}
-use Rattle.xd_factory.specs.View.{slot_of_number, parity_of, next_of, fault_of, is_finished, KeepsRest}
+use Rattle.xd_frame.specs.Message.{MessageView}
+use Rattle.xd_factory.specs.Said.{Said, Means}
+use Rattle.xd_factory.specs.Table.{IsRefused, answer_of}
+use Rattle.xd_factory.specs.View.{slot_of_number, new_at, parity_of, next_of, fault_of, is_finished, entry_count, KeepsRest}
+use Rattle.xd_factory.specs.declared.faults.SideFault.{SideFault}
 use Rattle.xd_factory.specs.declared.side.Side.{Side}
+use Rattle.xd_factory.specs.declared.taken.Taken.{Taken}
 use Rattle.xd_pair.specs.Notes.{owns, side_parity}
 use Rattle.xd_pair.specs.Pair.{Actor, Move, Take_message, Refuse, knows, says, after, wire_after}
 use Rattle.xd_pair.specs.Messages.{AllMean, AddsMessages}
@@ -92,3 +96,14 @@ pub record IsTake (old new peer left : LinkedSide) (items : ℕ → List Tree) (
 pub record RefusesNext (old new peer left : LinkedSide) : Type 0 where
   pub quiet : SaysNothing old new peer left
   pub refuses : (odd : Bool) (a : Actor) (wire : List Said) → StandsFor odd old.side a → Carries a peer wire → RefusesMessage odd new a wire
+
+-- what the next of these messages does, by what stands at the side; nothing where there is none
+-- Example: a STATUS on 3 is answered as one on 3, and a call of a function on a new number of the peer as that call.
+abbrev pub AnswersNext : Side → List MessageView → Option (Taken Tree) → Type 0
+AnswersNext s [] t = t ≡ None
+AnswersNext s (m ∷ ms) t = (said : Said) → Means m said → t ≡ Some (answer_of (parity_of s) (slot_of_number s) said)
+
+-- why a side that has not failed refuses the next of these messages: for what the message is
+abbrev pub RefusedFor : Side → List MessageView → SideFault → Type 0
+RefusedFor s [] fault = ⊥
+RefusedFor s (m ∷ ms) fault = fault_of s ≡ None → IsRefused (entry_count s) (new_at s) m fault

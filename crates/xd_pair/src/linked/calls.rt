@@ -1,5 +1,5 @@
 // The calls that say nothing to the peer.
-ghost use Rattle.std.specs.Prelude.{◌≡◌, ◌≢◌, ◌<◌, ◌↔◌, [], true, false, Some, IfOk, IfErr, OnOk, OnErr, IsErrOf};
+ghost use Rattle.std.specs.Prelude.{◌≡◌, ◌≢◌, ◌<◌, ◌↔◌, [], true, false, None, Some, IfOk, IfErr, OnOk, OnErr, IsErrOf};
 
 use super::LinkedSide;
 use xd_channel::{End, Got, Waiting};
@@ -52,6 +52,7 @@ impl LinkedSide {
         ensures step { IsMove self.old self.new (Set_callback number) }
         ensures refused { IfErr result
             (λ fault. hook_fault (slot_of_number self.old.side number) ≡ Some fault) }
+        ensures accepted { OnOk result (hook_fault (slot_of_number self.old.side number) ≡ None) }
         ensures hands { HandsOut self.old (Set_callback number)
             (items_at number (waiting_items result)) (end_at number (waiting_end result)) }
     {

@@ -1,5 +1,5 @@
 // The calls that say something to the peer.
-ghost use Rattle.std.specs.Prelude.{◌≡◌, ◌≤◌, [], true, false, Err, IfErr, OnOk, OnErr, IsErrOf};
+ghost use Rattle.std.specs.Prelude.{◌≡◌, ◌≤◌, [], true, false, None, Err, IfErr, OnOk, OnErr, IsErrOf};
 ghost use Rattle.xd_value.specs.View.{view};
 ghost use Rattle.xd_frame.specs.Message.{max_channel};
 ghost use Rattle.xd_value.specs.Canonical.{dumped, IsDump};
@@ -25,6 +25,7 @@ impl LinkedSide {
         ensures refused { let refusal = send_refusal (slot_of_number self.old.side number) in
             let wanted = sent_gives refusal (dumped (view value.now)) in
             IfErr result (λ fault. IsSent number (Err fault) wanted) }
+        ensures accepted { OnOk result (send_refusal (slot_of_number self.old.side number) ≡ None) }
         ensures err { OnErr result (Stays self.old self.new) }
     {
         if self.said.reserve(1).is_err() {
@@ -113,6 +114,8 @@ impl LinkedSide {
         ensures refused { IfErr result
             (IsRefusal (close_refusal (is_seen (slot_of_number self.old.side number))
             (is_long error))) }
+        ensures accepted { OnOk result
+            (close_refusal (is_seen (slot_of_number self.old.side number)) (is_long error) ≡ None) }
         ensures err { OnErr result (Stays self.old self.new) }
     {
         if self.said.reserve(1).is_err() {
@@ -133,6 +136,8 @@ impl LinkedSide {
         ensures refused { IfErr result
             (IsRefusal (close_refusal (is_seen (slot_of_number self.old.side number))
             (is_long error))) }
+        ensures accepted { OnOk result
+            (close_refusal (is_seen (slot_of_number self.old.side number)) (is_long error) ≡ None) }
         ensures err { OnErr result (Stays self.old self.new) }
     {
         if self.said.reserve(1).is_err() {
@@ -152,6 +157,8 @@ impl LinkedSide {
         ensures step { OnOk result (IsMove self.old self.new (Give_up number)) }
         ensures unknown { IsErrOf result GiveUpFault.Unknown
             → is_seen (slot_of_number self.old.side number) ≡ false }
+        ensures accepted { OnOk result (is_seen (slot_of_number self.old.side number) ≡ true) }
+        ensures err { OnErr result (Stays self.old self.new) }
     {
         if self.said.reserve(1).is_err() {
             return Err(GiveUpFault::OutOfMemory);
