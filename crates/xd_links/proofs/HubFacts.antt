@@ -2,11 +2,11 @@
 use Rattle.std.proofs.Common.{◌≡◌, ℕ, zero, suc, List, [], ◌∷◌, ◌++◌, Option, Some, None, map, length, get_or, refl, sym, ◌∙◌, ap, append-nil, IsTrue, subst, inl, inr}
 use Rattle.std.proofs.Math.ListN.{set}
 use Rattle.std.specs.Option.{option_map, is_some}
-use Rattle.std.specs.List.{slice_get}
+use Rattle.std.specs.List.{slice_get, list_any}
 use Rattle.std.proofs.lemmas.List.{map-set, map-append, length-map}
 use Rattle.std.proofs.lemmas.Option.{slice_get-map, get_or_from_slice_get, slice_get_read, slice_get_within}
 use Rattle.std.proofs.Math.Seq.{map-set_same}
-use Rattle.std.specs.Prelude.{Bool, true, IfSome, ◌⊎◌}
+use Rattle.std.specs.Prelude.{Bool, true, false, not, IfSome, ◌⊎◌, ◌||◌, if◌then◌else◌}
 use Rattle.xd_link.specs.Source.{Supply}
 use Rattle.xd_links.proofs.Places.{push_read, set_read}
 use Rattle.xd_reader.specs.declared.news.LinkNews.{LinkNews}
@@ -15,7 +15,7 @@ use Rattle.xd_post.specs.Post.{Ring, Empties, put, ring_of_sender}
 use Rattle.xd_post.specs.declared.ends.Sender.{Sender}
 use Rattle.xd_post.specs.Mails.{TakesAt}
 use Rattle.xd_links.specs.Links.{Fresh, ring_of_mail, ring_of_link, source_of_link, sources_of}
-use Rattle.xd_links.specs.Runs.{news_of_mail, LinkRead}
+use Rattle.xd_links.specs.Runs.{news_of_mail, is_stop_news, is_going, LinkRead}
 use Rattle.xd_link.specs.Spring.{Spring}
 use Rattle.xd_reader.specs.Reads.{PutsAll}
 
@@ -188,3 +188,50 @@ module _ {S H T : Type 0} where
 module _ {S H : Type 0} where
   pub fresh_job : (f : H → Reader S) (supply : S → Option Supply) (h : H) (job : Reader S) (source : S) → f h ≡ job → job.source ≡ source → IfSome (supply source) (λ s. s.given ≡ []) → IfSome (supply (f h).source) (λ s. s.given ≡ [])
   fresh_job f supply h job source j s e = subst (λ (x : S). IfSome (supply x) (λ s. s.given ≡ [])) (sym (ap (λ (x : Reader S). x.source) j ∙ s)) e
+
+-- ---- of which links more may come
+
+or_right : (a b : Bool) → b ≡ true → a || b ≡ true
+or_right true b h = refl
+or_right false b h = h
+
+any_last : (got : List LinkNews) (item : LinkNews) → is_stop_news item ≡ true → list_any is_stop_news (got ++ item ∷ []) ≡ true
+any_last [] item e = ap (λ (b : Bool). b || false) e
+any_last (x ∷ xs) item e = or_right (is_stop_news x) (list_any is_stop_news (xs ++ item ∷ [])) (any_last xs item e)
+
+any_same : (got : List LinkNews) (item : LinkNews) → is_stop_news item ≡ false → list_any is_stop_news (got ++ item ∷ []) ≡ list_any is_stop_news got
+any_same [] item e = ap (λ (b : Bool). b || false) e
+any_same (x ∷ xs) item e = ap (λ (b : Bool). is_stop_news x || b) (any_same xs item e)
+
+going_set : (ns : List (Option (List LinkNews))) (k : ℕ) (got : List LinkNews) (item : LinkNews) (stops : Bool) → is_stop_news item ≡ stops → slice_get ns k ≡ Some (Some got)
+    → (if stops then set (map is_going ns) k false else map is_going ns) ≡ map is_going (set ns k (Some (got ++ item ∷ [])))
+going_set ns k got item true e at =
+    ap (λ (b : Bool). set (map is_going ns) k (not b)) (sym (any_last got item e)) ∙ sym (map-set is_going ns k (Some (got ++ item ∷ [])))
+going_set ns k got item false e at =
+    sym (map-set_same is_going ns k (Some (got ++ item ∷ [])) (Some got)
+    (ap (λ (b : Bool). not b) (any_same got item e) ∙ ap is_going (sym (get_or_from_slice_get ns k (Some got) (Some got) at))))
+
+-- an item was taken
+pub going_taken : (old new : List (Option (Ring × List LinkNews))) (k : ℕ) (item : LinkNews) (before after : List Bool) → TakesAt old new k item → before ≡ map is_going (map news_of_mail old)
+    → after ≡ (if is_stop_news item then set before k false else before) → after ≡ map is_going (map news_of_mail new)
+going_taken old new k item before after t b a =
+    let n = news_taken old new k item t in
+    a ∙ (ap (λ (l : List Bool). if is_stop_news item then set l k false else l) b
+    ∙ (going_set (map news_of_mail old) k n.0 item (is_stop_news item) refl n.1 ∙ ap (map is_going) (sym n.2)))
+
+-- a link was closed
+pub going_closed : (old closed : List (Option (Ring × List LinkNews))) (k : ℕ) (before after : List Bool) → closed ≡ set old k None → before ≡ map is_going (map news_of_mail old)
+    → after ≡ set before k false → after ≡ map is_going (map news_of_mail closed)
+going_closed old closed k before after z b a =
+    a ∙ (ap (λ (l : List Bool). set l k false) b ∙ (sym (map-set is_going (map news_of_mail old) k None) ∙ ap (map is_going) (sym (news_closed old closed k z))))
+
+-- a number was added
+pub going_more : (old new : List (Option (Ring × List LinkNews))) (x : Option (List LinkNews)) (before after : List Bool) → map news_of_mail new ≡ map news_of_mail old ++ x ∷ []
+    → before ≡ map is_going (map news_of_mail old) → after ≡ before ++ is_going x ∷ [] → after ≡ map is_going (map news_of_mail new)
+going_more old new x before after n b a =
+    a ∙ (ap (λ (l : List Bool). l ++ is_going x ∷ []) b ∙ (sym (map-append is_going (map news_of_mail old) (x ∷ [])) ∙ ap (map is_going) (sym n)))
+
+-- a link was opened
+pub news_opened : (old added : List (Option (Ring × List LinkNews))) (ring : Ring) (got : List LinkNews) → added ≡ old ++ Some (ring, got) ∷ [] → got ≡ [] → map news_of_mail added ≡ map news_of_mail old ++ Some [] ∷ []
+news_opened old added ring got a e =
+    ap (map news_of_mail) a ∙ (map-append news_of_mail old (Some (ring, got) ∷ []) ∙ ap (λ (l : List LinkNews). map news_of_mail old ++ Some l ∷ []) e)

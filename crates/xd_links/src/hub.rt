@@ -1,7 +1,8 @@
 //! Several links over one desk.
-ghost use Rattle.std.specs.Prelude.{◌≡◌, ℕ, [], Some, map, slice_get};
+ghost use Rattle.std.specs.Prelude.{◌≡◌, ℕ, [], false, Some, map, slice_get, slice_set, if◌then◌else◌};
 ghost use Rattle.xd_link.specs.Source.{Supply};
 ghost use Rattle.xd_links.specs.Links.{ring_of_mail, ring_of_link, sources_of};
+ghost use Rattle.xd_links.specs.Runs.{is_stop_news, is_going, news_of};
 ghost use Rattle.xd_post.specs.Mails.{mails};
 
 use std::alloc::Global;
@@ -18,18 +19,31 @@ pub struct Links<S: Source + Drop, C: Crew<Reader<S>>> {
     pub crew: C,
     pub desk: Desk<LinkNews>,
     pub handles: Vec<Option<C::Handle>>,
-    /// Of which links the end was not taken yet.
+    /// Of which links the end was not taken yet, and which are not closed.
     pub going: Vec<bool>,
     ghost rings: { map ring_of_mail (mails desk) ≡ map (ring_of_link C.job_of) handles.items },
     ghost fresh: { (k : ℕ) (source : S) (s : Supply) →
         slice_get (sources_of C.job_of handles.items) k ≡ Some (Some source) →
         S.supply source ≡ Some s → s.given ≡ [] },
+    ghost ends: { going.items ≡ map is_going (news_of (mails desk)) },
+}
+
+// Notes that nothing more comes of a link.
+fn note_over(going: &mut Vec<bool>, at: usize)
+    ensures { going.new.items ≡ slice_set going.old.items at false }
+{
+    if at < going.len() {
+        going[at] = false;
+    }
 }
 
 // Notes of a link that its end was taken.
-fn note_end(going: &mut Vec<bool>, at: usize, item: &LinkNews) {
-    if matches!(item, LinkNews::End(_)) && at < going.len() {
-        going[at] = false;
+fn note_end(going: &mut Vec<bool>, at: usize, item: &LinkNews)
+    ensures { going.new.items
+        ≡ (if is_stop_news item.now then slice_set going.old.items at false else going.old.items) }
+{
+    if matches!(item, LinkNews::End(_)) {
+        note_over(going, at);
     }
 }
 
@@ -71,7 +85,7 @@ pub struct Closed<S: Source + Drop> {
 }
 
 impl<S: Source + Drop, C: Crew<Reader<S>>> Links<S, C> {
-    ghost use Rattle.std.specs.Prelude.{◌≡◌, ◌<◌, ◌≤◌, ◌∷◌, ◌++◌, [], Some, None, List, map, length, IfOk, IfErr, IfSome, OnOk, IsTrue, slice_get, slice_set};
+    ghost use Rattle.std.specs.Prelude.{◌≡◌, ◌<◌, ◌≤◌, ◌∷◌, ◌++◌, [], false, Some, None, List, map, length, IfOk, IfErr, IfSome, OnOk, IsTrue, slice_get, slice_set};
     ghost use Rattle.xd_edge.specs.Faults.{Rose};
     ghost use Rattle.xd_links.specs.Links.{sources_of};
     ghost use Rattle.xd_links.specs.Runs.{news_of, LinkRead};
@@ -154,7 +168,8 @@ impl<S: Source + Drop, C: Crew<Reader<S>>> Links<S, C> {
 
     /// Whether a further link may be opened.
     pub fn has_room(&self) -> bool
-        ensures { IsTrue result → length (news_of (mails self.now.desk)) < 4294967295 }
+        ensures room { IsTrue result → length (news_of (mails self.now.desk)) < 4294967295 }
+        ensures full { result ≡ false → 4294967295 ≤ length (news_of (mails self.now.desk)) }
     {
         self.handles.len() < 4294967295
     }
@@ -210,6 +225,7 @@ impl<S: Source + Drop, C: Crew<Reader<S>>> Links<S, C> {
             Some(handle) => {
                 let ReaderEnd { source, sender } = self.crew.join(handle);
                 let Emptied { rest } = self.desk.close_with(number, sender);
+                note_over(&mut self.going, number as usize);
                 Closed { source, rest }
             }
             None => unreachable!(),

@@ -1,6 +1,6 @@
 use Rattle.std.proofs.Common.{◌∙◌, ap, sym, Some}
 use Rattle.xd_link.specs.Spring.{spring}
-use Rattle.xd_links.proofs.HubFacts.{here, rings_closed, mail_of_link, no_source, its_source, its_news, link_read, news_closed, sources_closed, fresh_less, told_fresh}
+use Rattle.xd_links.proofs.HubFacts.{going_closed, here, rings_closed, mail_of_link, no_source, its_source, its_news, link_read, news_closed, sources_closed, fresh_less, told_fresh}
 use Rattle.xd_links.specs.Links.{source_of_link}
 use Rattle.xd_post.specs.Mails.{mails}
 use Rattle.xd_post.specs.Post.{put, ring_of_sender}
@@ -31,6 +31,7 @@ invariant_of-self g c =
           rings_closed g.C.Crew.job_of (mails c.args.self.now.desk) (mails c.close_with-rest.new.self) c.args.number c.args.self.now.handles.items c.take.new.self
           c.close_with-rest.ensures.closed c.take.ensures.after c.args.self.now.rings;
       fresh = fresh_less g.C.Crew.job_of g.S.Source.supply c.args.self.now.handles.items c.args.number c.take.new.self c.take.ensures.after c.args.self.now.fresh;
+      ends = going_closed (mails c.args.self.now.desk) (mails c.close_with-rest.new.self) c.args.number _ _ c.close_with-rest.ensures.closed c.args.self.now.ends c.note_over.ensures;
     }
 
 pub returns-clause-run : goal.returns-clause-run

@@ -1,9 +1,9 @@
 use Rattle.std.proofs.Common.{◌∙◌}
-use Rattle.xd_links.proofs.HubFacts.{rings_taken, news_taken}
+use Rattle.xd_links.proofs.HubFacts.{going_taken, rings_taken, news_taken}
 use Rattle.xd_links.proofs.hub.Links.next.Goals as goal
 
 pub invariant_of-self : goal.invariant_of-self
-invariant_of-self g c = record { rings = rings_taken _ _ _ _ c.wait-number.ensures.takes ∙ c.args.self.now.rings; fresh = c.args.self.now.fresh }
+invariant_of-self g c = record { rings = rings_taken _ _ _ _ c.wait-number.ensures.takes ∙ c.args.self.now.rings; fresh = c.args.self.now.fresh; ends = going_taken _ _ _ _ _ _ c.wait-number.ensures.takes c.args.self.now.ends c.note_end.ensures }
 
 pub returns-clause-news : goal.returns-clause-news
 returns-clause-news g c = news_taken _ _ _ _ c.wait-number.ensures.takes
