@@ -31,7 +31,7 @@ use Rattle.xd_drive.specs.Going.{EndsRun, HubScene}
 use Rattle.xd_drive.specs.Moments.{ToldInOrder, performed_of}
 use Rattle.xd_drive.specs.Performing.{AddsAll, Performs, all_possible, is_call, is_start, kills_of_started}
 use Rattle.xd_report.specs.Printing.{ShowsEnd}
-use Rattle.xd_drive.specs.Taken.{taken_of}
+use Rattle.xd_drive.specs.Taken.{AreInTime, taken_of}
 use Rattle.xd_drive.proofs.Failing.{failed-behind, failed-part}
 use Rattle.xd_drive.proofs.InOrder.{order-broken}
 use Rattle.xd_drive.proofs.Kept.{kept-ended}
@@ -48,13 +48,14 @@ over-performs es b s0 s1 c0 c1 p = record {
 }
 
 module _ (failed : Bool) (s : SessionSeen) (given : List News) (j : Journal) (p : IsProper s.settings []) (same : j.settings ≡ s.settings) (entries_are : j.entries.items ≡ s.entries ++ ending failed (state_of s).books) (st : StandsFor (taken_of s.settings given) s) where
-  ended : may_close failed (state_of s).books ≡ true → stop_of j ≡ last_stop failed (state_of s).books → Ended failed given j
-  ended may stop = record {
+  ended : may_close failed (state_of s).books ≡ true → stop_of j ≡ last_stop failed (state_of s).books → AreInTime s.settings given → Ended failed given j
+  ended may stop in_time = record {
     entries = entries_are ∙ ap (λ (es : List Entry). es ++ ending failed (state_of s).books) st.entries
         ∙ ap (λ (x : State). (run_given s.settings given).entries ++ ending failed x.books) (state-is s (taken_of s.settings given) p st)
         ∙ ap (λ (x : Settings). (run_given x given).entries ++ ending failed (run_given x given).state.books) (sym same);
     may_end = ap (λ (x : Settings). may_close failed (run_given x given).state.books) same ∙ ap (λ (x : State). may_close failed x.books) (sym (state-is s (taken_of s.settings given) p st)) ∙ may;
     stop = stop ∙ ap (λ (x : State). last_stop failed x.books) (state-is s (taken_of s.settings given) p st) ∙ ap (λ (x : Settings). last_stop failed (run_given x given).state.books) (sym same);
+    in_time = subst (λ (x : Settings). AreInTime x given) (sym same) in_time;
   }
 
   text-same : text_of j ≡ run_text s.settings s.entries
@@ -66,7 +67,7 @@ whole s j old new p same is stop e =
     let f = e.1 in (
       e.0,
       record {
-        ended = ended false s (e.0) j p same is f.stands f.over stop;
+        ended = ended false s (e.0) j p same is f.stands f.over stop f.in_time;
         gave = f.gave;
         performed = subst (λ (es : List Entry). Performs es old.starts new.starts old.calls new.calls) (sym is) (over-performs s.entries (state_of s).books _ _ _ _ f.performed);
         shows = subst (λ (l : List ℕ). ShowsEnd true l old.sunk new.sunk) (sym (text-same false s (e.0) j p same is f.stands)) f.shows;
@@ -88,7 +89,7 @@ broken count s j old mid new p same is stop e kills given sunk =
     let first : take count j.entries.items ≡ take count s.entries = ap (take count) is ∙ take-append-le count s.entries (ending true (state_of s).books) f.within in (
       e.0,
       record {
-        ended = ended true s (e.0) j p same is f.stands refl stop;
+        ended = ended true s (e.0) j p same is f.stands refl stop f.in_time;
         gave = given ∙ f.gave;
         performed = performs-more (take count j.entries.items) (kills_of_started (take count j.entries.items) (drop count j.entries.items)) old.starts mid.starts new.starts old.calls mid.calls new.calls
             (subst (λ (es : List Entry). Performs es old.starts mid.starts old.calls mid.calls) (sym first) f.performed) kills;

@@ -21,7 +21,7 @@ use Rattle.xd_drive.specs.declared.written.Written.TheVariants.{Whole, Broken}
 use Rattle.xd_drive.specs.Going.{EndsRun, EndsTail, Going, HubScene, TakesNews}
 use Rattle.xd_drive.specs.Moments.{InOrder, IsBetween, NotesNews, NotesTurn, ToldInOrder, performed_of}
 use Rattle.xd_drive.specs.Performing.{Performs}
-use Rattle.xd_drive.proofs.Loop.{going-next, whole-of, takes-whole}
+use Rattle.xd_drive.proofs.Loop.{shows-next, whole-of, takes-whole}
 use Rattle.xd_drive.proofs.Performs.{performs-none}
 use Rattle.xd_drive.proofs.Texts.{first-lines}
 
@@ -120,8 +120,7 @@ pub order-next : (given : List News) (n : News) (s0 s1 : SessionSeen) (old mid n
     → NotesNews written s0 s1 mid new before after → ToldInOrder s0.settings (length s0.entries) s0.entries old before → ToldInOrder s1.settings (length s1.entries) s1.entries old after
 order-next given n s0 s1 old mid new before after written none g t m o =
     let taken = takes-whole n s0 s1 mid new written none t in
-    let next = going-next given n s0 s1 old mid new g taken in
-    by-news s0 s1 old mid new before after (taken.told.0) taken.settings taken.told.1.entries g.performed next.shows
+    by-news s0 s1 old mid new before after (taken.told.0) taken.settings taken.told.1.entries g.performed (shows-next given n s0 s1 old mid new g taken)
     (subst (λ (q : Written). NotesNews q s0 s1 mid new before after) (whole-of written none) m) o
 
 -- the output failed at the lines of a piece of news

@@ -4,6 +4,7 @@ pub mod Failing
 pub mod Follow
 pub mod Heard
 pub mod InOrder
+pub mod InTime
 pub mod Kept
 pub mod Kills
 pub mod Loop

@@ -34,7 +34,8 @@ use Rattle.xd_drive.specs.Marks.{Marks}
 use Rattle.xd_drive.specs.Performing.{AddsAll, Performs, marks_after, marks_after_entry, all_possible, is_start_of, kills_of_started, was_started}
 use Rattle.xd_edge.specs.Printing.{BreaksOff, ShowsSome}
 use Rattle.xd_report.specs.Printing.{ShowsEnd}
-use Rattle.xd_drive.specs.Taken.{taken_of, taken_with}
+use Rattle.xd_drive.specs.Taken.{AreInTime, taken_of, taken_with}
+use Rattle.xd_drive.proofs.InTime.{in-time-more, in-time-none}
 use Rattle.xd_drive.proofs.Kills.{ending-possible, kills-go}
 use Rattle.xd_drive.proofs.Outs.{goes-start, started-more}
 use Rattle.xd_drive.proofs.Performs.{adds-more, adds-none, performs-more}
@@ -97,8 +98,19 @@ module _ (given : List News) (n : News) (s0 s1 : SessionSeen) (old mid new : Hub
   lines-more : (more : List Entry) → s1.settings ≡ s0.settings → s1.entries ≡ s0.entries ++ more → run_lines s1.settings s1.entries ≡ run_lines s0.settings s0.entries ++ lines_from (after_entries (no_one s0.settings) s0.entries) more
   lines-more more same is = ap (λ (x : Settings). run_lines x s1.entries) same ∙ ap (run_lines s0.settings) is ∙ lines-join (no_one s0.settings) s0.entries more
 
-  pub going-next : TakesNews n Whole s0 s1 mid new → Going (given ++ n ∷ []) s1 old new
-  going-next t =
+  pub shows-next : TakesNews n Whole s0 s1 mid new → ShowsSome (run_lines s1.settings s1.entries) old.sunk new.sunk
+  shows-next t =
+      subst (λ (l : List ℕ). ShowsSome l old.sunk new.sunk) (sym (lines-more (t.told.0) t.settings t.told.1.entries))
+      (shows-more (run_lines s0.settings s0.entries) _ old.sunk mid.sunk new.sunk g.shows t.told.1.shows)
+
+  -- the news were asked for in a run that goes on
+  in-time : IsProper s0.settings [] → is_over (state_of s0).books ≡ false → s1.settings ≡ s0.settings → AreInTime s1.settings (given ++ n ∷ [])
+  in-time proper on same =
+      subst (λ (x : Settings). AreInTime x (given ++ n ∷ [])) (sym same)
+      (in-time-more s0.settings given n g.in_time (ap (λ (x : State). is_over x.books) (sym (state-is s0 (taken_of s0.settings given) proper g.stands)) ∙ on))
+
+  pub going-next : IsProper s0.settings [] → is_over (state_of s0).books ≡ false → TakesNews n Whole s0 s1 mid new → Going (given ++ n ∷ []) s1 old new
+  going-next proper on t =
       let more = t.told.0 in
       let told = t.told.1 in
       record {
@@ -107,11 +119,12 @@ module _ (given : List News) (n : News) (s0 s1 : SessionSeen) (old mid new : Hub
         performed = subst (λ (es : List Entry). Performs es old.starts new.starts old.calls new.calls) (sym told.entries) (performs-more s0.entries more _ _ _ _ _ _ g.performed told.performed);
         agrees = told.agrees;
         started = λ w. told.started w ∙ ap (λ (b : Bool). b || was_started w more) (g.started w) ∙ sym (list_any-append (is_start_of w) s0.entries more) ∙ ap (was_started w) (sym told.entries);
-        shows = subst (λ (l : List ℕ). ShowsSome l old.sunk new.sunk) (sym (lines-more more t.settings told.entries)) (shows-more (run_lines s0.settings s0.entries) _ old.sunk mid.sunk new.sunk g.shows told.shows);
+        in_time = in-time proper on t.settings;
+        shows = shows-next t;
       }
 
   -- the output failed at the lines of the news
-  module _ (proper : IsProper s0.settings []) (count : ℕ) (t : TakesNews n (Broken count) s0 s1 mid new) where
+  module _ (proper : IsProper s0.settings []) (on : is_over (state_of s0).books ≡ false) (count : ℕ) (t : TakesNews n (Broken count) s0 s1 mid new) where
     abbrev more : List Entry
     more = t.told.0
 
@@ -149,6 +162,7 @@ module _ (given : List News) (n : News) (s0 s1 : SessionSeen) (old mid new : Hub
           (subst (λ (x : Option (List Entry)). Performs s0.entries old.starts x old.calls new.calls) (sym u.starts) (subst (λ (x : Option (List Entry)). Performs s0.entries old.starts mid.starts old.calls x) (sym u.calls) g.performed));
       started = λ w. u.started w ∙ g.started w ∙ ap (was_started w) (sym before-is);
       within = omega (arith, u.count_is, ap length u.entries, length-append s0.entries more);
+      in_time = in-time proper on t.settings;
       kills = λ k. subst (λ (es : List Entry). all_possible k new.marks (kills_of_started (take count s1.entries) (es ++ ending true (state_of s1).books)) ≡ true) (sym left-is)
           (u.kills (take count s1.entries) (λ w h. u.started w ∙ g.started w ∙ ap (was_started w) (sym before-is) ∙ h) k);
       failed = inl (record {
@@ -175,6 +189,7 @@ module _ (given : List News) (s : SessionSeen) (old mid new : HubScene) (g : Goi
     gave = given_same ∙ g.gave;
     performed = performed-same;
     over = over;
+    in_time = g.in_time;
     shows = shows-end (run_lines s.settings s.entries) (run_tail s.settings s.entries) old.sunk mid.sunk new.sunk g.shows (subst (λ (l : List ℕ). ShowsEnd true l mid.sunk new.sunk) tail-same shown);
   }
 
@@ -193,6 +208,7 @@ module _ (given : List News) (s : SessionSeen) (old mid new : HubScene) (g : Goi
         performed = subst (λ (es : List Entry). Performs es old.starts new.starts old.calls new.calls) (sym all) performed-same;
         started = λ w. ap (λ (m : Marks). m.started) (marks_same w) ∙ g.started w ∙ ap (was_started w) (sym all);
         within = omega (arith, counted);
+        in_time = g.in_time;
         kills = λ k. kills-go (take count s.entries) k k (drop count s.entries ++ ending true (state_of s).books) new.marks new.marks
             (λ w h. ap (λ (m : Marks). m.started) (marks_same w) ∙ g.started w ∙ ap (was_started w) (sym all) ∙ h) (λ w h. h)
             (subst (λ (es : List Entry). all_possible k new.marks (es ++ ending true (state_of s).books) ≡ true) (sym (drop_all count s.entries (omega (arith, counted))))
@@ -219,6 +235,7 @@ going-first s slots old new l st fresh performed marks given sunk =
       agrees = subst (λ (es : List Entry). Agrees (Rattle.xd_ledger.specs.State.state_at s.settings es).books new.marks) (sym st.entries) (subst (λ (f : ℕ → Marks). Agrees (after_starts s.settings).books f) (sym m)
           (record { started = b.agrees.started; killed = b.agrees.killed; ended = b.agrees.ended; ready = b.agrees.ready }));
       started = λ w. ap (λ (x : Marks). x.started) (marks w) ∙ started-by s.entries old.marks w ∙ ap (λ (x : Marks). x.started || was_started w s.entries) (fresh w);
+      in_time = in-time-none s.settings;
       shows = inl (ap (run_lines s.settings) st.entries ∙ first-lines s.settings, sunk);
     }
 
@@ -249,8 +266,8 @@ pub over-ends : (given : List News) (s : SessionSeen) (old mid new : HubScene) (
 over-ends given s old mid new g a b c d j e f over p Whole t = (given, finished given s old mid new g a b c d j e f over t)
 over-ends given s old mid new g a b c d j e f over p (Broken count) t = (given, unfinished given s old mid new g a b c d j e f over p count (t.0 ∙ ap length f) t.1)
 
-pub stop-by : (given : List News) (n : News) (s0 s1 : SessionSeen) (old mid new : HubScene) → Going given s0 old mid → IsProper s0.settings [] → (written : Written) (count : ℕ) → written ≡ Broken count → TakesNews n written s0 s1 mid new → (all : List News) × Stopped all count s1 old new
-stop-by given n s0 s1 old mid new g p written count is t = (given ++ n ∷ [], going-stop given n s0 s1 old mid new g p count (subst (λ (o : Written). TakesNews n o s0 s1 mid new) is t))
+pub stop-by : (given : List News) (n : News) (s0 s1 : SessionSeen) (old mid new : HubScene) → Going given s0 old mid → IsProper s0.settings [] → is_over (state_of s0).books ≡ false → (written : Written) (count : ℕ) → written ≡ Broken count → TakesNews n written s0 s1 mid new → (all : List News) × Stopped all count s1 old new
+stop-by given n s0 s1 old mid new g p on written count is t = (given ++ n ∷ [], going-stop given n s0 s1 old mid new g p on count (subst (λ (o : Written). TakesNews n o s0 s1 mid new) is t))
 
 pub whole-of : (o : Written) → ((x : ℕ) → o ≡ Broken x → ⊥) → o ≡ Whole
 whole-of Whole h = refl

@@ -17,18 +17,19 @@ use Rattle.xd_drive.specs.Going.{HubScene}
 use Rattle.xd_drive.specs.Moments.{ToldInOrder}
 use Rattle.xd_drive.specs.Performing.{AddsAll, Performs, kills_of_started}
 use Rattle.xd_report.specs.Printing.{ShowsEnd}
-use Rattle.xd_drive.specs.Taken.{taken_of}
+use Rattle.xd_drive.specs.Taken.{AreInTime, taken_of}
 
 -- the run that the news make, where those of workers that are not active are dropped
 abbrev pub run_given : Settings → List News → Run
 run_given settings given = run_of settings (taken_of settings given)
 
 -- The journal of the news that were given, with its end: where the output failed that is the stop, else the first stop of
--- the run, or that all was done.
+-- the run, or that all was done. None of these news was asked for where the run was over.
 pub record Ended (failed : Bool) (given : List News) (j : Journal) : Type 0 where
   pub entries : j.entries.items ≡ (run_given j.settings given).entries ++ ending failed (run_given j.settings given).state.books
   pub may_end : may_close failed (run_given j.settings given).state.books ≡ true
   pub stop : stop_of j ≡ last_stop failed (run_given j.settings given).state.books
+  pub in_time : AreInTime j.settings given
 
 -- The run is over: what the journal asks for was performed, and its whole report was printed.
 pub record Whole (given : List News) (j : Journal) (old new : HubScene) : Type 0 where

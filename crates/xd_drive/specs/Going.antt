@@ -23,7 +23,7 @@ use Rattle.xd_drive.specs.Marks.{Marks, no_marks}
 use Rattle.xd_drive.specs.Performing.{AddsAll, Performs, marks_after, all_possible, kills_of_started, was_started}
 use Rattle.xd_edge.specs.Printing.{ShowsSome}
 use Rattle.xd_report.specs.Printing.{ShowsEnd, ShowsLines}
-use Rattle.xd_drive.specs.Taken.{taken_of, taken_with}
+use Rattle.xd_drive.specs.Taken.{AreInTime, taken_of, taken_with}
 
 -- what is seen of a hub and of the output
 pub record HubScene : Type 0 where
@@ -41,6 +41,7 @@ pub record Going (given : List News) (s : SessionSeen) (old new : HubScene) : Ty
   pub performed : Performs s.entries old.starts new.starts old.calls new.calls
   pub agrees : Agrees (state_of s).books new.marks
   pub started : (w : ℕ) → (new.marks w).started ≡ was_started w s.entries
+  pub in_time : AreInTime s.settings given
   pub shows : ShowsSome (run_lines s.settings s.entries) old.sunk new.sunk
 
 -- The output failed: `count` entries were performed, and of what is left, and of the end, the kills of the workers that
@@ -51,6 +52,7 @@ pub record Stopped (given : List News) (count : ℕ) (s : SessionSeen) (old new 
   pub performed : Performs (take count s.entries) old.starts new.starts old.calls new.calls
   pub started : (w : ℕ) → (new.marks w).started ≡ was_started w (take count s.entries)
   pub within : count ≤ length s.entries
+  pub in_time : AreInTime s.settings given
   pub kills : (slots : ℕ) → all_possible slots new.marks (kills_of_started (take count s.entries) (drop count s.entries ++ ending true (state_of s).books)) ≡ true
   pub failed : FailedAt s.settings (taken_of s.settings given) count s.entries old.sunk new.sunk
 
@@ -109,6 +111,7 @@ pub record Finished (given : List News) (s : SessionSeen) (old new : HubScene) :
   pub gave : AddsAll given old.given new.given
   pub performed : Performs s.entries old.starts new.starts old.calls new.calls
   pub over : is_over (state_of s).books ≡ true
+  pub in_time : AreInTime s.settings given
   pub shows : ShowsEnd true (run_text s.settings s.entries) old.sunk new.sunk
 
 -- How the run came to its end: it is over, or the output failed with `count` entries performed.

@@ -35,7 +35,7 @@ pub returns-in-Broken-clause-ends : goal.returns-in-Broken-clause-ends
 returns-in-Broken-clause-ends g c =
     let t = c.in_ok-written-2.ensures.takes in
     stop-by c.loop.invariant.going.0 t.0 c.loop.session _ _ _ _ c.loop.invariant.going.1
-    (subst (λ (x : Settings). IsProper x []) (sym c.loop.invariant.settings) c.requires.proper) c.in_ok-written-2.written c.in-Broken.performed c.in-Broken.is t.1
+    (subst (λ (x : Settings). IsProper x []) (sym c.loop.invariant.settings) c.requires.proper) (sym c.over.ensures ∙ c.if-over.false) c.in_ok-written-2.written c.in-Broken.performed c.in-Broken.is t.1
 
 pub returns-then-over-clause-in_order : goal.returns-then-over-clause-in_order
 returns-then-over-clause-in_order g c =
@@ -51,7 +51,11 @@ loop-preserved g c =
     let t = c.in_ok-written-2.ensures.takes in
     let none = takes-whole t.0 c.loop.session _ _ _ c.in_ok-written-2.written c.in_default.not-Broken t.1 in
     record {
-      going = (c.loop.invariant.going.0 ++ t.0 ∷ [], going-next c.loop.invariant.going.0 t.0 c.loop.session _ _ _ _ c.loop.invariant.going.1 none);
+      going = (
+        c.loop.invariant.going.0 ++ t.0 ∷ [],
+        going-next c.loop.invariant.going.0 t.0 c.loop.session _ _ _ _ c.loop.invariant.going.1
+            (subst (λ (x : Settings). IsProper x []) (sym c.loop.invariant.settings) c.requires.proper) (sym c.over.ensures ∙ c.if-over.false) none,
+      );
       in_order = order-next c.loop.invariant.going.0 t.0 c.loop.session _ _ _ _ _ _ c.in_ok-written-2.written c.in_default.not-Broken c.loop.invariant.going.1 t.1 c.in_ok-written-2.ensures.notes c.loop.invariant.in_order;
       reports = c.in_ok-written-2.ensures.follows;
       settings = none.settings ∙ c.loop.invariant.settings;
