@@ -1,8 +1,8 @@
 // A hub over lists.
-ghost use Rattle.std.specs.Prelude.{◌≡◌, ◌<◌, ◌≤◌, ◌+◌, ◌++◌, ◌∷◌, [], ℕ, Some, true, false, option_to_list, vec_len, vec_capacity, IfOk, IfSome, IsNone, OnOk};
+ghost use Rattle.std.specs.Prelude.{◌≡◌, ◌<◌, ◌≤◌, ◌+◌, ◌++◌, ◌∷◌, [], ℕ, Some, true, false, option_to_list, slice_index, vec_len, vec_capacity, IfOk, IfSome, IsNone, OnOk};
 ghost use Rattle.xd_journal.specs.declared.entry.Entry.TheVariants.{Start, Kill};
 ghost use Rattle.xd_drive.specs.Calls.{is_order};
-ghost use Rattle.xd_drive.specs.Listed.{GivesListed, from_started, is_listed, marks_by, may_give, others_of, refusal_of, starts_of, unkilled, was_killed};
+ghost use Rattle.xd_drive.specs.Listed.{GivesListed, from_started, is_listed, marks_by, may_give, others_of, place_of_turn, refusal_of, starts_of, unkilled, was_killed};
 ghost use Rattle.xd_drive.specs.Marks.{is_breach, may_tell, no_marks};
 
 use crate::Hub;
@@ -41,6 +41,7 @@ impl ListedHub {
         ensures given { result.given.items ≡ [] }
         ensures started { result.started ≡ [] }
         ensures calls { result.calls.items ≡ [] }
+        ensures turn { result.turn ≡ 0 }
         ensures fresh { (w : ℕ) →
             marks_by result.started result.calls.items result.given.items w ≡ no_marks }
     {
@@ -88,7 +89,9 @@ fn next_listed(news: &mut VecDeque<News>, started: &[u32]) -> Option<News>
 // Whose turn it is to be gone. The next turn is the next worker's.
 fn next_gone(started: &[u32], turn: &mut usize) -> u32
     requires { (w : ℕ) × (is_listed w started.now ≡ true) }
-    ensures { is_listed result started.now ≡ true }
+    ensures listed { is_listed result started.now ≡ true }
+    ensures worker { result ≡ slice_index started.now (place_of_turn started.now turn.old) }
+    ensures next { turn.new ≡ place_of_turn started.now turn.old + 1 }
 {
     let place = if *turn < started.len() { *turn } else { 0 };
     *turn = place + 1;
@@ -100,7 +103,7 @@ fn next_news(news: &mut VecDeque<News>, started: &[u32], turn: &mut usize) -> Ne
     requires { (w : ℕ) × (is_listed w started.now ≡ true) }
     ensures started { is_listed result.worker started.now ≡ true }
     ensures no_breach { is_breach result.what ≡ false }
-    ensures listed { GivesListed started.now news.old.items result news.new.items }
+    ensures listed { GivesListed started.now turn.old news.old.items result news.new.items turn.new }
 {
     if let Some(next) = next_listed(news, started) {
         return next;
@@ -118,7 +121,8 @@ impl ListedHub {
         ensures news { OnOk result
             (self.new.news.items ≡ refusal_of worker self.old.refused ++ self.old.news.items) }
         ensures rest { (self.new.given ≡ self.old.given) × (self.new.started ≡ self.old.started)
-            × (self.new.calls ≡ self.old.calls) × (self.new.refused ≡ self.old.refused) }
+            × (self.new.calls ≡ self.old.calls) × (self.new.refused ≡ self.old.refused)
+            × (self.new.turn ≡ self.old.turn) }
     {
         if is_among(worker, &self.refused.items) {
             self.news.push_front(News {
@@ -155,6 +159,7 @@ impl Hub for ListedHub {
             (self.new.news.items ≡ refusal_of worker self.old.refused ++ self.old.news.items) }
         ensures given { OnOk result (self.new.given.items ≡ self.old.given.items) }
         ensures refused { self.new.refused ≡ self.old.refused }
+        ensures turn { self.new.turn ≡ self.old.turn }
     {
         self.refuse(worker)?;
         self.calls.reserve(self.started.items.len() + 2)?;
@@ -174,6 +179,7 @@ impl Hub for ListedHub {
         ensures started { OnOk result (self.new.started ≡ self.old.started) }
         ensures given { OnOk result (self.new.given.items ≡ self.old.given.items) }
         ensures refused { self.new.refused ≡ self.old.refused }
+        ensures turn { self.new.turn ≡ self.old.turn }
     {
         let order = copy_order(alloc, worker, order)?;
         self.calls.reserve(self.started.items.len() + 1)?;
@@ -189,6 +195,7 @@ impl Hub for ListedHub {
         ensures started { self.new.started ≡ self.old.started }
         ensures given { self.new.given.items ≡ self.old.given.items }
         ensures refused { self.new.refused ≡ self.old.refused }
+        ensures turn { self.new.turn ≡ self.old.turn }
     {
         self.calls.push_reserved(Entry::Kill { worker });
     }
@@ -202,7 +209,8 @@ impl Hub for ListedHub {
             × (self.new.calls ≡ self.old.calls)) }
         ensures refused { self.new.refused ≡ self.old.refused }
         ensures listed { IfOk result (λ n.
-            GivesListed self.old.started self.old.news.items n self.new.news.items) }
+            GivesListed self.old.started self.old.turn self.old.news.items
+            n self.new.news.items self.new.turn) }
     {
         let news = next_news(&mut self.news, &self.started.items, &mut self.turn);
         self.given.push(copy_news(alloc, &news)?)?;
