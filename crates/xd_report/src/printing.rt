@@ -1,5 +1,5 @@
 // The report as it is printed.
-ghost use Rattle.std.specs.Prelude.{◌≡◌, ◌≤◌, IfOk, OnOk, OnErr, is_ok};
+ghost use Rattle.std.specs.Prelude.{◌≡◌, ◌≤◌, [], true, IfOk, OnOk, OnErr, is_ok};
 ghost use Rattle.xd_edge.specs.Faults.{Counted};
 ghost use Rattle.xd_edge.specs.Printing.{ShowsSome};
 ghost use Rattle.xd_edge.specs.Sink.{TookPart};
@@ -54,6 +54,8 @@ pub fn print_lines<O: Sink>(
         ShowsLines shown (lines_from s entries.now) (O.sunk out.old) (O.sunk out.new)) }
     ensures follows { (s : State) → Follows reporter.old s
         → OnPrinted result (λ shown. Follows reporter.new (after_entries s entries.now)) }
+    ensures none { (s : State) → Follows reporter.old s → lines_from s entries.now ≡ []
+        → OnPrinted result (λ shown. (shown ≡ true) × (O.sunk out.new ≡ O.sunk out.old)) }
     ensures later { O.faults out.old ≤ O.faults out.new }
     ensures counted { OnPrinted result (λ shown.
         Counted shown (O.faults out.old) (O.faults out.new)) }
@@ -67,6 +69,7 @@ pub fn print_lines<O: Sink>(
 fn print_some<O: Sink>(out: &mut O, bytes: &[u8]) -> Result<(), Failed>
     ensures ok { OnOk result (ShowsSome bytes.now (O.sunk out.old) (O.sunk out.new)) }
     ensures part { OnErr result (TookPart bytes.now (O.sunk out.old) (O.sunk out.new)) }
+    ensures none { bytes.now ≡ [] → (is_ok result ≡ true) × (O.sunk out.new ≡ O.sunk out.old) }
     ensures counted { Counted (is_ok result) (O.faults out.old) (O.faults out.new) }
 {
     if bytes.is_empty() {
