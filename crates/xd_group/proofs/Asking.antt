@@ -10,7 +10,7 @@ use Rattle.xd_link.specs.Starter.{Begun, IsNextLink, as_killed, as_reaped, fresh
 use Rattle.xd_link.specs.declared.place.Place.{Place}
 use Rattle.xd_link.specs.declared.starter.LinkRun.{LinkRun}
 use Rattle.xd_link.specs.declared.starter.Reaped.TheVariants.{Never}
-use Rattle.xd_group.specs.Children.{AreNumbered, AskedOfLink, TellsLinks, children_asked, child_asked, link_asked, all_buried, buried_child, child_changed_at, is_buried, failed_starts, fresh_child, is_killed_and_reaped, killed_child, reaped_child, starts_told}
+use Rattle.xd_group.specs.Children.{AreNumbered, AskedOfLink, TellsLinks, children_asked, child_asked, link_asked, all_buried, buried_child, child_changed_at, is_buried, failed_starts, fresh_child, is_killed_and_reaped, is_killed_if_any, killed_child, reaped_child, starts_told}
 use Rattle.xd_group.specs.declared.child.Child.{Child}
 
 -- ---- one more child
@@ -204,10 +204,6 @@ starts_failed place (Some b) next e = ap starts_told e
 
 -- ---- a hub that is given up
 
-over_kept : (o : Option Child) → is_killed_and_reaped (option_map reaped_child (option_map killed_child o)) ≡ true
-over_kept None = refl
-over_kept (Some c) = refl
-
 and_true : (a b : Bool) → a ≡ true → b ≡ true → (a && b) ≡ true
 and_true true b h e = e
 and_true false b h e = absurd (cc h)
@@ -220,33 +216,51 @@ and_right : (a b : Bool) → (a && b) ≡ true → b ≡ true
 and_right true b h = h
 and_right false b h = absurd (cc h)
 
-over_more : (cs : List (Option Child)) (k : ℕ) → list_all is_killed_and_reaped (take k cs) ≡ true → list_all is_killed_and_reaped (take (suc k) (child_changed_at k reaped_child (child_changed_at k killed_child cs))) ≡ true
-over_more [] k h = refl
-over_more (o ∷ cs) zero h = and_true (is_killed_and_reaped (option_map reaped_child (option_map killed_child o))) true (over_kept o) refl
-over_more (o ∷ cs) (suc k) h = and_true (is_killed_and_reaped o) _ (and_left (is_killed_and_reaped o) (list_all is_killed_and_reaped (take k cs)) h) (over_more cs k (and_right (is_killed_and_reaped o) (list_all is_killed_and_reaped (take k cs)) h))
+killed_kept : (o : Option Child) → is_killed_if_any (option_map killed_child o) ≡ true
+killed_kept None = refl
+killed_kept (Some c) = refl
 
--- one more child is over
-pub over_next : (cs killed reaped : List (Option Child)) (k j : ℕ) → j ≡ suc k → killed ≡ child_changed_at k killed_child cs → reaped ≡ child_changed_at k reaped_child killed → list_all is_killed_and_reaped (take k cs) ≡ true → list_all is_killed_and_reaped (take j reaped) ≡ true
-over_next cs killed reaped k j is a b h =
-    ap (λ (n : ℕ). list_all is_killed_and_reaped (take n reaped)) is ∙ (ap (λ (l : List (Option Child)). list_all is_killed_and_reaped (take (suc k) l)) (b ∙ ap (child_changed_at k reaped_child) a) ∙ over_more cs k h)
+killed_more : (cs : List (Option Child)) (k : ℕ) → list_all is_killed_if_any (take k cs) ≡ true → list_all is_killed_if_any (take (suc k) (child_changed_at k killed_child cs)) ≡ true
+killed_more [] k h = refl
+killed_more (o ∷ cs) zero h = and_true (is_killed_if_any (option_map killed_child o)) true (killed_kept o) refl
+killed_more (o ∷ cs) (suc k) h = and_true (is_killed_if_any o) _ (and_left (is_killed_if_any o) (list_all is_killed_if_any (take k cs)) h) (killed_more cs k (and_right (is_killed_if_any o) (list_all is_killed_if_any (take k cs)) h))
+
+-- one more child is killed
+pub killed_next : (cs killed : List (Option Child)) (k j : ℕ) → j ≡ suc k → killed ≡ child_changed_at k killed_child cs → list_all is_killed_if_any (take k cs) ≡ true → list_all is_killed_if_any (take j killed) ≡ true
+killed_next cs killed k j is a h =
+    ap (λ (n : ℕ). list_all is_killed_if_any (take n killed)) is ∙ (ap (λ (l : List (Option Child)). list_all is_killed_if_any (take (suc k) l)) a ∙ killed_more cs k h)
 
 changed_length : (cs : List (Option Child)) (k : ℕ) (f : Child → Child) → length (child_changed_at k f cs) ≡ length cs
 changed_length [] k f = refl
 changed_length (o ∷ cs) zero f = refl
 changed_length (o ∷ cs) (suc k) f = omega (arith, changed_length cs k f)
 
-pub over_length : (cs killed reaped : List (Option Child)) (k : ℕ) → killed ≡ child_changed_at k killed_child cs → reaped ≡ child_changed_at k reaped_child killed → length reaped ≡ length cs
-over_length cs killed reaped k a b = ap length (b ∙ ap (child_changed_at k reaped_child) a) ∙ (changed_length (child_changed_at k killed_child cs) k reaped_child ∙ changed_length cs k killed_child)
+pub killed_length : (cs killed : List (Option Child)) (k : ℕ) → killed ≡ child_changed_at k killed_child cs → length killed ≡ length cs
+killed_length cs killed k a = ap length a ∙ changed_length cs k killed_child
 
--- all are over
-pub over_all : (cs : List (Option Child)) (n : ℕ) → n ≡ length cs → list_all is_killed_and_reaped (take n cs) ≡ true → list_all is_killed_and_reaped cs ≡ true
-over_all cs n e h = ap (list_all is_killed_and_reaped) (sym (whole cs n e)) ∙ h
+-- all are killed
+pub killed_all : (cs : List (Option Child)) (n : ℕ) → n ≡ length cs → list_all is_killed_if_any (take n cs) ≡ true → list_all is_killed_if_any cs ≡ true
+killed_all cs n e h = ap (list_all is_killed_if_any) (sym (whole cs n e)) ∙ h
   where
     whole : (cs : List (Option Child)) (n : ℕ) → n ≡ length cs → take n cs ≡ cs
     whole [] zero e = refl
     whole [] (suc n) e = refl
     whole (o ∷ cs) zero e = absurd (omega (arith, e))
     whole (o ∷ cs) (suc n) e = ap (λ (l : List (Option Child)). o ∷ l) (whole cs n (omega (arith, e)))
+
+or_true : (a b : Bool) → b ≡ true → (a || b) ≡ true
+or_true true b h = refl
+or_true false b h = h
+
+-- what is killed is over once it is buried
+pub over_buried : (cs : List (Option Child)) → list_all is_killed_if_any cs ≡ true → list_all is_killed_and_reaped (all_buried cs) ≡ true
+over_buried [] h = refl
+over_buried (None ∷ cs) h = over_buried cs h
+over_buried (Some c ∷ cs) h =
+    let killed = and_left c.is_killed (list_all is_killed_if_any cs) h in
+    and_true (c.is_killed && (c.is_reaped || c.is_killed)) (list_all is_killed_and_reaped (all_buried cs))
+    (and_true c.is_killed (c.is_reaped || c.is_killed) killed (or_true c.is_reaped c.is_killed killed))
+    (over_buried cs (and_right c.is_killed (list_all is_killed_if_any cs) h))
 
 -- ---- children that were killed
 

@@ -87,6 +87,11 @@ abbrev pub cut_by : Option ℕ → List (Option Child) → List (Option Child)
 cut_by None cs = cs
 cut_by (Some k) cs = child_changed_at k killed_child cs
 
+-- the child was killed, where there is one
+abbrev pub is_killed_if_any : Option Child → Bool
+is_killed_if_any None = true
+is_killed_if_any (Some c) = c.is_killed
+
 -- the child was killed and waited for, where there is one
 abbrev pub is_killed_and_reaped : Option Child → Bool
 is_killed_and_reaped None = true

@@ -33,7 +33,7 @@ impl<St: Starter> Children<St> {
     ghost use Rattle.std.specs.Prelude.{◌≡◌, ◌∷◌, ◌++◌, [], ℕ, Some, Option, option_map, is_none, IfOk, IfSome, IfNone, true, OnErr, OnSome, slice_get, vec_len, ◌<◌};
     ghost use Rattle.std.specs.List.{list_all};
     ghost use Rattle.xd_link.specs.FreshLink.{unused};
-    ghost use Rattle.xd_group.specs.Children.{all_buried, buried_child, child_changed_at, cut_by, is_buried, fresh_child, is_killed_and_reaped, killed_child, reaped_child, starts_told};
+    ghost use Rattle.xd_group.specs.Children.{all_buried, buried_child, child_changed_at, cut_by, is_buried, fresh_child, is_killed_and_reaped, is_killed_if_any, killed_child, reaped_child, starts_told};
     ghost use Rattle.xd_group.specs.declared.child.Child.{Child};
 
     /// Nothing was started.
@@ -182,14 +182,22 @@ impl<St: Starter> Children<St> {
         let _killed = self.reap(rt, number);
     }
 
-    /// Kills each child that was not waited for, and waits for it.
+    /// Kills each child, and then waits for each that was not waited for.
     pub fn abandon<R: Wait>(&mut self, rt: &R)
         ensures over { list_all is_killed_and_reaped self.new.children.items ≡ true }
         ensures first { self.new.first ≡ self.old.first }
     {
+        self.kill_all();
+        self.bury(rt);
+    }
+
+    // Kills each child, and waits for none.
+    fn kill_all(&mut self)
+        ensures killed { list_all is_killed_if_any self.new.children.items ≡ true }
+        ensures first { self.new.first ≡ self.old.first }
+    {
         for number in 0..self.children.len() {
             self.kill(number);
-            let _killed = self.reap(rt, number);
         }
     }
 
