@@ -334,7 +334,8 @@ impl<St: Starter, C: Crew<Reader<St::Src>>> GatewayHub<St, C> {
         Ok(ends)
     }
 
-    /// Where memory ran out: kills each child, then waits for each that is left. From then on the hub is only to be taken apart.
+    /// Where memory ran out: kills each child, then waits for each that is left. From then on the hub is only to be taken
+    /// apart.
     pub fn abandon<R: Wait>(&mut self, rt: &R)
         ensures over { list_all is_killed_and_reaped self.new.children.children.items ≡ true }
         ensures first { (self.new.places ≡ self.old.places)
