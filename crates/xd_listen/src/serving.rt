@@ -124,8 +124,9 @@ pub fn serve<
         (scene (N.sunk e.sink) (N.faults e.sink) (K.runs e.children) (K.faults e.children)
         (F.faults files.new) (C.faults crew.new) (D.faults runner.new)
         (ticking (T.moment clock.new) (T.coming clock.new)))) }
-    // Status 0 only where no count of the link or of a crew rose, and another one only where something is wrong. Where the
-    // source tells its bytes, and nothing is wrong with all of them, and no count rises, the status is 0.
+    // Status 0 only where no count of the link or of a crew rose, and another one only where
+    // something is wrong. Where the source tells its bytes, and nothing is wrong with all of them,
+    // and no count rises, the status is 0.
     ensures calm { IfOk result (λ e. e.status ≡ 0 →
         IsCalm (S.faults link.source) (S.faults e.source)
         (scene (N.sunk link.sink) (N.faults link.sink) (K.runs children) (K.faults children)
