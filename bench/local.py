@@ -3,8 +3,8 @@
 
 Beside it stand a loop in C that starts, reads and waits for the same programs over the same kind of pipe, and, for the
 1,000 tests, what else runs a list of commands one after another, where it is installed: a loop of the shell, xargs, GNU
-parallel with one job, and pytest with a test function that calls subprocess.run for each command. Goals: at most 1.10 times the time
-of the loop in C, and a cost per test at 20,000 of at most 1.05 times that at 1,000.
+parallel with one job, and pytest with a test function that calls subprocess.run for each command. Goals: at most 1.10
+times the time of the loop in C, and a cost per test at 20,000 of at most 1.05 times that at 1,000.
 
 Usage: bench/local.py [PROGRAM]   from any folder; PROGRAM is the one of this repository where none is named.
 """
@@ -104,7 +104,7 @@ def gnu_parallel():
 
 
 def others(folder, tests):
-    """What else runs so many commands: a name, and its words and its input, or None where it is not installed."""
+    """What else runs that number of commands: a name, and its words and its input, or None where it is not installed."""
     true = shutil.which("true")
     numbers = "".join(f"{test}\n" for test in range(tests)).encode()
     yield "a loop of the shell", ["sh", "-c", SHELL_LOOP, "sh", str(tests), true], None

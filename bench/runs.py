@@ -4,7 +4,7 @@
 Beside it stands a program in C that keeps four children of posix_spawn busy: it reads the output of each to its end,
 waits for it, prints a line and starts the next. For 1,000 tests of `true` there are also `xargs -P 4` and `ninja -j 4`,
 where they are installed. Goals: at most 1.5 times the time of the program in C for `true` and 1.05 times for
-`sleep 0.005`, ahead of xargs and ninja, and a cost per test at 20,000 of at most 1.1 times that at 1,000.
+`sleep 0.005`, no more than xargs and ninja take, and a cost per test at 20,000 of at most 1.1 times that at 1,000.
 
 It also measures what four workers add to a run without a test (at most 15 ms), how the controller's memory grows with
 the tests (at most 1,024 bytes for each that keeps no output), and the processor time of a run whose tests sleep for ten
@@ -136,7 +136,7 @@ def suite_of(folder, name, tests, words):
 
 
 def others(folder, tests):
-    """What else runs so many programs four at a time: a name, its words and its input; None where it is not installed."""
+    """What else runs that number of programs, four at a time: a name, its words and its input; None where it is not installed."""
     numbers = "".join(f"{test}\n" for test in range(tests)).encode()
     xargs, ninja = shutil.which("xargs"), shutil.which("ninja")
     yield "`xargs -P 4 -n 1`", xargs and [xargs, "-P", str(WORKERS), "-n", "1", "true"], numbers

@@ -48,7 +48,7 @@ def print_table(rows):
 
 
 def note(text):
-    """A line on what was measured, ahead of the table."""
+    """A line on what was measured, before the table."""
     print(text, file=sys.stderr, flush=True)
 
 
@@ -93,7 +93,7 @@ def in_c(folder, name, source):
 
 def build(folder, name, source, crates, answers=None):
     """Builds a small program over crates of the repository, in a temporary copy of it, as rt run builds it, and gives its
-    path. `crates` is its line of crates.txt behind its name; `answers` has the proofs of functions that need some."""
+    path. `crates` is its line of crates.txt after its name; `answers` has the proofs of functions that need some."""
     shutil.copytree(os.path.join(ROOT, "crates"), os.path.join(folder, "crates"), ignore=shutil.ignore_patterns("out"))
     shutil.copy(os.path.join(ROOT, "HANDLES"), folder)
     crate = os.path.join(folder, "crates", name)

@@ -1,6 +1,7 @@
 #!/usr/bin/env python3
-"""Times how long `xdrun SUITE -n 0` takes to read a suite of 50,000 tests, each with a group. The last test repeats
-the first one's id, so the whole file is read and nothing runs. Goal: well under a second; the table says whether it is under one.
+"""Times how long `xdrun SUITE -n 0` takes to read a suite of 50,000 tests, each with a group. The last test repeats the
+first one's id, so the whole file is read and nothing runs. Goal: well under a second; the table says whether it is
+under one.
 
 Usage: bench/suite.py [PROGRAM]   from any folder; PROGRAM is the one of this repository where none is named.
 """
@@ -16,7 +17,7 @@ MAX_TESTS = 50_000
 
 
 def write_suite(path, tests):
-    """A suite of so many tests, of which the last has the first one's id."""
+    """A suite of that number of tests, of which the last has the first one's id."""
     with open(path, "w", encoding="utf-8") as file:
         for test in range(tests):
             number = test if test < tests - 1 else 0

@@ -31,7 +31,7 @@ use xd_value::{dumps, loads};
 
 fn main(rt: HostRuntime) -> io::Result<()> {
     let alloc = rt.alloc();
-    // The microseconds of each reading and writing, which are printed at the end. Their room is made ahead.
+    // The microseconds of each reading and writing, which are printed at the end. Their room is made before.
     let mut took = Vec::with_capacity(alloc, 64)?;
     for path in env::args(&rt)?.skip(1) {
         let bytes = fs::read(&rt, path.as_str())?;
@@ -221,7 +221,7 @@ def text(words):
 
 
 def mixed(size):
-    """A list of tuples of texts, integers, bytes and small dicts, of about so many bytes."""
+    """A list of tuples of texts, integers, bytes and small dicts, of about that number of bytes."""
     chance = random.Random(1)
     items, total = [], 0
     while total < size:

@@ -3,10 +3,11 @@
 
 Usage: bench/worker.py [PROGRAM]   from any folder; PROGRAM is the one of this repository where none is named.
 
-It runs 1,000 and 20,000 tests of `true` in one worker beside `-n 0` on the same suite (goals: at most 1.15 times its time,
-and a cost per test at 20,000 of at most 1.05 times that at 1,000), compares the peak memory of 1,000 and 20,000 tests run
-from one suite of 20,000 (goal: the same but for what is kept of each test), and sends 20,000 integers through `echo` beside the real execnet's echo (goal: at least 10 times as many a second), each
-the best of some runs. Where execnet is not installed (python3-execnet on Debian) its part is skipped with a word.
+It runs 1,000 and 20,000 tests of `true` in one worker beside `-n 0` on the same suite (goals: at most 1.15 times its
+time, and a cost per test at 20,000 of at most 1.05 times that at 1,000), compares the peak memory of 1,000 and 20,000
+tests run from one suite of 20,000 (goal: the same but for what is kept of each test), and sends 20,000 integers through
+`echo` beside the real execnet's echo (goal: at least 10 times as many a second), each the best of some runs. Where
+execnet is not installed (python3-execnet on Debian) its part is skipped with a word.
 """
 
 import os
@@ -114,7 +115,7 @@ def run_alone(program, suite):
 
 
 def echo(program, count):
-    """The seconds in which so many integers go through `echo` and come back."""
+    """The seconds in which that number of integers go through `echo` and come back."""
     items = b"".join(message(4, 1, number(i) + b"Q") for i in range(count))
     worker = Worker(program)
     worker.send(call("echo"))

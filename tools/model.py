@@ -1,8 +1,9 @@
 """A model of a run with workers, written apart from the program and from its definitions.
 
-It knows the rules of pytest-xdist's controller and of its modes as this project has them (the comments in crates/xd_ledger/specs say them):
-which entry a piece of news makes, which outputs follow an entry, when a run stops and is over, and what is printed of it.
-`tables.py` compares the tables that the tests read with what this model says of them, or writes them anew.
+It knows the rules of pytest-xdist's controller and of its modes as this project has them (the comments in
+crates/xd_ledger/specs say them): which entry a piece of news makes, which outputs follow an entry, when a run stops and
+is over, and what is printed of it. `tables.py` compares the tables that the tests read with what this model says of
+them, or writes them anew.
 
 Entries are tuples, and tests, workers and slots are counted from 0.
 
@@ -509,8 +510,8 @@ def is_answer(run, w, tests):
     """An answer to the open steal: none of the tests, or all that were asked for while they are held after the head."""
     if run.steal is None or run.steal[0] != w:
         return False
-    behind_head = run.held.get(w, [])[1:]
-    return not tests or (list(tests) == run.steal[1] and all(item in behind_head for item in run.items(w, tests)))
+    after_head = run.held.get(w, [])[1:]
+    return not tests or (list(tests) == run.steal[1] and all(item in after_head for item in run.items(w, tests)))
 
 
 def output_of(run, w):

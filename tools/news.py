@@ -11,7 +11,6 @@ import random
 import struct
 
 STATUS, RECONFIGURE, TERMINATE, EXEC, DATA, CLOSE, ERROR, LAST = range(8)
-NAMES = ["STATUS", "RECONFIGURE", "TERMINATE", "EXEC", "DATA", "CLOSE", "CLOSE_ERROR", "LAST_MESSAGE"]
 HOW_MANY = 210
 
 
@@ -24,8 +23,8 @@ class Channel:
 
 class Raw:
     """Bytes that are written as they stand."""
-    def __init__(self, data, shown):
-        self.data, self.shown = data, shown
+    def __init__(self, data):
+        self.data = data
 
 
 def number(n):
@@ -63,27 +62,13 @@ def form(v):
     raise TypeError(v)
 
 
-def shown(v):
-    if isinstance(v, Raw):
-        return v.shown
-    if isinstance(v, Channel):
-        return "#%d" % v.number
-    if isinstance(v, (list, tuple)):
-        return ("[%s]" if isinstance(v, list) else "(%s)") % ", ".join(map(shown, v))
-    if isinstance(v, dict):
-        return "{%s}" % ", ".join("%s: %s" % (shown(k), shown(x)) for k, x in v.items())
-    return repr(v)
-
-
 class Message:
     def __init__(self, kind, channel, value=None, payload=None):
         self.kind, self.channel = kind, channel
-        self.shown = "%s %d" % (NAMES[kind], channel)
         if payload is not None:
             self.payload = payload
         elif kind in (EXEC, DATA, ERROR):
             self.payload = form(value) + b"Q"
-            self.shown += " " + shown(value)
         else:
             self.payload = b""
 
@@ -459,8 +444,8 @@ def fixed():
     yield [call("shutdown")]
     for bad in (b"", b"L", b"LQL", b"LLQ", b"?Q", b"DQ", b"F\0\0Q", b"N\0\0\0\1\xffQ", b"B\0\0\0\0Q", b"K\0\0\0\1Q", b"JKP", b"JLLPLLPQ", b"@\0\0\0\1Q", b"H\0\0\0\1-Q", b"A\0\0\0\5xQ", b"JK\0\0\0\0LPQ", b"LLO\0\0\0\2Q"):
         yield [Message(DATA, 1, payload=bad), READY]
-    yield [Message(DATA, 1, payload=form((Raw(b"S" + number(11) + b"workerready", ""), {})) + b"Q")]
-    yield [Message(DATA, 1, payload=form((Raw(b"M" + number(11) + b"workerready", ""), {})) + b"Q")]
+    yield [Message(DATA, 1, payload=form((Raw(b"S" + number(11) + b"workerready"), {})) + b"Q")]
+    yield [Message(DATA, 1, payload=form((Raw(b"M" + number(11) + b"workerready"), {})) + b"Q")]
     yield [Message(DATA, 1, payload=b"N\0\0\0\x0bunscheduledJN\0\0\0\x07indicesK\0\0\0\1G\0\0\0\0H\0\0\0\x0207PP@\0\0\0\2Q")]
 
 
@@ -496,20 +481,6 @@ def chance(rng):
     return messages
 
 
-def literal(data):
-    out = ""
-    for b in data:
-        if b == 0:
-            out += "\\0"
-        elif b in (34, 92):
-            out += "\\" + chr(b)
-        elif 32 <= b < 127:
-            out += chr(b)
-        else:
-            out += "\\x%02x" % b
-    return 'b"%s"' % out
-
-
 def main():
     rng = random.Random(1)
     rows = [messages for messages in fixed() if messages]
@@ -527,4 +498,5 @@ def main():
     print('";')
 
 
-main()
+if __name__ == "__main__":
+    main()
