@@ -35,7 +35,7 @@ class Settings:
     restarts: int = 0
     chunk: Optional[int] = None
     reorder: bool = True
-    retries: int = 0  # of a test at whose head a worker is lost
+    retries: int = 0  # of a test at which a worker is lost
 
 
 @dataclass

@@ -21,9 +21,8 @@ pub data Place : Type 0 where
 abbrev pub brings_share : State → Entry → Bool
 brings_share s e = not s.books.shared && (after_effect s e).books.shared
 
--- where the entry puts the item, where it moves it: a Run or a RunAll gives it to a worker, its result and the death of
--- the worker at whose head it stands report it, and the share, its return, the death of a worker that holds it after the
--- head, and that of a worker at whose head it stands where it is tried again bring it to the pool
+-- where the entry puts the item, where it moves it: a Run or a RunAll gives it to a worker, its result reports it, and the
+-- share and its return bring it to the pool; so does the death of its worker, which reports a head that is not tried again
 abbrev pub puts : State → Entry → ℕ → Option Place
 puts s (Run w indices) x = if among x (items_named (slot_of w s.books) indices s.plan) then Some (HeldBy w) else None
 puts s (RunAll w) x = if among x (slot_items (slot_of w s.books) s.plan) then Some (HeldBy w) else None

@@ -11,7 +11,7 @@ use Rattle.xd_journal.specs.Stop.{reaches}
 use Rattle.xd_ledger.specs.Collections.{differ_at}
 use Rattle.xd_ledger.specs.Reports.{Report, Result, Crash, reports}
 
--- a test that failed, or at whose head a worker went down
+-- a test that failed, or at which a worker went down
 abbrev pub fails : Report → Bool
 fails (Result worker item (Failed code)) = true
 fails (Crash worker item) = true

@@ -13,7 +13,7 @@ use Rattle.xd_ledger.specs.Reports.{item_of, reports_in}
 use Rattle.xd_laws.specs.Collected.{collected}
 use Rattle.xd_laws.specs.Stopped.{StopsBy}
 
--- It is that of proper inputs, with its end: where the run is over, or anywhere where the output failed.
+-- The journal is that of proper inputs, with its end: where the run is over, or anywhere where the output failed.
 pub record IsWhole (j : Journal) : Type 0 where
   pub inputs : List Entry
   pub proper : IsProper j.settings inputs
@@ -25,14 +25,14 @@ pub record IsWhole (j : Journal) : Type 0 where
 abbrev pub tests_in : Journal → ℕ
 tests_in j = collected (state_at j.settings j.entries.items).books
 
--- Its reports name each collected test at most once and nothing else, and each once where the run was completed.
+-- The journal's reports name each collected test at most once and nothing else, and each once where the run was completed.
 pub record NamesEach (j : Journal) : Type 0 where
   pub at_most : (x : ℕ) → times x (map item_of (reports_in j)) ≤ 1
   pub no_other : (x : ℕ) → tests_in j ≤ x → times x (map item_of (reports_in j)) ≡ 0
   pub each : stop_of j ≡ Completed → (x : ℕ) → x < tests_in j → times x (map item_of (reports_in j)) ≡ 1
 
--- How it ended: it was completed where the run was over and not stopped, and each stop but that of the output is one that
--- an entry brings.
+-- How the run ended: it was completed only where it was over and not stopped, and each stop but that of the output is one
+-- that an entry brings.
 pub record EndsRightly (j : Journal) : Type 0 where
   pub over : stop_of j ≡ Completed → is_over (state_at j.settings j.entries.items).books ≡ true
   pub unstopped : stop_of j ≡ Completed → is_stopped (state_at j.settings j.entries.items).books ≡ false

@@ -48,7 +48,7 @@ down_plan worker retried rest p = record p {
   steal = steal_without worker p.steal;
 }
 
--- the worker held these items, its head first
+-- the state after the death of a worker, which went down or could not be started
 abbrev pub after_down : ℕ → State → State
 after_down worker s =
     let retry = is_retry worker s.books in

@@ -8,7 +8,7 @@ use std::marker::Model;
 use xd_journal::{RunStop, Settings};
 
 /// What the state of a run has beside where its tests stand: whoever was started, the collections that others are
-/// compared with, the counts of failures and deaths, the items at whose head a worker went down, the first stop, and the
+/// compared with, the counts of failures and deaths, the items at which a worker went down, the first stop, and the
 /// marks that the tests were shared and that nothing is left to hand out. Contracts see the books of a run in which no
 /// test stands anywhere.
 #[derive(Drop)]
