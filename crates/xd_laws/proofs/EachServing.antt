@@ -32,7 +32,8 @@ use Rattle.xd_laws.proofs.Places.{times-apart}
 use Rattle.xd_laws.proofs.Turns.{InRota, Tidy}
 use Rattle.xd_laws.proofs.Rule.{CallFits, IsFresh, Rule}
 use Rattle.xd_laws.proofs.InMode.{InMode}
-use Rattle.xd_laws.proofs.EachTurns.{base-each, pool-shut, rota-apart, rota-distinct, sum-more}
+use Rattle.xd_ledger.proofs.Parts.{sum-more}
+use Rattle.xd_laws.proofs.EachTurns.{base-each, pool-shut, rota-apart, rota-distinct}
 use Rattle.xd_laws.proofs.EachRule.{each_rule}
 use Rattle.xd_laws.proofs.Pigeons.{all-taken, among-image, image-once, none-among}
 use Rattle.xd_laws.proofs.Busy.{told-kept}

@@ -16,6 +16,7 @@ use Rattle.xd_ledger.specs.Sharing.{State}
 use Rattle.xd_ledger.specs.State.{after_entries}
 use Rattle.xd_ledger.specs.Outputs.{turn_of}
 use Rattle.xd_ledger.specs.Orderly.{is_orderly}
+use Rattle.xd_ledger.proofs.Parts.{parts-apart, parts-within}
 use Rattle.xd_laws.proofs.Logic.{differ, cases_of, split-and, not_true, in_both}
 use Rattle.xd_laws.proofs.Counts.{distinct-of_times, all_among-self, all_among-of, among_of-all_among, among-filter, distinct-filter, among-in_range, bounds-of_range}
 use Rattle.xd_laws.proofs.Rota.{seats_of, seat-among, told-change, told-shut, workers-change}
@@ -26,48 +27,6 @@ use Rattle.xd_laws.proofs.Rule.{IsFresh}
 
 pub base-each : (slot : ℕ) (p : Plan) → is_each p.mode ≡ true → base slot p ≡ sum (take slot p.sizes)
 base-each slot p h = rw h
-
-fold-plus : (a : ℕ) (xs : List ℕ) → fold ◌+◌ a xs ≡ a + fold ◌+◌ 0 xs
-fold-plus a [] = omega arith
-fold-plus a (x ∷ xs) =
-    let p : fold ◌+◌ (a + x) xs ≡ (a + x) + fold ◌+◌ 0 xs = fold-plus (a + x) xs in
-    let q : fold ◌+◌ (0 + x) xs ≡ (0 + x) + fold ◌+◌ 0 xs = fold-plus (0 + x) xs in
-    p ∙ omega (arith, q)
-
-pub sum-more : (x : ℕ) (xs : List ℕ) → sum (x ∷ xs) ≡ x + sum xs
-sum-more x xs = fold-plus (0 + x) xs ∙ omega arith
-
-none-of_none : (n : ℕ) → sum (take n []) ≡ 0
-none-of_none zero = refl
-none-of_none (suc n) = refl
-
--- the slots' parts stand one after another
-parts-apart : (a b : ℕ) (sizes : List ℕ) → a < b → sum (take a sizes) + slice_index sizes a ≤ sum (take b sizes)
-parts-apart a b [] h = omega (arith, none-of_none a, none-of_none b)
-parts-apart a zero (x ∷ xs) h = absurd (omega (arith, h))
-parts-apart zero (suc b) (x ∷ xs) h =
-    let p : sum (take (suc b) (x ∷ xs)) ≡ x + sum (take b xs) = sum-more x (take b xs) in
-    let q : slice_index (x ∷ xs) 0 ≡ x = refl in
-    omega (arith, p, q)
-parts-apart (suc a) (suc b) (x ∷ xs) h =
-    let p : sum (take (suc b) (x ∷ xs)) ≡ x + sum (take b xs) = sum-more x (take b xs) in
-    let q : sum (take (suc a) (x ∷ xs)) ≡ x + sum (take a xs) = sum-more x (take a xs) in
-    let k : slice_index (x ∷ xs) (suc a) ≡ slice_index xs a = refl in
-    let r = parts-apart a b xs (omega (arith, h)) in
-    omega (arith, p, q, k, r)
-
-parts-within : (a : ℕ) (sizes : List ℕ) → sum (take a sizes) + slice_index sizes a ≤ sum sizes
-parts-within a [] = omega (arith, none-of_none a)
-parts-within zero (x ∷ xs) =
-    let p : sum (x ∷ xs) ≡ x + sum xs = sum-more x xs in
-    let q : slice_index (x ∷ xs) 0 ≡ x = refl in
-    omega (arith, p, q)
-parts-within (suc a) (x ∷ xs) =
-    let p : sum (x ∷ xs) ≡ x + sum xs = sum-more x xs in
-    let q : sum (take (suc a) (x ∷ xs)) ≡ x + sum (take a xs) = sum-more x (take a xs) in
-    let k : slice_index (x ∷ xs) (suc a) ≡ slice_index xs a = refl in
-    let r = parts-within a xs in
-    omega (arith, p, q, k, r)
 
 slots-ordered : (a b x : ℕ) (p : Plan) → is_each p.mode ≡ true → a < b → among x (slot_items a p) ≡ true → among x (slot_items b p) ≡ true → ⊥
 slots-ordered a b x p e h i j =

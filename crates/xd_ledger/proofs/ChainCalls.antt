@@ -4,8 +4,8 @@ use Rattle.std.specs.Prelude.{◌==◌, ◌||◌, if◌then◌else◌}
 use Rattle.std.proofs.lemmas.Bool.Decides.{nat_tests}
 use Rattle.std.proofs.lemmas.List.{get_or_read, get_or_past, take_more}
 use Rattle.xd_ledger.specs.Numbers.{times, among, without, all_among, all_distinct, first_of}
-use Rattle.xd_ledger.specs.Chains.{Lists, chain_at, chains_of, number_count, is_free, at, owner_of, no_chain, chain, AreChains, changed, shifted, poured, last_or, first_or, final_of, ahead, part_after}
-use Rattle.xd_ledger.proofs.Links.{same, swapped, without-around, back-of, next-of, times-last, times-first, times-append}
+use Rattle.xd_ledger.specs.Chains.{Lists, chain_at, chains_of, number_count, is_free, at, owner_of, no_chain, chain, AreChains, changed, shifted, poured, final_of, part_before, part_after}
+use Rattle.xd_ledger.proofs.Links.{last_or, first_or, same, swapped, without-around, back-of, next-of, times-last, times-first, times-append}
 use Rattle.xd_ledger.proofs.ChainMoves.{Gives, by_cases, equals, changed-here, changed-else, stands-once, take_gives, put_gives, put_first_gives, place-fits, stands-few, stands-around, stands-below, chains-long, among-once}
 
 among-length : (x : ℕ) (xs : List ℕ) → among x xs ≡ true → 1 ≤ length xs
@@ -355,17 +355,17 @@ next_is_at n p o c now x v k e s = subst (λ (l : Lists). x < number_count l →
     let g : v ≡ at n x = get_or_read n x v fits r 0 in
     let w = stands-around n p o (length o + k) k (at c k) x (chain n o c k) here a in
     let up : length o ≤ length o + k = omega arith in
-    let f = part-below (length o) (ahead x (chain n o c k)) x (part_after x (chain n o c k)) (chain n o c k) w.split (stands-below n p o (length o) k (at c k) (chain n o c k) here refl (chains-long n p o c (chain n o c) s k h)) in
+    let f = part-below (length o) (part_before x (chain n o c k)) x (part_after x (chain n o c k)) (chain n o c k) w.split (stands-below n p o (length o) k (at c k) (chain n o c k) here refl (chains-long n p o c (chain n o c) s k h)) in
     place_first (length o) (length o + k) v (part_after x (chain n o c k)) (g ∙ w.next_is) up (λ z t. f z (omega arith))))
 
-pub back_is_at : (n p o c : List ℕ) (now : Lists) (x v k : ℕ) → record { next = n; owner = o; counts = c } ≡ now → AreChains n p o c (chain n o c) → x < number_count now → v ≡ get_or p x v → k < chains_of now → among x (chain_at now k) ≡ true → (if nat_lt v (number_count now) then Some v else None) ≡ final_of (ahead x (chain_at now k))
-back_is_at n p o c now x v k e s = subst (λ (l : Lists). x < number_count l → v ≡ get_or p x v → k < chains_of l → among x (chain_at l k) ≡ true → (if nat_lt v (number_count l) then Some v else None) ≡ final_of (ahead x (chain_at l k))) e
+pub back_is_at : (n p o c : List ℕ) (now : Lists) (x v k : ℕ) → record { next = n; owner = o; counts = c } ≡ now → AreChains n p o c (chain n o c) → x < number_count now → v ≡ get_or p x v → k < chains_of now → among x (chain_at now k) ≡ true → (if nat_lt v (number_count now) then Some v else None) ≡ final_of (part_before x (chain_at now k))
+back_is_at n p o c now x v k e s = subst (λ (l : Lists). x < number_count l → v ≡ get_or p x v → k < chains_of l → among x (chain_at l k) ≡ true → (if nat_lt v (number_count l) then Some v else None) ≡ final_of (part_before x (chain_at l k))) e
     (λ b r h a. (let here = s.stands k h in let bf = s.backs_fit in let fits : x < length p = omega arith in
     let g : v ≡ at p x = get_or_read p x v fits r 0 in
     let w = stands-around n p o (length o + k) k (at c k) x (chain n o c k) here a in
     let up : length o ≤ length o + k = omega arith in
-    let f = part-below (length o) (ahead x (chain n o c k)) x (part_after x (chain n o c k)) (chain n o c k) w.split (stands-below n p o (length o) k (at c k) (chain n o c k) here refl (chains-long n p o c (chain n o c) s k h)) in
-    place_last (length o) (length o + k) v (ahead x (chain n o c k)) (g ∙ w.back_is) up (λ z t. f z (omega arith))))
+    let f = part-below (length o) (part_before x (chain n o c k)) x (part_after x (chain n o c k)) (chain n o c k) w.split (stands-below n p o (length o) k (at c k) (chain n o c k) here refl (chains-long n p o c (chain n o c) s k h)) in
+    place_last (length o) (length o + k) v (part_before x (chain n o c k)) (g ∙ w.back_is) up (λ z t. f z (omega arith))))
 
 among-times : (x : ℕ) (xs : List ℕ) → among x xs ≡ nat_lt 0 (times x xs)
 among-times x [] = grind (arith, nat_tests)

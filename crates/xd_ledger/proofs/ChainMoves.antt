@@ -4,9 +4,9 @@ use Rattle.std.specs.Prelude.{◌==◌}
 use Rattle.std.proofs.lemmas.Bool.Decides.{nat_tests}
 use Rattle.std.proofs.lemmas.List.{length-set, get_or_past, get_or-set_same, get_or-set_other}
 use Rattle.xd_ledger.specs.Numbers.{times, among, without}
-use Rattle.xd_ledger.specs.Chains.{at, owner_of, no_chain, walk, chain, Nexts, Backs, IsLinkedChain, AreChains, changed, first_or, last_or, ahead, part_after}
+use Rattle.xd_ledger.specs.Chains.{at, owner_of, no_chain, walk, chain, Nexts, Backs, IsLinkedChain, AreChains, changed, part_before, part_after}
 use Rattle.xd_ledger.proofs.Counts.{few_of-kind}
-use Rattle.xd_ledger.proofs.Links.{walked, swapped, same, nexts_else, backs_else, nexts_put, backs_put, nexts_first, backs_first, nexts_taken, backs_taken, next-at, back-at, next-of, back-of, around, times-append, times-first, times-last, without-around}
+use Rattle.xd_ledger.proofs.Links.{first_or, last_or, walked, swapped, same, nexts_else, backs_else, nexts_put, backs_put, nexts_first, backs_first, nexts_taken, backs_taken, next-at, back-at, next-of, back-of, around, times-append, times-first, times-last, without-around}
 
 pub by_cases : {P : Type 0} (b : Bool) → (b ≡ true → P) → (b ≡ false → P) → P
 by_cases true f g = f refl
@@ -193,15 +193,15 @@ among-once x (y ∷ xs) h = grind (arith, nat_tests, among-once x xs)
 
 -- what leads from a number of a chain, and back
 pub record Around (n p o : List ℕ) (e x : ℕ) (xs : List ℕ) : Type 0 where
-  pub split : xs ≡ ahead x xs ++ x ∷ part_after x xs
+  pub split : xs ≡ part_before x xs ++ x ∷ part_after x xs
   pub next_is : at n x ≡ first_or e (part_after x xs)
-  pub back_is : at p x ≡ last_or e (ahead x xs)
+  pub back_is : at p x ≡ last_or e (part_before x xs)
   pub next_there : 1 ≤ times (at n x) (e ∷ xs)
   pub back_there : 1 ≤ times (at p x) (e ∷ xs)
 
 pub stands-around : (n p o : List ℕ) (e k c x : ℕ) (xs : List ℕ) → IsLinkedChain n p o e k c xs → among x xs ≡ true → Around n p o e x xs
 stands-around n p o e k c x xs s a =
-    let hs = ahead x xs in
+    let hs = part_before x xs in
     let ts = part_after x xs in
     let w : xs ≡ hs ++ x ∷ ts = around x xs a in
     let nx : at n x ≡ first_or e ts = next-at n e hs x ts e (subst (λ ys. Nexts n e ys e) w s.nexts) in
@@ -227,7 +227,7 @@ taken_are n p o c lists k x s h a =
     let b = length o in
     let e = b + k in
     let xs = lists k in
-    let hs = ahead x xs in
+    let hs = part_before x xs in
     let ts = part_after x xs in
     let long = chains-long n p o c lists s k h in
     let here = s.stands k h in

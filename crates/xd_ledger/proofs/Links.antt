@@ -4,7 +4,17 @@ use Rattle.std.specs.Prelude.{◌==◌}
 use Rattle.std.proofs.lemmas.Bool.Decides.{nat_tests}
 use Rattle.std.proofs.lemmas.Grind.{common_steps}
 use Rattle.xd_ledger.specs.Numbers.{times, among, without}
-use Rattle.xd_ledger.specs.Chains.{at, walk, Nexts, Backs, first_or, last_or, ahead, part_after}
+use Rattle.xd_ledger.specs.Chains.{at, walk, Nexts, Backs, part_before, part_after}
+
+-- the first number of the list; the other one where it is empty
+abbrev pub first_or : ℕ → List ℕ → ℕ
+first_or other [] = other
+first_or other (x ∷ xs) = x
+
+-- the last number of the list; the other one where it is empty
+abbrev pub last_or : ℕ → List ℕ → ℕ
+last_or other [] = other
+last_or other (x ∷ xs) = last_or x xs
 
 -- the two differ at this place at most
 abbrev pub SameBut : ℕ → List ℕ → List ℕ → Type 0
@@ -143,7 +153,7 @@ backs_taken p q u (y ∷ hs) x ts e one comes others h =
 
 -- a list around a number of it
 
-pub around : (x : ℕ) (xs : List ℕ) → among x xs ≡ true → xs ≡ ahead x xs ++ x ∷ part_after x xs
+pub around : (x : ℕ) (xs : List ℕ) → among x xs ≡ true → xs ≡ part_before x xs ++ x ∷ part_after x xs
 around x [] h = cc
 around x (y ∷ ys) h = grind (arith, nat_tests, common_steps, around x ys)
 

@@ -4,7 +4,7 @@ use Rattle.std.proofs.lemmas.List.{drop_more}
 use Rattle.std.specs.Prelude.{◌||◌, ◌==◌, filter}
 use Rattle.std.specs.List.{range_with_len}
 use Rattle.std.proofs.lemmas.Bool.Decides.{nat_tests}
-use Rattle.xd_ledger.specs.Chains.{ahead, part_after, final_of}
+use Rattle.xd_ledger.specs.Chains.{part_before, part_after, final_of}
 use Rattle.xd_ledger.specs.Numbers.{among, all_among, all_distinct, first_of}
 
 -- parts of a list
@@ -89,7 +89,7 @@ behind-at (x ∷ xs) (suc k) h d =
     let e : suc k + 1 ≡ suc (k + 1) = omega arith in
     rw (other, e) (behind-at xs k (omega arith) rest)
 
-pub ahead-at : (xs : List ℕ) (k : ℕ) → k < length xs → all_distinct xs ≡ true → ahead (get_or xs k 0) xs ≡ take k xs
+pub ahead-at : (xs : List ℕ) (k : ℕ) → k < length xs → all_distinct xs ≡ true → part_before (get_or xs k 0) xs ≡ take k xs
 ahead-at [] k h d = absurd (omega arith)
 ahead-at (x ∷ xs) zero h d = grind (arith, nat_tests)
 ahead-at (x ∷ xs) (suc k) h d =

@@ -92,21 +92,11 @@ final_of (x ∷ []) = Some x
 final_of (x ∷ y ∷ xs) = final_of (y ∷ xs)
 
 -- the part of the list before the number; the whole list where the number does not stand there
-abbrev pub ahead : ℕ → List ℕ → List ℕ
-ahead x [] = []
-ahead x (y ∷ ys) = if x == y then [] else y ∷ ahead x ys
+abbrev pub part_before : ℕ → List ℕ → List ℕ
+part_before x [] = []
+part_before x (y ∷ ys) = if x == y then [] else y ∷ part_before x ys
 
 -- the part of the list after the number; empty where the number does not stand there
 abbrev pub part_after : ℕ → List ℕ → List ℕ
 part_after x [] = []
 part_after x (y ∷ ys) = if x == y then ys else part_after x ys
-
--- the first number of the list; the other one where it is empty
-abbrev pub first_or : ℕ → List ℕ → ℕ
-first_or other [] = other
-first_or other (x ∷ xs) = x
-
--- the last number of the list; the other one where it is empty
-abbrev pub last_or : ℕ → List ℕ → ℕ
-last_or other [] = other
-last_or other (x ∷ xs) = last_or x xs

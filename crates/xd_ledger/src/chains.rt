@@ -2,7 +2,7 @@
 ghost use Rattle.std.specs.Prelude.{◌≡◌, ℕ, take, drop, slice_index, ◌+◌, ◌-◌, replicate, is_ok, IfOk, OnOk, ◌<◌, ◌≤◌, ◌==◌, [], ◌∷◌, ◌++◌, length, nat_lt, true, false, Some, None, if◌then◌else◌};
 ghost use Rattle.std.specs.List.{range_with_len};
 ghost use Rattle.xd_ledger.specs.Numbers.{among, all_among, all_distinct, without, first_of};
-ghost use Rattle.xd_ledger.specs.Chains.{chain_at, is_free, number_count, chains_of, changed, shifted, poured, ahead, part_after, final_of};
+ghost use Rattle.xd_ledger.specs.Chains.{chain_at, is_free, number_count, chains_of, changed, shifted, poured, part_before, part_after, final_of};
 
 use std::alloc::{AllocError, Global};
 use std::marker::Model;
@@ -274,7 +274,7 @@ impl Chains {
     // The number before this one in its list.
     pub(crate) fn previous(&self, item: u32) -> Option<u32>
         ensures { (k : ℕ) → k < chains_of self.now → among item (chain_at self.now k) ≡ true →
-            result ≡ final_of (ahead item (chain_at self.now k)) }
+            result ≡ final_of (part_before item (chain_at self.now k)) }
     {
         if (item as usize) < self.owner.len() {
             self.item_at(self.previous[item as usize])

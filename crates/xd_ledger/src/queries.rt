@@ -2,7 +2,7 @@
 ghost use Rattle.std.specs.Prelude.{nat_lt, ◌≡◌, ◌<◌, ◌≤◌, ◌++◌, ℕ, length, slice_index, true, IfOk};
 ghost use Rattle.std.specs.List.{list_all};
 ghost use Rattle.xd_ledger.specs.Calls.{last_of};
-ghost use Rattle.xd_ledger.specs.Chains.{chain_at, chains_of, ahead, part_after, final_of};
+ghost use Rattle.xd_ledger.specs.Chains.{chain_at, chains_of, part_before, part_after, final_of};
 ghost use Rattle.xd_ledger.specs.Numbers.{among, first_of};
 ghost use Rattle.xd_ledger.specs.Posts.{chains_in};
 ghost use Rattle.xd_ledger.specs.Table.{has_joined, held, held_by_all, in_rota, seat_shut, workers_of};
@@ -157,9 +157,9 @@ impl Ledger {
     pub fn previous_item(&self, item: u32) -> Option<u32>
         requires stands { among item (self.now.pool ++ held_by_all self.now.rota) ≡ true }
         ensures pool { among item self.now.pool ≡ true →
-            result ≡ final_of (ahead item self.now.pool) }
+            result ≡ final_of (part_before item self.now.pool) }
         ensures held { (w : ℕ) → in_rota w self.now ≡ true → among item (held w self.now) ≡ true →
-            result ≡ final_of (ahead item (held w self.now)) }
+            result ≡ final_of (part_before item (held w self.now)) }
     {
         self.chains.previous(item)
     }

@@ -16,51 +16,10 @@ use Rattle.xd_ledger.specs.Plan.{Plan, slot_items}
 use Rattle.xd_ledger.specs.Table.{Table, assigned, workers_of}
 use Rattle.xd_ledger.specs.Turn.{Turn, shut}
 use Rattle.xd_ledger.specs.Each.{give_all, give_of_slot, give_slots}
+use Rattle.xd_ledger.proofs.Parts.{parts-apart, parts-within}
 use Rattle.xd_ledger.proofs.Turns.{workers-at_seat, workers-shut_turn}
 use Rattle.xd_ledger.proofs.Lists.{among-append, among-at, among-filter, all_among-of, among-range, behind-at, distinct-drop, first-drop}
 use Rattle.xd_load.specs.Slots.{AreWaiting, InSlots, first_in, items_in}
-
-fold-plus : (a : ℕ) (xs : List ℕ) → fold ◌+◌ a xs ≡ a + fold ◌+◌ 0 xs
-fold-plus a [] = omega arith
-fold-plus a (x ∷ xs) =
-    let p : fold ◌+◌ (a + x) xs ≡ (a + x) + fold ◌+◌ 0 xs = fold-plus (a + x) xs in
-    let q : fold ◌+◌ (0 + x) xs ≡ (0 + x) + fold ◌+◌ 0 xs = fold-plus (0 + x) xs in
-    p ∙ omega (arith, q)
-
-sum-more : (x : ℕ) (xs : List ℕ) → sum (x ∷ xs) ≡ x + sum xs
-sum-more x xs = fold-plus (0 + x) xs ∙ omega arith
-
-none-of_none : (n : ℕ) → sum (take n []) ≡ 0
-none-of_none zero = refl
-none-of_none (suc n) = refl
-
--- the slots' parts stand one after another
-parts-apart : (a b : ℕ) (sizes : List ℕ) → a < b → sum (take a sizes) + slice_index sizes a ≤ sum (take b sizes)
-parts-apart a b [] h = omega (arith, none-of_none a, none-of_none b)
-parts-apart a zero (x ∷ xs) h = absurd (omega (arith, h))
-parts-apart zero (suc b) (x ∷ xs) h =
-    let p : sum (take (suc b) (x ∷ xs)) ≡ x + sum (take b xs) = sum-more x (take b xs) in
-    let q : slice_index (x ∷ xs) 0 ≡ x = refl in
-    omega (arith, p, q)
-parts-apart (suc a) (suc b) (x ∷ xs) h =
-    let p : sum (take (suc b) (x ∷ xs)) ≡ x + sum (take b xs) = sum-more x (take b xs) in
-    let q : sum (take (suc a) (x ∷ xs)) ≡ x + sum (take a xs) = sum-more x (take a xs) in
-    let k : slice_index (x ∷ xs) (suc a) ≡ slice_index xs a = refl in
-    let r = parts-apart a b xs (omega (arith, h)) in
-    omega (arith, p, q, k, r)
-
-pub parts-within : (a : ℕ) (sizes : List ℕ) → sum (take a sizes) + slice_index sizes a ≤ sum sizes
-parts-within a [] = omega (arith, none-of_none a)
-parts-within zero (x ∷ xs) =
-    let p : sum (x ∷ xs) ≡ x + sum xs = sum-more x xs in
-    let q : slice_index (x ∷ xs) 0 ≡ x = refl in
-    omega (arith, p, q)
-parts-within (suc a) (x ∷ xs) =
-    let p : sum (x ∷ xs) ≡ x + sum xs = sum-more x xs in
-    let q : sum (take (suc a) (x ∷ xs)) ≡ x + sum (take a xs) = sum-more x (take a xs) in
-    let k : slice_index (x ∷ xs) (suc a) ≡ slice_index xs a = refl in
-    let r = parts-within a xs in
-    omega (arith, p, q, k, r)
 
 pub sum-one_more : (xs : List ℕ) (i : ℕ) → i < length xs → sum (take (i + 1) xs) ≡ sum (take i xs) + get_or xs i 0
 sum-one_more xs i h = fold_more ◌+◌ 0 xs i 0 h

@@ -18,7 +18,7 @@ use Rattle.xd_ledger.specs.State.{after_effect, state_at}
 use Rattle.xd_laws.specs.Collected.{slots}
 use Rattle.xd_laws.specs.Whole.{tests_in}
 use Rattle.xd_laws.proofs.Counts.{bounds-of_range}
-use Rattle.xd_laws.proofs.EachTurns.{sum-more}
+use Rattle.xd_ledger.proofs.Parts.{sum-more}
 use Rattle.xd_laws.proofs.Inputs.{collecting-keeps, still_shared}
 use Rattle.xd_laws.proofs.Shared.{Listing, listed-kept}
 use Rattle.xd_report.specs.Tests.{id_of}

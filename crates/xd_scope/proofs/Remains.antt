@@ -7,7 +7,7 @@ use Rattle.std.specs.Ordering.{is_eq, nat_cmp}
 use Rattle.std.proofs.lemmas.Bool.Decides.{nat_tests}
 use Rattle.std.proofs.lemmas.List.{drop_more, take_more}
 use Rattle.xd_ledger.specs.Calls.{last_of}
-use Rattle.xd_ledger.specs.Chains.{ahead, final_of}
+use Rattle.xd_ledger.specs.Chains.{part_before, final_of}
 use Rattle.xd_ledger.specs.Numbers.{all_distinct, among, first_of}
 use Rattle.xd_ledger.specs.Plan.{Handed}
 use Rattle.xd_ledger.specs.Table.{retried_item}
@@ -42,8 +42,8 @@ in-pool xs ys k x h at =
     let a : among x xs ≡ true = ap (λ (z : ℕ). among z xs) at ∙ among-at xs k h in
     among-append x xs ys ∙ rw a
 
-pub previous-at : (xs : List ℕ) (k x : ℕ) (next : Option ℕ) → k < length xs → all_distinct xs ≡ true → x ≡ get_or xs k 0 → next ≡ final_of (ahead x xs) → next ≡ final_of (take k xs)
-previous-at xs k x next h d at e = e ∙ ap (λ (z : ℕ). final_of (ahead z xs)) at ∙ ap final_of (ahead-at xs k h d)
+pub previous-at : (xs : List ℕ) (k x : ℕ) (next : Option ℕ) → k < length xs → all_distinct xs ≡ true → x ≡ get_or xs k 0 → next ≡ final_of (part_before x xs) → next ≡ final_of (take k xs)
+previous-at xs k x next h d at e = e ∙ ap (λ (z : ℕ). final_of (part_before z xs)) at ∙ ap final_of (ahead-at xs k h d)
 
 pub none-yet : (xs : List ℕ) (x : ℕ) → among x (drop (length xs) xs) ≡ false
 none-yet [] x = refl

@@ -1,6 +1,7 @@
 use Rattle.std.proofs.Common.{◌+◌, ◌<◌, ◌∙◌, ◌++◌, ◌∷◌, [], List, ℕ, ap, sym, arith, drop, length}
 use Rattle.std.proofs.lemmas.Grind.{common_steps}
-use Rattle.xd_ledger.specs.Chains.{chain_at, number_count, first_or}
+use Rattle.xd_ledger.specs.Chains.{chain_at, number_count}
+use Rattle.xd_ledger.proofs.Links.{first_or}
 use Rattle.xd_ledger.proofs.Walks.{walks_on}
 use Rattle.xd_ledger.proofs.chains.Chains.copy_first.Goals as goal
 

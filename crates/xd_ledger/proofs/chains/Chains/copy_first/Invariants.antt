@@ -1,5 +1,6 @@
 use Rattle.std.proofs.Common.{◌≡◌, ◌+◌, take, drop}
-use Rattle.xd_ledger.specs.Chains.{chain_at, number_count, first_or}
+use Rattle.xd_ledger.specs.Chains.{chain_at, number_count}
+use Rattle.xd_ledger.proofs.Links.{first_or}
 use Rattle.xd_ledger.proofs.chains.Chains.copy_first.Given as goal
 
 abbrev pub invariant-loop-i : goal.invariant-loop-i

@@ -2,7 +2,8 @@ use Rattle.std.proofs.Common.{◌≡◌, ◌+◌, ◌-◌, ◌<◌, ◌∙◌, �
 use Rattle.std.specs.Prelude.{reverse}
 use Rattle.std.proofs.lemmas.Grind.{common_steps}
 use Rattle.std.proofs.lemmas.List.{reverse-append}
-use Rattle.xd_ledger.specs.Chains.{chain_at, number_count, last_or}
+use Rattle.xd_ledger.specs.Chains.{chain_at, number_count}
+use Rattle.xd_ledger.proofs.Links.{last_or}
 use Rattle.xd_ledger.proofs.Walks.{walks_back, walk_ends, no_drop, whole_take}
 use Rattle.xd_ledger.proofs.chains.Chains.copy_last.Goals as goal
 

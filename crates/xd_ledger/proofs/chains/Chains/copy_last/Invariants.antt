@@ -1,6 +1,7 @@
 use Rattle.std.proofs.Common.{◌≡◌, ◌+◌, ◌-◌, take, drop, length}
 use Rattle.std.specs.Prelude.{reverse}
-use Rattle.xd_ledger.specs.Chains.{chain_at, number_count, last_or}
+use Rattle.xd_ledger.specs.Chains.{chain_at, number_count}
+use Rattle.xd_ledger.proofs.Links.{last_or}
 use Rattle.xd_ledger.proofs.chains.Chains.copy_last.Given as goal
 
 abbrev pub invariant-loop-i : goal.invariant-loop-i
