@@ -31,7 +31,7 @@ fn group(id: &str) -> &str
     ensures { chars result.now ≡ group_in (chars id.now) (chars id.now) }
 {
     match id.rsplit_once('@') {
-        Some((_, behind)) => { if behind.contains(']') { id } else { behind } }
+        Some((_, after)) => { if after.contains(']') { id } else { after } }
         None => id,
     }
 }

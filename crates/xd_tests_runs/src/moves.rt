@@ -236,8 +236,8 @@ fn make_move(rt: &impl Abort, alloc: Global, run: &mut Run, state: &mut u32) -> 
 
 // The item is in the pool, between these.
 #[tactic(auto, using(crate::proofs::Stands::pool_stands))]
-fn is_in_pool(ledger: &Ledger, item: u32, ahead: Option<u32>, behind: Option<u32>) -> bool {
-    ledger.in_pool(item) && ledger.previous_item(item) == ahead && ledger.next_item(item) == behind
+fn is_in_pool(ledger: &Ledger, item: u32, before: Option<u32>, after: Option<u32>) -> bool {
+    ledger.in_pool(item) && ledger.previous_item(item) == before && ledger.next_item(item) == after
 }
 
 // The worker of the rota holds the item, between these.
@@ -246,35 +246,35 @@ fn is_held(
     ledger: &Ledger,
     worker: u32,
     item: u32,
-    ahead: Option<u32>,
-    behind: Option<u32>,
+    before: Option<u32>,
+    after: Option<u32>,
 ) -> bool {
     ledger.in_rota(worker)
         && ledger.holds(worker, item)
-        && ledger.previous_item(item) == ahead
-        && ledger.next_item(item) == behind
+        && ledger.previous_item(item) == before
+        && ledger.next_item(item) == after
 }
 
 // The pool is this list.
 fn is_pool(ledger: &Ledger, pool: &[u32]) -> bool {
-    let mut ahead = None;
+    let mut before = None;
     for i in 0..pool.len() {
-        if !is_in_pool(ledger, pool[i], ahead, pool.get(i + 1).copied()) {
+        if !is_in_pool(ledger, pool[i], before, pool.get(i + 1).copied()) {
             return false;
         }
-        ahead = Some(pool[i]);
+        before = Some(pool[i]);
     }
     ledger.first_pool() == pool.first().copied() && ledger.pool_len() as usize == pool.len()
 }
 
 // The worker of the rota holds this list.
 fn holds_all(ledger: &Ledger, worker: u32, list: &[u32]) -> bool {
-    let mut ahead = None;
+    let mut before = None;
     for i in 0..list.len() {
-        if !is_held(ledger, worker, list[i], ahead, list.get(i + 1).copied()) {
+        if !is_held(ledger, worker, list[i], before, list.get(i + 1).copied()) {
             return false;
         }
-        ahead = Some(list[i]);
+        before = Some(list[i]);
     }
     ledger.in_rota(worker)
         && ledger.head(worker) == list.first().copied()
