@@ -219,7 +219,7 @@ impl Chains {
     pub(crate) fn chains(&self) -> u32
         ensures count { result ≡ chains_of self.now }
         ensures few { result ≤ 4000000000 }
-        ensures behind { chain_at self.now (chains_of self.now) ≡ [] }
+        ensures after_last { chain_at self.now (chains_of self.now) ≡ [] }
     {
         self.counts.len() as u32
     }
