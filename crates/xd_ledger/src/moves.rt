@@ -10,6 +10,9 @@ use std::alloc::Global;
 use xd_edge::OutOfMemory;
 use xd_journal::Entry;
 
+/// A worker starts a test when another stands after it, so it needs two, and one that holds fewer is idle.
+pub const ENOUGH: u32 = 2;
+
 // One more act.
 fn act(entry: Entry, acts: &mut Vec<Entry>) -> Result<(), OutOfMemory>
     ensures { OnOk result (acts.new.items ≡ acts.old.items ++ entry ∷ []) }

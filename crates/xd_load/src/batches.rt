@@ -10,10 +10,7 @@ ghost use Rattle.xd_load.specs.Stands.{InChunks};
 use std::alloc::Global;
 use xd_edge::OutOfMemory;
 use xd_journal::Entry;
-use xd_ledger::{Ledger, give_front, shut, shut_rota};
-
-// A worker starts a test when another stands after it, so it needs two.
-const ENOUGH: u32 = 2;
+use xd_ledger::{ENOUGH, Ledger, give_front, shut, shut_rota};
 
 // A test that took that many milliseconds, or more, is slow.
 const SLOW_MS: u64 = 100;

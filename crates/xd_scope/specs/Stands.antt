@@ -10,10 +10,9 @@ use Rattle.xd_ledger.specs.Numbers.{among}
 use Rattle.xd_ledger.specs.Units.{Group, unless_empty}
 use Rattle.xd_journal.specs.declared.entry.Entry.{Entry}
 use Rattle.xd_ledger.specs.Table.{Table, held}
-use Rattle.xd_ledger.specs.Turn.{Turn, in_turn, shut_each}
+use Rattle.xd_ledger.specs.Turn.{Turn, enough, in_turn, shut_each}
 use Rattle.xd_ledger.specs.Plan.{Handed, Plan, is_scope}
 use Rattle.xd_ledger.specs.ScopeModes.{give_unit, scope_refill}
-use Rattle.xd_ledger.specs.Turn.{enough}
 use Rattle.xd_scope.specs.declared.refill.Deal.{Deal}
 use Rattle.xd_scope.specs.declared.refill.Deal.TheVariants as deals
 use Rattle.xd_scope.specs.declared.units.Units.{Units}

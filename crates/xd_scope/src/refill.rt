@@ -3,10 +3,9 @@ ghost use Rattle.std.specs.Prelude.{◌≡◌, ◌≤◌, OnOk, length, take, tr
 ghost use Rattle.xd_ledger.specs.Calls.{turn};
 ghost use Rattle.xd_ledger.specs.Plan.{Plan};
 ghost use Rattle.xd_ledger.specs.ScopeModes.{give_more, give_unit, scope_refill, scope_refill_all};
-ghost use Rattle.xd_ledger.specs.Turn.{enough};
 ghost use Rattle.xd_ledger.specs.Suits.{AreInPool};
 ghost use Rattle.xd_ledger.specs.Table.{in_rota, workers_of};
-ghost use Rattle.xd_ledger.specs.Turn.{in_turn};
+ghost use Rattle.xd_ledger.specs.Turn.{enough, in_turn};
 ghost use Rattle.xd_scope.specs.Stands.{IsAt, Keeps, dealt_to, give_where_few};
 
 use crate::given::add_given;
@@ -14,10 +13,7 @@ use crate::units::{Units, next_unit};
 use std::alloc::Global;
 use xd_edge::{OutOfMemory, copy_indices};
 use xd_journal::Entry;
-use xd_ledger::{Ledger, shut};
-
-// A worker starts a test when another stands after it, so it needs two.
-const ENOUGH: u32 = 2;
+use xd_ledger::{ENOUGH, Ledger, shut};
 
 // The unit at the queue's front goes to the worker.
 pub(crate) fn give_unit(

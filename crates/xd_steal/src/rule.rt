@@ -5,16 +5,15 @@ ghost use Rattle.xd_ledger.specs.Calls.{last_of, turn};
 ghost use Rattle.xd_ledger.specs.Numbers.{all_among, all_distinct};
 ghost use Rattle.xd_ledger.specs.Plan.{Plan};
 ghost use Rattle.xd_ledger.specs.Table.{held, in_rota, workers_of};
-ghost use Rattle.xd_ledger.specs.Turn.{shut_each};
 ghost use Rattle.xd_ledger.specs.Worksteal.{kept_part, dealt, victim, asks_or_shuts, after_dealing, rule};
-ghost use Rattle.xd_ledger.specs.Turn.{enough};
+ghost use Rattle.xd_ledger.specs.Turn.{enough, shut_each};
 ghost use Rattle.xd_steal.specs.Stands.{MatchesTurn, StandsFor};
 
-use crate::workers::{ENOUGH, idle, victim};
+use crate::workers::{idle, victim};
 use std::alloc::Global;
 use xd_edge::OutOfMemory;
 use xd_journal::Entry;
-use xd_ledger::{Ledger, give_front, shut};
+use xd_ledger::{ENOUGH, Ledger, give_front, shut};
 
 // A victim keeps at least this part of what it holds.
 const KEPT_PART: u32 = 2;

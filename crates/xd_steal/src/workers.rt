@@ -7,10 +7,7 @@ ghost use Rattle.xd_ledger.specs.Turn.{enough};
 
 use std::alloc::Global;
 use xd_edge::{Indices, OutOfMemory};
-use xd_ledger::Ledger;
-
-// A worker that holds fewer is idle.
-pub(crate) const ENOUGH: u32 = 2;
+use xd_ledger::{ENOUGH, Ledger};
 
 // The worker may be told and is idle.
 fn is_idle(worker: u32, ledger: &Ledger) -> bool
