@@ -30,8 +30,8 @@ pub fn wait_for<R: Wait, K: Children>(
     }
 }
 
-/// How the test of a program went that ended so: with status 0 it passed, with 77 it was skipped.
-pub fn outcome_of_end(end: ChildEnd) -> Outcome
+// How the test of a program went that ended so: with status 0 it passed, with 77 it was skipped.
+fn outcome_of_end(end: ChildEnd) -> Outcome
     ensures outcome { result ≡ outcome_of_end end }
     ensures no_fault { fault_count result ≡ 0 }
 {

@@ -4,5 +4,5 @@
 mod ending;
 mod running;
 
-pub use ending::{outcome_of_end, wait_for};
+pub use ending::wait_for;
 pub use running::{ChildResult, run_child};
