@@ -96,7 +96,7 @@ text_of_load_two_deaths = refl
 pub status_of_load_two_deaths : run_status load_three_tests_and_a_death_settings load_two_deaths ≡ 1
 status_of_load_two_deaths = refl
 
--- a test at whose head a worker went down is tried again once: the retry is no report, and the second crash is one
+-- a test at the head of a worker that went down is tried again once: the retry is no report, and the second crash is one
 abbrev once_more : Settings
 once_more = record { mode = Load; workers = 2; maxfail = 0; restarts = 8; chunk = None; reorder = true; retries = 1 }
 

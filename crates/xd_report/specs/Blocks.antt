@@ -1,4 +1,4 @@
--- The blocks of what failed: a failed test, or a test at whose head a worker went down and that is not tried again. A choice
+-- The blocks of what failed: a failed test, or a test at the head of a worker that went down, which is not tried again. A choice
 -- of this project.
 use Rattle.std.specs.Prelude.{ℕ, ℤ, zero, suc, ◌-◌, ◌≡◌, ◌==◌, Bool, true, false, List, [], ◌∷◌, ◌++◌, length, take, Some, None, is_some, slice_index_or, negsuc, if◌then◌else◌, codes}
 use Rattle.std.specs.List.{HoldsAt}
@@ -48,7 +48,7 @@ heading_line mode worker id = codes "==== " ++ (tag mode worker ++ (plain id ++ 
 abbrev pub block : ModeKind → ℕ → List ℕ → List ℕ → List ℕ → List ℕ
 block mode worker id reason output = heading_line mode worker id ++ (reason ++ (10 ∷ [] ++ output_text output))
 
--- the block of the test at whose head a worker went down, where it is not tried again
+-- the block of the test at the head of a worker that went down, where it is not tried again
 abbrev pub crash_block : ℕ → List ℕ → State → List ℕ
 crash_block worker output s = elim (crash_of worker s) [
   | None ↦ []

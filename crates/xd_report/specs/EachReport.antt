@@ -110,7 +110,7 @@ is_skipped (Result worker item Skipped) = true
 is_skipped (Result worker item (Failed code)) = false
 is_skipped (Crash worker item) = false
 
--- a test that failed, or at whose head a worker went down
+-- a test that failed, or that was at the head of a worker that went down
 abbrev pub is_failure : Report → Bool
 is_failure (Result worker item Passed) = false
 is_failure (Result worker item Skipped) = false

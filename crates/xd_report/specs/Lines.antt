@@ -39,7 +39,7 @@ result_line mode worker outcome id = tag mode worker ++ (outcome_text outcome ++
 abbrev pub down_line : ModeKind → ℕ → List ℕ → List ℕ
 down_line mode worker why = tag mode worker ++ (codes "node down: " ++ (why ++ 10 ∷ []))
 
--- the test at whose head a worker went down; it is tried again, or it crashed
+-- the test at the head of a worker that went down; it is tried again, or it crashed
 abbrev pub lost_line : Bool → ModeKind → ℕ → List ℕ → List ℕ
 lost_line retry mode worker id = tag mode worker ++ (lost_text retry ++ (plain id ++ 10 ∷ []))
 

@@ -40,7 +40,7 @@ outcome_text Passed = codes "PASSED "
 outcome_text Skipped = codes "SKIPPED "
 outcome_text (Failed code) = codes "FAILED "
 
--- of the test at whose head a worker went down: it is tried again, or it crashed
+-- of the test at the head of a worker that went down: it is tried again, or it crashed
 abbrev pub lost_text : Bool → List ℕ
 lost_text true = codes "RETRY "
 lost_text false = codes "CRASHED "

@@ -72,7 +72,7 @@ impl Reporter {
         }
     }
 
-    // The block of the test at whose head a worker went down, where it is not tried again.
+    // The block of the test at the head of a worker that went down, where it is not tried again.
     fn add_crash(
         &self,
         alloc: Global,
