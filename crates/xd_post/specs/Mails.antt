@@ -50,8 +50,8 @@ module _ {T : Type 0} where
   NoneFrom known from to = (number : ℕ) → from ≤ number → number < to → slice_index_or known number [] ≡ []
 
   -- no inbox that comes before this number, where they are gone through from the first one, is known to hold an item
-  abbrev pub NoneAhead : List (List T) → ℕ → ℕ → Type 0
-  NoneAhead known first number = (k : ℕ) → ComesBefore first number k → slice_index_or known k [] ≡ []
+  abbrev pub NoneBefore : List (List T) → ℕ → ℕ → Type 0
+  NoneBefore known first number = (k : ℕ) → ComesBefore first number k → slice_index_or known k [] ≡ []
 
   -- the number of the inbox that the next take looks at first
   abbrev pub turn : Desk T → ℕ

@@ -20,7 +20,7 @@ pub struct Desk<T: Drop> {
 
 impl<T: Drop> Desk<T> {
     ghost use Rattle.xd_post.specs.Post.{put, ring_of_sender, Empties};
-    ghost use Rattle.xd_post.specs.Mails.{mails, knows, turn, mail_of, HasMail, TakesAt, NoneKnown, NoneFrom, NoneAhead};
+    ghost use Rattle.xd_post.specs.Mails.{mails, knows, turn, mail_of, HasMail, TakesAt, NoneKnown, NoneFrom, NoneBefore};
 
     /// A desk without inboxes, woken by this bell.
     pub fn new(alloc: Global, bell: Bell) -> Desk<T>
@@ -92,7 +92,7 @@ impl<T: Drop> Desk<T> {
         ensures knew { IfNone result (NoneKnown (knows self.old) × NoneKnown (knows self.new)) }
         ensures some { IfSome result (λ r. TakesAt (mails self.old) (mails self.new) r.0 r.1) }
         ensures place { IfSome result (λ r. r.0 < length (mails self.old)) }
-        ensures passed { IfSome result (λ r. NoneAhead (knows self.old) (turn self.old) r.0) }
+        ensures passed { IfSome result (λ r. NoneBefore (knows self.old) (turn self.old) r.0) }
         ensures turn { turn self.new ≡ turn self.old }
     {
         let first = self.turn;
@@ -110,7 +110,7 @@ impl<T: Drop> Desk<T> {
         ensures knew { IfNone result (NoneKnown (knows self.old) × NoneKnown (knows self.new)) }
         ensures some { IfSome result (λ r. TakesAt (mails self.old) (mails self.new) r.0 r.1) }
         ensures turn { IfSome result (λ r. turn self.new ≡ r.0 + 1) }
-        ensures passed { IfSome result (λ r. NoneAhead (knows self.old) (turn self.old) r.0) }
+        ensures passed { IfSome result (λ r. NoneBefore (knows self.old) (turn self.old) r.0) }
     {
         let (at, item) = self.take_in_turn()?;
         self.turn = at + 1;
@@ -121,7 +121,7 @@ impl<T: Drop> Desk<T> {
     pub fn wait<R: Wait>(&mut self, rt: &R) -> (u32, T)
         ensures takes { TakesAt (mails self.old) (mails self.new) result.0 result.1 }
         ensures turn { turn self.new ≡ result.0 + 1 }
-        ensures passed { NoneAhead (knows self.old) (turn self.old) result.0 }
+        ensures passed { NoneBefore (knows self.old) (turn self.old) result.0 }
     {
         for _ in rt.forever() {
             let seen = self.bell.count(rt);

@@ -1,12 +1,12 @@
 use Rattle.std.proofs.Common.{◌≤◌, length, arith}
 use Rattle.std.proofs.lemmas.List.{length-map}
 use Rattle.xd_post.specs.Mails.{known_of, knows, turn}
-use Rattle.xd_post.proofs.Turns.{ahead_of, ahead_around, none_at_all}
+use Rattle.xd_post.proofs.Turns.{none_before, none_before_around, none_at_all}
 use Rattle.xd_post.proofs.desk.Desk.take_in_turn.Goals as goal
 
 pub returns-in-Some-clause-passed : goal.returns-in-Some-clause-passed
 returns-in-Some-clause-passed g c =
-    ahead_of (knows c.args.self.now) (turn c.args.self.now) c.in-Some.found.0 c.in-Some.ensures.place.0 c.in-Some.ensures.passed
+    none_before (knows c.args.self.now) (turn c.args.self.now) c.in-Some.found.0 c.in-Some.ensures.place.0 c.in-Some.ensures.passed
 
 pub returns-clause-knew : goal.returns-clause-knew
 returns-clause-knew g c =
@@ -16,4 +16,4 @@ returns-clause-knew g c =
 pub returns-clause-passed : goal.returns-clause-passed
 returns-clause-passed g c =
     let size : length (knows c.args.self.now) ≤ c.len-count.result = omega (arith, length-map c.args.self.now.inboxes.items known_of, c.args.self.now.inboxes.ok.0, c.len-count.ensures) in
-    ahead_around (knows c.args.self.now) (knows c.take_between.new.self) (turn c.args.self.now) c.len-count.result c.take_between-2.result size c.in_default.ensures.knew c.in_default.ensures.kept c.take_between-2.ensures.place c.take_between-2.ensures.passed
+    none_before_around (knows c.args.self.now) (knows c.take_between.new.self) (turn c.args.self.now) c.len-count.result c.take_between-2.result size c.in_default.ensures.knew c.in_default.ensures.kept c.take_between-2.ensures.place c.take_between-2.ensures.passed
