@@ -17,7 +17,7 @@ pub struct Ran<J, O> {
     from: Consumer<J>,
 }
 
-/// The job that was run is the one item that was taken.
+/// What a thread promises: the job that it ran is the one item that it took.
 #[derive(Drop)]
 pub struct RunsNext<J>(Snapshot<Consumer<J>>);
 
