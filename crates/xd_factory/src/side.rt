@@ -8,6 +8,7 @@ ghost use Rattle.xd_factory.specs.Numbers.{is_known, is_mine, is_in, first_numbe
 ghost use Rattle.xd_factory.specs.Slot.{Unseen, Gone, is_here, is_new, is_seen, named_slot, left_slot};
 
 mod link;
+mod naming;
 mod owner;
 mod peer;
 
