@@ -1,11 +1,10 @@
 // What the calls of a channel end answer.
 use crate::End;
 use std::collections::VecDeque;
-use xd_value::Value;
 
 /// What a `receive` gave.
 #[derive(Drop)]
-pub enum Got<V = Value> {
+pub enum Got<V> {
     /// The first item that waited.
     Item(V),
     /// The end: no item waits, and none will.
@@ -16,7 +15,7 @@ pub enum Got<V = Value> {
 
 /// What became of an item that came from the peer.
 #[derive(Drop)]
-pub enum Arrived<V = Value> {
+pub enum Arrived<V> {
     /// It waits for a `receive`.
     Kept,
     /// It is for the callback, which the caller runs.
@@ -27,7 +26,7 @@ pub enum Arrived<V = Value> {
 
 /// All that waited when a callback was set, for the callback.
 #[derive(Drop)]
-pub struct Waiting<V = Value> {
+pub struct Waiting<V> {
     /// The items, in the order in which they came.
     pub items: VecDeque<V>,
     /// The end, where it stood after them.

@@ -9,7 +9,6 @@ use std::collections::VecDeque;
 use std::marker::Model;
 use std::mem;
 use xd_edge::{OutOfMemory, Text};
-use xd_value::Value;
 
 /// One end of a channel. Contracts see its items that wait, its end marker, and three flags.
 ///
@@ -17,7 +16,7 @@ use xd_value::Value;
 /// far, this one added (`history`). What a list of calls means is said without the end: which items arrived before
 /// the first end marker, which were handed out, and which marker came first.
 #[derive(Drop)]
-pub struct ChannelEnd<V = Value> {
+pub struct ChannelEnd<V> {
     alloc: Global,
     waiting: VecDeque<V>,
     marker: Option<End>,

@@ -17,6 +17,7 @@ use crate::{Parity, SideFault};
 use std::alloc::Global;
 use std::collections::BTreeMap;
 use xd_channel::ChannelEnd;
+use xd_value::Value;
 
 /// How many channels a side has at most at a time.
 pub const MAX_ENTRIES: u32 = 4096;
@@ -35,7 +36,7 @@ pub struct Side {
     alloc: Global,
     parity: Parity,
     next: u32,
-    ends: BTreeMap<u32, ChannelEnd>,
+    ends: BTreeMap<u32, ChannelEnd<Value>>,
     seen: Seen,
     fault: Option<SideFault>,
     finished: bool,

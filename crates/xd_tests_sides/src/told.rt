@@ -41,7 +41,7 @@ fn of_end(end: &End) -> Told {
 }
 
 /// What a receive gave.
-pub fn of_got(got: Result<Got, HookFault>) -> Told {
+pub fn of_got(got: Result<Got<Value>, HookFault>) -> Told {
     match got {
         Ok(Got::Item(value)) => of_value(&value),
         Ok(Got::Ended(end)) => of_end(&end),

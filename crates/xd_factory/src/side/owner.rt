@@ -166,7 +166,7 @@ impl Side {
     }
 
     /// Sets a callback on a channel, and gives all that waits for it. On a closed channel that is the end alone.
-    pub fn set_callback(&mut self, number: u32) -> Result<Waiting, HookFault>
+    pub fn set_callback(&mut self, number: u32) -> Result<Waiting<Value>, HookFault>
         ensures items { IfOk result (λ w.
             map view w.items.items ≡ hook_items (slot_of_number self.old number)) }
         ensures end { IfOk result (λ w. w.end ≡ hook_end (slot_of_number self.old number)) }
@@ -187,7 +187,7 @@ impl Side {
     }
 
     /// The first item that waits on a channel; else its end; else nothing yet. A closed channel gives its end each time.
-    pub fn receive(&mut self, number: u32) -> Result<Got, HookFault>
+    pub fn receive(&mut self, number: u32) -> Result<Got<Value>, HookFault>
         ensures answer { IsGot result (receive_answer (slot_of_number self.old number)) }
         ensures slots { (c : ℕ) →
             slot_of_number self.new c ≡ (if number == c then received_slot
@@ -203,7 +203,7 @@ impl Side {
     }
 
     // Sets a callback on the entry, if there is one.
-    fn hook_entry(&mut self, number: u32) -> Result<Waiting, HookFault>
+    fn hook_entry(&mut self, number: u32) -> Result<Waiting<Value>, HookFault>
         ensures items { IfOk result (λ w.
             map view w.items.items ≡ hook_items (slot_of_number self.old number)) }
         ensures end { IfOk result (λ w. w.end ≡ hook_end (slot_of_number self.old number)) }
@@ -238,7 +238,7 @@ impl Side {
     }
 
     // Receives from the entry, if there is one.
-    fn receive_entry(&mut self, number: u32) -> Result<Got, HookFault>
+    fn receive_entry(&mut self, number: u32) -> Result<Got<Value>, HookFault>
         ensures answer { IsGot result (receive_answer (slot_of_number self.old number)) }
         ensures slots { (c : ℕ) →
             slot_of_number self.new c ≡ (if number == c then received_slot

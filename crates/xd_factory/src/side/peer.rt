@@ -264,7 +264,7 @@ impl Side {
     }
 
     // An item comes on a number, after the opening of what it names.
-    fn deliver(&mut self, number: u32, item: Value) -> Result<Arrived, SideFault>
+    fn deliver(&mut self, number: u32, item: Value) -> Result<Arrived<Value>, SideFault>
         ensures answer { IfOk result (λ arrived.
             arrived_tree arrived ≡ item_gives (slot_of_number self.old number) (view item)) }
         ensures ok { OnOk result ((c : ℕ) →

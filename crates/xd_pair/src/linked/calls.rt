@@ -5,6 +5,7 @@ use super::LinkedSide;
 use xd_channel::{End, Got, Waiting};
 use xd_edge::OutOfMemory;
 use xd_factory::{HookFault, MAX_ENTRIES, OpenFault};
+use xd_value::Value;
 
 impl LinkedSide {
     ghost use Rattle.xd_factory.specs.View.{slot_of_number, next_of, is_finished, entry_count};
@@ -34,7 +35,7 @@ impl LinkedSide {
     }
 
     /// The first item that waits on a channel; else its end; else nothing yet.
-    pub fn receive(&mut self, number: u32) -> Result<Got, HookFault>
+    pub fn receive(&mut self, number: u32) -> Result<Got<Value>, HookFault>
         ensures step { IsMove self.old self.new (Receive number) }
         ensures answer { IsGot result (receive_answer (slot_of_number self.old.side number)) }
         ensures hands { let r = received_tree result in
@@ -48,7 +49,7 @@ impl LinkedSide {
     }
 
     /// Sets a callback on a channel, and gives all that waits for it.
-    pub fn set_callback(&mut self, number: u32) -> Result<Waiting, HookFault>
+    pub fn set_callback(&mut self, number: u32) -> Result<Waiting<Value>, HookFault>
         ensures step { IsMove self.old self.new (Set_callback number) }
         ensures refused { IfErr result
             (λ fault. hook_fault (slot_of_number self.old.side number) ≡ Some fault) }
