@@ -1,5 +1,6 @@
 // Real links.
-ghost use Rattle.std.specs.Prelude.{◌≡◌, ◌<◌, None, false, IfOk, IfSome, vec_len, vec_capacity};
+ghost use Rattle.std.specs.Prelude.{◌≡◌, [], None, false, true, length, IfOk, IfSome, OnOk, OnErr, is_ok};
+ghost use Rattle.xd_edge.specs.Faults.{Counted};
 
 use crate::stream::{accept, connect, shut};
 use crate::worker::worker_of;
@@ -44,11 +45,26 @@ enum Kept<P: OpenProcess + Drop, S: OpenStream + Drop> {
     Stream(S),
 }
 
+// A link that was opened, before it is kept under its number. Nothing was read from it or written to it.
+#[derive(Drop)]
+struct Opened<'a, H: Files + Processes + Net> {
+    kept: Kept<H::Started, H::Stream>,
+    source: RealSource<H>,
+    sink: RealSink<'a, H>,
+    ghost not_ended: { source.is_ended ≡ false },
+    ghost no_reads: { source.faults ≡ 0 },
+    ghost no_writes: { sink.faults ≡ 0 },
+}
+
 impl<'a, H: Files + Processes + Net> RealStarter<'a, H> {
+    ghost use Rattle.xd_link.specs.Starter.{has_child, has_not_failed};
+    ghost use Rattle.xd_real.specs.Kept.{KeepsOneMore, is_child};
+
     /// It has started nothing, and has not failed yet. A child runs this program with the one word `worker`. A name
     /// without a slash is looked for in the child's PATH; a relative path is read from the child's folder.
     pub fn new(rt: &'a H, alloc: Global, program: Text, input: Stdin) -> RealStarter<'a, H>
-        ensures { result.faults ≡ 0 }
+        ensures kept { result.links.items ≡ [] }
+        ensures count { result.faults ≡ 0 }
     {
         RealStarter {
             rt,
@@ -59,31 +75,22 @@ impl<'a, H: Files + Processes + Net> RealStarter<'a, H> {
         }
     }
 
-    fn start_child(&mut self, command: Command, link: u32) -> Option<RealLink<'a, H>>
-        requires { vec_len self.old.links < vec_capacity self.old.links }
-        ensures faults { self.new.faults ≡ self.old.faults }
-        ensures no_writes { IfSome result (λ l. l.sink.faults ≡ 0) }
-        ensures not_ended { IfSome result (λ l. l.source.is_ended ≡ false) }
-        ensures no_reads { IfSome result (λ l. l.source.faults ≡ 0) }
+    fn open_child(&self, command: Command) -> Option<Opened<'a, H>>
+        ensures { IfSome result (λ o. is_child o.kept ≡ true) }
     {
         let mut command = command;
         let mut child = command.spawn(self.rt).ok()?;
         let input = child.stdin.take()?;
         let output = child.stdout.take()?;
-        self.links.push_reserved(Kept::Child(child));
-        Some(Started {
-            link,
+        Some(Opened {
+            kept: Kept::Child(child),
             source: InSource::new(Inlet::Child(Some(output))),
             sink: RealSink::new(self.rt, Outlet::Child(input)),
         })
     }
 
-    fn start_own(&mut self, alloc: Global, link: u32) -> Result<Option<RealLink<'a, H>>, AllocError>
-        requires { vec_len self.old.links < vec_capacity self.old.links }
-        ensures faults { self.new.faults ≡ self.old.faults }
-        ensures no_writes { IfOk result (λ r. IfSome r (λ l. l.sink.faults ≡ 0)) }
-        ensures not_ended { IfOk result (λ r. IfSome r (λ l. l.source.is_ended ≡ false)) }
-        ensures no_reads { IfOk result (λ r. IfSome r (λ l. l.source.faults ≡ 0)) }
+    fn open_own(&self, alloc: Global) -> Result<Option<Opened<'a, H>>, AllocError>
+        ensures { IfOk result (λ r. IfSome r (λ o. is_child o.kept ≡ false)) }
     {
         let (Ok((closed, go)), Ok((killed, kill))) = (io::pipe(self.rt), io::pipe(self.rt)) else {
             return Ok(None);
@@ -92,32 +99,26 @@ impl<'a, H: Files + Processes + Net> RealStarter<'a, H> {
             return Ok(None);
         };
         let own = OwnOutput::new(alloc, own_output(), go, killed_too)?;
-        self.links.push_reserved(Kept::Own(Some(kill)));
         let input = Stoppable {
             input: self.input,
             closed,
             killed,
         };
-        Ok(Some(Started {
-            link,
+        Ok(Some(Opened {
+            kept: Kept::Own(Some(kill)),
             source: InSource::new(Inlet::Own(input)),
             sink: RealSink::new(self.rt, Outlet::Own(own)),
         }))
     }
 
     // A close of the sink ends these directions of the stream.
-    fn start_stream(
-        &mut self,
+    fn open_stream(
+        &self,
         alloc: Global,
         stream: io::Result<H::Stream>,
         closes: Shutdown,
-        link: u32,
-    ) -> Result<Option<RealLink<'a, H>>, AllocError>
-        requires { vec_len self.old.links < vec_capacity self.old.links }
-        ensures faults { self.new.faults ≡ self.old.faults }
-        ensures no_writes { IfOk result (λ r. IfSome r (λ l. l.sink.faults ≡ 0)) }
-        ensures not_ended { IfOk result (λ r. IfSome r (λ l. l.source.is_ended ≡ false)) }
-        ensures no_reads { IfOk result (λ r. IfSome r (λ l. l.source.faults ≡ 0)) }
+    ) -> Result<Option<Opened<'a, H>>, AllocError>
+        ensures { IfOk result (λ r. IfSome r (λ o. is_child o.kept ≡ false)) }
     {
         let Ok(stream) = stream else {
             return Ok(None);
@@ -130,12 +131,56 @@ impl<'a, H: Files + Processes + Net> RealStarter<'a, H> {
             return Ok(None);
         }
         let output = StreamOutput::new(alloc, writing, closes)?;
-        self.links.push_reserved(Kept::Stream(stream));
-        Ok(Some(Started {
-            link,
+        Ok(Some(Opened {
+            kept: Kept::Stream(stream),
             source: InSource::new(Inlet::Stream(reading)),
             sink: RealSink::new(self.rt, Outlet::Stream(output)),
         }))
+    }
+
+    // `None` where the system refuses it.
+    fn open(&self, alloc: Global, place: &Place) -> Result<Option<Opened<'a, H>>, AllocError>
+        ensures { IfOk result (λ r. IfSome r (λ o. is_child o.kept ≡ has_child place.now)) }
+    {
+        match place {
+            Place::Popen { chdir, env } => {
+                let command = worker_of(alloc, &self.program, chdir, env)?;
+                Ok(self.open_child(command))
+            }
+            Place::Own => self.open_own(alloc),
+            Place::Socket { host, port } => {
+                let stream = connect(self.rt, host, *port);
+                self.open_stream(alloc, stream, Shutdown::Write)
+            }
+            Place::Listen { host, port } => {
+                let stream = accept(self.rt, host, *port);
+                self.open_stream(alloc, stream, Shutdown::Both)
+            }
+        }
+    }
+
+    /// Opens a link and keeps it under the next number.
+    fn start_link(&mut self, alloc: Global, place: &Place) -> Result<RealLink<'a, H>, StartFault>
+        ensures number { IfOk result (λ l. l.link ≡ length self.old.links.items) }
+        ensures kept { OnOk result
+            (KeepsOneMore place.now self.old.links.items self.new.links.items) }
+        ensures none_kept { OnErr result (self.new.links.items ≡ self.old.links.items) }
+        ensures not_ended { IfOk result (λ l. l.source.is_ended ≡ false) }
+        ensures no_reads { IfOk result (λ l. l.source.faults ≡ 0) }
+        ensures no_writes { IfOk result (λ l. l.sink.faults ≡ 0) }
+        ensures counted { Counted (has_not_failed result) self.old.faults self.new.faults }
+    {
+        self.links.reserve(1)?;
+        let Ok(link) = u32::try_from(self.links.len()) else {
+            raise(&mut self.faults);
+            return Err(StartFault::Failed);
+        };
+        let Some(Opened { kept, source, sink }) = self.open(alloc, place)? else {
+            raise(&mut self.faults);
+            return Err(StartFault::Failed);
+        };
+        self.links.push_reserved(kept);
+        Ok(Started { link, source, sink })
     }
 }
 
@@ -151,12 +196,22 @@ fn kill_link<P: OpenProcess + Drop, S: OpenStream + Drop>(kept: &mut Kept<P, S>)
     }
 }
 
+// Whether a child, where there is one, could be waited for.
+fn reap_link<P: OpenProcess + Drop, S: OpenStream + Drop>(kept: &mut Kept<P, S>) -> bool {
+    match kept {
+        Kept::Child(child) => child.wait().is_ok(),
+        Kept::Own(_) | Kept::Stream(_) => true,
+    }
+}
+
 // The standard output, which nothing else writes to or closes.
 fn own_output() -> ChildStdin {
     ChildStdin::from(unsafe { OwnedFd::from_raw_fd(1) })
 }
 
 impl<'a, H: Files + Processes + Net> Starter for RealStarter<'a, H> {
+    ghost use Rattle.xd_real.specs.Kept.{ChangesOnly};
+
     type Src = RealSource<H>;
 
     type Snk = RealSink<'a, H>;
@@ -166,52 +221,40 @@ impl<'a, H: Files + Processes + Net> Starter for RealStarter<'a, H> {
     ghost begun = { λ _. None };
 
     fn start(&mut self, alloc: Global, place: &Place) -> Result<RealLink<'a, H>, StartFault> {
-        self.links.reserve(1)?;
-        let started = match (place, u32::try_from(self.links.len())) {
-            (Place::Popen { chdir, env }, Ok(link)) => {
-                let command = worker_of(alloc, &self.program, chdir, env)?;
-                self.start_child(command, link)
-            }
-            (Place::Own, Ok(link)) => self.start_own(alloc, link)?,
-            (Place::Socket { host, port }, Ok(link)) => {
-                let stream = connect(self.rt, host, *port);
-                self.start_stream(alloc, stream, Shutdown::Write, link)?
-            }
-            (Place::Listen { host, port }, Ok(link)) => {
-                let stream = accept(self.rt, host, *port);
-                self.start_stream(alloc, stream, Shutdown::Both, link)?
-            }
-            (_, Err(_)) => None,
-        };
-        match started {
-            Some(link) => Ok(link),
-            None => {
-                raise(&mut self.faults);
-                Err(StartFault::Failed)
-            }
-        }
+        let link = self.start_link(alloc, place)?;
+        Ok(link)
     }
 
     /// Where there is no child, a read ends, and each write fails, also one that waits. The other side sees the end of a
     /// stream at once, and that of the own streams when the sink is closed.
-    fn kill(&mut self, link: u32) -> Result<(), Failed> {
+    #[tactic(auto, using(crate::proofs::Keeping::changes_one))]
+    fn kill(&mut self, link: u32) -> Result<(), Failed>
+        ensures kept { ChangesOnly link self.old.links.items self.new.links.items }
+        ensures counted { Counted (is_ok result) self.old.faults self.new.faults }
+    {
         let link = link as usize;
-        if link < self.links.len() && !kill_link(&mut self.links[link]) {
+        if link >= self.links.len() {
+            return Ok(());
+        }
+        if !kill_link(&mut self.links[link]) {
             raise(&mut self.faults);
             return Err(Failed);
         }
         Ok(())
     }
 
-    fn reap<R: Wait>(&mut self, _rt: &R, link: u32) -> Result<(), Failed> {
+    #[tactic(auto, using(crate::proofs::Keeping::changes_one))]
+    fn reap<R: Wait>(&mut self, _rt: &R, link: u32) -> Result<(), Failed>
+        ensures kept { ChangesOnly link self.old.links.items self.new.links.items }
+        ensures counted { Counted (is_ok result) self.old.faults self.new.faults }
+    {
         let link = link as usize;
-        if link < self.links.len() {
-            if let Kept::Child(child) = &mut self.links[link] {
-                if child.wait().is_err() {
-                    raise(&mut self.faults);
-                    return Err(Failed);
-                }
-            }
+        if link >= self.links.len() {
+            return Ok(());
+        }
+        if !reap_link(&mut self.links[link]) {
+            raise(&mut self.faults);
+            return Err(Failed);
         }
         Ok(())
     }
