@@ -44,12 +44,12 @@ fn draft_of(alloc: Global, text: &str) -> Result<Result<Draft, SpecFault>, OutOf
 {
     let mut draft = Draft::new(alloc);
     let mut rest = text;
-    while let Some((part, behind)) = cut_part(rest) {
+    while let Some((part, later)) = cut_part(rest) {
         match draft.with_part(alloc, part)? {
             Ok(more) => draft = more,
             Err(fault) => return Ok(Err(fault)),
         }
-        rest = behind;
+        rest = later;
     }
     draft.with_part(alloc, rest)
 }
