@@ -87,7 +87,7 @@ fn runs_in_a_mode_load_of_the_tests_own_are_the_same(rt: HostRuntime) -> Result<
 }
 
 #[test]
-fn behind_a_failing_output_only_kills_are_asked_for(rt: HostRuntime) -> Result<(), Fail> {
+fn after_a_failing_output_only_kills_are_asked_for(rt: HostRuntime) -> Result<(), Fail> {
     let alloc = rt.alloc();
     for line in failing_outputs::runs().lines() {
         let (name, line) = next_field(line)?;

@@ -7,8 +7,8 @@
 // An id %1f, %20 or %7f is that character. Output x*9 is nine times x, and / in it is a newline.
 //
 // Entries: what was said in capitals as above, with the kept output last, and = for the same ids; then s start, with its
-// slot; r run, with tests; a run all; t steal, with tests; h shutdown; k kill; o the end. What is shown has more than eight of one character as
-// x*9, and / for a newline.
+// slot; r run, with tests; a run all; t steal, with tests; h shutdown; k kill; o the end. What is shown has more than
+// eight of one character as x*9, and / for a newline.
 use std::alloc::Global;
 use std::collections::VecDeque;
 use std::test::Fail;
