@@ -35,41 +35,25 @@ use Rattle.xd_session.proofs.Retrying.{plan-by-pool, plan-unshared}
 
 -- what a mode says changes of the books the table and the marks, and of what is known the open steal
 
-told-books : (es : List Entry) (s : State) → Tells es → (after_entries s es).books ≡ record (s.books) { table = (after_entries s es).books.table; members = members_told es s.books.members }
-told-books [] s h = refl
-told-books (Run w is ∷ es) s h = told-books es (after_entry s (Run w is)) (split-and true (list_all tells es) h).1
-told-books (RunAll w ∷ es) s h = told-books es (after_entry s (RunAll w)) (split-and true (list_all tells es) h).1
-told-books (Steal w is ∷ es) s h = told-books es (after_entry s (Steal w is)) (split-and true (list_all tells es) h).1
-told-books (Shutdown w ∷ es) s h = told-books es (after_entry s (Shutdown w)) (split-and true (list_all tells es) h).1
-told-books (Start w slot ∷ es) s h = absurd (differ h)
-told-books (Kill w ∷ es) s h = absurd (differ h)
-told-books (Over how ∷ es) s h = absurd (differ h)
-told-books (Ready w ∷ es) s h = absurd (differ h)
-told-books (Collected w g ∷ es) s h = absurd (differ h)
-told-books (Done w i u m o ∷ es) s h = absurd (differ h)
-told-books (Back w i ∷ es) s h = absurd (differ h)
-told-books (Finished w ∷ es) s h = absurd (differ h)
-told-books (Refused w t ∷ es) s h = absurd (differ h)
-told-books (Down w c o ∷ es) s h = absurd (differ h)
-told-books (NotStarted w ∷ es) s h = absurd (differ h)
-
-told-known : (es : List Entry) (s : State) → Tells es → known_of (after_entries s es).plan ≡ record (known_of s.plan) { steal = steal_told es s.plan.steal }
-told-known [] s h = refl
-told-known (Run w is ∷ es) s h = told-known es (after_entry s (Run w is)) (split-and true (list_all tells es) h).1
-told-known (RunAll w ∷ es) s h = told-known es (after_entry s (RunAll w)) (split-and true (list_all tells es) h).1
-told-known (Steal w is ∷ es) s h = told-known es (after_entry s (Steal w is)) (split-and true (list_all tells es) h).1
-told-known (Shutdown w ∷ es) s h = told-known es (after_entry s (Shutdown w)) (split-and true (list_all tells es) h).1
-told-known (Start w slot ∷ es) s h = absurd (differ h)
-told-known (Kill w ∷ es) s h = absurd (differ h)
-told-known (Over how ∷ es) s h = absurd (differ h)
-told-known (Ready w ∷ es) s h = absurd (differ h)
-told-known (Collected w g ∷ es) s h = absurd (differ h)
-told-known (Done w i u m o ∷ es) s h = absurd (differ h)
-told-known (Back w i ∷ es) s h = absurd (differ h)
-told-known (Finished w ∷ es) s h = absurd (differ h)
-told-known (Refused w t ∷ es) s h = absurd (differ h)
-told-known (Down w c o ∷ es) s h = absurd (differ h)
-told-known (NotStarted w ∷ es) s h = absurd (differ h)
+told-parts : (es : List Entry) (s : State) → Tells es
+    → ((after_entries s es).books ≡ record (s.books) { table = (after_entries s es).books.table; members = members_told es s.books.members })
+    × (known_of (after_entries s es).plan ≡ record (known_of s.plan) { steal = steal_told es s.plan.steal })
+told-parts [] s h = (refl, refl)
+told-parts (Run w is ∷ es) s h = told-parts es (after_entry s (Run w is)) (split-and true (list_all tells es) h).1
+told-parts (RunAll w ∷ es) s h = told-parts es (after_entry s (RunAll w)) (split-and true (list_all tells es) h).1
+told-parts (Steal w is ∷ es) s h = told-parts es (after_entry s (Steal w is)) (split-and true (list_all tells es) h).1
+told-parts (Shutdown w ∷ es) s h = told-parts es (after_entry s (Shutdown w)) (split-and true (list_all tells es) h).1
+told-parts (Start w slot ∷ es) s h = absurd (differ h)
+told-parts (Kill w ∷ es) s h = absurd (differ h)
+told-parts (Over how ∷ es) s h = absurd (differ h)
+told-parts (Ready w ∷ es) s h = absurd (differ h)
+told-parts (Collected w g ∷ es) s h = absurd (differ h)
+told-parts (Done w i u m o ∷ es) s h = absurd (differ h)
+told-parts (Back w i ∷ es) s h = absurd (differ h)
+told-parts (Finished w ∷ es) s h = absurd (differ h)
+told-parts (Refused w t ∷ es) s h = absurd (differ h)
+told-parts (Down w c o ∷ es) s h = absurd (differ h)
+told-parts (NotStarted w ∷ es) s h = absurd (differ h)
 
 -- a call of the mode
 
@@ -108,8 +92,8 @@ acted-call c change s b d k j none acts table old new stands stands_now z a t de
     let knows_acts : List Entry → Known = λ es. record (known_of s.plan) { steal = steal_told es s.plan.steal } in
     record {
       at = record {
-        books_are = de ∙ ap from a.at.books_are ∙ ap at_table table_is ∙ ap at_acts acts_are ∙ sym (told-books (acts_of c s) s (tells-acts c s));
-        known_is = je ∙ ap knows a.at.known_is ∙ ap knows_acts acts_are ∙ sym (told-known (acts_of c s) s (tells-acts c s));
+        books_are = de ∙ ap from a.at.books_are ∙ ap at_table table_is ∙ ap at_acts acts_are ∙ sym (told-parts (acts_of c s) s (tells-acts c s)).0;
+        known_is = je ∙ ap knows a.at.known_is ∙ ap knows_acts acts_are ∙ sym (told-parts (acts_of c s) s (tells-acts c s)).1;
         stands_for = λ h. subst stands_now (sym a.called.plan) t3.stands_for;
       };
       entries_are = n ∙ ap (λ (es : List Entry). old ++ es) acts_are;

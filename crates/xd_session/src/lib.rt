@@ -5,11 +5,13 @@
 mod books;
 mod collecting;
 mod ending;
+mod held;
 mod judge;
 mod known;
 mod laws;
 mod lists;
 mod logs;
+mod losses;
 mod marks;
 mod outputs;
 mod plan;

@@ -1,5 +1,5 @@
 // The state of a run as the session keeps it, and its calls of the mode.
-ghost use Rattle.std.specs.Prelude.{◌≡◌, ◌++◌, OnOk, true};
+ghost use Rattle.std.specs.Prelude.{◌≡◌, ◌++◌, None, OnOk, true};
 ghost use Rattle.xd_ledger.specs.Calls.{death_plan};
 ghost use Rattle.xd_ledger.specs.Modes.ModeCall.{Died, Joined, TestDone, TestsBack};
 ghost use Rattle.xd_ledger.specs.Outputs.{acts_of};
@@ -9,7 +9,6 @@ ghost use Rattle.xd_ledger.specs.Workers.{slot_of};
 ghost use Rattle.xd_session.specs.Books.{books_of};
 ghost use Rattle.xd_session.specs.Known.{known_by, steal_told};
 ghost use Rattle.xd_session.specs.Rules.{Acted, Before, Calls, members_told};
-ghost use Rattle.std.specs.Prelude.{None};
 
 use crate::books::RunBooks;
 use crate::known::ask;
