@@ -14,8 +14,8 @@ use xd_edge::{Indices, OutOfMemory};
 use xd_journal::{Cause, Entry, News, What};
 
 /// A hub over lists, with 32 slots: it gives the news of its list in order. A piece of news of a worker that was not
-/// started, or that a worker broke the rules, is dropped when its turn comes. Where its list is empty the workers that were started are gone, in turn, again
-/// and again.
+/// started, or that a worker broke the rules, is dropped when its turn comes. Where its list is empty the workers that
+/// were started are gone, in turn, again and again.
 #[derive(Drop)]
 pub struct ListedHub {
     /// The news that are still to be given, the next one first.

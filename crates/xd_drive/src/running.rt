@@ -135,9 +135,10 @@ fn status_over(reporter: &Reporter) -> u8
 /// on by then, and nothing more was performed but the kills of the workers that were started. Else the journal ends with
 /// the first stop of the run, or with `Completed` where there was none.
 ///
-/// The journal is a legal one of the session's settings, with its end. It keeps at most 8,192 bytes of the output of a test, and
-/// at most 67,108,864 bytes of all output. Its reports name each collected test at most once and nothing else, and each once
-/// where the run was completed; the line of each report and the block of each failed one give the id of its test.
+/// The journal is a legal one of the session's settings, with its end. It keeps at most 8,192 bytes of the output of a
+/// test, and at most 67,108,864 bytes of all output. Its reports name each collected test at most once and nothing else,
+/// and each once where the run was completed; the line of each report and the block of each failed one give the id of
+/// its test.
 ///
 /// The hub is made of what it was made of before.
 ///

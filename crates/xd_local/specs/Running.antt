@@ -189,7 +189,7 @@ pub record ClosedJournal (shown : Bool) (r : Running) (j : Journal) : Type 0 whe
   pub entries : (s : State) → Follows r.reporter s → j.entries.items ≡ r.journal.entries.items ++ Over (stop_after shown s.books.stop) ∷ []
   pub broken : shown ≡ false → j.entries.items ≡ r.journal.entries.items ++ Over OutFault ∷ []
 
--- the exit status, by the state that the reporter followed; where the output failed that is none of its matter
+-- the exit status, by the state that the reporter followed; where the output failed it is 3, whatever was followed
 pub record HasStatus (shown : Bool) (r : Running) (status : ℕ) : Type 0 where
   pub told : (s : State) → Follows r.reporter s → status ≡ status_in s (stop_after shown s.books.stop)
   pub broken : shown ≡ false → status ≡ 3

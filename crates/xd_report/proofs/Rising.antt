@@ -16,7 +16,7 @@ without-lower x (y ∷ ys) below =
     let apart : (y == x) ≡ false = ne_eqb y x (λ e. omega (arith, below zero y (omega arith))) in
     rw (apart, without-lower x ys (λ k d within. below (suc k) d (omega arith))) refl
 
--- the first of a list that rises stands nowhere behind
+-- the first of a list that rises stands nowhere after its place
 pub without-first : (those xs : List ℕ) → IsStrictlyIncreasing xs → length those ≡ 1 → first_of those ≡ first_of xs → without those xs ≡ drop 1 xs
 without-first [] xs rises one same = absurd (omega (arith, one))
 without-first (t ∷ []) [] rises one same = absurd (true≢false (ap is_some same))

@@ -17,8 +17,8 @@ use xd_edge::{Blob, ModeKind, OutOfMemory};
 use xd_journal::{Cause, Entry, Journal, Outcome};
 use xd_ledger::Member;
 
-/// The lines of the entries from one place up to another, each ended by a newline. It goes over the entries ahead too;
-/// whoever prints a journal while it grows keeps a `Reporter`.
+/// The lines of the entries from one place up to another, each ended by a newline. It goes over the entries before them
+/// too; whoever prints a journal while it grows keeps a `Reporter`.
 pub fn report_lines(
     alloc: Global,
     journal: &Journal,

@@ -1,4 +1,4 @@
-// Numbers and lists of them. What has no room in a number has none in memory either.
+// Numbers and lists of them. A number that would pass 64 bits is answered as out of memory.
 ghost use Rattle.std.specs.Prelude.{◌≡◌, ◌+◌, ◌==◌, ◌++◌, ◌∷◌, IfOk, map, sum, OnOk};
 ghost use Rattle.std.specs.List.{list_all, list_any, range_with_len};
 

@@ -43,7 +43,7 @@ impl Reporter {
         }
     }
 
-    // How many they are together may be no number of this machine.
+    // There is no test. Each slot is looked at, since how many tests all have together may pass 64 bits.
     #[tactic(auto, using(crate::proofs::Sums::none_in_sum))]
     fn has_no_tests(&self) -> bool
         ensures { (s : State) → Follows self.now s → result ≡ (tests s == 0) }
