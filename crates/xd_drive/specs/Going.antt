@@ -33,6 +33,11 @@ pub record HubScene : Type 0 where
   pub given : Option (List News)
   pub sunk : Option Sunk
 
+module _ {H O : Type 0} (marks : H → ℕ → Marks) (starts calls : H → Option (List Entry)) (given : H → Option (List News)) (sunk : O → Option Sunk) where
+  -- what is seen of this hub and this output, by what hubs and outputs of their types tell
+  abbrev pub scene_of : H → O → HubScene
+  scene_of hub out = record { marks = marks hub; starts = starts hub; calls = calls hub; given = given hub; sunk = sunk out }
+
 -- All that the news told was printed and performed.
 -- Example: the line of a result is printed and flushed, and the Run after it is told to its worker.
 pub record Going (given : List News) (s : SessionSeen) (old new : HubScene) : Type 0 where

@@ -12,7 +12,7 @@ use Rattle.xd_report.specs.Lines.{run_lines}
 use Rattle.xd_session.specs.Stands.{SessionSeen}
 use Rattle.xd_drive.specs.declared.written.Written.{Written}
 use Rattle.xd_drive.specs.declared.written.Written.TheVariants.{Whole, Broken}
-use Rattle.xd_drive.specs.Going.{HubScene}
+use Rattle.xd_drive.specs.Going.{HubScene, scene_of}
 use Rattle.xd_drive.specs.Marks.{Marks}
 use Rattle.xd_drive.specs.Performing.{Performs}
 use Rattle.xd_drive.specs.declared.moment.Moment.{Moment}
@@ -20,7 +20,7 @@ use Rattle.xd_drive.specs.declared.moment.Moment.{Moment}
 module _ {H O : Type 0} (marks : H → ℕ → Marks) (starts calls : H → Option (List Entry)) (given : H → Option (List News)) (sunk : O → Option Sunk) where
   -- what is seen of the hub and the output of a moment, by what these tell
   abbrev pub scene_at : Moment H O → HubScene
-  scene_at m = record { marks = marks m.hub.value; starts = starts m.hub.value; calls = calls m.hub.value; given = given m.hub.value; sunk = sunk m.out.value }
+  scene_at m = scene_of marks starts calls given sunk m.hub.value m.out.value
 
   -- the same of each moment that was noted
   abbrev pub scenes_of : Log (Moment H O) → List HubScene

@@ -1,6 +1,6 @@
 // How a hub and an output stood at a moment.
 ghost use Rattle.std.specs.Prelude.{◌≡◌, ◌∷◌, ◌++◌, [], List, Option, Some, None, option_map};
-ghost use Rattle.xd_drive.specs.Going.{HubScene};
+ghost use Rattle.xd_drive.specs.Going.{HubScene, scene_of};
 ghost use Rattle.xd_drive.specs.Moments.{scenes_of};
 
 use crate::Hub;
@@ -16,13 +16,7 @@ pub trait Witness<H: Hub, O: Sink> {
     /// Looks at the two as they stand now.
     fn look(&mut self, hub: &H, out: &O)
         ensures { seen self.new ≡ option_map (λ l.
-            l ++ (record {
-              marks = H.marks hub.now;
-              starts = H.starts hub.now;
-              calls = H.calls hub.now;
-              given = H.given hub.now;
-              sunk = O.sunk out.now;
-            }) ∷ [])
+            l ++ scene_of H.marks H.starts H.calls H.given O.sunk hub.now out.now ∷ [])
             (seen self.old) };
 }
 

@@ -9,7 +9,7 @@ ghost use Rattle.xd_report.specs.Follows.{Follows};
 ghost use Rattle.xd_report.specs.Lines.{lines_between, lines_from};
 ghost use Rattle.xd_session.specs.Stands.{StandsFor, state_of};
 ghost use Rattle.xd_drive.specs.Agrees.{Agrees};
-ghost use Rattle.xd_drive.specs.Going.{TakesNews, TellsEntries, added_by};
+ghost use Rattle.xd_drive.specs.Going.{TakesNews, TellsEntries, added_by, scene_of};
 ghost use Rattle.xd_drive.specs.Moments.{NotesNews, NotesTurn};
 ghost use Rattle.xd_drive.specs.Performing.{all_possible, entries_between};
 ghost use Rattle.xd_drive.specs.Written.{is_whole};
@@ -47,38 +47,14 @@ fn tell_entries<H: Hub, O: Sink, W: Witness<H, O>>(
     ensures tells { IfOk result (λ shown.
         TellsEntries shown (entries_between from to journal.now.entries.items)
         (lines_between journal.now from to)
-        (record {
-          marks = H.marks hub.old;
-          starts = H.starts hub.old;
-          calls = H.calls hub.old;
-          given = H.given hub.old;
-          sunk = O.sunk out.old;
-        })
-        (record {
-          marks = H.marks hub.new;
-          starts = H.starts hub.new;
-          calls = H.calls hub.new;
-          given = H.given hub.new;
-          sunk = O.sunk out.new;
-        })) }
+        (scene_of H.marks H.starts H.calls H.given O.sunk hub.old out.old)
+        (scene_of H.marks H.starts H.calls H.given O.sunk hub.new out.new)) }
     ensures follows { OnOk result
         (Follows reporter.new (after_entries (no_one journal.now.settings)
         (take to journal.now.entries.items))) }
     ensures notes { IfOk result (λ shown. NotesTurn shown
-        (record {
-          marks = H.marks hub.old;
-          starts = H.starts hub.old;
-          calls = H.calls hub.old;
-          given = H.given hub.old;
-          sunk = O.sunk out.old;
-        })
-        (record {
-          marks = H.marks hub.new;
-          starts = H.starts hub.new;
-          calls = H.calls hub.new;
-          given = H.given hub.new;
-          sunk = O.sunk out.new;
-        })
+        (scene_of H.marks H.starts H.calls H.given O.sunk hub.old out.old)
+        (scene_of H.marks H.starts H.calls H.given O.sunk hub.new out.new)
         (W.seen witness.old) (W.seen witness.new)) }
     ensures slots { H.slots hub.new ≡ H.slots hub.old }
     ensures made { H.made hub.new ≡ H.made hub.old }
@@ -126,35 +102,11 @@ fn tell_news<M: Mode, H: Hub, O: Sink, W: Witness<H, O>>(
         TellsEntries shown (added_by session.old.settings taken news)
         (lines_from (after_entries (no_one session.old.settings) session.old.entries)
         (added_by session.old.settings taken news))
-        (record {
-          marks = H.marks hub.old;
-          starts = H.starts hub.old;
-          calls = H.calls hub.old;
-          given = H.given hub.old;
-          sunk = O.sunk out.old;
-        })
-        (record {
-          marks = H.marks hub.new;
-          starts = H.starts hub.new;
-          calls = H.calls hub.new;
-          given = H.given hub.new;
-          sunk = O.sunk out.new;
-        })) }
+        (scene_of H.marks H.starts H.calls H.given O.sunk hub.old out.old)
+        (scene_of H.marks H.starts H.calls H.given O.sunk hub.new out.new)) }
     ensures notes { IfOk result (λ shown. NotesTurn shown
-        (record {
-          marks = H.marks hub.old;
-          starts = H.starts hub.old;
-          calls = H.calls hub.old;
-          given = H.given hub.old;
-          sunk = O.sunk out.old;
-        })
-        (record {
-          marks = H.marks hub.new;
-          starts = H.starts hub.new;
-          calls = H.calls hub.new;
-          given = H.given hub.new;
-          sunk = O.sunk out.new;
-        })
+        (scene_of H.marks H.starts H.calls H.given O.sunk hub.old out.old)
+        (scene_of H.marks H.starts H.calls H.given O.sunk hub.new out.new)
         (W.seen witness.old) (W.seen witness.new)) }
     ensures follows { OnOk result
         (Follows reporter.new (after_entries (no_one session.new.settings) session.new.entries)) }
@@ -196,35 +148,11 @@ pub(crate) fn take_news<R: Wait, M: Mode, H: Hub, O: Sink, W: Witness<H, O>>(
     requires agrees { Agrees (state_of session.old).books (H.marks hub.old) }
     requires someone { (w : ℕ) × ((H.marks hub.old w).started ≡ true) }
     ensures takes { IfOk result (λ written. (n : News) × TakesNews n written session.old session.new
-        (record {
-          marks = H.marks hub.old;
-          starts = H.starts hub.old;
-          calls = H.calls hub.old;
-          given = H.given hub.old;
-          sunk = O.sunk out.old;
-        })
-        (record {
-          marks = H.marks hub.new;
-          starts = H.starts hub.new;
-          calls = H.calls hub.new;
-          given = H.given hub.new;
-          sunk = O.sunk out.new;
-        })) }
+        (scene_of H.marks H.starts H.calls H.given O.sunk hub.old out.old)
+        (scene_of H.marks H.starts H.calls H.given O.sunk hub.new out.new)) }
     ensures notes { IfOk result (λ written. NotesNews written session.old session.new
-        (record {
-          marks = H.marks hub.old;
-          starts = H.starts hub.old;
-          calls = H.calls hub.old;
-          given = H.given hub.old;
-          sunk = O.sunk out.old;
-        })
-        (record {
-          marks = H.marks hub.new;
-          starts = H.starts hub.new;
-          calls = H.calls hub.new;
-          given = H.given hub.new;
-          sunk = O.sunk out.new;
-        })
+        (scene_of H.marks H.starts H.calls H.given O.sunk hub.old out.old)
+        (scene_of H.marks H.starts H.calls H.given O.sunk hub.new out.new)
         (W.seen witness.old) (W.seen witness.new)) }
     ensures follows { OnOk result
         (Follows reporter.new (after_entries (no_one session.new.settings) session.new.entries)) }

@@ -11,7 +11,7 @@ ghost use Rattle.xd_report.specs.Status.{status_in, status_of};
 ghost use Rattle.xd_session.specs.Ends.{is_out_fault};
 ghost use Rattle.xd_session.specs.Stands.{StandsFor};
 ghost use Rattle.xd_drive.specs.Driven.{Drove};
-ghost use Rattle.xd_drive.specs.Going.{EndsRun, EndsTail, HasNoMarks};
+ghost use Rattle.xd_drive.specs.Going.{EndsRun, EndsTail, HasNoMarks, scene_of};
 ghost use Rattle.xd_drive.specs.Moments.{ToldInOrder, performed_of};
 ghost use Rattle.xd_drive.specs.Written.{is_whole};
 
@@ -71,30 +71,12 @@ fn run<R: Wait, M: Mode, H: Hub, O: Sink, W: Witness<H, O>>(
     requires slots { session.old.settings.workers ≤ H.slots hub.old }
     requires fresh { HasNoMarks (H.marks hub.old) }
     ensures ends { IfOk result (λ written. EndsRun written session.new
-        (record {
-          marks = H.marks hub.old;
-          starts = H.starts hub.old;
-          calls = H.calls hub.old;
-          given = H.given hub.old;
-          sunk = O.sunk out.old;
-        })
-        (record {
-          marks = H.marks hub.new;
-          starts = H.starts hub.new;
-          calls = H.calls hub.new;
-          given = H.given hub.new;
-          sunk = O.sunk out.new;
-        })) }
+        (scene_of H.marks H.starts H.calls H.given O.sunk hub.old out.old)
+        (scene_of H.marks H.starts H.calls H.given O.sunk hub.new out.new)) }
     ensures in_order { IfOk result (λ written.
         ToldInOrder session.new.settings
         (performed_of written session.new.entries) session.new.entries
-        (record {
-          marks = H.marks hub.old;
-          starts = H.starts hub.old;
-          calls = H.calls hub.old;
-          given = H.given hub.old;
-          sunk = O.sunk out.old;
-        })
+        (scene_of H.marks H.starts H.calls H.given O.sunk hub.old out.old)
         (W.seen witness.new)) }
     ensures settings { OnOk result (session.new.settings ≡ session.old.settings) }
     ensures follows { OnOk result
@@ -158,20 +140,8 @@ pub fn drive<R: Wait, M: Mode, H: Hub, O: Sink, W: Witness<H, O>>(
     requires slots { session.settings.workers ≤ H.slots hub.old }
     requires fresh { HasNoMarks (H.marks hub.old) }
     ensures drove { IfOk result (λ r. Drove session.settings r.journal
-        (record {
-          marks = H.marks hub.old;
-          starts = H.starts hub.old;
-          calls = H.calls hub.old;
-          given = H.given hub.old;
-          sunk = O.sunk out.old;
-        })
-        (record {
-          marks = H.marks hub.new;
-          starts = H.starts hub.new;
-          calls = H.calls hub.new;
-          given = H.given hub.new;
-          sunk = O.sunk out.new;
-        })
+        (scene_of H.marks H.starts H.calls H.given O.sunk hub.old out.old)
+        (scene_of H.marks H.starts H.calls H.given O.sunk hub.new out.new)
         (W.seen witness.new)) }
     ensures status { IfOk result (λ r. r.status ≡ status_of r.journal) }
     ensures counted { IfOk result (λ r.

@@ -1,7 +1,7 @@
 use Rattle.std.proofs.Common.{Bool, length, refl, sym, ap, ◌∙◌, subst, inl, inr}
 use Rattle.xd_ledger.specs.State.{after_entries, no_one}
 use Rattle.xd_report.specs.Lines.{lines_from}
-use Rattle.xd_drive.specs.Going.{TellsEntries, added_by}
+use Rattle.xd_drive.specs.Going.{TellsEntries, added_by, scene_of}
 use Rattle.xd_drive.proofs.InOrder.{notes-none, notes-turn}
 use Rattle.xd_drive.proofs.Stepped.{dropped, tellable, told, untold}
 use Rattle.xd_drive.proofs.news.take_news.Goals as goal
@@ -16,41 +16,41 @@ tell_news-requires-clause-active g c = sym c.is_active.ensures ∙ c.if-not-is_a
 
 pub tell_news-requires-clause-possible : goal.tell_news-requires-clause-possible
 tell_news-requires-clause-possible g c =
-    tellable c.args.session.now c.requires.proper c.in_ok-news.news (record { marks = g.H.Hub.marks c.args.hub.now; starts = g.H.Hub.starts c.args.hub.now; calls = g.H.Hub.calls c.args.hub.now; given = g.H.Hub.given c.args.hub.now; sunk = g.O.Sink.sunk c.args.out.now })
-    (record { marks = g.H.Hub.marks c.next.new.self; starts = g.H.Hub.starts c.next.new.self; calls = g.H.Hub.calls c.next.new.self; given = g.H.Hub.given c.next.new.self; sunk = g.O.Sink.sunk c.args.out.now })
+    tellable c.args.session.now c.requires.proper c.in_ok-news.news (scene_of g.H.Hub.marks g.H.Hub.starts g.H.Hub.calls g.H.Hub.given g.O.Sink.sunk c.args.hub.now c.args.out.now)
+    (scene_of g.H.Hub.marks g.H.Hub.starts g.H.Hub.calls g.H.Hub.given g.O.Sink.sunk c.next.new.self c.args.out.now)
     c.in_ok-news.ensures.given c.in_ok-news.ensures.marks c.in_ok-news.ensures.starts c.in_ok-news.ensures.calls refl
     c.requires.agrees c.in_ok-news.ensures.started (g.H.Hub.slots c.args.hub.now) c.requires.slots (sym c.is_active.ensures ∙ c.if-not-is_active.false) (g.H.Hub.slots c.next.new.self) c.next.ensures.slots
 
 pub returns-then-shown-clause-takes : goal.returns-then-shown-clause-takes
 returns-then-shown-clause-takes g c =
-    told c.args.session.now c.requires.proper c.in_ok-news.news _ (record { marks = g.H.Hub.marks c.next.new.self; starts = g.H.Hub.starts c.next.new.self; calls = g.H.Hub.calls c.next.new.self; given = g.H.Hub.given c.next.new.self; sunk = g.O.Sink.sunk c.args.out.now })
+    told c.args.session.now c.requires.proper c.in_ok-news.news _ (scene_of g.H.Hub.marks g.H.Hub.starts g.H.Hub.calls g.H.Hub.given g.O.Sink.sunk c.next.new.self c.args.out.now)
     c.in_ok-news.ensures.given c.in_ok-news.ensures.marks c.in_ok-news.ensures.starts c.in_ok-news.ensures.calls refl
     c.requires.agrees c.in_ok-news.ensures.started (g.H.Hub.slots c.args.hub.now) c.requires.slots (sym c.is_active.ensures ∙ c.if-not-is_active.false)
     c.tell_news.new.session c.in_ok-shown.ensures.stands c.tell_news.ensures.settings _ c.requires.stands.0 c.requires.stands.1
-    (subst (λ (b : Bool). TellsEntries b (added_by c.args.session.now.settings c.requires.stands.0 c.in_ok-news.news) (lines_from (after_entries (no_one c.args.session.now.settings) c.args.session.now.entries) (added_by c.args.session.now.settings c.requires.stands.0 c.in_ok-news.news)) (record { marks = g.H.Hub.marks c.next.new.self; starts = g.H.Hub.starts c.next.new.self; calls = g.H.Hub.calls c.next.new.self; given = g.H.Hub.given c.next.new.self; sunk = g.O.Sink.sunk c.args.out.now })
-    (record { marks = g.H.Hub.marks c.tell_news.new.hub; starts = g.H.Hub.starts c.tell_news.new.hub; calls = g.H.Hub.calls c.tell_news.new.hub; given = g.H.Hub.given c.tell_news.new.hub; sunk = g.O.Sink.sunk c.tell_news.new.out })) c.if-shown.true (c.in_ok-shown.ensures.tells c.requires.stands.0 c.requires.stands.1))
+    (subst (λ (b : Bool). TellsEntries b (added_by c.args.session.now.settings c.requires.stands.0 c.in_ok-news.news) (lines_from (after_entries (no_one c.args.session.now.settings) c.args.session.now.entries) (added_by c.args.session.now.settings c.requires.stands.0 c.in_ok-news.news)) (scene_of g.H.Hub.marks g.H.Hub.starts g.H.Hub.calls g.H.Hub.given g.O.Sink.sunk c.next.new.self c.args.out.now)
+    (scene_of g.H.Hub.marks g.H.Hub.starts g.H.Hub.calls g.H.Hub.given g.O.Sink.sunk c.tell_news.new.hub c.tell_news.new.out)) c.if-shown.true (c.in_ok-shown.ensures.tells c.requires.stands.0 c.requires.stands.1))
 
 pub returns-else-shown-clause-takes : goal.returns-else-shown-clause-takes
 returns-else-shown-clause-takes g c =
-    untold c.args.session.now c.requires.proper c.in_ok-news.news _ (record { marks = g.H.Hub.marks c.next.new.self; starts = g.H.Hub.starts c.next.new.self; calls = g.H.Hub.calls c.next.new.self; given = g.H.Hub.given c.next.new.self; sunk = g.O.Sink.sunk c.args.out.now })
+    untold c.args.session.now c.requires.proper c.in_ok-news.news _ (scene_of g.H.Hub.marks g.H.Hub.starts g.H.Hub.calls g.H.Hub.given g.O.Sink.sunk c.next.new.self c.args.out.now)
     c.in_ok-news.ensures.given c.in_ok-news.ensures.marks c.in_ok-news.ensures.starts c.in_ok-news.ensures.calls refl
     c.requires.agrees c.in_ok-news.ensures.started (g.H.Hub.slots c.args.hub.now) c.requires.slots (sym c.is_active.ensures ∙ c.if-not-is_active.false)
     c.tell_news.new.session c.in_ok-shown.ensures.stands c.tell_news.ensures.settings _ c.requires.stands.0 c.requires.stands.1 c.entry_count-performed.result (c.entry_count-performed.ensures ∙ ap length c.journal.ensures.entries)
-    (subst (λ (b : Bool). TellsEntries b (added_by c.args.session.now.settings c.requires.stands.0 c.in_ok-news.news) (lines_from (after_entries (no_one c.args.session.now.settings) c.args.session.now.entries) (added_by c.args.session.now.settings c.requires.stands.0 c.in_ok-news.news)) (record { marks = g.H.Hub.marks c.next.new.self; starts = g.H.Hub.starts c.next.new.self; calls = g.H.Hub.calls c.next.new.self; given = g.H.Hub.given c.next.new.self; sunk = g.O.Sink.sunk c.args.out.now })
-    (record { marks = g.H.Hub.marks c.tell_news.new.hub; starts = g.H.Hub.starts c.tell_news.new.hub; calls = g.H.Hub.calls c.tell_news.new.hub; given = g.H.Hub.given c.tell_news.new.hub; sunk = g.O.Sink.sunk c.tell_news.new.out })) c.if-shown.false (c.in_ok-shown.ensures.tells c.requires.stands.0 c.requires.stands.1))
+    (subst (λ (b : Bool). TellsEntries b (added_by c.args.session.now.settings c.requires.stands.0 c.in_ok-news.news) (lines_from (after_entries (no_one c.args.session.now.settings) c.args.session.now.entries) (added_by c.args.session.now.settings c.requires.stands.0 c.in_ok-news.news)) (scene_of g.H.Hub.marks g.H.Hub.starts g.H.Hub.calls g.H.Hub.given g.O.Sink.sunk c.next.new.self c.args.out.now)
+    (scene_of g.H.Hub.marks g.H.Hub.starts g.H.Hub.calls g.H.Hub.given g.O.Sink.sunk c.tell_news.new.hub c.tell_news.new.out)) c.if-shown.false (c.in_ok-shown.ensures.tells c.requires.stands.0 c.requires.stands.1))
 
 pub returns-then-not-is_active-clause-notes : goal.returns-then-not-is_active-clause-notes
 returns-then-not-is_active-clause-notes g c = inr (refl, refl)
 
 pub returns-then-shown-clause-notes : goal.returns-then-shown-clause-notes
 returns-then-shown-clause-notes g c =
-    inl (notes-turn c.in_ok-shown.shown (record { marks = g.H.Hub.marks c.args.hub.now; starts = g.H.Hub.starts c.args.hub.now; calls = g.H.Hub.calls c.args.hub.now; given = g.H.Hub.given c.args.hub.now; sunk = g.O.Sink.sunk c.args.out.now })
-    (record { marks = g.H.Hub.marks c.next.new.self; starts = g.H.Hub.starts c.next.new.self; calls = g.H.Hub.calls c.next.new.self; given = g.H.Hub.given c.next.new.self; sunk = g.O.Sink.sunk c.args.out.now })
-    (record { marks = g.H.Hub.marks c.tell_news.new.hub; starts = g.H.Hub.starts c.tell_news.new.hub; calls = g.H.Hub.calls c.tell_news.new.hub; given = g.H.Hub.given c.tell_news.new.hub; sunk = g.O.Sink.sunk c.tell_news.new.out })
+    inl (notes-turn c.in_ok-shown.shown (scene_of g.H.Hub.marks g.H.Hub.starts g.H.Hub.calls g.H.Hub.given g.O.Sink.sunk c.args.hub.now c.args.out.now)
+    (scene_of g.H.Hub.marks g.H.Hub.starts g.H.Hub.calls g.H.Hub.given g.O.Sink.sunk c.next.new.self c.args.out.now)
+    (scene_of g.H.Hub.marks g.H.Hub.starts g.H.Hub.calls g.H.Hub.given g.O.Sink.sunk c.tell_news.new.hub c.tell_news.new.out)
     _ _ c.if-shown.true c.in_ok-news.ensures.starts c.in_ok-news.ensures.calls c.in_ok-shown.ensures.notes)
 
 pub returns-else-shown-clause-notes : goal.returns-else-shown-clause-notes
 returns-else-shown-clause-notes g c =
-    notes-none c.in_ok-shown.shown (record { marks = g.H.Hub.marks c.next.new.self; starts = g.H.Hub.starts c.next.new.self; calls = g.H.Hub.calls c.next.new.self; given = g.H.Hub.given c.next.new.self; sunk = g.O.Sink.sunk c.args.out.now })
-    (record { marks = g.H.Hub.marks c.tell_news.new.hub; starts = g.H.Hub.starts c.tell_news.new.hub; calls = g.H.Hub.calls c.tell_news.new.hub; given = g.H.Hub.given c.tell_news.new.hub; sunk = g.O.Sink.sunk c.tell_news.new.out })
+    notes-none c.in_ok-shown.shown (scene_of g.H.Hub.marks g.H.Hub.starts g.H.Hub.calls g.H.Hub.given g.O.Sink.sunk c.next.new.self c.args.out.now)
+    (scene_of g.H.Hub.marks g.H.Hub.starts g.H.Hub.calls g.H.Hub.given g.O.Sink.sunk c.tell_news.new.hub c.tell_news.new.out)
     _ _ c.if-shown.false c.in_ok-shown.ensures.notes

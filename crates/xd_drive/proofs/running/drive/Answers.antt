@@ -2,6 +2,7 @@ use Rattle.std.proofs.Common.{[], refl, sym, ◌∙◌}
 use Rattle.xd_laws.proofs.Logic.{differ}
 use Rattle.xd_report.proofs.Failures.{status-faulty}
 use Rattle.xd_session.proofs.Lawful.{stands-proper}
+use Rattle.xd_drive.specs.Going.{scene_of}
 use Rattle.xd_drive.proofs.Driven.{drive-broken, drive-journal, drive-journal-broken, drive-kills, drive-whole}
 use Rattle.xd_drive.proofs.Follow.{follows-same}
 use Rattle.xd_drive.proofs.InOrder.{order-whole}
@@ -29,8 +30,8 @@ returns-in_default-clause-drove g c = record {
       _ _ c.in_default.not-Broken c.in_ok-journal.ensures.entries c.in_ok-journal.ensures.legal c.in_ok-written.ensures.ends;
   whole = λ h.
       drive-whole c.args.session.settings c.run.new.session c.in_ok-journal.journal (stands-proper [] c.args.session c.requires.begins) c.in_ok-written.ensures.settings c.in_ok-journal.ensures.settings c.in_ok-written.written
-      (record { marks = g.H.Hub.marks c.args.hub.now; starts = g.H.Hub.starts c.args.hub.now; calls = g.H.Hub.calls c.args.hub.now; given = g.H.Hub.given c.args.hub.now; sunk = g.O.Sink.sunk c.args.out.now })
-      (record { marks = g.H.Hub.marks c.run.new.hub; starts = g.H.Hub.starts c.run.new.hub; calls = g.H.Hub.calls c.run.new.hub; given = g.H.Hub.given c.run.new.hub; sunk = g.O.Sink.sunk c.run.new.out })
+      (scene_of g.H.Hub.marks g.H.Hub.starts g.H.Hub.calls g.H.Hub.given g.O.Sink.sunk c.args.hub.now c.args.out.now)
+      (scene_of g.H.Hub.marks g.H.Hub.starts g.H.Hub.calls g.H.Hub.given g.O.Sink.sunk c.run.new.hub c.run.new.out)
       c.in_default.not-Broken c.in_ok-journal.ensures.entries c.in_ok-journal.ensures.stop c.in_ok-written.ensures.ends;
   broken = λ h. absurd (differ (sym c.in_ok-journal.ensures.told ∙ h));
   in_order = λ h.
@@ -40,8 +41,8 @@ returns-in_default-clause-drove g c = record {
 pub kill_started-requires : goal.kill_started-requires
 kill_started-requires g c =
     drive-kills c.args.session.settings c.run.new.session c.in_ok-journal-2.journal (stands-proper [] c.args.session c.requires.begins) c.in_ok-written.ensures.settings c.in_ok-journal-2.ensures.settings c.in_ok-written.written c.in-Broken.performed c.in-Broken.is c.in_ok-journal-2.ensures.entries c.deref.result.now c.deref-2.result.now c.deref.ensures.value c.deref-2.ensures.value
-    (record { marks = g.H.Hub.marks c.args.hub.now; starts = g.H.Hub.starts c.args.hub.now; calls = g.H.Hub.calls c.args.hub.now; given = g.H.Hub.given c.args.hub.now; sunk = g.O.Sink.sunk c.args.out.now })
-    (record { marks = g.H.Hub.marks c.run.new.hub; starts = g.H.Hub.starts c.run.new.hub; calls = g.H.Hub.calls c.run.new.hub; given = g.H.Hub.given c.run.new.hub; sunk = g.O.Sink.sunk c.run.new.out })
+    (scene_of g.H.Hub.marks g.H.Hub.starts g.H.Hub.calls g.H.Hub.given g.O.Sink.sunk c.args.hub.now c.args.out.now)
+    (scene_of g.H.Hub.marks g.H.Hub.starts g.H.Hub.calls g.H.Hub.given g.O.Sink.sunk c.run.new.hub c.run.new.out)
     (g.H.Hub.slots c.run.new.hub) c.in_ok-written.ensures.ends
 
 pub returns-clause-drove : goal.returns-clause-drove
@@ -51,9 +52,9 @@ returns-clause-drove g c = record {
   whole = λ h. absurd (differ (sym h ∙ c.in_ok-journal-2.ensures.told));
   broken = λ h.
       drive-broken c.args.session.settings c.run.new.session c.in_ok-journal-2.journal (stands-proper [] c.args.session c.requires.begins) c.in_ok-written.ensures.settings c.in_ok-journal-2.ensures.settings c.in_ok-written.written c.in-Broken.performed c.in-Broken.is c.in_ok-journal-2.ensures.entries c.deref.result.now c.deref-2.result.now c.deref.ensures.value c.deref-2.ensures.value
-      (record { marks = g.H.Hub.marks c.args.hub.now; starts = g.H.Hub.starts c.args.hub.now; calls = g.H.Hub.calls c.args.hub.now; given = g.H.Hub.given c.args.hub.now; sunk = g.O.Sink.sunk c.args.out.now })
-      (record { marks = g.H.Hub.marks c.run.new.hub; starts = g.H.Hub.starts c.run.new.hub; calls = g.H.Hub.calls c.run.new.hub; given = g.H.Hub.given c.run.new.hub; sunk = g.O.Sink.sunk c.run.new.out })
-      (record { marks = g.H.Hub.marks c.kill_started.new.hub; starts = g.H.Hub.starts c.kill_started.new.hub; calls = g.H.Hub.calls c.kill_started.new.hub; given = g.H.Hub.given c.kill_started.new.hub; sunk = g.O.Sink.sunk c.run.new.out })
+      (scene_of g.H.Hub.marks g.H.Hub.starts g.H.Hub.calls g.H.Hub.given g.O.Sink.sunk c.args.hub.now c.args.out.now)
+      (scene_of g.H.Hub.marks g.H.Hub.starts g.H.Hub.calls g.H.Hub.given g.O.Sink.sunk c.run.new.hub c.run.new.out)
+      (scene_of g.H.Hub.marks g.H.Hub.starts g.H.Hub.calls g.H.Hub.given g.O.Sink.sunk c.kill_started.new.hub c.run.new.out)
       _ c.in_ok-journal-2.ensures.stop c.in_ok-written.ensures.ends c.in_ok-kill_started.ensures.performs c.in_ok-kill_started.ensures.given refl c.in_ok-written.ensures.in_order;
   in_order = λ h. absurd (differ (sym h ∙ c.in_ok-journal-2.ensures.told));
 }

@@ -1,6 +1,7 @@
 use Rattle.std.proofs.Common.{◌++◌, ◌∷◌, [], refl, sym, ◌∙◌, ap, subst}
 use Rattle.xd_journal.specs.declared.settings.Settings.{Settings}
 use Rattle.xd_ledger.specs.Proper.{IsProper}
+use Rattle.xd_drive.specs.Going.{scene_of}
 use Rattle.xd_drive.specs.Written.{is_whole}
 use Rattle.xd_drive.proofs.InOrder.{order-first, order-next, order-over, order-stops}
 use Rattle.xd_drive.proofs.Loop.{begins, first-possible, going-next, over-ends, someone-first, someone-still, stop-by, takes-whole, whole-of}
@@ -12,8 +13,8 @@ perform-requires g c = first-possible c.args.session.now _ _ _ c.requires.slots 
 pub loop-init : goal.loop-init
 loop-init g c =
     let first = begins c.args.session.now (g.H.Hub.slots c.args.hub.now)
-    (record { marks = g.H.Hub.marks c.args.hub.now; starts = g.H.Hub.starts c.args.hub.now; calls = g.H.Hub.calls c.args.hub.now; given = g.H.Hub.given c.args.hub.now; sunk = g.O.Sink.sunk c.args.out.now })
-    (record { marks = g.H.Hub.marks c.perform.new.hub; starts = g.H.Hub.starts c.perform.new.hub; calls = g.H.Hub.calls c.perform.new.hub; given = g.H.Hub.given c.perform.new.hub; sunk = g.O.Sink.sunk c.args.out.now })
+    (scene_of g.H.Hub.marks g.H.Hub.starts g.H.Hub.calls g.H.Hub.given g.O.Sink.sunk c.args.hub.now c.args.out.now)
+    (scene_of g.H.Hub.marks g.H.Hub.starts g.H.Hub.calls g.H.Hub.given g.O.Sink.sunk c.perform.new.hub c.args.out.now)
     c.deref.result.now (c.deref.ensures.value ∙ c.journal.ensures.entries) c.requires.slots c.requires.begins c.requires.fresh c.in_ok-perform.ensures.performs c.in_ok-perform.ensures.marks c.in_ok-perform.ensures.given refl in
     record {
       going = ([], first);

@@ -2,17 +2,17 @@ use Rattle.std.proofs.Common.{◌≡◌, ℕ, List, length, true}
 use Rattle.xd_journal.specs.declared.news.News.{News}
 use Rattle.xd_ledger.specs.State.{after_entries, no_one}
 use Rattle.xd_report.specs.Follows.{Follows}
-use Rattle.xd_drive.specs.Going.{Going}
+use Rattle.xd_drive.specs.Going.{Going, scene_of}
 use Rattle.xd_drive.specs.Moments.{ToldInOrder}
 use Rattle.xd_drive.proofs.running.run.Given as goal
 
 abbrev pub invariant-loop : goal.invariant-loop
 invariant-loop g l = record {
   going : (given : List News) × Going given l.session
-      (record { marks = g.H.Hub.marks l.fn.hub; starts = g.H.Hub.starts l.fn.hub; calls = g.H.Hub.calls l.fn.hub; given = g.H.Hub.given l.fn.hub; sunk = g.O.Sink.sunk l.fn.out })
-      (record { marks = g.H.Hub.marks l.hub; starts = g.H.Hub.starts l.hub; calls = g.H.Hub.calls l.hub; given = g.H.Hub.given l.hub; sunk = g.O.Sink.sunk l.out });
+      (scene_of g.H.Hub.marks g.H.Hub.starts g.H.Hub.calls g.H.Hub.given g.O.Sink.sunk l.fn.hub l.fn.out)
+      (scene_of g.H.Hub.marks g.H.Hub.starts g.H.Hub.calls g.H.Hub.given g.O.Sink.sunk l.hub l.out);
   in_order : ToldInOrder l.session.settings (length l.session.entries) l.session.entries
-      (record { marks = g.H.Hub.marks l.fn.hub; starts = g.H.Hub.starts l.fn.hub; calls = g.H.Hub.calls l.fn.hub; given = g.H.Hub.given l.fn.hub; sunk = g.O.Sink.sunk l.fn.out })
+      (scene_of g.H.Hub.marks g.H.Hub.starts g.H.Hub.calls g.H.Hub.given g.O.Sink.sunk l.fn.hub l.fn.out)
       (g.W.Witness.seen l.witness);
   reports : Follows l.reporter (after_entries (no_one l.session.settings) l.session.entries);
   settings : l.session.settings ≡ l.fn.session.settings;
