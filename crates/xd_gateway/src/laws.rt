@@ -25,7 +25,8 @@ pub fn order_payload_law()
         dumped (order_tree o) ≡ Ok (canonical (order_tree o)) }
 {}
 
-/// The call of `run_tests` for the path of a suite file and the word of a mode has a payload, each of at most 65,536 bytes.
+/// The call of `run_tests` has a payload, where the path of the suite file and the word of the mode have at most 65,536
+/// bytes each.
 pub fn call_payload_law()
     ensures { (suite mode : List ℕ) → length (encode_utf8_all suite) ≤ 65536 →
         length (encode_utf8_all mode) ≤ 65536

@@ -39,7 +39,7 @@ pub fn read_link<R: Wait, S: Source>(
     }
 }
 
-// Reads the greeting. Gives why the link is read no more, if it is not.
+// Reads the greeting. Gives a stop where the link is read no further.
 fn greet<R: Wait, S: Source>(rt: &R, source: &mut S) -> Option<LinkStop>
     ensures greets { Greets result
         (spring (S.supply source.old) (S.is_ended source.old) (S.faults source.old))
@@ -81,7 +81,7 @@ fn read_messages<R: Wait, S: Source>(
     unreachable!()
 }
 
-// Reads once, and puts the message that is whole. Gives why the link is read no more, if it is not.
+// Reads once, and puts the message if it is whole. Gives a stop where the link is read no further.
 fn read_next<R: Wait, S: Source>(
     rt: &R,
     framer: &mut Framer,
