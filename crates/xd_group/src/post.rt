@@ -163,7 +163,7 @@ struct Ended {
 }
 
 // Ends the worker after its last news, or closes the sink after the end of its link; one of these, once.
-fn end_behind<N: Sink + Drop>(
+fn end_after<N: Sink + Drop>(
     gateway: &mut Gateway<N>,
     is_ended: bool,
     is_closed: bool,
@@ -305,7 +305,7 @@ impl<N: Sink + Drop> Post<N> {
         )?;
         self.is_ended = is_ended;
         note_heard(&mut self.said, &news);
-        let Ended { is_closed, is_lost } = end_behind(
+        let Ended { is_closed, is_lost } = end_after(
             &mut self.gateway,
             is_ended,
             self.is_closed,
@@ -341,7 +341,7 @@ impl<N: Sink + Drop> Post<N> {
         )?;
         self.is_ended = is_ended;
         note_heard(&mut self.late, &news);
-        let Ended { is_closed, is_lost } = end_behind(
+        let Ended { is_closed, is_lost } = end_after(
             &mut self.gateway,
             is_ended,
             self.is_closed,

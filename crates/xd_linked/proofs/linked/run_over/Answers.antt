@@ -1,7 +1,7 @@
 use Rattle.std.proofs.Common.{◌∙◌, ap}
 use Rattle.xd_link.specs.Spring.{spring}
 use Rattle.xd_note.specs.Noted.{noted}
-use Rattle.xd_group.specs.declared.group.LinkEnd.{LinkEnd}
+use Rattle.xd_group.specs.declared.finish.LinkEnd.{LinkEnd}
 use Rattle.xd_linked.specs.Linked.{EndedLink, ended_link}
 use Rattle.xd_linked.proofs.Linking.{broken_from, runs_linked, whole_from}
 use Rattle.xd_linked.proofs.linked.run_over.Goals as goal

@@ -11,7 +11,7 @@ use Rattle.xd_group.specs.Fates.{is_refused, workers_with}
 use Rattle.xd_group.specs.Late.{settled_at}
 use Rattle.xd_group.specs.LinkRun.{link_of}
 use Rattle.xd_group.specs.Returned.{RanSo, end_told}
-use Rattle.xd_group.specs.declared.group.LinkEnd.{LinkEnd}
+use Rattle.xd_group.specs.declared.finish.LinkEnd.{LinkEnd}
 use Rattle.xd_group.proofs.Ending.{ran_so, some_of}
 use Rattle.xd_group.proofs.FateFacts.{asked_next, asked_past, changed_linked, child_there, no_child, with_link, without_link, worker_there}
 use Rattle.xd_group.proofs.PageFacts.{none_of}

@@ -16,7 +16,7 @@ invariant_of-self-2 g c =
     let said = noted was.said in
     let known = c.requires.known in
     let still = was.lost known ∙ sym c.in_ok-news.ensures.broken in
-    let over = c.end_behind-is_closed in
+    let over = c.end_after-is_closed in
     let stays : StaysEnded was.is_ended c.in_ok-news.field-0.is_ended None = λ h. (refl, (c.in_ok-news.ensures.past h).1) in
     record {
       lost = λ e. over.ensures.lost still;
@@ -34,4 +34,4 @@ invariant_of-self-2 g c =
     }
 
 pub returns-clause-keeps : goal.returns-clause-keeps
-returns-clause-keeps g c lost = c.end_behind-is_closed.ensures.keeps (c.args.self.now.lost c.requires.known ∙ sym c.in_ok-news.ensures.broken) lost
+returns-clause-keeps g c lost = c.end_after-is_closed.ensures.keeps (c.args.self.now.lost c.requires.known ∙ sym c.in_ok-news.ensures.broken) lost

@@ -2,7 +2,7 @@ use Rattle.std.proofs.Common.{sym, ◌∙◌}
 use Rattle.xd_remote.specs.View.{line_of}
 use Rattle.xd_group.proofs.PageFacts.{no_way}
 use Rattle.xd_group.proofs.PostFacts.{closed_end, closed_left, closed_open, closed_still, close_keeps, heard_kept, over_handed, sent_ended, sent_over, sent_same, sent_still, shut_keeps}
-use Rattle.xd_group.proofs.post.end_behind.Goals as goal
+use Rattle.xd_group.proofs.post.end_after.Goals as goal
 
 pub returns-then-is_closed-clause-closed : goal.returns-then-is_closed-clause-closed
 returns-then-is_closed-clause-closed g c said was stays is = closed_still said c.args.news.now was c.args.is_ended c.args.is_closed stays is c.if-is_closed.true
