@@ -6,7 +6,7 @@ use Rattle.std.specs.List.{list_any}
 use Rattle.std.proofs.Math.ListN.{set}
 use Rattle.std.proofs.lemmas.List.{map-append, map-set}
 use Rattle.std.proofs.lemmas.Option.{slice_get-map}
-use Rattle.xd_links.proofs.HubFacts.{here}
+use Rattle.xd_links.proofs.LinkFacts.{here}
 use Rattle.xd_group.specs.Fates.{is_linked}
 use Rattle.xd_group.specs.Heard.{says_send_fault}
 use Rattle.xd_group.specs.Kills.{KeepsLost, Loses, LostAt}

@@ -9,7 +9,7 @@ use std::sync::Wait;
 use xd_crew::Crew;
 use xd_edge::{OutOfMemory, Sink};
 use xd_link::Source;
-use xd_links::{Closed, Links};
+use xd_links::Links;
 use xd_reader::Reader;
 
 /// A link that was closed.
@@ -139,7 +139,7 @@ impl<S: Source + Drop, N: Sink + Drop, C: Crew<Reader<S>>> Group<S, N, C> {
         ensures worker { result.worker ≡ worker }
     {
         let sink = leave_at(posts, number as usize);
-        let Closed { source, rest: _ } = links.close(number);
+        let source = links.close(number);
         Ended {
             worker,
             source,

@@ -1,2 +1,2 @@
-pub mod HubFacts
+pub mod LinkFacts
 pub mod Places

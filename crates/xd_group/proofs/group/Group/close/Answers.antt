@@ -22,7 +22,7 @@ close-source-requires g c =
 pub returns-clause-ran : goal.returns-clause-ran
 returns-clause-ran g c first late =
     let there = c.leave_at-sink.ensures.ends in
-    let source = c.close-source.result.source in
+    let source = c.close-source.result in
     ∥∥₁_map₂ late there.2
     (λ l e. ran_at first (news_of (mails c.args.links.now.desk)) (pages_of c.args.posts.now.items) c.args.number there.0 (spring (g.S.Source.supply source) (g.S.Source.is_ended source) (g.S.Source.faults source)) _ _ there.1 c.close-source.ensures.run e l)
 

@@ -4,8 +4,8 @@ use Rattle.xd_post.specs.Post.{ring_of_inbox, ring_of_sender, taken}
 use Rattle.xd_post.specs.declared.ends.Sender.{Sender}
 use Rattle.xd_reader.specs.declared.news.LinkNews.{LinkNews}
 use Rattle.xd_reader.specs.declared.reader.Reader.{Reader}
-use Rattle.xd_links.proofs.HubFacts.{going_more, rings_refused, news_opened, news_refused, fresh_more, rings_opened, fresh_job, mail_last}
-use Rattle.xd_links.proofs.hub.Links.open.Goals as goal
+use Rattle.xd_links.proofs.LinkFacts.{going_more, rings_refused, news_opened, news_refused, fresh_more, rings_opened, fresh_job, mail_last}
+use Rattle.xd_links.proofs.links.Links.open.Goals as goal
 
 pub invariant_of-self-in-Err : goal.invariant_of-self-in-Err
 invariant_of-self-in-Err g c =

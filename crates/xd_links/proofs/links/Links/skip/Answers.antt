@@ -1,6 +1,6 @@
 use Rattle.std.proofs.Common.{◌≡◌, ◌++◌, ◌∷◌, [], None, false, rules}
-use Rattle.xd_links.proofs.HubFacts.{going_more, rings_refused, news_refused, fresh_more}
-use Rattle.xd_links.proofs.hub.Links.skip.Goals as goal
+use Rattle.xd_links.proofs.LinkFacts.{going_more, rings_refused, news_refused, fresh_more}
+use Rattle.xd_links.proofs.links.Links.skip.Goals as goal
 
 pub invariant_of-self-2 : goal.invariant_of-self-2
 invariant_of-self-2 g c =

@@ -1,7 +1,7 @@
 -- Lists of links where an item is taken, a link is opened or closed.
-use Rattle.std.proofs.Common.{◌≡◌, ℕ, zero, suc, List, [], ◌∷◌, ◌++◌, Option, Some, None, map, length, get_or, refl, sym, ◌∙◌, ap, append-nil, IsTrue, subst, inl, inr}
+use Rattle.std.proofs.Common.{◌≡◌, ℕ, zero, suc, List, [], ◌∷◌, ◌++◌, Option, Some, None, map, length, get_or, refl, sym, ◌∙◌, ap, append-nil, subst, inl, inr}
 use Rattle.std.proofs.Math.ListN.{set}
-use Rattle.std.specs.Option.{option_map, is_some}
+use Rattle.std.specs.Option.{option_map}
 use Rattle.std.specs.List.{slice_get, list_any}
 use Rattle.std.proofs.lemmas.List.{map-set, map-append, length-map}
 use Rattle.std.proofs.lemmas.Option.{slice_get-map, get_or_from_slice_get, slice_get_read, slice_get_within}
@@ -112,11 +112,6 @@ news_refused old added closed k x a n z =
     let is : closed ≡ old ++ none ∷ [] =
     z ∙ ap (λ (m : List (Option (Ring × List LinkNews))). set m k none) a ∙ ap (λ (i : ℕ). set (old ++ x ∷ []) i none) n ∙ set_last old x none in
     ap (map news_of_mail) is ∙ map-append news_of_mail old (none ∷ [])
-
--- a link stands at the place
-pub link_there : {S H : Type 0} (f : H → Reader S) (links : List (Option H)) (k : ℕ) (was : Option H) → slice_get links k ≡ Some was → IsTrue (is_some was) → (x : S) × (slice_get (map (source_of_link f) links) k ≡ Some (Some x))
-link_there f links k None at h = absurd (cc h)
-link_there f links k (Some h) at t = ((f h).source, slice_get-map (source_of_link f) links k ∙ ap (option_map (source_of_link f)) at)
 
 -- as many inboxes as handles
 pub same_count : {S H : Type 0} (f : H → Reader S) (mails : List (Option (Ring × List LinkNews))) (links : List (Option H)) → map ring_of_mail mails ≡ map (ring_of_link f) links → length (map news_of_mail mails) ≡ length links

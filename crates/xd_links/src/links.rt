@@ -1,4 +1,4 @@
-//! Several links over one desk.
+// Several links over one desk.
 ghost use Rattle.std.specs.Prelude.{◌≡◌, ℕ, [], false, Some, map, slice_get, slice_set, if◌then◌else◌};
 ghost use Rattle.xd_link.specs.Source.{Supply};
 ghost use Rattle.xd_links.specs.Links.{ring_of_mail, ring_of_link, sources_of};
@@ -10,16 +10,20 @@ use std::sync::Wait;
 use xd_crew::Crew;
 use xd_edge::OutOfMemory;
 use xd_link::Source;
-use xd_post::{Bell, Desk, Emptied, mailbox};
+use xd_post::{Bell, Desk, mailbox};
 use xd_reader::{LinkNews, Reader, ReaderEnd};
 
-/// Several links, each read by a job of the crew.
+/// The room of a link's mailbox; its reader sleeps while it is full.
+const ROOM: usize = 8;
+
+/// Several links, each read by a job of the crew. They are numbered from 0 in the order in which they were opened; a number
+/// may have no link.
 pub struct Links<S: Source + Drop, C: Crew<Reader<S>>> {
     pub alloc: Global,
     pub crew: C,
     pub desk: Desk<LinkNews>,
     pub handles: Vec<Option<C::Handle>>,
-    /// Of which links the end was not taken yet, and which are not closed.
+    /// Of each number whether more may come of its link: it is not closed, and its end was not taken.
     pub going: Vec<bool>,
     ghost rings: { map ring_of_mail (mails desk) ≡ map (ring_of_link C.job_of) handles.items },
     ghost fresh: { (k : ℕ) (source : S) (s : Supply) →
@@ -75,13 +79,6 @@ fn take_to_ends<R: Wait>(rt: &R, desk: &mut Desk<LinkNews>, going: &mut Vec<bool
         let (number, item) = desk.wait(rt);
         note_end(going, number as usize, &item);
     }
-}
-
-/// What a closed link left.
-#[derive(Drop)]
-pub struct Closed<S: Source + Drop> {
-    pub source: S,
-    pub rest: Option<LinkNews>,
 }
 
 impl<S: Source + Drop, C: Crew<Reader<S>>> Links<S, C> {
@@ -145,7 +142,7 @@ impl<S: Source + Drop, C: Crew<Reader<S>>> Links<S, C> {
     {
         self.handles.reserve(1)?;
         self.going.reserve(1)?;
-        let (sender, inbox) = mailbox(self.alloc, 8, self.desk.bell())?;
+        let (sender, inbox) = mailbox(self.alloc, ROOM, self.desk.bell())?;
         let number = self.desk.add(inbox)?;
         match self
             .crew
@@ -194,28 +191,14 @@ impl<S: Source + Drop, C: Crew<Reader<S>>> Links<S, C> {
         Ok(())
     }
 
-    /// Whether the number has a link.
-    pub fn has_link(&self, number: u32) -> bool
-        ensures { IsTrue result →
-            (source : S) × (slice_get (sources_of C.job_of self.now.handles.items) number ≡ Some
-            (Some source)) }
-    {
-        let at = number as usize;
-        if at >= self.handles.len() {
-            return false;
-        }
-        self.handles[at].is_some()
-    }
-
-    /// Joins the link's reader and closes the link.
-    pub fn close(&mut self, number: u32) -> Closed<S>
+    /// Joins the link's reader, closes the link, and gives its source.
+    pub fn close(&mut self, number: u32) -> S
         requires { (source : S) × (slice_get
             (sources_of C.job_of self.old.handles.items) number ≡ Some (Some source)) }
         ensures crew { C.faults self.new.crew ≡ C.faults self.old.crew }
         ensures run { (got : List LinkNews) →
             slice_get (news_of (mails self.old.desk)) number ≡ Some (Some got)
-            → LinkRead (spring (S.supply result.source) (S.is_ended result.source)
-            (S.faults result.source)) got }
+            → LinkRead (spring (S.supply result) (S.is_ended result) (S.faults result)) got }
         ensures news { news_of (mails self.new.desk) ≡ slice_set
             (news_of (mails self.old.desk)) number None }
         ensures sources { sources_of C.job_of self.new.handles.items ≡ slice_set
@@ -224,9 +207,9 @@ impl<S: Source + Drop, C: Crew<Reader<S>>> Links<S, C> {
         match self.handles[number as usize].take() {
             Some(handle) => {
                 let ReaderEnd { source, sender } = self.crew.join(handle);
-                let Emptied { rest } = self.desk.close_with(number, sender);
+                self.desk.close_with(number, sender);
                 note_over(&mut self.going, number as usize);
-                Closed { source, rest }
+                source
             }
             None => unreachable!(),
         }
