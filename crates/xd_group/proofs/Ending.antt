@@ -15,7 +15,7 @@ use Rattle.xd_links.specs.Runs.{LinkRead}
 use Rattle.xd_links.proofs.Places.{set_read}
 use Rattle.xd_group.specs.Ends.{EndsSo}
 use Rattle.xd_drive.specs.Listed.{is_listed}
-use Rattle.xd_group.specs.Fates.{has_link, is_refused, workers_with}
+use Rattle.xd_group.specs.Fates.{is_refused, workers_with}
 use Rattle.xd_group.specs.Returned.{RanSo}
 use Rattle.xd_group.specs.Unused.{Unused}
 use Rattle.xd_group.specs.declared.fate.Fate.{Fate}
@@ -111,10 +111,13 @@ by_no : (b : Bool) (P Q : Type 0) → b ≡ false → Q → MatchBool b P Q
 by_no true P Q e q = absurd (cc e)
 by_no false P Q e q = q
 
--- a link that is given back ran so, or was not used
-pub ran_so : (suite : List ℕ) (mode : ModeKind) (taken : List (Option (List LinkNews))) (calls : List Entry) (given : List News) (workers : List ℕ) (pages : List (Option Page)) (fates : List Fate) (k w : ℕ) (l : Link) (f : Fate) → slice_get workers k ≡ Some w → slice_get fates k ≡ Some f → has_link f ≡ true
-    → (slice_get fates k ≡ Some fate.Linked → ∥ RanAt (map settled_at pages) k l ∥₁) → (slice_get fates k ≡ Some fate.Refused → Unused l) → ∥ Kept suite mode taken calls given workers pages ∥₁ → ∥ RanSo suite mode given calls (workers_with is_refused workers fates) w l ∥₁
-ran_so suite mode taken calls given workers pages fates k w l fate.Unlinked at is h ran un kept = absurd (cc h)
-ran_so suite mode taken calls given workers pages fates k w l fate.Refused at is h ran un kept = ∣ by_yes (is_listed w (workers_with is_refused workers fates)) (Unused l) (LinkRun suite mode (said_of_worker w given) (orders_to w calls) l) (among_with is_refused workers fates k w fate.Refused at is refl) (un is) ∣₁
-ran_so suite mode taken calls given workers pages fates k w l fate.Linked at is h ran un kept =
-    ∥∥₁_map₂ kept (ran is) (λ kp r. by_no (is_listed w (workers_with is_refused workers fates)) (Unused l) (LinkRun suite mode (said_of_worker w given) (orders_to w calls) l) (not_with is_refused workers fates k w fate.Linked kp.apart at is refl) (run_by suite mode taken calls given workers pages k w l at kp r))
+-- a link whose reader was refused was not used
+pub unused_so : (suite : List ℕ) (mode : ModeKind) (calls : List Entry) (given : List News) (workers : List ℕ) (fates : List Fate) (k w : ℕ) (l : Link) → slice_get workers k ≡ Some w → slice_get fates k ≡ Some fate.Refused → Unused l
+    → ∥ RanSo suite mode given calls (workers_with is_refused workers fates) w l ∥₁
+unused_so suite mode calls given workers fates k w l at is un = ∣ by_yes (is_listed w (workers_with is_refused workers fates)) (Unused l) (LinkRun suite mode (said_of_worker w given) (orders_to w calls) l) (among_with is_refused workers fates k w fate.Refused at is refl) un ∣₁
+
+-- a link that was read ran so
+pub linked_so : (suite : List ℕ) (mode : ModeKind) (taken : List (Option (List LinkNews))) (calls : List Entry) (given : List News) (workers : List ℕ) (pages : List (Option Page)) (fates : List Fate) (k w : ℕ) (l : Link) → slice_get workers k ≡ Some w → slice_get fates k ≡ Some fate.Linked
+    → ∥ RanAt (map settled_at pages) k l ∥₁ → ∥ Kept suite mode taken calls given workers pages ∥₁ → ∥ RanSo suite mode given calls (workers_with is_refused workers fates) w l ∥₁
+linked_so suite mode taken calls given workers pages fates k w l at is ran kept =
+    ∥∥₁_map₂ kept ran (λ kp r. by_no (is_listed w (workers_with is_refused workers fates)) (Unused l) (LinkRun suite mode (said_of_worker w given) (orders_to w calls) l) (not_with is_refused workers fates k w fate.Linked kp.apart at is refl) (run_by suite mode taken calls given workers pages k w l at kp r))

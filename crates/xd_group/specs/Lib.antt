@@ -1,4 +1,5 @@
 pub mod Children
+pub mod Ending
 pub mod Ends
 pub mod Fates
 pub mod Few

@@ -24,12 +24,15 @@ impl<S: Source + Drop, N: Sink + Drop, C: Crew<Reader<S>>> Group<S, N, C> {
     ghost use Rattle.std.specs.Prelude.{◌≡◌, true, length, map, is_some, ◌<◌, ◌+◌, ℕ, List, Option, Some, false, slice_get, OnOk, IfSome};
     ghost use Rattle.xd_links.specs.Runs.{news_of};
     ghost use Rattle.xd_post.specs.Mails.{mails};
-    ghost use Rattle.xd_group.specs.Fates.{KeptFrom, EndedFrom, has_link};
+    ghost use Rattle.xd_note.specs.Noted.{noted};
+    ghost use Rattle.xd_group.specs.Ending.{Began, Ending, began_with, links_left};
+    ghost use Rattle.xd_group.specs.Fates.{has_link, is_refused, workers_with};
+    ghost use Rattle.xd_group.specs.Returned.{RanSo};
     ghost use Rattle.xd_group.specs.PostView.{pages_of, ends_of, has_ended, losses_of};
     ghost use Rattle.xd_group.specs.declared.fate.Fate.{Fate};
-    ghost use Rattle.xd_group.specs.declared.fate.Fate.TheVariants.{Linked, Refused};
+    ghost use Rattle.xd_group.specs.declared.fate.Fate.TheVariants.{Linked};
     ghost use Rattle.xd_group.specs.Unused.{Unused};
-    ghost use Rattle.xd_group.specs.Late.{Late, RanAt, Settled, settled_at};
+    ghost use Rattle.xd_group.specs.Late.{Late, RanAt, Settled};
     ghost use Rattle.xd_group.specs.Kills.{KeepsLost};
     ghost use Rattle.xd_group.specs.LinkRun.{link_of};
     ghost use Rattle.xd_link.specs.Spring.{spring};
@@ -88,16 +91,12 @@ impl<S: Source + Drop, N: Sink + Drop, C: Crew<Reader<S>>> Group<S, N, C> {
 
     /// Takes from the links until nothing more is to come of any. From now on nothing is told and nothing said.
     pub fn settle<R: Wait>(&mut self, rt: &R) -> Result<(), OutOfMemory>
-        ensures late { OnOk result
-            (∥ Late (map settled_at (pages_of self.old.posts.items))
-            (news_of (mails self.new.links.desk)) (pages_of self.new.posts.items) ∥₁) }
-        ensures ended { OnOk result
-            (EndedFrom 0 (ends_of self.new.posts.items) self.old.diary.fates.items) }
-        ensures keeps { OnOk result
-            (KeepsLost (losses_of self.old.posts.items) (losses_of self.new.posts.items)) }
+        ensures ending { OnOk result (Ending 0
+            (began_with self.old.suite self.old.mode (mails self.old.links.desk)
+            self.old.posts.items) self.old.diary
+            (links_left (mails self.new.links.desk) self.new.posts.items self.new.spares.items)) }
         ensures crew { (self.new.links.crew ≡ self.old.links.crew)
             × (self.new.first ≡ self.old.first) }
-        ensures spares { self.new.spares ≡ self.old.spares }
         ensures whole { OnOk result (self.old.is_whole ≡ true) }
         ensures over { self.new.is_whole ≡ false }
         ensures diary { self.new.diary ≡ self.old.diary }
@@ -170,31 +169,19 @@ impl<S: Source + Drop, N: Sink + Drop, C: Crew<Reader<S>>> Group<S, N, C> {
     pub(crate) fn end_link(&mut self, number: u32) -> Option<Ended<S, N>>
         requires over { self.old.is_whole ≡ false }
         requires there { number < length self.old.diary.workers.items }
-        requires late { (first : List (Option Settled))
-            × ∥ Late first (news_of (mails self.old.links.desk))
-            (pages_of self.old.posts.items) ∥₁ }
-        requires kept { KeptFrom number
-            (map is_some self.old.spares.items) self.old.diary.fates.items }
-        requires ended { EndedFrom number
-            (ends_of self.old.posts.items) self.old.diary.fates.items }
-        ensures kept { KeptFrom (number + 1)
-            (map is_some self.new.spares.items) self.old.diary.fates.items }
-        ensures ended { EndedFrom (number + 1)
-            (ends_of self.new.posts.items) self.old.diary.fates.items }
-        ensures ran { (first : List (Option Settled)) →
-            ∥ Late first (news_of (mails self.old.links.desk)) (pages_of self.old.posts.items) ∥₁ →
-            slice_get self.old.diary.fates.items number ≡ Some Linked
-            → IfSome result (λ e. ∥ RanAt first number
-            (link_of (spring (S.supply e.source) (S.is_ended e.source) (S.faults e.source))
-            (N.sunk e.sink) (N.faults e.sink)) ∥₁) }
-        ensures unused { slice_get self.old.diary.fates.items number ≡ Some Refused
-            → IfSome result (λ e. Unused
-            (link_of (spring (S.supply e.source) (S.is_ended e.source) (S.faults e.source))
-            (N.sunk e.sink) (N.faults e.sink))) }
-        ensures late { (first : List (Option Settled)) →
-            ∥ Late first (news_of (mails self.old.links.desk)) (pages_of self.old.posts.items) ∥₁
-            → ∥ Late first (news_of (mails self.new.links.desk))
-            (pages_of self.new.posts.items) ∥₁ }
+        requires ending { (b : Began) × Ending number b self.old.diary
+            (links_left (mails self.old.links.desk) self.old.posts.items self.old.spares.items) }
+        ensures ending { (b : Began) → Ending number b self.old.diary
+            (links_left (mails self.old.links.desk) self.old.posts.items self.old.spares.items)
+            → Ending (number + 1) b self.old.diary
+            (links_left (mails self.new.links.desk) self.new.posts.items self.new.spares.items) }
+        ensures runs { (b : Began) → Ending number b self.old.diary
+            (links_left (mails self.old.links.desk) self.old.posts.items self.old.spares.items)
+            → IfSome result (λ e. ∥ RanSo b.suite b.mode (noted self.old.diary.given)
+            (noted self.old.diary.calls)
+            (workers_with is_refused self.old.diary.workers.items self.old.diary.fates.items)
+            e.worker (link_of (spring (S.supply e.source) (S.is_ended e.source)
+            (S.faults e.source)) (N.sunk e.sink) (N.faults e.sink)) ∥₁) }
         ensures fate { (f : Fate) × (slice_get self.old.diary.fates.items number ≡ Some f)
             × (is_some result ≡ has_link f) }
         ensures worker { IfSome result (λ e.
@@ -202,9 +189,6 @@ impl<S: Source + Drop, N: Sink + Drop, C: Crew<Reader<S>>> Group<S, N, C> {
         ensures lost { slice_get self.old.diary.fates.items number ≡ Some Linked →
             IfSome result (λ e. slice_get (losses_of self.old.posts.items) number ≡ Some true →
             0 < N.faults e.sink) }
-        ensures others { (k : ℕ) → number < k →
-            slice_get (losses_of self.old.posts.items) k ≡ Some true →
-            slice_get (losses_of self.new.posts.items) k ≡ Some true }
         ensures crew { (C.faults self.new.links.crew ≡ C.faults self.old.links.crew)
             × (self.new.first ≡ self.old.first) }
         ensures over { self.new.is_whole ≡ false }

@@ -5,8 +5,7 @@ use crate::gateway_hub::GatewayHub;
 use std::alloc::Global;
 use std::sync::Wait;
 use xd_crew::Crew;
-use xd_edge::{ModeKind, OutOfMemory, Sink};
-use xd_journal::{Entry, News};
+use xd_edge::{OutOfMemory, Sink};
 use xd_link::{Source, Starter};
 use xd_reader::Reader;
 
@@ -20,33 +19,22 @@ pub struct LinkEnd<A: Source + Drop, B: Sink + Drop> {
 }
 
 impl<St: Starter, C: Crew<Reader<St::Src>>> GatewayHub<St, C> {
-    ghost use Rattle.std.specs.Prelude.{◌≡◌, ◌<◌, ◌+◌, ◌++◌, ℕ, Some, All, true, false, take, length, is_some, IfOk, OnOk, List, Option, Bool, map, option_map, slice_get};
-    ghost use Rattle.std.specs.List.{list_any};
-    ghost use Rattle.xd_link.specs.Spring.{spring};
-    ghost use Rattle.xd_drive.specs.Listed.{is_listed, starts_of};
-    ghost use Rattle.xd_note.specs.Noted.{noted};
-    ghost use Rattle.xd_journal.specs.declared.entry.Entry.{Entry};
-    ghost use Rattle.xd_journal.specs.declared.news.News.{News};
-    ghost use Rattle.xd_reader.specs.declared.news.LinkNews.{LinkNews};
-    ghost use Rattle.xd_edge.specs.declared.mode.ModeKind.{ModeKind};
-    ghost use Rattle.xd_post.specs.Mails.{mails};
-    ghost use Rattle.xd_links.specs.Runs.{news_of};
-    ghost use Rattle.xd_group.specs.Kept.{Kept, said_of_worker};
-    ghost use Rattle.xd_group.specs.Late.{Late, Settled, settled_at};
-    ghost use Rattle.xd_group.specs.LinkRun.{link_of};
-    ghost use Rattle.xd_group.specs.Children.{children_asked, link_asked, starts_told, told_of};
-    ghost use Rattle.xd_group.specs.Fates.{EndedFrom, KeptFrom, has_link, is_linked, is_refused, is_unlinked, workers_with};
+    ghost use Rattle.std.specs.Prelude.{◌≡◌, ◌<◌, ◌+◌, ◌++◌, ℕ, All, false, length, IfOk, OnOk, map, option_map};
     ghost use Rattle.xd_edge.specs.Faults.{RoseBy};
+    ghost use Rattle.xd_link.specs.Spring.{spring};
+    ghost use Rattle.xd_post.specs.Mails.{mails};
+    ghost use Rattle.xd_note.specs.Noted.{noted};
+    ghost use Rattle.xd_drive.specs.Listed.{is_listed, starts_of};
+    ghost use Rattle.xd_group.specs.Children.{link_asked, starts_told, told_of};
+    ghost use Rattle.xd_group.specs.Ending.{AreEnded, Began, Ending, links_left};
+    ghost use Rattle.xd_group.specs.Fates.{has_link, is_linked, is_refused, is_unlinked, workers_with};
     ghost use Rattle.xd_group.specs.Few.{RoseFor, count_with};
-    ghost use Rattle.xd_group.specs.Heard.{says_send_fault};
-    ghost use Rattle.xd_group.specs.declared.fate.Fate.TheVariants.{Linked};
-    ghost use Rattle.xd_group.specs.Unsaid.{SaidUnlinked};
     ghost use Rattle.xd_group.specs.InStep.{all_started};
+    ghost use Rattle.xd_group.specs.Kills.{EndKilledSo};
+    ghost use Rattle.xd_group.specs.LinkRun.{link_of};
     ghost use Rattle.xd_group.specs.Returned.{RanSo, end_told};
-    ghost use Rattle.xd_group.specs.Pages.{Page};
-    ghost use Rattle.xd_group.specs.Kills.{EndKilledSo, KilledSo};
-    ghost use Rattle.xd_group.specs.PostView.{ends_of, losses_of, pages_of};
     ghost use Rattle.xd_group.specs.Tells.{workers_started};
+    ghost use Rattle.xd_group.specs.Unsaid.{SaidUnlinked};
 
     // Ends the link of this number, where it has one: its child is reaped.
     fn end_next<R: Wait>(
@@ -57,87 +45,27 @@ impl<St: Starter, C: Crew<Reader<St::Src>>> GatewayHub<St, C> {
     ) -> Result<(), OutOfMemory>
         requires over { self.old.group.is_whole ≡ false }
         requires there { number < length self.old.group.diary.workers.items }
-        requires late { (first : List (Option Settled))
-            × ∥ Late first (news_of (mails self.old.group.links.desk))
-            (pages_of self.old.group.posts.items) ∥₁ }
-        requires kept { KeptFrom number
-            (map is_some self.old.group.spares.items) self.old.group.diary.fates.items }
-        requires ended { EndedFrom number
-            (ends_of self.old.group.posts.items) self.old.group.diary.fates.items }
-        ensures kept { OnOk result
-            (KeptFrom (number + 1) (map is_some self.new.group.spares.items)
-            self.old.group.diary.fates.items) }
-        ensures ended { OnOk result
-            (EndedFrom (number + 1) (ends_of self.new.group.posts.items)
-            self.old.group.diary.fates.items) }
-        ensures runs { (suite : List ℕ) (mode : ModeKind) (taken : List (Option (List LinkNews)))
-            (calls : List Entry) (given : List News) (pages : List (Option Page))
-            → ∥ Kept suite mode taken calls given self.old.group.diary.workers.items pages ∥₁
-            → ∥ Late (map settled_at pages) (news_of (mails self.old.group.links.desk))
-            (pages_of self.old.group.posts.items) ∥₁
-            → All (λ l. ∥ RanSo suite mode given calls
-            (workers_with is_refused self.old.group.diary.workers.items
-            self.old.group.diary.fates.items) l.worker
-            (link_of (spring (St.Src.supply l.source) (St.Src.is_ended l.source)
-            (St.Src.faults l.source)) (St.Snk.sunk l.sink) (St.Snk.faults l.sink)) ∥₁)
-            ends.old.items
-            → OnOk result (All (λ l. ∥ RanSo suite mode given calls
-            (workers_with is_refused self.old.group.diary.workers.items
-            self.old.group.diary.fates.items) l.worker
-            (link_of (spring (St.Src.supply l.source) (St.Src.is_ended l.source)
-            (St.Src.faults l.source)) (St.Snk.sunk l.sink) (St.Snk.faults l.sink)) ∥₁)
-            ends.new.items) }
-        ensures late { (first : List (Option Settled)) →
-            ∥ Late first (news_of (mails self.old.group.links.desk))
-            (pages_of self.old.group.posts.items) ∥₁
-            → OnOk result (∥ Late first (news_of (mails self.new.group.links.desk))
-            (pages_of self.new.group.posts.items) ∥₁) }
-        ensures workers { map (λ l. l.worker) ends.old.items ≡ workers_with has_link
-            (take number self.old.group.diary.workers.items)
-            (take number self.old.group.diary.fates.items)
-            → OnOk result (map (λ l. l.worker) ends.new.items ≡ workers_with has_link
-            (take (number + 1) self.old.group.diary.workers.items)
-            (take (number + 1) self.old.group.diary.fates.items)) }
-        ensures asked { map is_some self.old.children.children.items ≡ map has_link
-            self.old.group.diary.fates.items →
-            children_asked (take number self.old.children.children.items) ≡ map (λ l. end_told
-            l.killed) ends.old.items
-            → OnOk result (children_asked
-            (take (number + 1) self.new.children.children.items) ≡ map (λ l. end_told l.killed)
-            ends.new.items) }
+        requires ending { (b : Began) × Ending number b self.old.group.diary
+            (links_left (mails self.old.group.links.desk) self.old.group.posts.items
+            self.old.group.spares.items) }
+        ensures ending { (b : Began) → Ending number b self.old.group.diary
+            (links_left (mails self.old.group.links.desk) self.old.group.posts.items
+            self.old.group.spares.items)
+            → Ending (number + 1) b self.old.group.diary
+            (links_left (mails self.new.group.links.desk) self.new.group.posts.items
+            self.new.group.spares.items) }
+        ensures ended { (b : Began) → Ending number b self.old.group.diary
+            (links_left (mails self.old.group.links.desk) self.old.group.posts.items
+            self.old.group.spares.items)
+            → AreEnded (λ s. spring (St.Src.supply s) (St.Src.is_ended s) (St.Src.faults s))
+            St.Snk.sunk St.Snk.faults number b self.old.group.diary
+            self.old.children.children.items ends.old.items
+            → OnOk result (AreEnded
+            (λ s. spring (St.Src.supply s) (St.Src.is_ended s) (St.Src.faults s))
+            St.Snk.sunk St.Snk.faults (number + 1) b self.old.group.diary
+            self.new.children.children.items ends.new.items) }
         ensures crew { (C.faults self.new.group.links.crew ≡ C.faults self.old.group.links.crew)
             × (self.new.group.first ≡ self.old.group.first) }
-        ensures killed { (suite : List ℕ) (mode : ModeKind) (taken : List (Option (List LinkNews)))
-            (calls : List Entry) (given : List News) (pages : List (Option Page)) (lost : List Bool)
-            → ∥ Kept suite mode taken calls given self.old.group.diary.workers.items pages ∥₁ →
-            map is_some self.old.children.children.items ≡ map has_link
-            self.old.group.diary.fates.items →
-            ∥ KilledSo self.old.children.children.items calls self.old.group.diary.workers.items
-            self.old.group.diary.fates.items lost ∥₁
-            → (slice_get lost number ≡ Some true →
-            slice_get (losses_of self.old.group.posts.items) number ≡ Some true)
-            → ((w : ℕ) → slice_get self.old.group.diary.workers.items number ≡ Some w →
-            slice_get self.old.group.diary.fates.items number ≡ Some Linked →
-            list_any says_send_fault (said_of_worker w given) ≡ true →
-            slice_get lost number ≡ Some true)
-            → All (λ l. ∥ EndKilledSo calls given
-            (workers_with is_refused self.old.group.diary.workers.items
-            self.old.group.diary.fates.items) l.worker l.killed (St.Snk.faults l.sink) ∥₁)
-            ends.old.items
-            → OnOk result (All (λ l. ∥ EndKilledSo calls given
-            (workers_with is_refused self.old.group.diary.workers.items
-            self.old.group.diary.fates.items) l.worker l.killed (St.Snk.faults l.sink) ∥₁)
-            ends.new.items) }
-        ensures kills { (calls : List Entry) (lost : List Bool) →
-            ∥ KilledSo self.old.children.children.items calls self.old.group.diary.workers.items
-            self.old.group.diary.fates.items lost ∥₁
-            → OnOk result (∥ KilledSo self.new.children.children.items calls
-            self.old.group.diary.workers.items self.old.group.diary.fates.items lost ∥₁) }
-        ensures others { OnOk result ((k : ℕ) → number < k →
-            slice_get (losses_of self.old.group.posts.items) k ≡ Some true →
-            slice_get (losses_of self.new.group.posts.items) k ≡ Some true) }
-        ensures linked { map is_some self.new.children.children.items ≡ map is_some
-            self.old.children.children.items }
         ensures starts { starts_told (St.begun self.new.children.starter) ≡ starts_told
             (St.begun self.old.children.starter) }
         ensures first { self.new.children.first ≡ self.old.children.first }

@@ -1,6 +1,4 @@
-use Rattle.std.proofs.Common.{◌<◌}
-use Rattle.xd_group.specs.PostView.{losses_of}
-use Rattle.std.proofs.Common.{◌≡◌, ◌∙◌, [], ap, arith, length, map, refl, rules, subst, sym}
+use Rattle.std.proofs.Common.{◌<◌, ◌≡◌, ◌∙◌, [], ap, arith, length, map, refl, rules, subst, sym}
 use Rattle.std.proofs.Math.Logic.{∥∥₁_elim, ∥∥₁_map₂}
 use Rattle.std.proofs.Props.{props}
 use Rattle.xd_drive.specs.Listed.{starts_of}
@@ -8,14 +6,12 @@ use Rattle.xd_links.specs.Runs.{news_of}
 use Rattle.xd_note.specs.Noted.{noted}
 use Rattle.xd_post.specs.Mails.{mails}
 use Rattle.xd_group.specs.Children.{TellsLinks, children_asked}
+use Rattle.xd_group.specs.Ending.{Began, began_with}
 use Rattle.xd_group.specs.Fates.{has_link}
 use Rattle.xd_group.specs.InStep.{all_started}
-use Rattle.xd_group.specs.Late.{settled_at}
 use Rattle.xd_group.specs.PostView.{pages_of}
 use Rattle.xd_group.specs.Returned.{end_told}
-use Rattle.std.specs.Prelude.{is_some}
-use Rattle.xd_group.proofs.EndFacts.{said_lost}
-use Rattle.xd_group.proofs.FateFacts.{failed_count, linked_length, spared_from, take_all, with_all}
+use Rattle.xd_group.proofs.FateFacts.{failed_count, linked_length, take_all, with_all}
 use Rattle.xd_group.proofs.PageFacts.{no_way}
 use Rattle.xd_group.proofs.Saying.{said_unlinked}
 use Rattle.xd_group.proofs.Stepping.{begun_all}
@@ -31,58 +27,43 @@ loop-number-init g c =
     let none : c.new-ends.result.items ≡ [] = c.new-ends.ensures.items in
     record {
       over = settled.over;
-      kept = was.group.kept settled.whole;
-      spared = spared_from _ was.group.diary.fates.items (ap (λ (s : _). map is_some s.items) settled.spares ∙ was.group.spared settled.whole);
-      ended = settled.ended;
-      late = settled.late;
-      runs = λ k d h. absurd (let size : length c.new-ends.result.items ≡ 0 = ap length none in omega (arith, h, size));
-      workers = ap (map (λ e. e.worker)) none;
-      asked = sym (ap (map (λ e. end_told e.killed)) none);
-      linked = ∥∥₁_elim (was.in_step settled.whole) (hlevel props) (λ s. s.linked);
+      ending = settled.ending;
+      ended = record {
+        linked = ∥∥₁_elim (was.in_step settled.whole) (hlevel props) (λ s. s.linked);
+        kills = was.kills settled.whole;
+        workers = ap (map (λ e. e.worker)) none;
+        asked = sym (ap (map (λ e. end_told e.killed)) none);
+        runs = λ k d h. absurd (let size : length c.new-ends.result.items ≡ 0 = ap length none in omega (arith, h, size));
+        killed = λ k d h. absurd (let size : length c.new-ends.result.items ≡ 0 = ap length none in omega (arith, h, size));
+      };
       starts = refl;
       first = refl;
       crew = ap g.C.Crew.faults settled.crew.0;
       diary = settled.diary;
-      kills = was.kills settled.whole;
-      lost = λ k h e. settled.keeps k e;
-      killed = λ k d h. absurd (let size : length c.new-ends.result.items ≡ 0 = ap length none in omega (arith, h, size));
     }
 
 pub end_next-requires : goal.end_next-requires
 end_next-requires g c =
+    let was = c.args.self.now.group in
     let inv = c.loop-number.invariant in
-    let workers = c.args.self.now.group.diary.workers.items in
-    let size : c.in-Ok.count ≡ length workers = search rules in
-    let there : c.loop-number.number < length workers = omega (arith, c.loop-number-test.true, size) in
-    record { over = inv.over; there = rw (inv.diary) there; late = (map settled_at (pages_of c.args.self.now.group.posts.items), inv.late); kept = rw (inv.diary) inv.spared; ended = rw (inv.diary) inv.ended }
+    let size : c.in-Ok.count ≡ length was.diary.workers.items = search rules in
+    let there : c.loop-number.number < length was.diary.workers.items = omega (arith, c.loop-number-test.true, size) in
+    record { over = inv.over; there = rw (inv.diary) there; ending = (began_with was.suite was.mode (mails was.links.desk) was.posts.items, rw (inv.diary) inv.ending) }
 
 pub loop-number-preserved : goal.loop-number-preserved
 loop-number-preserved g c =
     let was = c.args.self.now.group in
     let inv = c.loop-number.invariant in
     let done = c.in_ok-end_next.ensures in
-    let pages = pages_of was.posts.items in
-    let taken = news_of (mails was.links.desk) in
-    let calls = noted was.diary.calls in
-    let given = noted was.diary.given in
+    let began : Began = began_with was.suite was.mode (mails was.links.desk) was.posts.items in
     record {
       over = done.over;
-      kept = inv.kept;
-      spared = rw (inv.diary) at done.kept;
-      ended = rw (inv.diary) at done.ended;
-      late = done.late (map settled_at pages) inv.late;
-      runs = rw (inv.diary) at (done.runs was.suite was.mode taken calls given pages (rw (inv.diary) inv.kept) inv.late (rw (inv.diary) inv.runs));
-      workers = rw (inv.diary) at (done.workers (rw (inv.diary) inv.workers));
-      asked = done.asked (rw (inv.diary) inv.linked) inv.asked;
-      linked = done.linked ∙ inv.linked;
+      ending = rw (inv.diary) at (done.ending began (rw (inv.diary) inv.ending));
+      ended = rw (inv.diary) at (done.ended began (rw (inv.diary) inv.ending) (rw (inv.diary) inv.ended));
       starts = done.starts ∙ inv.starts;
       first = done.first ∙ inv.first;
       crew = done.crew.0 ∙ inv.crew;
       diary = done.diary ∙ inv.diary;
-      kills = rw (inv.diary) at (done.kills calls (losses_of was.posts.items) (rw (inv.diary) inv.kills));
-      lost = λ k h e. done.others k (omega (arith, h)) (inv.lost k (omega (arith, h)) e);
-      killed = rw (inv.diary) at (done.killed was.suite was.mode taken calls given pages (losses_of was.posts.items) (rw (inv.diary) inv.kept) (rw (inv.diary) inv.linked) (rw (inv.diary) inv.kills) (λ e. inv.lost c.loop-number.number (omega arith) e)
-          (λ w wi is h. ∥∥₁_elim inv.kept (hlevel props) (λ k. said_lost was.suite was.mode taken calls given was.diary.workers.items was.posts.items was.diary.fates.items c.loop-number.number w k (was.seats c.in_ok-settle.ensures.whole) (rw (inv.diary) at wi) (rw (inv.diary) at is) h)) (rw (inv.diary) inv.killed));
     }
 
 pub returns-clause-workers : goal.returns-clause-workers
@@ -90,7 +71,7 @@ returns-clause-workers g c =
     let diary = c.args.self.now.group.diary in
     let size : c.in-Ok.count ≡ length diary.workers.items = search rules in
     let all : c.loop-number.number ≡ c.in-Ok.count = omega (arith, c.loop-number-test.false, c.loop-number.auto.number-end) in
-    c.loop-number.invariant.workers ∙ with_all has_link diary.workers.items diary.fates.items c.loop-number.number (all ∙ size) diary.matched
+    c.loop-number.invariant.ended.workers ∙ with_all has_link diary.workers.items diary.fates.items c.loop-number.number (all ∙ size) diary.matched
 
 pub returns-clause-begun : goal.returns-clause-begun
 returns-clause-begun g c =
@@ -101,11 +82,11 @@ returns-clause-begun g c =
     let diary = was.group.diary in
     let size : c.in-Ok.count ≡ length diary.workers.items = search rules in
     let all : c.loop-number.number ≡ c.in-Ok.count = omega (arith, c.loop-number-test.false, c.loop-number.auto.number-end) in
-    let count : c.loop-number.number ≡ length now.children.items = all ∙ (size ∙ (sym diary.matched ∙ sym (linked_length now.children.items diary.fates.items inv.linked))) in
+    let count : c.loop-number.number ≡ length now.children.items = all ∙ (size ∙ (sym diary.matched ∙ sym (linked_length now.children.items diary.fates.items inv.ended.linked))) in
     ∥∥₁_elim now.told (hlevel props)
     (λ t. ∥∥₁_elim (was.in_step whole) (hlevel props)
     (λ s. begun_all (g.St.Starter.begun was.children.first.value) (g.St.Starter.begun now.starter) now.children.items (all_started was.places.items (starts_of (noted diary.calls)) diary.fates.items) (map (λ l. end_told l.killed) c.loop-number.ends.items) (inv.starts ∙ s.starts)
-    (ap children_asked (sym (take_all now.children.items c.loop-number.number count)) ∙ inv.asked) (subst (λ (f : _). TellsLinks (g.St.Starter.begun f.value) (g.St.Starter.begun now.starter) now.children.items) inv.first t)))
+    (ap children_asked (sym (take_all now.children.items c.loop-number.number count)) ∙ inv.ended.asked) (subst (λ (f : _). TellsLinks (g.St.Starter.begun f.value) (g.St.Starter.begun now.starter) now.children.items) inv.first t)))
 
 pub returns-clause-unlinked : goal.returns-clause-unlinked
 returns-clause-unlinked g c w out =
@@ -122,10 +103,10 @@ returns-clause-few_unlinked g c =
     let was = c.args.self.now in
     let now = c.loop-number.self.children in
     let inv = c.loop-number.invariant in
-    rw (← failed_count now.children.items was.group.diary.fates.items inv.linked, ← inv.first) now.few
+    rw (← failed_count now.children.items was.group.diary.fates.items inv.ended.linked, ← inv.first) now.few
 
 pub returns-clause-runs : goal.returns-clause-runs
-returns-clause-runs g c = c.loop-number.invariant.runs
+returns-clause-runs g c = c.loop-number.invariant.ended.runs
 
 pub returns-clause-killed : goal.returns-clause-killed
-returns-clause-killed g c = c.loop-number.invariant.killed
+returns-clause-killed g c = c.loop-number.invariant.ended.killed

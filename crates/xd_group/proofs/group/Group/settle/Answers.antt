@@ -1,12 +1,15 @@
 use Rattle.std.proofs.Common.{map, ◌∙◌}
-use Rattle.std.proofs.Math.Logic.{∥∥₁_map}
+use Rattle.std.specs.Prelude.{is_some}
+use Rattle.std.proofs.Math.Logic.{∥∥₁_elim, ∥∥₁_map}
+use Rattle.std.proofs.Props.{props}
 use Rattle.xd_links.specs.Runs.{news_of}
 use Rattle.xd_note.specs.Noted.{noted}
 use Rattle.xd_post.specs.Mails.{mails}
 use Rattle.xd_group.specs.Late.{settled_at}
 use Rattle.xd_group.specs.PostView.{pages_of}
-use Rattle.xd_group.proofs.EndFacts.{ended_from}
+use Rattle.xd_group.proofs.EndFacts.{ended_from, said_lost}
 use Rattle.xd_group.proofs.Ending.{late_begun}
+use Rattle.xd_group.proofs.FateFacts.{spared_from}
 use Rattle.xd_group.proofs.group.Group.settle.Goals as goal
 
 pub drain-requires : goal.drain-requires
@@ -20,14 +23,17 @@ drain-requires g c =
       );
     }
 
-pub returns-clause-ended : goal.returns-clause-ended
-returns-clause-ended g c =
+pub returns-clause-ending : goal.returns-clause-ending
+returns-clause-ending g c =
     let was = c.args.self.now in
-    ended_from _ was.diary.fates.items (c.in_ok-drain.ensures.seats ∙ was.seats c.if-not-self.false) c.in_ok-drain.ensures.ended
-
-pub returns-clause-late : goal.returns-clause-late
-returns-clause-late g c =
-    let was = c.args.self.now in
-    c.in_ok-drain.ensures.late (map settled_at (pages_of was.posts.items))
-    (∥∥₁_map (was.kept c.if-not-self.false)
-    (λ k. late_begun was.suite was.mode (news_of (mails was.links.desk)) (noted was.diary.calls) (noted was.diary.given) was.diary.workers.items (pages_of was.posts.items) k))
+    let whole = c.if-not-self.false in
+    let done = c.in_ok-drain.ensures in
+    record {
+      kept = was.kept whole;
+      said = λ k w at is h. ∥∥₁_elim (was.kept whole) (hlevel props) (λ kept. said_lost was.suite was.mode (news_of (mails was.links.desk)) (noted was.diary.calls) (noted was.diary.given) was.diary.workers.items was.posts.items was.diary.fates.items k w kept (was.seats whole) at is h);
+      late = done.late (map settled_at (pages_of was.posts.items))
+          (∥∥₁_map (was.kept whole) (λ k. late_begun was.suite was.mode (news_of (mails was.links.desk)) (noted was.diary.calls) (noted was.diary.given) was.diary.workers.items (pages_of was.posts.items) k));
+      spared = spared_from (map is_some was.spares.items) was.diary.fates.items (was.spared whole);
+      ended = ended_from _ was.diary.fates.items (done.seats ∙ was.seats whole) done.ended;
+      lost = λ k h e. done.keeps k e;
+    }
