@@ -201,7 +201,7 @@ shut_keeps l0 l1 a b x y w e = y ∙ by a.broken b.broken (sym x ∙ e) w.count
 
 tells_kept : (ended : Bool) (h : List Heard) (b0 b1 : Bool) (taken : List LinkNews) (said : List What) → (b0 ≡ true → b1 ≡ true) → Tells ended h b0 taken said → Tells ended h b1 taken said
 tells_kept false h b0 b1 taken said more t = t
-tells_kept true h b0 b1 taken said more t = record { why = t.why; failed = t.failed; later = t.later; still = λ f. more (t.still f); no_want = t.no_want; taken_are = t.taken_are; said_are = t.said_are }
+tells_kept true h b0 b1 taken said more t = record { why = t.why; failed = t.failed; later = t.later; still = λ f. more (t.still f); memory = t.memory; taken_are = t.taken_are; said_are = t.said_are }
 
 of_more : (taken : List LinkNews) (item : LinkNews) → is_of_link item ≡ true → of_link (taken ++ item ∷ []) ≡ of_link taken ++ item ∷ []
 of_more taken item h = filter-append is_of_link taken (item ∷ []) ∙ ap (λ (l : List LinkNews). of_link taken ++ l) (rw h refl)
@@ -401,7 +401,7 @@ module _ {K : Type 0} where
       record {
         heard = s.heard;
         stands = s.stands;
-        tells = record { why = t.why; failed = t.failed; later = more.0; still = t.still; no_want = t.no_want; taken_are = more.1; said_are = append-nil said ∙ t.said_are };
+        tells = record { why = t.why; failed = t.failed; later = more.0; still = t.still; memory = t.memory; taken_are = more.1; said_are = append-nil said ∙ t.said_are };
       }
   heard_past g false b taken item said e s = absurd (cc e)
 
@@ -435,7 +435,7 @@ module _ {K : Type 0} where
               failed = b;
               later = [];
               still = λ f. f;
-              no_want = other;
+              memory = other;
               taken_are = ap (λ (x : LinkNews). of_link (taken ++ x ∷ [])) is ∙ (of_more taken (End why) refl ∙ ap (λ (l : List LinkNews). l ++ End why ∷ []) t.taken_are);
               said_are = ap (λ (l : List What). l ++ what.Gone c ∷ []) t.said_are ∙ ap (λ (x : Cause). all_news s.heard ++ what.Gone x ∷ []) cause;
             };

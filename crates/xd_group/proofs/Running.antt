@@ -88,7 +88,7 @@ link_run now sunk writes p read ends =
     let taken : of_link (p.taken ++ read.later) ≡ map Message ms ++ End t.why ∷ (t.later ++ of_link read.later) =
     filter-append is_of_link p.taken read.later ∙ (ap (λ (l : List LinkNews). l ++ of_link read.later) t.taken_are ∙ append_assoc (map Message ms) (End t.why ∷ t.later) (of_link read.later)) in
     let same = apart all.put ms t.why all.stop (t.later ++ of_link read.later) (sym (all_of_link all.put all.stop) ∙ (ap of_link (sym all.comes ∙ read.begins) ∙ taken)) in
-    let other = λ (e : all.stop ≡ stop.OutOfMemory). t.no_want (sym same.1 ∙ e) in
+    let other = λ (e : all.stop ≡ stop.OutOfMemory). t.memory (sym same.1 ∙ e) in
     let at = all.reads.cause in
     let bytes = all.reads.bytes in
     let why = cause_by t.why t.failed in
@@ -103,7 +103,7 @@ link_run now sunk writes p read ends =
             later = p.late;
             first = sym t.said_are;
           };
-      gone = is_gone t.why t.failed bytes read.first now writes t.no_want (subst (λ (w : LinkStop). StopsAt w true bytes read.first now) same.1 at) (λ f. (ends.sent.part (t.still f)).0);
+      gone = is_gone t.why t.failed bytes read.first now writes t.memory (subst (λ (w : LinkStop). StopsAt w true bytes read.first now) same.1 at) (λ f. (ends.sent.part (t.still f)).0);
       read = to_stop all.stop bytes read.first now other at;
       sent = sent_so why ends.broken sunk writes (to_link p.suite p.mode p.told p.said) (λ f. t.still (sym (fault_is t.why t.failed) ∙ f)) ends.sent (ends.handed (all_news ends.heard) why t.said_are);
     }

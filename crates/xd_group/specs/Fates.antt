@@ -34,7 +34,7 @@ workers_with which [] fates = []
 workers_with which (w ∷ ws) [] = []
 workers_with which (w ∷ ws) (f ∷ fs) = if which f then w ∷ workers_with which ws fs else workers_with which ws fs
 
--- from this number on so it is with each start of this fate
+-- from this number on it is so at each start of this fate
 abbrev pub SoFrom : Fate → ℕ → List Bool → List Fate → Type 0
 SoFrom f n so fates = (k : ℕ) → n ≤ k → slice_get fates k ≡ Some f → slice_get so k ≡ Some true
 

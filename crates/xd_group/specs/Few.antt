@@ -1,4 +1,4 @@
--- Counts of what is excepted.
+-- Counts of starts, and of the faults that they stand for.
 use Rattle.std.specs.Prelude.{◌≡◌, ℕ, Bool, List, filter, length}
 use Rattle.xd_edge.specs.Faults.{RoseBy}
 use Rattle.xd_group.specs.declared.fate.Fate.{Fate}
@@ -7,7 +7,7 @@ use Rattle.xd_group.specs.declared.fate.Fate.{Fate}
 abbrev pub count_with : (Fate → Bool) → List Fate → ℕ
 count_with which fates = length (filter which fates)
 
--- The count rose at least so often, and stood still where that is never.
+-- The count of faults rose at least this often, and stood still where that is never.
 -- Example: one reader was refused: the crew's count rose.
 pub record RoseFor (times before now : ℕ) : Type 0 where
   pub rose : RoseBy times before now

@@ -67,7 +67,7 @@ pub record TellsEnded (h : List Heard) (broken : Bool) (taken : List LinkNews) (
   pub failed : Bool
   pub later : List LinkNews
   pub still : failed ≡ true → broken ≡ true
-  pub no_want : why ≡ stop.OutOfMemory → ⊥
+  pub memory : why ≡ stop.OutOfMemory → ⊥
   pub taken_are : of_link taken ≡ map Message (all_messages h) ++ End why ∷ later
   pub said_are : said ≡ all_news h ++ Gone (cause_by why failed) ∷ []
 

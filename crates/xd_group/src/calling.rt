@@ -109,6 +109,7 @@ pub(crate) fn write_order<N: Sink + Drop>(
         Ok(()) => Ok(false),
         Err(GatewayFault::SendFault) => Ok(true),
         Err(GatewayFault::OutOfMemory) => Err(OutOfMemory),
+        // Neither comes, and nothing is written: a worker that may be told can be sent to, and each order has a payload.
         Err(GatewayFault::Channel(_)) => Ok(false),
         Err(GatewayFault::Opening(_)) => Ok(false),
     }

@@ -30,8 +30,9 @@ pub struct Group<S: Source + Drop, N: Sink + Drop, C: Crew<Reader<S>>> {
     pub links: Links<S, C>,
     /// The crew as it was at first.
     pub first: Snapshot<C>,
+    /// By the numbers of the starts; one whose link is not read has none.
     pub posts: Vec<Option<Post<N>>>,
-    /// The links whose readers the crew refused.
+    /// The links whose readers the crew refused, by the numbers of the starts.
     pub spares: Vec<Option<Spare<S, N>>>,
     pub diary: Diary,
     pub suite: Text,

@@ -29,8 +29,8 @@ use xd_note::Log;
 use xd_reader::{LinkNews, LinkStop};
 use xd_remote::Gateway;
 
-/// One link. Where it is known, what was said of it are the news of what was taken of it, and its sink took what it was
-/// told, all of it where nothing was said of a failed send at its end; it is unknown once memory ran out.
+/// One link. While it is known, what was said of it are the news of what was taken of it, and its sink took what it was
+/// told: all of it, unless it was said that a send failed. It is unknown once memory ran out.
 #[derive(Drop)]
 pub struct Post<N: Sink + Drop> {
     pub gateway: Gateway<N>,

@@ -46,7 +46,7 @@ pub struct Linked<St: Starter, C: Crew<Reader<St::Src>>> {
     /// The exit status.
     pub status: u8,
     pub journal: Journal,
-    /// What the links left that were read, in order of the starts of their workers.
+    /// What the links left, in order of the starts of their workers. A start that failed has none.
     pub links: Vec<LinkEnd<St::Src, St::Snk>>,
     pub starter: St,
     pub crew: C,
