@@ -278,7 +278,7 @@ fn holds_all(ledger: &Ledger, worker: u32, list: &[u32]) -> bool {
     }
     ledger.in_rota(worker)
         && ledger.head(worker) == list.first().copied()
-        && ledger.last_held(worker) == ahead
+        && ledger.last_held(worker) == before
         && ledger.held_len(worker) as usize == list.len()
 }
 
