@@ -31,7 +31,7 @@ use Rattle.xd_listen.proofs.Steps.{Does, Plain, Prints, Ready, Step, end_does, l
 use Rattle.xd_listen.proofs.Tellings.{answered_later, count_more, rose_later, speaks_more}
 use Rattle.xd_listen.specs.declared.server.Door.{Door}
 use Rattle.xd_listen.specs.declared.server.Door.TheVariants as door
-use Rattle.xd_listen.specs.Halts.{door_behind}
+use Rattle.xd_listen.specs.Halts.{door_after}
 use Rattle.xd_listen.specs.News.{dones, news_of_input, news_in}
 use Rattle.xd_listen.specs.Seen.{Seen, is_door_shut}
 use Rattle.xd_listen.specs.Serves.{Beside, beside, FromLink, IsBusy, IsListening, ReadsSo, RunsSo, ServesSoFar, Setting, owed_of_link, of_program, to_start}
@@ -86,7 +86,7 @@ runs_now started left w e r = subst (λ (l : List (List (List ℕ))). RunsSo sta
 
 -- ---- messages
 
-shut_behind : (b : Bool) (d : Door) → d ≡ door.Open → b ≡ is_door_shut (door_behind b d)
+shut_behind : (b : Bool) (d : Door) → d ≡ door.Open → b ≡ is_door_shut (door_after b d)
 shut_behind true d e = refl
 shut_behind false d e = sym (ap is_door_shut e)
 
@@ -94,9 +94,9 @@ shut_behind false d e = sym (ap is_door_shut e)
 record Did (started : Option ℕ) (last : Bool) (d : Door) (u : WorkerTurn) : Type 0 where
   runs : RunsSo started (commands_of u) (after_turn u)
   stopped : u.duties.stopped ≡ last
-  reads : ReadsSo u.suite started (commands_of u) (door_behind last d) (after_turn u)
+  reads : ReadsSo u.suite started (commands_of u) (door_after last d) (after_turn u)
 
-reads_by : (p : Option (List ℕ)) (b : Bool) (d : Door) (u : WorkerTurn) → d ≡ door.Open → u.suite ≡ p → Does b u → ReadsSo p None (commands_of u) (door_behind b d) (after_turn u)
+reads_by : (p : Option (List ℕ)) (b : Bool) (d : Door) (u : WorkerTurn) → d ≡ door.Open → u.suite ≡ p → Does b u → ReadsSo p None (commands_of u) (door_after b d) (after_turn u)
 reads_by None b d u o e x = tt
 reads_by (Some path) true d u o e x = let z = sym (x.ends refl).1 ∙ e in cc
 reads_by (Some path) false d u o e x = ((x.path path e).1, refl, no_commands u (x.path path e).0, o)
@@ -108,7 +108,7 @@ did_busy : (moment : ℕ) (b : Bool) (d : Door) (u : WorkerTurn) (test : ℕ) �
 did_busy moment b d u test x = record {
   runs = kept_runs moment u test x.test x.busy x.run;
   stopped = x.stopped;
-  reads = subst (λ (p : Option (List ℕ)). ReadsSo p (Some moment) (commands_of u) (door_behind b d) (after_turn u)) (sym x.suite) tt;
+  reads = subst (λ (p : Option (List ℕ)). ReadsSo p (Some moment) (commands_of u) (door_after b d) (after_turn u)) (sym x.suite) tt;
 }
 
 keeps_message : (w : Worker) (m : MessageView) (c : Came) (k n : ℕ) → MessageSays m c → running_test (call_of_service w.duties.service) ≡ Some n → rests (call_of_service w.duties.service).phase ≡ false → w.duties.stopped ≡ false → Keeps n (is_terminate_kind m.kind) (worker_turned c k (worker_turn_of w))
@@ -124,7 +124,7 @@ message_did None w m g d is o u r = did_idle (is_terminate_kind m.kind) d (turn_
 message_did (Some moment) w m g d is o u r = did_busy moment (is_terminate_kind m.kind) d (turn_by w g) r.test (keeps_message w m g.came g.channels r.test is r.runs r.busy u)
 
 -- the items of the reader after a message
-link_behind : (b : Bool) (m : MessageView) (d : Door) (inputs : List WorkerInput) (got : List LinkNews) → d ≡ door.Open → is_terminate_kind m.kind ≡ b → FromLink d inputs got → FromLink (door_behind b d) (Message m ∷ inputs) (got ++ news.Message m ∷ [])
+link_behind : (b : Bool) (m : MessageView) (d : Door) (inputs : List WorkerInput) (got : List LinkNews) → d ≡ door.Open → is_terminate_kind m.kind ≡ b → FromLink d inputs got → FromLink (door_after b d) (Message m ∷ inputs) (got ++ news.Message m ∷ [])
 link_behind b m d inputs got o e f = by b e
   where
     x : IsListening inputs got
@@ -133,7 +133,7 @@ link_behind b m d inputs got o e f = by b e
     more : got ++ news.Message m ∷ [] ≡ map news.Message (messages_in inputs ++ m ∷ [])
     more = ap (λ (l : List LinkNews). l ++ news.Message m ∷ []) x.got_is ∙ sym (map-append news.Message (messages_in inputs) (m ∷ []))
 
-    by : (c : Bool) → is_terminate_kind m.kind ≡ c → FromLink (door_behind c d) (Message m ∷ inputs) (got ++ news.Message m ∷ [])
+    by : (c : Bool) → is_terminate_kind m.kind ≡ c → FromLink (door_after c d) (Message m ∷ inputs) (got ++ news.Message m ∷ [])
     by true h = record {
       later = [];
       got_is = more ∙ sym (append-nil (map news.Message (messages_in inputs ++ m ∷ [])));
@@ -146,7 +146,7 @@ link_behind b m d inputs got o e f = by b e
 module _ (a : Setting) (now : Beside) (s : Seen) (core : WorkerCore) (broken : Bool) (sunk : Option Sunk) (faults : ℕ) (acts : WorkerActions)
     (writes : WritesMore s.broken broken (frames acts.say) s.sunk sunk) (count : CountBehind s.broken broken s.sink_faults faults) (later : s.sink_faults ≤ faults) where
   pub message_heard : (m : MessageView) (last : Bool) → is_terminate_kind m.kind ≡ last → s.door ≡ door.Open → ((h : List HeardInput) → StandsFor s.core h → Answers core (worker_after h) (Message m) acts)
-      → ServesSoFar a now (owed_of_link (news.Message m)) s → ServesSoFar a now (to_start acts.suite) (record (spoken core broken sunk faults s) { door = door_behind last s.door })
+      → ServesSoFar a now (owed_of_link (news.Message m)) s → ServesSoFar a now (to_start acts.suite) (record (spoken core broken sunk faults s) { door = door_after last s.door })
   message_heard m last e o answers g =
       let h = g.history in
       let w = worker_after h in
@@ -178,7 +178,7 @@ module _ (a : Setting) (now : Beside) (s : Seen) (core : WorkerCore) (broken : B
         some = g.some;
         ring = g.ring;
         runs = d.runs;
-        reads = subst (λ (p : Option (List ℕ)). ReadsSo p s.started (commands_of u) (door_behind last s.door) (after_turn u)) (sym x.suite) d.reads;
+        reads = subst (λ (p : Option (List ℕ)). ReadsSo p s.started (commands_of u) (door_after last s.door) (after_turn u)) (sym x.suite) d.reads;
         stopped = d.stopped ∙ shut_behind last s.door o;
       }
 

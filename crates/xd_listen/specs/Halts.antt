@@ -137,9 +137,9 @@ CeasesBy (fault.Link f) a now s = Ceased a now (stop.Message f) s
 CeasesBy fault.OutOfMemory a now s = Unit {0}
 
 -- whether messages are still taken after one that is GATEWAY_TERMINATE, or is not
-abbrev pub door_behind : Bool → Door → Door
-door_behind true d = door.Terminated
-door_behind false d = d
+abbrev pub door_after : Bool → Door → Door
+door_after true d = door.Terminated
+door_after false d = d
 
 -- why no more is taken, where GATEWAY_TERMINATE or the link's end came
 abbrev pub over_by : Door → Option Halt
