@@ -21,7 +21,7 @@ use Rattle.xd_run_tests.specs.declared.input.Input.{Input}
 use Rattle.xd_run_tests.specs.declared.input.Input.TheVariants as input
 use Rattle.xd_run_tests.specs.Line.{FunctionCall, left, front, queue, running_test, number_of_log, can_give, can_ask, all_queued, kept, taken}
 
--- an input's effect so far: what the side is asked, and a test to start
+-- an input's effect so far: the call after it, what the worker is asked to say, and a test to start
 pub record CallTurn : Type 0 where
   pub call : FunctionCall
   pub asks : List Ask
@@ -219,7 +219,7 @@ answered_in phase test room (input.Output bytes) t = output_fed test phase bytes
 answered_in phase test room (input.Done outcome ms) t = done_of test phase room outcome ms t
 answered_in phase test room input.Stop t = call_stopped t
 
--- one input; `room` says that the side's table is not full without the log of the running test
+-- one input; `room` says that the worker's table of channels is not full without the log of the running test
 abbrev pub answered : Bool → Input → CallTurn → CallTurn
 answered room f t = answered_in t.call.phase (running_test t.call) room f t
 

@@ -87,7 +87,7 @@ impl RunTests {
         Ok(Some(Text::of(self.alloc, "too many channels")?))
     }
 
-    /// The next test runs, where the side has a channel for its log.
+    /// The next test runs, where the worker has a channel for its log.
     fn start(&mut self, acts: &mut Acts, test: u32, room: bool) -> Result<(), OutOfMemory>
         ensures { (t : CallTurn) (p : LineEntry) (q : List LineEntry) → t.call.phase ≡ Serving →
             self.old.running ≡ None → self.old.next ≡ Some (Test test) →
