@@ -20,7 +20,7 @@ use Rattle.xd_worker.specs.declared.worker.WorkerCore.{WorkerCore}
 use Rattle.xd_worker.specs.Worker.{Worker, WorkerTurn, worker_turn_of, after_turn}
 use Rattle.xd_worker.specs.Turns.{Came, Told as Says, SuiteRead, NoSuite, Printed, ChildEnded, LinkEnded, worker_turned}
 use Rattle.xd_worker.specs.History.{HeardInput, MessageSays, turn_by, worker_after}
-use Rattle.xd_worker.specs.Stands.{Answers, StandsFor}
+use Rattle.xd_worker.specs.Step.{Answers, StandsFor}
 use Rattle.xd_listen.specs.Running.{call_of_service, rests}
 use Rattle.xd_listen.specs.Inputs.{IsDue, has_end, has_terminate, is_terminate_kind, is_link_end, is_of_link, message_in, messages_in}
 use Rattle.xd_listen.specs.Programs.{commands_in, commands_of}

@@ -17,7 +17,7 @@ use Rattle.xd_worker.specs.declared.input.WorkerFault.TheVariants as fault
 use Rattle.xd_worker.specs.declared.worker.WorkerCore.{WorkerCore}
 use Rattle.xd_worker.specs.Worker.{Worker, running_in}
 use Rattle.xd_worker.specs.History.{HeardInput, is_over, worker_after}
-use Rattle.xd_worker.specs.Stands.{FaultHasReason, StandsFor}
+use Rattle.xd_worker.specs.Step.{FaultHasReason, StandsFor}
 use Rattle.xd_listen.specs.Running.{call_of_service}
 use Rattle.xd_listen.specs.Inputs.{has_terminate, messages_in}
 use Rattle.xd_listen.specs.Programs.{AreLeft}

@@ -13,7 +13,7 @@ use Rattle.xd_worker.specs.declared.input.WorkerInput.{WorkerInput}
 use Rattle.xd_worker.specs.declared.worker.WorkerCore.{WorkerCore}
 use Rattle.xd_worker.specs.Worker.{Worker, running_in}
 use Rattle.xd_worker.specs.History.{HeardInput, worker_after}
-use Rattle.xd_worker.specs.Stands.{StandsFor}
+use Rattle.xd_worker.specs.Step.{StandsFor}
 use Rattle.xd_listen.specs.Running.{call_of_service, rests}
 use Rattle.xd_listen.specs.Inputs.{has_end, has_terminate, messages_in}
 use Rattle.xd_listen.specs.Programs.{commands_in, last_commands}

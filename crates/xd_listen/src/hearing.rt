@@ -9,7 +9,7 @@ ghost use Rattle.xd_edge.specs.Clock.{Ticking, Ticks, ticking};
 ghost use Rattle.xd_listen.specs.declared.server.Door.TheVariants.{Open};
 ghost use Rattle.xd_reader.specs.declared.news.LinkNews.TheVariants as news;
 ghost use Rattle.xd_reader.specs.declared.news.LinkStop.TheVariants as link;
-ghost use Rattle.xd_worker.specs.Stands.{HasTest, Stood};
+ghost use Rattle.xd_worker.specs.Step.{HasTest, Stood};
 
 use crate::server::{Door, Halt, Server};
 use crate::stop::Stop;

@@ -11,7 +11,7 @@ ghost use Rattle.xd_listen.specs.Seen.{seen};
 ghost use Rattle.xd_listen.specs.Serves.{ServesSoFar, beside, nothing, setting};
 ghost use Rattle.xd_listen.specs.Spoke.{Spoke, voice};
 ghost use Rattle.xd_edge.specs.Clock.{Ticking, ticking};
-ghost use Rattle.xd_worker.specs.Stands.{Stood};
+ghost use Rattle.xd_worker.specs.Step.{Stood};
 
 use crate::finishing::{finish, unserved};
 use crate::server::{Door, Server};

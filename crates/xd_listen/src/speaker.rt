@@ -24,7 +24,7 @@ impl<N: Sink> Speaker<N> {
     ghost use Rattle.std.specs.Prelude.{[]};
     ghost use Rattle.xd_factory.specs.declared.faults.SideFault.{SideFault};
     ghost use Rattle.xd_worker.specs.History.{HeardInput, worker_after, IsToRefuse};
-    ghost use Rattle.xd_worker.specs.Stands.{StandsFor, Stood, Answers, FaultHasReason, IsThisFault};
+    ghost use Rattle.xd_worker.specs.Step.{StandsFor, Stood, Answers, FaultHasReason, IsThisFault};
 
     /// A worker to which nothing has come yet, and which has written its greeting.
     pub fn begin(alloc: Global, sink: N) -> Speaker<N>

@@ -6,7 +6,7 @@ ghost use Rattle.xd_listen.specs.Serves.{Beside, ServesSoFar, Setting, beside, n
 ghost use Rattle.xd_edge.specs.Clock.{ticking};
 ghost use Rattle.xd_reader.specs.declared.news.LinkNews.TheVariants as news;
 ghost use Rattle.xd_reader.specs.declared.news.LinkStop.TheVariants as link;
-ghost use Rattle.xd_worker.specs.Stands.{Stood};
+ghost use Rattle.xd_worker.specs.Step.{Stood};
 
 use crate::server::{Halt, Server};
 use crate::stop::Stop;

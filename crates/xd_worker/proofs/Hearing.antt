@@ -20,7 +20,8 @@ use Rattle.xd_factory.specs.Table.{arrived_answer, ended_answer, end_answer, Ref
 use Rattle.xd_factory.specs.SideTable.{ChannelTable, Counts, answer}
 use Rattle.xd_factory.specs.SideTable.{MustRefuse}
 use Rattle.xd_factory.proofs.SideTables.{new_in, reason}
-use Rattle.xd_worker.specs.Stands.{IsSmall, IsFaultAt, IsThisFault, worker_fault}
+use Rattle.xd_worker.specs.Stands.{IsSmall, IsFaultAt, worker_fault}
+use Rattle.xd_worker.specs.Step.{IsThisFault}
 
 -- ---- the number of a STATUS is that of its message
 

@@ -37,7 +37,8 @@ use Rattle.xd_worker.specs.History.{HeardInput, IsToRefuse}
 use Rattle.xd_worker.specs.Logs.{AllOpen, LogsOpen}
 use Rattle.xd_worker.specs.Worker.{Service, Duties, WorkerTurn, Opening, Worker, worker_turn_of, logs_opened_by}
 use Rattle.xd_worker.specs.Turns.{at_talk, asked, all_asked, given_in, fed_to, ended_call, failed, echo_ended, echoed, echoed_how, is_called, is_written, suite_input, Told, did_unless}
-use Rattle.xd_worker.specs.Stands.{IsService, AreServices, AreDuties, Stands, FedBy, HasFed, Does, TakesMessage, FaultHasReason, IsFaultAt, RefusedAt}
+use Rattle.xd_worker.specs.Stands.{IsService, AreServices, AreDuties, Stands, FedBy, HasFed, Does, TakesMessage, IsFaultAt, RefusedAt}
+use Rattle.xd_worker.specs.Step.{FaultHasReason}
 
 pub moved : (c : WorkerCore) (side : Side) (d : Duties) → AreDuties c d → AreDuties (record c { side = side }) d
 moved c side d h = record {

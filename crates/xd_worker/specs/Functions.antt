@@ -57,13 +57,13 @@ run_tests_called started ps =
 abbrev pub fail_called : Pairs → Called
 fail_called ps = Runs (function.Fail (option_and_then text_in_tree (value_at (codes "text") ps)))
 
--- a function with keyword arguments whose keys are texts: what becomes of its call
+-- what becomes of the call of a function with these keyword arguments, whose keys are texts
 abbrev pub function_of : Bool → Name → Pairs → Called
 function_of started name.Echo ps = Runs function.Echo
 function_of started name.Fail ps = fail_called ps
 function_of started name.RunTests ps = run_tests_called started ps
 
--- a function with its keyword arguments, whose keys are texts
+-- a function with its keyword arguments, whose keys have to be texts
 abbrev pub with_kwargs : Bool → Name → Pairs → Called
 with_kwargs started f ps = if has_text_keys ps then function_of started f ps else Refused BadCall
 

@@ -1,15 +1,12 @@
 -- What a list of inputs makes a worker say and start. The last of them stands first.
-use Rattle.std.specs.Prelude.{◌≡◌, ◌<◌, ℕ, List, [], ◌∷◌, ◌++◌, length, ◌&&◌, Bool, Some, is_none, Result, Ok, Err, codes}
+use Rattle.std.specs.Prelude.{◌≡◌, ◌<◌, ℕ, List, [], ◌∷◌, ◌++◌, length, ◌&&◌, Bool, Some, is_none, codes}
 use Rattle.std.specs.Str.{encode_utf8_all}
 use Rattle.xd_frame.specs.Message.{MessageView}
 use Rattle.xd_factory.specs.declared.faults.SideFault.{SideFault}
 use Rattle.xd_factory.specs.Said.{Means}
 use Rattle.xd_suite.specs.declared.fault.SuiteFault.{SuiteFault}
-use Rattle.xd_suite.specs.declared.test.Test.{Test}
 use Rattle.xd_suite.specs.Suite.{IsSuiteOf, IsFaulty}
 use Rattle.xd_suite.specs.FaultText.{fault_text}
-use Rattle.xd_journal.specs.declared.news.What.{What}
-use Rattle.xd_journal.specs.declared.news.What.TheVariants.{Collected}
 use Rattle.xd_worker.specs.declared.input.WorkerInput.{WorkerInput}
 use Rattle.xd_worker.specs.declared.input.WorkerInput.TheVariants.{Message, SuiteBytes, SuiteTooLarge, SuiteUnread, Output, ChildDone, LinkEnd}
 use Rattle.xd_factory.specs.SideTable.{ChannelTable, RefusedBy, MustRefuse, heard_of_message, lost}
@@ -60,16 +57,6 @@ IsSuite b (SuiteRead tests) = IsSuiteOf b tests
 IsSuite b (NoSuite text) = IsFaultText b text
 IsSuite b _ = ⊥
 
--- what the reading of these bytes gives: the tests of a suite, or in words why they are none
-abbrev pub IsRead : List ℕ → Result (List Test) (List ℕ) → Type 0
-IsRead b (Ok tests) = IsSuiteOf b tests
-IsRead b (Err text) = IsFaultText b text
-
--- the event that tells a collection: `collectionfinish` of pytest-xdist's remote.py
-abbrev pub IsCollected : What → Type 0
-IsCollected (Collected ids) = Unit {0}
-IsCollected _ = ⊥
-
 -- what an input of the code is among the inputs of the definitions
 abbrev pub Is : WorkerInput → Came → Type 0
 Is (Message m) came = MessageSays m came
@@ -80,7 +67,7 @@ Is (Output b) came = came ≡ Printed b
 Is (ChildDone outcome ms) came = came ≡ ChildEnded outcome ms
 Is LinkEnd came = came ≡ LinkEnded
 
--- the table in which the channels are counted
+-- the table after an input came, in which the channels are counted
 abbrev pub table_after : Came → ChannelTable → ChannelTable
 table_after (Told said) t = heard_of_message said t
 table_after (SuiteRead ts) t = t

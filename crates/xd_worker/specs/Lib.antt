@@ -7,3 +7,4 @@ pub mod Turns
 pub mod History
 pub mod Logs
 pub mod Stands
+pub mod Step

@@ -1,8 +1,11 @@
 -- How the parts of the code stand for the worker of the definitions.
-use Rattle.std.specs.Prelude.{◌≡◌, ◌≤◌, ◌<◌, ℕ, List, [], ◌∷◌, length, Option, Some, None, Result, Ok, Err}
+use Rattle.std.specs.Prelude.{◌≡◌, ◌≤◌, ℕ, List, [], ◌∷◌, Option, Some, None, Result, Ok, Err}
 use Rattle.xd_factory.specs.declared.faults.SideFault.{SideFault}
 use Rattle.xd_factory.specs.declared.faults.SideFault.TheVariants as side
 use Rattle.xd_suite.specs.declared.test.Test.{Test}
+use Rattle.xd_suite.specs.Suite.{IsSuiteOf}
+use Rattle.xd_journal.specs.declared.news.What.{What}
+use Rattle.xd_journal.specs.declared.news.What.TheVariants.{Collected}
 use Rattle.xd_run_tests.specs.declared.input.Input.{Input}
 use Rattle.xd_run_tests.specs.History.{Given, turn_after, StandsFor as Follows}
 use Rattle.xd_value.specs.Tree.{Tree}
@@ -18,14 +21,13 @@ use Rattle.xd_worker.specs.declared.input.WorkerInput.{WorkerInput}
 use Rattle.xd_worker.specs.declared.input.WorkerActions.{WorkerActions}
 use Rattle.xd_worker.specs.declared.input.WorkerFault.{WorkerFault}
 use Rattle.xd_worker.specs.declared.input.WorkerFault.TheVariants.{Link, OutOfMemory}
-use Rattle.xd_worker.specs.declared.worker.Asked.{Asked}
 use Rattle.xd_worker.specs.declared.worker.WorkerCore.{WorkerCore}
 use Rattle.xd_factory.specs.SideTable.{ChannelTable, Counts, channel_table, heard_of_message, answer}
 use Rattle.xd_worker.specs.Talk.{talk_of}
-use Rattle.xd_worker.specs.Worker.{Service, Duties, Worker, WorkerTurn, after_turn, running_in}
+use Rattle.xd_worker.specs.Worker.{Service, Duties, Worker, WorkerTurn}
 use Rattle.xd_worker.specs.Turns.{given_in}
 use Rattle.xd_factory.specs.SideTable.{RefusedBy, MustRefuse}
-use Rattle.xd_worker.specs.History.{HeardInput, Is, table_after, turn_by, worker_after, is_over, RefusesFor}
+use Rattle.xd_worker.specs.History.{HeardInput, Is, IsFaultText, table_after, turn_by}
 
 -- the parts are those of this call of `run_tests`
 pub record IsService (r : TestsCall) (s : Service) : Type 0 where
@@ -68,60 +70,12 @@ pub record IsWorker (c : WorkerCore) (w : Worker) : Type 0 where
   pub table_is : channel_table c.side ≡ w.table
   pub duties_are : AreDuties c w.duties
 
--- the parts are those of the worker after these inputs
-abbrev pub StandsFor : WorkerCore → List HeardInput → Type 0
-StandsFor c h = IsWorker c (worker_after h)
-
--- they are those of the worker after some inputs
-abbrev pub Stood : WorkerCore → Type 0
-Stood c = (h : List HeardInput) × StandsFor c h
-
--- the suite that was read has a test of this number
-abbrev pub HasTest : WorkerCore → ℕ → Type 0
-HasTest c k = (h : List HeardInput) × StandsFor c h × (k < length (worker_after h).duties.tests)
-
 -- an input was answered by the turn that it makes
 pub record Does (c : WorkerCore) (a : WorkerActions) (w : Worker) (input : WorkerInput) : Type 0 where
   pub heard : HeardInput
   pub is : Is input heard.came
   pub counts : Counts (table_after heard.came w.table).slot heard.channels
   pub stands : Stands c a (turn_by w heard)
-
--- what an input is, and that it was answered by the turn that it makes of this worker
-pub record Answers (c : WorkerCore) (w : Worker) (input : WorkerInput) (a : WorkerActions) : Type 0 where
-  pub heard : HeardInput
-  pub is : Is input heard.came
-  pub counts : Counts (table_after heard.came w.table).slot heard.channels
-  pub says : a.say ≡ (turn_by w heard).talk.says
-  pub suite : a.suite ≡ (turn_by w heard).suite
-  pub run : a.run ≡ (turn_by w heard).run
-  pub over : a.over ≡ is_over (after_turn (turn_by w heard))
-  pub worker : IsWorker c (after_turn (turn_by w heard))
-
--- a fault names its reason; running out of memory needs none
-abbrev pub FaultHasReason : Worker → WorkerInput → WorkerFault → Type 0
-FaultHasReason w input (Link fault) = RefusesFor w input fault
-FaultHasReason w input OutOfMemory = Unit {0}
-
--- the answer is this fault, or that memory ran out
-abbrev pub IsThisFault : {X : Type 0} → SideFault → Result X WorkerFault → Type 0
-IsThisFault fault (Ok a) = ⊥
-IsThisFault fault (Err (Link other)) = other ≡ fault
-IsThisFault fault (Err OutOfMemory) = Unit {0}
-
--- why each input is refused, if there is a reason
-abbrev pub fault_in : WorkerCore → Option WorkerFault
-fault_in c = c.fault
-
--- what a worker asked for that did not come yet
-abbrev pub unanswered_of : Worker → Asked
-unanswered_of w = record { test = running_in w.duties.service; suite = w.duties.owed }
-
--- a fault came, and what this worker had asked for before it is kept
-pub record AskedAtFault (c : WorkerCore) (w : Worker) : Type 0 where
-  pub fault : WorkerFault
-  pub fault_is : c.fault ≡ Some fault
-  pub asked_is : c.before ≡ Some (unanswered_of w)
 
 -- what `run_tests` asks for after one more input
 pub record FedBy (r : Option TestsCall) (s : Service) (g : Given) (f : Fed) : Type 0 where
@@ -174,3 +128,13 @@ worker_fault side.Unsupported = Link side.Unsupported
 worker_fault (side.BadPayload what) = Link (side.BadPayload what)
 worker_fault side.NotText = Link side.NotText
 worker_fault side.TooManyOpen = Link side.TooManyOpen
+
+-- what the reading of these bytes gives: the tests of a suite, or in words why they are none
+abbrev pub IsRead : List ℕ → Result (List Test) (List ℕ) → Type 0
+IsRead b (Ok tests) = IsSuiteOf b tests
+IsRead b (Err text) = IsFaultText b text
+
+-- the event that tells a collection: `collectionfinish` of pytest-xdist's remote.py
+abbrev pub IsCollected : What → Type 0
+IsCollected (Collected ids) = Unit {0}
+IsCollected _ = ⊥

@@ -17,4 +17,4 @@ pub use laws::{a_test_is_of_the_suite, each_log_opens};
 pub use status::status_value;
 pub use talk::Sent;
 pub use tests_call::{Fed, TestsCall};
-pub use worker::{Asked, WorkerCore};
+pub use worker::WorkerCore;

@@ -15,13 +15,6 @@ use xd_frame::Messages;
 use xd_run_tests::{Ask, Input};
 use xd_suite::Suite;
 
-/// What a worker asked for, and what did not come yet: the end of the running test, and a suite.
-#[derive(Clone, Copy, Debug, PartialEq, Eq)]
-pub struct Asked {
-    pub test: Option<u32>,
-    pub suite: bool,
-}
-
 /// The worker of one link. It takes what comes, and answers what is to be said, read and started; it reads, writes and
 /// starts nothing by itself. Contracts see the inputs that came to it.
 #[derive(Drop)]
@@ -29,8 +22,6 @@ pub struct WorkerCore {
     alloc: Global,
     side: Side,
     fault: Option<WorkerFault>,
-    // What was asked for when the fault came.
-    before: Option<Asked>,
     stopped: bool,
     tests_call: Option<TestsCall>,
     echoes: Vec<u32>,
@@ -49,7 +40,8 @@ impl WorkerCore {
     ghost use Rattle.xd_worker.specs.Turns.{asked, all_asked, ended_service, fed, worker_stopped};
     ghost use Rattle.xd_worker.specs.History.{HeardInput, worker_after, IsToRefuse};
     ghost use Rattle.xd_worker.specs.Logs.{AllOpen, LogsOpen};
-    ghost use Rattle.xd_worker.specs.Stands.{AreServices, AreDuties, HasTest, Stands, StandsFor, Stood, IsWorker, Does, Answers, AskedAtFault, FaultHasReason, IsThisFault, unanswered_of, fault_in};
+    ghost use Rattle.xd_worker.specs.Stands.{AreServices, AreDuties, Stands, IsWorker, Does};
+    ghost use Rattle.xd_worker.specs.Step.{HasTest, StandsFor, Stood, Answers, FaultHasReason, IsThisFault, fault_in};
 
     /// A worker to which nothing has come yet.
     pub fn new(alloc: Global) -> WorkerCore
@@ -60,7 +52,6 @@ impl WorkerCore {
             alloc,
             side: Side::new(alloc, Parity::Even),
             fault: None,
-            before: None,
             stopped: false,
             tests_call: None,
             echoes: Vec::new(alloc),
@@ -80,8 +71,6 @@ impl WorkerCore {
         ensures failed { (fault : WorkerFault) → fault_in self.old ≡ Some fault →
             (result ≡ Err fault) × (self.new ≡ self.old) }
         ensures fails { IfErr result (λ fault. fault_in self.new ≡ Some fault) }
-        ensures asked { (h : List HeardInput) → StandsFor self.old h →
-            IfErr result (λ fault. AskedAtFault self.new (worker_after h)) }
         ensures stood { Stood self.old → OnOk result (Stood self.new) }
         ensures command { Stood self.old →
             IfOk result (λ acts. (test : ℕ) → acts.run ≡ Some test → HasTest self.new test) }
@@ -89,23 +78,12 @@ impl WorkerCore {
         if let Some(fault) = self.fault {
             return Err(fault);
         }
-        let asked = self.asked();
         match self.answer(input) {
             Ok(acts) => Ok(acts),
             Err(fault) => {
-                self.before = Some(asked);
                 self.fault = Some(fault);
                 Err(fault)
             }
-        }
-    }
-
-    fn asked(&self) -> Asked
-        ensures { (w : Worker) → IsWorker self.now w → result ≡ unanswered_of w }
-    {
-        Asked {
-            test: self.running(),
-            suite: self.owed,
         }
     }
 
@@ -170,43 +148,14 @@ impl WorkerCore {
         }
     }
 
-    /// A suite file was asked for, and neither its bytes nor a refusal came yet. After a fault it says what it said
-    /// before.
-    pub fn awaits_suite(&self) -> bool
-        ensures owed { (h : List HeardInput) → StandsFor self.now h →
-            result ≡ (worker_after h).duties.owed }
-        ensures at_fault { (w : Worker) → AskedAtFault self.now w → result ≡ w.duties.owed }
-    {
-        match self.fault_asked() {
-            Some(asked) => asked.suite,
-            None => self.owed,
-        }
-    }
-
-    /// The test that runs. After a fault it says what it said before.
+    /// The test that runs.
     pub fn runs(&self) -> Option<u32>
         ensures running { (h : List HeardInput) → StandsFor self.now h →
             result ≡ running_in (worker_after h).duties.service }
         ensures command { (h : List HeardInput) (test : ℕ) → StandsFor self.now h → result ≡ Some test →
             HasTest self.now test }
-        ensures at_fault { (w : Worker) → AskedAtFault self.now w →
-            result ≡ running_in w.duties.service }
     {
-        match self.fault_asked() {
-            Some(asked) => asked.test,
-            None => self.running(),
-        }
-    }
-
-    // What was asked for when the fault came, if one did.
-    fn fault_asked(&self) -> Option<Asked>
-        ensures none { self.now.fault ≡ None → result ≡ None }
-        ensures some { (w : Worker) → AskedAtFault self.now w → result ≡ Some (unanswered_of w) }
-    {
-        match self.fault {
-            Some(_) => self.before,
-            None => None,
-        }
+        self.running()
     }
 
     // The worker is to end, and no test runs.

@@ -26,7 +26,8 @@ impl WorkerCore {
     ghost use Rattle.xd_worker.specs.Turns.{at_talk, did, did_unless, is_service};
     ghost use Rattle.xd_worker.specs.History.{IsToRefuse};
     ghost use Rattle.xd_worker.specs.Logs.{AllOpen, LogsOpen};
-    ghost use Rattle.xd_worker.specs.Stands.{Stands, AreServices, AreDuties, Does, FaultHasReason, IsSmall};
+    ghost use Rattle.xd_worker.specs.Stands.{Stands, AreServices, AreDuties, Does, IsSmall};
+    ghost use Rattle.xd_worker.specs.Step.{FaultHasReason};
 
     // How many functions have not ended.
     fn functions(&self) -> usize
@@ -209,7 +210,8 @@ fn lose(side: &mut Side) -> Result<(), OutOfMemory>
     Ok(())
 }
 
-ghost use Rattle.xd_worker.specs.Stands.{TakesMessage, IsFaultAt, IsThisFault, RefusedAt, worker_fault};
+ghost use Rattle.xd_worker.specs.Stands.{TakesMessage, IsFaultAt, RefusedAt, worker_fault};
+ghost use Rattle.xd_worker.specs.Step.{IsThisFault};
 
 // What a fault of the side is for the worker.
 fn fault_of(fault: SideFault) -> WorkerFault

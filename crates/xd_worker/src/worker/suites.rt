@@ -180,7 +180,7 @@ impl WorkerCore {
 ghost use Rattle.xd_run_tests.specs.Turns.{CanTake};
 ghost use Rattle.xd_worker.specs.Turns.{suite_input, is_written};
 ghost use Rattle.xd_journal.specs.declared.news.What.TheVariants.{Collected};
-ghost use Rattle.xd_worker.specs.History.{IsRead, IsCollected};
+ghost use Rattle.xd_worker.specs.Stands.{IsRead, IsCollected};
 ghost use Rattle.xd_gateway.specs.Events.{event_tree};
 
 // The bytes of a suite file as a suite, or why they are none.

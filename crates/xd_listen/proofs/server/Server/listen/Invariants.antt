@@ -1,5 +1,5 @@
 use Rattle.std.proofs.Common.{◌≡◌}
-use Rattle.xd_worker.specs.Stands.{Stood}
+use Rattle.xd_worker.specs.Step.{Stood}
 use Rattle.xd_listen.specs.Seen.{seen}
 use Rattle.xd_listen.specs.Serves.{ServesSoFar, Setting, nothing, beside}
 use Rattle.xd_edge.specs.Clock.{ticking}

@@ -3,7 +3,8 @@ use Rattle.std.specs.Prelude.{Result}
 use Rattle.xd_suite.specs.declared.test.Test.{Test}
 use Rattle.xd_worker.specs.Worker.{worker_turn_of}
 use Rattle.xd_worker.specs.Turns.{SuiteRead, NoSuite}
-use Rattle.xd_worker.specs.History.{HeardInput, IsRead}
+use Rattle.xd_worker.specs.History.{HeardInput}
+use Rattle.xd_worker.specs.Stands.{IsRead}
 use Rattle.xd_worker.proofs.Standing.{counts_at}
 use Rattle.xd_worker.proofs.worker.WorkerCore.take_suite.Goals as goal
 

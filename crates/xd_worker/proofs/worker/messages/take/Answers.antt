@@ -6,7 +6,8 @@ use Rattle.std.proofs.Common.{Err}
 use Rattle.xd_factory.specs.View.{fault_of, entry_count, numbers_of}
 use Rattle.xd_worker.specs.declared.input.WorkerFault.{WorkerFault}
 use Rattle.xd_factory.specs.SideTable.{channel_table}
-use Rattle.xd_worker.specs.Stands.{IsSmall, IsThisFault}
+use Rattle.xd_worker.specs.Stands.{IsSmall}
+use Rattle.xd_worker.specs.Step.{IsThisFault}
 use Rattle.xd_factory.proofs.SideTables.{heard_table, not_taken}
 use Rattle.xd_worker.proofs.Hearing.{small_answer, refusal_at}
 use Rattle.xd_worker.proofs.worker.messages.take.Goals as goal
