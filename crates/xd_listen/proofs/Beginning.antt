@@ -18,7 +18,7 @@ use Rattle.xd_listen.specs.declared.server.Door.TheVariants as door
 use Rattle.xd_listen.specs.declared.stop.Stop.{Stop}
 use Rattle.xd_listen.specs.declared.stop.Stop.TheVariants as stop
 use Rattle.xd_listen.specs.Ends.{Closes, Ends, IsCause, RunsPrograms, Scene, Served, voice_of}
-use Rattle.xd_listen.specs.Halts.{is_sink_whole, worker_status_of}
+use Rattle.xd_listen.specs.Stops.{is_sink_whole, worker_status_of}
 use Rattle.xd_listen.specs.Programs.{AreLeft}
 use Rattle.xd_listen.specs.Seen.{Seen}
 use Rattle.xd_listen.specs.Serves.{ServesSoFar, Setting, beside, nothing, setting, two}

@@ -27,7 +27,8 @@ use Rattle.xd_listen.specs.Took.{TookAll, TookToLast}
 use Rattle.xd_listen.specs.declared.stop.Stop.{Stop}
 use Rattle.xd_listen.specs.declared.stop.Stop.TheVariants as stop
 use Rattle.xd_listen.specs.Ends.{Closes, Ends, IsCause, IsStill, RunsPrograms, Scene, last_link_stop, terminated_by, voice_of}
-use Rattle.xd_listen.specs.Halts.{Ceased, Ceases, Strayed, IsStrange, IsUncalled, is_sink_whole, worker_status_of}
+use Rattle.xd_listen.specs.Halts.{Ceased, Ceases, Strayed, IsStrange, IsUncalled}
+use Rattle.xd_listen.specs.Stops.{is_sink_whole, worker_status_of}
 use Rattle.xd_listen.specs.Joined.{Sources}
 use Rattle.xd_listen.specs.News.{dones, news_in}
 use Rattle.xd_listen.specs.Seen.{Seen}

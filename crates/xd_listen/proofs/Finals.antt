@@ -20,7 +20,8 @@ use Rattle.xd_listen.specs.Ends.{Closes, Scene, Served, last_link_stop, scene}
 use Rattle.xd_edge.specs.Files.{Held}
 use Rattle.xd_listen.specs.declared.server.Server.{Server}
 use Rattle.xd_listen.specs.declared.speaker.Speaker.{Speaker}
-use Rattle.xd_listen.specs.Halts.{Ceased, Goes, Strayed, at_sink, worker_status_of}
+use Rattle.xd_listen.specs.Halts.{Ceased, Goes, Strayed, at_sink}
+use Rattle.xd_listen.specs.Stops.{worker_status_of}
 use Rattle.xd_listen.specs.Joined.{Back, Joined, Sources}
 use Rattle.xd_listen.specs.News.{dones}
 use Rattle.xd_listen.specs.Seen.{Seen, seen}

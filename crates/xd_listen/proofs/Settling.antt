@@ -27,7 +27,8 @@ use Rattle.xd_listen.specs.declared.server.Door.{Door}
 use Rattle.xd_listen.specs.declared.server.Door.TheVariants as door
 use Rattle.xd_listen.specs.declared.stop.Stop.{Stop}
 use Rattle.xd_listen.specs.declared.stop.Stop.TheVariants as stop
-use Rattle.xd_listen.specs.Halts.{Ceased, Ceases, CeasesBy, Goes, IsStrange, IsUncalled, Strayed, is_sink_whole, over_by, worker_status_of}
+use Rattle.xd_listen.specs.Halts.{Ceased, Ceases, CeasesBy, Goes, IsStrange, IsUncalled, Strayed, over_by}
+use Rattle.xd_listen.specs.Stops.{is_sink_whole, worker_status_of}
 use Rattle.xd_listen.specs.News.{dones, news_in}
 use Rattle.xd_listen.specs.Seen.{Seen, is_door_shut}
 use Rattle.xd_listen.specs.Serves.{Beside, beside, FromLink, HeardEnd, HeardLast, IsBusy, IsListening, NoneEmpty, RunsTest, RunsSo, ServesSoFar, Setting, nothing, owed_of_link, of_program, to_start}

@@ -19,7 +19,7 @@ use Rattle.xd_listen.specs.Took.{TookAll, TookToLast, TookToRefused}
 use Rattle.xd_listen.specs.Suites.{asked_path}
 use Rattle.xd_listen.specs.declared.stop.Stop.{Stop}
 use Rattle.xd_listen.specs.declared.stop.Stop.TheVariants as stop
-use Rattle.xd_listen.specs.Halts.{is_sink_whole, worker_status_of}
+use Rattle.xd_listen.specs.Stops.{is_sink_whole, worker_status_of}
 use Rattle.xd_listen.specs.Spoke.{Spoke, Voice, voice}
 use Rattle.xd_edge.specs.Clock.{Ticking}
 use Rattle.xd_listen.specs.Timing.{Times}

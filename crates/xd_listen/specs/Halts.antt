@@ -27,29 +27,8 @@ use Rattle.xd_listen.specs.News.{dones, news_in}
 use Rattle.xd_listen.specs.Seen.{Seen}
 use Rattle.xd_listen.specs.Serves.{Beside, NoneEmpty, ServesSoFar, Setting, IsEndTaken, nothing, two}
 use Rattle.xd_listen.specs.Spoke.{Spoke, voice}
+use Rattle.xd_listen.specs.Stops.{is_sink_whole, worker_status_of}
 use Rattle.xd_listen.specs.Timing.{Times, one_if}
-
--- the exit status: 0 where GATEWAY_TERMINATE came or the link ended at a message's edge
-abbrev pub worker_status_of : Stop → ℕ
-worker_status_of stop.NotRun = 3
-worker_status_of stop.Terminated = 0
-worker_status_of stop.Ended = 0
-worker_status_of stop.Cut = 3
-worker_status_of (stop.Header fault) = 3
-worker_status_of (stop.Message fault) = 3
-worker_status_of stop.ReadFault = 3
-worker_status_of stop.WriteFault = 3
-
--- the sink is whole, but where it failed
-abbrev pub is_sink_whole : Stop → Bool
-is_sink_whole stop.NotRun = true
-is_sink_whole stop.Terminated = true
-is_sink_whole stop.Ended = true
-is_sink_whole stop.Cut = true
-is_sink_whole (stop.Header fault) = true
-is_sink_whole (stop.Message fault) = true
-is_sink_whole stop.ReadFault = true
-is_sink_whole stop.WriteFault = false
 
 -- what is known of the messages that the worker heard, and of the item after them, where it listens no more
 abbrev pub Ceases : Stop → List WorkerInput → List HeardInput → List LinkNews → Type 0
@@ -184,7 +163,7 @@ without_item n item mails s = record s {
 abbrev pub at_sink : Option Sunk → ℕ → Seen → Seen
 at_sink sunk faults s = record s { sunk = sunk; sink_faults = faults }
 
--- The worker goes on, or listens no more.
+-- The worker goes on, or listens no more, or took an item that could not come.
 abbrev pub Goes : Option Halt → Setting → Beside → Seen → Type 0
 Goes None a now s = ServesSoFar a now nothing s
 Goes (Some (halt.At why)) a now s = Ceased a now why s

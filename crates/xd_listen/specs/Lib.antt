@@ -1,3 +1,4 @@
+pub mod Stops
 pub mod Inputs
 pub mod Suites
 pub mod Programs

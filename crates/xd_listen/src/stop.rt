@@ -1,6 +1,6 @@
 // Why a link is served no more.
 ghost use Rattle.std.specs.Prelude.{◌≡◌};
-ghost use Rattle.xd_listen.specs.Halts.{worker_status_of};
+ghost use Rattle.xd_listen.specs.Stops.{worker_status_of};
 
 use xd_factory::SideFault;
 use xd_frame::FrameFault;

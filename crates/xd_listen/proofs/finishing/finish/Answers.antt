@@ -5,7 +5,8 @@ use Rattle.xd_post.specs.Post.{Ring, ring_of_sender}
 use Rattle.xd_reader.specs.declared.news.LinkNews.{LinkNews}
 use Rattle.xd_listen.specs.declared.server.Halt.{Halt}
 use Rattle.xd_listen.specs.Ends.{Served, scene}
-use Rattle.xd_listen.specs.Halts.{Goes, worker_status_of}
+use Rattle.xd_listen.specs.Halts.{Goes}
+use Rattle.xd_listen.specs.Stops.{worker_status_of}
 use Rattle.xd_link.specs.Spring.{spring}
 use Rattle.xd_listen.proofs.Finals.{astray_if, finished, none_strayed, order_mail, reader_mail, runner_mail}
 use Rattle.xd_listen.proofs.finishing.finish.Goals as goal
