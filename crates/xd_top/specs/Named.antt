@@ -27,7 +27,7 @@ pub record Around : Type 0 where
 
 -- these, of all that is outside
 abbrev pub around : Outside → Around
-around o = record { streams = o.streams; programs = o.programs; clock = record { moment = o.clock.moment; coming = o.clock.coming } }
+around o = record { streams = o.streams; programs = o.programs; clock = o.clock }
 
 -- what the run of the tests sees of these
 abbrev pub reach_of : Around → Reach

@@ -1,5 +1,6 @@
 // `SUITE -n 0`: the suite file is read, and its tests are run in the program itself.
 ghost use Rattle.std.specs.Prelude.{◌≡◌, IfOk, IfNone, MatchResult};
+ghost use Rattle.xd_edge.specs.Clock.{ticking};
 ghost use Rattle.xd_edge.specs.Faults.{Rose};
 ghost use Rattle.xd_top.specs.Named.{DidLocal};
 ghost use Rattle.xd_top.specs.Refusal.{FilesCount, HasSuite, WhySuiteRefused};
@@ -55,7 +56,7 @@ pub fn run_named<R: Wait, F: Files, K: Children, T: Clock, O: Sink, E: Sink>(
             err = record { sunk = E.sunk err.old; faults = E.faults err.old };
           };
           programs = record { runs = K.runs file.children; faults = K.faults file.children };
-          clock = record { moment = T.moment clock.old; coming = T.coming clock.old };
+          clock = ticking (T.moment clock.old) (T.coming clock.old);
         })
         (record {
           streams = record {
@@ -64,7 +65,7 @@ pub fn run_named<R: Wait, F: Files, K: Children, T: Clock, O: Sink, E: Sink>(
             err = record { sunk = E.sunk err.new; faults = E.faults err.new };
           };
           programs = record { runs = K.runs e.children; faults = K.faults e.children };
-          clock = record { moment = T.moment clock.new; coming = T.coming clock.new };
+          clock = ticking (T.moment clock.new) (T.coming clock.new);
         })) }
     ensures no_child { IfOk result (λ e.
         IfNone e.journal ((e.children ≡ file.children) × (clock.new ≡ clock.old))) }
