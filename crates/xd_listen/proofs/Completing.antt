@@ -1,8 +1,7 @@
 -- What all the bytes of a link say of how it was served.
-use Rattle.std.proofs.Common.{◌≡◌, ℕ, List, [], ◌∷◌, ◌++◌, length, take, drop, Bool, true, false, ◌&&◌, Option, Some, None, Result, Ok, Err, refl, ap, sym, ◌∙◌, subst, arith, append_assoc, inl, inr}
+use Rattle.std.proofs.Common.{◌≡◌, ℕ, List, [], ◌∷◌, ◌++◌, length, drop, Bool, true, false, ◌&&◌, Option, Some, None, Result, Ok, Err, refl, ap, sym, ◌∙◌, subst, arith, append_assoc, inl, inr}
 use Rattle.std.specs.Prelude.{◌⊎◌, ◌≢◌, IfSome}
-use Rattle.std.proofs.lemmas.Grind.{common_steps}
-use Rattle.std.proofs.lemmas.List.{append-nil}
+use Rattle.std.proofs.lemmas.List.{append-nil, take-append-drop}
 use Rattle.xd_edge.specs.Faults.{Rose, StoodStill}
 use Rattle.xd_edge.specs.Files.{Held}
 use Rattle.xd_factory.specs.declared.faults.SideFault.{SideFault}
@@ -57,11 +56,8 @@ to_refused_more a b taken h fault t =
 
 -- ---- the bytes that a link has
 
-halves : (n : ℕ) (l : List ℕ) → take n l ++ drop n l ≡ l
-halves n l = grind (arith, common_steps)
-
 pub left_before : (bytes : List ℕ) (s : Supply) (new : Option Supply) → Gave bytes (Some s) new → s.left ≡ bytes ++ drop (length bytes) s.left
-left_before bytes s new g = sym (halves (length bytes) s.left) ∙ ap (λ (l : List ℕ). l ++ drop (length bytes) s.left) g.1
+left_before bytes s new g = sym (take-append-drop (length bytes) s.left) ∙ ap (λ (l : List ℕ). l ++ drop (length bytes) s.left) g.1
 
 -- a source that was read to its end has given all of them
 pub all_given : (bytes : List ℕ) (s : Supply) (new : Option Supply) → Gave bytes (Some s) new → IfSome new (λ t. t.left ≡ []) → s.left ≡ bytes

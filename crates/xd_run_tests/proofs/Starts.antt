@@ -4,6 +4,7 @@ use Rattle.std.proofs.Common.{◌≡◌, ℕ, ◌+◌, List, [], ◌∷◌, ◌+
 use Rattle.std.specs.Prelude.{◌==◌, map, not, option_to_list, if◌then◌else◌}
 use Rattle.std.specs.List.{range_with_len}
 use Rattle.std.proofs.lemmas.Grind.{common_steps}
+use Rattle.std.proofs.lemmas.List.{take-append-drop}
 use Rattle.std.proofs.Math.Seq.{take-append-add}
 use Rattle.xd_gateway.specs.declared.order.Order.{Order}
 use Rattle.xd_gateway.specs.declared.order.Order.TheVariants.{RunTests, RunAll, Steal, Shutdown}
@@ -197,7 +198,7 @@ taken_begun s ns t serves b =
       line_is = ap (λ (l : List LineEntry). l ++ kept ns (queue t.call)) split ∙ append_assoc b.gone (take 1 b.rest) (kept ns (queue t.call));
       count = b.count;
       starts = b.starts;
-      once_is = once_kept ns (front t.call) (queue t.call) (ap once (whole t.call.line (passed t.call)) ∙ b.once_is);
+      once_is = once_kept ns (front t.call) (queue t.call) (ap once (take-append-drop (passed t.call) t.call.line) ∙ b.once_is);
       idle = b.idle;
       awaits = λ e. absurd (serves e);
     }
@@ -205,9 +206,6 @@ taken_begun s ns t serves b =
     cut : (gone rest line : List LineEntry) (ended : ℕ) (running : Bool) → line ≡ gone ++ rest → length gone ≡ ended + (if running then 1 else 0) → take (ended + (if running then 2 else 1)) line ≡ gone ++ take 1 rest
     cut gone rest line ended true e h = ap (λ (k : ℕ). take k line) (omega (arith, h)) ∙ ap (λ (l : List LineEntry). take (length gone + 1) l) e ∙ take-append-add gone rest 1
     cut gone rest line ended false e h = ap (λ (k : ℕ). take k line) (omega (arith, h)) ∙ ap (λ (l : List LineEntry). take (length gone + 1) l) e ∙ take-append-add gone rest 1
-
-    whole : (l : List LineEntry) (n : ℕ) → take n l ++ drop n l ≡ l
-    whole l n = grind (arith, common_steps)
 
 stolen_begun : (s : List ℕ) (ns : List ℕ) (t : CallTurn) → (t.call.phase ≡ Awaiting → ⊥) → Begun s t → Begun s (stolen_if ns t)
 stolen_begun s ns t serves b = ask (can_ask t.call.size [] ns)

@@ -1,8 +1,8 @@
 -- The tests of a line are those of the suite.
-use Rattle.std.proofs.Common.{◌≡◌, ℕ, ◌<◌, List, [], ◌∷◌, ◌++◌, length, take, drop, Bool, true, false, ◌&&◌, Option, Some, None, refl, ap, sym, subst, ◌∙◌, arith, ltb-true}
+use Rattle.std.proofs.Common.{◌≡◌, ℕ, ◌<◌, List, [], ◌∷◌, ◌++◌, length, take, drop, Bool, true, false, ◌&&◌, Option, Some, None, refl, ap, sym, subst, ◌∙◌, ltb-true}
 use Rattle.std.specs.Prelude.{map, nat_lt, not, if◌then◌else◌}
 use Rattle.std.specs.List.{range_with_len}
-use Rattle.std.proofs.lemmas.Grind.{common_steps}
+use Rattle.std.proofs.lemmas.List.{take-append-drop}
 use Rattle.xd_gateway.specs.declared.order.Order.{Order}
 use Rattle.xd_gateway.specs.declared.order.Order.TheVariants.{RunTests, RunAll, Steal, Shutdown}
 use Rattle.xd_journal.specs.declared.entry.Outcome.{Outcome}
@@ -47,14 +47,11 @@ last_in size [] b e = e
 last_in size (Test n ∷ a) b e = last_in size a b (and_last (nat_lt n size) (within size (a ++ b)) e)
 last_in size (Mark ∷ a) b e = last_in size a b e
 
-halves : (l : List LineEntry) (n : ℕ) → take n l ++ drop n l ≡ l
-halves l n = grind (arith, common_steps)
-
 rest_in : (size : ℕ) (l : List LineEntry) (n : ℕ) → within size l ≡ true → within size (drop n l) ≡ true
-rest_in size l n e = last_in size (take n l) (drop n l) (ap (within size) (halves l n) ∙ e)
+rest_in size l n e = last_in size (take n l) (drop n l) (ap (within size) (take-append-drop n l) ∙ e)
 
 start_in : (size : ℕ) (l : List LineEntry) (n : ℕ) → within size l ≡ true → within size (take n l) ≡ true
-start_in size l n e = first_in size (take n l) (drop n l) (ap (within size) (halves l n) ∙ e)
+start_in size l n e = first_in size (take n l) (drop n l) (ap (within size) (take-append-drop n l) ∙ e)
 
 kept_if : (t : Bool) (size n : ℕ) (ps : List LineEntry) → nat_lt n size ≡ true → within size ps ≡ true → within size (if t then ps else Test n ∷ ps) ≡ true
 kept_if true size n ps e f = f

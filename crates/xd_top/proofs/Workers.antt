@@ -1,7 +1,7 @@
 -- What all the bytes of a link say of how it was served.
-use Rattle.std.proofs.Common.{◌≡◌, ℕ, List, [], ◌∷◌, ◌++◌, length, map, take, drop, Option, Some, None, refl, ap, sym, ◌∙◌, subst, arith}
+use Rattle.std.proofs.Common.{◌≡◌, ℕ, List, [], ◌∷◌, ◌++◌, length, map, take, drop, Option, Some, None, refl, ap, sym, ◌∙◌, subst}
 use Rattle.std.specs.Prelude.{◌≢◌, Bool, true, false, option_map, IfSome}
-use Rattle.std.proofs.lemmas.Grind.{common_steps}
+use Rattle.std.proofs.lemmas.List.{take-append-drop}
 use Rattle.xd_edge.specs.Faults.{StoodStill}
 use Rattle.xd_edge.specs.Files.{Held}
 use Rattle.xd_edge.specs.Sink.{Sunk, with_close}
@@ -38,14 +38,11 @@ closed_unwritten : (closed : Bool) (old new : Option Sunk) (before now : ℕ) �
 closed_unwritten true old new before now c = same_unwritten old new with_close (c.shut refl)
 closed_unwritten false old new before now c = ap unwritten (c.kept refl)
 
-halves : (n : ℕ) (l : List ℕ) → take n l ++ drop n l ≡ l
-halves n l = grind (arith, common_steps)
-
 -- all the bytes of a source that had given none, by what it tells later
 all_left : (bytes : List ℕ) (old new : Option Supply) (P : List ℕ → Type 0) → IfSome old (λ s. s.given ≡ []) → Gave bytes old new → IfSome old (λ s. P s.left) → IfSome new (λ s. P (all_bytes s))
 all_left bytes None new P none g p = subst (λ (o : Option Supply). IfSome o (λ s. P (all_bytes s))) (sym g.0) tt
 all_left bytes (Some s) new P none g p =
-    let all : all_bytes (with_given (length bytes) s) ≡ s.left = ap (λ (l : List ℕ). (l ++ take (length bytes) s.left) ++ drop (length bytes) s.left) none ∙ halves (length bytes) s.left in
+    let all : all_bytes (with_given (length bytes) s) ≡ s.left = ap (λ (l : List ℕ). (l ++ take (length bytes) s.left) ++ drop (length bytes) s.left) none ∙ take-append-drop (length bytes) s.left in
     subst (λ (o : Option Supply). IfSome o (λ t. P (all_bytes t))) (sym g.0) (subst P (sym all) p)
 
 -- a link, by what was told of it when it was started
