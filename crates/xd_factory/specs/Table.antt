@@ -1,4 +1,5 @@
--- What each message does at each number, what it answers, and how many numbers it opens.
+-- What each message does at each number, what it answers, and how many numbers it opens; what the owner's calls say to
+-- the peer; and why a message or a call is refused.
 use Rattle.std.specs.Prelude.{◌≡◌, ℕ, suc, ◌+◌, ◌<◌, ◌==◌, ◌&&◌, not, ◌⊎◌, List, [], ◌∷◌, ◌++◌, length, nat_lt, Bool, true, false, Option, Some, None, Result, Ok, Err, if◌then◌else◌}
 use Rattle.xd_value.specs.Tree.{Tree, text}
 use Rattle.xd_value.specs.Canonical.{canonical}

@@ -1,4 +1,4 @@
--- What contracts see of a side: what it has at each number, and four facts more.
+-- What contracts see of a side: what it has at each number, which numbers are in its table, and four facts more.
 use Rattle.std.specs.Prelude.{◌≡◌, ℕ, List, Bool, Option, Some, None, true, false}
 use Rattle.std.specs.Ordering.{nat_cmp}
 use Rattle.std.specs.BTreeMap as tree

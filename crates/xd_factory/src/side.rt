@@ -17,7 +17,7 @@ use std::alloc::Global;
 use std::collections::BTreeMap;
 use xd_channel::ChannelEnd;
 
-/// How many channels a side has at a time.
+/// How many channels a side has at most at a time.
 pub const MAX_ENTRIES: u32 = 4096;
 
 /// The largest channel number.
