@@ -96,13 +96,13 @@ send_moves old new n v b m p sent is side more odd a wire num known k =
     }
 
 pub call_moves : (old new : LinkedSide) (n : ℕ) (v : Tree) (b : List ℕ) (m : MessageView) → IsPayload v b → dumped v ≡ Ok b → m ≡ record { kind = kind.Exec; channel = n; payload = b }
-    → new.side ≡ old.side → new.said.items ≡ old.said.items ++ m ∷ [] → IsMoveIf (λ a. can_call true a n v) old new (Call n v)
+    → new.side ≡ old.side → new.said.items ≡ old.said.items ++ m ∷ [] → IsMoveIf (λ a. can_call a n v) old new (Call n v)
 call_moves old new n v b m p d is side more odd a wire num can k =
     let parts = and_parts (is_here (a.part n).slot) (knows a.part (channels v)) can in
     let n_is : n == 0 ≡ false = differ a.part n 0 num.unseen (here_seen (a.part n).slot parts.0) in
     record {
       stands = same_stands odd old.side new.side a side k;
-      says = if_adds old.said.items new.said.items (can_call odd a n v) (Exec n v ∷ []) can
+      says = if_adds old.said.items new.said.items (can_call a n v) (Exec n v ∷ []) can
           (record { more = m ∷ []; behind = more; mean = (subst (λ (x : MessageView). Means x (Exec n v)) (sym is) (call_said n v b n_is p d), tt) });
       way = refl;
     }

@@ -81,7 +81,7 @@ pub quiet_says : (odd : Bool) (a : Actor) (m : Move) (c : ℕ) → is_seen (a.pa
 quiet_says odd a Open_channel c u w = refl
 quiet_says odd a (Send n v) c u w = if_says c (can_send a n v) (Data n v ∷ []) (λ q. let h = and_parts (may_send (a.part n).slot) (knows a.part (channels v)) q in
     rw (unnamed a.part c (channels v) u h.1, differ a.part n c u (may_seen (a.part n).slot h.0)) refl)
-quiet_says odd a (Call n v) c u w = if_says c (can_call odd a n v) (Exec n v ∷ []) (λ q. let h = and_parts (is_here (a.part n).slot) (knows a.part (channels v)) q in
+quiet_says odd a (Call n v) c u w = if_says c (can_call a n v) (Exec n v ∷ []) (λ q. let h = and_parts (is_here (a.part n).slot) (knows a.part (channels v)) q in
     rw (unnamed a.part c (channels v) u h.1, differ a.part n c u (here_seen (a.part n).slot h.0)) refl)
 quiet_says odd a (Ask n) c u w = if_says c (is_here (a.part n).slot) (Status n ∷ []) (λ q. rw (differ a.part n c u (here_seen (a.part n).slot q)) refl)
 quiet_says odd a (Answer n v) c u w = if_says c (can_answer a n v) (Data n v ∷ message.Close n None ∷ []) (λ q. let h = and_parts (a.part n).asked (knows a.part (channels v)) q in
@@ -168,7 +168,7 @@ asks false n c = refl
 pub sent_says : (odd : Bool) (a : Actor) (wire : List Said) (m : Move) (c : ℕ) → (after odd a wire m).sent c ≡ a.sent c ++ items (all_notes c (says odd a m))
 sent_says odd a wire Open_channel c = if_actor (λ t. t.sent c ≡ a.sent c ++ []) (can_open odd a) (record (part_changed a.next (λ p. opened_in p p.slot) a) { next = a.next + 2 }) a (sym (append-nil (a.sent c))) (sym (append-nil (a.sent c)))
 sent_says odd a wire (Send n v) c = sends (can_send a n v) n c v a
-sent_says odd a wire (Call n v) c = more_none _ _ (calls (can_call odd a n v) n c v)
+sent_says odd a wire (Call n v) c = more_none _ _ (calls (can_call a n v) n c v)
 sent_says odd a wire (Ask n) c = more_none _ _ (asks (is_here (a.part n).slot) n c)
 sent_says odd a wire (Answer n v) c = answers (can_answer a n v) n c v a
 sent_says odd a wire Terminate c = sym (append-nil (a.sent c))

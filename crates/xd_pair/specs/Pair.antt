@@ -63,8 +63,8 @@ abbrev pub can_send : Actor → ℕ → Tree → Bool
 can_send a n v = may_send (a.part n).slot && knows a.part (channels v)
 
 -- a function may be called on an open number, with a value of known numbers
-abbrev pub can_call : Bool → Actor → ℕ → Tree → Bool
-can_call odd a n v = is_here (a.part n).slot && knows a.part (channels v)
+abbrev pub can_call : Actor → ℕ → Tree → Bool
+can_call a n v = is_here (a.part n).slot && knows a.part (channels v)
 
 -- the answer to a STATUS stands only where that STATUS was taken
 abbrev pub can_answer : Actor → ℕ → Tree → Bool
@@ -102,7 +102,7 @@ named_part mine p s = record p { slot = named_slot mine s }
 abbrev pub says : Bool → Actor → Move → List Said
 says odd a Open_channel = []
 says odd a (Send n v) = if can_send a n v then message.Data n v ∷ [] else []
-says odd a (Call n v) = if can_call odd a n v then message.Exec n v ∷ [] else []
+says odd a (Call n v) = if can_call a n v then message.Exec n v ∷ [] else []
 says odd a (Ask n) = if is_here (a.part n).slot then message.Status n ∷ [] else []
 says odd a (Answer n v) = if can_answer a n v then message.Data n v ∷ message.Close n None ∷ [] else []
 says odd a Terminate = message.Terminate ∷ []

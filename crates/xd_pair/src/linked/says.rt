@@ -44,7 +44,7 @@ impl LinkedSide {
     pub fn call(&mut self, number: u32, value: &Value) -> Result<(), DumpFault>
         requires { number ≤ max_channel }
         ensures step { let v = view value.now in OnOk result
-            (IsMoveIf (λ a. can_call true a number v) self.old self.new (Call number v)) }
+            (IsMoveIf (λ a. can_call a number v) self.old self.new (Call number v)) }
         ensures refused { IfErr result (λ fault. IsDump (Err fault) (dumped (view value.now))) }
         ensures err { OnErr result (Stays self.old self.new) }
     {
