@@ -6,6 +6,7 @@ pub mod Dumps
 pub mod Entries
 pub mod Naming
 pub mod Refusals
+pub mod Hearings
 pub mod Losing
 pub mod Tracing
 pub mod Keeping

@@ -7,5 +7,6 @@ pub mod Slot
 pub mod Trees
 pub mod Table
 pub mod View
+pub mod Hearing
 pub mod History
 pub mod SideTable

@@ -1,24 +1,24 @@
 // The messages of the peer.
-ghost use Rattle.std.specs.Prelude.{List, ◌∷◌, Bool, ◌≡◌, ◌≤◌, ◌<◌, ◌+◌, ◌==◌, ℕ, IfOk, IfErr, OnErr, OnOk, true, false, Some, None, Option, if◌then◌else◌};
+ghost use Rattle.std.specs.Prelude.{List, ◌∷◌, Bool, ◌≡◌, ◌≤◌, ◌==◌, ℕ, IfOk, IfErr, OnErr, OnOk, true, Some, None, if◌then◌else◌};
 ghost use Rattle.xd_value.specs.View.{view};
 ghost use Rattle.xd_channel.specs.State.{end_of};
 ghost use Rattle.xd_factory.specs.Numbers.{is_mine, is_in};
-ghost use Rattle.xd_factory.specs.Said.{Said, Exec, Data, Means, Misread, said_of, names_of, mentions, names_in, IsFault};
-ghost use Rattle.xd_factory.specs.Slot.{Unseen, is_here, named_slot, item_slot, item_gives, shut_slot, peer_closed_slot, peer_last_slot};
+ghost use Rattle.xd_factory.specs.Said.{Said, Exec, Data, Means, said_of, names_of, mentions, names_in, IsFault};
+ghost use Rattle.xd_factory.specs.Slot.{item_slot, item_gives, peer_closed_slot, peer_last_slot};
 ghost use Rattle.xd_factory.specs.Trees.{arrived_tree, taken_tree};
-ghost use Rattle.xd_factory.specs.Table.{heard_slot, opened_count, answer_of, end_answer, ended_answer, named_in, OpensAtMost, Refused, IsRefused, IsNameFault, IsHearFault, IsNoMemory};
-ghost use Rattle.xd_channel.specs.declared.end.End.{End};
+ghost use Rattle.xd_factory.specs.Table.{end_answer, ended_answer, Refused, IsRefused, IsHearFault, IsNoMemory};
 ghost use Rattle.xd_factory.specs.declared.faults.SideFault.{SideFault};
 
-use super::{MAX_ENTRIES, Side};
+use super::Side;
 use crate::word::{Word, read_message};
 use crate::{SideFault, Taken};
-use xd_channel::{Arrived, ChannelEnd, End};
+use xd_channel::{Arrived, End};
 use xd_edge::Text;
 use xd_frame::Message;
 use xd_value::Value;
 
 impl Side {
+    ghost use Rattle.xd_factory.specs.Hearing.{entries_with, Hears, OpensNamed, OpensSome, Takes};
     ghost use Rattle.xd_factory.specs.History.{Act, Take_message, Refuse, SideStands};
     ghost use Rattle.xd_factory.specs.View.{slot_of_number, new_at, parity_of, next_of, fault_of, is_finished, entry_count, KeepsRest};
 
@@ -35,14 +35,7 @@ impl Side {
             × (next_of self.new ≡ next_of self.old)
             × (is_finished self.new ≡ is_finished self.old) }
 
-        ensures read { IfOk result (λ _. (said : Said) × Means message said) }
-        ensures answer { (said : Said) → Means message said →
-            IfOk result (λ taken. taken_tree taken ≡ answer_of (parity_of self.old)
-            (slot_of_number self.old) said) }
-        ensures slots { (said : Said) → Means message said →
-            OnOk result ((c : ℕ) → slot_of_number self.new c ≡ heard_slot
-            (parity_of self.old) said c (slot_of_number self.old c)) }
-
+        ensures taken { IfOk result (Takes self.old self.new message) }
         ensures history { (h : List Act) → (said : Said) → SideStands self.old h →
             Means message said → IfOk result (λ taken.
             SideStands self.new (Take_message said (taken_tree taken) ∷ h)) }
@@ -51,14 +44,7 @@ impl Side {
             IfErr result (IsRefused (entry_count self.old) (new_at self.old) message) }
         ensures refuses { (fault : SideFault) → fault_of self.old ≡ None →
             Refused (entry_count self.old) (new_at self.old) message fault → IsFault fault result }
-        ensures err { OnErr result ((c : ℕ) →
-            OpensAtMost (is_mine (parity_of self.old) c) (slot_of_number self.old c)
-            (slot_of_number self.new c)) }
-        ensures others { (said : Said) → Means message said →
-            OnErr result ((c : ℕ) → is_in c (names_of said) ≡ false →
-            slot_of_number self.new c ≡ slot_of_number self.old c) }
-        ensures unread { (fault : SideFault) → Misread message fault → (c : ℕ) →
-            slot_of_number self.new c ≡ slot_of_number self.old c }
+        ensures opens { OnErr result (OpensNamed self.old self.new message) }
         ensures failed_history { (h : List Act) → SideStands self.old h →
             OnErr result ((which : ℕ → Bool) × SideStands self.new (Refuse which ∷ h)) }
     {
@@ -76,25 +62,12 @@ impl Side {
 
     // Takes a message at a side that has not failed.
     fn take(&mut self, message: Message) -> Result<Taken, SideFault>
-        ensures read { IfOk result (λ _. (said : Said) × Means message said) }
-        ensures answer { (said : Said) → Means message said →
-            IfOk result (λ taken. taken_tree taken ≡ answer_of (parity_of self.old)
-            (slot_of_number self.old) said) }
-        ensures slots { (said : Said) → Means message said →
-            OnOk result ((c : ℕ) → slot_of_number self.new c ≡ heard_slot
-            (parity_of self.old) said c (slot_of_number self.old c)) }
+        ensures taken { IfOk result (Takes self.old self.new message) }
         ensures refused { IfErr result
             (IsRefused (entry_count self.old) (new_at self.old) message) }
         ensures refuses { (fault : SideFault) →
             Refused (entry_count self.old) (new_at self.old) message fault → IsFault fault result }
-        ensures err { OnErr result ((c : ℕ) →
-            OpensAtMost (is_mine (parity_of self.old) c) (slot_of_number self.old c)
-            (slot_of_number self.new c)) }
-        ensures others { (said : Said) → Means message said →
-            OnErr result ((c : ℕ) → is_in c (names_of said) ≡ false →
-            slot_of_number self.new c ≡ slot_of_number self.old c) }
-        ensures unread { (fault : SideFault) → Misread message fault → (c : ℕ) →
-            slot_of_number self.new c ≡ slot_of_number self.old c }
+        ensures opens { OnErr result (OpensNamed self.old self.new message) }
         ensures rest { KeepsRest self.old self.new }
     {
         match read_message(self.alloc, &message) {
@@ -109,22 +82,11 @@ impl Side {
     // Does what a message says.
     fn hear(&mut self, word: Word) -> Result<Taken, SideFault>
         requires { (c : ℕ) → is_in c (mentions (said_of word)) ≡ true → c ≤ 2147483647 }
-        ensures answer { IfOk result (λ taken.
-            taken_tree taken ≡ answer_of (parity_of self.old) (slot_of_number self.old)
-            (said_of word)) }
-        ensures slots { OnOk result ((c : ℕ) →
-            slot_of_number self.new c ≡ heard_slot (parity_of self.old) (said_of word) c
-            (slot_of_number self.old c)) }
-        ensures fits { OnOk result
-            (entry_count self.old + opened_count (new_at self.old) (names_of (said_of word)) ≤ 4096) }
+        ensures heard { IfOk result (Hears self.old self.new (said_of word)) }
         ensures refused { IfErr result
-            (IsHearFault (entry_count self.old + opened_count (new_at self.old)
-            (names_of (said_of word)))) }
-        ensures err { OnErr result ((c : ℕ) →
-            OpensAtMost (is_mine (parity_of self.old) c) (slot_of_number self.old c)
-            (slot_of_number self.new c)) }
-        ensures others { OnErr result ((c : ℕ) → is_in c (names_of (said_of word)) ≡ false →
-            slot_of_number self.new c ≡ slot_of_number self.old c) }
+            (IsHearFault (entries_with self.old (names_of (said_of word)))) }
+        ensures opens { OnErr result
+            (OpensSome self.old self.new (names_of (said_of word))) }
         ensures rest { KeepsRest self.old self.new }
     {
         match word {
@@ -140,23 +102,11 @@ impl Side {
     // The peer calls a function: the channels of its value open, and its own number where it is new.
     fn hear_call(&mut self, number: u32, value: Value) -> Result<Taken, SideFault>
         requires { (c : ℕ) → is_in c (names_in number (view value)) ≡ true → c ≤ 2147483647 }
-        ensures answer { IfOk result (λ taken.
-            taken_tree taken ≡ answer_of (parity_of self.old) (slot_of_number self.old)
-            (Exec number (view value))) }
-        ensures slots { OnOk result ((c : ℕ) →
-            slot_of_number self.new c ≡ named_in (is_mine (parity_of self.old) c)
-            (is_in c (names_in number (view value))) (slot_of_number self.old c)) }
-        ensures fits { OnOk result
-            (entry_count self.old + opened_count (new_at self.old)
-            (names_in number (view value)) ≤ 4096) }
+        ensures heard { IfOk result (Hears self.old self.new (Exec number (view value))) }
         ensures refused { IfErr result
-            (IsHearFault (entry_count self.old + opened_count (new_at self.old)
-            (names_in number (view value)))) }
-        ensures err { OnErr result ((c : ℕ) →
-            OpensAtMost (is_mine (parity_of self.old) c) (slot_of_number self.old c)
-            (slot_of_number self.new c)) }
-        ensures others { OnErr result ((c : ℕ) → is_in c (names_in number (view value)) ≡ false →
-            slot_of_number self.new c ≡ slot_of_number self.old c) }
+            (IsHearFault (entries_with self.old (names_in number (view value)))) }
+        ensures opens { OnErr result
+            (OpensSome self.old self.new (names_in number (view value))) }
         ensures rest { KeepsRest self.old self.new }
     {
         let opens = self.opens(number);
@@ -175,23 +125,11 @@ impl Side {
     // An item comes: the channels of its value open, and its own number where it is new.
     fn hear_item(&mut self, number: u32, value: Value) -> Result<Taken, SideFault>
         requires { (c : ℕ) → is_in c (names_in number (view value)) ≡ true → c ≤ 2147483647 }
-        ensures answer { IfOk result (λ taken.
-            taken_tree taken ≡ answer_of (parity_of self.old) (slot_of_number self.old)
-            (Data number (view value))) }
-        ensures slots { OnOk result ((c : ℕ) →
-            slot_of_number self.new c ≡ heard_slot (parity_of self.old) (Data number (view value)) c
-            (slot_of_number self.old c)) }
-        ensures fits { OnOk result
-            (entry_count self.old + opened_count (new_at self.old)
-            (names_in number (view value)) ≤ 4096) }
+        ensures heard { IfOk result (Hears self.old self.new (Data number (view value))) }
         ensures refused { IfErr result
-            (IsHearFault (entry_count self.old + opened_count (new_at self.old)
-            (names_in number (view value)))) }
-        ensures err { OnErr result ((c : ℕ) →
-            OpensAtMost (is_mine (parity_of self.old) c) (slot_of_number self.old c)
-            (slot_of_number self.new c)) }
-        ensures others { OnErr result ((c : ℕ) → is_in c (names_in number (view value)) ≡ false →
-            slot_of_number self.new c ≡ slot_of_number self.old c) }
+            (IsHearFault (entries_with self.old (names_in number (view value)))) }
+        ensures opens { OnErr result
+            (OpensSome self.old self.new (names_in number (view value))) }
         ensures rest { KeepsRest self.old self.new }
     {
         match self.name_value(number, &value) {
@@ -260,155 +198,6 @@ impl Side {
                 Ok(()) => Ok(Taken::Dropped),
                 Err(fault) => Err(fault),
             },
-        }
-    }
-
-    // A number that is not in the table ends: one of the peer's that was never seen is closed from now on.
-    fn shut(&mut self, number: u32) -> Result<(), SideFault>
-        requires number { number ≤ 2147483647 }
-        requires absent { is_here (slot_of_number self.old number) ≡ false }
-        ensures closed { OnOk result ((c : ℕ) → (end : End) →
-            slot_of_number self.new c ≡ (if number == c then peer_closed_slot
-            (is_mine (parity_of self.old) c)
-            (slot_of_number self.old c) end else slot_of_number self.old c)) }
-        ensures last { OnOk result ((c : ℕ) →
-            slot_of_number self.new c ≡ (if number == c then peer_last_slot
-            (is_mine (parity_of self.old) c)
-            (slot_of_number self.old c) else slot_of_number self.old c)) }
-        ensures refused { IfErr result IsNoMemory }
-        ensures err { OnErr result ((c : ℕ) →
-            slot_of_number self.new c ≡ slot_of_number self.old c) }
-        ensures rest { KeepsRest self.old self.new }
-    {
-        match self.mark_seen(number) {
-            Ok(()) => Ok(()),
-            Err(fault) => Err(fault),
-        }
-    }
-
-    // A number that is the peer's counts as seen from now on.
-    fn mark_seen(&mut self, number: u32) -> Result<(), SideFault>
-        requires number { number ≤ 2147483647 }
-        requires absent { is_here (slot_of_number self.old number) ≡ false }
-        ensures slots { OnOk result ((c : ℕ) →
-            slot_of_number self.new c ≡ (if number == c then shut_slot
-            (is_mine (parity_of self.old) c)
-            (slot_of_number self.old c) else slot_of_number self.old c)) }
-        ensures refused { IfErr result IsNoMemory }
-        ensures err { OnErr result ((c : ℕ) →
-            slot_of_number self.new c ≡ slot_of_number self.old c) }
-        ensures rest { KeepsRest self.old self.new }
-    {
-        if self.is_own(number) {
-            return Ok(());
-        }
-        match self.seen.insert(self.parity, number) {
-            Ok(_) => Ok(()),
-            Err(_) => Err(SideFault::OutOfMemory),
-        }
-    }
-
-    // Whether a message that names the number opens it.
-    fn opens(&self, number: u32) -> bool
-        ensures { result ≡ new_at self.now number }
-    {
-        !self.is_own(number) && !self.seen.contains(number)
-    }
-
-    // The channels of a value open, and a number.
-    fn name_value(&mut self, number: u32, value: &Value) -> Result<(), SideFault>
-        requires { (c : ℕ) → is_in c (names_in number (view value.now)) ≡ true → c ≤ 2147483647 }
-        ensures ok { OnOk result ((c : ℕ) →
-            slot_of_number self.new c ≡ named_in (is_mine (parity_of self.old) c)
-            (is_in c (names_in number (view value.now))) (slot_of_number self.old c)) }
-        ensures fits { OnOk result
-            (entry_count self.old + opened_count (new_at self.old)
-            (names_in number (view value.now)) ≤ 4096) }
-        ensures refused { IfErr result
-            (IsHearFault (entry_count self.old + opened_count (new_at self.old)
-            (names_in number (view value.now)))) }
-        ensures err { OnErr result ((c : ℕ) →
-            OpensAtMost (is_mine (parity_of self.old) c) (slot_of_number self.old c)
-            (slot_of_number self.new c)) }
-        ensures others { OnErr result ((c : ℕ) →
-            is_in c (names_in number (view value.now)) ≡ false →
-            slot_of_number self.new c ≡ slot_of_number self.old c) }
-        ensures rest { KeepsRest self.old self.new }
-    {
-        let Ok(named) = value.channels(self.alloc) else {
-            return Err(SideFault::OutOfMemory);
-        };
-        let mut names = named.items;
-        if names.push(number).is_err() {
-            return Err(SideFault::OutOfMemory);
-        }
-        match self.name_all(&names) {
-            Ok(()) => Ok(()),
-            Err(fault) => Err(fault),
-        }
-    }
-
-    // These numbers open, each where it is the peer's and was never seen.
-    fn name_all(&mut self, numbers: &[u32]) -> Result<(), SideFault>
-        requires { (c : ℕ) → is_in c numbers.now ≡ true → c ≤ 2147483647 }
-        ensures ok { OnOk result ((c : ℕ) →
-            slot_of_number self.new c ≡ named_in (is_mine (parity_of self.old) c)
-            (is_in c numbers.now) (slot_of_number self.old c)) }
-        ensures fits { OnOk result
-            (entry_count self.old + opened_count (new_at self.old) numbers.now ≤ 4096) }
-        ensures refused { IfErr result
-            (IsHearFault (entry_count self.old + opened_count (new_at self.old) numbers.now)) }
-        ensures err { OnErr result ((c : ℕ) →
-            OpensAtMost (is_mine (parity_of self.old) c) (slot_of_number self.old c)
-            (slot_of_number self.new c)) }
-        ensures others { OnErr result ((c : ℕ) → is_in c numbers.now ≡ false →
-            slot_of_number self.new c ≡ slot_of_number self.old c) }
-        ensures rest { KeepsRest self.old self.new }
-    {
-        for number in numbers {
-            match self.name(*number) {
-                Ok(()) => (),
-                Err(fault) => return Err(fault),
-            }
-        }
-        Ok(())
-    }
-
-    // A number opens where it is the peer's and was never seen.
-    fn name(&mut self, number: u32) -> Result<(), SideFault>
-        requires { number ≤ 2147483647 }
-        ensures ok { OnOk result ((c : ℕ) →
-            slot_of_number self.new c ≡ (if number == c then named_slot
-            (is_mine (parity_of self.old) c)
-            (slot_of_number self.old c) else slot_of_number self.old c)) }
-        ensures count { OnOk result
-            (entry_count self.new ≡ entry_count self.old
-            + (if new_at self.old number then 1 else 0)) }
-        ensures refused { IfErr result
-            (IsNameFault (entry_count self.old) (new_at self.old number)) }
-        ensures err { OnErr result ((c : ℕ) →
-            slot_of_number self.new c ≡ slot_of_number self.old c) }
-        ensures rest { KeepsRest self.old self.new }
-    {
-        if !self.opens(number) {
-            return Ok(());
-        }
-        if self.ends.len() >= MAX_ENTRIES as usize {
-            return Err(SideFault::TooManyOpen);
-        }
-        if self
-            .ends
-            .insert(number, ChannelEnd::new(self.alloc))
-            .is_err()
-        {
-            return Err(SideFault::OutOfMemory);
-        }
-        match self.seen.insert(self.parity, number) {
-            Ok(_) => Ok(()),
-            Err(_) => {
-                self.ends.remove(&number);
-                Err(SideFault::OutOfMemory)
-            }
         }
     }
 

@@ -5,15 +5,17 @@ use Rattle.xd_factory.specs.Numbers.{is_in, is_mine}
 use Rattle.xd_factory.specs.Slot.{is_new, named_slot}
 use Rattle.xd_factory.specs.Table.{named_in, opened_count}
 use Rattle.xd_factory.specs.View.{slot_of_number, new_at, entry_count}
-use Rattle.xd_factory.proofs.Naming.{is_in_more, is_in_take, is_in_at, named_more, unnamed, count_step, news, drop_more}
+use Rattle.xd_factory.proofs.Naming.{is_in_more, is_in_take, is_in_at, named_more, at_most, unnamed, count_step, news, drop_more}
 use Rattle.xd_factory.proofs.side.Side.name_all.Goals as goal
 
 pub name-requires : goal.name-requires
 name-requires c = c.requires _ (is_in_at _ _ c.loop-number-test.true)
 
-pub returns-in-Err-clause-others : goal.returns-in-Err-clause-others
-returns-in-Err-clause-others c = λ q h.
-    c.in-Err.ensures.err q ∙ unnamed _ _ _ _ (c.loop-number.invariant.slots q) (is_in_take q c.args.numbers.now c.loop-number.number-index h)
+pub returns-in-Err-clause-err : goal.returns-in-Err-clause-err
+returns-in-Err-clause-err c = record {
+  at_most = λ q. at_most _ _ _ _ (c.in-Err.ensures.err q ∙ c.loop-number.invariant.slots q);
+  others = λ q h. c.in-Err.ensures.err q ∙ unnamed _ _ _ _ (c.loop-number.invariant.slots q) (is_in_take q c.args.numbers.now c.loop-number.number-index h);
+}
 
 pub loop-number-preserved : goal.loop-number-preserved
 loop-number-preserved c =

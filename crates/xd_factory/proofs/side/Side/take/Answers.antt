@@ -5,7 +5,7 @@ use Rattle.xd_factory.proofs.Refusals.{none_refused, hear_refused, read_refused}
 use Rattle.xd_factory.proofs.side.Side.take.Goals as goal
 
 pub returns-in-Ok-hear-clause-refuses : goal.returns-in-Ok-hear-clause-refuses
-returns-in-Ok-hear-clause-refuses c = λ f q. none_refused (entry_count c.args.self.now) (new_at c.args.self.now) c.args.message c.in-Ok.word c.in-Ok.ensures c.in-Ok-hear.ensures.fits f q
+returns-in-Ok-hear-clause-refuses c = λ f q. none_refused (entry_count c.args.self.now) (new_at c.args.self.now) c.args.message c.in-Ok.word c.in-Ok.ensures c.in-Ok-hear.ensures.heard.fits f q
 
 pub returns-in-Ok-clause-refuses : goal.returns-in-Ok-clause-refuses
 returns-in-Ok-clause-refuses c = λ f q. hear_refused (Taken Value) (entry_count c.args.self.now) (new_at c.args.self.now) c.args.message c.in-Ok.word c.in-Err-hear.fault c.in-Ok.ensures c.in-Err-hear.ensures.refused f q

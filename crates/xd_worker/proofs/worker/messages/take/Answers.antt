@@ -15,13 +15,14 @@ pub returns-in-Ok-clause-heard : goal.returns-in-Ok-clause-heard
 returns-in-Ok-clause-heard c =
     let s = c.args.side.now in
     let e = c.in-Ok.ensures in
-    let r = e.read in
+    let r = e.taken.says in
+    let h = e.taken.heard r.0 r.1 in
     record {
       said = r.0;
       means = r.1;
-      answer_is = e.answer r.0 r.1;
-      table_is = heard_table s c.take_message.new.self r.0 (e.slots r.0 r.1) e.good.1;
-      small = subst (λ (x : Taken Tree). IsSmall x) (sym (e.answer r.0 r.1)) (small_answer c.args.message r.0 (channel_table s) (omega arith) r.1);
+      answer_is = h.answer;
+      table_is = heard_table s c.take_message.new.self r.0 h.slots e.good.1;
+      small = subst (λ (x : Taken Tree). IsSmall x) (sym h.answer) (small_answer c.args.message r.0 (channel_table s) (omega arith) r.1);
     }
 
 pub returns-in-Ok-clause-refuses : goal.returns-in-Ok-clause-refuses
