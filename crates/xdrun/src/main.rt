@@ -2,13 +2,19 @@
 #![tactic(auto)]
 
 use std::alloc::Global;
-use std::io::BufWriter;
-use std::process::ExitCode;
+use std::io::{BufWriter, Stderr, Stdin, Stdout};
+use std::net::Net;
+use std::process::{ExitCode, Processes};
 use std::rt::Env;
-use std::{env, io};
+use std::sync::Wait;
+use std::thread::Threads;
+use std::{env, io, rt};
 use xd_crew::{Slot, ThreadCrew, start_into};
-use xd_edge::{OutSink, RealChildren, RealClock, RealFiles, Text, Texts};
+use xd_edge::{OutOfMemory, OutSink, RealChildren, RealClock, RealFiles, Text, Texts};
+use xd_link::Starter;
+use xd_reader::Reader;
 use xd_real::RealStarter;
+use xd_runner::Runner;
 use xd_top::xdrun;
 
 // The name that the program was started by, and the words after it.
@@ -29,6 +35,40 @@ fn words_of(rt: &(impl Env + AllocGlobal), alloc: Global) -> io::Result<(Text, T
 fn no_words(alloc: Global) -> (Text, Texts) {
     let items = Vec::new(alloc);
     (Text::from_string(String::new(alloc)), Texts { items })
+}
+
+// Does what the words ask for, over the files, programs, links and clock that `rt` stands for. Gives the exit status.
+fn run<'a, H: Wait + Threads + rt::Files + Processes + Net + rt::Clock + Copy + Drop>(
+    rt: &'a H,
+    alloc: Global,
+    program: Text,
+    words: &[Text],
+    crew: ThreadCrew<Reader<<RealStarter<'a, H> as Starter>::Src>, H>,
+    runner: ThreadCrew<Runner<RealChildren<H>>, H>,
+    streams: (Stdin, BufWriter<Stdout>, Stderr),
+) -> Result<u8, OutOfMemory> {
+    let (input, output, errors) = streams;
+    let mut runner = runner;
+    let mut files = RealFiles::new(rt);
+    let starter = RealStarter::new(rt, alloc, program, input);
+    let children = RealChildren::new(*rt);
+    let mut clock = RealClock::new(rt);
+    let mut out = OutSink::new(output);
+    let mut err = OutSink::new(errors);
+    let end = xdrun(
+        rt,
+        alloc,
+        words,
+        &mut files,
+        starter,
+        crew,
+        children,
+        &mut runner,
+        &mut clock,
+        &mut out,
+        &mut err,
+    )?;
+    Ok(end.status)
 }
 
 fn main(rt: HostRuntime) -> io::Result<ExitCode> {
@@ -52,27 +92,10 @@ fn main(rt: HostRuntime) -> io::Result<ExitCode> {
         return out_of_memory(&rt);
     };
     let make: Box<dyn Fn()> = make;
-    let mut runner = ThreadCrew::new(rt, running, make);
-    let mut files = RealFiles::new(&rt);
-    let starter = RealStarter::new(&rt, alloc, program, rt.stdin());
-    let children = RealChildren::new(rt);
-    let mut clock = RealClock::new(&rt);
-    let mut out = OutSink::new(writer);
-    let mut err = OutSink::new(rt.stderr());
-    match xdrun(
-        &rt,
-        alloc,
-        &words.items,
-        &mut files,
-        starter,
-        crew,
-        children,
-        &mut runner,
-        &mut clock,
-        &mut out,
-        &mut err,
-    ) {
-        Ok(end) => Ok(ExitCode::from(end.status)),
+    let runner = ThreadCrew::new(rt, running, make);
+    let streams = (rt.stdin(), writer, rt.stderr());
+    match run(&rt, alloc, program, &words.items, crew, runner, streams) {
+        Ok(status) => Ok(ExitCode::from(status)),
         Err(_) => out_of_memory(&rt),
     }
 }
